@@ -1,0 +1,119 @@
+-- Numbers in groups of seven bits.
+use Rattle.std.proofs.Common.{◌≡◌, ℕ, ℤ, pos, negsuc, zero, suc, ◌+◌, ◌*◌, ◌/◌, ◌%◌, ◌<◌, ◌≤◌, Bool, true, false, cond, List, [], ◌∷◌, ◌++◌, length, map, refl, sym, ap, ◌∙◌, arith, inl, inr, append_assoc, length-append}
+use Rattle.std.proofs.lemmas.Bool.{cases_lt, le-ltb, lt-ltb}
+use Rattle.std.proofs.lemmas.List.{length-map}
+use Rattle.wenc_base.specs.Number.{groups, complement, turned, unsigned_text, signed_text, number_size}
+
+pub groups_below : (top room n : ℕ) → n < top → groups top room n ≡ n ∷ []
+unfolding groups
+groups_below top zero n h = refl
+groups_below top (suc room) n h = rw (lt-ltb _ _ h) refl
+
+pub groups_from : (top room n : ℕ) → top ≤ n → groups top (suc room) n ≡ (n % 128 + 128) ∷ groups top room (n / 128)
+unfolding groups
+groups_from top room n h = rw (le-ltb _ _ h) refl
+
+pub groups_length : (top room n : ℕ) → length (groups top room n) ≤ suc room
+unfolding groups
+groups_length top zero n = omega arith
+groups_length top (suc room) n =
+    elim (cases_lt n top) [
+      | inl lt ↦ rw (groups_below top (suc room) n lt) (omega arith)
+      | inr le ↦ rw (groups_from top room n le) (omega (arith, groups_length top room (n / 128)))
+    ]
+
+pub groups_some : (top room n : ℕ) → 1 ≤ length (groups top room n)
+unfolding groups
+groups_some top zero n = omega arith
+groups_some top (suc room) n =
+    elim (cases_lt n top) [
+      | inl lt ↦ rw (groups_below top (suc room) n lt) (omega arith)
+      | inr le ↦ rw (groups_from top room n le) (omega arith)
+    ]
+
+-- ---- how many bytes
+
+pub size_1 : (n : ℕ) → n < 128 → number_size n ≡ 1
+size_1 n h = rw (groups_below 128 9 n h) refl
+
+pub size_2 : (n : ℕ) → 128 ≤ n → n < 16384 → number_size n ≡ 2
+size_2 n h l = rw (groups_from 128 8 n h, groups_below 128 8 (n / 128) (omega arith)) refl
+
+pub size_3 : (n : ℕ) → 16384 ≤ n → n < 2097152 → number_size n ≡ 3
+size_3 n h l = rw (groups_from 128 8 n (omega arith), groups_from 128 7 (n / 128) (omega arith), groups_below 128 7 (n / 128 / 128) (omega arith)) refl
+
+pub size_4 : (n : ℕ) → 2097152 ≤ n → n < 268435456 → number_size n ≡ 4
+size_4 n h l = rw (groups_from 128 8 n (omega arith), groups_from 128 7 (n / 128) (omega arith), groups_from 128 6 (n / 128 / 128) (omega arith), groups_below 128 6 (n / 128 / 128 / 128) (omega arith)) refl
+
+pub size_5 : (n : ℕ) → 268435456 ≤ n → n < 34359738368 → number_size n ≡ 5
+size_5 n h l = rw (groups_from 128 8 n (omega arith), groups_from 128 7 (n / 128) (omega arith), groups_from 128 6 (n / 128 / 128) (omega arith), groups_from 128 5 (n / 128 / 128 / 128) (omega arith), groups_below 128 5 (n / 128 / 128 / 128 / 128) (omega arith)) refl
+
+pub size_at_most_5 : (n : ℕ) → n < 4294967296 → number_size n ≤ 5
+size_at_most_5 n h =
+    elim (cases_lt n 128) [
+      | inl a ↦ rw (size_1 n a) (omega arith)
+      | inr a ↦ elim (cases_lt n 16384) [
+        | inl b ↦ rw (size_2 n a b) (omega arith)
+        | inr b ↦ elim (cases_lt n 2097152) [
+          | inl c ↦ rw (size_3 n b c) (omega arith)
+          | inr c ↦ elim (cases_lt n 268435456) [
+            | inl d ↦ rw (size_4 n c d) (omega arith)
+            | inr d ↦ rw (size_5 n d (omega arith)) (omega arith)
+          ]
+        ]
+      ]
+    ]
+
+pub signed_length : (z : ℤ) → length (signed_text z) ≤ 10
+signed_length (pos n) = groups_length 64 9 n
+signed_length (negsuc n) = omega (arith, length-map (groups 64 9 n) complement, groups_length 64 9 n)
+
+-- ---- writing from the front
+
+-- what a number is below, that is written with so many bytes before the last
+abbrev pub limit : ℕ → ℕ → ℕ
+limit top zero = top
+limit top (suc room) = 128 * limit top room
+
+-- What is left of the number completes the whole.
+pub record Writing (top : ℕ) (negative : Bool) (whole now : List ℕ) (rest : ℕ) : Type 0 where
+  pub room : ℕ
+  pub fits : rest < limit top room
+  pub text : now ++ turned negative (groups top room rest) ≡ whole
+
+turned_one : (negative : Bool) (b : ℕ) → turned negative (b ∷ []) ≡ cond negative (complement b) b ∷ []
+turned_one false b = refl
+turned_one true b = refl
+
+turned_cons : (negative : Bool) (b : ℕ) (bs : List ℕ) → turned negative (b ∷ bs) ≡ cond negative (complement b) b ∷ turned negative bs
+turned_cons false b bs = refl
+turned_cons true b bs = refl
+
+turned_some : (negative : Bool) (bs : List ℕ) → 1 ≤ length bs → 1 ≤ length (turned negative bs)
+turned_some false bs h = h
+turned_some true [] h = h
+turned_some true (b ∷ bs) h = omega arith
+
+pub writing_more : (top : ℕ) (negative : Bool) (whole now : List ℕ) (rest : ℕ) → 1 ≤ top → Writing top negative whole now rest → top ≤ rest
+    → Writing top negative whole (now ++ cond negative (complement (rest % 128 + 128)) (rest % 128 + 128) ∷ []) (rest / 128)
+writing_more top negative whole now rest t w h = from w.room w.fits w.text
+  where
+    from : (room : ℕ) → rest < limit top room → now ++ turned negative (groups top room rest) ≡ whole
+        → Writing top negative whole (now ++ cond negative (complement (rest % 128 + 128)) (rest % 128 + 128) ∷ []) (rest / 128)
+    from zero f e = absurd (omega arith)
+    from (suc room) f e = record {
+      room = room;
+      fits = omega arith;
+      text = append_assoc now (cond negative (complement (rest % 128 + 128)) (rest % 128 + 128) ∷ []) (turned negative (groups top room (rest / 128)))
+          ∙ ap (λ (bs : List ℕ). now ++ bs) (sym (turned_cons negative (rest % 128 + 128) (groups top room (rest / 128))) ∙ ap (turned negative) (sym (groups_from top room rest h)))
+          ∙ e;
+    }
+
+pub writing_last : (top : ℕ) (negative : Bool) (whole now : List ℕ) (rest : ℕ) → Writing top negative whole now rest → rest < top
+    → now ++ cond negative (complement rest) rest ∷ [] ≡ whole
+writing_last top negative whole now rest w h =
+    ap (λ (bs : List ℕ). now ++ bs) (sym (turned_one negative rest) ∙ ap (turned negative) (sym (groups_below top w.room rest h))) ∙ w.text
+
+pub writing_room : (top : ℕ) (negative : Bool) (whole now : List ℕ) (rest : ℕ) → Writing top negative whole now rest → length now < length whole
+writing_room top negative whole now rest w =
+    omega (arith, ap length w.text, length-append now (turned negative (groups top w.room rest)), turned_some negative (groups top w.room rest) (groups_some top w.room rest))

@@ -1,0 +1,45 @@
+-- Forms made of others (component model, binary format; WebAssembly 3.0, binary format, "Conventions" and "Values").
+use Rattle.std.specs.Prelude.{◌≡◌, ℕ, ◌^◌, ◌<◌, List, [], ◌∷◌, ◌++◌, length, Option, Some, None, IsUtf8}
+use Rattle.wenc_base.specs.Piece.{Piece, Whole, Form, byte, ◌▸◌, ◌⨾◌, each, raw}
+use Rattle.wenc_base.specs.Number.{u32}
+use Rattle.std.specs.List.{AllByRecursion}
+
+-- how many, then each
+abbrev pub list : {A : Type 0} → Form A → Form (List A)
+list form vs = u32 (length vs) ⨾ each form vs
+
+-- a byte that says whether there is a value, then the value
+abbrev pub option_text : {A : Type 0} → (A → List ℕ) → Option A → List ℕ
+option_text text None = 0x00 ∷ []
+option_text text (Some v) = 0x01 ∷ text v
+
+abbrev pub option : {A : Type 0} → Form A → Form (Option A)
+option form None = byte 0x00
+option form (Some v) = 0x01 ▸ form v
+
+-- these bytes, which are text
+abbrev pub utf8 : Form (List ℕ)
+utf8 bs = record {
+  Fits = IsUtf8 bs;
+  text = bs;
+  Reads = λ mode bytes rest. IsUtf8 bs × (bytes ≡ bs ++ rest);
+}
+
+-- how many bytes, then a text of so many
+abbrev pub name : Form (List ℕ)
+name bs = u32 (length bs) ⨾ utf8 bs
+
+abbrev pub AreBytes : List ℕ → Type 0
+AreBytes = AllByRecursion (λ b. b < 256)
+
+-- how many bytes, then that many, which are all of it
+abbrev pub sized : Whole → Piece
+sized w = record {
+  Fits = (length w.text < 2 ^ 32) × w.Fits;
+  text = (u32 (length w.text)).text ++ w.text;
+  Reads = λ mode bytes rest. (content : List ℕ) × (u32 (length content)).Reads mode bytes (content ++ rest) × w.ReadsAll mode content;
+}
+
+-- how many bytes, then the bytes
+abbrev pub byte_list : Form (List ℕ)
+byte_list bs = sized (raw AreBytes bs)

@@ -1,0 +1,92 @@
+-- Numbers in groups of seven bits, the lowest first (LEB128: WebAssembly 3.0, binary format, "Integers").
+use Rattle.std.specs.Prelude.{◌≡◌, ℕ, ℤ, pos, negsuc, ◌-ℤ◌, zero, suc, ◌+◌, ◌-◌, ◌*◌, ◌/◌, ◌%◌, ◌^◌, ◌<◌, ◌≤◌, nat_lt, if◌then◌else◌, slice_index, Bool, true, false, length, List, [], ◌∷◌, map}
+use Rattle.wenc_base.specs.Piece.{Form, Spelling, Strict, Wide}
+
+-- A number below top is one byte. Another has its low seven bits first, in a byte from 128 on.
+-- At most `room` bytes come before the last.
+unfoldable pub groups : ℕ → ℕ → ℕ → List ℕ
+groups top zero n = n ∷ []
+groups top (suc room) n = if nat_lt n top then n ∷ [] else ((n % 128 + 128) ∷ groups top room (n / 128))
+
+-- an unsigned number of up to 64 bits: the last byte has seven bits
+abbrev pub unsigned_text : ℕ → List ℕ
+unsigned_text n = groups 128 9 n
+
+-- the seven bits of a byte turned over
+abbrev pub complement : ℕ → ℕ
+complement b = if nat_lt b 128 then 127 - b else 383 - b
+
+-- these bytes, or those with all groups turned over
+abbrev pub turned : Bool → List ℕ → List ℕ
+turned false bytes = bytes
+turned true bytes = map complement bytes
+
+-- A signed number of up to 64 bits: the last byte has six bits and the sign. `negsuc n` is -1 - n, whose
+-- bits are those of n turned over.
+abbrev pub signed_text : ℤ → List ℕ
+signed_text (pos n) = groups 64 9 n
+signed_text (negsuc n) = turned true (groups 64 9 n)
+
+-- ---- reading
+
+-- Is a byte before the last allowed for n? Strictly it is only where n isn't below top.
+abbrev pub MayGoOn : Spelling → ℕ → ℕ → Type 0
+MayGoOn Strict top n = top ≤ n
+MayGoOn Wide top n = Unit {0}
+
+pub data ReadsGroups (mode : Spelling) (top : ℕ) : ℕ → ℕ → List ℕ → List ℕ → Type 0 where
+  last : {room b : ℕ} {rest : List ℕ} → b < top → ReadsGroups mode top room b (b ∷ rest) rest
+  more : {room n b high : ℕ} {bytes rest : List ℕ} → 128 ≤ b → b < 256 → MayGoOn mode top n → n + 128 ≡ b + 128 * high
+      → ReadsGroups mode top room high bytes rest → ReadsGroups mode top (suc room) n (b ∷ bytes) rest
+
+-- a number of 32 bits in at most five bytes
+abbrev pub u32 : Form ℕ
+u32 n = record {
+  Fits = n < 2 ^ 32;
+  text = unsigned_text n;
+  Reads = λ mode bytes rest. (n < 2 ^ 32) × ReadsGroups mode 128 4 n bytes rest;
+}
+
+-- an index, written as a signed number
+abbrev pub index : Form ℕ
+index n = record {
+  Fits = n < 2 ^ 32;
+  text = signed_text (pos n);
+  Reads = λ mode bytes rest. (n < 2 ^ 32) × ReadsGroups mode 64 4 n bytes rest;
+}
+
+-- how many bytes the text of a number has
+abbrev pub number_size : ℕ → ℕ
+number_size n = length (unsigned_text n)
+
+-- ---- the texts in words
+
+-- the low seven bits of each byte, times 128 for each byte before it
+abbrev pub sum_from : ℕ → List ℕ → ℕ
+sum_from place [] = 0
+sum_from place (b ∷ bytes) = (b % 128) * 128 ^ place + sum_from (suc place) bytes
+
+-- All bytes but the last are at least 128, and the last is below 128.
+pub record AreGroups (bytes : List ℕ) : Type 0 where
+  pub some : 0 < length bytes
+  pub go_on : (k : ℕ) → k + 1 < length bytes → (128 ≤ slice_index bytes k) × (slice_index bytes k < 256)
+  pub end : (k : ℕ) → k + 1 ≡ length bytes → slice_index bytes k < 128
+
+-- the number that groups say, as a signed one: bit 6 of the last byte takes 128 to their length off
+abbrev pub last_of : List ℕ → ℕ
+last_of bytes = slice_index bytes (length bytes - 1)
+
+abbrev pub signed_sum : List ℕ → ℤ
+signed_sum bytes = if nat_lt (last_of bytes) 64 then pos (sum_from 0 bytes) else (pos (sum_from 0 bytes) -ℤ pos (128 ^ length bytes))
+
+-- groups that sum to n, and no shorter list does the same
+pub record IsUnsignedText (bytes : List ℕ) (n : ℕ) : Type 0 where
+  pub groups_of : AreGroups bytes
+  pub sum : sum_from 0 bytes ≡ n
+  pub shortest : (other : List ℕ) → AreGroups other → sum_from 0 other ≡ n → length bytes ≤ length other
+
+-- the same for a signed number
+pub record IsSignedText (bytes : List ℕ) (z : ℤ) : Type 0 where
+  pub groups_of : AreGroups bytes
+  pub sum : signed_sum bytes ≡ z
+  pub shortest : (other : List ℕ) → AreGroups other → signed_sum other ≡ z → length bytes ≤ length other

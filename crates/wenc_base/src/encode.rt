@@ -1,0 +1,164 @@
+ghost use Rattle.std.specs.Prelude.{◌≡◌, ℕ, ◌+◌, ◌<◌, ◌≤◌, ◌++◌, ◌∷◌, [], List, length, OnOk, OnErr, IfErr, ◌^◌, vec_len, vec_capacity};
+ghost use Rattle.wenc_base.specs.Fault.{IsWarranted, text_cause};
+ghost use Rattle.wenc_base.specs.Number.{unsigned_text};
+ghost use Rattle.wenc_base.specs.declared.fault.Fault.{Fault as FaultSpec};
+
+use crate::fault::Fault;
+use crate::number::Short;
+use std::alloc::Allocator;
+
+/// A value with a binary text.
+pub trait Encode {
+    /// The bytes of the value.
+    ghost text: { Self → List ℕ };
+
+    /// Why the value can't be encoded.
+    ghost cause: { Self → FaultSpec → Type 0 };
+
+    /// Appends the text to the sink. It is refused for want of memory, or where the value has a cause,
+    /// and then the sink stays as it was.
+    fn encode<A: Allocator>(&self, sink: &mut Vec<u8, A>) -> Result<(), Fault>
+        ensures ok { OnOk result (sink.new.items ≡ sink.old.items ++ text self.now) }
+        ensures encodable { (fault : FaultSpec) → cause self.now fault → OnOk result ⊥ }
+        ensures err { OnErr result (sink.new.items ≡ sink.old.items) }
+        ensures warranted { IfErr result (IsWarranted (cause self.now)) };
+}
+
+impl Encode for u32 {
+    ghost use Rattle.wenc_base.specs.Number.{u32 as number};
+
+    ghost text = { λ n. (number n).text };
+
+    ghost cause = { λ _ _. ⊥ };
+
+    #[tactic(auto, using(crate::proofs::Groups::groups_length))]
+    fn encode<A: Allocator>(&self, sink: &mut Vec<u8, A>) -> Result<(), Fault> {
+        let mut text = Short::new();
+        text.unsigned(u64::from(*self));
+        sink.extend_from_slice(text.as_slice())?;
+        Ok(())
+    }
+}
+
+impl Encode for i64 {
+    ghost use Rattle.wenc_base.specs.Number.{signed_text};
+
+    ghost text = { signed_text };
+
+    ghost cause = { λ _ _. ⊥ };
+
+    #[tactic(auto, using(crate::proofs::Groups::signed_length))]
+    fn encode<A: Allocator>(&self, sink: &mut Vec<u8, A>) -> Result<(), Fault> {
+        let mut text = Short::new();
+        text.signed(*self);
+        sink.extend_from_slice(text.as_slice())?;
+        Ok(())
+    }
+}
+
+impl Encode for &str {
+    ghost use Rattle.wenc_base.specs.Forms.{name};
+    ghost use Rattle.wenc_base.specs.Fault.{text_cause};
+
+    ghost text = { λ s. (name s.now).text };
+
+    ghost cause = { λ s. text_cause s.now };
+
+    fn encode<A: Allocator>(&self, sink: &mut Vec<u8, A>) -> Result<(), Fault> {
+        encode_bytes(self.as_bytes(), sink)
+    }
+}
+
+impl Encode for &[u8] {
+    ghost use Rattle.wenc_base.specs.Forms.{byte_list};
+    ghost use Rattle.wenc_base.specs.Fault.{text_cause};
+
+    ghost text = { λ bytes. (byte_list bytes.now).text };
+
+    ghost cause = { λ bytes. text_cause bytes.now };
+
+    fn encode<A: Allocator>(&self, sink: &mut Vec<u8, A>) -> Result<(), Fault> {
+        encode_bytes(self, sink)
+    }
+}
+
+/// Appends the number of bytes, and the bytes, in one growth.
+#[tactic(auto, using(crate::proofs::Groups::groups_length))]
+fn encode_bytes<A: Allocator>(bytes: &[u8], sink: &mut Vec<u8, A>) -> Result<(), Fault>
+    ensures ok { OnOk result (sink.new.items ≡ sink.old.items ++ unsigned_text (length bytes.now) ++ bytes.now) }
+    ensures encodable { OnOk result (length bytes.now < 2 ^ 32) }
+    ensures err { OnErr result (sink.new.items ≡ sink.old.items) }
+    ensures warranted { IfErr result (IsWarranted (text_cause bytes.now)) }
+{
+    let Ok(len) = u32::try_from(bytes.len()) else {
+        return Err(Fault::TooLarge);
+    };
+    let mut lead = Short::new();
+    lead.unsigned(u64::from(len));
+    let lead = lead.as_slice();
+    sink.try_reserve(lead.len() + bytes.len())?;
+    extend_in_room(sink, lead);
+    extend_in_room(sink, bytes);
+    Ok(())
+}
+
+/// Appends where there is room, which takes no memory.
+pub fn extend_in_room<A: Allocator>(sink: &mut Vec<u8, A>, bytes: &[u8])
+    requires { vec_len sink.old + length bytes.now ≤ vec_capacity sink.old }
+    ensures items { sink.new.items ≡ sink.old.items ++ bytes.now }
+    ensures len { vec_len sink.new ≡ vec_len sink.old + length bytes.now }
+    ensures capacity { vec_capacity sink.old ≤ vec_capacity sink.new }
+{
+    let _ = sink.extend_from_slice(bytes);
+}
+
+/// Nothing, or a value: a byte `00`, or `01` and the value.
+impl<T: Encode> Encode for Option<T> {
+    ghost use Rattle.std.specs.Prelude.{Some};
+    ghost use Rattle.wenc_base.specs.Forms.{option_text};
+
+    ghost text = { option_text T.text };
+
+    ghost cause = { λ o fault. (x : T) × (o ≡ Some x) × T.cause x fault };
+
+    fn encode<A: Allocator>(&self, sink: &mut Vec<u8, A>) -> Result<(), Fault> {
+        let start = sink.len();
+        match self {
+            None => {
+                sink.push(0x00)?;
+                Ok(())
+            }
+            Some(value) => {
+                sink.push(0x01)?;
+                match value.encode(sink) {
+                    Ok(()) => Ok(()),
+                    Err(fault) => {
+                        sink.truncate(start);
+                        Err(fault)
+                    }
+                }
+            }
+        }
+    }
+}
+
+/// One value, then another.
+impl<T: Encode, U: Encode> Encode for (T, U) {
+    ghost use Rattle.std.specs.Prelude.{◌⊎◌};
+
+    ghost text = { λ p. T.text p.0 ++ U.text p.1 };
+
+    ghost cause = { λ p fault. T.cause p.0 fault ⊎ U.cause p.1 fault };
+
+    fn encode<A: Allocator>(&self, sink: &mut Vec<u8, A>) -> Result<(), Fault> {
+        let start = sink.len();
+        self.0.encode(sink)?;
+        match self.1.encode(sink) {
+            Ok(()) => Ok(()),
+            Err(fault) => {
+                sink.truncate(start);
+                Err(fault)
+            }
+        }
+    }
+}

@@ -1,0 +1,11 @@
+//! What everything that writes WebAssembly components stands on: numbers, texts, faults, and the
+//! trait `Encode`.
+#![tactic(auto)]
+
+pub mod encode;
+pub mod fault;
+pub mod number;
+
+pub use encode::Encode;
+pub use fault::Fault;
+pub use number::encoding_size;
