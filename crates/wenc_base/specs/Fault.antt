@@ -22,3 +22,6 @@ text_cause bytes (Memory e) = ⊥
 text_cause bytes TooMany = ⊥
 text_cause bytes TooLarge = 2 ^ 32 ≤ length bytes
 text_cause bytes Unfinished = ⊥
+
+abbrev pub IsMemory : Fault → Type 0
+IsMemory = IsWarranted (λ fault. ⊥)

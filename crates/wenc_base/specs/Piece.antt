@@ -71,6 +71,14 @@ p ⨾ q = record {
   Reads = λ mode bytes rest. (middle : List ℕ) × p.Reads mode bytes middle × q.Reads mode middle rest;
 }
 
+-- a piece that is allowed where a fact holds
+abbrev pub only_where : Type 0 → Piece → Piece
+only_where P p = record {
+  Fits = P × p.Fits;
+  text = p.text;
+  Reads = λ mode bytes rest. P × p.Reads mode bytes rest;
+}
+
 -- what is read for each value, one after the other
 abbrev pub ReadsEach : {A : Type 0} → (A → List ℕ → List ℕ → Type 0) → List A → List ℕ → List ℕ → Type 0
 ReadsEach Reads [] bytes rest = bytes ≡ rest

@@ -112,7 +112,29 @@ pub fn extend_in_room<A: Allocator>(sink: &mut Vec<u8, A>, bytes: &[u8])
     let _ = sink.extend_from_slice(bytes);
 }
 
-/// Nothing, or a value: a byte `00`, or `01` and the value.
+/// A byte that says what comes, then a value.
+#[derive(Clone, Copy)]
+pub struct Tagged<'a, T>(pub u8, pub &'a T);
+
+impl<'a, T: Encode> Encode for Tagged<'a, T> {
+    ghost text = { λ t. t.0 ∷ T.text t.1.now };
+
+    ghost cause = { λ t. T.cause t.1.now };
+
+    fn encode<A: Allocator>(&self, sink: &mut Vec<u8, A>) -> Result<(), Fault> {
+        let start = sink.len();
+        sink.push(self.0)?;
+        match self.1.encode(sink) {
+            Ok(()) => Ok(()),
+            Err(fault) => {
+                sink.truncate(start);
+                Err(fault)
+            }
+        }
+    }
+}
+
+/// A byte `00`, or a byte `01` and a value.
 impl<T: Encode> Encode for Option<T> {
     ghost use Rattle.std.specs.Prelude.{Some};
     ghost use Rattle.wenc_base.specs.Forms.{option_text};
@@ -122,22 +144,12 @@ impl<T: Encode> Encode for Option<T> {
     ghost cause = { λ o fault. (x : T) × (o ≡ Some x) × T.cause x fault };
 
     fn encode<A: Allocator>(&self, sink: &mut Vec<u8, A>) -> Result<(), Fault> {
-        let start = sink.len();
         match self {
             None => {
                 sink.push(0x00)?;
                 Ok(())
             }
-            Some(value) => {
-                sink.push(0x01)?;
-                match value.encode(sink) {
-                    Ok(()) => Ok(()),
-                    Err(fault) => {
-                        sink.truncate(start);
-                        Err(fault)
-                    }
-                }
-            }
+            Some(value) => Tagged(0x01, value).encode(sink),
         }
     }
 }

@@ -6,6 +6,6 @@ pub mod encode;
 pub mod fault;
 pub mod number;
 
-pub use encode::Encode;
+pub use encode::{Encode, Tagged};
 pub use fault::Fault;
 pub use number::encoding_size;

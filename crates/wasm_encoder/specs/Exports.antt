@@ -1,0 +1,12 @@
+-- The kinds of what is exported (component model, binary format, "Instance Definitions": sorts).
+use Rattle.wenc_base.specs.Piece.{Form, byte, ◌▸◌}
+use Rattle.wasm_encoder.specs.declared.exports.ComponentExportKind.{ComponentExportKind}
+use Rattle.wasm_encoder.specs.declared.exports.ComponentExportKind.TheVariants.{Module, Func, Value, «Type» as TypeKind, Instance, Component}
+
+abbrev pub export_kind : Form ComponentExportKind
+export_kind Module = 0x00 ▸ byte 0x11
+export_kind Func = byte 0x01
+export_kind Value = byte 0x02
+export_kind TypeKind = byte 0x03
+export_kind Instance = byte 0x05
+export_kind Component = byte 0x04

@@ -1,0 +1,35 @@
+-- Items: what the calls of a builder add to a component.
+use Rattle.std.specs.Prelude.{ℕ, Option, Some}
+use Rattle.wenc_base.specs.Piece.{Form, ◌⨾◌}
+use Rattle.wenc_base.specs.Number.{u32}
+use Rattle.wenc_base.specs.Forms.{option}
+use Rattle.wenc_base.specs.Fault.{text_cause}
+use Rattle.wenc_base.specs.declared.fault.Fault.{Fault}
+use Rattle.wasm_encoder.specs.declared.exports.ComponentExportKind.{ComponentExportKind}
+use Rattle.wasm_encoder.specs.declared.imports.ComponentTypeRef.{ComponentTypeRef}
+use Rattle.wasm_encoder.specs.Exports.{export_kind}
+use Rattle.wasm_encoder.specs.Imports.{ExternName, extern_name, type_reference}
+use Rattle.wasm_encoder.specs.Aliases.{AliasOf, alias, alias_cause}
+
+pub data Item : Type 0 where
+  AliasItem : (to : AliasOf) → Item
+  ImportItem : (name : ExternName) (what : ComponentTypeRef) → Item
+  ExportItem : (name : ExternName) (kind : ComponentExportKind) (number : ℕ) (what : Option ComponentTypeRef) → Item
+
+-- The id of the section that collects items of this kind; None where each item is a section of its own.
+abbrev pub collected : Item → Option ℕ
+collected (AliasItem to) = Some 6
+collected (ImportItem name what) = Some 10
+collected (ExportItem name kind number what) = Some 11
+
+-- an item as it stands in its section
+abbrev pub item : Form Item
+item (AliasItem to) = alias to
+item (ImportItem name what) = extern_name name ⨾ type_reference what
+item (ExportItem name kind number what) = extern_name name ⨾ export_kind kind ⨾ u32 number ⨾ option type_reference what
+
+-- why an item can't be encoded, whatever it is added to
+abbrev pub item_cause : Item → Fault → Type 0
+item_cause (AliasItem to) = alias_cause to
+item_cause (ImportItem name what) = text_cause name.name
+item_cause (ExportItem name kind number what) = text_cause name.name

@@ -1,0 +1,15 @@
+pub mod Types
+pub mod Exports
+pub mod Imports
+pub mod Aliases
+pub mod Item
+pub mod Component
+pub mod Space
+pub mod Entry
+pub mod Builder
+pub mod Holds
+pub mod Cause
+pub mod Command
+pub mod Ran
+pub mod Layout
+pub mod Undo

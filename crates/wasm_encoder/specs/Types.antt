@@ -1,0 +1,29 @@
+-- Value types (component model, binary format, "Type Definitions").
+use Rattle.std.specs.Prelude.{ℕ}
+use Rattle.wenc_base.specs.Piece.{Form, byte}
+use Rattle.wenc_base.specs.Number.{index}
+use Rattle.wasm_encoder.specs.declared.types.PrimitiveValType.{PrimitiveValType}
+use Rattle.wasm_encoder.specs.declared.types.PrimitiveValType.TheVariants.{Bool, S8, U8, S16, U16, S32, U32, S64, U64, F32, F64, Char, String, ErrorContext}
+use Rattle.wasm_encoder.specs.declared.types.ComponentValType.{ComponentValType}
+use Rattle.wasm_encoder.specs.declared.types.ComponentValType.TheVariants.{Primitive, «Type» as TypeIndex}
+
+abbrev pub primitive_byte : PrimitiveValType → ℕ
+primitive_byte Bool = 0x7f
+primitive_byte S8 = 0x7e
+primitive_byte U8 = 0x7d
+primitive_byte S16 = 0x7c
+primitive_byte U16 = 0x7b
+primitive_byte S32 = 0x7a
+primitive_byte U32 = 0x79
+primitive_byte S64 = 0x78
+primitive_byte U64 = 0x77
+primitive_byte F32 = 0x76
+primitive_byte F64 = 0x75
+primitive_byte Char = 0x74
+primitive_byte String = 0x73
+primitive_byte ErrorContext = 0x64
+
+-- a primitive type, or the index of a defined one as a signed number
+abbrev pub value_type : Form ComponentValType
+value_type (Primitive p) = byte (primitive_byte p)
+value_type (TypeIndex n) = index n

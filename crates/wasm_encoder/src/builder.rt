@@ -1,0 +1,6 @@
+mod buffer;
+mod flush;
+mod kind;
+mod layout;
+mod space;
+mod undo;

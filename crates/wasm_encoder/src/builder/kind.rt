@@ -1,0 +1,23 @@
+/// The kinds of items of which neighbours stand in one section.
+#[derive(Clone, Copy, Debug, PartialEq, Eq)]
+pub enum Kind {
+    Alias,
+    Import,
+    Export,
+}
+
+impl Kind {
+    ghost use Rattle.std.specs.Prelude.{◌≡◌};
+    ghost use Rattle.wasm_encoder.specs.Layout.{section_id};
+
+    /// The id of the kind's sections.
+    pub fn id(self) -> u8
+        ensures { result ≡ section_id self }
+    {
+        match self {
+            Kind::Alias => 6,
+            Kind::Import => 10,
+            Kind::Export => 11,
+        }
+    }
+}

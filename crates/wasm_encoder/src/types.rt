@@ -1,0 +1,110 @@
+ghost use Rattle.std.specs.Prelude.{◌≡◌};
+
+use std::alloc::Allocator;
+use wenc_base::{Encode, Fault};
+
+/// A primitive value type of a component (component model, binary format, `primvaltype`).
+#[derive(Clone, Copy, Debug, PartialEq, Eq, Hash)]
+pub enum PrimitiveValType {
+    /// A boolean.
+    Bool,
+    /// A signed 8-bit integer.
+    S8,
+    /// An unsigned 8-bit integer.
+    U8,
+    /// A signed 16-bit integer.
+    S16,
+    /// An unsigned 16-bit integer.
+    U16,
+    /// A signed 32-bit integer.
+    S32,
+    /// An unsigned 32-bit integer.
+    U32,
+    /// A signed 64-bit integer.
+    S64,
+    /// An unsigned 64-bit integer.
+    U64,
+    /// A 32-bit floating point number with one NaN.
+    F32,
+    /// A 64-bit floating point number with one NaN.
+    F64,
+    /// A Unicode scalar value.
+    Char,
+    /// A text.
+    String,
+    /// An `error-context`.
+    ErrorContext,
+}
+
+impl PrimitiveValType {
+    ghost use Rattle.wasm_encoder.specs.Types.{primitive_byte};
+
+    fn byte(self) -> u8
+        ensures { result ≡ primitive_byte self }
+    {
+        match self {
+            PrimitiveValType::Bool => 0x7f,
+            PrimitiveValType::S8 => 0x7e,
+            PrimitiveValType::U8 => 0x7d,
+            PrimitiveValType::S16 => 0x7c,
+            PrimitiveValType::U16 => 0x7b,
+            PrimitiveValType::S32 => 0x7a,
+            PrimitiveValType::U32 => 0x79,
+            PrimitiveValType::S64 => 0x78,
+            PrimitiveValType::U64 => 0x77,
+            PrimitiveValType::F32 => 0x76,
+            PrimitiveValType::F64 => 0x75,
+            PrimitiveValType::Char => 0x74,
+            PrimitiveValType::String => 0x73,
+            PrimitiveValType::ErrorContext => 0x64,
+        }
+    }
+}
+
+impl Encode for PrimitiveValType {
+    ghost use Rattle.std.specs.Prelude.{◌∷◌, []};
+    ghost use Rattle.wasm_encoder.specs.Types.{primitive_byte};
+
+    ghost text = { λ p. primitive_byte p ∷ [] };
+
+    ghost cause = { λ _ _. ⊥ };
+
+    fn encode<A: Allocator>(&self, sink: &mut Vec<u8, A>) -> Result<(), Fault> {
+        sink.push(self.byte())?;
+        Ok(())
+    }
+}
+
+/// A value type of a component (component model, binary format, `valtype`).
+#[derive(Clone, Copy, Debug, PartialEq, Eq, Hash)]
+pub enum ComponentValType {
+    /// A primitive type.
+    Primitive(PrimitiveValType),
+    /// The index of a defined type, from 0 to 4294967295.
+    Type(u32),
+}
+
+impl Encode for ComponentValType {
+    ghost use Rattle.wasm_encoder.specs.Types.{value_type};
+
+    ghost text = { λ t. (value_type t).text };
+
+    ghost cause = { λ _ _. ⊥ };
+
+    fn encode<A: Allocator>(&self, sink: &mut Vec<u8, A>) -> Result<(), Fault> {
+        match self {
+            ComponentValType::Primitive(ty) => ty.encode(sink),
+            ComponentValType::Type(index) => i64::from(*index).encode(sink),
+        }
+    }
+}
+
+impl From<PrimitiveValType> for ComponentValType {
+    ghost use Rattle.wasm_encoder.specs.declared.types.ComponentValType.TheVariants.{Primitive};
+
+    ghost from_gives = { λ p t. t ≡ Primitive p };
+
+    fn from(ty: PrimitiveValType) -> ComponentValType {
+        ComponentValType::Primitive(ty)
+    }
+}
