@@ -1,8 +1,9 @@
 -- What a builder is seen as: settled content, and while an item is being written, that item.
-use Rattle.std.specs.Prelude.{◌≡◌, ℕ, List, [], ◌∷◌, ◌++◌, ◌+◌, ◌<◌, ◌^◌, length, Option, Some, None, Bool, not, is_none, nat_eq, if◌then◌else◌, slice_set, slice_index_or}
+use Rattle.std.specs.Prelude.{◌≡◌, ℕ, List, [], ◌∷◌, ◌++◌, ◌+◌, ◌<◌, ◌^◌, length, Option, Some, None, Bool, is_none, nat_eq, if◌then◌else◌, slice_set, slice_index_or}
 use Rattle.wenc_base.specs.Number.{unsigned_text, number_size}
 use Rattle.wasm_encoder.specs.Item.{Item, collected, item}
-use Rattle.wasm_encoder.specs.Space.{defines}
+use Rattle.wasm_encoder.specs.Space.{space_number, defines}
+use Rattle.wasm_encoder.specs.declared.builder.space.Space.{Space}
 use Rattle.wasm_encoder.specs.Entry.{Entry, named}
 
 -- ---- sections
@@ -109,8 +110,9 @@ pub record State : Type 0 where
   pub writing : Option Writing
   pub taking : Option Taking
 
-abbrev pub is_unfinished : State → Bool
-is_unfinished s = not (is_none s.writing)
+-- no item is being written
+abbrev pub is_finished : State → Bool
+is_finished s = is_none s.writing
 
 abbrev pub settled_in : Content → State
 settled_in c = record { settled = c; writing = None; taking = None }
@@ -161,5 +163,5 @@ Agree (Some w) None = ⊥
 Agree (Some w) (Some t) = Unit {0}
 
 -- how many items a space has, the one that is being written with them
-abbrev pub count_in : State → ℕ → ℕ
-count_in s k = (namespace_at (content_of s).spaces k).count
+abbrev pub count_in : State → Space → ℕ
+count_in s space = (namespace_at (content_of s).spaces (space_number space)).count

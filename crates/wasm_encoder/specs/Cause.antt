@@ -1,5 +1,5 @@
 -- Why a builder's call is refused.
-use Rattle.std.specs.Prelude.{◌≡◌, ℕ, List, [], ◌∷◌, ◌++◌, ◌+◌, ◌≤◌, ◌^◌, ◌⊎◌, length, Option, Some, None, true, Result, IfErr, OnOk}
+use Rattle.std.specs.Prelude.{◌≡◌, ℕ, List, [], ◌∷◌, ◌++◌, ◌+◌, ◌≤◌, ◌^◌, ◌⊎◌, length, Option, Some, None, false, Result, IfErr, OnOk}
 use Rattle.wenc_base.specs.Number.{number_size}
 use Rattle.wenc_base.specs.declared.fault.Fault.{Fault}
 use Rattle.wenc_base.specs.declared.fault.Fault.TheVariants.{Memory, TooMany, TooLarge, Unfinished}
@@ -7,7 +7,7 @@ use Rattle.wasm_encoder.specs.Item.{item_cause}
 use Rattle.wasm_encoder.specs.Component.{runs}
 use Rattle.wasm_encoder.specs.Space.{defines}
 use Rattle.wasm_encoder.specs.Entry.{Entry, items}
-use Rattle.wasm_encoder.specs.Builder.{OpenSection, section_size, Namespace, namespace_at, Content, with_entry, State, is_unfinished}
+use Rattle.wasm_encoder.specs.Builder.{OpenSection, section_size, Namespace, namespace_at, Content, with_entry, State, is_finished}
 use Rattle.wasm_encoder.specs.Holds.{open_of, namespace_of}
 
 -- ---- too much of something
@@ -42,7 +42,7 @@ abbrev pub CallCause : State → (Fault → Type 0) → Content → ℕ → Faul
 CallCause old cause after space (Memory e) = Unit {0}
 CallCause old cause after space TooMany = AddingCause cause (namespace_at after.spaces space) after.sections.current TooMany
 CallCause old cause after space TooLarge = AddingCause cause (namespace_at after.spaces space) after.sections.current TooLarge
-CallCause old cause after space Unfinished = cause Unfinished ⊎ (is_unfinished old ≡ true)
+CallCause old cause after space Unfinished = cause Unfinished ⊎ (is_finished old ≡ false)
 
 -- A call is refused for a cause alone, and never accepted with one.
 pub record Refuses (old : State) (result : Result ℕ Fault) (cause : Fault → Type 0) (after : Content) (space : ℕ) : Type 0 where

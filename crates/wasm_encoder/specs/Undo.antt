@@ -2,7 +2,10 @@
 use Rattle.std.specs.Prelude.{◌≡◌, ℕ, ◌+◌, List, ◌<◌, ◌^◌, length, take, Option, Some, None, slice_set}
 use Rattle.wenc_base.specs.Number.{number_size}
 use Rattle.wasm_encoder.specs.Builder.{Namespace, namespace_at, Taking}
+use Rattle.wasm_encoder.specs.Cause.{NamespaceIsMany, NamespaceIsLarge}
 use Rattle.wasm_encoder.specs.declared.builder.undo.Undo.{Undo}
+use Rattle.wenc_base.specs.declared.fault.Fault.{Fault}
+use Rattle.wenc_base.specs.declared.fault.Fault.TheVariants.{Memory, TooMany, TooLarge, Unfinished}
 
 -- settled spaces, and the one that an item is entering
 pub record Spaced : Type 0 where
@@ -26,3 +29,10 @@ spaced_view spaces (Some u) = record {
 abbrev pub CanUndo : List Namespace → Option Undo → Type 0
 CanUndo spaces None = length spaces ≡ 13
 CanUndo spaces (Some u) = (length spaces ≡ 13) × (u.space < 13) × NamesFit (before u (namespace_at spaces u.space).names)
+
+-- why a space doesn't take one more item, by what it would be then
+abbrev pub EnterCause : Namespace → Fault → Type 0
+EnterCause s (Memory e) = Unit {0}
+EnterCause s TooMany = NamespaceIsMany s
+EnterCause s TooLarge = NamespaceIsLarge s
+EnterCause s Unfinished = ⊥

@@ -1,5 +1,6 @@
 ghost use Rattle.std.specs.Prelude.{◌≡◌};
 
+use crate::builder::Space;
 use crate::exports::ComponentExportKind;
 use std::alloc::Allocator;
 use wenc_base::{Encode, Fault, Tagged};
@@ -16,6 +17,20 @@ pub enum Alias<'a> {
         /// The name of the export, of at most 4294967295 bytes.
         name: &'a str,
     },
+}
+
+impl<'a> Alias<'a> {
+    ghost use Rattle.wasm_encoder.specs.Aliases.{alias_view};
+    ghost use Rattle.wasm_encoder.specs.Space.{alias_space};
+
+    /// The space that the alias defines an item in.
+    pub(crate) fn space(&self) -> Space
+        ensures { result ≡ alias_space (alias_view self.now) }
+    {
+        match self {
+            Alias::InstanceExport { kind, .. } => Space::from(*kind),
+        }
+    }
 }
 
 impl<'a> Encode for Alias<'a> {

@@ -6,6 +6,6 @@ pub mod encode;
 pub mod fault;
 pub mod number;
 
-pub use encode::{Encode, Tagged};
+pub use encode::{Encode, Tagged, extend_in_room};
 pub use fault::Fault;
 pub use number::encoding_size;

@@ -1,0 +1,6 @@
+use Rattle.std.proofs.Common.{refl}
+use Rattle.wasm_encoder.proofs.Undone.{taken_is}
+use Rattle.wasm_encoder.proofs.builder.spaces.Spaces.end.Goals as goal
+
+pub returns : goal.returns
+returns g c = rw (taken_is c.self.inside.spaces c.self.inside.undo c.args.self.now c.self.view_is) refl
