@@ -5,3 +5,5 @@ pub mod Runs
 pub mod Step
 pub mod Adds
 pub mod Caused
+pub mod Answered
+pub mod Run

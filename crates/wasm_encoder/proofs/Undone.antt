@@ -34,24 +34,24 @@ thirteen : (spaces : List Namespace) (undo : Option Undo) → CanUndo spaces und
 thirteen spaces None h = h
 thirteen spaces (Some u) h = h.0
 
-pub entered_view : (spaces : List Namespace) (undo : Option Undo) (now : Spaced) (i : ℕ) (d new : Namespace) (count names len : ℕ) (name : Option (List ℕ))
-    → i < 13 → CanUndo spaces undo → spaced_view spaces undo ≡ now → now.taking ≡ None → new ≡ namespace_with (get_or spaces i d) 1 name
-    → count ≡ (get_or spaces i d).count → names ≡ (get_or spaces i d).named → len ≡ length (get_or spaces i d).names
+pub entered_view : (spaces : List Namespace) (undo : Option Undo) (now : Spaced) (i : ℕ) (one new : Namespace) (count names len : ℕ) (name : Option (List ℕ))
+    → i < 13 → CanUndo spaces undo → spaced_view spaces undo ≡ now → now.taking ≡ None → one ≡ get_or spaces i one → new ≡ namespace_with one 1 name
+    → count ≡ one.count → names ≡ one.named → len ≡ length one.names
     → spaced_view (set spaces i new) (Some (record { space = i; count = count; named = names; len = len }))
     ≡ record { settled = now.settled; taking = Some (record { space = i; after = namespace_with (namespace_at now.settled i) 1 name }) }
-entered_view spaces undo now i d new count names len name h k e t f c m l =
+entered_view spaces undo now i one new count names len name h k e t o f c m l =
     let inside : i < length spaces = omega (arith, thirteen spaces undo k) in
-    let there : get_or spaces i d ≡ namespace_at spaces i = get_or_default spaces i d no_names inside in
+    let there : one ≡ namespace_at spaces i = o ∙ get_or_default spaces i one no_names inside in
     let same : spaces ≡ now.settled = settled_is spaces undo now e t in
-    rw (c, m, l, kept spaces i (get_or spaces i d) new name inside there f, get_or-set_same spaces i new no_names inside, f, there, same) refl
+    rw (c, m, l, kept spaces i one new name inside there f, get_or-set_same spaces i new no_names inside, f, there, same) refl
 
-pub entered_can : (spaces : List Namespace) (undo : Option Undo) (i : ℕ) (d new : Namespace) (count names len : ℕ) (name : Option (List ℕ))
-    → i < 13 → CanUndo spaces undo → new ≡ namespace_with (get_or spaces i d) 1 name
-    → count ≡ (get_or spaces i d).count → names ≡ (get_or spaces i d).named → len ≡ length (get_or spaces i d).names → NamesFit (get_or spaces i d)
+pub entered_can : (spaces : List Namespace) (undo : Option Undo) (i : ℕ) (one new : Namespace) (count names len : ℕ) (name : Option (List ℕ))
+    → i < 13 → CanUndo spaces undo → new ≡ namespace_with one 1 name
+    → names ≡ one.named → len ≡ length one.names → NamesFit one
     → CanUndo (set spaces i new) (Some (record { space = i; count = count; named = names; len = len }))
-entered_can spaces undo i d new count names len name h k f c m l n =
+entered_can spaces undo i one new count names len name h k f m l n =
     let inside : i < length spaces = omega (arith, thirteen spaces undo k) in
-    rw (m, l) (length-set spaces i new ∙ thirteen spaces undo k, h, kept_fits spaces i (get_or spaces i d) new name inside f n)
+    rw (m, l) (length-set spaces i new ∙ thirteen spaces undo k, h, kept_fits spaces i one new name inside f n)
 
 -- the spaces with the item that is being written
 pub taken_is : (spaces : List Namespace) (undo : Option Undo) (now : Spaced) → spaced_view spaces undo ≡ now → spaces ≡ taken now.settled now.taking

@@ -1,9 +1,11 @@
 -- What a run of commands is.
-use Rattle.std.specs.Prelude.{◌≡◌, ℕ, List, [], ◌∷◌, ◌++◌, Result, Ok, Err, Option, Some}
+use Rattle.std.specs.Prelude.{◌≡◌, ℕ, List, [], ◌∷◌, ◌++◌, Result, Ok, Err, Option, Some, MatchResult}
 use Rattle.wenc_base.specs.declared.fault.Fault.{Fault}
 use Rattle.wenc_base.specs.declared.fault.Fault.TheVariants.{TooMany, TooLarge}
 use Rattle.wasm_encoder.specs.Space.{defines, place}
 use Rattle.wasm_encoder.specs.Entry.{Entry, items}
+use Rattle.wasm_encoder.specs.Builder.{State}
+use Rattle.wasm_encoder.specs.Holds.{Holds}
 use Rattle.wasm_encoder.specs.Cause.{EntryCause}
 use Rattle.wasm_encoder.specs.Command.{CommandTree, entry_of}
 
@@ -29,3 +31,8 @@ RanFrom es (c ∷ cs) (a ∷ answers) all = Answered es c a × RanFrom (entries_
 -- one answer for each command, from no entries on
 abbrev pub Ran : List CommandTree → List (Result (Option ℕ) Fault) → List Entry → Type 0
 Ran commands answers all = RanFrom [] commands answers all
+
+-- What one call did whose entry is x, by every list that was held.
+pub record Answers (old new : State) (result : Result ℕ Fault) (x : Entry) : Type 0 where
+  pub held : (es : List Entry) → Holds old es
+      → MatchResult result (λ i. Holds new (es ++ x ∷ []) × (i ≡ place (items es) (defines x.item).space) × ¬ (EntryCause es x TooMany) × ¬ (EntryCause es x TooLarge)) (λ fault. Holds new es × EntryCause es x fault)

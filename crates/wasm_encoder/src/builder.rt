@@ -65,7 +65,7 @@ impl<A: Allocator> ComponentBuilder<A> {
     {
         Ok(ComponentBuilder {
             buffer: Buffer::new(alloc)?,
-            spaces: Spaces::new(alloc),
+            spaces: Spaces::new(alloc)?,
         })
     }
 

@@ -1,24 +1,26 @@
 ghost use Rattle.std.specs.Prelude.{◌≡◌, List, IfOk, IfErr, map};
+ghost use Rattle.std.specs.Option.{option_copied};
+ghost use Rattle.wenc_base.specs.Fault.{IsMemory};
 ghost use Rattle.wasm_encoder.specs.Component.{whole};
 ghost use Rattle.wasm_encoder.specs.Entry.{Entry, items};
-ghost use Rattle.wasm_encoder.specs.Command.{command_view};
-ghost use Rattle.wasm_encoder.specs.Ran.{Ran};
-ghost use Rattle.wenc_base.specs.Fault.{IsMemory};
+ghost use Rattle.wasm_encoder.specs.Command.{command_view, debug_name_view, entry_of};
+ghost use Rattle.wasm_encoder.specs.Ran.{Ran, Answers};
 
 use crate::aliases::AliasTree;
+use crate::builder::ComponentBuilder;
 use crate::exports::ComponentExportKind;
 use crate::imports::{ComponentTypeRef, NameTree};
-use std::alloc::{AllocError, Allocator, Global};
+use std::alloc::{Allocator, Global};
 use wenc_base::Fault;
 
-/// One call of a builder, as data. Its text and its numbers are those of the call.
+/// One call of a builder, as data.
 #[derive(Drop)]
 pub enum Command {
     /// An alias, with a debug name or none.
     Alias { n: Option<String>, alias: AliasTree },
     /// An import.
     Import { name: NameTree, ty: ComponentTypeRef },
-    /// An export of the item with this index, with a type or none.
+    /// An export of the item of this kind with this index, from 0 to 4294967295, with a type or none.
     Export {
         name: NameTree,
         kind: ComponentExportKind,
@@ -27,21 +29,58 @@ pub enum Command {
     },
 }
 
+impl Command {
+    /// Makes the call that this command is.
+    #[tactic(auto, using(crate::proofs::Answered::answered))]
+    fn run<A: Allocator>(&self, builder: &mut ComponentBuilder<A>) -> Result<u32, Fault>
+        ensures { Answers builder.old builder.new result (entry_of (command_view self.now)) }
+    {
+        match self {
+            Command::Alias { n, alias } => builder.alias(debug_name(n), alias.as_alias()),
+            Command::Import { name, ty } => builder.import(name.as_name(), *ty),
+            Command::Export {
+                name,
+                kind,
+                index,
+                ty,
+            } => builder.export(name.as_name(), *kind, *index, *ty),
+        }
+    }
+}
+
+fn debug_name(name: &Option<String>) -> Option<&str>
+    ensures { option_copied result ≡ debug_name_view name.now }
+{
+    match name {
+        None => None,
+        Some(name) => Some(name.as_str()),
+    }
+}
+
 /// What the commands of a run answered, and the bytes.
 #[derive(Drop)]
 pub struct Built<A: Allocator = Global> {
-    /// One answer for each command: the index of its item, or the fault.
+    /// One answer for each command: the index of its item, or why it was refused.
     pub answers: Vec<Result<Option<u32>, Fault>, A>,
     /// The component.
     pub bytes: Vec<u8, A>,
 }
 
-/// STUB of this scratch copy: the real one runs the commands.
+/// Makes the calls that the commands are, in order, on a new builder, keeps each answer, and finishes. A
+/// refused command adds nothing, and the ones after it run all the same. It is refused only where there is
+/// no memory for the builder or for the answers.
+#[tactic(auto, using(crate::proofs::Run::ran_none))]
 pub fn build<A: Allocator + Copy>(alloc: A, commands: &[Command]) -> Result<Built<A>, Fault>
+    // There are entries that the commands and the answers lead to, and the bytes are the component of their items.
     ensures ran { IfOk result (λ b. (es : List Entry) × Ran (map command_view commands.now) b.answers.items es × (b.bytes.items ≡ whole (items es))) }
     ensures refused { IfErr result IsMemory }
 {
-    let _ = commands;
-    let _ = alloc;
-    Err(Fault::Memory(AllocError))
+    let mut builder = ComponentBuilder::new(alloc)?;
+    let mut answers = Vec::new(alloc);
+    for command in commands {
+        let answer = command.run(&mut builder).map(Some);
+        answers.push(answer)?;
+    }
+    let bytes = builder.finish()?;
+    Ok(Built { answers, bytes })
 }

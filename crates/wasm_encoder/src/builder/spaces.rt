@@ -4,6 +4,7 @@ ghost use Rattle.wasm_encoder.specs.Space.{space_number};
 ghost use Rattle.wasm_encoder.specs.Builder.{no_names, namespace_with, namespace_at, taken};
 ghost use Rattle.wasm_encoder.specs.Cause.{NamespaceIsMany, NamespaceIsLarge};
 ghost use Rattle.wasm_encoder.specs.Undo.{EnterCause};
+ghost use Rattle.wenc_base.specs.Fault.{IsMemory};
 
 use super::namespace::Namespace;
 use super::space::Space;
@@ -12,10 +13,13 @@ use std::alloc::{Allocator, Global};
 use std::marker::Model;
 use wenc_base::Fault;
 
+/// How many spaces there are.
+const SPACES: usize = 13;
+
 /// All index spaces, and what one of them was before the item that is being written.
 #[derive(Drop)]
 pub struct Spaces<A: Allocator = Global> {
-    spaces: [Namespace<A>; 13],
+    spaces: Vec<Namespace<A>, A>,
     undo: Option<Undo>,
 }
 
@@ -26,36 +30,24 @@ impl<A: Allocator> Model for Spaces<A> {
 
     ghost use Rattle.wasm_encoder.specs.Undo.{spaced_view, CanUndo};
 
-    ghost view = { λ s. spaced_view s.spaces s.undo };
+    ghost view = { λ s. spaced_view s.spaces.items s.undo };
 
-    ghost invariant = { λ s. CanUndo s.spaces s.undo };
+    ghost invariant = { λ s. CanUndo s.spaces.items s.undo };
 }
 
 impl<A: Allocator> Spaces<A> {
-    /// Spaces without items.
-    pub fn new(alloc: A) -> Self
+    /// Spaces without items. It is refused for want of memory alone.
+    pub fn new(alloc: A) -> Result<Self, Fault>
     where
         A: Copy,
-        ensures { result ≡ record { settled = replicate 13 no_names; taking = None } }
+        ensures ok { IfOk result (λ s. s ≡ record { settled = replicate 13 no_names; taking = None }) }
+        ensures refused { IfErr result IsMemory }
     {
-        Spaces {
-            spaces: [
-                Namespace::new(alloc),
-                Namespace::new(alloc),
-                Namespace::new(alloc),
-                Namespace::new(alloc),
-                Namespace::new(alloc),
-                Namespace::new(alloc),
-                Namespace::new(alloc),
-                Namespace::new(alloc),
-                Namespace::new(alloc),
-                Namespace::new(alloc),
-                Namespace::new(alloc),
-                Namespace::new(alloc),
-                Namespace::new(alloc),
-            ],
-            undo: None,
+        let mut spaces = Vec::with_capacity(alloc, SPACES)?;
+        for _ in 0..SPACES {
+            spaces.push(Namespace::new(alloc))?;
         }
+        Ok(Spaces { spaces, undo: None })
     }
 
     /// How many items a space has, the one that is being written with them.
