@@ -4,12 +4,14 @@
 pub mod aliases;
 mod builder;
 pub mod command;
+pub mod examples;
 pub mod exports;
 pub mod imports;
 mod sorts;
 pub mod types;
 
 pub use aliases::AliasTree;
+pub use builder::ComponentBuilder;
 pub use command::{Built, Command, build};
 pub use exports::ComponentExportKind;
 pub use imports::{ComponentExternName, ComponentTypeRef, NameTree, TypeBounds};
