@@ -61,21 +61,21 @@ number_size n = length (unsigned_text n)
 
 -- ---- the texts in words
 
--- the low seven bits of each byte, times 128 for each byte before it
+-- The sum of the low seven bits of each byte, times 128 for each byte before it. `place` bytes come before these.
 abbrev pub sum_from : ℕ → List ℕ → ℕ
 sum_from place [] = 0
 sum_from place (b ∷ bytes) = (b % 128) * 128 ^ place + sum_from (suc place) bytes
 
--- All bytes but the last are at least 128, and the last is below 128.
+-- All bytes but the last are from 128 to 255, and the last is below 128.
 pub record AreGroups (bytes : List ℕ) : Type 0 where
   pub some : 0 < length bytes
   pub go_on : (k : ℕ) → k + 1 < length bytes → (128 ≤ slice_index bytes k) × (slice_index bytes k < 256)
   pub end : (k : ℕ) → k + 1 ≡ length bytes → slice_index bytes k < 128
 
--- the number that groups say, as a signed one: bit 6 of the last byte takes 128 to their length off
 abbrev pub last_of : List ℕ → ℕ
 last_of bytes = slice_index bytes (length bytes - 1)
 
+-- The sum, with 128 to the number of bytes taken off where bit 6 of the last byte is set.
 abbrev pub signed_sum : List ℕ → ℤ
 signed_sum bytes = if nat_lt (last_of bytes) 64 then pos (sum_from 0 bytes) else (pos (sum_from 0 bytes) -ℤ pos (128 ^ length bytes))
 

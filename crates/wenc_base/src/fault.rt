@@ -5,18 +5,20 @@ use std::alloc::{AllocError, AllocFailed};
 use thiserror::Error;
 
 /// Why a call was refused. A refused call changes nothing, but for what it was given to keep.
+///
+/// - `Memory`: the allocator refused a growth during this call.
+/// - `TooMany`: a list's length, a count or an index space would pass 4294967295.
+/// - `TooLarge`: a text, a byte list, a map of names or a section would have more than 4294967295
+///   bytes.
+/// - `Unfinished`: an item that was begun has not been ended.
 #[derive(Clone, Copy, Debug, PartialEq, Eq, Error)]
 pub enum Fault {
-    /// The allocator refused a growth during this call.
     #[error("no memory")]
     Memory(AllocError),
-    /// A list's length, a count or an index space would pass 4294967295.
     #[error("too many")]
     TooMany,
-    /// A text, a byte list, a map of names or a section would have more than 4294967295 bytes.
     #[error("too large")]
     TooLarge,
-    /// An item that was begun has not been ended.
     #[error("unfinished")]
     Unfinished,
 }

@@ -4,8 +4,12 @@
 
 pub mod encode;
 pub mod fault;
+pub mod laws;
 pub mod number;
 
 pub use encode::{Encode, Tagged, extend_in_room};
 pub use fault::Fault;
 pub use number::encoding_size;
+
+#[cfg(test)]
+mod tests;

@@ -1,0 +1,267 @@
+//! Every call that can be refused for memory has each of its growths refused in turn.
+
+use super::Refusing;
+use std::alloc::{AllocError, Global};
+use std::process::Abort;
+use std::test::Fail;
+use wasm_encoder::{
+    AliasTree, Command, ComponentBuilder, ComponentExportKind, ComponentExternName,
+    ComponentTypeRef, ComponentValType, Encode, Fault, NameTree, PrimitiveValType, TypeBounds,
+    build,
+};
+use wenc_base::Tagged;
+
+const REFUSED: Fault = Fault::Memory(AllocError);
+
+/// Longer than a vector's first room, so that each call has to grow.
+const NAME: &str = "a name that is longer than a first growth, by far: aaaaaaaaaaaaaaaaaaaaaa";
+
+fn sweep_encode<E: Encode>(rt: &impl Abort, alloc: Global, value: &E) -> Result<(), Fault> {
+    let mut wanted = Vec::new(alloc);
+    wanted.extend_from_slice(&[1, 2, 3])?;
+    value.encode(&mut wanted)?;
+    let mut done = false;
+    for n in 1..20u64 {
+        let heap = Refusing::new(alloc);
+        let mut sink = Vec::new(&heap);
+        sink.extend_from_slice(&[1, 2, 3])?;
+        sink.shrink_to_fit();
+        heap.refuse_nth(n);
+        let outcome = value.encode(&mut sink);
+        if !heap.was_refused() {
+            assert!(rt; outcome.is_ok());
+            assert!(rt; sink.as_slice() == wanted.as_slice());
+            done = true;
+            break;
+        }
+        assert!(rt; outcome == Err(REFUSED));
+        assert!(rt; heap.requests() == n);
+        assert!(rt; sink.as_slice() == [1, 2, 3].as_slice());
+        value.encode(&mut sink)?;
+        assert!(rt; sink.as_slice() == wanted.as_slice());
+    }
+    assert!(rt; done);
+    Ok(())
+}
+
+#[test]
+fn numbers_and_texts(rt: HostRuntime) -> Result<(), Fail> {
+    let alloc = rt.alloc();
+    sweep_encode(&rt, alloc, &4294967295u32)?;
+    sweep_encode(&rt, alloc, &-65i64)?;
+    sweep_encode(&rt, alloc, &NAME)?;
+    sweep_encode(&rt, alloc, &NAME.as_bytes())?;
+    sweep_encode(&rt, alloc, &None::<u32>)?;
+    sweep_encode(&rt, alloc, &Some(NAME))?;
+    sweep_encode(&rt, alloc, &(NAME, NAME))?;
+    sweep_encode(&rt, alloc, &Tagged(7, &NAME))?;
+    Ok(())
+}
+
+#[test]
+fn parts(rt: HostRuntime) -> Result<(), Fail> {
+    let alloc = rt.alloc();
+    sweep_encode(&rt, alloc, &PrimitiveValType::String)?;
+    sweep_encode(&rt, alloc, &ComponentValType::Type(64))?;
+    sweep_encode(&rt, alloc, &ComponentExportKind::Module)?;
+    sweep_encode(&rt, alloc, &TypeBounds::Eq(128))?;
+    sweep_encode(&rt, alloc, &TypeBounds::SubResource)?;
+    sweep_encode(&rt, alloc, &ComponentTypeRef::Module(128))?;
+    sweep_encode(&rt, alloc, &ComponentTypeRef::Value(ComponentValType::Type(64)))?;
+    sweep_encode(&rt, alloc, &ComponentTypeRef::Type(TypeBounds::Eq(1)))?;
+    sweep_encode(&rt, alloc, &ComponentExternName::from(NAME))?;
+    Ok(())
+}
+
+#[derive(Clone, Copy, Debug)]
+enum Call {
+    Import,
+    Export,
+    AliasExport,
+}
+
+impl Call {
+    fn make(self, builder: &mut ComponentBuilder<&Refusing>) -> Result<u32, Fault> {
+        match self {
+            Call::Import => builder.import(NAME.into(), ComponentTypeRef::Func(0)),
+            Call::Export => builder.export(NAME.into(), ComponentExportKind::Func, 0, None),
+            Call::AliasExport => builder.alias_export(0, NAME, ComponentExportKind::Func),
+        }
+    }
+}
+
+/// A builder that has an alias already.
+fn started(heap: &Refusing) -> Result<ComponentBuilder<&Refusing>, Fault> {
+    heap.refuse_none();
+    let mut builder = ComponentBuilder::new(heap)?;
+    builder.alias_export(0, "f", ComponentExportKind::Func)?;
+    Ok(builder)
+}
+
+fn counts(builder: &ComponentBuilder<&Refusing>) -> [u32; 13] {
+    [
+        builder.core_module_count(),
+        builder.core_func_count(),
+        builder.core_type_count(),
+        builder.core_memory_count(),
+        builder.core_table_count(),
+        builder.core_instance_count(),
+        builder.core_tag_count(),
+        builder.core_global_count(),
+        builder.func_count(),
+        builder.instance_count(),
+        builder.value_count(),
+        builder.component_count(),
+        builder.type_count(),
+    ]
+}
+
+/// The bytes after one more alias, which shows whether the last section is still open.
+fn finished<'a>(mut builder: ComponentBuilder<&'a Refusing>) -> Result<Vec<u8, &'a Refusing>, Fault> {
+    builder.alias_export(1, "g", ComponentExportKind::Func)?;
+    builder.finish()
+}
+
+/// Refuses the n-th growth of a call. Answers whether one was refused.
+fn refuse(rt: &impl Abort, heap: &Refusing, call: Call, n: u64) -> Result<bool, Fault> {
+    let mut builder = started(heap)?;
+    let before = counts(&builder);
+    heap.refuse_nth(n);
+    let outcome = call.make(&mut builder);
+    if !heap.was_refused() {
+        assert!(rt; outcome == Ok(1));
+        return Ok(false);
+    }
+    assert!(rt; outcome == Err(REFUSED));
+    assert!(rt; heap.requests() == n);
+    assert!(rt; counts(&builder) == before);
+
+    // It left nothing behind.
+    heap.refuse_none();
+    let bytes = finished(builder)?;
+    let wanted = finished(started(heap)?)?;
+    assert!(rt; bytes.as_slice() == wanted.as_slice());
+    Ok(true)
+}
+
+/// The same call after a refusal does what it would have done.
+fn succeed_then(rt: &impl Abort, heap: &Refusing, call: Call, n: u64) -> Result<(), Fault> {
+    let mut builder = started(heap)?;
+    heap.refuse_nth(n);
+    assert!(rt; call.make(&mut builder) == Err(REFUSED));
+    heap.refuse_none();
+    assert!(rt; call.make(&mut builder) == Ok(1));
+    let bytes = finished(builder)?;
+    let mut other = started(heap)?;
+    call.make(&mut other)?;
+    let wanted = finished(other)?;
+    assert!(rt; bytes.as_slice() == wanted.as_slice());
+    Ok(())
+}
+
+#[test]
+fn builder_calls(rt: HostRuntime) -> Result<(), Fail> {
+    for call in [Call::Import, Call::Export, Call::AliasExport] {
+        let heap = Refusing::new(rt.alloc());
+        let mut done = false;
+        for n in 1..20u64 {
+            if !refuse(&rt, &heap, call, n)? {
+                done = true;
+                break;
+            }
+            succeed_then(&rt, &heap, call, n)?;
+        }
+        assert!(rt; done, "{call:?}");
+    }
+    Ok(())
+}
+
+#[test]
+fn new_builder(rt: HostRuntime) -> Result<(), Fail> {
+    let heap = Refusing::new(rt.alloc());
+    let mut done = false;
+    for n in 1..20u64 {
+        heap.refuse_nth(n);
+        let outcome = ComponentBuilder::new(&heap);
+        if !heap.was_refused() {
+            assert!(rt; outcome.is_ok());
+            done = true;
+            break;
+        }
+        assert!(rt; outcome.err() == Some(REFUSED));
+        assert_eq!(rt; heap.requests(), n);
+    }
+    assert!(rt; done);
+    Ok(())
+}
+
+// `finish` takes no memory.
+#[test]
+fn finish(rt: HostRuntime) -> Result<(), Fail> {
+    let heap = Refusing::new(rt.alloc());
+    let builder = started(&heap)?;
+    heap.refuse_all();
+    let bytes = builder.finish()?;
+    assert_eq!(rt; heap.requests(), 0);
+    assert_eq!(
+        rt;
+        bytes.as_slice(),
+        [0x00, 0x61, 0x73, 0x6d, 0x0d, 0, 1, 0, 6, 6, 1, 1, 0, 0, 1, 0x66].as_slice()
+    );
+    Ok(())
+}
+
+fn alias(alloc: Global, name: &str) -> Result<Command, AllocError> {
+    Ok(Command::Alias {
+        n: None,
+        alias: AliasTree::InstanceExport {
+            instance: 0,
+            kind: ComponentExportKind::Func,
+            name: String::from_str(alloc, name)?,
+        },
+    })
+}
+
+fn import(alloc: Global) -> Result<Command, AllocError> {
+    Ok(Command::Import {
+        name: NameTree {
+            name: String::from_str(alloc, NAME)?,
+        },
+        ty: ComponentTypeRef::Func(0),
+    })
+}
+
+// A command that is refused adds nothing, and those after it run all the same.
+#[test]
+fn builds(rt: HostRuntime) -> Result<(), Fail> {
+    let alloc = rt.alloc();
+    let heap = Refusing::new(alloc);
+    let all = vec![in alloc; alias(alloc, "f")?, import(alloc)?, alias(alloc, "g")?]?;
+    let without = vec![in alloc; alias(alloc, "f")?, alias(alloc, "g")?]?;
+    let wanted = build(alloc, without.as_slice())?;
+    let mut skipped = 0u32;
+    let mut done = false;
+    for n in 1..40u64 {
+        heap.refuse_nth(n);
+        let outcome = build(&heap, all.as_slice());
+        if !heap.was_refused() {
+            done = true;
+            break;
+        }
+        assert_eq!(rt; heap.requests() >= n, true);
+        match outcome {
+            Err(fault) => assert!(rt; fault == REFUSED),
+            Ok(built) => {
+                let refused = built.answers.iter().filter(|a| a.is_err()).count();
+                assert_eq!(rt; refused, 1);
+                if built.answers.get(1).is_some_and(|a| *a == Err(REFUSED)) {
+                    assert_eq!(rt; built.bytes.as_slice(), wanted.bytes.as_slice());
+                    skipped += 1;
+                }
+            }
+        }
+    }
+    assert!(rt; done);
+    assert!(rt; skipped > 0);
+    Ok(())
+}

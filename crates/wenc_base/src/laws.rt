@@ -1,0 +1,37 @@
+//! What the numbers' texts are, in words.
+ghost use Rattle.std.specs.Prelude.{◌≡◌, ℕ, ℤ, pos, negsuc, ◌^◌, ◌<◌, ◌∷◌, [], List, FitsSigned};
+ghost use Rattle.std.specs.Int.{w64};
+ghost use Rattle.wenc_base.specs.Piece.{Wide};
+ghost use Rattle.wenc_base.specs.Number.{unsigned_text, signed_text, IsUnsignedText, IsSignedText, index};
+ghost use Rattle.wenc_base.specs.Number.{u32 as number};
+
+/// The text of an unsigned number is the shortest list of bytes that spells it, and the only one
+/// so short.
+pub fn unsigned_text_in_words()
+    ensures is { (n : ℕ) → n < 2 ^ 64 → IsUnsignedText (unsigned_text n) n }
+    ensures only { (n : ℕ) (bytes : List ℕ) → n < 2 ^ 64
+        → IsUnsignedText bytes n → bytes ≡ unsigned_text n }
+{}
+
+/// The same for a signed number.
+pub fn signed_text_in_words()
+    ensures is { (z : ℤ) → FitsSigned w64 z → IsSignedText (signed_text z) z }
+    ensures only { (z : ℤ) (bytes : List ℕ) → FitsSigned w64 z
+        → IsSignedText bytes z → bytes ≡ signed_text z }
+{}
+
+/// The texts of some numbers, what is read as 2, and two lists of bytes that are no number of 32 bits.
+pub fn number_examples()
+    ensures last_of_one { (index 63).text ≡ 0x3f ∷ [] }
+    ensures first_of_two { (index 64).text ≡ 0xc0 ∷ 0x00 ∷ [] }
+    ensures largest { (index 4294967295).text ≡ 0xff ∷ 0xff ∷ 0xff ∷ 0xff ∷ 0x0f ∷ [] }
+    ensures below_zero { signed_text (negsuc 0) ≡ 0x7f ∷ [] }
+    ensures lowest_of_one { signed_text (negsuc 63) ≡ 0x40 ∷ [] }
+    ensures highest_of_two { signed_text (negsuc 64) ≡ 0xbf ∷ 0x7f ∷ [] }
+    ensures three { unsigned_text 624485 ≡ 0xe5 ∷ 0x8e ∷ 0x26 ∷ [] }
+    ensures padded { (number 2).Reads Wide (0x82 ∷ 0x80 ∷ 0x80 ∷ 0x80 ∷ 0x00 ∷ []) [] }
+    ensures too_long { (n : ℕ) (rest : List ℕ)
+        → (number n).Reads Wide (0x82 ∷ 0x80 ∷ 0x80 ∷ 0x80 ∷ 0x80 ∷ 0x00 ∷ []) rest → ⊥ }
+    ensures too_large { (n : ℕ) (rest : List ℕ)
+        → (number n).Reads Wide (0xff ∷ 0xff ∷ 0xff ∷ 0xff ∷ 0x1f ∷ []) rest → ⊥ }
+{}
