@@ -239,7 +239,7 @@ fn builds(rt: HostRuntime) -> Result<(), Fail> {
     let all = vec![in alloc; alias(alloc, "f")?, import(alloc)?, alias(alloc, "g")?]?;
     let without = vec![in alloc; alias(alloc, "f")?, alias(alloc, "g")?]?;
     let wanted = build(alloc, without.as_slice())?;
-    let mut skipped = 0u32;
+    let mut skipped = false;
     let mut done = false;
     for n in 1..40u64 {
         heap.refuse_nth(n);
@@ -248,7 +248,7 @@ fn builds(rt: HostRuntime) -> Result<(), Fail> {
             done = true;
             break;
         }
-        assert_eq!(rt; heap.requests() >= n, true);
+        assert!(rt; heap.requests() >= n);
         match outcome {
             Err(fault) => assert!(rt; fault == REFUSED),
             Ok(built) => {
@@ -256,12 +256,12 @@ fn builds(rt: HostRuntime) -> Result<(), Fail> {
                 assert_eq!(rt; refused, 1);
                 if built.answers.get(1).is_some_and(|a| *a == Err(REFUSED)) {
                     assert_eq!(rt; built.bytes.as_slice(), wanted.bytes.as_slice());
-                    skipped += 1;
+                    skipped = true;
                 }
             }
         }
     }
     assert!(rt; done);
-    assert!(rt; skipped > 0);
+    assert!(rt; skipped);
     Ok(())
 }
