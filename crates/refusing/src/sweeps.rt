@@ -67,7 +67,11 @@ fn parts(rt: HostRuntime) -> Result<(), Fail> {
     sweep_encode(&rt, alloc, &TypeBounds::Eq(128))?;
     sweep_encode(&rt, alloc, &TypeBounds::SubResource)?;
     sweep_encode(&rt, alloc, &ComponentTypeRef::Module(128))?;
-    sweep_encode(&rt, alloc, &ComponentTypeRef::Value(ComponentValType::Type(64)))?;
+    sweep_encode(
+        &rt,
+        alloc,
+        &ComponentTypeRef::Value(ComponentValType::Type(64)),
+    )?;
     sweep_encode(&rt, alloc, &ComponentTypeRef::Type(TypeBounds::Eq(1)))?;
     sweep_encode(&rt, alloc, &ComponentExternName::from(NAME))?;
     Ok(())
@@ -117,7 +121,9 @@ fn counts(builder: &ComponentBuilder<&Refusing>) -> [u32; 13] {
 }
 
 /// The bytes after one more alias, which shows whether the last section is still open.
-fn finished<'a>(mut builder: ComponentBuilder<&'a Refusing>) -> Result<Vec<u8, &'a Refusing>, Fault> {
+fn finished<'a>(
+    mut builder: ComponentBuilder<&'a Refusing>,
+) -> Result<Vec<u8, &'a Refusing>, Fault> {
     builder.alias_export(1, "g", ComponentExportKind::Func)?;
     builder.finish()
 }
@@ -203,10 +209,12 @@ fn finish(rt: HostRuntime) -> Result<(), Fail> {
     heap.refuse_all();
     let bytes = builder.finish()?;
     assert_eq!(rt; heap.requests(), 0);
-    assert_eq!(
-        rt;
+    assert_eq!(rt;
         bytes.as_slice(),
-        [0x00, 0x61, 0x73, 0x6d, 0x0d, 0, 1, 0, 6, 6, 1, 1, 0, 0, 1, 0x66].as_slice()
+        [
+            0x00, 0x61, 0x73, 0x6d, 0x0d, 0, 1, 0, 6, 6, 1, 1, 0, 0, 1, 0x66
+        ]
+        .as_slice()
     );
     Ok(())
 }

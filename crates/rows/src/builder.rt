@@ -19,8 +19,7 @@ fn an_import_and_an_export(rt: HostRuntime) -> Result<(), Fail> {
     let index = builder.export("g".into(), ComponentExportKind::Func, 0, None)?;
     assert_eq!(rt; index, 1);
     let bytes = builder.finish()?;
-    assert_eq!(
-        rt;
+    assert_eq!(rt;
         hex::encode(rt.alloc(), bytes.as_slice())?.as_str(),
         "0061736d0d0001000a060100016601000b0701000167010000"
     );
@@ -34,8 +33,7 @@ fn an_export_with_a_type(rt: HostRuntime) -> Result<(), Fail> {
     let index = builder.export("g".into(), ComponentExportKind::Func, 0, ty)?;
     assert_eq!(rt; index, 0);
     let bytes = builder.finish()?;
-    assert_eq!(
-        rt;
+    assert_eq!(rt;
         hex::encode(rt.alloc(), bytes.as_slice())?.as_str(),
         "0061736d0d0001000b09010001670100010101"
     );
@@ -46,10 +44,12 @@ fn an_export_with_a_type(rt: HostRuntime) -> Result<(), Fail> {
 fn export_aliases(rt: HostRuntime) -> Result<(), Fail> {
     let mut builder = ComponentBuilder::new(rt.alloc())?;
     assert_eq!(rt; builder.alias_export(0, "f", ComponentExportKind::Func)?, 0);
-    assert_eq!(rt; builder.alias_export(5, "m", ComponentExportKind::Module)?, 0);
+    assert_eq!(rt;
+        builder.alias_export(5, "m", ComponentExportKind::Module)?,
+        0
+    );
     let bytes = builder.finish()?;
-    assert_eq!(
-        rt;
+    assert_eq!(rt;
         hex::encode(rt.alloc(), bytes.as_slice())?.as_str(),
         "0061736d0d000100060c02010000016600110005016d"
     );

@@ -63,8 +63,7 @@ fn each_command(rt: HostRuntime) -> Result<(), Fail> {
     }
     assert!(rt; answers.next().is_none());
     let text = hex::encode(alloc, built.bytes.as_slice())?;
-    assert_eq!(
-        rt;
+    assert_eq!(rt;
         text.as_str(),
         "0061736d0d0001000a0d0200016102c00000016203000306070100110005016d0b0801000163001100000606010200000176"
     );

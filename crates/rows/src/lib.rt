@@ -1,5 +1,26 @@
-//! Tests: worked components and parts, by the public calls of the crates above.
+//! Tests: worked components and parts, by the public calls of the crates below.
 #![tactic(auto)]
+
+ghost use Rattle.std.specs.Prelude.{◌≡◌, ◌∷◌, [], IfOk, None, codes};
+ghost use Rattle.wasm_encoder.specs.declared.exports.ComponentExportKind.{ComponentExportKind};
+ghost use Rattle.wasm_encoder.specs.declared.imports.ComponentTypeRef.{ComponentTypeRef};
+ghost use Rattle.wasm_encoder.specs.Item.{ImportItem, ExportItem};
+ghost use Rattle.wasm_encoder.specs.Component.{whole};
+
+use std::alloc::Allocator;
+use wasm_encoder::{ComponentBuilder, ComponentExportKind, ComponentTypeRef, Fault};
+
+/// A component that imports a function and exports it again. What it is follows from the contracts of the
+/// builder's calls alone.
+pub fn passed_on<A: Allocator + Copy>(alloc: A) -> Result<Vec<u8, A>, Fault>
+    ensures { IfOk result (λ bytes. bytes.items ≡ whole (ImportItem (record { name = codes "f" }) (ComponentTypeRef.Func 0)
+        ∷ ExportItem (record { name = codes "g" }) ComponentExportKind.Func 0 None ∷ [])) }
+{
+    let mut builder = ComponentBuilder::new(alloc)?;
+    let index = builder.import("f".into(), ComponentTypeRef::Func(0))?;
+    builder.export("g".into(), ComponentExportKind::Func, index, None)?;
+    builder.finish()
+}
 
 #[cfg(test)]
 mod builder;

@@ -32,7 +32,10 @@ fn primitive_types(rt: HostRuntime) -> Result<(), Fail> {
         (PrimitiveValType::ErrorContext, "ee64"),
     ] {
         assert_eq!(rt; text(rt.alloc(), &ty)?.as_str(), wanted);
-        assert_eq!(rt; text(rt.alloc(), &ComponentValType::from(ty))?.as_str(), wanted);
+        assert_eq!(rt;
+            text(rt.alloc(), &ComponentValType::from(ty))?.as_str(),
+            wanted
+        );
     }
     Ok(())
 }
@@ -69,8 +72,16 @@ fn kinds(rt: HostRuntime) -> Result<(), Fail> {
 #[test]
 fn references(rt: HostRuntime) -> Result<(), Fail> {
     for (reference, kind, wanted) in [
-        (ComponentTypeRef::Module(5), ComponentExportKind::Module, "ee001105"),
-        (ComponentTypeRef::Func(128), ComponentExportKind::Func, "ee018001"),
+        (
+            ComponentTypeRef::Module(5),
+            ComponentExportKind::Module,
+            "ee001105",
+        ),
+        (
+            ComponentTypeRef::Func(128),
+            ComponentExportKind::Func,
+            "ee018001",
+        ),
         (
             ComponentTypeRef::Value(ComponentValType::Type(64)),
             ComponentExportKind::Value,
@@ -86,8 +97,16 @@ fn references(rt: HostRuntime) -> Result<(), Fail> {
             ComponentExportKind::Type,
             "ee0301",
         ),
-        (ComponentTypeRef::Instance(1), ComponentExportKind::Instance, "ee0501"),
-        (ComponentTypeRef::Component(2), ComponentExportKind::Component, "ee0402"),
+        (
+            ComponentTypeRef::Instance(1),
+            ComponentExportKind::Instance,
+            "ee0501",
+        ),
+        (
+            ComponentTypeRef::Component(2),
+            ComponentExportKind::Component,
+            "ee0402",
+        ),
     ] {
         assert!(rt; reference.kind() == kind);
         assert_eq!(rt; text(rt.alloc(), &reference)?.as_str(), wanted);

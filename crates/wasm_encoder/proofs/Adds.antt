@@ -39,9 +39,10 @@ stepped old new (Err fault) x id space name text w e = tt
 pub adds : (old new : State) (result : Result ℕ Fault) (x : Entry) (id space : ℕ) (name : Option (List ℕ)) (text : List ℕ) → Writes x id space name text
     → OnOk result (new ≡ ended (written (opened old id space name) text)) → IfOk result (λ i. i ≡ (namespace_at old.settled.spaces space).count) → Adds old new result x
 adds old new (Ok i) x id space name text w e f = record {
-  held = λ es h.
-      (let held = holds_step old es x h in rw (e, same_content old x id space name text w) held,
-      rw w.defined (holds_index old es space i h w.within f));
+  held = λ es h. (
+    let held = holds_step old es x h in rw (e, same_content old x id space name text w) held,
+    rw w.defined (holds_index old es space i h w.within f),
+  );
 }
 adds old new (Err fault) x id space name text w e f = record { held = λ es h. tt }
 
@@ -103,7 +104,7 @@ import_writes n ty kind space name k s e = record {
 
 pub export_writes : (n : ExternName) (kind : ComponentExportKind) (index : ℕ) (ty : Option ComponentTypeRef) (space : Space) (name : List ℕ) → space ≡ kind_space kind → name ≡ n.name
     → Writes (entry (ExportItem n kind index ty) (Some n.name)) 11 (space_number space) (Some name)
-        ((extern_name n).text ++ ((export_kind kind).text ++ (unsigned_text index ++ option_text (λ r. (type_reference r).text) ty)))
+    ((extern_name n).text ++ ((export_kind kind).text ++ (unsigned_text index ++ option_text (λ r. (type_reference r).text) ty)))
 export_writes n kind index ty space name s e = record {
   section = refl;
   defined = rw s refl;

@@ -1,7 +1,7 @@
 -- Components: items cut into sections, and the sections' texts (component model, binary format, "Component
 -- Definitions").
-use Rattle.std.specs.Prelude.{◌≡◌, ℕ, ◌∷◌, [], List, Option, Some, None, nat_eq, if◌then◌else◌}
-use Rattle.wenc_base.specs.Piece.{Piece, Whole, Form, byte, ◌▸◌, only_where, whole as all_of, end, ◌⨾⨾◌}
+use Rattle.std.specs.Prelude.{◌≡◌, ℕ, ◌∷◌, [], List, Option, Some, None, Bool, ◌||◌, IsTrue, nat_eq, if◌then◌else◌}
+use Rattle.wenc_base.specs.Piece.{Spelling, Piece, Whole, Form, byte, ◌▸◌, only_where, whole as all_of, end, ◌⨾⨾◌}
 use Rattle.wenc_base.specs.Forms.{list, sized}
 use Rattle.wasm_encoder.specs.Item.{Item, collected, item}
 
@@ -25,12 +25,16 @@ runs (x ∷ xs) = joined (collected x) x (runs xs)
 
 -- ---- texts
 
+-- the ids of the sections that collect items; the others are 0 (custom), 1 (core module), 4 (component), 9 (start)
+abbrev pub collects : ℕ → Bool
+collects id = nat_eq id 2 || nat_eq id 3 || nat_eq id 5 || nat_eq id 6 || nat_eq id 7 || nat_eq id 8 || nat_eq id 10 || nat_eq id 11
+
 -- an item of the kind that the section with this id collects
 abbrev pub item_of : ℕ → Form Item
 item_of id x = only_where (collected x ≡ Some id) (item x)
 
 abbrev pub section : Form Section
-section (Run id xs) = id ▸ sized (all_of (list (item_of id) xs))
+section (Run id xs) = only_where (IsTrue (collects id)) (id ▸ sized (all_of (list (item_of id) xs)))
 section (Alone x) = only_where (collected x ≡ None) (item x)
 
 -- the magic, a version and a layer
@@ -43,6 +47,10 @@ sections (s ∷ ss) = section s ⨾⨾ sections ss
 
 abbrev pub component : List Section → Whole
 component ss = preamble ⨾⨾ sections ss
+
+-- The bytes are a component with these sections, and nothing else.
+abbrev pub Reading : Spelling → List ℕ → List Section → Type 0
+Reading mode bytes ss = (component ss).ReadsAll mode bytes
 
 -- the bytes of the component with these items
 abbrev pub whole : List Item → List ℕ

@@ -69,7 +69,7 @@ impl AliasTree {
     ghost use Rattle.wasm_encoder.specs.Aliases.{alias_view, alias_tree_view};
 
     /// The same alias, borrowed.
-    pub fn as_alias(&self) -> Alias<'_>
+    pub(crate) fn as_alias(&self) -> Alias<'_>
         ensures { alias_view result ≡ alias_tree_view self.now }
     {
         match self {

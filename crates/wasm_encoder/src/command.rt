@@ -17,9 +17,15 @@ use wenc_base::Fault;
 #[derive(Drop)]
 pub enum Command {
     /// An alias, with a debug name or none.
-    Alias { n: Option<String>, alias: AliasTree },
+    Alias {
+        n: Option<String>,
+        alias: AliasTree,
+    },
     /// An import.
-    Import { name: NameTree, ty: ComponentTypeRef },
+    Import {
+        name: NameTree,
+        ty: ComponentTypeRef,
+    },
     /// An export of the item of this kind with this index, from 0 to 4294967295, with a type or none.
     Export {
         name: NameTree,

@@ -24,25 +24,19 @@ pub fn parts()
     ensures module { (type_reference (ComponentTypeRef.Module 5)).text ≡ 0x00 ∷ 0x11 ∷ 0x05 ∷ [] }
     ensures name { (extern_name (record { name = 0x66 ∷ [] })).text ≡ 0x00 ∷ 0x01 ∷ 0x66 ∷ [] }
     ensures older_name { (extern_name (record { name = 0x66 ∷ [] })).Reads Wide (0x01 ∷ 0x01 ∷ 0x66 ∷ []) [] }
-{
-}
+{}
 
 /// Components: neighbours of one kind share a section.
 #[tactic(auto, unfolding(wenc_base::specs::Number::groups))]
 pub fn components()
     ensures none { whole [] ≡ 0x00 ∷ 0x61 ∷ 0x73 ∷ 0x6d ∷ 0x0d ∷ 0x00 ∷ 0x01 ∷ 0x00 ∷ [] }
-    ensures import_and_export {
-      whole (ImportItem (record { name = 0x66 ∷ [] }) (ComponentTypeRef.Func 0) ∷ ExportItem (record { name = 0x67 ∷ [] }) ComponentExportKind.Func 0 None ∷ [])
+    ensures import_and_export { whole (ImportItem (record { name = 0x66 ∷ [] }) (ComponentTypeRef.Func 0) ∷ ExportItem (record { name = 0x67 ∷ [] }) ComponentExportKind.Func 0 None ∷ [])
         ≡ 0x00 ∷ 0x61 ∷ 0x73 ∷ 0x6d ∷ 0x0d ∷ 0x00 ∷ 0x01 ∷ 0x00
         ∷ 0x0a ∷ 0x06 ∷ 0x01 ∷ 0x00 ∷ 0x01 ∷ 0x66 ∷ 0x01 ∷ 0x00
-        ∷ 0x0b ∷ 0x07 ∷ 0x01 ∷ 0x00 ∷ 0x01 ∷ 0x67 ∷ 0x01 ∷ 0x00 ∷ 0x00 ∷ []
-    }
-    ensures neighbours {
-      runs (AliasItem (InstanceExport 0 ComponentExportKind.Func []) ∷ AliasItem (InstanceExport 1 ComponentExportKind.Func []) ∷ ImportItem (record { name = [] }) (ComponentTypeRef.Func 0) ∷ AliasItem (InstanceExport 2 ComponentExportKind.Func []) ∷ [])
+        ∷ 0x0b ∷ 0x07 ∷ 0x01 ∷ 0x00 ∷ 0x01 ∷ 0x67 ∷ 0x01 ∷ 0x00 ∷ 0x00 ∷ [] }
+    ensures neighbours { runs (AliasItem (InstanceExport 0 ComponentExportKind.Func []) ∷ AliasItem (InstanceExport 1 ComponentExportKind.Func []) ∷ ImportItem (record { name = [] }) (ComponentTypeRef.Func 0) ∷ AliasItem (InstanceExport 2 ComponentExportKind.Func []) ∷ [])
         ≡ Run 6 (AliasItem (InstanceExport 0 ComponentExportKind.Func []) ∷ AliasItem (InstanceExport 1 ComponentExportKind.Func []) ∷ [])
         ∷ Run 10 (ImportItem (record { name = [] }) (ComponentTypeRef.Func 0) ∷ [])
         ∷ Run 6 (AliasItem (InstanceExport 2 ComponentExportKind.Func []) ∷ [])
-        ∷ []
-    }
-{
-}
+        ∷ [] }
+{}

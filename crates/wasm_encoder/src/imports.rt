@@ -133,7 +133,7 @@ impl NameTree {
     ghost use Rattle.wasm_encoder.specs.Imports.{extern_name_view, name_tree_view};
 
     /// The same name, borrowed.
-    pub fn as_name(&self) -> ComponentExternName<'_>
+    pub(crate) fn as_name(&self) -> ComponentExternName<'_>
         ensures { extern_name_view result ≡ name_tree_view self.now }
     {
         ComponentExternName {

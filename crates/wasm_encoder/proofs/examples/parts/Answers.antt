@@ -4,9 +4,10 @@ use Rattle.wenc_base.specs.Number.{last, more}
 use Rattle.wasm_encoder.proofs.examples.parts.Goals as goal
 
 pub returns-clause-padded_index : goal.returns-clause-padded_index
-returns-clause-padded_index c =
-    (lit< tt,
-    more {high = 0} (lit≤ tt) (lit< tt) tt refl (more {high = 0} (lit≤ tt) (lit< tt) tt refl (more {high = 0} (lit≤ tt) (lit< tt) tt refl (more {high = 0} (lit≤ tt) (lit< tt) tt refl (last (lit< tt))))))
+returns-clause-padded_index c = (
+  lit< tt,
+  more {high = 0} (lit≤ tt) (lit< tt) tt refl (more {high = 0} (lit≤ tt) (lit< tt) tt refl (more {high = 0} (lit≤ tt) (lit< tt) tt refl (more {high = 0} (lit≤ tt) (lit< tt) tt refl (last (lit< tt))))),
+)
 
 letter_is_text : IsUtf8 (0x66 ∷ [])
 unfolding lib.Utf8.encode
