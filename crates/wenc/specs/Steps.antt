@@ -1,0 +1,63 @@
+-- What the steps of a run returned.
+use Rattle.std.specs.Prelude.{◌≡◌, ℕ, List, ◌⊎◌, All, Any, IsOk, IsErr, Option, Result, Ok, Err}
+use Rattle.std.specs.Io.KnownBytes.{Consumes, IsAtEnd}
+use Rattle.wenc_base.specs.Fault.{IsMemory}
+use Rattle.wenc_base.specs.declared.fault.Fault.{Fault as FaultSpec}
+use Rattle.wasm_encoder.specs.Component.{whole}
+use Rattle.wasm_encoder.specs.Entry.{Entry, items}
+use Rattle.wasm_encoder.specs.Command.{CommandTree}
+use Rattle.wasm_encoder.specs.Ran.{Ran}
+use Rattle.wenc.specs.declared.failure.Failure.{Failure}
+use Rattle.wenc.specs.declared.failure.Failure.TheVariants.{Arguments, BadLine, Fault, Transfer}
+use Rattle.wenc.specs.declared.program.Printout.{Printout}
+use Rattle.wenc.specs.Script.{script}
+use Rattle.wenc.specs.Printed.{printed}
+use Rattle.wenc.specs.Run.{Says, usage, line_report, fault_report, no_memory}
+
+-- why reading failed
+abbrev pub IsOfInput : Failure → Type 0
+IsOfInput (BadLine line) = ⊥
+IsOfInput (Fault fault) = IsMemory fault
+IsOfInput Transfer = Unit {0}
+IsOfInput Arguments = ⊥
+
+-- the exit status for these answers
+abbrev pub IsStatusOf : ℕ → List (Result (Option ℕ) FaultSpec) → Type 0
+IsStatusOf status answers = ((status ≡ 2) × Any IsErr answers) ⊎ ((status ≡ 0) × All IsOk answers)
+
+-- what is printed for a script
+pub record Translation (p : Printout) (text : List ℕ) : Type 0 where
+  pub commands : List CommandTree
+  pub answers : List (Result (Option ℕ) FaultSpec)
+  pub entries : List Entry
+  pub says : script text ≡ Ok commands
+  pub ran : Ran commands answers entries
+  pub status : IsStatusOf p.status answers
+  pub prints : p.text.items ≡ printed answers (whole (items entries))
+
+abbrev pub Translates : Result Printout Failure → List ℕ → Type 0
+Translates (Ok p) text = Translation p text
+Translates (Err (BadLine line)) text = script text ≡ Err line
+Translates (Err (Fault fault)) text = IsMemory fault
+Translates (Err Transfer) text = ⊥
+Translates (Err Arguments) text = ⊥
+
+-- a text that was all there was to read
+pub record IsWhole (left ended : Option (List ℕ)) (text : List ℕ) : Type 0 where
+  pub consumed : Consumes left ended text
+  pub ends : IsAtEnd ended
+
+-- the translation of what a reader had left
+abbrev pub Reads : Result Printout Failure → Option (List ℕ) → Option (List ℕ) → Type 0
+Reads (Ok p) left ended = (text : List ℕ) × IsWhole left ended text × Translation p text
+Reads (Err (BadLine line)) left ended = (text : List ℕ) × IsWhole left ended text × (script text ≡ Err line)
+Reads (Err (Fault fault)) left ended = IsMemory fault
+Reads (Err Transfer) left ended = Unit {0}
+Reads (Err Arguments) left ended = ⊥
+
+-- how a failure was reported; a line's number also takes memory
+abbrev pub Reported : ℕ → Failure → Option (List ℕ) → Option (List ℕ) → Type 0
+Reported status Arguments before after = Says status 1 usage before after
+Reported status (BadLine line) before after = Says status 1 (line_report line) before after ⊎ Says status 2 no_memory before after
+Reported status (Fault fault) before after = Says status 2 (fault_report fault) before after
+Reported status Transfer before after = (status ≡ 4) × (after ≡ before)

@@ -1,0 +1,33 @@
+ghost use Rattle.std.specs.Prelude.{◌≡◌};
+ghost use Rattle.wenc.specs.Script.{kind, reference};
+
+use wasm_encoder::{ComponentExportKind, ComponentTypeRef, ComponentValType, TypeBounds};
+
+/// The kind that a word names.
+pub fn kind(word: &str) -> Option<ComponentExportKind>
+    ensures { result ≡ kind word.now }
+{
+    match word {
+        "module" => Some(ComponentExportKind::Module),
+        "func" => Some(ComponentExportKind::Func),
+        "value" => Some(ComponentExportKind::Value),
+        "type" => Some(ComponentExportKind::Type),
+        "instance" => Some(ComponentExportKind::Instance),
+        "component" => Some(ComponentExportKind::Component),
+        _ => None,
+    }
+}
+
+/// What an import of this kind with this index refers to.
+pub fn reference(kind: ComponentExportKind, index: u32) -> ComponentTypeRef
+    ensures { result ≡ reference kind index }
+{
+    match kind {
+        ComponentExportKind::Module => ComponentTypeRef::Module(index),
+        ComponentExportKind::Func => ComponentTypeRef::Func(index),
+        ComponentExportKind::Value => ComponentTypeRef::Value(ComponentValType::Type(index)),
+        ComponentExportKind::Type => ComponentTypeRef::Type(TypeBounds::Eq(index)),
+        ComponentExportKind::Instance => ComponentTypeRef::Instance(index),
+        ComponentExportKind::Component => ComponentTypeRef::Component(index),
+    }
+}

@@ -1,0 +1,138 @@
+ghost use Rattle.std.specs.Prelude.{◌≡◌, ◌≢◌, ◌⊎◌, [], All, Any, IsOk, IsErr};
+ghost use Rattle.std.specs.Bool.{OnTrue, OnFalse};
+ghost use Rattle.wenc.specs.Run.{Ends, Says, usage, fault_report};
+ghost use Rattle.wenc.specs.Steps.{IsStatusOf, Translates, Reads, Reported};
+
+use crate::failure::Failure;
+use crate::input::read_all;
+use crate::output::send;
+use crate::print::printed;
+use crate::script::parse;
+use std::alloc::Global;
+use std::io::{Read, Write};
+use wasm_encoder::{Fault, build};
+
+/// The exit status where every command was accepted.
+const ACCEPTED: u8 = 0;
+
+/// The exit status where there are arguments, or a bad line.
+const MALFORMED: u8 = 1;
+
+/// The exit status where a command was refused, or there was no memory.
+const REFUSED: u8 = 2;
+
+/// The exit status where a read or a write failed.
+const UNFINISHED: u8 = 4;
+
+/// How many reads an input's end may take.
+const MAX_READS: u32 = 16_777_216;
+
+/// What is printed for a script.
+#[derive(Drop)]
+pub struct Printout {
+    /// The answers and the bytes.
+    pub text: Vec<u8>,
+    /// The exit status.
+    pub status: u8,
+}
+
+/// Whether a command was refused.
+fn has_refusal(answers: &[Result<Option<u32>, Fault>]) -> bool
+    ensures refused { OnTrue result (Any IsErr answers.now) }
+    ensures accepted { OnFalse result (All IsOk answers.now) }
+{
+    answers.iter().any(|answer| answer.is_err())
+}
+
+/// The exit status of a run with these answers.
+fn status_of(answers: &[Result<Option<u32>, Fault>]) -> u8
+    ensures { IsStatusOf result answers.now }
+{
+    if has_refusal(answers) {
+        REFUSED
+    } else {
+        ACCEPTED
+    }
+}
+
+/// Runs the commands of a script.
+pub fn translate(alloc: Global, text: &[u8]) -> Result<Printout, Failure>
+    ensures { Translates result text.now }
+{
+    let commands = parse(alloc, text)?;
+    let built = build(alloc, commands.as_slice())?;
+    let answers = built.answers.as_slice();
+    Ok(Printout {
+        text: printed(alloc, answers, built.bytes.as_slice())?,
+        status: status_of(answers),
+    })
+}
+
+/// Reads a script to its end, and runs its commands.
+fn read_and_translate<R: Read>(alloc: Global, input: &mut R) -> Result<Printout, Failure>
+    ensures { Reads result (R.remaining input.old) (R.remaining input.new) }
+{
+    let text = read_all(alloc, input, MAX_READS)?;
+    translate(alloc, text.as_slice())
+}
+
+/// Writes a text, and answers the status, or that a write failed.
+fn finish<W: Write>(writer: &mut W, text: &[u8], status: u8) -> u8
+    ensures { Says result status text.now (W.contents writer.old) (W.contents writer.new) }
+{
+    match send(writer, text) {
+        Ok(()) => status,
+        Err(_) => UNFINISHED,
+    }
+}
+
+/// Reports a fault, and answers the status.
+fn report_fault<E: Write>(err: &mut E, fault: Fault) -> u8
+    ensures { Says result 2 (fault_report fault) (E.contents err.old) (E.contents err.new) }
+{
+    let number = b'0' + fault.number();
+    let text = [b'f', b'a', b'u', b'l', b't', b' ', number, b'\n'];
+    finish(err, &text, REFUSED)
+}
+
+/// Reports why nothing is printed, and answers the status.
+pub fn report<E: Write>(alloc: Global, err: &mut E, failure: Failure) -> u8
+    ensures { Reported result failure (E.contents err.old) (E.contents err.new) }
+{
+    match failure {
+        Failure::Arguments => finish(err, b"usage\n", MALFORMED),
+        Failure::BadLine(line) => match format!(in alloc; "line {line}\n") {
+            Ok(text) => finish(err, text.as_bytes(), MALFORMED),
+            Err(error) => report_fault(err, Fault::Memory(error)),
+        },
+        Failure::Fault(fault) => report_fault(err, fault),
+        Failure::Transfer => UNFINISHED,
+    }
+}
+
+/// Runs the program: with these arguments, without the program's name, on this input. The answer is
+/// the exit status.
+pub fn run<R: Read, O: Write, E: Write>(
+    alloc: Global,
+    args: &[String],
+    input: &mut R,
+    out: &mut O,
+    err: &mut E,
+) -> u8
+    // With arguments only the usage is printed.
+    ensures usage { args.now ≢ [] → Says result 1 usage (E.contents err.old) (E.contents err.new) }
+    ensures input_kept { args.now ≢ [] → input.new ≡ input.old }
+    ensures output_kept { args.now ≢ [] → out.new ≡ out.old }
+
+    ensures ends { args.now ≡ [] → Ends result (R.remaining input.old) (R.remaining input.new)
+        (O.contents out.old) (O.contents out.new) (E.contents err.old) (E.contents err.new) }
+    ensures status { (result ≡ 0) ⊎ (result ≡ 1) ⊎ (result ≡ 2) ⊎ (result ≡ 4) }
+{
+    if !args.is_empty() {
+        return report(alloc, err, Failure::Arguments);
+    }
+    match read_and_translate(alloc, input) {
+        Ok(printout) => finish(out, printout.text.as_slice(), printout.status),
+        Err(failure) => report(alloc, err, failure),
+    }
+}
