@@ -1,8 +1,7 @@
 -- What a line says by its words.
-use Rattle.std.proofs.Common.{◌≡◌, ℕ, Bool, true, false, cond, List, Option, None, refl, ◌∙◌}
+use Rattle.std.proofs.Common.{◌≡◌, ℕ, Bool, true, false, cond, List, None, refl, ◌∙◌}
 use Rattle.std.specs.Str.{IsUtf8, is_utf8}
 use Rattle.std.proofs.lemmas.Str.{IsUtf8-from_is_utf8, is_utf8-from_IsUtf8}
-use Rattle.wasm_encoder.specs.Command.{CommandTree}
 use Rattle.wenc.specs.Script.{parted, has_empty, command_of, line_command}
 
 false_utf8 : (b : Bool) (P : Type 0) → (b ≡ true → P) → ¬ P → b ≡ false
@@ -15,16 +14,6 @@ not_text line h = rw (false_utf8 (is_utf8 line) (IsUtf8 line) (IsUtf8-from_is_ut
 -- of a text only the words count
 of_text : (line : List ℕ) → IsUtf8 line → line_command line ≡ cond (has_empty (parted 32 line)) None (command_of (parted 32 line))
 of_text line h = rw (is_utf8-from_IsUtf8 line h) refl
-
-none_chosen : (b : Bool) (o : Option CommandTree) → o ≡ None → cond b None o ≡ None
-none_chosen true o h = refl
-none_chosen false o h = h
-
-pub no_words : (line : List ℕ) → IsUtf8 line → command_of (parted 32 line) ≡ None → line_command line ≡ None
-no_words line h none = of_text line h ∙ none_chosen (has_empty (parted 32 line)) _ none
-
-pub empty_word : (line : List ℕ) (words : List (List ℕ)) → IsUtf8 line → parted 32 line ≡ words → has_empty words ≡ true → line_command line ≡ None
-empty_word line words h e empty = of_text line h ∙ rw (e, empty) refl
 
 pub four_words : (line : List ℕ) (words : List (List ℕ)) → IsUtf8 line → parted 32 line ≡ words → has_empty words ≡ false → line_command line ≡ command_of words
 four_words line words h e full = of_text line h ∙ rw (e, full) refl

@@ -8,12 +8,13 @@ use crate::number::number;
 use crate::output::send;
 use crate::print::printed;
 use crate::run;
+use crate::script::parse;
 use std::alloc::Global;
 use std::io;
 use std::io::{ErrorKind, Read, Write};
 use std::process::Abort;
 use std::test::Fail;
-use wasm_encoder::{ComponentExportKind, Fault};
+use wasm_encoder::{AliasTree, Command, ComponentExportKind, Fault};
 
 mod vectors;
 
@@ -151,6 +152,31 @@ fn words_are_read(rt: HostRuntime) {
     }
     assert_eq!(rt; kind("instance"), Some(ComponentExportKind::Instance));
     assert_eq!(rt; kind("Func"), None);
+}
+
+#[test]
+fn every_kind_of_line_is_read(rt: HostRuntime) -> Result<(), Fail> {
+    let script = b"import a module 0\nimport b func 1\nimport c value 2\nimport d type 3\n\
+        import e instance 4\nimport f component 5\n\nexport g func 6\nalias-export 7 func h";
+    let commands = parse(rt.alloc(), script)?;
+    assert_eq!(rt; commands.len(), 8);
+    match &commands[7] {
+        Command::Alias {
+            n: Some(debug_name),
+            alias: AliasTree::InstanceExport {
+                instance,
+                kind,
+                name,
+            },
+        } => {
+            assert_eq!(rt; debug_name.as_str(), "h");
+            assert_eq!(rt; *instance, 7);
+            assert_eq!(rt; *kind, ComponentExportKind::Func);
+            assert_eq!(rt; name.as_str(), "h");
+        }
+        _ => panic!(rt; "no alias with a debug name"),
+    }
+    Ok(())
 }
 
 #[test]

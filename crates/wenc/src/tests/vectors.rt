@@ -1,4 +1,5 @@
-//! Outside answers: scripts, and what has to come out.
+//! Outside answers: scripts, and what has to come out of them, made with the Rust crate
+//! `wasm-encoder` 0.263.0.
 
 /// A script, and the status, the standard output and the standard error of its run.
 #[derive(Clone, Copy)]
