@@ -1,17 +1,9 @@
 -- Numbers in groups of seven bits.
-use Rattle.std.proofs.Common.{◌≡◌, ℕ, ℤ, pos, negsuc, zero, suc, ◌+◌, ◌*◌, ◌/◌, ◌%◌, ◌<◌, ◌≤◌, Bool, true, false, cond, List, [], ◌∷◌, ◌++◌, length, refl, sym, ap, ◌∙◌, arith, inl, inr, append_assoc, length-append}
-use Rattle.std.proofs.lemmas.Bool.{cases_lt, le-ltb, lt-ltb}
+use Rattle.std.proofs.Common.{◌≡◌, ℕ, ℤ, pos, negsuc, zero, suc, ◌+◌, ◌/◌, ◌%◌, ◌<◌, ◌≤◌, Bool, true, false, cond, List, [], ◌∷◌, ◌++◌, length, refl, sym, ap, ◌∙◌, arith, inl, inr, append_assoc, length-append}
+use Rattle.std.proofs.lemmas.Bool.{cases_lt}
 use Rattle.std.proofs.lemmas.List.{length-map}
+pub use Rattle.wenc_base.specs.Groups.{limit, groups_below, groups_from}
 use Rattle.wenc_base.specs.Number.{groups, complement, turned, signed_text, number_size}
-
-pub groups_below : (top room n : ℕ) → n < top → groups top room n ≡ n ∷ []
-unfolding groups
-groups_below top zero n h = refl
-groups_below top (suc room) n h = rw (lt-ltb _ _ h) refl
-
-pub groups_from : (top room n : ℕ) → top ≤ n → groups top (suc room) n ≡ (n % 128 + 128) ∷ groups top room (n / 128)
-unfolding groups
-groups_from top room n h = rw (le-ltb _ _ h) refl
 
 pub groups_length : (top room n : ℕ) → length (groups top room n) ≤ suc room
 unfolding groups
@@ -69,11 +61,6 @@ signed_length (pos n) = groups_length 64 9 n
 signed_length (negsuc n) = omega (arith, length-map (groups 64 9 n) complement, groups_length 64 9 n)
 
 -- ---- writing from the front
-
--- what a number is below, that is written with so many bytes before the last
-abbrev pub limit : ℕ → ℕ → ℕ
-limit top zero = top
-limit top (suc room) = 128 * limit top room
 
 -- What is left of the number completes the whole.
 pub record Writing (top : ℕ) (negative : Bool) (whole now : List ℕ) (rest : ℕ) : Type 0 where

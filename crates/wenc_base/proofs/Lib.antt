@@ -1,2 +1,9 @@
 pub mod Groups
 pub mod Words
+pub mod Members
+pub mod Runs
+pub use Rattle.wenc_base.specs.Lawful
+pub use Rattle.wenc_base.specs.NumberLaws
+pub use Rattle.wenc_base.specs.FormLaws
+pub use Rattle.wenc_base.specs.ExportLaws
+pub use Rattle.wenc_base.specs.Lifts

@@ -1,5 +1,5 @@
 -- Why a call is refused.
-use Rattle.std.specs.Prelude.{ℕ, ◌≤◌, ◌^◌, List, length}
+use Rattle.std.specs.Prelude.{ℕ, ◌≤◌, ◌^◌, ◌⊎◌, List, [], ◌∷◌, length}
 use Rattle.wenc_base.specs.declared.fault.Fault.{Fault}
 use Rattle.wenc_base.specs.declared.fault.Fault.TheVariants.{Memory, TooMany, TooLarge, Unfinished}
 
@@ -22,6 +22,22 @@ text_cause bytes (Memory e) = ⊥
 text_cause bytes TooMany = ⊥
 text_cause bytes TooLarge = 2 ^ 32 ≤ length bytes
 text_cause bytes Unfinished = ⊥
+
+-- why so many values can't be a list: their number isn't one of 32 bits
+abbrev pub count_cause : ℕ → Fault → Type 0
+count_cause n (Memory e) = ⊥
+count_cause n TooMany = 2 ^ 32 ≤ n
+count_cause n TooLarge = ⊥
+count_cause n Unfinished = ⊥
+
+-- the cause of one of the values
+abbrev pub member_cause : {A : Type 0} → (A → Fault → Type 0) → List A → Fault → Type 0
+member_cause cause [] fault = ⊥
+member_cause cause (v ∷ vs) fault = cause v fault ⊎ member_cause cause vs fault
+
+-- why a list can't be encoded: for its number of values, or for one of them
+abbrev pub list_cause : {A : Type 0} → (A → Fault → Type 0) → List A → Fault → Type 0
+list_cause cause vs fault = count_cause (length vs) fault ⊎ member_cause cause vs fault
 
 abbrev pub IsMemory : Fault → Type 0
 IsMemory = IsWarranted (λ fault. ⊥)

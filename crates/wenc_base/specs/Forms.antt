@@ -1,10 +1,18 @@
 -- Forms made of others (component model, binary format; WebAssembly 3.0, binary format, "Conventions" and "Values").
-use Rattle.std.specs.Prelude.{◌≡◌, ℕ, ◌^◌, ◌<◌, List, [], ◌∷◌, ◌++◌, length, Option, Some, None, IsUtf8}
+use Rattle.std.specs.Prelude.{◌≡◌, ℕ, ◌^◌, ◌<◌, List, [], ◌∷◌, ◌++◌, length, Bool, true, false, Option, Some, None, IsUtf8}
 use Rattle.wenc_base.specs.Piece.{Piece, Whole, Form, byte, ◌▸◌, ◌⨾◌, each, raw}
-use Rattle.wenc_base.specs.Number.{u32}
-use Rattle.std.specs.List.{AllByRecursion}
+use Rattle.wenc_base.specs.Number.{unsigned_text, u32}
+use Rattle.std.specs.List.{flat_map, AllByRecursion}
 
--- how many, then each
+-- whether it holds
+abbrev pub flag : Form Bool
+flag false = byte 0x00
+flag true = byte 0x01
+
+-- how many, then the text of each
+abbrev pub list_text : {A : Type 0} → (A → List ℕ) → List A → List ℕ
+list_text text vs = unsigned_text (length vs) ++ flat_map text vs
+
 abbrev pub list : {A : Type 0} → Form A → Form (List A)
 list form vs = u32 (length vs) ⨾ each form vs
 

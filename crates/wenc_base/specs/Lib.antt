@@ -1,4 +1,14 @@
 pub mod Piece
 pub mod Number
 pub mod Forms
+pub mod Exports
+pub mod Laws
+pub mod Delimited
 pub mod Fault
+pub mod Written
+pub mod Groups
+pub mod Lawful
+pub mod NumberLaws
+pub mod FormLaws
+pub mod ExportLaws
+pub mod Lifts

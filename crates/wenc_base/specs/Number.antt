@@ -1,5 +1,6 @@
 -- Numbers in groups of seven bits, the lowest first (LEB128: WebAssembly 3.0, binary format, "Integers").
-use Rattle.std.specs.Prelude.{◌≡◌, ℕ, ℤ, pos, negsuc, ◌-ℤ◌, zero, suc, ◌+◌, ◌-◌, ◌*◌, ◌/◌, ◌%◌, ◌^◌, ◌<◌, ◌≤◌, nat_lt, if◌then◌else◌, slice_index, Bool, true, false, length, List, [], ◌∷◌, map}
+use Rattle.std.specs.Prelude.{◌≡◌, ℕ, ℤ, pos, negsuc, ◌-ℤ◌, zero, suc, ◌+◌, ◌-◌, ◌*◌, ◌/◌, ◌%◌, ◌^◌, ◌<◌, ◌≤◌, nat_lt, if◌then◌else◌, slice_index, Bool, true, false, length, List, [], ◌∷◌, ◌++◌, map, FitsSigned}
+use Rattle.std.specs.Int.{w64}
 use Rattle.wenc_base.specs.Piece.{Form, Spelling, Strict, Wide}
 
 -- A number below top is one byte. Another has its low seven bits first, in a byte from 128 on.
@@ -47,12 +48,33 @@ u32 n = record {
   Reads = λ mode bytes rest. (n < 2 ^ 32) × ReadsGroups mode 128 4 n bytes rest;
 }
 
+-- a number of 64 bits in at most ten bytes
+abbrev pub u64 : Form ℕ
+u64 n = record {
+  Fits = n < 2 ^ 64;
+  text = unsigned_text n;
+  Reads = λ mode bytes rest. (n < 2 ^ 64) × ReadsGroups mode 128 9 n bytes rest;
+}
+
 -- an index, written as a signed number
 abbrev pub index : Form ℕ
 index n = record {
   Fits = n < 2 ^ 32;
   text = signed_text (pos n);
   Reads = λ mode bytes rest. (n < 2 ^ 32) × ReadsGroups mode 64 4 n bytes rest;
+}
+
+-- A signed number is read as its groups are, which are turned over below zero.
+abbrev pub ReadsSigned : Spelling → ℤ → List ℕ → List ℕ → Type 0
+ReadsSigned mode (pos n) bytes rest = ReadsGroups mode 64 9 n bytes rest
+ReadsSigned mode (negsuc n) bytes rest = (front : List ℕ) × (bytes ≡ turned true front ++ rest) × ReadsGroups mode 64 9 n front []
+
+-- a signed number of 64 bits in at most ten bytes
+abbrev pub i64 : Form ℤ
+i64 z = record {
+  Fits = FitsSigned w64 z;
+  text = signed_text z;
+  Reads = λ mode bytes rest. FitsSigned w64 z × ReadsSigned mode z bytes rest;
 }
 
 -- how many bytes the text of a number has

@@ -2,9 +2,13 @@ ghost use Rattle.std.specs.Prelude.{◌≡◌, ℕ, ◌+◌, ◌<◌, ◌≤◌,
 ghost use Rattle.wenc_base.specs.Fault.{IsWarranted, text_cause};
 ghost use Rattle.wenc_base.specs.Number.{unsigned_text};
 ghost use Rattle.wenc_base.specs.declared.fault.Fault.{Fault as FaultSpec};
+ghost use Rattle.wenc_base.specs.declared.fault.Fault.TheVariants.{Unfinished};
+
+mod lists;
 
 use crate::fault::Fault;
 use crate::number::Short;
+pub use lists::encode_list;
 use std::alloc::Allocator;
 
 /// A value with a binary text.
@@ -15,13 +19,30 @@ pub trait Encode {
     /// Why the value can't be encoded.
     ghost cause: { Self → FaultSpec → Type 0 };
 
+    /// The value has something in it that was begun and not ended, which is reported before all else.
+    ghost unfinished: { Self → Type 0 } = { λ _. ⊥ };
+
     /// Appends the text to the sink. It is refused for want of memory, or where the value has a cause,
     /// and then the sink stays as it was.
     fn encode<A: Allocator>(&self, sink: &mut Vec<u8, A>) -> Result<(), Fault>
         ensures ok { OnOk result (sink.new.items ≡ sink.old.items ++ text self.now) }
         ensures encodable { (fault : FaultSpec) → cause self.now fault → OnOk result ⊥ }
         ensures err { OnErr result (sink.new.items ≡ sink.old.items) }
-        ensures warranted { IfErr result (IsWarranted (cause self.now)) };
+        ensures warranted { IfErr result (IsWarranted (cause self.now)) }
+        ensures unfinished_first { unfinished self.now → result ≡ Err Unfinished };
+}
+
+impl Encode for bool {
+    ghost use Rattle.wenc_base.specs.Forms.{flag};
+
+    ghost text = { λ b. (flag b).text };
+
+    ghost cause = { λ _ _. ⊥ };
+
+    fn encode<A: Allocator>(&self, sink: &mut Vec<u8, A>) -> Result<(), Fault> {
+        sink.push(u8::from(*self))?;
+        Ok(())
+    }
 }
 
 impl Encode for u32 {
@@ -37,6 +58,39 @@ impl Encode for u32 {
         text.unsigned(u64::from(*self));
         sink.extend_from_slice(text.as_slice())?;
         Ok(())
+    }
+}
+
+impl Encode for u64 {
+    ghost use Rattle.wenc_base.specs.Number.{u64 as long_number};
+
+    ghost text = { λ n. (long_number n).text };
+
+    ghost cause = { λ _ _. ⊥ };
+
+    #[tactic(auto, using(crate::proofs::Groups::groups_length))]
+    fn encode<A: Allocator>(&self, sink: &mut Vec<u8, A>) -> Result<(), Fault> {
+        let mut text = Short::new();
+        text.unsigned(*self);
+        sink.extend_from_slice(text.as_slice())?;
+        Ok(())
+    }
+}
+
+/// A number of 32 bits. Another is refused with `TooMany`.
+impl Encode for usize {
+    ghost use Rattle.wenc_base.specs.Number.{u32 as number};
+    ghost use Rattle.wenc_base.specs.Fault.{count_cause};
+
+    ghost text = { λ n. (number n).text };
+
+    ghost cause = { count_cause };
+
+    fn encode<A: Allocator>(&self, sink: &mut Vec<u8, A>) -> Result<(), Fault> {
+        match u32::try_from(*self) {
+            Ok(n) => n.encode(sink),
+            Err(_) => Err(Fault::TooMany),
+        }
     }
 }
 

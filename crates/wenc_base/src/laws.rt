@@ -1,9 +1,16 @@
-//! What the numbers' texts are, in words.
+//! What the numbers' texts are, in words; and of the forms that others are made of, that they are
+//! read as they are written, and in one way only.
 ghost use Rattle.std.specs.Prelude.{◌≡◌, ℕ, ℤ, pos, negsuc, ◌^◌, ◌<◌, ◌∷◌, [], List, FitsSigned};
 ghost use Rattle.std.specs.Int.{w64};
 ghost use Rattle.wenc_base.specs.Piece.{Wide};
 ghost use Rattle.wenc_base.specs.Number.{unsigned_text, signed_text, IsUnsignedText, IsSignedText, index};
-ghost use Rattle.wenc_base.specs.Number.{u32 as number};
+ghost use Rattle.wenc_base.specs.Number.{u32 as number, u64 as long_number, i64 as signed_number};
+ghost use Rattle.wenc_base.specs.Forms.{flag, name, byte_list};
+ghost use Rattle.wenc_base.specs.Exports.{export_kind};
+ghost use Rattle.wenc_base.specs.Delimited.{Delimits};
+ghost use Rattle.wenc_base.specs.Lawful.{FormLaws};
+
+use crate::delimited::Delimited;
 
 /// The text of an unsigned number is the shortest list of bytes that spells it, and the only one
 /// so short.
@@ -34,4 +41,22 @@ pub fn number_examples()
         → (number n).Reads Wide (0x82 ∷ 0x80 ∷ 0x80 ∷ 0x80 ∷ 0x80 ∷ 0x00 ∷ []) rest → ⊥ }
     ensures too_large { (n : ℕ) (rest : List ℕ)
         → (number n).Reads Wide (0xff ∷ 0xff ∷ 0xff ∷ 0xff ∷ 0x1f ∷ []) rest → ⊥ }
+{}
+
+/// A value of each form is read as it is written, strictly in no other way, and in one way only, and no
+/// value's text begins another's.
+pub fn forms_are_lawful()
+    ensures flags { FormLaws flag }
+    ensures numbers { FormLaws number }
+    ensures long_numbers { FormLaws long_number }
+    ensures signed_numbers { FormLaws signed_number }
+    ensures indices { FormLaws index }
+    ensures names { FormLaws name }
+    ensures byte_lists { FormLaws byte_list }
+    ensures export_kinds { FormLaws export_kind }
+{}
+
+/// The text of a value tells which value it is, whatever follows the text.
+pub fn texts_tell_values<T: Delimited>()
+    ensures { Delimits T.text T.fits T.same }
 {}

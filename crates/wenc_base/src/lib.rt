@@ -1,13 +1,17 @@
 //! What everything that writes WebAssembly components stands on: numbers, texts, faults, and the
-//! trait `Encode`.
+//! traits `Encode` and `Delimited`.
 #![tactic(auto)]
 
+pub mod delimited;
 pub mod encode;
+pub mod exports;
 pub mod fault;
 pub mod laws;
 pub mod number;
 
-pub use encode::{Encode, Tagged, extend_in_room};
+pub use delimited::Delimited;
+pub use encode::{Encode, Tagged, encode_list, extend_in_room};
+pub use exports::ExportKind;
 pub use fault::Fault;
 pub use number::encoding_size;
 

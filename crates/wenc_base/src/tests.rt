@@ -1,9 +1,16 @@
-ghost use Rattle.std.specs.Prelude.{◌≡◌, IfOk, IfErr, OnOk};
+ghost use Rattle.std.specs.Prelude.{◌≡◌, true, [], ◌++◌, ◌<◌, ◌^◌, IfOk, IfErr, OnOk};
 ghost use Rattle.wenc_base.specs.Fault.{IsWarranted};
+ghost use Rattle.wenc_base.specs.Delimited.{Delimits, OptionFits, SameOption};
+ghost use Rattle.wenc_base.specs.Forms.{option_text, list_text};
+ghost use Rattle.wenc_base.specs.Number.{unsigned_text};
 ghost use Rattle.wenc_base.specs.declared.fault.Fault.{Fault as FaultSpec};
+ghost use Rattle.wenc_base.specs.declared.fault.Fault.TheVariants.{Unfinished};
 
-use crate::encode::{Encode, Tagged, extend_in_room};
+use crate::delimited::Delimited;
+use crate::encode::{Encode, Tagged, encode_list, extend_in_room};
+use crate::exports::ExportKind;
 use crate::fault::Fault;
+use crate::laws;
 use crate::number::{Short, encoding_size};
 use std::alloc::{AllocError, Allocator, Global};
 use std::process::Abort;
@@ -69,11 +76,175 @@ fn signed_numbers(rt: HostRuntime) -> Result<(), Fail> {
 fn texts_and_byte_lists(rt: HostRuntime) -> Result<(), Fail> {
     let mut sink = encoded(rt.alloc(), &"f")?;
     "".encode(&mut sink)?;
-    [0xaa].as_slice().encode(&mut sink)?;
+    [0xaau8].as_slice().encode(&mut sink)?;
     assert_eq!(rt; sink.as_slice(), [0x01, 0x66, 0x00, 0x01, 0xaa].as_slice());
     check(&rt, rt.alloc(), &"f", [0x01, 0x66].as_slice())?;
     check(&rt, rt.alloc(), &"", [0x00].as_slice())?;
-    check(&rt, rt.alloc(), &[0xaa].as_slice(), [0x01, 0xaa].as_slice())
+    check(
+        &rt,
+        rt.alloc(),
+        &[0xaau8].as_slice(),
+        [0x01, 0xaa].as_slice(),
+    )
+}
+
+#[test]
+fn small_and_large(rt: HostRuntime) -> Result<(), Fail> {
+    check(&rt, rt.alloc(), &false, [0x00].as_slice())?;
+    check(&rt, rt.alloc(), &true, [0x01].as_slice())?;
+    check(
+        &rt,
+        rt.alloc(),
+        &18446744073709551615u64,
+        [0xff, 0xff, 0xff, 0xff, 0xff, 0xff, 0xff, 0xff, 0xff, 0x01].as_slice(),
+    )?;
+    check(&rt, rt.alloc(), &128usize, [0x80, 0x01].as_slice())?;
+
+    let mut sink = [0x99].to_vec(rt.alloc())?;
+    assert_eq!(rt; 4294967296usize.encode(&mut sink), Err(Fault::TooMany));
+    assert_eq!(rt; sink.as_slice(), [0x99].as_slice());
+    for (kind, byte) in [
+        (ExportKind::Func, 0x00),
+        (ExportKind::Table, 0x01),
+        (ExportKind::Memory, 0x02),
+        (ExportKind::Global, 0x03),
+        (ExportKind::Tag, 0x04),
+    ] {
+        check(&rt, rt.alloc(), &kind, [byte].as_slice())?;
+    }
+    Ok(())
+}
+
+// The values of a vector are the members.
+fn encode_vector<A: Allocator>(values: Vec<u32>, sink: &mut Vec<u8, A>) -> Result<(), Fault>
+    ensures { OnOk result (sink.new.items ≡ sink.old.items ++ list_text unsigned_text values.items) }
+{
+    encode_list(values.into_iter(), sink)?;
+    Ok(())
+}
+
+#[test]
+fn lists(rt: HostRuntime) -> Result<(), Fail> {
+    let three = [0x03, 0x01, 0x80, 0x01, 0x03];
+    check(
+        &rt,
+        rt.alloc(),
+        &[1u32, 128, 3].as_slice(),
+        three.as_slice(),
+    )?;
+    check(
+        &rt,
+        rt.alloc(),
+        &[("a", 1u32), ("", 2)].as_slice(),
+        [0x02, 0x01, 0x61, 0x01, 0x00, 0x02].as_slice(),
+    )?;
+    let none: [u32; 0] = [];
+    check(&rt, rt.alloc(), &none.as_slice(), [0x00].as_slice())?;
+
+    let mut sink = [0x99].to_vec(rt.alloc())?;
+    encode_vector([1, 128, 3].to_vec(rt.alloc())?, &mut sink)?;
+    encode_list(none.into_iter(), &mut sink)?;
+    assert_eq!(rt;
+        sink.as_slice(),
+        [0x99, 0x03, 0x01, 0x80, 0x01, 0x03, 0x00].as_slice()
+    );
+
+    // The second of these is refused, behind the text of the first.
+    let values = [1, 4294967296usize];
+    assert_eq!(rt; values.as_slice().encode(&mut sink), Err(Fault::TooMany));
+    assert_eq!(rt;
+        encode_list(values.into_iter(), &mut sink),
+        Err(Fault::TooMany)
+    );
+    assert_eq!(rt; sink.len(), 7);
+    Ok(())
+}
+
+// A type of a user's own.
+#[derive(Clone, Copy)]
+struct Range {
+    start: u32,
+    end: u32,
+}
+
+impl Encode for Range {
+    ghost text = { λ range. unsigned_text range.start ++ unsigned_text range.end };
+
+    ghost cause = { λ _ _. ⊥ };
+
+    fn encode<A: Allocator>(&self, sink: &mut Vec<u8, A>) -> Result<(), Fault> {
+        (self.start, self.end).encode(sink)
+    }
+}
+
+impl Delimited for Range {
+    ghost use Rattle.wenc_base.specs.Lifts.{pair_delimits};
+    ghost use Rattle.wenc_base.specs.Lawful.{delimited as told_apart};
+    ghost use Rattle.wenc_base.specs.NumberLaws.{u32_lawful};
+
+    ghost fits = { λ range. (range.start < 2 ^ 32) × (range.end < 2 ^ 32) };
+
+    ghost same = { λ a b. (a.start ≡ b.start) × (a.end ≡ b.end) };
+
+    ghost delimited = { λ a b. pair_delimits unsigned_text (λ n. n < 2 ^ 32) (λ n k. n ≡ k)
+        unsigned_text (λ n. n < 2 ^ 32) (λ n k. n ≡ k)
+        (λ n k. told_apart (u32_lawful n) (u32_lawful k)) (λ n k. told_apart (u32_lawful n) (u32_lawful k))
+        a.start b.start a.end b.end };
+}
+
+fn optional_texts_tell<T: Delimited>()
+    ensures { Delimits (option_text T.text) (OptionFits T.fits) (SameOption T.same) }
+{
+    laws::texts_tell_values::<Option<T>>()
+}
+
+#[test]
+fn own_type(rt: HostRuntime) -> Result<(), Fail> {
+    let range = Range { start: 1, end: 128 };
+    optional_texts_tell::<Range>();
+    optional_texts_tell::<&[Range]>();
+    check(
+        &rt,
+        rt.alloc(),
+        &[Some(range), None].as_slice(),
+        [0x02, 0x01, 0x01, 0x80, 0x01, 0x00].as_slice(),
+    )?;
+    check(
+        &rt,
+        rt.alloc(),
+        &Some([range].as_slice()),
+        [0x01, 0x01, 0x01, 0x80, 0x01].as_slice(),
+    )
+}
+
+// An item that was begun, and perhaps not ended.
+#[derive(Drop)]
+struct Item {
+    is_open: bool,
+}
+
+impl Encode for Item {
+    ghost text = { λ _. [] };
+
+    ghost cause = { λ item fault. (item.is_open ≡ true) × (fault ≡ Unfinished) };
+
+    ghost unfinished = { λ item. item.is_open ≡ true };
+
+    fn encode<A: Allocator>(&self, _sink: &mut Vec<u8, A>) -> Result<(), Fault> {
+        if self.is_open {
+            return Err(Fault::Unfinished);
+        }
+        Ok(())
+    }
+}
+
+#[test]
+fn unfinished(rt: HostRuntime) -> Result<(), Fail> {
+    let items = [(1u32, Item { is_open: false }), (2, Item { is_open: true })];
+    let mut sink = [0x99].to_vec(rt.alloc())?;
+    assert_eq!(rt; items.as_slice().encode(&mut sink), Err(Fault::Unfinished));
+    assert_eq!(rt; sink.as_slice(), [0x99].as_slice());
+    check(&rt, rt.alloc(), &items[0], [0x01].as_slice())
 }
 
 #[test]

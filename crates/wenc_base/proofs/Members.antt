@@ -1,0 +1,69 @@
+-- Members of a list, written one after the other.
+use Rattle.std.proofs.Common.{◌≡◌, ℕ, zero, suc, ◌+◌, ◌<◌, ◌⊎◌, List, [], ◌∷◌, ◌++◌, length, Result, Ok, Err, OnOk, take, drop, get_or, append_assoc, ap, sym, ◌∙◌, inl, inr, arith}
+use Rattle.std.proofs.lemmas.List.{append-nil, take_at, drop_at}
+use Rattle.std.proofs.lemmas.Grind.{flat_map-append}
+use Rattle.std.proofs.Math.Numerals.{add-one}
+use Rattle.std.proofs.Math.Seq.{take-suc}
+use Rattle.std.specs.List.{flat_map}
+use Rattle.wenc_base.specs.Fault.{IsWarranted, member_cause}
+use Rattle.wenc_base.specs.Number.{unsigned_text}
+use Rattle.wenc_base.specs.Forms.{list_text}
+use Rattle.wenc_base.specs.Written.{Written}
+use Rattle.wenc_base.specs.declared.fault.Fault.{Fault}
+use Rattle.wenc_base.specs.declared.fault.Fault.TheVariants.{Memory, TooMany, TooLarge, Unfinished}
+
+-- the cause of one is that of one of the first, or of one of the others
+member_cause_append : {A : Type 0} (cause : A → Fault → Type 0) (vs ws : List A) (fault : Fault) → member_cause cause (vs ++ ws) fault → member_cause cause vs fault ⊎ member_cause cause ws fault
+member_cause_append cause [] ws fault h = inr h
+member_cause_append cause (v ∷ vs) ws fault h = elim h [
+  | inl here ↦ inl (inl here)
+  | inr there ↦ elim (member_cause_append cause vs ws fault there) [ inl a ↦ inl (inr a) | inr b ↦ inr b ]
+]
+
+-- the cause of the value at a place is one of the list's
+pub cause_of_member : {A : Type 0} (cause : A → Fault → Type 0) (vs : List A) (i : ℕ) (v : A) (fault : Fault) → i < length vs → v ≡ get_or vs i v → cause v fault → member_cause cause vs fault
+cause_of_member cause [] i v fault lt e h = absurd (omega arith)
+cause_of_member cause (w ∷ vs) zero v fault lt e h = inl (rw e at h)
+cause_of_member cause (w ∷ vs) (suc i) v fault lt e h = inr (cause_of_member cause vs i v fault (omega arith) e h)
+
+pub cause_of_later : {A : Type 0} (cause : A → Fault → Type 0) (vs ws : List A) (fault : Fault) → member_cause cause ws fault → member_cause cause (vs ++ ws) fault
+cause_of_later cause [] ws fault h = h
+cause_of_later cause (v ∷ vs) ws fault h = inr (cause_of_later cause vs ws fault h)
+
+-- another cause that follows warrants the same faults
+pub still_warranted : (one other : Fault → Type 0) → ((fault : Fault) → one fault → other fault) → (fault : Fault) → IsWarranted one fault → IsWarranted other fault
+still_warranted one other f (Memory e) h = h
+still_warranted one other f TooMany h = f TooMany h
+still_warranted one other f TooLarge h = f TooLarge h
+still_warranted one other f Unfinished h = f Unfinished h
+
+pub warranted_member : {A : Type 0} (cause : A → Fault → Type 0) (vs : List A) (i : ℕ) (v : A) (fault : Fault) → i < length vs → v ≡ get_or vs i v → IsWarranted (cause v) fault → IsWarranted (member_cause cause vs) fault
+warranted_member cause vs i v fault lt e = still_warranted (cause v) (member_cause cause vs) (λ f. cause_of_member cause vs i v f lt e) fault
+
+-- nothing is written yet
+pub written_none : {A : Type 0} (text : A → List ℕ) (cause : A → Fault → Type 0) (start : List ℕ) → Written text cause start [] start
+written_none text cause start = record { items = sym (append-nil start); no_cause = λ fault h. h }
+
+-- one value more
+pub written_next : {A : Type 0} (text : A → List ℕ) (cause : A → Fault → Type 0) (start : List ℕ) (vs : List A) (v : A) (now next : List ℕ)
+    → Written text cause start vs now → next ≡ now ++ text v → ((fault : Fault) → cause v fault → ⊥) → Written text cause start (vs ++ v ∷ []) next
+written_next text cause start vs v now next w e free = record {
+  items = e ∙ ap (λ (bs : List ℕ). bs ++ text v) w.items ∙ append_assoc start (flat_map text vs) (text v)
+      ∙ ap (λ (bs : List ℕ). start ++ (flat_map text vs ++ bs)) (sym (append-nil (text v)))
+      ∙ ap (λ (bs : List ℕ). start ++ bs) (sym (flat_map-append text vs (v ∷ [])));
+  no_cause = λ fault h. elim (member_cause_append cause vs (v ∷ []) fault h) [ inl a ↦ w.no_cause fault a | inr b ↦ elim b [ inl c ↦ free fault c | inr d ↦ d ] ];
+}
+
+-- one more, at its place in the list
+pub written_at : {A : Type 0} (text : A → List ℕ) (cause : A → Fault → Type 0) (start : List ℕ) (vs : List A) (i : ℕ) (v : A) (now next : List ℕ)
+    → Written text cause start (take i vs) now → i < length vs → v ≡ get_or vs i v → next ≡ now ++ text v → ((fault : Fault) → cause v fault → ⊥) → Written text cause start (take (i + 1) vs) next
+written_at text cause start vs i v now next w lt is e free =
+    let one : take (i + 1) vs ≡ take i vs ++ v ∷ [] = rw (add-one i, take-suc vs i v lt) (ap (λ u. take i vs ++ u ∷ []) (sym is)) in
+    rw one (written_next text cause start (take i vs) v now next w e free)
+
+-- the number in front of the values that were written
+pub list_is_written : {A : Type 0} (text : A → List ℕ) (cause : A → Fault → Type 0) (old now new : List ℕ) (vs : List A) (start count : ℕ) (outcome : Result (Unit {0}) Fault)
+    → Written text cause old vs now → length vs ≡ count → start ≡ length old → OnOk outcome (new ≡ take start now ++ unsigned_text count ++ drop start now) → OnOk outcome (new ≡ old ++ list_text text vs)
+list_is_written text cause old now new vs start count (Err fault) w counted begins h = tt
+list_is_written text cause old now new vs start count (Ok u) w counted begins h =
+    h ∙ rw (w.items, take_at old (flat_map text vs) start (sym begins), drop_at old (flat_map text vs) start (sym begins), counted) (append_assoc old (unsigned_text count) (flat_map text vs))

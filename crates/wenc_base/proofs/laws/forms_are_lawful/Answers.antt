@@ -1,0 +1,29 @@
+use Rattle.wenc_base.specs.Lawful.{form_laws}
+use Rattle.wenc_base.specs.NumberLaws.{u32_lawful, u64_lawful, i64_lawful, index_lawful}
+use Rattle.wenc_base.specs.FormLaws.{flag_lawful, name_lawful, byte_list_lawful}
+use Rattle.wenc_base.specs.ExportLaws.{export_kind_lawful}
+use Rattle.wenc_base.proofs.laws.forms_are_lawful.Goals as goal
+
+pub returns-clause-flags : goal.returns-clause-flags
+returns-clause-flags c = form_laws flag_lawful
+
+pub returns-clause-numbers : goal.returns-clause-numbers
+returns-clause-numbers c = form_laws u32_lawful
+
+pub returns-clause-long_numbers : goal.returns-clause-long_numbers
+returns-clause-long_numbers c = form_laws u64_lawful
+
+pub returns-clause-signed_numbers : goal.returns-clause-signed_numbers
+returns-clause-signed_numbers c = form_laws i64_lawful
+
+pub returns-clause-indices : goal.returns-clause-indices
+returns-clause-indices c = form_laws index_lawful
+
+pub returns-clause-names : goal.returns-clause-names
+returns-clause-names c = form_laws name_lawful
+
+pub returns-clause-byte_lists : goal.returns-clause-byte_lists
+returns-clause-byte_lists c = form_laws byte_list_lawful
+
+pub returns-clause-export_kinds : goal.returns-clause-export_kinds
+returns-clause-export_kinds c = form_laws export_kind_lawful

@@ -1,0 +1,126 @@
+ghost use Rattle.std.specs.Prelude.{◌≡◌, ℕ, ◌+◌, ◌<◌, ◌≤◌, ◌++◌, ◌∷◌, [], List, length, ◌^◌, take, drop, OnOk, OnErr, IfOk, IfErr};
+ghost use Rattle.std.specs.Iterator.{IsFinite};
+ghost use Rattle.std.specs.Iterator.Runs.{SomeRun, WholeRun};
+ghost use Rattle.std.specs.List.{flat_map};
+ghost use Rattle.wenc_base.specs.Fault.{IsWarranted, IsMemory, member_cause, list_cause};
+ghost use Rattle.wenc_base.specs.Forms.{list_text};
+ghost use Rattle.wenc_base.specs.Number.{unsigned_text};
+ghost use Rattle.wenc_base.specs.Written.{Written};
+ghost use Rattle.wenc_base.specs.declared.fault.Fault.{Fault as FaultSpec};
+
+use crate::encode::Encode;
+use crate::fault::Fault;
+use std::alloc::Allocator;
+
+/// How many values, then each. The first refusal that is met is answered.
+impl<T: Encode> Encode for &[T] {
+    ghost text = { λ vs. list_text T.text vs.now };
+
+    ghost cause = { λ vs. list_cause T.cause vs.now };
+
+    fn encode<A: Allocator>(&self, sink: &mut Vec<u8, A>) -> Result<(), Fault> {
+        let start = sink.len();
+        self.len().encode(sink)?;
+        match encode_each(self, sink) {
+            Ok(()) => Ok(()),
+            Err(fault) => {
+                sink.truncate(start);
+                Err(fault)
+            }
+        }
+    }
+}
+
+/// Appends the text of each value, up to the first that is refused.
+fn encode_each<T: Encode, A: Allocator>(values: &[T], sink: &mut Vec<u8, A>) -> Result<(), Fault>
+    ensures ok { OnOk result (sink.new.items ≡ sink.old.items ++ flat_map T.text values.now) }
+    ensures encodable { (fault : FaultSpec) → member_cause T.cause values.now fault → OnOk result ⊥ }
+    ensures err { OnErr result ((more : List ℕ) × (sink.new.items ≡ sink.old.items ++ more)) }
+    ensures warranted { IfErr result (IsWarranted (member_cause T.cause values.now)) }
+{
+    for value in values {
+        value.encode(sink)?;
+    }
+    Ok(())
+}
+
+/// How many values come, then each. It takes no memory for the values themselves, which are dropped
+/// once they are written. The first refusal that is met is answered.
+pub fn encode_list<T: Encode + Drop, I: Iterator<Item = T> + Drop, A: Allocator>(
+    values: I,
+    sink: &mut Vec<u8, A>,
+) -> Result<(), Fault>
+    requires can { I.can_next values }
+    requires ends { IsFinite (I.remaining values) }
+    ensures ok { OnOk result (WholeRun I.next_gives values (λ run.
+        sink.new.items ≡ sink.old.items ++ list_text T.text run.items)) }
+    ensures encodable { OnOk result (WholeRun I.next_gives values (λ run.
+        (fault : FaultSpec) → list_cause T.cause run.items fault → ⊥)) }
+    ensures err { OnErr result (sink.new.items ≡ sink.old.items) }
+    ensures warranted { IfErr result (λ fault. SomeRun I.next_gives values (λ run.
+        IsWarranted (list_cause T.cause run.items) fault)) }
+{
+    let start = sink.len();
+    match encode_all(values, sink) {
+        Ok(count) => put_count(count, start, sink),
+        Err(fault) => {
+            sink.truncate(start);
+            Err(fault)
+        }
+    }
+}
+
+/// Appends the text of each value that comes, up to the first that is refused, and answers how many
+/// came.
+fn encode_all<T: Encode + Drop, I: Iterator<Item = T> + Drop, A: Allocator>(
+    values: I,
+    sink: &mut Vec<u8, A>,
+) -> Result<u32, Fault>
+    requires can { I.can_next values }
+    requires ends { IsFinite (I.remaining values) }
+    ensures ok { IfOk result (λ count. WholeRun I.next_gives values (λ run. (length run.items ≡ count)
+        × (count < 2 ^ 32) × Written T.text T.cause sink.old.items run.items sink.new.items)) }
+    ensures err { OnErr result ((more : List ℕ) × (sink.new.items ≡ sink.old.items ++ more)) }
+    ensures warranted { IfErr result (λ fault. SomeRun I.next_gives values (λ run.
+        IsWarranted (list_cause T.cause run.items) fault)) }
+{
+    let mut count: u32 = 0;
+    for value in values {
+        if count == u32::MAX {
+            return Err(Fault::TooMany);
+        }
+        count += 1;
+        value.encode(sink)?;
+    }
+    Ok(count)
+}
+
+/// Puts a number in front of the bytes from `start` on, or leaves these out where it is refused.
+fn put_count<A: Allocator>(count: u32, start: usize, sink: &mut Vec<u8, A>) -> Result<(), Fault>
+    requires { start ≤ length sink.old.items }
+    ensures ok { OnOk result (sink.new.items ≡ take start sink.old.items ++ unsigned_text count ++ drop start sink.old.items) }
+    ensures err { OnErr result (sink.new.items ≡ take start sink.old.items) }
+    ensures warranted { IfErr result IsMemory }
+{
+    let end = sink.len();
+    match count.encode(sink) {
+        Ok(()) => {
+            let size = sink.len() - end;
+            turn_to_front(sink.as_mut_slice(), start, size);
+            Ok(())
+        }
+        Err(fault) => {
+            sink.truncate(start);
+            Err(fault)
+        }
+    }
+}
+
+/// Moves the last bytes to `start`, before those that stand there.
+fn turn_to_front(bytes: &mut [u8], start: usize, size: usize)
+    requires { start + size ≤ length bytes.old }
+    ensures { (before behind last : List ℕ) → bytes.old ≡ before ++ behind ++ last
+        → length before ≡ start → length last ≡ size → bytes.new ≡ before ++ last ++ behind }
+{
+    bytes[start..].rotate_right(size);
+}

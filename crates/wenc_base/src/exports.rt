@@ -1,0 +1,42 @@
+ghost use Rattle.std.specs.Prelude.{◌≡◌};
+ghost use Rattle.wenc_base.specs.Exports.{export_kind_byte};
+
+use crate::encode::Encode;
+use crate::fault::Fault;
+use std::alloc::Allocator;
+
+/// The kind of what a core module exports or imports.
+#[derive(Clone, Copy, Debug, PartialEq, Eq)]
+pub enum ExportKind {
+    Func,
+    Table,
+    Memory,
+    Global,
+    Tag,
+}
+
+/// The kind's byte.
+fn kind_byte(kind: ExportKind) -> u8
+    ensures { result ≡ export_kind_byte kind }
+{
+    match kind {
+        ExportKind::Func => 0x00,
+        ExportKind::Table => 0x01,
+        ExportKind::Memory => 0x02,
+        ExportKind::Global => 0x03,
+        ExportKind::Tag => 0x04,
+    }
+}
+
+impl Encode for ExportKind {
+    ghost use Rattle.wenc_base.specs.Exports.{export_kind};
+
+    ghost text = { λ kind. (export_kind kind).text };
+
+    ghost cause = { λ _ _. ⊥ };
+
+    fn encode<A: Allocator>(&self, sink: &mut Vec<u8, A>) -> Result<(), Fault> {
+        sink.push(kind_byte(*self))?;
+        Ok(())
+    }
+}
