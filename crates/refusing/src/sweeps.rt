@@ -1,13 +1,18 @@
 //! Every call that can be refused for memory has each of its growths refused in turn.
 
+ghost use Rattle.wenc_base.specs.Forms.{name};
+ghost use Rattle.wenc_base.specs.Fault.{text_cause};
+
 use super::Refusing;
-use std::alloc::{AllocError, Global};
+use std::alloc::{AllocError, Allocator, Global};
+use std::borrow::CowStr;
 use std::process::Abort;
 use std::test::Fail;
 use wasm_encoder::{
-    AliasTree, Command, ComponentBuilder, ComponentExportKind, ComponentExternName,
-    ComponentTypeRef, ComponentValType, Encode, Fault, NameTree, PrimitiveValType, TypeBounds,
-    build,
+    Alias, AliasTree, Command, ComponentBuilder, ComponentExportKind, ComponentExternName,
+    ComponentOuterAliasKind, ComponentSection, ComponentSectionId, ComponentTypeRef,
+    ComponentValType, Encode, ExportKind, Fault, ModuleArg, NameTree, PrimitiveValType, TypeBounds,
+    build, encode_list,
 };
 use wenc_base::Tagged;
 
@@ -16,10 +21,15 @@ const REFUSED: Fault = Fault::Memory(AllocError);
 /// Longer than a vector's first room, so that each call has to grow.
 const NAME: &str = "a name that is longer than a first growth, by far: aaaaaaaaaaaaaaaaaaaaaa";
 
-fn sweep_encode<E: Encode>(rt: &impl Abort, alloc: Global, value: &E) -> Result<(), Fault> {
+/// A call that appends to a sink.
+trait Appends {
+    fn append<A: Allocator>(&self, sink: &mut Vec<u8, A>) -> Result<(), Fault>;
+}
+
+fn sweep<C: Appends>(rt: &impl Abort, alloc: Global, call: &C) -> Result<(), Fault> {
     let mut wanted = Vec::new(alloc);
     wanted.extend_from_slice(&[1, 2, 3])?;
-    value.encode(&mut wanted)?;
+    call.append(&mut wanted)?;
     let mut done = false;
     for n in 1..20u64 {
         let heap = Refusing::new(alloc);
@@ -27,7 +37,7 @@ fn sweep_encode<E: Encode>(rt: &impl Abort, alloc: Global, value: &E) -> Result<
         sink.extend_from_slice(&[1, 2, 3])?;
         sink.shrink_to_fit();
         heap.refuse_nth(n);
-        let outcome = value.encode(&mut sink);
+        let outcome = call.append(&mut sink);
         if !heap.was_refused() {
             assert!(rt; outcome.is_ok());
             assert!(rt; sink.as_slice() == wanted.as_slice());
@@ -37,17 +47,33 @@ fn sweep_encode<E: Encode>(rt: &impl Abort, alloc: Global, value: &E) -> Result<
         assert!(rt; outcome == Err(REFUSED));
         assert!(rt; heap.requests() == n);
         assert!(rt; sink.as_slice() == [1, 2, 3].as_slice());
-        value.encode(&mut sink)?;
+        call.append(&mut sink)?;
         assert!(rt; sink.as_slice() == wanted.as_slice());
     }
     assert!(rt; done);
     Ok(())
 }
 
+#[derive(Clone, Copy)]
+struct Encoded<'a, E>(&'a E);
+
+impl<'a, E: Encode> Appends for Encoded<'a, E> {
+    fn append<A: Allocator>(&self, sink: &mut Vec<u8, A>) -> Result<(), Fault> {
+        self.0.encode(sink)
+    }
+}
+
+fn sweep_encode<E: Encode>(rt: &impl Abort, alloc: Global, value: &E) -> Result<(), Fault> {
+    sweep(rt, alloc, &Encoded(value))
+}
+
 #[test]
 fn numbers_and_texts(rt: HostRuntime) -> Result<(), Fail> {
     let alloc = rt.alloc();
+    sweep_encode(&rt, alloc, &true)?;
     sweep_encode(&rt, alloc, &4294967295u32)?;
+    sweep_encode(&rt, alloc, &18446744073709551615u64)?;
+    sweep_encode(&rt, alloc, &4294967295usize)?;
     sweep_encode(&rt, alloc, &-65i64)?;
     sweep_encode(&rt, alloc, &NAME)?;
     sweep_encode(&rt, alloc, &NAME.as_bytes())?;
@@ -55,6 +81,83 @@ fn numbers_and_texts(rt: HostRuntime) -> Result<(), Fail> {
     sweep_encode(&rt, alloc, &Some(NAME))?;
     sweep_encode(&rt, alloc, &(NAME, NAME))?;
     sweep_encode(&rt, alloc, &Tagged(7, &NAME))?;
+    Ok(())
+}
+
+#[test]
+fn lists(rt: HostRuntime) -> Result<(), Fail> {
+    let alloc = rt.alloc();
+    let numbers = [1u32, 128, 3, 4, 4294967295];
+    let texts = [NAME, "", NAME];
+    let none: [u32; 0] = [];
+    sweep_encode(&rt, alloc, &none.as_slice())?;
+    sweep_encode(&rt, alloc, &numbers.as_slice())?;
+    sweep_encode(&rt, alloc, &texts.as_slice())?;
+    sweep_encode(&rt, alloc, &(numbers.as_slice(), texts.as_slice()))?;
+    sweep_encode(&rt, alloc, &(texts.as_slice(), numbers.as_slice()))?;
+    sweep_encode(
+        &rt,
+        alloc,
+        &[numbers.as_slice(), numbers.as_slice()].as_slice(),
+    )?;
+    Ok(())
+}
+
+#[derive(Clone, Copy)]
+struct Listed<'a>(&'a [u32]);
+
+impl<'a> Appends for Listed<'a> {
+    fn append<A: Allocator>(&self, sink: &mut Vec<u8, A>) -> Result<(), Fault> {
+        encode_list(self.0.iter().copied(), sink)
+    }
+}
+
+// Five values of a byte fill the sink's first growth, so that the second is for their number.
+#[test]
+fn listed_values(rt: HostRuntime) -> Result<(), Fail> {
+    let alloc = rt.alloc();
+    sweep(&rt, alloc, &Listed(&[]))?;
+    sweep(&rt, alloc, &Listed(&[1, 2, 3, 4, 5]))?;
+    sweep(
+        &rt,
+        alloc,
+        &Listed(&[4294967295, 4294967295, 4294967295, 4294967295, 4294967295]),
+    )?;
+    Ok(())
+}
+
+/// A section of one's own, with this text in it.
+#[derive(Clone, Copy)]
+struct Section<'a>(&'a str);
+
+impl<'a> Encode for Section<'a> {
+    ghost text = { λ s. (name s.0.now).text };
+
+    ghost cause = { λ s. text_cause s.0.now };
+
+    fn encode<A: Allocator>(&self, sink: &mut Vec<u8, A>) -> Result<(), Fault> {
+        self.0.encode(sink)
+    }
+}
+
+impl<'a> ComponentSection for Section<'a> {
+    ghost section_id = { λ _. 99 };
+
+    fn id(&self) -> u8 {
+        99
+    }
+}
+
+impl<'a> Appends for Section<'a> {
+    fn append<A: Allocator>(&self, sink: &mut Vec<u8, A>) -> Result<(), Fault> {
+        self.append_to_component(sink)
+    }
+}
+
+#[test]
+fn own_section(rt: HostRuntime) -> Result<(), Fail> {
+    sweep(&rt, rt.alloc(), &Section(""))?;
+    sweep(&rt, rt.alloc(), &Section(NAME))?;
     Ok(())
 }
 
@@ -74,6 +177,90 @@ fn parts(rt: HostRuntime) -> Result<(), Fail> {
     )?;
     sweep_encode(&rt, alloc, &ComponentTypeRef::Type(TypeBounds::Eq(1)))?;
     sweep_encode(&rt, alloc, &ComponentExternName::from(NAME))?;
+    sweep_encode(&rt, alloc, &ExportKind::Tag)?;
+    sweep_encode(&rt, alloc, &ModuleArg::Instance(128))?;
+    sweep_encode(&rt, alloc, &ComponentSectionId::Export)?;
+    Ok(())
+}
+
+#[test]
+fn aliases(rt: HostRuntime) -> Result<(), Fail> {
+    let alloc = rt.alloc();
+    sweep_encode(&rt, alloc, &ComponentOuterAliasKind::CoreModule)?;
+    sweep_encode(&rt, alloc, &ComponentOuterAliasKind::Type)?;
+    let of_export = Alias::InstanceExport {
+        instance: 128,
+        kind: ComponentExportKind::Module,
+        name: NAME,
+    };
+    sweep_encode(&rt, alloc, &of_export)?;
+    let of_core_export = Alias::CoreInstanceExport {
+        instance: 128,
+        kind: ExportKind::Tag,
+        name: NAME,
+    };
+    sweep_encode(&rt, alloc, &of_core_export)?;
+    let outer = Alias::Outer {
+        kind: ComponentOuterAliasKind::CoreType,
+        count: 4294967295,
+        index: 4294967295,
+    };
+    sweep_encode(&rt, alloc, &outer)?;
+    Ok(())
+}
+
+#[test]
+fn names_with_options(rt: HostRuntime) -> Result<(), Fail> {
+    let all: ComponentExternName = ComponentExternName {
+        name: CowStr::Borrowed(NAME),
+        implements: Some(CowStr::Borrowed(NAME)),
+        version_suffix: Some(CowStr::Borrowed(NAME)),
+        external_id: Some(CowStr::Borrowed(NAME)),
+    };
+    sweep_encode(&rt, rt.alloc(), &all)?;
+    let short: ComponentExternName = ComponentExternName {
+        name: CowStr::Borrowed("n"),
+        implements: Some(CowStr::Borrowed("i")),
+        version_suffix: Some(CowStr::Borrowed("1")),
+        external_id: Some(CowStr::Borrowed("x")),
+    };
+    sweep_encode(&rt, rt.alloc(), &short)?;
+    Ok(())
+}
+
+fn owned<'a, 'b>(heap: &'a Refusing) -> Result<CowStr<'b, &'a Refusing>, AllocError> {
+    Ok(CowStr::Owned(String::from_str(heap, NAME)?))
+}
+
+// A copy takes memory for each text that is owned.
+#[test]
+fn cloned_names(rt: HostRuntime) -> Result<(), Fail> {
+    let heap = Refusing::new(rt.alloc());
+    let name: ComponentExternName<&Refusing> = ComponentExternName {
+        name: owned(&heap)?,
+        implements: Some(owned(&heap)?),
+        version_suffix: Some(owned(&heap)?),
+        external_id: Some(owned(&heap)?),
+    };
+    let mut done = false;
+    for n in 1..20u64 {
+        heap.refuse_nth(n);
+        let outcome = name.clone();
+        if !heap.was_refused() {
+            let copy = outcome?;
+            assert_eq!(rt; heap.requests(), 4);
+            assert_eq!(rt; copy.name.as_str(), NAME);
+            assert!(rt; copy.implements == name.implements);
+            assert!(rt; copy.version_suffix == name.version_suffix);
+            assert!(rt; copy.external_id == name.external_id);
+            done = true;
+            break;
+        }
+        assert!(rt; outcome.err() == Some(REFUSED));
+        assert_eq!(rt; heap.requests(), n);
+    }
+    assert!(rt; done);
+    assert_eq!(rt; name.name.as_str(), NAME);
     Ok(())
 }
 
@@ -82,6 +269,9 @@ enum Call {
     Import,
     Export,
     AliasExport,
+    Alias,
+    OuterAlias,
+    CoreAliasExport,
 }
 
 impl Call {
@@ -90,6 +280,33 @@ impl Call {
             Call::Import => builder.import(NAME.into(), ComponentTypeRef::Func(0)),
             Call::Export => builder.export(NAME.into(), ComponentExportKind::Func, 0, None),
             Call::AliasExport => builder.alias_export(0, NAME, ComponentExportKind::Func),
+            Call::Alias => {
+                let alias = Alias::InstanceExport {
+                    instance: 0,
+                    kind: ComponentExportKind::Func,
+                    name: NAME,
+                };
+                builder.alias(Some(NAME), alias)
+            }
+            Call::OuterAlias => {
+                let alias = Alias::Outer {
+                    kind: ComponentOuterAliasKind::Type,
+                    count: 4294967295,
+                    index: 4294967295,
+                };
+                builder.alias(Some(NAME), alias)
+            }
+            Call::CoreAliasExport => {
+                builder.core_alias_export(Some(NAME), 0, NAME, ExportKind::Func)
+            }
+        }
+    }
+
+    /// What the call answers on a builder that has started.
+    fn answer(self) -> Result<u32, Fault> {
+        match self {
+            Call::Import | Call::Export | Call::AliasExport | Call::Alias => Ok(1),
+            Call::OuterAlias | Call::CoreAliasExport => Ok(0),
         }
     }
 }
@@ -135,7 +352,7 @@ fn refuse(rt: &impl Abort, heap: &Refusing, call: Call, n: u64) -> Result<bool, 
     heap.refuse_nth(n);
     let outcome = call.make(&mut builder);
     if !heap.was_refused() {
-        assert!(rt; outcome == Ok(1));
+        assert!(rt; outcome == call.answer());
         return Ok(false);
     }
     assert!(rt; outcome == Err(REFUSED));
@@ -156,7 +373,7 @@ fn succeed_then(rt: &impl Abort, heap: &Refusing, call: Call, n: u64) -> Result<
     heap.refuse_nth(n);
     assert!(rt; call.make(&mut builder) == Err(REFUSED));
     heap.refuse_none();
-    assert!(rt; call.make(&mut builder) == Ok(1));
+    assert!(rt; call.make(&mut builder) == call.answer());
     let bytes = finished(builder)?;
     let mut other = started(heap)?;
     call.make(&mut other)?;
@@ -167,7 +384,14 @@ fn succeed_then(rt: &impl Abort, heap: &Refusing, call: Call, n: u64) -> Result<
 
 #[test]
 fn builder_calls(rt: HostRuntime) -> Result<(), Fail> {
-    for call in [Call::Import, Call::Export, Call::AliasExport] {
+    for call in [
+        Call::Import,
+        Call::Export,
+        Call::AliasExport,
+        Call::Alias,
+        Call::OuterAlias,
+        Call::CoreAliasExport,
+    ] {
         let heap = Refusing::new(rt.alloc());
         let mut done = false;
         for n in 1..20u64 {
@@ -232,9 +456,7 @@ fn alias(alloc: Global, name: &str) -> Result<Command, AllocError> {
 
 fn import(alloc: Global) -> Result<Command, AllocError> {
     Ok(Command::Import {
-        name: NameTree {
-            name: String::from_str(alloc, NAME)?,
-        },
+        name: NameTree::from(String::from_str(alloc, NAME)?),
         ty: ComponentTypeRef::Func(0),
     })
 }

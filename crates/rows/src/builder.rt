@@ -1,6 +1,8 @@
+use std::borrow::CowStr;
 use std::test::Fail;
 use wasm_encoder::{
-    ComponentBuilder, ComponentExportKind, ComponentTypeRef, ComponentValType, Fault, TypeBounds,
+    Alias, ComponentBuilder, ComponentExportKind, ComponentExternName, ComponentOuterAliasKind,
+    ComponentTypeRef, ComponentValType, ExportKind, Fault, TypeBounds,
 };
 
 const HEADER: &str = "0061736d0d000100";
@@ -53,6 +55,132 @@ fn export_aliases(rt: HostRuntime) -> Result<(), Fail> {
         hex::encode(rt.alloc(), bytes.as_slice())?.as_str(),
         "0061736d0d000100060c02010000016600110005016d"
     );
+    Ok(())
+}
+
+#[test]
+fn aliases(rt: HostRuntime) -> Result<(), Fail> {
+    let mut builder = ComponentBuilder::new(rt.alloc())?;
+    let of_export = Alias::InstanceExport {
+        instance: 0,
+        kind: ComponentExportKind::Func,
+        name: "f",
+    };
+    assert_eq!(rt; builder.alias(None, of_export)?, 0);
+    let outer = Alias::Outer {
+        kind: ComponentOuterAliasKind::Type,
+        count: 0,
+        index: 1,
+    };
+    assert_eq!(rt; builder.alias(None, outer)?, 0);
+    let bytes = builder.finish()?;
+    assert_eq!(rt;
+        hex::encode(rt.alloc(), bytes.as_slice())?.as_str(),
+        "0061736d0d000100060a02010000016603020001"
+    );
+    Ok(())
+}
+
+// A debug name isn't written.
+#[test]
+fn a_core_export_alias(rt: HostRuntime) -> Result<(), Fail> {
+    for debug_name in [None, Some("memory")] {
+        let mut builder = ComponentBuilder::new(rt.alloc())?;
+        let index = builder.core_alias_export(debug_name, 0, "m", ExportKind::Memory)?;
+        assert_eq!(rt; index, 0);
+        assert_eq!(rt; builder.core_memory_count(), 1);
+        let bytes = builder.finish()?;
+        assert_eq!(rt;
+            hex::encode(rt.alloc(), bytes.as_slice())?.as_str(),
+            "0061736d0d00010006070100020100016d"
+        );
+    }
+    Ok(())
+}
+
+#[test]
+fn an_import_with_options(rt: HostRuntime) -> Result<(), Fail> {
+    let mut builder = ComponentBuilder::new(rt.alloc())?;
+    let name: ComponentExternName = ComponentExternName {
+        name: CowStr::Borrowed("a"),
+        implements: Some(CowStr::Borrowed("i")),
+        version_suffix: None,
+        external_id: Some(CowStr::Borrowed("")),
+    };
+    assert_eq!(rt; builder.import(name, ComponentTypeRef::Func(0))?, 0);
+    let bytes = builder.finish()?;
+    assert_eq!(rt;
+        hex::encode(rt.alloc(), bytes.as_slice())?.as_str(),
+        "0061736d0d0001000a0c010201610200016902000100"
+    );
+    Ok(())
+}
+
+fn all_counts(builder: &ComponentBuilder) -> [u32; 13] {
+    [
+        builder.core_module_count(),
+        builder.core_func_count(),
+        builder.core_type_count(),
+        builder.core_memory_count(),
+        builder.core_table_count(),
+        builder.core_instance_count(),
+        builder.core_tag_count(),
+        builder.core_global_count(),
+        builder.func_count(),
+        builder.instance_count(),
+        builder.value_count(),
+        builder.component_count(),
+        builder.type_count(),
+    ]
+}
+
+// Each kind of an outer alias raises the count of its own space alone.
+#[test]
+fn counts_of_outer_aliases(rt: HostRuntime) -> Result<(), Fail> {
+    for (kind, wanted) in [
+        (
+            ComponentOuterAliasKind::CoreModule,
+            [1, 0, 0, 0, 0, 0, 0, 0, 0, 0, 0, 0, 0],
+        ),
+        (
+            ComponentOuterAliasKind::CoreType,
+            [0, 0, 1, 0, 0, 0, 0, 0, 0, 0, 0, 0, 0],
+        ),
+        (
+            ComponentOuterAliasKind::Component,
+            [0, 0, 0, 0, 0, 0, 0, 0, 0, 0, 0, 1, 0],
+        ),
+        (
+            ComponentOuterAliasKind::Type,
+            [0, 0, 0, 0, 0, 0, 0, 0, 0, 0, 0, 0, 1],
+        ),
+    ] {
+        let mut builder = ComponentBuilder::new(rt.alloc())?;
+        let alias = Alias::Outer {
+            kind,
+            count: 1,
+            index: 2,
+        };
+        assert_eq!(rt; builder.alias(None, alias)?, 0);
+        assert_eq!(rt; all_counts(&builder), wanted);
+    }
+    Ok(())
+}
+
+// And so does each kind of an export of a core instance.
+#[test]
+fn counts_of_core_aliases(rt: HostRuntime) -> Result<(), Fail> {
+    for (kind, wanted) in [
+        (ExportKind::Func, [0, 1, 0, 0, 0, 0, 0, 0, 0, 0, 0, 0, 0]),
+        (ExportKind::Memory, [0, 0, 0, 1, 0, 0, 0, 0, 0, 0, 0, 0, 0]),
+        (ExportKind::Table, [0, 0, 0, 0, 1, 0, 0, 0, 0, 0, 0, 0, 0]),
+        (ExportKind::Tag, [0, 0, 0, 0, 0, 0, 1, 0, 0, 0, 0, 0, 0]),
+        (ExportKind::Global, [0, 0, 0, 0, 0, 0, 0, 1, 0, 0, 0, 0, 0]),
+    ] {
+        let mut builder = ComponentBuilder::new(rt.alloc())?;
+        assert_eq!(rt; builder.core_alias_export(None, 0, "x", kind)?, 0);
+        assert_eq!(rt; all_counts(&builder), wanted);
+    }
     Ok(())
 }
 

@@ -3,14 +3,14 @@ use Rattle.std.proofs.Common.{◌≡◌, ℕ, ◌<◌, ◌⊎◌, inl, inr, List
 use Rattle.std.specs.Result.{IfOk, IfErr, OnOk}
 use Rattle.wenc_base.specs.declared.fault.Fault.{Fault}
 use Rattle.wenc_base.specs.declared.fault.Fault.TheVariants.{Memory, TooMany, TooLarge, Unfinished}
-use Rattle.wasm_encoder.specs.declared.exports.ComponentExportKind.{ComponentExportKind}
-use Rattle.wasm_encoder.specs.declared.imports.ComponentTypeRef.{ComponentTypeRef}
+use Rattle.wenc_parts.specs.declared.exports.ComponentExportKind.{ComponentExportKind}
+use Rattle.wenc_parts.specs.declared.imports.ComponentTypeRef.{ComponentTypeRef}
 use Rattle.wasm_encoder.specs.declared.builder.space.Space.{Space}
 use Rattle.wenc_base.specs.Number.{unsigned_text}
 use Rattle.wenc_base.specs.Forms.{option_text}
-use Rattle.wasm_encoder.specs.Exports.{export_kind}
-use Rattle.wasm_encoder.specs.Imports.{kind_of, ExternName, extern_name, type_reference}
-use Rattle.wasm_encoder.specs.Aliases.{AliasOf, alias}
+use Rattle.wenc_parts.specs.Exports.{export_kind}
+use Rattle.wenc_parts.specs.Imports.{kind_of, ExternName, extern_name, type_reference}
+use Rattle.wenc_parts.specs.Aliases.{AliasOf, alias}
 use Rattle.wasm_encoder.specs.Item.{AliasItem, ImportItem, ExportItem, collected, item, item_cause}
 use Rattle.wasm_encoder.specs.Space.{space_number, kind_space, alias_space, Defined, defines}
 use Rattle.wasm_encoder.specs.Entry.{Entry, entry}

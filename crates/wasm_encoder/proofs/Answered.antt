@@ -1,11 +1,11 @@
 -- What a call did, by the list that was held.
-use Rattle.std.proofs.Common.{◌≡◌, ℕ, ◌<◌, inl, inr, List, [], ◌∷◌, ◌++◌, Option, None, Result, Ok, Err, ap, sym, ◌∙◌, subst}
+use Rattle.std.proofs.Common.{◌≡◌, ℕ, ◌<◌, inl, inr, List, [], ◌∷◌, ◌++◌, Option, Some, None, Result, Ok, Err, ap, sym, ◌∙◌, subst}
 use Rattle.std.specs.Result.{OnErr, OnOk}
 use Rattle.wenc_base.specs.declared.fault.Fault.{Fault}
 use Rattle.wenc_base.specs.declared.fault.Fault.TheVariants.{Memory, TooMany, TooLarge, Unfinished}
-use Rattle.wasm_encoder.specs.Aliases.{InstanceExport}
+use Rattle.wenc_parts.specs.Aliases.{InstanceExport, CoreInstanceExport, Outer}
 use Rattle.wasm_encoder.specs.Item.{Item, item_cause, AliasItem, ImportItem, ExportItem}
-use Rattle.wasm_encoder.specs.Imports.{kind_of}
+use Rattle.wenc_parts.specs.Imports.{ExternName, extern_name_cause, option_cause, kind_of}
 use Rattle.wasm_encoder.specs.Component.{runs}
 use Rattle.wasm_encoder.specs.Space.{kind_space, alias_space, defines}
 use Rattle.wasm_encoder.specs.Entry.{Entry, items}
@@ -16,10 +16,22 @@ use Rattle.wasm_encoder.specs.Ran.{Answers}
 use Rattle.wasm_encoder.proofs.Step.{holds_step, space_within as within}
 
 -- an item is never unfinished
+option_never_unfinished : (o : Option (List ℕ)) → option_cause o Unfinished → ⊥
+option_never_unfinished None c = c
+option_never_unfinished (Some text) c = c
+
+name_never_unfinished : (n : ExternName) → extern_name_cause n Unfinished → ⊥
+name_never_unfinished n (inl c) = c
+name_never_unfinished n (inr (inl c)) = option_never_unfinished n.implements c
+name_never_unfinished n (inr (inr (inl c))) = option_never_unfinished n.version_suffix c
+name_never_unfinished n (inr (inr (inr c))) = option_never_unfinished n.external_id c
+
 never_unfinished : (x : Item) → item_cause x Unfinished → ⊥
 never_unfinished (AliasItem (InstanceExport instance kind name)) c = c
-never_unfinished (ImportItem n ty) c = c
-never_unfinished (ExportItem n kind index ty) c = c
+never_unfinished (AliasItem (CoreInstanceExport instance kind name)) c = c
+never_unfinished (AliasItem (Outer kind count number)) c = c
+never_unfinished (ImportItem n ty) c = name_never_unfinished n c
+never_unfinished (ExportItem n kind index ty) c = name_never_unfinished n c
 
 -- what the content with one more entry is, by the list that is held then
 current_is : (old : State) (es : List Entry) (x : Entry) → Holds old es → (with_entry old.settled x).sections.current ≡ open_of (runs (items (es ++ x ∷ [])))

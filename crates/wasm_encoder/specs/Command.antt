@@ -1,12 +1,12 @@
 -- Commands as pure data, and the entry that each adds.
 use Rattle.std.specs.Prelude.{ℕ, List, Option, Some, None, String}
 use Rattle.std.specs.String.{string_bytes}
-use Rattle.wasm_encoder.specs.declared.exports.ComponentExportKind.{ComponentExportKind}
-use Rattle.wasm_encoder.specs.declared.imports.ComponentTypeRef.{ComponentTypeRef}
+use Rattle.wenc_parts.specs.declared.exports.ComponentExportKind.{ComponentExportKind}
+use Rattle.wenc_parts.specs.declared.imports.ComponentTypeRef.{ComponentTypeRef}
 use Rattle.wasm_encoder.specs.declared.command.Command.{Command}
 use Rattle.wasm_encoder.specs.declared.command.Command.TheVariants as commands
-use Rattle.wasm_encoder.specs.Imports.{ExternName, name_tree_view}
-use Rattle.wasm_encoder.specs.Aliases.{AliasOf, alias_tree_view}
+use Rattle.wenc_parts.specs.Imports.{ExternName, name_tree_view}
+use Rattle.wenc_parts.specs.Aliases.{AliasOf, alias_tree_view}
 use Rattle.wasm_encoder.specs.Item.{AliasItem, ImportItem, ExportItem}
 use Rattle.wasm_encoder.specs.Entry.{Entry, entry}
 

@@ -3,13 +3,12 @@ use Rattle.std.specs.Prelude.{ℕ, Option, Some}
 use Rattle.wenc_base.specs.Piece.{Form, ◌⨾◌}
 use Rattle.wenc_base.specs.Number.{u32}
 use Rattle.wenc_base.specs.Forms.{option}
-use Rattle.wenc_base.specs.Fault.{text_cause}
 use Rattle.wenc_base.specs.declared.fault.Fault.{Fault}
-use Rattle.wasm_encoder.specs.declared.exports.ComponentExportKind.{ComponentExportKind}
-use Rattle.wasm_encoder.specs.declared.imports.ComponentTypeRef.{ComponentTypeRef}
-use Rattle.wasm_encoder.specs.Exports.{export_kind}
-use Rattle.wasm_encoder.specs.Imports.{ExternName, extern_name, type_reference}
-use Rattle.wasm_encoder.specs.Aliases.{AliasOf, alias, alias_cause}
+use Rattle.wenc_parts.specs.declared.exports.ComponentExportKind.{ComponentExportKind}
+use Rattle.wenc_parts.specs.declared.imports.ComponentTypeRef.{ComponentTypeRef}
+use Rattle.wenc_parts.specs.Exports.{export_kind}
+use Rattle.wenc_parts.specs.Imports.{ExternName, extern_name, extern_name_cause, type_reference}
+use Rattle.wenc_parts.specs.Aliases.{AliasOf, alias, alias_cause}
 
 pub data Item : Type 0 where
   AliasItem : (to : AliasOf) → Item
@@ -31,5 +30,5 @@ item (ExportItem name kind number what) = extern_name name ⨾ export_kind kind 
 -- why an item can't be encoded, whatever it is added to
 abbrev pub item_cause : Item → Fault → Type 0
 item_cause (AliasItem to) = alias_cause to
-item_cause (ImportItem name what) = text_cause name.name
-item_cause (ExportItem name kind number what) = text_cause name.name
+item_cause (ImportItem name what) = extern_name_cause name
+item_cause (ExportItem name kind number what) = extern_name_cause name

@@ -1,7 +1,3 @@
-pub mod Types
-pub mod Exports
-pub mod Imports
-pub mod Aliases
 pub mod Item
 pub mod Component
 pub mod Space

@@ -1,12 +1,16 @@
 -- Index spaces: which one an item defines in, and the place that it gets (component model, explainer, "Index
 -- Spaces").
 use Rattle.std.specs.Prelude.{ℕ, ◌+◌, List, [], ◌∷◌, nat_eq, if◌then◌else◌}
-use Rattle.wasm_encoder.specs.declared.exports.ComponentExportKind.{ComponentExportKind}
-use Rattle.wasm_encoder.specs.declared.exports.ComponentExportKind.TheVariants.{Module, Func, Value, «Type» as TypeKind, Instance, Component}
+use Rattle.wenc_parts.specs.declared.exports.ComponentExportKind.{ComponentExportKind}
+use Rattle.wenc_parts.specs.declared.exports.ComponentExportKind.TheVariants.{Module, Func, Value, «Type» as TypeKind, Instance, Component}
+use Rattle.wenc_base.specs.declared.exports.ExportKind.{ExportKind}
+use Rattle.wenc_base.specs.declared.exports.ExportKind.TheVariants as core_kinds
+use Rattle.wenc_parts.specs.declared.aliases.ComponentOuterAliasKind.{ComponentOuterAliasKind}
+use Rattle.wenc_parts.specs.declared.aliases.ComponentOuterAliasKind.TheVariants as outer_kinds
 use Rattle.wasm_encoder.specs.declared.builder.space.Space.{Space}
 use Rattle.wasm_encoder.specs.declared.builder.space.Space.TheVariants.{CoreModules, CoreFuncs, CoreTypes, CoreMemories, CoreTables, CoreInstances, CoreTags, CoreGlobals, Funcs, Instances, Values, Components, Types}
-use Rattle.wasm_encoder.specs.Imports.{kind_of}
-use Rattle.wasm_encoder.specs.Aliases.{AliasOf, InstanceExport}
+use Rattle.wenc_parts.specs.Imports.{kind_of}
+use Rattle.wenc_parts.specs.Aliases.{AliasOf, InstanceExport, CoreInstanceExport, Outer}
 use Rattle.wasm_encoder.specs.Item.{Item, AliasItem, ImportItem, ExportItem}
 
 -- the thirteen spaces by their numbers, in the order in which a builder tells their counts
@@ -33,8 +37,23 @@ kind_space TypeKind = Types
 kind_space Instance = Instances
 kind_space Component = Components
 
+abbrev pub core_kind_space : ExportKind → Space
+core_kind_space core_kinds.Func = CoreFuncs
+core_kind_space core_kinds.Table = CoreTables
+core_kind_space core_kinds.Memory = CoreMemories
+core_kind_space core_kinds.Global = CoreGlobals
+core_kind_space core_kinds.Tag = CoreTags
+
+abbrev pub outer_kind_space : ComponentOuterAliasKind → Space
+outer_kind_space outer_kinds.CoreModule = CoreModules
+outer_kind_space outer_kinds.CoreType = CoreTypes
+outer_kind_space outer_kinds.«Type» = Types
+outer_kind_space outer_kinds.Component = Components
+
 abbrev pub alias_space : AliasOf → Space
 alias_space (InstanceExport instance kind name) = kind_space kind
+alias_space (CoreInstanceExport instance kind name) = core_kind_space kind
+alias_space (Outer kind count number) = outer_kind_space kind
 
 -- so many items in this space
 pub record Defined : Type 0 where

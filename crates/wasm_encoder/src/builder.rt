@@ -2,8 +2,8 @@ ghost use Rattle.std.specs.Prelude.{◌≡◌, ℕ, ◌+◌, ◌<◌, ◌^◌, �
 ghost use Rattle.std.specs.Option.{option_copied};
 ghost use Rattle.wenc_base.specs.Fault.{IsMemory};
 ghost use Rattle.wenc_base.specs.declared.fault.Fault.{Fault as FaultSpec};
-ghost use Rattle.wasm_encoder.specs.Imports.{extern_name_view};
-ghost use Rattle.wasm_encoder.specs.Aliases.{InstanceExport, alias_view};
+ghost use Rattle.wenc_parts.specs.Imports.{extern_name_view};
+ghost use Rattle.wenc_parts.specs.Aliases.{InstanceExport, CoreInstanceExport, alias_view};
 ghost use Rattle.wasm_encoder.specs.Item.{AliasItem, ImportItem, ExportItem};
 ghost use Rattle.wasm_encoder.specs.Component.{whole};
 ghost use Rattle.wasm_encoder.specs.Space.{space_number};
@@ -22,16 +22,14 @@ mod space;
 mod spaces;
 mod undo;
 
-use crate::aliases::Alias;
-use crate::exports::ComponentExportKind;
-use crate::imports::{ComponentExternName, ComponentTypeRef};
 use buffer::Buffer;
 use kind::Kind;
-pub use space::Space;
+use space::Space;
 use spaces::Spaces;
 use std::alloc::{Allocator, Global};
 use std::marker::Model;
-use wenc_base::{Encode, Fault};
+use wenc_base::{Encode, ExportKind, Fault};
+use wenc_parts::{Alias, ComponentExportKind, ComponentExternName, ComponentTypeRef};
 
 /// Builds a component call by call: collects neighbours of one kind in one section, and hands out the
 /// index of each item.
@@ -249,16 +247,39 @@ impl<A: Allocator> ComponentBuilder<A> {
         }
     }
 
-    /// Adds an alias, with a debug name or none, and answers its index (component model, binary format,
-    /// "Alias Definitions").
-    pub(crate) fn alias(&mut self, debug_name: Option<&str>, alias: Alias<'_>) -> Result<u32, Fault>
+    /// Adds an alias of an export of a core instance, with a debug name or none, and answers its index. The
+    /// export's name is of at most 4294967295 bytes (component model, binary format, "Alias Definitions").
+    pub fn core_alias_export(
+        &mut self,
+        debug_name: Option<&str>,
+        instance: u32,
+        name: &str,
+        kind: ExportKind,
+    ) -> Result<u32, Fault>
+        ensures held { Adds self.old self.new result (entry (AliasItem (CoreInstanceExport instance kind name.now)) (option_copied debug_name.entry)) }
+        ensures state { OnOk result (self.new ≡ step self.old (entry (AliasItem (CoreInstanceExport instance kind name.now)) (option_copied debug_name.entry))) }
+        ensures err { OnErr result (self.new ≡ self.old) }
+        ensures unfinished { is_finished self.old ≡ false → result ≡ Err Fault.Unfinished }
+        ensures refused { RefusesEntry self.old result (entry (AliasItem (CoreInstanceExport instance kind name.now)) (option_copied debug_name.entry)) }
+    {
+        let alias = Alias::CoreInstanceExport {
+            instance,
+            kind,
+            name,
+        };
+        self.alias(debug_name, alias)
+    }
+
+    /// Adds an alias, with a debug name or none, and answers its index. It takes a place in the space of
+    /// what it stands for (component model, binary format, "Alias Definitions").
+    pub fn alias(&mut self, debug_name: Option<&str>, alias: Alias<'_>) -> Result<u32, Fault>
         ensures held { Adds self.old self.new result (entry (AliasItem (alias_view alias.entry)) (option_copied debug_name.entry)) }
         ensures state { OnOk result (self.new ≡ step self.old (entry (AliasItem (alias_view alias.entry)) (option_copied debug_name.entry))) }
         ensures err { OnErr result (self.new ≡ self.old) }
         ensures unfinished { is_finished self.old ≡ false → result ≡ Err Fault.Unfinished }
         ensures refused { RefusesEntry self.old result (entry (AliasItem (alias_view alias.entry)) (option_copied debug_name.entry)) }
     {
-        self.add(Kind::Alias, alias.space(), debug_name, &alias)
+        self.add(Kind::Alias, Space::of_alias(&alias), debug_name, &alias)
     }
 
     /// Adds an alias of an export of a component instance, under the export's name, of at most 4294967295

@@ -6,12 +6,10 @@ ghost use Rattle.wasm_encoder.specs.Entry.{Entry, items};
 ghost use Rattle.wasm_encoder.specs.Command.{command_view, debug_name_view, entry_of};
 ghost use Rattle.wasm_encoder.specs.Ran.{Ran, Answers};
 
-use crate::aliases::AliasTree;
 use crate::builder::ComponentBuilder;
-use crate::exports::ComponentExportKind;
-use crate::imports::{ComponentTypeRef, NameTree};
 use std::alloc::{Allocator, Global};
 use wenc_base::Fault;
+use wenc_parts::{AliasTree, ComponentExportKind, ComponentTypeRef, NameTree};
 
 /// One call of a builder, as data.
 #[derive(Drop)]

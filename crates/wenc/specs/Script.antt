@@ -1,13 +1,14 @@
 -- Scripts: what each line of a text says.
 use Rattle.std.specs.Prelude.{ℕ, ◌+◌, ◌-◌, ◌*◌, ◌^◌, ◌==◌, ◌&&◌, nat_le, nat_lt, if◌then◌else◌, List, [], ◌∷◌, Bool, true, false, Option, Some, None, Result, Ok, Err, codes}
 use Rattle.std.specs.Str.{is_utf8, bytes_eq}
-use Rattle.wasm_encoder.specs.declared.exports.ComponentExportKind.{ComponentExportKind}
-use Rattle.wasm_encoder.specs.declared.exports.ComponentExportKind.TheVariants as kinds
-use Rattle.wasm_encoder.specs.declared.imports.ComponentTypeRef.{ComponentTypeRef}
-use Rattle.wasm_encoder.specs.declared.imports.ComponentTypeRef.TheVariants as refs
-use Rattle.wasm_encoder.specs.declared.imports.TypeBounds.TheVariants.{Eq}
-use Rattle.wasm_encoder.specs.declared.types.ComponentValType.TheVariants as values
-use Rattle.wasm_encoder.specs.Aliases.{InstanceExport}
+use Rattle.wenc_parts.specs.declared.exports.ComponentExportKind.{ComponentExportKind}
+use Rattle.wenc_parts.specs.declared.exports.ComponentExportKind.TheVariants as kinds
+use Rattle.wenc_parts.specs.declared.imports.ComponentTypeRef.{ComponentTypeRef}
+use Rattle.wenc_parts.specs.declared.imports.ComponentTypeRef.TheVariants as refs
+use Rattle.wenc_parts.specs.declared.imports.TypeBounds.TheVariants.{Eq}
+use Rattle.wenc_parts.specs.declared.types.ComponentValType.TheVariants as values
+use Rattle.wenc_parts.specs.Imports.{plain_name}
+use Rattle.wenc_parts.specs.Aliases.{InstanceExport}
 use Rattle.wasm_encoder.specs.Command.{CommandTree, Alias, Import, Export}
 
 -- a byte put in front of the first part
@@ -66,12 +67,12 @@ reference kinds.Component i = refs.Component i
 abbrev pub import : List ℕ → Option ComponentExportKind → Option ℕ → Option CommandTree
 import name None i = None
 import name (Some k) None = None
-import name (Some k) (Some i) = Some (Import (record { name = name }) (reference k i))
+import name (Some k) (Some i) = Some (Import (plain_name name) (reference k i))
 
 abbrev pub export : List ℕ → Option ComponentExportKind → Option ℕ → Option CommandTree
 export name None i = None
 export name (Some k) None = None
-export name (Some k) (Some i) = Some (Export (record { name = name }) k i None)
+export name (Some k) (Some i) = Some (Export (plain_name name) k i None)
 
 -- the alias has its name as its debug name
 abbrev pub alias_export : Option ℕ → Option ComponentExportKind → List ℕ → Option CommandTree

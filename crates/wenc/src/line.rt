@@ -84,9 +84,7 @@ fn import(
     let (Some(kind), Some(index)) = (kind, index) else {
         return Ok(None);
     };
-    let name = NameTree {
-        name: String::from_str(alloc, name)?,
-    };
+    let name = NameTree::from(String::from_str(alloc, name)?);
     let ty = reference(kind, index);
     Ok(Some(Command::Import { name, ty }))
 }
@@ -102,9 +100,7 @@ fn export(
     let (Some(kind), Some(index)) = (kind, index) else {
         return Ok(None);
     };
-    let name = NameTree {
-        name: String::from_str(alloc, name)?,
-    };
+    let name = NameTree::from(String::from_str(alloc, name)?);
     Ok(Some(Command::Export {
         name,
         kind,

@@ -1,8 +1,8 @@
 use Rattle.std.proofs.Common.{◌≡◌, ℕ, List, [], ◌∷◌, None, subst, refl, codes}
 use Rattle.std.specs.Result.{IfOk}
-use Rattle.wasm_encoder.specs.declared.exports.ComponentExportKind.TheVariants as kinds
-use Rattle.wasm_encoder.specs.declared.imports.ComponentTypeRef.TheVariants as refs
-use Rattle.wasm_encoder.specs.Imports.{ExternName}
+use Rattle.wenc_parts.specs.declared.exports.ComponentExportKind.TheVariants as kinds
+use Rattle.wenc_parts.specs.declared.imports.ComponentTypeRef.TheVariants as refs
+use Rattle.wenc_parts.specs.Imports.{ExternName, plain_name}
 use Rattle.wasm_encoder.specs.Item.{Item, ImportItem, ExportItem}
 use Rattle.wasm_encoder.specs.Component.{whole}
 use Rattle.rows.proofs.passed_on.Goals as goal
@@ -18,4 +18,4 @@ returns g c =
     let P : List Item → Type 0 = λ xs. IfOk c.finish.result (λ bytes. bytes.items ≡ whole xs) in
     let first = c.in_ok-index.ensures.held.held [] c.in_ok-builder.ensures.held in
     let second = c.in_ok-export.ensures.held.held _ first.0 in
-    subst P (same _ (record { name = codes "f" }) _ (record { name = codes "g" }) _ 0 c.into.ensures c.into-2.ensures first.1) (c.finish.ensures.held _ second.0)
+    subst P (same _ (plain_name (codes "f")) _ (plain_name (codes "g")) _ 0 c.into.ensures c.into-2.ensures first.1) (c.finish.ensures.held _ second.0)

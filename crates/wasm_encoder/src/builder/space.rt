@@ -1,4 +1,5 @@
-use crate::exports::ComponentExportKind;
+use wenc_base::ExportKind;
+use wenc_parts::{Alias, ComponentExportKind, ComponentOuterAliasKind};
 
 /// An index space.
 #[derive(Clone, Copy, Debug, PartialEq, Eq)]
@@ -20,7 +21,19 @@ pub enum Space {
 
 impl Space {
     ghost use Rattle.std.specs.Prelude.{◌≡◌, ◌<◌};
-    ghost use Rattle.wasm_encoder.specs.Space.{space_number};
+    ghost use Rattle.wenc_parts.specs.Aliases.{alias_view};
+    ghost use Rattle.wasm_encoder.specs.Space.{space_number, alias_space};
+
+    /// The space that an alias defines an item in.
+    pub fn of_alias(alias: &Alias<'_>) -> Space
+        ensures { result ≡ alias_space (alias_view alias.now) }
+    {
+        match alias {
+            Alias::InstanceExport { kind, .. } => Space::from(*kind),
+            Alias::CoreInstanceExport { kind, .. } => Space::from(*kind),
+            Alias::Outer { kind, .. } => Space::from(*kind),
+        }
+    }
 
     /// The place of this space among all, in the order in which a builder tells their counts.
     pub fn number(self) -> usize
@@ -59,6 +72,39 @@ impl From<ComponentExportKind> for Space {
             ComponentExportKind::Type => Space::Types,
             ComponentExportKind::Instance => Space::Instances,
             ComponentExportKind::Component => Space::Components,
+        }
+    }
+}
+
+impl From<ExportKind> for Space {
+    ghost use Rattle.std.specs.Prelude.{◌≡◌};
+    ghost use Rattle.wasm_encoder.specs.Space.{core_kind_space};
+
+    ghost from_gives = { λ k s. s ≡ core_kind_space k };
+
+    fn from(kind: ExportKind) -> Space {
+        match kind {
+            ExportKind::Func => Space::CoreFuncs,
+            ExportKind::Table => Space::CoreTables,
+            ExportKind::Memory => Space::CoreMemories,
+            ExportKind::Global => Space::CoreGlobals,
+            ExportKind::Tag => Space::CoreTags,
+        }
+    }
+}
+
+impl From<ComponentOuterAliasKind> for Space {
+    ghost use Rattle.std.specs.Prelude.{◌≡◌};
+    ghost use Rattle.wasm_encoder.specs.Space.{outer_kind_space};
+
+    ghost from_gives = { λ k s. s ≡ outer_kind_space k };
+
+    fn from(kind: ComponentOuterAliasKind) -> Space {
+        match kind {
+            ComponentOuterAliasKind::CoreModule => Space::CoreModules,
+            ComponentOuterAliasKind::CoreType => Space::CoreTypes,
+            ComponentOuterAliasKind::Type => Space::Types,
+            ComponentOuterAliasKind::Component => Space::Components,
         }
     }
 }

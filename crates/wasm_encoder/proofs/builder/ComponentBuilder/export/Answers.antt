@@ -1,6 +1,5 @@
 use Rattle.std.proofs.Common.{inl}
-use Rattle.wenc_base.specs.Fault.{text_cause}
-use Rattle.wasm_encoder.specs.Imports.{extern_name_view}
+use Rattle.wenc_parts.specs.Imports.{extern_name_view, extern_name_cause}
 use Rattle.wasm_encoder.proofs.Adds.{adds, stepped, refuses, export_writes, only_name}
 use Rattle.wasm_encoder.proofs.builder.ComponentBuilder.export.Goals as goal
 
@@ -20,4 +19,4 @@ pub returns-clause-refused : goal.returns-clause-refused
 returns-clause-refused g c =
     refuses c.args.self.now c.add.result _ _ _ _ _ _
     (export_writes (extern_name_view c.args.name) c.args.kind c.args.index c.args.ty c.from.result _ c.from.ensures c.as_str-name.ensures.value)
-    (only_name (text_cause (extern_name_view c.args.name).name)) (λ f h. inl h) c.add.ensures.refused
+    (only_name (extern_name_cause (extern_name_view c.args.name))) (λ f h. inl h) c.add.ensures.refused

@@ -1,5 +1,5 @@
 use Rattle.std.proofs.Common.{subst}
-use Rattle.wasm_encoder.specs.Imports.{ExternName}
+use Rattle.wenc_parts.specs.Imports.{ExternName}
 use Rattle.wasm_encoder.specs.Command.{Import, Export, entry_of}
 use Rattle.wasm_encoder.specs.Ran.{Answers}
 use Rattle.wasm_encoder.proofs.Answered.{answered}

@@ -1,7 +1,8 @@
 ghost use Rattle.std.specs.Prelude.{◌≡◌};
+ghost use Rattle.wenc_base.specs.Lawful.{delimited as told_apart};
 
 use std::alloc::Allocator;
-use wenc_base::{Encode, Fault};
+use wenc_base::{Delimited, Encode, Fault};
 
 /// A primitive value type of a component (component model, binary format, `primvaltype`).
 #[derive(Clone, Copy, Debug, PartialEq, Eq, Hash)]
@@ -37,7 +38,7 @@ pub enum PrimitiveValType {
 }
 
 impl PrimitiveValType {
-    ghost use Rattle.wasm_encoder.specs.Types.{primitive_byte};
+    ghost use Rattle.wenc_parts.specs.Types.{primitive_byte};
 
     fn byte(self) -> u8
         ensures { result ≡ primitive_byte self }
@@ -62,10 +63,9 @@ impl PrimitiveValType {
 }
 
 impl Encode for PrimitiveValType {
-    ghost use Rattle.std.specs.Prelude.{◌∷◌, []};
-    ghost use Rattle.wasm_encoder.specs.Types.{primitive_byte};
+    ghost use Rattle.wenc_parts.specs.Types.{primitive};
 
-    ghost text = { λ p. primitive_byte p ∷ [] };
+    ghost text = { λ p. (primitive p).text };
 
     ghost cause = { λ _ _. ⊥ };
 
@@ -73,6 +73,17 @@ impl Encode for PrimitiveValType {
         sink.push(self.byte())?;
         Ok(())
     }
+}
+
+impl Delimited for PrimitiveValType {
+    ghost use Rattle.wenc_parts.specs.Types.{primitive};
+    ghost use Rattle.wenc_parts.specs.TypeLaws.{primitive_lawful};
+
+    ghost fits = { λ x. (primitive x).Fits };
+
+    ghost same = { λ a b. a ≡ b };
+
+    ghost delimited = { λ a b. told_apart (primitive_lawful a) (primitive_lawful b) };
 }
 
 /// A value type of a component (component model, binary format, `valtype`).
@@ -85,7 +96,7 @@ pub enum ComponentValType {
 }
 
 impl Encode for ComponentValType {
-    ghost use Rattle.wasm_encoder.specs.Types.{value_type};
+    ghost use Rattle.wenc_parts.specs.Types.{value_type};
 
     ghost text = { λ t. (value_type t).text };
 
@@ -99,8 +110,19 @@ impl Encode for ComponentValType {
     }
 }
 
+impl Delimited for ComponentValType {
+    ghost use Rattle.wenc_parts.specs.Types.{value_type};
+    ghost use Rattle.wenc_parts.specs.TypeLaws.{value_type_lawful};
+
+    ghost fits = { λ x. (value_type x).Fits };
+
+    ghost same = { λ a b. a ≡ b };
+
+    ghost delimited = { λ a b. told_apart (value_type_lawful a) (value_type_lawful b) };
+}
+
 impl From<PrimitiveValType> for ComponentValType {
-    ghost use Rattle.wasm_encoder.specs.declared.types.ComponentValType.TheVariants.{Primitive};
+    ghost use Rattle.wenc_parts.specs.declared.types.ComponentValType.TheVariants.{Primitive};
 
     ghost from_gives = { λ p t. t ≡ Primitive p };
 

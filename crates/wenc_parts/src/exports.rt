@@ -1,9 +1,12 @@
-use crate::sorts::{
+ghost use Rattle.std.specs.Prelude.{◌≡◌};
+ghost use Rattle.wenc_base.specs.Lawful.{delimited as told_apart};
+
+use crate::component::{
     COMPONENT_SORT, CORE_MODULE_SORT, CORE_SORT, FUNCTION_SORT, INSTANCE_SORT, TYPE_SORT,
     VALUE_SORT,
 };
 use std::alloc::Allocator;
-use wenc_base::{Encode, Fault};
+use wenc_base::{Delimited, Encode, Fault};
 
 /// The kind of an item that a component exports (component model, binary format, `sort`).
 #[derive(Clone, Copy, Debug, PartialEq, Eq)]
@@ -23,7 +26,7 @@ pub enum ComponentExportKind {
 }
 
 impl Encode for ComponentExportKind {
-    ghost use Rattle.wasm_encoder.specs.Exports.{export_kind};
+    ghost use Rattle.wenc_parts.specs.Exports.{export_kind};
 
     ghost text = { λ k. (export_kind k).text };
 
@@ -41,4 +44,15 @@ impl Encode for ComponentExportKind {
         sink.extend_from_slice(sort)?;
         Ok(())
     }
+}
+
+impl Delimited for ComponentExportKind {
+    ghost use Rattle.wenc_parts.specs.Exports.{export_kind};
+    ghost use Rattle.wenc_parts.specs.ExportLaws.{export_kind_lawful};
+
+    ghost fits = { λ x. (export_kind x).Fits };
+
+    ghost same = { λ a b. a ≡ b };
+
+    ghost delimited = { λ a b. told_apart (export_kind_lawful a) (export_kind_lawful b) };
 }

@@ -2,10 +2,10 @@
 use Rattle.std.specs.Prelude.{ℕ}
 use Rattle.wenc_base.specs.Piece.{Form, byte}
 use Rattle.wenc_base.specs.Number.{index}
-use Rattle.wasm_encoder.specs.declared.types.PrimitiveValType.{PrimitiveValType}
-use Rattle.wasm_encoder.specs.declared.types.PrimitiveValType.TheVariants.{Bool, S8, U8, S16, U16, S32, U32, S64, U64, F32, F64, Char, String, ErrorContext}
-use Rattle.wasm_encoder.specs.declared.types.ComponentValType.{ComponentValType}
-use Rattle.wasm_encoder.specs.declared.types.ComponentValType.TheVariants.{Primitive, «Type» as TypeIndex}
+use Rattle.wenc_parts.specs.declared.types.PrimitiveValType.{PrimitiveValType}
+use Rattle.wenc_parts.specs.declared.types.PrimitiveValType.TheVariants.{Bool, S8, U8, S16, U16, S32, U32, S64, U64, F32, F64, Char, String, ErrorContext}
+use Rattle.wenc_parts.specs.declared.types.ComponentValType.{ComponentValType}
+use Rattle.wenc_parts.specs.declared.types.ComponentValType.TheVariants.{Primitive, «Type» as TypeIndex}
 
 abbrev pub primitive_byte : PrimitiveValType → ℕ
 primitive_byte Bool = 0x7f
@@ -23,7 +23,10 @@ primitive_byte Char = 0x74
 primitive_byte String = 0x73
 primitive_byte ErrorContext = 0x64
 
+abbrev pub primitive : Form PrimitiveValType
+primitive p = byte (primitive_byte p)
+
 -- a primitive type, or the index of a defined one as a signed number
 abbrev pub value_type : Form ComponentValType
-value_type (Primitive p) = byte (primitive_byte p)
+value_type (Primitive p) = primitive p
 value_type (TypeIndex n) = index n

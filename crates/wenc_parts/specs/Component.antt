@@ -1,0 +1,22 @@
+-- The ids of sections (component model, binary format, "Component Definitions").
+use Rattle.std.specs.Prelude.{ℕ}
+use Rattle.wenc_base.specs.Piece.{Form, byte}
+use Rattle.wenc_parts.specs.declared.component.ComponentSectionId.{ComponentSectionId}
+use Rattle.wenc_parts.specs.declared.component.ComponentSectionId.TheVariants.{CoreCustom, CoreModule, CoreInstance, CoreType, Component, Instance, Alias, «Type» as TypeSection, CanonicalFunction, Start, Import, Export}
+
+abbrev pub section_number : ComponentSectionId → ℕ
+section_number CoreCustom = 0
+section_number CoreModule = 1
+section_number CoreInstance = 2
+section_number CoreType = 3
+section_number Component = 4
+section_number Instance = 5
+section_number Alias = 6
+section_number TypeSection = 7
+section_number CanonicalFunction = 8
+section_number Start = 9
+section_number Import = 10
+section_number Export = 11
+
+abbrev pub section : Form ComponentSectionId
+section id = byte (section_number id)

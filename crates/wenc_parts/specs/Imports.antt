@@ -1,0 +1,116 @@
+-- What an import or an export refers to, and its name (component model, binary format, "Import and Export
+-- Definitions").
+use Rattle.std.specs.Prelude.{ℕ, List, [], ◌∷◌, ◌++◌, ◌⊎◌, Option, Some, None, String}
+use Rattle.wenc_base.specs.Piece.{Piece, Form, byte, ◌▸◌, ◌⨾◌, also}
+use Rattle.wenc_base.specs.Number.{u32}
+use Rattle.wenc_base.specs.Forms.{name, list}
+use Rattle.wenc_base.specs.Fault.{text_cause}
+use Rattle.wenc_base.specs.declared.fault.Fault.{Fault}
+use Rattle.wenc_parts.specs.Types.{value_type}
+use Rattle.std.specs.String.{string_bytes}
+use Rattle.std.specs.Cow.{cow_str_bytes}
+use Rattle.std.specs.declared.borrow.CowStr.{CowStr}
+use Rattle.wenc_parts.specs.declared.exports.ComponentExportKind.{ComponentExportKind}
+use Rattle.wenc_parts.specs.declared.exports.ComponentExportKind.TheVariants as kinds
+use Rattle.wenc_parts.specs.declared.imports.ComponentExternName.{ComponentExternName}
+use Rattle.wenc_parts.specs.declared.imports.NameTree.{NameTree}
+use Rattle.wenc_parts.specs.declared.imports.TypeBounds.{TypeBounds}
+use Rattle.wenc_parts.specs.declared.imports.TypeBounds.TheVariants.{Eq, SubResource}
+use Rattle.wenc_parts.specs.declared.imports.ComponentTypeRef.{ComponentTypeRef}
+use Rattle.wenc_parts.specs.declared.imports.ComponentTypeRef.TheVariants.{Module, Func, Value, «Type» as TypeRef, Instance, Component}
+
+abbrev pub type_bounds : Form TypeBounds
+type_bounds (Eq n) = 0x00 ▸ u32 n
+type_bounds SubResource = byte 0x01
+
+abbrev pub type_reference : Form ComponentTypeRef
+type_reference (Module n) = 0x00 ▸ 0x11 ▸ u32 n
+type_reference (Func n) = 0x01 ▸ u32 n
+type_reference (Value t) = 0x02 ▸ value_type t
+type_reference (TypeRef b) = 0x03 ▸ type_bounds b
+type_reference (Instance n) = 0x05 ▸ u32 n
+type_reference (Component n) = 0x04 ▸ u32 n
+
+abbrev pub kind_of : ComponentTypeRef → ComponentExportKind
+kind_of (Module n) = kinds.Module
+kind_of (Func n) = kinds.Func
+kind_of (Value t) = kinds.Value
+kind_of (TypeRef b) = kinds.«Type»
+kind_of (Instance n) = kinds.Instance
+kind_of (Component n) = kinds.Component
+
+-- the name of an import or an export, and its options
+pub record ExternName : Type 0 where
+  pub name : List ℕ
+  pub implements : Option (List ℕ)
+  pub version_suffix : Option (List ℕ)
+  pub external_id : Option (List ℕ)
+
+-- a name without options
+abbrev pub plain_name : List ℕ → ExternName
+plain_name name = record { name = name; implements = None; version_suffix = None; external_id = None }
+
+pub data NameOption : Type 0 where
+  Implements : (text : List ℕ) → NameOption
+  VersionSuffix : (text : List ℕ) → NameOption
+  ExternalId : (text : List ℕ) → NameOption
+
+abbrev pub name_option : Form NameOption
+name_option (Implements text) = 0x00 ▸ name text
+name_option (VersionSuffix text) = 0x01 ▸ name text
+name_option (ExternalId text) = 0x02 ▸ name text
+
+abbrev pub present : (List ℕ → NameOption) → Option (List ℕ) → List NameOption
+present make None = []
+present make (Some text) = make text ∷ []
+
+-- the options that are there, in ascending order of what they begin with
+abbrev pub name_options : ExternName → List NameOption
+name_options n = present Implements n.implements ++ (present VersionSuffix n.version_suffix ++ present ExternalId n.external_id)
+
+-- 01 is an older spelling of 00
+abbrev pub name_with : List ℕ → List NameOption → Piece
+name_with text [] = also 0x00 0x01 (name text)
+name_with text (option ∷ options) = 0x02 ▸ name text ⨾ list name_option (option ∷ options)
+
+abbrev pub extern_name : Form ExternName
+extern_name n = name_with n.name (name_options n)
+
+-- why a name can't be encoded: one of its texts can't
+abbrev pub option_cause : Option (List ℕ) → Fault → Type 0
+option_cause None fault = ⊥
+option_cause (Some text) fault = text_cause text fault
+
+abbrev pub extern_name_cause : ExternName → Fault → Type 0
+extern_name_cause n fault = text_cause n.name fault ⊎ (option_cause n.implements fault ⊎ (option_cause n.version_suffix fault ⊎ option_cause n.external_id fault))
+
+-- ---- the code's names as pure ones
+
+abbrev pub text_option : {A : Type 0} → Option (CowStr A) → Option (List ℕ)
+text_option None = None
+text_option (Some text) = Some (cow_str_bytes text)
+
+abbrev pub extern_name_view : {A : Type 0} → ComponentExternName A → ExternName
+extern_name_view n = record {
+  name = cow_str_bytes n.name;
+  implements = text_option n.implements;
+  version_suffix = text_option n.version_suffix;
+  external_id = text_option n.external_id;
+}
+
+abbrev pub string_option : {A : Type 0} → Option (String A) → Option (List ℕ)
+string_option None = None
+string_option (Some text) = Some (string_bytes text)
+
+abbrev pub name_tree_view : NameTree → ExternName
+name_tree_view n = record {
+  name = string_bytes n.name;
+  implements = string_option n.implements;
+  version_suffix = string_option n.version_suffix;
+  external_id = string_option n.external_id;
+}
+
+-- the text of an option that begins with this number; none where it isn't there
+abbrev pub option_entry_text : ℕ → Option (List ℕ) → List ℕ
+option_entry_text number None = []
+option_entry_text number (Some text) = number ∷ (name text).text

@@ -1,0 +1,187 @@
+ghost use Rattle.std.specs.Prelude.{◌≡◌};
+ghost use Rattle.wenc_base.specs.Lawful.{delimited as told_apart};
+
+use crate::component::{COMPONENT_SORT, CORE_MODULE_SORT, CORE_SORT, CORE_TYPE_SORT, TYPE_SORT};
+use crate::exports::ComponentExportKind;
+use std::alloc::Allocator;
+use wenc_base::{Delimited, Encode, ExportKind, Fault, Tagged};
+
+/// The kind of an item that an alias takes from an enclosing component (component model, binary format,
+/// `sort`).
+#[derive(Clone, Copy, Debug, PartialEq, Eq)]
+pub enum ComponentOuterAliasKind {
+    /// A core module.
+    CoreModule,
+    /// A core type.
+    CoreType,
+    /// A type.
+    Type,
+    /// A component.
+    Component,
+}
+
+impl Encode for ComponentOuterAliasKind {
+    ghost use Rattle.wenc_parts.specs.Aliases.{outer_kind};
+
+    ghost text = { λ k. (outer_kind k).text };
+
+    ghost cause = { λ _ _. ⊥ };
+
+    fn encode<A: Allocator>(&self, sink: &mut Vec<u8, A>) -> Result<(), Fault> {
+        let sort: &[u8] = match self {
+            ComponentOuterAliasKind::CoreModule => &[CORE_SORT, CORE_MODULE_SORT],
+            ComponentOuterAliasKind::CoreType => &[CORE_SORT, CORE_TYPE_SORT],
+            ComponentOuterAliasKind::Type => &[TYPE_SORT],
+            ComponentOuterAliasKind::Component => &[COMPONENT_SORT],
+        };
+        sink.extend_from_slice(sort)?;
+        Ok(())
+    }
+}
+
+impl Delimited for ComponentOuterAliasKind {
+    ghost use Rattle.wenc_parts.specs.Aliases.{outer_kind};
+    ghost use Rattle.wenc_parts.specs.AliasLaws.{outer_kind_lawful};
+
+    ghost fits = { λ x. (outer_kind x).Fits };
+
+    ghost same = { λ a b. a ≡ b };
+
+    ghost delimited = { λ a b. told_apart (outer_kind_lawful a) (outer_kind_lawful b) };
+}
+
+/// What an alias stands for (component model, binary format, `alias`).
+#[derive(Clone, Copy)]
+pub enum Alias<'a> {
+    /// An export of a component instance.
+    InstanceExport {
+        /// The index of the instance, from 0 to 4294967295.
+        instance: u32,
+        /// The kind of the export.
+        kind: ComponentExportKind,
+        /// The name of the export, of at most 4294967295 bytes.
+        name: &'a str,
+    },
+    /// An export of a core instance.
+    CoreInstanceExport {
+        /// The index of the core instance, from 0 to 4294967295.
+        instance: u32,
+        /// The kind of the export.
+        kind: ExportKind,
+        /// The name of the export, of at most 4294967295 bytes.
+        name: &'a str,
+    },
+    /// An item of an enclosing component.
+    Outer {
+        /// The kind of the item.
+        kind: ComponentOuterAliasKind,
+        /// How many components out the item stands, from 0, this component itself, to 4294967295.
+        count: u32,
+        /// The index of the item there, from 0 to 4294967295.
+        index: u32,
+    },
+}
+
+impl<'a> Encode for Alias<'a> {
+    ghost use Rattle.wenc_parts.specs.Aliases.{alias, alias_view, alias_cause};
+
+    ghost text = { λ a. (alias (alias_view a)).text };
+
+    ghost cause = { λ a. alias_cause (alias_view a) };
+
+    fn encode<A: Allocator>(&self, sink: &mut Vec<u8, A>) -> Result<(), Fault> {
+        match self {
+            Alias::InstanceExport {
+                instance,
+                kind,
+                name,
+            } => (*kind, Tagged(0x00, &(*instance, *name))).encode(sink),
+            Alias::CoreInstanceExport {
+                instance,
+                kind,
+                name,
+            } => Tagged(CORE_SORT, &(*kind, Tagged(0x01, &(*instance, *name)))).encode(sink),
+            Alias::Outer { kind, count, index } => {
+                (*kind, Tagged(0x02, &(*count, *index))).encode(sink)
+            }
+        }
+    }
+}
+
+impl<'a> Delimited for Alias<'a> {
+    ghost use Rattle.wenc_parts.specs.Aliases.{alias, alias_view};
+    ghost use Rattle.wenc_parts.specs.AliasLaws.{alias_lawful};
+
+    ghost fits = { λ x. (alias (alias_view x)).Fits };
+
+    ghost same = { λ a b. alias_view a ≡ alias_view b };
+
+    ghost delimited = { λ a b. told_apart (alias_lawful (alias_view a)) (alias_lawful (alias_view b)) };
+}
+
+/// An alias that owns its text, for commands.
+#[derive(Drop)]
+pub enum AliasTree {
+    /// An export of a component instance.
+    InstanceExport {
+        /// The index of the instance, from 0 to 4294967295.
+        instance: u32,
+        /// The kind of the export.
+        kind: ComponentExportKind,
+        /// The name of the export, of at most 4294967295 bytes.
+        name: String,
+    },
+    /// An export of a core instance.
+    CoreInstanceExport {
+        /// The index of the core instance, from 0 to 4294967295.
+        instance: u32,
+        /// The kind of the export.
+        kind: ExportKind,
+        /// The name of the export, of at most 4294967295 bytes.
+        name: String,
+    },
+    /// An item of an enclosing component.
+    Outer {
+        /// The kind of the item.
+        kind: ComponentOuterAliasKind,
+        /// How many components out the item stands, from 0, this component itself, to 4294967295.
+        count: u32,
+        /// The index of the item there, from 0 to 4294967295.
+        index: u32,
+    },
+}
+
+impl AliasTree {
+    ghost use Rattle.wenc_parts.specs.Aliases.{alias_view, alias_tree_view};
+
+    /// The same alias, borrowed.
+    pub fn as_alias(&self) -> Alias<'_>
+        ensures { alias_view result ≡ alias_tree_view self.now }
+    {
+        match self {
+            AliasTree::InstanceExport {
+                instance,
+                kind,
+                name,
+            } => Alias::InstanceExport {
+                instance: *instance,
+                kind: *kind,
+                name: name.as_str(),
+            },
+            AliasTree::CoreInstanceExport {
+                instance,
+                kind,
+                name,
+            } => Alias::CoreInstanceExport {
+                instance: *instance,
+                kind: *kind,
+                name: name.as_str(),
+            },
+            AliasTree::Outer { kind, count, index } => Alias::Outer {
+                kind: *kind,
+                count: *count,
+                index: *index,
+            },
+        }
+    }
+}

@@ -1,0 +1,304 @@
+ghost use Rattle.std.specs.Prelude.{◌≡◌, length, IfOk, IfErr};
+ghost use Rattle.wenc_base.specs.Lawful.{delimited as told_apart};
+ghost use Rattle.wenc_base.specs.Fault.{IsMemory};
+ghost use Rattle.wenc_parts.specs.Imports.{text_option, string_option};
+
+use crate::exports::ComponentExportKind;
+use crate::types::ComponentValType;
+use std::alloc::{Allocator, Global};
+use std::borrow::CowStr;
+use wenc_base::{Delimited, Encode, Fault, Tagged};
+
+/// What a type that is imported or exported is bound to (component model, binary format, `typebound`).
+#[derive(Clone, Copy, Debug, PartialEq, Eq, Hash)]
+pub enum TypeBounds {
+    /// The type with this index, from 0 to 4294967295.
+    Eq(u32),
+    /// A fresh resource type.
+    SubResource,
+}
+
+impl Encode for TypeBounds {
+    ghost use Rattle.wenc_parts.specs.Imports.{type_bounds};
+
+    ghost text = { λ b. (type_bounds b).text };
+
+    ghost cause = { λ _ _. ⊥ };
+
+    fn encode<A: Allocator>(&self, sink: &mut Vec<u8, A>) -> Result<(), Fault> {
+        match self {
+            TypeBounds::Eq(index) => Tagged(0x00, index).encode(sink),
+            TypeBounds::SubResource => {
+                sink.push(0x01)?;
+                Ok(())
+            }
+        }
+    }
+}
+
+impl Delimited for TypeBounds {
+    ghost use Rattle.wenc_parts.specs.Imports.{type_bounds};
+    ghost use Rattle.wenc_parts.specs.ImportLaws.{type_bounds_lawful};
+
+    ghost fits = { λ x. (type_bounds x).Fits };
+
+    ghost same = { λ a b. a ≡ b };
+
+    ghost delimited = { λ a b. told_apart (type_bounds_lawful a) (type_bounds_lawful b) };
+}
+
+/// What is imported, or the type that an export is given (component model, binary format, `externdesc`).
+/// Each index is from 0 to 4294967295.
+#[derive(Clone, Copy, Debug, PartialEq, Eq, Hash)]
+pub enum ComponentTypeRef {
+    /// A core module, by the index of its core type.
+    Module(u32),
+    /// A function, by the index of its type.
+    Func(u32),
+    /// A value of this type.
+    Value(ComponentValType),
+    /// A type within these bounds.
+    Type(TypeBounds),
+    /// An instance, by the index of its type.
+    Instance(u32),
+    /// A component, by the index of its type.
+    Component(u32),
+}
+
+impl ComponentTypeRef {
+    ghost use Rattle.wenc_parts.specs.Imports.{kind_of};
+
+    /// The kind of the item that is referred to.
+    pub fn kind(&self) -> ComponentExportKind
+        ensures { result ≡ kind_of self.now }
+    {
+        match self {
+            ComponentTypeRef::Module(_) => ComponentExportKind::Module,
+            ComponentTypeRef::Func(_) => ComponentExportKind::Func,
+            ComponentTypeRef::Value(_) => ComponentExportKind::Value,
+            ComponentTypeRef::Type(_) => ComponentExportKind::Type,
+            ComponentTypeRef::Instance(_) => ComponentExportKind::Instance,
+            ComponentTypeRef::Component(_) => ComponentExportKind::Component,
+        }
+    }
+}
+
+impl Encode for ComponentTypeRef {
+    ghost use Rattle.wenc_parts.specs.Imports.{type_reference};
+
+    ghost text = { λ r. (type_reference r).text };
+
+    ghost cause = { λ _ _. ⊥ };
+
+    fn encode<A: Allocator>(&self, sink: &mut Vec<u8, A>) -> Result<(), Fault> {
+        let kind = self.kind();
+        match self {
+            ComponentTypeRef::Module(index)
+            | ComponentTypeRef::Func(index)
+            | ComponentTypeRef::Instance(index)
+            | ComponentTypeRef::Component(index) => (kind, *index).encode(sink),
+            ComponentTypeRef::Value(ty) => (kind, *ty).encode(sink),
+            ComponentTypeRef::Type(bounds) => (kind, *bounds).encode(sink),
+        }
+    }
+}
+
+impl Delimited for ComponentTypeRef {
+    ghost use Rattle.wenc_parts.specs.Imports.{type_reference};
+    ghost use Rattle.wenc_parts.specs.ImportLaws.{type_reference_lawful};
+
+    ghost fits = { λ x. (type_reference x).Fits };
+
+    ghost same = { λ a b. a ≡ b };
+
+    ghost delimited = { λ a b. told_apart (type_reference_lawful a) (type_reference_lawful b) };
+}
+
+/// The name of an import or an export, with the options that a name may have (component model, binary
+/// format, `importname'` and `exportname'`). Each text is of at most 4294967295 bytes.
+#[derive(Drop)]
+pub struct ComponentExternName<'a, A: Allocator = Global> {
+    /// The name.
+    pub name: CowStr<'a, A>,
+    /// The name of the interface that is implemented (`implements`).
+    pub implements: Option<CowStr<'a, A>>,
+    /// What follows the version that the name bears (`versionsuffix`).
+    pub version_suffix: Option<CowStr<'a, A>>,
+    /// A name that this one has elsewhere (`external-id`).
+    pub external_id: Option<CowStr<'a, A>>,
+}
+
+impl<'a, A: Allocator> ComponentExternName<'a, A> {
+    ghost use Rattle.wenc_parts.specs.Imports.{extern_name_view, name_options};
+
+    fn option_count(&self) -> u32
+        ensures { result ≡ length (name_options (extern_name_view self.now)) }
+    {
+        u32::from(self.implements.is_some())
+            + u32::from(self.version_suffix.is_some())
+            + u32::from(self.external_id.is_some())
+    }
+
+    /// The same name once more. It is refused for want of memory alone.
+    pub fn clone(&self) -> Result<Self, Fault>
+    where
+        A: Clone,
+        ensures same { IfOk result (λ n. extern_name_view n ≡ extern_name_view self.now) }
+        ensures refused { IfErr result IsMemory }
+    {
+        Ok(ComponentExternName {
+            name: self.name.clone()?,
+            implements: self.implements.clone()?,
+            version_suffix: self.version_suffix.clone()?,
+            external_id: self.external_id.clone()?,
+        })
+    }
+}
+
+impl<'a, A: Allocator> Encode for ComponentExternName<'a, A> {
+    ghost use Rattle.wenc_parts.specs.Imports.{extern_name, extern_name_view, extern_name_cause};
+
+    ghost text = { λ n. (extern_name (extern_name_view n)).text };
+
+    ghost cause = { λ n. extern_name_cause (extern_name_view n) };
+
+    #[tactic(auto, using(crate::proofs::Names::plain_text, crate::proofs::Names::optioned_text))]
+    fn encode<B: Allocator>(&self, sink: &mut Vec<u8, B>) -> Result<(), Fault> {
+        let name = self.name.as_str();
+        let count = self.option_count();
+        if count == 0 {
+            return Tagged(0x00, &name).encode(sink);
+        }
+        let implements = OptionEntry(0x00, &self.implements);
+        let version_suffix = OptionEntry(0x01, &self.version_suffix);
+        let external_id = OptionEntry(0x02, &self.external_id);
+        let options = (count, (implements, (version_suffix, external_id)));
+        Tagged(0x02, &(name, options)).encode(sink)
+    }
+}
+
+impl<'a, A: Allocator> Delimited for ComponentExternName<'a, A> {
+    ghost use Rattle.wenc_parts.specs.Imports.{extern_name, extern_name_view};
+    ghost use Rattle.wenc_parts.specs.ImportLaws.{extern_name_lawful};
+
+    ghost fits = { λ x. (extern_name (extern_name_view x)).Fits };
+
+    ghost same = { λ a b. extern_name_view a ≡ extern_name_view b };
+
+    ghost delimited = { λ a b. told_apart (extern_name_lawful (extern_name_view a)) (extern_name_lawful (extern_name_view b)) };
+}
+
+/// An option of a name behind the byte that it begins with, or nothing where it isn't there.
+#[derive(Drop)]
+struct OptionEntry<'a, 'b, A: Allocator>(u8, &'b Option<CowStr<'a, A>>);
+
+impl<'a, 'b, A: Allocator> Encode for OptionEntry<'a, 'b, A> {
+    ghost use Rattle.wenc_parts.specs.Imports.{option_entry_text, option_cause, text_option};
+
+    ghost text = { λ o. option_entry_text o.0 (text_option o.1.now) };
+
+    ghost cause = { λ o. option_cause (text_option o.1.now) };
+
+    fn encode<B: Allocator>(&self, sink: &mut Vec<u8, B>) -> Result<(), Fault> {
+        match self.1 {
+            None => Ok(()),
+            Some(text) => Tagged(self.0, &text.as_str()).encode(sink),
+        }
+    }
+}
+
+impl<'a> From<&'a str> for ComponentExternName<'a> {
+    ghost use Rattle.wenc_parts.specs.Imports.{extern_name_view, plain_name};
+
+    ghost from_gives = { λ s n. extern_name_view n ≡ plain_name s.now };
+
+    fn from(name: &'a str) -> ComponentExternName<'a> {
+        ComponentExternName {
+            name: CowStr::Borrowed(name),
+            implements: None,
+            version_suffix: None,
+            external_id: None,
+        }
+    }
+}
+
+impl<'a> From<&'a String> for ComponentExternName<'a> {
+    ghost use Rattle.std.specs.String.{string_bytes};
+    ghost use Rattle.wenc_parts.specs.Imports.{extern_name_view, plain_name};
+
+    ghost from_gives = { λ s n. extern_name_view n ≡ plain_name (string_bytes s.now) };
+
+    fn from(name: &'a String) -> ComponentExternName<'a> {
+        ComponentExternName::from(name.as_str())
+    }
+}
+
+impl<'a> From<String> for ComponentExternName<'a> {
+    ghost use Rattle.std.specs.String.{string_bytes};
+    ghost use Rattle.wenc_parts.specs.Imports.{extern_name_view, plain_name};
+
+    ghost from_gives = { λ s n. extern_name_view n ≡ plain_name (string_bytes s) };
+
+    fn from(name: String) -> ComponentExternName<'a> {
+        ComponentExternName {
+            name: CowStr::Owned(name),
+            implements: None,
+            version_suffix: None,
+            external_id: None,
+        }
+    }
+}
+
+/// A `ComponentExternName` that owns its texts, for commands. Each is of at most 4294967295 bytes.
+#[derive(Drop)]
+pub struct NameTree {
+    /// The name.
+    pub name: String,
+    /// The name of the interface that is implemented.
+    pub implements: Option<String>,
+    /// What follows the version that the name bears.
+    pub version_suffix: Option<String>,
+    /// A name that this one has elsewhere.
+    pub external_id: Option<String>,
+}
+
+impl From<String> for NameTree {
+    ghost use Rattle.std.specs.String.{string_bytes};
+    ghost use Rattle.wenc_parts.specs.Imports.{name_tree_view, plain_name};
+
+    ghost from_gives = { λ s n. name_tree_view n ≡ plain_name (string_bytes s) };
+
+    fn from(name: String) -> NameTree {
+        NameTree {
+            name,
+            implements: None,
+            version_suffix: None,
+            external_id: None,
+        }
+    }
+}
+
+impl NameTree {
+    ghost use Rattle.wenc_parts.specs.Imports.{extern_name_view, name_tree_view};
+
+    /// The same name, borrowed.
+    pub fn as_name(&self) -> ComponentExternName<'_>
+        ensures { extern_name_view result ≡ name_tree_view self.now }
+    {
+        ComponentExternName {
+            name: CowStr::Borrowed(self.name.as_str()),
+            implements: borrowed(&self.implements),
+            version_suffix: borrowed(&self.version_suffix),
+            external_id: borrowed(&self.external_id),
+        }
+    }
+}
+
+fn borrowed(text: &Option<String>) -> Option<CowStr<'_>>
+    ensures { text_option result ≡ string_option text.now }
+{
+    match text {
+        None => None,
+        Some(text) => Some(CowStr::Borrowed(text.as_str())),
+    }
+}

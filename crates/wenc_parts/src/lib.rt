@@ -1,0 +1,18 @@
+//! The parts of which the items of a component are made.
+#![tactic(auto)]
+
+pub mod aliases;
+pub mod component;
+pub mod examples;
+pub mod exports;
+pub mod imports;
+pub mod instances;
+pub mod laws;
+pub mod types;
+
+pub use aliases::{Alias, AliasTree, ComponentOuterAliasKind};
+pub use component::{ComponentSection, ComponentSectionId};
+pub use exports::ComponentExportKind;
+pub use imports::{ComponentExternName, ComponentTypeRef, NameTree, TypeBounds};
+pub use instances::ModuleArg;
+pub use types::{ComponentValType, PrimitiveValType};
