@@ -1,5 +1,5 @@
 -- Members of a list, written one after the other.
-use Rattle.std.proofs.Common.{◌≡◌, ℕ, zero, suc, ◌+◌, ◌<◌, ◌⊎◌, List, [], ◌∷◌, ◌++◌, length, Result, Ok, Err, OnOk, take, drop, get_or, append_assoc, ap, sym, ◌∙◌, inl, inr, arith}
+use Rattle.std.proofs.Common.{◌≡◌, ℕ, zero, suc, ◌+◌, ◌<◌, List, [], ◌∷◌, ◌++◌, length, Result, Ok, Err, OnOk, take, drop, get_or, append_assoc, ap, sym, ◌∙◌, inl, inr, arith}
 use Rattle.std.proofs.lemmas.List.{append-nil, take_at, drop_at}
 use Rattle.std.proofs.lemmas.Grind.{flat_map-append}
 use Rattle.std.proofs.Math.Numerals.{add-one}
@@ -12,23 +12,29 @@ use Rattle.wenc_base.specs.Written.{Written}
 use Rattle.wenc_base.specs.declared.fault.Fault.{Fault}
 use Rattle.wenc_base.specs.declared.fault.Fault.TheVariants.{Memory, TooMany, TooLarge, Unfinished}
 
--- the cause of one is that of one of the first, or of one of the others
-member_cause_append : {A : Type 0} (cause : A → Fault → Type 0) (vs ws : List A) (fault : Fault) → member_cause cause (vs ++ ws) fault → member_cause cause vs fault ⊎ member_cause cause ws fault
-member_cause_append cause [] ws fault h = inr h
-member_cause_append cause (v ∷ vs) ws fault h = elim h [
-  | inl here ↦ inl (inl here)
-  | inr there ↦ elim (member_cause_append cause vs ws fault there) [ inl a ↦ inl (inr a) | inr b ↦ inr b ]
+-- nothing of the rest has a cause, since nothing of the whole has one
+free_rest : {A : Type 0} (cause : A → Fault → Type 0) (v : A) (vs : List A) → ((fault : Fault) → member_cause cause (v ∷ vs) fault → ⊥) → (fault : Fault) → member_cause cause vs fault → ⊥
+free_rest cause v vs free fault h = free fault (inr ((λ other c. free other (inl c)), h))
+
+-- the cause of a later value, where the earlier ones have none
+pub cause_of_later : {A : Type 0} (cause : A → Fault → Type 0) (vs ws : List A) (fault : Fault) → ((other : Fault) → member_cause cause vs other → ⊥) → member_cause cause ws fault → member_cause cause (vs ++ ws) fault
+cause_of_later cause [] ws fault free h = h
+cause_of_later cause (v ∷ vs) ws fault free h = inr ((λ other c. free other (inl c)), cause_of_later cause vs ws fault (free_rest cause v vs free) h)
+
+-- a list without a cause, and one value more without one
+pub free_next : {A : Type 0} (cause : A → Fault → Type 0) (vs : List A) (v : A) → ((fault : Fault) → member_cause cause vs fault → ⊥) → ((fault : Fault) → cause v fault → ⊥) → (fault : Fault) → member_cause cause (vs ++ v ∷ []) fault → ⊥
+free_next cause [] v free last fault h = elim h [ inl c ↦ last fault c | inr p ↦ p.1 ]
+free_next cause (w ∷ vs) v free last fault h = elim h [
+  | inl c ↦ free fault (inl c)
+  | inr p ↦ free_next cause vs v (free_rest cause w vs free) last fault p.1
 ]
 
--- the cause of the value at a place is one of the list's
-pub cause_of_member : {A : Type 0} (cause : A → Fault → Type 0) (vs : List A) (i : ℕ) (v : A) (fault : Fault) → i < length vs → v ≡ get_or vs i v → cause v fault → member_cause cause vs fault
-cause_of_member cause [] i v fault lt e h = absurd (omega arith)
-cause_of_member cause (w ∷ vs) zero v fault lt e h = inl (rw e at h)
-cause_of_member cause (w ∷ vs) (suc i) v fault lt e h = inr (cause_of_member cause vs i v fault (omega arith) e h)
-
-pub cause_of_later : {A : Type 0} (cause : A → Fault → Type 0) (vs ws : List A) (fault : Fault) → member_cause cause ws fault → member_cause cause (vs ++ ws) fault
-cause_of_later cause [] ws fault h = h
-cause_of_later cause (v ∷ vs) ws fault h = inr (cause_of_later cause vs ws fault h)
+-- the cause of the value at a place is the list's, where no earlier one has a cause
+cause_of_member : {A : Type 0} (cause : A → Fault → Type 0) (vs : List A) (i : ℕ) (v : A) (fault : Fault) → ((other : Fault) → member_cause cause (take i vs) other → ⊥) → i < length vs → v ≡ get_or vs i v → cause v fault → member_cause cause vs fault
+cause_of_member cause [] i v fault free lt e h = absurd (omega arith)
+cause_of_member cause (w ∷ vs) zero v fault free lt e h = inl (rw e at h)
+cause_of_member cause (w ∷ vs) (suc i) v fault free lt e h =
+    inr ((λ other c. free other (inl c)), cause_of_member cause vs i v fault (free_rest cause w (take i vs) free) (omega arith) e h)
 
 -- another cause that follows warrants the same faults
 pub still_warranted : (one other : Fault → Type 0) → ((fault : Fault) → one fault → other fault) → (fault : Fault) → IsWarranted one fault → IsWarranted other fault
@@ -37,8 +43,8 @@ still_warranted one other f TooMany h = f TooMany h
 still_warranted one other f TooLarge h = f TooLarge h
 still_warranted one other f Unfinished h = f Unfinished h
 
-pub warranted_member : {A : Type 0} (cause : A → Fault → Type 0) (vs : List A) (i : ℕ) (v : A) (fault : Fault) → i < length vs → v ≡ get_or vs i v → IsWarranted (cause v) fault → IsWarranted (member_cause cause vs) fault
-warranted_member cause vs i v fault lt e = still_warranted (cause v) (member_cause cause vs) (λ f. cause_of_member cause vs i v f lt e) fault
+pub warranted_member : {A : Type 0} (cause : A → Fault → Type 0) (vs : List A) (i : ℕ) (v : A) (fault : Fault) → ((other : Fault) → member_cause cause (take i vs) other → ⊥) → i < length vs → v ≡ get_or vs i v → IsWarranted (cause v) fault → IsWarranted (member_cause cause vs) fault
+warranted_member cause vs i v fault free lt e = still_warranted (cause v) (member_cause cause vs) (λ f. cause_of_member cause vs i v f free lt e) fault
 
 -- nothing is written yet
 pub written_none : {A : Type 0} (text : A → List ℕ) (cause : A → Fault → Type 0) (start : List ℕ) → Written text cause start [] start
@@ -51,7 +57,7 @@ written_next text cause start vs v now next w e free = record {
   items = e ∙ ap (λ (bs : List ℕ). bs ++ text v) w.items ∙ append_assoc start (flat_map text vs) (text v)
       ∙ ap (λ (bs : List ℕ). start ++ (flat_map text vs ++ bs)) (sym (append-nil (text v)))
       ∙ ap (λ (bs : List ℕ). start ++ bs) (sym (flat_map-append text vs (v ∷ [])));
-  no_cause = λ fault h. elim (member_cause_append cause vs (v ∷ []) fault h) [ inl a ↦ w.no_cause fault a | inr b ↦ elim b [ inl c ↦ free fault c | inr d ↦ d ] ];
+  no_cause = free_next cause vs v w.no_cause free;
 }
 
 -- one more, at its place in the list

@@ -30,14 +30,22 @@ count_cause n TooMany = 2 ^ 32 ≤ n
 count_cause n TooLarge = ⊥
 count_cause n Unfinished = ⊥
 
--- the cause of one of the values
+-- the cause of one thing or, where that has none, of the next: what is asked first is answered first
+abbrev pub first_of : (Fault → Type 0) → (Fault → Type 0) → Fault → Type 0
+first_of one next fault = one fault ⊎ (((other : Fault) → one other → ⊥) × next fault)
+
+-- the cause of the first of the values that has one
 abbrev pub member_cause : {A : Type 0} → (A → Fault → Type 0) → List A → Fault → Type 0
 member_cause cause [] fault = ⊥
-member_cause cause (v ∷ vs) fault = cause v fault ⊎ member_cause cause vs fault
+member_cause cause (v ∷ vs) fault = first_of (cause v) (member_cause cause vs) fault
 
 -- why a list can't be encoded: for its number of values, or for one of them
 abbrev pub list_cause : {A : Type 0} → (A → Fault → Type 0) → List A → Fault → Type 0
-list_cause cause vs fault = count_cause (length vs) fault ⊎ member_cause cause vs fault
+list_cause cause vs = first_of (count_cause (length vs)) (member_cause cause vs)
+
+-- why values that come one by one can't be a list: for one of them, or for their number
+abbrev pub drawn_cause : {A : Type 0} → (A → Fault → Type 0) → List A → Fault → Type 0
+drawn_cause cause vs = first_of (member_cause cause vs) (count_cause (length vs))
 
 abbrev pub IsMemory : Fault → Type 0
 IsMemory = IsWarranted (λ fault. ⊥)

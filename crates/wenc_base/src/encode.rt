@@ -170,21 +170,29 @@ pub fn extend_in_room<A: Allocator>(sink: &mut Vec<u8, A>, bytes: &[u8])
 #[derive(Clone, Copy)]
 pub struct Tagged<'a, T>(pub u8, pub &'a T);
 
+/// The value's own refusal comes before that of the byte, so that an unfinished value is always
+/// answered as such: where the sink is full, the value is written first.
 impl<'a, T: Encode> Encode for Tagged<'a, T> {
     ghost text = { λ t. t.0 ∷ T.text t.1.now };
 
     ghost cause = { λ t. T.cause t.1.now };
 
+    ghost unfinished = { λ t. T.unfinished t.1.now };
+
     fn encode<A: Allocator>(&self, sink: &mut Vec<u8, A>) -> Result<(), Fault> {
         let start = sink.len();
-        sink.push(self.0)?;
-        match self.1.encode(sink) {
-            Ok(()) => Ok(()),
-            Err(fault) => {
-                sink.truncate(start);
-                Err(fault)
-            }
+        let is_full = start == sink.capacity();
+        if !is_full {
+            extend_in_room(sink, &[self.0]);
         }
+        let mut outcome = self.1.encode(sink);
+        if is_full && outcome.is_ok() {
+            outcome = sink.insert(start, self.0).map_err(Fault::from);
+        }
+        if outcome.is_err() {
+            sink.truncate(start);
+        }
+        outcome
     }
 }
 
@@ -197,6 +205,8 @@ impl<T: Encode> Encode for Option<T> {
 
     ghost cause = { λ o fault. (x : T) × (o ≡ Some x) × T.cause x fault };
 
+    ghost unfinished = { λ o. (x : T) × (o ≡ Some x) × T.unfinished x };
+
     fn encode<A: Allocator>(&self, sink: &mut Vec<u8, A>) -> Result<(), Fault> {
         match self {
             None => {
@@ -208,13 +218,15 @@ impl<T: Encode> Encode for Option<T> {
     }
 }
 
-/// One value, then another.
+/// One value, then another. The first refusal that is met is answered.
 impl<T: Encode, U: Encode> Encode for (T, U) {
-    ghost use Rattle.std.specs.Prelude.{◌⊎◌};
+    ghost use Rattle.wenc_base.specs.Fault.{first_of};
 
     ghost text = { λ p. T.text p.0 ++ U.text p.1 };
 
-    ghost cause = { λ p fault. T.cause p.0 fault ⊎ U.cause p.1 fault };
+    ghost cause = { λ p. first_of (T.cause p.0) (U.cause p.1) };
+
+    ghost unfinished = { λ p. T.unfinished p.0 };
 
     fn encode<A: Allocator>(&self, sink: &mut Vec<u8, A>) -> Result<(), Fault> {
         let start = sink.len();

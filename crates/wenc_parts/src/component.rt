@@ -2,9 +2,10 @@ ghost use Rattle.std.specs.Prelude.{◌≡◌, ℕ, ◌++◌, ◌∷◌, OnOk, O
 ghost use Rattle.wenc_base.specs.Lawful.{delimited as told_apart};
 ghost use Rattle.wenc_base.specs.Fault.{IsWarranted};
 ghost use Rattle.wenc_base.specs.declared.fault.Fault.{Fault as FaultSpec};
+ghost use Rattle.wenc_base.specs.declared.fault.Fault.TheVariants.{Unfinished};
 
 use std::alloc::Allocator;
-use wenc_base::{Delimited, Encode, Fault};
+use wenc_base::{Delimited, Encode, Fault, Tagged};
 
 // The bytes of sorts (component model, binary format, `sort` and `core:sort`).
 /// What begins the sort of an item of a core module.
@@ -39,20 +40,15 @@ pub trait ComponentSection: Encode {
     /// Appends the section's id and its text. It is refused as `encode` is, and then the sink stays as it
     /// was.
     fn append_to_component<A: Allocator>(&self, sink: &mut Vec<u8, A>) -> Result<(), Fault>
+    where
+        Self: Sized,
         ensures ok { OnOk result (sink.new.items ≡ sink.old.items ++ section_id self.now ∷ Self.text self.now) }
         ensures encodable { (fault : FaultSpec) → Self.cause self.now fault → OnOk result ⊥ }
         ensures err { OnErr result (sink.new.items ≡ sink.old.items) }
         ensures warranted { IfErr result (IsWarranted (Self.cause self.now)) }
+        ensures unfinished_first { Self.unfinished self.now → result ≡ Err Unfinished }
     {
-        let start = sink.len();
-        sink.push(self.id())?;
-        match self.encode(sink) {
-            Ok(()) => Ok(()),
-            Err(fault) => {
-                sink.truncate(start);
-                Err(fault)
-            }
-        }
+        Tagged(self.id(), self).encode(sink)
     }
 }
 

@@ -2,7 +2,7 @@ ghost use Rattle.std.specs.Prelude.{◌≡◌, ℕ, ◌+◌, ◌<◌, ◌≤◌,
 ghost use Rattle.std.specs.Iterator.{IsFinite};
 ghost use Rattle.std.specs.Iterator.Runs.{SomeRun, WholeRun};
 ghost use Rattle.std.specs.List.{flat_map};
-ghost use Rattle.wenc_base.specs.Fault.{IsWarranted, IsMemory, member_cause, list_cause};
+ghost use Rattle.wenc_base.specs.Fault.{IsWarranted, IsMemory, member_cause, list_cause, drawn_cause};
 ghost use Rattle.wenc_base.specs.Forms.{list_text};
 ghost use Rattle.wenc_base.specs.Number.{unsigned_text};
 ghost use Rattle.wenc_base.specs.Written.{Written};
@@ -55,10 +55,10 @@ pub fn encode_list<T: Encode + Drop, I: Iterator<Item = T> + Drop, A: Allocator>
     ensures ok { OnOk result (WholeRun I.next_gives values (λ run.
         sink.new.items ≡ sink.old.items ++ list_text T.text run.items)) }
     ensures encodable { OnOk result (WholeRun I.next_gives values (λ run.
-        (fault : FaultSpec) → list_cause T.cause run.items fault → ⊥)) }
+        (fault : FaultSpec) → drawn_cause T.cause run.items fault → ⊥)) }
     ensures err { OnErr result (sink.new.items ≡ sink.old.items) }
     ensures warranted { IfErr result (λ fault. SomeRun I.next_gives values (λ run.
-        IsWarranted (list_cause T.cause run.items) fault)) }
+        IsWarranted (drawn_cause T.cause run.items) fault)) }
 {
     let start = sink.len();
     match encode_all(values, sink) {
@@ -82,15 +82,15 @@ fn encode_all<T: Encode + Drop, I: Iterator<Item = T> + Drop, A: Allocator>(
         × (count < 2 ^ 32) × Written T.text T.cause sink.old.items run.items sink.new.items)) }
     ensures err { OnErr result ((more : List ℕ) × (sink.new.items ≡ sink.old.items ++ more)) }
     ensures warranted { IfErr result (λ fault. SomeRun I.next_gives values (λ run.
-        IsWarranted (list_cause T.cause run.items) fault)) }
+        IsWarranted (drawn_cause T.cause run.items) fault)) }
 {
     let mut count: u32 = 0;
     for value in values {
+        value.encode(sink)?;
         if count == u32::MAX {
             return Err(Fault::TooMany);
         }
         count += 1;
-        value.encode(sink)?;
     }
     Ok(count)
 }
