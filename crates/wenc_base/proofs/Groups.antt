@@ -1,8 +1,9 @@
 -- Numbers in groups of seven bits.
-use Rattle.std.proofs.Common.{◌≡◌, ℕ, ℤ, pos, negsuc, zero, suc, ◌+◌, ◌/◌, ◌%◌, ◌<◌, ◌≤◌, Bool, true, false, cond, List, [], ◌∷◌, ◌++◌, length, refl, sym, ap, ◌∙◌, arith, inl, inr, append_assoc, length-append}
+use Rattle.std.proofs.Common.{◌≡◌, ℕ, ℤ, pos, negsuc, zero, suc, ◌+◌, ◌/◌, ◌%◌, ◌^◌, ◌<◌, ◌≤◌, Bool, true, false, cond, List, [], ◌∷◌, ◌++◌, length, refl, sym, ap, ◌∙◌, arith, inl, inr, append_assoc, length-append}
 use Rattle.std.proofs.lemmas.Bool.{cases_lt}
 use Rattle.std.proofs.lemmas.List.{length-map}
 pub use Rattle.wenc_base.specs.Groups.{limit, groups_below, groups_from}
+use Rattle.wenc_base.specs.NumberLaws.{same_in_room}
 use Rattle.wenc_base.specs.Number.{groups, complement, turned, signed_text, number_size}
 
 pub groups_length : (top room n : ℕ) → length (groups top room n) ≤ suc room
@@ -24,6 +25,9 @@ groups_some top (suc room) n =
     ]
 
 -- ---- how many bytes
+
+pub size_of_u32 : (n : ℕ) → n < 2 ^ 32 → number_size n ≤ 5
+size_of_u32 n h = rw (same_in_room 128 4 9 n (omega arith) (omega arith)) (groups_length 128 4 n)
 
 pub size_1 : (n : ℕ) → n < 128 → number_size n ≡ 1
 size_1 n h = rw (groups_below 128 9 n h) refl

@@ -2,6 +2,7 @@ pub mod Groups
 pub mod Words
 pub mod Members
 pub mod Runs
+pub mod Added
 pub use Rattle.wenc_base.specs.Lawful
 pub use Rattle.wenc_base.specs.NumberLaws
 pub use Rattle.wenc_base.specs.FormLaws

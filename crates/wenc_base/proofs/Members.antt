@@ -5,12 +5,12 @@ use Rattle.std.proofs.lemmas.Grind.{flat_map-append}
 use Rattle.std.proofs.Math.Numerals.{add-one}
 use Rattle.std.proofs.Math.Seq.{take-suc}
 use Rattle.std.specs.List.{flat_map}
+pub use Rattle.wenc_base.specs.HolderLaws.{still_warranted}
 use Rattle.wenc_base.specs.Fault.{IsWarranted, member_cause}
 use Rattle.wenc_base.specs.Number.{unsigned_text}
 use Rattle.wenc_base.specs.Forms.{list_text}
 use Rattle.wenc_base.specs.Written.{Written}
 use Rattle.wenc_base.specs.declared.fault.Fault.{Fault}
-use Rattle.wenc_base.specs.declared.fault.Fault.TheVariants.{Memory, TooMany, TooLarge, Unfinished}
 
 -- nothing of the rest has a cause, since nothing of the whole has one
 free_rest : {A : Type 0} (cause : A → Fault → Type 0) (v : A) (vs : List A) → ((fault : Fault) → member_cause cause (v ∷ vs) fault → ⊥) → (fault : Fault) → member_cause cause vs fault → ⊥
@@ -35,13 +35,6 @@ cause_of_member cause [] i v fault free lt e h = absurd (omega arith)
 cause_of_member cause (w ∷ vs) zero v fault free lt e h = inl (rw e at h)
 cause_of_member cause (w ∷ vs) (suc i) v fault free lt e h =
     inr ((λ other c. free other (inl c)), cause_of_member cause vs i v fault (free_rest cause w (take i vs) free) (omega arith) e h)
-
--- another cause that follows warrants the same faults
-pub still_warranted : (one other : Fault → Type 0) → ((fault : Fault) → one fault → other fault) → (fault : Fault) → IsWarranted one fault → IsWarranted other fault
-still_warranted one other f (Memory e) h = h
-still_warranted one other f TooMany h = f TooMany h
-still_warranted one other f TooLarge h = f TooLarge h
-still_warranted one other f Unfinished h = f Unfinished h
 
 pub warranted_member : {A : Type 0} (cause : A → Fault → Type 0) (vs : List A) (i : ℕ) (v : A) (fault : Fault) → ((other : Fault) → member_cause cause (take i vs) other → ⊥) → i < length vs → v ≡ get_or vs i v → IsWarranted (cause v) fault → IsWarranted (member_cause cause vs) fault
 warranted_member cause vs i v fault free lt e = still_warranted (cause v) (member_cause cause vs) (λ f. cause_of_member cause vs i v f free lt e) fault

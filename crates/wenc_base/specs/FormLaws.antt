@@ -1,11 +1,10 @@
 -- The laws of forms made of others.
-use Rattle.std.proofs.Common.{◌≡◌, ℕ, ◌+◌, ◌≤◌, Bool, true, false, List, [], ◌∷◌, ◌++◌, length, take, drop, Option, Some, None, refl, sym, ◌∙◌, append_assoc, arith}
-use Rattle.std.proofs.lemmas.List.{take_at, drop_at, length-append}
+use Rattle.std.proofs.Common.{◌≡◌, ℕ, Bool, true, false, List, [], ◌∷◌, ◌++◌, length, take, drop, Option, Some, None, refl, sym, ◌∙◌, append_assoc, arith}
+use Rattle.std.proofs.lemmas.List.{take_at, drop_at}
 use Rattle.wenc_base.specs.Piece.{Whole, Form}
-use Rattle.wenc_base.specs.Number.{groups}
 use Rattle.wenc_base.specs.Forms.{flag, list, option, utf8, name, AreBytes, sized, byte_list}
 use Rattle.wenc_base.specs.Lawful.{Lawful, LawfulWhole, Reader, ◌>>=◌, give, nowhere, times, choose, row, row_byte, then, last, each_lawful, raw_lawful}
-use Rattle.wenc_base.specs.NumberLaws.{read_groups, u32_lawful, groups_monotone, groups_are_read}
+use Rattle.wenc_base.specs.NumberLaws.{read_groups, u32_lawful, groups_are_read}
 
 -- ---- flags
 
@@ -46,8 +45,7 @@ pub utf8_lawful : (bs : List ℕ) → Lawful (utf8 bs) (λ fuel. read_raw (lengt
 utf8_lawful bs = record {
   text_is_read = λ mode rest h. (h, refl);
   strict_is_text = λ bytes rest r. r.1;
-  fits = λ mode bytes rest r. r.0;
-  no_longer = λ mode bytes rest r. rw (r.1, length-append bs rest) (omega arith);
+  fits = λ bytes rest r. r.0;
   depth = 0;
   finds = λ fuel le mode bytes rest r. rw (r.1, take_at bs rest (length bs) refl, drop_at bs rest (length bs) refl) refl;
 }
@@ -76,16 +74,11 @@ sized_lawful {w = w} a = record {
   strict_is_text = λ bytes rest r.
       (let whole : r.0 ≡ w.text = a.strict_is_text r.0 r.2 in
       (u32_lawful (length r.0)).strict_is_text bytes (r.0 ++ rest) r.1 ∙ rw whole (sym (append_assoc _ w.text rest)));
-  fits = λ mode bytes rest r. (omega (arith, a.no_longer mode r.0 r.2, (u32_lawful (length r.0)).fits mode bytes (r.0 ++ rest) r.1), a.fits mode r.0 r.2);
-  no_longer = λ mode bytes rest r. shorter w.text r.0 bytes rest (a.no_longer mode r.0 r.2) ((u32_lawful (length r.0)).no_longer mode bytes (r.0 ++ rest) r.1);
+  fits = λ bytes rest r. (rw (a.strict_is_text r.0 r.2) at ((u32_lawful (length r.0)).fits bytes (r.0 ++ rest) r.1), a.fits r.0 r.2);
   depth = a.depth;
   finds = λ fuel le mode bytes rest r.
       rw (groups_are_read mode 128 4 (length r.0) bytes (r.0 ++ rest) (omega arith) r.1.1, take_at r.0 rest (length r.0) refl, drop_at r.0 rest (length r.0) refl, a.finds fuel le mode r.0 r.2) refl;
 }
-  where
-    shorter : (text content bytes rest : List ℕ) → length text ≤ length content → length (groups 128 9 (length content)) + length (content ++ rest) ≤ length bytes → length (groups 128 9 (length text) ++ text) + length rest ≤ length bytes
-    shorter text content bytes rest le h =
-        omega (arith, length-append content rest, length-append (groups 128 9 (length text)) text, groups_monotone 128 9 (length text) (length content) le)
 
 -- ---- lists of bytes
 

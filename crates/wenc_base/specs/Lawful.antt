@@ -1,10 +1,10 @@
 -- The laws of a piece and of its reader, and what follows from them.
-use Rattle.std.proofs.Common.{◌≡◌, ℕ, zero, suc, ◌+◌, ◌<◌, ◌≤◌, ◌≢◌, true, false, eqb, List, [], ◌∷◌, ◌++◌, length, Option, Some, None, refl, sym, ap, ◌∙◌, append_assoc, arith, inl, inr}
-use Rattle.std.proofs.lemmas.List.{append-nil, length-append}
+use Rattle.std.proofs.Common.{◌≡◌, ℕ, zero, suc, ◌+◌, ◌≤◌, ◌≢◌, true, false, eqb, List, [], ◌∷◌, ◌++◌, length, Option, Some, None, refl, sym, ap, ◌∙◌, append_assoc, arith, inl, inr}
+use Rattle.std.proofs.lemmas.List.{append-nil}
 use Rattle.std.proofs.lemmas.Option.{some_pair_parts, same_Some}
 use Rattle.std.proofs.lemmas.Bool.Decides.{nat_tests}
 use Rattle.wenc_base.specs.Laws.{TextIsRead, StrictIsText, ReadsOnce, IsDelimited, WideReadsStrict}
-use Rattle.wenc_base.specs.Piece.{Piece, Whole, Form, Spelling, Strict, Wide, nothing, byte, ◌▸◌, also, ◌⨾◌, only_where, each, whole, end, raw, ◌⨾⨾◌}
+use Rattle.wenc_base.specs.Piece.{Piece, Whole, Form, Spelling, Strict, Wide, nothing, byte, ◌▸◌, also, or_widely, ◌⨾◌, only_where, each, whole, end, raw, ◌⨾⨾◌}
 
 -- ---- readers
 
@@ -42,19 +42,18 @@ choose table other (b ∷ bytes) = pick table other b bytes
 -- ---- the laws
 
 -- A reader takes how deep it may call itself. It finds v wherever the piece is. It may accept more, so it tests nothing that it needn't.
+-- What is read widely may be shorter than the text, so that only what is read strictly is sure to fit.
 pub record Lawful {A : Type 0} (p : Piece) (read : ℕ → Reader A) (v : A) : Type 0 where
   pub text_is_read : (mode : Spelling) (rest : List ℕ) → p.Fits → p.Reads mode (p.text ++ rest) rest
   pub strict_is_text : (bytes rest : List ℕ) → p.Reads Strict bytes rest → bytes ≡ p.text ++ rest
-  pub fits : (mode : Spelling) (bytes rest : List ℕ) → p.Reads mode bytes rest → p.Fits
-  pub no_longer : (mode : Spelling) (bytes rest : List ℕ) → p.Reads mode bytes rest → length p.text + length rest ≤ length bytes
+  pub fits : (bytes rest : List ℕ) → p.Reads Strict bytes rest → p.Fits
   pub depth : ℕ
   pub finds : (fuel : ℕ) → depth ≤ fuel → (mode : Spelling) (bytes rest : List ℕ) → p.Reads mode bytes rest → read fuel bytes ≡ Some (v, rest)
 
 pub record LawfulWhole {A : Type 0} (w : Whole) (read : ℕ → List ℕ → Option A) (v : A) : Type 0 where
   pub text_is_read : (mode : Spelling) → w.Fits → w.ReadsAll mode w.text
   pub strict_is_text : (bytes : List ℕ) → w.ReadsAll Strict bytes → bytes ≡ w.text
-  pub fits : (mode : Spelling) (bytes : List ℕ) → w.ReadsAll mode bytes → w.Fits
-  pub no_longer : (mode : Spelling) (bytes : List ℕ) → w.ReadsAll mode bytes → length w.text ≤ length bytes
+  pub fits : (bytes : List ℕ) → w.ReadsAll Strict bytes → w.Fits
   pub depth : ℕ
   pub finds : (fuel : ℕ) → depth ≤ fuel → (mode : Spelling) (bytes : List ℕ) → w.ReadsAll mode bytes → read fuel bytes ≡ Some v
 
@@ -81,12 +80,12 @@ whole_once {v = v} {w = w} one two mode other bytes a b =
 -- what is read strictly is read widely
 pub wide_reads_strict : {A : Type 0} {p : Piece} {read : ℕ → Reader A} {v : A} → Lawful p read v
     → (bytes rest : List ℕ) → p.Reads Strict bytes rest → p.Reads Wide bytes rest
-wide_reads_strict one bytes rest r = rw (one.strict_is_text bytes rest r) (one.text_is_read Wide rest (one.fits Strict bytes rest r))
+wide_reads_strict one bytes rest r = rw (one.strict_is_text bytes rest r) (one.text_is_read Wide rest (one.fits bytes rest r))
 
 -- the same of all of the bytes
 pub whole_wide_reads_strict : {A : Type 0} {w : Whole} {read : ℕ → List ℕ → Option A} {v : A} → LawfulWhole w read v
     → (bytes : List ℕ) → w.ReadsAll Strict bytes → w.ReadsAll Wide bytes
-whole_wide_reads_strict one bytes r = rw (one.strict_is_text bytes r) (one.text_is_read Wide (one.fits Strict bytes r))
+whole_wide_reads_strict one bytes r = rw (one.strict_is_text bytes r) (one.text_is_read Wide (one.fits bytes r))
 
 -- ---- the laws of a form
 
@@ -106,7 +105,7 @@ pub record FormLaws {A : Type 0} (form : Form A) : Type 0 where
 pub form_laws : {A : Type 0} {form : Form A} {read : ℕ → Reader A} → LawfulForm form read → FormLaws form
 form_laws laws = record {
   text_is_read = λ mode v. (laws v).text_is_read mode;
-  strict_is_text = λ v bytes rest r. ((laws v).fits Strict bytes rest r, (laws v).strict_is_text bytes rest r);
+  strict_is_text = λ v bytes rest r. ((laws v).fits bytes rest r, (laws v).strict_is_text bytes rest r);
   reads_once = λ v w. reads_once (laws v) (laws w);
   delimited = λ v w. delimited (laws v) (laws w);
   wide_reads_strict = λ v. wide_reads_strict (laws v);
@@ -118,8 +117,7 @@ pub nothing_lawful : {A : Type 0} (v : A) → Lawful nothing (λ fuel. give v) v
 nothing_lawful v = record {
   text_is_read = λ mode rest h. refl;
   strict_is_text = λ bytes rest r. r;
-  fits = λ mode bytes rest r. tt;
-  no_longer = λ mode bytes rest r. rw r (omega arith);
+  fits = λ bytes rest r. tt;
   depth = 0;
   finds = λ fuel le mode bytes rest r. rw r refl;
 }
@@ -130,8 +128,7 @@ unfolding choose
 row_byte table other b e = record {
   text_is_read = λ mode rest h. refl;
   strict_is_text = λ bytes rest r. r;
-  fits = λ mode bytes rest r. tt;
-  no_longer = λ mode bytes rest r. rw r (omega arith);
+  fits = λ bytes rest r. tt;
   depth = 0;
   finds = λ fuel le mode bytes rest r. rw r (e fuel rest);
 }
@@ -144,8 +141,7 @@ unfolding choose
 row {p = p} table other b l = record {
   text_is_read = λ mode rest h. (p.text ++ rest, refl, l.text_is_read mode rest h);
   strict_is_text = λ bytes rest r. r.1 ∙ ap (λ (t : List ℕ). b ∷ t) (l.strict_is_text r.0 rest r.2);
-  fits = λ mode bytes rest r. l.fits mode r.0 rest r.2;
-  no_longer = λ mode bytes rest r. rw r.1 (omega (arith, l.no_longer mode r.0 rest r.2));
+  fits = λ bytes rest r. l.fits r.0 rest r.2;
   depth = l.depth;
   finds = λ fuel le mode bytes rest r. rw r.1 (l.finds fuel le mode r.0 rest r.2);
 }
@@ -156,10 +152,19 @@ unfolding choose
 row_also {p = p} {v = v} table other b c l k = record {
   text_is_read = λ mode rest h. (p.text ++ rest, inl refl, l.text_is_read mode rest h);
   strict_is_text = λ bytes rest r. elim r.1 [ inl e ↦ e ∙ ap (λ (t : List ℕ). b ∷ t) (l.strict_is_text r.0 rest r.2) | inr w ↦ absurd w.0 ];
-  fits = λ mode bytes rest r. l.fits mode r.0 rest r.2;
-  no_longer = λ mode bytes rest r. elim r.1 [ inl e ↦ rw e (omega (arith, l.no_longer mode r.0 rest r.2)) | inr w ↦ rw w.1 (omega (arith, l.no_longer mode r.0 rest r.2)) ];
+  fits = λ bytes rest r. l.fits r.0 rest r.2;
   depth = l.depth + k.depth;
   finds = λ fuel le mode bytes rest r. elim r.1 [ inl e ↦ rw e (l.finds fuel (omega arith) mode r.0 rest r.2) | inr w ↦ rw w.1 (k.finds fuel (omega arith) mode r.0 rest r.2) ];
+}
+
+-- a piece with two spellings, which one reader knows
+pub or_widely_lawful : {A : Type 0} {p q : Piece} {read : ℕ → Reader A} {v : A} → Lawful p read v → Lawful q read v → Lawful (or_widely p q) read v
+or_widely_lawful a b = record {
+  text_is_read = λ mode rest h. inl (a.text_is_read mode rest h);
+  strict_is_text = λ bytes rest r. elim r [ inl e ↦ a.strict_is_text bytes rest e | inr w ↦ absurd w.0 ];
+  fits = λ bytes rest r. elim r [ inl e ↦ a.fits bytes rest e | inr w ↦ absurd w.0 ];
+  depth = a.depth + b.depth;
+  finds = λ fuel le mode bytes rest r. elim r [ inl e ↦ a.finds fuel (omega arith) mode bytes rest e | inr w ↦ b.finds fuel (omega arith) mode bytes rest w.1 ];
 }
 
 -- no row is the byte's
@@ -185,7 +190,6 @@ past table other begins l = record {
   text_is_read = l.text_is_read;
   strict_is_text = l.strict_is_text;
   fits = l.fits;
-  no_longer = l.no_longer;
   depth = l.depth;
   finds = λ fuel le mode bytes rest r.
       (let s = (begins fuel).starts mode bytes rest r in
@@ -198,8 +202,7 @@ pub then : {A B : Type 0} {p q : Piece} {read : ℕ → Reader A} {v : A} (next 
 then {p = p} {q = q} next a b = record {
   text_is_read = λ mode rest h. (q.text ++ rest, rw append_assoc (a.text_is_read mode (q.text ++ rest) h.0), b.text_is_read mode rest h.1);
   strict_is_text = λ bytes rest r. a.strict_is_text bytes r.0 r.1 ∙ ap (λ (t : List ℕ). p.text ++ t) (b.strict_is_text r.0 rest r.2) ∙ sym (append_assoc p.text q.text rest);
-  fits = λ mode bytes rest r. (a.fits mode bytes r.0 r.1, b.fits mode r.0 rest r.2);
-  no_longer = λ mode bytes rest r. omega (arith, length-append p.text q.text, a.no_longer mode bytes r.0 r.1, b.no_longer mode r.0 rest r.2);
+  fits = λ bytes rest r. (a.fits bytes r.0 r.1, b.fits r.0 rest r.2);
   depth = a.depth + b.depth;
   finds = λ fuel le mode bytes rest r. rw (a.finds fuel (omega arith) mode bytes r.0 r.1) (b.finds fuel (omega arith) mode r.0 rest r.2);
 }
@@ -210,7 +213,6 @@ last make a = record {
   text_is_read = a.text_is_read;
   strict_is_text = a.strict_is_text;
   fits = a.fits;
-  no_longer = a.no_longer;
   depth = a.depth;
   finds = λ fuel le mode bytes rest r. rw (a.finds fuel le mode bytes rest r) refl;
 }
@@ -220,8 +222,7 @@ pub only_where_lawful : {A : Type 0} {p : Piece} {read : ℕ → Reader A} {v : 
 only_where_lawful P a = record {
   text_is_read = λ mode rest h. (h.0, a.text_is_read mode rest h.1);
   strict_is_text = λ bytes rest r. a.strict_is_text bytes rest r.1;
-  fits = λ mode bytes rest r. (r.0, a.fits mode bytes rest r.1);
-  no_longer = λ mode bytes rest r. a.no_longer mode bytes rest r.1;
+  fits = λ bytes rest r. (r.0, a.fits bytes rest r.1);
   depth = a.depth;
   finds = λ fuel le mode bytes rest r. a.finds fuel le mode bytes rest r.1;
 }
@@ -237,7 +238,6 @@ deeper {p = p} {read = read} {v = v} a = record {
   text_is_read = a.text_is_read;
   strict_is_text = a.strict_is_text;
   fits = a.fits;
-  no_longer = a.no_longer;
   depth = suc a.depth;
   finds = finds;
 }
@@ -255,8 +255,7 @@ pub whole_lawful : {A : Type 0} {p : Piece} {read : ℕ → Reader A} {v : A} �
 whole_lawful {p = p} a = record {
   text_is_read = λ mode h. rw append-nil at (a.text_is_read mode [] h);
   strict_is_text = λ bytes r. a.strict_is_text bytes [] r ∙ append-nil p.text;
-  fits = λ mode bytes r. a.fits mode bytes [] r;
-  no_longer = λ mode bytes r. omega (arith, a.no_longer mode bytes [] r);
+  fits = λ bytes r. a.fits bytes [] r;
   depth = a.depth;
   finds = λ fuel le mode bytes r. rw (a.finds fuel le mode bytes [] r) refl;
 }
@@ -265,8 +264,7 @@ pub raw_lawful : {A : Type 0} (P : List ℕ → Type 0) (bs : List ℕ) (make : 
 raw_lawful P bs make = record {
   text_is_read = λ mode h. (h, refl);
   strict_is_text = λ bytes r. r.1;
-  fits = λ mode bytes r. r.0;
-  no_longer = λ mode bytes r. rw r.1 (omega arith);
+  fits = λ bytes r. r.0;
   depth = 0;
   finds = λ fuel le mode bytes r. ap (λ (t : List ℕ). Some (make t)) r.1;
 }
@@ -275,8 +273,7 @@ pub then_whole : {A B : Type 0} {p : Piece} {q : Whole} {read : ℕ → Reader A
 then_whole {p = p} {q = q} next a b = record {
   text_is_read = λ mode h. (q.text, a.text_is_read mode q.text h.0, b.text_is_read mode h.1);
   strict_is_text = λ bytes r. a.strict_is_text bytes r.0 r.1 ∙ ap (λ (t : List ℕ). p.text ++ t) (b.strict_is_text r.0 r.2);
-  fits = λ mode bytes r. (a.fits mode bytes r.0 r.1, b.fits mode r.0 r.2);
-  no_longer = λ mode bytes r. omega (arith, length-append p.text q.text, a.no_longer mode bytes r.0 r.1, b.no_longer mode r.0 r.2);
+  fits = λ bytes r. (a.fits bytes r.0 r.1, b.fits r.0 r.2);
   depth = a.depth + b.depth;
   finds = λ fuel le mode bytes r. rw (a.finds fuel (omega arith) mode bytes r.0 r.1) (b.finds fuel (omega arith) mode r.0 r.2);
 }
@@ -290,7 +287,6 @@ last_whole make a = record {
   text_is_read = a.text_is_read;
   strict_is_text = a.strict_is_text;
   fits = a.fits;
-  no_longer = a.no_longer;
   depth = a.depth;
   finds = λ fuel le mode bytes r. rw (a.finds fuel le mode bytes r) refl;
 }
@@ -307,28 +303,26 @@ unfolding to_end
 at_end none read next = record {
   text_is_read = λ mode h. refl;
   strict_is_text = λ bytes r. r;
-  fits = λ mode bytes r. tt;
-  no_longer = λ mode bytes r. rw r (omega arith);
+  fits = λ bytes r. tt;
   depth = 0;
   finds = λ fuel le mode bytes r. rw r refl;
 }
 
-some_left : {A B : Type 0} (none : B) (read : Reader A) (next : A → List ℕ → Option B) (bytes : List ℕ) → 0 < length bytes → to_end none read next bytes ≡ go_on (read bytes) next
+some_left : {A B : Type 0} (none : B) (read : Reader A) (next : A → List ℕ → Option B) (bytes : List ℕ) (x : A × List ℕ) → read [] ≡ None → read bytes ≡ Some x → to_end none read next bytes ≡ go_on (read bytes) next
 unfolding to_end
-some_left none read next [] h = absurd (omega arith)
-some_left none read next (b ∷ bytes) h = refl
+some_left none read next [] x nowhere found = absurd cc
+some_left none read next (b ∷ bytes) x nowhere found = refl
 
 pub before_end : {A B : Type 0} {p : Piece} {q : Whole} {v : A} {w : B} (none : B) (read : ℕ → Reader A) (next : ℕ → A → List ℕ → Option B)
-    → 0 < length p.text → Lawful p read v → LawfulWhole q (λ fuel. next fuel v) w → LawfulWhole (p ⨾⨾ q) (λ fuel. to_end none (read fuel) (next fuel)) w
-before_end none read next some a b =
+    → ((fuel : ℕ) → read fuel [] ≡ None) → Lawful p read v → LawfulWhole q (λ fuel. next fuel v) w → LawfulWhole (p ⨾⨾ q) (λ fuel. to_end none (read fuel) (next fuel)) w
+before_end {v = v} none read next some a b =
     let l = then_whole next a b in
     record {
       text_is_read = l.text_is_read;
       strict_is_text = l.strict_is_text;
       fits = l.fits;
-      no_longer = l.no_longer;
-      depth = l.depth;
-      finds = λ fuel le mode bytes r. some_left none (read fuel) (next fuel) bytes (omega (arith, a.no_longer mode bytes r.0 r.1)) ∙ l.finds fuel le mode bytes r;
+      depth = a.depth + l.depth;
+      finds = λ fuel le mode bytes r. some_left none (read fuel) (next fuel) bytes (v, r.0) (some fuel) (a.finds fuel (omega arith) mode bytes r.0 r.1) ∙ l.finds fuel (omega arith) mode bytes r;
     }
 
 pub deeper_whole : {A : Type 0} {p : Whole} {read : ℕ → List ℕ → Option A} {v : A} → LawfulWhole p (λ fuel. read (suc fuel)) v → LawfulWhole p read v
@@ -336,7 +330,6 @@ deeper_whole {p = p} {read = read} {v = v} a = record {
   text_is_read = a.text_is_read;
   strict_is_text = a.strict_is_text;
   fits = a.fits;
-  no_longer = a.no_longer;
   depth = suc a.depth;
   finds = finds;
 }

@@ -2,13 +2,17 @@ pub mod Piece
 pub mod Number
 pub mod Forms
 pub mod Exports
+pub mod Types
 pub mod Laws
 pub mod Delimited
 pub mod Fault
 pub mod Written
+pub mod Holder
 pub mod Groups
 pub mod Lawful
 pub mod NumberLaws
 pub mod FormLaws
 pub mod ExportLaws
+pub mod TypeLaws
 pub mod Lifts
+pub mod HolderLaws

@@ -1,11 +1,11 @@
 -- The laws of the forms of numbers.
-use Rattle.std.proofs.Common.{◌≡◌, ℕ, ℤ, pos, negsuc, zero, suc, ◌+◌, ◌*◌, ◌/◌, ◌%◌, ◌-◌, ◌^◌, ◌<◌, ◌≤◌, cond, ltb, List, [], ◌∷◌, ◌++◌, length, map, Option, Some, None, refl, ap, ◌∙◌, arith, inl, inr}
+use Rattle.std.proofs.Common.{◌≡◌, ℕ, ℤ, pos, negsuc, zero, suc, ◌+◌, ◌*◌, ◌/◌, ◌%◌, ◌-◌, ◌^◌, ◌<◌, ◌≤◌, cond, ltb, List, [], ◌∷◌, ◌++◌, map, Option, Some, None, refl, ap, ◌∙◌, arith, inl, inr}
 use Rattle.std.proofs.lemmas.Bool.{cases_lt, le-ltb, lt-ltb}
-use Rattle.std.proofs.lemmas.List.{append-nil, length-append, length-map}
+use Rattle.std.proofs.lemmas.List.{append-nil}
 use Rattle.wenc_base.specs.Piece.{Piece, Spelling, Strict, Wide}
 use Rattle.wenc_base.specs.Number.{groups, MayGoOn, complement, ReadsGroups, last, more, u32, u64, i64, index}
 use Rattle.wenc_base.specs.Groups.{limit, groups_below, groups_from}
-use Rattle.wenc_base.specs.Lawful.{Lawful, Reader}
+use Rattle.wenc_base.specs.Lawful.{Lawful, Reader, Starts}
 
 may_go_on : (mode : Spelling) (top n : ℕ) → top ≤ n → MayGoOn mode top n
 may_go_on Strict top n h = h
@@ -57,32 +57,6 @@ groups_are_read mode top _ n _ rest small (more {room = room} {b = b} {high = hi
     let value : b - 128 + 128 * high ≡ n = omega arith in
     rw (le-ltb b 128 low, groups_are_read mode top room high bytes rest small r, value) refl
 
--- a larger number has no shorter text
-pub groups_monotone : (top room m n : ℕ) → m ≤ n → length (groups top room m) ≤ length (groups top room n)
-unfolding groups
-groups_monotone top zero m n h = omega arith
-groups_monotone top (suc room) m n h =
-    elim (cases_lt m top) [
-      | inl lt ↦ rw (groups_below top (suc room) m lt) (some n)
-      | inr le ↦
-          rw (groups_from top room m le, groups_from top room n (omega arith))
-          (let t : length (groups top room (m / 128)) ≤ length (groups top room (n / 128)) = groups_monotone top room (m / 128) (n / 128) (omega arith) in omega (arith, t))
-    ]
-  where
-    some : (n : ℕ) → 1 ≤ length (groups top (suc room) n)
-    some n = elim (cases_lt n top) [ inl lt ↦ rw (groups_below top (suc room) n lt) (omega arith) | inr le ↦ rw (groups_from top room n le) (omega arith) ]
-
--- no spelling is shorter than the text
-groups_no_longer : (mode : Spelling) (top room n : ℕ) (bytes rest : List ℕ) → ReadsGroups mode top room n bytes rest → length (groups top room n) + length rest ≤ length bytes
-groups_no_longer mode top room n _ rest (last lt) = rw (groups_below top room n lt) (omega arith)
-groups_no_longer mode top _ n _ rest (more {room = room} {high = high} {bytes = bytes} low byte on sum r) =
-    elim (cases_lt n top) [
-      | inl lt ↦ rw (groups_below top (suc room) n lt) (omega (arith, groups_no_longer mode top room high bytes rest r))
-      | inr le ↦
-          let tail : n / 128 ≡ high = omega arith in
-          rw (groups_from top room n le, tail) (omega (arith, groups_no_longer mode top room high bytes rest r))
-    ]
-
 -- a number below `bound`, with the text of a larger room
 abbrev number : ℕ → ℕ → ℕ → ℕ → ℕ → Piece
 number top room larger bound n = record {
@@ -96,8 +70,7 @@ number_lawful : (top room larger bound n : ℕ) → top ≤ 128 → room ≤ lar
 number_lawful top room larger bound n small le below = record {
   text_is_read = λ mode rest h. (h, rw (same h) (groups_read mode top room n rest (omega arith)));
   strict_is_text = λ bytes rest r. rw (same r.0) (strict_groups top room n bytes rest r.1);
-  fits = λ mode bytes rest r. r.0;
-  no_longer = λ mode bytes rest r. rw (same r.0) (groups_no_longer mode top room n bytes rest r.1);
+  fits = λ bytes rest r. r.0;
   depth = 0;
   finds = λ fuel le mode bytes rest r. groups_are_read mode top room n bytes rest small r.1;
 }
@@ -113,6 +86,14 @@ u64_lawful n = number_lawful 128 9 9 (2 ^ 64) n (omega arith) (omega arith) (ome
 
 pub index_lawful : (n : ℕ) → Lawful (index n) (λ fuel. read_groups) n
 index_lawful n = number_lawful 64 4 9 (2 ^ 32) n (omega arith) (omega arith) (omega arith)
+
+-- an index begins with a byte below 64 or from 128 on
+pub index_starts : (P : ℕ → Type 0) → ((b : ℕ) → b < 64 → P b) → ((b : ℕ) → 128 ≤ b → P b) → (n : ℕ) → Starts (index n) P
+index_starts P low high n = record { starts = λ mode bytes rest r. first_byte mode 4 n bytes rest r.1 }
+  where
+    first_byte : (mode : Spelling) (room n : ℕ) (bytes rest : List ℕ) → ReadsGroups mode 64 room n bytes rest → (b : ℕ) × (more : List ℕ) × (bytes ≡ b ∷ more) × P b
+    first_byte mode room n _ rest (last lt) = (n, rest, refl, low n lt)
+    first_byte mode _ n _ rest (more {b = b} {bytes = bytes} from byte on sum r) = (b, bytes, refl, high b from)
 
 -- ---- signed numbers
 
@@ -152,8 +133,7 @@ pub i64_lawful : (z : ℤ) → Lawful (i64 z) (λ fuel. read_signed) z
 i64_lawful (pos n) = record {
   text_is_read = λ mode rest h. (h, (let fits : n < 2 ^ 63 = h.sfits in groups_read mode 64 9 n rest (omega arith)));
   strict_is_text = λ bytes rest r. strict_groups 64 9 n bytes rest r.1;
-  fits = λ mode bytes rest r. r.0;
-  no_longer = λ mode bytes rest r. groups_no_longer mode 64 9 n bytes rest r.1;
+  fits = λ bytes rest r. r.0;
   depth = 0;
   finds = λ fuel le mode bytes rest r. pos_is_read mode 9 n bytes rest r.1;
 }
@@ -161,9 +141,7 @@ i64_lawful (negsuc n) = record {
   text_is_read = λ mode rest h. (h, (groups 64 9 n, refl, (let fits : n < 2 ^ 63 = h.sfits in rw append-nil at (groups_read mode 64 9 n [] (omega arith)))));
   strict_is_text = λ bytes rest r. (let same : r.1.0 ≡ groups 64 9 n = strict_groups 64 9 n r.1.0 [] r.1.2 ∙ append-nil (groups 64 9 n) in
       r.1.1 ∙ ap (λ (front : List ℕ). map complement front ++ rest) same);
-  fits = λ mode bytes rest r. r.0;
-  no_longer = λ mode bytes rest r.
-      rw r.1.1 (omega (arith, length-append (map complement r.1.0) rest, length-map r.1.0 complement, length-map (groups 64 9 n) complement, groups_no_longer mode 64 9 n r.1.0 [] r.1.2));
+  fits = λ bytes rest r. r.0;
   depth = 0;
   finds = λ fuel le mode bytes rest r. rw r.1.1 (negsuc_is_read mode 9 n r.1.0 [] rest r.1.2);
 }

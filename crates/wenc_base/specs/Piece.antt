@@ -62,6 +62,14 @@ also b other p = record {
   Reads = λ mode bytes rest. (middle : List ℕ) × ((bytes ≡ b ∷ middle) ⊎ (IsWide mode × (bytes ≡ other ∷ middle))) × p.Reads mode middle rest;
 }
 
+-- a piece that is read widely in another piece's spelling too
+abbrev pub or_widely : Piece → Piece → Piece
+or_widely p q = record {
+  Fits = p.Fits;
+  text = p.text;
+  Reads = λ mode bytes rest. p.Reads mode bytes rest ⊎ (IsWide mode × q.Reads mode bytes rest);
+}
+
 -- one piece, then another
 infixr 60 ◌⨾◌
 abbrev pub ◌⨾◌ : Piece → Piece → Piece

@@ -32,6 +32,17 @@ pub trait Encode {
         ensures unfinished_first { unfinished self.now → result ≡ Err Unfinished };
 }
 
+/// Nothing: no byte.
+impl Encode for () {
+    ghost text = { λ _. [] };
+
+    ghost cause = { λ _ _. ⊥ };
+
+    fn encode<A: Allocator>(&self, _sink: &mut Vec<u8, A>) -> Result<(), Fault> {
+        Ok(())
+    }
+}
+
 impl Encode for bool {
     ghost use Rattle.wenc_base.specs.Forms.{flag};
 

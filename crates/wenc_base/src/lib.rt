@@ -6,14 +6,18 @@ pub mod delimited;
 pub mod encode;
 pub mod exports;
 pub mod fault;
+pub mod holder;
 pub mod laws;
 pub mod number;
+pub mod types;
 
 pub use delimited::Delimited;
 pub use encode::{Encode, Tagged, encode_list, extend_in_room};
 pub use exports::ExportKind;
 pub use fault::Fault;
+pub use holder::{Holder, section_size};
 pub use number::encoding_size;
+pub use types::{AbstractHeapType, HeapType, RefType, ValType};
 
 #[cfg(test)]
 mod tests;

@@ -1,5 +1,5 @@
 -- The laws of aliases.
-use Rattle.std.proofs.Common.{◌≡◌, ℕ, List, [], ◌∷◌, refl}
+use Rattle.std.proofs.Common.{ℕ, List, [], ◌∷◌, refl}
 use Rattle.wenc_base.specs.Piece.{Piece, byte, ◌▸◌, ◌⨾◌}
 use Rattle.wenc_base.specs.Number.{u32}
 use Rattle.wenc_base.specs.Forms.{name as name_form}
@@ -38,8 +38,7 @@ first_byte table other b l =
     record {
       text_is_read = λ mode rest h. r.text_is_read mode rest h.1;
       strict_is_text = r.strict_is_text;
-      fits = λ mode bytes rest reads. (tt, r.fits mode bytes rest reads);
-      no_longer = r.no_longer;
+      fits = λ bytes rest reads. (tt, r.fits bytes rest reads);
       depth = r.depth;
       finds = r.finds;
     }
@@ -52,8 +51,7 @@ first_of_two p q table other b l =
     record {
       text_is_read = λ mode rest h. (let s = r.text_is_read mode rest h in (s.2.0, (s.0, s.1, s.2.1), s.2.2));
       strict_is_text = λ bytes rest s. r.strict_is_text bytes rest (s.1.0, s.1.1, (s.0, s.1.2, s.2));
-      fits = λ mode bytes rest s. r.fits mode bytes rest (s.1.0, s.1.1, (s.0, s.1.2, s.2));
-      no_longer = λ mode bytes rest s. r.no_longer mode bytes rest (s.1.0, s.1.1, (s.0, s.1.2, s.2));
+      fits = λ bytes rest s. r.fits bytes rest (s.1.0, s.1.1, (s.0, s.1.2, s.2));
       depth = r.depth;
       finds = λ fuel le mode bytes rest s. r.finds fuel le mode bytes rest (s.1.0, s.1.1, (s.0, s.1.2, s.2));
     }

@@ -1,14 +1,12 @@
 -- The laws of value types.
-use Rattle.std.proofs.Common.{◌≡◌, ℕ, ◌<◌, ◌≤◌, List, [], ◌∷◌, ◌++◌, refl, arith}
-use Rattle.wenc_base.specs.Piece.{Spelling, byte}
-use Rattle.wenc_base.specs.Number.{index, ReadsGroups, last as last_group, more as more_groups}
-use Rattle.wenc_base.specs.Lawful.{Lawful, Reader, ◌>>=◌, give, nowhere, choose, row_byte, past, IsPast, Starts, last}
-use Rattle.wenc_base.specs.NumberLaws.{read_groups, index_lawful}
+use Rattle.std.proofs.Common.{ℕ, List, [], ◌∷◌, ◌++◌, Option, Some, None, refl, arith}
+use Rattle.wenc_base.specs.Lawful.{Lawful, Reader, ◌>>=◌, give, nowhere, choose, row, row_byte, past, last}
+use Rattle.wenc_base.specs.NumberLaws.{read_groups, index_lawful, index_starts}
 use Rattle.wenc_parts.specs.declared.types.PrimitiveValType.{PrimitiveValType}
 use Rattle.wenc_parts.specs.declared.types.PrimitiveValType.TheVariants.{Bool, S8, U8, S16, U16, S32, U32, S64, U64, F32, F64, Char, String, ErrorContext}
 use Rattle.wenc_parts.specs.declared.types.ComponentValType.{ComponentValType}
 use Rattle.wenc_parts.specs.declared.types.ComponentValType.TheVariants.{Primitive, «Type» as TypeIndex}
-use Rattle.wenc_parts.specs.Types.{primitive, value_type}
+use Rattle.wenc_parts.specs.Types.{primitive, value_type, result_list}
 
 abbrev pub primitive_rows : {A : Type 0} → (PrimitiveValType → A) → List (ℕ × Reader A)
 primitive_rows make =
@@ -54,14 +52,13 @@ primitive_lawful p = primitive_row (λ q. q) (λ fuel. []) _ p
 abbrev pub read_value_type : Reader ComponentValType
 read_value_type = choose (primitive_rows Primitive) (read_groups >>= λ n. give (TypeIndex n))
 
--- an index begins with a byte below 64 or from 128 on
-pub index_starts : (n : ℕ) → Starts (index n) (IsPast (primitive_rows Primitive))
-index_starts n = record { starts = λ mode bytes rest r. first_byte mode 4 n bytes rest r.1 }
-  where
-    first_byte : (mode : Spelling) (room n : ℕ) (bytes rest : List ℕ) → ReadsGroups mode 64 room n bytes rest → (b : ℕ) × (more : List ℕ) × (bytes ≡ b ∷ more) × IsPast (primitive_rows Primitive) b
-    first_byte mode room n _ rest (last_group lt) = (n, rest, refl, omega arith)
-    first_byte mode _ n _ rest (more_groups {b = b} {bytes = bytes} low byte on sum r) = (b, bytes, refl, omega arith)
-
 pub value_type_lawful : (t : ComponentValType) → Lawful (value_type t) (λ fuel. read_value_type) t
 value_type_lawful (Primitive p) = primitive_row Primitive (λ fuel. []) _ p
-value_type_lawful (TypeIndex n) = past _ _ (λ fuel. index_starts n) (last TypeIndex (index_lawful n))
+value_type_lawful (TypeIndex n) = past _ _ (λ fuel. index_starts _ (λ b lt. omega arith) (λ b le. omega arith) n) (last TypeIndex (index_lawful n))
+
+abbrev pub read_result_list : Reader (Option ComponentValType)
+read_result_list = choose ((0x00, read_value_type >>= λ t. give (Some t)) ∷ (0x01, choose ((0x00, give None) ∷ []) nowhere) ∷ []) nowhere
+
+pub result_list_lawful : (r : Option ComponentValType) → Lawful (result_list r) (λ fuel. read_result_list) r
+result_list_lawful (Some t) = row _ _ 0x00 (last Some (value_type_lawful t))
+result_list_lawful None = row _ _ 0x01 (row_byte _ _ 0x00 (λ fuel rest. refl))

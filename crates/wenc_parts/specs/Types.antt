@@ -1,6 +1,6 @@
 -- Value types (component model, binary format, "Type Definitions").
-use Rattle.std.specs.Prelude.{ℕ}
-use Rattle.wenc_base.specs.Piece.{Form, byte}
+use Rattle.std.specs.Prelude.{ℕ, Option, Some, None}
+use Rattle.wenc_base.specs.Piece.{Form, byte, ◌▸◌}
 use Rattle.wenc_base.specs.Number.{index}
 use Rattle.wenc_parts.specs.declared.types.PrimitiveValType.{PrimitiveValType}
 use Rattle.wenc_parts.specs.declared.types.PrimitiveValType.TheVariants.{Bool, S8, U8, S16, U16, S32, U32, S64, U64, F32, F64, Char, String, ErrorContext}
@@ -30,3 +30,8 @@ primitive p = byte (primitive_byte p)
 abbrev pub value_type : Form ComponentValType
 value_type (Primitive p) = primitive p
 value_type (TypeIndex n) = index n
+
+-- the type of the value that a function answers, or that there is none
+abbrev pub result_list : Form (Option ComponentValType)
+result_list (Some t) = 0x00 ▸ value_type t
+result_list None = 0x01 ▸ byte 0x00

@@ -2,7 +2,7 @@
 ghost use Rattle.std.specs.Prelude.{◌≡◌, ◌↔◌, IsTrue, nat_lt};
 ghost use Rattle.wenc_base.specs.Lawful.{FormLaws};
 ghost use Rattle.wenc_parts.specs.Component.{section, section_number};
-ghost use Rattle.wenc_parts.specs.Types.{primitive, value_type};
+ghost use Rattle.wenc_parts.specs.Types.{primitive, value_type, result_list};
 ghost use Rattle.wenc_parts.specs.Exports.{export_kind};
 ghost use Rattle.wenc_parts.specs.Imports.{type_bounds, type_reference, extern_name};
 ghost use Rattle.wenc_parts.specs.Instances.{module_argument};
@@ -17,6 +17,7 @@ pub fn forms_are_lawful()
     ensures section_ids { FormLaws section }
     ensures primitive_types { FormLaws primitive }
     ensures value_types { FormLaws value_type }
+    ensures result_lists { FormLaws result_list }
     ensures export_kinds { FormLaws export_kind }
     ensures type_bounds { FormLaws type_bounds }
     ensures type_references { FormLaws type_reference }

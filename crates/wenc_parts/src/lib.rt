@@ -15,4 +15,4 @@ pub use component::{ComponentSection, ComponentSectionId};
 pub use exports::ComponentExportKind;
 pub use imports::{ComponentExternName, ComponentTypeRef, NameTree, TypeBounds};
 pub use instances::ModuleArg;
-pub use types::{ComponentValType, PrimitiveValType};
+pub use types::{ComponentValType, PrimitiveValType, ResultList};

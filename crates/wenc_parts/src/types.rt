@@ -2,7 +2,7 @@ ghost use Rattle.std.specs.Prelude.{◌≡◌};
 ghost use Rattle.wenc_base.specs.Lawful.{delimited as told_apart};
 
 use std::alloc::Allocator;
-use wenc_base::{Delimited, Encode, Fault};
+use wenc_base::{Delimited, Encode, Fault, Tagged};
 
 /// A primitive value type of a component (component model, binary format, `primvaltype`).
 #[derive(Clone, Copy, Debug, PartialEq, Eq, Hash)]
@@ -119,6 +119,36 @@ impl Delimited for ComponentValType {
     ghost same = { λ a b. a ≡ b };
 
     ghost delimited = { λ a b. told_apart (value_type_lawful a) (value_type_lawful b) };
+}
+
+/// What a function answers: a value of this type, or none (component model, binary format, `resultlist`).
+#[derive(Clone, Copy, Debug, PartialEq, Eq)]
+pub struct ResultList(pub Option<ComponentValType>);
+
+impl Encode for ResultList {
+    ghost use Rattle.wenc_parts.specs.Types.{result_list};
+
+    ghost text = { λ r. (result_list r.0).text };
+
+    ghost cause = { λ _ _. ⊥ };
+
+    fn encode<A: Allocator>(&self, sink: &mut Vec<u8, A>) -> Result<(), Fault> {
+        match self.0 {
+            Some(ty) => Tagged(0x00, &ty).encode(sink),
+            None => Tagged(0x01, &Tagged(0x00, &())).encode(sink),
+        }
+    }
+}
+
+impl Delimited for ResultList {
+    ghost use Rattle.wenc_parts.specs.Types.{result_list};
+    ghost use Rattle.wenc_parts.specs.TypeLaws.{result_list_lawful};
+
+    ghost fits = { λ x. (result_list x.0).Fits };
+
+    ghost same = { λ a b. a.0 ≡ b.0 };
+
+    ghost delimited = { λ a b. told_apart (result_list_lawful a.0) (result_list_lawful b.0) };
 }
 
 impl From<PrimitiveValType> for ComponentValType {

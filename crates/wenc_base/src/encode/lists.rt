@@ -53,9 +53,8 @@ pub fn encode_list<T: Encode + Drop, I: Iterator<Item = T> + Drop, A: Allocator>
     requires can { I.can_next values }
     requires ends { IsFinite (I.remaining values) }
     ensures ok { OnOk result (WholeRun I.next_gives values (λ run.
-        sink.new.items ≡ sink.old.items ++ list_text T.text run.items)) }
-    ensures encodable { OnOk result (WholeRun I.next_gives values (λ run.
-        (fault : FaultSpec) → drawn_cause T.cause run.items fault → ⊥)) }
+        (sink.new.items ≡ sink.old.items ++ list_text T.text run.items)
+        × ((fault : FaultSpec) → drawn_cause T.cause run.items fault → ⊥))) }
     ensures err { OnErr result (sink.new.items ≡ sink.old.items) }
     ensures warranted { IfErr result (λ fault. SomeRun I.next_gives values (λ run.
         IsWarranted (drawn_cause T.cause run.items) fault)) }

@@ -1,6 +1,6 @@
 use Rattle.wenc_base.specs.Lawful.{form_laws}
 use Rattle.wenc_parts.specs.ComponentLaws.{section_lawful}
-use Rattle.wenc_parts.specs.TypeLaws.{primitive_lawful, value_type_lawful}
+use Rattle.wenc_parts.specs.TypeLaws.{primitive_lawful, value_type_lawful, result_list_lawful}
 use Rattle.wenc_parts.specs.ExportLaws.{export_kind_lawful}
 use Rattle.wenc_parts.specs.ImportLaws.{type_bounds_lawful, type_reference_lawful, extern_name_lawful}
 use Rattle.wenc_parts.specs.InstanceLaws.{module_argument_lawful}
@@ -15,6 +15,9 @@ returns-clause-primitive_types c = form_laws primitive_lawful
 
 pub returns-clause-value_types : goal.returns-clause-value_types
 returns-clause-value_types c = form_laws value_type_lawful
+
+pub returns-clause-result_lists : goal.returns-clause-result_lists
+returns-clause-result_lists c = form_laws result_list_lawful
 
 pub returns-clause-export_kinds : goal.returns-clause-export_kinds
 returns-clause-export_kinds c = form_laws export_kind_lawful

@@ -1,0 +1,89 @@
+-- What counted sections and types keep: how many members, and their texts.
+use Rattle.std.specs.Prelude.{◌≡◌, ℕ, ◌+◌, ◌≤◌, ◌^◌, ◌⊎◌, Bool, true, false, List, [], ◌∷◌, ◌++◌, length, Option, Result, Err, OnOk, OnErr, IfErr}
+use Rattle.std.specs.Iterator.Runs.{SomeRun, WholeRun}
+use Rattle.std.specs.List.{flat_map}
+use Rattle.wenc_base.specs.Number.{unsigned_text, number_size}
+use Rattle.wenc_base.specs.Fault.{IsWarranted, first_of, drawn_cause}
+use Rattle.wenc_base.specs.Forms.{list_text}
+use Rattle.wenc_base.specs.declared.fault.Fault.{Fault}
+use Rattle.wenc_base.specs.declared.fault.Fault.TheVariants.{Memory, TooMany, TooLarge, Unfinished}
+
+-- What contracts see of a holder: the bytes that it keeps in front, which are not its own, how many members it
+-- has, their texts, and whether no member is being written.
+pub record Held : Type 0 where
+  pub kept : List ℕ
+  pub count : ℕ
+  pub body : List ℕ
+  pub finished : Bool
+
+-- a holder without members
+abbrev pub no_members : Held
+no_members = record { kept = []; count = 0; body = []; finished = true }
+
+-- one member more, with this text
+abbrev pub with_member : Held → List ℕ → Held
+with_member h text = record { kept = h.kept; count = h.count + 1; body = h.body ++ text; finished = h.finished }
+
+-- It has just these members, each with its text.
+pub record Contains {A : Type 0} (text : A → List ℕ) (h : Held) (members : List A) : Type 0 where
+  pub finished : h.finished ≡ true
+  pub count : length members ≡ h.count
+  pub body : h.body ≡ flat_map text members
+
+-- the bytes as they are
+abbrev pub as_they_are : List ℕ → List ℕ
+as_they_are bytes = bytes
+
+-- how many bytes stand behind a section's size: those of the count, and those of the members
+abbrev pub content_size : ℕ → ℕ → ℕ
+content_size count body = number_size count + body
+
+-- a counted section: how many bytes, how many members, the members (component model, binary format, `vec`)
+abbrev pub section_text : Held → List ℕ
+section_text h = unsigned_text (content_size h.count (length h.body)) ++ (unsigned_text h.count ++ h.body)
+
+-- why a section can't be written: it isn't finished
+abbrev pub EncodeCause : Held → Fault → Type 0
+EncodeCause h fault = (fault ≡ Unfinished) × (h.finished ≡ false)
+
+-- ---- adding a member
+
+-- Why one member more can't be counted, with which all texts have so many bytes.
+abbrev pub CountCause : ℕ → ℕ → Fault → Type 0
+CountCause count size (Memory e) = ⊥
+CountCause count size TooMany = 2 ^ 32 ≤ count + 1
+CountCause count size TooLarge = 2 ^ 32 ≤ content_size (count + 1) size
+CountCause count size Unfinished = ⊥
+
+-- Why a member with this text can't be added: for its own cause, for number or size, or since one is being written.
+abbrev pub AddCause : Held → List ℕ → (Fault → Type 0) → Fault → Type 0
+AddCause h text cause fault = cause fault ⊎ (CountCause h.count (length (h.body ++ text)) fault ⊎ ((fault ≡ Unfinished) × (h.finished ≡ false)))
+
+-- A member was added, and nothing stood against it.
+pub record Accepted {A : Type 0} (text : A → List ℕ) (old new : Held) (cause : Fault → Type 0) (member : A) : Type 0 where
+  pub state : new ≡ with_member old (text member)
+  pub contained : (members : List A) → Contains text old members → Contains text new (members ++ member ∷ [])
+  pub free : (fault : Fault) → AddCause old (text member) cause fault → ⊥
+
+-- A call adds this member, or is refused for a cause and changes nothing.
+pub record AddsMember {A : Type 0} (text : A → List ℕ) (old new : Held) (outcome : Result (Unit {0}) Fault) (cause : Fault → Type 0) (member : A) : Type 0 where
+  pub ok : OnOk outcome (Accepted text old new cause member)
+  pub err : OnErr outcome (new ≡ old)
+  pub warranted : IfErr outcome (IsWarranted (AddCause old (text member) cause))
+  pub unfinished_first : old.finished ≡ false → outcome ≡ Err Unfinished
+
+-- The same where the member is made of the values that an iterator gives.
+pub record AddsListed {S A B : Type 0} (steps : S → Option B → S → Type 0) (values : S) (text : A → List ℕ) (old new : Held) (outcome : Result (Unit {0}) Fault)
+    (cause : List B → Fault → Type 0) (member : List B → A) : Type 0 where
+  pub ok : OnOk outcome (WholeRun steps values (λ run. Accepted text old new (cause run.items) (member run.items)))
+  pub err : OnErr outcome (new ≡ old)
+  pub warranted : IfErr outcome (λ fault. SomeRun steps values (λ run. IsWarranted (AddCause old (text (member run.items)) (cause run.items)) fault))
+  pub unfinished_first : old.finished ≡ false → outcome ≡ Err Unfinished
+
+-- a text, a list of values, another text
+abbrev pub listed_text : {A : Type 0} → List ℕ → (A → List ℕ) → List ℕ → List A → List ℕ
+listed_text lead text tail vs = lead ++ (list_text text vs ++ tail)
+
+-- the causes of these, in their order
+abbrev pub listed_cause : {A : Type 0} → (Fault → Type 0) → (A → Fault → Type 0) → (Fault → Type 0) → List A → Fault → Type 0
+listed_cause lead cause tail vs = first_of lead (first_of (drawn_cause cause vs) tail)

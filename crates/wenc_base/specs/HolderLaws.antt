@@ -1,0 +1,81 @@
+-- What follows where a holder took a member.
+use Rattle.std.proofs.Common.{◌≡◌, ℕ, List, [], ◌∷◌, ◌++◌, Option, Result, Ok, Err, OnOk, IfErr, sym, ap, ◌∙◌, arith, inl, inr}
+use Rattle.std.proofs.lemmas.List.{append-nil, length-append}
+use Rattle.std.proofs.lemmas.Grind.{flat_map-append}
+use Rattle.std.specs.Iterator.Runs.{SomeRun, WholeRun}
+use Rattle.std.specs.List.{flat_map}
+use Rattle.wenc_base.specs.Fault.{IsWarranted}
+use Rattle.wenc_base.specs.Holder.{Held, with_member, Contains, as_they_are, AddCause, Accepted, AddsMember, AddsListed}
+use Rattle.wenc_base.specs.declared.fault.Fault.{Fault}
+use Rattle.wenc_base.specs.declared.fault.Fault.TheVariants.{Memory, TooMany, TooLarge, Unfinished}
+
+-- the members, and one more
+pub contains_next : {A : Type 0} (text : A → List ℕ) (old new : Held) (member : A) (members : List A)
+    → new ≡ with_member old (text member) → Contains text old members → Contains text new (members ++ member ∷ [])
+contains_next text old new member members e c = rw e (record {
+  finished = c.finished;
+  count = omega (arith, c.count, length-append members (member ∷ []));
+  body = rw c.body (sym (flat_map-append text members (member ∷ []) ∙ ap (λ (t : List ℕ). flat_map text members ++ t) (append-nil (text member))));
+})
+
+-- another cause that follows warrants the same faults
+pub still_warranted : (one other : Fault → Type 0) → ((fault : Fault) → one fault → other fault) → (fault : Fault) → IsWarranted one fault → IsWarranted other fault
+still_warranted one other f (Memory e) h = h
+still_warranted one other f TooMany h = f TooMany h
+still_warranted one other f TooLarge h = f TooLarge h
+still_warranted one other f Unfinished h = f Unfinished h
+
+-- two causes that stand for the same faults
+abbrev pub SameCause : (Fault → Type 0) → (Fault → Type 0) → Type 0
+SameCause one other = ((fault : Fault) → one fault → other fault) × ((fault : Fault) → other fault → one fault)
+
+same_add : (h : Held) (text : List ℕ) (one other : Fault → Type 0) → ((fault : Fault) → one fault → other fault) → (fault : Fault) → AddCause h text one fault → AddCause h text other fault
+same_add h text one other f fault c = elim c [ inl own ↦ inl (f fault own) | inr more ↦ inr more ]
+
+-- a value whose text was added as it is
+accepted_as : {A : Type 0} (text : A → List ℕ) (old new : Held) (cause other : Fault → Type 0) (member : A) → SameCause cause other
+    → Accepted as_they_are old new cause (text member) → Accepted text old new other member
+accepted_as text old new cause other member same a = record {
+  state = a.state;
+  contained = λ members c. contains_next text old new member members a.state c;
+  free = λ fault c. a.free fault (same_add old (text member) other cause same.1 fault c);
+}
+
+-- the same of a call that adds it
+pub adds_as : {A : Type 0} (text : A → List ℕ) (old new : Held) (outcome : Result (Unit {0}) Fault) (cause other : Fault → Type 0) (member : A) → SameCause cause other
+    → AddsMember as_they_are old new outcome cause (text member) → AddsMember text old new outcome other member
+adds_as text old new outcome cause other member same a = record {
+  ok = accepted outcome a.ok;
+  err = a.err;
+  warranted = warranted outcome a.warranted;
+  unfinished_first = a.unfinished_first;
+}
+  where
+    accepted : (outcome : Result (Unit {0}) Fault) → OnOk outcome (Accepted as_they_are old new cause (text member)) → OnOk outcome (Accepted text old new other member)
+    accepted (Ok u) h = accepted_as text old new cause other member same h
+    accepted (Err fault) h = tt
+
+    warranted : (outcome : Result (Unit {0}) Fault) → IfErr outcome (IsWarranted (AddCause old (text member) cause)) → IfErr outcome (IsWarranted (AddCause old (text member) other))
+    warranted (Ok u) h = tt
+    warranted (Err fault) h = still_warranted _ _ (same_add old (text member) cause other same.0) fault h
+
+-- and of a call that adds one that is made of values which an iterator gives
+pub adds_listed_as : {S A B : Type 0} (steps : S → Option B → S → Type 0) (values : S) (text : A → List ℕ) (old new : Held) (outcome : Result (Unit {0}) Fault)
+    (cause other : List B → Fault → Type 0) (member : List B → A) → ((vs : List B) → SameCause (cause vs) (other vs))
+    → AddsListed steps values as_they_are old new outcome cause (λ vs. text (member vs)) → AddsListed steps values text old new outcome other member
+adds_listed_as steps values text old new outcome cause other member same a = record {
+  ok = accepted outcome a.ok;
+  err = a.err;
+  warranted = warranted outcome a.warranted;
+  unfinished_first = a.unfinished_first;
+}
+  where
+    accepted : (outcome : Result (Unit {0}) Fault) → OnOk outcome (WholeRun steps values (λ run. Accepted as_they_are old new (cause run.items) (text (member run.items))))
+        → OnOk outcome (WholeRun steps values (λ run. Accepted text old new (other run.items) (member run.items)))
+    accepted (Ok u) h = (h.0, h.1, h.2, accepted_as text old new (cause h.0.items) (other h.0.items) (member h.0.items) (same h.0.items) h.3)
+    accepted (Err fault) h = tt
+
+    warranted : (outcome : Result (Unit {0}) Fault) → IfErr outcome (λ fault. SomeRun steps values (λ run. IsWarranted (AddCause old (text (member run.items)) (cause run.items)) fault))
+        → IfErr outcome (λ fault. SomeRun steps values (λ run. IsWarranted (AddCause old (text (member run.items)) (other run.items)) fault))
+    warranted (Ok u) h = tt
+    warranted (Err fault) h = (h.0, h.1, still_warranted _ _ (same_add old (text (member h.0.items)) (cause h.0.items) (other h.0.items) (same h.0.items).0) fault h.2)

@@ -1,0 +1,258 @@
+ghost use Rattle.std.specs.Prelude.{◌≡◌, ℕ, ◌+◌, ◌-◌, ◌<◌, ◌≤◌, ◌^◌, ◌++◌, length, List, OnOk, OnErr, IfOk, IfErr, true, false, take, drop};
+ghost use Rattle.std.specs.Iterator.{IsFinite};
+ghost use Rattle.std.specs.Iterator.Runs.{SomeRun, WholeRun};
+ghost use Rattle.wenc_base.specs.Fault.{IsWarranted, IsMemory, drawn_cause, first_of};
+ghost use Rattle.wenc_base.specs.Forms.{list_text};
+ghost use Rattle.wenc_base.specs.Number.{number_size};
+ghost use Rattle.wenc_base.specs.Holder.{no_members, as_they_are, content_size, section_text, CountCause, AddsMember, AddsListed, listed_text, listed_cause, EncodeCause};
+ghost use Rattle.wenc_base.specs.declared.fault.Fault.{Fault as FaultSpec};
+ghost use Rattle.wenc_base.specs.declared.fault.Fault.TheVariants.{TooLarge, Unfinished};
+
+use crate::encode::{Encode, encode_list, extend_in_room};
+use crate::fault::Fault;
+use crate::number::{Short, encoding_size};
+use std::alloc::{Allocator, Global};
+use std::marker::Model;
+
+/// What a counted section is at most, with its count: the largest size that can be written.
+const LIMIT: u64 = 4294967295;
+
+/// How many bytes a section has behind its size: the bytes of its count and those of its members, of which
+/// there are `body`. It is refused with `TooLarge` past 4294967295, and takes no memory.
+pub fn section_size(count: u32, body: u64) -> Result<u32, Fault>
+    ensures ok { IfOk result (λ size. (size ≡ content_size count body) × (size < 2 ^ 32)) }
+    ensures refused { IfErr result (λ fault. (fault ≡ TooLarge) × (2 ^ 32 ≤ content_size count body)) }
+{
+    let lead = encoding_size(count) as u64;
+    if LIMIT - lead < body {
+        return Err(Fault::TooLarge);
+    }
+    Ok((lead + body) as u32)
+}
+
+/// What every counted section and type keeps: the number of its members, and their texts, one behind the
+/// other. A refused call leaves it as it was.
+#[derive(Drop)]
+pub struct Holder<A: Allocator = Global> {
+    /// Bytes that are kept in front, then the texts of the members.
+    bytes: Vec<u8, A>,
+    kept: usize,
+    count: u32,
+    finished: bool,
+}
+
+impl<A: Allocator> Model for Holder<A> {
+    ghost use Rattle.std.specs.Prelude.{◌<◌, ◌≤◌, ◌^◌, length, take, drop};
+    ghost use Rattle.wenc_base.specs.Holder.{Held, content_size};
+
+    ghost Value = { Held };
+
+    ghost view = { λ h. record { kept = take h.kept h.bytes.items; count = h.count; body = drop h.kept h.bytes.items; finished = h.finished } };
+
+    ghost invariant = { λ h. (h.kept ≤ length h.bytes.items) × (content_size h.count (length (drop h.kept h.bytes.items)) < 2 ^ 32) };
+}
+
+impl<A: Allocator> Holder<A> {
+    /// No members. It takes no memory.
+    #[tactic(auto, using(crate::proofs::Groups::size_1))]
+    pub fn new(alloc: A) -> Self
+        ensures { result ≡ no_members }
+    {
+        Holder {
+            bytes: Vec::new(alloc),
+            kept: 0,
+            count: 0,
+            finished: true,
+        }
+    }
+
+    /// How many members there are, one that is being written among them.
+    pub fn len(&self) -> u32
+        ensures { result ≡ self.now.count }
+    {
+        self.count
+    }
+
+    /// The texts of the members, one behind the other.
+    pub fn as_slice(&self) -> &[u8]
+        ensures { result.now ≡ self.now.body }
+    {
+        &self.bytes[self.kept..]
+    }
+
+    /// Whether no member is being written.
+    pub fn is_finished(&self) -> bool
+        ensures { result ≡ self.now.finished }
+    {
+        self.finished
+    }
+
+    /// The same members once more. It is refused for want of memory alone.
+    pub fn clone(&self) -> Result<Self, Fault>
+    where
+        A: Clone,
+        ensures same { IfOk result (λ h. h ≡ self.now) }
+        ensures refused { IfErr result IsMemory }
+    {
+        let mut bytes = Vec::new(self.bytes.allocator().clone()?);
+        bytes.extend_from_slice(self.bytes.as_slice())?;
+        Ok(Holder {
+            bytes,
+            kept: self.kept,
+            count: self.count,
+            finished: self.finished,
+        })
+    }
+
+    /// Adds one member with this text, as it is. It is refused where there would be more than 4294967295
+    /// members (`TooMany`), or more than 4294967295 bytes with those of their number (`TooLarge`).
+    pub fn add(&mut self, text: &[u8]) -> Result<(), Fault>
+        ensures { AddsMember as_they_are self.old self.new result (λ _. ⊥) text.now }
+    {
+        self.add_encoded(&Verbatim(text))
+    }
+
+    /// Adds one member with the text of this value. It is refused as `add` is, or as the value is.
+    pub fn add_encoded<E: Encode>(&mut self, value: &E) -> Result<(), Fault>
+        ensures { AddsMember as_they_are self.old self.new result (E.cause value.now) (E.text value.now) }
+    {
+        if !self.finished {
+            return Err(Fault::Unfinished);
+        }
+        let start = self.bytes.len();
+        value.encode(&mut self.bytes)?;
+        self.count = end_member(&mut self.bytes, self.kept, start, self.count)?;
+        Ok(())
+    }
+
+    /// Adds one member: the text of `lead`, the values as a list, the text of `tail`. It is refused as `add`
+    /// is, or as these are.
+    pub fn add_listed<E: Encode, T: Encode + Drop, I: Iterator<Item = T> + Drop, F: Encode>(
+        &mut self,
+        lead: &E,
+        values: I,
+        tail: &F,
+    ) -> Result<(), Fault>
+        requires can { I.can_next values }
+        requires ends { IsFinite (I.remaining values) }
+        ensures { AddsListed I.next_gives values as_they_are self.old self.new result
+            (listed_cause (E.cause lead.now) T.cause (F.cause tail.now))
+            (listed_text (E.text lead.now) T.text (F.text tail.now)) }
+    {
+        if !self.finished {
+            return Err(Fault::Unfinished);
+        }
+        let start = self.bytes.len();
+        encode_listed(lead, values, tail, &mut self.bytes)?;
+        self.count = end_member(&mut self.bytes, self.kept, start, self.count)?;
+        Ok(())
+    }
+
+    /// Appends the section's size, the number of members, and their texts. A finished one is refused for
+    /// want of memory alone.
+    #[tactic(auto, using(crate::proofs::Groups::size_of_u32))]
+    pub fn encode_section<B: Allocator>(&self, sink: &mut Vec<u8, B>) -> Result<(), Fault>
+        ensures ok { OnOk result (sink.new.items ≡ sink.old.items ++ section_text self.now) }
+        ensures finished { OnOk result (self.now.finished ≡ true) }
+        ensures err { OnErr result (sink.new.items ≡ sink.old.items) }
+        ensures warranted { IfErr result (IsWarranted (EncodeCause self.now)) }
+        ensures unfinished_first { self.now.finished ≡ false → result ≡ Err Unfinished }
+    {
+        if !self.finished {
+            return Err(Fault::Unfinished);
+        }
+        let body = self.as_slice();
+        let size = section_size(self.count, body.len() as u64)?;
+        let mut lead = Short::new();
+        lead.unsigned(u64::from(size));
+        lead.unsigned(u64::from(self.count));
+        let lead = lead.as_slice();
+        sink.try_reserve(lead.len() + body.len())?;
+        extend_in_room(sink, lead);
+        extend_in_room(sink, body);
+        Ok(())
+    }
+}
+
+/// Appends the text of a value, a list of values, and the text of another value.
+fn encode_listed<
+    E: Encode,
+    T: Encode + Drop,
+    I: Iterator<Item = T> + Drop,
+    F: Encode,
+    A: Allocator,
+>(lead: &E, values: I, tail: &F, sink: &mut Vec<u8, A>) -> Result<(), Fault>
+    requires can { I.can_next values }
+    requires ends { IsFinite (I.remaining values) }
+    ensures ok { OnOk result (WholeRun I.next_gives values (λ run.
+        (sink.new.items ≡ sink.old.items ++ listed_text (E.text lead.now) T.text (F.text tail.now) run.items)
+        × ((fault : FaultSpec) → listed_cause (E.cause lead.now) T.cause (F.cause tail.now) run.items fault → ⊥))) }
+    ensures err { OnErr result (sink.new.items ≡ sink.old.items) }
+    ensures warranted { IfErr result (λ fault. SomeRun I.next_gives values (λ run.
+        IsWarranted (listed_cause (E.cause lead.now) T.cause (F.cause tail.now) run.items) fault)) }
+{
+    let start = sink.len();
+    lead.encode(sink)?;
+    if let Err(fault) = encode_list(values, sink) {
+        sink.truncate(start);
+        return Err(fault);
+    }
+    match tail.encode(sink) {
+        Ok(()) => Ok(()),
+        Err(fault) => {
+            sink.truncate(start);
+            Err(fault)
+        }
+    }
+}
+
+/// Counts a member that was written from `start` on, or cuts it off where there is no room for it.
+fn end_member<A: Allocator>(
+    bytes: &mut Vec<u8, A>,
+    kept: usize,
+    start: usize,
+    count: u32,
+) -> Result<u32, Fault>
+    requires { (kept ≤ start) × (start ≤ length bytes.old.items) }
+    ensures ok { IfOk result (λ next. (next ≡ count + 1) × (content_size next (length (drop kept bytes.old.items)) < 2 ^ 32)) }
+    ensures same { OnOk result (bytes.new.items ≡ bytes.old.items) }
+    ensures err { OnErr result (bytes.new.items ≡ take start bytes.old.items) }
+    ensures free { (fault : FaultSpec) → CountCause count (length (drop kept bytes.old.items)) fault → OnOk result ⊥ }
+    ensures warranted { IfErr result (CountCause count (length (drop kept bytes.old.items))) }
+{
+    match next_count(count, bytes.len() - kept) {
+        Ok(next) => Ok(next),
+        Err(fault) => {
+            bytes.truncate(start);
+            Err(fault)
+        }
+    }
+}
+
+/// The number of members with one more, with which their texts have `body` bytes.
+fn next_count(count: u32, body: usize) -> Result<u32, Fault>
+    ensures ok { IfOk result (λ next. (next ≡ count + 1) × (content_size next body < 2 ^ 32)) }
+    ensures free { (fault : FaultSpec) → CountCause count body fault → OnOk result ⊥ }
+    ensures warranted { IfErr result (CountCause count body) }
+{
+    let Some(next) = count.checked_add(1) else {
+        return Err(Fault::TooMany);
+    };
+    section_size(next, body as u64)?;
+    Ok(next)
+}
+
+/// The bytes as they are.
+#[derive(Clone, Copy)]
+pub struct Verbatim<'a>(pub &'a [u8]);
+
+impl<'a> Encode for Verbatim<'a> {
+    ghost text = { λ v. v.0.now };
+
+    ghost cause = { λ _ _. ⊥ };
+
+    fn encode<A: Allocator>(&self, sink: &mut Vec<u8, A>) -> Result<(), Fault> {
+        sink.extend_from_slice(self.0)?;
+        Ok(())
+    }
+}

@@ -1,0 +1,207 @@
+ghost use Rattle.std.specs.Prelude.{◌≡◌};
+ghost use Rattle.wenc_base.specs.Lawful.{delimited as told_apart};
+
+use crate::delimited::Delimited;
+use crate::encode::{Encode, Tagged};
+use crate::fault::Fault;
+use std::alloc::Allocator;
+
+/// A value type of a core module (WebAssembly 3.0, binary format, "Value Types").
+#[derive(Clone, Copy, Debug, PartialEq, Eq)]
+pub enum ValType {
+    /// A 32-bit integer.
+    I32,
+    /// A 64-bit integer.
+    I64,
+    /// A 32-bit floating point number.
+    F32,
+    /// A 64-bit floating point number.
+    F64,
+    /// A vector of 128 bits.
+    V128,
+    /// A reference.
+    Ref(RefType),
+}
+
+impl Encode for ValType {
+    ghost use Rattle.wenc_base.specs.Types.{val_type};
+
+    ghost text = { λ t. (val_type t).text };
+
+    ghost cause = { λ _ _. ⊥ };
+
+    fn encode<A: Allocator>(&self, sink: &mut Vec<u8, A>) -> Result<(), Fault> {
+        let byte = match self {
+            ValType::I32 => 0x7f,
+            ValType::I64 => 0x7e,
+            ValType::F32 => 0x7d,
+            ValType::F64 => 0x7c,
+            ValType::V128 => 0x7b,
+            ValType::Ref(ty) => return ty.encode(sink),
+        };
+        sink.push(byte)?;
+        Ok(())
+    }
+}
+
+impl Delimited for ValType {
+    ghost use Rattle.wenc_base.specs.Types.{val_type};
+    ghost use Rattle.wenc_base.specs.TypeLaws.{val_type_lawful};
+
+    ghost fits = { λ x. (val_type x).Fits };
+
+    ghost same = { λ a b. a ≡ b };
+
+    ghost delimited = { λ a b. told_apart (val_type_lawful a) (val_type_lawful b) };
+}
+
+/// The type of a reference (WebAssembly 3.0, binary format, "Reference Types").
+#[derive(Clone, Copy, Debug, PartialEq, Eq)]
+pub struct RefType {
+    /// Whether it may be null.
+    pub nullable: bool,
+    /// What it refers to.
+    pub heap_type: HeapType,
+}
+
+impl Encode for RefType {
+    ghost use Rattle.wenc_base.specs.Types.{reference};
+
+    ghost text = { λ r. (reference r).text };
+
+    ghost cause = { λ _ _. ⊥ };
+
+    fn encode<A: Allocator>(&self, sink: &mut Vec<u8, A>) -> Result<(), Fault> {
+        if !self.nullable {
+            return Tagged(0x64, &self.heap_type).encode(sink);
+        }
+        match self.heap_type {
+            HeapType::Abstract(AbstractHeapType::Func | AbstractHeapType::Extern) => {
+                self.heap_type.encode(sink)
+            }
+            _ => Tagged(0x63, &self.heap_type).encode(sink),
+        }
+    }
+}
+
+impl Delimited for RefType {
+    ghost use Rattle.wenc_base.specs.Types.{reference};
+    ghost use Rattle.wenc_base.specs.TypeLaws.{reference_lawful};
+
+    ghost fits = { λ x. (reference x).Fits };
+
+    ghost same = { λ a b. a ≡ b };
+
+    ghost delimited = { λ a b. told_apart (reference_lawful a) (reference_lawful b) };
+}
+
+/// What a reference refers to (WebAssembly 3.0, binary format, "Heap Types").
+#[derive(Clone, Copy, Debug, PartialEq, Eq)]
+pub enum HeapType {
+    /// Something of this kind.
+    Abstract(AbstractHeapType),
+    /// Something of the type with this index, from 0 to 4294967295.
+    Concrete(u32),
+}
+
+impl Encode for HeapType {
+    ghost use Rattle.wenc_base.specs.Types.{heap_type};
+
+    ghost text = { λ h. (heap_type h).text };
+
+    ghost cause = { λ _ _. ⊥ };
+
+    fn encode<A: Allocator>(&self, sink: &mut Vec<u8, A>) -> Result<(), Fault> {
+        match self {
+            HeapType::Abstract(ty) => ty.encode(sink),
+            HeapType::Concrete(index) => i64::from(*index).encode(sink),
+        }
+    }
+}
+
+impl Delimited for HeapType {
+    ghost use Rattle.wenc_base.specs.Types.{heap_type};
+    ghost use Rattle.wenc_base.specs.TypeLaws.{heap_type_lawful};
+
+    ghost fits = { λ x. (heap_type x).Fits };
+
+    ghost same = { λ a b. a ≡ b };
+
+    ghost delimited = { λ a b. told_apart (heap_type_lawful a) (heap_type_lawful b) };
+}
+
+/// A heap type that the standard names (WebAssembly 3.0, binary format, "Heap Types").
+#[derive(Clone, Copy, Debug, PartialEq, Eq)]
+pub enum AbstractHeapType {
+    /// All functions.
+    Func,
+    /// Whatever the host refers to.
+    Extern,
+    /// Whatever a module refers to but functions, exceptions and the host's things.
+    Any,
+    /// What no `Any` is.
+    None,
+    /// What no `Extern` is.
+    NoExtern,
+    /// What no `Func` is.
+    NoFunc,
+    /// What can be compared.
+    Eq,
+    /// All structures.
+    Struct,
+    /// All arrays.
+    Array,
+    /// Integers of 31 bits without a box.
+    I31,
+    /// Exceptions.
+    Exn,
+    /// What no `Exn` is.
+    NoExn,
+}
+
+impl AbstractHeapType {
+    ghost use Rattle.wenc_base.specs.Types.{abstract_byte};
+
+    fn byte(self) -> u8
+        ensures { result ≡ abstract_byte self }
+    {
+        match self {
+            AbstractHeapType::Func => 0x70,
+            AbstractHeapType::Extern => 0x6f,
+            AbstractHeapType::Any => 0x6e,
+            AbstractHeapType::None => 0x71,
+            AbstractHeapType::NoExtern => 0x72,
+            AbstractHeapType::NoFunc => 0x73,
+            AbstractHeapType::Eq => 0x6d,
+            AbstractHeapType::Struct => 0x6b,
+            AbstractHeapType::Array => 0x6a,
+            AbstractHeapType::I31 => 0x6c,
+            AbstractHeapType::Exn => 0x69,
+            AbstractHeapType::NoExn => 0x74,
+        }
+    }
+}
+
+impl Encode for AbstractHeapType {
+    ghost use Rattle.wenc_base.specs.Types.{abstract_type};
+
+    ghost text = { λ t. (abstract_type t).text };
+
+    ghost cause = { λ _ _. ⊥ };
+
+    fn encode<A: Allocator>(&self, sink: &mut Vec<u8, A>) -> Result<(), Fault> {
+        sink.push(self.byte())?;
+        Ok(())
+    }
+}
+
+impl Delimited for AbstractHeapType {
+    ghost use Rattle.wenc_base.specs.Types.{abstract_type};
+    ghost use Rattle.wenc_base.specs.TypeLaws.{abstract_type_lawful};
+
+    ghost fits = { λ x. (abstract_type x).Fits };
+
+    ghost same = { λ a b. a ≡ b };
+
+    ghost delimited = { λ a b. told_apart (abstract_type_lawful a) (abstract_type_lawful b) };
+}
