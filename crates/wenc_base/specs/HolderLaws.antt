@@ -61,21 +61,21 @@ adds_as text old new outcome cause other member same a = record {
 
 -- and of a call that adds one that is made of values which an iterator gives
 pub adds_listed_as : {S A B : Type 0} (steps : S → Option B → S → Type 0) (values : S) (text : A → List ℕ) (old new : Held) (outcome : Result (Unit {0}) Fault)
-    (cause other : List B → Fault → Type 0) (member : List B → A) → ((vs : List B) → SameCause (cause vs) (other vs))
-    → AddsListed steps values as_they_are old new outcome cause (λ vs. text (member vs)) → AddsListed steps values text old new outcome other member
-adds_listed_as steps values text old new outcome cause other member same a = record {
+    (cause other : List B → Fault → Type 0) (written : List B → List ℕ) (member : List B → A) → ((vs : List B) → written vs ≡ text (member vs)) → ((vs : List B) → SameCause (cause vs) (other vs))
+    → AddsListed steps values as_they_are old new outcome cause written → AddsListed steps values text old new outcome other member
+adds_listed_as steps values text old new outcome cause other written member e same a = record {
   ok = accepted outcome a.ok;
   err = a.err;
   warranted = warranted outcome a.warranted;
   unfinished_first = a.unfinished_first;
 }
   where
-    accepted : (outcome : Result (Unit {0}) Fault) → OnOk outcome (WholeRun steps values (λ run. Accepted as_they_are old new (cause run.items) (text (member run.items))))
+    accepted : (outcome : Result (Unit {0}) Fault) → OnOk outcome (WholeRun steps values (λ run. Accepted as_they_are old new (cause run.items) (written run.items)))
         → OnOk outcome (WholeRun steps values (λ run. Accepted text old new (other run.items) (member run.items)))
-    accepted (Ok u) h = (h.0, h.1, h.2, accepted_as text old new (cause h.0.items) (other h.0.items) (member h.0.items) (same h.0.items) h.3)
+    accepted (Ok u) h = (h.0, h.1, h.2, accepted_as text old new (cause h.0.items) (other h.0.items) (member h.0.items) (same h.0.items) (rw (e h.0.items) at h.3))
     accepted (Err fault) h = tt
 
-    warranted : (outcome : Result (Unit {0}) Fault) → IfErr outcome (λ fault. SomeRun steps values (λ run. IsWarranted (AddCause old (text (member run.items)) (cause run.items)) fault))
+    warranted : (outcome : Result (Unit {0}) Fault) → IfErr outcome (λ fault. SomeRun steps values (λ run. IsWarranted (AddCause old (written run.items) (cause run.items)) fault))
         → IfErr outcome (λ fault. SomeRun steps values (λ run. IsWarranted (AddCause old (text (member run.items)) (other run.items)) fault))
     warranted (Ok u) h = tt
-    warranted (Err fault) h = (h.0, h.1, still_warranted _ _ (same_add old (text (member h.0.items)) (cause h.0.items) (other h.0.items) (same h.0.items).0) fault h.2)
+    warranted (Err fault) h = (h.0, h.1, still_warranted _ _ (same_add old (text (member h.0.items)) (cause h.0.items) (other h.0.items) (same h.0.items).0) fault (rw (e h.0.items) at h.2))

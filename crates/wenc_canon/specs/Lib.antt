@@ -1,0 +1,2 @@
+pub mod Canonicals
+pub mod CanonicalLaws

@@ -1,0 +1,169 @@
+ghost use Rattle.std.specs.Prelude.{◌≡◌, ◌==◌, false, IfOk, IfErr};
+ghost use Rattle.std.specs.Iterator.{IsFinite};
+ghost use Rattle.wenc_base.specs.Fault.{IsMemory};
+ghost use Rattle.wenc_base.specs.Holder.{no_members, section_text, EncodeCause};
+ghost use Rattle.wenc_base.specs.Lawful.{delimited as told_apart};
+ghost use Rattle.wenc_canon.specs.Canonicals.{AddsWithOptions, Lift, Lower};
+
+mod intrinsics;
+
+use std::alloc::{Allocator, Global};
+use std::marker::Model;
+use wenc_base::{Delimited, Encode, Fault, Holder, Tagged};
+use wenc_parts::{ComponentSection, ComponentSectionId};
+
+/// An option of a function that is lifted or lowered, or of an intrinsic that reads or writes values
+/// (component model, binary format, `canonopt`). Each index is from 0 to 4294967295.
+#[derive(Clone, Copy, Debug, PartialEq, Eq)]
+pub enum CanonicalOption {
+    /// Texts are UTF-8.
+    UTF8,
+    /// Texts are UTF-16.
+    UTF16,
+    /// Texts are Latin-1 or UTF-16.
+    CompactUTF16,
+    /// The core memory with this index is read and written.
+    Memory(u32),
+    /// The core function with this index gives memory.
+    Realloc(u32),
+    /// The core function with this index is called after the function has returned.
+    PostReturn(u32),
+    /// The function is lifted or lowered for calls that may wait.
+    Async,
+    /// The core function with this index is told what happened to a task that waits.
+    Callback(u32),
+    /// The function is lowered to the core type with this index.
+    CoreType(u32),
+    /// Values are those of WebAssembly's garbage collection.
+    Gc,
+}
+
+impl Encode for CanonicalOption {
+    ghost use Rattle.wenc_canon.specs.Canonicals.{canonical_option};
+
+    ghost text = { λ o. (canonical_option o).text };
+
+    ghost cause = { λ _ _. ⊥ };
+
+    fn encode<A: Allocator>(&self, sink: &mut Vec<u8, A>) -> Result<(), Fault> {
+        match self {
+            CanonicalOption::UTF8 => Tagged(0x00, &()).encode(sink),
+            CanonicalOption::UTF16 => Tagged(0x01, &()).encode(sink),
+            CanonicalOption::CompactUTF16 => Tagged(0x02, &()).encode(sink),
+            CanonicalOption::Memory(index) => Tagged(0x03, index).encode(sink),
+            CanonicalOption::Realloc(index) => Tagged(0x04, index).encode(sink),
+            CanonicalOption::PostReturn(index) => Tagged(0x05, index).encode(sink),
+            CanonicalOption::Async => Tagged(0x06, &()).encode(sink),
+            CanonicalOption::Callback(index) => Tagged(0x07, index).encode(sink),
+            CanonicalOption::CoreType(index) => Tagged(0x08, index).encode(sink),
+            CanonicalOption::Gc => Tagged(0x09, &()).encode(sink),
+        }
+    }
+}
+
+impl Delimited for CanonicalOption {
+    ghost use Rattle.wenc_canon.specs.Canonicals.{canonical_option};
+    ghost use Rattle.wenc_canon.specs.CanonicalLaws.{canonical_option_lawful};
+
+    ghost fits = { λ o. (canonical_option o).Fits };
+
+    ghost same = { λ a b. a ≡ b };
+
+    ghost delimited = { λ a b. told_apart (canonical_option_lawful a) (canonical_option_lawful b) };
+}
+
+/// The section of canonical functions (component model, binary format, "Canonical Definitions"). A call
+/// that is refused leaves it as it was.
+#[derive(Drop)]
+pub struct CanonicalFunctionSection<A: Allocator = Global> {
+    functions: Holder<A>,
+}
+
+impl<A: Allocator> Model for CanonicalFunctionSection<A> {
+    ghost use Rattle.wenc_base.specs.Holder.{Held};
+
+    ghost Value = { Held };
+
+    ghost view = { λ s. s.functions };
+}
+
+impl<A: Allocator> CanonicalFunctionSection<A> {
+    /// No functions. It takes no memory.
+    pub fn new(alloc: A) -> Self
+        ensures { result ≡ no_members }
+    {
+        CanonicalFunctionSection {
+            functions: Holder::new(alloc),
+        }
+    }
+
+    /// How many functions the section has.
+    pub fn len(&self) -> u32
+        ensures { result ≡ self.now.count }
+    {
+        self.functions.len()
+    }
+
+    /// Whether it has none.
+    pub fn is_empty(&self) -> bool
+        ensures { result ≡ (self.now.count == 0) }
+    {
+        self.len() == 0
+    }
+
+    /// The same functions once more. It is refused for want of memory alone.
+    pub fn clone(&self) -> Result<Self, Fault>
+    where
+        A: Clone,
+        ensures same { IfOk result (λ s. s ≡ self.now) }
+        ensures refused { IfErr result IsMemory }
+    {
+        let functions = self.functions.clone()?;
+        Ok(CanonicalFunctionSection { functions })
+    }
+
+    /// Lifts the core function with this index to a function of the component type with that one. It is
+    /// refused where there would be more than 4294967295 functions or options (`TooMany`), or more than
+    /// 4294967295 bytes in the section (`TooLarge`).
+    pub fn lift<I: Iterator<Item = CanonicalOption> + Drop>(&mut self, core_func: u32, ty: u32, options: I) -> Result<(), Fault>
+        requires can { I.can_next options }
+        requires ends { IsFinite (I.remaining options) }
+        ensures { AddsWithOptions I.next_gives options self.old self.new result (λ os. Lift core_func os ty) }
+    {
+        let lead = Tagged(0x00, &core_func);
+        self.functions.add_listed(&Tagged(0x00, &lead), options, &ty)
+    }
+
+    /// Lowers the component function with this index to a core function. It is refused where there would be
+    /// more than 4294967295 functions or options (`TooMany`), or more than 4294967295 bytes in the section
+    /// (`TooLarge`).
+    pub fn lower<I: Iterator<Item = CanonicalOption> + Drop>(&mut self, func: u32, options: I) -> Result<(), Fault>
+        requires can { I.can_next options }
+        requires ends { IsFinite (I.remaining options) }
+        ensures { AddsWithOptions I.next_gives options self.old self.new result (λ os. Lower func os) }
+    {
+        let lead = Tagged(0x00, &func);
+        self.functions.add_listed(&Tagged(0x01, &lead), options, &())
+    }
+}
+
+/// A finished section is refused for want of memory alone.
+impl<A: Allocator> Encode for CanonicalFunctionSection<A> {
+    ghost text = { λ s. section_text s };
+
+    ghost cause = { λ s. EncodeCause s };
+
+    ghost unfinished = { λ s. s.finished ≡ false };
+
+    fn encode<B: Allocator>(&self, sink: &mut Vec<u8, B>) -> Result<(), Fault> {
+        self.functions.encode_section(sink)
+    }
+}
+
+impl<A: Allocator> ComponentSection for CanonicalFunctionSection<A> {
+    ghost section_id = { λ _. 8 };
+
+    fn id(&self) -> u8 {
+        u8::from(ComponentSectionId::CanonicalFunction)
+    }
+}
