@@ -28,6 +28,8 @@ mod aliases;
 #[cfg(test)]
 mod builder;
 #[cfg(test)]
+mod canonicals;
+#[cfg(test)]
 mod commands;
 #[cfg(test)]
 mod names;

@@ -1,6 +1,7 @@
 -- An accepted call adds its entry to whatever was held, and a refused one has a cause.
 use Rattle.std.proofs.Common.{◌≡◌, ℕ, ◌<◌, ◌⊎◌, inl, inr, List, ◌++◌, Option, None, Some, Result, Ok, Err, refl, sym, ◌∙◌, ap, subst}
 use Rattle.std.specs.Result.{IfOk, IfErr, OnOk}
+use Rattle.wenc_base.specs.Fault.{first_of}
 use Rattle.wenc_base.specs.declared.fault.Fault.{Fault}
 use Rattle.wenc_base.specs.declared.fault.Fault.TheVariants.{Memory, TooMany, TooLarge, Unfinished}
 use Rattle.wenc_parts.specs.declared.exports.ComponentExportKind.{ComponentExportKind}
@@ -128,12 +129,11 @@ alias_writes to space name s = record {
 }
 
 -- what refuses a pair refuses its name, where the rest is never refused
-pub first_cause : (cause : Fault → Type 0) (f : Fault) → cause f ⊎ ⊥ → cause f
+pub first_cause : (cause : Fault → Type 0) (f : Fault) → first_of cause (λ fault. ⊥) f → cause f
 first_cause cause f (inl c) = c
-first_cause cause f (inr c) = absurd c
+first_cause cause f (inr c) = absurd c.1
 
-pub only_name : {P : ComponentTypeRef → Type 0} (cause : Fault → Type 0) (f : Fault) → cause f ⊎ (⊥ ⊎ (⊥ ⊎ ((r : ComponentTypeRef) × P r × ⊥))) → cause f
+pub only_name : {P : ComponentTypeRef → Type 0} (cause : Fault → Type 0) (f : Fault)
+    → first_of cause (first_of (λ fault. ⊥) (first_of (λ fault. ⊥) (λ fault. (r : ComponentTypeRef) × P r × ⊥))) f → cause f
 only_name cause f (inl c) = c
-only_name cause f (inr (inl c)) = absurd c
-only_name cause f (inr (inr (inl c))) = absurd c
-only_name cause f (inr (inr (inr c))) = absurd c.2
+only_name cause f (inr c) = elim c.1 [ inl one ↦ absurd one | inr d ↦ elim d.1 [ inl two ↦ absurd two | inr e ↦ absurd e.1.2 ] ]

@@ -7,7 +7,11 @@ pub mod examples;
 
 pub use builder::ComponentBuilder;
 pub use command::{Built, Command, build};
-pub use wenc_base::{Delimited, Encode, ExportKind, Fault, encode_list, encoding_size};
+pub use wenc_base::{
+    AbstractHeapType, Delimited, Encode, ExportKind, Fault, HeapType, Holder, RefType, ValType,
+    encode_list, encoding_size, section_size,
+};
+pub use wenc_canon::{CanonicalFunctionSection, CanonicalOption};
 pub use wenc_parts::{
     Alias, AliasTree, ComponentExportKind, ComponentExternName, ComponentOuterAliasKind,
     ComponentSection, ComponentSectionId, ComponentTypeRef, ComponentValType, ModuleArg, NameTree,

@@ -1,11 +1,14 @@
 -- What follows where a holder took a member.
-use Rattle.std.proofs.Common.{◌≡◌, ℕ, List, [], ◌∷◌, ◌++◌, Option, Result, Ok, Err, OnOk, IfErr, sym, ap, ◌∙◌, arith, inl, inr}
+use Rattle.std.proofs.Common.{◌≡◌, ℕ, List, [], ◌∷◌, ◌++◌, Option, Result, Ok, Err, OnOk, IfErr, sym, ap, ◌∙◌, arith, inl, inr, refl, length}
 use Rattle.std.proofs.lemmas.List.{append-nil, length-append}
 use Rattle.std.proofs.lemmas.Grind.{flat_map-append}
 use Rattle.std.specs.Iterator.Runs.{SomeRun, WholeRun}
 use Rattle.std.specs.List.{flat_map}
 use Rattle.wenc_base.specs.Fault.{IsWarranted}
-use Rattle.wenc_base.specs.Holder.{Held, with_member, Contains, as_they_are, AddCause, Accepted, AddsMember, AddsListed}
+use Rattle.wenc_base.specs.Piece.{Form, whole}
+use Rattle.wenc_base.specs.Number.{unsigned_text}
+use Rattle.wenc_base.specs.Forms.{list, sized}
+use Rattle.wenc_base.specs.Holder.{Held, section_text, with_member, Contains, as_they_are, AddCause, Accepted, AddsMember, AddsListed}
 use Rattle.wenc_base.specs.declared.fault.Fault.{Fault}
 use Rattle.wenc_base.specs.declared.fault.Fault.TheVariants.{Memory, TooMany, TooLarge, Unfinished}
 
@@ -17,6 +20,10 @@ contains_next text old new member members e c = rw e (record {
   count = omega (arith, c.count, length-append members (member ∷ []));
   body = rw c.body (sym (flat_map-append text members (member ∷ []) ∙ ap (λ (t : List ℕ). flat_map text members ++ t) (append-nil (text member))));
 })
+
+-- the text of a section is that of its members in the grammar
+pub section_of : {A : Type 0} (form : Form A) (h : Held) (members : List A) → Contains (λ m. (form m).text) h members → section_text h ≡ (sized (whole (list form members))).text
+section_of form h members c = rw (← c.count, c.body, ← length-append (unsigned_text (length members)) (flat_map (λ m. (form m).text) members)) refl
 
 -- another cause that follows warrants the same faults
 pub still_warranted : (one other : Fault → Type 0) → ((fault : Fault) → one fault → other fault) → (fault : Fault) → IsWarranted one fault → IsWarranted other fault

@@ -1,6 +1,5 @@
 -- The laws of canonical functions.
-use Rattle.std.proofs.Common.{◌≡◌, ℕ, Bool, List, [], ◌∷◌, ◌++◌, length, Option, Result, refl, sym, ap, ◌∙◌, inl, inr}
-use Rattle.wenc_base.specs.Piece.{Form, byte}
+use Rattle.std.proofs.Common.{ℕ, List, [], ◌∷◌, refl}
 use Rattle.wenc_base.specs.Lawful.{Lawful, Reader, ◌>>=◌, give, nowhere, choose, done, row as in_row, row_byte, nothing_lawful, then, last, whole_lawful}
 use Rattle.wenc_base.specs.NumberLaws.{read_groups, u32_lawful}
 use Rattle.wenc_base.specs.FormLaws.{read_flag, flag_lawful, read_list, list_lawful, read_sized, sized_lawful}

@@ -1,6 +1,6 @@
 -- Canonical functions (component model, binary format, "Canonical Definitions"; opcodes and fields as docs/FORMAT.md lists them).
-use Rattle.std.specs.Prelude.{ℕ, Bool, true, false, List, [], ◌∷◌, Option, Result, length}
-use Rattle.wenc_base.specs.Piece.{Piece, Form, byte, nothing, ◌▸◌, ◌⨾◌, whole}
+use Rattle.std.specs.Prelude.{ℕ, Bool, List, [], ◌∷◌, Option, Result, length}
+use Rattle.wenc_base.specs.Piece.{Form, byte, nothing, ◌▸◌, ◌⨾◌, whole}
 use Rattle.wenc_base.specs.Number.{u32}
 use Rattle.wenc_base.specs.Forms.{flag, list, sized}
 use Rattle.wenc_base.specs.Types.{val_type}

@@ -125,25 +125,36 @@ impl<A: Allocator> CanonicalFunctionSection<A> {
     /// Lifts the core function with this index to a function of the component type with that one. It is
     /// refused where there would be more than 4294967295 functions or options (`TooMany`), or more than
     /// 4294967295 bytes in the section (`TooLarge`).
-    pub fn lift<I: Iterator<Item = CanonicalOption> + Drop>(&mut self, core_func: u32, ty: u32, options: I) -> Result<(), Fault>
+    pub fn lift<I: Iterator<Item = CanonicalOption> + Drop>(
+        &mut self,
+        core_func: u32,
+        ty: u32,
+        options: I,
+    ) -> Result<(), Fault>
         requires can { I.can_next options }
         requires ends { IsFinite (I.remaining options) }
         ensures { AddsWithOptions I.next_gives options self.old self.new result (λ os. Lift core_func os ty) }
     {
         let lead = Tagged(0x00, &core_func);
-        self.functions.add_listed(&Tagged(0x00, &lead), options, &ty)
+        self.functions
+            .add_listed(&Tagged(0x00, &lead), options, &ty)
     }
 
     /// Lowers the component function with this index to a core function. It is refused where there would be
     /// more than 4294967295 functions or options (`TooMany`), or more than 4294967295 bytes in the section
     /// (`TooLarge`).
-    pub fn lower<I: Iterator<Item = CanonicalOption> + Drop>(&mut self, func: u32, options: I) -> Result<(), Fault>
+    pub fn lower<I: Iterator<Item = CanonicalOption> + Drop>(
+        &mut self,
+        func: u32,
+        options: I,
+    ) -> Result<(), Fault>
         requires can { I.can_next options }
         requires ends { IsFinite (I.remaining options) }
         ensures { AddsWithOptions I.next_gives options self.old self.new result (λ os. Lower func os) }
     {
         let lead = Tagged(0x00, &func);
-        self.functions.add_listed(&Tagged(0x01, &lead), options, &())
+        self.functions
+            .add_listed(&Tagged(0x01, &lead), options, &())
     }
 }
 

@@ -2,5 +2,7 @@
 #![tactic(auto)]
 
 pub mod canonicals;
+pub mod examples;
+pub mod laws;
 
 pub use canonicals::{CanonicalFunctionSection, CanonicalOption};

@@ -1,4 +1,5 @@
 #![tactic(auto, using(wenc_base::specs::HolderLaws::adds_as))]
+
 ghost use Rattle.std.specs.Iterator.{IsFinite};
 ghost use Rattle.wenc_canon.specs.Canonicals as rows;
 ghost use Rattle.wenc_canon.specs.Canonicals.{Adds, AddsWithOptions, Provided};
@@ -68,12 +69,17 @@ impl<A: Allocator> CanonicalFunctionSection<A> {
     }
 
     /// `task.return`: gives the caller of a lifted function its result, or none, while the callee goes on.
-    pub fn task_return<I: Iterator<Item = CanonicalOption> + Drop>(&mut self, ty: Option<ComponentValType>, options: I) -> Result<(), Fault>
+    pub fn task_return<I: Iterator<Item = CanonicalOption> + Drop>(
+        &mut self,
+        ty: Option<ComponentValType>,
+        options: I,
+    ) -> Result<(), Fault>
         requires can { I.can_next options }
         requires ends { IsFinite (I.remaining options) }
         ensures { AddsWithOptions I.next_gives options self.old self.new result (λ os. Provided rows.TaskReturn (ty, os)) }
     {
-        self.functions.add_listed(&Tagged(0x09, &ResultList(ty)), options, &())
+        self.functions
+            .add_listed(&Tagged(0x09, &ResultList(ty)), options, &())
     }
 
     /// `task.cancel`: says that the current task was cancelled.
@@ -119,7 +125,11 @@ impl<A: Allocator> CanonicalFunctionSection<A> {
     }
 
     /// `stream.read`: reads from a stream of this type.
-    pub fn stream_read<I: Iterator<Item = CanonicalOption> + Drop>(&mut self, ty: u32, options: I) -> Result<(), Fault>
+    pub fn stream_read<I: Iterator<Item = CanonicalOption> + Drop>(
+        &mut self,
+        ty: u32,
+        options: I,
+    ) -> Result<(), Fault>
         requires can { I.can_next options }
         requires ends { IsFinite (I.remaining options) }
         ensures { AddsWithOptions I.next_gives options self.old self.new result (λ os. Provided rows.StreamRead (ty, os)) }
@@ -128,7 +138,11 @@ impl<A: Allocator> CanonicalFunctionSection<A> {
     }
 
     /// `stream.write`: writes to a stream of this type.
-    pub fn stream_write<I: Iterator<Item = CanonicalOption> + Drop>(&mut self, ty: u32, options: I) -> Result<(), Fault>
+    pub fn stream_write<I: Iterator<Item = CanonicalOption> + Drop>(
+        &mut self,
+        ty: u32,
+        options: I,
+    ) -> Result<(), Fault>
         requires can { I.can_next options }
         requires ends { IsFinite (I.remaining options) }
         ensures { AddsWithOptions I.next_gives options self.old self.new result (λ os. Provided rows.StreamWrite (ty, os)) }
@@ -179,7 +193,11 @@ impl<A: Allocator> CanonicalFunctionSection<A> {
     }
 
     /// `future.read`: reads from a future of this type.
-    pub fn future_read<I: Iterator<Item = CanonicalOption> + Drop>(&mut self, ty: u32, options: I) -> Result<(), Fault>
+    pub fn future_read<I: Iterator<Item = CanonicalOption> + Drop>(
+        &mut self,
+        ty: u32,
+        options: I,
+    ) -> Result<(), Fault>
         requires can { I.can_next options }
         requires ends { IsFinite (I.remaining options) }
         ensures { AddsWithOptions I.next_gives options self.old self.new result (λ os. Provided rows.FutureRead (ty, os)) }
@@ -188,7 +206,11 @@ impl<A: Allocator> CanonicalFunctionSection<A> {
     }
 
     /// `future.write`: writes to a future of this type.
-    pub fn future_write<I: Iterator<Item = CanonicalOption> + Drop>(&mut self, ty: u32, options: I) -> Result<(), Fault>
+    pub fn future_write<I: Iterator<Item = CanonicalOption> + Drop>(
+        &mut self,
+        ty: u32,
+        options: I,
+    ) -> Result<(), Fault>
         requires can { I.can_next options }
         requires ends { IsFinite (I.remaining options) }
         ensures { AddsWithOptions I.next_gives options self.old self.new result (λ os. Provided rows.FutureWrite (ty, os)) }
@@ -232,7 +254,10 @@ impl<A: Allocator> CanonicalFunctionSection<A> {
     }
 
     /// `error-context.new`: makes an error context of a message.
-    pub fn error_context_new<I: Iterator<Item = CanonicalOption> + Drop>(&mut self, options: I) -> Result<(), Fault>
+    pub fn error_context_new<I: Iterator<Item = CanonicalOption> + Drop>(
+        &mut self,
+        options: I,
+    ) -> Result<(), Fault>
         requires can { I.can_next options }
         requires ends { IsFinite (I.remaining options) }
         ensures { AddsWithOptions I.next_gives options self.old self.new result (λ os. Provided rows.ErrorContextNew os) }
@@ -241,7 +266,10 @@ impl<A: Allocator> CanonicalFunctionSection<A> {
     }
 
     /// `error-context.debug-message`: gives the message of an error context.
-    pub fn error_context_debug_message<I: Iterator<Item = CanonicalOption> + Drop>(&mut self, options: I) -> Result<(), Fault>
+    pub fn error_context_debug_message<I: Iterator<Item = CanonicalOption> + Drop>(
+        &mut self,
+        options: I,
+    ) -> Result<(), Fault>
         requires can { I.can_next options }
         requires ends { IsFinite (I.remaining options) }
         ensures { AddsWithOptions I.next_gives options self.old self.new result (λ os. Provided rows.ErrorContextDebugMessage os) }
@@ -267,14 +295,16 @@ impl<A: Allocator> CanonicalFunctionSection<A> {
     pub fn waitable_set_wait(&mut self, memory: u32) -> Result<(), Fault>
         ensures { Adds self.old self.new result rows.WaitableSetWait (tt, memory) }
     {
-        self.functions.add_encoded(&Tagged(0x20, &Tagged(0x00, &memory)))
+        self.functions
+            .add_encoded(&Tagged(0x20, &Tagged(0x00, &memory)))
     }
 
     /// `waitable-set.poll`: looks whether something in a set happened, which is written to this memory.
     pub fn waitable_set_poll(&mut self, memory: u32) -> Result<(), Fault>
         ensures { Adds self.old self.new result rows.WaitableSetPoll (tt, memory) }
     {
-        self.functions.add_encoded(&Tagged(0x21, &Tagged(0x00, &memory)))
+        self.functions
+            .add_encoded(&Tagged(0x21, &Tagged(0x00, &memory)))
     }
 
     /// `waitable-set.drop`: drops a set of what can be waited for.
@@ -316,41 +346,47 @@ impl<A: Allocator> CanonicalFunctionSection<A> {
     pub fn thread_suspend(&mut self) -> Result<(), Fault>
         ensures { Adds self.old self.new result rows.ThreadSuspend tt }
     {
-        self.functions.add_encoded(&Tagged(0x29, &Tagged(0x00, &())))
+        self.functions
+            .add_encoded(&Tagged(0x29, &Tagged(0x00, &())))
     }
 
     /// `thread.yield`: lets other threads go on.
     pub fn thread_yield(&mut self) -> Result<(), Fault>
         ensures { Adds self.old self.new result rows.ThreadYield tt }
     {
-        self.functions.add_encoded(&Tagged(0x0c, &Tagged(0x00, &())))
+        self.functions
+            .add_encoded(&Tagged(0x0c, &Tagged(0x00, &())))
     }
 
     /// `thread.suspend-then-resume`: suspends the current thread, and lets another go on at once.
     pub fn thread_suspend_then_resume(&mut self) -> Result<(), Fault>
         ensures { Adds self.old self.new result rows.ThreadSuspendThenResume tt }
     {
-        self.functions.add_encoded(&Tagged(0x2a, &Tagged(0x00, &())))
+        self.functions
+            .add_encoded(&Tagged(0x2a, &Tagged(0x00, &())))
     }
 
     /// `thread.yield-then-resume`: lets another thread go on at once, and this one after it.
     pub fn thread_yield_then_resume(&mut self) -> Result<(), Fault>
         ensures { Adds self.old self.new result rows.ThreadYieldThenResume tt }
     {
-        self.functions.add_encoded(&Tagged(0x2b, &Tagged(0x00, &())))
+        self.functions
+            .add_encoded(&Tagged(0x2b, &Tagged(0x00, &())))
     }
 
     /// `thread.suspend-then-promote`: suspends the current thread, and moves another to the front of those that wait.
     pub fn thread_suspend_then_promote(&mut self) -> Result<(), Fault>
         ensures { Adds self.old self.new result rows.ThreadSuspendThenPromote tt }
     {
-        self.functions.add_encoded(&Tagged(0x2c, &Tagged(0x00, &())))
+        self.functions
+            .add_encoded(&Tagged(0x2c, &Tagged(0x00, &())))
     }
 
     /// `thread.yield-then-promote`: lets other threads go on, the one that is moved to the front of those that wait first.
     pub fn thread_yield_then_promote(&mut self) -> Result<(), Fault>
         ensures { Adds self.old self.new result rows.ThreadYieldThenPromote tt }
     {
-        self.functions.add_encoded(&Tagged(0x2d, &Tagged(0x00, &())))
+        self.functions
+            .add_encoded(&Tagged(0x2d, &Tagged(0x00, &())))
     }
 }

@@ -1,0 +1,111 @@
+use crate::parts::text;
+use std::alloc::Global;
+use std::process::Abort;
+use std::test::Fail;
+use wasm_encoder::{
+    CanonicalFunctionSection, CanonicalOption, ComponentSection, ComponentValType, Fault,
+    PrimitiveValType, ValType,
+};
+
+const STRING: Option<ComponentValType> = Some(ComponentValType::Primitive(
+    PrimitiveValType::String,
+));
+
+fn both() -> std::array::IntoIter<CanonicalOption, 2> {
+    [CanonicalOption::UTF8, CanonicalOption::Memory(0)].into_iter()
+}
+
+fn waits() -> std::array::IntoIter<CanonicalOption, 2> {
+    [CanonicalOption::UTF8, CanonicalOption::Async].into_iter()
+}
+
+fn gc() -> std::array::IntoIter<CanonicalOption, 1> {
+    [CanonicalOption::Gc].into_iter()
+}
+
+/// What a call adds to a new section, behind the section's size and count.
+fn row<F: FnOnce(&mut CanonicalFunctionSection) -> Result<(), Fault>>(
+    rt: &impl Abort,
+    alloc: Global,
+    wanted: &str,
+    call: F,
+) -> Result<(), Fault> {
+    let mut section = CanonicalFunctionSection::new(alloc);
+    call(&mut section)?;
+    assert_eq!(rt; section.len(), 1);
+    let bytes = text(alloc, &section)?;
+    let bytes = bytes.as_str();
+    assert_eq!(rt; bytes.get(2..4).is_some(), true);
+    assert_eq!(rt; bytes.get(6..).unwrap_or(""), wanted);
+    Ok(())
+}
+
+#[test]
+fn each_method_adds_its_row(rt: HostRuntime) -> Result<(), Fail> {
+    let alloc = rt.alloc();
+    row(
+        &rt,
+        alloc,
+        "00008001020003000a",
+        |s| s.lift(128, 10, both()),
+    )?;
+    row(&rt, alloc, "01008001020006", |s| s.lower(128, waits()))?;
+    row(&rt, alloc, "028001", |s| s.resource_new(128))?;
+    row(&rt, alloc, "038001", |s| s.resource_drop(128))?;
+    row(&rt, alloc, "048001", |s| s.resource_rep(128))?;
+    row(&rt, alloc, "408001", |s| s.thread_spawn_ref(128))?;
+    row(&rt, alloc, "410102", |s| s.thread_spawn_indirect(1, 2))?;
+    row(&rt, alloc, "42", |s| s.thread_available_parallelism())?;
+    row(&rt, alloc, "24", |s| s.backpressure_inc())?;
+    row(&rt, alloc, "25", |s| s.backpressure_dec())?;
+    row(
+        &rt,
+        alloc,
+        "09007302000300",
+        |s| s.task_return(STRING, both()),
+    )?;
+    row(&rt, alloc, "05", |s| s.task_cancel())?;
+    row(&rt, alloc, "0a7f00", |s| s.context_get(ValType::I32, 0))?;
+    row(&rt, alloc, "0b7f00", |s| s.context_set(ValType::I32, 0))?;
+    row(&rt, alloc, "0d", |s| s.subtask_drop())?;
+    row(&rt, alloc, "0601", |s| s.subtask_cancel(true))?;
+    row(&rt, alloc, "0e8001", |s| s.stream_new(128))?;
+    row(&rt, alloc, "0f07020006", |s| s.stream_read(7, waits()))?;
+    row(&rt, alloc, "1007020006", |s| s.stream_write(7, waits()))?;
+    row(&rt, alloc, "2e8001", |s| s.stream_forward(128))?;
+    row(&rt, alloc, "110301", |s| s.stream_cancel_read(3, true))?;
+    row(&rt, alloc, "120301", |s| s.stream_cancel_write(3, true))?;
+    row(&rt, alloc, "138001", |s| s.stream_drop_readable(128))?;
+    row(&rt, alloc, "148001", |s| s.stream_drop_writable(128))?;
+    row(&rt, alloc, "158001", |s| s.future_new(128))?;
+    row(&rt, alloc, "1607020006", |s| s.future_read(7, waits()))?;
+    row(&rt, alloc, "1707020006", |s| s.future_write(7, waits()))?;
+    row(&rt, alloc, "2f8001", |s| s.future_forward(128))?;
+    row(&rt, alloc, "180301", |s| s.future_cancel_read(3, true))?;
+    row(&rt, alloc, "190301", |s| s.future_cancel_write(3, true))?;
+    row(&rt, alloc, "1a8001", |s| s.future_drop_readable(128))?;
+    row(&rt, alloc, "1b8001", |s| s.future_drop_writable(128))?;
+    row(&rt, alloc, "1c0109", |s| s.error_context_new(gc()))?;
+    row(
+        &rt,
+        alloc,
+        "1d0109",
+        |s| s.error_context_debug_message(gc()),
+    )?;
+    row(&rt, alloc, "1e", |s| s.error_context_drop())?;
+    row(&rt, alloc, "1f", |s| s.waitable_set_new())?;
+    row(&rt, alloc, "200005", |s| s.waitable_set_wait(5))?;
+    row(&rt, alloc, "210005", |s| s.waitable_set_poll(5))?;
+    row(&rt, alloc, "22", |s| s.waitable_set_drop())?;
+    row(&rt, alloc, "23", |s| s.waitable_join())?;
+    row(&rt, alloc, "26", |s| s.thread_index())?;
+    row(&rt, alloc, "270102", |s| s.thread_new_indirect(1, 2))?;
+    row(&rt, alloc, "28", |s| s.thread_resume_later())?;
+    row(&rt, alloc, "2900", |s| s.thread_suspend())?;
+    row(&rt, alloc, "0c00", |s| s.thread_yield())?;
+    row(&rt, alloc, "2a00", |s| s.thread_suspend_then_resume())?;
+    row(&rt, alloc, "2b00", |s| s.thread_yield_then_resume())?;
+    row(&rt, alloc, "2c00", |s| s.thread_suspend_then_promote())?;
+    row(&rt, alloc, "2d00", |s| s.thread_yield_then_promote())?;
+    Ok(())
+}

@@ -1,0 +1,19 @@
+//! The laws of this crate's forms.
+ghost use Rattle.std.specs.Prelude.{◌≡◌, List};
+ghost use Rattle.wenc_base.specs.Holder.{Held, Contains, section_text};
+ghost use Rattle.wenc_base.specs.Lawful.{FormLaws};
+ghost use Rattle.wenc_canon.specs.Canonicals.{Canonical, canonical_option, canonical, canonical_text, canonical_section};
+
+/// A value of each form is read as it is written, strictly in no other way, and in one way only, and no
+/// value's text begins another's.
+pub fn forms_are_lawful()
+    ensures options { FormLaws canonical_option }
+    ensures functions { FormLaws canonical }
+    ensures sections { FormLaws canonical_section }
+{}
+
+/// The text of a section that contains some functions is their size, their number and their rows.
+pub fn sections_are_their_functions()
+    ensures { (section : Held) (functions : List Canonical) → Contains canonical_text section functions
+        → section_text section ≡ (canonical_section functions).text }
+{}
