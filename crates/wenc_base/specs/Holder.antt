@@ -38,9 +38,13 @@ as_they_are bytes = bytes
 abbrev pub content_size : ℕ → ℕ → ℕ
 content_size count body = number_size count + body
 
+-- how many members, then the members
+abbrev pub held_text : Held → List ℕ
+held_text h = unsigned_text h.count ++ h.body
+
 -- a counted section: how many bytes, how many members, the members (component model, binary format, `vec`)
 abbrev pub section_text : Held → List ℕ
-section_text h = unsigned_text (content_size h.count (length h.body)) ++ (unsigned_text h.count ++ h.body)
+section_text h = unsigned_text (content_size h.count (length h.body)) ++ held_text h
 
 -- why a section can't be written: it isn't finished
 abbrev pub EncodeCause : Held → Fault → Type 0

@@ -2,21 +2,29 @@
 //! traits `Encode` and `Delimited`.
 #![tactic(auto)]
 
+pub mod custom;
 pub mod delimited;
 pub mod encode;
 pub mod exports;
 pub mod fault;
 pub mod holder;
 pub mod laws;
+pub mod modules;
 pub mod number;
+pub mod raw;
+pub mod section;
 pub mod types;
 
+pub use custom::{CustomSection, RawCustomSection};
 pub use delimited::Delimited;
 pub use encode::{Encode, Tagged, encode_list, extend_in_room};
 pub use exports::ExportKind;
 pub use fault::Fault;
 pub use holder::{Holder, section_size};
+pub use modules::Module;
 pub use number::encoding_size;
+pub use raw::RawSection;
+pub use section::{Section, SectionId};
 pub use types::{AbstractHeapType, HeapType, RefType, ValType};
 
 #[cfg(test)]

@@ -1,0 +1,74 @@
+-- Custom sections and core modules (WebAssembly 3.0, binary format, "Custom Section" and "Modules"; tool conventions, "Producers Section").
+use Rattle.std.specs.Prelude.{◌≡◌, ℕ, ◌+◌, ◌≤◌, ◌^◌, ◌⊎◌, List, [], ◌∷◌, ◌++◌, length}
+use Rattle.wenc_base.specs.Piece.{Piece, Form, byte, ◌▸◌, ◌⨾◌, whole, raw, ◌⨾⨾◌}
+use Rattle.wenc_base.specs.Number.{unsigned_text}
+use Rattle.wenc_base.specs.Forms.{name, list, sized, AreBytes}
+use Rattle.wenc_base.specs.Fault.{first_of, text_cause}
+use Rattle.wenc_base.specs.Holder.{Held, held_text, content_size}
+use Rattle.wenc_base.specs.declared.fault.Fault.{Fault}
+use Rattle.wenc_base.specs.declared.fault.Fault.TheVariants.{Memory, TooMany, TooLarge, Unfinished}
+
+-- a name, and the data that belong to it
+pub record Custom : Type 0 where
+  pub label : List ℕ
+  pub bytes : List ℕ
+
+-- behind its id: how many bytes, the name, the data
+abbrev pub custom : Form Custom
+custom c = sized (name c.label ⨾⨾ raw AreBytes c.bytes)
+
+-- why it can't be encoded: its size isn't a number of 32 bits
+abbrev pub custom_cause : Custom → Fault → Type 0
+custom_cause c (Memory e) = ⊥
+custom_cause c TooMany = ⊥
+custom_cause c TooLarge = 2 ^ 32 ≤ length ((name c.label).text ++ c.bytes)
+custom_cause c Unfinished = ⊥
+
+-- ---- producers
+
+-- a tool, and its version
+pub record Producer : Type 0 where
+  pub tool : List ℕ
+  pub version : List ℕ
+
+abbrev pub producer : Form Producer
+producer p = name p.tool ⨾ name p.version
+
+abbrev pub producer_text : Producer → List ℕ
+producer_text p = (producer p).text
+
+abbrev pub producer_cause : Producer → Fault → Type 0
+producer_cause p = first_of (text_cause p.tool) (text_cause p.version)
+
+-- what the tools did, and the tools
+pub record Producers : Type 0 where
+  pub field : List ℕ
+  pub tools : List Producer
+
+abbrev pub producers_field : Form Producers
+producers_field f = name f.field ⨾ list producer f.tools
+
+abbrev pub field_text : Producers → List ℕ
+field_text f = (producers_field f).text
+
+-- "producers"
+abbrev pub producers_label : List ℕ
+producers_label = 0x70 ∷ 0x72 ∷ 0x6f ∷ 0x64 ∷ 0x75 ∷ 0x63 ∷ 0x65 ∷ 0x72 ∷ 0x73 ∷ []
+
+-- the custom section of that name, whose data are a list of fields
+abbrev pub producers_section : Form (List Producers)
+producers_section fields = sized (name producers_label ⨾⨾ whole (list producers_field fields))
+
+-- its text, where its fields are held
+abbrev pub producers_text : Held → List ℕ
+producers_text h = unsigned_text (10 + content_size h.count (length h.body)) ++ ((name producers_label).text ++ held_text h)
+
+-- Why a field can't be added: for its name, or since the section's size would be no number of 32 bits.
+abbrev pub FieldCause : Held → List ℕ → List ℕ → Fault → Type 0
+FieldCause h field text fault = text_cause field fault ⊎ ((fault ≡ TooLarge) × (2 ^ 32 ≤ 10 + content_size (h.count + 1) (length (h.body ++ text))))
+
+-- ---- modules
+
+-- the magic and a version
+abbrev pub module_preamble : Piece
+module_preamble = 0x00 ▸ 0x61 ▸ 0x73 ▸ 0x6d ▸ 0x01 ▸ 0x00 ▸ 0x00 ▸ byte 0x00

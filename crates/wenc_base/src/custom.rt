@@ -1,0 +1,75 @@
+ghost use Rattle.std.specs.Prelude.{◌≡◌};
+
+use crate::encode::{Encode, extend_in_room};
+use crate::fault::Fault;
+use crate::holder::{Verbatim, section_size};
+use crate::number::Short;
+use crate::section::{Section, SectionId};
+use std::alloc::Allocator;
+
+/// A section that the standard gives no meaning (WebAssembly 3.0, binary format, "Custom Section"). It is
+/// refused where it would have more than 4294967295 bytes behind its size (`TooLarge`).
+#[derive(Clone, Copy, Debug)]
+pub struct CustomSection<'a> {
+    /// The name.
+    pub name: &'a str,
+    /// The bytes behind the name.
+    pub data: &'a [u8],
+}
+
+impl<'a> Encode for CustomSection<'a> {
+    ghost use Rattle.wenc_base.specs.Sections.{custom, custom_cause};
+
+    ghost text = { λ s. (custom (record { label = s.name.now; bytes = s.data.now })).text };
+
+    ghost cause = { λ s. custom_cause (record { label = s.name.now; bytes = s.data.now }) };
+
+    #[tactic(auto, using(crate::proofs::Groups::size_of_u32))]
+    fn encode<A: Allocator>(&self, sink: &mut Vec<u8, A>) -> Result<(), Fault> {
+        let name = self.name.as_bytes();
+        let Ok(name_len) = u32::try_from(name.len()) else {
+            return Err(Fault::TooLarge);
+        };
+        let size = section_size(name_len, u64::from(name_len) + self.data.len() as u64)?;
+        let mut lead = Short::new();
+        lead.unsigned(u64::from(size));
+        lead.unsigned(u64::from(name_len));
+        let lead = lead.as_slice();
+        sink.try_reserve(lead.len() + name.len() + self.data.len())?;
+        extend_in_room(sink, lead);
+        extend_in_room(sink, name);
+        extend_in_room(sink, self.data);
+        Ok(())
+    }
+}
+
+impl<'a> Section for CustomSection<'a> {
+    ghost section_id = { λ _. 0 };
+
+    fn id(&self) -> u8 {
+        u8::from(SectionId::Custom)
+    }
+}
+
+/// The bytes of a custom section behind its id, with its size, as they are. Nothing checks that they are
+/// such a section.
+#[derive(Clone, Copy, Debug)]
+pub struct RawCustomSection<'a>(pub &'a [u8]);
+
+impl<'a> Encode for RawCustomSection<'a> {
+    ghost text = { λ s. s.0.now };
+
+    ghost cause = { λ _ _. ⊥ };
+
+    fn encode<A: Allocator>(&self, sink: &mut Vec<u8, A>) -> Result<(), Fault> {
+        Verbatim(self.0).encode(sink)
+    }
+}
+
+impl<'a> Section for RawCustomSection<'a> {
+    ghost section_id = { λ _. 0 };
+
+    fn id(&self) -> u8 {
+        u8::from(SectionId::Custom)
+    }
+}

@@ -1,0 +1,81 @@
+ghost use Rattle.std.specs.Prelude.{◌≡◌, ◌++◌, ◌∷◌, OnOk, OnErr, IfOk, IfErr};
+ghost use Rattle.wenc_base.specs.Fault.{IsMemory, IsWarranted};
+ghost use Rattle.wenc_base.specs.Sections.{module_preamble};
+ghost use Rattle.wenc_base.specs.declared.fault.Fault.{Fault as FaultSpec};
+ghost use Rattle.wenc_base.specs.declared.fault.Fault.TheVariants.{Unfinished};
+
+use crate::fault::Fault;
+use crate::section::Section;
+use std::alloc::{Allocator, Global};
+use std::marker::Model;
+
+/// The magic and the version.
+const HEADER: [u8; 8] = [0x00, 0x61, 0x73, 0x6d, 0x01, 0x00, 0x00, 0x00];
+
+/// The bytes of a core module: its header, and the sections that were appended (WebAssembly 3.0, binary
+/// format, "Modules"). Nothing checks their order.
+#[derive(Drop)]
+pub struct Module<A: Allocator = Global> {
+    bytes: Vec<u8, A>,
+}
+
+impl<A: Allocator> Model for Module<A> {
+    ghost use Rattle.std.specs.Prelude.{List, ℕ};
+
+    ghost Value = { List ℕ };
+
+    ghost view = { λ m. m.bytes.items };
+}
+
+impl<A: Allocator> Module<A> {
+    /// What each module begins with (WebAssembly 3.0, binary format, "Modules").
+    pub const HEADER: [u8; 8] = HEADER;
+
+    /// A module without sections. It is refused for want of memory alone.
+    pub fn new(alloc: A) -> Result<Self, Fault>
+        ensures ok { IfOk result (λ m. m ≡ module_preamble.text) }
+        ensures refused { IfErr result IsMemory }
+    {
+        let mut bytes = Vec::new(alloc);
+        bytes.extend_from_slice(&HEADER)?;
+        Ok(Module { bytes })
+    }
+
+    /// Appends a section. It is refused as the section's `encode` is, and then the module stays as it was.
+    pub fn section<S: Section>(&mut self, section: &S) -> Result<(), Fault>
+        ensures ok { OnOk result (self.new ≡ self.old ++ S.section_id section.now ∷ S.text section.now) }
+        ensures encodable { (fault : FaultSpec) → S.cause section.now fault → OnOk result ⊥ }
+        ensures err { OnErr result (self.new ≡ self.old) }
+        ensures warranted { IfErr result (IsWarranted (S.cause section.now)) }
+        ensures unfinished_first { S.unfinished section.now → result ≡ Err Unfinished }
+    {
+        section.append_to(&mut self.bytes)
+    }
+
+    /// The bytes so far.
+    pub fn as_slice(&self) -> &[u8]
+        ensures { result.now ≡ self.now }
+    {
+        self.bytes.as_slice()
+    }
+
+    /// The bytes.
+    pub fn finish(self) -> Vec<u8, A>
+        ensures { result.items ≡ self }
+    {
+        let Module { bytes } = self;
+        bytes
+    }
+
+    /// The same module once more. It is refused for want of memory alone.
+    pub fn clone(&self) -> Result<Self, Fault>
+    where
+        A: Clone,
+        ensures same { IfOk result (λ m. m ≡ self.now) }
+        ensures refused { IfErr result IsMemory }
+    {
+        let mut bytes = Vec::new(self.bytes.allocator().clone()?);
+        bytes.extend_from_slice(self.bytes.as_slice())?;
+        Ok(Module { bytes })
+    }
+}

@@ -1,0 +1,37 @@
+ghost use Rattle.std.specs.Prelude.{◌≡◌};
+
+use crate::encode::Encode;
+use crate::fault::Fault;
+use crate::section::Section;
+use std::alloc::Allocator;
+
+/// A section with any id, whose bytes are written behind their size. It is refused where there are more than
+/// 4294967295 (`TooLarge`).
+#[derive(Clone, Copy, Debug)]
+pub struct RawSection<'a> {
+    /// The id.
+    pub id: u8,
+    /// The bytes behind the size.
+    pub data: &'a [u8],
+}
+
+impl<'a> Encode for RawSection<'a> {
+    ghost use Rattle.wenc_base.specs.Forms.{byte_list};
+    ghost use Rattle.wenc_base.specs.Fault.{text_cause};
+
+    ghost text = { λ s. (byte_list s.data.now).text };
+
+    ghost cause = { λ s. text_cause s.data.now };
+
+    fn encode<A: Allocator>(&self, sink: &mut Vec<u8, A>) -> Result<(), Fault> {
+        self.data.encode(sink)
+    }
+}
+
+impl<'a> Section for RawSection<'a> {
+    ghost section_id = { λ s. s.id };
+
+    fn id(&self) -> u8 {
+        self.id
+    }
+}
