@@ -1,12 +1,13 @@
 -- A member that is made of values which an iterator gives, and how a holder takes it.
-use Rattle.std.proofs.Common.{◌≡◌, ℕ, ◌+◌, ◌≤◌, true, false, List, ◌++◌, length, take, drop, Option, Result, Ok, Err, IsErrAnd, refl, ◌∙◌, inl, inr}
-use Rattle.std.proofs.lemmas.List.{take-append-le, drop-append-le}
+use Rattle.std.proofs.Common.{◌≡◌, ℕ, ◌+◌, ◌≤◌, true, false, List, ◌++◌, length, take, drop, Option, Result, Ok, Err, IsErrAnd, refl, ◌∙◌, inl, inr, arith, ◌^◌, ◌<◌, min, Bool}
+use Rattle.std.proofs.lemmas.List.{take-append-le, drop-append-le, drop-take, length-take, length-take-le, take-take}
 use Rattle.std.specs.Iterator.Runs.{SomeRun, WholeRun}
 use Rattle.wenc_base.specs.Fault.{IsWarranted}
-use Rattle.wenc_base.specs.Holder.{Held, with_member, as_they_are, CountCause, AddCause, AddsListed}
+use Rattle.wenc_base.specs.Holder.{Held, with_member, as_they_are, content_size, CountCause, AddCause, AddsListed}
 use Rattle.wenc_base.specs.HolderLaws.{contains_next}
 use Rattle.wenc_base.specs.declared.fault.Fault.{Fault}
 use Rattle.wenc_base.specs.declared.fault.Fault.TheVariants.{Memory, TooMany, TooLarge, Unfinished}
+use Rattle.wenc_base.proofs.Groups.{size_monotone}
 use Rattle.wenc_base.proofs.Members.{still_warranted}
 use Rattle.wenc_base.proofs.Runs.{no_run}
 
@@ -73,3 +74,19 @@ came_after steps s member P kept before after le came = rw came.3.0 (take-append
 pub came_behind : {S B : Type 0} (steps : S → Option B → S → Type 0) (s : S) (member : List B → List ℕ) (P : List B → Type 0) (kept : ℕ) (before after : List ℕ) → kept ≤ length before
     → WholeRun steps s (λ p. (after ≡ before ++ member p.items) × P p.items) → WholeRun steps s (λ p. (drop kept after ≡ drop kept before ++ member p.items) × P p.items)
 came_behind steps s member P kept before after le came = (came.0, came.1, came.2, (rw came.3.0 (drop-append-le kept before (member came.0.items) le), came.3.1))
+
+-- the first bytes of the body, behind those that are kept
+module _ (before after : List ℕ) (kept : ℕ) where
+  cut_length : (bytes : ℕ) → after ≡ take (kept + bytes) before → kept ≤ length before → kept ≤ length after
+  cut_length bytes e le = rw e (let long : length (take (kept + bytes) before) ≡ min (kept + bytes) (length before) = length-take (kept + bytes) before in omega (arith, long))
+
+  pub cut_fits : (count len bytes : ℕ) → after ≡ take (kept + bytes) before → kept ≤ length before → content_size count (length (drop kept before)) < 2 ^ 32 → len ≤ count → bytes ≤ length (drop kept before)
+      → (kept ≤ length after) × (content_size len (length (drop kept after)) < 2 ^ 32)
+  cut_fits count len bytes e le fits fewer shorter =
+      let size : length (drop kept after) ≡ bytes = rw (e, drop-take kept bytes before) (length-take-le bytes (drop kept before) shorter) in
+      (cut_length bytes e le, omega (arith, size, size_monotone len count fewer))
+
+  pub cut_view : (len bytes : ℕ) (finished : Bool) → after ≡ take (kept + bytes) before → kept ≤ length before
+      → let h : Held = record { kept = take kept after; count = len; body = drop kept after; finished = finished } in
+      h ≡ record { kept = take kept before; count = len; body = take bytes (drop kept before); finished = finished }
+  cut_view len bytes finished e le = rw (e, drop-take kept bytes before, take-take kept (kept + bytes) before (omega arith)) refl

@@ -29,6 +29,21 @@ groups_some top (suc room) n =
 pub size_of_u32 : (n : ℕ) → n < 2 ^ 32 → number_size n ≤ 5
 size_of_u32 n h = rw (same_in_room 128 4 9 n (omega arith) (omega arith)) (groups_length 128 4 n)
 
+groups_monotone : (top room m n : ℕ) → m ≤ n → length (groups top room m) ≤ length (groups top room n)
+unfolding groups
+groups_monotone top zero m n h = omega arith
+groups_monotone top (suc room) m n h =
+    elim (cases_lt m top) [
+      | inl lt ↦ rw (groups_below top (suc room) m lt) (groups_some top (suc room) n)
+      | inr le ↦
+          rw (groups_from top room m le, groups_from top room n (omega arith))
+          (let t : length (groups top room (m / 128)) ≤ length (groups top room (n / 128)) = groups_monotone top room (m / 128) (n / 128) (omega arith) in omega (arith, t))
+    ]
+
+-- a larger number has no shorter text
+pub size_monotone : (m n : ℕ) → m ≤ n → number_size m ≤ number_size n
+size_monotone m n h = groups_monotone 128 9 m n h
+
 pub size_1 : (n : ℕ) → n < 128 → number_size n ≡ 1
 size_1 n h = rw (groups_below 128 9 n h) refl
 

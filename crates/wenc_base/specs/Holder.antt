@@ -1,5 +1,5 @@
 -- What counted sections and types keep: how many members, and their texts.
-use Rattle.std.specs.Prelude.{◌≡◌, ℕ, ◌+◌, ◌≤◌, ◌^◌, ◌⊎◌, Bool, true, false, List, [], ◌∷◌, ◌++◌, length, Option, Result, Err, OnOk, OnErr, IfErr}
+use Rattle.std.specs.Prelude.{◌≡◌, ℕ, ◌+◌, ◌≤◌, ◌^◌, ◌⊎◌, Bool, true, false, List, [], ◌∷◌, ◌++◌, length, take, Option, Result, Err, OnOk, OnErr, IfErr}
 use Rattle.std.specs.Iterator.Runs.{SomeRun, WholeRun}
 use Rattle.std.specs.List.{flat_map}
 use Rattle.wenc_base.specs.Number.{unsigned_text, number_size}
@@ -23,6 +23,10 @@ no_members = record { kept = []; count = 0; body = []; finished = true }
 -- one member more, with this text
 abbrev pub with_member : Held → List ℕ → Held
 with_member h text = record { kept = h.kept; count = h.count + 1; body = h.body ++ text; finished = h.finished }
+
+-- the first members, whose texts are the first bytes
+abbrev pub cut_to : Held → ℕ → ℕ → Held
+cut_to h count size = record { kept = h.kept; count = count; body = take size h.body; finished = h.finished }
 
 -- It has just these members, each with its text.
 pub record Contains {A : Type 0} (text : A → List ℕ) (h : Held) (members : List A) : Type 0 where

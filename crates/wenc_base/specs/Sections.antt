@@ -4,7 +4,7 @@ use Rattle.wenc_base.specs.Piece.{Piece, Form, byte, ◌▸◌, ◌⨾◌, whole
 use Rattle.wenc_base.specs.Number.{unsigned_text}
 use Rattle.wenc_base.specs.Forms.{name, list, sized, AreBytes}
 use Rattle.wenc_base.specs.Fault.{first_of, text_cause}
-use Rattle.wenc_base.specs.Holder.{Held, held_text, content_size}
+use Rattle.wenc_base.specs.Holder.{Held, held_text, content_size, EncodeCause}
 use Rattle.wenc_base.specs.declared.fault.Fault.{Fault}
 use Rattle.wenc_base.specs.declared.fault.Fault.TheVariants.{Memory, TooMany, TooLarge, Unfinished}
 
@@ -63,9 +63,15 @@ producers_section fields = sized (name producers_label ⨾⨾ whole (list produc
 abbrev pub producers_text : Held → List ℕ
 producers_text h = unsigned_text (10 + content_size h.count (length h.body)) ++ ((name producers_label).text ++ held_text h)
 
--- Why a field can't be added: for its name, or since the section's size would be no number of 32 bits.
-abbrev pub FieldCause : Held → List ℕ → List ℕ → Fault → Type 0
-FieldCause h field text fault = text_cause field fault ⊎ ((fault ≡ TooLarge) × (2 ^ 32 ≤ 10 + content_size (h.count + 1) (length (h.body ++ text))))
+-- a field with the tools that are held
+abbrev pub field_bytes : List ℕ → Held → List ℕ
+field_bytes field tools = (name field).text ++ held_text tools
+
+-- Why such a field can't be added: for its name, since the tools are unfinished, or since the section's size would
+-- be no number of 32 bits.
+abbrev pub FieldCause : Held → List ℕ → Held → Fault → Type 0
+FieldCause h field tools fault = first_of (text_cause field) (EncodeCause tools) fault
+    ⊎ ((fault ≡ TooLarge) × (2 ^ 32 ≤ 10 + content_size (h.count + 1) (length (h.body ++ field_bytes field tools))))
 
 -- ---- modules
 

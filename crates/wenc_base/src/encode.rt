@@ -251,3 +251,34 @@ impl<T: Encode, U: Encode> Encode for (T, U) {
         }
     }
 }
+
+/// Three values, one after the other. The first refusal that is met is answered.
+impl<T: Encode, U: Encode, V: Encode> Encode for (T, U, V) {
+    ghost use Rattle.wenc_base.specs.Fault.{first_of};
+
+    ghost text = { λ t. T.text t.0 ++ (U.text t.1 ++ V.text t.2) };
+
+    ghost cause = { λ t. first_of (T.cause t.0) (first_of (U.cause t.1) (V.cause t.2)) };
+
+    ghost unfinished = { λ t. T.unfinished t.0 };
+
+    fn encode<A: Allocator>(&self, sink: &mut Vec<u8, A>) -> Result<(), Fault> {
+        (Lent(&self.0), (Lent(&self.1), Lent(&self.2))).encode(sink)
+    }
+}
+
+/// A value that is lent.
+#[derive(Clone, Copy)]
+pub struct Lent<'a, T>(pub &'a T);
+
+impl<'a, T: Encode> Encode for Lent<'a, T> {
+    ghost text = { λ l. T.text l.0.now };
+
+    ghost cause = { λ l. T.cause l.0.now };
+
+    ghost unfinished = { λ l. T.unfinished l.0.now };
+
+    fn encode<A: Allocator>(&self, sink: &mut Vec<u8, A>) -> Result<(), Fault> {
+        self.0.encode(sink)
+    }
+}

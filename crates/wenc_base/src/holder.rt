@@ -4,7 +4,7 @@ ghost use Rattle.std.specs.Iterator.Runs.{SomeRun, WholeRun};
 ghost use Rattle.wenc_base.specs.Fault.{IsWarranted, IsMemory, drawn_cause, first_of};
 ghost use Rattle.wenc_base.specs.Forms.{list_text};
 ghost use Rattle.wenc_base.specs.Number.{number_size};
-ghost use Rattle.wenc_base.specs.Holder.{no_members, as_they_are, content_size, section_text, CountCause, AddsMember, AddsListed, listed_text, listed_cause, EncodeCause};
+ghost use Rattle.wenc_base.specs.Holder.{no_members, as_they_are, content_size, section_text, held_text, cut_to, CountCause, AddsMember, AddsListed, listed_text, listed_cause, EncodeCause};
 ghost use Rattle.wenc_base.specs.declared.fault.Fault.{Fault as FaultSpec};
 ghost use Rattle.wenc_base.specs.declared.fault.Fault.TheVariants.{TooLarge, Unfinished};
 
@@ -148,6 +148,16 @@ impl<A: Allocator> Holder<A> {
         Ok(())
     }
 
+    /// Takes back the last members, so that there are `len` in the first `bytes` bytes of their texts. It takes
+    /// no memory.
+    pub fn cut_back(&mut self, len: u32, bytes: usize)
+        requires { (len ≤ self.old.count) × (bytes ≤ length self.old.body) }
+        ensures { self.new ≡ cut_to self.old len bytes }
+    {
+        self.bytes.truncate(self.kept + bytes);
+        self.count = len;
+    }
+
     /// Appends the section's size, the number of members, and their texts. A finished one is refused for
     /// want of memory alone.
     #[tactic(auto, using(crate::proofs::Groups::size_of_u32))]
@@ -171,6 +181,22 @@ impl<A: Allocator> Holder<A> {
         extend_in_room(sink, lead);
         extend_in_room(sink, body);
         Ok(())
+    }
+}
+
+/// The number of members, and their texts. A finished one is refused for want of memory alone.
+impl<A: Allocator> Encode for Holder<A> {
+    ghost text = { λ h. held_text h };
+
+    ghost cause = { λ h. EncodeCause h };
+
+    ghost unfinished = { λ h. h.finished ≡ false };
+
+    fn encode<B: Allocator>(&self, sink: &mut Vec<u8, B>) -> Result<(), Fault> {
+        if !self.finished {
+            return Err(Fault::Unfinished);
+        }
+        (self.count, Verbatim(self.as_slice())).encode(sink)
     }
 }
 

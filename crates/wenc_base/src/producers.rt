@@ -1,0 +1,166 @@
+ghost use Rattle.std.specs.Prelude.{◌≡◌, ◌++◌, ◌<◌, ◌+◌, ◌^◌, List, false, length, IfOk, IfErr};
+ghost use Rattle.wenc_base.specs.Fault.{IsMemory};
+ghost use Rattle.wenc_base.specs.Forms.{name as name_form};
+ghost use Rattle.wenc_base.specs.Holder.{no_members, held_text, EncodeCause, Contains, AddsMember, as_they_are};
+ghost use Rattle.wenc_base.specs.Sections.{Producer, producer_text, producer_cause, field_text, producers_text, FieldCause, field_bytes};
+
+use crate::encode::{Encode, Lent};
+use crate::fault::Fault;
+use crate::holder::{Holder, section_size};
+use crate::section::{Section, SectionId};
+use std::alloc::{Allocator, Global};
+use std::marker::Model;
+
+/// How many bytes the section's name has, with its length.
+const LABEL_SIZE: u64 = 10;
+
+/// The tools that did one thing, such as `processed-by`, each with its version (tool conventions, "Producers
+/// Section").
+#[derive(Drop)]
+pub struct ProducersField<A: Allocator = Global> {
+    values: Holder<A>,
+}
+
+impl<A: Allocator> Model for ProducersField<A> {
+    ghost use Rattle.wenc_base.specs.Holder.{Held};
+
+    ghost Value = { Held };
+
+    ghost view = { λ f. f.values };
+}
+
+impl<A: Allocator> ProducersField<A> {
+    /// No tools. It takes no memory.
+    pub fn new(alloc: A) -> Self
+        ensures { result ≡ no_members }
+    {
+        ProducersField {
+            values: Holder::new(alloc),
+        }
+    }
+
+    /// Adds a tool and its version, each of at most 4294967295 bytes. It is refused where there would be more
+    /// than 4294967295 tools (`TooMany`) or bytes (`TooLarge`), and then the field stays as it was.
+    #[tactic(auto, using(crate::specs::HolderLaws::adds_as))]
+    pub fn value(&mut self, name: &str, version: &str) -> Result<(), Fault>
+        ensures { AddsMember producer_text self.old self.new result (producer_cause (record { tool = name.now; version = version.now })) (record { tool = name.now; version = version.now }) }
+    {
+        self.values.add_encoded(&(name, version))
+    }
+
+    /// The same tools once more. It is refused for want of memory alone.
+    pub fn clone(&self) -> Result<Self, Fault>
+    where
+        A: Clone,
+        ensures same { IfOk result (λ f. f ≡ self.now) }
+        ensures refused { IfErr result IsMemory }
+    {
+        let values = self.values.clone()?;
+        Ok(ProducersField { values })
+    }
+}
+
+/// The number of tools, and each. A finished one is refused for want of memory alone.
+impl<A: Allocator> Encode for ProducersField<A> {
+    ghost text = { λ f. held_text f };
+
+    ghost cause = { λ f. EncodeCause f };
+
+    ghost unfinished = { λ f. f.finished ≡ false };
+
+    fn encode<B: Allocator>(&self, sink: &mut Vec<u8, B>) -> Result<(), Fault> {
+        self.values.encode(sink)
+    }
+}
+
+/// What the tools did that made a module or a component, and which they were: a custom section (tool
+/// conventions, "Producers Section").
+#[derive(Drop)]
+pub struct ProducersSection<A: Allocator = Global> {
+    fields: Holder<A>,
+}
+
+impl<A: Allocator> Model for ProducersSection<A> {
+    ghost use Rattle.std.specs.Prelude.{◌<◌, ◌+◌, ◌^◌, length};
+    ghost use Rattle.wenc_base.specs.Holder.{Held, content_size};
+
+    ghost Value = { Held };
+
+    ghost view = { λ s. s.fields };
+
+    ghost invariant = { λ s. 10 + content_size s.fields.count (length s.fields.body) < 2 ^ 32 };
+}
+
+impl<A: Allocator> ProducersSection<A> {
+    /// No fields. It takes no memory.
+    #[tactic(auto, using(crate::proofs::Groups::size_1))]
+    pub fn new(alloc: A) -> Self
+        ensures { result ≡ no_members }
+    {
+        ProducersSection {
+            fields: Holder::new(alloc),
+        }
+    }
+
+    /// Adds a field of this name, of at most 4294967295 bytes, with its tools. It is refused where there would
+    /// be more than 4294967295 fields (`TooMany`), or more than 4294967295 bytes behind the section's size
+    /// (`TooLarge`), and then the section stays as it was.
+    pub fn field<B: Allocator>(&mut self, name: &str, field: &ProducersField<B>) -> Result<(), Fault>
+        ensures added { (tools : List Producer) → Contains producer_text field.now tools
+            → AddsMember field_text self.old self.new result (FieldCause self.old name.now field.now) (record { field = name.now; tools = tools }) }
+        ensures bytes { AddsMember as_they_are self.old self.new result (FieldCause self.old name.now field.now) (field_bytes name.now field.now) }
+    {
+        self.add_field(name, field)
+    }
+
+    fn add_field<B: Allocator>(&mut self, name: &str, field: &ProducersField<B>) -> Result<(), Fault>
+        ensures added { AddsMember as_they_are self.old self.new result (FieldCause self.old name.now field.now) (field_bytes name.now field.now) }
+    {
+        let count = self.fields.len();
+        let body = self.fields.as_slice().len();
+        self.fields.add_encoded(&(name, Lent(field)))?;
+        let longer = self.fields.as_slice().len() as u64 + LABEL_SIZE;
+        if let Err(fault) = section_size(self.fields.len(), longer) {
+            self.fields.cut_back(count, body);
+            return Err(fault);
+        }
+        Ok(())
+    }
+
+    /// The same fields once more. It is refused for want of memory alone.
+    pub fn clone(&self) -> Result<Self, Fault>
+    where
+        A: Clone,
+        ensures same { IfOk result (λ s. s ≡ self.now) }
+        ensures refused { IfErr result IsMemory }
+    {
+        let fields = self.fields.clone()?;
+        Ok(ProducersSection { fields })
+    }
+}
+
+/// A finished one is refused for want of memory alone.
+impl<A: Allocator> Encode for ProducersSection<A> {
+    ghost text = { λ s. producers_text s };
+
+    ghost cause = { λ s. EncodeCause s };
+
+    ghost unfinished = { λ s. s.finished ≡ false };
+
+    fn encode<B: Allocator>(&self, sink: &mut Vec<u8, B>) -> Result<(), Fault> {
+        if !self.fields.is_finished() {
+            return Err(Fault::Unfinished);
+        }
+        let longer = self.fields.as_slice().len() as u64 + LABEL_SIZE;
+        let size = section_size(self.fields.len(), longer)?;
+        (size, "producers", Lent(&self.fields)).encode(sink)
+    }
+}
+
+impl<A: Allocator> Section for ProducersSection<A> {
+    ghost section_id = { λ _. 0 };
+
+    fn id(&self) -> u8 {
+        u8::from(SectionId::Custom)
+    }
+}
