@@ -2,8 +2,12 @@
 use Rattle.std.proofs.Common.{◌≡◌, ℕ, ◌+◌, ◌^◌, ◌<◌, List, ◌++◌, length, Result, Ok, refl, inl, inr, arith}
 use Rattle.wenc_base.specs.Fault.{first_of, text_cause}
 use Rattle.wenc_base.specs.Holder.{Held, as_they_are, content_size, EncodeCause, AddCause, Accepted, AddsMember, Contains}
+use Rattle.std.proofs.lemmas.List.{length-append}
+use Rattle.std.specs.List.{flat_map}
+use Rattle.wenc_base.specs.Number.{groups, unsigned_text}
+use Rattle.wenc_base.specs.Forms.{name, list_text}
 use Rattle.wenc_base.specs.HolderLaws.{adds_as}
-use Rattle.wenc_base.specs.Sections.{Producer, producer_text, Producers, field_text, field_bytes, FieldCause}
+use Rattle.wenc_base.specs.Sections.{Producer, producer_text, Producers, field_text, field_bytes, FieldCause, producers_label, producers_section, producers_text}
 use Rattle.wenc_base.specs.declared.fault.Fault.{Fault}
 use Rattle.wenc_base.specs.declared.fault.Fault.TheVariants.{Unfinished}
 
@@ -32,3 +36,9 @@ typed_field old new outcome field held tools holds a =
     let written : Producers = record { field = field; tools = tools } in
     let e : field_bytes field held ≡ field_text written = rw (← holds.count, holds.body) refl in
     adds_as field_text old new outcome (FieldCause old field held) (FieldCause old field held) written ((λ fault h. h), λ fault h. h) (rw e at a)
+
+-- a section that has these fields
+pub section_of_fields : (section : Held) (fields : List Producers) → Contains field_text section fields → producers_text section ≡ (producers_section fields).text
+unfolding groups
+section_of_fields section fields holds =
+    rw (← holds.count, holds.body, length-append (name producers_label).text (list_text field_text fields), length-append (unsigned_text (length fields)) (flat_map field_text fields)) refl

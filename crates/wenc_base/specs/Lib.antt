@@ -15,5 +15,6 @@ pub mod NumberLaws
 pub mod FormLaws
 pub mod ExportLaws
 pub mod TypeLaws
+pub mod SectionLaws
 pub mod Lifts
 pub mod HolderLaws

@@ -7,6 +7,8 @@ ghost use Rattle.wenc_base.specs.Number.{unsigned_text, signed_text, IsUnsignedT
 ghost use Rattle.wenc_base.specs.Number.{u32 as number, u64 as long_number, i64 as signed_number};
 ghost use Rattle.wenc_base.specs.Forms.{flag, name, byte_list};
 ghost use Rattle.wenc_base.specs.Exports.{export_kind};
+ghost use Rattle.wenc_base.specs.Holder.{Held, Contains};
+ghost use Rattle.wenc_base.specs.Sections.{custom, producer, Producers, producers_field, field_text, producers_section, producers_text};
 ghost use Rattle.wenc_base.specs.Delimited.{Delimits};
 ghost use Rattle.wenc_base.specs.Lawful.{FormLaws};
 
@@ -54,6 +56,20 @@ pub fn forms_are_lawful()
     ensures names { FormLaws name }
     ensures byte_lists { FormLaws byte_list }
     ensures export_kinds { FormLaws export_kind }
+{}
+
+/// The same of custom sections.
+pub fn sections_are_lawful()
+    ensures customs { FormLaws custom }
+    ensures producers { FormLaws producer }
+    ensures producers_fields { FormLaws producers_field }
+    ensures producers_sections { FormLaws producers_section }
+{}
+
+/// The text of a producers section that has some fields is its size, its name and the list of them.
+pub fn producers_sections_are_their_fields()
+    ensures { (section : Held) (fields : List Producers) → Contains field_text section fields
+        → producers_text section ≡ (producers_section fields).text }
 {}
 
 /// The text of a value tells which value it is, whatever follows the text.

@@ -5,7 +5,9 @@ ghost use Rattle.wenc_base.specs.declared.fault.Fault.{Fault as FaultSpec};
 ghost use Rattle.wenc_base.specs.declared.fault.Fault.TheVariants.{Unfinished};
 
 use std::alloc::Allocator;
-use wenc_base::{Delimited, Encode, Fault, Tagged};
+use wenc_base::{
+    CustomSection, Delimited, Encode, Fault, ProducersSection, RawCustomSection, RawSection, Tagged,
+};
 
 // The bytes of sorts (component model, binary format, `sort` and `core:sort`).
 /// What begins the sort of an item of a core module.
@@ -49,6 +51,38 @@ pub trait ComponentSection: Encode {
         ensures unfinished_first { Self.unfinished self.now → result ≡ Err Unfinished }
     {
         Tagged(self.id(), self).encode(sink)
+    }
+}
+
+impl<'a> ComponentSection for CustomSection<'a> {
+    ghost section_id = { λ _. 0 };
+
+    fn id(&self) -> u8 {
+        u8::from(ComponentSectionId::CoreCustom)
+    }
+}
+
+impl<'a> ComponentSection for RawCustomSection<'a> {
+    ghost section_id = { λ _. 0 };
+
+    fn id(&self) -> u8 {
+        u8::from(ComponentSectionId::CoreCustom)
+    }
+}
+
+impl<A: Allocator> ComponentSection for ProducersSection<A> {
+    ghost section_id = { λ _. 0 };
+
+    fn id(&self) -> u8 {
+        u8::from(ComponentSectionId::CoreCustom)
+    }
+}
+
+impl<'a> ComponentSection for RawSection<'a> {
+    ghost section_id = { λ s. s.id };
+
+    fn id(&self) -> u8 {
+        self.id
     }
 }
 
