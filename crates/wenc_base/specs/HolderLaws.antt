@@ -1,14 +1,15 @@
 -- What follows where a holder took a member.
-use Rattle.std.proofs.Common.{◌≡◌, ℕ, List, [], ◌∷◌, ◌++◌, Option, Result, Ok, Err, OnOk, IfErr, sym, ap, ◌∙◌, arith, inl, inr, refl, length}
-use Rattle.std.proofs.lemmas.List.{append-nil, length-append}
+use Rattle.std.proofs.Common.{◌≡◌, ℕ, List, [], ◌∷◌, ◌++◌, Option, Result, Ok, Err, OnOk, IfErr, sym, ap, ◌∙◌, arith, inl, inr, refl, length, map}
+use Rattle.std.proofs.lemmas.List.{append-nil, length-append, length-map}
+use Rattle.std.proofs.lemmas.List.Folds.{flat_map-map}
 use Rattle.std.proofs.lemmas.Grind.{flat_map-append}
 use Rattle.std.specs.Iterator.Runs.{SomeRun, WholeRun}
 use Rattle.std.specs.List.{flat_map}
-use Rattle.wenc_base.specs.Fault.{IsWarranted}
+use Rattle.wenc_base.specs.Fault.{IsWarranted, first_of, member_cause, drawn_cause}
 use Rattle.wenc_base.specs.Piece.{Form, whole}
 use Rattle.wenc_base.specs.Number.{unsigned_text}
-use Rattle.wenc_base.specs.Forms.{list, sized}
-use Rattle.wenc_base.specs.Holder.{Held, section_text, with_member, Contains, as_they_are, AddCause, Accepted, AddsMember, AddsListed}
+use Rattle.wenc_base.specs.Forms.{list, list_text, sized}
+use Rattle.wenc_base.specs.Holder.{Held, section_text, with_member, Contains, as_they_are, AddCause, Accepted, AddsMember, AddsListed, listed_text, listed_cause}
 use Rattle.wenc_base.specs.declared.fault.Fault.{Fault}
 use Rattle.wenc_base.specs.declared.fault.Fault.TheVariants.{Memory, TooMany, TooLarge, Unfinished}
 
@@ -86,3 +87,48 @@ adds_listed_as steps values text old new outcome cause other written member e sa
         → IfErr outcome (λ fault. SomeRun steps values (λ run. IsWarranted (AddCause old (text (member run.items)) (other run.items)) fault))
     warranted (Ok u) h = tt
     warranted (Err fault) h = (h.0, h.1, still_warranted _ _ (same_add old (text (member h.0.items)) (cause h.0.items) (other h.0.items) (same h.0.items).0) fault (rw (e h.0.items) at h.2))
+
+-- ---- members that are a list of values which an iterator gives
+
+-- what is never refused but for want of memory
+abbrev pub never : Fault → Type 0
+never fault = ⊥
+
+-- one that is never refused adds no cause
+pub alone : (one next : Fault → Type 0) → ((fault : Fault) → next fault → ⊥) → SameCause (first_of one next) one
+alone one next none = (λ fault h. elim h [ inl c ↦ c | inr p ↦ absurd (none fault p.1) ], λ fault c. inl c)
+
+-- the same causes one by one
+member_as : {A : Type 0} (one other : A → Fault → Type 0) → ((v : A) → SameCause (one v) (other v)) → (vs : List A) → SameCause (member_cause one vs) (member_cause other vs)
+member_as one other same [] = ((λ fault h. h), λ fault h. h)
+member_as one other same (v ∷ vs) =
+    let rest = member_as one other same vs in
+    (λ fault h. elim h [ inl c ↦ inl ((same v).0 fault c) | inr p ↦ inr ((λ f c. p.0 f ((same v).1 f c)), rest.0 fault p.1) ],
+    λ fault h. elim h [ inl c ↦ inl ((same v).1 fault c) | inr p ↦ inr ((λ f c. p.0 f ((same v).0 f c)), rest.1 fault p.1) ])
+
+-- the causes of the values are those of the list
+listed_as : {A : Type 0} (one other : A → Fault → Type 0) → ((v : A) → SameCause (one v) (other v)) → (vs : List A) → SameCause (listed_cause never one never vs) (drawn_cause other vs)
+listed_as one other same vs = (there, λ fault h. inr ((λ f n. n), inl (back fault h)))
+  where
+    back : (fault : Fault) → drawn_cause other vs fault → drawn_cause one vs fault
+    back fault h = elim h [ inl c ↦ inl ((member_as one other same vs).1 fault c) | inr p ↦ inr ((λ f c. p.0 f ((member_as one other same vs).0 f c)), p.1) ]
+
+    there : (fault : Fault) → listed_cause never one never vs fault → drawn_cause other vs fault
+    there fault h = elim h [ inl none ↦ absurd none | inr p ↦ elim p.1 [
+      | inl d ↦ elim d [ inl c ↦ inl ((member_as one other same vs).0 fault c) | inr q ↦ inr ((λ f c. q.0 f ((member_as one other same vs).1 f c)), q.1) ]
+      | inr q ↦ absurd q.1
+    ] ]
+
+-- the values, and what they stand for
+list_text_map : {A B : Type 0} (text : B → List ℕ) (view : A → B) (vs : List A) → list_text (λ v. text (view v)) vs ≡ list_text text (map view vs)
+list_text_map text view vs = rw (length-map vs view, flat_map-map text view vs) refl
+
+-- a call that adds a member which ends with a list of values
+pub adds_list : {S A B C : Type 0} (steps : S → Option B → S → Type 0) (values : S) (text : A → List ℕ) (old new : Held) (outcome : Result (Unit {0}) Fault)
+    (value_text : C → List ℕ) (view : B → C) (cause other : B → Fault → Type 0) (lead : List ℕ) (member : List C → A)
+    → ((cs : List C) → lead ++ list_text value_text cs ≡ text (member cs)) → ((v : B) → SameCause (cause v) (other v))
+    → AddsListed steps values as_they_are old new outcome (listed_cause never cause never) (listed_text lead (λ v. value_text (view v)) [])
+    → AddsListed steps values text old new outcome (drawn_cause other) (λ vs. member (map view vs))
+adds_list steps values text old new outcome value_text view cause other lead member e same a =
+    adds_listed_as steps values text old new outcome (listed_cause never cause never) (drawn_cause other) (listed_text lead (λ v. value_text (view v)) []) (λ vs. member (map view vs))
+    (λ vs. ap (λ (t : List ℕ). lead ++ t) (append-nil (list_text (λ v. value_text (view v)) vs) ∙ list_text_map value_text view vs) ∙ e (map view vs)) (listed_as cause other same) a

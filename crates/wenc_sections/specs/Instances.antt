@@ -1,0 +1,75 @@
+-- Instances of core modules and of components (component model, binary format, "Instance Definitions").
+use Rattle.std.specs.Prelude.{ℕ, List}
+use Rattle.wenc_base.specs.Piece.{Form, ◌▸◌, ◌⨾◌}
+use Rattle.wenc_base.specs.Number.{u32}
+use Rattle.wenc_base.specs.Forms.{name, list}
+use Rattle.wenc_base.specs.Exports.{export_kind as core_kind}
+use Rattle.wenc_base.specs.declared.exports.ExportKind.{ExportKind}
+use Rattle.wenc_parts.specs.declared.exports.ComponentExportKind.{ComponentExportKind}
+use Rattle.wenc_parts.specs.declared.instances.ModuleArg.{ModuleArg}
+use Rattle.wenc_parts.specs.Exports.{export_kind}
+use Rattle.wenc_parts.specs.Imports.{ExternName, extern_name}
+use Rattle.wenc_parts.specs.Instances.{module_argument}
+
+-- ---- of core modules
+
+-- what a module is given under a name
+pub record Argument : Type 0 where
+  pub name : List ℕ
+  pub value : ModuleArg
+
+abbrev pub argument : Form Argument
+argument a = name a.name ⨾ module_argument a.value
+
+-- a core item, exported under a name
+pub record CoreExport : Type 0 where
+  pub name : List ℕ
+  pub kind : ExportKind
+  pub index : ℕ
+
+abbrev pub core_export : Form CoreExport
+core_export e = name e.name ⨾ core_kind e.kind ⨾ u32 e.index
+
+-- a module with its arguments, or exports alone
+pub data CoreInstance : Type 0 where
+  CoreInstantiate : (module_index : ℕ) (arguments : List Argument) → CoreInstance
+  CoreExports : (exports : List CoreExport) → CoreInstance
+
+abbrev pub core_instance : Form CoreInstance
+core_instance (CoreInstantiate m arguments) = 0x00 ▸ u32 m ⨾ list argument arguments
+core_instance (CoreExports exports) = 0x01 ▸ list core_export exports
+
+abbrev pub core_instance_text : CoreInstance → List ℕ
+core_instance_text i = (core_instance i).text
+
+-- ---- of components
+
+-- what a component is given under a name
+pub record Given : Type 0 where
+  pub name : List ℕ
+  pub kind : ComponentExportKind
+  pub index : ℕ
+
+abbrev pub given : Form Given
+given g = name g.name ⨾ export_kind g.kind ⨾ u32 g.index
+
+-- an item, exported under a name
+pub record Exported : Type 0 where
+  pub name : ExternName
+  pub kind : ComponentExportKind
+  pub index : ℕ
+
+abbrev pub exported : Form Exported
+exported e = extern_name e.name ⨾ export_kind e.kind ⨾ u32 e.index
+
+-- a component with its arguments, or exports alone
+pub data Instance : Type 0 where
+  Instantiate : (component : ℕ) (arguments : List Given) → Instance
+  Exports : (exports : List Exported) → Instance
+
+abbrev pub instance : Form Instance
+instance (Instantiate c arguments) = 0x00 ▸ u32 c ⨾ list given arguments
+instance (Exports exports) = 0x01 ▸ list exported exports
+
+abbrev pub instance_text : Instance → List ℕ
+instance_text i = (instance i).text

@@ -1,0 +1,4 @@
+pub mod Items
+pub mod Instances
+pub mod Component
+pub mod ItemLaws

@@ -1,0 +1,81 @@
+ghost use Rattle.std.specs.Prelude.{◌≡◌, ◌++◌, ◌∷◌, OnOk, OnErr, IfOk, IfErr};
+ghost use Rattle.wenc_base.specs.Fault.{IsMemory, IsWarranted};
+ghost use Rattle.wenc_base.specs.declared.fault.Fault.{Fault as FaultSpec};
+ghost use Rattle.wenc_base.specs.declared.fault.Fault.TheVariants.{Unfinished};
+ghost use Rattle.wenc_sections.specs.Component.{preamble};
+
+use std::alloc::{Allocator, Global};
+use std::marker::Model;
+use wenc_base::Fault;
+use wenc_parts::ComponentSection;
+
+/// The magic, a version and a layer.
+const HEADER: [u8; 8] = [0x00, 0x61, 0x73, 0x6d, 0x0d, 0x00, 0x01, 0x00];
+
+/// The bytes of a component: its header, and the sections that were appended, in any order (component model,
+/// binary format, "Component Definitions").
+#[derive(Drop)]
+pub struct Component<A: Allocator = Global> {
+    bytes: Vec<u8, A>,
+}
+
+impl<A: Allocator> Model for Component<A> {
+    ghost use Rattle.std.specs.Prelude.{List, ℕ};
+
+    ghost Value = { List ℕ };
+
+    ghost view = { λ c. c.bytes.items };
+}
+
+impl<A: Allocator> Component<A> {
+    /// What each component begins with (component model, binary format, `preamble`).
+    pub const HEADER: [u8; 8] = HEADER;
+
+    /// A component without sections. It is refused for want of memory alone.
+    pub fn new(alloc: A) -> Result<Self, Fault>
+        ensures ok { IfOk result (λ c. c ≡ preamble.text) }
+        ensures refused { IfErr result IsMemory }
+    {
+        let mut bytes = Vec::new(alloc);
+        bytes.extend_from_slice(&HEADER)?;
+        Ok(Component { bytes })
+    }
+
+    /// Appends a section. It is refused as the section's `encode` is, and then the component stays as it was.
+    pub fn section<S: ComponentSection>(&mut self, section: &S) -> Result<(), Fault>
+        ensures ok { OnOk result (self.new ≡ self.old ++ S.section_id section.now ∷ S.text section.now) }
+        ensures encodable { (fault : FaultSpec) → S.cause section.now fault → OnOk result ⊥ }
+        ensures err { OnErr result (self.new ≡ self.old) }
+        ensures warranted { IfErr result (IsWarranted (S.cause section.now)) }
+        ensures unfinished_first { S.unfinished section.now → result ≡ Err Unfinished }
+    {
+        section.append_to_component(&mut self.bytes)
+    }
+
+    /// The bytes so far.
+    pub fn as_slice(&self) -> &[u8]
+        ensures { result.now ≡ self.now }
+    {
+        self.bytes.as_slice()
+    }
+
+    /// The bytes. It takes no memory.
+    pub fn finish(self) -> Vec<u8, A>
+        ensures { result.items ≡ self }
+    {
+        let Component { bytes } = self;
+        bytes
+    }
+
+    /// The same component once more. It is refused for want of memory alone.
+    pub fn clone(&self) -> Result<Self, Fault>
+    where
+        A: Clone,
+        ensures same { IfOk result (λ c. c ≡ self.now) }
+        ensures refused { IfErr result IsMemory }
+    {
+        let mut bytes = Vec::new(self.bytes.allocator().clone()?);
+        bytes.extend_from_slice(self.bytes.as_slice())?;
+        Ok(Component { bytes })
+    }
+}

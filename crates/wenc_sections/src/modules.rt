@@ -1,0 +1,31 @@
+ghost use Rattle.std.specs.Prelude.{◌≡◌};
+
+use std::alloc::{Allocator, Global};
+use wenc_base::{Encode, Fault, Module};
+use wenc_parts::{ComponentSection, ComponentSectionId};
+
+/// A section that is a core module (component model, binary format, "Component Definitions"). It is refused where
+/// that has more than 4294967295 bytes (`TooLarge`).
+#[derive(Clone, Copy)]
+pub struct ModuleSection<'a, A: Allocator = Global>(pub &'a Module<A>);
+
+impl<'a, A: Allocator> Encode for ModuleSection<'a, A> {
+    ghost use Rattle.wenc_base.specs.Forms.{byte_list};
+    ghost use Rattle.wenc_base.specs.Fault.{text_cause};
+
+    ghost text = { λ s. (byte_list s.0.now).text };
+
+    ghost cause = { λ s. text_cause s.0.now };
+
+    fn encode<B: Allocator>(&self, sink: &mut Vec<u8, B>) -> Result<(), Fault> {
+        self.0.as_slice().encode(sink)
+    }
+}
+
+impl<'a, A: Allocator> ComponentSection for ModuleSection<'a, A> {
+    ghost section_id = { λ _. 1 };
+
+    fn id(&self) -> u8 {
+        u8::from(ComponentSectionId::CoreModule)
+    }
+}
