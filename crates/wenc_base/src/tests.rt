@@ -6,6 +6,9 @@ ghost use Rattle.wenc_base.specs.Number.{unsigned_text};
 ghost use Rattle.wenc_base.specs.declared.fault.Fault.{Fault as FaultSpec};
 ghost use Rattle.wenc_base.specs.declared.fault.Fault.TheVariants.{Unfinished};
 
+mod holder;
+mod types;
+
 use crate::delimited::Delimited;
 use crate::encode::{Encode, Tagged, encode_list, extend_in_room};
 use crate::exports::ExportKind;
