@@ -1,4 +1,4 @@
-use super::check;
+use super::{Item, check};
 use crate::encode::Encode;
 use crate::fault::Fault;
 use crate::holder::{Holder, Verbatim, section_size};
@@ -115,6 +115,7 @@ fn clones(rt: HostRuntime) -> Result<(), Fail> {
 #[test]
 fn refused_members(rt: HostRuntime) -> Result<(), Fail> {
     let large = 4294967296usize;
+    let open = Item { is_open: true };
     let mut holder = Holder::new(rt.alloc());
     holder.add(&[0xaa])?;
     assert_eq!(rt; holder.add_encoded(&large), Err(Fault::TooMany));
@@ -122,6 +123,10 @@ fn refused_members(rt: HostRuntime) -> Result<(), Fail> {
     assert_eq!(rt; holder.add_listed(&large, [1u32].into_iter(), &()), Err(Fault::TooMany));
     assert_eq!(rt; holder.add_listed(&1u32, [1, large].into_iter(), &()), Err(Fault::TooMany));
     assert_eq!(rt; holder.add_listed(&1u32, [1u32].into_iter(), &large), Err(Fault::TooMany));
+    assert_eq!(rt; holder.add_encoded(&open), Err(Fault::Unfinished));
+    // The first refusal that is met is answered.
+    assert_eq!(rt; holder.add_listed(&open, [large].into_iter(), &large), Err(Fault::Unfinished));
+    assert_eq!(rt; holder.add_listed(&1u32, [large].into_iter(), &open), Err(Fault::TooMany));
     check_holder(&rt, rt.alloc(), &holder, 1, &[0xaa], &[0x02, 0x01, 0xaa])?;
     holder.add(&[0xbb])?;
     check_holder(&rt, rt.alloc(), &holder, 2, &[0xaa, 0xbb], &[0x03, 0x02, 0xaa, 0xbb])
