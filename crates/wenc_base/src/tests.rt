@@ -251,8 +251,14 @@ fn unfinished(rt: HostRuntime) -> Result<(), Fail> {
     let large = 4294967296usize;
     let open = Item { is_open: true };
     let mut full = [0x99].to_vec(rt.alloc())?;
-    assert_eq!(rt; Tagged(0x2a, &open).encode(&mut full), Err(Fault::Unfinished));
-    assert_eq!(rt; Some(Item { is_open: true }).encode(&mut sink), Err(Fault::Unfinished));
+    assert_eq!(rt;
+        Tagged(0x2a, &open).encode(&mut full),
+        Err(Fault::Unfinished)
+    );
+    assert_eq!(rt;
+        Some(Item { is_open: true }).encode(&mut sink),
+        Err(Fault::Unfinished)
+    );
     let open_first = (Item { is_open: true }, large);
     assert_eq!(rt; open_first.encode(&mut sink), Err(Fault::Unfinished));
     let large_first = (large, open);

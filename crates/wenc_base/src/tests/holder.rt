@@ -50,7 +50,14 @@ fn members(rt: HostRuntime) -> Result<(), Fail> {
     let mut holder = Holder::new(rt.alloc());
     check_holder(&rt, rt.alloc(), &holder, 0, &[], &[0x01, 0x00])?;
     holder.add(&[0xaa, 0xbb])?;
-    check_holder(&rt, rt.alloc(), &holder, 1, &[0xaa, 0xbb], &[0x03, 0x01, 0xaa, 0xbb])?;
+    check_holder(
+        &rt,
+        rt.alloc(),
+        &holder,
+        1,
+        &[0xaa, 0xbb],
+        &[0x03, 0x01, 0xaa, 0xbb],
+    )?;
     holder.add_encoded(&("f", 128u32))?;
     check_holder(
         &rt,
@@ -66,8 +73,13 @@ fn members(rt: HostRuntime) -> Result<(), Fail> {
         rt.alloc(),
         &holder,
         3,
-        &[0xaa, 0xbb, 0x01, 0x66, 0x80, 0x01, 0x01, 0x02, 0x01, 0x80, 0x01, 0x01, 0x67],
-        &[0x0e, 0x03, 0xaa, 0xbb, 0x01, 0x66, 0x80, 0x01, 0x01, 0x02, 0x01, 0x80, 0x01, 0x01, 0x67],
+        &[
+            0xaa, 0xbb, 0x01, 0x66, 0x80, 0x01, 0x01, 0x02, 0x01, 0x80, 0x01, 0x01, 0x67,
+        ],
+        &[
+            0x0e, 0x03, 0xaa, 0xbb, 0x01, 0x66, 0x80, 0x01, 0x01, 0x02, 0x01, 0x80, 0x01, 0x01,
+            0x67,
+        ],
     )
 }
 
@@ -93,7 +105,10 @@ fn long_sections(rt: HostRuntime) -> Result<(), Fail> {
     let mut sink = Vec::new(rt.alloc());
     holder.encode_section(&mut sink)?;
     assert_eq!(rt; sink.len(), 132);
-    assert_eq!(rt; &sink.as_slice()[..5], [0x82, 0x01, 0x80, 0x01, 0x2a].as_slice());
+    assert_eq!(rt;
+        &sink.as_slice()[..5],
+        [0x82, 0x01, 0x80, 0x01, 0x2a].as_slice()
+    );
     Ok(())
 }
 
@@ -107,8 +122,22 @@ fn clones(rt: HostRuntime) -> Result<(), Fail> {
     check_holder(&rt, rt.alloc(), &other, 1, &[0xaa], &[0x02, 0x01, 0xaa])?;
     other.add(&[0xcc])?;
     other.add(&[0xdd])?;
-    check_holder(&rt, rt.alloc(), &holder, 2, &[0xaa, 0xbb], &[0x03, 0x02, 0xaa, 0xbb])?;
-    check_holder(&rt, rt.alloc(), &other, 3, &[0xaa, 0xcc, 0xdd], &[0x04, 0x03, 0xaa, 0xcc, 0xdd])
+    check_holder(
+        &rt,
+        rt.alloc(),
+        &holder,
+        2,
+        &[0xaa, 0xbb],
+        &[0x03, 0x02, 0xaa, 0xbb],
+    )?;
+    check_holder(
+        &rt,
+        rt.alloc(),
+        &other,
+        3,
+        &[0xaa, 0xcc, 0xdd],
+        &[0x04, 0x03, 0xaa, 0xcc, 0xdd],
+    )
 }
 
 // Each of these has a part that is refused, some behind parts that were written.
@@ -120,16 +149,38 @@ fn refused_members(rt: HostRuntime) -> Result<(), Fail> {
     holder.add(&[0xaa])?;
     assert_eq!(rt; holder.add_encoded(&large), Err(Fault::TooMany));
     assert_eq!(rt; holder.add_encoded(&(1u32, large)), Err(Fault::TooMany));
-    assert_eq!(rt; holder.add_listed(&large, [1u32].into_iter(), &()), Err(Fault::TooMany));
-    assert_eq!(rt; holder.add_listed(&1u32, [1, large].into_iter(), &()), Err(Fault::TooMany));
-    assert_eq!(rt; holder.add_listed(&1u32, [1u32].into_iter(), &large), Err(Fault::TooMany));
+    assert_eq!(rt;
+        holder.add_listed(&large, [1u32].into_iter(), &()),
+        Err(Fault::TooMany)
+    );
+    assert_eq!(rt;
+        holder.add_listed(&1u32, [1, large].into_iter(), &()),
+        Err(Fault::TooMany)
+    );
+    assert_eq!(rt;
+        holder.add_listed(&1u32, [1u32].into_iter(), &large),
+        Err(Fault::TooMany)
+    );
     assert_eq!(rt; holder.add_encoded(&open), Err(Fault::Unfinished));
     // The first refusal that is met is answered.
-    assert_eq!(rt; holder.add_listed(&open, [large].into_iter(), &large), Err(Fault::Unfinished));
-    assert_eq!(rt; holder.add_listed(&1u32, [large].into_iter(), &open), Err(Fault::TooMany));
+    assert_eq!(rt;
+        holder.add_listed(&open, [large].into_iter(), &large),
+        Err(Fault::Unfinished)
+    );
+    assert_eq!(rt;
+        holder.add_listed(&1u32, [large].into_iter(), &open),
+        Err(Fault::TooMany)
+    );
     check_holder(&rt, rt.alloc(), &holder, 1, &[0xaa], &[0x02, 0x01, 0xaa])?;
     holder.add(&[0xbb])?;
-    check_holder(&rt, rt.alloc(), &holder, 2, &[0xaa, 0xbb], &[0x03, 0x02, 0xaa, 0xbb])
+    check_holder(
+        &rt,
+        rt.alloc(),
+        &holder,
+        2,
+        &[0xaa, 0xbb],
+        &[0x03, 0x02, 0xaa, 0xbb],
+    )
 }
 
 #[test]
@@ -137,5 +188,10 @@ fn as_they_are(rt: HostRuntime) -> Result<(), Fail> {
     check(&rt, rt.alloc(), &(), &[])?;
     check(&rt, rt.alloc(), &Verbatim(&[]), &[])?;
     check(&rt, rt.alloc(), &Verbatim(&[0x80, 0x00]), &[0x80, 0x00])?;
-    check(&rt, rt.alloc(), &(Verbatim(&[0x01]), ((), 2u32)), &[0x01, 0x02])
+    check(
+        &rt,
+        rt.alloc(),
+        &(Verbatim(&[0x01]), ((), 2u32)),
+        &[0x01, 0x02],
+    )
 }

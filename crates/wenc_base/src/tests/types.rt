@@ -62,17 +62,44 @@ fn types_with_an_index(rt: HostRuntime) -> Result<(), Fail> {
 #[test]
 fn references(rt: HostRuntime) -> Result<(), Fail> {
     for (nullable, heap_type, bytes) in [
-        (true, HeapType::Abstract(AbstractHeapType::Func), [0x70].as_slice()),
-        (true, HeapType::Abstract(AbstractHeapType::Extern), [0x6f].as_slice()),
-        (true, HeapType::Abstract(AbstractHeapType::Any), [0x63, 0x6e].as_slice()),
-        (true, HeapType::Abstract(AbstractHeapType::NoExn), [0x63, 0x74].as_slice()),
+        (
+            true,
+            HeapType::Abstract(AbstractHeapType::Func),
+            [0x70].as_slice(),
+        ),
+        (
+            true,
+            HeapType::Abstract(AbstractHeapType::Extern),
+            [0x6f].as_slice(),
+        ),
+        (
+            true,
+            HeapType::Abstract(AbstractHeapType::Any),
+            [0x63, 0x6e].as_slice(),
+        ),
+        (
+            true,
+            HeapType::Abstract(AbstractHeapType::NoExn),
+            [0x63, 0x74].as_slice(),
+        ),
         (true, HeapType::Concrete(5), [0x63, 0x05].as_slice()),
         (true, HeapType::Concrete(64), [0x63, 0xc0, 0x00].as_slice()),
-        (false, HeapType::Abstract(AbstractHeapType::Func), [0x64, 0x70].as_slice()),
-        (false, HeapType::Abstract(AbstractHeapType::Extern), [0x64, 0x6f].as_slice()),
+        (
+            false,
+            HeapType::Abstract(AbstractHeapType::Func),
+            [0x64, 0x70].as_slice(),
+        ),
+        (
+            false,
+            HeapType::Abstract(AbstractHeapType::Extern),
+            [0x64, 0x6f].as_slice(),
+        ),
         (false, HeapType::Concrete(64), [0x64, 0xc0, 0x00].as_slice()),
     ] {
-        let reference = RefType { nullable, heap_type };
+        let reference = RefType {
+            nullable,
+            heap_type,
+        };
         check(&rt, rt.alloc(), &reference, bytes)?;
         check(&rt, rt.alloc(), &ValType::Ref(reference), bytes)?;
     }
@@ -93,6 +120,9 @@ fn types_are_compared_and_printed(rt: HostRuntime) -> Result<(), Fail> {
     assert!(rt; ValType::Ref(one) != ValType::Ref(other));
     assert!(rt; one.heap_type != HeapType::Concrete(0));
     let printed = format!(in rt.alloc(); "{:?} {:?}", ValType::I32, other)?;
-    assert_eq!(rt; printed.as_str(), "I32 RefType { nullable: true, heap_type: Abstract(Eq) }");
+    assert_eq!(rt;
+        printed.as_str(),
+        "I32 RefType { nullable: true, heap_type: Abstract(Eq) }"
+    );
     Ok(())
 }
