@@ -1,14 +1,17 @@
 //! What the numbers' texts are, in words; and of the forms that others are made of, that they are
 //! read as they are written, and in one way only.
-ghost use Rattle.std.specs.Prelude.{◌≡◌, ℕ, ℤ, pos, negsuc, ◌^◌, ◌<◌, ◌∷◌, [], List, FitsSigned};
+ghost use Rattle.std.specs.Prelude.{◌≡◌, ℕ, ℤ, pos, negsuc, ◌^◌, ◌<◌, ◌∷◌, [], List, FitsSigned, true, false};
 ghost use Rattle.std.specs.Int.{w64};
-ghost use Rattle.wenc_base.specs.Piece.{Wide};
+ghost use Rattle.wenc_base.specs.Piece.{Strict, Wide};
 ghost use Rattle.wenc_base.specs.Number.{unsigned_text, signed_text, IsUnsignedText, IsSignedText, index};
 ghost use Rattle.wenc_base.specs.Number.{u32 as number, u64 as long_number, i64 as signed_number};
 ghost use Rattle.wenc_base.specs.Forms.{flag, name, byte_list};
 ghost use Rattle.wenc_base.specs.Exports.{export_kind};
 ghost use Rattle.wenc_base.specs.Holder.{Held, Contains};
 ghost use Rattle.wenc_base.specs.Sections.{custom, producer, Producers, producers_field, field_text, producers_section, producers_text};
+ghost use Rattle.wenc_base.specs.Types.{abstract_type, heap_type, reference_to, reference, val_type};
+ghost use Rattle.wenc_base.specs.declared.types.HeapType.TheVariants.{Abstract, Concrete};
+ghost use Rattle.wenc_base.specs.declared.types.AbstractHeapType.TheVariants.{Func, Any};
 ghost use Rattle.wenc_base.specs.Delimited.{Delimits};
 ghost use Rattle.wenc_base.specs.Lawful.{FormLaws};
 
@@ -45,6 +48,19 @@ pub fn number_examples()
         → (number n).Reads Wide (0xff ∷ 0xff ∷ 0xff ∷ 0xff ∷ 0x1f ∷ []) rest → ⊥ }
 {}
 
+/// The texts of some references, what else is read widely as one that may be null, and that it is not
+/// read strictly.
+#[tactic(auto, unfolding(crate::specs::Number::groups))]
+pub fn type_examples()
+    ensures func { (reference_to true (Abstract Func)).text ≡ 0x70 ∷ [] }
+    ensures func_not_null { (reference_to false (Abstract Func)).text ≡ 0x64 ∷ 0x70 ∷ [] }
+    ensures any { (reference_to true (Abstract Any)).text ≡ 0x63 ∷ 0x6e ∷ [] }
+    ensures type_64 { (reference_to true (Concrete 64)).text ≡ 0x63 ∷ 0xc0 ∷ 0x00 ∷ [] }
+    ensures short_any { (reference_to true (Abstract Any)).Reads Wide (0x6e ∷ []) [] }
+    ensures long_func { (reference_to true (Abstract Func)).Reads Wide (0x63 ∷ 0x70 ∷ []) [] }
+    ensures no_short_any { (rest : List ℕ) → (reference_to true (Abstract Any)).Reads Strict (0x6e ∷ []) rest → ⊥ }
+{}
+
 /// A value of each form is read as it is written, strictly in no other way, and in one way only, and no
 /// value's text begins another's.
 pub fn forms_are_lawful()
@@ -56,6 +72,10 @@ pub fn forms_are_lawful()
     ensures names { FormLaws name }
     ensures byte_lists { FormLaws byte_list }
     ensures export_kinds { FormLaws export_kind }
+    ensures abstract_heap_types { FormLaws abstract_type }
+    ensures heap_types { FormLaws heap_type }
+    ensures references { FormLaws reference }
+    ensures value_types { FormLaws val_type }
 {}
 
 /// The same of custom sections.

@@ -6,6 +6,9 @@ ghost use Rattle.wenc_base.specs.Number.{unsigned_text};
 ghost use Rattle.wenc_base.specs.declared.fault.Fault.{Fault as FaultSpec};
 ghost use Rattle.wenc_base.specs.declared.fault.Fault.TheVariants.{Unfinished};
 
+mod holder;
+mod types;
+
 use crate::delimited::Delimited;
 use crate::encode::{Encode, Tagged, encode_list, extend_in_room};
 use crate::exports::ExportKind;
@@ -243,6 +246,26 @@ fn unfinished(rt: HostRuntime) -> Result<(), Fail> {
     let items = [(1u32, Item { is_open: false }), (2, Item { is_open: true })];
     let mut sink = [0x99].to_vec(rt.alloc())?;
     assert_eq!(rt; items.as_slice().encode(&mut sink), Err(Fault::Unfinished));
+
+    // The first refusal that is met is answered.
+    let large = 4294967296usize;
+    let open = Item { is_open: true };
+    let mut full = [0x99].to_vec(rt.alloc())?;
+    assert_eq!(rt;
+        Tagged(0x2a, &open).encode(&mut full),
+        Err(Fault::Unfinished)
+    );
+    assert_eq!(rt;
+        Some(Item { is_open: true }).encode(&mut sink),
+        Err(Fault::Unfinished)
+    );
+    let open_first = (Item { is_open: true }, large);
+    assert_eq!(rt; open_first.encode(&mut sink), Err(Fault::Unfinished));
+    let large_first = (large, open);
+    assert_eq!(rt; large_first.encode(&mut sink), Err(Fault::TooMany));
+    let pairs = [(1, Item { is_open: true }), (large, Item { is_open: true })];
+    assert_eq!(rt; pairs.as_slice().encode(&mut sink), Err(Fault::Unfinished));
+    assert_eq!(rt; full.as_slice(), [0x99].as_slice());
     assert_eq!(rt; sink.as_slice(), [0x99].as_slice());
     check(&rt, rt.alloc(), &items[0], [0x01].as_slice())
 }

@@ -2,6 +2,7 @@ use Rattle.wenc_base.specs.Lawful.{form_laws}
 use Rattle.wenc_base.specs.NumberLaws.{u32_lawful, u64_lawful, i64_lawful, index_lawful}
 use Rattle.wenc_base.specs.FormLaws.{flag_lawful, name_lawful, byte_list_lawful}
 use Rattle.wenc_base.specs.ExportLaws.{export_kind_lawful}
+use Rattle.wenc_base.specs.TypeLaws.{abstract_type_lawful, heap_type_lawful, reference_lawful, val_type_lawful}
 use Rattle.wenc_base.proofs.laws.forms_are_lawful.Goals as goal
 
 pub returns-clause-flags : goal.returns-clause-flags
@@ -27,3 +28,15 @@ returns-clause-byte_lists c = form_laws byte_list_lawful
 
 pub returns-clause-export_kinds : goal.returns-clause-export_kinds
 returns-clause-export_kinds c = form_laws export_kind_lawful
+
+pub returns-clause-abstract_heap_types : goal.returns-clause-abstract_heap_types
+returns-clause-abstract_heap_types c = form_laws abstract_type_lawful
+
+pub returns-clause-heap_types : goal.returns-clause-heap_types
+returns-clause-heap_types c = form_laws heap_type_lawful
+
+pub returns-clause-references : goal.returns-clause-references
+returns-clause-references c = form_laws reference_lawful
+
+pub returns-clause-value_types : goal.returns-clause-value_types
+returns-clause-value_types c = form_laws val_type_lawful
