@@ -52,7 +52,7 @@ impl<A: Allocator> ComponentAliasSection<A> {
     /// 4294967295 bytes in the section or in the alias's name (`TooLarge`).
     #[tactic(auto, using(wenc_base::specs::HolderLaws::adds_as))]
     pub fn alias(&mut self, alias: Alias<'_>) -> Result<(), Fault>
-        ensures { AddsMember alias_text self.old self.new result (alias_cause (alias_view alias)) (alias_view alias) }
+        ensures { AddsMember alias_text self.old self.new result (alias_cause (alias_view alias.entry)) (alias_view alias.entry) }
     {
         self.aliases.add_encoded(&alias)
     }
