@@ -1,8 +1,9 @@
 -- Components: items cut into sections, and the sections' texts (component model, binary format, "Component
 -- Definitions").
 use Rattle.std.specs.Prelude.{◌≡◌, ℕ, ◌∷◌, [], List, Option, Some, None, Bool, ◌||◌, IsTrue, nat_eq, if◌then◌else◌}
-use Rattle.wenc_base.specs.Piece.{Spelling, Piece, Whole, Form, byte, ◌▸◌, only_where, whole as all_of, end, ◌⨾⨾◌}
+use Rattle.wenc_base.specs.Piece.{Spelling, Whole, Form, ◌▸◌, only_where, whole as all_of, end, ◌⨾⨾◌}
 use Rattle.wenc_base.specs.Forms.{list, sized}
+pub use Rattle.wenc_sections.specs.Component.{preamble}
 use Rattle.wasm_encoder.specs.Item.{Item, collected, item}
 
 -- neighbours of one collected kind, with their section's id; or an item that is a section of its own
@@ -36,10 +37,6 @@ item_of id x = only_where (collected x ≡ Some id) (item x)
 abbrev pub section : Form Section
 section (Run id xs) = only_where (IsTrue (collects id)) (id ▸ sized (all_of (list (item_of id) xs)))
 section (Alone x) = only_where (collected x ≡ None) (item x)
-
--- the magic, a version and a layer
-abbrev pub preamble : Piece
-preamble = 0x00 ▸ 0x61 ▸ 0x73 ▸ 0x6d ▸ 0x0d ▸ 0x00 ▸ 0x01 ▸ byte 0x00
 
 abbrev pub sections : List Section → Whole
 sections [] = end

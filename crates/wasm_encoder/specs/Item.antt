@@ -1,14 +1,12 @@
 -- Items: what the calls of a builder add to a component.
 use Rattle.std.specs.Prelude.{ℕ, Option, Some}
-use Rattle.wenc_base.specs.Piece.{Form, ◌⨾◌}
-use Rattle.wenc_base.specs.Number.{u32}
-use Rattle.wenc_base.specs.Forms.{option}
+use Rattle.wenc_base.specs.Piece.{Form}
 use Rattle.wenc_base.specs.declared.fault.Fault.{Fault}
 use Rattle.wenc_parts.specs.declared.exports.ComponentExportKind.{ComponentExportKind}
 use Rattle.wenc_parts.specs.declared.imports.ComponentTypeRef.{ComponentTypeRef}
-use Rattle.wenc_parts.specs.Exports.{export_kind}
-use Rattle.wenc_parts.specs.Imports.{ExternName, extern_name, extern_name_cause, type_reference}
+use Rattle.wenc_parts.specs.Imports.{ExternName, extern_name_cause}
 use Rattle.wenc_parts.specs.Aliases.{AliasOf, alias, alias_cause}
+use Rattle.wenc_sections.specs.Items.{import_item, export_item}
 
 pub data Item : Type 0 where
   AliasItem : (to : AliasOf) → Item
@@ -24,8 +22,8 @@ collected (ExportItem name kind number what) = Some 11
 -- an item as it stands in its section
 abbrev pub item : Form Item
 item (AliasItem to) = alias to
-item (ImportItem name what) = extern_name name ⨾ type_reference what
-item (ExportItem name kind number what) = extern_name name ⨾ export_kind kind ⨾ u32 number ⨾ option type_reference what
+item (ImportItem name what) = import_item (record { name = name; what = what })
+item (ExportItem name kind number what) = export_item (record { name = name; kind = kind; index = number; what = what })
 
 -- why an item can't be encoded, whatever it is added to
 abbrev pub item_cause : Item → Fault → Type 0

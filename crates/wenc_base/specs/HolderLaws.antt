@@ -98,13 +98,19 @@ never fault = ⊥
 pub alone : (one next : Fault → Type 0) → ((fault : Fault) → next fault → ⊥) → SameCause (first_of one next) one
 alone one next none = (λ fault h. elim h [ inl c ↦ c | inr p ↦ absurd (none fault p.1) ], λ fault c. inl c)
 
+-- no value has a cause, and so none of them has one
+pub no_member : {A : Type 0} (vs : List A) (fault : Fault) → member_cause (λ v. never) vs fault → ⊥
+no_member [] fault h = h
+no_member (v ∷ vs) fault h = elim h [ inl none ↦ none | inr more ↦ no_member vs fault more.1 ]
+
 -- the same causes one by one
 member_as : {A : Type 0} (one other : A → Fault → Type 0) → ((v : A) → SameCause (one v) (other v)) → (vs : List A) → SameCause (member_cause one vs) (member_cause other vs)
 member_as one other same [] = ((λ fault h. h), λ fault h. h)
 member_as one other same (v ∷ vs) =
-    let rest = member_as one other same vs in
-    (λ fault h. elim h [ inl c ↦ inl ((same v).0 fault c) | inr p ↦ inr ((λ f c. p.0 f ((same v).1 f c)), rest.0 fault p.1) ],
-    λ fault h. elim h [ inl c ↦ inl ((same v).1 fault c) | inr p ↦ inr ((λ f c. p.0 f ((same v).0 f c)), rest.1 fault p.1) ])
+    let rest = member_as one other same vs in (
+      λ fault h. elim h [ inl c ↦ inl ((same v).0 fault c) | inr p ↦ inr ((λ f c. p.0 f ((same v).1 f c)), rest.0 fault p.1) ],
+      λ fault h. elim h [ inl c ↦ inl ((same v).1 fault c) | inr p ↦ inr ((λ f c. p.0 f ((same v).0 f c)), rest.1 fault p.1) ],
+    )
 
 -- the causes of the values are those of the list
 listed_as : {A : Type 0} (one other : A → Fault → Type 0) → ((v : A) → SameCause (one v) (other v)) → (vs : List A) → SameCause (listed_cause never one never vs) (drawn_cause other vs)
@@ -114,10 +120,13 @@ listed_as one other same vs = (there, λ fault h. inr ((λ f n. n), inl (back fa
     back fault h = elim h [ inl c ↦ inl ((member_as one other same vs).1 fault c) | inr p ↦ inr ((λ f c. p.0 f ((member_as one other same vs).0 f c)), p.1) ]
 
     there : (fault : Fault) → listed_cause never one never vs fault → drawn_cause other vs fault
-    there fault h = elim h [ inl none ↦ absurd none | inr p ↦ elim p.1 [
-      | inl d ↦ elim d [ inl c ↦ inl ((member_as one other same vs).0 fault c) | inr q ↦ inr ((λ f c. q.0 f ((member_as one other same vs).1 f c)), q.1) ]
-      | inr q ↦ absurd q.1
-    ] ]
+    there fault h = elim h [
+      | inl none ↦ absurd none
+      | inr p ↦ elim p.1 [
+        | inl d ↦ elim d [ inl c ↦ inl ((member_as one other same vs).0 fault c) | inr q ↦ inr ((λ f c. q.0 f ((member_as one other same vs).1 f c)), q.1) ]
+        | inr q ↦ absurd q.1
+      ]
+    ]
 
 -- the values, and what they stand for
 list_text_map : {A B : Type 0} (text : B → List ℕ) (view : A → B) (vs : List A) → list_text (λ v. text (view v)) vs ≡ list_text text (map view vs)

@@ -5,10 +5,12 @@ ghost use Rattle.wenc_base.specs.declared.fault.Fault.{Fault as FaultSpec};
 ghost use Rattle.wenc_base.specs.declared.fault.Fault.TheVariants.{Unfinished};
 
 mod lists;
+mod sized;
 
 use crate::fault::Fault;
 use crate::number::Short;
 pub use lists::encode_list;
+pub use sized::WithSize;
 use std::alloc::Allocator;
 
 /// A value with a binary text.

@@ -105,7 +105,11 @@ impl<A: Allocator> ProducersSection<A> {
     /// Adds a field of this name, of at most 4294967295 bytes, with its tools. It is refused where there would
     /// be more than 4294967295 fields (`TooMany`), or more than 4294967295 bytes behind the section's size
     /// (`TooLarge`), and then the section stays as it was.
-    pub fn field<B: Allocator>(&mut self, name: &str, field: &ProducersField<B>) -> Result<(), Fault>
+    pub fn field<B: Allocator>(
+        &mut self,
+        name: &str,
+        field: &ProducersField<B>,
+    ) -> Result<(), Fault>
         ensures added { (tools : List Producer) → Contains producer_text field.now tools
             → AddsMember field_text self.old self.new result (FieldCause self.old name.now field.now) (record { field = name.now; tools = tools }) }
         ensures bytes { AddsMember as_they_are self.old self.new result (FieldCause self.old name.now field.now) (field_bytes name.now field.now) }
@@ -113,7 +117,11 @@ impl<A: Allocator> ProducersSection<A> {
         self.add_field(name, field)
     }
 
-    fn add_field<B: Allocator>(&mut self, name: &str, field: &ProducersField<B>) -> Result<(), Fault>
+    fn add_field<B: Allocator>(
+        &mut self,
+        name: &str,
+        field: &ProducersField<B>,
+    ) -> Result<(), Fault>
         ensures added { AddsMember as_they_are self.old self.new result (FieldCause self.old name.now field.now) (field_bytes name.now field.now) }
     {
         let count = self.fields.len();

@@ -4,20 +4,12 @@ use Rattle.std.proofs.lemmas.List.{append-nil}
 use Rattle.wenc_base.specs.Fault.{count_cause, member_cause}
 use Rattle.wenc_base.specs.Forms.{list_text}
 use Rattle.wenc_base.specs.Holder.{Held, as_they_are, AddsListed, listed_text, listed_cause}
-use Rattle.wenc_base.specs.HolderLaws.{SameCause, adds_listed_as}
+use Rattle.wenc_base.specs.HolderLaws.{SameCause, never, no_member, adds_listed_as}
 use Rattle.wenc_base.specs.declared.fault.Fault.{Fault}
 use Rattle.wenc_canon.specs.declared.canonicals.CanonicalOption.{CanonicalOption}
 use Rattle.wenc_canon.specs.Canonicals.{canonical_option, Canonical, canonical_text, AddsWithOptions}
 
--- no option can be refused but for want of memory
-abbrev never : Fault → Type 0
-never fault = ⊥
-
-no_member : (os : List CanonicalOption) (fault : Fault) → member_cause (λ o. never) os fault → ⊥
-no_member [] fault h = h
-no_member (o ∷ os) fault h = elim h [ inl none ↦ none | inr more ↦ no_member os fault more.1 ]
-
--- so that their number alone can be
+-- no option can be refused but for want of memory, so that their number alone can be
 number_alone : (os : List CanonicalOption) → SameCause (listed_cause never (λ o. never) never os) (count_cause (length os))
 number_alone os = (there, λ fault h. inr ((λ other none. none), inl (inr (no_member os, h))))
   where

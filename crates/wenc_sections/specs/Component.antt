@@ -1,12 +1,11 @@
 -- Starts, nested components, core modules, and the header (component model, binary format, "Start Definitions" and "Component
 -- Definitions").
-use Rattle.std.specs.Prelude.{◌≡◌, ℕ, ◌≤◌, ◌^◌, List, ◌++◌, length}
+use Rattle.std.specs.Prelude.{ℕ, List, length}
 use Rattle.wenc_base.specs.Piece.{Piece, Form, byte, ◌▸◌, ◌⨾◌, whole}
 use Rattle.wenc_base.specs.Number.{u32}
 use Rattle.wenc_base.specs.Forms.{list, sized}
-use Rattle.wenc_base.specs.Fault.{count_cause}
+use Rattle.wenc_base.specs.Fault.{first_of, count_cause, text_cause}
 use Rattle.wenc_base.specs.declared.fault.Fault.{Fault}
-use Rattle.wenc_base.specs.declared.fault.Fault.TheVariants.{Memory, TooMany, TooLarge, Unfinished}
 
 -- a function that is called with these arguments when the component is instantiated, and how many results it has
 pub record Start : Type 0 where
@@ -23,10 +22,7 @@ start s = sized (whole (start_content s))
 
 -- why it can't be encoded: for its number of arguments, or its size
 abbrev pub start_cause : Start → Fault → Type 0
-start_cause s (Memory e) = ⊥
-start_cause s TooMany = 2 ^ 32 ≤ length s.arguments
-start_cause s TooLarge = 2 ^ 32 ≤ length (start_content s).text
-start_cause s Unfinished = ⊥
+start_cause s = first_of (count_cause (length s.arguments)) (text_cause (start_content s).text)
 
 -- the magic, a version and a layer
 abbrev pub preamble : Piece

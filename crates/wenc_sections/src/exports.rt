@@ -8,7 +8,8 @@ use std::alloc::{Allocator, Global};
 use std::marker::Model;
 use wenc_base::{Encode, Fault, Holder};
 use wenc_parts::{
-    ComponentExportKind, ComponentExternName, ComponentSection, ComponentSectionId, ComponentTypeRef,
+    ComponentExportKind, ComponentExternName, ComponentSection, ComponentSectionId,
+    ComponentTypeRef,
 };
 
 /// The section of exports (component model, binary format, "Import and Export Definitions"). A call that is refused
@@ -53,7 +54,13 @@ impl<A: Allocator> ComponentExportSection<A> {
     /// Adds an export of the item of this kind with this index, from 0 to 4294967295, under this name, with a type
     /// or none. It is refused where there would be more than 4294967295 exports (`TooMany`), or more than
     /// 4294967295 bytes in the section or in a text of the name (`TooLarge`).
-    pub fn export<B: Allocator>(&mut self, name: ComponentExternName<'_, B>, kind: ComponentExportKind, index: u32, ty: Option<ComponentTypeRef>) -> Result<(), Fault>
+    pub fn export<B: Allocator>(
+        &mut self,
+        name: ComponentExternName<'_, B>,
+        kind: ComponentExportKind,
+        index: u32,
+        ty: Option<ComponentTypeRef>,
+    ) -> Result<(), Fault>
         ensures { AddsMember export_text self.old self.new result (extern_name_cause (extern_name_view name.entry))
             (record { name = extern_name_view name.entry; kind = kind; index = index; what = ty }) }
     {

@@ -51,7 +51,11 @@ impl<A: Allocator> ComponentImportSection<A> {
     /// Adds an import under this name. It is refused where there would be more than 4294967295 imports
     /// (`TooMany`), or more than 4294967295 bytes in the section or in a text of the name (`TooLarge`).
     #[tactic(auto, using(wenc_base::specs::HolderLaws::adds_as, wenc_base::specs::HolderLaws::alone))]
-    pub fn import<B: Allocator>(&mut self, name: ComponentExternName<'_, B>, ty: ComponentTypeRef) -> Result<(), Fault>
+    pub fn import<B: Allocator>(
+        &mut self,
+        name: ComponentExternName<'_, B>,
+        ty: ComponentTypeRef,
+    ) -> Result<(), Fault>
         ensures { AddsMember import_text self.old self.new result (extern_name_cause (extern_name_view name.entry)) (record { name = extern_name_view name.entry; what = ty }) }
     {
         self.imports.add_encoded(&(name, ty))

@@ -53,7 +53,11 @@ impl<A: Allocator> InstanceSection<A> {
     /// Adds an instance of the core module with this index, from 0 to 4294967295, which is given these arguments
     /// under their names. It is refused where there would be more than 4294967295 instances or arguments
     /// (`TooMany`), or more than 4294967295 bytes in the section or in a name (`TooLarge`).
-    pub fn instantiate<'a, I: Iterator<Item = (&'a str, ModuleArg)> + Drop>(&mut self, module_index: u32, args: I) -> Result<(), Fault>
+    pub fn instantiate<'a, I: Iterator<Item = (&'a str, ModuleArg)> + Drop>(
+        &mut self,
+        module_index: u32,
+        args: I,
+    ) -> Result<(), Fault>
         requires can { I.can_next args }
         requires ends { IsFinite (I.remaining args) }
         ensures { AddsListed I.next_gives args core_instance_text self.old self.new result (drawn_cause (λ a. text_cause a.0.now))
@@ -64,7 +68,10 @@ impl<A: Allocator> InstanceSection<A> {
     }
 
     /// Adds an instance that exports these core items under their names. It is refused as `instantiate` is.
-    pub fn export_items<'a, I: Iterator<Item = (&'a str, ExportKind, u32)> + Drop>(&mut self, exports: I) -> Result<(), Fault>
+    pub fn export_items<'a, I: Iterator<Item = (&'a str, ExportKind, u32)> + Drop>(
+        &mut self,
+        exports: I,
+    ) -> Result<(), Fault>
         requires can { I.can_next exports }
         requires ends { IsFinite (I.remaining exports) }
         ensures { AddsListed I.next_gives exports core_instance_text self.old self.new result (drawn_cause (λ e. text_cause e.0.now))

@@ -7,6 +7,7 @@ pub mod components;
 pub mod exports;
 pub mod imports;
 pub mod instances;
+pub mod laws;
 pub mod modules;
 pub mod start;
 

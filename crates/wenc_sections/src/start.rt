@@ -2,7 +2,7 @@ ghost use Rattle.std.specs.Prelude.{◌≡◌};
 
 use std::alloc::Allocator;
 use std::convert::AsSlice;
-use wenc_base::{Encode, Fault, encoding_size, section_size};
+use wenc_base::{Encode, Fault, WithSize};
 use wenc_parts::{ComponentSection, ComponentSectionId};
 
 /// The section that has a function called when the component is instantiated (component model, binary format,
@@ -16,4 +16,25 @@ pub struct ComponentStartSection<A> {
     pub args: A,
     /// How many values it answers, from 0 to 4294967295.
     pub results: u32,
+}
+
+impl<A: AsSlice<u32>> Encode for ComponentStartSection<A> {
+    ghost use Rattle.wenc_sections.specs.Component.{start, start_cause};
+
+    ghost text = { λ s. (start (record { function = s.function_index; arguments = A.items s.args; results = s.results })).text };
+
+    ghost cause = { λ s. start_cause (record { function = s.function_index; arguments = A.items s.args; results = s.results }) };
+
+    fn encode<B: Allocator>(&self, sink: &mut Vec<u8, B>) -> Result<(), Fault> {
+        let content = (self.function_index, (self.args.as_slice(), self.results));
+        WithSize(&content).encode(sink)
+    }
+}
+
+impl<A: AsSlice<u32>> ComponentSection for ComponentStartSection<A> {
+    ghost section_id = { λ _. 9 };
+
+    fn id(&self) -> u8 {
+        u8::from(ComponentSectionId::Start)
+    }
 }

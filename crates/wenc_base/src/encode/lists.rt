@@ -61,7 +61,7 @@ pub fn encode_list<T: Encode + Drop, I: Iterator<Item = T> + Drop, A: Allocator>
 {
     let start = sink.len();
     match encode_all(values, sink) {
-        Ok(count) => put_count(count, start, sink),
+        Ok(count) => put_number(count, start, sink),
         Err(fault) => {
             sink.truncate(start);
             Err(fault)
@@ -95,14 +95,18 @@ fn encode_all<T: Encode + Drop, I: Iterator<Item = T> + Drop, A: Allocator>(
 }
 
 /// Puts a number in front of the bytes from `start` on, or leaves these out where it is refused.
-fn put_count<A: Allocator>(count: u32, start: usize, sink: &mut Vec<u8, A>) -> Result<(), Fault>
+pub fn put_number<A: Allocator>(
+    number: u32,
+    start: usize,
+    sink: &mut Vec<u8, A>,
+) -> Result<(), Fault>
     requires { start ≤ length sink.old.items }
-    ensures ok { OnOk result (sink.new.items ≡ take start sink.old.items ++ unsigned_text count ++ drop start sink.old.items) }
+    ensures ok { OnOk result (sink.new.items ≡ take start sink.old.items ++ unsigned_text number ++ drop start sink.old.items) }
     ensures err { OnErr result (sink.new.items ≡ take start sink.old.items) }
     ensures warranted { IfErr result IsMemory }
 {
     let end = sink.len();
-    match count.encode(sink) {
+    match number.encode(sink) {
         Ok(()) => {
             let size = sink.len() - end;
             turn_to_front(sink.as_mut_slice(), start, size);

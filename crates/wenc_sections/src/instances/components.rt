@@ -8,9 +8,7 @@ ghost use Rattle.wenc_sections.specs.Instances.{Instantiate, Exports, instance_t
 use std::alloc::{Allocator, Global};
 use std::marker::Model;
 use wenc_base::{Encode, Fault, Holder, Tagged};
-use wenc_parts::{
-    ComponentExportKind, ComponentExternName, ComponentSection, ComponentSectionId,
-};
+use wenc_parts::{ComponentExportKind, ComponentExternName, ComponentSection, ComponentSectionId};
 
 /// The section of component instances (component model, binary format, "Instance Definitions"). A call that is
 /// refused leaves it as it was.
@@ -54,7 +52,11 @@ impl<A: Allocator> ComponentInstanceSection<A> {
     /// Adds an instance of the component with this index, from 0 to 4294967295, which is given the items of these
     /// kinds and indices under their names. It is refused where there would be more than 4294967295 instances or
     /// arguments (`TooMany`), or more than 4294967295 bytes in the section or in a name (`TooLarge`).
-    pub fn instantiate<'a, I: Iterator<Item = (&'a str, ComponentExportKind, u32)> + Drop>(&mut self, component_index: u32, args: I) -> Result<(), Fault>
+    pub fn instantiate<'a, I: Iterator<Item = (&'a str, ComponentExportKind, u32)> + Drop>(
+        &mut self,
+        component_index: u32,
+        args: I,
+    ) -> Result<(), Fault>
         requires can { I.can_next args }
         requires ends { IsFinite (I.remaining args) }
         ensures { AddsListed I.next_gives args instance_text self.old self.new result (drawn_cause (λ a. text_cause a.0.now))
@@ -66,7 +68,11 @@ impl<A: Allocator> ComponentInstanceSection<A> {
 
     /// Adds an instance that exports the items of these kinds and indices under their names. It is refused as
     /// `instantiate` is.
-    pub fn export_items<'a, N: Allocator + Drop, I: Iterator<Item = (ComponentExternName<'a, N>, ComponentExportKind, u32)> + Drop>(&mut self, exports: I) -> Result<(), Fault>
+    pub fn export_items<
+        'a,
+        N: Allocator + Drop,
+        I: Iterator<Item = (ComponentExternName<'a, N>, ComponentExportKind, u32)> + Drop,
+    >(&mut self, exports: I) -> Result<(), Fault>
         requires can { I.can_next exports }
         requires ends { IsFinite (I.remaining exports) }
         ensures { AddsListed I.next_gives exports instance_text self.old self.new result (drawn_cause (λ e. extern_name_cause (extern_name_view e.0)))

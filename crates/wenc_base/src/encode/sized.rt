@@ -1,0 +1,31 @@
+ghost use Rattle.std.specs.Prelude.{◌≡◌, ◌++◌, length};
+ghost use Rattle.wenc_base.specs.Fault.{first_of, text_cause};
+ghost use Rattle.wenc_base.specs.Number.{unsigned_text};
+
+use super::Encode;
+use super::lists::put_number;
+use crate::fault::Fault;
+use std::alloc::Allocator;
+
+/// How many bytes a value has, then the value. It is refused as the value is, or where there are more than
+/// 4294967295 (`TooLarge`).
+#[derive(Clone, Copy)]
+pub struct WithSize<'a, T>(pub &'a T);
+
+impl<'a, T: Encode> Encode for WithSize<'a, T> {
+    ghost text = { λ s. unsigned_text (length (T.text s.0.now)) ++ T.text s.0.now };
+
+    ghost cause = { λ s. first_of (T.cause s.0.now) (text_cause (T.text s.0.now)) };
+
+    ghost unfinished = { λ s. T.unfinished s.0.now };
+
+    fn encode<A: Allocator>(&self, sink: &mut Vec<u8, A>) -> Result<(), Fault> {
+        let start = sink.len();
+        self.0.encode(sink)?;
+        let Ok(size) = u32::try_from(sink.len() - start) else {
+            sink.truncate(start);
+            return Err(Fault::TooLarge);
+        };
+        put_number(size, start, sink)
+    }
+}
