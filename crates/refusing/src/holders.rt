@@ -84,6 +84,11 @@ impl<'a> Members<'a> for CanonicalFunctionSection<&'a Refusing> {
     }
 }
 
+/// A call that adds a member.
+trait Adds<M> {
+    fn add(&self, to: &mut M) -> Result<(), Fault>;
+}
+
 /// It has so many members of one byte. From now on no request is refused.
 fn started<'a, M: Members<'a>>(heap: &'a Refusing, count: u32) -> Result<M, Fault> {
     heap.refuse_none();
@@ -95,22 +100,22 @@ fn started<'a, M: Members<'a>>(heap: &'a Refusing, count: u32) -> Result<M, Faul
 }
 
 /// Has the call's requests refused in turn, with so many members there before it. Whether any was.
-fn sweep_from<'a, M: Members<'a>, F: Fn(&mut M) -> Result<(), Fault>>(
+fn sweep_from<'a, M: Members<'a>, C: Adds<M>>(
     rt: &impl Abort,
     alloc: Global,
     heap: &'a Refusing,
     count: u32,
-    call: &F,
+    call: &C,
 ) -> Result<bool, Fault> {
     let mut ample: M = started(heap, count)?;
     let before = ample.state(alloc)?;
-    call(&mut ample)?;
+    call.add(&mut ample)?;
     let wanted = ample.state(alloc)?;
     assert!(rt; before.as_slice() != wanted.as_slice());
     for n in 1..20u64 {
         let mut members: M = started(heap, count)?;
         heap.refuse_nth(n);
-        let outcome = call(&mut members);
+        let outcome = call.add(&mut members);
         if !heap.was_refused() {
             assert!(rt; outcome.is_ok());
             assert!(rt; members.state(alloc)?.as_slice() == wanted.as_slice());
@@ -119,7 +124,7 @@ fn sweep_from<'a, M: Members<'a>, F: Fn(&mut M) -> Result<(), Fault>>(
         assert!(rt; outcome == Err(REFUSED));
         assert!(rt; heap.requests() == n);
         assert!(rt; members.state(alloc)?.as_slice() == before.as_slice());
-        call(&mut members)?;
+        call.add(&mut members)?;
         assert!(rt; members.state(alloc)?.as_slice() == wanted.as_slice());
     }
     assert!(rt; false, "each of 19 requests was refused");
@@ -127,15 +132,15 @@ fn sweep_from<'a, M: Members<'a>, F: Fn(&mut M) -> Result<(), Fault>>(
 }
 
 // A first growth has room for eight bytes: so the growth comes at each place of the call.
-fn sweep_add<'a, M: Members<'a>, F: Fn(&mut M) -> Result<(), Fault>>(
+fn sweep_add<'a, M: Members<'a>, C: Adds<M>>(
     rt: &impl Abort,
     alloc: Global,
     heap: &'a Refusing,
-    call: F,
+    call: &C,
 ) -> Result<(), Fault> {
     let mut refused = 0;
     for count in 0..9u32 {
-        if sweep_from(rt, alloc, heap, count, &call)? {
+        if sweep_from(rt, alloc, heap, count, call)? {
             refused += 1;
         }
     }
@@ -176,110 +181,98 @@ fn sweep_clone<'a, M: Members<'a>>(
 
 type Canonicals<'a> = CanonicalFunctionSection<&'a Refusing>;
 
-#[test]
-fn intrinsics(rt: HostRuntime) -> Result<(), Fail> {
-    let alloc = rt.alloc();
-    let heap = Refusing::new(alloc);
-    let heap = &heap;
-    sweep_add(&rt, alloc, heap, |s: &mut Canonicals| s.thread_index())?;
-    sweep_add(&rt, alloc, heap, |s: &mut Canonicals| s.thread_yield())?;
-    sweep_add(&rt, alloc, heap, |s: &mut Canonicals| s.resource_new(LARGE))?;
-    sweep_add(
-        &rt,
-        alloc,
-        heap,
-        |s: &mut Canonicals| s.waitable_set_wait(LARGE),
-    )?;
-    sweep_add(
-        &rt,
-        alloc,
-        heap,
-        |s: &mut Canonicals| s.thread_new_indirect(LARGE, LARGE),
-    )?;
-    sweep_add(
-        &rt,
-        alloc,
-        heap,
-        |s: &mut Canonicals| s.subtask_cancel(true),
-    )?;
-    sweep_add(
-        &rt,
-        alloc,
-        heap,
-        |s: &mut Canonicals| s.stream_cancel_read(LARGE, true),
-    )?;
-    sweep_add(
-        &rt,
-        alloc,
-        heap,
-        |s: &mut Canonicals| s.context_get(ValType::I32, LARGE),
-    )?;
-    Ok(())
+/// Calls of each shape.
+#[derive(Clone, Copy)]
+enum Canonical {
+    NoField,
+    Zero,
+    Index,
+    ZeroAndIndex,
+    Indices,
+    Flag,
+    IndexAndFlag,
+    ValueType,
+    Options,
+    IndexAndOptions,
+    ResultAndOptions,
+    NoResultAndOptions,
+    Lift,
+    Lower,
+}
+
+impl<'a> Adds<CanonicalFunctionSection<&'a Refusing>> for Canonical {
+    fn add(&self, to: &mut CanonicalFunctionSection<&'a Refusing>) -> Result<(), Fault> {
+        match self {
+            Canonical::NoField => to.thread_index(),
+            Canonical::Zero => to.thread_yield(),
+            Canonical::Index => to.resource_new(LARGE),
+            Canonical::ZeroAndIndex => to.waitable_set_wait(LARGE),
+            Canonical::Indices => to.thread_new_indirect(LARGE, LARGE),
+            Canonical::Flag => to.subtask_cancel(true),
+            Canonical::IndexAndFlag => to.stream_cancel_read(LARGE, true),
+            Canonical::ValueType => to.context_get(ValType::I32, LARGE),
+            Canonical::Options => to.error_context_new(options()),
+            Canonical::IndexAndOptions => to.stream_read(LARGE, options()),
+            Canonical::ResultAndOptions => {
+                to.task_return(Some(ComponentValType::Type(LARGE)), options())
+            }
+            Canonical::NoResultAndOptions => to.task_return(None, options()),
+            Canonical::Lift => to.lift(LARGE, LARGE, options()),
+            Canonical::Lower => to.lower(LARGE, options()),
+        }
+    }
 }
 
 #[test]
-fn functions_with_options(rt: HostRuntime) -> Result<(), Fail> {
+fn canonical_functions(rt: HostRuntime) -> Result<(), Fail> {
     let alloc = rt.alloc();
     let heap = Refusing::new(alloc);
-    let heap = &heap;
-    let ty = ComponentValType::Type(LARGE);
-    sweep_add(
-        &rt,
-        alloc,
-        heap,
-        |s: &mut Canonicals| s.error_context_new(options()),
-    )?;
-    sweep_add(
-        &rt,
-        alloc,
-        heap,
-        |s: &mut Canonicals| s.stream_read(LARGE, options()),
-    )?;
-    sweep_add(
-        &rt,
-        alloc,
-        heap,
-        |s: &mut Canonicals| s.task_return(Some(ty), options()),
-    )?;
-    sweep_add(
-        &rt,
-        alloc,
-        heap,
-        |s: &mut Canonicals| s.task_return(None, options()),
-    )?;
-    sweep_add(
-        &rt,
-        alloc,
-        heap,
-        |s: &mut Canonicals| s.lift(LARGE, LARGE, options()),
-    )?;
-    sweep_add(
-        &rt,
-        alloc,
-        heap,
-        |s: &mut Canonicals| s.lower(LARGE, options()),
-    )?;
+    for call in [
+        Canonical::NoField,
+        Canonical::Zero,
+        Canonical::Index,
+        Canonical::ZeroAndIndex,
+        Canonical::Indices,
+        Canonical::Flag,
+        Canonical::IndexAndFlag,
+        Canonical::ValueType,
+        Canonical::Options,
+        Canonical::IndexAndOptions,
+        Canonical::ResultAndOptions,
+        Canonical::NoResultAndOptions,
+        Canonical::Lift,
+        Canonical::Lower,
+    ] {
+        sweep_add::<Canonicals, Canonical>(&rt, alloc, &heap, &call)?;
+    }
     Ok(())
+}
+
+/// Calls of a holder.
+#[derive(Clone, Copy)]
+enum Member {
+    Text,
+    Encoded,
+    Listed,
+}
+
+impl<'a> Adds<Holder<&'a Refusing>> for Member {
+    fn add(&self, to: &mut Holder<&'a Refusing>) -> Result<(), Fault> {
+        match self {
+            Member::Text => to.add(TEXT),
+            Member::Encoded => to.add_encoded(&(LARGE, TEXT)),
+            Member::Listed => to.add_listed(&LARGE, options(), &TEXT),
+        }
+    }
 }
 
 #[test]
 fn members_of_a_holder(rt: HostRuntime) -> Result<(), Fail> {
     let alloc = rt.alloc();
     let heap = Refusing::new(alloc);
-    let heap = &heap;
-    sweep_add(&rt, alloc, heap, |h: &mut Holder<&Refusing>| h.add(TEXT))?;
-    sweep_add(
-        &rt,
-        alloc,
-        heap,
-        |h: &mut Holder<&Refusing>| h.add_encoded(&(LARGE, TEXT)),
-    )?;
-    sweep_add(
-        &rt,
-        alloc,
-        heap,
-        |h: &mut Holder<&Refusing>| h.add_listed(&LARGE, options(), &TEXT),
-    )?;
+    for call in [Member::Text, Member::Encoded, Member::Listed] {
+        sweep_add::<Holder<&Refusing>, Member>(&rt, alloc, &heap, &call)?;
+    }
     Ok(())
 }
 
