@@ -3,8 +3,8 @@ use std::alloc::Global;
 use std::process::Abort;
 use std::test::Fail;
 use wasm_encoder::{
-    CanonicalFunctionSection, CanonicalOption, ComponentSection, ComponentValType, Fault,
-    PrimitiveValType, ValType,
+    AbstractHeapType, CanonicalFunctionSection, CanonicalOption, ComponentSection,
+    ComponentValType, Fault, HeapType, PrimitiveValType, RefType, ValType,
 };
 
 const STRING: Option<ComponentValType> = Some(ComponentValType::Primitive(
@@ -96,6 +96,7 @@ fn each_method_adds_its_row(rt: HostRuntime) -> Result<(), Fail> {
     row(&rt, alloc, "1f", |s| s.waitable_set_new())?;
     row(&rt, alloc, "200005", |s| s.waitable_set_wait(5))?;
     row(&rt, alloc, "210005", |s| s.waitable_set_poll(5))?;
+    row(&rt, alloc, "210000", |s| s.waitable_set_poll(0))?;
     row(&rt, alloc, "22", |s| s.waitable_set_drop())?;
     row(&rt, alloc, "23", |s| s.waitable_join())?;
     row(&rt, alloc, "26", |s| s.thread_index())?;
@@ -107,5 +108,124 @@ fn each_method_adds_its_row(rt: HostRuntime) -> Result<(), Fail> {
     row(&rt, alloc, "2b00", |s| s.thread_yield_then_resume())?;
     row(&rt, alloc, "2c00", |s| s.thread_suspend_then_promote())?;
     row(&rt, alloc, "2d00", |s| s.thread_yield_then_promote())?;
+    Ok(())
+}
+
+#[test]
+fn each_option_is_written(rt: HostRuntime) -> Result<(), Fail> {
+    for (option, wanted) in [
+        (CanonicalOption::UTF8, "0100000100"),
+        (CanonicalOption::UTF16, "0100000101"),
+        (CanonicalOption::CompactUTF16, "0100000102"),
+        (CanonicalOption::Memory(128), "01000001038001"),
+        (CanonicalOption::Realloc(128), "01000001048001"),
+        (CanonicalOption::PostReturn(128), "01000001058001"),
+        (CanonicalOption::Async, "0100000106"),
+        (CanonicalOption::Callback(128), "01000001078001"),
+        (CanonicalOption::CoreType(128), "01000001088001"),
+        (CanonicalOption::Gc, "0100000109"),
+    ] {
+        row(
+            &rt,
+            rt.alloc(),
+            wanted,
+            |s| s.lower(0, [option].into_iter()),
+        )?;
+    }
+    Ok(())
+}
+
+/// The type of a reference that may be null, or may not.
+fn reference(nullable: bool, heap_type: HeapType) -> ValType {
+    ValType::Ref(RefType {
+        nullable,
+        heap_type,
+    })
+}
+
+#[test]
+fn slots_have_core_value_types(rt: HostRuntime) -> Result<(), Fail> {
+    let alloc = rt.alloc();
+    let func = HeapType::Abstract(AbstractHeapType::Func);
+    let any = HeapType::Abstract(AbstractHeapType::Any);
+    for (ty, get, set) in [
+        (ValType::I64, "0a7e8001", "0b7e8001"),
+        (ValType::F32, "0a7d8001", "0b7d8001"),
+        (ValType::F64, "0a7c8001", "0b7c8001"),
+        (ValType::V128, "0a7b8001", "0b7b8001"),
+        (reference(true, func), "0a708001", "0b708001"),
+        (reference(false, func), "0a64708001", "0b64708001"),
+        (reference(true, any), "0a636e8001", "0b636e8001"),
+        (
+            reference(true, HeapType::Concrete(64)),
+            "0a63c0008001",
+            "0b63c0008001",
+        ),
+    ] {
+        row(&rt, alloc, get, |s| s.context_get(ty, 128))?;
+        row(&rt, alloc, set, |s| s.context_set(ty, 128))?;
+    }
+    Ok(())
+}
+
+#[test]
+fn rows_stand_in_their_order(rt: HostRuntime) -> Result<(), Fail> {
+    let alloc = rt.alloc();
+    let none: [CanonicalOption; 0] = [];
+    let mut section = CanonicalFunctionSection::new(alloc);
+    section.context_get(ValType::I32, 0)?;
+    section.task_return(None, none.into_iter())?;
+    section.thread_spawn_indirect(1, 2)?;
+    assert_eq!(rt; section.len(), 3);
+    assert_eq!(rt;
+        text(alloc, &section)?.as_str(),
+        "ee0b030a7f0009010000410102"
+    );
+    Ok(())
+}
+
+#[test]
+fn section_behind_its_id(rt: HostRuntime) -> Result<(), Fail> {
+    let alloc = rt.alloc();
+    let mut section = CanonicalFunctionSection::new(alloc);
+    section.lift(0, 0, [CanonicalOption::UTF8].into_iter())?;
+    let mut sink = Vec::new(alloc);
+    sink.push(0xee)?;
+    section.append_to_component(&mut sink)?;
+    let bytes = hex::encode(alloc, sink.as_slice())?;
+    assert_eq!(rt; bytes.as_str(), "ee080701000000010000");
+    Ok(())
+}
+
+#[test]
+fn empty_section(rt: HostRuntime) -> Result<(), Fail> {
+    let alloc = rt.alloc();
+    let mut section = CanonicalFunctionSection::new(alloc);
+    assert_eq!(rt; section.len(), 0);
+    assert!(rt; section.is_empty());
+    assert_eq!(rt; text(alloc, &section)?.as_str(), "ee0100");
+    section.task_cancel()?;
+    assert_eq!(rt; section.len(), 1);
+    assert!(rt; !section.is_empty());
+    assert_eq!(rt; text(alloc, &section)?.as_str(), "ee020105");
+    Ok(())
+}
+
+#[test]
+fn clones_go_their_own_way(rt: HostRuntime) -> Result<(), Fail> {
+    let alloc = rt.alloc();
+    let mut source = CanonicalFunctionSection::new(alloc);
+    source.resource_new(1)?;
+    let mut copy = source.clone()?;
+    assert_eq!(rt; copy.len(), 1);
+    assert_eq!(rt; text(alloc, &copy)?.as_str(), "ee03010201");
+    copy.task_cancel()?;
+    assert_eq!(rt; source.len(), 1);
+    assert_eq!(rt; text(alloc, &source)?.as_str(), "ee03010201");
+    source.subtask_drop()?;
+    assert_eq!(rt; source.len(), 2);
+    assert_eq!(rt; text(alloc, &source)?.as_str(), "ee040202010d");
+    assert_eq!(rt; copy.len(), 2);
+    assert_eq!(rt; text(alloc, &copy)?.as_str(), "ee0402020105");
     Ok(())
 }
