@@ -23,96 +23,133 @@ fn gc() -> std::array::IntoIter<CanonicalOption, 1> {
     [CanonicalOption::Gc].into_iter()
 }
 
-/// What a call adds to a new section, behind the section's size and count.
-fn row<F: FnOnce(&mut CanonicalFunctionSection) -> Result<(), Fault>>(
+/// The section has this row alone. It has none afterwards.
+fn row(
     rt: &impl Abort,
     alloc: Global,
+    section: &mut CanonicalFunctionSection,
     wanted: &str,
-    call: F,
 ) -> Result<(), Fault> {
-    let mut section = CanonicalFunctionSection::new(alloc);
-    call(&mut section)?;
     assert_eq!(rt; section.len(), 1);
-    let bytes = text(alloc, &section)?;
+    let bytes = text(alloc, section)?;
     let bytes = bytes.as_str();
     assert_eq!(rt; bytes.get(2..4).is_some(), true);
     assert_eq!(rt; bytes.get(6..).unwrap_or(""), wanted);
+    *section = CanonicalFunctionSection::new(alloc);
     Ok(())
 }
 
 #[test]
 fn each_method_adds_its_row(rt: HostRuntime) -> Result<(), Fail> {
     let alloc = rt.alloc();
-    row(
-        &rt,
-        alloc,
-        "00008001020003000a",
-        |s| s.lift(128, 10, both()),
-    )?;
-    row(&rt, alloc, "01008001020006", |s| s.lower(128, waits()))?;
-    row(&rt, alloc, "028001", |s| s.resource_new(128))?;
-    row(&rt, alloc, "038001", |s| s.resource_drop(128))?;
-    row(&rt, alloc, "048001", |s| s.resource_rep(128))?;
-    row(&rt, alloc, "408001", |s| s.thread_spawn_ref(128))?;
-    row(&rt, alloc, "410102", |s| s.thread_spawn_indirect(1, 2))?;
-    row(&rt, alloc, "42", |s| s.thread_available_parallelism())?;
-    row(&rt, alloc, "24", |s| s.backpressure_inc())?;
-    row(&rt, alloc, "25", |s| s.backpressure_dec())?;
-    row(
-        &rt,
-        alloc,
-        "09007302000300",
-        |s| s.task_return(STRING, both()),
-    )?;
-    row(&rt, alloc, "05", |s| s.task_cancel())?;
-    row(&rt, alloc, "0a7f00", |s| s.context_get(ValType::I32, 0))?;
-    row(&rt, alloc, "0b7f00", |s| s.context_set(ValType::I32, 0))?;
-    row(&rt, alloc, "0d", |s| s.subtask_drop())?;
-    row(&rt, alloc, "0601", |s| s.subtask_cancel(true))?;
-    row(&rt, alloc, "0e8001", |s| s.stream_new(128))?;
-    row(&rt, alloc, "0f07020006", |s| s.stream_read(7, waits()))?;
-    row(&rt, alloc, "1007020006", |s| s.stream_write(7, waits()))?;
-    row(&rt, alloc, "2e8001", |s| s.stream_forward(128))?;
-    row(&rt, alloc, "110301", |s| s.stream_cancel_read(3, true))?;
-    row(&rt, alloc, "120301", |s| s.stream_cancel_write(3, true))?;
-    row(&rt, alloc, "138001", |s| s.stream_drop_readable(128))?;
-    row(&rt, alloc, "148001", |s| s.stream_drop_writable(128))?;
-    row(&rt, alloc, "158001", |s| s.future_new(128))?;
-    row(&rt, alloc, "1607020006", |s| s.future_read(7, waits()))?;
-    row(&rt, alloc, "1707020006", |s| s.future_write(7, waits()))?;
-    row(&rt, alloc, "2f8001", |s| s.future_forward(128))?;
-    row(&rt, alloc, "180301", |s| s.future_cancel_read(3, true))?;
-    row(&rt, alloc, "190301", |s| s.future_cancel_write(3, true))?;
-    row(&rt, alloc, "1a8001", |s| s.future_drop_readable(128))?;
-    row(&rt, alloc, "1b8001", |s| s.future_drop_writable(128))?;
-    row(&rt, alloc, "1c0109", |s| s.error_context_new(gc()))?;
-    row(
-        &rt,
-        alloc,
-        "1d0109",
-        |s| s.error_context_debug_message(gc()),
-    )?;
-    row(&rt, alloc, "1e", |s| s.error_context_drop())?;
-    row(&rt, alloc, "1f", |s| s.waitable_set_new())?;
-    row(&rt, alloc, "200005", |s| s.waitable_set_wait(5))?;
-    row(&rt, alloc, "210005", |s| s.waitable_set_poll(5))?;
-    row(&rt, alloc, "210000", |s| s.waitable_set_poll(0))?;
-    row(&rt, alloc, "22", |s| s.waitable_set_drop())?;
-    row(&rt, alloc, "23", |s| s.waitable_join())?;
-    row(&rt, alloc, "26", |s| s.thread_index())?;
-    row(&rt, alloc, "270102", |s| s.thread_new_indirect(1, 2))?;
-    row(&rt, alloc, "28", |s| s.thread_resume_later())?;
-    row(&rt, alloc, "2900", |s| s.thread_suspend())?;
-    row(&rt, alloc, "0c00", |s| s.thread_yield())?;
-    row(&rt, alloc, "2a00", |s| s.thread_suspend_then_resume())?;
-    row(&rt, alloc, "2b00", |s| s.thread_yield_then_resume())?;
-    row(&rt, alloc, "2c00", |s| s.thread_suspend_then_promote())?;
-    row(&rt, alloc, "2d00", |s| s.thread_yield_then_promote())?;
+    let mut s = CanonicalFunctionSection::new(alloc);
+    s.lift(128, 10, both())?;
+    row(&rt, alloc, &mut s, "00008001020003000a")?;
+    s.lower(128, waits())?;
+    row(&rt, alloc, &mut s, "01008001020006")?;
+    s.resource_new(128)?;
+    row(&rt, alloc, &mut s, "028001")?;
+    s.resource_drop(128)?;
+    row(&rt, alloc, &mut s, "038001")?;
+    s.resource_rep(128)?;
+    row(&rt, alloc, &mut s, "048001")?;
+    s.thread_spawn_ref(128)?;
+    row(&rt, alloc, &mut s, "408001")?;
+    s.thread_spawn_indirect(1, 2)?;
+    row(&rt, alloc, &mut s, "410102")?;
+    s.thread_available_parallelism()?;
+    row(&rt, alloc, &mut s, "42")?;
+    s.backpressure_inc()?;
+    row(&rt, alloc, &mut s, "24")?;
+    s.backpressure_dec()?;
+    row(&rt, alloc, &mut s, "25")?;
+    s.task_return(STRING, both())?;
+    row(&rt, alloc, &mut s, "09007302000300")?;
+    s.task_cancel()?;
+    row(&rt, alloc, &mut s, "05")?;
+    s.context_get(ValType::I32, 0)?;
+    row(&rt, alloc, &mut s, "0a7f00")?;
+    s.context_set(ValType::I32, 0)?;
+    row(&rt, alloc, &mut s, "0b7f00")?;
+    s.subtask_drop()?;
+    row(&rt, alloc, &mut s, "0d")?;
+    s.subtask_cancel(true)?;
+    row(&rt, alloc, &mut s, "0601")?;
+    s.stream_new(128)?;
+    row(&rt, alloc, &mut s, "0e8001")?;
+    s.stream_read(7, waits())?;
+    row(&rt, alloc, &mut s, "0f07020006")?;
+    s.stream_write(7, waits())?;
+    row(&rt, alloc, &mut s, "1007020006")?;
+    s.stream_forward(128)?;
+    row(&rt, alloc, &mut s, "2e8001")?;
+    s.stream_cancel_read(3, true)?;
+    row(&rt, alloc, &mut s, "110301")?;
+    s.stream_cancel_write(3, true)?;
+    row(&rt, alloc, &mut s, "120301")?;
+    s.stream_drop_readable(128)?;
+    row(&rt, alloc, &mut s, "138001")?;
+    s.stream_drop_writable(128)?;
+    row(&rt, alloc, &mut s, "148001")?;
+    s.future_new(128)?;
+    row(&rt, alloc, &mut s, "158001")?;
+    s.future_read(7, waits())?;
+    row(&rt, alloc, &mut s, "1607020006")?;
+    s.future_write(7, waits())?;
+    row(&rt, alloc, &mut s, "1707020006")?;
+    s.future_forward(128)?;
+    row(&rt, alloc, &mut s, "2f8001")?;
+    s.future_cancel_read(3, true)?;
+    row(&rt, alloc, &mut s, "180301")?;
+    s.future_cancel_write(3, true)?;
+    row(&rt, alloc, &mut s, "190301")?;
+    s.future_drop_readable(128)?;
+    row(&rt, alloc, &mut s, "1a8001")?;
+    s.future_drop_writable(128)?;
+    row(&rt, alloc, &mut s, "1b8001")?;
+    s.error_context_new(gc())?;
+    row(&rt, alloc, &mut s, "1c0109")?;
+    s.error_context_debug_message(gc())?;
+    row(&rt, alloc, &mut s, "1d0109")?;
+    s.error_context_drop()?;
+    row(&rt, alloc, &mut s, "1e")?;
+    s.waitable_set_new()?;
+    row(&rt, alloc, &mut s, "1f")?;
+    s.waitable_set_wait(5)?;
+    row(&rt, alloc, &mut s, "200005")?;
+    s.waitable_set_poll(5)?;
+    row(&rt, alloc, &mut s, "210005")?;
+    s.waitable_set_poll(0)?;
+    row(&rt, alloc, &mut s, "210000")?;
+    s.waitable_set_drop()?;
+    row(&rt, alloc, &mut s, "22")?;
+    s.waitable_join()?;
+    row(&rt, alloc, &mut s, "23")?;
+    s.thread_index()?;
+    row(&rt, alloc, &mut s, "26")?;
+    s.thread_new_indirect(1, 2)?;
+    row(&rt, alloc, &mut s, "270102")?;
+    s.thread_resume_later()?;
+    row(&rt, alloc, &mut s, "28")?;
+    s.thread_suspend()?;
+    row(&rt, alloc, &mut s, "2900")?;
+    s.thread_yield()?;
+    row(&rt, alloc, &mut s, "0c00")?;
+    s.thread_suspend_then_resume()?;
+    row(&rt, alloc, &mut s, "2a00")?;
+    s.thread_yield_then_resume()?;
+    row(&rt, alloc, &mut s, "2b00")?;
+    s.thread_suspend_then_promote()?;
+    row(&rt, alloc, &mut s, "2c00")?;
+    s.thread_yield_then_promote()?;
+    row(&rt, alloc, &mut s, "2d00")?;
     Ok(())
 }
 
 #[test]
 fn each_option_is_written(rt: HostRuntime) -> Result<(), Fail> {
+    let alloc = rt.alloc();
+    let mut s = CanonicalFunctionSection::new(alloc);
     for (option, wanted) in [
         (CanonicalOption::UTF8, "0100000100"),
         (CanonicalOption::UTF16, "0100000101"),
@@ -125,12 +162,8 @@ fn each_option_is_written(rt: HostRuntime) -> Result<(), Fail> {
         (CanonicalOption::CoreType(128), "01000001088001"),
         (CanonicalOption::Gc, "0100000109"),
     ] {
-        row(
-            &rt,
-            rt.alloc(),
-            wanted,
-            |s| s.lower(0, [option].into_iter()),
-        )?;
+        s.lower(0, [option].into_iter())?;
+        row(&rt, alloc, &mut s, wanted)?;
     }
     Ok(())
 }
@@ -148,6 +181,7 @@ fn slots_have_core_value_types(rt: HostRuntime) -> Result<(), Fail> {
     let alloc = rt.alloc();
     let func = HeapType::Abstract(AbstractHeapType::Func);
     let any = HeapType::Abstract(AbstractHeapType::Any);
+    let mut s = CanonicalFunctionSection::new(alloc);
     for (ty, get, set) in [
         (ValType::I64, "0a7e8001", "0b7e8001"),
         (ValType::F32, "0a7d8001", "0b7d8001"),
@@ -162,8 +196,10 @@ fn slots_have_core_value_types(rt: HostRuntime) -> Result<(), Fail> {
             "0b63c0008001",
         ),
     ] {
-        row(&rt, alloc, get, |s| s.context_get(ty, 128))?;
-        row(&rt, alloc, set, |s| s.context_set(ty, 128))?;
+        s.context_get(ty, 128)?;
+        row(&rt, alloc, &mut s, get)?;
+        s.context_set(ty, 128)?;
+        row(&rt, alloc, &mut s, set)?;
     }
     Ok(())
 }
