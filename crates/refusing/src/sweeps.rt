@@ -16,17 +16,17 @@ use wasm_encoder::{
 };
 use wenc_base::Tagged;
 
-const REFUSED: Fault = Fault::Memory(AllocError);
+pub const REFUSED: Fault = Fault::Memory(AllocError);
 
 /// Longer than a vector's first room, so that each call has to grow.
 const NAME: &str = "a name that is longer than a first growth, by far: aaaaaaaaaaaaaaaaaaaaaa";
 
 /// A call that appends to a sink.
-trait Appends {
+pub trait Appends {
     fn append<A: Allocator>(&self, sink: &mut Vec<u8, A>) -> Result<(), Fault>;
 }
 
-fn sweep<C: Appends>(rt: &impl Abort, alloc: Global, call: &C) -> Result<(), Fault> {
+pub fn sweep<C: Appends>(rt: &impl Abort, alloc: Global, call: &C) -> Result<(), Fault> {
     let mut wanted = Vec::new(alloc);
     wanted.extend_from_slice(&[1, 2, 3])?;
     call.append(&mut wanted)?;
@@ -63,7 +63,7 @@ impl<'a, E: Encode> Appends for Encoded<'a, E> {
     }
 }
 
-fn sweep_encode<E: Encode>(rt: &impl Abort, alloc: Global, value: &E) -> Result<(), Fault> {
+pub fn sweep_encode<E: Encode>(rt: &impl Abort, alloc: Global, value: &E) -> Result<(), Fault> {
     sweep(rt, alloc, &Encoded(value))
 }
 
