@@ -114,7 +114,8 @@ impl<A: Allocator> Holder<A> {
 
     /// Adds one member with the text of this value. It is refused as `add` is, or as the value is.
     pub fn add_encoded<E: Encode>(&mut self, value: &E) -> Result<(), Fault>
-        ensures { AddsMember as_they_are self.old self.new result (E.cause value.now) (E.text value.now) }
+        ensures added { AddsMember as_they_are self.old self.new result (E.cause value.now) (E.text value.now) }
+        ensures unfinished_value { E.unfinished value.now → result ≡ Err Unfinished }
     {
         if !self.finished {
             return Err(Fault::Unfinished);
@@ -135,9 +136,10 @@ impl<A: Allocator> Holder<A> {
     ) -> Result<(), Fault>
         requires can { I.can_next values }
         requires ends { IsFinite (I.remaining values) }
-        ensures { AddsListed I.next_gives values as_they_are self.old self.new result
+        ensures added { AddsListed I.next_gives values as_they_are self.old self.new result
             (listed_cause (E.cause lead.now) T.cause (F.cause tail.now))
             (listed_text (E.text lead.now) T.text (F.text tail.now)) }
+        ensures unfinished_lead { E.unfinished lead.now → result ≡ Err Unfinished }
     {
         if !self.finished {
             return Err(Fault::Unfinished);
@@ -216,6 +218,7 @@ fn encode_listed<
     ensures err { OnErr result (sink.new.items ≡ sink.old.items) }
     ensures warranted { IfErr result (λ fault. SomeRun I.next_gives values (λ run.
         IsWarranted (listed_cause (E.cause lead.now) T.cause (F.cause tail.now) run.items) fault)) }
+    ensures unfinished_first { E.unfinished lead.now → result ≡ Err Unfinished }
 {
     let start = sink.len();
     lead.encode(sink)?;

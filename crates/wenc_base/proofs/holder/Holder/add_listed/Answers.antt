@@ -5,19 +5,19 @@ use Rattle.wenc_base.specs.declared.fault.Fault.{Fault}
 use Rattle.wenc_base.proofs.Added.{unfinished_listed, refused_listed, uncounted_listed, counted_listed, came_after, came_behind}
 use Rattle.wenc_base.proofs.holder.Holder.add_listed.Goals as goal
 
-pub returns-then-not-self : goal.returns-then-not-self
-returns-then-not-self g c =
+pub returns-then-not-self-clause-added : goal.returns-then-not-self-clause-added
+returns-then-not-self-clause-added g c =
     unfinished_listed g.I.Iterator.next_gives c.args.values (listed_text (g.E.Encode.text c.args.lead.now) g.T.Encode.text (g.F.Encode.text c.args.tail.now))
     (listed_cause (g.E.Encode.cause c.args.lead.now) g.T.Encode.cause (g.F.Encode.cause c.args.tail.now)) c.args.self.now c.args.self.now (search rules) (search rules)
 
-pub returns-in_err-encode_listed : goal.returns-in_err-encode_listed
-returns-in_err-encode_listed g c =
+pub returns-in_err-encode_listed-clause-added : goal.returns-in_err-encode_listed-clause-added
+returns-in_err-encode_listed-clause-added g c =
     refused_listed g.I.Iterator.next_gives c.args.values (listed_text (g.E.Encode.text c.args.lead.now) g.T.Encode.text (g.F.Encode.text c.args.tail.now))
     (listed_cause (g.E.Encode.cause c.args.lead.now) g.T.Encode.cause (g.F.Encode.cause c.args.tail.now)) c.args.self.now _ c.from_residual.result c.in_err-encode_listed.field-0.0
     c.from_residual.ensures.1 (search rules) (search rules) c.in_err-encode_listed.ensures.warranted
 
-pub returns-in_err-self-inside : goal.returns-in_err-self-inside
-returns-in_err-self-inside g c =
+pub returns-in_err-self-inside-clause-added : goal.returns-in_err-self-inside-clause-added
+returns-in_err-self-inside-clause-added g c =
     let text = listed_text (g.E.Encode.text c.args.lead.now) g.T.Encode.text (g.F.Encode.text c.args.tail.now) in
     let cause = listed_cause (g.E.Encode.cause c.args.lead.now) g.T.Encode.cause (g.F.Encode.cause c.args.tail.now) in
     let before = c.self.inside.bytes.items in
@@ -30,8 +30,8 @@ returns-in_err-self-inside g c =
     uncounted_listed g.I.Iterator.next_gives c.args.values text cause c.args.self.now _ c.from_residual-in_err-self-inside.result c.in_err-self-inside.field-0.0 (drop c.self.inside.kept after)
     c.from_residual-in_err-self-inside.ensures.1 (search (same, rules)) (search rules) (rw (← c.self.view_is) came) (search rules)
 
-pub returns : goal.returns
-returns g c =
+pub returns-clause-added : goal.returns-clause-added
+returns-clause-added g c =
     let text = listed_text (g.E.Encode.text c.args.lead.now) g.T.Encode.text (g.F.Encode.text c.args.tail.now) in
     let cause = listed_cause (g.E.Encode.cause c.args.lead.now) g.T.Encode.cause (g.F.Encode.cause c.args.tail.now) in
     let before = c.self.inside.bytes.items in

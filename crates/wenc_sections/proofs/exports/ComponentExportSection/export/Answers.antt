@@ -8,5 +8,5 @@ use Rattle.wenc_sections.proofs.exports.ComponentExportSection.export.Goals as g
 pub returns : goal.returns
 returns g c =
     let cause = extern_name_cause (extern_name_view c.args.name) in
-    let added = rw (option_is type_reference c.args.ty) at c.add_encoded.ensures in
+    let added = rw (option_is type_reference c.args.ty) at c.add_encoded.ensures.added in
     rw (← c.self.view_is) (adds_as export_text _ _ _ _ cause _ (alone cause _ (λ fault h. elim h [ inl one ↦ one | inr p ↦ elim p.1 [ inl two ↦ two | inr q ↦ q.1.2 ] ])) added)

@@ -7,4 +7,4 @@ use Rattle.wenc_sections.proofs.imports.ComponentImportSection.import.Goals as g
 pub returns : goal.returns
 returns g c =
     let cause = extern_name_cause (extern_name_view c.args.name) in
-    rw (← c.self.view_is) (adds_as import_text _ _ _ _ cause _ (alone cause _ (λ fault h. h)) c.add_encoded.ensures)
+    rw (← c.self.view_is) (adds_as import_text _ _ _ _ cause _ (alone cause _ (λ fault h. h)) c.add_encoded.ensures.added)

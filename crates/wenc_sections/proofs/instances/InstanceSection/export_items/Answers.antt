@@ -7,4 +7,4 @@ use Rattle.wenc_sections.proofs.instances.InstanceSection.export_items.Goals as 
 pub returns : goal.returns
 returns g c =
     rw (← c.self.view_is) (adds_list g.I.Iterator.next_gives c.args.exports core_instance_text _ _ _ (λ v. (core_export v).text) (λ v. record { name = v.0.now; kind = v.1; index = v.2 }) _ (λ v. text_cause v.0.now) (0x01 ∷ [])
-    CoreExports (λ cs. refl) (λ v. alone (text_cause v.0.now) _ (λ fault h. elim h [ inl none ↦ none | inr p ↦ p.1 ])) c.add_listed.ensures)
+    CoreExports (λ cs. refl) (λ v. alone (text_cause v.0.now) _ (λ fault h. elim h [ inl none ↦ none | inr p ↦ p.1 ])) c.add_listed.ensures.added)

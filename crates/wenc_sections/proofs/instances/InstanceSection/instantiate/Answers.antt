@@ -8,4 +8,4 @@ use Rattle.wenc_sections.proofs.instances.InstanceSection.instantiate.Goals as g
 pub returns : goal.returns
 returns g c =
     rw (← c.self.view_is) (adds_list g.I.Iterator.next_gives c.args.args core_instance_text _ _ _ (λ v. (argument v).text) (λ v. record { name = v.0.now; value = v.1 }) _ (λ v. text_cause v.0.now) (0x00 ∷ (u32 c.args.module_index).text)
-    (CoreInstantiate c.args.module_index) (λ cs. refl) (λ v. alone (text_cause v.0.now) _ (λ fault h. h)) c.add_listed.ensures)
+    (CoreInstantiate c.args.module_index) (λ cs. refl) (λ v. alone (text_cause v.0.now) _ (λ fault h. h)) c.add_listed.ensures.added)

@@ -7,4 +7,4 @@ use Rattle.wenc_sections.proofs.instances.components.ComponentInstanceSection.ex
 pub returns : goal.returns
 returns g c =
     rw (← c.self.view_is) (adds_list g.I.Iterator.next_gives c.args.exports instance_text _ _ _ (λ v. (exported v).text) (λ v. record { name = extern_name_view v.0; kind = v.1; index = v.2 }) _ (λ v. extern_name_cause (extern_name_view v.0)) (0x01 ∷ [])
-    Exports (λ cs. refl) (λ v. alone (extern_name_cause (extern_name_view v.0)) _ (λ fault h. elim h [ inl none ↦ none | inr p ↦ p.1 ])) c.add_listed.ensures)
+    Exports (λ cs. refl) (λ v. alone (extern_name_cause (extern_name_view v.0)) _ (λ fault h. elim h [ inl none ↦ none | inr p ↦ p.1 ])) c.add_listed.ensures.added)
