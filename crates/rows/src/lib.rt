@@ -27,6 +27,7 @@ pub fn passed_on<A: Allocator + Copy>(alloc: A) -> Result<Vec<u8, A>, Fault>
 mod aliases;
 #[cfg(test)]
 mod builder;
+pub mod by_hand;
 #[cfg(test)]
 mod canonicals;
 #[cfg(test)]
