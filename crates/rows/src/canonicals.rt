@@ -40,7 +40,7 @@ fn row(
 }
 
 #[test]
-fn each_method_adds_its_row(rt: HostRuntime) -> Result<(), Fail> {
+fn rows_of_functions_and_resources(rt: HostRuntime) -> Result<(), Fail> {
     let alloc = rt.alloc();
     let mut s = CanonicalFunctionSection::new(alloc);
     s.lift(128, 10, both())?;
@@ -53,12 +53,13 @@ fn each_method_adds_its_row(rt: HostRuntime) -> Result<(), Fail> {
     row(&rt, alloc, &mut s, "038001")?;
     s.resource_rep(128)?;
     row(&rt, alloc, &mut s, "048001")?;
-    s.thread_spawn_ref(128)?;
-    row(&rt, alloc, &mut s, "408001")?;
-    s.thread_spawn_indirect(1, 2)?;
-    row(&rt, alloc, &mut s, "410102")?;
-    s.thread_available_parallelism()?;
-    row(&rt, alloc, &mut s, "42")?;
+    Ok(())
+}
+
+#[test]
+fn rows_of_tasks(rt: HostRuntime) -> Result<(), Fail> {
+    let alloc = rt.alloc();
+    let mut s = CanonicalFunctionSection::new(alloc);
     s.backpressure_inc()?;
     row(&rt, alloc, &mut s, "24")?;
     s.backpressure_dec()?;
@@ -75,6 +76,13 @@ fn each_method_adds_its_row(rt: HostRuntime) -> Result<(), Fail> {
     row(&rt, alloc, &mut s, "0d")?;
     s.subtask_cancel(true)?;
     row(&rt, alloc, &mut s, "0601")?;
+    Ok(())
+}
+
+#[test]
+fn rows_of_streams(rt: HostRuntime) -> Result<(), Fail> {
+    let alloc = rt.alloc();
+    let mut s = CanonicalFunctionSection::new(alloc);
     s.stream_new(128)?;
     row(&rt, alloc, &mut s, "0e8001")?;
     s.stream_read(7, waits())?;
@@ -91,6 +99,13 @@ fn each_method_adds_its_row(rt: HostRuntime) -> Result<(), Fail> {
     row(&rt, alloc, &mut s, "138001")?;
     s.stream_drop_writable(128)?;
     row(&rt, alloc, &mut s, "148001")?;
+    Ok(())
+}
+
+#[test]
+fn rows_of_futures(rt: HostRuntime) -> Result<(), Fail> {
+    let alloc = rt.alloc();
+    let mut s = CanonicalFunctionSection::new(alloc);
     s.future_new(128)?;
     row(&rt, alloc, &mut s, "158001")?;
     s.future_read(7, waits())?;
@@ -107,6 +122,13 @@ fn each_method_adds_its_row(rt: HostRuntime) -> Result<(), Fail> {
     row(&rt, alloc, &mut s, "1a8001")?;
     s.future_drop_writable(128)?;
     row(&rt, alloc, &mut s, "1b8001")?;
+    Ok(())
+}
+
+#[test]
+fn rows_of_errors_and_waits(rt: HostRuntime) -> Result<(), Fail> {
+    let alloc = rt.alloc();
+    let mut s = CanonicalFunctionSection::new(alloc);
     s.error_context_new(gc())?;
     row(&rt, alloc, &mut s, "1c0109")?;
     s.error_context_debug_message(gc())?;
@@ -125,6 +147,19 @@ fn each_method_adds_its_row(rt: HostRuntime) -> Result<(), Fail> {
     row(&rt, alloc, &mut s, "22")?;
     s.waitable_join()?;
     row(&rt, alloc, &mut s, "23")?;
+    Ok(())
+}
+
+#[test]
+fn rows_of_threads(rt: HostRuntime) -> Result<(), Fail> {
+    let alloc = rt.alloc();
+    let mut s = CanonicalFunctionSection::new(alloc);
+    s.thread_spawn_ref(128)?;
+    row(&rt, alloc, &mut s, "408001")?;
+    s.thread_spawn_indirect(1, 2)?;
+    row(&rt, alloc, &mut s, "410102")?;
+    s.thread_available_parallelism()?;
+    row(&rt, alloc, &mut s, "42")?;
     s.thread_index()?;
     row(&rt, alloc, &mut s, "26")?;
     s.thread_new_indirect(1, 2)?;
