@@ -282,21 +282,50 @@ fn empty_section(rt: HostRuntime) -> Result<(), Fail> {
     Ok(())
 }
 
+/// The section has this text.
+fn has_text(
+    rt: &impl Abort,
+    alloc: Global,
+    section: &CanonicalFunctionSection,
+    wanted: &str,
+) -> Result<(), Fault> {
+    let bytes = text(alloc, section)?;
+    assert_eq!(rt; bytes.as_str(), wanted);
+    Ok(())
+}
+
 #[test]
-fn clones_go_their_own_way(rt: HostRuntime) -> Result<(), Fail> {
+fn clones_have_the_same_rows(rt: HostRuntime) -> Result<(), Fail> {
+    let alloc = rt.alloc();
+    let mut source = CanonicalFunctionSection::new(alloc);
+    source.resource_new(1)?;
+    let copy = source.clone()?;
+    assert_eq!(rt; copy.len(), 1);
+    has_text(&rt, alloc, &copy, "ee03010201")?;
+    has_text(&rt, alloc, &source, "ee03010201")?;
+    Ok(())
+}
+
+#[test]
+fn clones_leave_their_source_alone(rt: HostRuntime) -> Result<(), Fail> {
     let alloc = rt.alloc();
     let mut source = CanonicalFunctionSection::new(alloc);
     source.resource_new(1)?;
     let mut copy = source.clone()?;
-    assert_eq!(rt; copy.len(), 1);
-    assert_eq!(rt; text(alloc, &copy)?.as_str(), "ee03010201");
     copy.task_cancel()?;
-    assert_eq!(rt; source.len(), 1);
-    assert_eq!(rt; text(alloc, &source)?.as_str(), "ee03010201");
+    has_text(&rt, alloc, &copy, "ee0402020105")?;
+    has_text(&rt, alloc, &source, "ee03010201")?;
+    Ok(())
+}
+
+#[test]
+fn sources_leave_their_clones_alone(rt: HostRuntime) -> Result<(), Fail> {
+    let alloc = rt.alloc();
+    let mut source = CanonicalFunctionSection::new(alloc);
+    source.resource_new(1)?;
+    let copy = source.clone()?;
     source.subtask_drop()?;
-    assert_eq!(rt; source.len(), 2);
-    assert_eq!(rt; text(alloc, &source)?.as_str(), "ee040202010d");
-    assert_eq!(rt; copy.len(), 2);
-    assert_eq!(rt; text(alloc, &copy)?.as_str(), "ee0402020105");
+    has_text(&rt, alloc, &source, "ee040202010d")?;
+    has_text(&rt, alloc, &copy, "ee03010201")?;
     Ok(())
 }
