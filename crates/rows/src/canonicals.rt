@@ -40,7 +40,7 @@ fn row(
 }
 
 #[test]
-fn each_method_adds_its_row(rt: HostRuntime) -> Result<(), Fail> {
+fn rows_of_functions_and_resources(rt: HostRuntime) -> Result<(), Fail> {
     let alloc = rt.alloc();
     let mut s = CanonicalFunctionSection::new(alloc);
     s.lift(128, 10, both())?;
@@ -53,12 +53,13 @@ fn each_method_adds_its_row(rt: HostRuntime) -> Result<(), Fail> {
     row(&rt, alloc, &mut s, "038001")?;
     s.resource_rep(128)?;
     row(&rt, alloc, &mut s, "048001")?;
-    s.thread_spawn_ref(128)?;
-    row(&rt, alloc, &mut s, "408001")?;
-    s.thread_spawn_indirect(1, 2)?;
-    row(&rt, alloc, &mut s, "410102")?;
-    s.thread_available_parallelism()?;
-    row(&rt, alloc, &mut s, "42")?;
+    Ok(())
+}
+
+#[test]
+fn rows_of_tasks(rt: HostRuntime) -> Result<(), Fail> {
+    let alloc = rt.alloc();
+    let mut s = CanonicalFunctionSection::new(alloc);
     s.backpressure_inc()?;
     row(&rt, alloc, &mut s, "24")?;
     s.backpressure_dec()?;
@@ -75,6 +76,13 @@ fn each_method_adds_its_row(rt: HostRuntime) -> Result<(), Fail> {
     row(&rt, alloc, &mut s, "0d")?;
     s.subtask_cancel(true)?;
     row(&rt, alloc, &mut s, "0601")?;
+    Ok(())
+}
+
+#[test]
+fn rows_of_streams(rt: HostRuntime) -> Result<(), Fail> {
+    let alloc = rt.alloc();
+    let mut s = CanonicalFunctionSection::new(alloc);
     s.stream_new(128)?;
     row(&rt, alloc, &mut s, "0e8001")?;
     s.stream_read(7, waits())?;
@@ -91,6 +99,13 @@ fn each_method_adds_its_row(rt: HostRuntime) -> Result<(), Fail> {
     row(&rt, alloc, &mut s, "138001")?;
     s.stream_drop_writable(128)?;
     row(&rt, alloc, &mut s, "148001")?;
+    Ok(())
+}
+
+#[test]
+fn rows_of_futures(rt: HostRuntime) -> Result<(), Fail> {
+    let alloc = rt.alloc();
+    let mut s = CanonicalFunctionSection::new(alloc);
     s.future_new(128)?;
     row(&rt, alloc, &mut s, "158001")?;
     s.future_read(7, waits())?;
@@ -107,6 +122,13 @@ fn each_method_adds_its_row(rt: HostRuntime) -> Result<(), Fail> {
     row(&rt, alloc, &mut s, "1a8001")?;
     s.future_drop_writable(128)?;
     row(&rt, alloc, &mut s, "1b8001")?;
+    Ok(())
+}
+
+#[test]
+fn rows_of_errors_and_waits(rt: HostRuntime) -> Result<(), Fail> {
+    let alloc = rt.alloc();
+    let mut s = CanonicalFunctionSection::new(alloc);
     s.error_context_new(gc())?;
     row(&rt, alloc, &mut s, "1c0109")?;
     s.error_context_debug_message(gc())?;
@@ -125,6 +147,19 @@ fn each_method_adds_its_row(rt: HostRuntime) -> Result<(), Fail> {
     row(&rt, alloc, &mut s, "22")?;
     s.waitable_join()?;
     row(&rt, alloc, &mut s, "23")?;
+    Ok(())
+}
+
+#[test]
+fn rows_of_threads(rt: HostRuntime) -> Result<(), Fail> {
+    let alloc = rt.alloc();
+    let mut s = CanonicalFunctionSection::new(alloc);
+    s.thread_spawn_ref(128)?;
+    row(&rt, alloc, &mut s, "408001")?;
+    s.thread_spawn_indirect(1, 2)?;
+    row(&rt, alloc, &mut s, "410102")?;
+    s.thread_available_parallelism()?;
+    row(&rt, alloc, &mut s, "42")?;
     s.thread_index()?;
     row(&rt, alloc, &mut s, "26")?;
     s.thread_new_indirect(1, 2)?;
@@ -247,21 +282,50 @@ fn empty_section(rt: HostRuntime) -> Result<(), Fail> {
     Ok(())
 }
 
+/// The section has this text.
+fn has_text(
+    rt: &impl Abort,
+    alloc: Global,
+    section: &CanonicalFunctionSection,
+    wanted: &str,
+) -> Result<(), Fault> {
+    let bytes = text(alloc, section)?;
+    assert_eq!(rt; bytes.as_str(), wanted);
+    Ok(())
+}
+
 #[test]
-fn clones_go_their_own_way(rt: HostRuntime) -> Result<(), Fail> {
+fn clones_have_the_same_rows(rt: HostRuntime) -> Result<(), Fail> {
+    let alloc = rt.alloc();
+    let mut source = CanonicalFunctionSection::new(alloc);
+    source.resource_new(1)?;
+    let copy = source.clone()?;
+    assert_eq!(rt; copy.len(), 1);
+    has_text(&rt, alloc, &copy, "ee03010201")?;
+    has_text(&rt, alloc, &source, "ee03010201")?;
+    Ok(())
+}
+
+#[test]
+fn clones_leave_their_source_alone(rt: HostRuntime) -> Result<(), Fail> {
     let alloc = rt.alloc();
     let mut source = CanonicalFunctionSection::new(alloc);
     source.resource_new(1)?;
     let mut copy = source.clone()?;
-    assert_eq!(rt; copy.len(), 1);
-    assert_eq!(rt; text(alloc, &copy)?.as_str(), "ee03010201");
     copy.task_cancel()?;
-    assert_eq!(rt; source.len(), 1);
-    assert_eq!(rt; text(alloc, &source)?.as_str(), "ee03010201");
+    has_text(&rt, alloc, &copy, "ee0402020105")?;
+    has_text(&rt, alloc, &source, "ee03010201")?;
+    Ok(())
+}
+
+#[test]
+fn sources_leave_their_clones_alone(rt: HostRuntime) -> Result<(), Fail> {
+    let alloc = rt.alloc();
+    let mut source = CanonicalFunctionSection::new(alloc);
+    source.resource_new(1)?;
+    let copy = source.clone()?;
     source.subtask_drop()?;
-    assert_eq!(rt; source.len(), 2);
-    assert_eq!(rt; text(alloc, &source)?.as_str(), "ee040202010d");
-    assert_eq!(rt; copy.len(), 2);
-    assert_eq!(rt; text(alloc, &copy)?.as_str(), "ee0402020105");
+    has_text(&rt, alloc, &source, "ee040202010d")?;
+    has_text(&rt, alloc, &copy, "ee03010201")?;
     Ok(())
 }
