@@ -1,5 +1,9 @@
-ghost use Rattle.std.specs.Prelude.{◌≡◌, ◌∷◌, []};
+ghost use Rattle.std.specs.Prelude.{◌≡◌, ◌∷◌, ◌++◌, [], IfOk, codes};
 ghost use Rattle.wenc_base.specs.declared.fault.Fault.TheVariants.{TooLarge};
+ghost use Rattle.wenc_parts.specs.declared.imports.ComponentTypeRef.{ComponentTypeRef};
+ghost use Rattle.wenc_parts.specs.Imports.{plain_name};
+ghost use Rattle.wenc_sections.specs.Component.{preamble};
+ghost use Rattle.wenc_sections.specs.Items.{counted, import_item};
 
 use super::parts::text;
 use std::alloc::{Allocator, Global};
@@ -15,6 +19,30 @@ use wasm_encoder::{
     RawSection, Section, TypeBounds,
 };
 use wenc_base::{Lent, WithSize};
+use wenc_sections::laws::sections_are_their_items;
+
+/// A component that imports a function. What it is follows from the contracts of these calls alone.
+fn importing<A: Allocator + Copy>(alloc: A) -> Result<Vec<u8, A>, Fault>
+    ensures { IfOk result (λ bytes. bytes.items ≡ preamble.text
+        ++ 0x0a ∷ (counted import_item (record { name = plain_name (codes "f"); what = ComponentTypeRef.Func 0 } ∷ [])).text) }
+{
+    let mut imports = ComponentImportSection::new(alloc);
+    imports.import("f".into(), ComponentTypeRef::Func(0))?;
+    let mut component = Component::new(alloc)?;
+    component.section(&imports)?;
+    sections_are_their_items();
+    Ok(component.finish())
+}
+
+#[test]
+fn a_proved_caller(rt: HostRuntime) -> Result<(), Fail> {
+    let bytes = importing(rt.alloc())?;
+    assert_eq!(rt;
+        hex::encode(rt.alloc(), bytes.as_slice())?.as_str(),
+        "0061736d0d0001000a06010001660100"
+    );
+    Ok(())
+}
 
 /// The component's bytes are its header and these.
 fn holds(rt: &impl Abort, alloc: Global, component: &Component, wanted: &str) -> Result<(), Fault> {
