@@ -10,9 +10,9 @@ use wasm_encoder::{
     Holder, ValType,
 };
 
-const LARGE: u32 = 4294967295;
+pub const LARGE: u32 = 4294967295;
 
-const TEXT: &[u8] = &[
+pub const TEXT: &[u8] = &[
     1, 2, 3, 4, 5, 6, 7, 8, 9, 10, 11, 12, 13, 14, 15, 16, 17, 18, 19, 20,
 ];
 
@@ -26,10 +26,10 @@ fn options() -> std::array::IntoIter<CanonicalOption, 3> {
 }
 
 /// What members are added to.
-trait Members<'a>: Sized + Drop {
-    fn empty(heap: &'a Refusing) -> Self;
+pub trait Members<'a>: Sized + Drop {
+    fn empty(heap: &'a Refusing) -> Result<Self, Fault>;
 
-    /// Adds a member of one byte.
+    /// Adds a member of few bytes.
     fn add_short(&mut self) -> Result<(), Fault>;
 
     /// The same members once more.
@@ -40,8 +40,8 @@ trait Members<'a>: Sized + Drop {
 }
 
 impl<'a> Members<'a> for Holder<&'a Refusing> {
-    fn empty(heap: &'a Refusing) -> Self {
-        Holder::new(heap)
+    fn empty(heap: &'a Refusing) -> Result<Self, Fault> {
+        Ok(Holder::new(heap))
     }
 
     fn add_short(&mut self) -> Result<(), Fault> {
@@ -63,8 +63,8 @@ impl<'a> Members<'a> for Holder<&'a Refusing> {
 }
 
 impl<'a> Members<'a> for CanonicalFunctionSection<&'a Refusing> {
-    fn empty(heap: &'a Refusing) -> Self {
-        CanonicalFunctionSection::new(heap)
+    fn empty(heap: &'a Refusing) -> Result<Self, Fault> {
+        Ok(CanonicalFunctionSection::new(heap))
     }
 
     fn add_short(&mut self) -> Result<(), Fault> {
@@ -85,14 +85,14 @@ impl<'a> Members<'a> for CanonicalFunctionSection<&'a Refusing> {
 }
 
 /// A call that adds a member.
-trait Adds<M> {
+pub trait Adds<M> {
     fn add(&self, to: &mut M) -> Result<(), Fault>;
 }
 
-/// It has so many members of one byte. From now on no request is refused.
+/// It has so many members of few bytes. From now on no request is refused.
 fn started<'a, M: Members<'a>>(heap: &'a Refusing, count: u32) -> Result<M, Fault> {
     heap.refuse_none();
-    let mut members = M::empty(heap);
+    let mut members = M::empty(heap)?;
     for _ in 0..count {
         members.add_short()?;
     }
@@ -132,7 +132,7 @@ fn sweep_from<'a, M: Members<'a>, C: Adds<M>>(
 }
 
 // A first growth has room for eight bytes: so the growth comes at each place of the call.
-fn sweep_add<'a, M: Members<'a>, C: Adds<M>>(
+pub fn sweep_add<'a, M: Members<'a>, C: Adds<M>>(
     rt: &impl Abort,
     alloc: Global,
     heap: &'a Refusing,
@@ -146,11 +146,13 @@ fn sweep_add<'a, M: Members<'a>, C: Adds<M>>(
     Ok(())
 }
 
-fn sweep_clone<'a, M: Members<'a>>(
+/// Has the requests of a copy refused in turn. `asks` says whether it makes any.
+pub fn sweep_clone<'a, M: Members<'a>>(
     rt: &impl Abort,
     alloc: Global,
     heap: &'a Refusing,
     count: u32,
+    asks: bool,
 ) -> Result<(), Fault> {
     let members: M = started(heap, count)?;
     let wanted = members.state(alloc)?;
@@ -160,7 +162,7 @@ fn sweep_clone<'a, M: Members<'a>>(
         let outcome = members.again();
         if !heap.was_refused() {
             let mut copy = outcome?;
-            assert_eq!(rt; n > 1, count > 0);
+            assert_eq!(rt; n > 1, asks);
             assert!(rt; copy.state(alloc)?.as_slice() == wanted.as_slice());
             heap.refuse_none();
             copy.add_short()?;
@@ -171,6 +173,8 @@ fn sweep_clone<'a, M: Members<'a>>(
         assert!(rt; outcome.err() == Some(REFUSED));
         assert_eq!(rt; heap.requests(), n);
         assert!(rt; members.state(alloc)?.as_slice() == wanted.as_slice());
+        let copy = members.again()?;
+        assert!(rt; copy.state(alloc)?.as_slice() == wanted.as_slice());
     }
     assert!(rt; done);
     assert!(rt; members.state(alloc)?.as_slice() == wanted.as_slice());
@@ -282,7 +286,7 @@ impl<A: Allocator> Appends for Holder<A> {
 
 /// A section behind its id.
 #[derive(Clone, Copy)]
-struct BehindItsId<'a, S>(&'a S);
+pub struct BehindItsId<'a, S>(pub &'a S);
 
 impl<'a, S: ComponentSection> Appends for BehindItsId<'a, S> {
     fn append<A: Allocator>(&self, sink: &mut Vec<u8, A>) -> Result<(), Fault> {
@@ -310,8 +314,8 @@ fn clones(rt: HostRuntime) -> Result<(), Fail> {
     let alloc = rt.alloc();
     let heap = Refusing::new(alloc);
     for count in 0..9u32 {
-        sweep_clone::<Holder<&Refusing>>(&rt, alloc, &heap, count)?;
-        sweep_clone::<Canonicals>(&rt, alloc, &heap, count)?;
+        sweep_clone::<Holder<&Refusing>>(&rt, alloc, &heap, count, count > 0)?;
+        sweep_clone::<Canonicals>(&rt, alloc, &heap, count, count > 0)?;
     }
     Ok(())
 }

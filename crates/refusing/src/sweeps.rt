@@ -19,7 +19,7 @@ use wenc_base::Tagged;
 pub const REFUSED: Fault = Fault::Memory(AllocError);
 
 /// Longer than a vector's first room, so that each call has to grow.
-const NAME: &str = "a name that is longer than a first growth, by far: aaaaaaaaaaaaaaaaaaaaaa";
+pub const NAME: &str = "a name that is longer than a first growth, by far: aaaaaaaaaaaaaaaaaaaaaa";
 
 /// A call that appends to a sink.
 pub trait Appends {
@@ -128,7 +128,7 @@ fn listed_values(rt: HostRuntime) -> Result<(), Fail> {
 
 /// A section of one's own, with this text in it.
 #[derive(Clone, Copy)]
-struct Section<'a>(&'a str);
+pub struct Section<'a>(pub &'a str);
 
 impl<'a> Encode for Section<'a> {
     ghost text = { λ s. (name s.0.now).text };

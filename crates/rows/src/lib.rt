@@ -39,3 +39,5 @@ pub mod own;
 mod own_values;
 #[cfg(test)]
 mod parts;
+#[cfg(test)]
+mod sections;
