@@ -1,12 +1,14 @@
 -- A member that is made of values which an iterator gives, and how a holder takes it.
-use Rattle.std.proofs.Common.{◌≡◌, ℕ, ◌+◌, ◌≤◌, true, false, List, ◌++◌, length, take, drop, Option, Result, Ok, Err, IsErrAnd, refl, ◌∙◌, inl, inr, arith, ◌^◌, ◌<◌, min, Bool}
-use Rattle.std.proofs.lemmas.List.{take-append-le, drop-append-le, drop-take, length-take, length-take-le, take-take}
+use Rattle.std.proofs.Common.{◌≡◌, ℕ, ◌+◌, ◌-◌, ◌≤◌, true, false, List, ◌++◌, length, take, drop, Option, Some, None, Result, Ok, Err, IsErrAnd, refl, ◌∙◌, inl, inr, arith, ◌^◌, ◌<◌, min}
+use Rattle.std.proofs.lemmas.List.{take-append-le, drop-append-le, drop-take, length-take, take-take}
 use Rattle.std.specs.Iterator.Runs.{SomeRun, WholeRun}
 use Rattle.wenc_base.specs.Fault.{IsWarranted}
-use Rattle.wenc_base.specs.Holder.{Held, with_member, as_they_are, content_size, CountCause, AddCause, AddsListed}
+use Rattle.wenc_base.specs.Holder.{Held, is_finished, holding, with_member, as_they_are, content_size, CountCause, AddCause, AddsListed}
+use Rattle.wenc_base.specs.Openings.{given_up}
 use Rattle.wenc_base.specs.HolderLaws.{contains_next}
 use Rattle.wenc_base.specs.declared.fault.Fault.{Fault}
 use Rattle.wenc_base.specs.declared.fault.Fault.TheVariants.{Memory, TooMany, TooLarge, Unfinished}
+use Rattle.wenc_base.specs.declared.holder.openings.Opening.{Opening}
 use Rattle.wenc_base.proofs.Groups.{size_monotone}
 use Rattle.wenc_base.proofs.Members.{still_warranted}
 use Rattle.wenc_base.proofs.Runs.{no_run}
@@ -31,26 +33,26 @@ module _ {S B : Type 0} (steps : S → Option B → S → Type 0) (s : S) (membe
 
   -- a call that is refused
   refused : (outcome : Result (Unit {0}) Fault) (fault : Fault) → IsErrAnd outcome (λ e. e ≡ fault) → new ≡ old
-      → SomeRun steps s (λ p. IsWarranted (AddCause old (member p.items) (cause p.items)) fault) → (old.finished ≡ false → fault ≡ Unfinished) → Adds outcome
+      → SomeRun steps s (λ p. IsWarranted (AddCause old (member p.items) (cause p.items)) fault) → (is_finished old ≡ false → fault ≡ Unfinished) → Adds outcome
   refused (Ok u) fault e same h first = absurd e
   refused (Err other) fault e same h first = rw e (record { ok = tt; err = same; warranted = h; unfinished_first = λ f. rw (first f) refl })
 
-  pub unfinished_listed : old.finished ≡ false → new ≡ old → Adds (Err Unfinished)
+  pub unfinished_listed : is_finished old ≡ false → new ≡ old → Adds (Err Unfinished)
   unfinished_listed f same = refused (Err Unfinished) Unfinished refl same (no_run steps s (λ vs. AddCause old (member vs) (cause vs) Unfinished) (inr (inr (refl, f)))) (λ g. refl)
 
   -- for a cause of its own
-  pub refused_listed : (outcome : Result (Unit {0}) Fault) (fault : Fault) → IsErrAnd outcome (λ e. e ≡ fault) → new ≡ old → old.finished ≡ true
+  pub refused_listed : (outcome : Result (Unit {0}) Fault) (fault : Fault) → IsErrAnd outcome (λ e. e ≡ fault) → new ≡ old → is_finished old ≡ true
       → SomeRun steps s (λ p. IsWarranted (cause p.items) fault) → Adds outcome
   refused_listed outcome fault e same f h = refused outcome fault e same (h.0, h.1, own_cause old (member h.0.items) (cause h.0.items) fault h.2) (λ g. absurd cc)
 
   -- for the number of members, or their size
-  pub uncounted_listed : (outcome : Result (Unit {0}) Fault) (fault : Fault) (body : List ℕ) → IsErrAnd outcome (λ e. e ≡ fault) → new ≡ old → old.finished ≡ true
+  pub uncounted_listed : (outcome : Result (Unit {0}) Fault) (fault : Fault) (body : List ℕ) → IsErrAnd outcome (λ e. e ≡ fault) → new ≡ old → is_finished old ≡ true
       → Came body → CountCause old.count (length body) fault → Adds outcome
   uncounted_listed outcome fault body e same f came h =
       refused outcome fault e same (came.0, came.1, count_cause old (member came.0.items) (cause came.0.items) fault (rw came.3.0 at h)) (λ g. absurd cc)
 
   -- a call that is accepted
-  pub counted_listed : (body : List ℕ) → new ≡ record { kept = old.kept; count = old.count + 1; body = body; finished = old.finished } → old.finished ≡ true → Came body
+  pub counted_listed : (body : List ℕ) → new ≡ record { kept = old.kept; count = old.count + 1; body = body; opening = old.opening } → is_finished old ≡ true → Came body
       → ((fault : Fault) → CountCause old.count (length body) fault → ⊥) → Adds (Ok tt)
   counted_listed body e f came free = record {
     ok = (came.0, came.1, came.2, record { state = state; contained = λ members c. contains_next as_they_are old new (member came.0.items) members state c; free = none });
@@ -80,13 +82,19 @@ module _ (before after : List ℕ) (kept : ℕ) where
   cut_length : (bytes : ℕ) → after ≡ take (kept + bytes) before → kept ≤ length before → kept ≤ length after
   cut_length bytes e le = rw e (let long : length (take (kept + bytes) before) ≡ min (kept + bytes) (length before) = length-take (kept + bytes) before in omega (arith, long))
 
-  pub cut_fits : (count len bytes : ℕ) → after ≡ take (kept + bytes) before → kept ≤ length before → content_size count (length (drop kept before)) < 2 ^ 32 → len ≤ count → bytes ≤ length (drop kept before)
+  pub cut_fits : (count len bytes : ℕ) → after ≡ take (kept + bytes) before → kept ≤ length before → content_size count (length (drop kept before)) < 2 ^ 32 → len ≤ count
       → (kept ≤ length after) × (content_size len (length (drop kept after)) < 2 ^ 32)
-  cut_fits count len bytes e le fits fewer shorter =
-      let size : length (drop kept after) ≡ bytes = rw (e, drop-take kept bytes before) (length-take-le bytes (drop kept before) shorter) in
+  cut_fits count len bytes e le fits fewer =
+      let size : length (drop kept after) ≡ min bytes (length (drop kept before)) = rw (e, drop-take kept bytes before) (length-take bytes (drop kept before)) in
       (cut_length bytes e le, omega (arith, size, size_monotone len count fewer))
 
-  pub cut_view : (len bytes : ℕ) (finished : Bool) → after ≡ take (kept + bytes) before → kept ≤ length before
-      → let h : Held = record { kept = take kept after; count = len; body = drop kept after; finished = finished } in
-      h ≡ record { kept = take kept before; count = len; body = take bytes (drop kept before); finished = finished }
-  cut_view len bytes finished e le = rw (e, drop-take kept bytes before, take-take kept (kept + bytes) before (omega arith)) refl
+  pub cut_view : (len bytes : ℕ) (opening : Option Opening) → after ≡ take (kept + bytes) before → kept ≤ length before
+      → let h : Held = record { kept = take kept after; count = len; body = drop kept after; opening = opening } in
+      h ≡ record { kept = take kept before; count = len; body = take bytes (drop kept before); opening = opening }
+  cut_view len bytes opening e le = rw (e, drop-take kept bytes before, take-take kept (kept + bytes) before (omega arith)) refl
+
+  -- and the member that began behind them is given up
+  pub given_up_view : (count len : ℕ) (opening : Option Opening) (o : Opening) (h : Held) → after ≡ take (kept + o.before) before → kept ≤ length before
+      → record { kept = take kept before; count = count; body = drop kept before; opening = opening } ≡ h → opening ≡ Some o → len ≡ count - 1
+      → holding (take kept after) len (drop kept after) ≡ given_up h
+  given_up_view count len opening o h e le view is fewer = rw (← view, is, fewer) (cut_view (count - 1) o.before None e le)

@@ -1,5 +1,5 @@
 -- What counted sections and types keep: how many members, and their texts.
-use Rattle.std.specs.Prelude.{◌≡◌, ℕ, ◌+◌, ◌≤◌, ◌^◌, ◌⊎◌, Bool, true, false, List, [], ◌∷◌, ◌++◌, length, take, Option, Result, Err, OnOk, OnErr, IfErr}
+use Rattle.std.specs.Prelude.{◌≡◌, ℕ, ◌+◌, ◌<◌, ◌≤◌, ◌^◌, ◌⊎◌, Bool, true, false, is_none, List, [], ◌∷◌, ◌++◌, length, take, drop, Option, Some, None, Result, Err, OnOk, OnErr, IfErr}
 use Rattle.std.specs.Iterator.Runs.{SomeRun, WholeRun}
 use Rattle.std.specs.List.{flat_map}
 use Rattle.wenc_base.specs.Number.{unsigned_text, number_size}
@@ -7,30 +7,44 @@ use Rattle.wenc_base.specs.Fault.{IsWarranted, first_of, drawn_cause}
 use Rattle.wenc_base.specs.Forms.{list_text}
 use Rattle.wenc_base.specs.declared.fault.Fault.{Fault}
 use Rattle.wenc_base.specs.declared.fault.Fault.TheVariants.{Memory, TooMany, TooLarge, Unfinished}
+use Rattle.wenc_base.specs.declared.holder.openings.Opening.{Opening}
 
 -- What contracts see of a holder: the bytes that it keeps in front, which are not its own, how many members it
--- has, their texts, and whether no member is being written.
+-- has, their texts, and, while one is being written, where that begins.
 pub record Held : Type 0 where
   pub kept : List ℕ
   pub count : ℕ
   pub body : List ℕ
-  pub finished : Bool
+  pub opening : Option Opening
+
+-- no member is being written
+abbrev pub is_finished : Held → Bool
+is_finished h = is_none h.opening
+
+-- where it begins is at most the size of a section
+abbrev pub OpeningFits : Option Opening → Type 0
+OpeningFits None = Unit {0}
+OpeningFits (Some o) = o.before < 2 ^ 32
+
+-- finished, with these bytes
+abbrev pub holding : List ℕ → ℕ → List ℕ → Held
+holding kept count body = record { kept = kept; count = count; body = body; opening = None }
 
 -- a holder without members
 abbrev pub no_members : Held
-no_members = record { kept = []; count = 0; body = []; finished = true }
+no_members = holding [] 0 []
 
 -- one member more, with this text
 abbrev pub with_member : Held → List ℕ → Held
-with_member h text = record { kept = h.kept; count = h.count + 1; body = h.body ++ text; finished = h.finished }
+with_member h text = record { kept = h.kept; count = h.count + 1; body = h.body ++ text; opening = h.opening }
 
 -- the first members, whose texts are the first bytes
 abbrev pub cut_to : Held → ℕ → ℕ → Held
-cut_to h count size = record { kept = h.kept; count = count; body = take size h.body; finished = h.finished }
+cut_to h count size = record { kept = h.kept; count = count; body = take size h.body; opening = h.opening }
 
 -- It has just these members, each with its text.
 pub record Contains {A : Type 0} (text : A → List ℕ) (h : Held) (members : List A) : Type 0 where
-  pub finished : h.finished ≡ true
+  pub finished : is_finished h ≡ true
   pub count : length members ≡ h.count
   pub body : h.body ≡ flat_map text members
 
@@ -52,7 +66,7 @@ section_text h = unsigned_text (content_size h.count (length h.body)) ++ held_te
 
 -- why a section can't be written: it isn't finished
 abbrev pub EncodeCause : Held → Fault → Type 0
-EncodeCause h fault = (fault ≡ Unfinished) × (h.finished ≡ false)
+EncodeCause h fault = (fault ≡ Unfinished) × (is_finished h ≡ false)
 
 -- ---- adding a member
 
@@ -65,7 +79,7 @@ CountCause count size Unfinished = ⊥
 
 -- Why a member with this text can't be added: for its own cause, for number or size, or since one is being written.
 abbrev pub AddCause : Held → List ℕ → (Fault → Type 0) → Fault → Type 0
-AddCause h text cause fault = cause fault ⊎ (CountCause h.count (length (h.body ++ text)) fault ⊎ ((fault ≡ Unfinished) × (h.finished ≡ false)))
+AddCause h text cause fault = cause fault ⊎ (CountCause h.count (length (h.body ++ text)) fault ⊎ ((fault ≡ Unfinished) × (is_finished h ≡ false)))
 
 -- A member was added, and nothing stood against it.
 pub record Accepted {A : Type 0} (text : A → List ℕ) (old new : Held) (cause : Fault → Type 0) (member : A) : Type 0 where
@@ -78,7 +92,7 @@ pub record AddsMember {A : Type 0} (text : A → List ℕ) (old new : Held) (out
   pub ok : OnOk outcome (Accepted text old new cause member)
   pub err : OnErr outcome (new ≡ old)
   pub warranted : IfErr outcome (IsWarranted (AddCause old (text member) cause))
-  pub unfinished_first : old.finished ≡ false → outcome ≡ Err Unfinished
+  pub unfinished_first : is_finished old ≡ false → outcome ≡ Err Unfinished
 
 -- The same where the member is made of the values that an iterator gives.
 pub record AddsListed {S A B : Type 0} (steps : S → Option B → S → Type 0) (values : S) (text : A → List ℕ) (old new : Held) (outcome : Result (Unit {0}) Fault)
@@ -86,7 +100,7 @@ pub record AddsListed {S A B : Type 0} (steps : S → Option B → S → Type 0)
   pub ok : OnOk outcome (WholeRun steps values (λ run. Accepted text old new (cause run.items) (member run.items)))
   pub err : OnErr outcome (new ≡ old)
   pub warranted : IfErr outcome (λ fault. SomeRun steps values (λ run. IsWarranted (AddCause old (text (member run.items)) (cause run.items)) fault))
-  pub unfinished_first : old.finished ≡ false → outcome ≡ Err Unfinished
+  pub unfinished_first : is_finished old ≡ false → outcome ≡ Err Unfinished
 
 -- a text, a list of values, another text
 abbrev pub listed_text : {A : Type 0} → List ℕ → (A → List ℕ) → List ℕ → List A → List ℕ

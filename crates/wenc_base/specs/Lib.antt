@@ -8,6 +8,7 @@ pub mod Delimited
 pub mod Fault
 pub mod Written
 pub mod Holder
+pub mod Openings
 pub mod Sections
 pub mod Groups
 pub mod Lawful

@@ -4,13 +4,16 @@ ghost use Rattle.std.specs.Iterator.Runs.{SomeRun, WholeRun};
 ghost use Rattle.wenc_base.specs.Fault.{IsWarranted, IsMemory, drawn_cause, first_of};
 ghost use Rattle.wenc_base.specs.Forms.{list_text};
 ghost use Rattle.wenc_base.specs.Number.{number_size};
-ghost use Rattle.wenc_base.specs.Holder.{no_members, as_they_are, content_size, section_text, held_text, cut_to, CountCause, AddsMember, AddsListed, listed_text, listed_cause, EncodeCause};
+ghost use Rattle.wenc_base.specs.Holder.{no_members, holding, is_finished, as_they_are, content_size, section_text, held_text, cut_to, CountCause, AddsMember, AddsListed, listed_text, listed_cause, EncodeCause};
 ghost use Rattle.wenc_base.specs.declared.fault.Fault.{Fault as FaultSpec};
 ghost use Rattle.wenc_base.specs.declared.fault.Fault.TheVariants.{TooLarge, Unfinished};
+
+mod openings;
 
 use crate::encode::{Encode, encode_list, extend_in_room};
 use crate::fault::Fault;
 use crate::number::{Short, encoding_size};
+use openings::Opening;
 use std::alloc::{Allocator, Global};
 use std::marker::Model;
 
@@ -38,18 +41,19 @@ pub struct Holder<A: Allocator = Global> {
     bytes: Vec<u8, A>,
     kept: usize,
     count: u32,
-    finished: bool,
+    /// Where the last member begins, while it is being written.
+    opening: Option<Opening>,
 }
 
 impl<A: Allocator> Model for Holder<A> {
     ghost use Rattle.std.specs.Prelude.{◌<◌, ◌≤◌, ◌^◌, length, take, drop};
-    ghost use Rattle.wenc_base.specs.Holder.{Held, content_size};
+    ghost use Rattle.wenc_base.specs.Holder.{Held, content_size, OpeningFits};
 
     ghost Value = { Held };
 
-    ghost view = { λ h. record { kept = take h.kept h.bytes.items; count = h.count; body = drop h.kept h.bytes.items; finished = h.finished } };
+    ghost view = { λ h. record { kept = take h.kept h.bytes.items; count = h.count; body = drop h.kept h.bytes.items; opening = h.opening } };
 
-    ghost invariant = { λ h. (h.kept ≤ length h.bytes.items) × (content_size h.count (length (drop h.kept h.bytes.items)) < 2 ^ 32) };
+    ghost invariant = { λ h. (h.kept ≤ length h.bytes.items) × (content_size h.count (length (drop h.kept h.bytes.items)) < 2 ^ 32) × OpeningFits h.opening };
 }
 
 impl<A: Allocator> Holder<A> {
@@ -62,8 +66,40 @@ impl<A: Allocator> Holder<A> {
             bytes: Vec::new(alloc),
             kept: 0,
             count: 0,
-            finished: true,
+            opening: None,
         }
+    }
+
+    /// A holder over bytes of which the first `kept` are kept in front, and the others are the texts of `count`
+    /// members. It takes no memory.
+    pub fn over(bytes: Vec<u8, A>, kept: usize, count: u32) -> Self
+        requires { (kept ≤ length bytes.items) × (content_size count (length (drop kept bytes.items)) < 2 ^ 32) }
+        ensures { result ≡ holding (take kept bytes.items) count (drop kept bytes.items) }
+    {
+        Holder {
+            bytes,
+            kept,
+            count,
+            opening: None,
+        }
+    }
+
+    /// All bytes, how many of them are kept in front, the number of members, and whether none is being written.
+    pub fn into_parts(self) -> (Vec<u8, A>, usize, u32, bool)
+        ensures bytes { result.0.items ≡ self.kept ++ self.body }
+        ensures kept { result.1 ≡ length self.kept }
+        ensures count { result.2 ≡ self.count }
+        ensures finished { result.3 ≡ is_finished self }
+        ensures fits { content_size self.count (length self.body) < 2 ^ 32 }
+    {
+        let finished = self.is_finished();
+        let Holder {
+            bytes,
+            kept,
+            count,
+            opening: _,
+        } = self;
+        (bytes, kept, count, finished)
     }
 
     /// How many members there are, one that is being written among them.
@@ -82,9 +118,9 @@ impl<A: Allocator> Holder<A> {
 
     /// Whether no member is being written.
     pub fn is_finished(&self) -> bool
-        ensures { result ≡ self.now.finished }
+        ensures { result ≡ is_finished self.now }
     {
-        self.finished
+        self.opening.is_none()
     }
 
     /// The same members once more. It is refused for want of memory alone.
@@ -100,7 +136,7 @@ impl<A: Allocator> Holder<A> {
             bytes,
             kept: self.kept,
             count: self.count,
-            finished: self.finished,
+            opening: self.opening,
         })
     }
 
@@ -117,7 +153,7 @@ impl<A: Allocator> Holder<A> {
         ensures added { AddsMember as_they_are self.old self.new result (E.cause value.now) (E.text value.now) }
         ensures unfinished_value { E.unfinished value.now → result ≡ Err Unfinished }
     {
-        if !self.finished {
+        if !self.is_finished() {
             return Err(Fault::Unfinished);
         }
         let start = self.bytes.len();
@@ -141,7 +177,7 @@ impl<A: Allocator> Holder<A> {
             (listed_text (E.text lead.now) T.text (F.text tail.now)) }
         ensures unfinished_lead { E.unfinished lead.now → result ≡ Err Unfinished }
     {
-        if !self.finished {
+        if !self.is_finished() {
             return Err(Fault::Unfinished);
         }
         let start = self.bytes.len();
@@ -165,12 +201,12 @@ impl<A: Allocator> Holder<A> {
     #[tactic(auto, using(crate::proofs::Groups::size_of_u32))]
     pub fn encode_section<B: Allocator>(&self, sink: &mut Vec<u8, B>) -> Result<(), Fault>
         ensures ok { OnOk result (sink.new.items ≡ sink.old.items ++ section_text self.now) }
-        ensures finished { OnOk result (self.now.finished ≡ true) }
+        ensures finished { OnOk result (is_finished self.now ≡ true) }
         ensures err { OnErr result (sink.new.items ≡ sink.old.items) }
         ensures warranted { IfErr result (IsWarranted (EncodeCause self.now)) }
-        ensures unfinished_first { self.now.finished ≡ false → result ≡ Err Unfinished }
+        ensures unfinished_first { is_finished self.now ≡ false → result ≡ Err Unfinished }
     {
-        if !self.finished {
+        if !self.is_finished() {
             return Err(Fault::Unfinished);
         }
         let body = self.as_slice();
@@ -192,10 +228,10 @@ impl<A: Allocator> Encode for Holder<A> {
 
     ghost cause = { λ h. EncodeCause h };
 
-    ghost unfinished = { λ h. h.finished ≡ false };
+    ghost unfinished = { λ h. is_finished h ≡ false };
 
     fn encode<B: Allocator>(&self, sink: &mut Vec<u8, B>) -> Result<(), Fault> {
-        if !self.finished {
+        if !self.is_finished() {
             return Err(Fault::Unfinished);
         }
         (self.count, Verbatim(self.as_slice())).encode(sink)

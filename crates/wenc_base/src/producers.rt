@@ -1,7 +1,7 @@
 ghost use Rattle.std.specs.Prelude.{◌≡◌, ◌++◌, ◌<◌, ◌+◌, ◌^◌, List, false, length, IfOk, IfErr};
 ghost use Rattle.wenc_base.specs.Fault.{IsMemory};
 ghost use Rattle.wenc_base.specs.Forms.{name as name_form};
-ghost use Rattle.wenc_base.specs.Holder.{no_members, held_text, EncodeCause, Contains, AddsMember, as_they_are};
+ghost use Rattle.wenc_base.specs.Holder.{no_members, is_finished, held_text, EncodeCause, Contains, AddsMember, as_they_are};
 ghost use Rattle.wenc_base.specs.Sections.{Producer, producer_text, producer_cause, field_text, producers_text, FieldCause, field_bytes};
 
 use crate::encode::{Encode, Lent};
@@ -66,7 +66,7 @@ impl<A: Allocator> Encode for ProducersField<A> {
 
     ghost cause = { λ f. EncodeCause f };
 
-    ghost unfinished = { λ f. f.finished ≡ false };
+    ghost unfinished = { λ f. is_finished f ≡ false };
 
     fn encode<B: Allocator>(&self, sink: &mut Vec<u8, B>) -> Result<(), Fault> {
         self.values.encode(sink)
@@ -153,7 +153,7 @@ impl<A: Allocator> Encode for ProducersSection<A> {
 
     ghost cause = { λ s. EncodeCause s };
 
-    ghost unfinished = { λ s. s.finished ≡ false };
+    ghost unfinished = { λ s. is_finished s ≡ false };
 
     fn encode<B: Allocator>(&self, sink: &mut Vec<u8, B>) -> Result<(), Fault> {
         if !self.fields.is_finished() {

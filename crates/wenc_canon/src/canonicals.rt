@@ -1,7 +1,7 @@
 ghost use Rattle.std.specs.Prelude.{◌≡◌, ◌==◌, false, IfOk, IfErr};
 ghost use Rattle.std.specs.Iterator.{IsFinite};
 ghost use Rattle.wenc_base.specs.Fault.{IsMemory};
-ghost use Rattle.wenc_base.specs.Holder.{no_members, section_text, EncodeCause};
+ghost use Rattle.wenc_base.specs.Holder.{no_members, is_finished, section_text, EncodeCause};
 ghost use Rattle.wenc_base.specs.Lawful.{delimited as told_apart};
 ghost use Rattle.wenc_canon.specs.Canonicals.{AddsWithOptions, Lift, Lower};
 
@@ -164,7 +164,7 @@ impl<A: Allocator> Encode for CanonicalFunctionSection<A> {
 
     ghost cause = { λ s. EncodeCause s };
 
-    ghost unfinished = { λ s. s.finished ≡ false };
+    ghost unfinished = { λ s. is_finished s ≡ false };
 
     fn encode<B: Allocator>(&self, sink: &mut Vec<u8, B>) -> Result<(), Fault> {
         self.functions.encode_section(sink)

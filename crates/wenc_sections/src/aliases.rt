@@ -1,6 +1,6 @@
 ghost use Rattle.std.specs.Prelude.{◌≡◌, ◌==◌, false, IfOk, IfErr};
 ghost use Rattle.wenc_base.specs.Fault.{IsMemory};
-ghost use Rattle.wenc_base.specs.Holder.{no_members, section_text, EncodeCause, AddsMember};
+ghost use Rattle.wenc_base.specs.Holder.{no_members, is_finished, section_text, EncodeCause, AddsMember};
 ghost use Rattle.wenc_parts.specs.Aliases.{alias_view, alias_cause};
 ghost use Rattle.wenc_sections.specs.Items.{alias_text};
 
@@ -75,7 +75,7 @@ impl<A: Allocator> Encode for ComponentAliasSection<A> {
 
     ghost cause = { λ s. EncodeCause s };
 
-    ghost unfinished = { λ s. s.finished ≡ false };
+    ghost unfinished = { λ s. is_finished s ≡ false };
 
     fn encode<B: Allocator>(&self, sink: &mut Vec<u8, B>) -> Result<(), Fault> {
         self.aliases.encode_section(sink)

@@ -1,6 +1,6 @@
 ghost use Rattle.std.specs.Prelude.{◌≡◌, ◌==◌, false, IfOk, IfErr};
 ghost use Rattle.wenc_base.specs.Fault.{IsMemory};
-ghost use Rattle.wenc_base.specs.Holder.{no_members, section_text, EncodeCause, AddsMember};
+ghost use Rattle.wenc_base.specs.Holder.{no_members, is_finished, section_text, EncodeCause, AddsMember};
 ghost use Rattle.wenc_parts.specs.Imports.{extern_name_view, extern_name_cause};
 ghost use Rattle.wenc_sections.specs.Items.{export_text};
 
@@ -85,7 +85,7 @@ impl<A: Allocator> Encode for ComponentExportSection<A> {
 
     ghost cause = { λ s. EncodeCause s };
 
-    ghost unfinished = { λ s. s.finished ≡ false };
+    ghost unfinished = { λ s. is_finished s ≡ false };
 
     fn encode<B: Allocator>(&self, sink: &mut Vec<u8, B>) -> Result<(), Fault> {
         self.exports.encode_section(sink)

@@ -1,7 +1,7 @@
 ghost use Rattle.std.specs.Prelude.{◌≡◌, ◌==◌, false, map, IfOk, IfErr};
 ghost use Rattle.std.specs.Iterator.{IsFinite};
 ghost use Rattle.wenc_base.specs.Fault.{IsMemory, text_cause, drawn_cause};
-ghost use Rattle.wenc_base.specs.Holder.{no_members, section_text, EncodeCause, AddsListed};
+ghost use Rattle.wenc_base.specs.Holder.{no_members, is_finished, section_text, EncodeCause, AddsListed};
 ghost use Rattle.wenc_sections.specs.Instances.{CoreInstantiate, CoreExports, core_instance_text};
 
 pub mod components;
@@ -99,7 +99,7 @@ impl<A: Allocator> Encode for InstanceSection<A> {
 
     ghost cause = { λ s. EncodeCause s };
 
-    ghost unfinished = { λ s. s.finished ≡ false };
+    ghost unfinished = { λ s. is_finished s ≡ false };
 
     fn encode<B: Allocator>(&self, sink: &mut Vec<u8, B>) -> Result<(), Fault> {
         self.instances.encode_section(sink)

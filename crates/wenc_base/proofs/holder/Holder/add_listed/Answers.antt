@@ -5,8 +5,8 @@ use Rattle.wenc_base.specs.declared.fault.Fault.{Fault}
 use Rattle.wenc_base.proofs.Added.{unfinished_listed, refused_listed, uncounted_listed, counted_listed, came_after, came_behind}
 use Rattle.wenc_base.proofs.holder.Holder.add_listed.Goals as goal
 
-pub returns-then-not-self-clause-added : goal.returns-then-not-self-clause-added
-returns-then-not-self-clause-added g c =
+pub returns-then-not-is_finished-clause-added : goal.returns-then-not-is_finished-clause-added
+returns-then-not-is_finished-clause-added g c =
     unfinished_listed g.I.Iterator.next_gives c.args.values (listed_text (g.E.Encode.text c.args.lead.now) g.T.Encode.text (g.F.Encode.text c.args.tail.now))
     (listed_cause (g.E.Encode.cause c.args.lead.now) g.T.Encode.cause (g.F.Encode.cause c.args.tail.now)) c.args.self.now c.args.self.now (search rules) (search rules)
 

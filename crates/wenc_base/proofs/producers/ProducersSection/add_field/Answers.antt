@@ -1,4 +1,4 @@
-use Rattle.std.proofs.Common.{rules, ◌+◌, ◌<◌, ◌^◌, length, arith}
+use Rattle.std.proofs.Common.{rules, ◌+◌, ◌<◌, ◌^◌, length}
 use Rattle.wenc_base.specs.Holder.{content_size}
 use Rattle.wenc_base.proofs.Produced.{field_added}
 use Rattle.wenc_base.proofs.producers.ProducersSection.add_field.Goals as goal

@@ -1,0 +1,59 @@
+-- A member that is written piece by piece into a holder: its opening, what is added to it, and its end.
+use Rattle.std.specs.Prelude.{◌≡◌, ℕ, ◌+◌, ◌-◌, ◌≤◌, ◌^◌, ◌⊎◌, Bool, false, ◌++◌, List, [], length, take, Option, Some, None, Result, Err, OnOk, OnErr, IfErr}
+use Rattle.wenc_base.specs.Fault.{IsWarranted}
+use Rattle.wenc_base.specs.Holder.{Held, is_finished, holding, content_size, AddCause}
+use Rattle.wenc_base.specs.declared.fault.Fault.{Fault}
+use Rattle.wenc_base.specs.declared.fault.Fault.TheVariants.{TooLarge, Unfinished}
+use Rattle.wenc_base.specs.declared.holder.openings.Opening.{Opening}
+
+-- one member more, of which these bytes are written
+abbrev pub opened_with : Held → List ℕ → Held
+opened_with h lead = record {
+  kept = h.kept;
+  count = h.count + 1;
+  body = h.body ++ lead;
+  opening = Some (record { before = length h.body; lead = length (h.body ++ lead) });
+}
+
+-- more of that member
+abbrev pub lengthened : Held → List ℕ → Held
+lengthened h text = record { kept = h.kept; count = h.count; body = h.body ++ text; opening = h.opening }
+
+-- the member is whole
+abbrev pub closed : Held → Held
+closed h = holding h.kept h.count h.body
+
+-- as it was before that member
+abbrev pub given_up_at : Held → Option Opening → Held
+given_up_at h None = h
+given_up_at h (Some o) = holding h.kept (h.count - 1) (take o.before h.body)
+
+abbrev pub given_up : Held → Held
+given_up h = given_up_at h h.opening
+
+-- A member is being written, and nothing stands behind its lead.
+abbrev pub IsOpenedAt : List ℕ → Option Opening → Type 0
+IsOpenedAt body None = ⊥
+IsOpenedAt body (Some o) = length body ≡ o.lead
+
+abbrev pub IsOpened : Held → Type 0
+IsOpened h = IsOpenedAt h.body h.opening
+
+-- A call opens a member with this lead, or is refused for a cause and changes nothing.
+pub record OpensMember (old new : Held) (outcome : Result (Unit {0}) Fault) (lead : List ℕ) : Type 0 where
+  pub ok : OnOk outcome (new ≡ opened_with old lead)
+  pub free : OnOk outcome ((fault : Fault) → AddCause old lead (λ _. ⊥) fault → ⊥)
+  pub err : OnErr outcome (new ≡ old)
+  pub warranted : IfErr outcome (IsWarranted (AddCause old lead (λ _. ⊥)))
+  pub unfinished_first : is_finished old ≡ false → outcome ≡ Err Unfinished
+
+-- why no more can be added to a member: for its own cause, or for the size
+abbrev pub MoreCause : Held → List ℕ → (Fault → Type 0) → Fault → Type 0
+MoreCause h text cause fault = cause fault ⊎ ((fault ≡ TooLarge) × (2 ^ 32 ≤ content_size h.count (length (h.body ++ text))))
+
+-- A call adds this to a member and leaves it so, or is refused for a cause and changes nothing.
+pub record Lengthens (old new next : Held) (outcome : Result (Unit {0}) Fault) (cause : Fault → Type 0) (text : List ℕ) : Type 0 where
+  pub ok : OnOk outcome (new ≡ next)
+  pub free : OnOk outcome ((fault : Fault) → MoreCause old text cause fault → ⊥)
+  pub err : OnErr outcome (new ≡ old)
+  pub warranted : IfErr outcome (IsWarranted (MoreCause old text cause))
