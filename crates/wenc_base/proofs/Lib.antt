@@ -3,6 +3,7 @@ pub mod Words
 pub mod Members
 pub mod Runs
 pub mod Added
+pub mod Kept
 pub mod Produced
 pub use Rattle.wenc_base.specs.Lawful
 pub use Rattle.wenc_base.specs.NumberLaws

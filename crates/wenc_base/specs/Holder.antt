@@ -42,6 +42,14 @@ with_member h text = record { kept = h.kept; count = h.count + 1; body = h.body 
 abbrev pub cut_to : Held → ℕ → ℕ → Held
 cut_to h count size = record { kept = h.kept; count = count; body = take size h.body; opening = h.opening }
 
+-- the kept bytes, then those of the members
+abbrev pub all_bytes : Held → List ℕ
+all_bytes h = h.kept ++ h.body
+
+-- the same members behind other bytes
+abbrev pub with_kept : Held → List ℕ → Held
+with_kept h kept = record { kept = kept; count = h.count; body = h.body; opening = h.opening }
+
 -- It has just these members, each with its text.
 pub record Contains {A : Type 0} (text : A → List ℕ) (h : Held) (members : List A) : Type 0 where
   pub finished : is_finished h ≡ true

@@ -4,10 +4,11 @@ ghost use Rattle.std.specs.Iterator.Runs.{SomeRun, WholeRun};
 ghost use Rattle.wenc_base.specs.Fault.{IsWarranted, IsMemory, drawn_cause, first_of};
 ghost use Rattle.wenc_base.specs.Forms.{list_text};
 ghost use Rattle.wenc_base.specs.Number.{number_size};
-ghost use Rattle.wenc_base.specs.Holder.{no_members, holding, is_finished, as_they_are, content_size, section_text, held_text, cut_to, CountCause, AddsMember, AddsListed, listed_text, listed_cause, EncodeCause};
+ghost use Rattle.wenc_base.specs.Holder.{no_members, all_bytes, holding, is_finished, as_they_are, content_size, section_text, held_text, cut_to, CountCause, AddsMember, AddsListed, listed_text, listed_cause, EncodeCause};
 ghost use Rattle.wenc_base.specs.declared.fault.Fault.{Fault as FaultSpec};
 ghost use Rattle.wenc_base.specs.declared.fault.Fault.TheVariants.{TooLarge, Unfinished};
 
+mod kept;
 mod openings;
 
 use crate::encode::{Encode, encode_list, extend_in_room};
@@ -86,7 +87,7 @@ impl<A: Allocator> Holder<A> {
 
     /// All bytes, how many of them are kept in front, the number of members, and whether none is being written.
     pub fn into_parts(self) -> (Vec<u8, A>, usize, u32, bool)
-        ensures bytes { result.0.items ≡ self.kept ++ self.body }
+        ensures bytes { result.0.items ≡ all_bytes self }
         ensures kept { result.1 ≡ length self.kept }
         ensures count { result.2 ≡ self.count }
         ensures finished { result.3 ≡ is_finished self }

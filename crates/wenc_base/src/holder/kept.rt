@@ -1,0 +1,73 @@
+ghost use Rattle.std.specs.Prelude.{◌≡◌, ℕ, ◌+◌, ◌-◌, ◌<◌, ◌≤◌, ◌^◌, ◌++◌, [], length, take, drop, OnOk, OnErr, IfErr};
+ghost use Rattle.wenc_base.specs.Fault.{IsMemory};
+ghost use Rattle.wenc_base.specs.Holder.{holding, content_size, all_bytes, with_kept};
+
+use super::Holder;
+use crate::fault::Fault;
+use std::alloc::Allocator;
+
+/// The bytes that a holder keeps in front of its members: for one who has several sections in one vector.
+impl<A: Allocator> Holder<A> {
+    /// Keeps the members too, with these bytes behind them, and has no members then. It is refused for want of
+    /// memory alone.
+    pub fn keep_all(&mut self, more: &[u8]) -> Result<(), Fault>
+        ensures ok { OnOk result (self.new ≡ holding (all_bytes self.old ++ more.now) 0 []) }
+        ensures err { OnErr result (self.new ≡ self.old) }
+        ensures refused { IfErr result IsMemory }
+    {
+        self.bytes.extend_from_slice(more)?;
+        self.kept = self.bytes.len();
+        self.count = 0;
+        self.opening = None;
+        Ok(())
+    }
+
+    /// Goes back to the first `len` bytes, of which the first `kept` are kept, and the others are the texts of
+    /// `count` members. It takes no memory.
+    pub fn go_back(&mut self, kept: usize, len: usize, count: u32)
+        requires within { (kept ≤ len) × (len ≤ length (all_bytes self.old)) }
+        requires fits { content_size count (len - kept) < 2 ^ 32 }
+        ensures { self.new ≡ holding (take kept (all_bytes self.old)) count (drop kept (take len (all_bytes self.old))) }
+    {
+        self.bytes.truncate(len);
+        self.kept = kept;
+        self.count = count;
+        self.opening = None;
+    }
+
+    /// Puts these bytes in the place of the kept ones from `start` to `end`, of which there are as many or more.
+    /// It takes no memory.
+    pub fn fill_kept(&mut self, start: usize, end: usize, bytes: &[u8])
+        requires within { (start ≤ end) × (end ≤ length self.old.kept) }
+        requires short { length bytes.now ≤ end - start }
+        ensures { self.new ≡ with_kept self.old (take start self.old.kept ++ (bytes.now ++ drop end self.old.kept)) }
+    {
+        fill(&mut self.bytes, start, end, bytes);
+        self.kept -= end - start - bytes.len();
+    }
+}
+
+/// Puts a head in the place of the bytes from `start` to `end`; what stands behind them moves up to it.
+fn fill<A: Allocator>(bytes: &mut Vec<u8, A>, start: usize, end: usize, head: &[u8])
+    requires within { (start ≤ end) × (end ≤ length bytes.old.items) }
+    requires short { length head.now ≤ end - start }
+    ensures { bytes.new.items ≡ take start bytes.old.items ++ (head.now ++ drop end bytes.old.items) }
+{
+    let spare = end - start - head.len();
+    let len = bytes.len();
+    move_up(bytes.as_mut_slice(), start, end, head);
+    bytes.truncate(len - spare);
+}
+
+/// The same in a slice, of which the last bytes are spare then.
+#[tactic(auto, using(crate::proofs::Kept::filled))]
+fn move_up(bytes: &mut [u8], start: usize, end: usize, head: &[u8])
+    requires within { (start ≤ end) × (end ≤ length bytes.old) }
+    requires short { length head.now ≤ end - start }
+    ensures { take (length bytes.old - (end - start - length head.now)) bytes.new
+        ≡ take start bytes.old ++ (head.now ++ drop end bytes.old) }
+{
+    let to = start + head.len();
+    bytes[start..to].copy_from_slice(head);
+    bytes.copy_within(end.., to);
+}
