@@ -105,7 +105,8 @@ impl<A: Allocator> Holder<A> {
 
     /// How many members there are, one that is being written among them.
     pub fn len(&self) -> u32
-        ensures { result ≡ self.now.count }
+        ensures count { result ≡ self.now.count }
+        ensures fits { content_size self.now.count (length self.now.body) < 2 ^ 32 }
     {
         self.count
     }

@@ -1,4 +1,4 @@
-ghost use Rattle.std.specs.Prelude.{◌≡◌, ℕ, ◌+◌, ◌-◌, ◌<◌, ◌≤◌, ◌^◌, ◌++◌, [], length, take, drop, OnOk, OnErr, IfErr};
+ghost use Rattle.std.specs.Prelude.{◌≡◌, ℕ, ◌+◌, ◌-◌, ◌<◌, ◌≤◌, ◌^◌, ◌++◌, [], length, take, drop, OnOk, OnErr, IfOk, IfErr};
 ghost use Rattle.wenc_base.specs.Fault.{IsMemory};
 ghost use Rattle.wenc_base.specs.Holder.{holding, content_size, all_bytes, with_kept};
 
@@ -8,18 +8,20 @@ use std::alloc::Allocator;
 
 /// The bytes that a holder keeps in front of its members: for one who has several sections in one vector.
 impl<A: Allocator> Holder<A> {
-    /// Keeps the members too, with these bytes behind them, and has no members then. It is refused for want of
-    /// memory alone.
-    pub fn keep_all(&mut self, more: &[u8]) -> Result<(), Fault>
+    /// Keeps the members too, with these bytes behind them, and has no members then. Answers how many bytes there
+    /// were. It is refused for want of memory alone.
+    pub fn keep_all(&mut self, more: &[u8]) -> Result<usize, Fault>
         ensures ok { OnOk result (self.new ≡ holding (all_bytes self.old ++ more.now) 0 []) }
+        ensures before { IfOk result (λ len. len ≡ length (all_bytes self.old)) }
         ensures err { OnErr result (self.new ≡ self.old) }
         ensures refused { IfErr result IsMemory }
     {
+        let len = self.bytes.len();
         self.bytes.extend_from_slice(more)?;
         self.kept = self.bytes.len();
         self.count = 0;
         self.opening = None;
-        Ok(())
+        Ok(len)
     }
 
     /// Goes back to the first `len` bytes, of which the first `kept` are kept, and the others are the texts of
