@@ -1,5 +1,5 @@
 -- An accepted call adds its entry to whatever was held, and a refused one has a cause.
-use Rattle.std.proofs.Common.{◌≡◌, ℕ, ◌<◌, ◌⊎◌, inl, inr, List, ◌++◌, Option, None, Some, Result, Ok, Err, refl, sym, ◌∙◌, ap, subst}
+use Rattle.std.proofs.Common.{◌≡◌, ℕ, ◌<◌, inl, inr, List, ◌++◌, Option, None, Some, Result, Ok, Err, refl, sym, ◌∙◌, ap, subst}
 use Rattle.std.specs.Result.{IfOk, IfErr, OnOk}
 use Rattle.wenc_base.specs.Fault.{first_of}
 use Rattle.wenc_base.specs.declared.fault.Fault.{Fault}

@@ -1,6 +1,6 @@
 -- What a call did, by the list that was held.
-use Rattle.std.proofs.Common.{◌≡◌, ℕ, ◌<◌, inl, inr, List, [], ◌∷◌, ◌++◌, Option, Some, None, Result, Ok, Err, ap, sym, ◌∙◌, subst}
-use Rattle.std.specs.Result.{OnErr, OnOk}
+use Rattle.std.proofs.Common.{◌≡◌, ℕ, ◌<◌, inl, inr, List, [], ◌∷◌, ◌++◌, Option, Some, None, Result, Ok, Err, sym, subst}
+use Rattle.std.specs.Result.{OnErr}
 use Rattle.wenc_base.specs.declared.fault.Fault.{Fault}
 use Rattle.wenc_base.specs.declared.fault.Fault.TheVariants.{Memory, TooMany, TooLarge, Unfinished}
 use Rattle.wenc_parts.specs.Aliases.{InstanceExport, CoreInstanceExport, Outer}
@@ -9,7 +9,7 @@ use Rattle.wenc_parts.specs.Imports.{ExternName, extern_name_cause, option_cause
 use Rattle.wasm_encoder.specs.Component.{runs}
 use Rattle.wasm_encoder.specs.Space.{kind_space, alias_space, defines}
 use Rattle.wasm_encoder.specs.Entry.{Entry, items}
-use Rattle.wasm_encoder.specs.Builder.{OpenSection, Namespace, namespace_at, with_entry, State, step}
+use Rattle.wasm_encoder.specs.Builder.{OpenSection, Namespace, namespace_at, with_entry, State}
 use Rattle.wasm_encoder.specs.Holds.{open_of, namespace_of, Holds, Adds}
 use Rattle.wasm_encoder.specs.Cause.{AddingCause, CallCause, RefusesEntry, EntryCause}
 use Rattle.wasm_encoder.specs.Ran.{Answers}

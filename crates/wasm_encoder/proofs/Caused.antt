@@ -1,5 +1,5 @@
 -- What refuses a part of a call refuses the call.
-use Rattle.std.proofs.Common.{◌≡◌, ℕ, ◌<◌, inl, inr, List, [], length, Option, Some, None, Result, Ok, Err, ap, ◌∙◌, sym, arith, length-append, append-nil, subst}
+use Rattle.std.proofs.Common.{◌≡◌, ℕ, ◌<◌, inl, inr, List, [], length, Option, Some, None, Ok, Err, ap, ◌∙◌, sym, arith, length-append, append-nil, subst}
 use Rattle.std.proofs.lemmas.List.{get_or-set_same}
 use Rattle.std.proofs.lemmas.Bool.Decides.{eqb_tells}
 use Rattle.wenc_base.specs.declared.fault.Fault.{Fault}

@@ -1,178 +1,127 @@
 -- What keeps a buffer's layout.
-use Rattle.std.proofs.Common.{◌≡◌, ℕ, ◌+◌, ◌-◌, ◌<◌, ◌≤◌, ◌^◌, ◌⊎◌, inl, inr, List, [], ◌++◌, length, take, drop, Option, Some, None, Result, Ok, Err, refl, arith, length-append, length-drop, append-nil, drop-drop, sym, subst}
-use Rattle.std.proofs.lemmas.List.{take-append-le, take_all, take_at, drop_at}
+use Rattle.std.proofs.Common.{◌≡◌, ℕ, ◌+◌, ◌-◌, ◌<◌, ◌≤◌, ◌^◌, inl, inr, false, List, [], ◌++◌, length, take, drop, Option, Some, None, Result, Ok, Err, refl, arith, length-append, length-drop, length-take-le, take-append-drop, ap, ◌∙◌}
+use Rattle.std.proofs.lemmas.List.{take_at, drop_at}
 use Rattle.std.proofs.lemmas.Bool.{ne_eqb, eq-eqb}
-use Rattle.std.specs.Result.{OnOk, OnErr}
+use Rattle.std.specs.Result.{OnOk, IfErr}
 use Rattle.wenc_base.specs.Number.{number_size}
-use Rattle.wenc_base.specs.Fault.{IsWarranted}
+use Rattle.wenc_base.specs.Holder.{Held, is_finished, holding, all_bytes, content_size, AddCause}
+use Rattle.wenc_base.specs.Openings.{opened_with, lengthened, OpensMember, MoreCause}
+use Rattle.wenc_base.specs.declared.holder.openings.Opening.{Opening}
 use Rattle.wenc_base.specs.declared.fault.Fault.{Fault}
 use Rattle.wenc_base.specs.declared.fault.Fault.TheVariants.{Memory, TooMany, TooLarge, Unfinished}
-use Rattle.wenc_base.proofs.Groups.{size_1, size_at_most_5}
-use Rattle.wasm_encoder.specs.Builder.{OpenSection, open_text}
-use Rattle.wasm_encoder.specs.Cause.{SectionIsLarge}
-use Rattle.wasm_encoder.specs.Layout.{section_id, OpensAnother, Buffered, buffered_content, appended, SectionFits, writing_view, open_view, buffer_view, IsLaidOut, AppendCause}
-use Rattle.wasm_encoder.specs.declared.builder.layout.LastSection.{LastSection}
-use Rattle.wasm_encoder.specs.declared.builder.layout.Place.{Place}
-use Rattle.wasm_encoder.specs.declared.builder.layout.Place.TheVariants.{Settled, Neighbour, Apart}
+use Rattle.wenc_base.proofs.Groups.{size_1}
+use Rattle.wasm_encoder.specs.Builder.{entered}
+use Rattle.wasm_encoder.specs.Cause.{SectionIsMany, SectionIsLarge}
+use Rattle.wasm_encoder.specs.Layout.{section_id, OpensAnother, Buffered, buffered_content, SectionFits, open_view, buffer_view, kept_before, SectionIsIn, MembersAreIn, OpeningIsIn, EarlierIsIn, IsApart, IsLaidOut}
+use Rattle.wasm_encoder.specs.declared.builder.earlier.Earlier.{Earlier}
 use Rattle.wasm_encoder.specs.declared.builder.kind.Kind.{Kind}
-use Rattle.wasm_encoder.proofs.Gap.{drop_split}
 
 size_of_one : number_size 1 ≡ 1
 size_of_one = size_1 1 (omega arith)
 
-pub fits_not_large : (o : Option OpenSection) → SectionFits o → SectionIsLarge o → ⊥
-fits_not_large None f l = l
-fits_not_large (Some o) f l = omega arith
+-- ---- an item behind a gap
 
--- nothing is being written: the bytes are the settled ones
-pub settled_len : (bytes : List ℕ) (end settled : ℕ) (current : Option LastSection) (place : Place) → IsLaidOut bytes end settled current place
-    → writing_view place current settled bytes ≡ None → settled ≡ length bytes
-settled_len bytes end settled current Settled l e = l.place_in
-settled_len bytes end settled current Neighbour l e = cc
-settled_len bytes end settled current (Apart k) l e = cc
+-- nothing keeps an empty holder from an opening without a lead
+pub opens : (kept : List ℕ) (new : Held) (outcome : Result (Unit {0}) Fault) → OpensMember (holding kept 0 []) new outcome [] → IfErr outcome (AddCause (holding kept 0 []) [] (λ _. ⊥)) → outcome ≡ Ok tt
+opens kept new (Ok u) o none = refl
+opens kept new (Err (Memory e)) o none = absurd (elim none [ inl own ↦ own | inr more ↦ elim more [ inl count ↦ count | inr stopped ↦ cc ] ])
+opens kept new (Err TooMany) o none = absurd (elim none [ inl own ↦ own | inr more ↦ elim more [ inl count ↦ omega (arith, count) | inr stopped ↦ cc ] ])
+opens kept new (Err TooLarge) o none = absurd (elim none [ inl own ↦ own | inr more ↦ elim more [ inl count ↦ omega (arith, count, size_of_one) | inr stopped ↦ cc ] ])
+opens kept new (Err Unfinished) o none = absurd (elim none [ inl own ↦ own | inr more ↦ elim more [ inl count ↦ count | inr stopped ↦ cc ] ])
 
-none_behind : (bytes gap : List ℕ) (settled : ℕ) → settled ≡ length bytes → length gap ≡ 11 → length (drop (settled + 11) (bytes ++ gap)) ≡ 0
-none_behind bytes gap settled e h = omega (arith, length-drop (settled + 11) (bytes ++ gap), length-append bytes gap)
+none_is_written_at : (h : Held) (end : ℕ) (kind : Option Kind) (earlier : Option Earlier) (opening : Option Opening) → h.opening ≡ opening → (buffer_view h end kind earlier).writing ≡ None → (earlier ≡ None) × (h.opening ≡ None)
+none_is_written_at h end kind None None o e = (refl, o)
+none_is_written_at h end kind None (Some x) o e = let written = rw o at e in cc
+none_is_written_at h end kind (Some x) opening o e = cc
 
-small_one : (text : List ℕ) → length text ≡ 0 → number_size 1 + length text < 2 ^ 32
-small_one text h = omega (arith, size_at_most_5 1 (omega arith))
+none_is_written : (h : Held) (end : ℕ) (kind : Option Kind) (earlier : Option Earlier) → (buffer_view h end kind earlier).writing ≡ None → (earlier ≡ None) × (h.opening ≡ None)
+none_is_written h end kind earlier e = none_is_written_at h end kind earlier h.opening refl e
 
-whatever_items : (last : Option LastSection) (items other : List ℕ) (id : ℕ) → OpensAnother (open_view last items) id → OpensAnother (open_view last other) id
-whatever_items None items other id h = tt
-whatever_items (Some o) items other id h = h
+-- the layout, where all that was there is kept and a member is begun behind a gap
+went_apart : (h : Held) (gap : List ℕ) (end : ℕ) (kind : Option Kind) (k : Kind) (count settled : ℕ) → MembersAreIn kind end h → length gap ≡ 11 → count ≡ h.count → content_size h.count (length h.body) < 2 ^ 32
+    → settled ≡ length (all_bytes h) → OpensAnother (open_view kind h.count h.body) (section_id k)
+    → IsApart (opened_with (holding (all_bytes h ++ gap) 0 []) []) (Some k) (record { kind = kind; count = count; end = end; settled = settled })
+went_apart h gap end None k count settled m g c f s d = record {
+  first = refl;
+  gap = omega (arith, s, g, length-append (all_bytes h) gap);
+  section = rw (s, m.1) (omega (arith, m.0, length-append h.kept []));
+  another = tt;
+  counted = rw c (omega (arith, f));
+  fits = tt;
+}
+went_apart h gap end (Some o) k count settled m g c f s d = record {
+  first = refl;
+  gap = omega (arith, s, g, length-append (all_bytes h) gap);
+  section = omega (arith, s, m, length-append h.kept h.body);
+  another = d;
+  counted = rw c (omega (arith, f));
+  fits = rw (c, s, take_at (all_bytes h) gap (length (all_bytes h)) refl, ← m, drop_at h.kept h.body (length h.kept) refl) f;
+}
 
-pub opens_another : (bytes : List ℕ) (end settled : ℕ) (last : Option LastSection) (place : Place) (now : Buffered) (id : ℕ)
-    → buffer_view bytes end settled last place ≡ now → OpensAnother now.settled.current id → OpensAnother (open_view last []) id
-opens_another bytes end settled last place now id e h =
-    let P : Buffered → Type 0 = λ b. OpensAnother b.settled.current id in
-    whatever_items last (drop (end + 11) (take settled bytes)) [] id (subst P (sym e) h)
+pub begun : (h opened new : Held) (gap : List ℕ) (end : ℕ) (kind : Option Kind) (earlier : Option Earlier) (k : Kind) (count settled : ℕ) (now : Buffered) (outcome : Result (Unit {0}) Fault) → IsLaidOut h end kind earlier
+    → buffer_view h end kind earlier ≡ now → now.writing ≡ None → OpensAnother now.settled.current (section_id k) → length gap ≡ 11 → count ≡ h.count → content_size h.count (length h.body) < 2 ^ 32 → settled ≡ length (all_bytes h)
+    → opened ≡ holding (all_bytes h ++ gap) 0 [] → OpensMember opened new outcome [] → outcome ≡ Ok tt
+    → IsLaidOut new end (Some k) (Some (record { kind = kind; count = count; end = end; settled = settled }))
+begun h opened new gap end kind earlier k count settled now outcome l view none apart g c f s is o accepted = record { places = rw new_is (went_apart h gap end kind k count settled members.0 g c f s other) }
+  where
+    idle : (earlier ≡ None) × (h.opening ≡ None)
+    idle = none_is_written h end kind earlier (ap (λ (b : Buffered). b.writing) view ∙ none)
 
-pub begun : (bytes gap : List ℕ) (end settled : ℕ) (last : Option LastSection) (place : Place) (k : Kind) → IsLaidOut bytes end settled last place
-    → writing_view place last settled bytes ≡ None → length gap ≡ 11 → OpensAnother (open_view last []) (section_id k) → IsLaidOut (bytes ++ gap) end settled last (Apart k)
-begun bytes gap end settled None place k l e h d =
-    let s : settled ≡ length bytes = settled_len bytes end settled None place l e in
-    record {
-      last_in = l.last_in;
-      place_in = (omega (arith, length-append bytes gap), tt);
-      settled_fits = tt;
-      content_fits = small_one (drop (settled + 11) (bytes ++ gap)) (none_behind bytes gap settled s h);
-    }
-begun bytes gap end settled (Some o) place k l e h d =
-    let s : settled ≡ length bytes = settled_len bytes end settled (Some o) place l e in
-    let front : take settled (bytes ++ gap) ≡ take settled bytes = take-append-le settled bytes gap (omega arith) in
-    record {
-      last_in = l.last_in;
-      place_in = (omega (arith, length-append bytes gap), d);
-      settled_fits = rw front l.settled_fits;
-      content_fits = rw (ne_eqb (section_id o.kind) (section_id k) d) (small_one (drop (settled + 11) (bytes ++ gap)) (none_behind bytes gap settled s h));
-    }
+    members : MembersAreIn kind end h × OpeningIsIn h.opening h.count (length h.body)
+    members = (rw idle.0 at l).places
 
--- ---- more bytes behind
+    other : OpensAnother (open_view kind h.count h.body) (section_id k)
+    other = rw (← view, idle.0, idle.1) at apart
 
-apart_fits : (bytes : List ℕ) (end settled : ℕ) (current : Option LastSection) (k : Kind) → IsLaidOut bytes end settled current (Apart k)
-    → number_size 1 + length (drop (settled + 11) bytes) < 2 ^ 32
-apart_fits bytes end settled None k l = l.content_fits
-apart_fits bytes end settled (Some o) k l = rw (ne_eqb (section_id o.kind) (section_id k) l.place_in.1) at l.content_fits
+    new_is : new ≡ opened_with (holding (all_bytes h ++ gap) 0 []) []
+    new_is = rw (accepted, is) at o.ok
 
-pub apart_room : (bytes : List ℕ) (end settled : ℕ) (current : Option LastSection) (place : Place) (k : Kind) → IsLaidOut bytes end settled current place → place ≡ Apart k
-    → (settled + 11 ≤ length bytes) × (length bytes - (settled + 11) + 1 < 2 ^ 32)
-apart_room bytes end settled current place k l e =
-    let m : IsLaidOut bytes end settled current (Apart k) = subst (λ (p : Place). IsLaidOut bytes end settled current p) e l in
-    (m.place_in.0, omega (arith, apart_fits bytes end settled current k m, length-drop (settled + 11) bytes, size_of_one))
+-- ---- why an item behind its neighbours is refused
 
-longer_in : (bytes text : List ℕ) (end settled : ℕ) (current : Option LastSection) (k : Kind) → IsLaidOut bytes end settled current (Apart k)
-    → length bytes - (settled + 11) + 1 + length text < 2 ^ 32 → IsLaidOut (bytes ++ text) end settled current (Apart k)
-longer_in bytes text end settled None k l h =
-    record {
-      last_in = l.last_in;
-      place_in = (omega (arith, l.place_in.0, length-append bytes text), tt);
-      settled_fits = tt;
-      content_fits = omega (arith, l.place_in.0, length-append bytes text, length-drop (settled + 11) (bytes ++ text), size_of_one);
-    }
-longer_in bytes text end settled (Some o) k l h =
-    let within : settled + 11 ≤ length bytes = l.place_in.0 in
-    let front : take settled (bytes ++ text) ≡ take settled bytes = take-append-le settled bytes text (omega arith) in
-    record {
-      last_in = l.last_in;
-      place_in = (omega (arith, length-append bytes text), l.place_in.1);
-      settled_fits = rw front l.settled_fits;
-      content_fits = rw (ne_eqb (section_id o.kind) (section_id k) l.place_in.1) (omega (arith, length-append bytes text, length-drop (settled + 11) (bytes ++ text), size_of_one));
-    }
+pub few_after : (outcome : Result (Unit {0}) Fault) (h : Held) (end : ℕ) (kind : Option Kind) (earlier : Option Earlier) (k : Kind) (id : ℕ) (now : Buffered) → buffer_view h end kind earlier ≡ now → now.writing ≡ None
+    → kind ≡ Some k → section_id k ≡ id → OnOk outcome ((fault : Fault) → AddCause h [] (λ _. ⊥) fault → ⊥) → OnOk outcome (SectionIsMany (entered now.settled id []).current → ⊥)
+few_after (Err fault) h end kind earlier k id now view none is same free = tt
+few_after (Ok u) h end kind earlier k id now view none is same free = λ many.
+    let idle = none_is_written h end kind earlier (ap (λ (b : Buffered). b.writing) view ∙ none) in
+    let counted : 2 ^ 32 ≤ h.count + 1 = rw (← view, idle.0, idle.1, is, same, eq-eqb id id refl) at many in
+    free TooMany (inr (inl counted))
 
-pub apart_longer : (bytes text : List ℕ) (end settled : ℕ) (current : Option LastSection) (place : Place) (k : Kind) → IsLaidOut bytes end settled current place → place ≡ Apart k
-    → length bytes - (settled + 11) + 1 + length text < 2 ^ 32 → IsLaidOut (bytes ++ text) end settled current place
-apart_longer bytes text end settled current place k l e h =
-    let m : IsLaidOut bytes end settled current (Apart k) = subst (λ (p : Place). IsLaidOut bytes end settled current p) e l in
-    rw e (longer_in bytes text end settled current k m h)
+-- ---- more bytes
 
--- the same where the bytes may have been refused
-pub apart_tried : {T : Type 0} (r : Result T Fault) (bytes now text : List ℕ) (end settled : ℕ) (last : Option LastSection) (place : Place) (k : Kind) → IsLaidOut bytes end settled last place → place ≡ Apart k
-    → OnOk r (now ≡ bytes ++ text) → OnErr r (now ≡ bytes) → OnOk r (length bytes - (settled + 11) + 1 + length text < 2 ^ 32) → IsLaidOut now end settled last place
-apart_tried (Ok v) bytes now text end settled last place k l e ok err fits = rw ok (apart_longer bytes text end settled last place k l e fits)
-apart_tried (Err fault) bytes now text end settled last place k l e ok err fits = rw err l
+all_of_it : (n size : ℕ) (k : Kind) (closed body : List ℕ) → 1 ≤ n → (SectionIsLarge (entered (record { closed = closed; current = Some (record { id = section_id k; count = n - 1; body = take size body }) }) (section_id k) (drop size body)).current)
+    → 2 ^ 32 ≤ content_size n (length body)
+all_of_it n size k closed body some large =
+    let next : n - 1 + 1 ≡ n = omega arith in
+    rw (eq-eqb (section_id k) (section_id k) refl, take-append-drop size body, next) at large
 
-pub apart_small : {T : Type 0} (r : Result T Fault) (bytes now text : List ℕ) (end settled : ℕ) (last : Option LastSection) (place : Place) (k : Kind) → IsLaidOut bytes end settled last place → place ≡ Apart k
-    → OnOk r (now ≡ bytes ++ text) → OnOk r (length bytes - (settled + 11) + 1 + length text < 2 ^ 32) → OnOk r (SectionIsLarge (buffered_content (buffer_view now end settled last place)).current → ⊥)
-apart_small (Ok v) bytes now text end settled last place k l e ok fits = rw ok (fits_not_large _ (apart_longer bytes text end settled last place k l e fits).content_fits)
-apart_small (Err fault) bytes now text end settled last place k l e ok fits = tt
+behind_gap : (ek : Option Kind) (k : Kind) (count : ℕ) (items closed body : List ℕ) → OpensAnother (open_view ek count []) (section_id k) → SectionIsLarge (entered (record { closed = closed; current = open_view ek count items }) (section_id k) body).current
+    → 2 ^ 32 ≤ content_size 1 (length body)
+behind_gap None k count items closed body d large = large
+behind_gap (Some o) k count items closed body d large = rw (ne_eqb (section_id o) (section_id k) d) at large
 
--- ---- an item is ended
+large_at : (h : Held) (text : List ℕ) (end : ℕ) (kind : Option Kind) (earlier : Option Earlier) (opening : Option Opening) → h.opening ≡ opening → EarlierIsIn h end kind earlier → is_finished h ≡ false
+    → SectionIsLarge (buffered_content (buffer_view (lengthened h text) end kind earlier)).current → 2 ^ 32 ≤ content_size h.count (length (h.body ++ text))
+large_at h text end kind None None o l f large = let finished = rw o at f in cc
+large_at h text end None None (Some x) o l f large = let none = l.0.2 in cc
+large_at h text end (Some k) None (Some x) o l f large = let places = rw o at l.1 in all_of_it h.count x.before k (take end h.kept) (h.body ++ text) places.1 (rw o at large)
+large_at h text end None (Some e) opening o l f large = absurd l.another
+large_at h text end (Some k) (Some e) opening o l f large =
+    let one : h.count ≡ 1 = ap (λ (x : Held). x.count) l.first in
+    rw one (behind_gap e.kind k e.count _ _ (h.body ++ text) l.another large)
 
-ended_next : (bytes : List ℕ) (n end settled : ℕ) (o : LastSection) → n ≡ length bytes → IsLaidOut bytes end settled (Some o) Neighbour
-    → buffer_view bytes end n (Some (record { kind = o.kind; count = o.count + 1 })) Settled
-    ≡ record { settled = buffered_content (buffer_view bytes end settled (Some o) Neighbour); writing = None }
-ended_next bytes n end settled o h l =
-    rw (eq-eqb (section_id o.kind) (section_id o.kind) refl, take_all n bytes (omega arith), drop_split (end + 11) settled bytes l.last_in) refl
+pub small_after : (outcome : Result (Unit {0}) Fault) (old new : Held) (cause : Fault → Type 0) (text : List ℕ) (end : ℕ) (kind : Option Kind) (earlier : Option Earlier) → IsLaidOut old end kind earlier → is_finished old ≡ false
+    → OnOk outcome (new ≡ lengthened old text) → OnOk outcome ((fault : Fault) → MoreCause old text cause fault → ⊥) → OnOk outcome (SectionIsLarge (buffered_content (buffer_view new end kind earlier)).current → ⊥)
+small_after (Err fault) old new cause text end kind earlier l f is free = tt
+small_after (Ok u) old new cause text end kind earlier l f is free = λ large. free TooLarge (inr (refl, large_at old text end kind earlier old.opening refl l.places f (rw is at large)))
 
-pub ended_neighbour : (bytes : List ℕ) (n end settled : ℕ) (current : Option LastSection) (place : Place) (o : LastSection) (now : Buffered) → n ≡ length bytes → IsLaidOut bytes end settled current place
-    → place ≡ Neighbour → current ≡ Some o → buffer_view bytes end settled current place ≡ now
-    → buffer_view bytes end n (Some (record { kind = o.kind; count = o.count + 1 })) Settled ≡ record { settled = buffered_content now; writing = None }
-ended_neighbour bytes n end settled current place o now h l p q e =
-    let m : IsLaidOut bytes end settled (Some o) Neighbour = subst (λ (x : Place). IsLaidOut bytes end settled (Some o) x) p (subst (λ (x : Option LastSection). IsLaidOut bytes end settled x place) q l) in
-    rw (← e, p, q) (ended_next bytes n end settled o h m)
+-- ---- an item is given up
 
--- what the flush leaves
-flushed_view : (front back items : List ℕ) (n end : ℕ) (k : Kind) → items ≡ front ++ back → n ≡ length items → end ≡ length front
-    → buffer_view items end n (Some (record { kind = k; count = 1 })) Settled
-    ≡ record { settled = record { closed = front; current = Some (record { id = section_id k; count = 1; body = drop 11 back }) }; writing = None }
-flushed_view front back items n end k i h e =
-    rw (take_all n items (omega arith), i, take_at front back end (sym e), ← drop-drop 11 end (front ++ back), drop_at front back end (sym e)) refl
+back_fits_at : (ek : Option Kind) (bytes : List ℕ) (count end settled : ℕ) → number_size count < 2 ^ 32 → SectionFits (open_view ek count (drop (end + 11) (take settled bytes))) → SectionIsIn ek end settled → settled ≤ length bytes
+    → content_size count (settled - kept_before ek end) < 2 ^ 32
+back_fits_at None bytes count end settled n f s l = omega (arith, n, s)
+back_fits_at (Some k) bytes count end settled n f s l = omega (arith, f, length-drop (end + 11) (take settled bytes), length-take-le settled bytes l)
 
-closed_then : (bytes : List ℕ) (end settled : ℕ) (current : Option LastSection) (k : Kind) → IsLaidOut bytes end settled current (Apart k)
-    → buffered_content (buffer_view bytes end settled current (Apart k))
-    ≡ record { closed = take end bytes ++ open_text (open_view current (drop (end + 11) (take settled bytes))); current = Some (record { id = section_id k; count = 1; body = drop (settled + 11) bytes }) }
-closed_then bytes end settled None k l = rw (append-nil (take end bytes)) refl
-closed_then bytes end settled (Some o) k l = rw (ne_eqb (section_id o.kind) (section_id k) l.place_in.1) refl
-
-pub ended_apart : (bytes items : List ℕ) (n end settled end_now : ℕ) (current : Option LastSection) (place : Place) (k : Kind) (now : Buffered) → n ≡ length items → IsLaidOut bytes end settled current place
-    → place ≡ Apart k → buffer_view bytes end settled current place ≡ now
-    → items ≡ (take end bytes ++ open_text (open_view current (drop (end + 11) (take settled bytes)))) ++ drop settled bytes
-    → end_now ≡ length (take end bytes ++ open_text (open_view current (drop (end + 11) (take settled bytes))))
-    → buffer_view items end_now n (Some (record { kind = k; count = 1 })) Settled ≡ record { settled = buffered_content now; writing = None }
-ended_apart bytes items n end settled end_now current place k now h l p e i f =
-    let m : IsLaidOut bytes end settled current (Apart k) = subst (λ (x : Place). IsLaidOut bytes end settled current x) p l in
-    rw (← e, p, closed_then bytes end settled current k m, ← drop-drop 11 settled bytes) (flushed_view (take end bytes ++ open_text (open_view current (drop (end + 11) (take settled bytes)))) (drop settled bytes) items n end_now k i h f)
-
--- ---- why more bytes are refused
-
-large_in : (bytes text : List ℕ) (end settled : ℕ) (current : Option LastSection) (k : Kind) → IsLaidOut bytes end settled current (Apart k)
-    → 2 ^ 32 ≤ length bytes - (settled + 11) + 1 + length text → SectionIsLarge (buffered_content (appended (buffer_view bytes end settled current (Apart k)) text)).current
-large_in bytes text end settled None k l h = omega (arith, length-append (drop (settled + 11) bytes) text, length-drop (settled + 11) bytes, size_of_one)
-large_in bytes text end settled (Some o) k l h = rw (ne_eqb (section_id o.kind) (section_id k) l.place_in.1) (omega (arith, length-append (drop (settled + 11) bytes) text, length-drop (settled + 11) bytes, size_of_one))
-
-cause_of : (cause : Fault → Type 0) (b : Buffered) (fault : Fault) → IsWarranted cause fault ⊎ ((fault ≡ TooLarge) × SectionIsLarge (buffered_content b).current) → AppendCause cause b fault
-cause_of cause b (Memory e) c = tt
-cause_of cause b TooMany (inl m) = m
-cause_of cause b TooMany (inr t) = let q = t.0 in cc q
-cause_of cause b TooLarge (inl m) = inl m
-cause_of cause b TooLarge (inr t) = inr t.1
-cause_of cause b Unfinished (inl m) = inl m
-cause_of cause b Unfinished (inr t) = let q = t.0 in cc q
-
-pub apart_cause : (bytes text : List ℕ) (end settled : ℕ) (current : Option LastSection) (place : Place) (k : Kind) (now : Buffered) (cause : Fault → Type 0) (fault : Fault) → IsLaidOut bytes end settled current place
-    → place ≡ Apart k → buffer_view bytes end settled current place ≡ now
-    → IsWarranted cause fault ⊎ ((fault ≡ TooLarge) × (2 ^ 32 ≤ length bytes - (settled + 11) + 1 + length text)) → AppendCause cause (appended now text) fault
-apart_cause bytes text end settled current place k now cause fault l p e (inl m) = cause_of cause (appended now text) fault (inl m)
-apart_cause bytes text end settled current place k now cause fault l p e (inr t) =
-    let m : IsLaidOut bytes end settled current (Apart k) = subst (λ (x : Place). IsLaidOut bytes end settled current x) p l in
-    cause_of cause (appended now text) fault (inr (t.0, rw (← e, p) (large_in bytes text end settled current k m t.1)))
+pub back_fits : (h : Held) (end : ℕ) (kind : Option Kind) (earlier : Option Earlier) (e : Earlier) → IsLaidOut h end kind earlier → earlier ≡ Some e → content_size e.count (e.settled - kept_before e.kind e.end) < 2 ^ 32
+back_fits h end kind earlier e l is =
+    let a : IsApart h kind e = (rw is at l).places in
+    back_fits_at e.kind h.kept e.count e.end e.settled a.counted a.fits a.section (omega (arith, a.gap))

@@ -1,12 +1,12 @@
 -- A run of commands, step by step.
-use Rattle.std.proofs.Common.{◌≡◌, ℕ, ◌+◌, ◌<◌, List, [], ◌∷◌, ◌++◌, Result, Ok, Err, Option, Some, refl, ap, length, drop, map, append_assoc, append-nil, add-one, drop-cons, get_or}
+use Rattle.std.proofs.Common.{◌≡◌, ℕ, ◌+◌, ◌<◌, List, [], ◌∷◌, ◌++◌, Result, Ok, Err, Option, Some, refl, ap, length, drop, append_assoc, append-nil, add-one, drop-cons, get_or}
 use Rattle.std.specs.Result.{MatchResult, IsOkAnd}
 use Rattle.wenc_base.specs.declared.fault.Fault.{Fault}
 use Rattle.wasm_encoder.specs.declared.command.Command.{Command}
 use Rattle.wasm_encoder.specs.Entry.{Entry}
 use Rattle.wasm_encoder.specs.Builder.{State}
 use Rattle.wasm_encoder.specs.Holds.{Holds}
-use Rattle.wasm_encoder.specs.Command.{CommandTree, command_view, entry_of}
+use Rattle.wasm_encoder.specs.Command.{CommandTree, entry_of}
 use Rattle.wasm_encoder.specs.Ran.{RanFrom, Ran, Answers}
 
 -- The answers so far led from nothing to entries that the builder holds: what is run from there is run from nothing.

@@ -1,5 +1,5 @@
 -- An item that entered a space can be taken back.
-use Rattle.std.proofs.Common.{◌≡◌, ℕ, ◌+◌, ◌-◌, ◌<◌, List, length, take, set, get_or, Option, Some, None, refl, arith, sym, ◌∙◌, ap, subst}
+use Rattle.std.proofs.Common.{◌≡◌, ℕ, ◌<◌, List, length, set, get_or, Option, Some, None, refl, arith, sym, ◌∙◌, ap, subst}
 use Rattle.std.proofs.lemmas.List.{take_at, take_all, get_or-set_same, get_or_default, set-set, set-get_or, length-set}
 use Rattle.wasm_encoder.specs.Entry.{named}
 use Rattle.wasm_encoder.specs.Builder.{Namespace, no_names, namespace_at, namespace_with, taken}

@@ -1,5 +1,5 @@
 -- What a builder is seen as: settled content, and while an item is being written, that item.
-use Rattle.std.specs.Prelude.{◌≡◌, ℕ, List, [], ◌∷◌, ◌++◌, ◌+◌, ◌<◌, ◌^◌, length, Option, Some, None, Bool, is_none, nat_eq, if◌then◌else◌, slice_set, slice_index_or}
+use Rattle.std.specs.Prelude.{ℕ, List, [], ◌∷◌, ◌++◌, ◌+◌, length, Option, Some, None, Bool, is_none, nat_eq, if◌then◌else◌, slice_set, slice_index_or}
 use Rattle.wenc_base.specs.Number.{unsigned_text, number_size}
 use Rattle.wasm_encoder.specs.Item.{Item, collected, item}
 use Rattle.wasm_encoder.specs.Space.{space_number, defines}

@@ -14,9 +14,9 @@ ghost use Rattle.wasm_encoder.specs.Cause.{CallCause, Refuses, RefusesEntry, Nam
 ghost use Rattle.wasm_encoder.specs.Layout.{section_id, AppendCause};
 
 mod buffer;
+mod earlier;
 mod flush;
 mod kind;
-mod layout;
 mod namespace;
 mod space;
 mod spaces;

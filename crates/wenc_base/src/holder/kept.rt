@@ -8,6 +8,13 @@ use std::alloc::Allocator;
 
 /// The bytes that a holder keeps in front of its members: for one who has several sections in one vector.
 impl<A: Allocator> Holder<A> {
+    /// How many bytes are kept.
+    pub fn kept_len(&self) -> usize
+        ensures { result ≡ length self.now.kept }
+    {
+        self.kept
+    }
+
     /// Keeps the members too, with these bytes behind them, and has no members then. Answers how many bytes there
     /// were. It is refused for want of memory alone.
     pub fn keep_all(&mut self, more: &[u8]) -> Result<usize, Fault>

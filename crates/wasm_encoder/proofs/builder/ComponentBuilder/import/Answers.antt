@@ -1,6 +1,6 @@
 use Rattle.std.proofs.Common.{inl}
 use Rattle.wenc_parts.specs.Imports.{extern_name_view, extern_name_cause}
-use Rattle.wasm_encoder.proofs.Adds.{adds, stepped, refuses, import_writes, first_cause}
+use Rattle.wasm_encoder.proofs.Adds.{adds, refuses, import_writes, first_cause}
 use Rattle.wasm_encoder.proofs.builder.ComponentBuilder.import.Goals as goal
 
 pub returns-clause-held : goal.returns-clause-held

@@ -1,9 +1,17 @@
-use Rattle.std.proofs.Common.{◌∙◌, refl, ap}
-use Rattle.wasm_encoder.specs.Layout.{Buffered}
-use Rattle.wasm_encoder.proofs.Laid.{begun, opens_another}
+use Rattle.std.proofs.Common.{◌≡◌, Ok, refl}
+use Rattle.wasm_encoder.proofs.Laid.{opens, begun}
 use Rattle.wasm_encoder.proofs.builder.buffer.Buffer.begin_apart.Goals as goal
+
+accepted : (g : _) (c : goal.After-open g) → c.open.result ≡ Ok tt
+accepted g c = opens _ _ c.open.result (rw c.in_ok-settled.ensures.ok at c.open.ensures.opened) (rw c.in_ok-settled.ensures.ok at c.open.ensures.no_memory refl)
 
 pub invariant_of-self-2 : goal.invariant_of-self-2
 invariant_of-self-2 g c =
-    rw c.in_ok-extend_from_slice.ensures.items
-    (begun _ _ _ _ _ _ _ c.self.invariant (ap (λ (b : Buffered). b.writing) c.self.view_is ∙ c.requires.settled) refl (opens_another _ _ _ _ _ _ _ c.self.view_is c.requires.apart))
+    begun c.self.inside.holder c.keep_all.new.self c.open.new.self _ c.self.inside.end c.self.inside.kind c.self.inside.earlier c.args.kind c.len-count.result c.in_ok-settled.settled c.args.self.now c.open.result
+    c.self.invariant c.self.view_is c.requires.settled c.requires.apart refl c.len-count.ensures.count c.len-count.ensures.fits c.in_ok-settled.ensures.before c.in_ok-settled.ensures.ok c.open.ensures.opened (accepted g c)
+
+pub returns-clause-err : goal.returns-clause-err
+returns-clause-err g c = rw (accepted g c) tt
+
+pub returns-clause-warranted : goal.returns-clause-warranted
+returns-clause-warranted g c = rw (accepted g c) tt

@@ -1,4 +1,4 @@
-use Rattle.std.proofs.Common.{◌≡◌, ap, length, refl, arith}
+use Rattle.std.proofs.Common.{◌≡◌, refl, arith}
 use Rattle.std.proofs.lemmas.List.{replicate-append-replicate}
 use Rattle.wasm_encoder.specs.Builder.{no_names}
 use Rattle.wasm_encoder.proofs.builder.spaces.Spaces.new.Goals as goal
