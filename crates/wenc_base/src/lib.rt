@@ -1,5 +1,5 @@
-//! What everything that writes WebAssembly components stands on: numbers, texts, faults, and the
-//! traits `Encode` and `Delimited`.
+//! What everything that writes WebAssembly components stands on: numbers, texts, lists, faults, the traits
+//! `Encode` and `Delimited`, the holder of a section's members, core value types, custom sections and modules.
 #![tactic(auto)]
 
 pub mod custom;

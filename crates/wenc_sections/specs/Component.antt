@@ -1,4 +1,4 @@
--- Starts, nested components, core modules, and the header (component model, binary format, "Start Definitions" and "Component
+-- Starts, and the header of a component (component model, binary format, "Start Definitions" and "Component
 -- Definitions").
 use Rattle.std.specs.Prelude.{ℕ, List, length}
 use Rattle.wenc_base.specs.Piece.{Piece, Form, byte, ◌▸◌, ◌⨾◌, whole}
