@@ -56,9 +56,40 @@ impl<'a> Members<'a> for Holder<&'a Refusing> {
         let mut state = Vec::new(alloc);
         self.len().encode(&mut state)?;
         self.is_finished().encode(&mut state)?;
+        self.is_opened().encode(&mut state)?;
         self.as_slice().encode(&mut state)?;
-        self.encode_section(&mut state)?;
+        if self.is_finished() {
+            self.encode_section(&mut state)?;
+        }
         Ok(state)
+    }
+}
+
+/// A holder in which a member is being written, which at first has no bytes.
+#[derive(Drop)]
+struct Opened<'a>(Holder<&'a Refusing>);
+
+impl<'a> Members<'a> for Opened<'a> {
+    fn empty(heap: &'a Refusing) -> Result<Self, Fault> {
+        let mut holder = Holder::new(heap);
+        holder.open(&[])?;
+        Ok(Opened(holder))
+    }
+
+    /// Adds few bytes to the member.
+    fn add_short(&mut self) -> Result<(), Fault> {
+        if self.0.is_finished() {
+            return Err(Fault::Unfinished);
+        }
+        self.0.append(&[7])
+    }
+
+    fn again(&self) -> Result<Self, Fault> {
+        Ok(Opened(self.0.clone()?))
+    }
+
+    fn state(&self, alloc: Global) -> Result<Vec<u8>, Fault> {
+        self.0.state(alloc)
     }
 }
 
@@ -256,6 +287,7 @@ enum Member {
     Text,
     Encoded,
     Listed,
+    Lead,
 }
 
 impl<'a> Adds<Holder<&'a Refusing>> for Member {
@@ -264,6 +296,7 @@ impl<'a> Adds<Holder<&'a Refusing>> for Member {
             Member::Text => to.add(TEXT),
             Member::Encoded => to.add_encoded(&(LARGE, TEXT)),
             Member::Listed => to.add_listed(&LARGE, options(), &TEXT),
+            Member::Lead => to.open(TEXT),
         }
     }
 }
@@ -272,15 +305,83 @@ impl<'a> Adds<Holder<&'a Refusing>> for Member {
 fn members_of_a_holder(rt: HostRuntime) -> Result<(), Fail> {
     let alloc = rt.alloc();
     let heap = Refusing::new(alloc);
-    for call in [Member::Text, Member::Encoded, Member::Listed] {
+    for call in [Member::Text, Member::Encoded, Member::Listed, Member::Lead] {
         sweep_add::<Holder<&Refusing>, Member>(&rt, alloc, &heap, &call)?;
     }
     Ok(())
 }
 
-impl<A: Allocator> Appends for Holder<A> {
-    fn append<B: Allocator>(&self, sink: &mut Vec<u8, B>) -> Result<(), Fault> {
-        self.encode_section(sink)
+/// Calls of a holder in which a member is being written.
+#[derive(Clone, Copy)]
+enum Piece {
+    Text,
+    Encoded,
+    Last,
+}
+
+impl<'a> Adds<Opened<'a>> for Piece {
+    fn add(&self, to: &mut Opened<'a>) -> Result<(), Fault> {
+        if to.0.is_finished() {
+            return Err(Fault::Unfinished);
+        }
+        match self {
+            Piece::Text => to.0.append(TEXT),
+            Piece::Encoded => to.0.append_encoded(&(LARGE, TEXT)),
+            Piece::Last => to.0.close(TEXT),
+        }
+    }
+}
+
+#[test]
+fn pieces_of_a_member(rt: HostRuntime) -> Result<(), Fail> {
+    let alloc = rt.alloc();
+    let heap = Refusing::new(alloc);
+    for call in [Piece::Text, Piece::Encoded, Piece::Last] {
+        sweep_add::<Opened, Piece>(&rt, alloc, &heap, &call)?;
+    }
+    Ok(())
+}
+
+// Eight bytes fill the first growth, so that one byte more would take memory.
+#[test]
+fn empty_leads_take_no_memory(rt: HostRuntime) -> Result<(), Fail> {
+    let heap = Refusing::new(rt.alloc());
+    for count in [0, 8u32] {
+        let mut holder: Holder<&Refusing> = started(&heap, count)?;
+        heap.refuse_all();
+        holder.open(&[])?;
+        assert!(rt; holder.is_opened());
+        holder.finish_member();
+        assert!(rt; holder.is_finished());
+        assert!(rt; u64::from(holder.len()) == u64::from(count) + 1);
+        assert!(rt; heap.requests() == 0);
+    }
+    Ok(())
+}
+
+#[test]
+fn giving_up_takes_no_memory(rt: HostRuntime) -> Result<(), Fail> {
+    let heap = Refusing::new(rt.alloc());
+    for count in [0, 8u32] {
+        let mut holder: Holder<&Refusing> = started(&heap, count)?;
+        let before = holder.state(rt.alloc())?;
+        holder.open(TEXT)?;
+        holder.append(TEXT)?;
+        heap.refuse_all();
+        assert!(rt; holder.discard_unfinished());
+        assert!(rt; heap.requests() == 0);
+        assert!(rt; holder.state(rt.alloc())?.as_slice() == before.as_slice());
+    }
+    Ok(())
+}
+
+/// A holder's section.
+#[derive(Clone, Copy)]
+struct Counted<'a>(&'a Holder);
+
+impl<'a> Appends for Counted<'a> {
+    fn append<A: Allocator>(&self, sink: &mut Vec<u8, A>) -> Result<(), Fault> {
+        self.0.encode_section(sink)
     }
 }
 
@@ -300,7 +401,7 @@ fn sections(rt: HostRuntime) -> Result<(), Fail> {
     let mut holder = Holder::new(alloc);
     let mut section = CanonicalFunctionSection::new(alloc);
     for _ in 0..3 {
-        sweep(&rt, alloc, &holder)?;
+        sweep(&rt, alloc, &Counted(&holder))?;
         sweep_encode(&rt, alloc, &section)?;
         sweep(&rt, alloc, &BehindItsId(&section))?;
         holder.add(TEXT)?;
@@ -316,6 +417,16 @@ fn clones(rt: HostRuntime) -> Result<(), Fail> {
     for count in 0..9u32 {
         sweep_clone::<Holder<&Refusing>>(&rt, alloc, &heap, count, count > 0)?;
         sweep_clone::<Canonicals>(&rt, alloc, &heap, count, count > 0)?;
+    }
+    Ok(())
+}
+
+#[test]
+fn unfinished_clones(rt: HostRuntime) -> Result<(), Fail> {
+    let alloc = rt.alloc();
+    let heap = Refusing::new(alloc);
+    for count in 0..9u32 {
+        sweep_clone::<Opened>(&rt, alloc, &heap, count, count > 0)?;
     }
     Ok(())
 }

@@ -7,7 +7,7 @@ use std::process::Abort;
 use std::test::Fail;
 
 // What the holder has, and its section behind a byte that the sink has.
-fn check_holder(
+pub fn check_holder(
     rt: &impl Abort,
     alloc: Global,
     holder: &Holder,
