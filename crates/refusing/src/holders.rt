@@ -55,6 +55,7 @@ impl<'a> Members<'a> for Holder<&'a Refusing> {
     fn state(&self, alloc: Global) -> Result<Vec<u8>, Fault> {
         let mut state = Vec::new(alloc);
         self.len().encode(&mut state)?;
+        self.kept_len().encode(&mut state)?;
         self.is_finished().encode(&mut state)?;
         self.is_opened().encode(&mut state)?;
         self.as_slice().encode(&mut state)?;
@@ -288,6 +289,7 @@ enum Member {
     Encoded,
     Listed,
     Lead,
+    KeptInFront,
 }
 
 impl<'a> Adds<Holder<&'a Refusing>> for Member {
@@ -297,6 +299,10 @@ impl<'a> Adds<Holder<&'a Refusing>> for Member {
             Member::Encoded => to.add_encoded(&(LARGE, TEXT)),
             Member::Listed => to.add_listed(&LARGE, options(), &TEXT),
             Member::Lead => to.open(TEXT),
+            Member::KeptInFront => {
+                to.keep_all(TEXT)?;
+                Ok(())
+            }
         }
     }
 }
@@ -305,7 +311,13 @@ impl<'a> Adds<Holder<&'a Refusing>> for Member {
 fn members_of_a_holder(rt: HostRuntime) -> Result<(), Fail> {
     let alloc = rt.alloc();
     let heap = Refusing::new(alloc);
-    for call in [Member::Text, Member::Encoded, Member::Listed, Member::Lead] {
+    for call in [
+        Member::Text,
+        Member::Encoded,
+        Member::Listed,
+        Member::Lead,
+        Member::KeptInFront,
+    ] {
         sweep_add::<Holder<&Refusing>, Member>(&rt, alloc, &heap, &call)?;
     }
     Ok(())

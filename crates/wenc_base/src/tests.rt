@@ -7,6 +7,7 @@ ghost use Rattle.wenc_base.specs.declared.fault.Fault.{Fault as FaultSpec};
 ghost use Rattle.wenc_base.specs.declared.fault.Fault.TheVariants.{Unfinished};
 
 mod holder;
+mod kept;
 mod openings;
 mod types;
 

@@ -28,7 +28,7 @@ fn check_unfinished(
 }
 
 // All that it is made of.
-fn check_parts(
+pub fn check_parts(
     rt: &impl Abort,
     holder: Holder,
     bytes: &[u8],
@@ -45,7 +45,7 @@ fn check_parts(
 
 // Two bytes in front, and one member behind them.
 #[tactic(auto, using(crate::proofs::Groups::size_1))]
-fn over_four_bytes(alloc: Global) -> Result<Holder, Fail> {
+pub fn over_four_bytes(alloc: Global) -> Result<Holder, Fail> {
     Ok(Holder::over([0xaa, 0xbb, 0x03, 0x00].to_vec(alloc)?, 2, 1))
 }
 

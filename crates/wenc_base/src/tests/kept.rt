@@ -1,0 +1,60 @@
+use super::holder::check_holder;
+use super::openings::{check_parts, over_four_bytes};
+use std::test::Fail;
+
+// All bytes are kept, and what comes next is the first member behind them.
+#[test]
+fn all_are_kept(rt: HostRuntime) -> Result<(), Fail> {
+    let mut holder = over_four_bytes(rt.alloc())?;
+    assert_eq!(rt; holder.kept_len(), 2);
+    assert_eq!(rt; holder.keep_all(&[0x10, 0x11]), Ok(4));
+    assert_eq!(rt; holder.kept_len(), 6);
+    check_holder(&rt, rt.alloc(), &holder, 0, &[], &[0x01, 0x00])?;
+    holder.add(&[0x2a])?;
+    check_holder(&rt, rt.alloc(), &holder, 1, &[0x2a], &[0x02, 0x01, 0x2a])?;
+    check_parts(
+        &rt,
+        holder,
+        &[0xaa, 0xbb, 0x03, 0x00, 0x10, 0x11, 0x2a],
+        6,
+        1,
+        true,
+    );
+    Ok(())
+}
+
+// What was kept with its members is as it was before.
+#[test]
+#[tactic(auto, using(crate::proofs::Groups::size_1))]
+fn gone_back(rt: HostRuntime) -> Result<(), Fail> {
+    let mut holder = over_four_bytes(rt.alloc())?;
+    holder.keep_all(&[0x10, 0x11])?;
+    holder.go_back(2, 4, 1);
+    check_holder(
+        &rt,
+        rt.alloc(),
+        &holder,
+        1,
+        &[0x03, 0x00],
+        &[0x03, 0x01, 0x03, 0x00],
+    )?;
+    check_parts(&rt, holder, &[0xaa, 0xbb, 0x03, 0x00], 2, 1, true);
+    Ok(())
+}
+
+// Bytes in front are replaced by fewer; the members stay.
+#[test]
+fn kept_bytes_filled(rt: HostRuntime) -> Result<(), Fail> {
+    let mut holder = over_four_bytes(rt.alloc())?;
+    holder.fill_kept(0, 2, &[0xcc]);
+    check_holder(
+        &rt,
+        rt.alloc(),
+        &holder,
+        1,
+        &[0x03, 0x00],
+        &[0x03, 0x01, 0x03, 0x00],
+    )?;
+    check_parts(&rt, holder, &[0xcc, 0x03, 0x00], 1, 1, true);
+    Ok(())
+}
