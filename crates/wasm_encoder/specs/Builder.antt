@@ -1,6 +1,7 @@
 -- What a builder is seen as: settled content, and while an item is being written, that item.
 use Rattle.std.specs.Prelude.{ℕ, List, [], ◌∷◌, ◌++◌, ◌+◌, length, Option, Some, None, Bool, is_none, nat_eq, if◌then◌else◌, slice_set, slice_index_or}
-use Rattle.wenc_base.specs.Number.{unsigned_text, number_size}
+use Rattle.wenc_base.specs.Number.{unsigned_text}
+use Rattle.wenc_base.specs.Holder.{content_size}
 use Rattle.wasm_encoder.specs.Item.{Item, collected, item}
 use Rattle.wasm_encoder.specs.Space.{space_number, defines}
 use Rattle.wasm_encoder.specs.declared.builder.space.Space.{Space}
@@ -16,7 +17,7 @@ pub record OpenSection : Type 0 where
 
 -- the number of bytes after a section's size
 abbrev pub section_size : ℕ → List ℕ → ℕ
-section_size count body = number_size count + length body
+section_size count body = content_size count (length body)
 
 -- a section's id, the size of what follows the size, and its count
 abbrev pub section_head : ℕ → ℕ → ℕ → List ℕ

@@ -1,3 +1,5 @@
+use wenc_parts::ComponentSectionId;
+
 /// The kinds of items of which neighbours stand in one section.
 #[derive(Clone, Copy, Debug, PartialEq, Eq)]
 pub enum Kind {
@@ -15,9 +17,9 @@ impl Kind {
         ensures { result ≡ section_id self }
     {
         match self {
-            Kind::Alias => 6,
-            Kind::Import => 10,
-            Kind::Export => 11,
+            Kind::Alias => u8::from(ComponentSectionId::Alias),
+            Kind::Import => u8::from(ComponentSectionId::Import),
+            Kind::Export => u8::from(ComponentSectionId::Export),
         }
     }
 }

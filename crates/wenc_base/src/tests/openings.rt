@@ -1,3 +1,6 @@
+ghost use Rattle.std.specs.Prelude.{◌≡◌, ◌∷◌, [], IfOk};
+ghost use Rattle.wenc_base.specs.Holder.{holding};
+
 use super::Item;
 use super::holder::check_holder;
 use crate::encode::Encode;
@@ -45,7 +48,9 @@ pub fn check_parts(
 
 // Two bytes in front, and one member behind them.
 #[tactic(auto, using(crate::proofs::Groups::size_1))]
-pub fn over_four_bytes(alloc: Global) -> Result<Holder, Fail> {
+pub fn over_four_bytes(alloc: Global) -> Result<Holder, Fail>
+    ensures { IfOk result (λ h. h ≡ holding (0xaa ∷ 0xbb ∷ []) 1 (0x03 ∷ 0x00 ∷ [])) }
+{
     Ok(Holder::over([0xaa, 0xbb, 0x03, 0x00].to_vec(alloc)?, 2, 1))
 }
 
