@@ -1,5 +1,5 @@
 -- A member that is written piece by piece into a holder: its opening, what is added to it, and its end.
-use Rattle.std.specs.Prelude.{◌≡◌, ℕ, ◌+◌, ◌-◌, ◌≤◌, ◌^◌, ◌⊎◌, Bool, false, ◌++◌, List, [], length, take, Option, Some, None, Result, Err, OnOk, OnErr, IfErr}
+use Rattle.std.specs.Prelude.{◌≡◌, ℕ, ◌+◌, ◌-◌, ◌≤◌, ◌^◌, ◌⊎◌, false, ◌++◌, List, length, take, Option, Some, None, Result, Err, OnOk, OnErr, IfErr}
 use Rattle.wenc_base.specs.Fault.{IsWarranted}
 use Rattle.wenc_base.specs.Holder.{Held, is_finished, holding, content_size, AddCause}
 use Rattle.wenc_base.specs.declared.fault.Fault.{Fault}

@@ -1,5 +1,5 @@
 -- The text of an option, in the grammar.
-use Rattle.std.proofs.Common.{◌≡◌, ℕ, List, Option, Some, None, refl}
+use Rattle.std.proofs.Common.{◌≡◌, Option, Some, None, refl}
 use Rattle.wenc_base.specs.Piece.{Form}
 use Rattle.wenc_base.specs.Forms.{option, option_text}
 

@@ -1,5 +1,5 @@
 -- The laws of the items of flat sections.
-use Rattle.std.proofs.Common.{ℕ, List, [], ◌∷◌, Option, refl}
+use Rattle.std.proofs.Common.{ℕ, List, [], ◌∷◌, Option}
 use Rattle.wenc_base.specs.Piece.{Form}
 use Rattle.wenc_base.specs.Lawful.{Lawful, Reader, ◌>>=◌, give, nowhere, choose, done, row, then, last, whole_lawful}
 use Rattle.wenc_base.specs.NumberLaws.{read_groups, u32_lawful}
@@ -15,7 +15,7 @@ use Rattle.wenc_parts.specs.ImportLaws.{read_type_reference, type_reference_lawf
 use Rattle.wenc_parts.specs.InstanceLaws.{read_module_argument, module_argument_lawful}
 use Rattle.wenc_sections.specs.Items.{Import, import_item, Export, export_item, counted}
 use Rattle.wenc_sections.specs.Instances.{Argument, argument, CoreExport, core_export, CoreInstance, CoreInstantiate, CoreExports, core_instance, Given, given, Exported, exported, Instance, Instantiate, Exports, instance}
-use Rattle.wenc_sections.specs.Component.{Start, start_content, start}
+use Rattle.wenc_sections.specs.Component.{Start, start}
 
 -- ---- imports and exports
 

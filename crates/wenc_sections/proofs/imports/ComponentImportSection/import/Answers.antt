@@ -1,4 +1,3 @@
-use Rattle.std.proofs.Common.{inl, inr}
 use Rattle.wenc_base.specs.HolderLaws.{alone, adds_as}
 use Rattle.wenc_parts.specs.Imports.{extern_name_view, extern_name_cause}
 use Rattle.wenc_sections.specs.Items.{import_text}

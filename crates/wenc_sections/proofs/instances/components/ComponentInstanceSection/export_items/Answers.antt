@@ -1,4 +1,4 @@
-use Rattle.std.proofs.Common.{ℕ, [], ◌∷◌, refl, inl, inr}
+use Rattle.std.proofs.Common.{[], ◌∷◌, refl, inl, inr}
 use Rattle.wenc_base.specs.HolderLaws.{alone, adds_list}
 use Rattle.wenc_parts.specs.Imports.{extern_name_view, extern_name_cause}
 use Rattle.wenc_sections.specs.Instances.{exported, Exports, instance_text}

@@ -1,4 +1,4 @@
-use Rattle.std.proofs.Common.{ℕ, [], ◌∷◌, refl, inl, inr}
+use Rattle.std.proofs.Common.{◌∷◌, refl, inl, inr}
 use Rattle.wenc_base.specs.HolderLaws.{alone, adds_list}
 use Rattle.wenc_base.specs.Fault.{text_cause}
 use Rattle.wenc_base.specs.Number.{u32}
