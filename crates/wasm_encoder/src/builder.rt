@@ -1,4 +1,4 @@
-ghost use Rattle.std.specs.Prelude.{◌≡◌, ℕ, ◌+◌, ◌<◌, ◌^◌, ◌↔◌, [], List, OnOk, OnErr, IfOk, IfErr, IsOk, IsTrue, IsErrOf, Some, None, false, is_none};
+ghost use Rattle.std.specs.Prelude.{◌≡◌, ◌<◌, ◌↔◌, [], List, OnOk, OnErr, IfOk, IfErr, IsOk, IsTrue, Some, None, false};
 ghost use Rattle.std.specs.Option.{option_copied};
 ghost use Rattle.wenc_base.specs.Fault.{IsMemory};
 ghost use Rattle.wenc_base.specs.declared.fault.Fault.{Fault as FaultSpec};

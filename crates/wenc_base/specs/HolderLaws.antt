@@ -1,6 +1,6 @@
 -- What follows where a holder took a member.
-use Rattle.std.proofs.Common.{◌≡◌, ℕ, List, [], ◌∷◌, ◌++◌, Option, Result, Ok, Err, OnOk, IfErr, sym, ap, ◌∙◌, arith, inl, inr, refl, length, map}
-use Rattle.std.proofs.lemmas.List.{append-nil, length-append, length-map}
+use Rattle.std.proofs.Common.{◌≡◌, ℕ, ◌+◌, ◌-◌, true, is_none, Some, None, append_assoc, List, [], ◌∷◌, ◌++◌, Option, Result, Ok, Err, OnOk, IfErr, sym, ap, ◌∙◌, arith, inl, inr, refl, length, map}
+use Rattle.std.proofs.lemmas.List.{take_at, append-nil, length-append, length-map}
 use Rattle.std.proofs.lemmas.List.Folds.{flat_map-map}
 use Rattle.std.proofs.lemmas.Grind.{flat_map-append}
 use Rattle.std.specs.Iterator.Runs.{SomeRun, WholeRun}
@@ -9,7 +9,9 @@ use Rattle.wenc_base.specs.Fault.{IsWarranted, first_of, member_cause, drawn_cau
 use Rattle.wenc_base.specs.Piece.{Form, whole}
 use Rattle.wenc_base.specs.Number.{unsigned_text}
 use Rattle.wenc_base.specs.Forms.{list, list_text, sized}
-use Rattle.wenc_base.specs.Holder.{Held, section_text, with_member, Contains, as_they_are, AddCause, Accepted, AddsMember, AddsListed, listed_text, listed_cause}
+use Rattle.wenc_base.specs.Holder.{Held, is_finished, section_text, with_member, Contains, as_they_are, AddCause, Accepted, AddsMember, AddsListed, listed_text, listed_cause}
+use Rattle.wenc_base.specs.Openings.{opened_with, lengthened, closed, given_up}
+use Rattle.wenc_base.specs.declared.holder.openings.Opening.{Opening}
 use Rattle.wenc_base.specs.declared.fault.Fault.{Fault}
 use Rattle.wenc_base.specs.declared.fault.Fault.TheVariants.{Memory, TooMany, TooLarge, Unfinished}
 
@@ -141,3 +143,22 @@ pub adds_list : {S A B C : Type 0} (steps : S → Option B → S → Type 0) (va
 adds_list steps values text old new outcome value_text view cause other lead member e same a =
     adds_listed_as steps values text old new outcome (listed_cause never cause never) (drawn_cause other) (listed_text lead (λ v. value_text (view v)) []) (λ vs. member (map view vs))
     (λ vs. ap (λ (t : List ℕ). lead ++ t) (append-nil (list_text (λ v. value_text (view v)) vs) ∙ list_text_map value_text view vs) ∙ e (map view vs)) (listed_as cause other same) a
+
+-- ---- a member that is written piece by piece
+
+none_of : (o : Option Opening) → is_none o ≡ true → o ≡ None
+none_of None e = refl
+none_of (Some o) e = cc
+
+-- what is given up leaves no trace
+pub given_up_is_before : (h : Held) (lead more : List ℕ) → is_finished h ≡ true → given_up (lengthened (opened_with h lead) more) ≡ h
+given_up_is_before h lead more finished =
+    let count : h.count + 1 - 1 ≡ h.count = omega arith in
+    rw (count, append_assoc h.body lead more, take_at h.body (lead ++ more) (length h.body) refl)
+    (ap (λ (o : Option Opening). let held : Held = record { kept = h.kept; count = h.count; body = h.body; opening = o } in held) (sym (none_of h.opening finished)))
+
+-- what is ended is one member more
+pub contains_opened : {A : Type 0} (text : A → List ℕ) (h : Held) (member : A) (members : List A) (lead more : List ℕ) → text member ≡ lead ++ more
+    → Contains text h members → Contains text (closed (lengthened (opened_with h lead) more)) (members ++ member ∷ [])
+contains_opened text h member members lead more e c =
+    contains_next text h (closed (lengthened (opened_with h lead) more)) member members (rw (e, none_of h.opening c.finished, append_assoc h.body lead more) refl) c

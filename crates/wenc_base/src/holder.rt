@@ -1,9 +1,7 @@
-ghost use Rattle.std.specs.Prelude.{◌≡◌, ℕ, ◌+◌, ◌-◌, ◌<◌, ◌≤◌, ◌^◌, ◌++◌, length, List, OnOk, OnErr, IfOk, IfErr, true, false, take, drop};
+ghost use Rattle.std.specs.Prelude.{◌≡◌, ◌+◌, ◌-◌, ◌<◌, ◌≤◌, ◌^◌, ◌++◌, length, OnOk, OnErr, IfOk, IfErr, true, false, take, drop};
 ghost use Rattle.std.specs.Iterator.{IsFinite};
 ghost use Rattle.std.specs.Iterator.Runs.{SomeRun, WholeRun};
-ghost use Rattle.wenc_base.specs.Fault.{IsWarranted, IsMemory, drawn_cause, first_of};
-ghost use Rattle.wenc_base.specs.Forms.{list_text};
-ghost use Rattle.wenc_base.specs.Number.{number_size};
+ghost use Rattle.wenc_base.specs.Fault.{IsWarranted, IsMemory};
 ghost use Rattle.wenc_base.specs.Holder.{no_members, all_bytes, holding, is_finished, as_they_are, content_size, section_text, held_text, cut_to, CountCause, AddsMember, AddsListed, listed_text, listed_cause, EncodeCause};
 ghost use Rattle.wenc_base.specs.declared.fault.Fault.{Fault as FaultSpec};
 ghost use Rattle.wenc_base.specs.declared.fault.Fault.TheVariants.{TooLarge, Unfinished};

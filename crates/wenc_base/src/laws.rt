@@ -1,13 +1,14 @@
 //! What the numbers' texts are, in words; and of the forms that others are made of, that they are
 //! read as they are written, and in one way only.
-ghost use Rattle.std.specs.Prelude.{◌≡◌, ℕ, ℤ, pos, negsuc, ◌^◌, ◌<◌, ◌∷◌, [], List, FitsSigned, true, false};
+ghost use Rattle.std.specs.Prelude.{◌≡◌, ℕ, ℤ, pos, negsuc, ◌^◌, ◌<◌, ◌++◌, ◌∷◌, [], List, FitsSigned, true, false};
 ghost use Rattle.std.specs.Int.{w64};
 ghost use Rattle.wenc_base.specs.Piece.{Strict, Wide};
 ghost use Rattle.wenc_base.specs.Number.{unsigned_text, signed_text, IsUnsignedText, IsSignedText, index};
 ghost use Rattle.wenc_base.specs.Number.{u32 as number, u64 as long_number, i64 as signed_number};
 ghost use Rattle.wenc_base.specs.Forms.{flag, name, byte_list};
 ghost use Rattle.wenc_base.specs.Exports.{export_kind};
-ghost use Rattle.wenc_base.specs.Holder.{Held, Contains};
+ghost use Rattle.wenc_base.specs.Holder.{Held, Contains, is_finished, as_they_are};
+ghost use Rattle.wenc_base.specs.Openings.{opened_with, lengthened, closed, given_up};
 ghost use Rattle.wenc_base.specs.Sections.{custom, producer, Producers, producers_field, field_text, producers_section, producers_text};
 ghost use Rattle.wenc_base.specs.Types.{abstract_type, heap_type, reference_to, reference, val_type};
 ghost use Rattle.wenc_base.specs.declared.types.HeapType.TheVariants.{Abstract, Concrete};
@@ -90,6 +91,13 @@ pub fn sections_are_lawful()
 pub fn producers_sections_are_their_fields()
     ensures { (section : Held) (fields : List Producers) → Contains field_text section fields
         → producers_text section ≡ (producers_section fields).text }
+{}
+
+/// A member that is written piece by piece: given up it leaves no trace, and ended it is one member more.
+pub fn openings_are_members()
+    ensures given_up { (h : Held) (lead more : List ℕ) → is_finished h ≡ true → given_up (lengthened (opened_with h lead) more) ≡ h }
+    ensures ended { (h : Held) (members : List (List ℕ)) (lead more : List ℕ) → Contains as_they_are h members
+        → Contains as_they_are (closed (lengthened (opened_with h lead) more)) (members ++ (lead ++ more) ∷ []) }
 {}
 
 /// The text of a value tells which value it is, whatever follows the text.

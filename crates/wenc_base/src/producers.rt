@@ -1,6 +1,5 @@
-ghost use Rattle.std.specs.Prelude.{◌≡◌, ◌++◌, ◌<◌, ◌+◌, ◌^◌, List, false, length, IfOk, IfErr};
+ghost use Rattle.std.specs.Prelude.{◌≡◌, ◌<◌, ◌+◌, ◌^◌, List, false, length, IfOk, IfErr};
 ghost use Rattle.wenc_base.specs.Fault.{IsMemory};
-ghost use Rattle.wenc_base.specs.Forms.{name as name_form};
 ghost use Rattle.wenc_base.specs.Holder.{no_members, is_finished, held_text, EncodeCause, Contains, AddsMember, as_they_are};
 ghost use Rattle.wenc_base.specs.Sections.{Producer, producer_text, producer_cause, field_text, producers_text, FieldCause, field_bytes};
 

@@ -1,4 +1,4 @@
-ghost use Rattle.std.specs.Prelude.{◌≡◌, ◌+◌, ◌<◌, ◌≤◌, ◌^◌, ◌++◌, length, take, drop};
+ghost use Rattle.std.specs.Prelude.{◌≡◌, ◌+◌, ◌<◌, ◌≤◌, ◌^◌, ◌++◌, length, drop};
 ghost use Rattle.wenc_base.specs.Number.{number_size};
 ghost use Rattle.wenc_base.specs.Holder.{with_kept};
 ghost use Rattle.wasm_encoder.specs.Builder.{section_head as head_text};

@@ -1,10 +1,9 @@
-ghost use Rattle.std.specs.Prelude.{◌≡◌, ◌↔◌, [], ◌≤◌, length, false, true, IsTrue, IfErr};
-ghost use Rattle.wenc_base.specs.Holder.{Held, is_finished, AddCause};
-ghost use Rattle.wenc_base.specs.Openings.{opened_with, lengthened, closed, given_up, IsOpened, OpensMember, Lengthens};
-ghost use Rattle.wenc_base.specs.declared.fault.Fault.TheVariants.{Unfinished};
+ghost use Rattle.std.specs.Prelude.{◌≡◌, ◌↔◌, [], false, IsTrue, IfErr};
+ghost use Rattle.wenc_base.specs.Holder.{is_finished, AddCause};
+ghost use Rattle.wenc_base.specs.Openings.{lengthened, closed, given_up, IsOpened, OpensMember, Lengthens};
 
 use super::{Holder, Verbatim, next_count, section_size};
-use crate::encode::{Encode, extend_in_room};
+use crate::encode::Encode;
 use crate::fault::Fault;
 use std::alloc::Allocator;
 
