@@ -200,19 +200,8 @@ fn counts(rt: HostRuntime) -> Result<(), Fail> {
             assert_eq!(rt; builder.import("a".into(), ty)?, index);
         }
     }
-    assert_eq!(rt; builder.core_module_count(), 1);
-    assert_eq!(rt; builder.core_func_count(), 0);
-    assert_eq!(rt; builder.core_type_count(), 0);
-    assert_eq!(rt; builder.core_memory_count(), 0);
-    assert_eq!(rt; builder.core_table_count(), 0);
-    assert_eq!(rt; builder.core_instance_count(), 0);
-    assert_eq!(rt; builder.core_tag_count(), 0);
-    assert_eq!(rt; builder.core_global_count(), 0);
-    assert_eq!(rt; builder.func_count(), 2);
-    assert_eq!(rt; builder.instance_count(), 5);
-    assert_eq!(rt; builder.value_count(), 3);
-    assert_eq!(rt; builder.component_count(), 6);
-    assert_eq!(rt; builder.type_count(), 4);
+    let wanted = [1, 0, 0, 0, 0, 0, 0, 0, 2, 5, 3, 6, 4];
+    assert_eq!(rt; all_counts(&builder), wanted);
     Ok(())
 }
 
