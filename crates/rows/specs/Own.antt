@@ -1,7 +1,7 @@
 -- A type of a stranger's own, with a byte for each value.
 use Rattle.std.proofs.Common.{[], ◌∷◌, refl}
 use Rattle.wenc_base.specs.Piece.{Form, byte}
-use Rattle.wenc_base.specs.Lawful.{Lawful, Reader, give, nowhere, choose, row_byte}
+use Rattle.wenc_base.specs.laws.Lawful.{Lawful, Reader, give, nowhere, choose, row_byte}
 use Rattle.rows.specs.declared.own.Light.{Light}
 use Rattle.rows.specs.declared.own.Light.TheVariants.{Red, Green}
 

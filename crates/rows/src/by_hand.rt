@@ -5,7 +5,9 @@ ghost use Rattle.wenc_parts.specs.declared.imports.ComponentTypeRef.{ComponentTy
 ghost use Rattle.wenc_parts.specs.Aliases.{InstanceExport};
 ghost use Rattle.wenc_parts.specs.Imports.{plain_name};
 ghost use Rattle.wenc_sections.specs.Component.{preamble};
-ghost use Rattle.wenc_sections.specs.Items.{alias_text, import_text, export_text};
+ghost use Rattle.wenc_parts.specs.Aliases.{alias_text};
+ghost use Rattle.wenc_sections.specs.Imports.{import_text};
+ghost use Rattle.wenc_sections.specs.Exports.{export_text};
 
 use std::alloc::Allocator;
 use wasm_encoder::{

@@ -6,7 +6,7 @@ ghost use Rattle.wenc_parts.specs.declared.exports.ComponentExportKind.{Componen
 ghost use Rattle.wenc_parts.specs.declared.imports.ComponentTypeRef.{ComponentTypeRef};
 ghost use Rattle.wenc_parts.specs.Imports.{plain_name};
 ghost use Rattle.wasm_encoder.specs.Item.{ImportItem, ExportItem};
-ghost use Rattle.wasm_encoder.specs.Component.{whole};
+ghost use Rattle.wasm_encoder.specs.Sections.{whole};
 
 use std::alloc::Allocator;
 use wasm_encoder::{ComponentBuilder, ComponentExportKind, ComponentTypeRef, Fault};

@@ -1,6 +1,6 @@
 ghost use Rattle.std.specs.Prelude.{◌≡◌, ◌++◌, OnOk};
 ghost use Rattle.wenc_base.specs.Forms.{list_text, option_text};
-ghost use Rattle.wenc_base.specs.Lawful.{delimited as told_apart};
+ghost use Rattle.wenc_base.specs.laws.Lawful.{delimited as told_apart};
 ghost use Rattle.rows.specs.Own.{light, light_lawful};
 
 use std::alloc::Allocator;

@@ -3,7 +3,8 @@ ghost use Rattle.wenc_base.specs.declared.fault.Fault.TheVariants.{TooLarge};
 ghost use Rattle.wenc_parts.specs.declared.imports.ComponentTypeRef.{ComponentTypeRef};
 ghost use Rattle.wenc_parts.specs.Imports.{plain_name};
 ghost use Rattle.wenc_sections.specs.Component.{preamble};
-ghost use Rattle.wenc_sections.specs.Items.{counted, import_item};
+ghost use Rattle.wenc_base.specs.Forms.{counted};
+ghost use Rattle.wenc_sections.specs.Imports.{import_item};
 
 use super::parts::text;
 use std::alloc::{Allocator, Global};

@@ -6,7 +6,7 @@ use Rattle.wenc_base.specs.declared.fault.Fault.TheVariants.{Memory, TooMany, To
 use Rattle.wenc_parts.specs.Aliases.{InstanceExport, CoreInstanceExport, Outer}
 use Rattle.wasm_encoder.specs.Item.{Item, item_cause, AliasItem, ImportItem, ExportItem}
 use Rattle.wenc_parts.specs.Imports.{ExternName, extern_name_cause, option_cause, kind_of}
-use Rattle.wasm_encoder.specs.Component.{runs}
+use Rattle.wasm_encoder.specs.Sections.{runs}
 use Rattle.wasm_encoder.specs.Space.{kind_space, alias_space, defines}
 use Rattle.wasm_encoder.specs.Entry.{Entry, items}
 use Rattle.wasm_encoder.specs.Builder.{OpenSection, Namespace, namespace_at, with_entry, State}

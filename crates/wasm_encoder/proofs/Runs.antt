@@ -5,7 +5,7 @@ use Rattle.std.proofs.lemmas.List.{append_cancel_right}
 use Rattle.std.specs.List.{flat_map}
 use Rattle.wenc_base.specs.Number.{unsigned_text}
 use Rattle.wasm_encoder.specs.Item.{Item, collected, item}
-use Rattle.wasm_encoder.specs.Component.{Section, Run, Alone, joined, runs, section, sections, preamble}
+use Rattle.wasm_encoder.specs.Sections.{Section, Run, Alone, joined, runs, section, sections, preamble}
 use Rattle.wasm_encoder.specs.Builder.{Sections, sections_text, section_size, section_text, open_text, with_item, with_item_at}
 use Rattle.wasm_encoder.specs.Holds.{open_of, SectionsHold}
 

@@ -4,7 +4,7 @@ use Rattle.std.proofs.lemmas.Bool.Decides.{eqb_tells}
 use Rattle.std.proofs.lemmas.List.{get_or-set_same, get_or-set_other, length-set}
 use Rattle.std.proofs.lemmas.Bool.{eq-eqb, ne_eqb}
 use Rattle.wasm_encoder.specs.Item.{Item}
-use Rattle.wasm_encoder.specs.Component.{preamble}
+use Rattle.wasm_encoder.specs.Sections.{preamble}
 use Rattle.wasm_encoder.specs.Space.{space_number, defines, defined_in, place}
 use Rattle.wasm_encoder.specs.declared.builder.space.Space.{Space}
 use Rattle.wasm_encoder.specs.declared.builder.space.Space.TheVariants.{CoreModules, CoreFuncs, CoreTypes, CoreMemories, CoreTables, CoreInstances, CoreTags, CoreGlobals, Funcs, Instances, Values, Components, Types}

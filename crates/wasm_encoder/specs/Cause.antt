@@ -4,7 +4,7 @@ use Rattle.wenc_base.specs.Number.{number_size}
 use Rattle.wenc_base.specs.declared.fault.Fault.{Fault}
 use Rattle.wenc_base.specs.declared.fault.Fault.TheVariants.{Memory, TooMany, TooLarge, Unfinished}
 use Rattle.wasm_encoder.specs.Item.{item_cause}
-use Rattle.wasm_encoder.specs.Component.{runs}
+use Rattle.wasm_encoder.specs.Sections.{runs}
 use Rattle.wasm_encoder.specs.Space.{defines}
 use Rattle.wasm_encoder.specs.Entry.{Entry, items}
 use Rattle.wasm_encoder.specs.Builder.{OpenSection, section_size, Namespace, namespace_at, Content, with_entry, State, is_finished}

@@ -3,7 +3,7 @@ use Rattle.std.specs.Prelude.{◌≡◌, ℕ, List, [], ◌∷◌, ◌++◌, ◌
 use Rattle.std.specs.List.{flat_map}
 use Rattle.wenc_base.specs.declared.fault.Fault.{Fault}
 use Rattle.wasm_encoder.specs.Item.{Item, item}
-use Rattle.wasm_encoder.specs.Component.{Section, Run, Alone, runs, whole}
+use Rattle.wasm_encoder.specs.Sections.{Section, Run, Alone, runs, whole}
 use Rattle.wasm_encoder.specs.Space.{defines, place}
 use Rattle.wasm_encoder.specs.Entry.{Entry, items, names, names_text}
 use Rattle.wasm_encoder.specs.Builder.{OpenSection, Sections, sections_text, Namespace, namespace_at, State}

@@ -6,7 +6,8 @@ use Rattle.wenc_parts.specs.declared.exports.ComponentExportKind.{ComponentExpor
 use Rattle.wenc_parts.specs.declared.imports.ComponentTypeRef.{ComponentTypeRef}
 use Rattle.wenc_parts.specs.Imports.{ExternName, extern_name_cause}
 use Rattle.wenc_parts.specs.Aliases.{AliasOf, alias, alias_cause}
-use Rattle.wenc_sections.specs.Items.{import_item, export_item}
+use Rattle.wenc_sections.specs.Imports.{import_item}
+use Rattle.wenc_sections.specs.Exports.{export_item}
 
 pub data Item : Type 0 where
   AliasItem : (to : AliasOf) → Item

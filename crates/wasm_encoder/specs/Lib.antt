@@ -1,5 +1,5 @@
 pub mod Item
-pub mod Component
+pub mod Sections
 pub mod Space
 pub mod Entry
 pub mod Builder

@@ -5,7 +5,7 @@ ghost use Rattle.wenc_base.specs.declared.fault.Fault.{Fault as FaultSpec};
 ghost use Rattle.wenc_parts.specs.Imports.{extern_name_view};
 ghost use Rattle.wenc_parts.specs.Aliases.{InstanceExport, CoreInstanceExport, alias_view};
 ghost use Rattle.wasm_encoder.specs.Item.{AliasItem, ImportItem, ExportItem};
-ghost use Rattle.wasm_encoder.specs.Component.{whole};
+ghost use Rattle.wasm_encoder.specs.Sections.{whole};
 ghost use Rattle.wasm_encoder.specs.Space.{space_number};
 ghost use Rattle.wasm_encoder.specs.Entry.{Entry, entry, items};
 ghost use Rattle.wasm_encoder.specs.Builder.{step, namespace_at, opened, written, ended, given_up, longer, content_of, count_in, is_finished};

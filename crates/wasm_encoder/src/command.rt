@@ -1,7 +1,7 @@
 ghost use Rattle.std.specs.Prelude.{◌≡◌, List, IfOk, IfErr, map};
 ghost use Rattle.std.specs.Option.{option_copied};
 ghost use Rattle.wenc_base.specs.Fault.{IsMemory};
-ghost use Rattle.wasm_encoder.specs.Component.{whole};
+ghost use Rattle.wasm_encoder.specs.Sections.{whole};
 ghost use Rattle.wasm_encoder.specs.Entry.{Entry, items};
 ghost use Rattle.wasm_encoder.specs.Command.{command_view, debug_name_view, entry_of};
 ghost use Rattle.wasm_encoder.specs.Ran.{Ran, Answers};

@@ -6,7 +6,7 @@ ghost use Rattle.wenc_parts.specs.declared.imports.ComponentTypeRef.{ComponentTy
 ghost use Rattle.wenc_parts.specs.Imports.{plain_name};
 ghost use Rattle.wenc_parts.specs.Aliases.{InstanceExport};
 ghost use Rattle.wasm_encoder.specs.Item.{AliasItem, ImportItem, ExportItem};
-ghost use Rattle.wasm_encoder.specs.Component.{Run, runs, whole};
+ghost use Rattle.wasm_encoder.specs.Sections.{Run, runs, whole};
 ghost use Rattle.wasm_encoder.specs.Entry.{entry, names, items};
 ghost use Rattle.wasm_encoder.specs.Space.{place};
 

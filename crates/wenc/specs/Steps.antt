@@ -3,7 +3,7 @@ use Rattle.std.specs.Prelude.{◌≡◌, ℕ, List, ◌⊎◌, All, Any, IsOk, I
 use Rattle.std.specs.Io.KnownBytes.{Consumes, IsAtEnd}
 use Rattle.wenc_base.specs.Fault.{IsMemory}
 use Rattle.wenc_base.specs.declared.fault.Fault.{Fault as FaultSpec}
-use Rattle.wasm_encoder.specs.Component.{whole}
+use Rattle.wasm_encoder.specs.Sections.{whole}
 use Rattle.wasm_encoder.specs.Entry.{Entry, items}
 use Rattle.wasm_encoder.specs.Command.{CommandTree}
 use Rattle.wasm_encoder.specs.Ran.{Ran}

@@ -5,7 +5,7 @@ use Rattle.std.specs.Iterator.Runs.{SomeRun, WholeRun}
 use Rattle.wenc_base.specs.Fault.{IsWarranted}
 use Rattle.wenc_base.specs.Holder.{Held, is_finished, holding, with_member, as_they_are, content_size, CountCause, AddCause, AddsListed}
 use Rattle.wenc_base.specs.Openings.{given_up}
-use Rattle.wenc_base.specs.HolderLaws.{contains_next}
+use Rattle.wenc_base.specs.laws.Holders.{contains_next}
 use Rattle.wenc_base.specs.declared.fault.Fault.{Fault}
 use Rattle.wenc_base.specs.declared.fault.Fault.TheVariants.{Memory, TooMany, TooLarge, Unfinished}
 use Rattle.wenc_base.specs.declared.holder.openings.Opening.{Opening}
@@ -94,7 +94,7 @@ module _ (before after : List ℕ) (kept : ℕ) where
   cut_view len bytes opening e le = rw (e, drop-take kept bytes before, take-take kept (kept + bytes) before (omega arith)) refl
 
   -- and the member that began behind them is given up
-  pub given_up_view : (count len : ℕ) (opening : Option Opening) (o : Opening) (h : Held) → after ≡ take (kept + o.before) before → kept ≤ length before
+  pub given_up_view : (count len : ℕ) (opening : Option Opening) (o : Opening) (h : Held) → after ≡ take (kept + o.member_start) before → kept ≤ length before
       → record { kept = take kept before; count = count; body = drop kept before; opening = opening } ≡ h → opening ≡ Some o → len ≡ count - 1
       → holding (take kept after) len (drop kept after) ≡ given_up h
-  given_up_view count len opening o h e le view is fewer = rw (← view, is, fewer) (cut_view (count - 1) o.before None e le)
+  given_up_view count len opening o h e le view is fewer = rw (← view, is, fewer) (cut_view (count - 1) o.member_start None e le)

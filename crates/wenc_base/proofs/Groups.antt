@@ -2,8 +2,8 @@
 use Rattle.std.proofs.Common.{◌≡◌, ℕ, ℤ, pos, negsuc, zero, suc, ◌+◌, ◌/◌, ◌%◌, ◌^◌, ◌<◌, ◌≤◌, Bool, true, false, cond, List, [], ◌∷◌, ◌++◌, length, refl, sym, ap, ◌∙◌, arith, inl, inr, append_assoc, length-append}
 use Rattle.std.proofs.lemmas.Bool.{cases_lt}
 use Rattle.std.proofs.lemmas.List.{length-map}
-pub use Rattle.wenc_base.specs.Groups.{limit, groups_below, groups_from}
-use Rattle.wenc_base.specs.NumberLaws.{same_in_room}
+pub use Rattle.wenc_base.specs.laws.Groups.{limit, groups_below, groups_from}
+use Rattle.wenc_base.specs.laws.Numbers.{same_in_room}
 use Rattle.wenc_base.specs.Number.{groups, complement, turned, signed_text, number_size}
 
 pub groups_length : (top room n : ℕ) → length (groups top room n) ≤ suc room

@@ -5,8 +5,7 @@ pub mod Runs
 pub mod Added
 pub mod Kept
 pub mod Produced
-pub use Rattle.wenc_base.specs.Lawful
-pub use Rattle.wenc_base.specs.NumberLaws
-pub use Rattle.wenc_base.specs.FormLaws
-pub use Rattle.wenc_base.specs.ExportLaws
-pub use Rattle.wenc_base.specs.Lifts
+pub use Rattle.wenc_base.specs.laws.Lawful as Lawful
+pub use Rattle.wenc_base.specs.laws.Numbers as NumbersLaws
+pub use Rattle.wenc_base.specs.laws.Forms as FormsLaws
+pub use Rattle.wenc_base.specs.laws.Exports as ExportsLaws

@@ -1,19 +1,19 @@
 -- A field that the producers section took.
-use Rattle.std.proofs.Common.{◌≡◌, ℕ, ◌+◌, ◌^◌, ◌<◌, List, ◌++◌, length, Result, Ok, refl, inl, inr, arith}
+use Rattle.std.proofs.Common.{◌≡◌, ℕ, ◌+◌, ◌^◌, ◌<◌, true, List, ◌++◌, length, Result, Ok, refl, inl, inr, arith}
 use Rattle.wenc_base.specs.Fault.{first_of, text_cause}
-use Rattle.wenc_base.specs.Holder.{Held, as_they_are, content_size, EncodeCause, AddCause, Accepted, AddsMember, Contains}
+use Rattle.wenc_base.specs.Holder.{Held, is_finished, as_they_are, content_size, EncodeCause, AddCause, Accepted, AddsMember, Contains}
 use Rattle.std.proofs.lemmas.List.{length-append}
 use Rattle.std.specs.List.{flat_map}
 use Rattle.wenc_base.specs.Number.{groups, unsigned_text}
 use Rattle.wenc_base.specs.Forms.{name, list_text}
-use Rattle.wenc_base.specs.HolderLaws.{adds_as}
-use Rattle.wenc_base.specs.Sections.{Producer, producer_text, Producers, field_text, field_bytes, FieldCause, producers_label, producers_section, producers_text}
+use Rattle.wenc_base.specs.laws.Holders.{adds_as}
+use Rattle.wenc_base.specs.Producers.{Producer, producer_text, Producers, field_text, field_bytes, FieldCause, producers_label, producers_section, producers_text}
 use Rattle.wenc_base.specs.declared.fault.Fault.{Fault}
 use Rattle.wenc_base.specs.declared.fault.Fault.TheVariants.{Unfinished}
 
 pub field_added : (old new : Held) (field : List ℕ) (tools : Held) → Accepted as_they_are old new (first_of (text_cause field) (EncodeCause tools)) (field_bytes field tools)
-    → 10 + content_size new.count (length new.body) < 2 ^ 32 → AddsMember as_they_are old new (Ok tt) (FieldCause old field tools) (field_bytes field tools)
-field_added old new field tools a small = record {
+    → 10 + content_size new.count (length new.body) < 2 ^ 32 → is_finished tools ≡ true → AddsMember as_they_are old new (Ok tt) (FieldCause old field tools) (field_bytes field tools)
+field_added old new field tools a small finished = record {
   ok = record { state = a.state; contained = a.contained; free = free };
   err = tt;
   warranted = tt;
@@ -25,7 +25,10 @@ field_added old new field tools a small = record {
 
     free : (fault : Fault) → AddCause old (field_bytes field tools) (FieldCause old field tools) fault → ⊥
     free fault h = elim h [
-      | inl own ↦ elim own [ inl one ↦ a.free fault (inl one) | inr large ↦ absurd (omega (arith, large.1, within)) ]
+      | inl own ↦ elim own [
+        | inl tools ↦ absurd cc
+        | inr more ↦ elim more [ inl one ↦ a.free fault (inl (inl one)) | inr large ↦ absurd (omega (arith, large.1, within)) ]
+      ]
       | inr more ↦ a.free fault (inr more)
     ]
 

@@ -6,7 +6,7 @@ use Rattle.wenc_base.specs.Holder.{listed_text, listed_cause}
 use Rattle.wenc_base.specs.Fault.{IsWarranted, IsMemory, count_cause, member_cause, drawn_cause}
 use Rattle.wenc_base.specs.Number.{unsigned_text}
 use Rattle.wenc_base.specs.Forms.{list_text}
-use Rattle.wenc_base.specs.Written.{Written}
+use Rattle.wenc_base.specs.Encode.{Written}
 use Rattle.wenc_base.specs.declared.fault.Fault.{Fault}
 use Rattle.wenc_base.specs.declared.fault.Fault.TheVariants.{Memory, TooMany, TooLarge, Unfinished}
 use Rattle.wenc_base.proofs.Members.{cause_of_later, free_next, still_warranted, list_is_written}

@@ -1,6 +1,6 @@
 -- Forms made of others (component model, binary format; WebAssembly 3.0, binary format, "Conventions" and "Values").
 use Rattle.std.specs.Prelude.{◌≡◌, ℕ, ◌^◌, ◌<◌, List, [], ◌∷◌, ◌++◌, length, Bool, true, false, Option, Some, None, IsUtf8}
-use Rattle.wenc_base.specs.Piece.{Piece, Whole, Form, byte, ◌▸◌, ◌⨾◌, each, raw}
+use Rattle.wenc_base.specs.Piece.{Piece, Whole, Form, byte, ◌▸◌, ◌⨾◌, each, all_of, raw}
 use Rattle.wenc_base.specs.Number.{unsigned_text, u32}
 use Rattle.std.specs.List.{flat_map, AllByRecursion}
 
@@ -51,3 +51,7 @@ sized w = record {
 -- how many bytes, then the bytes
 abbrev pub byte_list : Form (List ℕ)
 byte_list bs = sized (raw AreBytes bs)
+
+-- a counted section, behind its id: how many bytes, how many items, the items
+abbrev pub counted : {A : Type 0} → Form A → Form (List A)
+counted form items = sized (all_of (list form items))

@@ -24,7 +24,7 @@ is_finished h = is_none h.opening
 -- where it begins is at most the size of a section
 abbrev pub OpeningFits : Option Opening → Type 0
 OpeningFits None = Unit {0}
-OpeningFits (Some o) = o.before < 2 ^ 32
+OpeningFits (Some o) = o.member_start < 2 ^ 32
 
 -- finished, with these bytes
 abbrev pub holding : List ℕ → ℕ → List ℕ → Held

@@ -65,16 +65,16 @@ index n = record {
 }
 
 -- A signed number is read as its groups are, which are turned over below zero.
-abbrev pub ReadsSigned : Spelling → ℤ → List ℕ → List ℕ → Type 0
-ReadsSigned mode (pos n) bytes rest = ReadsGroups mode 64 9 n bytes rest
-ReadsSigned mode (negsuc n) bytes rest = (front : List ℕ) × (bytes ≡ turned true front ++ rest) × ReadsGroups mode 64 9 n front []
+abbrev pub ReadsSigned : ℤ → List ℕ → List ℕ → Type 0
+ReadsSigned (pos n) bytes rest = ReadsGroups Strict 64 9 n bytes rest
+ReadsSigned (negsuc n) bytes rest = (front : List ℕ) × (bytes ≡ turned true front ++ rest) × ReadsGroups Strict 64 9 n front []
 
--- a signed number of 64 bits in at most ten bytes
+-- a signed number of 64 bits in at most ten bytes, which has no other spelling
 abbrev pub i64 : Form ℤ
 i64 z = record {
   Fits = FitsSigned w64 z;
   text = signed_text z;
-  Reads = λ mode bytes rest. FitsSigned w64 z × ReadsSigned mode z bytes rest;
+  Reads = λ mode bytes rest. FitsSigned w64 z × ReadsSigned z bytes rest;
 }
 
 -- how many bytes the text of a number has

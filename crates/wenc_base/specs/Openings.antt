@@ -12,7 +12,7 @@ opened_with h lead = record {
   kept = h.kept;
   count = h.count + 1;
   body = h.body ++ lead;
-  opening = Some (record { before = length h.body; lead = length (h.body ++ lead) });
+  opening = Some (record { member_start = length h.body; lead_end = length (h.body ++ lead) });
 }
 
 -- more of that member
@@ -26,7 +26,7 @@ closed h = holding h.kept h.count h.body
 -- as it was before that member
 abbrev pub given_up_at : Held → Option Opening → Held
 given_up_at h None = h
-given_up_at h (Some o) = holding h.kept (h.count - 1) (take o.before h.body)
+given_up_at h (Some o) = holding h.kept (h.count - 1) (take o.member_start h.body)
 
 abbrev pub given_up : Held → Held
 given_up h = given_up_at h h.opening
@@ -34,7 +34,7 @@ given_up h = given_up_at h h.opening
 -- A member is being written, and nothing stands behind its lead.
 abbrev pub IsOpenedAt : List ℕ → Option Opening → Type 0
 IsOpenedAt body None = ⊥
-IsOpenedAt body (Some o) = length body ≡ o.lead
+IsOpenedAt body (Some o) = length body ≡ o.lead_end
 
 abbrev pub IsOpened : Held → Type 0
 IsOpened h = IsOpenedAt h.body h.opening

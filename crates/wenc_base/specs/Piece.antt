@@ -103,8 +103,8 @@ each form vs = record {
 -- ---- wholes
 
 -- a piece that is all of the bytes
-abbrev pub whole : Piece → Whole
-whole p = record {
+abbrev pub all_of : Piece → Whole
+all_of p = record {
   Fits = p.Fits;
   text = p.text;
   ReadsAll = λ mode bytes. p.Reads mode bytes [];

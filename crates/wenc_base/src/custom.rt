@@ -1,8 +1,8 @@
 ghost use Rattle.std.specs.Prelude.{◌≡◌};
 
-use crate::encode::{Encode, extend_in_room};
+use crate::encode::{Encode, Verbatim, extend_in_room};
 use crate::fault::Fault;
-use crate::holder::{Verbatim, section_size};
+use crate::holder::section_size;
 use crate::number::Short;
 use crate::section::{Section, SectionId};
 use std::alloc::Allocator;
@@ -18,7 +18,7 @@ pub struct CustomSection<'a> {
 }
 
 impl<'a> Encode for CustomSection<'a> {
-    ghost use Rattle.wenc_base.specs.Sections.{custom, custom_cause};
+    ghost use Rattle.wenc_base.specs.Custom.{custom, custom_cause};
 
     ghost text = { λ s. (custom (record { label = s.name.now; bytes = s.data.now })).text };
 

@@ -1,122 +1,215 @@
-ghost use Rattle.std.specs.Prelude.{◌≡◌, ℕ, ◌^◌, ◌<◌, ◌++◌, List};
-ghost use Rattle.wenc_base.specs.Lawful.{delimited as told_apart};
-ghost use Rattle.wenc_base.specs.Lifts.{pair_delimits, option_delimits, list_delimits};
+ghost use Rattle.std.specs.Cmp.{IsEquivalence};
+ghost use Rattle.std.specs.Int.{w64};
+ghost use Rattle.std.specs.Prelude.{◌<◌, ◌^◌, refl, FitsSigned, All, Bool, ℕ, ℤ, List, IsUtf8};
+ghost use Rattle.wenc_base.specs.Delimited.{FreeFits, IsReadable, IsTextOf, FittingIsFree, AlikeIsEqual};
+ghost use Rattle.wenc_base.specs.Piece.{Form};
+ghost use Rattle.wenc_base.specs.laws.Delimited.{itself};
+
+mod made;
 
 use crate::encode::Encode;
-use crate::exports::ExportKind;
 
-/// A value whose text tells which value it is, whatever follows the text.
+/// A value whose text tells which value it is, whatever follows the text. A type of your own may implement it
+/// too: it owes a form, that this form can be read, and that its text and its causes are those of the form.
 pub trait Delimited: Encode {
-    /// What makes a value one that can be encoded.
-    ghost fits: { Self → Type 0 };
+    /// What a value is, wherever it stands: of a reference, what it refers to.
+    ghost Seen: { Type 0 };
 
-    /// Which values are the same: references by what they refer to.
-    ghost same: { Self → Self → Type 0 };
+    /// The value as such.
+    ghost seen: { Self → Seen };
 
-    /// Where the texts of two values, each followed by any bytes, are equal, the values are the same
-    /// and the bytes that follow are equal.
-    ghost delimited: { (a b : Self) (r s : List ℕ) → fits a → fits b
-        → Self.text a ++ r ≡ Self.text b ++ s → same a b × (r ≡ s) };
+    /// How it is written, and read.
+    ghost form: { Form Seen };
+
+    /// A value that nothing keeps from being encoded has a text in its form. The call does nothing.
+    fn belongs(&self)
+        ensures { FreeFits Self.cause seen form self.now };
+
+    /// What is written is read again, in one way only.
+    ghost readable: { IsReadable form };
+
+    /// What is encoded is what the form says.
+    ghost text_of: { IsTextOf Self.text seen form };
+
+    /// Nothing keeps a value that has a text in its form from being encoded.
+    ghost free: { FittingIsFree Self.cause seen form };
+}
+
+/// A `Delimited` value that can be compared. Values that are seen alike are equal.
+pub trait DelimitedEq: Delimited + Eq {
+    /// Equality goes by what is seen.
+    ghost alike: { IsEquivalence Self.eq → AlikeIsEqual Self.eq Self.seen };
 }
 
 impl Delimited for bool {
-    ghost use Rattle.wenc_base.specs.FormLaws.{flag_lawful, flag_fits};
+    ghost use Rattle.wenc_base.specs.Forms.{flag};
+    ghost use Rattle.wenc_base.specs.laws.Forms.{read_flag, flag_lawful};
 
-    ghost fits = { λ _. Unit {0} };
+    ghost Seen = { Bool };
 
-    ghost same = { λ a b. a ≡ b };
+    ghost seen = { λ b. b };
 
-    ghost delimited = { λ a b r s _ _. told_apart (flag_lawful a) (flag_lawful b) r s (flag_fits a) (flag_fits b) };
+    ghost form = { flag };
+
+    #[tactic(auto, using(crate::specs::laws::Forms::flag_fits))]
+    fn belongs(&self) {}
+
+    ghost readable = { ((λ fuel. read_flag), flag_lawful) };
+
+    ghost text_of = { λ b. refl };
+
+    ghost free = { λ b h fault cause. cause };
+}
+
+impl DelimitedEq for bool {
+    ghost alike = { itself _ };
 }
 
 impl Delimited for u32 {
-    ghost use Rattle.wenc_base.specs.NumberLaws.{u32_lawful};
+    ghost use Rattle.wenc_base.specs.Number.{u32 as number};
+    ghost use Rattle.wenc_base.specs.laws.Numbers.{read_groups, u32_lawful};
 
-    ghost fits = { λ n. n < 2 ^ 32 };
+    ghost Seen = { ℕ };
 
-    ghost same = { λ a b. a ≡ b };
+    ghost seen = { λ n. n };
 
-    ghost delimited = { λ a b. told_apart (u32_lawful a) (u32_lawful b) };
+    ghost form = { number };
+
+    fn belongs(&self) {
+        is_u32(*self);
+    }
+
+    ghost readable = { ((λ fuel. read_groups), u32_lawful) };
+
+    ghost text_of = { λ n. refl };
+
+    ghost free = { λ n h fault cause. cause };
+}
+
+impl DelimitedEq for u32 {
+    ghost alike = { itself _ };
 }
 
 impl Delimited for u64 {
-    ghost use Rattle.wenc_base.specs.NumberLaws.{u64_lawful};
+    ghost use Rattle.wenc_base.specs.Number.{u64 as long_number};
+    ghost use Rattle.wenc_base.specs.laws.Numbers.{read_groups, u64_lawful};
 
-    ghost fits = { λ n. n < 2 ^ 64 };
+    ghost Seen = { ℕ };
 
-    ghost same = { λ a b. a ≡ b };
+    ghost seen = { λ n. n };
 
-    ghost delimited = { λ a b. told_apart (u64_lawful a) (u64_lawful b) };
+    ghost form = { long_number };
+
+    fn belongs(&self) {
+        let _number = *self;
+    }
+
+    ghost readable = { ((λ fuel. read_groups), u64_lawful) };
+
+    ghost text_of = { λ n. refl };
+
+    ghost free = { λ n h fault cause. cause };
+}
+
+impl DelimitedEq for u64 {
+    ghost alike = { itself _ };
 }
 
 impl Delimited for i64 {
-    ghost use Rattle.std.specs.Prelude.{FitsSigned};
-    ghost use Rattle.std.specs.Int.{w64};
-    ghost use Rattle.wenc_base.specs.NumberLaws.{i64_lawful};
+    ghost use Rattle.wenc_base.specs.Number.{i64 as signed_number};
+    ghost use Rattle.wenc_base.specs.laws.Numbers.{read_signed, i64_lawful};
 
-    ghost fits = { FitsSigned w64 };
+    ghost Seen = { ℤ };
 
-    ghost same = { λ a b. a ≡ b };
+    ghost seen = { λ z. z };
 
-    ghost delimited = { λ a b. told_apart (i64_lawful a) (i64_lawful b) };
+    ghost form = { signed_number };
+
+    fn belongs(&self) {
+        is_i64(*self);
+    }
+
+    ghost readable = { ((λ fuel. read_signed), i64_lawful) };
+
+    ghost text_of = { λ z. refl };
+
+    ghost free = { λ z h fault cause. cause };
+}
+
+impl DelimitedEq for i64 {
+    ghost alike = { itself _ };
 }
 
 impl Delimited for &str {
     ghost use Rattle.wenc_base.specs.Forms.{name};
-    ghost use Rattle.wenc_base.specs.FormLaws.{name_lawful};
+    ghost use Rattle.wenc_base.specs.laws.Forms.{read_name, name_lawful};
+    ghost use Rattle.wenc_base.specs.laws.Delimited.{name_free};
 
-    ghost fits = { λ s. (name s.now).Fits };
+    ghost Seen = { List ℕ };
 
-    ghost same = { λ a b. a.now ≡ b.now };
+    ghost seen = { λ s. s.now };
 
-    ghost delimited = { λ a b. told_apart (name_lawful a.now) (name_lawful b.now) };
+    ghost form = { name };
+
+    #[tactic(auto, using(crate::specs::laws::Delimited::free_text))]
+    fn belongs(&self) {
+        is_text(self);
+    }
+
+    ghost readable = { ((λ fuel. read_name), name_lawful) };
+
+    ghost text_of = { λ s. refl };
+
+    ghost free = { λ s. name_free s.now };
+}
+
+impl DelimitedEq for &str {
+    ghost use Rattle.std.specs.Cmp.Lexicographic.{nat_list_eq_equiv};
+
+    ghost alike = { λ _ a b. itself _ nat_list_eq_equiv a.now b.now };
 }
 
 impl Delimited for &[u8] {
     ghost use Rattle.wenc_base.specs.Forms.{byte_list};
-    ghost use Rattle.wenc_base.specs.FormLaws.{byte_list_lawful};
+    ghost use Rattle.wenc_base.specs.laws.Forms.{read_byte_list, byte_list_lawful};
+    ghost use Rattle.wenc_base.specs.laws.Delimited.{byte_list_free};
 
-    ghost fits = { λ bytes. (byte_list bytes.now).Fits };
+    ghost Seen = { List ℕ };
 
-    ghost same = { λ a b. a.now ≡ b.now };
+    ghost seen = { λ bytes. bytes.now };
 
-    ghost delimited = { λ a b. told_apart (byte_list_lawful a.now) (byte_list_lawful b.now) };
+    ghost form = { byte_list };
+
+    #[tactic(auto, using(crate::specs::laws::Delimited::free_text, std::proofs::lemmas::List::Elements::recursion_from_All))]
+    fn belongs(&self) {
+        are_bytes(self);
+    }
+
+    ghost readable = { ((λ fuel. read_byte_list), byte_list_lawful) };
+
+    ghost text_of = { λ bytes. refl };
+
+    ghost free = { λ bytes. byte_list_free bytes.now };
 }
 
-impl Delimited for ExportKind {
-    ghost use Rattle.wenc_base.specs.ExportLaws.{export_kind_lawful};
+impl DelimitedEq for &[u8] {
+    ghost use Rattle.std.specs.Cmp.Lexicographic.{nat_list_eq_equiv};
 
-    ghost fits = { λ _. Unit {0} };
-
-    ghost same = { λ a b. a ≡ b };
-
-    ghost delimited = { λ a b. told_apart (export_kind_lawful a) (export_kind_lawful b) };
+    ghost alike = { λ _ a b. itself _ nat_list_eq_equiv a.now b.now };
 }
 
-impl<T: Delimited> Delimited for Option<T> {
-    ghost use Rattle.wenc_base.specs.Delimited.{OptionFits, SameOption};
+fn is_u32(number: u32)
+    ensures { number < 2 ^ 32 }
+{}
 
-    ghost fits = { OptionFits T.fits };
+fn is_i64(number: i64)
+    ensures { FitsSigned w64 number }
+{}
 
-    ghost same = { SameOption T.same };
+fn is_text(text: &str)
+    ensures { IsUtf8 text.now }
+{}
 
-    ghost delimited = { option_delimits T.text T.fits T.same T.delimited };
-}
-
-impl<T: Delimited> Delimited for &[T] {
-    ghost use Rattle.wenc_base.specs.Delimited.{ListFits, SameList};
-
-    ghost fits = { λ values. ListFits T.fits values.now };
-
-    ghost same = { λ a b. SameList T.same a.now b.now };
-
-    ghost delimited = { λ a b. list_delimits T.text T.fits T.same T.delimited a.now b.now };
-}
-
-impl<T: Delimited, U: Delimited> Delimited for (T, U) {
-    ghost fits = { λ p. T.fits p.0 × U.fits p.1 };
-
-    ghost same = { λ p q. T.same p.0 q.0 × U.same p.1 q.1 };
-
-    ghost delimited = { λ p q. pair_delimits T.text T.fits T.same U.text U.fits U.same T.delimited U.delimited p.0 q.0 p.1 q.1 };
-}
+fn are_bytes(bytes: &[u8])
+    ensures { All (λ b. b < 256) bytes.now }
+{}

@@ -1,8 +1,8 @@
-ghost use Rattle.std.specs.Prelude.{◌≡◌, ℕ, ◌+◌, ◌<◌, ◌≤◌, ◌++◌, ◌∷◌, [], List, length, OnOk, OnErr, IfErr, ◌^◌, vec_len, vec_capacity};
-ghost use Rattle.wenc_base.specs.Fault.{IsWarranted, text_cause};
+ghost use Rattle.std.specs.Prelude.{◌≡◌, ℕ, ◌+◌, ◌<◌, ◌≤◌, ◌++◌, ◌∷◌, [], List, length, vec_len, vec_capacity};
+ghost use Rattle.wenc_base.specs.Encode.{Appends};
+ghost use Rattle.wenc_base.specs.Fault.{text_cause};
 ghost use Rattle.wenc_base.specs.Number.{unsigned_text};
 ghost use Rattle.wenc_base.specs.declared.fault.Fault.{Fault as FaultSpec};
-ghost use Rattle.wenc_base.specs.declared.fault.Fault.TheVariants.{Unfinished};
 
 mod lists;
 mod sized;
@@ -27,11 +27,8 @@ pub trait Encode {
     /// Appends the text to the sink. It is refused for want of memory, or where the value has a cause,
     /// and then the sink stays as it was.
     fn encode<A: Allocator>(&self, sink: &mut Vec<u8, A>) -> Result<(), Fault>
-        ensures ok { OnOk result (sink.new.items ≡ sink.old.items ++ text self.now) }
-        ensures encodable { (fault : FaultSpec) → cause self.now fault → OnOk result ⊥ }
-        ensures err { OnErr result (sink.new.items ≡ sink.old.items) }
-        ensures warranted { IfErr result (IsWarranted (cause self.now)) }
-        ensures unfinished_first { unfinished self.now → result ≡ Err Unfinished };
+        ensures { Appends (text self.now) (cause self.now) (unfinished self.now)
+            sink.old.items sink.new.items result };
 }
 
 /// Nothing: no byte.
@@ -152,10 +149,8 @@ impl Encode for &[u8] {
 /// Appends the number of bytes, and the bytes, in one growth.
 #[tactic(auto, using(crate::proofs::Groups::groups_length))]
 fn encode_bytes<A: Allocator>(bytes: &[u8], sink: &mut Vec<u8, A>) -> Result<(), Fault>
-    ensures ok { OnOk result (sink.new.items ≡ sink.old.items ++ unsigned_text (length bytes.now) ++ bytes.now) }
-    ensures encodable { OnOk result (length bytes.now < 2 ^ 32) }
-    ensures err { OnErr result (sink.new.items ≡ sink.old.items) }
-    ensures warranted { IfErr result (IsWarranted (text_cause bytes.now)) }
+    ensures { Appends (unsigned_text (length bytes.now) ++ bytes.now) (text_cause bytes.now) ⊥
+        sink.old.items sink.new.items result }
 {
     let Ok(len) = u32::try_from(bytes.len()) else {
         return Err(Fault::TooLarge);
@@ -282,5 +277,20 @@ impl<'a, T: Encode> Encode for Lent<'a, T> {
 
     fn encode<A: Allocator>(&self, sink: &mut Vec<u8, A>) -> Result<(), Fault> {
         self.0.encode(sink)
+    }
+}
+
+/// The bytes as they are.
+#[derive(Clone, Copy)]
+pub struct Verbatim<'a>(pub &'a [u8]);
+
+impl<'a> Encode for Verbatim<'a> {
+    ghost text = { λ v. v.0.now };
+
+    ghost cause = { λ _ _. ⊥ };
+
+    fn encode<A: Allocator>(&self, sink: &mut Vec<u8, A>) -> Result<(), Fault> {
+        sink.extend_from_slice(self.0)?;
+        Ok(())
     }
 }

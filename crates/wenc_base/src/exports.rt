@@ -1,6 +1,8 @@
-ghost use Rattle.std.specs.Prelude.{◌≡◌};
+ghost use Rattle.std.specs.Prelude.{◌≡◌, refl};
 ghost use Rattle.wenc_base.specs.Exports.{export_kind_byte};
+ghost use Rattle.wenc_base.specs.laws.Delimited.{itself};
 
+use crate::delimited::{Delimited, DelimitedEq};
 use crate::encode::Encode;
 use crate::fault::Fault;
 use std::alloc::Allocator;
@@ -39,4 +41,28 @@ impl Encode for ExportKind {
         sink.push(kind_byte(*self))?;
         Ok(())
     }
+}
+
+impl Delimited for ExportKind {
+    ghost use Rattle.wenc_base.specs.Exports.{export_kind};
+    ghost use Rattle.wenc_base.specs.laws.Exports.{read_export_kind, export_kind_lawful};
+    ghost use Rattle.wenc_base.specs.declared.exports.ExportKind.{ExportKind as Seen'};
+
+    ghost Seen = { Seen' };
+
+    ghost seen = { λ kind. kind };
+
+    ghost form = { export_kind };
+
+    fn belongs(&self) {}
+
+    ghost readable = { ((λ fuel. read_export_kind), export_kind_lawful) };
+
+    ghost text_of = { λ kind. refl };
+
+    ghost free = { λ kind h fault cause. cause };
+}
+
+impl DelimitedEq for ExportKind {
+    ghost alike = { itself _ };
 }

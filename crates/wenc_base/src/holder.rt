@@ -1,6 +1,7 @@
 ghost use Rattle.std.specs.Prelude.{◌≡◌, ◌+◌, ◌-◌, ◌<◌, ◌≤◌, ◌^◌, ◌++◌, length, OnOk, OnErr, IfOk, IfErr, true, false, take, drop};
 ghost use Rattle.std.specs.Iterator.{IsFinite};
 ghost use Rattle.std.specs.Iterator.Runs.{SomeRun, WholeRun};
+ghost use Rattle.wenc_base.specs.Encode.{Appends};
 ghost use Rattle.wenc_base.specs.Fault.{IsWarranted, IsMemory};
 ghost use Rattle.wenc_base.specs.Holder.{no_members, all_bytes, holding, is_finished, as_they_are, content_size, section_text, held_text, cut_to, CountCause, AddsMember, AddsListed, listed_text, listed_cause, EncodeCause};
 ghost use Rattle.wenc_base.specs.declared.fault.Fault.{Fault as FaultSpec};
@@ -9,7 +10,7 @@ ghost use Rattle.wenc_base.specs.declared.fault.Fault.TheVariants.{TooLarge, Unf
 mod kept;
 mod openings;
 
-use crate::encode::{Encode, encode_list, extend_in_room};
+use crate::encode::{Encode, Verbatim, encode_list, extend_in_room};
 use crate::fault::Fault;
 use crate::number::{Short, encoding_size};
 use openings::Opening;
@@ -189,7 +190,8 @@ impl<A: Allocator> Holder<A> {
     /// Takes back the last members, so that there are `len` in the first `bytes` bytes of their texts. It takes
     /// no memory.
     pub fn cut_back(&mut self, len: u32, bytes: usize)
-        requires { (len ≤ self.old.count) × (bytes ≤ length self.old.body) }
+        requires finished { is_finished self.old ≡ true }
+        requires within { (len ≤ self.old.count) × (bytes ≤ length self.old.body) }
         ensures { self.new ≡ cut_to self.old len bytes }
     {
         self.bytes.truncate(self.kept + bytes);
@@ -200,11 +202,8 @@ impl<A: Allocator> Holder<A> {
     /// want of memory alone.
     #[tactic(auto, using(crate::proofs::Groups::size_of_u32))]
     pub fn encode_section<B: Allocator>(&self, sink: &mut Vec<u8, B>) -> Result<(), Fault>
-        ensures ok { OnOk result (sink.new.items ≡ sink.old.items ++ section_text self.now) }
-        ensures finished { OnOk result (is_finished self.now ≡ true) }
-        ensures err { OnErr result (sink.new.items ≡ sink.old.items) }
-        ensures warranted { IfErr result (IsWarranted (EncodeCause self.now)) }
-        ensures unfinished_first { is_finished self.now ≡ false → result ≡ Err Unfinished }
+        ensures { Appends (section_text self.now) (EncodeCause self.now) (is_finished self.now ≡ false)
+            sink.old.items sink.new.items result }
     {
         if !self.is_finished() {
             return Err(Fault::Unfinished);
@@ -305,19 +304,4 @@ fn next_count(count: u32, body: usize) -> Result<u32, Fault>
     };
     section_size(next, body as u64)?;
     Ok(next)
-}
-
-/// The bytes as they are.
-#[derive(Clone, Copy)]
-pub struct Verbatim<'a>(pub &'a [u8]);
-
-impl<'a> Encode for Verbatim<'a> {
-    ghost text = { λ v. v.0.now };
-
-    ghost cause = { λ _ _. ⊥ };
-
-    fn encode<A: Allocator>(&self, sink: &mut Vec<u8, A>) -> Result<(), Fault> {
-        sink.extend_from_slice(self.0)?;
-        Ok(())
-    }
 }

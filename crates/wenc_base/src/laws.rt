@@ -9,14 +9,15 @@ ghost use Rattle.wenc_base.specs.Forms.{flag, name, byte_list};
 ghost use Rattle.wenc_base.specs.Exports.{export_kind};
 ghost use Rattle.wenc_base.specs.Holder.{Held, Contains, is_finished, as_they_are};
 ghost use Rattle.wenc_base.specs.Openings.{opened_with, lengthened, closed, given_up};
-ghost use Rattle.wenc_base.specs.Sections.{custom, producer, Producers, producers_field, field_text, producers_section, producers_text};
+ghost use Rattle.wenc_base.specs.Custom.{custom};
+ghost use Rattle.wenc_base.specs.Producers.{producer, Producers, producers_field, field_text, producers_section, producers_text};
 ghost use Rattle.wenc_base.specs.Types.{abstract_type, heap_type, reference_to, reference, val_type};
 ghost use Rattle.wenc_base.specs.declared.types.HeapType.TheVariants.{Abstract, Concrete};
 ghost use Rattle.wenc_base.specs.declared.types.AbstractHeapType.TheVariants.{Func, Any};
-ghost use Rattle.wenc_base.specs.Delimited.{Delimits};
-ghost use Rattle.wenc_base.specs.Lawful.{FormLaws};
+ghost use Rattle.wenc_base.specs.Delimited.{NoCause};
+ghost use Rattle.wenc_base.specs.FormLaws.{FormLaws};
 
-use crate::delimited::Delimited;
+use crate::delimited::{Delimited, DelimitedEq};
 
 /// The text of an unsigned number is the shortest list of bytes that spells it, and the only one
 /// so short.
@@ -100,7 +101,26 @@ pub fn openings_are_members()
         → Contains as_they_are (closed (lengthened (opened_with h lead) more)) (members ++ (lead ++ more) ∷ []) }
 {}
 
-/// The text of a value tells which value it is, whatever follows the text.
-pub fn texts_tell_values<T: Delimited>()
-    ensures { Delimits T.text T.fits T.same }
+/// Where the texts of two values that can be encoded, each followed by any bytes, are equal, the values are
+/// the same, of references what they refer to, and the bytes that follow are equal.
+pub fn texts_tell_values<T: Delimited>(a: &T, b: &T)
+    ensures { NoCause (T.cause a.now) → NoCause (T.cause b.now) → (r s : List ℕ)
+        → T.text a.now ++ r ≡ T.text b.now ++ s → (T.seen a.now ≡ T.seen b.now) × (r ≡ s) }
+{
+    a.belongs();
+    b.belongs();
+}
+
+/// The same of values that can be compared: they are equal.
+pub fn texts_tell_equals<T: DelimitedEq>(a: &T, b: &T)
+    ensures { NoCause (T.cause a.now) → NoCause (T.cause b.now) → (r s : List ℕ)
+        → T.text a.now ++ r ≡ T.text b.now ++ s → (T.eq a.now b.now ≡ true) × (r ≡ s) }
+{
+    texts_tell_values(a, b);
+}
+
+/// A value of each type that is `Delimited` is read as it is written, strictly in no other way, and in one way
+/// only, and no value's text begins another's.
+pub fn values_are_lawful<T: Delimited>()
+    ensures { FormLaws T.form }
 {}

@@ -17,8 +17,8 @@ pub mod section;
 pub mod types;
 
 pub use custom::{CustomSection, RawCustomSection};
-pub use delimited::Delimited;
-pub use encode::{Encode, Lent, Tagged, WithSize, encode_list, extend_in_room};
+pub use delimited::{Delimited, DelimitedEq};
+pub use encode::{Encode, Lent, Tagged, Verbatim, WithSize, encode_list, extend_in_room};
 pub use exports::ExportKind;
 pub use fault::Fault;
 pub use holder::{Holder, section_size};

@@ -1,7 +1,8 @@
 ghost use Rattle.std.specs.Prelude.{◌≡◌, ◌<◌, ◌+◌, ◌^◌, List, false, length, IfOk, IfErr};
 ghost use Rattle.wenc_base.specs.Fault.{IsMemory};
 ghost use Rattle.wenc_base.specs.Holder.{no_members, is_finished, held_text, EncodeCause, Contains, AddsMember, as_they_are};
-ghost use Rattle.wenc_base.specs.Sections.{Producer, producer_text, producer_cause, field_text, producers_text, FieldCause, field_bytes};
+ghost use Rattle.wenc_base.specs.declared.fault.Fault.TheVariants.{Unfinished};
+ghost use Rattle.wenc_base.specs.Producers.{Producer, producer_text, producer_cause, field_text, producers_text, FieldCause, field_bytes};
 
 use crate::encode::{Encode, Lent};
 use crate::fault::Fault;
@@ -40,9 +41,10 @@ impl<A: Allocator> ProducersField<A> {
 
     /// Adds a tool and its version, each of at most 4294967295 bytes. It is refused where there would be more
     /// than 4294967295 tools (`TooMany`) or bytes (`TooLarge`), and then the field stays as it was.
-    #[tactic(auto, using(crate::specs::HolderLaws::adds_as))]
+    #[tactic(auto, using(crate::specs::laws::Holders::adds_as))]
     pub fn value(&mut self, name: &str, version: &str) -> Result<(), Fault>
-        ensures { AddsMember producer_text self.old self.new result (producer_cause (record { tool = name.now; version = version.now })) (record { tool = name.now; version = version.now }) }
+        ensures { let tool : Producer = record { tool = name.now; version = version.now } in
+            AddsMember producer_text self.old self.new result (producer_cause tool) tool }
     {
         self.values.add_encoded(&(name, version))
     }
@@ -110,8 +112,11 @@ impl<A: Allocator> ProducersSection<A> {
         field: &ProducersField<B>,
     ) -> Result<(), Fault>
         ensures added { (tools : List Producer) → Contains producer_text field.now tools
-            → AddsMember field_text self.old self.new result (FieldCause self.old name.now field.now) (record { field = name.now; tools = tools }) }
-        ensures bytes { AddsMember as_they_are self.old self.new result (FieldCause self.old name.now field.now) (field_bytes name.now field.now) }
+            → AddsMember field_text self.old self.new result (FieldCause self.old name.now field.now)
+            (record { field = name.now; tools = tools }) }
+        ensures bytes { AddsMember as_they_are self.old self.new result
+            (FieldCause self.old name.now field.now) (field_bytes name.now field.now) }
+        ensures unfinished_field { is_finished field.now ≡ false → result ≡ Err Unfinished }
     {
         self.add_field(name, field)
     }
@@ -121,8 +126,13 @@ impl<A: Allocator> ProducersSection<A> {
         name: &str,
         field: &ProducersField<B>,
     ) -> Result<(), Fault>
-        ensures added { AddsMember as_they_are self.old self.new result (FieldCause self.old name.now field.now) (field_bytes name.now field.now) }
+        ensures added { AddsMember as_they_are self.old self.new result
+            (FieldCause self.old name.now field.now) (field_bytes name.now field.now) }
+        ensures unfinished_field { is_finished field.now ≡ false → result ≡ Err Unfinished }
     {
+        if !field.values.is_finished() {
+            return Err(Fault::Unfinished);
+        }
         let count = self.fields.len();
         let body = self.fields.as_slice().len();
         self.fields.add_encoded(&(name, Lent(field)))?;

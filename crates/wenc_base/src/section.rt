@@ -1,7 +1,5 @@
-ghost use Rattle.std.specs.Prelude.{◌≡◌, ℕ, ◌++◌, ◌∷◌, OnOk, OnErr, IfErr};
-ghost use Rattle.wenc_base.specs.Fault.{IsWarranted};
-ghost use Rattle.wenc_base.specs.declared.fault.Fault.{Fault as FaultSpec};
-ghost use Rattle.wenc_base.specs.declared.fault.Fault.TheVariants.{Unfinished};
+ghost use Rattle.std.specs.Prelude.{◌≡◌, ℕ, ◌∷◌};
+ghost use Rattle.wenc_base.specs.Encode.{Appends};
 
 use crate::encode::{Encode, Tagged};
 use crate::fault::Fault;
@@ -22,11 +20,8 @@ pub trait Section: Encode {
     fn append_to<A: Allocator>(&self, sink: &mut Vec<u8, A>) -> Result<(), Fault>
     where
         Self: Sized,
-        ensures ok { OnOk result (sink.new.items ≡ sink.old.items ++ section_id self.now ∷ Self.text self.now) }
-        ensures encodable { (fault : FaultSpec) → Self.cause self.now fault → OnOk result ⊥ }
-        ensures err { OnErr result (sink.new.items ≡ sink.old.items) }
-        ensures warranted { IfErr result (IsWarranted (Self.cause self.now)) }
-        ensures unfinished_first { Self.unfinished self.now → result ≡ Err Unfinished }
+        ensures { Appends (section_id self.now ∷ Self.text self.now) (Self.cause self.now)
+            (Self.unfinished self.now) sink.old.items sink.new.items result }
     {
         Tagged(self.id(), self).encode(sink)
     }

@@ -184,8 +184,8 @@ impl Encode for Range {
 
 impl Delimited for Range {
     ghost use Rattle.wenc_base.specs.Lifts.{pair_delimits};
-    ghost use Rattle.wenc_base.specs.Lawful.{delimited as told_apart};
-    ghost use Rattle.wenc_base.specs.NumberLaws.{u32_lawful};
+    ghost use Rattle.wenc_base.specs.laws.Lawful.{delimited as told_apart};
+    ghost use Rattle.wenc_base.specs.laws.Numbers.{u32_lawful};
 
     ghost fits = { λ range. (range.start < 2 ^ 32) × (range.end < 2 ^ 32) };
 

@@ -1,7 +1,7 @@
-ghost use Rattle.std.specs.Prelude.{◌≡◌};
-ghost use Rattle.wenc_base.specs.Lawful.{delimited as told_apart};
+ghost use Rattle.std.specs.Prelude.{◌≡◌, refl};
+ghost use Rattle.wenc_base.specs.laws.Delimited.{itself};
 
-use crate::delimited::Delimited;
+use crate::delimited::{Delimited, DelimitedEq};
 use crate::encode::{Encode, Tagged};
 use crate::fault::Fault;
 use std::alloc::Allocator;
@@ -46,13 +46,30 @@ impl Encode for ValType {
 
 impl Delimited for ValType {
     ghost use Rattle.wenc_base.specs.Types.{val_type};
-    ghost use Rattle.wenc_base.specs.TypeLaws.{val_type_lawful};
+    ghost use Rattle.wenc_base.specs.laws.Types.{read_val_type, val_type_lawful};
+    ghost use Rattle.wenc_base.specs.declared.types.ValType.{ValType as Seen'};
 
-    ghost fits = { λ x. (val_type x).Fits };
+    ghost Seen = { Seen' };
 
-    ghost same = { λ a b. a ≡ b };
+    ghost seen = { λ x. x };
 
-    ghost delimited = { λ a b. told_apart (val_type_lawful a) (val_type_lawful b) };
+    ghost form = { val_type };
+
+    fn belongs(&self) {
+        if let ValType::Ref(reference) = self {
+            reference.belongs();
+        }
+    }
+
+    ghost readable = { ((λ fuel. read_val_type), val_type_lawful) };
+
+    ghost text_of = { λ x. refl };
+
+    ghost free = { λ x h fault cause. cause };
+}
+
+impl DelimitedEq for ValType {
+    ghost alike = { itself _ };
 }
 
 /// The type of a reference (WebAssembly 3.0, binary format, "Reference Types").
@@ -86,13 +103,29 @@ impl Encode for RefType {
 
 impl Delimited for RefType {
     ghost use Rattle.wenc_base.specs.Types.{reference};
-    ghost use Rattle.wenc_base.specs.TypeLaws.{reference_lawful};
+    ghost use Rattle.wenc_base.specs.laws.Types.{read_reference, reference_lawful};
+    ghost use Rattle.wenc_base.specs.declared.types.RefType.{RefType as Seen'};
 
-    ghost fits = { λ x. (reference x).Fits };
+    ghost Seen = { Seen' };
 
-    ghost same = { λ a b. a ≡ b };
+    ghost seen = { λ x. x };
 
-    ghost delimited = { λ a b. told_apart (reference_lawful a) (reference_lawful b) };
+    ghost form = { reference };
+
+    #[tactic(auto, using(crate::specs::laws::Types::reference_fits))]
+    fn belongs(&self) {
+        self.heap_type.belongs();
+    }
+
+    ghost readable = { ((λ fuel. read_reference), reference_lawful) };
+
+    ghost text_of = { λ x. refl };
+
+    ghost free = { λ x h fault cause. cause };
+}
+
+impl DelimitedEq for RefType {
+    ghost alike = { itself _ };
 }
 
 /// What a reference refers to (WebAssembly 3.0, binary format, "Heap Types").
@@ -121,13 +154,30 @@ impl Encode for HeapType {
 
 impl Delimited for HeapType {
     ghost use Rattle.wenc_base.specs.Types.{heap_type};
-    ghost use Rattle.wenc_base.specs.TypeLaws.{heap_type_lawful};
+    ghost use Rattle.wenc_base.specs.laws.Types.{read_heap_type, heap_type_lawful};
+    ghost use Rattle.wenc_base.specs.declared.types.HeapType.{HeapType as Seen'};
 
-    ghost fits = { λ x. (heap_type x).Fits };
+    ghost Seen = { Seen' };
 
-    ghost same = { λ a b. a ≡ b };
+    ghost seen = { λ x. x };
 
-    ghost delimited = { λ a b. told_apart (heap_type_lawful a) (heap_type_lawful b) };
+    ghost form = { heap_type };
+
+    fn belongs(&self) {
+        if let HeapType::Concrete(index) = self {
+            index.belongs();
+        }
+    }
+
+    ghost readable = { ((λ fuel. read_heap_type), heap_type_lawful) };
+
+    ghost text_of = { λ x. refl };
+
+    ghost free = { λ x h fault cause. cause };
+}
+
+impl DelimitedEq for HeapType {
+    ghost alike = { itself _ };
 }
 
 /// A heap type that the standard names (WebAssembly 3.0, binary format, "Heap Types").
@@ -197,11 +247,24 @@ impl Encode for AbstractHeapType {
 
 impl Delimited for AbstractHeapType {
     ghost use Rattle.wenc_base.specs.Types.{abstract_type};
-    ghost use Rattle.wenc_base.specs.TypeLaws.{abstract_type_lawful};
+    ghost use Rattle.wenc_base.specs.laws.Types.{read_abstract, abstract_type_lawful};
+    ghost use Rattle.wenc_base.specs.declared.types.AbstractHeapType.{AbstractHeapType as Seen'};
 
-    ghost fits = { λ x. (abstract_type x).Fits };
+    ghost Seen = { Seen' };
 
-    ghost same = { λ a b. a ≡ b };
+    ghost seen = { λ x. x };
 
-    ghost delimited = { λ a b. told_apart (abstract_type_lawful a) (abstract_type_lawful b) };
+    ghost form = { abstract_type };
+
+    fn belongs(&self) {}
+
+    ghost readable = { ((λ fuel. read_abstract), abstract_type_lawful) };
+
+    ghost text_of = { λ x. refl };
+
+    ghost free = { λ x h fault cause. cause };
+}
+
+impl DelimitedEq for AbstractHeapType {
+    ghost alike = { itself _ };
 }

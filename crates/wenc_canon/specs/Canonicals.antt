@@ -1,6 +1,6 @@
 -- Canonical functions (component model, binary format, "Canonical Definitions"; opcodes and fields as docs/FORMAT.md lists them).
 use Rattle.std.specs.Prelude.{ℕ, Bool, List, [], ◌∷◌, Option, Result, length}
-use Rattle.wenc_base.specs.Piece.{Form, byte, nothing, ◌▸◌, ◌⨾◌, whole}
+use Rattle.wenc_base.specs.Piece.{Form, byte, nothing, ◌▸◌, ◌⨾◌, all_of}
 use Rattle.wenc_base.specs.Number.{u32}
 use Rattle.wenc_base.specs.Forms.{flag, list, sized}
 use Rattle.wenc_base.specs.Types.{val_type}
@@ -194,7 +194,7 @@ canonical_text c = (canonical c).text
 
 -- the section, behind its id: how many bytes, how many functions, the functions
 abbrev pub canonical_section : Form (List Canonical)
-canonical_section functions = sized (whole (list canonical functions))
+canonical_section functions = sized (all_of (list canonical functions))
 
 -- ---- what the calls of a section add
 

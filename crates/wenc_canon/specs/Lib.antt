@@ -1,2 +1,2 @@
 pub mod Canonicals
-pub mod CanonicalLaws
+pub mod laws

@@ -2,7 +2,7 @@ ghost use Rattle.std.specs.Prelude.{◌≡◌, ◌==◌, false, IfOk, IfErr};
 ghost use Rattle.std.specs.Iterator.{IsFinite};
 ghost use Rattle.wenc_base.specs.Fault.{IsMemory};
 ghost use Rattle.wenc_base.specs.Holder.{no_members, is_finished, section_text, EncodeCause};
-ghost use Rattle.wenc_base.specs.Lawful.{delimited as told_apart};
+ghost use Rattle.wenc_base.specs.laws.Lawful.{delimited as told_apart};
 ghost use Rattle.wenc_canon.specs.Canonicals.{AddsWithOptions, Lift, Lower};
 
 mod intrinsics;
@@ -63,7 +63,7 @@ impl Encode for CanonicalOption {
 
 impl Delimited for CanonicalOption {
     ghost use Rattle.wenc_canon.specs.Canonicals.{canonical_option};
-    ghost use Rattle.wenc_canon.specs.CanonicalLaws.{canonical_option_lawful};
+    ghost use Rattle.wenc_canon.specs.laws.Canonicals.{canonical_option_lawful};
 
     ghost fits = { λ o. (canonical_option o).Fits };
 

@@ -1,7 +1,7 @@
 //! The laws of this crate's forms.
 ghost use Rattle.std.specs.Prelude.{◌≡◌, ◌+◌, List, Ok};
 ghost use Rattle.wenc_base.specs.Holder.{Held, Contains, section_text};
-ghost use Rattle.wenc_base.specs.Lawful.{FormLaws};
+ghost use Rattle.wenc_base.specs.FormLaws.{FormLaws};
 ghost use Rattle.wenc_canon.specs.Canonicals.{Intrinsic, row, Values, Canonical, canonical_option, canonical, canonical_text, canonical_section, Adds};
 
 /// A value of each form is read as it is written, strictly in no other way, and in one way only, and no

@@ -37,6 +37,9 @@ alias (InstanceExport instance kind name) = export_kind kind ⨾ 0x00 ▸ u32 in
 alias (CoreInstanceExport instance kind name) = 0x00 ▸ core_kind kind ⨾ 0x01 ▸ u32 instance ⨾ name_form name
 alias (Outer kind count number) = outer_kind kind ⨾ 0x02 ▸ u32 count ⨾ u32 number
 
+abbrev pub alias_text : AliasOf → List ℕ
+alias_text a = (alias a).text
+
 -- why an alias can't be encoded
 abbrev pub alias_cause : AliasOf → Fault → Type 0
 alias_cause (InstanceExport instance kind name) fault = text_cause name fault

@@ -1,12 +1,7 @@
-pub mod Component
+pub mod SectionIds
 pub mod Types
 pub mod Exports
 pub mod Imports
 pub mod Instances
 pub mod Aliases
-pub mod TypeLaws
-pub mod ExportLaws
-pub mod ComponentLaws
-pub mod InstanceLaws
-pub mod ImportLaws
-pub mod AliasLaws
+pub mod laws

@@ -1,5 +1,5 @@
 ghost use Rattle.std.specs.Prelude.{◌≡◌};
-ghost use Rattle.wenc_base.specs.Lawful.{delimited as told_apart};
+ghost use Rattle.wenc_base.specs.laws.Lawful.{delimited as told_apart};
 
 use crate::component::{COMPONENT_SORT, CORE_MODULE_SORT, CORE_SORT, CORE_TYPE_SORT, TYPE_SORT};
 use crate::exports::ComponentExportKind;
@@ -41,7 +41,7 @@ impl Encode for ComponentOuterAliasKind {
 
 impl Delimited for ComponentOuterAliasKind {
     ghost use Rattle.wenc_parts.specs.Aliases.{outer_kind};
-    ghost use Rattle.wenc_parts.specs.AliasLaws.{outer_kind_lawful};
+    ghost use Rattle.wenc_parts.specs.laws.Aliases.{outer_kind_lawful};
 
     ghost fits = { λ x. (outer_kind x).Fits };
 
@@ -110,7 +110,7 @@ impl<'a> Encode for Alias<'a> {
 
 impl<'a> Delimited for Alias<'a> {
     ghost use Rattle.wenc_parts.specs.Aliases.{alias, alias_view};
-    ghost use Rattle.wenc_parts.specs.AliasLaws.{alias_lawful};
+    ghost use Rattle.wenc_parts.specs.laws.Aliases.{alias_lawful};
 
     ghost fits = { λ x. (alias (alias_view x)).Fits };
 

@@ -1,5 +1,5 @@
 ghost use Rattle.std.specs.Prelude.{◌≡◌, ℕ, ◌++◌, ◌∷◌, OnOk, OnErr, IfErr};
-ghost use Rattle.wenc_base.specs.Lawful.{delimited as told_apart};
+ghost use Rattle.wenc_base.specs.laws.Lawful.{delimited as told_apart};
 ghost use Rattle.wenc_base.specs.Fault.{IsWarranted};
 ghost use Rattle.wenc_base.specs.declared.fault.Fault.{Fault as FaultSpec};
 ghost use Rattle.wenc_base.specs.declared.fault.Fault.TheVariants.{Unfinished};
@@ -118,7 +118,7 @@ pub enum ComponentSectionId {
 }
 
 impl From<ComponentSectionId> for u8 {
-    ghost use Rattle.wenc_parts.specs.Component.{section_number};
+    ghost use Rattle.wenc_parts.specs.SectionIds.{section_number};
 
     ghost from_gives = { λ id n. n ≡ section_number id };
 
@@ -141,9 +141,9 @@ impl From<ComponentSectionId> for u8 {
 }
 
 impl Encode for ComponentSectionId {
-    ghost use Rattle.wenc_parts.specs.Component.{section};
+    ghost use Rattle.wenc_parts.specs.SectionIds.{section_id};
 
-    ghost text = { λ id. (section id).text };
+    ghost text = { λ id. (section_id id).text };
 
     ghost cause = { λ _ _. ⊥ };
 
@@ -154,10 +154,10 @@ impl Encode for ComponentSectionId {
 }
 
 impl Delimited for ComponentSectionId {
-    ghost use Rattle.wenc_parts.specs.Component.{section};
-    ghost use Rattle.wenc_parts.specs.ComponentLaws.{section_lawful};
+    ghost use Rattle.wenc_parts.specs.SectionIds.{section_id};
+    ghost use Rattle.wenc_parts.specs.laws.SectionIds.{section_lawful};
 
-    ghost fits = { λ x. (section x).Fits };
+    ghost fits = { λ x. (section_id x).Fits };
 
     ghost same = { λ a b. a ≡ b };
 

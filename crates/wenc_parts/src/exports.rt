@@ -1,5 +1,5 @@
 ghost use Rattle.std.specs.Prelude.{◌≡◌};
-ghost use Rattle.wenc_base.specs.Lawful.{delimited as told_apart};
+ghost use Rattle.wenc_base.specs.laws.Lawful.{delimited as told_apart};
 
 use crate::component::{
     COMPONENT_SORT, CORE_MODULE_SORT, CORE_SORT, FUNCTION_SORT, INSTANCE_SORT, TYPE_SORT,
@@ -48,7 +48,7 @@ impl Encode for ComponentExportKind {
 
 impl Delimited for ComponentExportKind {
     ghost use Rattle.wenc_parts.specs.Exports.{export_kind};
-    ghost use Rattle.wenc_parts.specs.ExportLaws.{export_kind_lawful};
+    ghost use Rattle.wenc_parts.specs.laws.Exports.{export_kind_lawful};
 
     ghost fits = { λ x. (export_kind x).Fits };
 

@@ -1,5 +1,5 @@
 ghost use Rattle.std.specs.Prelude.{◌≡◌, length, IfOk, IfErr};
-ghost use Rattle.wenc_base.specs.Lawful.{delimited as told_apart};
+ghost use Rattle.wenc_base.specs.laws.Lawful.{delimited as told_apart};
 ghost use Rattle.wenc_base.specs.Fault.{IsMemory};
 ghost use Rattle.wenc_parts.specs.Imports.{text_option, string_option};
 
@@ -38,7 +38,7 @@ impl Encode for TypeBounds {
 
 impl Delimited for TypeBounds {
     ghost use Rattle.wenc_parts.specs.Imports.{type_bounds};
-    ghost use Rattle.wenc_parts.specs.ImportLaws.{type_bounds_lawful};
+    ghost use Rattle.wenc_parts.specs.laws.Imports.{type_bounds_lawful};
 
     ghost fits = { λ x. (type_bounds x).Fits };
 
@@ -105,7 +105,7 @@ impl Encode for ComponentTypeRef {
 
 impl Delimited for ComponentTypeRef {
     ghost use Rattle.wenc_parts.specs.Imports.{type_reference};
-    ghost use Rattle.wenc_parts.specs.ImportLaws.{type_reference_lawful};
+    ghost use Rattle.wenc_parts.specs.laws.Imports.{type_reference_lawful};
 
     ghost fits = { λ x. (type_reference x).Fits };
 
@@ -179,7 +179,7 @@ impl<'a, A: Allocator> Encode for ComponentExternName<'a, A> {
 
 impl<'a, A: Allocator> Delimited for ComponentExternName<'a, A> {
     ghost use Rattle.wenc_parts.specs.Imports.{extern_name, extern_name_view};
-    ghost use Rattle.wenc_parts.specs.ImportLaws.{extern_name_lawful};
+    ghost use Rattle.wenc_parts.specs.laws.Imports.{extern_name_lawful};
 
     ghost fits = { λ x. (extern_name (extern_name_view x)).Fits };
 

@@ -1,5 +1,5 @@
 ghost use Rattle.std.specs.Prelude.{◌≡◌};
-ghost use Rattle.wenc_base.specs.Lawful.{delimited as told_apart};
+ghost use Rattle.wenc_base.specs.laws.Lawful.{delimited as told_apart};
 
 use crate::component::CORE_INSTANCE_SORT;
 use std::alloc::Allocator;
@@ -29,7 +29,7 @@ impl Encode for ModuleArg {
 
 impl Delimited for ModuleArg {
     ghost use Rattle.wenc_parts.specs.Instances.{module_argument};
-    ghost use Rattle.wenc_parts.specs.InstanceLaws.{module_argument_lawful};
+    ghost use Rattle.wenc_parts.specs.laws.Instances.{module_argument_lawful};
 
     ghost fits = { λ x. (module_argument x).Fits };
 

@@ -1,7 +1,7 @@
 //! The laws of this crate's forms.
 ghost use Rattle.std.specs.Prelude.{◌≡◌, ◌↔◌, IsTrue, nat_lt};
-ghost use Rattle.wenc_base.specs.Lawful.{FormLaws};
-ghost use Rattle.wenc_parts.specs.Component.{section, section_number};
+ghost use Rattle.wenc_base.specs.FormLaws.{FormLaws};
+ghost use Rattle.wenc_parts.specs.SectionIds.{section_id, section_number};
 ghost use Rattle.wenc_parts.specs.Types.{primitive, value_type, result_list};
 ghost use Rattle.wenc_parts.specs.Exports.{export_kind};
 ghost use Rattle.wenc_parts.specs.Imports.{type_bounds, type_reference, extern_name};
@@ -14,7 +14,7 @@ use crate::imports::ComponentTypeRef;
 /// A value of each form is read as it is written, strictly in no other way, and in one way only, and no
 /// value's text begins another's.
 pub fn forms_are_lawful()
-    ensures section_ids { FormLaws section }
+    ensures section_ids { FormLaws section_id }
     ensures primitive_types { FormLaws primitive }
     ensures value_types { FormLaws value_type }
     ensures result_lists { FormLaws result_list }

@@ -1,5 +1,5 @@
 ghost use Rattle.std.specs.Prelude.{◌≡◌};
-ghost use Rattle.wenc_base.specs.Lawful.{delimited as told_apart};
+ghost use Rattle.wenc_base.specs.laws.Lawful.{delimited as told_apart};
 
 use std::alloc::Allocator;
 use wenc_base::{Delimited, Encode, Fault, Tagged};
@@ -77,7 +77,7 @@ impl Encode for PrimitiveValType {
 
 impl Delimited for PrimitiveValType {
     ghost use Rattle.wenc_parts.specs.Types.{primitive};
-    ghost use Rattle.wenc_parts.specs.TypeLaws.{primitive_lawful};
+    ghost use Rattle.wenc_parts.specs.laws.Types.{primitive_lawful};
 
     ghost fits = { λ x. (primitive x).Fits };
 
@@ -112,7 +112,7 @@ impl Encode for ComponentValType {
 
 impl Delimited for ComponentValType {
     ghost use Rattle.wenc_parts.specs.Types.{value_type};
-    ghost use Rattle.wenc_parts.specs.TypeLaws.{value_type_lawful};
+    ghost use Rattle.wenc_parts.specs.laws.Types.{value_type_lawful};
 
     ghost fits = { λ x. (value_type x).Fits };
 
@@ -142,7 +142,7 @@ impl Encode for ResultList {
 
 impl Delimited for ResultList {
     ghost use Rattle.wenc_parts.specs.Types.{result_list};
-    ghost use Rattle.wenc_parts.specs.TypeLaws.{result_list_lawful};
+    ghost use Rattle.wenc_parts.specs.laws.Types.{result_list_lawful};
 
     ghost fits = { λ x. (result_list x.0).Fits };
 

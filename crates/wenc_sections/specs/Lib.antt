@@ -1,4 +1,6 @@
-pub mod Items
-pub mod Instances
 pub mod Component
-pub mod ItemLaws
+pub mod Imports
+pub mod Exports
+pub mod Instances
+pub mod Start
+pub mod laws

@@ -2,7 +2,7 @@ ghost use Rattle.std.specs.Prelude.{◌≡◌, ◌==◌, false, IfOk, IfErr};
 ghost use Rattle.wenc_base.specs.Fault.{IsMemory};
 ghost use Rattle.wenc_base.specs.Holder.{no_members, is_finished, section_text, EncodeCause, AddsMember};
 ghost use Rattle.wenc_parts.specs.Aliases.{alias_view, alias_cause};
-ghost use Rattle.wenc_sections.specs.Items.{alias_text};
+ghost use Rattle.wenc_parts.specs.Aliases.{alias_text};
 
 use std::alloc::{Allocator, Global};
 use std::marker::Model;
@@ -50,7 +50,7 @@ impl<A: Allocator> ComponentAliasSection<A> {
 
     /// Adds an alias. It is refused where there would be more than 4294967295 aliases (`TooMany`), or more than
     /// 4294967295 bytes in the section or in the alias's name (`TooLarge`).
-    #[tactic(auto, using(wenc_base::specs::HolderLaws::adds_as))]
+    #[tactic(auto, using(wenc_base::specs::laws::Holders::adds_as))]
     pub fn alias(&mut self, alias: Alias<'_>) -> Result<(), Fault>
         ensures { AddsMember alias_text self.old self.new result (alias_cause (alias_view alias.entry)) (alias_view alias.entry) }
     {

@@ -2,7 +2,7 @@ ghost use Rattle.std.specs.Prelude.{◌≡◌, ◌==◌, false, IfOk, IfErr};
 ghost use Rattle.wenc_base.specs.Fault.{IsMemory};
 ghost use Rattle.wenc_base.specs.Holder.{no_members, is_finished, section_text, EncodeCause, AddsMember};
 ghost use Rattle.wenc_parts.specs.Imports.{extern_name_view, extern_name_cause};
-ghost use Rattle.wenc_sections.specs.Items.{export_text};
+ghost use Rattle.wenc_sections.specs.Exports.{export_text};
 
 use std::alloc::{Allocator, Global};
 use std::marker::Model;

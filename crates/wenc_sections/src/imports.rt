@@ -2,7 +2,7 @@ ghost use Rattle.std.specs.Prelude.{◌≡◌, ◌==◌, false, IfOk, IfErr};
 ghost use Rattle.wenc_base.specs.Fault.{IsMemory};
 ghost use Rattle.wenc_base.specs.Holder.{no_members, is_finished, section_text, EncodeCause, AddsMember};
 ghost use Rattle.wenc_parts.specs.Imports.{extern_name_view, extern_name_cause};
-ghost use Rattle.wenc_sections.specs.Items.{import_text};
+ghost use Rattle.wenc_sections.specs.Imports.{import_text};
 
 use std::alloc::{Allocator, Global};
 use std::marker::Model;
@@ -50,7 +50,7 @@ impl<A: Allocator> ComponentImportSection<A> {
 
     /// Adds an import under this name. It is refused where there would be more than 4294967295 imports
     /// (`TooMany`), or more than 4294967295 bytes in the section or in a text of the name (`TooLarge`).
-    #[tactic(auto, using(wenc_base::specs::HolderLaws::adds_as, wenc_base::specs::HolderLaws::alone))]
+    #[tactic(auto, using(wenc_base::specs::laws::Holders::adds_as, wenc_base::specs::laws::Holders::alone))]
     pub fn import<B: Allocator>(
         &mut self,
         name: ComponentExternName<'_, B>,

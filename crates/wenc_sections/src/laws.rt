@@ -1,11 +1,14 @@
 //! The laws of this crate's forms.
 ghost use Rattle.std.specs.Prelude.{◌≡◌, List};
 ghost use Rattle.wenc_base.specs.Holder.{Held, Contains, section_text};
-ghost use Rattle.wenc_base.specs.Lawful.{FormLaws};
+ghost use Rattle.wenc_base.specs.FormLaws.{FormLaws};
 ghost use Rattle.wenc_parts.specs.Aliases.{AliasOf, alias};
-ghost use Rattle.wenc_sections.specs.Component.{start};
+ghost use Rattle.wenc_sections.specs.Start.{start};
 ghost use Rattle.wenc_sections.specs.Instances.{CoreInstance, core_instance, core_instance_text, Instance, instance, instance_text};
-ghost use Rattle.wenc_sections.specs.Items.{alias_text, Import, import_item, import_text, Export, export_item, export_text, counted};
+ghost use Rattle.wenc_parts.specs.Aliases.{alias_text};
+ghost use Rattle.wenc_sections.specs.Imports.{Import, import_item, import_text};
+ghost use Rattle.wenc_sections.specs.Exports.{Export, export_item, export_text};
+ghost use Rattle.wenc_base.specs.Forms.{counted};
 
 /// A value of each form is read as it is written, strictly in no other way, and in one way only, and no
 /// value's text begins another's. Nested components and core modules are lists of bytes.

@@ -19,7 +19,7 @@ pub struct ComponentStartSection<A> {
 }
 
 impl<A: AsSlice<u32>> Encode for ComponentStartSection<A> {
-    ghost use Rattle.wenc_sections.specs.Component.{start, start_cause};
+    ghost use Rattle.wenc_sections.specs.Start.{start, start_cause};
 
     ghost text = { λ s. (start (record { function = s.function_index; arguments = A.items s.args; results = s.results })).text };
 

@@ -4,7 +4,7 @@ use Rattle.wenc_parts.specs.declared.exports.ComponentExportKind.TheVariants as 
 use Rattle.wenc_parts.specs.declared.imports.ComponentTypeRef.TheVariants as refs
 use Rattle.wenc_parts.specs.Imports.{ExternName, plain_name}
 use Rattle.wasm_encoder.specs.Item.{Item, ImportItem, ExportItem}
-use Rattle.wasm_encoder.specs.Component.{whole}
+use Rattle.wasm_encoder.specs.Sections.{whole}
 use Rattle.rows.proofs.passed_on.Goals as goal
 
 abbrev both : ExternName → ExternName → ℕ → List Item

@@ -1,7 +1,7 @@
 ghost use Rattle.std.specs.Prelude.{◌≡◌, [], OnOk, OnErr, IfOk, IfErr, is_none, None, Some};
 ghost use Rattle.wenc_base.specs.Fault.{IsWarranted};
 ghost use Rattle.wenc_base.specs.declared.fault.Fault.{Fault as FaultSpec};
-ghost use Rattle.wasm_encoder.specs.Component.{preamble};
+ghost use Rattle.wasm_encoder.specs.Sections.{preamble};
 ghost use Rattle.wasm_encoder.specs.Builder.{sections_text, entered};
 ghost use Rattle.wasm_encoder.specs.Cause.{SectionIsMany, SectionIsLarge};
 ghost use Rattle.wasm_encoder.specs.Layout.{section_id, OpensAnother, buffered_content, appended, BeginCause, AppendCause};

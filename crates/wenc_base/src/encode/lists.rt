@@ -5,7 +5,7 @@ ghost use Rattle.std.specs.List.{flat_map};
 ghost use Rattle.wenc_base.specs.Fault.{IsWarranted, IsMemory, member_cause, list_cause, drawn_cause};
 ghost use Rattle.wenc_base.specs.Forms.{list_text};
 ghost use Rattle.wenc_base.specs.Number.{unsigned_text};
-ghost use Rattle.wenc_base.specs.Written.{Written};
+ghost use Rattle.wenc_base.specs.Encode.{Written};
 ghost use Rattle.wenc_base.specs.declared.fault.Fault.{Fault as FaultSpec};
 
 use crate::encode::Encode;

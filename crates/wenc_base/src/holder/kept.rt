@@ -1,6 +1,7 @@
-ghost use Rattle.std.specs.Prelude.{◌≡◌, ◌+◌, ◌-◌, ◌<◌, ◌≤◌, ◌^◌, ◌++◌, [], length, take, drop, OnOk, OnErr, IfOk, IfErr};
-ghost use Rattle.wenc_base.specs.Fault.{IsMemory};
-ghost use Rattle.wenc_base.specs.Holder.{holding, content_size, all_bytes, with_kept};
+ghost use Rattle.std.specs.Prelude.{◌≡◌, ◌+◌, ◌-◌, ◌<◌, ◌≤◌, ◌^◌, ◌++◌, [], true, false, length, take, drop, OnOk, OnErr, IfOk, IfErr};
+ghost use Rattle.wenc_base.specs.Fault.{IsWarranted};
+ghost use Rattle.wenc_base.specs.Holder.{is_finished, holding, content_size, all_bytes, with_kept, EncodeCause};
+ghost use Rattle.wenc_base.specs.declared.fault.Fault.TheVariants.{Unfinished};
 
 use super::Holder;
 use crate::fault::Fault;
@@ -16,24 +17,29 @@ impl<A: Allocator> Holder<A> {
     }
 
     /// Keeps the members too, with these bytes behind them, and has no members then. Answers how many bytes there
-    /// were. It is refused for want of memory alone.
+    /// were. A finished holder is refused for want of memory alone.
     pub fn keep_all(&mut self, more: &[u8]) -> Result<usize, Fault>
         ensures ok { OnOk result (self.new ≡ holding (all_bytes self.old ++ more.now) 0 []) }
         ensures before { IfOk result (λ len. len ≡ length (all_bytes self.old)) }
+        ensures finished { OnOk result (is_finished self.old ≡ true) }
         ensures err { OnErr result (self.new ≡ self.old) }
-        ensures refused { IfErr result IsMemory }
+        ensures warranted { IfErr result (IsWarranted (EncodeCause self.old)) }
+        ensures unfinished_first { is_finished self.old ≡ false → result ≡ Err Unfinished }
     {
+        if !self.is_finished() {
+            return Err(Fault::Unfinished);
+        }
         let len = self.bytes.len();
         self.bytes.extend_from_slice(more)?;
         self.kept = self.bytes.len();
         self.count = 0;
-        self.opening = None;
         Ok(len)
     }
 
     /// Goes back to the first `len` bytes, of which the first `kept` are kept, and the others are the texts of
     /// `count` members. It takes no memory.
     pub fn go_back(&mut self, kept: usize, len: usize, count: u32)
+        requires finished { is_finished self.old ≡ true }
         requires within { (kept ≤ len) × (len ≤ length (all_bytes self.old)) }
         requires fits { content_size count (len - kept) < 2 ^ 32 }
         ensures { self.new ≡ holding (take kept (all_bytes self.old)) count (drop kept (take len (all_bytes self.old))) }
@@ -41,7 +47,6 @@ impl<A: Allocator> Holder<A> {
         self.bytes.truncate(len);
         self.kept = kept;
         self.count = count;
-        self.opening = None;
     }
 
     /// Puts these bytes in the place of the kept ones from `start` to `end`, of which there are as many or more.

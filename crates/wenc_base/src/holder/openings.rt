@@ -1,17 +1,20 @@
 ghost use Rattle.std.specs.Prelude.{◌≡◌, ◌↔◌, [], false, IsTrue, IfErr};
+ghost use Rattle.wenc_base.specs.declared.fault.Fault.TheVariants.{Unfinished};
 ghost use Rattle.wenc_base.specs.Holder.{is_finished, AddCause};
 ghost use Rattle.wenc_base.specs.Openings.{lengthened, closed, given_up, IsOpened, OpensMember, Lengthens};
 
-use super::{Holder, Verbatim, next_count, section_size};
-use crate::encode::Encode;
+use super::{Holder, next_count, section_size};
+use crate::encode::{Encode, Verbatim};
 use crate::fault::Fault;
 use std::alloc::Allocator;
 
-/// Where a member that is being written begins among the members' bytes, and where its lead ends there.
+/// A member that is being written.
 #[derive(Clone, Copy)]
 pub struct Opening {
-    pub before: usize,
-    pub lead: usize,
+    /// Where it begins among the members' bytes.
+    pub member_start: usize,
+    /// Where the bytes end there with which it was opened.
+    pub lead_end: usize,
 }
 
 /// A member that is written piece by piece. From `open` on the holder is unfinished, until the member is
@@ -25,15 +28,16 @@ impl<A: Allocator> Holder<A> {
         if self.opening.is_some() {
             return Err(Fault::Unfinished);
         }
-        let before = self.bytes.len() - self.kept;
-        let next = next_count(self.count, before + lead.len())?;
+        let member_start = self.bytes.len() - self.kept;
+        let lead_end = member_start + lead.len();
+        let next = next_count(self.count, lead_end)?;
         if !lead.is_empty() {
             self.bytes.extend_from_slice(lead)?;
         }
         self.count = next;
         self.opening = Some(Opening {
-            before,
-            lead: before + lead.len(),
+            member_start,
+            lead_end,
         });
         Ok(())
     }
@@ -43,7 +47,7 @@ impl<A: Allocator> Holder<A> {
         ensures { IsTrue result ↔ IsOpened self.now }
     {
         match self.opening {
-            Some(opening) => self.bytes.len() - self.kept == opening.lead,
+            Some(opening) => self.bytes.len() - self.kept == opening.lead_end,
             None => false,
         }
     }
@@ -61,7 +65,9 @@ impl<A: Allocator> Holder<A> {
     /// the value is.
     pub fn append_encoded<E: Encode>(&mut self, value: &E) -> Result<(), Fault>
         requires { is_finished self.old ≡ false }
-        ensures { Lengthens self.old self.new (lengthened self.old (E.text value.now)) result (E.cause value.now) (E.text value.now) }
+        ensures lengthened { Lengthens self.old self.new (lengthened self.old (E.text value.now)) result
+            (E.cause value.now) (E.text value.now) }
+        ensures unfinished_value { E.unfinished value.now → result ≡ Err Unfinished }
     {
         let start = self.bytes.len();
         value.encode(&mut self.bytes)?;
@@ -98,7 +104,7 @@ impl<A: Allocator> Holder<A> {
     {
         match self.opening {
             Some(opening) => {
-                self.bytes.truncate(self.kept + opening.before);
+                self.bytes.truncate(self.kept + opening.member_start);
                 self.count = self.count.saturating_sub(1);
                 self.opening = None;
                 true

@@ -1,4 +1,4 @@
-#![tactic(auto, using(wenc_base::specs::HolderLaws::adds_as))]
+#![tactic(auto, using(wenc_base::specs::laws::Holders::adds_as))]
 
 ghost use Rattle.std.specs.Iterator.{IsFinite};
 ghost use Rattle.wenc_canon.specs.Canonicals as rows;

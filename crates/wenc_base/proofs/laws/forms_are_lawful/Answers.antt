@@ -1,8 +1,8 @@
-use Rattle.wenc_base.specs.Lawful.{form_laws}
-use Rattle.wenc_base.specs.NumberLaws.{u32_lawful, u64_lawful, i64_lawful, index_lawful}
-use Rattle.wenc_base.specs.FormLaws.{flag_lawful, name_lawful, byte_list_lawful}
-use Rattle.wenc_base.specs.ExportLaws.{export_kind_lawful}
-use Rattle.wenc_base.specs.TypeLaws.{abstract_type_lawful, heap_type_lawful, reference_lawful, val_type_lawful}
+use Rattle.wenc_base.specs.laws.Lawful.{form_laws}
+use Rattle.wenc_base.specs.laws.Numbers.{u32_lawful, u64_lawful, i64_lawful, index_lawful}
+use Rattle.wenc_base.specs.laws.Forms.{flag_lawful, name_lawful, byte_list_lawful}
+use Rattle.wenc_base.specs.laws.Exports.{export_kind_lawful}
+use Rattle.wenc_base.specs.laws.Types.{abstract_type_lawful, heap_type_lawful, reference_lawful, val_type_lawful}
 use Rattle.wenc_base.proofs.laws.forms_are_lawful.Goals as goal
 
 pub returns-clause-flags : goal.returns-clause-flags

@@ -1,6 +1,6 @@
 use Rattle.std.proofs.Common.{refl, ◌++◌}
 use Rattle.wenc_base.specs.Holder.{as_they_are}
-use Rattle.wenc_base.specs.HolderLaws.{given_up_is_before, contains_opened}
+use Rattle.wenc_base.specs.laws.Holders.{given_up_is_before, contains_opened}
 use Rattle.wenc_base.proofs.laws.openings_are_members.Goals as goal
 
 pub returns-clause-given_up : goal.returns-clause-given_up

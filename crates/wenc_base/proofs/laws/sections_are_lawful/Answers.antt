@@ -1,5 +1,5 @@
-use Rattle.wenc_base.specs.Lawful.{form_laws}
-use Rattle.wenc_base.specs.SectionLaws.{custom_lawful, producer_lawful, producers_field_lawful, producers_section_lawful}
+use Rattle.wenc_base.specs.laws.Lawful.{form_laws}
+use Rattle.wenc_base.specs.laws.Sections.{custom_lawful, producer_lawful, producers_field_lawful, producers_section_lawful}
 use Rattle.wenc_base.proofs.laws.sections_are_lawful.Goals as goal
 
 pub returns-clause-customs : goal.returns-clause-customs

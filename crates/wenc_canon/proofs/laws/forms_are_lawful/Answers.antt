@@ -1,5 +1,5 @@
-use Rattle.wenc_base.specs.Lawful.{form_laws}
-use Rattle.wenc_canon.specs.CanonicalLaws.{canonical_option_lawful, canonical_lawful, canonical_section_lawful}
+use Rattle.wenc_base.specs.laws.Lawful.{form_laws}
+use Rattle.wenc_canon.specs.laws.Canonicals.{canonical_option_lawful, canonical_lawful, canonical_section_lawful}
 use Rattle.wenc_canon.proofs.laws.forms_are_lawful.Goals as goal
 
 pub returns-clause-options : goal.returns-clause-options

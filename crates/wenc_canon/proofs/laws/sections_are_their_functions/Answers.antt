@@ -1,4 +1,4 @@
-use Rattle.wenc_base.specs.HolderLaws.{section_of}
+use Rattle.wenc_base.specs.laws.Holders.{section_of}
 use Rattle.wenc_canon.specs.Canonicals.{canonical}
 use Rattle.wenc_canon.proofs.laws.sections_are_their_functions.Goals as goal
 

@@ -1,10 +1,10 @@
-use Rattle.wenc_base.specs.Lawful.{form_laws}
-use Rattle.wenc_parts.specs.ComponentLaws.{section_lawful}
-use Rattle.wenc_parts.specs.TypeLaws.{primitive_lawful, value_type_lawful, result_list_lawful}
-use Rattle.wenc_parts.specs.ExportLaws.{export_kind_lawful}
-use Rattle.wenc_parts.specs.ImportLaws.{type_bounds_lawful, type_reference_lawful, extern_name_lawful}
-use Rattle.wenc_parts.specs.InstanceLaws.{module_argument_lawful}
-use Rattle.wenc_parts.specs.AliasLaws.{outer_kind_lawful, alias_lawful}
+use Rattle.wenc_base.specs.laws.Lawful.{form_laws}
+use Rattle.wenc_parts.specs.laws.SectionIds.{section_lawful}
+use Rattle.wenc_parts.specs.laws.Types.{primitive_lawful, value_type_lawful, result_list_lawful}
+use Rattle.wenc_parts.specs.laws.Exports.{export_kind_lawful}
+use Rattle.wenc_parts.specs.laws.Imports.{type_bounds_lawful, type_reference_lawful, extern_name_lawful}
+use Rattle.wenc_parts.specs.laws.Instances.{module_argument_lawful}
+use Rattle.wenc_parts.specs.laws.Aliases.{outer_kind_lawful, alias_lawful}
 use Rattle.wenc_parts.proofs.laws.forms_are_lawful.Goals as goal
 
 pub returns-clause-section_ids : goal.returns-clause-section_ids

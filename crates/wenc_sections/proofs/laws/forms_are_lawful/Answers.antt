@@ -1,6 +1,6 @@
-use Rattle.wenc_base.specs.Lawful.{form_laws}
-use Rattle.wenc_parts.specs.AliasLaws.{alias_lawful}
-use Rattle.wenc_sections.specs.ItemLaws.{import_lawful, export_lawful, core_instance_lawful, instance_lawful, start_lawful, counted_lawful}
+use Rattle.wenc_base.specs.laws.Lawful.{form_laws}
+use Rattle.wenc_parts.specs.laws.Aliases.{alias_lawful}
+use Rattle.wenc_sections.specs.laws.Items.{import_lawful, export_lawful, core_instance_lawful, instance_lawful, start_lawful, counted_lawful}
 use Rattle.wenc_sections.proofs.laws.forms_are_lawful.Goals as goal
 
 pub returns-clause-imports : goal.returns-clause-imports

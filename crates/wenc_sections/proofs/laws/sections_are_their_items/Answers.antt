@@ -1,6 +1,7 @@
-use Rattle.wenc_base.specs.HolderLaws.{section_of}
+use Rattle.wenc_base.specs.laws.Holders.{section_of}
 use Rattle.wenc_parts.specs.Aliases.{alias}
-use Rattle.wenc_sections.specs.Items.{import_item, export_item}
+use Rattle.wenc_sections.specs.Imports.{import_item}
+use Rattle.wenc_sections.specs.Exports.{export_item}
 use Rattle.wenc_sections.specs.Instances.{core_instance, instance}
 use Rattle.wenc_sections.proofs.laws.sections_are_their_items.Goals as goal
 

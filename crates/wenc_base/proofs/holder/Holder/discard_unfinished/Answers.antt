@@ -4,7 +4,7 @@ use Rattle.wenc_base.proofs.holder.Holder.discard_unfinished.Goals as goal
 
 pub invariant_of-self : goal.invariant_of-self
 invariant_of-self g c =
-    let fits = cut_fits c.self.inside.bytes.items _ c.self.inside.kept c.self.inside.count c.saturating_sub-self-inside.result c.in-Some.opening.before (search rules) c.self.invariant.0 c.self.invariant.1 (search rules) in
+    let fits = cut_fits c.self.inside.bytes.items _ c.self.inside.kept c.self.inside.count c.saturating_sub-self-inside.result c.in-Some.opening.member_start (search rules) c.self.invariant.0 c.self.invariant.1 (search rules) in
     (fits.0, fits.1, tt)
 
 pub returns-in-Some-clause-discarded : goal.returns-in-Some-clause-discarded

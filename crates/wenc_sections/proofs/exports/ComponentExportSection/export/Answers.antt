@@ -1,7 +1,7 @@
 use Rattle.std.proofs.Common.{inl, inr}
-use Rattle.wenc_base.specs.HolderLaws.{alone, adds_as}
+use Rattle.wenc_base.specs.laws.Holders.{alone, adds_as}
 use Rattle.wenc_parts.specs.Imports.{extern_name_view, extern_name_cause, type_reference}
-use Rattle.wenc_sections.specs.Items.{export_text}
+use Rattle.wenc_sections.specs.Exports.{export_text}
 use Rattle.wenc_sections.proofs.Exported.{option_is}
 use Rattle.wenc_sections.proofs.exports.ComponentExportSection.export.Goals as goal
 

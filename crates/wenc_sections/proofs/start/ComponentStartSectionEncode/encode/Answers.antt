@@ -1,4 +1,4 @@
-use Rattle.wenc_sections.specs.Component.{Start, start_content}
+use Rattle.wenc_sections.specs.Start.{Start, start_content}
 use Rattle.wenc_sections.proofs.Started.{start_as, start_warranted}
 use Rattle.wenc_sections.proofs.start.ComponentStartSectionEncode.encode.Goals as goal
 

@@ -1,0 +1,16 @@
+-- The law of the kinds of exports.
+use Rattle.std.proofs.Common.{[], ◌∷◌, refl}
+use Rattle.wenc_base.specs.Exports.{export_kind}
+use Rattle.wenc_base.specs.laws.Lawful.{Lawful, Reader, give, nowhere, choose, row_byte}
+use Rattle.wenc_base.specs.declared.exports.ExportKind.{ExportKind}
+use Rattle.wenc_base.specs.declared.exports.ExportKind.TheVariants.{Func, Table, Memory, Global, Tag}
+
+abbrev pub read_export_kind : Reader ExportKind
+read_export_kind = choose ((0x00, give Func) ∷ (0x01, give Table) ∷ (0x02, give Memory) ∷ (0x03, give Global) ∷ (0x04, give Tag) ∷ []) nowhere
+
+pub export_kind_lawful : (kind : ExportKind) → Lawful (export_kind kind) (λ fuel. read_export_kind) kind
+export_kind_lawful Func = row_byte _ _ 0x00 (λ fuel rest. refl)
+export_kind_lawful Table = row_byte _ _ 0x01 (λ fuel rest. refl)
+export_kind_lawful Memory = row_byte _ _ 0x02 (λ fuel rest. refl)
+export_kind_lawful Global = row_byte _ _ 0x03 (λ fuel rest. refl)
+export_kind_lawful Tag = row_byte _ _ 0x04 (λ fuel rest. refl)

@@ -1,0 +1,331 @@
+-- The laws of a piece and of its reader, and what follows from them.
+use Rattle.std.proofs.Common.{◌≡◌, ℕ, zero, suc, ◌+◌, ◌≤◌, ◌≢◌, true, false, eqb, List, [], ◌∷◌, ◌++◌, length, Option, Some, None, refl, sym, ap, ◌∙◌, append_assoc, arith, inl, inr}
+use Rattle.std.proofs.lemmas.List.{append-nil}
+use Rattle.std.proofs.lemmas.Option.{some_pair_parts, same_Some}
+use Rattle.std.proofs.lemmas.Bool.Decides.{nat_tests}
+use Rattle.wenc_base.specs.FormLaws.{FormLaws}
+use Rattle.wenc_base.specs.Piece.{Piece, Whole, Form, Spelling, Strict, Wide, nothing, byte, ◌▸◌, also, or_widely, ◌⨾◌, only_where, each, all_of, end, raw, ◌⨾⨾◌}
+
+-- ---- readers
+
+abbrev pub Reader : Type 0 → Type 0
+Reader A = List ℕ → Option (A × List ℕ)
+
+abbrev pub go_on : {A B : Type 0} → Option (A × List ℕ) → (A → List ℕ → Option B) → Option B
+go_on None next = None
+go_on (Some x) next = next x.0 x.1
+
+infixl 10 ◌>>=◌
+abbrev pub ◌>>=◌ : {A B : Type 0} → Reader A → (A → Reader B) → Reader B
+(read >>= next) bytes = go_on (read bytes) next
+
+abbrev pub give : {A : Type 0} → A → Reader A
+give v bytes = Some (v, bytes)
+
+abbrev pub nowhere : {A : Type 0} → Reader A
+nowhere bytes = None
+
+abbrev pub times : {A : Type 0} → Reader A → ℕ → Reader (List A)
+times read zero = give []
+times read (suc n) = read >>= λ v. times read n >>= λ vs. give (v ∷ vs)
+
+-- the row of the first byte, or else the other reader, from that byte on
+abbrev pub pick : {A : Type 0} → List (ℕ × Reader A) → Reader A → ℕ → Reader A
+pick [] other b bytes = other (b ∷ bytes)
+pick (row ∷ table) other b bytes = elim (eqb b row.0) [ true ↦ row.1 bytes | false ↦ pick table other b bytes ]
+
+-- A reader by the first byte. It stays shut, so that antt finds the table of a reader that is given.
+unfoldable pub choose : {A : Type 0} → List (ℕ × Reader A) → Reader A → Reader A
+choose table other [] = None
+choose table other (b ∷ bytes) = pick table other b bytes
+
+-- ---- the laws
+
+-- A reader takes how deep it may call itself. It finds v wherever the piece is. It may accept more, so it tests nothing that it needn't.
+-- What is read widely may be shorter than the text, so that only what is read strictly is sure to fit.
+pub record Lawful {A : Type 0} (p : Piece) (read : ℕ → Reader A) (v : A) : Type 0 where
+  pub text_is_read : (mode : Spelling) (rest : List ℕ) → p.Fits → p.Reads mode (p.text ++ rest) rest
+  pub strict_is_text : (bytes rest : List ℕ) → p.Reads Strict bytes rest → bytes ≡ p.text ++ rest
+  pub fits : (bytes rest : List ℕ) → p.Reads Strict bytes rest → p.Fits
+  pub depth : ℕ
+  pub finds : (fuel : ℕ) → depth ≤ fuel → (mode : Spelling) (bytes rest : List ℕ) → p.Reads mode bytes rest → read fuel bytes ≡ Some (v, rest)
+
+pub record LawfulWhole {A : Type 0} (w : Whole) (read : ℕ → List ℕ → Option A) (v : A) : Type 0 where
+  pub text_is_read : (mode : Spelling) → w.Fits → w.ReadsAll mode w.text
+  pub strict_is_text : (bytes : List ℕ) → w.ReadsAll Strict bytes → bytes ≡ w.text
+  pub fits : (bytes : List ℕ) → w.ReadsAll Strict bytes → w.Fits
+  pub depth : ℕ
+  pub finds : (fuel : ℕ) → depth ≤ fuel → (mode : Spelling) (bytes : List ℕ) → w.ReadsAll mode bytes → read fuel bytes ≡ Some v
+
+-- ---- what follows
+
+-- two values that one reader finds
+pub reads_once : {A : Type 0} {p q : Piece} {read : ℕ → Reader A} {v w : A} → Lawful p read v → Lawful q read w
+    → (mode other : Spelling) (bytes r s : List ℕ) → p.Reads mode bytes r → q.Reads other bytes s → (v ≡ w) × (r ≡ s)
+reads_once {v = v} {w = w} one two mode other bytes r s a b =
+    some_pair_parts v w r s (sym (one.finds (one.depth + two.depth) (omega arith) mode bytes r a) ∙ two.finds (one.depth + two.depth) (omega arith) other bytes s b)
+
+-- no text begins another
+pub delimited : {A : Type 0} {p q : Piece} {read : ℕ → Reader A} {v w : A} → Lawful p read v → Lawful q read w
+    → (r s : List ℕ) → p.Fits → q.Fits → p.text ++ r ≡ q.text ++ s → (v ≡ w) × (r ≡ s)
+delimited {p = p} {q = q} one two r s h k e =
+    reads_once one two Strict Strict (p.text ++ r) r s (one.text_is_read Strict r h) (rw e (two.text_is_read Strict s k))
+
+-- two values that one reader finds in all of the bytes
+pub whole_once : {A : Type 0} {p q : Whole} {read : ℕ → List ℕ → Option A} {v w : A} → LawfulWhole p read v → LawfulWhole q read w
+    → (mode other : Spelling) (bytes : List ℕ) → p.ReadsAll mode bytes → q.ReadsAll other bytes → v ≡ w
+whole_once {v = v} {w = w} one two mode other bytes a b =
+    same_Some v w (sym (one.finds (one.depth + two.depth) (omega arith) mode bytes a) ∙ two.finds (one.depth + two.depth) (omega arith) other bytes b)
+
+-- what is read strictly is read widely
+pub wide_reads_strict : {A : Type 0} {p : Piece} {read : ℕ → Reader A} {v : A} → Lawful p read v
+    → (bytes rest : List ℕ) → p.Reads Strict bytes rest → p.Reads Wide bytes rest
+wide_reads_strict one bytes rest r = rw (one.strict_is_text bytes rest r) (one.text_is_read Wide rest (one.fits bytes rest r))
+
+-- the same of all of the bytes
+pub whole_wide_reads_strict : {A : Type 0} {w : Whole} {read : ℕ → List ℕ → Option A} {v : A} → LawfulWhole w read v
+    → (bytes : List ℕ) → w.ReadsAll Strict bytes → w.ReadsAll Wide bytes
+whole_wide_reads_strict one bytes r = rw (one.strict_is_text bytes r) (one.text_is_read Wide (one.fits bytes r))
+
+-- ---- the laws of a form
+
+-- each value's piece is lawful, and the values share a reader
+abbrev pub LawfulForm : {A : Type 0} → Form A → (ℕ → Reader A) → Type 0
+LawfulForm {A} form read = (v : A) → Lawful (form v) read v
+
+-- they follow from the laws of each value
+pub form_laws : {A : Type 0} {form : Form A} {read : ℕ → Reader A} → LawfulForm form read → FormLaws form
+form_laws laws = record {
+  text_is_read = λ mode v. (laws v).text_is_read mode;
+  strict_is_text = λ v bytes rest r. ((laws v).fits bytes rest r, (laws v).strict_is_text bytes rest r);
+  reads_once = λ v w. reads_once (laws v) (laws w);
+  delimited = λ v w. delimited (laws v) (laws w);
+  wide_reads_strict = λ v. wide_reads_strict (laws v);
+}
+
+-- ---- bytes
+
+pub nothing_lawful : {A : Type 0} (v : A) → Lawful nothing (λ fuel. give v) v
+nothing_lawful v = record {
+  text_is_read = λ mode rest h. refl;
+  strict_is_text = λ bytes rest r. r;
+  fits = λ bytes rest r. tt;
+  depth = 0;
+  finds = λ fuel le mode bytes rest r. rw r refl;
+}
+
+-- a byte that a row has, and no more
+pub row_byte : {A : Type 0} {v : A} (table : ℕ → List (ℕ × Reader A)) (other : ℕ → Reader A) (b : ℕ) → ((fuel : ℕ) (rest : List ℕ) → pick (table fuel) (other fuel) b rest ≡ Some (v, rest)) → Lawful (byte b) (λ fuel. choose (table fuel) (other fuel)) v
+unfolding choose
+row_byte table other b e = record {
+  text_is_read = λ mode rest h. refl;
+  strict_is_text = λ bytes rest r. r;
+  fits = λ bytes rest r. tt;
+  depth = 0;
+  finds = λ fuel le mode bytes rest r. rw r (e fuel rest);
+}
+
+-- ---- choices by the first byte
+
+-- a piece behind a byte that a row has
+pub row : {A : Type 0} {p : Piece} {v : A} (table : ℕ → List (ℕ × Reader A)) (other : ℕ → Reader A) (b : ℕ) → Lawful p (λ fuel. pick (table fuel) (other fuel) b) v → Lawful (b ▸ p) (λ fuel. choose (table fuel) (other fuel)) v
+unfolding choose
+row {p = p} table other b l = record {
+  text_is_read = λ mode rest h. (p.text ++ rest, refl, l.text_is_read mode rest h);
+  strict_is_text = λ bytes rest r. r.1 ∙ ap (λ (t : List ℕ). b ∷ t) (l.strict_is_text r.0 rest r.2);
+  fits = λ bytes rest r. l.fits r.0 rest r.2;
+  depth = l.depth;
+  finds = λ fuel le mode bytes rest r. rw r.1 (l.finds fuel le mode r.0 rest r.2);
+}
+
+pub row_also : {A : Type 0} {p : Piece} {v : A} (table : ℕ → List (ℕ × Reader A)) (other : ℕ → Reader A) (b c : ℕ)
+    → Lawful p (λ fuel. pick (table fuel) (other fuel) b) v → Lawful p (λ fuel. pick (table fuel) (other fuel) c) v → Lawful (also b c p) (λ fuel. choose (table fuel) (other fuel)) v
+unfolding choose
+row_also {p = p} {v = v} table other b c l k = record {
+  text_is_read = λ mode rest h. (p.text ++ rest, inl refl, l.text_is_read mode rest h);
+  strict_is_text = λ bytes rest r. elim r.1 [ inl e ↦ e ∙ ap (λ (t : List ℕ). b ∷ t) (l.strict_is_text r.0 rest r.2) | inr w ↦ absurd w.0 ];
+  fits = λ bytes rest r. l.fits r.0 rest r.2;
+  depth = l.depth + k.depth;
+  finds = λ fuel le mode bytes rest r. elim r.1 [ inl e ↦ rw e (l.finds fuel (omega arith) mode r.0 rest r.2) | inr w ↦ rw w.1 (k.finds fuel (omega arith) mode r.0 rest r.2) ];
+}
+
+-- a piece with two spellings, which one reader knows
+pub or_widely_lawful : {A : Type 0} {p q : Piece} {read : ℕ → Reader A} {v : A} → Lawful p read v → Lawful q read v → Lawful (or_widely p q) read v
+or_widely_lawful a b = record {
+  text_is_read = λ mode rest h. inl (a.text_is_read mode rest h);
+  strict_is_text = λ bytes rest r. elim r [ inl e ↦ a.strict_is_text bytes rest e | inr w ↦ absurd w.0 ];
+  fits = λ bytes rest r. elim r [ inl e ↦ a.fits bytes rest e | inr w ↦ absurd w.0 ];
+  depth = a.depth + b.depth;
+  finds = λ fuel le mode bytes rest r. elim r [ inl e ↦ a.finds fuel (omega arith) mode bytes rest e | inr w ↦ b.finds fuel (omega arith) mode bytes rest w.1 ];
+}
+
+-- no row is the byte's
+abbrev pub IsPast : {A : Type 0} → List (ℕ × Reader A) → ℕ → Type 0
+IsPast [] b = Unit {0}
+IsPast (row ∷ table) b = (b ≢ row.0) × IsPast table b
+
+other_than : (b c : ℕ) → b ≢ c → eqb b c ≡ false
+other_than b c h = grind (arith, nat_tests)
+
+pick_past : {A : Type 0} (table : List (ℕ × Reader A)) (other : Reader A) (b : ℕ) (bytes : List ℕ) → IsPast table b → pick table other b bytes ≡ other (b ∷ bytes)
+pick_past [] other b bytes h = refl
+pick_past (row ∷ table) other b bytes h = rw (other_than b row.0 h.0, pick) (pick_past table other b bytes h.1)
+
+-- Where the piece is, its first byte is one of which P holds.
+pub record Starts (p : Piece) (P : ℕ → Type 0) : Type 0 where
+  pub starts : (mode : Spelling) (bytes rest : List ℕ) → p.Reads mode bytes rest → (b : ℕ) × (more : List ℕ) × (bytes ≡ b ∷ more) × P b
+
+-- a piece whose first byte is in no row
+pub past : {A : Type 0} {p : Piece} {v : A} (table : ℕ → List (ℕ × Reader A)) (other : ℕ → Reader A) → ((fuel : ℕ) → Starts p (IsPast (table fuel))) → Lawful p other v → Lawful p (λ fuel. choose (table fuel) (other fuel)) v
+unfolding choose
+past table other begins l = record {
+  text_is_read = l.text_is_read;
+  strict_is_text = l.strict_is_text;
+  fits = l.fits;
+  depth = l.depth;
+  finds = λ fuel le mode bytes rest r.
+      (let s = (begins fuel).starts mode bytes rest r in
+      rw s.2 (pick_past (table fuel) (other fuel) s.0 s.1 s.3 ∙ rw s.2 at (l.finds fuel le mode bytes rest r)));
+}
+
+-- ---- one after the other
+
+pub then : {A B : Type 0} {p q : Piece} {read : ℕ → Reader A} {v : A} (next : ℕ → A → Reader B) {w : B} → Lawful p read v → Lawful q (λ fuel. next fuel v) w → Lawful (p ⨾ q) (λ fuel. read fuel >>= next fuel) w
+then {p = p} {q = q} next a b = record {
+  text_is_read = λ mode rest h. (q.text ++ rest, rw append_assoc (a.text_is_read mode (q.text ++ rest) h.0), b.text_is_read mode rest h.1);
+  strict_is_text = λ bytes rest r. a.strict_is_text bytes r.0 r.1 ∙ ap (λ (t : List ℕ). p.text ++ t) (b.strict_is_text r.0 rest r.2) ∙ sym (append_assoc p.text q.text rest);
+  fits = λ bytes rest r. (a.fits bytes r.0 r.1, b.fits r.0 rest r.2);
+  depth = a.depth + b.depth;
+  finds = λ fuel le mode bytes rest r. rw (a.finds fuel (omega arith) mode bytes r.0 r.1) (b.finds fuel (omega arith) mode r.0 rest r.2);
+}
+
+-- the value is made of what was read last
+pub last : {A B : Type 0} {p : Piece} {read : ℕ → Reader A} {v : A} (make : A → B) → Lawful p read v → Lawful p (λ fuel. read fuel >>= λ x. give (make x)) (make v)
+last make a = record {
+  text_is_read = a.text_is_read;
+  strict_is_text = a.strict_is_text;
+  fits = a.fits;
+  depth = a.depth;
+  finds = λ fuel le mode bytes rest r. rw (a.finds fuel le mode bytes rest r) refl;
+}
+
+-- a piece that is allowed where a fact holds
+pub only_where_lawful : {A : Type 0} {p : Piece} {read : ℕ → Reader A} {v : A} (P : Type 0) → Lawful p read v → Lawful (only_where P p) read v
+only_where_lawful P a = record {
+  text_is_read = λ mode rest h. (h.0, a.text_is_read mode rest h.1);
+  strict_is_text = λ bytes rest r. a.strict_is_text bytes rest r.1;
+  fits = λ bytes rest r. (r.0, a.fits bytes rest r.1);
+  depth = a.depth;
+  finds = λ fuel le mode bytes rest r. a.finds fuel le mode bytes rest r.1;
+}
+
+-- a piece for each value, with a reader of one that is called as often as there are values
+pub each_lawful : {A : Type 0} {form : Form A} {read : ℕ → Reader A} → ((v : A) → Lawful (form v) read v) → (vs : List A) → Lawful (each form vs) (λ fuel. times (read fuel) (length vs)) vs
+each_lawful laws [] = nothing_lawful []
+each_lawful laws (v ∷ vs) = then _ (laws v) (last _ (each_lawful laws vs))
+
+-- a reader that calls itself
+pub deeper : {A : Type 0} {p : Piece} {read : ℕ → Reader A} {v : A} → Lawful p (λ fuel. read (suc fuel)) v → Lawful p read v
+deeper {p = p} {read = read} {v = v} a = record {
+  text_is_read = a.text_is_read;
+  strict_is_text = a.strict_is_text;
+  fits = a.fits;
+  depth = suc a.depth;
+  finds = finds;
+}
+  where
+    finds : (fuel : ℕ) → suc a.depth ≤ fuel → (mode : Spelling) (bytes rest : List ℕ) → p.Reads mode bytes rest → read fuel bytes ≡ Some (v, rest)
+    finds zero le mode bytes rest r = absurd (omega arith)
+    finds (suc fuel) le mode bytes rest r = a.finds fuel (omega arith) mode bytes rest r
+
+-- ---- all of the bytes
+
+abbrev pub done : {A : Type 0} → Reader A → List ℕ → Option A
+done read bytes = go_on (read bytes) (λ v rest. Some v)
+
+pub whole_lawful : {A : Type 0} {p : Piece} {read : ℕ → Reader A} {v : A} → Lawful p read v → LawfulWhole (all_of p) (λ fuel. done (read fuel)) v
+whole_lawful {p = p} a = record {
+  text_is_read = λ mode h. rw append-nil at (a.text_is_read mode [] h);
+  strict_is_text = λ bytes r. a.strict_is_text bytes [] r ∙ append-nil p.text;
+  fits = λ bytes r. a.fits bytes [] r;
+  depth = a.depth;
+  finds = λ fuel le mode bytes r. rw (a.finds fuel le mode bytes [] r) refl;
+}
+
+pub raw_lawful : {A : Type 0} (P : List ℕ → Type 0) (bs : List ℕ) (make : List ℕ → A) → LawfulWhole (raw P bs) (λ fuel bytes. Some (make bytes)) (make bs)
+raw_lawful P bs make = record {
+  text_is_read = λ mode h. (h, refl);
+  strict_is_text = λ bytes r. r.1;
+  fits = λ bytes r. r.0;
+  depth = 0;
+  finds = λ fuel le mode bytes r. ap (λ (t : List ℕ). Some (make t)) r.1;
+}
+
+pub then_whole : {A B : Type 0} {p : Piece} {q : Whole} {read : ℕ → Reader A} {v : A} (next : ℕ → A → List ℕ → Option B) {w : B} → Lawful p read v → LawfulWhole q (λ fuel. next fuel v) w → LawfulWhole (p ⨾⨾ q) (λ fuel bytes. go_on (read fuel bytes) (next fuel)) w
+then_whole {p = p} {q = q} next a b = record {
+  text_is_read = λ mode h. (q.text, a.text_is_read mode q.text h.0, b.text_is_read mode h.1);
+  strict_is_text = λ bytes r. a.strict_is_text bytes r.0 r.1 ∙ ap (λ (t : List ℕ). p.text ++ t) (b.strict_is_text r.0 r.2);
+  fits = λ bytes r. (a.fits bytes r.0 r.1, b.fits r.0 r.2);
+  depth = a.depth + b.depth;
+  finds = λ fuel le mode bytes r. rw (a.finds fuel (omega arith) mode bytes r.0 r.1) (b.finds fuel (omega arith) mode r.0 r.2);
+}
+
+abbrev pub made : {A B : Type 0} → (A → B) → Option A → Option B
+made make None = None
+made make (Some v) = Some (make v)
+
+pub last_whole : {A B : Type 0} {w : Whole} {read : ℕ → List ℕ → Option A} {v : A} (make : A → B) → LawfulWhole w read v → LawfulWhole w (λ fuel bytes. made make (read fuel bytes)) (make v)
+last_whole make a = record {
+  text_is_read = a.text_is_read;
+  strict_is_text = a.strict_is_text;
+  fits = a.fits;
+  depth = a.depth;
+  finds = λ fuel le mode bytes r. rw (a.finds fuel le mode bytes r) refl;
+}
+
+-- ---- up to the end
+
+-- What is made where no byte is left, or else of what is read next. It stays shut, as `choose` does.
+unfoldable pub to_end : {A B : Type 0} → B → Reader A → (A → List ℕ → Option B) → List ℕ → Option B
+to_end none read next [] = Some none
+to_end none read next (b ∷ bytes) = go_on (read (b ∷ bytes)) next
+
+pub at_end : {A B : Type 0} (none : B) (read : ℕ → Reader A) (next : ℕ → A → List ℕ → Option B) → LawfulWhole end (λ fuel. to_end none (read fuel) (next fuel)) none
+unfolding to_end
+at_end none read next = record {
+  text_is_read = λ mode h. refl;
+  strict_is_text = λ bytes r. r;
+  fits = λ bytes r. tt;
+  depth = 0;
+  finds = λ fuel le mode bytes r. rw r refl;
+}
+
+some_left : {A B : Type 0} (none : B) (read : Reader A) (next : A → List ℕ → Option B) (bytes : List ℕ) (x : A × List ℕ) → read [] ≡ None → read bytes ≡ Some x → to_end none read next bytes ≡ go_on (read bytes) next
+unfolding to_end
+some_left none read next [] x nowhere found = absurd cc
+some_left none read next (b ∷ bytes) x nowhere found = refl
+
+pub before_end : {A B : Type 0} {p : Piece} {q : Whole} {v : A} {w : B} (none : B) (read : ℕ → Reader A) (next : ℕ → A → List ℕ → Option B)
+    → ((fuel : ℕ) → read fuel [] ≡ None) → Lawful p read v → LawfulWhole q (λ fuel. next fuel v) w → LawfulWhole (p ⨾⨾ q) (λ fuel. to_end none (read fuel) (next fuel)) w
+before_end {v = v} none read next some a b =
+    let l = then_whole next a b in
+    record {
+      text_is_read = l.text_is_read;
+      strict_is_text = l.strict_is_text;
+      fits = l.fits;
+      depth = a.depth + l.depth;
+      finds = λ fuel le mode bytes r. some_left none (read fuel) (next fuel) bytes (v, r.0) (some fuel) (a.finds fuel (omega arith) mode bytes r.0 r.1) ∙ l.finds fuel (omega arith) mode bytes r;
+    }
+
+pub deeper_whole : {A : Type 0} {p : Whole} {read : ℕ → List ℕ → Option A} {v : A} → LawfulWhole p (λ fuel. read (suc fuel)) v → LawfulWhole p read v
+deeper_whole {p = p} {read = read} {v = v} a = record {
+  text_is_read = a.text_is_read;
+  strict_is_text = a.strict_is_text;
+  fits = a.fits;
+  depth = suc a.depth;
+  finds = finds;
+}
+  where
+    finds : (fuel : ℕ) → suc a.depth ≤ fuel → (mode : Spelling) (bytes : List ℕ) → p.ReadsAll mode bytes → read fuel bytes ≡ Some v
+    finds zero le mode bytes r = absurd (omega arith)
+    finds (suc fuel) le mode bytes r = a.finds fuel (omega arith) mode bytes r

@@ -1,0 +1,147 @@
+-- The laws of the forms of numbers.
+use Rattle.std.proofs.Common.{◌≡◌, ℕ, ℤ, pos, negsuc, zero, suc, ◌+◌, ◌*◌, ◌/◌, ◌%◌, ◌-◌, ◌^◌, ◌<◌, ◌≤◌, cond, ltb, List, [], ◌∷◌, ◌++◌, map, Option, Some, None, refl, ap, ◌∙◌, arith, inl, inr}
+use Rattle.std.proofs.lemmas.Bool.{cases_lt, le-ltb, lt-ltb}
+use Rattle.std.proofs.lemmas.List.{append-nil}
+use Rattle.wenc_base.specs.Piece.{Piece, Spelling, Strict, Wide}
+use Rattle.wenc_base.specs.Number.{groups, MayGoOn, complement, ReadsGroups, last, more, u32, u64, i64, index}
+use Rattle.wenc_base.specs.laws.Groups.{limit, groups_below, groups_from}
+use Rattle.wenc_base.specs.laws.Lawful.{Lawful, Reader, Starts}
+
+may_go_on : (mode : Spelling) (top n : ℕ) → top ≤ n → MayGoOn mode top n
+may_go_on Strict top n h = h
+may_go_on Wide top n h = tt
+
+-- the text is the same in a larger room
+pub same_in_room : (top room larger n : ℕ) → room ≤ larger → n < limit top room → groups top larger n ≡ groups top room n
+unfolding groups
+same_in_room top zero larger n le h = groups_below top larger n h
+same_in_room top (suc room) zero n le h = absurd (omega arith)
+same_in_room top (suc room) (suc larger) n le h =
+    elim (cases_lt n top) [
+      | inl lt ↦ rw (groups_below top (suc larger) n lt, groups_below top (suc room) n lt) refl
+      | inr ge ↦ rw (groups_from top larger n ge, groups_from top room n ge, same_in_room top room larger (n / 128) (omega arith) (omega arith)) refl
+    ]
+
+-- the text is read, in each mode
+groups_read : (mode : Spelling) (top room n : ℕ) (rest : List ℕ) → n < limit top room → ReadsGroups mode top room n (groups top room n ++ rest) rest
+unfolding groups
+groups_read mode top zero n rest h = last h
+groups_read mode top (suc room) n rest h =
+    elim (cases_lt n top) [
+      | inl lt ↦ rw (groups_below top (suc room) n lt) (last lt)
+      | inr le ↦ rw (groups_from top room n le) (more {b = n % 128 + 128} {high = n / 128} (omega arith) (omega arith) (may_go_on mode top n le) (omega arith) (groups_read mode top room (n / 128) rest (omega arith)))
+    ]
+
+-- what is read strictly is the text
+strict_groups : (top room n : ℕ) (bytes rest : List ℕ) → ReadsGroups Strict top room n bytes rest → bytes ≡ groups top room n ++ rest
+strict_groups top room n bytes rest (last lt) = rw (groups_below top room n lt) refl
+strict_groups top _ n _ rest (more {room = room} {b = b} {high = high} {bytes = bytes} low byte on sum r) =
+    let head : n % 128 + 128 ≡ b = omega arith in
+    let tail : n / 128 ≡ high = omega arith in
+    rw (groups_from top room n on, head, tail) (ap (λ (t : List ℕ). b ∷ t) (strict_groups top room high bytes rest r))
+
+with_low : ℕ → Option (ℕ × List ℕ) → Option (ℕ × List ℕ)
+with_low b None = None
+with_low b (Some x) = Some (b - 128 + 128 * x.0, x.1)
+
+-- reads groups up to the last, however many there are
+pub read_groups : Reader ℕ
+read_groups [] = None
+read_groups (b ∷ bytes) = cond (ltb b 128) (Some (b, bytes)) (with_low b (read_groups bytes))
+
+-- it finds the number
+pub groups_are_read : (mode : Spelling) (top room n : ℕ) (bytes rest : List ℕ) → top ≤ 128 → ReadsGroups mode top room n bytes rest → read_groups bytes ≡ Some (n, rest)
+unfolding read_groups with_low
+groups_are_read mode top room n bytes rest small (last lt) = rw (lt-ltb n 128 (omega arith)) refl
+groups_are_read mode top _ n _ rest small (more {room = room} {b = b} {high = high} {bytes = bytes} low byte on sum r) =
+    let value : b - 128 + 128 * high ≡ n = omega arith in
+    rw (le-ltb b 128 low, groups_are_read mode top room high bytes rest small r, value) refl
+
+-- a number below `bound`, with the text of a larger room
+abbrev number : ℕ → ℕ → ℕ → ℕ → ℕ → Piece
+number top room larger bound n = record {
+  Fits = n < bound;
+  text = groups top larger n;
+  Reads = λ mode bytes rest. (n < bound) × ReadsGroups mode top room n bytes rest;
+}
+
+-- each form of numbers below a bound
+number_lawful : (top room larger bound n : ℕ) → top ≤ 128 → room ≤ larger → bound ≤ limit top room → Lawful (number top room larger bound n) (λ fuel. read_groups) n
+number_lawful top room larger bound n small le below = record {
+  text_is_read = λ mode rest h. (h, rw (same h) (groups_read mode top room n rest (omega arith)));
+  strict_is_text = λ bytes rest r. rw (same r.0) (strict_groups top room n bytes rest r.1);
+  fits = λ bytes rest r. r.0;
+  depth = 0;
+  finds = λ fuel le mode bytes rest r. groups_are_read mode top room n bytes rest small r.1;
+}
+  where
+    same : n < bound → groups top larger n ≡ groups top room n
+    same h = same_in_room top room larger n le (omega arith)
+
+pub u32_lawful : (n : ℕ) → Lawful (u32 n) (λ fuel. read_groups) n
+u32_lawful n = number_lawful 128 4 9 (2 ^ 32) n (omega arith) (omega arith) (omega arith)
+
+pub u64_lawful : (n : ℕ) → Lawful (u64 n) (λ fuel. read_groups) n
+u64_lawful n = number_lawful 128 9 9 (2 ^ 64) n (omega arith) (omega arith) (omega arith)
+
+pub index_lawful : (n : ℕ) → Lawful (index n) (λ fuel. read_groups) n
+index_lawful n = number_lawful 64 4 9 (2 ^ 32) n (omega arith) (omega arith) (omega arith)
+
+-- an index begins with a byte below 64 or from 128 on
+pub index_starts : (P : ℕ → Type 0) → ((b : ℕ) → b < 64 → P b) → ((b : ℕ) → 128 ≤ b → P b) → (n : ℕ) → Starts (index n) P
+index_starts P low high n = record { starts = λ mode bytes rest r. first_byte mode 4 n bytes rest r.1 }
+  where
+    first_byte : (mode : Spelling) (room n : ℕ) (bytes rest : List ℕ) → ReadsGroups mode 64 room n bytes rest → (b : ℕ) × (more : List ℕ) × (bytes ≡ b ∷ more) × P b
+    first_byte mode room n _ rest (last lt) = (n, rest, refl, low n lt)
+    first_byte mode _ n _ rest (more {b = b} {bytes = bytes} from byte on sum r) = (b, bytes, refl, high b from)
+
+-- ---- signed numbers
+
+abbrev lower : ℕ → ℤ → ℤ
+lower b (pos high) = pos (b - 128 + 128 * high)
+lower b (negsuc high) = negsuc (255 - b + 128 * high)
+
+lowered : ℕ → Option (ℤ × List ℕ) → Option (ℤ × List ℕ)
+lowered b None = None
+lowered b (Some x) = Some (lower b x.0, x.1)
+
+-- reads groups up to the last, whose bit 6 says whether the number is negative
+pub read_signed : Reader ℤ
+read_signed [] = None
+read_signed (b ∷ bytes) = cond (ltb b 64) (Some (pos b, bytes)) (cond (ltb b 128) (Some (negsuc (127 - b), bytes)) (lowered b (read_signed bytes)))
+
+-- it finds a number from 0 on
+pos_is_read : (room n : ℕ) (bytes rest : List ℕ) → ReadsGroups Strict 64 room n bytes rest → read_signed bytes ≡ Some (pos n, rest)
+unfolding read_signed lowered
+pos_is_read room n bytes rest (last lt) = rw (lt-ltb n 64 lt) refl
+pos_is_read _ n _ rest (more {room = room} {b = b} {high = high} {bytes = bytes} low byte on sum r) =
+    let value : b - 128 + 128 * high ≡ n = omega arith in
+    rw (le-ltb b 64 (omega arith), le-ltb b 128 low, pos_is_read room high bytes rest r, value) refl
+
+-- and a number below 0, where the groups are turned over, and those behind them
+negsuc_is_read : (room n : ℕ) (front behind rest : List ℕ) → ReadsGroups Strict 64 room n front behind
+    → read_signed (map complement front ++ rest) ≡ Some (negsuc n, map complement behind ++ rest)
+unfolding read_signed lowered
+negsuc_is_read room n front behind rest (last lt) =
+    let value : 127 - (127 - n) ≡ n = omega arith in
+    rw (lt-ltb n 128 (omega arith), le-ltb (127 - n) 64 (omega arith), lt-ltb (127 - n) 128 (omega arith), value) refl
+negsuc_is_read _ n _ behind rest (more {room = room} {b = b} {high = high} {bytes = front} low byte on sum r) =
+    let value : 255 - (383 - b) + 128 * high ≡ n = omega arith in
+    rw (le-ltb b 128 low, le-ltb (383 - b) 64 (omega arith), le-ltb (383 - b) 128 (omega arith), negsuc_is_read room high front behind rest r, value) refl
+
+pub i64_lawful : (z : ℤ) → Lawful (i64 z) (λ fuel. read_signed) z
+i64_lawful (pos n) = record {
+  text_is_read = λ mode rest h. (h, (let fits : n < 2 ^ 63 = h.sfits in groups_read Strict 64 9 n rest (omega arith)));
+  strict_is_text = λ bytes rest r. strict_groups 64 9 n bytes rest r.1;
+  fits = λ bytes rest r. r.0;
+  depth = 0;
+  finds = λ fuel le mode bytes rest r. pos_is_read 9 n bytes rest r.1;
+}
+i64_lawful (negsuc n) = record {
+  text_is_read = λ mode rest h. (h, (groups 64 9 n, refl, (let fits : n < 2 ^ 63 = h.sfits in rw append-nil at (groups_read Strict 64 9 n [] (omega arith)))));
+  strict_is_text = λ bytes rest r. (let same : r.1.0 ≡ groups 64 9 n = strict_groups 64 9 n r.1.0 [] r.1.2 ∙ append-nil (groups 64 9 n) in
+      r.1.1 ∙ ap (λ (front : List ℕ). map complement front ++ rest) same);
+  fits = λ bytes rest r. r.0;
+  depth = 0;
+  finds = λ fuel le mode bytes rest r. rw r.1.1 (negsuc_is_read 9 n r.1.0 [] rest r.1.2);
+}

@@ -1,0 +1,115 @@
+-- The laws of value types of core modules.
+use Rattle.std.proofs.Common.{ℕ, Bool, true, false, List, [], ◌∷◌, ◌++◌, refl, arith}
+use Rattle.wenc_base.specs.Piece.{◌▸◌}
+use Rattle.wenc_base.specs.laws.Lawful.{Lawful, Reader, ◌>>=◌, give, nowhere, choose, row, row_byte, or_widely_lawful, past, last}
+use Rattle.wenc_base.specs.laws.Numbers.{read_groups, index_lawful, index_starts}
+use Rattle.wenc_base.specs.declared.types.ValType.{ValType}
+use Rattle.wenc_base.specs.declared.types.ValType.TheVariants.{I32, I64, F32, F64, V128, Ref}
+use Rattle.wenc_base.specs.declared.types.RefType.{RefType}
+use Rattle.wenc_base.specs.declared.types.HeapType.{HeapType}
+use Rattle.wenc_base.specs.declared.types.HeapType.TheVariants.{Abstract, Concrete}
+use Rattle.wenc_base.specs.declared.types.AbstractHeapType.{AbstractHeapType}
+use Rattle.wenc_base.specs.declared.types.AbstractHeapType.TheVariants.{Func, Extern, Any, None, NoExtern, NoFunc, Eq, Struct, Array, I31, Exn, NoExn}
+use Rattle.wenc_base.specs.Types.{abstract_type, heap_type, nullable, reference_to, reference, val_type}
+
+abbrev pub abstract_rows : {A : Type 0} → (AbstractHeapType → A) → List (ℕ × Reader A)
+abstract_rows make =
+    (0x74, give (make NoExn)) ∷
+    (0x73, give (make NoFunc)) ∷
+    (0x72, give (make NoExtern)) ∷
+    (0x71, give (make None)) ∷
+    (0x70, give (make Func)) ∷
+    (0x6f, give (make Extern)) ∷
+    (0x6e, give (make Any)) ∷
+    (0x6d, give (make Eq)) ∷
+    (0x6c, give (make I31)) ∷
+    (0x6b, give (make Struct)) ∷
+    (0x6a, give (make Array)) ∷
+    (0x69, give (make Exn)) ∷ []
+
+-- an abstract type, where other rows may follow in the table
+abstract_row : {A : Type 0} (make : AbstractHeapType → A) (rows : ℕ → List (ℕ × Reader A)) (other : ℕ → Reader A) (t : AbstractHeapType)
+    → Lawful (abstract_type t) (λ fuel. choose (abstract_rows make ++ rows fuel) (other fuel)) (make t)
+abstract_row make rows other NoExn = row_byte _ _ 0x74 (λ fuel rest. refl)
+abstract_row make rows other NoFunc = row_byte _ _ 0x73 (λ fuel rest. refl)
+abstract_row make rows other NoExtern = row_byte _ _ 0x72 (λ fuel rest. refl)
+abstract_row make rows other None = row_byte _ _ 0x71 (λ fuel rest. refl)
+abstract_row make rows other Func = row_byte _ _ 0x70 (λ fuel rest. refl)
+abstract_row make rows other Extern = row_byte _ _ 0x6f (λ fuel rest. refl)
+abstract_row make rows other Any = row_byte _ _ 0x6e (λ fuel rest. refl)
+abstract_row make rows other Eq = row_byte _ _ 0x6d (λ fuel rest. refl)
+abstract_row make rows other I31 = row_byte _ _ 0x6c (λ fuel rest. refl)
+abstract_row make rows other Struct = row_byte _ _ 0x6b (λ fuel rest. refl)
+abstract_row make rows other Array = row_byte _ _ 0x6a (λ fuel rest. refl)
+abstract_row make rows other Exn = row_byte _ _ 0x69 (λ fuel rest. refl)
+
+abbrev pub read_abstract : Reader AbstractHeapType
+read_abstract = choose (abstract_rows (λ t. t)) nowhere
+
+pub abstract_type_lawful : (t : AbstractHeapType) → Lawful (abstract_type t) (λ fuel. read_abstract) t
+abstract_type_lawful t = abstract_row (λ u. u) (λ fuel. []) _ t
+
+abbrev pub read_heap_type : Reader HeapType
+read_heap_type = choose (abstract_rows Abstract) (read_groups >>= λ n. give (Concrete n))
+
+pub heap_type_lawful : (h : HeapType) → Lawful (heap_type h) (λ fuel. read_heap_type) h
+heap_type_lawful (Abstract t) = abstract_row Abstract (λ fuel. []) _ t
+heap_type_lawful (Concrete n) = past _ _ (λ fuel. index_starts _ (λ b lt. omega arith) (λ b le. omega arith) n) (last Concrete (index_lawful n))
+
+abbrev pub to : Bool → HeapType → RefType
+to nullable heap_type = record { nullable = nullable; heap_type = heap_type }
+
+abbrev pub long_rows : {A : Type 0} → (RefType → A) → List (ℕ × Reader A)
+long_rows make = (0x63, read_heap_type >>= λ h. give (make (to true h))) ∷ (0x64, read_heap_type >>= λ h. give (make (to false h))) ∷ []
+
+abbrev pub reference_rows : {A : Type 0} → (RefType → A) → List (ℕ × Reader A)
+reference_rows make = abstract_rows (λ t. make (to true (Abstract t))) ++ long_rows make
+
+-- a reference, where other rows may follow in the table
+module _ {A : Type 0} (make : RefType → A) (rows : ℕ → List (ℕ × Reader A)) (other : ℕ → Reader A) where
+  abbrev table : ℕ → Reader A
+  table fuel = choose (reference_rows make ++ rows fuel) (other fuel)
+
+  short : (t : AbstractHeapType) → Lawful (abstract_type t) table (make (to true (Abstract t)))
+  short t = abstract_row (λ u. make (to true (Abstract u))) (λ fuel. long_rows make ++ rows fuel) other t
+
+  long : (h : HeapType) → Lawful (0x63 ▸ heap_type h) table (make (to true h))
+  long h = row _ _ 0x63 (last (λ g. make (to true g)) (heap_type_lawful h))
+
+  reference_row : (is_nullable : Bool) (h : HeapType) → Lawful (reference_to is_nullable h) table (make (to is_nullable h))
+  reference_row false h = row _ _ 0x64 (last (λ g. make (to false g)) (heap_type_lawful h))
+  reference_row true (Concrete n) = long (Concrete n)
+  reference_row true (Abstract Func) = or_widely_lawful (short Func) (long (Abstract Func))
+  reference_row true (Abstract Extern) = or_widely_lawful (short Extern) (long (Abstract Extern))
+  reference_row true (Abstract t) = or_widely_lawful (long (Abstract t)) (short t)
+
+abbrev pub read_reference : Reader RefType
+read_reference = choose (reference_rows (λ r. r)) nowhere
+
+pub reference_lawful : (r : RefType) → Lawful (reference r) (λ fuel. read_reference) r
+reference_lawful r = reference_row (λ s. s) (λ fuel. []) _ r.nullable r.heap_type
+
+abbrev number_rows : List (ℕ × Reader ValType)
+number_rows = (0x7f, give I32) ∷ (0x7e, give I64) ∷ (0x7d, give F32) ∷ (0x7c, give F64) ∷ (0x7b, give V128) ∷ []
+
+abbrev pub read_val_type : Reader ValType
+read_val_type = choose (reference_rows Ref ++ number_rows) nowhere
+
+pub val_type_lawful : (t : ValType) → Lawful (val_type t) (λ fuel. read_val_type) t
+val_type_lawful I32 = row_byte _ _ 0x7f (λ fuel rest. refl)
+val_type_lawful I64 = row_byte _ _ 0x7e (λ fuel rest. refl)
+val_type_lawful F32 = row_byte _ _ 0x7d (λ fuel rest. refl)
+val_type_lawful F64 = row_byte _ _ 0x7c (λ fuel rest. refl)
+val_type_lawful V128 = row_byte _ _ 0x7b (λ fuel rest. refl)
+val_type_lawful (Ref r) = reference_row Ref (λ fuel. number_rows) _ r.nullable r.heap_type
+
+-- a reference to what fits
+pub reference_fits : (r : RefType) → (heap_type r.heap_type).Fits → (reference r).Fits
+reference_fits r h = fits r.nullable r.heap_type h
+  where
+    fits : (is_nullable : Bool) (t : HeapType) → (heap_type t).Fits → (reference_to is_nullable t).Fits
+    fits false t h = h
+    fits true (Concrete n) h = h
+    fits true (Abstract Func) h = tt
+    fits true (Abstract Extern) h = tt
+    fits true (Abstract t) h = tt

@@ -1,0 +1,2 @@
+-- Why the laws of the forms hold.
+pub mod Canonicals

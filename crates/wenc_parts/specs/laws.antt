@@ -1,0 +1,7 @@
+-- Why the laws of the forms hold.
+pub mod SectionIds
+pub mod Types
+pub mod Exports
+pub mod Imports
+pub mod Instances
+pub mod Aliases

@@ -1,0 +1,35 @@
+-- The law of the ids of sections.
+use Rattle.std.proofs.Common.{[], ◌∷◌, refl}
+use Rattle.wenc_base.specs.laws.Lawful.{Lawful, Reader, give, nowhere, choose, row_byte}
+use Rattle.wenc_parts.specs.declared.component.ComponentSectionId.{ComponentSectionId}
+use Rattle.wenc_parts.specs.declared.component.ComponentSectionId.TheVariants.{CoreCustom, CoreModule, CoreInstance, CoreType, Component, Instance, Alias, «Type» as TypeSection, CanonicalFunction, Start, Import, Export}
+use Rattle.wenc_parts.specs.SectionIds.{section_id}
+
+abbrev pub read_section : Reader ComponentSectionId
+read_section = choose (
+    (0, give CoreCustom) ∷
+    (1, give CoreModule) ∷
+    (2, give CoreInstance) ∷
+    (3, give CoreType) ∷
+    (4, give Component) ∷
+    (5, give Instance) ∷
+    (6, give Alias) ∷
+    (7, give TypeSection) ∷
+    (8, give CanonicalFunction) ∷
+    (9, give Start) ∷
+    (10, give Import) ∷
+    (11, give Export) ∷ []) nowhere
+
+pub section_lawful : (id : ComponentSectionId) → Lawful (section_id id) (λ fuel. read_section) id
+section_lawful CoreCustom = row_byte _ _ 0 (λ fuel rest. refl)
+section_lawful CoreModule = row_byte _ _ 1 (λ fuel rest. refl)
+section_lawful CoreInstance = row_byte _ _ 2 (λ fuel rest. refl)
+section_lawful CoreType = row_byte _ _ 3 (λ fuel rest. refl)
+section_lawful Component = row_byte _ _ 4 (λ fuel rest. refl)
+section_lawful Instance = row_byte _ _ 5 (λ fuel rest. refl)
+section_lawful Alias = row_byte _ _ 6 (λ fuel rest. refl)
+section_lawful TypeSection = row_byte _ _ 7 (λ fuel rest. refl)
+section_lawful CanonicalFunction = row_byte _ _ 8 (λ fuel rest. refl)
+section_lawful Start = row_byte _ _ 9 (λ fuel rest. refl)
+section_lawful Import = row_byte _ _ 10 (λ fuel rest. refl)
+section_lawful Export = row_byte _ _ 11 (λ fuel rest. refl)

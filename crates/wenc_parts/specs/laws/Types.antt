@@ -1,0 +1,64 @@
+-- The laws of value types.
+use Rattle.std.proofs.Common.{ℕ, List, [], ◌∷◌, ◌++◌, Option, Some, None, refl, arith}
+use Rattle.wenc_base.specs.laws.Lawful.{Lawful, Reader, ◌>>=◌, give, nowhere, choose, row, row_byte, past, last}
+use Rattle.wenc_base.specs.laws.Numbers.{read_groups, index_lawful, index_starts}
+use Rattle.wenc_parts.specs.declared.types.PrimitiveValType.{PrimitiveValType}
+use Rattle.wenc_parts.specs.declared.types.PrimitiveValType.TheVariants.{Bool, S8, U8, S16, U16, S32, U32, S64, U64, F32, F64, Char, String, ErrorContext}
+use Rattle.wenc_parts.specs.declared.types.ComponentValType.{ComponentValType}
+use Rattle.wenc_parts.specs.declared.types.ComponentValType.TheVariants.{Primitive, «Type» as TypeIndex}
+use Rattle.wenc_parts.specs.Types.{primitive, value_type, result_list}
+
+abbrev pub primitive_rows : {A : Type 0} → (PrimitiveValType → A) → List (ℕ × Reader A)
+primitive_rows make =
+    (0x7f, give (make Bool)) ∷
+    (0x7e, give (make S8)) ∷
+    (0x7d, give (make U8)) ∷
+    (0x7c, give (make S16)) ∷
+    (0x7b, give (make U16)) ∷
+    (0x7a, give (make S32)) ∷
+    (0x79, give (make U32)) ∷
+    (0x78, give (make S64)) ∷
+    (0x77, give (make U64)) ∷
+    (0x76, give (make F32)) ∷
+    (0x75, give (make F64)) ∷
+    (0x74, give (make Char)) ∷
+    (0x73, give (make String)) ∷
+    (0x64, give (make ErrorContext)) ∷ []
+
+-- a primitive type, where others may follow in the table
+pub primitive_row : {A : Type 0} (make : PrimitiveValType → A) (rows : ℕ → List (ℕ × Reader A)) (other : ℕ → Reader A) (p : PrimitiveValType)
+    → Lawful (primitive p) (λ fuel. choose (primitive_rows make ++ rows fuel) (other fuel)) (make p)
+primitive_row make rows other Bool = row_byte _ _ 0x7f (λ fuel rest. refl)
+primitive_row make rows other S8 = row_byte _ _ 0x7e (λ fuel rest. refl)
+primitive_row make rows other U8 = row_byte _ _ 0x7d (λ fuel rest. refl)
+primitive_row make rows other S16 = row_byte _ _ 0x7c (λ fuel rest. refl)
+primitive_row make rows other U16 = row_byte _ _ 0x7b (λ fuel rest. refl)
+primitive_row make rows other S32 = row_byte _ _ 0x7a (λ fuel rest. refl)
+primitive_row make rows other U32 = row_byte _ _ 0x79 (λ fuel rest. refl)
+primitive_row make rows other S64 = row_byte _ _ 0x78 (λ fuel rest. refl)
+primitive_row make rows other U64 = row_byte _ _ 0x77 (λ fuel rest. refl)
+primitive_row make rows other F32 = row_byte _ _ 0x76 (λ fuel rest. refl)
+primitive_row make rows other F64 = row_byte _ _ 0x75 (λ fuel rest. refl)
+primitive_row make rows other Char = row_byte _ _ 0x74 (λ fuel rest. refl)
+primitive_row make rows other String = row_byte _ _ 0x73 (λ fuel rest. refl)
+primitive_row make rows other ErrorContext = row_byte _ _ 0x64 (λ fuel rest. refl)
+
+abbrev pub read_primitive : Reader PrimitiveValType
+read_primitive = choose (primitive_rows (λ p. p)) nowhere
+
+pub primitive_lawful : (p : PrimitiveValType) → Lawful (primitive p) (λ fuel. read_primitive) p
+primitive_lawful p = primitive_row (λ q. q) (λ fuel. []) _ p
+
+abbrev pub read_value_type : Reader ComponentValType
+read_value_type = choose (primitive_rows Primitive) (read_groups >>= λ n. give (TypeIndex n))
+
+pub value_type_lawful : (t : ComponentValType) → Lawful (value_type t) (λ fuel. read_value_type) t
+value_type_lawful (Primitive p) = primitive_row Primitive (λ fuel. []) _ p
+value_type_lawful (TypeIndex n) = past _ _ (λ fuel. index_starts _ (λ b lt. omega arith) (λ b le. omega arith) n) (last TypeIndex (index_lawful n))
+
+abbrev pub read_result_list : Reader (Option ComponentValType)
+read_result_list = choose ((0x00, read_value_type >>= λ t. give (Some t)) ∷ (0x01, choose ((0x00, give None) ∷ []) nowhere) ∷ []) nowhere
+
+pub result_list_lawful : (r : Option ComponentValType) → Lawful (result_list r) (λ fuel. read_result_list) r
+result_list_lawful (Some t) = row _ _ 0x00 (last Some (value_type_lawful t))
+result_list_lawful None = row _ _ 0x01 (row_byte _ _ 0x00 (λ fuel rest. refl))

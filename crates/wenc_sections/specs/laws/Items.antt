@@ -1,0 +1,115 @@
+-- The laws of the items of flat sections.
+use Rattle.std.proofs.Common.{ℕ, List, [], ◌∷◌, Option}
+use Rattle.wenc_base.specs.Piece.{Form}
+use Rattle.wenc_base.specs.laws.Lawful.{Lawful, Reader, ◌>>=◌, give, nowhere, choose, done, row, then, last, whole_lawful}
+use Rattle.wenc_base.specs.laws.Numbers.{read_groups, u32_lawful}
+use Rattle.wenc_base.specs.laws.Forms.{read_name, name_lawful, read_list, list_lawful, read_option, option_lawful, read_sized, sized_lawful}
+use Rattle.wenc_base.specs.laws.Exports.{read_export_kind as read_core_kind, export_kind_lawful as core_kind_lawful}
+use Rattle.wenc_base.specs.declared.exports.ExportKind.{ExportKind}
+use Rattle.wenc_parts.specs.declared.exports.ComponentExportKind.{ComponentExportKind}
+use Rattle.wenc_parts.specs.declared.imports.ComponentTypeRef.{ComponentTypeRef}
+use Rattle.wenc_parts.specs.declared.instances.ModuleArg.{ModuleArg}
+use Rattle.wenc_parts.specs.Imports.{ExternName}
+use Rattle.wenc_parts.specs.laws.Exports.{read_export_kind, export_kind_lawful}
+use Rattle.wenc_parts.specs.laws.Imports.{read_type_reference, type_reference_lawful, read_extern_name, extern_name_lawful}
+use Rattle.wenc_parts.specs.laws.Instances.{read_module_argument, module_argument_lawful}
+use Rattle.wenc_sections.specs.Imports.{Import, import_item}
+use Rattle.wenc_sections.specs.Exports.{Export, export_item}
+use Rattle.wenc_base.specs.Forms.{counted}
+use Rattle.wenc_sections.specs.Instances.{Argument, argument, CoreExport, core_export, CoreInstance, CoreInstantiate, CoreExports, core_instance, Given, given, Exported, exported, Instance, Instantiate, Exports, instance}
+use Rattle.wenc_sections.specs.Start.{Start, start}
+
+-- ---- imports and exports
+
+abbrev imported : ExternName → ComponentTypeRef → Import
+imported name what = record { name = name; what = what }
+
+abbrev pub read_import : Reader Import
+read_import = read_extern_name >>= λ name. read_type_reference >>= λ what. give (imported name what)
+
+pub import_lawful : (i : Import) → Lawful (import_item i) (λ fuel. read_import) i
+import_lawful i = then _ (extern_name_lawful i.name) (last (imported i.name) (type_reference_lawful i.what))
+
+abbrev ascribed : ExternName → ComponentExportKind → ℕ → Option ComponentTypeRef → Export
+ascribed name kind index what = record { name = name; kind = kind; index = index; what = what }
+
+abbrev pub read_export : Reader Export
+read_export = read_extern_name >>= λ name. read_export_kind >>= λ kind. read_groups >>= λ index. read_option read_type_reference >>= λ what. give (ascribed name kind index what)
+
+pub export_lawful : (e : Export) → Lawful (export_item e) (λ fuel. read_export) e
+export_lawful e = then _ (extern_name_lawful e.name) (then _ (export_kind_lawful e.kind) (then _ (u32_lawful e.index) (last (ascribed e.name e.kind e.index) (option_lawful type_reference_lawful e.what))))
+
+-- ---- instances of core modules
+
+abbrev passed : List ℕ → ModuleArg → Argument
+passed name value = record { name = name; value = value }
+
+abbrev pub read_argument : Reader Argument
+read_argument = read_name >>= λ name. read_module_argument >>= λ value. give (passed name value)
+
+pub argument_lawful : (a : Argument) → Lawful (argument a) (λ fuel. read_argument) a
+argument_lawful a = then _ (name_lawful a.name) (last (passed a.name) (module_argument_lawful a.value))
+
+abbrev core_exported : List ℕ → ExportKind → ℕ → CoreExport
+core_exported name kind index = record { name = name; kind = kind; index = index }
+
+abbrev pub read_core_export : Reader CoreExport
+read_core_export = read_name >>= λ name. read_core_kind >>= λ kind. read_groups >>= λ index. give (core_exported name kind index)
+
+pub core_export_lawful : (e : CoreExport) → Lawful (core_export e) (λ fuel. read_core_export) e
+core_export_lawful e = then _ (name_lawful e.name) (then _ (core_kind_lawful e.kind) (last (core_exported e.name e.kind) (u32_lawful e.index)))
+
+abbrev pub read_core_instance : Reader CoreInstance
+read_core_instance = choose (
+    (0x00, read_groups >>= λ m. read_list read_argument >>= λ arguments. give (CoreInstantiate m arguments)) ∷
+    (0x01, read_list read_core_export >>= λ exports. give (CoreExports exports)) ∷ []) nowhere
+
+pub core_instance_lawful : (i : CoreInstance) → Lawful (core_instance i) (λ fuel. read_core_instance) i
+core_instance_lawful (CoreInstantiate m arguments) = row _ _ 0x00 (then _ (u32_lawful m) (last (CoreInstantiate m) (list_lawful argument_lawful arguments)))
+core_instance_lawful (CoreExports exports) = row _ _ 0x01 (last CoreExports (list_lawful core_export_lawful exports))
+
+-- ---- instances of components
+
+abbrev named : List ℕ → ComponentExportKind → ℕ → Given
+named name kind index = record { name = name; kind = kind; index = index }
+
+abbrev pub read_given : Reader Given
+read_given = read_name >>= λ name. read_export_kind >>= λ kind. read_groups >>= λ index. give (named name kind index)
+
+pub given_lawful : (g : Given) → Lawful (given g) (λ fuel. read_given) g
+given_lawful g = then _ (name_lawful g.name) (then _ (export_kind_lawful g.kind) (last (named g.name g.kind) (u32_lawful g.index)))
+
+abbrev out : ExternName → ComponentExportKind → ℕ → Exported
+out name kind index = record { name = name; kind = kind; index = index }
+
+abbrev pub read_exported : Reader Exported
+read_exported = read_extern_name >>= λ name. read_export_kind >>= λ kind. read_groups >>= λ index. give (out name kind index)
+
+pub exported_lawful : (e : Exported) → Lawful (exported e) (λ fuel. read_exported) e
+exported_lawful e = then _ (extern_name_lawful e.name) (then _ (export_kind_lawful e.kind) (last (out e.name e.kind) (u32_lawful e.index)))
+
+abbrev pub read_instance : Reader Instance
+read_instance = choose (
+    (0x00, read_groups >>= λ c. read_list read_given >>= λ arguments. give (Instantiate c arguments)) ∷
+    (0x01, read_list read_exported >>= λ exports. give (Exports exports)) ∷ []) nowhere
+
+pub instance_lawful : (i : Instance) → Lawful (instance i) (λ fuel. read_instance) i
+instance_lawful (Instantiate c arguments) = row _ _ 0x00 (then _ (u32_lawful c) (last (Instantiate c) (list_lawful given_lawful arguments)))
+instance_lawful (Exports exports) = row _ _ 0x01 (last Exports (list_lawful exported_lawful exports))
+
+-- ---- sections
+
+abbrev pub read_counted : {A : Type 0} → Reader A → Reader (List A)
+read_counted read = read_sized (done (read_list read))
+
+pub counted_lawful : {A : Type 0} {form : Form A} {read : ℕ → Reader A} → ((v : A) → Lawful (form v) read v) → (vs : List A) → Lawful (counted form vs) (λ fuel. read_counted (read fuel)) vs
+counted_lawful laws vs = sized_lawful (whole_lawful (list_lawful laws vs))
+
+abbrev started : ℕ → List ℕ → ℕ → Start
+started function arguments results = record { function = function; arguments = arguments; results = results }
+
+abbrev pub read_start : Reader Start
+read_start = read_sized (done (read_groups >>= λ function. read_list read_groups >>= λ arguments. read_groups >>= λ results. give (started function arguments results)))
+
+pub start_lawful : (s : Start) → Lawful (start s) (λ fuel. read_start) s
+start_lawful s = sized_lawful (whole_lawful (then _ (u32_lawful s.function) (then _ (list_lawful u32_lawful s.arguments) (last (started s.function s.arguments) (u32_lawful s.results)))))
