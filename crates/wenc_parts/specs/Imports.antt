@@ -81,6 +81,11 @@ abbrev pub option_cause : Option (List ℕ) → Fault → Type 0
 option_cause None fault = ⊥
 option_cause (Some text) fault = text_cause text fault
 
+-- one that is there fits
+abbrev pub OptionFits : Option (List ℕ) → Type 0
+OptionFits None = Unit {0}
+OptionFits (Some text) = (name text).Fits
+
 abbrev pub extern_name_cause : ExternName → Fault → Type 0
 extern_name_cause n fault = text_cause n.name fault ⊎ (option_cause n.implements fault ⊎ (option_cause n.version_suffix fault ⊎ option_cause n.external_id fault))
 

@@ -18,5 +18,5 @@ section_number Start = 9
 section_number Import = 10
 section_number Export = 11
 
-abbrev pub section : Form ComponentSectionId
-section id = byte (section_number id)
+abbrev pub section_id : Form ComponentSectionId
+section_id id = byte (section_number id)

@@ -1,10 +1,10 @@
-ghost use Rattle.std.specs.Prelude.{◌≡◌};
-ghost use Rattle.wenc_base.specs.laws.Lawful.{delimited as told_apart};
+ghost use Rattle.std.specs.Prelude.{◌≡◌, refl};
+ghost use Rattle.wenc_base.specs.laws.Delimited.{itself};
 
 use crate::component::{COMPONENT_SORT, CORE_MODULE_SORT, CORE_SORT, CORE_TYPE_SORT, TYPE_SORT};
 use crate::exports::ComponentExportKind;
 use std::alloc::Allocator;
-use wenc_base::{Delimited, Encode, ExportKind, Fault, Tagged};
+use wenc_base::{Delimited, DelimitedEq, Encode, ExportKind, Fault, Tagged};
 
 /// The kind of an item that an alias takes from an enclosing component (component model, binary format,
 /// `sort`).
@@ -41,13 +41,27 @@ impl Encode for ComponentOuterAliasKind {
 
 impl Delimited for ComponentOuterAliasKind {
     ghost use Rattle.wenc_parts.specs.Aliases.{outer_kind};
-    ghost use Rattle.wenc_parts.specs.laws.Aliases.{outer_kind_lawful};
+    ghost use Rattle.wenc_parts.specs.laws.Aliases.{read_outer_kind, outer_kind_lawful};
+    ghost use Rattle.wenc_parts.specs.declared.aliases.ComponentOuterAliasKind.{ComponentOuterAliasKind as Seen'};
 
-    ghost fits = { λ x. (outer_kind x).Fits };
+    ghost Seen = { Seen' };
 
-    ghost same = { λ a b. a ≡ b };
+    ghost seen = { λ x. x };
 
-    ghost delimited = { λ a b. told_apart (outer_kind_lawful a) (outer_kind_lawful b) };
+    ghost form = { outer_kind };
+
+    #[tactic(auto, using(crate::specs::laws::Aliases::outer_kind_fits))]
+    fn belongs(&self) {}
+
+    ghost readable = { ((λ fuel. read_outer_kind), outer_kind_lawful) };
+
+    ghost text_of = { λ x. refl };
+
+    ghost free = { λ x h fault cause. cause };
+}
+
+impl DelimitedEq for ComponentOuterAliasKind {
+    ghost alike = { itself _ };
 }
 
 /// What an alias stands for (component model, binary format, `alias`).
@@ -109,14 +123,38 @@ impl<'a> Encode for Alias<'a> {
 }
 
 impl<'a> Delimited for Alias<'a> {
-    ghost use Rattle.wenc_parts.specs.Aliases.{alias, alias_view};
-    ghost use Rattle.wenc_parts.specs.laws.Aliases.{alias_lawful};
+    ghost use Rattle.wenc_parts.specs.Aliases.{AliasOf, alias, alias_view};
+    ghost use Rattle.wenc_parts.specs.laws.Aliases.{read_alias, alias_lawful, alias_free};
 
-    ghost fits = { λ x. (alias (alias_view x)).Fits };
+    ghost Seen = { AliasOf };
 
-    ghost same = { λ a b. alias_view a ≡ alias_view b };
+    ghost seen = { alias_view };
 
-    ghost delimited = { λ a b. told_apart (alias_lawful (alias_view a)) (alias_lawful (alias_view b)) };
+    ghost form = { alias };
+
+    #[tactic(auto, using(crate::specs::laws::Aliases::alias_fits))]
+    fn belongs(&self) {
+        match self {
+            Alias::InstanceExport { instance, name, .. } => {
+                instance.belongs();
+                name.belongs();
+            }
+            Alias::CoreInstanceExport { instance, name, .. } => {
+                instance.belongs();
+                name.belongs();
+            }
+            Alias::Outer { count, index, .. } => {
+                count.belongs();
+                index.belongs();
+            }
+        }
+    }
+
+    ghost readable = { ((λ fuel. read_alias), alias_lawful) };
+
+    ghost text_of = { λ a. refl };
+
+    ghost free = { λ a. alias_free (alias_view a) };
 }
 
 /// An alias that owns its text, for commands.

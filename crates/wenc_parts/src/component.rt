@@ -1,12 +1,10 @@
-ghost use Rattle.std.specs.Prelude.{◌≡◌, ℕ, ◌++◌, ◌∷◌, OnOk, OnErr, IfErr};
-ghost use Rattle.wenc_base.specs.laws.Lawful.{delimited as told_apart};
-ghost use Rattle.wenc_base.specs.Fault.{IsWarranted};
-ghost use Rattle.wenc_base.specs.declared.fault.Fault.{Fault as FaultSpec};
-ghost use Rattle.wenc_base.specs.declared.fault.Fault.TheVariants.{Unfinished};
+ghost use Rattle.std.specs.Prelude.{◌≡◌, refl, ℕ, ◌∷◌};
+ghost use Rattle.wenc_base.specs.laws.Delimited.{itself};
+ghost use Rattle.wenc_base.specs.Encode.{Appends};
 
 use std::alloc::Allocator;
 use wenc_base::{
-    CustomSection, Delimited, Encode, Fault, ProducersSection, RawCustomSection, RawSection, Tagged,
+    CustomSection, Delimited, DelimitedEq, Encode, Fault, ProducersSection, RawCustomSection, RawSection, Tagged,
 };
 
 // The bytes of sorts (component model, binary format, `sort` and `core:sort`).
@@ -44,11 +42,8 @@ pub trait ComponentSection: Encode {
     fn append_to_component<A: Allocator>(&self, sink: &mut Vec<u8, A>) -> Result<(), Fault>
     where
         Self: Sized,
-        ensures ok { OnOk result (sink.new.items ≡ sink.old.items ++ section_id self.now ∷ Self.text self.now) }
-        ensures encodable { (fault : FaultSpec) → Self.cause self.now fault → OnOk result ⊥ }
-        ensures err { OnErr result (sink.new.items ≡ sink.old.items) }
-        ensures warranted { IfErr result (IsWarranted (Self.cause self.now)) }
-        ensures unfinished_first { Self.unfinished self.now → result ≡ Err Unfinished }
+        ensures { Appends (section_id self.now ∷ Self.text self.now) (Self.cause self.now)
+            (Self.unfinished self.now) sink.old.items sink.new.items result }
     {
         Tagged(self.id(), self).encode(sink)
     }
@@ -123,20 +118,7 @@ impl From<ComponentSectionId> for u8 {
     ghost from_gives = { λ id n. n ≡ section_number id };
 
     fn from(id: ComponentSectionId) -> u8 {
-        match id {
-            ComponentSectionId::CoreCustom => 0,
-            ComponentSectionId::CoreModule => 1,
-            ComponentSectionId::CoreInstance => 2,
-            ComponentSectionId::CoreType => 3,
-            ComponentSectionId::Component => 4,
-            ComponentSectionId::Instance => 5,
-            ComponentSectionId::Alias => 6,
-            ComponentSectionId::Type => 7,
-            ComponentSectionId::CanonicalFunction => 8,
-            ComponentSectionId::Start => 9,
-            ComponentSectionId::Import => 10,
-            ComponentSectionId::Export => 11,
-        }
+        id as u8
     }
 }
 
@@ -155,11 +137,24 @@ impl Encode for ComponentSectionId {
 
 impl Delimited for ComponentSectionId {
     ghost use Rattle.wenc_parts.specs.SectionIds.{section_id};
-    ghost use Rattle.wenc_parts.specs.laws.SectionIds.{section_lawful};
+    ghost use Rattle.wenc_parts.specs.laws.SectionIds.{read_section, section_lawful};
+    ghost use Rattle.wenc_parts.specs.declared.component.ComponentSectionId.{ComponentSectionId as Seen'};
 
-    ghost fits = { λ x. (section_id x).Fits };
+    ghost Seen = { Seen' };
 
-    ghost same = { λ a b. a ≡ b };
+    ghost seen = { λ x. x };
 
-    ghost delimited = { λ a b. told_apart (section_lawful a) (section_lawful b) };
+    ghost form = { section_id };
+
+    fn belongs(&self) {}
+
+    ghost readable = { ((λ fuel. read_section), section_lawful) };
+
+    ghost text_of = { λ x. refl };
+
+    ghost free = { λ x h fault cause. cause };
+}
+
+impl DelimitedEq for ComponentSectionId {
+    ghost alike = { itself _ };
 }

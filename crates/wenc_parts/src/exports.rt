@@ -1,12 +1,12 @@
-ghost use Rattle.std.specs.Prelude.{◌≡◌};
-ghost use Rattle.wenc_base.specs.laws.Lawful.{delimited as told_apart};
+ghost use Rattle.std.specs.Prelude.{◌≡◌, refl};
+ghost use Rattle.wenc_base.specs.laws.Delimited.{itself};
 
 use crate::component::{
     COMPONENT_SORT, CORE_MODULE_SORT, CORE_SORT, FUNCTION_SORT, INSTANCE_SORT, TYPE_SORT,
     VALUE_SORT,
 };
 use std::alloc::Allocator;
-use wenc_base::{Delimited, Encode, Fault};
+use wenc_base::{Delimited, DelimitedEq, Encode, Fault};
 
 /// The kind of an item that a component exports (component model, binary format, `sort`).
 #[derive(Clone, Copy, Debug, PartialEq, Eq)]
@@ -48,11 +48,25 @@ impl Encode for ComponentExportKind {
 
 impl Delimited for ComponentExportKind {
     ghost use Rattle.wenc_parts.specs.Exports.{export_kind};
-    ghost use Rattle.wenc_parts.specs.laws.Exports.{export_kind_lawful};
+    ghost use Rattle.wenc_parts.specs.laws.Exports.{read_export_kind, export_kind_lawful};
+    ghost use Rattle.wenc_parts.specs.declared.exports.ComponentExportKind.{ComponentExportKind as Seen'};
 
-    ghost fits = { λ x. (export_kind x).Fits };
+    ghost Seen = { Seen' };
 
-    ghost same = { λ a b. a ≡ b };
+    ghost seen = { λ x. x };
 
-    ghost delimited = { λ a b. told_apart (export_kind_lawful a) (export_kind_lawful b) };
+    ghost form = { export_kind };
+
+    #[tactic(auto, using(crate::specs::laws::Exports::export_kind_fits))]
+    fn belongs(&self) {}
+
+    ghost readable = { ((λ fuel. read_export_kind), export_kind_lawful) };
+
+    ghost text_of = { λ x. refl };
+
+    ghost free = { λ x h fault cause. cause };
+}
+
+impl DelimitedEq for ComponentExportKind {
+    ghost alike = { itself _ };
 }

@@ -1,13 +1,14 @@
-ghost use Rattle.std.specs.Prelude.{◌≡◌, length, IfOk, IfErr};
-ghost use Rattle.wenc_base.specs.laws.Lawful.{delimited as told_apart};
+ghost use Rattle.std.specs.Prelude.{◌≡◌, ◌++◌, ℕ, List, refl, length, IfOk, IfErr};
+ghost use Rattle.wenc_base.specs.laws.Delimited.{itself};
 ghost use Rattle.wenc_base.specs.Fault.{IsMemory};
-ghost use Rattle.wenc_parts.specs.Imports.{text_option, string_option};
+ghost use Rattle.wenc_base.specs.Delimited.{NoCause};
+ghost use Rattle.wenc_parts.specs.Imports.{text_option, string_option, option_cause, OptionFits};
 
 use crate::exports::ComponentExportKind;
 use crate::types::ComponentValType;
 use std::alloc::{Allocator, Global};
 use std::borrow::CowStr;
-use wenc_base::{Delimited, Encode, Fault, Tagged};
+use wenc_base::{Delimited, DelimitedEq, Encode, Fault, Tagged};
 
 /// What a type that is imported or exported is bound to (component model, binary format, `typebound`).
 #[derive(Clone, Copy, Debug, PartialEq, Eq, Hash)]
@@ -38,13 +39,30 @@ impl Encode for TypeBounds {
 
 impl Delimited for TypeBounds {
     ghost use Rattle.wenc_parts.specs.Imports.{type_bounds};
-    ghost use Rattle.wenc_parts.specs.laws.Imports.{type_bounds_lawful};
+    ghost use Rattle.wenc_parts.specs.laws.Imports.{read_type_bounds, type_bounds_lawful};
+    ghost use Rattle.wenc_parts.specs.declared.imports.TypeBounds.{TypeBounds as Seen'};
 
-    ghost fits = { λ x. (type_bounds x).Fits };
+    ghost Seen = { Seen' };
 
-    ghost same = { λ a b. a ≡ b };
+    ghost seen = { λ x. x };
 
-    ghost delimited = { λ a b. told_apart (type_bounds_lawful a) (type_bounds_lawful b) };
+    ghost form = { type_bounds };
+
+    fn belongs(&self) {
+        if let TypeBounds::Eq(index) = self {
+            index.belongs();
+        }
+    }
+
+    ghost readable = { ((λ fuel. read_type_bounds), type_bounds_lawful) };
+
+    ghost text_of = { λ x. refl };
+
+    ghost free = { λ x h fault cause. cause };
+}
+
+impl DelimitedEq for TypeBounds {
+    ghost alike = { itself _ };
 }
 
 /// What is imported, or the type that an export is given (component model, binary format, `externdesc`).
@@ -66,11 +84,15 @@ pub enum ComponentTypeRef {
 }
 
 impl ComponentTypeRef {
-    ghost use Rattle.wenc_parts.specs.Imports.{kind_of};
+    ghost use Rattle.wenc_parts.specs.Exports.{export_kind};
+    ghost use Rattle.wenc_parts.specs.Imports.{kind_of, type_reference};
 
-    /// The kind of the item that is referred to.
+    /// The kind of the item that is referred to, whose text begins the reference's text.
+    #[tactic(auto, using(crate::specs::laws::Imports::kind_begins))]
     pub fn kind(&self) -> ComponentExportKind
-        ensures { result ≡ kind_of self.now }
+        ensures is { result ≡ kind_of self.now }
+        ensures begins { (rest : List ℕ)
+            × ((type_reference self.now).text ≡ (export_kind (kind_of self.now)).text ++ rest) }
     {
         match self {
             ComponentTypeRef::Module(_) => ComponentExportKind::Module,
@@ -105,13 +127,35 @@ impl Encode for ComponentTypeRef {
 
 impl Delimited for ComponentTypeRef {
     ghost use Rattle.wenc_parts.specs.Imports.{type_reference};
-    ghost use Rattle.wenc_parts.specs.laws.Imports.{type_reference_lawful};
+    ghost use Rattle.wenc_parts.specs.laws.Imports.{read_type_reference, type_reference_lawful};
+    ghost use Rattle.wenc_parts.specs.declared.imports.ComponentTypeRef.{ComponentTypeRef as Seen'};
 
-    ghost fits = { λ x. (type_reference x).Fits };
+    ghost Seen = { Seen' };
 
-    ghost same = { λ a b. a ≡ b };
+    ghost seen = { λ x. x };
 
-    ghost delimited = { λ a b. told_apart (type_reference_lawful a) (type_reference_lawful b) };
+    ghost form = { type_reference };
+
+    fn belongs(&self) {
+        match self {
+            ComponentTypeRef::Module(index)
+            | ComponentTypeRef::Func(index)
+            | ComponentTypeRef::Instance(index)
+            | ComponentTypeRef::Component(index) => index.belongs(),
+            ComponentTypeRef::Value(ty) => ty.belongs(),
+            ComponentTypeRef::Type(bounds) => bounds.belongs(),
+        }
+    }
+
+    ghost readable = { ((λ fuel. read_type_reference), type_reference_lawful) };
+
+    ghost text_of = { λ x. refl };
+
+    ghost free = { λ x h fault cause. cause };
+}
+
+impl DelimitedEq for ComponentTypeRef {
+    ghost alike = { itself _ };
 }
 
 /// The name of an import or an export, with the options that a name may have (component model, binary
@@ -178,14 +222,37 @@ impl<'a, A: Allocator> Encode for ComponentExternName<'a, A> {
 }
 
 impl<'a, A: Allocator> Delimited for ComponentExternName<'a, A> {
-    ghost use Rattle.wenc_parts.specs.Imports.{extern_name, extern_name_view};
-    ghost use Rattle.wenc_parts.specs.laws.Imports.{extern_name_lawful};
+    ghost use Rattle.wenc_parts.specs.Imports.{ExternName, extern_name, extern_name_view};
+    ghost use Rattle.wenc_parts.specs.laws.Imports.{read_extern_name, extern_name_lawful, extern_name_free};
 
-    ghost fits = { λ x. (extern_name (extern_name_view x)).Fits };
+    ghost Seen = { ExternName };
 
-    ghost same = { λ a b. extern_name_view a ≡ extern_name_view b };
+    ghost seen = { extern_name_view };
 
-    ghost delimited = { λ a b. told_apart (extern_name_lawful (extern_name_view a)) (extern_name_lawful (extern_name_view b)) };
+    ghost form = { extern_name };
+
+    #[tactic(auto, using(crate::specs::laws::Imports::extern_name_fits))]
+    fn belongs(&self) {
+        self.name.as_str().belongs();
+        option_belongs(&self.implements);
+        option_belongs(&self.version_suffix);
+        option_belongs(&self.external_id);
+    }
+
+    ghost readable = { ((λ fuel. read_extern_name), extern_name_lawful) };
+
+    ghost text_of = { λ n. refl };
+
+    ghost free = { λ n. extern_name_free (extern_name_view n) };
+}
+
+/// A text that nothing keeps from being encoded has one in its form. The call does nothing.
+fn option_belongs<A: Allocator>(text: &Option<CowStr<'_, A>>)
+    ensures { NoCause (option_cause (text_option text.now)) → OptionFits (text_option text.now) }
+{
+    if let Some(text) = text {
+        text.as_str().belongs();
+    }
 }
 
 /// An option of a name behind the byte that it begins with, or nothing where it isn't there.

@@ -1,9 +1,9 @@
-ghost use Rattle.std.specs.Prelude.{◌≡◌};
-ghost use Rattle.wenc_base.specs.laws.Lawful.{delimited as told_apart};
+ghost use Rattle.std.specs.Prelude.{◌≡◌, refl};
+ghost use Rattle.wenc_base.specs.laws.Delimited.{itself};
 
 use crate::component::CORE_INSTANCE_SORT;
 use std::alloc::Allocator;
-use wenc_base::{Delimited, Encode, Fault, Tagged};
+use wenc_base::{Delimited, DelimitedEq, Encode, Fault, Tagged};
 
 /// What a core module is given for a name that it imports (component model, binary format,
 /// `core:instantiatearg`).
@@ -29,11 +29,28 @@ impl Encode for ModuleArg {
 
 impl Delimited for ModuleArg {
     ghost use Rattle.wenc_parts.specs.Instances.{module_argument};
-    ghost use Rattle.wenc_parts.specs.laws.Instances.{module_argument_lawful};
+    ghost use Rattle.wenc_parts.specs.laws.Instances.{read_module_argument, module_argument_lawful};
+    ghost use Rattle.wenc_parts.specs.declared.instances.ModuleArg.{ModuleArg as Seen'};
 
-    ghost fits = { λ x. (module_argument x).Fits };
+    ghost Seen = { Seen' };
 
-    ghost same = { λ a b. a ≡ b };
+    ghost seen = { λ x. x };
 
-    ghost delimited = { λ a b. told_apart (module_argument_lawful a) (module_argument_lawful b) };
+    ghost form = { module_argument };
+
+    fn belongs(&self) {
+        match self {
+            ModuleArg::Instance(index) => index.belongs(),
+        }
+    }
+
+    ghost readable = { ((λ fuel. read_module_argument), module_argument_lawful) };
+
+    ghost text_of = { λ x. refl };
+
+    ghost free = { λ x h fault cause. cause };
+}
+
+impl DelimitedEq for ModuleArg {
+    ghost alike = { itself _ };
 }

@@ -1,8 +1,8 @@
-ghost use Rattle.std.specs.Prelude.{◌≡◌};
-ghost use Rattle.wenc_base.specs.laws.Lawful.{delimited as told_apart};
+ghost use Rattle.std.specs.Prelude.{◌≡◌, refl};
+ghost use Rattle.wenc_base.specs.laws.Delimited.{itself};
 
 use std::alloc::Allocator;
-use wenc_base::{Delimited, Encode, Fault, Tagged};
+use wenc_base::{Delimited, DelimitedEq, Encode, Fault, Tagged};
 
 /// A primitive value type of a component (component model, binary format, `primvaltype`).
 #[derive(Clone, Copy, Debug, PartialEq, Eq, Hash)]
@@ -77,13 +77,26 @@ impl Encode for PrimitiveValType {
 
 impl Delimited for PrimitiveValType {
     ghost use Rattle.wenc_parts.specs.Types.{primitive};
-    ghost use Rattle.wenc_parts.specs.laws.Types.{primitive_lawful};
+    ghost use Rattle.wenc_parts.specs.laws.Types.{read_primitive, primitive_lawful};
+    ghost use Rattle.wenc_parts.specs.declared.types.PrimitiveValType.{PrimitiveValType as Seen'};
 
-    ghost fits = { λ x. (primitive x).Fits };
+    ghost Seen = { Seen' };
 
-    ghost same = { λ a b. a ≡ b };
+    ghost seen = { λ x. x };
 
-    ghost delimited = { λ a b. told_apart (primitive_lawful a) (primitive_lawful b) };
+    ghost form = { primitive };
+
+    fn belongs(&self) {}
+
+    ghost readable = { ((λ fuel. read_primitive), primitive_lawful) };
+
+    ghost text_of = { λ x. refl };
+
+    ghost free = { λ x h fault cause. cause };
+}
+
+impl DelimitedEq for PrimitiveValType {
+    ghost alike = { itself _ };
 }
 
 /// A value type of a component (component model, binary format, `valtype`).
@@ -112,13 +125,30 @@ impl Encode for ComponentValType {
 
 impl Delimited for ComponentValType {
     ghost use Rattle.wenc_parts.specs.Types.{value_type};
-    ghost use Rattle.wenc_parts.specs.laws.Types.{value_type_lawful};
+    ghost use Rattle.wenc_parts.specs.laws.Types.{read_value_type, value_type_lawful};
+    ghost use Rattle.wenc_parts.specs.declared.types.ComponentValType.{ComponentValType as Seen'};
 
-    ghost fits = { λ x. (value_type x).Fits };
+    ghost Seen = { Seen' };
 
-    ghost same = { λ a b. a ≡ b };
+    ghost seen = { λ x. x };
 
-    ghost delimited = { λ a b. told_apart (value_type_lawful a) (value_type_lawful b) };
+    ghost form = { value_type };
+
+    fn belongs(&self) {
+        if let ComponentValType::Type(index) = self {
+            index.belongs();
+        }
+    }
+
+    ghost readable = { ((λ fuel. read_value_type), value_type_lawful) };
+
+    ghost text_of = { λ x. refl };
+
+    ghost free = { λ x h fault cause. cause };
+}
+
+impl DelimitedEq for ComponentValType {
+    ghost alike = { itself _ };
 }
 
 /// What a function answers: a value of this type, or none (component model, binary format, `resultlist`).
@@ -142,13 +172,33 @@ impl Encode for ResultList {
 
 impl Delimited for ResultList {
     ghost use Rattle.wenc_parts.specs.Types.{result_list};
-    ghost use Rattle.wenc_parts.specs.laws.Types.{result_list_lawful};
+    ghost use Rattle.wenc_parts.specs.laws.Types.{read_result_list, result_list_lawful};
+    ghost use Rattle.std.specs.Prelude.{Option as Optional};
+    ghost use Rattle.wenc_parts.specs.declared.types.ComponentValType.{ComponentValType as ValueType};
 
-    ghost fits = { λ x. (result_list x.0).Fits };
+    ghost Seen = { Optional ValueType };
 
-    ghost same = { λ a b. a.0 ≡ b.0 };
+    ghost seen = { λ r. r.0 };
 
-    ghost delimited = { λ a b. told_apart (result_list_lawful a.0) (result_list_lawful b.0) };
+    ghost form = { result_list };
+
+    fn belongs(&self) {
+        if let Some(ty) = self.0 {
+            ty.belongs();
+        }
+    }
+
+    ghost readable = { ((λ fuel. read_result_list), result_list_lawful) };
+
+    ghost text_of = { λ x. refl };
+
+    ghost free = { λ x h fault cause. cause };
+}
+
+impl DelimitedEq for ResultList {
+    ghost use Rattle.wenc_parts.specs.laws.Types.{same_result_list};
+
+    ghost alike = { λ laws a b same. itself _ laws a b (same_result_list a b same) };
 }
 
 impl From<PrimitiveValType> for ComponentValType {

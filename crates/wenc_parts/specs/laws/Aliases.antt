@@ -12,7 +12,10 @@ use Rattle.wenc_parts.specs.declared.exports.ComponentExportKind.{ComponentExpor
 use Rattle.wenc_parts.specs.declared.exports.ComponentExportKind.TheVariants as kinds
 use Rattle.wenc_parts.specs.declared.aliases.ComponentOuterAliasKind.{ComponentOuterAliasKind}
 use Rattle.wenc_parts.specs.declared.aliases.ComponentOuterAliasKind.TheVariants as outers
-use Rattle.wenc_parts.specs.Aliases.{AliasOf, InstanceExport, CoreInstanceExport, Outer, outer_kind, alias}
+use Rattle.wenc_base.specs.Delimited.{NoCause}
+use Rattle.wenc_base.specs.laws.Delimited.{name_free}
+use Rattle.wenc_parts.specs.laws.Exports.{export_kind_fits}
+use Rattle.wenc_parts.specs.Aliases.{AliasOf, InstanceExport, CoreInstanceExport, Outer, outer_kind, alias, alias_cause}
 
 -- ---- kinds
 
@@ -113,3 +116,28 @@ alias_lawful (Outer outers.CoreModule c n) = first_of_two (byte 0x11) (0x02 ▸ 
 alias_lawful (Outer outers.CoreType c n) = first_of_two (byte 0x10) (0x02 ▸ u32 c ⨾ u32 n) _ _ 0x00 (first_byte _ _ 0x10 (row _ _ 0x02 (outer_lawful outers.CoreType c n)))
 alias_lawful (Outer outers.«Type» c n) = first_byte _ _ 0x03 (row _ _ 0x02 (outer_lawful outers.«Type» c n))
 alias_lawful (Outer outers.Component c n) = first_byte _ _ 0x04 (row _ _ 0x02 (outer_lawful outers.Component c n))
+
+-- ---- what can be encoded
+
+pub outer_kind_fits : (kind : ComponentOuterAliasKind) → (outer_kind kind).Fits
+outer_kind_fits outers.CoreModule = tt
+outer_kind_fits outers.CoreType = tt
+outer_kind_fits outers.«Type» = tt
+outer_kind_fits outers.Component = tt
+
+-- what fits has no cause
+pub alias_free : (a : AliasOf) → (alias a).Fits → NoCause (alias_cause a)
+alias_free (InstanceExport i kind n) h fault c = name_free n h.1.1 fault c
+alias_free (CoreInstanceExport i kind n) h fault c = name_free n h.1.1 fault c
+alias_free (Outer kind count n) h fault c = c
+
+-- the numbers and the name are those of a piece that fits
+abbrev pub NumbersFit : AliasOf → Type 0
+NumbersFit (InstanceExport i kind n) = (u32 i).Fits × (name_form n).Fits
+NumbersFit (CoreInstanceExport i kind n) = (u32 i).Fits × (name_form n).Fits
+NumbersFit (Outer kind c n) = (u32 c).Fits × (u32 n).Fits
+
+pub alias_fits : (a : AliasOf) → NumbersFit a → (alias a).Fits
+alias_fits (InstanceExport i kind n) h = (export_kind_fits kind, h)
+alias_fits (CoreInstanceExport i kind n) h = (tt, h)
+alias_fits (Outer kind c n) h = (outer_kind_fits kind, h)

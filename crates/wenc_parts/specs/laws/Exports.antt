@@ -21,3 +21,11 @@ export_kind_lawful Value = row_byte _ _ 0x02 (λ fuel rest. refl)
 export_kind_lawful TypeKind = row_byte _ _ 0x03 (λ fuel rest. refl)
 export_kind_lawful Instance = row_byte _ _ 0x05 (λ fuel rest. refl)
 export_kind_lawful Component = row_byte _ _ 0x04 (λ fuel rest. refl)
+
+pub export_kind_fits : (kind : ComponentExportKind) → (export_kind kind).Fits
+export_kind_fits Module = tt
+export_kind_fits Func = tt
+export_kind_fits Value = tt
+export_kind_fits TypeKind = tt
+export_kind_fits Instance = tt
+export_kind_fits Component = tt

@@ -1,11 +1,12 @@
 -- The laws of value types.
-use Rattle.std.proofs.Common.{ℕ, List, [], ◌∷◌, ◌++◌, Option, Some, None, refl, arith}
+use Rattle.std.proofs.Common.{◌≡◌, ap, ℕ, List, [], ◌∷◌, ◌++◌, Option, Some, None, refl, arith}
 use Rattle.wenc_base.specs.laws.Lawful.{Lawful, Reader, ◌>>=◌, give, nowhere, choose, row, row_byte, past, last}
 use Rattle.wenc_base.specs.laws.Numbers.{read_groups, index_lawful, index_starts}
 use Rattle.wenc_parts.specs.declared.types.PrimitiveValType.{PrimitiveValType}
 use Rattle.wenc_parts.specs.declared.types.PrimitiveValType.TheVariants.{Bool, S8, U8, S16, U16, S32, U32, S64, U64, F32, F64, Char, String, ErrorContext}
 use Rattle.wenc_parts.specs.declared.types.ComponentValType.{ComponentValType}
 use Rattle.wenc_parts.specs.declared.types.ComponentValType.TheVariants.{Primitive, «Type» as TypeIndex}
+use Rattle.wenc_parts.specs.declared.types.ResultList.{ResultList}
 use Rattle.wenc_parts.specs.Types.{primitive, value_type, result_list}
 
 abbrev pub primitive_rows : {A : Type 0} → (PrimitiveValType → A) → List (ℕ × Reader A)
@@ -62,3 +63,7 @@ read_result_list = choose ((0x00, read_value_type >>= λ t. give (Some t)) ∷ (
 pub result_list_lawful : (r : Option ComponentValType) → Lawful (result_list r) (λ fuel. read_result_list) r
 result_list_lawful (Some t) = row _ _ 0x00 (last Some (value_type_lawful t))
 result_list_lawful None = row _ _ 0x01 (row_byte _ _ 0x00 (λ fuel rest. refl))
+
+-- result lists with the same type are the same
+pub same_result_list : (a b : ResultList) → a.0 ≡ b.0 → a ≡ b
+same_result_list a b e = ap (λ (r : Option ComponentValType). let list : ResultList = record { 0 = r } in list) e
