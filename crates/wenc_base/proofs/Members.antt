@@ -5,7 +5,7 @@ use Rattle.std.proofs.lemmas.Grind.{flat_map-append}
 use Rattle.std.proofs.Math.Numerals.{add-one}
 use Rattle.std.proofs.Math.Seq.{take-suc}
 use Rattle.std.specs.List.{flat_map}
-pub use Rattle.wenc_base.specs.laws.Holders.{still_warranted}
+pub use Rattle.wenc_base.specs.laws.Causes.{still_warranted}
 use Rattle.wenc_base.specs.Fault.{IsWarranted, member_cause}
 use Rattle.wenc_base.specs.Number.{unsigned_text}
 use Rattle.wenc_base.specs.Forms.{list_text}

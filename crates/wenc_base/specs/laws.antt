@@ -7,4 +7,5 @@ pub mod Delimited
 pub mod Exports
 pub mod Types
 pub mod Sections
+pub mod Causes
 pub mod Holders

@@ -4,7 +4,8 @@ use Rattle.std.proofs.lemmas.List.{append-nil}
 use Rattle.wenc_base.specs.Fault.{count_cause}
 use Rattle.wenc_base.specs.Forms.{list_text}
 use Rattle.wenc_base.specs.Holder.{Held, as_they_are, AddsListed, listed_text, listed_cause}
-use Rattle.wenc_base.specs.laws.Holders.{SameCause, never, no_member, adds_listed_as}
+use Rattle.wenc_base.specs.laws.Causes.{SameCause, never, no_member}
+use Rattle.wenc_base.specs.laws.Holders.{adds_listed_as}
 use Rattle.wenc_base.specs.declared.fault.Fault.{Fault}
 use Rattle.wenc_canon.specs.declared.canonicals.CanonicalOption.{CanonicalOption}
 use Rattle.wenc_canon.specs.Canonicals.{canonical_option, Canonical, canonical_text, AddsWithOptions}

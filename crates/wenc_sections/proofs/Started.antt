@@ -1,7 +1,7 @@
 -- Why a start can't be encoded.
 use Rattle.std.proofs.Common.{ℕ, List, length, Result, Ok, Err, IfErr, inl, inr}
 use Rattle.wenc_base.specs.Fault.{IsWarranted, first_of, count_cause, text_cause, list_cause}
-use Rattle.wenc_base.specs.laws.Holders.{SameCause, never, no_member, still_warranted}
+use Rattle.wenc_base.specs.laws.Causes.{SameCause, never, no_member, still_warranted}
 use Rattle.wenc_base.specs.declared.fault.Fault.{Fault}
 
 -- the causes of what is written are the number of arguments, and the size

@@ -50,7 +50,7 @@ impl<A: Allocator> ComponentImportSection<A> {
 
     /// Adds an import under this name. It is refused where there would be more than 4294967295 imports
     /// (`TooMany`), or more than 4294967295 bytes in the section or in a text of the name (`TooLarge`).
-    #[tactic(auto, using(wenc_base::specs::laws::Holders::adds_as, wenc_base::specs::laws::Holders::alone))]
+    #[tactic(auto, using(wenc_base::specs::laws::Holders::adds_as, wenc_base::specs::laws::Causes::alone))]
     pub fn import<B: Allocator>(
         &mut self,
         name: ComponentExternName<'_, B>,

@@ -5,15 +5,15 @@ use Rattle.std.proofs.lemmas.List.Folds.{flat_map-map}
 use Rattle.std.proofs.lemmas.Grind.{flat_map-append}
 use Rattle.std.specs.Iterator.Runs.{SomeRun, WholeRun}
 use Rattle.std.specs.List.{flat_map}
-use Rattle.wenc_base.specs.Fault.{IsWarranted, first_of, member_cause, drawn_cause}
+use Rattle.wenc_base.specs.Fault.{IsWarranted, member_cause, drawn_cause}
 use Rattle.wenc_base.specs.Piece.{Form, all_of}
 use Rattle.wenc_base.specs.Number.{unsigned_text}
 use Rattle.wenc_base.specs.Forms.{list, list_text, sized}
 use Rattle.wenc_base.specs.Holder.{Held, is_finished, section_text, with_member, Contains, as_they_are, AddCause, Accepted, AddsMember, AddsListed, listed_text, listed_cause}
+use Rattle.wenc_base.specs.laws.Causes.{still_warranted, SameCause, never}
 use Rattle.wenc_base.specs.Openings.{opened_with, lengthened, closed, given_up}
 use Rattle.wenc_base.specs.declared.holder.openings.Opening.{Opening}
 use Rattle.wenc_base.specs.declared.fault.Fault.{Fault}
-use Rattle.wenc_base.specs.declared.fault.Fault.TheVariants.{Memory, TooMany, TooLarge, Unfinished}
 
 -- the members, and one more
 pub contains_next : {A : Type 0} (text : A → List ℕ) (old new : Held) (member : A) (members : List A)
@@ -27,17 +27,6 @@ contains_next text old new member members e c = rw e (record {
 -- the text of a section is that of its members in the grammar
 pub section_of : {A : Type 0} (form : Form A) (h : Held) (members : List A) → Contains (λ m. (form m).text) h members → section_text h ≡ (sized (all_of (list form members))).text
 section_of form h members c = rw (← c.count, c.body, ← length-append (unsigned_text (length members)) (flat_map (λ m. (form m).text) members)) refl
-
--- another cause that follows warrants the same faults
-pub still_warranted : (one other : Fault → Type 0) → ((fault : Fault) → one fault → other fault) → (fault : Fault) → IsWarranted one fault → IsWarranted other fault
-still_warranted one other f (Memory e) h = h
-still_warranted one other f TooMany h = f TooMany h
-still_warranted one other f TooLarge h = f TooLarge h
-still_warranted one other f Unfinished h = f Unfinished h
-
--- two causes that stand for the same faults
-abbrev pub SameCause : (Fault → Type 0) → (Fault → Type 0) → Type 0
-SameCause one other = ((fault : Fault) → one fault → other fault) × ((fault : Fault) → other fault → one fault)
 
 same_add : (h : Held) (text : List ℕ) (one other : Fault → Type 0) → ((fault : Fault) → one fault → other fault) → (fault : Fault) → AddCause h text one fault → AddCause h text other fault
 same_add h text one other f fault c = elim c [ inl own ↦ inl (f fault own) | inr more ↦ inr more ]
@@ -91,19 +80,6 @@ adds_listed_as steps values text old new outcome cause other written member e sa
     warranted (Err fault) h = (h.0, h.1, still_warranted _ _ (same_add old (text (member h.0.items)) (cause h.0.items) (other h.0.items) (same h.0.items).0) fault (rw (e h.0.items) at h.2))
 
 -- ---- members that are a list of values which an iterator gives
-
--- what is never refused but for want of memory
-abbrev pub never : Fault → Type 0
-never fault = ⊥
-
--- one that is never refused adds no cause
-pub alone : (one next : Fault → Type 0) → ((fault : Fault) → next fault → ⊥) → SameCause (first_of one next) one
-alone one next none = (λ fault h. elim h [ inl c ↦ c | inr p ↦ absurd (none fault p.1) ], λ fault c. inl c)
-
--- no value has a cause, and so none of them has one
-pub no_member : {A : Type 0} (vs : List A) (fault : Fault) → member_cause (λ v. never) vs fault → ⊥
-no_member [] fault h = h
-no_member (v ∷ vs) fault h = elim h [ inl none ↦ none | inr more ↦ no_member vs fault more.1 ]
 
 -- the same causes one by one
 member_as : {A : Type 0} (one other : A → Fault → Type 0) → ((v : A) → SameCause (one v) (other v)) → (vs : List A) → SameCause (member_cause one vs) (member_cause other vs)

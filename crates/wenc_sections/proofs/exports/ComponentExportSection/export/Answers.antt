@@ -1,5 +1,6 @@
 use Rattle.std.proofs.Common.{inl, inr}
-use Rattle.wenc_base.specs.laws.Holders.{alone, adds_as}
+use Rattle.wenc_base.specs.laws.Causes.{alone}
+use Rattle.wenc_base.specs.laws.Holders.{adds_as}
 use Rattle.wenc_parts.specs.Imports.{extern_name_view, extern_name_cause, type_reference}
 use Rattle.wenc_sections.specs.Exports.{export_text}
 use Rattle.wenc_sections.proofs.Exported.{option_is}

@@ -1,4 +1,5 @@
-use Rattle.wenc_base.specs.laws.Holders.{alone, adds_as}
+use Rattle.wenc_base.specs.laws.Causes.{alone}
+use Rattle.wenc_base.specs.laws.Holders.{adds_as}
 use Rattle.wenc_parts.specs.Imports.{extern_name_view, extern_name_cause}
 use Rattle.wenc_sections.specs.Imports.{import_text}
 use Rattle.wenc_sections.proofs.imports.ComponentImportSection.import.Goals as goal

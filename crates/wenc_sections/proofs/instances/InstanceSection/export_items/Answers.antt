@@ -1,5 +1,6 @@
 use Rattle.std.proofs.Common.{[], ◌∷◌, refl, inl, inr}
-use Rattle.wenc_base.specs.laws.Holders.{alone, adds_list}
+use Rattle.wenc_base.specs.laws.Causes.{alone}
+use Rattle.wenc_base.specs.laws.Holders.{adds_list}
 use Rattle.wenc_base.specs.Fault.{text_cause}
 use Rattle.wenc_sections.specs.Instances.{core_export, CoreExports, core_instance_text}
 use Rattle.wenc_sections.proofs.instances.InstanceSection.export_items.Goals as goal

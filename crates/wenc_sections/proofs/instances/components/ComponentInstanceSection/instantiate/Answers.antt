@@ -1,5 +1,6 @@
 use Rattle.std.proofs.Common.{◌∷◌, refl, inl, inr}
-use Rattle.wenc_base.specs.laws.Holders.{alone, adds_list}
+use Rattle.wenc_base.specs.laws.Causes.{alone}
+use Rattle.wenc_base.specs.laws.Holders.{adds_list}
 use Rattle.wenc_base.specs.Fault.{text_cause}
 use Rattle.wenc_base.specs.Number.{u32}
 use Rattle.wenc_sections.specs.Instances.{given, Instantiate, instance_text}
