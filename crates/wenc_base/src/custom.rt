@@ -3,8 +3,8 @@ ghost use Rattle.std.specs.Prelude.{◌≡◌};
 use crate::encode::{Encode, Verbatim, extend_in_room};
 use crate::fault::Fault;
 use crate::holder::section_size;
-use crate::number::Short;
 use crate::section::{Section, SectionId};
+use crate::short::Short;
 use std::alloc::Allocator;
 
 /// A section that the standard gives no meaning (WebAssembly 3.0, binary format, "Custom Section"). It is

@@ -4,11 +4,12 @@ ghost use Rattle.wenc_base.specs.Fault.{text_cause};
 ghost use Rattle.wenc_base.specs.Number.{unsigned_text};
 ghost use Rattle.wenc_base.specs.declared.fault.Fault.{Fault as FaultSpec};
 
+mod front;
 mod lists;
 mod sized;
 
 use crate::fault::Fault;
-use crate::number::Short;
+use crate::short::Short;
 pub use lists::encode_list;
 pub use sized::WithSize;
 use std::alloc::Allocator;

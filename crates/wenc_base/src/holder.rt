@@ -12,7 +12,8 @@ mod openings;
 
 use crate::encode::{Encode, Verbatim, encode_list, extend_in_room};
 use crate::fault::Fault;
-use crate::number::{Short, encoding_size};
+use crate::number::encoding_size;
+use crate::short::Short;
 use openings::Opening;
 use std::alloc::{Allocator, Global};
 use std::marker::Model;

@@ -8,12 +8,12 @@ pub mod encode;
 pub mod exports;
 pub mod fault;
 pub mod holder;
-pub mod laws;
 pub mod modules;
 pub mod number;
 pub mod producers;
 pub mod raw;
 pub mod section;
+pub mod short;
 pub mod types;
 
 pub use custom::{CustomSection, RawCustomSection};
@@ -27,7 +27,5 @@ pub use number::encoding_size;
 pub use producers::{ProducersField, ProducersSection};
 pub use raw::RawSection;
 pub use section::{Section, SectionId};
+pub use short::Short;
 pub use types::{AbstractHeapType, HeapType, RefType, ValType};
-
-#[cfg(test)]
-mod tests;

@@ -3,11 +3,9 @@
 
 pub mod aliases;
 pub mod component;
-pub mod examples;
 pub mod exports;
 pub mod imports;
 pub mod instances;
-pub mod laws;
 pub mod types;
 
 pub use aliases::{Alias, AliasTree, ComponentOuterAliasKind};

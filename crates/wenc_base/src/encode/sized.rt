@@ -3,7 +3,7 @@ ghost use Rattle.wenc_base.specs.Fault.{first_of, text_cause};
 ghost use Rattle.wenc_base.specs.Number.{unsigned_text};
 
 use super::Encode;
-use super::lists::put_number;
+use super::front::put_number;
 use crate::fault::Fault;
 use std::alloc::Allocator;
 

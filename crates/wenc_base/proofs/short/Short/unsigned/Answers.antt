@@ -1,7 +1,7 @@
 use Rattle.std.proofs.Common.{arith, length-append, false}
 use Rattle.wenc_base.specs.Number.{unsigned_text}
 use Rattle.wenc_base.proofs.Groups.{writing_more, writing_last, writing_room}
-use Rattle.wenc_base.proofs.number.Short.unsigned.Goals as goal
+use Rattle.wenc_base.proofs.short.Short.unsigned.Goals as goal
 
 pub push-requires : goal.push-requires
 push-requires c = omega (arith, writing_room 128 false _ _ _ c.loop-rest.invariant, length-append c.args.self.now (unsigned_text c.args.n))

@@ -1,14 +1,12 @@
 ghost use Rattle.std.specs.Prelude.{◌≡◌, ◌∷◌, [], IfOk};
 ghost use Rattle.wenc_base.specs.Holder.{holding};
 
-use super::Item;
-use super::holder::check_holder;
-use crate::encode::Encode;
-use crate::fault::Fault;
-use crate::holder::Holder;
+use crate::holder::check_holder;
+use crate::values::Item;
 use std::alloc::Global;
 use std::process::Abort;
 use std::test::Fail;
+use wenc_base::{Encode, Fault, Holder};
 
 // What a holder has in which a member is being written. Nothing is made of it.
 fn check_unfinished(
@@ -47,7 +45,7 @@ pub fn check_parts(
 }
 
 // Two bytes in front, and one member behind them.
-#[tactic(auto, using(crate::proofs::Groups::size_1))]
+#[tactic(auto, using(wenc_base::proofs::Groups::size_1))]
 pub fn over_four_bytes(alloc: Global) -> Result<Holder, Fail>
     ensures { IfOk result (λ h. h ≡ holding (0xaa ∷ 0xbb ∷ []) 1 (0x03 ∷ 0x00 ∷ [])) }
 {

@@ -1,28 +1,18 @@
-ghost use Rattle.std.specs.Prelude.{◌≡◌, true, [], ◌++◌, ◌<◌, ◌^◌, IfOk, IfErr, OnOk};
-ghost use Rattle.wenc_base.specs.Fault.{IsWarranted};
-ghost use Rattle.wenc_base.specs.Delimited.{Delimits, OptionFits, SameOption};
-ghost use Rattle.wenc_base.specs.Forms.{option_text, list_text};
+ghost use Rattle.std.specs.Prelude.{◌≡◌, true, [], ◌++◌, IfOk, OnOk};
+ghost use Rattle.wenc_base.specs.Forms.{list_text};
 ghost use Rattle.wenc_base.specs.Number.{unsigned_text};
-ghost use Rattle.wenc_base.specs.declared.fault.Fault.{Fault as FaultSpec};
 ghost use Rattle.wenc_base.specs.declared.fault.Fault.TheVariants.{Unfinished};
 
-mod holder;
-mod kept;
-mod openings;
-mod types;
-
-use crate::delimited::Delimited;
-use crate::encode::{Encode, Tagged, encode_list, extend_in_room};
-use crate::exports::ExportKind;
-use crate::fault::Fault;
-use crate::laws;
-use crate::number::{Short, encoding_size};
 use std::alloc::{AllocError, Allocator, Global};
 use std::process::Abort;
 use std::test::Fail;
+use wenc_base::{
+    CustomSection, Encode, ExportKind, Fault, Section, Short, Tagged, encode_list, encoding_size,
+    extend_in_room,
+};
 
 // Each value is written behind a byte that the sink has.
-fn check<T: Encode>(rt: &impl Abort, alloc: Global, value: &T, bytes: &[u8]) -> Result<(), Fail> {
+pub fn check<T: Encode>(rt: &impl Abort, alloc: Global, value: &T, bytes: &[u8]) -> Result<(), Fail> {
     let mut sink = [0x99].to_vec(alloc)?;
     let mut expected = [0x99].to_vec(alloc)?;
     value.encode(&mut sink)?;
@@ -33,9 +23,7 @@ fn check<T: Encode>(rt: &impl Abort, alloc: Global, value: &T, bytes: &[u8]) -> 
 
 // This stands in CALLING.md as the proved caller.
 fn encoded<T: Encode, A: Allocator>(alloc: A, value: &T) -> Result<Vec<u8, A>, Fault>
-    ensures text { IfOk result (λ bytes. bytes.items ≡ T.text value.now) }
-    ensures encodable { (fault : FaultSpec) → T.cause value.now fault → OnOk result ⊥ }
-    ensures warranted { IfErr result (IsWarranted (T.cause value.now)) }
+    ensures { IfOk result (λ bytes. bytes.items ≡ T.text value.now) }
 {
     let mut bytes = Vec::new(alloc);
     value.encode(&mut bytes)?;
@@ -165,67 +153,10 @@ fn lists(rt: HostRuntime) -> Result<(), Fail> {
     Ok(())
 }
 
-// A type of a user's own.
-#[derive(Clone, Copy)]
-struct Range {
-    start: u32,
-    end: u32,
-}
-
-impl Encode for Range {
-    ghost text = { λ range. unsigned_text range.start ++ unsigned_text range.end };
-
-    ghost cause = { λ _ _. ⊥ };
-
-    fn encode<A: Allocator>(&self, sink: &mut Vec<u8, A>) -> Result<(), Fault> {
-        (self.start, self.end).encode(sink)
-    }
-}
-
-impl Delimited for Range {
-    ghost use Rattle.wenc_base.specs.Lifts.{pair_delimits};
-    ghost use Rattle.wenc_base.specs.laws.Lawful.{delimited as told_apart};
-    ghost use Rattle.wenc_base.specs.laws.Numbers.{u32_lawful};
-
-    ghost fits = { λ range. (range.start < 2 ^ 32) × (range.end < 2 ^ 32) };
-
-    ghost same = { λ a b. (a.start ≡ b.start) × (a.end ≡ b.end) };
-
-    ghost delimited = { λ a b. pair_delimits unsigned_text (λ n. n < 2 ^ 32) (λ n k. n ≡ k)
-        unsigned_text (λ n. n < 2 ^ 32) (λ n k. n ≡ k)
-        (λ n k. told_apart (u32_lawful n) (u32_lawful k)) (λ n k. told_apart (u32_lawful n) (u32_lawful k))
-        a.start b.start a.end b.end };
-}
-
-fn optional_texts_tell<T: Delimited>()
-    ensures { Delimits (option_text T.text) (OptionFits T.fits) (SameOption T.same) }
-{
-    laws::texts_tell_values::<Option<T>>()
-}
-
-#[test]
-fn own_type(rt: HostRuntime) -> Result<(), Fail> {
-    let range = Range { start: 1, end: 128 };
-    optional_texts_tell::<Range>();
-    optional_texts_tell::<&[Range]>();
-    check(
-        &rt,
-        rt.alloc(),
-        &[Some(range), None].as_slice(),
-        [0x02, 0x01, 0x01, 0x80, 0x01, 0x00].as_slice(),
-    )?;
-    check(
-        &rt,
-        rt.alloc(),
-        &Some([range].as_slice()),
-        [0x01, 0x01, 0x01, 0x80, 0x01].as_slice(),
-    )
-}
-
 // An item that was begun, and perhaps not ended.
 #[derive(Drop)]
-struct Item {
-    is_open: bool,
+pub struct Item {
+    pub is_open: bool,
 }
 
 impl Encode for Item {
@@ -319,7 +250,7 @@ fn faults(rt: HostRuntime) -> Result<(), Fail> {
 }
 
 #[test]
-#[tactic(auto, unfolding(crate::specs::Number::groups))]
+#[tactic(auto, unfolding(wenc_base::specs::Number::groups))]
 fn without_memory(rt: HostRuntime) -> Result<(), Fail> {
     let mut short = Short::new();
     short.push(0x2a);
@@ -330,5 +261,18 @@ fn without_memory(rt: HostRuntime) -> Result<(), Fail> {
     let mut sink = Vec::with_capacity(rt.alloc(), 8)?;
     extend_in_room(&mut sink, short.as_slice());
     assert_eq!(rt; sink.as_slice(), short.as_slice());
+    Ok(())
+}
+
+// A section of a core module: its id, its size, its name, no data.
+#[test]
+fn core_section(rt: HostRuntime) -> Result<(), Fail> {
+    let mut sink = [0x99].to_vec(rt.alloc())?;
+    let section = CustomSection {
+        name: "x",
+        data: &[],
+    };
+    section.append_to(&mut sink)?;
+    assert_eq!(rt; sink.as_slice(), [0x99, 0x00, 0x02, 0x01, 0x78].as_slice());
     Ok(())
 }

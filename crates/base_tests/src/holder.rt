@@ -1,10 +1,8 @@
-use super::{Item, check};
-use crate::encode::Encode;
-use crate::fault::Fault;
-use crate::holder::{Holder, Verbatim, section_size};
+use crate::values::{Item, check};
 use std::alloc::Global;
 use std::process::Abort;
 use std::test::Fail;
+use wenc_base::{Encode, Fault, Holder, Verbatim, section_size};
 
 // What the holder has, and its section behind a byte that the sink has.
 pub fn check_holder(

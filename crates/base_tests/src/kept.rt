@@ -1,6 +1,7 @@
-use super::holder::check_holder;
-use super::openings::{check_parts, over_four_bytes};
+use crate::holder::check_holder;
+use crate::openings::{check_parts, over_four_bytes};
 use std::test::Fail;
+use wenc_base::Fault;
 
 // All bytes are kept, and what comes next is the first member behind them.
 #[test]
@@ -25,7 +26,7 @@ fn all_are_kept(rt: HostRuntime) -> Result<(), Fail> {
 
 // What was kept with its members is as it was before.
 #[test]
-#[tactic(auto, using(crate::proofs::Groups::size_1))]
+#[tactic(auto, using(wenc_base::proofs::Groups::size_1))]
 fn gone_back(rt: HostRuntime) -> Result<(), Fail> {
     let mut holder = over_four_bytes(rt.alloc())?;
     holder.keep_all(&[0x10, 0x11])?;
@@ -56,5 +57,17 @@ fn kept_bytes_filled(rt: HostRuntime) -> Result<(), Fail> {
         &[0x03, 0x01, 0x03, 0x00],
     )?;
     check_parts(&rt, holder, &[0xcc, 0x03, 0x00], 1, 1, true);
+    Ok(())
+}
+
+// An unfinished holder keeps nothing.
+#[test]
+fn unfinished_is_not_kept(rt: HostRuntime) -> Result<(), Fail> {
+    let mut holder = over_four_bytes(rt.alloc())?;
+    holder.open(&[0x2a])?;
+    assert_eq!(rt; holder.keep_all(&[0x10]), Err(Fault::Unfinished));
+    assert_eq!(rt; holder.kept_len(), 2);
+    assert_eq!(rt; holder.as_slice(), [0x03, 0x00, 0x2a].as_slice());
+    assert!(rt; holder.is_opened());
     Ok(())
 }

@@ -1,6 +1,6 @@
-use super::check;
-use crate::types::{AbstractHeapType, HeapType, RefType, ValType};
+use crate::values::check;
 use std::test::Fail;
+use wenc_base::{AbstractHeapType, HeapType, RefType, ValType};
 
 #[test]
 fn numbers_and_vectors(rt: HostRuntime) -> Result<(), Fail> {

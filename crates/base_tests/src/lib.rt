@@ -1,0 +1,13 @@
+//! Tests of `wenc_base` by its public calls.
+#![tactic(auto)]
+
+#[cfg(test)]
+mod holder;
+#[cfg(test)]
+mod kept;
+#[cfg(test)]
+mod openings;
+#[cfg(test)]
+mod types;
+#[cfg(test)]
+mod values;

@@ -1,5 +1,0 @@
-use Rattle.wenc_base.proofs.Words.{signed_is, signed_only}
-use Rattle.wenc_base.proofs.laws.signed_text_in_words.Goals as goal
-
-pub returns : goal.returns
-returns c = record { is = signed_is; only = signed_only }

@@ -1,5 +1,0 @@
-use Rattle.wenc_base.proofs.Words.{unsigned_is, unsigned_only}
-use Rattle.wenc_base.proofs.laws.unsigned_text_in_words.Goals as goal
-
-pub returns : goal.returns
-returns c = record { is = unsigned_is; only = unsigned_only }

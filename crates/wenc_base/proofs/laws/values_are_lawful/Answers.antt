@@ -1,5 +1,0 @@
-use Rattle.wenc_base.specs.laws.Lawful.{form_laws}
-use Rattle.wenc_base.proofs.laws.values_are_lawful.Goals as goal
-
-pub returns : goal.returns
-returns g c = form_laws g.met.T.Delimited.readable.1
