@@ -40,8 +40,6 @@ impl From<SectionId> for u8 {
     ghost from_gives = { λ _ n. n ≡ 0 };
 
     fn from(id: SectionId) -> u8 {
-        match id {
-            SectionId::Custom => 0,
-        }
+        id as u8
     }
 }

@@ -1,6 +1,8 @@
 ghost use Rattle.std.specs.Prelude.{◌≡◌, refl, ℕ, ◌∷◌};
 ghost use Rattle.wenc_base.specs.laws.Delimited.{itself};
 ghost use Rattle.wenc_base.specs.Encode.{Appends};
+ghost use Rattle.wenc_parts.specs.SectionIds.{section_number};
+ghost use Rattle.wenc_parts.specs.declared.component.ComponentSectionId.TheVariants.{CoreCustom};
 
 use std::alloc::Allocator;
 use wenc_base::{
@@ -50,7 +52,7 @@ pub trait ComponentSection: Encode {
 }
 
 impl<'a> ComponentSection for CustomSection<'a> {
-    ghost section_id = { λ _. 0 };
+    ghost section_id = { λ _. section_number CoreCustom };
 
     fn id(&self) -> u8 {
         u8::from(ComponentSectionId::CoreCustom)
@@ -58,7 +60,7 @@ impl<'a> ComponentSection for CustomSection<'a> {
 }
 
 impl<'a> ComponentSection for RawCustomSection<'a> {
-    ghost section_id = { λ _. 0 };
+    ghost section_id = { λ _. section_number CoreCustom };
 
     fn id(&self) -> u8 {
         u8::from(ComponentSectionId::CoreCustom)
@@ -66,7 +68,7 @@ impl<'a> ComponentSection for RawCustomSection<'a> {
 }
 
 impl<A: Allocator> ComponentSection for ProducersSection<A> {
-    ghost section_id = { λ _. 0 };
+    ghost section_id = { λ _. section_number CoreCustom };
 
     fn id(&self) -> u8 {
         u8::from(ComponentSectionId::CoreCustom)
@@ -113,8 +115,6 @@ pub enum ComponentSectionId {
 }
 
 impl From<ComponentSectionId> for u8 {
-    ghost use Rattle.wenc_parts.specs.SectionIds.{section_number};
-
     ghost from_gives = { λ id n. n ≡ section_number id };
 
     fn from(id: ComponentSectionId) -> u8 {
