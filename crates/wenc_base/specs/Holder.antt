@@ -1,5 +1,5 @@
 -- What counted sections and types keep: how many members, and their texts.
-use Rattle.std.specs.Prelude.{◌≡◌, ℕ, ◌+◌, ◌<◌, ◌≤◌, ◌^◌, ◌⊎◌, Bool, true, false, is_none, List, [], ◌∷◌, ◌++◌, length, take, Option, Some, None, Result, Err, OnOk, OnErr, IfErr}
+use Rattle.std.specs.Prelude.{◌≡◌, ℕ, ◌+◌, ◌<◌, ◌≤◌, ◌^◌, ◌⊎◌, Bool, true, false, is_none, List, [], ◌∷◌, ◌++◌, length, take, drop, Option, Some, None, Result, Err, OnOk, OnErr, IfErr}
 use Rattle.std.specs.Iterator.Runs.{SomeRun, WholeRun}
 use Rattle.std.specs.List.{flat_map}
 use Rattle.wenc_base.specs.Number.{unsigned_text, number_size}
@@ -49,6 +49,14 @@ all_bytes h = h.kept ++ h.body
 -- the same members behind other bytes
 abbrev pub with_kept : Held → List ℕ → Held
 with_kept h kept = record { kept = kept; count = h.count; body = h.body; opening = h.opening }
+
+-- the first bytes of all, of which some are kept, and the others are the texts of so many members
+abbrev pub gone_back : Held → ℕ → ℕ → ℕ → Held
+gone_back h kept len count = holding (take kept (all_bytes h)) count (drop kept (take len (all_bytes h)))
+
+-- these bytes in the place of those from start to end
+abbrev pub filled : List ℕ → ℕ → ℕ → List ℕ → List ℕ
+filled bytes start end head = take start bytes ++ (head ++ drop end bytes)
 
 -- It has just these members, each with its text.
 pub record Contains {A : Type 0} (text : A → List ℕ) (h : Held) (members : List A) : Type 0 where

@@ -8,7 +8,7 @@ use crate::short::Short;
 use std::alloc::Allocator;
 
 /// A section that the standard gives no meaning (WebAssembly 3.0, binary format, "Custom Section"). It is
-/// refused where it would have more than 4294967295 bytes behind its size (`TooLarge`).
+/// refused where it would have too many bytes behind its size (`TooLarge`).
 #[derive(Clone, Copy, Debug)]
 pub struct CustomSection<'a> {
     /// The name.

@@ -8,8 +8,7 @@ use thiserror::Error;
 ///
 /// - `Memory`: the allocator refused a growth during this call.
 /// - `TooMany`: a list's length, a count or an index space would pass 4294967295.
-/// - `TooLarge`: a text, a byte list, a map of names or a section would have more than 4294967295
-///   bytes.
+/// - `TooLarge`: a text, a byte list, a map of names or a section would have more bytes than that.
 /// - `Unfinished`: an item that was begun has not been ended.
 #[derive(Clone, Copy, Debug, PartialEq, Eq, Error)]
 pub enum Fault {

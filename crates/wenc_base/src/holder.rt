@@ -22,10 +22,11 @@ use std::marker::Model;
 const LIMIT: u64 = 4294967295;
 
 /// How many bytes a section has behind its size: the bytes of its count and those of its members, of which
-/// there are `body`. It is refused with `TooLarge` past 4294967295, and takes no memory.
+/// there are `body`. It is refused with `TooLarge` alone, and takes no memory.
 pub fn section_size(count: u32, body: u64) -> Result<u32, Fault>
     ensures ok { IfOk result (λ size. (size ≡ content_size count body) × (size < 2 ^ 32)) }
-    ensures refused { IfErr result (λ fault. (fault ≡ TooLarge) × (2 ^ 32 ≤ content_size count body)) }
+    ensures refused { IfErr result (λ fault.
+        (fault ≡ TooLarge) × (2 ^ 32 ≤ content_size count body)) }
 {
     let lead = encoding_size(count) as u64;
     if LIMIT - lead < body {
@@ -74,7 +75,8 @@ impl<A: Allocator> Holder<A> {
     /// A holder over bytes of which the first `kept` are kept in front, and the others are the texts of `count`
     /// members. It takes no memory.
     pub fn over(bytes: Vec<u8, A>, kept: usize, count: u32) -> Self
-        requires { (kept ≤ length bytes.items) × (content_size count (length (drop kept bytes.items)) < 2 ^ 32) }
+        requires within { kept ≤ length bytes.items }
+        requires fits { content_size count (length (drop kept bytes.items)) < 2 ^ 32 }
         ensures { result ≡ holding (take kept bytes.items) count (drop kept bytes.items) }
     {
         Holder {
@@ -142,8 +144,8 @@ impl<A: Allocator> Holder<A> {
         })
     }
 
-    /// Adds one member with this text, as it is. It is refused where there would be more than 4294967295
-    /// members (`TooMany`), or more than 4294967295 bytes with those of their number (`TooLarge`).
+    /// Adds one member with this text, as it is. It is refused where there would be too many members
+    /// (`TooMany`), or too many bytes with those of their number (`TooLarge`).
     pub fn add(&mut self, text: &[u8]) -> Result<(), Fault>
         ensures { AddsMember as_they_are self.old self.new result (λ _. ⊥) text.now }
     {
@@ -152,7 +154,8 @@ impl<A: Allocator> Holder<A> {
 
     /// Adds one member with the text of this value. It is refused as `add` is, or as the value is.
     pub fn add_encoded<E: Encode>(&mut self, value: &E) -> Result<(), Fault>
-        ensures added { AddsMember as_they_are self.old self.new result (E.cause value.now) (E.text value.now) }
+        ensures added { AddsMember as_they_are self.old self.new result
+            (E.cause value.now) (E.text value.now) }
         ensures unfinished_value { E.unfinished value.now → result ≡ Err Unfinished }
     {
         if !self.is_finished() {
@@ -203,8 +206,8 @@ impl<A: Allocator> Holder<A> {
     /// want of memory alone.
     #[tactic(auto, using(crate::proofs::Groups::size_of_u32))]
     pub fn encode_section<B: Allocator>(&self, sink: &mut Vec<u8, B>) -> Result<(), Fault>
-        ensures { Appends (section_text self.now) (EncodeCause self.now) (is_finished self.now ≡ false)
-            sink.old.items sink.new.items result }
+        ensures { Appends (section_text self.now) (EncodeCause self.now)
+            (is_finished self.now ≡ false) sink.old.items sink.new.items result }
     {
         if !self.is_finished() {
             return Err(Fault::Unfinished);
@@ -248,9 +251,10 @@ fn encode_listed<
 >(lead: &E, values: I, tail: &F, sink: &mut Vec<u8, A>) -> Result<(), Fault>
     requires can { I.can_next values }
     requires ends { IsFinite (I.remaining values) }
-    ensures ok { OnOk result (WholeRun I.next_gives values (λ run.
-        (sink.new.items ≡ sink.old.items ++ listed_text (E.text lead.now) T.text (F.text tail.now) run.items)
-        × ((fault : FaultSpec) → listed_cause (E.cause lead.now) T.cause (F.cause tail.now) run.items fault → ⊥))) }
+    ensures ok { OnOk result (WholeRun I.next_gives values (λ run. (sink.new.items
+        ≡ sink.old.items ++ listed_text (E.text lead.now) T.text (F.text tail.now) run.items)
+        × ((fault : FaultSpec)
+        → listed_cause (E.cause lead.now) T.cause (F.cause tail.now) run.items fault → ⊥))) }
     ensures err { OnErr result (sink.new.items ≡ sink.old.items) }
     ensures warranted { IfErr result (λ fault. SomeRun I.next_gives values (λ run.
         IsWarranted (listed_cause (E.cause lead.now) T.cause (F.cause tail.now) run.items) fault)) }
@@ -279,10 +283,12 @@ fn end_member<A: Allocator>(
     count: u32,
 ) -> Result<u32, Fault>
     requires { (kept ≤ start) × (start ≤ length bytes.old.items) }
-    ensures ok { IfOk result (λ next. (next ≡ count + 1) × (content_size next (length (drop kept bytes.old.items)) < 2 ^ 32)) }
+    ensures ok { IfOk result (λ next. (next ≡ count + 1)
+        × (content_size next (length (drop kept bytes.old.items)) < 2 ^ 32)) }
     ensures same { OnOk result (bytes.new.items ≡ bytes.old.items) }
     ensures err { OnErr result (bytes.new.items ≡ take start bytes.old.items) }
-    ensures free { (fault : FaultSpec) → CountCause count (length (drop kept bytes.old.items)) fault → OnOk result ⊥ }
+    ensures free { (fault : FaultSpec)
+        → CountCause count (length (drop kept bytes.old.items)) fault → OnOk result ⊥ }
     ensures warranted { IfErr result (CountCause count (length (drop kept bytes.old.items))) }
 {
     match next_count(count, bytes.len() - kept) {

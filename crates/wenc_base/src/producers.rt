@@ -39,8 +39,8 @@ impl<A: Allocator> ProducersField<A> {
         }
     }
 
-    /// Adds a tool and its version, each of at most 4294967295 bytes. It is refused where there would be more
-    /// than 4294967295 tools (`TooMany`) or bytes (`TooLarge`), and then the field stays as it was.
+    /// Adds a tool and its version. It is refused where there would be too many tools (`TooMany`) or bytes
+    /// (`TooLarge`), and then the field stays as it was.
     #[tactic(auto, using(crate::specs::laws::Holders::adds_as))]
     pub fn value(&mut self, name: &str, version: &str) -> Result<(), Fault>
         ensures { let tool : Producer = record { tool = name.now; version = version.now } in
@@ -103,17 +103,17 @@ impl<A: Allocator> ProducersSection<A> {
         }
     }
 
-    /// Adds a field of this name, of at most 4294967295 bytes, with its tools. It is refused where there would
-    /// be more than 4294967295 fields (`TooMany`), or more than 4294967295 bytes behind the section's size
-    /// (`TooLarge`), and then the section stays as it was.
+    /// Adds a field of this name with its tools. It is refused where these are unfinished, where there would be
+    /// too many fields (`TooMany`), or too many bytes in the name or behind the section's size (`TooLarge`), and
+    /// then the section stays as it was.
     pub fn field<B: Allocator>(
         &mut self,
         name: &str,
         field: &ProducersField<B>,
     ) -> Result<(), Fault>
         ensures added { (tools : List Producer) → Contains producer_text field.now tools
-            → AddsMember field_text self.old self.new result (FieldCause self.old name.now field.now)
-            (record { field = name.now; tools = tools }) }
+            → AddsMember field_text self.old self.new result
+            (FieldCause self.old name.now field.now) (record { field = name.now; tools = tools }) }
         ensures bytes { AddsMember as_they_are self.old self.new result
             (FieldCause self.old name.now field.now) (field_bytes name.now field.now) }
         ensures unfinished_field { is_finished field.now ≡ false → result ≡ Err Unfinished }

@@ -5,8 +5,8 @@ use crate::fault::Fault;
 use crate::section::Section;
 use std::alloc::Allocator;
 
-/// A section with any id, whose bytes are written behind their size. It is refused where there are more than
-/// 4294967295 (`TooLarge`).
+/// A section with any id, whose bytes are written behind their size. It is refused where there are too many
+/// (`TooLarge`).
 #[derive(Clone, Copy, Debug)]
 pub struct RawSection<'a> {
     /// The id.

@@ -133,7 +133,7 @@ impl DelimitedEq for RefType {
 pub enum HeapType {
     /// Something of this kind.
     Abstract(AbstractHeapType),
-    /// Something of the type with this index, from 0 to 4294967295.
+    /// Something of the type with this index.
     Concrete(u32),
 }
 

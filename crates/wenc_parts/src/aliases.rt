@@ -69,29 +69,29 @@ impl DelimitedEq for ComponentOuterAliasKind {
 pub enum Alias<'a> {
     /// An export of a component instance.
     InstanceExport {
-        /// The index of the instance, from 0 to 4294967295.
+        /// The index of the instance.
         instance: u32,
         /// The kind of the export.
         kind: ComponentExportKind,
-        /// The name of the export, of at most 4294967295 bytes.
+        /// The name of the export.
         name: &'a str,
     },
     /// An export of a core instance.
     CoreInstanceExport {
-        /// The index of the core instance, from 0 to 4294967295.
+        /// The index of the core instance.
         instance: u32,
         /// The kind of the export.
         kind: ExportKind,
-        /// The name of the export, of at most 4294967295 bytes.
+        /// The name of the export.
         name: &'a str,
     },
     /// An item of an enclosing component.
     Outer {
         /// The kind of the item.
         kind: ComponentOuterAliasKind,
-        /// How many components out the item stands, from 0, this component itself, to 4294967295.
+        /// How many components out the item stands: 0 is this component itself.
         count: u32,
-        /// The index of the item there, from 0 to 4294967295.
+        /// The index of the item there.
         index: u32,
     },
 }
@@ -162,29 +162,29 @@ impl<'a> Delimited for Alias<'a> {
 pub enum AliasTree {
     /// An export of a component instance.
     InstanceExport {
-        /// The index of the instance, from 0 to 4294967295.
+        /// The index of the instance.
         instance: u32,
         /// The kind of the export.
         kind: ComponentExportKind,
-        /// The name of the export, of at most 4294967295 bytes.
+        /// The name of the export.
         name: String,
     },
     /// An export of a core instance.
     CoreInstanceExport {
-        /// The index of the core instance, from 0 to 4294967295.
+        /// The index of the core instance.
         instance: u32,
         /// The kind of the export.
         kind: ExportKind,
-        /// The name of the export, of at most 4294967295 bytes.
+        /// The name of the export.
         name: String,
     },
     /// An item of an enclosing component.
     Outer {
         /// The kind of the item.
         kind: ComponentOuterAliasKind,
-        /// How many components out the item stands, from 0, this component itself, to 4294967295.
+        /// How many components out the item stands: 0 is this component itself.
         count: u32,
-        /// The index of the item there, from 0 to 4294967295.
+        /// The index of the item there.
         index: u32,
     },
 }

@@ -13,7 +13,7 @@ use wenc_base::{Delimited, DelimitedEq, Encode, Fault, Tagged};
 /// What a type that is imported or exported is bound to (component model, binary format, `typebound`).
 #[derive(Clone, Copy, Debug, PartialEq, Eq, Hash)]
 pub enum TypeBounds {
-    /// The type with this index, from 0 to 4294967295.
+    /// The type with this index.
     Eq(u32),
     /// A fresh resource type.
     SubResource,
@@ -66,7 +66,6 @@ impl DelimitedEq for TypeBounds {
 }
 
 /// What is imported, or the type that an export is given (component model, binary format, `externdesc`).
-/// Each index is from 0 to 4294967295.
 #[derive(Clone, Copy, Debug, PartialEq, Eq, Hash)]
 pub enum ComponentTypeRef {
     /// A core module, by the index of its core type.
@@ -159,7 +158,7 @@ impl DelimitedEq for ComponentTypeRef {
 }
 
 /// The name of an import or an export, with the options that a name may have (component model, binary
-/// format, `importname'` and `exportname'`). Each text is of at most 4294967295 bytes.
+/// format, `importname'` and `exportname'`).
 #[derive(Drop)]
 pub struct ComponentExternName<'a, A: Allocator = Global> {
     /// The name.
@@ -316,7 +315,7 @@ impl<'a> From<String> for ComponentExternName<'a> {
     }
 }
 
-/// A `ComponentExternName` that owns its texts, for commands. Each is of at most 4294967295 bytes.
+/// A `ComponentExternName` that owns its texts, for commands.
 #[derive(Drop)]
 pub struct NameTree {
     /// The name.

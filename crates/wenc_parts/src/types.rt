@@ -104,7 +104,7 @@ impl DelimitedEq for PrimitiveValType {
 pub enum ComponentValType {
     /// A primitive type.
     Primitive(PrimitiveValType),
-    /// The index of a defined type, from 0 to 4294967295.
+    /// The index of a defined type.
     Type(u32),
 }
 

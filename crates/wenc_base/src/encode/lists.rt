@@ -34,7 +34,8 @@ impl<T: Encode> Encode for &[T] {
 /// Appends the text of each value, up to the first that is refused.
 fn encode_each<T: Encode, A: Allocator>(values: &[T], sink: &mut Vec<u8, A>) -> Result<(), Fault>
     ensures ok { OnOk result (sink.new.items ≡ sink.old.items ++ flat_map T.text values.now) }
-    ensures encodable { (fault : FaultSpec) → member_cause T.cause values.now fault → OnOk result ⊥ }
+    ensures encodable { (fault : FaultSpec)
+        → member_cause T.cause values.now fault → OnOk result ⊥ }
     ensures err { OnErr result ((more : List ℕ) × (sink.new.items ≡ sink.old.items ++ more)) }
     ensures warranted { IfErr result (IsWarranted (member_cause T.cause values.now)) }
 {
@@ -77,8 +78,9 @@ fn encode_all<T: Encode + Drop, I: Iterator<Item = T> + Drop, A: Allocator>(
 ) -> Result<u32, Fault>
     requires can { I.can_next values }
     requires ends { IsFinite (I.remaining values) }
-    ensures ok { IfOk result (λ count. WholeRun I.next_gives values (λ run. (length run.items ≡ count)
-        × (count < 2 ^ 32) × Written T.text T.cause sink.old.items run.items sink.new.items)) }
+    ensures ok { IfOk result (λ count. WholeRun I.next_gives values (λ run.
+        (length run.items ≡ count) × (count < 2 ^ 32)
+        × Written T.text T.cause sink.old.items run.items sink.new.items)) }
     ensures err { OnErr result ((more : List ℕ) × (sink.new.items ≡ sink.old.items ++ more)) }
     ensures warranted { IfErr result (λ fault. SomeRun I.next_gives values (λ run.
         IsWarranted (drawn_cause T.cause run.items) fault)) }

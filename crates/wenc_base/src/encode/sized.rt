@@ -7,8 +7,8 @@ use super::front::put_number;
 use crate::fault::Fault;
 use std::alloc::Allocator;
 
-/// How many bytes a value has, then the value. It is refused as the value is, or where there are more than
-/// 4294967295 (`TooLarge`).
+/// How many bytes a value has, then the value. It is refused as the value is, or where there are too many
+/// bytes (`TooLarge`).
 #[derive(Clone, Copy)]
 pub struct WithSize<'a, T>(pub &'a T);
 

@@ -1,6 +1,6 @@
 ghost use Rattle.std.specs.Prelude.{◌≡◌, ◌+◌, ◌-◌, ◌<◌, ◌≤◌, ◌^◌, ◌++◌, [], true, false, length, take, drop, OnOk, OnErr, IfOk, IfErr};
 ghost use Rattle.wenc_base.specs.Fault.{IsWarranted};
-ghost use Rattle.wenc_base.specs.Holder.{is_finished, holding, content_size, all_bytes, with_kept, EncodeCause};
+ghost use Rattle.wenc_base.specs.Holder.{is_finished, holding, gone_back, content_size, all_bytes, with_kept, filled, EncodeCause};
 ghost use Rattle.wenc_base.specs.declared.fault.Fault.TheVariants.{Unfinished};
 
 use super::Holder;
@@ -42,7 +42,7 @@ impl<A: Allocator> Holder<A> {
         requires finished { is_finished self.old ≡ true }
         requires within { (kept ≤ len) × (len ≤ length (all_bytes self.old)) }
         requires fits { content_size count (len - kept) < 2 ^ 32 }
-        ensures { self.new ≡ holding (take kept (all_bytes self.old)) count (drop kept (take len (all_bytes self.old))) }
+        ensures { self.new ≡ gone_back self.old kept len count }
     {
         self.bytes.truncate(len);
         self.kept = kept;
@@ -54,7 +54,7 @@ impl<A: Allocator> Holder<A> {
     pub fn fill_kept(&mut self, start: usize, end: usize, bytes: &[u8])
         requires within { (start ≤ end) × (end ≤ length self.old.kept) }
         requires short { length bytes.now ≤ end - start }
-        ensures { self.new ≡ with_kept self.old (take start self.old.kept ++ (bytes.now ++ drop end self.old.kept)) }
+        ensures { self.new ≡ with_kept self.old (filled self.old.kept start end bytes.now) }
     {
         fill(&mut self.bytes, start, end, bytes);
         self.kept -= end - start - bytes.len();
@@ -65,7 +65,7 @@ impl<A: Allocator> Holder<A> {
 fn fill<A: Allocator>(bytes: &mut Vec<u8, A>, start: usize, end: usize, head: &[u8])
     requires within { (start ≤ end) × (end ≤ length bytes.old.items) }
     requires short { length head.now ≤ end - start }
-    ensures { bytes.new.items ≡ take start bytes.old.items ++ (head.now ++ drop end bytes.old.items) }
+    ensures { bytes.new.items ≡ filled bytes.old.items start end head.now }
 {
     let spare = end - start - head.len();
     let len = bytes.len();

@@ -52,11 +52,12 @@ impl<A: Allocator> Holder<A> {
         }
     }
 
-    /// Adds these bytes to the member that is being written. It is refused where there would be more than
-    /// 4294967295 bytes with those of the number of members (`TooLarge`), and then nothing changes.
+    /// Adds these bytes to the member that is being written. It is refused where there would be too many bytes
+    /// with those of the number of members (`TooLarge`), and then nothing changes.
     pub fn append(&mut self, text: &[u8]) -> Result<(), Fault>
         requires { is_finished self.old ≡ false }
-        ensures { Lengthens self.old self.new (lengthened self.old text.now) result (λ _. ⊥) text.now }
+        ensures { Lengthens self.old self.new (lengthened self.old text.now) result
+            (λ _. ⊥) text.now }
     {
         self.append_encoded(&Verbatim(text))
     }
@@ -65,8 +66,8 @@ impl<A: Allocator> Holder<A> {
     /// the value is.
     pub fn append_encoded<E: Encode>(&mut self, value: &E) -> Result<(), Fault>
         requires { is_finished self.old ≡ false }
-        ensures lengthened { Lengthens self.old self.new (lengthened self.old (E.text value.now)) result
-            (E.cause value.now) (E.text value.now) }
+        ensures lengthened { Lengthens self.old self.new
+            (lengthened self.old (E.text value.now)) result (E.cause value.now) (E.text value.now) }
         ensures unfinished_value { E.unfinished value.now → result ≡ Err Unfinished }
     {
         let start = self.bytes.len();
@@ -82,7 +83,8 @@ impl<A: Allocator> Holder<A> {
     /// holder stays unfinished.
     pub fn close(&mut self, text: &[u8]) -> Result<(), Fault>
         requires { is_finished self.old ≡ false }
-        ensures { Lengthens self.old self.new (closed (lengthened self.old text.now)) result (λ _. ⊥) text.now }
+        ensures { Lengthens self.old self.new (closed (lengthened self.old text.now)) result
+            (λ _. ⊥) text.now }
     {
         self.append(text)?;
         self.finish_member();
