@@ -1,8 +1,8 @@
 -- Canonical functions (component model, binary format, "Canonical Definitions"; opcodes and fields as docs/FORMAT.md lists them).
 use Rattle.std.specs.Prelude.{ℕ, Bool, List, [], ◌∷◌, Option, Result, length}
-use Rattle.wenc_base.specs.Piece.{Form, byte, nothing, ◌▸◌, ◌⨾◌, all_of}
+use Rattle.wenc_base.specs.Piece.{Form, byte, nothing, ◌▸◌, ◌⨾◌}
 use Rattle.wenc_base.specs.Number.{u32}
-use Rattle.wenc_base.specs.Forms.{flag, list, sized}
+use Rattle.wenc_base.specs.Forms.{flag, list, counted}
 use Rattle.wenc_base.specs.Types.{val_type}
 use Rattle.wenc_base.specs.Fault.{count_cause}
 use Rattle.wenc_base.specs.Holder.{Held, AddsMember, AddsListed}
@@ -175,6 +175,20 @@ row ThreadSpawnRef = 0x40 takes Index ∷ []
 row ThreadSpawnIndirect = 0x41 takes Index ∷ Index ∷ []
 row ThreadAvailableParallelism = 0x42 takes []
 
+-- all of them
+abbrev pub intrinsics : List Intrinsic
+intrinsics =
+    ResourceNew ∷ ResourceDrop ∷ ResourceRep ∷ TaskCancel ∷ SubtaskCancel ∷ TaskReturn ∷
+    ContextGet ∷ ContextSet ∷ ThreadYield ∷ SubtaskDrop ∷ StreamNew ∷ StreamRead ∷ StreamWrite ∷
+    StreamCancelRead ∷ StreamCancelWrite ∷ StreamDropReadable ∷ StreamDropWritable ∷ FutureNew ∷
+    FutureRead ∷ FutureWrite ∷ FutureCancelRead ∷ FutureCancelWrite ∷ FutureDropReadable ∷
+    FutureDropWritable ∷ ErrorContextNew ∷ ErrorContextDebugMessage ∷ ErrorContextDrop ∷
+    WaitableSetNew ∷ WaitableSetWait ∷ WaitableSetPoll ∷ WaitableSetDrop ∷ WaitableJoin ∷
+    BackpressureInc ∷ BackpressureDec ∷ ThreadIndex ∷ ThreadNewIndirect ∷ ThreadResumeLater ∷
+    ThreadSuspend ∷ ThreadSuspendThenResume ∷ ThreadYieldThenResume ∷ ThreadSuspendThenPromote ∷
+    ThreadYieldThenPromote ∷ StreamForward ∷ FutureForward ∷ ThreadSpawnRef ∷ ThreadSpawnIndirect ∷
+    ThreadAvailableParallelism ∷ []
+
 -- ---- canonical functions
 
 -- A core function that is lifted, with its options and its type; a function that is lowered, with its options; or
@@ -192,9 +206,9 @@ canonical (Provided i values) = (row i).opcode ▸ fields (row i).fields values
 abbrev pub canonical_text : Canonical → List ℕ
 canonical_text c = (canonical c).text
 
--- the section, behind its id: how many bytes, how many functions, the functions
+-- the section, behind its id
 abbrev pub canonical_section : Form (List Canonical)
-canonical_section functions = sized (all_of (list canonical functions))
+canonical_section = counted canonical
 
 -- ---- what the calls of a section add
 

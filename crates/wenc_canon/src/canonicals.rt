@@ -1,15 +1,15 @@
-ghost use Rattle.std.specs.Prelude.{◌≡◌, ◌==◌, false, IfOk, IfErr};
+ghost use Rattle.std.specs.Prelude.{◌≡◌, ◌==◌, false, IfOk, IfErr, refl};
 ghost use Rattle.std.specs.Iterator.{IsFinite};
 ghost use Rattle.wenc_base.specs.Fault.{IsMemory};
 ghost use Rattle.wenc_base.specs.Holder.{no_members, is_finished, section_text, EncodeCause};
-ghost use Rattle.wenc_base.specs.laws.Lawful.{delimited as told_apart};
+ghost use Rattle.wenc_base.specs.laws.Delimited.{itself};
 ghost use Rattle.wenc_canon.specs.Canonicals.{AddsWithOptions, Lift, Lower};
 
 mod intrinsics;
 
 use std::alloc::{Allocator, Global};
 use std::marker::Model;
-use wenc_base::{Delimited, Encode, Fault, Holder, Tagged};
+use wenc_base::{Delimited, DelimitedEq, Encode, Fault, Holder, Tagged};
 use wenc_parts::{ComponentSection, ComponentSectionId};
 
 /// An option of a function that is lifted or lowered, or of an intrinsic that reads or writes values
@@ -63,13 +63,35 @@ impl Encode for CanonicalOption {
 
 impl Delimited for CanonicalOption {
     ghost use Rattle.wenc_canon.specs.Canonicals.{canonical_option};
-    ghost use Rattle.wenc_canon.specs.laws.Canonicals.{canonical_option_lawful};
+    ghost use Rattle.wenc_canon.specs.laws.Canonicals.{read_option, canonical_option_lawful};
+    ghost use Rattle.wenc_canon.specs.declared.canonicals.CanonicalOption.{CanonicalOption as Seen'};
 
-    ghost fits = { λ o. (canonical_option o).Fits };
+    ghost Seen = { Seen' };
 
-    ghost same = { λ a b. a ≡ b };
+    ghost seen = { λ o. o };
 
-    ghost delimited = { λ a b. told_apart (canonical_option_lawful a) (canonical_option_lawful b) };
+    ghost form = { canonical_option };
+
+    fn belongs(&self) {
+        match self {
+            CanonicalOption::Memory(index)
+            | CanonicalOption::Realloc(index)
+            | CanonicalOption::PostReturn(index)
+            | CanonicalOption::Callback(index)
+            | CanonicalOption::CoreType(index) => index.belongs(),
+            _ => {}
+        }
+    }
+
+    ghost readable = { ((λ fuel. read_option), canonical_option_lawful) };
+
+    ghost text_of = { λ o. refl };
+
+    ghost free = { λ o h fault cause. cause };
+}
+
+impl DelimitedEq for CanonicalOption {
+    ghost alike = { itself _ };
 }
 
 /// The section of canonical functions (component model, binary format, "Canonical Definitions"). A call
