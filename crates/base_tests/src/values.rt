@@ -12,7 +12,12 @@ use wenc_base::{
 };
 
 // Each value is written behind a byte that the sink has.
-pub fn check<T: Encode>(rt: &impl Abort, alloc: Global, value: &T, bytes: &[u8]) -> Result<(), Fail> {
+pub fn check<T: Encode>(
+    rt: &impl Abort,
+    alloc: Global,
+    value: &T,
+    bytes: &[u8],
+) -> Result<(), Fail> {
     let mut sink = [0x99].to_vec(alloc)?;
     let mut expected = [0x99].to_vec(alloc)?;
     value.encode(&mut sink)?;
@@ -21,7 +26,7 @@ pub fn check<T: Encode>(rt: &impl Abort, alloc: Global, value: &T, bytes: &[u8])
     Ok(())
 }
 
-// This stands in CALLING.md as the proved caller.
+// The bytes of a value, in a vector of their own.
 fn encoded<T: Encode, A: Allocator>(alloc: A, value: &T) -> Result<Vec<u8, A>, Fault>
     ensures { IfOk result (λ bytes. bytes.items ≡ T.text value.now) }
 {

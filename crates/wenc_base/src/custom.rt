@@ -9,6 +9,10 @@ use std::alloc::Allocator;
 
 /// A section that the standard gives no meaning (WebAssembly 3.0, binary format, "Custom Section"). It is
 /// refused where it would have too many bytes behind its size (`TooLarge`).
+///
+/// ```rust
+/// component.section(&CustomSection { name: "notes", data: &[0x2a] })?;
+/// ```
 #[derive(Clone, Copy, Debug)]
 pub struct CustomSection<'a> {
     /// The name.

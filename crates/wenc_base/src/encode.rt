@@ -14,7 +14,13 @@ pub use lists::encode_list;
 pub use sized::WithSize;
 use std::alloc::Allocator;
 
-/// A value with a binary text.
+/// A value with a binary text. A type of your own may implement it too.
+///
+/// ```rust
+/// let mut sink = Vec::new(alloc);
+/// "f".encode(&mut sink)?;
+/// [1u32, 2].as_slice().encode(&mut sink)?;
+/// ```
 pub trait Encode {
     /// The bytes of the value.
     ghost text: { Self → List ℕ };

@@ -13,6 +13,12 @@ const HEADER: [u8; 8] = [0x00, 0x61, 0x73, 0x6d, 0x01, 0x00, 0x00, 0x00];
 
 /// The bytes of a core module: its header, and the sections that were appended (WebAssembly 3.0, binary
 /// format, "Modules"). Nothing checks their order.
+///
+/// ```rust
+/// let mut module = Module::new(alloc)?;
+/// module.section(&CustomSection { name: "x", data: &[] })?;
+/// let bytes = module.finish();
+/// ```
 #[derive(Drop)]
 pub struct Module<A: Allocator = Global> {
     bytes: Vec<u8, A>,

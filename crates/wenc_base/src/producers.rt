@@ -76,6 +76,13 @@ impl<A: Allocator> Encode for ProducersField<A> {
 
 /// What the tools did that made a module or a component, and which they were: a custom section (tool
 /// conventions, "Producers Section").
+///
+/// ```rust
+/// let mut tools = ProducersField::new(alloc);
+/// tools.value("rustc", "1.95.0")?;
+/// let mut producers = ProducersSection::new(alloc);
+/// producers.field("processed-by", &tools)?;
+/// ```
 #[derive(Drop)]
 pub struct ProducersSection<A: Allocator = Global> {
     fields: Holder<A>,

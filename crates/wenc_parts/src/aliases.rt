@@ -65,6 +65,10 @@ impl DelimitedEq for ComponentOuterAliasKind {
 }
 
 /// What an alias stands for (component model, binary format, `alias`).
+///
+/// ```rust
+/// let alias = Alias::InstanceExport { instance: 0, kind: ComponentExportKind::Func, name: "f" };
+/// ```
 #[derive(Clone, Copy)]
 pub enum Alias<'a> {
     /// An export of a component instance.

@@ -6,7 +6,8 @@ ghost use Rattle.wenc_parts.specs.declared.component.ComponentSectionId.TheVaria
 
 use std::alloc::Allocator;
 use wenc_base::{
-    CustomSection, Delimited, DelimitedEq, Encode, Fault, ProducersSection, RawCustomSection, RawSection, Tagged,
+    CustomSection, Delimited, DelimitedEq, Encode, Fault, ProducersSection, RawCustomSection,
+    RawSection, Tagged,
 };
 
 // The bytes of sorts (component model, binary format, `sort` and `core:sort`).

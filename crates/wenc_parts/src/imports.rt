@@ -159,6 +159,11 @@ impl DelimitedEq for ComponentTypeRef {
 
 /// The name of an import or an export, with the options that a name may have (component model, binary
 /// format, `importname'` and `exportname'`).
+///
+/// ```rust
+/// let mut name = ComponentExternName::from("a:b/c");
+/// name.version_suffix = Some(CowStr::Borrowed("1"));
+/// ```
 #[derive(Drop)]
 pub struct ComponentExternName<'a, A: Allocator = Global> {
     /// The name.

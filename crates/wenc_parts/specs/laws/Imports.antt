@@ -140,8 +140,14 @@ at_most_one make (Some text) = lit≤ tt
 few_options : (n : ExternName) → length (name_options n) < 2 ^ 32
 few_options n =
     let tail : List NameOption = present VersionSuffix n.version_suffix ++ present ExternalId n.external_id in
-    omega (arith, length-append (present Implements n.implements) tail, length-append (present VersionSuffix n.version_suffix) (present ExternalId n.external_id),
-    at_most_one Implements n.implements, at_most_one VersionSuffix n.version_suffix, at_most_one ExternalId n.external_id)
+    omega (
+      arith,
+      length-append (present Implements n.implements) tail,
+      length-append (present VersionSuffix n.version_suffix) (present ExternalId n.external_id),
+      at_most_one Implements n.implements,
+      at_most_one VersionSuffix n.version_suffix,
+      at_most_one ExternalId n.external_id,
+    )
 
 -- no text of the name is too long, and each is text
 pub extern_name_fits : (n : ExternName) → FreeFits text_cause (λ text. text) name n.name → (NoCause (option_cause n.implements) → OptionFits n.implements)
