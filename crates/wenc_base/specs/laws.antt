@@ -1,7 +1,8 @@
--- Why the laws of the forms hold, and what follows of a holder. No contract of this crate cites them.
+-- Why the laws of the forms hold, and what follows of a holder: for proofs, here and in the crates above.
 pub mod Groups
 pub mod Lawful
 pub mod Numbers
+pub mod Words
 pub mod Forms
 pub mod Delimited
 pub mod Exports

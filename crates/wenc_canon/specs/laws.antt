@@ -1,2 +1,2 @@
--- Why the laws of the forms hold.
+-- Why the laws of the forms hold: for proofs, here and in the crates above.
 pub mod Canonicals

@@ -1,4 +1,4 @@
--- Why the laws of the forms hold.
+-- Why the laws of the forms hold: for proofs, here and in the crates above.
 pub mod SectionIds
 pub mod Types
 pub mod Exports

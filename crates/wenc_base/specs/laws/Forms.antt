@@ -2,8 +2,8 @@
 use Rattle.std.proofs.Common.{◌≡◌, ℕ, Bool, true, false, List, [], ◌∷◌, ◌++◌, length, take, drop, Option, Some, None, refl, sym, ◌∙◌, append_assoc, arith}
 use Rattle.std.proofs.lemmas.List.{take_at, drop_at}
 use Rattle.wenc_base.specs.Piece.{Whole, Form}
-use Rattle.wenc_base.specs.Forms.{flag, list, option, utf8, name, AreBytes, sized, byte_list}
-use Rattle.wenc_base.specs.laws.Lawful.{Lawful, LawfulWhole, Reader, ◌>>=◌, give, nowhere, times, choose, row, row_byte, then, last, each_lawful, raw_lawful}
+use Rattle.wenc_base.specs.Forms.{flag, list, option, utf8, name, AreBytes, sized, byte_list, counted}
+use Rattle.wenc_base.specs.laws.Lawful.{Lawful, LawfulWhole, Reader, ◌>>=◌, give, nowhere, times, choose, row, row_byte, then, last, done, each_lawful, whole_lawful, raw_lawful}
 use Rattle.wenc_base.specs.laws.Numbers.{read_groups, u32_lawful, groups_are_read}
 
 -- ---- flags
@@ -87,3 +87,11 @@ read_byte_list = read_sized Some
 
 pub byte_list_lawful : (bs : List ℕ) → Lawful (byte_list bs) (λ fuel. read_byte_list) bs
 byte_list_lawful bs = sized_lawful (raw_lawful AreBytes bs (λ bytes. bytes))
+
+-- ---- counted sections
+
+abbrev pub read_counted : {A : Type 0} → Reader A → Reader (List A)
+read_counted read = read_sized (done (read_list read))
+
+pub counted_lawful : {A : Type 0} {form : Form A} {read : ℕ → Reader A} → ((v : A) → Lawful (form v) read v) → (vs : List A) → Lawful (counted form vs) (λ fuel. read_counted (read fuel)) vs
+counted_lawful laws vs = sized_lawful (whole_lawful (list_lawful laws vs))

@@ -7,7 +7,7 @@ use Rattle.std.proofs.lemmas.Int.{ints}
 use Rattle.std.proofs.lemmas.List.{length-map}
 use Rattle.wenc_base.specs.Piece.{Spelling}
 use Rattle.wenc_base.specs.Number.{groups, complement, unsigned_text, signed_text, sum_from, last_of, signed_sum, AreGroups, IsUnsignedText, IsSignedText, ReadsGroups, last, more}
-use Rattle.wenc_base.proofs.Groups.{limit, groups_below, groups_from}
+use Rattle.wenc_base.specs.laws.Groups.{limit, groups_below, groups_from}
 
 -- ---- the relations by recursion
 
