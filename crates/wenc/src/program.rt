@@ -22,7 +22,7 @@ const MALFORMED: u8 = 1;
 const REFUSED: u8 = 2;
 
 /// The exit status where a read or a write failed.
-const UNFINISHED: u8 = 4;
+const TRANSFER_FAILED: u8 = 4;
 
 /// How many reads an input's end may take.
 const MAX_READS: u32 = 16_777_216;
@@ -82,7 +82,7 @@ fn finish<W: Write>(writer: &mut W, text: &[u8], status: u8) -> u8
 {
     match send(writer, text) {
         Ok(()) => status,
-        Err(_) => UNFINISHED,
+        Err(_) => TRANSFER_FAILED,
     }
 }
 
@@ -106,7 +106,7 @@ pub fn report<E: Write>(alloc: Global, err: &mut E, failure: Failure) -> u8
             Err(error) => report_fault(err, Fault::Memory(error)),
         },
         Failure::Fault(fault) => report_fault(err, fault),
-        Failure::Transfer => UNFINISHED,
+        Failure::Transfer => TRANSFER_FAILED,
     }
 }
 
