@@ -15,18 +15,18 @@ use Rattle.wenc.specs.Printed.{printed}
 use Rattle.wenc.specs.Run.{Says, usage, line_report, fault_report, no_memory}
 
 -- why reading failed
-abbrev pub IsOfInput : Failure → Type 0
-IsOfInput (BadLine line) = ⊥
-IsOfInput (Fault fault) = IsMemory fault
-IsOfInput Transfer = Unit {0}
-IsOfInput Arguments = ⊥
+abbrev pub IsReadFailure : Failure → Type 0
+IsReadFailure (BadLine line) = ⊥
+IsReadFailure (Fault fault) = IsMemory fault
+IsReadFailure Transfer = Unit {0}
+IsReadFailure Arguments = ⊥
 
 -- the exit status for these answers
 abbrev pub IsStatusOf : ℕ → List (Result (Option ℕ) FaultSpec) → Type 0
 IsStatusOf status answers = ((status ≡ 2) × Any IsErr answers) ⊎ ((status ≡ 0) × All IsOk answers)
 
 -- what is printed for a script
-pub record Translation (p : Printout) (text : List ℕ) : Type 0 where
+pub record Translation {A : Type 0} (p : Printout A) (text : List ℕ) : Type 0 where
   pub commands : List CommandTree
   pub answers : List (Result (Option ℕ) FaultSpec)
   pub entries : List Entry
@@ -35,7 +35,7 @@ pub record Translation (p : Printout) (text : List ℕ) : Type 0 where
   pub status : IsStatusOf p.status answers
   pub prints : p.text.items ≡ printed answers (whole (items entries))
 
-abbrev pub Translates : Result Printout Failure → List ℕ → Type 0
+abbrev pub Translates : {A : Type 0} → Result (Printout A) Failure → List ℕ → Type 0
 Translates (Ok p) text = Translation p text
 Translates (Err (BadLine line)) text = script text ≡ Err line
 Translates (Err (Fault fault)) text = IsMemory fault
@@ -47,13 +47,17 @@ pub record IsWhole (left ended : Option (List ℕ)) (text : List ℕ) : Type 0 w
   pub consumed : Consumes left ended text
   pub ends : IsAtEnd ended
 
+-- why there is no translation of what a reader had left
+abbrev pub IsReason : Failure → Option (List ℕ) → Option (List ℕ) → Type 0
+IsReason (BadLine line) left ended = (text : List ℕ) × IsWhole left ended text × (script text ≡ Err line)
+IsReason (Fault fault) left ended = IsMemory fault
+IsReason Transfer left ended = Unit {0}
+IsReason Arguments left ended = ⊥
+
 -- the translation of what a reader had left
-abbrev pub Reads : Result Printout Failure → Option (List ℕ) → Option (List ℕ) → Type 0
+abbrev pub Reads : {A : Type 0} → Result (Printout A) Failure → Option (List ℕ) → Option (List ℕ) → Type 0
 Reads (Ok p) left ended = (text : List ℕ) × IsWhole left ended text × Translation p text
-Reads (Err (BadLine line)) left ended = (text : List ℕ) × IsWhole left ended text × (script text ≡ Err line)
-Reads (Err (Fault fault)) left ended = IsMemory fault
-Reads (Err Transfer) left ended = Unit {0}
-Reads (Err Arguments) left ended = ⊥
+Reads (Err failure) left ended = IsReason failure left ended
 
 -- how a failure was reported; a line's number also takes memory
 abbrev pub Reported : ℕ → Failure → Option (List ℕ) → Option (List ℕ) → Type 0

@@ -1,6 +1,7 @@
 ghost use Rattle.std.specs.Prelude.{◌≡◌, ◌∷◌, [], IfOk, MatchOption, option_map};
 ghost use Rattle.wasm_encoder.specs.Command.{command_view};
-ghost use Rattle.wenc.specs.Script.{parted, import, export, alias_export, line_command, has_empty, command_of};
+ghost use Rattle.wenc.specs.Script.{parted, import, export, alias_export, line_command, has_empty};
+ghost use Rattle.wenc.specs.Script.{command_of};
 
 use crate::kind::{kind, reference};
 use crate::number::number;

@@ -5,7 +5,7 @@ ghost use Rattle.wenc.specs.Parsed.{Parses};
 
 use crate::failure::Failure;
 use crate::line::command;
-use std::alloc::Global;
+use std::alloc::{Allocator, Global};
 use wasm_encoder::Command;
 
 /// Where the first line of a text ends, if it has an end.
@@ -27,8 +27,9 @@ fn first_line(text: &[u8]) -> (&[u8], Option<&[u8]>)
     }
 }
 
-/// The commands of a script. It fails at the first bad line, or where memory runs out.
-pub fn parse(alloc: Global, text: &[u8]) -> Result<Vec<Command>, Failure>
+/// The commands of a script, whose names are allocated by `names`. It fails at the first bad line, or
+/// where memory runs out.
+pub fn parse<A: Allocator>(alloc: A, names: Global, text: &[u8]) -> Result<Vec<Command, A>, Failure>
     ensures { Parses result (script text.now) }
 {
     let mut commands = Vec::new(alloc);
@@ -38,7 +39,7 @@ pub fn parse(alloc: Global, text: &[u8]) -> Result<Vec<Command>, Failure>
         let (line, behind) = first_line(lines);
         number += 1;
         if !line.is_empty() {
-            let Some(command) = command(alloc, line)? else {
+            let Some(command) = command(names, line)? else {
                 return Err(Failure::BadLine(number));
             };
             commands.push(command)?;

@@ -30,7 +30,7 @@ fn words_are_read(rt: HostRuntime) {
 fn every_kind_of_line_is_read(rt: HostRuntime) -> Result<(), Fail> {
     let script = b"import a module 0\nimport b func 1\nimport c value 2\nimport d type 3\n\
         import e instance 4\nimport f component 5\n\nexport g func 6\nalias-export 7 func h";
-    let commands = parse(rt.alloc(), script)?;
+    let commands = parse(rt.alloc(), rt.alloc(), script)?;
     assert_eq!(rt; commands.len(), 8);
     match &commands[7] {
         Command::Alias {
