@@ -10,7 +10,7 @@ use Rattle.wenc.specs.declared.failure.Failure.TheVariants.{Arguments, BadLine, 
 use Rattle.wenc.specs.declared.program.Printout.{Printout}
 use Rattle.wenc.specs.Script.{script}
 use Rattle.wenc.specs.Run.{Prints, Ends, AppendsFront, Says, fault_report, no_memory, line_report}
-use Rattle.wenc.specs.Steps.{Translation, IsWhole, Reads, IsReason, Reported}
+use Rattle.wenc.specs.Steps.{Translation, IsWhole, Reads, NotTranslated, Reported}
 
 keeps_same : (a : Option (List ℕ)) → Keeps a a
 keeps_same None = tt
@@ -140,7 +140,7 @@ fault_reported TooLarge number h = rw (h, decimal_digit 3 (lit< tt)) refl
 fault_reported Unfinished number h = rw (h, decimal_digit 4 (lit< tt)) refl
 
 -- nothing was printed
-pub ends_failed : (failure : Failure) (result : ℕ) (left ended before errors reported : Option (List ℕ)) → IsReason failure left ended → Reported result failure errors reported
+pub ends_failed : (failure : Failure) (result : ℕ) (left ended before errors reported : Option (List ℕ)) → NotTranslated failure left ended → Reported result failure errors reported
     → Ends result left ended before before errors reported
 ends_failed Arguments result left ended before errors reported r says = absurd r
 ends_failed (BadLine line) result left ended before errors reported r (inl (inl s)) = ends_at_line result line left ended before errors reported r.0 r.1 r.2 s.0 s.1

@@ -15,7 +15,10 @@ answer (Err fault) = codes "refused " ++ decimal (fault_number fault)
 abbrev pub line_of : List ℕ → List ℕ
 line_of text = text ++ 10 ∷ []
 
+abbrev pub answer_line : Result (Option ℕ) Fault → List ℕ
+answer_line given = line_of (answer given)
+
 -- a line for each answer, then one with the bytes in hexadecimal
 abbrev pub printed : List (Result (Option ℕ) Fault) → List ℕ → List ℕ
 printed [] bytes = line_of (encode_lower bytes)
-printed (a ∷ answers) bytes = line_of (answer a) ++ printed answers bytes
+printed (a ∷ answers) bytes = answer_line a ++ printed answers bytes

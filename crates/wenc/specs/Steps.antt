@@ -1,5 +1,5 @@
 -- What the steps of a run returned.
-use Rattle.std.specs.Prelude.{◌≡◌, ℕ, List, ◌⊎◌, All, Any, IsOk, IsErr, Option, Result, Ok, Err}
+use Rattle.std.specs.Prelude.{◌≡◌, ℕ, List, ◌⊎◌, All, Any, IsOk, IsErr, Option, Result, Ok, Err, Vec}
 use Rattle.std.specs.Io.KnownBytes.{Consumes, IsAtEnd}
 use Rattle.wenc_base.specs.Fault.{IsMemory}
 use Rattle.wenc_base.specs.declared.fault.Fault.{Fault as FaultSpec}
@@ -13,13 +13,6 @@ use Rattle.wenc.specs.declared.program.Printout.{Printout}
 use Rattle.wenc.specs.Script.{script}
 use Rattle.wenc.specs.Printed.{printed}
 use Rattle.wenc.specs.Run.{Says, usage, line_report, fault_report, no_memory}
-
--- why reading failed
-abbrev pub IsReadFailure : Failure → Type 0
-IsReadFailure (BadLine line) = ⊥
-IsReadFailure (Fault fault) = IsMemory fault
-IsReadFailure Transfer = Unit {0}
-IsReadFailure Arguments = ⊥
 
 -- the exit status for these answers
 abbrev pub IsStatusOf : ℕ → List (Result (Option ℕ) FaultSpec) → Type 0
@@ -47,17 +40,25 @@ pub record IsWhole (left ended : Option (List ℕ)) (text : List ℕ) : Type 0 w
   pub consumed : Consumes left ended text
   pub ends : IsAtEnd ended
 
--- why there is no translation of what a reader had left
-abbrev pub IsReason : Failure → Option (List ℕ) → Option (List ℕ) → Type 0
-IsReason (BadLine line) left ended = (text : List ℕ) × IsWhole left ended text × (script text ≡ Err line)
-IsReason (Fault fault) left ended = IsMemory fault
-IsReason Transfer left ended = Unit {0}
-IsReason Arguments left ended = ⊥
+-- All that a reader had left was read, or a read failed, or memory ran out.
+abbrev pub ReadsWhole : {A : Type 0} → Result (Vec ℕ A) Failure → Option (List ℕ) → Option (List ℕ) → Type 0
+ReadsWhole (Ok text) left ended = IsWhole left ended text.items
+ReadsWhole (Err (BadLine line)) left ended = ⊥
+ReadsWhole (Err (Fault fault)) left ended = IsMemory fault
+ReadsWhole (Err Transfer) left ended = Unit {0}
+ReadsWhole (Err Arguments) left ended = ⊥
+
+-- why what a reader had left was not translated
+abbrev pub NotTranslated : Failure → Option (List ℕ) → Option (List ℕ) → Type 0
+NotTranslated (BadLine line) left ended = (text : List ℕ) × IsWhole left ended text × (script text ≡ Err line)
+NotTranslated (Fault fault) left ended = IsMemory fault
+NotTranslated Transfer left ended = Unit {0}
+NotTranslated Arguments left ended = ⊥
 
 -- the translation of what a reader had left
 abbrev pub Reads : {A : Type 0} → Result (Printout A) Failure → Option (List ℕ) → Option (List ℕ) → Type 0
 Reads (Ok p) left ended = (text : List ℕ) × IsWhole left ended text × Translation p text
-Reads (Err failure) left ended = IsReason failure left ended
+Reads (Err failure) left ended = NotTranslated failure left ended
 
 -- how a failure was reported; a line's number also takes memory
 abbrev pub Reported : ℕ → Failure → Option (List ℕ) → Option (List ℕ) → Type 0

@@ -1,5 +1,4 @@
-ghost use Rattle.std.specs.Prelude.{IfOk, IfErr};
-ghost use Rattle.wenc.specs.Steps.{IsWhole, IsReadFailure};
+ghost use Rattle.wenc.specs.Steps.{ReadsWhole};
 
 use crate::failure::Failure;
 use std::alloc::Allocator;
@@ -14,8 +13,7 @@ pub fn read_all<A: Allocator, R: Read>(
     input: &mut R,
     max_reads: u32,
 ) -> Result<Vec<u8, A>, Failure>
-    ensures whole { IfOk result (λ text. IsWhole (R.remaining input.old) (R.remaining input.new) text.items) }
-    ensures failed { IfErr result IsReadFailure }
+    ensures { ReadsWhole result (R.remaining input.old) (R.remaining input.new) }
 {
     let mut text = Vec::new(alloc);
     let mut chunk = [0; CHUNK_SIZE];

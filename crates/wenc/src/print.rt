@@ -1,6 +1,6 @@
 ghost use Rattle.std.specs.Prelude.{◌≡◌, ◌+◌, ◌*◌, length, take, ◌++◌, IfOk, OnOk, string_bytes};
 ghost use Rattle.hex.specs.Hex.{encode_lower};
-ghost use Rattle.wenc.specs.Printed.{answer, printed, line_of};
+ghost use Rattle.wenc.specs.Printed.{answer_line, printed, line_of};
 
 use std::alloc::{AllocError, Allocator};
 use wasm_encoder::Fault;
@@ -10,7 +10,7 @@ fn push_answer<A: Allocator>(
     text: &mut String<A>,
     given: &Result<Option<u32>, Fault>,
 ) -> Result<(), AllocError>
-    ensures { OnOk result (string_bytes text.new ≡ string_bytes text.old ++ line_of (answer given.now)) }
+    ensures { OnOk result (string_bytes text.new ≡ string_bytes text.old ++ answer_line given.now) }
 {
     match given {
         Ok(None) => text.push_str("-\n"),

@@ -139,7 +139,8 @@ pub fn run<R: Read, O: Write, E: Write>(
     run_with_allocators(alloc, alloc, args, input, out, err)
 }
 
-/// `run` with two allocators: the commands' names are allocated by `names`, and all else by `alloc`.
+/// `run` with two allocators: the names of the commands are allocated by `names`, and all else by
+/// `alloc`.
 pub fn run_with_allocators<A: Allocator + Copy, R: Read, O: Write, E: Write>(
     alloc: A,
     names: Global,
