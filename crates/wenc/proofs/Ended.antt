@@ -10,7 +10,7 @@ use Rattle.wenc.specs.declared.failure.Failure.TheVariants.{Arguments, BadLine, 
 use Rattle.wenc.specs.declared.program.Printout.{Printout}
 use Rattle.wenc.specs.Script.{script}
 use Rattle.wenc.specs.Run.{Prints, Ends, AppendsFront, Says, fault_report, no_memory, line_report}
-use Rattle.wenc.specs.Steps.{Translation, IsWhole, Reads, Reported}
+use Rattle.wenc.specs.Steps.{Translation, IsWhole, Reads, NotTranslated, Reported}
 
 keeps_same : (a : Option (List ℕ)) → Keeps a a
 keeps_same None = tt
@@ -30,7 +30,7 @@ appended_known None after old bytes h b = absurd cc
 appended_known (Some x) None old bytes h b = absurd h
 appended_known (Some x) (Some y) old bytes h b = let same : x ≡ old = cc in rw (h, same) refl
 
-prints_so : (P : List (Result (Option ℕ) FaultSpec) → Type 0) (p : Printout) (text all old : List ℕ) (t : Translation p text) → P t.answers → text ≡ all → Prints P all old (old ++ p.text.items)
+prints_so : (P : List (Result (Option ℕ) FaultSpec) → Type 0) {A : Type 0} (p : Printout A) (text all old : List ℕ) (t : Translation p text) → P t.answers → text ≡ all → Prints P all old (old ++ p.text.items)
 prints_so P p text all old t h e = record {
   commands = t.commands;
   answers = t.answers;
@@ -68,7 +68,7 @@ ends_at_line result line left ended before errors reported text h bad one app = 
   four = λ s all old l b. absurd (omega arith);
 }
 
-ends_accepted : (p : Printout) (result : ℕ) (left ended before after errors : Option (List ℕ)) (text : List ℕ) → IsWhole left ended text → (t : Translation p text)
+ends_accepted : {A : Type 0} (p : Printout A) (result : ℕ) (left ended before after errors : Option (List ℕ)) (text : List ℕ) → IsWhole left ended text → (t : Translation p text)
     → result ≡ 0 → All IsOk t.answers → Appends before after p.text.items → Ends result left ended before after errors errors
 ends_accepted p result left ended before after errors text h t zero ok app = record {
   zero = λ s all old l b. let k = whole_known left ended text all h l in (old ++ p.text.items, appended_known before after old _ app b, k.1, prints_so (All IsOk) p text all old t ok k.0, keeps_same errors);
@@ -77,7 +77,7 @@ ends_accepted p result left ended before after errors text h t zero ok app = rec
   four = λ s all old l b. absurd (omega arith);
 }
 
-ends_refused : (p : Printout) (result : ℕ) (left ended before after errors : Option (List ℕ)) (text : List ℕ) → IsWhole left ended text → (t : Translation p text)
+ends_refused : {A : Type 0} (p : Printout A) (result : ℕ) (left ended before after errors : Option (List ℕ)) (text : List ℕ) → IsWhole left ended text → (t : Translation p text)
     → result ≡ 2 → Any IsErr t.answers → Appends before after p.text.items → Ends result left ended before after errors errors
 ends_refused p result left ended before after errors text h t two refused app = record {
   zero = λ s all old l b. absurd (omega arith);
@@ -86,7 +86,7 @@ ends_refused p result left ended before after errors text h t two refused app = 
   four = λ s all old l b. absurd (omega arith);
 }
 
-ends_in_front : (p : Printout) (result : ℕ) (left ended before after errors : Option (List ℕ)) (text : List ℕ) → IsWhole left ended text → (t : Translation p text)
+ends_in_front : {A : Type 0} (p : Printout A) (result : ℕ) (left ended before after errors : Option (List ℕ)) (text : List ℕ) → IsWhole left ended text → (t : Translation p text)
     → result ≡ 4 → AppendsFront before after p.text.items → Ends result left ended before after errors errors
 ends_in_front p result left ended before after errors text h t four f = record {
   zero = λ s all old l b. absurd (omega arith);
@@ -115,7 +115,7 @@ ends_in_front p result left ended before after errors text h t four f = record {
 }
 
 -- what was printed was written, or a write failed
-pub ends_printed : (p : Printout) (result : ℕ) (left ended before after errors : Option (List ℕ)) → Reads (Ok p) left ended → Says result p.status p.text.items before after
+pub ends_printed : {A : Type 0} (p : Printout A) (result : ℕ) (left ended before after errors : Option (List ℕ)) → Reads (Ok p) left ended → Says result p.status p.text.items before after
     → Ends result left ended before after errors errors
 ends_printed p result left ended before after errors r (inr f) = ends_in_front p result left ended before after errors r.0 r.1 r.2 f.0 f.1
 ends_printed p result left ended before after errors r (inl s) =
@@ -140,7 +140,7 @@ fault_reported TooLarge number h = rw (h, decimal_digit 3 (lit< tt)) refl
 fault_reported Unfinished number h = rw (h, decimal_digit 4 (lit< tt)) refl
 
 -- nothing was printed
-pub ends_failed : (failure : Failure) (result : ℕ) (left ended before errors reported : Option (List ℕ)) → Reads (Err failure) left ended → Reported result failure errors reported
+pub ends_failed : (failure : Failure) (result : ℕ) (left ended before errors reported : Option (List ℕ)) → NotTranslated failure left ended → Reported result failure errors reported
     → Ends result left ended before before errors reported
 ends_failed Arguments result left ended before errors reported r says = absurd r
 ends_failed (BadLine line) result left ended before errors reported r (inl (inl s)) = ends_at_line result line left ended before errors reported r.0 r.1 r.2 s.0 s.1

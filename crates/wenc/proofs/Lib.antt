@@ -1,6 +1,6 @@
-pub mod PartedLaws
-pub mod NumberLaws
+pub mod Parted
+pub mod Numbers
 pub mod Commands
-pub mod LineLaws
-pub mod Known
+pub mod Lines
+pub mod Sent
 pub mod Ended

@@ -11,7 +11,14 @@ answer (Ok None) = codes "-"
 answer (Ok (Some index)) = decimal index
 answer (Err fault) = codes "refused " ++ decimal (fault_number fault)
 
--- a line for each answer, then one with the bytes in hexadecimal; each ends by LF
+-- a text as a line: it ends by LF
+abbrev pub line_of : List ℕ → List ℕ
+line_of text = text ++ 10 ∷ []
+
+abbrev pub answer_line : Result (Option ℕ) Fault → List ℕ
+answer_line given = line_of (answer given)
+
+-- a line for each answer, then one with the bytes in hexadecimal
 abbrev pub printed : List (Result (Option ℕ) Fault) → List ℕ → List ℕ
-printed [] bytes = encode_lower bytes ++ 10 ∷ []
-printed (a ∷ answers) bytes = answer a ++ 10 ∷ printed answers bytes
+printed [] bytes = line_of (encode_lower bytes)
+printed (a ∷ answers) bytes = answer_line a ++ printed answers bytes

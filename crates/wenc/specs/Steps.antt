@@ -1,5 +1,5 @@
 -- What the steps of a run returned.
-use Rattle.std.specs.Prelude.{◌≡◌, ℕ, List, ◌⊎◌, All, Any, IsOk, IsErr, Option, Result, Ok, Err}
+use Rattle.std.specs.Prelude.{◌≡◌, ℕ, List, ◌⊎◌, All, Any, IsOk, IsErr, Option, Result, Ok, Err, Vec}
 use Rattle.std.specs.Io.KnownBytes.{Consumes, IsAtEnd}
 use Rattle.wenc_base.specs.Fault.{IsMemory}
 use Rattle.wenc_base.specs.declared.fault.Fault.{Fault as FaultSpec}
@@ -14,19 +14,12 @@ use Rattle.wenc.specs.Script.{script}
 use Rattle.wenc.specs.Printed.{printed}
 use Rattle.wenc.specs.Run.{Says, usage, line_report, fault_report, no_memory}
 
--- why reading failed
-abbrev pub IsOfInput : Failure → Type 0
-IsOfInput (BadLine line) = ⊥
-IsOfInput (Fault fault) = IsMemory fault
-IsOfInput Transfer = Unit {0}
-IsOfInput Arguments = ⊥
-
 -- the exit status for these answers
 abbrev pub IsStatusOf : ℕ → List (Result (Option ℕ) FaultSpec) → Type 0
 IsStatusOf status answers = ((status ≡ 2) × Any IsErr answers) ⊎ ((status ≡ 0) × All IsOk answers)
 
 -- what is printed for a script
-pub record Translation (p : Printout) (text : List ℕ) : Type 0 where
+pub record Translation {A : Type 0} (p : Printout A) (text : List ℕ) : Type 0 where
   pub commands : List CommandTree
   pub answers : List (Result (Option ℕ) FaultSpec)
   pub entries : List Entry
@@ -35,7 +28,7 @@ pub record Translation (p : Printout) (text : List ℕ) : Type 0 where
   pub status : IsStatusOf p.status answers
   pub prints : p.text.items ≡ printed answers (whole (items entries))
 
-abbrev pub Translates : Result Printout Failure → List ℕ → Type 0
+abbrev pub Translates : {A : Type 0} → Result (Printout A) Failure → List ℕ → Type 0
 Translates (Ok p) text = Translation p text
 Translates (Err (BadLine line)) text = script text ≡ Err line
 Translates (Err (Fault fault)) text = IsMemory fault
@@ -47,13 +40,25 @@ pub record IsWhole (left ended : Option (List ℕ)) (text : List ℕ) : Type 0 w
   pub consumed : Consumes left ended text
   pub ends : IsAtEnd ended
 
+-- All that a reader had left was read, or a read failed, or memory ran out.
+abbrev pub ReadsWhole : {A : Type 0} → Result (Vec ℕ A) Failure → Option (List ℕ) → Option (List ℕ) → Type 0
+ReadsWhole (Ok text) left ended = IsWhole left ended text.items
+ReadsWhole (Err (BadLine line)) left ended = ⊥
+ReadsWhole (Err (Fault fault)) left ended = IsMemory fault
+ReadsWhole (Err Transfer) left ended = Unit {0}
+ReadsWhole (Err Arguments) left ended = ⊥
+
+-- why what a reader had left was not translated
+abbrev pub NotTranslated : Failure → Option (List ℕ) → Option (List ℕ) → Type 0
+NotTranslated (BadLine line) left ended = (text : List ℕ) × IsWhole left ended text × (script text ≡ Err line)
+NotTranslated (Fault fault) left ended = IsMemory fault
+NotTranslated Transfer left ended = Unit {0}
+NotTranslated Arguments left ended = ⊥
+
 -- the translation of what a reader had left
-abbrev pub Reads : Result Printout Failure → Option (List ℕ) → Option (List ℕ) → Type 0
+abbrev pub Reads : {A : Type 0} → Result (Printout A) Failure → Option (List ℕ) → Option (List ℕ) → Type 0
 Reads (Ok p) left ended = (text : List ℕ) × IsWhole left ended text × Translation p text
-Reads (Err (BadLine line)) left ended = (text : List ℕ) × IsWhole left ended text × (script text ≡ Err line)
-Reads (Err (Fault fault)) left ended = IsMemory fault
-Reads (Err Transfer) left ended = Unit {0}
-Reads (Err Arguments) left ended = ⊥
+Reads (Err failure) left ended = NotTranslated failure left ended
 
 -- how a failure was reported; a line's number also takes memory
 abbrev pub Reported : ℕ → Failure → Option (List ℕ) → Option (List ℕ) → Type 0

@@ -1,19 +1,19 @@
-ghost use Rattle.std.specs.Prelude.{◌≡◌, IfOk, OnOk, IfErr};
-ghost use Rattle.std.specs.Io.KnownBytes.{Consumes, IsAtEnd};
-ghost use Rattle.wenc.specs.Steps.{IsOfInput};
+ghost use Rattle.wenc.specs.Steps.{ReadsWhole};
 
 use crate::failure::Failure;
-use std::alloc::Global;
+use std::alloc::Allocator;
 use std::io::Read;
 
 const CHUNK_SIZE: usize = 8192;
 
 /// Reads an input to its end. It fails at the first read that fails, and where none of `max_reads`
 /// reads finds the end.
-pub fn read_all<R: Read>(alloc: Global, input: &mut R, max_reads: u32) -> Result<Vec<u8>, Failure>
-    ensures bytes { IfOk result (λ text. Consumes (R.remaining input.old) (R.remaining input.new) text.items) }
-    ensures end { OnOk result (IsAtEnd (R.remaining input.new)) }
-    ensures failed { IfErr result IsOfInput }
+pub fn read_all<A: Allocator, R: Read>(
+    alloc: A,
+    input: &mut R,
+    max_reads: u32,
+) -> Result<Vec<u8, A>, Failure>
+    ensures { ReadsWhole result (R.remaining input.old) (R.remaining input.new) }
 {
     let mut text = Vec::new(alloc);
     let mut chunk = [0; CHUNK_SIZE];

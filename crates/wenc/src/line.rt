@@ -1,6 +1,7 @@
 ghost use Rattle.std.specs.Prelude.{◌≡◌, ◌∷◌, [], IfOk, MatchOption, option_map};
 ghost use Rattle.wasm_encoder.specs.Command.{command_view};
-ghost use Rattle.wenc.specs.Script.{parted, import, export, alias_export, line_command, has_empty, command_of};
+ghost use Rattle.wenc.specs.Script.{parted, import, export, alias_export, line_command, has_empty};
+ghost use Rattle.wenc.specs.Script.{command_of};
 
 use crate::kind::{kind, reference};
 use crate::number::number;
@@ -8,7 +9,7 @@ use std::alloc::{AllocError, Global};
 use wasm_encoder::{AliasTree, Command, ComponentExportKind, NameTree};
 
 /// The first word of a line, and what stands behind the space that ends it.
-#[tactic(auto, using(crate::proofs::PartedLaws::parted_whole, crate::proofs::PartedLaws::parted_first))]
+#[tactic(auto, using(crate::proofs::Parted::parted_whole, crate::proofs::Parted::parted_first))]
 fn split_word(line: &str) -> Option<(&str, &str)>
     ensures { MatchOption result
         (parted 32 line.now ≡ line.now ∷ [])

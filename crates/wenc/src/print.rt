@@ -1,13 +1,16 @@
-ghost use Rattle.std.specs.Prelude.{◌≡◌, ◌+◌, ◌*◌, length, take, ◌++◌, ◌∷◌, [], IfOk, OnOk, string_bytes};
+ghost use Rattle.std.specs.Prelude.{◌≡◌, ◌+◌, ◌*◌, length, take, ◌++◌, IfOk, OnOk, string_bytes};
 ghost use Rattle.hex.specs.Hex.{encode_lower};
-ghost use Rattle.wenc.specs.Printed.{answer, printed};
+ghost use Rattle.wenc.specs.Printed.{answer_line, printed, line_of};
 
-use std::alloc::{AllocError, Global};
+use std::alloc::{AllocError, Allocator};
 use wasm_encoder::Fault;
 
 /// Appends the line of an answer.
-fn push_answer(text: &mut String, given: &Result<Option<u32>, Fault>) -> Result<(), AllocError>
-    ensures { OnOk result (string_bytes text.new ≡ string_bytes text.old ++ (answer given.now ++ 10 ∷ [])) }
+fn push_answer<A: Allocator>(
+    text: &mut String<A>,
+    given: &Result<Option<u32>, Fault>,
+) -> Result<(), AllocError>
+    ensures { OnOk result (string_bytes text.new ≡ string_bytes text.old ++ answer_line given.now) }
 {
     match given {
         Ok(None) => text.push_str("-\n"),
@@ -25,8 +28,8 @@ fn write_hex(text: &mut [u8], start: usize, bytes: &[u8])
 }
 
 /// Appends the line of the bytes.
-fn with_hex(mut text: Vec<u8>, bytes: &[u8]) -> Result<Vec<u8>, AllocError>
-    ensures { IfOk result (λ all. all.items ≡ text.items ++ (encode_lower bytes.now ++ 10 ∷ [])) }
+fn with_bytes<A: Allocator>(mut text: Vec<u8, A>, bytes: &[u8]) -> Result<Vec<u8, A>, AllocError>
+    ensures { IfOk result (λ all. all.items ≡ text.items ++ line_of (encode_lower bytes.now)) }
 {
     let start = text.len();
     let Some(size) = bytes.len().checked_mul(2) else {
@@ -42,16 +45,16 @@ fn with_hex(mut text: Vec<u8>, bytes: &[u8]) -> Result<Vec<u8>, AllocError>
 }
 
 /// What is printed for the answers and the bytes.
-pub fn printed(
-    alloc: Global,
+pub fn printed<A: Allocator>(
+    alloc: A,
     answers: &[Result<Option<u32>, Fault>],
     bytes: &[u8],
-) -> Result<Vec<u8>, AllocError>
+) -> Result<Vec<u8, A>, AllocError>
     ensures { IfOk result (λ text. text.items ≡ printed answers.now bytes.now) }
 {
     let mut text = String::new(alloc);
     for answer in answers {
         push_answer(&mut text, answer)?;
     }
-    with_hex(text.into_bytes(), bytes)
+    with_bytes(text.into_bytes(), bytes)
 }

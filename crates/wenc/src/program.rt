@@ -8,7 +8,7 @@ use crate::input::read_all;
 use crate::output::send;
 use crate::print::printed;
 use crate::script::parse;
-use std::alloc::Global;
+use std::alloc::{Allocator, Global};
 use std::io::{Read, Write};
 use wasm_encoder::{Fault, build};
 
@@ -22,16 +22,16 @@ const MALFORMED: u8 = 1;
 const REFUSED: u8 = 2;
 
 /// The exit status where a read or a write failed.
-const UNFINISHED: u8 = 4;
+const TRANSFER_FAILED: u8 = 4;
 
 /// How many reads an input's end may take.
 const MAX_READS: u32 = 16_777_216;
 
 /// What is printed for a script.
 #[derive(Drop)]
-pub struct Printout {
+pub struct Printout<A: Allocator = Global> {
     /// The answers and the bytes.
-    pub text: Vec<u8>,
+    pub text: Vec<u8, A>,
     /// The exit status.
     pub status: u8,
 }
@@ -55,11 +55,15 @@ fn status_of(answers: &[Result<Option<u32>, Fault>]) -> u8
     }
 }
 
-/// Runs the commands of a script.
-pub fn translate(alloc: Global, text: &[u8]) -> Result<Printout, Failure>
+/// Runs the commands of a script, whose names are allocated by `names`.
+pub fn translate<A: Allocator + Copy>(
+    alloc: A,
+    names: Global,
+    text: &[u8],
+) -> Result<Printout<A>, Failure>
     ensures { Translates result text.now }
 {
-    let commands = parse(alloc, text)?;
+    let commands = parse(alloc, names, text)?;
     let built = build(alloc, commands.as_slice())?;
     let answers = built.answers.as_slice();
     Ok(Printout {
@@ -69,20 +73,24 @@ pub fn translate(alloc: Global, text: &[u8]) -> Result<Printout, Failure>
 }
 
 /// Reads a script to its end, and runs its commands.
-fn read_and_translate<R: Read>(alloc: Global, input: &mut R) -> Result<Printout, Failure>
+fn read_and_translate<A: Allocator + Copy, R: Read>(
+    alloc: A,
+    names: Global,
+    input: &mut R,
+) -> Result<Printout<A>, Failure>
     ensures { Reads result (R.remaining input.old) (R.remaining input.new) }
 {
     let text = read_all(alloc, input, MAX_READS)?;
-    translate(alloc, text.as_slice())
+    translate(alloc, names, text.as_slice())
 }
 
 /// Writes a text, and answers the status, or that a write failed.
-fn finish<W: Write>(writer: &mut W, text: &[u8], status: u8) -> u8
+fn write_with_status<W: Write>(writer: &mut W, text: &[u8], status: u8) -> u8
     ensures { Says result status text.now (W.contents writer.old) (W.contents writer.new) }
 {
     match send(writer, text) {
         Ok(()) => status,
-        Err(_) => UNFINISHED,
+        Err(_) => TRANSFER_FAILED,
     }
 }
 
@@ -92,21 +100,21 @@ fn report_fault<E: Write>(err: &mut E, fault: Fault) -> u8
 {
     let number = b'0' + fault.number();
     let text = [b'f', b'a', b'u', b'l', b't', b' ', number, b'\n'];
-    finish(err, &text, REFUSED)
+    write_with_status(err, &text, REFUSED)
 }
 
 /// Reports why nothing is printed, and answers the status.
-pub fn report<E: Write>(alloc: Global, err: &mut E, failure: Failure) -> u8
+pub fn report<A: Allocator, E: Write>(alloc: A, err: &mut E, failure: Failure) -> u8
     ensures { Reported result failure (E.contents err.old) (E.contents err.new) }
 {
     match failure {
-        Failure::Arguments => finish(err, b"usage\n", MALFORMED),
+        Failure::Arguments => write_with_status(err, b"usage\n", MALFORMED),
         Failure::BadLine(line) => match format!(in alloc; "line {line}\n") {
-            Ok(text) => finish(err, text.as_bytes(), MALFORMED),
+            Ok(text) => write_with_status(err, text.as_bytes(), MALFORMED),
             Err(error) => report_fault(err, Fault::Memory(error)),
         },
         Failure::Fault(fault) => report_fault(err, fault),
-        Failure::Transfer => UNFINISHED,
+        Failure::Transfer => TRANSFER_FAILED,
     }
 }
 
@@ -128,11 +136,32 @@ pub fn run<R: Read, O: Write, E: Write>(
         (O.contents out.old) (O.contents out.new) (E.contents err.old) (E.contents err.new) }
     ensures status { (result ≡ 0) ⊎ (result ≡ 1) ⊎ (result ≡ 2) ⊎ (result ≡ 4) }
 {
+    run_with_allocators(alloc, alloc, args, input, out, err)
+}
+
+/// `run` with two allocators: the names of the commands are allocated by `names`, and all else by
+/// `alloc`.
+pub fn run_with_allocators<A: Allocator + Copy, R: Read, O: Write, E: Write>(
+    alloc: A,
+    names: Global,
+    args: &[String],
+    input: &mut R,
+    out: &mut O,
+    err: &mut E,
+) -> u8
+    ensures usage { args.now ≢ [] → Says result 1 usage (E.contents err.old) (E.contents err.new) }
+    ensures input_kept { args.now ≢ [] → input.new ≡ input.old }
+    ensures output_kept { args.now ≢ [] → out.new ≡ out.old }
+
+    ensures ends { args.now ≡ [] → Ends result (R.remaining input.old) (R.remaining input.new)
+        (O.contents out.old) (O.contents out.new) (E.contents err.old) (E.contents err.new) }
+    ensures status { (result ≡ 0) ⊎ (result ≡ 1) ⊎ (result ≡ 2) ⊎ (result ≡ 4) }
+{
     if !args.is_empty() {
         return report(alloc, err, Failure::Arguments);
     }
-    match read_and_translate(alloc, input) {
-        Ok(printout) => finish(out, printout.text.as_slice(), printout.status),
+    match read_and_translate(alloc, names, input) {
+        Ok(printout) => write_with_status(out, printout.text.as_slice(), printout.status),
         Err(failure) => report(alloc, err, failure),
     }
 }

@@ -5,7 +5,7 @@ ghost use Rattle.wenc.specs.Parsed.{Parses};
 
 use crate::failure::Failure;
 use crate::line::command;
-use std::alloc::Global;
+use std::alloc::{Allocator, Global};
 use wasm_encoder::Command;
 
 /// Where the first line of a text ends, if it has an end.
@@ -16,7 +16,7 @@ fn line_end(text: &[u8]) -> Option<usize>
 }
 
 /// The first line of a text, and what comes behind its end.
-#[tactic(auto, using(crate::proofs::PartedLaws::line_ends, crate::proofs::PartedLaws::line_goes_on))]
+#[tactic(auto, using(crate::proofs::Parted::line_ends, crate::proofs::Parted::line_goes_on))]
 fn first_line(text: &[u8]) -> (&[u8], Option<&[u8]>)
     ensures parts { parted 10 text.now ≡ result.0.now ∷ parted_rest 10 (option_copied result.1) }
     ensures shorter { IfSome result.1 (λ rest. length rest.now < length text.now) }
@@ -27,8 +27,9 @@ fn first_line(text: &[u8]) -> (&[u8], Option<&[u8]>)
     }
 }
 
-/// The commands of a script. It fails at the first bad line, or where memory runs out.
-pub fn parse(alloc: Global, text: &[u8]) -> Result<Vec<Command>, Failure>
+/// The commands of a script, whose names are allocated by `names`. It fails at the first bad line,
+/// or where memory runs out.
+pub fn parse<A: Allocator>(alloc: A, names: Global, text: &[u8]) -> Result<Vec<Command, A>, Failure>
     ensures { Parses result (script text.now) }
 {
     let mut commands = Vec::new(alloc);
@@ -38,7 +39,7 @@ pub fn parse(alloc: Global, text: &[u8]) -> Result<Vec<Command>, Failure>
         let (line, behind) = first_line(lines);
         number += 1;
         if !line.is_empty() {
-            let Some(command) = command(alloc, line)? else {
+            let Some(command) = command(names, line)? else {
                 return Err(Failure::BadLine(number));
             };
             commands.push(command)?;

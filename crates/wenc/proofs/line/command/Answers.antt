@@ -1,5 +1,5 @@
 use Rattle.std.proofs.Common.{sym, ◌∙◌}
-use Rattle.wenc.proofs.LineLaws.{not_text, four_words}
+use Rattle.wenc.proofs.Lines.{not_text, four_words}
 use Rattle.wenc.proofs.line.command.Goals as goal
 
 pub returns-in_default : goal.returns-in_default

@@ -1,5 +1,5 @@
 use Rattle.std.proofs.Common.{arith, sym, ◌∙◌}
-use Rattle.wenc.proofs.NumberLaws.{number_stops, number_ends}
+use Rattle.wenc.proofs.Numbers.{number_stops, number_ends}
 use Rattle.wenc.proofs.number.number.Goals as goal
 
 pub returns-in_err-checked_mul : goal.returns-in_err-checked_mul

@@ -1,5 +1,5 @@
 use Rattle.std.proofs.Common.{arith}
-use Rattle.wenc.proofs.Known.{sent_more}
+use Rattle.wenc.proofs.Sent.{sent_more}
 use Rattle.wenc.proofs.output.send.Goals as goal
 
 pub loop-rest-preserved : goal.loop-rest-preserved

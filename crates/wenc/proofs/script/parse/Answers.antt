@@ -4,7 +4,7 @@ use Rattle.wenc.proofs.Commands.{command_read}
 use Rattle.wenc.proofs.script.parse.Goals as goal
 
 pub loop-rest-preserved-in_ok-push : goal.loop-rest-preserved-in_ok-push
-loop-rest-preserved-in_ok-push c =
+loop-rest-preserved-in_ok-push g c =
     let before = rw (c.in-Some.is, c.first_line.ensures.parts) at c.loop-rest.invariant.said in
     let says = sym (rw c.in-Some-2.is at c.in_ok-command.ensures) in
     record {

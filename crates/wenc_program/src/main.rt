@@ -1,25 +1,15 @@
-//! The program `wenc`: reads a script of commands, and prints their answers and the component that
-//! they build.
+//! The program `wenc`: it runs the crate `wenc` on its arguments and the system's streams.
 #![tactic(auto)]
 
 ghost use Rattle.std.specs.Prelude.{IsOkUnless};
 
-pub mod failure;
-pub mod input;
-pub mod kind;
-pub mod line;
-pub mod number;
-pub mod output;
-pub mod print;
-pub mod program;
-pub mod script;
-
-use failure::Failure;
-pub use program::run;
 use std::env;
 use std::env::FillError;
 use std::process::ExitCode;
 use std::rt::Env;
+use wenc::failure::Failure;
+use wenc::program::report;
+use wenc::run;
 
 /// The arguments without the program's name. It fails where there are some that can't be told: they
 /// aren't text, or there is no memory for them.
@@ -47,10 +37,7 @@ fn main(rt: HostRuntime) -> ExitCode {
             let mut out = rt.stdout();
             run(rt.alloc(), args.as_slice(), &mut input, &mut out, &mut err)
         }
-        Err(failure) => program::report(rt.alloc(), &mut err, failure),
+        Err(failure) => report(rt.alloc(), &mut err, failure),
     };
     ExitCode::from(status)
 }
-
-#[cfg(test)]
-mod tests;

@@ -1,0 +1,116 @@
+//! Runs that want memory.
+
+use crate::streams::{Sink, Source};
+use refusing::Refusing;
+use std::alloc::{AllocError, Global};
+use wasm_encoder::Fault;
+use wenc::failure::Failure;
+use wenc::program::{report, run_with_allocators};
+
+/// What came out of a run.
+#[derive(Drop)]
+struct Outcome {
+    status: u8,
+    out: Sink,
+    err: Sink,
+}
+
+impl Outcome {
+    fn is_fault(&self) -> bool {
+        self.status == 2
+            && self.out.calls == 0
+            && self.err.text.as_slice() == b"fault 1\n".as_slice()
+    }
+
+    fn is_printed(&self, status: u8, text: &[u8]) -> bool {
+        self.status == status && self.out.text.as_slice() == text && self.err.calls == 0
+    }
+
+    fn is_reported(&self, status: u8, text: &[u8]) -> bool {
+        self.status == status && self.out.calls == 0 && self.err.text.as_slice() == text
+    }
+}
+
+/// Runs a script with the memory of `heap`, but for the names of its commands.
+fn run_script(heap: &Refusing, alloc: Global, script: &[u8]) -> Outcome {
+    let mut input = Source::new(script);
+    let mut out = Sink::new(alloc);
+    let mut err = Sink::new(alloc);
+    let status = run_with_allocators(heap, alloc, &[], &mut input, &mut out, &mut err);
+    Outcome { status, out, err }
+}
+
+#[test]
+fn nothing_is_printed_without_memory(rt: HostRuntime) {
+    let heap = Refusing::new(rt.alloc());
+    for script in [b"".as_slice(), b"import f func 0\nexport g func 0\n"] {
+        heap.refuse_all();
+        assert!(rt; run_script(&heap, rt.alloc(), script).is_fault());
+        assert!(rt; heap.was_refused());
+    }
+}
+
+// The command itself answers `Memory` where its item has no room, and the run goes on.
+#[test]
+fn each_growth_of_a_run_is_refused(rt: HostRuntime) {
+    let script = b"import an-interface-with-a-long-name func 0\n";
+    let wanted =
+        b"0\n0061736d0d0001000a2201001d616e2d696e746572666163652d776974682d612d6c6f6e672d6e616d650100\n";
+    let heap = Refusing::new(rt.alloc());
+    let mut faults = 0u8;
+    let mut refusals = 0u8;
+    let mut done = false;
+    for n in 1..40u64 {
+        heap.refuse_nth(n);
+        let outcome = run_script(&heap, rt.alloc(), script);
+        if !heap.was_refused() {
+            assert!(rt; outcome.is_printed(0, wanted));
+            done = true;
+            break;
+        }
+        if outcome.is_fault() {
+            faults = faults.saturating_add(1);
+        } else {
+            assert!(rt;
+                outcome.is_printed(2, b"refused 1\n0061736d0d000100\n"),
+                "growth {n}"
+            );
+            refusals = refusals.saturating_add(1);
+        }
+    }
+    assert!(rt; done);
+    assert!(rt; faults > 0);
+    assert!(rt; refusals > 0);
+}
+
+#[test]
+fn each_growth_of_a_report_is_refused(rt: HostRuntime) {
+    let heap = Refusing::new(rt.alloc());
+    let mut faults = 0u8;
+    let mut done = false;
+    for n in 1..40u64 {
+        heap.refuse_nth(n);
+        let outcome = run_script(&heap, rt.alloc(), b"\n\nx");
+        if !heap.was_refused() {
+            assert!(rt; outcome.is_reported(1, b"line 3\n"));
+            done = true;
+            break;
+        }
+        assert!(rt; outcome.is_fault(), "growth {n}");
+        faults = faults.saturating_add(1);
+    }
+    assert!(rt; done);
+    // The text that is read, and the text of the report.
+    assert!(rt; faults >= 2);
+}
+
+#[test]
+fn a_report_of_a_fault_takes_no_memory(rt: HostRuntime) {
+    let heap = Refusing::new(rt.alloc());
+    heap.refuse_all();
+    let mut err = Sink::new(rt.alloc());
+    let fault = Failure::Fault(Fault::Memory(AllocError));
+    assert_eq!(rt; report(&heap, &mut err, fault), 2);
+    assert_eq!(rt; err.text.as_slice(), b"fault 1\n".as_slice());
+    assert!(rt; !heap.was_refused());
+}

@@ -1,0 +1,70 @@
+//! Whole runs.
+
+use crate::accepted_text;
+use crate::expected::expect;
+use crate::streams::{Sink, Source};
+use std::test::Fail;
+use wenc::run;
+
+#[test]
+fn bad_scripts(rt: HostRuntime) {
+    let scripts: [&[u8]; 11] = [
+        b"import  f func 0",
+        b" import f func 0",
+        b"import f func 0 ",
+        b"import f func 0\r\n",
+        b"import f func 4294967296",
+        b"import f table 0",
+        b"core-module 0",
+        b"subtask.cancel 2",
+        b"resource.drop",
+        b"stream.read 1",
+        b"\xff",
+    ];
+    for script in scripts {
+        expect(&rt, "a bad script", script, 1, b"", b"line 1\n");
+    }
+    expect(
+        &rt,
+        "a bad third line",
+        b"import f func 0\n\nimport g func",
+        1,
+        b"",
+        b"line 3\n",
+    );
+}
+
+#[test]
+fn any_argument_is_too_many(rt: HostRuntime) -> Result<(), Fail> {
+    let args = [String::from_str(rt.alloc(), "x")?];
+    let mut input = Source::new(b"import f func 0\n");
+    let mut out = Sink::new(rt.alloc());
+    let mut err = Sink::new(rt.alloc());
+    assert_eq!(rt; run(rt.alloc(), &args, &mut input, &mut out, &mut err), 1);
+    assert_eq!(rt; err.text.as_slice(), b"usage\n".as_slice());
+    assert_eq!(rt; input.calls, 0);
+    assert_eq!(rt; out.calls, 0);
+    Ok(())
+}
+
+#[test]
+fn scripts_are_built(rt: HostRuntime) {
+    assert!(rt; accepted_text(rt.alloc(), b"export f func 7").is_some());
+    expect(&rt, "no line", b"", 0, b"0061736d0d000100\n", b"");
+    expect(
+        &rt,
+        "an alias",
+        b"alias-export 0 func f",
+        0,
+        b"0\n0061736d0d0001000606010100000166\n",
+        b"",
+    );
+    expect(
+        &rt,
+        "several kinds",
+        b"import a value 64\nimport b type 3\nalias-export 5 module m\nexport c module 0\n",
+        0,
+        b"0\n0\n0\n1\n0061736d0d0001000a0d0200016102c00000016203000306070100110005016d0b080100016300110000\n",
+        b"",
+    );
+}

@@ -1,0 +1,67 @@
+//! Reads and writes that fail: nothing follows them.
+
+use crate::streams::{Sink, Source};
+use wenc::input::read_all;
+use wenc::output::send;
+use wenc::run;
+
+#[test]
+fn a_read_fails(rt: HostRuntime) {
+    for failing in [1, 2] {
+        let mut input = Source::new(b"import f func 0\n");
+        input.failing = failing;
+        let mut out = Sink::new(rt.alloc());
+        let mut err = Sink::new(rt.alloc());
+        assert_eq!(rt; run(rt.alloc(), &[], &mut input, &mut out, &mut err), 4);
+        assert_eq!(rt; input.calls, failing);
+        assert_eq!(rt; out.calls, 0);
+        assert_eq!(rt; err.calls, 0);
+    }
+}
+
+#[test]
+fn the_end_may_come_too_late(rt: HostRuntime) {
+    let mut input = Source::new(b"abc");
+    input.step = 1;
+    assert!(rt; read_all(rt.alloc(), &mut input, 4).is_ok());
+    let mut input = Source::new(b"abcd");
+    input.step = 1;
+    assert!(rt; read_all(rt.alloc(), &mut input, 4).is_err());
+    assert_eq!(rt; input.calls, 4);
+}
+
+#[test]
+fn a_write_fails(rt: HostRuntime) {
+    // Five writes of one byte, then the flush.
+    for failing in 1..7 {
+        let mut sink = Sink::failing_at(rt.alloc(), failing);
+        assert!(rt; send(&mut sink, b"abcde").is_err());
+        assert_eq!(rt; sink.calls, failing);
+    }
+    let mut sink = Sink::new(rt.alloc());
+    sink.step = 0;
+    assert!(rt; send(&mut sink, b"abcde").is_err());
+    assert_eq!(rt; sink.calls, 1);
+    // "line 1" takes seven writes and a flush.
+    for failing in 1..9 {
+        let mut out = Sink::new(rt.alloc());
+        let mut err = Sink::failing_at(rt.alloc(), failing);
+        let answer = run(rt.alloc(), &[], &mut Source::new(b"x"), &mut out, &mut err);
+        assert_eq!(rt; answer, 4);
+        assert_eq!(rt; err.calls, failing);
+        assert_eq!(rt; out.calls, 0);
+    }
+}
+
+#[test]
+fn a_write_of_the_bytes_fails(rt: HostRuntime) {
+    // Sixteen digits, the end of the line, and a flush.
+    for failing in 1..19 {
+        let mut out = Sink::failing_at(rt.alloc(), failing);
+        let mut err = Sink::new(rt.alloc());
+        let answer = run(rt.alloc(), &[], &mut Source::new(b""), &mut out, &mut err);
+        assert_eq!(rt; answer, 4);
+        assert_eq!(rt; out.calls, failing);
+        assert_eq!(rt; err.calls, 0);
+    }
+}
