@@ -206,9 +206,9 @@ canonical (Provided i values) = (row i).opcode ▸ fields (row i).fields values
 abbrev pub canonical_text : Canonical → List ℕ
 canonical_text c = (canonical c).text
 
--- what begins with an opcode and fields, and ends with options
-abbrev pub before_options : ℕ → List ℕ → List CanonicalOption → List ℕ
-before_options opcode fields options = opcode ∷ (fields ++ (list canonical_option options).text)
+-- an opcode, fields, and options
+abbrev pub text_with_options : ℕ → List ℕ → List CanonicalOption → List ℕ
+text_with_options opcode fields options = opcode ∷ (fields ++ (list canonical_option options).text)
 
 -- the section, behind its id
 abbrev pub canonical_section : Form (List Canonical)

@@ -4,7 +4,7 @@ ghost use Rattle.wenc_base.specs.Fault.{IsMemory, count_cause};
 ghost use Rattle.wenc_base.specs.Delimited.{NoCause};
 ghost use Rattle.wenc_base.specs.Holder.{no_members, is_finished, section_text, as_they_are, AddsMember, AddsListed, EncodeCause};
 ghost use Rattle.wenc_base.specs.laws.Delimited.{itself};
-ghost use Rattle.wenc_canon.specs.Canonicals.{AddsWithOptions, Lift, Lower, before_options};
+ghost use Rattle.wenc_canon.specs.Canonicals.{AddsWithOptions, Lift, Lower, text_with_options};
 
 mod intrinsics;
 
@@ -105,8 +105,8 @@ impl DelimitedEq for CanonicalOption {
 /// component.section(&functions)?;
 /// ```
 ///
-/// A call that adds a function is refused where memory is wanting, where functions or options would be
-/// too many (`TooMany`), or the section too large (`TooLarge`). It leaves the section as it was.
+/// A call that adds a function is refused where there is no memory for it, where there would be too
+/// many functions or options (`TooMany`), or too many bytes (`TooLarge`). Then it changes nothing.
 #[derive(Drop)]
 pub struct CanonicalFunctionSection<A: Allocator = Global> {
     functions: Holder<A>,
@@ -155,8 +155,8 @@ impl<A: Allocator> CanonicalFunctionSection<A> {
         Ok(CanonicalFunctionSection { functions })
     }
 
-    /// Lifts the core function with this index to a function of the component type with that one. It is
-    /// refused as the type says.
+    /// Lifts the core function with this index to a function of the component type with that one.
+    /// Refused as the type says.
     pub fn lift<I: Iterator<Item = CanonicalOption> + Drop>(
         &mut self,
         core_func: u32,
@@ -173,7 +173,7 @@ impl<A: Allocator> CanonicalFunctionSection<A> {
             .add_listed(&Tagged(0x00, &lead), options, &ty)
     }
 
-    /// Lowers the component function with this index to a core function. It is refused as the type says.
+    /// Lowers the component function with this index to a core function. Refused as the type says.
     pub fn lower<I: Iterator<Item = CanonicalOption> + Drop>(
         &mut self,
         func: u32,
@@ -181,7 +181,8 @@ impl<A: Allocator> CanonicalFunctionSection<A> {
     ) -> Result<(), Fault>
         requires can { I.can_next options }
         requires ends { IsFinite (I.remaining options) }
-        ensures { AddsWithOptions I.next_gives options self.old self.new result (λ os. Lower func os) }
+        ensures { AddsWithOptions I.next_gives options self.old self.new result
+            (λ os. Lower func os) }
     {
         self.add_row_with_options(0x01, &Tagged(0x00, &func), options)
     }
@@ -205,7 +206,7 @@ impl<A: Allocator> CanonicalFunctionSection<A> {
         requires ends { IsFinite (I.remaining options) }
         requires free { NoCause (E.cause fields.now) }
         ensures { AddsListed I.next_gives options as_they_are self.old self.new result
-            (λ os. count_cause (length os)) (before_options opcode (E.text fields.now)) }
+            (λ os. count_cause (length os)) (text_with_options opcode (E.text fields.now)) }
     {
         self.functions
             .add_listed(&Tagged(opcode, fields), options, &())

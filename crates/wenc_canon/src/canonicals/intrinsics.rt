@@ -9,10 +9,10 @@ use std::alloc::Allocator;
 use wenc_base::{Fault, ValType};
 use wenc_parts::{ComponentValType, ResultList};
 
-/// Where a function could be cancelled while it waits, the format has a byte that says so. Here none can.
+/// Functions that wait have a byte that says whether they can be cancelled. Here none can.
 const CANCELLABLE: bool = false;
 
-/// The functions that the component model provides: each call adds one. It is refused as the type says.
+/// The functions that the component model provides: each call adds one. Refused as the type says.
 impl<A: Allocator> CanonicalFunctionSection<A> {
     /// `resource.new`: makes a handle that owns a resource of this type.
     pub fn resource_new(&mut self, ty: u32) -> Result<(), Fault>
