@@ -1,5 +1,5 @@
 -- Canonical functions (component model, binary format, "Canonical Definitions"; opcodes and fields as docs/FORMAT.md lists them).
-use Rattle.std.specs.Prelude.{ℕ, Bool, List, [], ◌∷◌, Option, Result, length}
+use Rattle.std.specs.Prelude.{ℕ, Bool, List, [], ◌∷◌, ◌++◌, Option, Result, length}
 use Rattle.wenc_base.specs.Piece.{Form, byte, nothing, ◌▸◌, ◌⨾◌}
 use Rattle.wenc_base.specs.Number.{u32}
 use Rattle.wenc_base.specs.Forms.{flag, list, counted}
@@ -205,6 +205,10 @@ canonical (Provided i values) = (row i).opcode ▸ fields (row i).fields values
 
 abbrev pub canonical_text : Canonical → List ℕ
 canonical_text c = (canonical c).text
+
+-- an opcode, fields, and options
+abbrev pub text_with_options : ℕ → List ℕ → List CanonicalOption → List ℕ
+text_with_options opcode fields options = opcode ∷ (fields ++ (list canonical_option options).text)
 
 -- the section, behind its id
 abbrev pub canonical_section : Form (List Canonical)

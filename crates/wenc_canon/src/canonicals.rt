@@ -1,9 +1,10 @@
-ghost use Rattle.std.specs.Prelude.{◌≡◌, ◌==◌, false, IfOk, IfErr, refl};
+ghost use Rattle.std.specs.Prelude.{◌≡◌, ◌==◌, ◌∷◌, false, IfOk, IfErr, length, refl};
 ghost use Rattle.std.specs.Iterator.{IsFinite};
-ghost use Rattle.wenc_base.specs.Fault.{IsMemory};
-ghost use Rattle.wenc_base.specs.Holder.{no_members, is_finished, section_text, EncodeCause};
+ghost use Rattle.wenc_base.specs.Fault.{IsMemory, count_cause};
+ghost use Rattle.wenc_base.specs.Delimited.{NoCause};
+ghost use Rattle.wenc_base.specs.Holder.{no_members, is_finished, section_text, as_they_are, AddsMember, AddsListed, EncodeCause};
 ghost use Rattle.wenc_base.specs.laws.Delimited.{itself};
-ghost use Rattle.wenc_canon.specs.Canonicals.{AddsWithOptions, Lift, Lower};
+ghost use Rattle.wenc_canon.specs.Canonicals.{AddsWithOptions, Lift, Lower, text_with_options};
 
 mod intrinsics;
 
@@ -13,7 +14,7 @@ use wenc_base::{Delimited, DelimitedEq, Encode, Fault, Holder, Tagged};
 use wenc_parts::{ComponentSection, ComponentSectionId};
 
 /// An option of a function that is lifted or lowered, or of an intrinsic that reads or writes values
-/// (component model, binary format, `canonopt`). Each index is from 0 to 4294967295.
+/// (component model, binary format, `canonopt`).
 #[derive(Clone, Copy, Debug, PartialEq, Eq)]
 pub enum CanonicalOption {
     /// Texts are UTF-8.
@@ -94,8 +95,18 @@ impl DelimitedEq for CanonicalOption {
     ghost alike = { itself _ };
 }
 
-/// The section of canonical functions (component model, binary format, "Canonical Definitions"). A call
-/// that is refused leaves it as it was.
+/// The section of canonical functions (component model, binary format, "Canonical Definitions").
+///
+/// ```
+/// let mut functions = CanonicalFunctionSection::new(alloc);
+/// let options = [CanonicalOption::UTF8, CanonicalOption::Memory(0)];
+/// functions.lift(0, 1, options.into_iter())?;
+/// functions.resource_drop(2)?;
+/// component.section(&functions)?;
+/// ```
+///
+/// A call that adds a function is refused where there is no memory for it, where there would be too
+/// many functions or options (`TooMany`), or too many bytes (`TooLarge`). Then it changes nothing.
 #[derive(Drop)]
 pub struct CanonicalFunctionSection<A: Allocator = Global> {
     functions: Holder<A>,
@@ -144,9 +155,8 @@ impl<A: Allocator> CanonicalFunctionSection<A> {
         Ok(CanonicalFunctionSection { functions })
     }
 
-    /// Lifts the core function with this index to a function of the component type with that one. It is
-    /// refused where there would be more than 4294967295 functions or options (`TooMany`), or more than
-    /// 4294967295 bytes in the section (`TooLarge`).
+    /// Lifts the core function with this index to a function of the component type with that one.
+    /// Refused as the type says.
     pub fn lift<I: Iterator<Item = CanonicalOption> + Drop>(
         &mut self,
         core_func: u32,
@@ -155,16 +165,15 @@ impl<A: Allocator> CanonicalFunctionSection<A> {
     ) -> Result<(), Fault>
         requires can { I.can_next options }
         requires ends { IsFinite (I.remaining options) }
-        ensures { AddsWithOptions I.next_gives options self.old self.new result (λ os. Lift core_func os ty) }
+        ensures { AddsWithOptions I.next_gives options self.old self.new result
+            (λ os. Lift core_func os ty) }
     {
         let lead = Tagged(0x00, &core_func);
         self.functions
             .add_listed(&Tagged(0x00, &lead), options, &ty)
     }
 
-    /// Lowers the component function with this index to a core function. It is refused where there would be
-    /// more than 4294967295 functions or options (`TooMany`), or more than 4294967295 bytes in the section
-    /// (`TooLarge`).
+    /// Lowers the component function with this index to a core function. Refused as the type says.
     pub fn lower<I: Iterator<Item = CanonicalOption> + Drop>(
         &mut self,
         func: u32,
@@ -172,11 +181,35 @@ impl<A: Allocator> CanonicalFunctionSection<A> {
     ) -> Result<(), Fault>
         requires can { I.can_next options }
         requires ends { IsFinite (I.remaining options) }
-        ensures { AddsWithOptions I.next_gives options self.old self.new result (λ os. Lower func os) }
+        ensures { AddsWithOptions I.next_gives options self.old self.new result
+            (λ os. Lower func os) }
     {
-        let lead = Tagged(0x00, &func);
+        self.add_row_with_options(0x01, &Tagged(0x00, &func), options)
+    }
+
+    /// Adds what begins with this opcode and has these fields.
+    fn add_row<E: Encode>(&mut self, opcode: u8, fields: &E) -> Result<(), Fault>
+        ensures { AddsMember as_they_are self.old self.new result (E.cause fields.now)
+            (opcode ∷ E.text fields.now) }
+    {
+        self.functions.add_encoded(&Tagged(opcode, fields))
+    }
+
+    /// The same where options come last, and nothing stands against the fields.
+    fn add_row_with_options<E: Encode, I: Iterator<Item = CanonicalOption> + Drop>(
+        &mut self,
+        opcode: u8,
+        fields: &E,
+        options: I,
+    ) -> Result<(), Fault>
+        requires can { I.can_next options }
+        requires ends { IsFinite (I.remaining options) }
+        requires free { NoCause (E.cause fields.now) }
+        ensures { AddsListed I.next_gives options as_they_are self.old self.new result
+            (λ os. count_cause (length os)) (text_with_options opcode (E.text fields.now)) }
+    {
         self.functions
-            .add_listed(&Tagged(0x01, &lead), options, &())
+            .add_listed(&Tagged(opcode, fields), options, &())
     }
 }
 
@@ -194,7 +227,10 @@ impl<A: Allocator> Encode for CanonicalFunctionSection<A> {
 }
 
 impl<A: Allocator> ComponentSection for CanonicalFunctionSection<A> {
-    ghost section_id = { λ _. 8 };
+    ghost use Rattle.wenc_parts.specs.SectionIds.{section_number};
+    ghost use Rattle.wenc_parts.specs.declared.component.ComponentSectionId.TheVariants.{CanonicalFunction};
+
+    ghost section_id = { λ _. section_number CanonicalFunction };
 
     fn id(&self) -> u8 {
         u8::from(ComponentSectionId::CanonicalFunction)

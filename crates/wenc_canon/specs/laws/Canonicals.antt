@@ -1,5 +1,6 @@
 -- The laws of canonical functions.
-use Rattle.std.proofs.Common.{◌≡◌, ℕ, List, [], ◌∷◌, map, refl}
+use Rattle.std.proofs.Common.{◌≡◌, ℕ, ◌+◌, List, [], ◌∷◌, map, Option, Ok, refl, ap, arith}
+use Rattle.wenc_base.specs.Holder.{Held}
 use Rattle.wenc_base.specs.laws.Lawful.{Lawful, Reader, ◌>>=◌, give, nowhere, choose, pick, done, row as in_row, row_byte, nothing_lawful, then, last, whole_lawful}
 use Rattle.wenc_base.specs.laws.Numbers.{read_groups, u32_lawful}
 use Rattle.wenc_base.specs.laws.Forms.{read_flag, flag_lawful, read_list, list_lawful, read_sized, sized_lawful}
@@ -7,7 +8,7 @@ use Rattle.wenc_base.specs.laws.Types.{read_val_type, val_type_lawful}
 use Rattle.wenc_parts.specs.laws.Types.{read_result_list, result_list_lawful}
 use Rattle.wenc_canon.specs.declared.canonicals.CanonicalOption.{CanonicalOption}
 use Rattle.wenc_canon.specs.declared.canonicals.CanonicalOption.TheVariants.{UTF8, UTF16, CompactUTF16, Memory, Realloc, PostReturn, Async, Callback, CoreType as CoreTypeOption, Gc}
-use Rattle.wenc_canon.specs.Canonicals.{canonical_option, Field, Index, Options, Flag, Zero, CoreType, Results, Value, field, Values, fields, Intrinsic, ResourceNew, row, intrinsics, Canonical, Lift, Lower, Provided, canonical, canonical_section}
+use Rattle.wenc_canon.specs.Canonicals.{canonical_option, Field, Index, Options, Flag, Zero, CoreType, Results, Value, field, Values, fields, Intrinsic, ResourceNew, row, intrinsics, Canonical, Lift, Lower, Provided, canonical, canonical_section, Adds, AddsWithOptions}
 
 -- ---- options
 
@@ -93,3 +94,19 @@ read_section = read_sized (done (read_list read_canonical))
 
 pub canonical_section_lawful : (cs : List Canonical) → Lawful (canonical_section cs) (λ fuel. read_section) cs
 canonical_section_lawful cs = sized_lawful (whole_lawful (list_lawful canonical_lawful cs))
+
+-- ---- what follows from an `Ok`
+
+-- there is one function more
+pub an_added_function_is_one_more : (old new : Held) (i : Intrinsic) (values : Values (row i).fields) → Adds old new (Ok tt) i values → new.count ≡ old.count + 1
+an_added_function_is_one_more old new i values adds = ap (λ (h : Held). h.count) adds.ok.state
+
+-- so that the section can't be as it was
+pub an_added_function_is_seen : (section : Held) (i : Intrinsic) (values : Values (row i).fields) → Adds section section (Ok tt) i values → ⊥
+an_added_function_is_seen section i values adds =
+    let grown : section.count ≡ section.count + 1 = an_added_function_is_one_more section section i values adds in omega (arith, grown)
+
+-- there is one function more, also where it has options
+pub an_added_function_with_options_is_one_more : {S : Type 0} (steps : S → Option CanonicalOption → S → Type 0) (options : S) (old new : Held) (function : List CanonicalOption → Canonical)
+    → AddsWithOptions steps options old new (Ok tt) function → new.count ≡ old.count + 1
+an_added_function_with_options_is_one_more steps options old new function adds = ap (λ (h : Held). h.count) adds.ok.3.state

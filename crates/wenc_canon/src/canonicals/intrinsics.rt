@@ -1,4 +1,4 @@
-#![tactic(auto, using(wenc_base::specs::laws::Holders::adds_as))]
+#![tactic(auto, using(wenc_base::specs::laws::Holders::adds_as, wenc_base::specs::laws::Holders::adds_listed_as))]
 
 ghost use Rattle.std.specs.Iterator.{IsFinite};
 ghost use Rattle.wenc_canon.specs.Canonicals as rows;
@@ -6,69 +6,73 @@ ghost use Rattle.wenc_canon.specs.Canonicals.{Adds, AddsWithOptions, Provided};
 
 use super::{CanonicalFunctionSection, CanonicalOption};
 use std::alloc::Allocator;
-use wenc_base::{Fault, Tagged, ValType};
+use wenc_base::{Fault, ValType};
 use wenc_parts::{ComponentValType, ResultList};
 
-/// The functions that the component model provides. Each call adds one, and is refused as `lower` is.
-/// An index is from 0 to 4294967295; it is handed in as it is.
+/// Functions that wait have a byte that says whether they can be cancelled. Here none can.
+const CANCELLABLE: bool = false;
+
+/// The functions that the component model provides: each call adds one. Refused as the type says.
 impl<A: Allocator> CanonicalFunctionSection<A> {
     /// `resource.new`: makes a handle that owns a resource of this type.
     pub fn resource_new(&mut self, ty: u32) -> Result<(), Fault>
         ensures { Adds self.old self.new result rows.ResourceNew ty }
     {
-        self.functions.add_encoded(&Tagged(0x02, &ty))
+        self.add_row(0x02, &ty)
     }
 
     /// `resource.drop`: drops a handle of this type.
     pub fn resource_drop(&mut self, ty: u32) -> Result<(), Fault>
         ensures { Adds self.old self.new result rows.ResourceDrop ty }
     {
-        self.functions.add_encoded(&Tagged(0x03, &ty))
+        self.add_row(0x03, &ty)
     }
 
     /// `resource.rep`: gives the representation of a resource of this type.
     pub fn resource_rep(&mut self, ty: u32) -> Result<(), Fault>
         ensures { Adds self.old self.new result rows.ResourceRep ty }
     {
-        self.functions.add_encoded(&Tagged(0x04, &ty))
+        self.add_row(0x04, &ty)
     }
 
     /// `thread.spawn-ref`: starts a thread in a shared function of this type, by a reference to it.
     pub fn thread_spawn_ref(&mut self, ty: u32) -> Result<(), Fault>
         ensures { Adds self.old self.new result rows.ThreadSpawnRef ty }
     {
-        self.functions.add_encoded(&Tagged(0x40, &ty))
+        self.add_row(0x40, &ty)
     }
 
-    /// `thread.spawn-indirect`: starts a thread in a shared function of this type, by its place in a table.
+    /// `thread.spawn-indirect`: starts a thread in a shared function of this type, by its place in a
+    /// table.
     pub fn thread_spawn_indirect(&mut self, ty: u32, table: u32) -> Result<(), Fault>
         ensures { Adds self.old self.new result rows.ThreadSpawnIndirect (ty, table) }
     {
-        self.functions.add_encoded(&Tagged(0x41, &(ty, table)))
+        self.add_row(0x41, &(ty, table))
     }
 
     /// `thread.available-parallelism`: gives the number of threads that can be expected to run at once.
     pub fn thread_available_parallelism(&mut self) -> Result<(), Fault>
         ensures { Adds self.old self.new result rows.ThreadAvailableParallelism tt }
     {
-        self.functions.add_encoded(&Tagged(0x42, &()))
+        self.add_row(0x42, &())
     }
 
     /// `backpressure.inc`: raises the counter that keeps new calls back.
     pub fn backpressure_inc(&mut self) -> Result<(), Fault>
         ensures { Adds self.old self.new result rows.BackpressureInc tt }
     {
-        self.functions.add_encoded(&Tagged(0x24, &()))
+        self.add_row(0x24, &())
     }
 
     /// `backpressure.dec`: lowers the counter that keeps new calls back.
     pub fn backpressure_dec(&mut self) -> Result<(), Fault>
         ensures { Adds self.old self.new result rows.BackpressureDec tt }
     {
-        self.functions.add_encoded(&Tagged(0x25, &()))
+        self.add_row(0x25, &())
     }
 
-    /// `task.return`: gives the caller of a lifted function its result, or none, while the callee goes on.
+    /// `task.return`: gives the caller of a lifted function its result, or none, while the callee goes
+    /// on.
     pub fn task_return<I: Iterator<Item = CanonicalOption> + Drop>(
         &mut self,
         ty: Option<ComponentValType>,
@@ -76,52 +80,52 @@ impl<A: Allocator> CanonicalFunctionSection<A> {
     ) -> Result<(), Fault>
         requires can { I.can_next options }
         requires ends { IsFinite (I.remaining options) }
-        ensures { AddsWithOptions I.next_gives options self.old self.new result (λ os. Provided rows.TaskReturn (ty, os)) }
+        ensures { AddsWithOptions I.next_gives options self.old self.new result
+            (λ os. Provided rows.TaskReturn (ty, os)) }
     {
-        self.functions
-            .add_listed(&Tagged(0x09, &ResultList(ty)), options, &())
+        self.add_row_with_options(0x09, &ResultList(ty), options)
     }
 
     /// `task.cancel`: says that the current task was cancelled.
     pub fn task_cancel(&mut self) -> Result<(), Fault>
         ensures { Adds self.old self.new result rows.TaskCancel tt }
     {
-        self.functions.add_encoded(&Tagged(0x05, &()))
+        self.add_row(0x05, &())
     }
 
     /// `context.get`: reads a slot of the current task, which has this value type.
-    pub fn context_get(&mut self, ty: ValType, i: u32) -> Result<(), Fault>
-        ensures { Adds self.old self.new result rows.ContextGet (ty, i) }
+    pub fn context_get(&mut self, ty: ValType, slot: u32) -> Result<(), Fault>
+        ensures { Adds self.old self.new result rows.ContextGet (ty, slot) }
     {
-        self.functions.add_encoded(&Tagged(0x0a, &(ty, i)))
+        self.add_row(0x0a, &(ty, slot))
     }
 
     /// `context.set`: writes a slot of the current task, which has this value type.
-    pub fn context_set(&mut self, ty: ValType, i: u32) -> Result<(), Fault>
-        ensures { Adds self.old self.new result rows.ContextSet (ty, i) }
+    pub fn context_set(&mut self, ty: ValType, slot: u32) -> Result<(), Fault>
+        ensures { Adds self.old self.new result rows.ContextSet (ty, slot) }
     {
-        self.functions.add_encoded(&Tagged(0x0b, &(ty, i)))
+        self.add_row(0x0b, &(ty, slot))
     }
 
     /// `subtask.drop`: drops a subtask that has ended.
     pub fn subtask_drop(&mut self) -> Result<(), Fault>
         ensures { Adds self.old self.new result rows.SubtaskDrop tt }
     {
-        self.functions.add_encoded(&Tagged(0x0d, &()))
+        self.add_row(0x0d, &())
     }
 
     /// `subtask.cancel`: cancels a subtask.
     pub fn subtask_cancel(&mut self, async_: bool) -> Result<(), Fault>
         ensures { Adds self.old self.new result rows.SubtaskCancel async_ }
     {
-        self.functions.add_encoded(&Tagged(0x06, &async_))
+        self.add_row(0x06, &async_)
     }
 
     /// `stream.new`: makes a stream of this type.
     pub fn stream_new(&mut self, ty: u32) -> Result<(), Fault>
         ensures { Adds self.old self.new result rows.StreamNew ty }
     {
-        self.functions.add_encoded(&Tagged(0x0e, &ty))
+        self.add_row(0x0e, &ty)
     }
 
     /// `stream.read`: reads from a stream of this type.
@@ -132,9 +136,10 @@ impl<A: Allocator> CanonicalFunctionSection<A> {
     ) -> Result<(), Fault>
         requires can { I.can_next options }
         requires ends { IsFinite (I.remaining options) }
-        ensures { AddsWithOptions I.next_gives options self.old self.new result (λ os. Provided rows.StreamRead (ty, os)) }
+        ensures { AddsWithOptions I.next_gives options self.old self.new result
+            (λ os. Provided rows.StreamRead (ty, os)) }
     {
-        self.functions.add_listed(&Tagged(0x0f, &ty), options, &())
+        self.add_row_with_options(0x0f, &ty, options)
     }
 
     /// `stream.write`: writes to a stream of this type.
@@ -145,51 +150,52 @@ impl<A: Allocator> CanonicalFunctionSection<A> {
     ) -> Result<(), Fault>
         requires can { I.can_next options }
         requires ends { IsFinite (I.remaining options) }
-        ensures { AddsWithOptions I.next_gives options self.old self.new result (λ os. Provided rows.StreamWrite (ty, os)) }
+        ensures { AddsWithOptions I.next_gives options self.old self.new result
+            (λ os. Provided rows.StreamWrite (ty, os)) }
     {
-        self.functions.add_listed(&Tagged(0x10, &ty), options, &())
+        self.add_row_with_options(0x10, &ty, options)
     }
 
     /// `stream.forward`: hands on what is left in one stream of this type to another.
     pub fn stream_forward(&mut self, ty: u32) -> Result<(), Fault>
         ensures { Adds self.old self.new result rows.StreamForward ty }
     {
-        self.functions.add_encoded(&Tagged(0x2e, &ty))
+        self.add_row(0x2e, &ty)
     }
 
     /// `stream.cancel-read`: cancels a read from a stream of this type.
     pub fn stream_cancel_read(&mut self, ty: u32, async_: bool) -> Result<(), Fault>
         ensures { Adds self.old self.new result rows.StreamCancelRead (ty, async_) }
     {
-        self.functions.add_encoded(&Tagged(0x11, &(ty, async_)))
+        self.add_row(0x11, &(ty, async_))
     }
 
     /// `stream.cancel-write`: cancels a write to a stream of this type.
     pub fn stream_cancel_write(&mut self, ty: u32, async_: bool) -> Result<(), Fault>
         ensures { Adds self.old self.new result rows.StreamCancelWrite (ty, async_) }
     {
-        self.functions.add_encoded(&Tagged(0x12, &(ty, async_)))
+        self.add_row(0x12, &(ty, async_))
     }
 
     /// `stream.drop-readable`: drops the end of a stream of this type that is read.
     pub fn stream_drop_readable(&mut self, ty: u32) -> Result<(), Fault>
         ensures { Adds self.old self.new result rows.StreamDropReadable ty }
     {
-        self.functions.add_encoded(&Tagged(0x13, &ty))
+        self.add_row(0x13, &ty)
     }
 
     /// `stream.drop-writable`: drops the end of a stream of this type that is written.
     pub fn stream_drop_writable(&mut self, ty: u32) -> Result<(), Fault>
         ensures { Adds self.old self.new result rows.StreamDropWritable ty }
     {
-        self.functions.add_encoded(&Tagged(0x14, &ty))
+        self.add_row(0x14, &ty)
     }
 
     /// `future.new`: makes a future of this type.
     pub fn future_new(&mut self, ty: u32) -> Result<(), Fault>
         ensures { Adds self.old self.new result rows.FutureNew ty }
     {
-        self.functions.add_encoded(&Tagged(0x15, &ty))
+        self.add_row(0x15, &ty)
     }
 
     /// `future.read`: reads from a future of this type.
@@ -200,9 +206,10 @@ impl<A: Allocator> CanonicalFunctionSection<A> {
     ) -> Result<(), Fault>
         requires can { I.can_next options }
         requires ends { IsFinite (I.remaining options) }
-        ensures { AddsWithOptions I.next_gives options self.old self.new result (λ os. Provided rows.FutureRead (ty, os)) }
+        ensures { AddsWithOptions I.next_gives options self.old self.new result
+            (λ os. Provided rows.FutureRead (ty, os)) }
     {
-        self.functions.add_listed(&Tagged(0x16, &ty), options, &())
+        self.add_row_with_options(0x16, &ty, options)
     }
 
     /// `future.write`: writes to a future of this type.
@@ -213,44 +220,45 @@ impl<A: Allocator> CanonicalFunctionSection<A> {
     ) -> Result<(), Fault>
         requires can { I.can_next options }
         requires ends { IsFinite (I.remaining options) }
-        ensures { AddsWithOptions I.next_gives options self.old self.new result (λ os. Provided rows.FutureWrite (ty, os)) }
+        ensures { AddsWithOptions I.next_gives options self.old self.new result
+            (λ os. Provided rows.FutureWrite (ty, os)) }
     {
-        self.functions.add_listed(&Tagged(0x17, &ty), options, &())
+        self.add_row_with_options(0x17, &ty, options)
     }
 
     /// `future.forward`: hands on the value of one future of this type to another.
     pub fn future_forward(&mut self, ty: u32) -> Result<(), Fault>
         ensures { Adds self.old self.new result rows.FutureForward ty }
     {
-        self.functions.add_encoded(&Tagged(0x2f, &ty))
+        self.add_row(0x2f, &ty)
     }
 
     /// `future.cancel-read`: cancels a read from a future of this type.
     pub fn future_cancel_read(&mut self, ty: u32, async_: bool) -> Result<(), Fault>
         ensures { Adds self.old self.new result rows.FutureCancelRead (ty, async_) }
     {
-        self.functions.add_encoded(&Tagged(0x18, &(ty, async_)))
+        self.add_row(0x18, &(ty, async_))
     }
 
     /// `future.cancel-write`: cancels a write to a future of this type.
     pub fn future_cancel_write(&mut self, ty: u32, async_: bool) -> Result<(), Fault>
         ensures { Adds self.old self.new result rows.FutureCancelWrite (ty, async_) }
     {
-        self.functions.add_encoded(&Tagged(0x19, &(ty, async_)))
+        self.add_row(0x19, &(ty, async_))
     }
 
     /// `future.drop-readable`: drops the end of a future of this type that is read.
     pub fn future_drop_readable(&mut self, ty: u32) -> Result<(), Fault>
         ensures { Adds self.old self.new result rows.FutureDropReadable ty }
     {
-        self.functions.add_encoded(&Tagged(0x1a, &ty))
+        self.add_row(0x1a, &ty)
     }
 
     /// `future.drop-writable`: drops the end of a future of this type that is written.
     pub fn future_drop_writable(&mut self, ty: u32) -> Result<(), Fault>
         ensures { Adds self.old self.new result rows.FutureDropWritable ty }
     {
-        self.functions.add_encoded(&Tagged(0x1b, &ty))
+        self.add_row(0x1b, &ty)
     }
 
     /// `error-context.new`: makes an error context of a message.
@@ -260,9 +268,10 @@ impl<A: Allocator> CanonicalFunctionSection<A> {
     ) -> Result<(), Fault>
         requires can { I.can_next options }
         requires ends { IsFinite (I.remaining options) }
-        ensures { AddsWithOptions I.next_gives options self.old self.new result (λ os. Provided rows.ErrorContextNew os) }
+        ensures { AddsWithOptions I.next_gives options self.old self.new result
+            (λ os. Provided rows.ErrorContextNew os) }
     {
-        self.functions.add_listed(&Tagged(0x1c, &()), options, &())
+        self.add_row_with_options(0x1c, &(), options)
     }
 
     /// `error-context.debug-message`: gives the message of an error context.
@@ -272,121 +281,116 @@ impl<A: Allocator> CanonicalFunctionSection<A> {
     ) -> Result<(), Fault>
         requires can { I.can_next options }
         requires ends { IsFinite (I.remaining options) }
-        ensures { AddsWithOptions I.next_gives options self.old self.new result (λ os. Provided rows.ErrorContextDebugMessage os) }
+        ensures { AddsWithOptions I.next_gives options self.old self.new result
+            (λ os. Provided rows.ErrorContextDebugMessage os) }
     {
-        self.functions.add_listed(&Tagged(0x1d, &()), options, &())
+        self.add_row_with_options(0x1d, &(), options)
     }
 
     /// `error-context.drop`: drops an error context.
     pub fn error_context_drop(&mut self) -> Result<(), Fault>
         ensures { Adds self.old self.new result rows.ErrorContextDrop tt }
     {
-        self.functions.add_encoded(&Tagged(0x1e, &()))
+        self.add_row(0x1e, &())
     }
 
     /// `waitable-set.new`: makes a set of what can be waited for.
     pub fn waitable_set_new(&mut self) -> Result<(), Fault>
         ensures { Adds self.old self.new result rows.WaitableSetNew tt }
     {
-        self.functions.add_encoded(&Tagged(0x1f, &()))
+        self.add_row(0x1f, &())
     }
 
     /// `waitable-set.wait`: waits until something in a set happens, which is written to this memory.
     pub fn waitable_set_wait(&mut self, memory: u32) -> Result<(), Fault>
         ensures { Adds self.old self.new result rows.WaitableSetWait (tt, memory) }
     {
-        self.functions
-            .add_encoded(&Tagged(0x20, &Tagged(0x00, &memory)))
+        self.add_row(0x20, &(CANCELLABLE, memory))
     }
 
     /// `waitable-set.poll`: looks whether something in a set happened, which is written to this memory.
     pub fn waitable_set_poll(&mut self, memory: u32) -> Result<(), Fault>
         ensures { Adds self.old self.new result rows.WaitableSetPoll (tt, memory) }
     {
-        self.functions
-            .add_encoded(&Tagged(0x21, &Tagged(0x00, &memory)))
+        self.add_row(0x21, &(CANCELLABLE, memory))
     }
 
     /// `waitable-set.drop`: drops a set of what can be waited for.
     pub fn waitable_set_drop(&mut self) -> Result<(), Fault>
         ensures { Adds self.old self.new result rows.WaitableSetDrop tt }
     {
-        self.functions.add_encoded(&Tagged(0x22, &()))
+        self.add_row(0x22, &())
     }
 
     /// `waitable.join`: puts something that can be waited for into a set.
     pub fn waitable_join(&mut self) -> Result<(), Fault>
         ensures { Adds self.old self.new result rows.WaitableJoin tt }
     {
-        self.functions.add_encoded(&Tagged(0x23, &()))
+        self.add_row(0x23, &())
     }
 
     /// `thread.index`: gives the index of the current thread.
     pub fn thread_index(&mut self) -> Result<(), Fault>
         ensures { Adds self.old self.new result rows.ThreadIndex tt }
     {
-        self.functions.add_encoded(&Tagged(0x26, &()))
+        self.add_row(0x26, &())
     }
 
     /// `thread.new-indirect`: makes a thread of a function of this type, by its place in a table.
     pub fn thread_new_indirect(&mut self, ty: u32, table: u32) -> Result<(), Fault>
         ensures { Adds self.old self.new result rows.ThreadNewIndirect (ty, table) }
     {
-        self.functions.add_encoded(&Tagged(0x27, &(ty, table)))
+        self.add_row(0x27, &(ty, table))
     }
 
     /// `thread.resume-later`: lets a thread that was suspended go on later.
     pub fn thread_resume_later(&mut self) -> Result<(), Fault>
         ensures { Adds self.old self.new result rows.ThreadResumeLater tt }
     {
-        self.functions.add_encoded(&Tagged(0x28, &()))
+        self.add_row(0x28, &())
     }
 
     /// `thread.suspend`: suspends the current thread.
     pub fn thread_suspend(&mut self) -> Result<(), Fault>
         ensures { Adds self.old self.new result rows.ThreadSuspend tt }
     {
-        self.functions
-            .add_encoded(&Tagged(0x29, &Tagged(0x00, &())))
+        self.add_row(0x29, &CANCELLABLE)
     }
 
     /// `thread.yield`: lets other threads go on.
     pub fn thread_yield(&mut self) -> Result<(), Fault>
         ensures { Adds self.old self.new result rows.ThreadYield tt }
     {
-        self.functions
-            .add_encoded(&Tagged(0x0c, &Tagged(0x00, &())))
+        self.add_row(0x0c, &CANCELLABLE)
     }
 
     /// `thread.suspend-then-resume`: suspends the current thread, and lets another go on at once.
     pub fn thread_suspend_then_resume(&mut self) -> Result<(), Fault>
         ensures { Adds self.old self.new result rows.ThreadSuspendThenResume tt }
     {
-        self.functions
-            .add_encoded(&Tagged(0x2a, &Tagged(0x00, &())))
+        self.add_row(0x2a, &CANCELLABLE)
     }
 
     /// `thread.yield-then-resume`: lets another thread go on at once, and this one after it.
     pub fn thread_yield_then_resume(&mut self) -> Result<(), Fault>
         ensures { Adds self.old self.new result rows.ThreadYieldThenResume tt }
     {
-        self.functions
-            .add_encoded(&Tagged(0x2b, &Tagged(0x00, &())))
+        self.add_row(0x2b, &CANCELLABLE)
     }
 
-    /// `thread.suspend-then-promote`: suspends the current thread, and moves another to the front of those that wait.
+    /// `thread.suspend-then-promote`: suspends the current thread, and moves another to the front of
+    /// those that wait.
     pub fn thread_suspend_then_promote(&mut self) -> Result<(), Fault>
         ensures { Adds self.old self.new result rows.ThreadSuspendThenPromote tt }
     {
-        self.functions
-            .add_encoded(&Tagged(0x2c, &Tagged(0x00, &())))
+        self.add_row(0x2c, &CANCELLABLE)
     }
 
-    /// `thread.yield-then-promote`: lets other threads go on, the one that is moved to the front of those that wait first.
+    /// `thread.yield-then-promote`: lets other threads go on, first the one that is moved to the front
+    /// of those that wait.
     pub fn thread_yield_then_promote(&mut self) -> Result<(), Fault>
         ensures { Adds self.old self.new result rows.ThreadYieldThenPromote tt }
     {
-        self.functions
-            .add_encoded(&Tagged(0x2d, &Tagged(0x00, &())))
+        self.add_row(0x2d, &CANCELLABLE)
     }
 }

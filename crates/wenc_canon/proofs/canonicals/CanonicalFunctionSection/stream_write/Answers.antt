@@ -1,8 +1,0 @@
-use Rattle.std.proofs.Common.{◌∷◌, refl}
-use Rattle.wenc_base.specs.Number.{u32}
-use Rattle.wenc_canon.specs.Canonicals.{Provided, StreamWrite}
-use Rattle.wenc_canon.proofs.Options.{adds_options}
-use Rattle.wenc_canon.proofs.canonicals.CanonicalFunctionSection.stream_write.Goals as goal
-
-pub returns : goal.returns
-returns g c = rw (← c.self.view_is) (adds_options g.I.Iterator.next_gives c.args.options _ _ _ (λ os. Provided StreamWrite (c.args.ty, os)) (0x10 ∷ (u32 c.args.ty).text) c.add_listed.ensures.added (λ os. refl))
