@@ -1,2 +1,3 @@
 -- Why the laws of the forms hold.
 pub mod Items
+pub mod Start

@@ -1,58 +1,32 @@
-ghost use Rattle.std.specs.Prelude.{◌≡◌, ◌==◌, false, map, IfOk, IfErr};
+ghost use Rattle.std.specs.Prelude.{map};
 ghost use Rattle.std.specs.Iterator.{IsFinite};
-ghost use Rattle.wenc_base.specs.Fault.{IsMemory, text_cause, drawn_cause};
-ghost use Rattle.wenc_base.specs.Holder.{no_members, is_finished, section_text, EncodeCause, AddsListed};
-ghost use Rattle.wenc_sections.specs.Instances.{CoreInstantiate, CoreExports, core_instance_text};
+ghost use Rattle.wenc_base.specs.Fault.{text_cause, drawn_cause};
+ghost use Rattle.wenc_base.specs.Holder.{AddsListed};
+ghost use Rattle.wenc_parts.specs.Imports.{extern_name_view, extern_name_cause};
+ghost use Rattle.wenc_sections.specs.Instances.{CoreInstantiate, CoreExports, core_instance_text, Instantiate, Exports, instance_text};
+ghost use Rattle.wenc_parts.specs.declared.component.ComponentSectionId.{ComponentSectionId};
 
-pub mod components;
-
+use crate::counted::{Counted, CountedKind};
 use std::alloc::{Allocator, Global};
-use std::marker::Model;
-use wenc_base::{Encode, ExportKind, Fault, Holder, Tagged};
-use wenc_parts::{ComponentSection, ComponentSectionId, ModuleArg};
+use wenc_base::{ExportKind, Fault, Tagged};
+use wenc_parts::{ComponentExportKind, ComponentExternName, ComponentSectionId, ModuleArg};
 
-/// The section of core instances (component model, binary format, "Core Instance Definitions"). A call that is
-/// refused leaves it as it was.
-#[derive(Drop)]
-pub struct InstanceSection<A: Allocator = Global> {
-    instances: Holder<A>,
+/// Of instances of core modules.
+pub struct CoreInstances;
+
+impl CountedKind for CoreInstances {
+    ghost ID = { ComponentSectionId.CoreInstance };
+
+    const ID: ComponentSectionId = ComponentSectionId::CoreInstance;
 }
 
-impl<A: Allocator> Model for InstanceSection<A> {
-    ghost use Rattle.wenc_base.specs.Holder.{Held};
+/// The section of core instances (component model, binary format, "Core Instance Definitions").
+pub type InstanceSection<A = Global> = Counted<CoreInstances, A>;
 
-    ghost Value = { Held };
-
-    ghost view = { λ s. s.instances };
-}
-
-impl<A: Allocator> InstanceSection<A> {
-    /// No instances. It takes no memory.
-    pub fn new(alloc: A) -> Self
-        ensures { result ≡ no_members }
-    {
-        InstanceSection {
-            instances: Holder::new(alloc),
-        }
-    }
-
-    /// How many instances the section has.
-    pub fn len(&self) -> u32
-        ensures { result ≡ self.now.count }
-    {
-        self.instances.len()
-    }
-
-    /// Whether it has none.
-    pub fn is_empty(&self) -> bool
-        ensures { result ≡ (self.now.count == 0) }
-    {
-        self.len() == 0
-    }
-
-    /// Adds an instance of the core module with this index, from 0 to 4294967295, which is given these arguments
-    /// under their names. It is refused where there would be more than 4294967295 instances or arguments
-    /// (`TooMany`), or more than 4294967295 bytes in the section or in a name (`TooLarge`).
+impl<A: Allocator> Counted<CoreInstances, A> {
+    /// Adds an instance of the core module with this index, which is given these arguments under their names. It is
+    /// refused where there would be too many instances or arguments (`TooMany`), or too many bytes in the section or
+    /// in a name (`TooLarge`).
     pub fn instantiate<'a, I: Iterator<Item = (&'a str, ModuleArg)> + Drop>(
         &mut self,
         module_index: u32,
@@ -63,8 +37,7 @@ impl<A: Allocator> InstanceSection<A> {
         ensures { AddsListed I.next_gives args core_instance_text self.old self.new result (drawn_cause (λ a. text_cause a.0.now))
             (λ items. CoreInstantiate module_index (map (λ a. record { name = a.0.now; value = a.1 }) items)) }
     {
-        let lead = Tagged(0x00, &module_index);
-        self.instances.add_listed(&lead, args, &())
+        self.items.add_listed(&Tagged(0x00, &module_index), args, &())
     }
 
     /// Adds an instance that exports these core items under their names. It is refused as `instantiate` is.
@@ -78,38 +51,52 @@ impl<A: Allocator> InstanceSection<A> {
             (λ items. CoreExports (map (λ e. record { name = e.0.now; kind = e.1; index = e.2 }) items)) }
     {
         let lead = Tagged(0x01, &());
-        self.instances.add_listed(&lead, exports, &())
+        self.items.add_listed(&lead, exports, &())
     }
+}
 
-    /// The same instances once more. It is refused for want of memory alone.
-    pub fn clone(&self) -> Result<Self, Fault>
-    where
-        A: Clone,
-        ensures same { IfOk result (λ s. s ≡ self.now) }
-        ensures refused { IfErr result IsMemory }
+/// Of instances of components.
+pub struct Instances;
+
+impl CountedKind for Instances {
+    ghost ID = { ComponentSectionId.Instance };
+
+    const ID: ComponentSectionId = ComponentSectionId::Instance;
+}
+
+/// The section of component instances (component model, binary format, "Instance Definitions").
+pub type ComponentInstanceSection<A = Global> = Counted<Instances, A>;
+
+impl<A: Allocator> Counted<Instances, A> {
+    /// Adds an instance of the component with this index, which is given the items of these kinds and indices under
+    /// their names. It is refused where there would be too many instances or arguments (`TooMany`), or too many bytes
+    /// in the section or in a name (`TooLarge`).
+    pub fn instantiate<'a, I: Iterator<Item = (&'a str, ComponentExportKind, u32)> + Drop>(
+        &mut self,
+        component_index: u32,
+        args: I,
+    ) -> Result<(), Fault>
+        requires can { I.can_next args }
+        requires ends { IsFinite (I.remaining args) }
+        ensures { AddsListed I.next_gives args instance_text self.old self.new result (drawn_cause (λ a. text_cause a.0.now))
+            (λ items. Instantiate component_index (map (λ a. record { name = a.0.now; kind = a.1; index = a.2 }) items)) }
     {
-        let instances = self.instances.clone()?;
-        Ok(InstanceSection { instances })
+        self.items.add_listed(&Tagged(0x00, &component_index), args, &())
     }
-}
 
-/// A finished section is refused for want of memory alone.
-impl<A: Allocator> Encode for InstanceSection<A> {
-    ghost text = { λ s. section_text s };
-
-    ghost cause = { λ s. EncodeCause s };
-
-    ghost unfinished = { λ s. is_finished s ≡ false };
-
-    fn encode<B: Allocator>(&self, sink: &mut Vec<u8, B>) -> Result<(), Fault> {
-        self.instances.encode_section(sink)
-    }
-}
-
-impl<A: Allocator> ComponentSection for InstanceSection<A> {
-    ghost section_id = { λ _. 2 };
-
-    fn id(&self) -> u8 {
-        u8::from(ComponentSectionId::CoreInstance)
+    /// Adds an instance that exports the items of these kinds and indices under their names. It is refused as
+    /// `instantiate` is.
+    pub fn export_items<
+        'a,
+        N: Allocator + Drop,
+        I: Iterator<Item = (ComponentExternName<'a, N>, ComponentExportKind, u32)> + Drop,
+    >(&mut self, exports: I) -> Result<(), Fault>
+        requires can { I.can_next exports }
+        requires ends { IsFinite (I.remaining exports) }
+        ensures { AddsListed I.next_gives exports instance_text self.old self.new result (drawn_cause (λ e. extern_name_cause (extern_name_view e.0)))
+            (λ items. Exports (map (λ e. record { name = extern_name_view e.0; kind = e.1; index = e.2 }) items)) }
+    {
+        let lead = Tagged(0x01, &());
+        self.items.add_listed(&lead, exports, &())
     }
 }

@@ -17,7 +17,7 @@ use Rattle.wenc_sections.specs.Imports.{Import, import_item}
 use Rattle.wenc_sections.specs.Exports.{Export, export_item}
 use Rattle.wenc_base.specs.Forms.{counted}
 use Rattle.wenc_sections.specs.Instances.{Argument, argument, CoreExport, core_export, CoreInstance, CoreInstantiate, CoreExports, core_instance, Given, given, Exported, exported, Instance, Instantiate, Exports, instance}
-use Rattle.wenc_sections.specs.Start.{Start, start}
+use Rattle.wenc_sections.specs.Start.{Start, started, start}
 
 -- ---- imports and exports
 
@@ -104,9 +104,6 @@ read_counted read = read_sized (done (read_list read))
 
 pub counted_lawful : {A : Type 0} {form : Form A} {read : ℕ → Reader A} → ((v : A) → Lawful (form v) read v) → (vs : List A) → Lawful (counted form vs) (λ fuel. read_counted (read fuel)) vs
 counted_lawful laws vs = sized_lawful (whole_lawful (list_lawful laws vs))
-
-abbrev started : ℕ → List ℕ → ℕ → Start
-started function arguments results = record { function = function; arguments = arguments; results = results }
 
 abbrev pub read_start : Reader Start
 read_start = read_sized (done (read_groups >>= λ function. read_list read_groups >>= λ arguments. read_groups >>= λ results. give (started function arguments results)))

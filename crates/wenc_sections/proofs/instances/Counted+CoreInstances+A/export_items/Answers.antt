@@ -3,7 +3,7 @@ use Rattle.wenc_base.specs.laws.Causes.{alone}
 use Rattle.wenc_base.specs.laws.Holders.{adds_list}
 use Rattle.wenc_base.specs.Fault.{text_cause}
 use Rattle.wenc_sections.specs.Instances.{core_export, CoreExports, core_instance_text}
-use Rattle.wenc_sections.proofs.instances.InstanceSection.export_items.Goals as goal
+use Rattle.wenc_sections.proofs.instances.Counted+CoreInstances+A.export_items.Goals as goal
 
 pub returns : goal.returns
 returns g c =

@@ -4,7 +4,7 @@ use Rattle.wenc_base.specs.laws.Holders.{adds_list}
 use Rattle.wenc_base.specs.Fault.{text_cause}
 use Rattle.wenc_base.specs.Number.{u32}
 use Rattle.wenc_sections.specs.Instances.{argument, CoreInstantiate, core_instance_text}
-use Rattle.wenc_sections.proofs.instances.InstanceSection.instantiate.Goals as goal
+use Rattle.wenc_sections.proofs.instances.Counted+CoreInstances+A.instantiate.Goals as goal
 
 pub returns : goal.returns
 returns g c =

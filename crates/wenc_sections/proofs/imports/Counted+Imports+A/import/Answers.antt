@@ -2,7 +2,7 @@ use Rattle.wenc_base.specs.laws.Causes.{alone}
 use Rattle.wenc_base.specs.laws.Holders.{adds_as}
 use Rattle.wenc_parts.specs.Imports.{extern_name_view, extern_name_cause}
 use Rattle.wenc_sections.specs.Imports.{import_text}
-use Rattle.wenc_sections.proofs.imports.ComponentImportSection.import.Goals as goal
+use Rattle.wenc_sections.proofs.imports.Counted+Imports+A.import.Goals as goal
 
 pub returns : goal.returns
 returns g c =

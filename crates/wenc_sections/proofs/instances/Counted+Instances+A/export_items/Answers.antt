@@ -3,7 +3,7 @@ use Rattle.wenc_base.specs.laws.Causes.{alone}
 use Rattle.wenc_base.specs.laws.Holders.{adds_list}
 use Rattle.wenc_parts.specs.Imports.{extern_name_view, extern_name_cause}
 use Rattle.wenc_sections.specs.Instances.{exported, Exports, instance_text}
-use Rattle.wenc_sections.proofs.instances.components.ComponentInstanceSection.export_items.Goals as goal
+use Rattle.wenc_sections.proofs.instances.Counted+Instances+A.export_items.Goals as goal
 
 pub returns : goal.returns
 returns g c =
