@@ -7,7 +7,7 @@ use std::alloc::{Allocator, Global};
 use wenc_base::Fault;
 use wenc_parts::{Alias, ComponentSectionId};
 
-/// Of aliases.
+/// The kind of section that has aliases.
 pub struct Aliases;
 
 impl CountedKind for Aliases {
@@ -17,14 +17,25 @@ impl CountedKind for Aliases {
 }
 
 /// The section of aliases (component model, binary format, "Alias Definitions").
+///
+/// ```
+/// let mut aliases = ComponentAliasSection::new(alloc);
+/// aliases.alias(Alias::InstanceExport {
+///     instance: 0,
+///     kind: ComponentExportKind::Func,
+///     name: "f",
+/// })?;
+/// component.section(&aliases)?;
+/// ```
 pub type ComponentAliasSection<A = Global> = Counted<Aliases, A>;
 
 impl<A: Allocator> Counted<Aliases, A> {
-    /// Adds an alias. It is refused where there would be too many aliases (`TooMany`), or too many bytes in the
+    /// Adds an alias. It is refused where there would be too many of them (`TooMany`), or too many bytes in the
     /// section or in the alias's name (`TooLarge`).
     #[tactic(auto, using(wenc_base::specs::laws::Holders::adds_as))]
     pub fn alias(&mut self, alias: Alias<'_>) -> Result<(), Fault>
-        ensures { AddsMember alias_text self.old self.new result (alias_cause (alias_view alias.entry)) (alias_view alias.entry) }
+        ensures { AddsMember alias_text self.old self.new result
+            (alias_cause (alias_view alias.entry)) (alias_view alias.entry) }
     {
         self.items.add_encoded(&alias)
     }

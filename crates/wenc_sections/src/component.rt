@@ -13,6 +13,15 @@ const HEADER: [u8; 8] = [0x00, 0x61, 0x73, 0x6d, 0x0d, 0x00, 0x01, 0x00];
 
 /// The bytes of a component: its header, and the sections that were appended, in any order (component model,
 /// binary format, "Component Definitions").
+///
+/// ```
+/// let mut imports = ComponentImportSection::new(alloc);
+/// imports.import("f".into(), ComponentTypeRef::Func(0))?;
+///
+/// let mut component = Component::new(alloc)?;
+/// component.section(&imports)?;
+/// let bytes = component.finish();
+/// ```
 #[derive(Drop)]
 pub struct Component<A: Allocator = Global> {
     bytes: Vec<u8, A>,

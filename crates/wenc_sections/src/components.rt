@@ -1,12 +1,16 @@
-ghost use Rattle.std.specs.Prelude.{◌≡◌};
-
 use crate::component::Component;
 use std::alloc::{Allocator, Global};
 use wenc_base::{Delimited, Encode, Fault};
 use wenc_parts::{ComponentSection, ComponentSectionId};
 
 /// A section that is a component of its own (component model, binary format, "Component Definitions"). It is
-/// refused where that has more than 4294967295 bytes (`TooLarge`).
+/// refused where that has too many bytes (`TooLarge`).
+///
+/// ```
+/// let inner = Component::new(alloc)?;
+/// let mut outer = Component::new(alloc)?;
+/// outer.section(&NestedComponentSection(&inner))?;
+/// ```
 #[derive(Clone, Copy)]
 pub struct NestedComponentSection<'a, A: Allocator = Global>(pub &'a Component<A>);
 

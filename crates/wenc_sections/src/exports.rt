@@ -8,7 +8,7 @@ use std::alloc::{Allocator, Global};
 use wenc_base::Fault;
 use wenc_parts::{ComponentExportKind, ComponentExternName, ComponentSectionId, ComponentTypeRef};
 
-/// Of exports.
+/// The kind of section that has exports.
 pub struct Exports;
 
 impl CountedKind for Exports {
@@ -18,11 +18,17 @@ impl CountedKind for Exports {
 }
 
 /// The section of exports (component model, binary format, "Import and Export Definitions").
+///
+/// ```
+/// let mut exports = ComponentExportSection::new(alloc);
+/// exports.export("g".into(), ComponentExportKind::Func, 0, None)?;
+/// component.section(&exports)?;
+/// ```
 pub type ComponentExportSection<A = Global> = Counted<Exports, A>;
 
 impl<A: Allocator> Counted<Exports, A> {
     /// Adds an export of the item of this kind with this index under this name, with a type or none. It is refused
-    /// where there would be too many exports (`TooMany`), or too many bytes in the section or in a text of the name
+    /// where there would be too many of them (`TooMany`), or too many bytes in the section or in a text of the name
     /// (`TooLarge`).
     pub fn export<B: Allocator>(
         &mut self,
@@ -31,7 +37,8 @@ impl<A: Allocator> Counted<Exports, A> {
         index: u32,
         ty: Option<ComponentTypeRef>,
     ) -> Result<(), Fault>
-        ensures { AddsMember export_text self.old self.new result (extern_name_cause (extern_name_view name.entry))
+        ensures { AddsMember export_text self.old self.new result
+            (extern_name_cause (extern_name_view name.entry))
             (record { name = extern_name_view name.entry; kind = kind; index = index; what = ty }) }
     {
         self.items.add_encoded(&(name, (kind, (index, ty))))

@@ -8,7 +8,7 @@ use std::alloc::{Allocator, Global};
 use wenc_base::Fault;
 use wenc_parts::{ComponentExternName, ComponentSectionId, ComponentTypeRef};
 
-/// Of imports.
+/// The kind of section that has imports.
 pub struct Imports;
 
 impl CountedKind for Imports {
@@ -18,17 +18,24 @@ impl CountedKind for Imports {
 }
 
 /// The section of imports (component model, binary format, "Import and Export Definitions").
+///
+/// ```
+/// let mut imports = ComponentImportSection::new(alloc);
+/// imports.import("f".into(), ComponentTypeRef::Func(0))?;
+/// component.section(&imports)?;
+/// ```
 pub type ComponentImportSection<A = Global> = Counted<Imports, A>;
 
 impl<A: Allocator> Counted<Imports, A> {
-    /// Adds an import under this name. It is refused where there would be too many imports (`TooMany`), or too many
+    /// Adds an import under this name. It is refused where there would be too many of them (`TooMany`), or too many
     /// bytes in the section or in a text of the name (`TooLarge`).
     pub fn import<B: Allocator>(
         &mut self,
         name: ComponentExternName<'_, B>,
         ty: ComponentTypeRef,
     ) -> Result<(), Fault>
-        ensures { AddsMember import_text self.old self.new result (extern_name_cause (extern_name_view name.entry))
+        ensures { AddsMember import_text self.old self.new result
+            (extern_name_cause (extern_name_view name.entry))
             (record { name = extern_name_view name.entry; what = ty }) }
     {
         self.items.add_encoded(&(name, ty))

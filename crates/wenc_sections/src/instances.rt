@@ -3,7 +3,8 @@ ghost use Rattle.std.specs.Iterator.{IsFinite};
 ghost use Rattle.wenc_base.specs.Fault.{text_cause, drawn_cause};
 ghost use Rattle.wenc_base.specs.Holder.{AddsListed};
 ghost use Rattle.wenc_parts.specs.Imports.{extern_name_view, extern_name_cause};
-ghost use Rattle.wenc_sections.specs.Instances.{CoreInstantiate, CoreExports, core_instance_text, Instantiate, Exports, instance_text};
+ghost use Rattle.wenc_sections.specs.Instances.{CoreInstantiate, CoreExports, core_instance_text, argument_view, core_export_view};
+ghost use Rattle.wenc_sections.specs.Instances.{Instantiate, Exports, instance_text, given_view, exported_view};
 ghost use Rattle.wenc_parts.specs.declared.component.ComponentSectionId.{ComponentSectionId};
 
 use crate::counted::{Counted, CountedKind};
@@ -11,7 +12,16 @@ use std::alloc::{Allocator, Global};
 use wenc_base::{ExportKind, Fault, Tagged};
 use wenc_parts::{ComponentExportKind, ComponentExternName, ComponentSectionId, ModuleArg};
 
-/// Of instances of core modules.
+// What begins an instance (component model, binary format, `core:instanceexpr` and `instanceexpr`).
+const CORE_INSTANTIATE: u8 = 0x00;
+
+const CORE_EXPORTS: u8 = 0x01;
+
+const INSTANTIATE: u8 = 0x00;
+
+const EXPORTS: u8 = 0x01;
+
+/// The kind of section that has instances of core modules.
 pub struct CoreInstances;
 
 impl CountedKind for CoreInstances {
@@ -21,6 +31,13 @@ impl CountedKind for CoreInstances {
 }
 
 /// The section of core instances (component model, binary format, "Core Instance Definitions").
+///
+/// ```
+/// let mut instances = InstanceSection::new(alloc);
+/// instances.export_items([("f", ExportKind::Func, 0)].into_iter())?;
+/// instances.instantiate(1, [("env", ModuleArg::Instance(0))].into_iter())?;
+/// component.section(&instances)?;
+/// ```
 pub type InstanceSection<A = Global> = Counted<CoreInstances, A>;
 
 impl<A: Allocator> Counted<CoreInstances, A> {
@@ -34,10 +51,12 @@ impl<A: Allocator> Counted<CoreInstances, A> {
     ) -> Result<(), Fault>
         requires can { I.can_next args }
         requires ends { IsFinite (I.remaining args) }
-        ensures { AddsListed I.next_gives args core_instance_text self.old self.new result (drawn_cause (λ a. text_cause a.0.now))
-            (λ items. CoreInstantiate module_index (map (λ a. record { name = a.0.now; value = a.1 }) items)) }
+        ensures { AddsListed I.next_gives args core_instance_text self.old self.new result
+            (drawn_cause (λ a. text_cause a.0.now))
+            (λ items. CoreInstantiate module_index (map argument_view items)) }
     {
-        self.items.add_listed(&Tagged(0x00, &module_index), args, &())
+        let lead = Tagged(CORE_INSTANTIATE, &module_index);
+        self.items.add_listed(&lead, args, &())
     }
 
     /// Adds an instance that exports these core items under their names. It is refused as `instantiate` is.
@@ -47,15 +66,16 @@ impl<A: Allocator> Counted<CoreInstances, A> {
     ) -> Result<(), Fault>
         requires can { I.can_next exports }
         requires ends { IsFinite (I.remaining exports) }
-        ensures { AddsListed I.next_gives exports core_instance_text self.old self.new result (drawn_cause (λ e. text_cause e.0.now))
-            (λ items. CoreExports (map (λ e. record { name = e.0.now; kind = e.1; index = e.2 }) items)) }
+        ensures { AddsListed I.next_gives exports core_instance_text self.old self.new result
+            (drawn_cause (λ e. text_cause e.0.now))
+            (λ items. CoreExports (map core_export_view items)) }
     {
-        let lead = Tagged(0x01, &());
+        let lead = Tagged(CORE_EXPORTS, &());
         self.items.add_listed(&lead, exports, &())
     }
 }
 
-/// Of instances of components.
+/// The kind of section that has instances of components.
 pub struct Instances;
 
 impl CountedKind for Instances {
@@ -65,6 +85,14 @@ impl CountedKind for Instances {
 }
 
 /// The section of component instances (component model, binary format, "Instance Definitions").
+///
+/// ```
+/// let mut instances = ComponentInstanceSection::new(alloc);
+/// let name: ComponentExternName = "f".into();
+/// instances.export_items([(name, ComponentExportKind::Func, 0)].into_iter())?;
+/// instances.instantiate(1, [("env", ComponentExportKind::Instance, 0)].into_iter())?;
+/// component.section(&instances)?;
+/// ```
 pub type ComponentInstanceSection<A = Global> = Counted<Instances, A>;
 
 impl<A: Allocator> Counted<Instances, A> {
@@ -78,10 +106,12 @@ impl<A: Allocator> Counted<Instances, A> {
     ) -> Result<(), Fault>
         requires can { I.can_next args }
         requires ends { IsFinite (I.remaining args) }
-        ensures { AddsListed I.next_gives args instance_text self.old self.new result (drawn_cause (λ a. text_cause a.0.now))
-            (λ items. Instantiate component_index (map (λ a. record { name = a.0.now; kind = a.1; index = a.2 }) items)) }
+        ensures { AddsListed I.next_gives args instance_text self.old self.new result
+            (drawn_cause (λ a. text_cause a.0.now))
+            (λ items. Instantiate component_index (map given_view items)) }
     {
-        self.items.add_listed(&Tagged(0x00, &component_index), args, &())
+        let lead = Tagged(INSTANTIATE, &component_index);
+        self.items.add_listed(&lead, args, &())
     }
 
     /// Adds an instance that exports the items of these kinds and indices under their names. It is refused as
@@ -93,10 +123,11 @@ impl<A: Allocator> Counted<Instances, A> {
     >(&mut self, exports: I) -> Result<(), Fault>
         requires can { I.can_next exports }
         requires ends { IsFinite (I.remaining exports) }
-        ensures { AddsListed I.next_gives exports instance_text self.old self.new result (drawn_cause (λ e. extern_name_cause (extern_name_view e.0)))
-            (λ items. Exports (map (λ e. record { name = extern_name_view e.0; kind = e.1; index = e.2 }) items)) }
+        ensures { AddsListed I.next_gives exports instance_text self.old self.new result
+            (drawn_cause (λ e. extern_name_cause (extern_name_view e.0)))
+            (λ items. Exports (map exported_view items)) }
     {
-        let lead = Tagged(0x01, &());
+        let lead = Tagged(EXPORTS, &());
         self.items.add_listed(&lead, exports, &())
     }
 }

@@ -1,11 +1,14 @@
-ghost use Rattle.std.specs.Prelude.{◌≡◌};
-
 use std::alloc::{Allocator, Global};
 use wenc_base::{Delimited, Encode, Fault, Module};
 use wenc_parts::{ComponentSection, ComponentSectionId};
 
 /// A section that is a core module (component model, binary format, "Component Definitions"). It is refused where
-/// that has more than 4294967295 bytes (`TooLarge`).
+/// that has too many bytes (`TooLarge`).
+///
+/// ```
+/// let module = Module::new(alloc)?;
+/// component.section(&ModuleSection(&module))?;
+/// ```
 #[derive(Clone, Copy)]
 pub struct ModuleSection<'a, A: Allocator = Global>(pub &'a Module<A>);
 

@@ -6,15 +6,24 @@ use wenc_base::{Delimited, Encode, Fault, WithSize};
 use wenc_parts::{ComponentSection, ComponentSectionId};
 
 /// The section that has a function called when the component is instantiated (component model, binary format,
-/// "Start Definitions"). It is refused where there are more than 4294967295 arguments (`TooMany`), or more than
-/// 4294967295 bytes behind its size (`TooLarge`).
+/// "Start Definitions"). It is refused where there are too many arguments (`TooMany`), or too many bytes behind
+/// its size (`TooLarge`).
+///
+/// ```
+/// // function 0 is called with value 1, and answers one value
+/// component.section(&ComponentStartSection {
+///     function_index: 0,
+///     args: [1],
+///     results: 1,
+/// })?;
+/// ```
 #[derive(Clone, Copy, Debug)]
 pub struct ComponentStartSection<A> {
-    /// The index of the function, from 0 to 4294967295.
+    /// The index of the function.
     pub function_index: u32,
-    /// The indices of the values that it is called with, each from 0 to 4294967295.
+    /// The indices of the values that it is called with.
     pub args: A,
-    /// How many values it answers, from 0 to 4294967295.
+    /// How many values it answers.
     pub results: u32,
 }
 

@@ -61,11 +61,11 @@ core_export_lawful e = then _ (name_lawful e.name) (then _ (core_kind_lawful e.k
 
 abbrev pub read_core_instance : Reader CoreInstance
 read_core_instance = choose (
-    (0x00, read_groups >>= λ m. read_list read_argument >>= λ arguments. give (CoreInstantiate m arguments)) ∷
+    (0x00, read_groups >>= λ module_index. read_list read_argument >>= λ arguments. give (CoreInstantiate module_index arguments)) ∷
     (0x01, read_list read_core_export >>= λ exports. give (CoreExports exports)) ∷ []) nowhere
 
 pub core_instance_lawful : (i : CoreInstance) → Lawful (core_instance i) (λ fuel. read_core_instance) i
-core_instance_lawful (CoreInstantiate m arguments) = row _ _ 0x00 (then _ (u32_lawful m) (last (CoreInstantiate m) (list_lawful argument_lawful arguments)))
+core_instance_lawful (CoreInstantiate module_index arguments) = row _ _ 0x00 (then _ (u32_lawful module_index) (last (CoreInstantiate module_index) (list_lawful argument_lawful arguments)))
 core_instance_lawful (CoreExports exports) = row _ _ 0x01 (last CoreExports (list_lawful core_export_lawful exports))
 
 -- ---- instances of components
@@ -90,11 +90,11 @@ exported_lawful e = then _ (extern_name_lawful e.name) (then _ (export_kind_lawf
 
 abbrev pub read_instance : Reader Instance
 read_instance = choose (
-    (0x00, read_groups >>= λ c. read_list read_given >>= λ arguments. give (Instantiate c arguments)) ∷
+    (0x00, read_groups >>= λ component_index. read_list read_given >>= λ arguments. give (Instantiate component_index arguments)) ∷
     (0x01, read_list read_exported >>= λ exports. give (Exports exports)) ∷ []) nowhere
 
 pub instance_lawful : (i : Instance) → Lawful (instance i) (λ fuel. read_instance) i
-instance_lawful (Instantiate c arguments) = row _ _ 0x00 (then _ (u32_lawful c) (last (Instantiate c) (list_lawful given_lawful arguments)))
+instance_lawful (Instantiate component_index arguments) = row _ _ 0x00 (then _ (u32_lawful component_index) (last (Instantiate component_index) (list_lawful given_lawful arguments)))
 instance_lawful (Exports exports) = row _ _ 0x01 (last Exports (list_lawful exported_lawful exports))
 
 -- ---- sections

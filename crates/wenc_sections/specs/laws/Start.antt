@@ -7,7 +7,6 @@ use Rattle.wenc_base.specs.Forms.{list}
 use Rattle.wenc_base.specs.Number.{u32}
 use Rattle.wenc_base.specs.laws.Causes.{never, no_member}
 use Rattle.wenc_base.specs.laws.Delimited.{pair_cause_free, first_free, second_free, free_text}
-use Rattle.wenc_base.specs.declared.fault.Fault.{Fault}
 use Rattle.wenc_base.specs.declared.fault.Fault.TheVariants.{Memory, TooMany, TooLarge, Unfinished}
 use Rattle.wenc_sections.specs.Start.{Start, start, start_cause}
 
