@@ -1,4 +1,5 @@
 -- Instances of core modules and of components (component model, binary format, "Instance Definitions").
+use Rattle.std.specs.Borrow.{Bor}
 use Rattle.std.specs.Prelude.{ℕ, List}
 use Rattle.wenc_base.specs.Piece.{Form, ◌▸◌, ◌⨾◌}
 use Rattle.wenc_base.specs.Number.{u32}
@@ -6,9 +7,10 @@ use Rattle.wenc_base.specs.Forms.{name, list}
 use Rattle.wenc_base.specs.Exports.{export_kind as core_kind}
 use Rattle.wenc_base.specs.declared.exports.ExportKind.{ExportKind}
 use Rattle.wenc_parts.specs.declared.exports.ComponentExportKind.{ComponentExportKind}
+use Rattle.wenc_parts.specs.declared.imports.ComponentExternName.{ComponentExternName}
 use Rattle.wenc_parts.specs.declared.instances.ModuleArg.{ModuleArg}
 use Rattle.wenc_parts.specs.Exports.{export_kind}
-use Rattle.wenc_parts.specs.Imports.{ExternName, extern_name}
+use Rattle.wenc_parts.specs.Imports.{ExternName, extern_name, extern_name_view}
 use Rattle.wenc_parts.specs.Instances.{module_argument}
 
 -- ---- of core modules
@@ -36,7 +38,7 @@ pub data CoreInstance : Type 0 where
   CoreExports : (exports : List CoreExport) → CoreInstance
 
 abbrev pub core_instance : Form CoreInstance
-core_instance (CoreInstantiate m arguments) = 0x00 ▸ u32 m ⨾ list argument arguments
+core_instance (CoreInstantiate module_index arguments) = 0x00 ▸ u32 module_index ⨾ list argument arguments
 core_instance (CoreExports exports) = 0x01 ▸ list core_export exports
 
 abbrev pub core_instance_text : CoreInstance → List ℕ
@@ -64,12 +66,26 @@ exported e = extern_name e.name ⨾ export_kind e.kind ⨾ u32 e.index
 
 -- a component with its arguments, or exports alone
 pub data Instance : Type 0 where
-  Instantiate : (component : ℕ) (arguments : List Given) → Instance
+  Instantiate : (component_index : ℕ) (arguments : List Given) → Instance
   Exports : (exports : List Exported) → Instance
 
 abbrev pub instance : Form Instance
-instance (Instantiate c arguments) = 0x00 ▸ u32 c ⨾ list given arguments
+instance (Instantiate component_index arguments) = 0x00 ▸ u32 component_index ⨾ list given arguments
 instance (Exports exports) = 0x01 ▸ list exported exports
 
 abbrev pub instance_text : Instance → List ℕ
 instance_text i = (instance i).text
+
+-- ---- what an iterator gives, as pure values
+
+abbrev pub argument_view : Bor (List ℕ) × ModuleArg → Argument
+argument_view a = record { name = a.0.now; value = a.1 }
+
+abbrev pub core_export_view : Bor (List ℕ) × ExportKind × ℕ → CoreExport
+core_export_view e = record { name = e.0.now; kind = e.1; index = e.2 }
+
+abbrev pub given_view : Bor (List ℕ) × ComponentExportKind × ℕ → Given
+given_view g = record { name = g.0.now; kind = g.1; index = g.2 }
+
+abbrev pub exported_view : {A : Type 0} → ComponentExternName A × ComponentExportKind × ℕ → Exported
+exported_view e = record { name = extern_name_view e.0; kind = e.1; index = e.2 }

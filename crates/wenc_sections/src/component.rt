@@ -1,7 +1,6 @@
-ghost use Rattle.std.specs.Prelude.{◌≡◌, ◌++◌, ◌∷◌, OnOk, OnErr, IfOk, IfErr};
-ghost use Rattle.wenc_base.specs.Fault.{IsMemory, IsWarranted};
-ghost use Rattle.wenc_base.specs.declared.fault.Fault.{Fault as FaultSpec};
-ghost use Rattle.wenc_base.specs.declared.fault.Fault.TheVariants.{Unfinished};
+ghost use Rattle.std.specs.Prelude.{◌≡◌, ◌∷◌, IfOk, IfErr};
+ghost use Rattle.wenc_base.specs.Encode.{Appends};
+ghost use Rattle.wenc_base.specs.Fault.{IsMemory};
 ghost use Rattle.wenc_sections.specs.Component.{preamble};
 
 use std::alloc::{Allocator, Global};
@@ -14,6 +13,15 @@ const HEADER: [u8; 8] = [0x00, 0x61, 0x73, 0x6d, 0x0d, 0x00, 0x01, 0x00];
 
 /// The bytes of a component: its header, and the sections that were appended, in any order (component model,
 /// binary format, "Component Definitions").
+///
+/// ```
+/// let mut imports = ComponentImportSection::new(alloc);
+/// imports.import("f".into(), ComponentTypeRef::Func(0))?;
+///
+/// let mut component = Component::new(alloc)?;
+/// component.section(&imports)?;
+/// let bytes = component.finish();
+/// ```
 #[derive(Drop)]
 pub struct Component<A: Allocator = Global> {
     bytes: Vec<u8, A>,
@@ -43,11 +51,8 @@ impl<A: Allocator> Component<A> {
 
     /// Appends a section. It is refused as the section's `encode` is, and then the component stays as it was.
     pub fn section<S: ComponentSection>(&mut self, section: &S) -> Result<(), Fault>
-        ensures ok { OnOk result (self.new ≡ self.old ++ S.section_id section.now ∷ S.text section.now) }
-        ensures encodable { (fault : FaultSpec) → S.cause section.now fault → OnOk result ⊥ }
-        ensures err { OnErr result (self.new ≡ self.old) }
-        ensures warranted { IfErr result (IsWarranted (S.cause section.now)) }
-        ensures unfinished_first { S.unfinished section.now → result ≡ Err Unfinished }
+        ensures { Appends (S.section_id section.now ∷ S.text section.now) (S.cause section.now)
+            (S.unfinished section.now) self.old self.new result }
     {
         section.append_to_component(&mut self.bytes)
     }

@@ -1,12 +1,16 @@
-ghost use Rattle.std.specs.Prelude.{◌≡◌};
-
 use crate::component::Component;
 use std::alloc::{Allocator, Global};
-use wenc_base::{Encode, Fault};
+use wenc_base::{Delimited, Encode, Fault};
 use wenc_parts::{ComponentSection, ComponentSectionId};
 
 /// A section that is a component of its own (component model, binary format, "Component Definitions"). It is
-/// refused where that has more than 4294967295 bytes (`TooLarge`).
+/// refused where that has too many bytes (`TooLarge`).
+///
+/// ```
+/// let inner = Component::new(alloc)?;
+/// let mut outer = Component::new(alloc)?;
+/// outer.section(&NestedComponentSection(&inner))?;
+/// ```
 #[derive(Clone, Copy)]
 pub struct NestedComponentSection<'a, A: Allocator = Global>(pub &'a Component<A>);
 
@@ -23,8 +27,34 @@ impl<'a, A: Allocator> Encode for NestedComponentSection<'a, A> {
     }
 }
 
+impl<'a, A: Allocator> Delimited for NestedComponentSection<'a, A> {
+    ghost use Rattle.std.specs.Prelude.{refl, List, ℕ};
+    ghost use Rattle.wenc_base.specs.Forms.{byte_list};
+    ghost use Rattle.wenc_base.specs.laws.Delimited.{byte_list_free};
+    ghost use Rattle.wenc_base.specs.laws.Forms.{read_byte_list, byte_list_lawful};
+
+    ghost Seen = { List ℕ };
+
+    ghost seen = { λ s. s.0.now };
+
+    ghost form = { byte_list };
+
+    fn belongs(&self) {
+        self.0.as_slice().belongs();
+    }
+
+    ghost readable = { ((λ fuel. read_byte_list), byte_list_lawful) };
+
+    ghost text_of = { λ s. refl };
+
+    ghost free = { λ s. byte_list_free s.0.now };
+}
+
 impl<'a, A: Allocator> ComponentSection for NestedComponentSection<'a, A> {
-    ghost section_id = { λ _. 4 };
+    ghost use Rattle.wenc_parts.specs.SectionIds.{section_number};
+    ghost use Rattle.wenc_parts.specs.declared.component.ComponentSectionId.{ComponentSectionId};
+
+    ghost section_id = { λ _. section_number ComponentSectionId.Component };
 
     fn id(&self) -> u8 {
         u8::from(ComponentSectionId::Component)

@@ -1,58 +1,49 @@
-ghost use Rattle.std.specs.Prelude.{◌≡◌, ◌==◌, false, map, IfOk, IfErr};
+ghost use Rattle.std.specs.Prelude.{map};
 ghost use Rattle.std.specs.Iterator.{IsFinite};
-ghost use Rattle.wenc_base.specs.Fault.{IsMemory, text_cause, drawn_cause};
-ghost use Rattle.wenc_base.specs.Holder.{no_members, is_finished, section_text, EncodeCause, AddsListed};
-ghost use Rattle.wenc_sections.specs.Instances.{CoreInstantiate, CoreExports, core_instance_text};
+ghost use Rattle.wenc_base.specs.Fault.{text_cause, drawn_cause};
+ghost use Rattle.wenc_base.specs.Holder.{AddsListed};
+ghost use Rattle.wenc_parts.specs.Imports.{extern_name_view, extern_name_cause};
+ghost use Rattle.wenc_sections.specs.Instances.{CoreInstantiate, CoreExports, core_instance_text, argument_view, core_export_view};
+ghost use Rattle.wenc_sections.specs.Instances.{Instantiate, Exports, instance_text, given_view, exported_view};
+ghost use Rattle.wenc_parts.specs.declared.component.ComponentSectionId.{ComponentSectionId};
 
-pub mod components;
-
+use crate::counted::{Counted, CountedKind};
 use std::alloc::{Allocator, Global};
-use std::marker::Model;
-use wenc_base::{Encode, ExportKind, Fault, Holder, Tagged};
-use wenc_parts::{ComponentSection, ComponentSectionId, ModuleArg};
+use wenc_base::{ExportKind, Fault, Tagged};
+use wenc_parts::{ComponentExportKind, ComponentExternName, ComponentSectionId, ModuleArg};
 
-/// The section of core instances (component model, binary format, "Core Instance Definitions"). A call that is
-/// refused leaves it as it was.
-#[derive(Drop)]
-pub struct InstanceSection<A: Allocator = Global> {
-    instances: Holder<A>,
+// What begins an instance (component model, binary format, `core:instanceexpr` and `instanceexpr`).
+const CORE_INSTANTIATE: u8 = 0x00;
+
+const CORE_EXPORTS: u8 = 0x01;
+
+const INSTANTIATE: u8 = 0x00;
+
+const EXPORTS: u8 = 0x01;
+
+/// The kind of section that has instances of core modules.
+pub struct CoreInstances;
+
+impl CountedKind for CoreInstances {
+    ghost ID = { ComponentSectionId.CoreInstance };
+
+    const ID: ComponentSectionId = ComponentSectionId::CoreInstance;
 }
 
-impl<A: Allocator> Model for InstanceSection<A> {
-    ghost use Rattle.wenc_base.specs.Holder.{Held};
+/// The section of core instances (component model, binary format, "Core Instance Definitions").
+///
+/// ```
+/// let mut instances = InstanceSection::new(alloc);
+/// instances.export_items([("f", ExportKind::Func, 0)].into_iter())?;
+/// instances.instantiate(1, [("env", ModuleArg::Instance(0))].into_iter())?;
+/// component.section(&instances)?;
+/// ```
+pub type InstanceSection<A = Global> = Counted<CoreInstances, A>;
 
-    ghost Value = { Held };
-
-    ghost view = { λ s. s.instances };
-}
-
-impl<A: Allocator> InstanceSection<A> {
-    /// No instances. It takes no memory.
-    pub fn new(alloc: A) -> Self
-        ensures { result ≡ no_members }
-    {
-        InstanceSection {
-            instances: Holder::new(alloc),
-        }
-    }
-
-    /// How many instances the section has.
-    pub fn len(&self) -> u32
-        ensures { result ≡ self.now.count }
-    {
-        self.instances.len()
-    }
-
-    /// Whether it has none.
-    pub fn is_empty(&self) -> bool
-        ensures { result ≡ (self.now.count == 0) }
-    {
-        self.len() == 0
-    }
-
-    /// Adds an instance of the core module with this index, from 0 to 4294967295, which is given these arguments
-    /// under their names. It is refused where there would be more than 4294967295 instances or arguments
-    /// (`TooMany`), or more than 4294967295 bytes in the section or in a name (`TooLarge`).
+impl<A: Allocator> Counted<CoreInstances, A> {
+    /// Adds an instance of the core module with this index, which is given these arguments under their names. It is
+    /// refused where there would be too many instances or arguments (`TooMany`), or too many bytes in the section or
+    /// in a name (`TooLarge`).
     pub fn instantiate<'a, I: Iterator<Item = (&'a str, ModuleArg)> + Drop>(
         &mut self,
         module_index: u32,
@@ -60,11 +51,12 @@ impl<A: Allocator> InstanceSection<A> {
     ) -> Result<(), Fault>
         requires can { I.can_next args }
         requires ends { IsFinite (I.remaining args) }
-        ensures { AddsListed I.next_gives args core_instance_text self.old self.new result (drawn_cause (λ a. text_cause a.0.now))
-            (λ items. CoreInstantiate module_index (map (λ a. record { name = a.0.now; value = a.1 }) items)) }
+        ensures { AddsListed I.next_gives args core_instance_text self.old self.new result
+            (drawn_cause (λ a. text_cause a.0.now))
+            (λ items. CoreInstantiate module_index (map argument_view items)) }
     {
-        let lead = Tagged(0x00, &module_index);
-        self.instances.add_listed(&lead, args, &())
+        let lead = Tagged(CORE_INSTANTIATE, &module_index);
+        self.items.add_listed(&lead, args, &())
     }
 
     /// Adds an instance that exports these core items under their names. It is refused as `instantiate` is.
@@ -74,42 +66,68 @@ impl<A: Allocator> InstanceSection<A> {
     ) -> Result<(), Fault>
         requires can { I.can_next exports }
         requires ends { IsFinite (I.remaining exports) }
-        ensures { AddsListed I.next_gives exports core_instance_text self.old self.new result (drawn_cause (λ e. text_cause e.0.now))
-            (λ items. CoreExports (map (λ e. record { name = e.0.now; kind = e.1; index = e.2 }) items)) }
+        ensures { AddsListed I.next_gives exports core_instance_text self.old self.new result
+            (drawn_cause (λ e. text_cause e.0.now))
+            (λ items. CoreExports (map core_export_view items)) }
     {
-        let lead = Tagged(0x01, &());
-        self.instances.add_listed(&lead, exports, &())
-    }
-
-    /// The same instances once more. It is refused for want of memory alone.
-    pub fn clone(&self) -> Result<Self, Fault>
-    where
-        A: Clone,
-        ensures same { IfOk result (λ s. s ≡ self.now) }
-        ensures refused { IfErr result IsMemory }
-    {
-        let instances = self.instances.clone()?;
-        Ok(InstanceSection { instances })
+        let lead = Tagged(CORE_EXPORTS, &());
+        self.items.add_listed(&lead, exports, &())
     }
 }
 
-/// A finished section is refused for want of memory alone.
-impl<A: Allocator> Encode for InstanceSection<A> {
-    ghost text = { λ s. section_text s };
+/// The kind of section that has instances of components.
+pub struct Instances;
 
-    ghost cause = { λ s. EncodeCause s };
+impl CountedKind for Instances {
+    ghost ID = { ComponentSectionId.Instance };
 
-    ghost unfinished = { λ s. is_finished s ≡ false };
-
-    fn encode<B: Allocator>(&self, sink: &mut Vec<u8, B>) -> Result<(), Fault> {
-        self.instances.encode_section(sink)
-    }
+    const ID: ComponentSectionId = ComponentSectionId::Instance;
 }
 
-impl<A: Allocator> ComponentSection for InstanceSection<A> {
-    ghost section_id = { λ _. 2 };
+/// The section of component instances (component model, binary format, "Instance Definitions").
+///
+/// ```
+/// let mut instances = ComponentInstanceSection::new(alloc);
+/// let name: ComponentExternName = "f".into();
+/// instances.export_items([(name, ComponentExportKind::Func, 0)].into_iter())?;
+/// instances.instantiate(1, [("env", ComponentExportKind::Instance, 0)].into_iter())?;
+/// component.section(&instances)?;
+/// ```
+pub type ComponentInstanceSection<A = Global> = Counted<Instances, A>;
 
-    fn id(&self) -> u8 {
-        u8::from(ComponentSectionId::CoreInstance)
+impl<A: Allocator> Counted<Instances, A> {
+    /// Adds an instance of the component with this index, which is given the items of these kinds and indices under
+    /// their names. It is refused where there would be too many instances or arguments (`TooMany`), or too many bytes
+    /// in the section or in a name (`TooLarge`).
+    pub fn instantiate<'a, I: Iterator<Item = (&'a str, ComponentExportKind, u32)> + Drop>(
+        &mut self,
+        component_index: u32,
+        args: I,
+    ) -> Result<(), Fault>
+        requires can { I.can_next args }
+        requires ends { IsFinite (I.remaining args) }
+        ensures { AddsListed I.next_gives args instance_text self.old self.new result
+            (drawn_cause (λ a. text_cause a.0.now))
+            (λ items. Instantiate component_index (map given_view items)) }
+    {
+        let lead = Tagged(INSTANTIATE, &component_index);
+        self.items.add_listed(&lead, args, &())
+    }
+
+    /// Adds an instance that exports the items of these kinds and indices under their names. It is refused as
+    /// `instantiate` is.
+    pub fn export_items<
+        'a,
+        N: Allocator + Drop,
+        I: Iterator<Item = (ComponentExternName<'a, N>, ComponentExportKind, u32)> + Drop,
+    >(&mut self, exports: I) -> Result<(), Fault>
+        requires can { I.can_next exports }
+        requires ends { IsFinite (I.remaining exports) }
+        ensures { AddsListed I.next_gives exports instance_text self.old self.new result
+            (drawn_cause (λ e. extern_name_cause (extern_name_view e.0)))
+            (λ items. Exports (map exported_view items)) }
+    {
+        let lead = Tagged(EXPORTS, &());
+        self.items.add_listed(&lead, exports, &())
     }
 }

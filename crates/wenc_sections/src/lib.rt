@@ -1,22 +1,26 @@
 //! Components, and the sections that are written into them.
+//!
+//! Numbers, indices, counts and sizes are from 0 to 4294967295. What would have more items, arguments or exports is
+//! refused with `TooMany`, what would have more bytes with `TooLarge`, and what gets no memory with `Memory`. What
+//! refused a call is as it was before it.
 #![tactic(auto)]
 
 pub mod aliases;
 pub mod component;
 pub mod components;
+pub mod counted;
 pub mod exports;
 pub mod imports;
 pub mod instances;
-pub mod laws;
 pub mod modules;
 pub mod start;
 
 pub use aliases::ComponentAliasSection;
 pub use component::Component;
 pub use components::NestedComponentSection;
+pub use counted::Counted;
 pub use exports::ComponentExportSection;
 pub use imports::ComponentImportSection;
-pub use instances::InstanceSection;
-pub use instances::components::ComponentInstanceSection;
+pub use instances::{ComponentInstanceSection, InstanceSection};
 pub use modules::ModuleSection;
 pub use start::ComponentStartSection;

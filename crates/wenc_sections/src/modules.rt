@@ -1,11 +1,14 @@
-ghost use Rattle.std.specs.Prelude.{◌≡◌};
-
 use std::alloc::{Allocator, Global};
-use wenc_base::{Encode, Fault, Module};
+use wenc_base::{Delimited, Encode, Fault, Module};
 use wenc_parts::{ComponentSection, ComponentSectionId};
 
 /// A section that is a core module (component model, binary format, "Component Definitions"). It is refused where
-/// that has more than 4294967295 bytes (`TooLarge`).
+/// that has too many bytes (`TooLarge`).
+///
+/// ```
+/// let module = Module::new(alloc)?;
+/// component.section(&ModuleSection(&module))?;
+/// ```
 #[derive(Clone, Copy)]
 pub struct ModuleSection<'a, A: Allocator = Global>(pub &'a Module<A>);
 
@@ -22,8 +25,34 @@ impl<'a, A: Allocator> Encode for ModuleSection<'a, A> {
     }
 }
 
+impl<'a, A: Allocator> Delimited for ModuleSection<'a, A> {
+    ghost use Rattle.std.specs.Prelude.{refl, List, ℕ};
+    ghost use Rattle.wenc_base.specs.Forms.{byte_list};
+    ghost use Rattle.wenc_base.specs.laws.Delimited.{byte_list_free};
+    ghost use Rattle.wenc_base.specs.laws.Forms.{read_byte_list, byte_list_lawful};
+
+    ghost Seen = { List ℕ };
+
+    ghost seen = { λ s. s.0.now };
+
+    ghost form = { byte_list };
+
+    fn belongs(&self) {
+        self.0.as_slice().belongs();
+    }
+
+    ghost readable = { ((λ fuel. read_byte_list), byte_list_lawful) };
+
+    ghost text_of = { λ s. refl };
+
+    ghost free = { λ s. byte_list_free s.0.now };
+}
+
 impl<'a, A: Allocator> ComponentSection for ModuleSection<'a, A> {
-    ghost section_id = { λ _. 1 };
+    ghost use Rattle.wenc_parts.specs.SectionIds.{section_number};
+    ghost use Rattle.wenc_parts.specs.declared.component.ComponentSectionId.{ComponentSectionId};
+
+    ghost section_id = { λ _. section_number ComponentSectionId.CoreModule };
 
     fn id(&self) -> u8 {
         u8::from(ComponentSectionId::CoreModule)

@@ -2,28 +2,37 @@ ghost use Rattle.std.specs.Prelude.{◌≡◌};
 
 use std::alloc::Allocator;
 use std::convert::AsSlice;
-use wenc_base::{Encode, Fault, WithSize};
+use wenc_base::{Delimited, Encode, Fault, WithSize};
 use wenc_parts::{ComponentSection, ComponentSectionId};
 
 /// The section that has a function called when the component is instantiated (component model, binary format,
-/// "Start Definitions"). It is refused where there are more than 4294967295 arguments (`TooMany`), or more than
-/// 4294967295 bytes behind its size (`TooLarge`).
+/// "Start Definitions"). It is refused where there are too many arguments (`TooMany`), or too many bytes behind
+/// its size (`TooLarge`).
+///
+/// ```
+/// // function 0 is called with value 1, and answers one value
+/// component.section(&ComponentStartSection {
+///     function_index: 0,
+///     args: [1],
+///     results: 1,
+/// })?;
+/// ```
 #[derive(Clone, Copy, Debug)]
 pub struct ComponentStartSection<A> {
-    /// The index of the function, from 0 to 4294967295.
+    /// The index of the function.
     pub function_index: u32,
-    /// The indices of the values that it is called with, each from 0 to 4294967295.
+    /// The indices of the values that it is called with.
     pub args: A,
-    /// How many values it answers, from 0 to 4294967295.
+    /// How many values it answers.
     pub results: u32,
 }
 
 impl<A: AsSlice<u32>> Encode for ComponentStartSection<A> {
-    ghost use Rattle.wenc_sections.specs.Start.{start, start_cause};
+    ghost use Rattle.wenc_sections.specs.Start.{started, start, start_cause};
 
-    ghost text = { λ s. (start (record { function = s.function_index; arguments = A.items s.args; results = s.results })).text };
+    ghost text = { λ s. (start (started s.function_index (A.items s.args) s.results)).text };
 
-    ghost cause = { λ s. start_cause (record { function = s.function_index; arguments = A.items s.args; results = s.results }) };
+    ghost cause = { λ s. start_cause (started s.function_index (A.items s.args) s.results) };
 
     fn encode<B: Allocator>(&self, sink: &mut Vec<u8, B>) -> Result<(), Fault> {
         let content = (self.function_index, (self.args.as_slice(), self.results));
@@ -31,8 +40,37 @@ impl<A: AsSlice<u32>> Encode for ComponentStartSection<A> {
     }
 }
 
+impl<A: AsSlice<u32>> Delimited for ComponentStartSection<A> {
+    ghost use Rattle.std.specs.Prelude.{refl};
+    ghost use Rattle.wenc_sections.specs.Start.{Start, started, start};
+    ghost use Rattle.wenc_sections.specs.laws.Items.{read_start, start_lawful};
+    ghost use Rattle.wenc_sections.specs.laws.Start.{start_free};
+
+    ghost Seen = { Start };
+
+    ghost seen = { λ s. started s.function_index (A.items s.args) s.results };
+
+    ghost form = { start };
+
+    #[tactic(auto, using(crate::specs::laws::Start::start_fits))]
+    fn belongs(&self) {
+        self.function_index.belongs();
+        self.args.as_slice().belongs();
+        self.results.belongs();
+    }
+
+    ghost readable = { ((λ fuel. read_start), start_lawful) };
+
+    ghost text_of = { λ s. refl };
+
+    ghost free = { λ s. start_free (started s.function_index (A.items s.args) s.results) };
+}
+
 impl<A: AsSlice<u32>> ComponentSection for ComponentStartSection<A> {
-    ghost section_id = { λ _. 9 };
+    ghost use Rattle.wenc_parts.specs.SectionIds.{section_number};
+    ghost use Rattle.wenc_parts.specs.declared.component.ComponentSectionId.{ComponentSectionId};
+
+    ghost section_id = { λ _. section_number ComponentSectionId.Start };
 
     fn id(&self) -> u8 {
         u8::from(ComponentSectionId::Start)

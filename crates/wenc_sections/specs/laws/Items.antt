@@ -17,7 +17,7 @@ use Rattle.wenc_sections.specs.Imports.{Import, import_item}
 use Rattle.wenc_sections.specs.Exports.{Export, export_item}
 use Rattle.wenc_base.specs.Forms.{counted}
 use Rattle.wenc_sections.specs.Instances.{Argument, argument, CoreExport, core_export, CoreInstance, CoreInstantiate, CoreExports, core_instance, Given, given, Exported, exported, Instance, Instantiate, Exports, instance}
-use Rattle.wenc_sections.specs.Start.{Start, start}
+use Rattle.wenc_sections.specs.Start.{Start, started, start}
 
 -- ---- imports and exports
 
@@ -61,11 +61,11 @@ core_export_lawful e = then _ (name_lawful e.name) (then _ (core_kind_lawful e.k
 
 abbrev pub read_core_instance : Reader CoreInstance
 read_core_instance = choose (
-    (0x00, read_groups >>= λ m. read_list read_argument >>= λ arguments. give (CoreInstantiate m arguments)) ∷
+    (0x00, read_groups >>= λ module_index. read_list read_argument >>= λ arguments. give (CoreInstantiate module_index arguments)) ∷
     (0x01, read_list read_core_export >>= λ exports. give (CoreExports exports)) ∷ []) nowhere
 
 pub core_instance_lawful : (i : CoreInstance) → Lawful (core_instance i) (λ fuel. read_core_instance) i
-core_instance_lawful (CoreInstantiate m arguments) = row _ _ 0x00 (then _ (u32_lawful m) (last (CoreInstantiate m) (list_lawful argument_lawful arguments)))
+core_instance_lawful (CoreInstantiate module_index arguments) = row _ _ 0x00 (then _ (u32_lawful module_index) (last (CoreInstantiate module_index) (list_lawful argument_lawful arguments)))
 core_instance_lawful (CoreExports exports) = row _ _ 0x01 (last CoreExports (list_lawful core_export_lawful exports))
 
 -- ---- instances of components
@@ -90,11 +90,11 @@ exported_lawful e = then _ (extern_name_lawful e.name) (then _ (export_kind_lawf
 
 abbrev pub read_instance : Reader Instance
 read_instance = choose (
-    (0x00, read_groups >>= λ c. read_list read_given >>= λ arguments. give (Instantiate c arguments)) ∷
+    (0x00, read_groups >>= λ component_index. read_list read_given >>= λ arguments. give (Instantiate component_index arguments)) ∷
     (0x01, read_list read_exported >>= λ exports. give (Exports exports)) ∷ []) nowhere
 
 pub instance_lawful : (i : Instance) → Lawful (instance i) (λ fuel. read_instance) i
-instance_lawful (Instantiate c arguments) = row _ _ 0x00 (then _ (u32_lawful c) (last (Instantiate c) (list_lawful given_lawful arguments)))
+instance_lawful (Instantiate component_index arguments) = row _ _ 0x00 (then _ (u32_lawful component_index) (last (Instantiate component_index) (list_lawful given_lawful arguments)))
 instance_lawful (Exports exports) = row _ _ 0x01 (last Exports (list_lawful exported_lawful exports))
 
 -- ---- sections
@@ -104,9 +104,6 @@ read_counted read = read_sized (done (read_list read))
 
 pub counted_lawful : {A : Type 0} {form : Form A} {read : ℕ → Reader A} → ((v : A) → Lawful (form v) read v) → (vs : List A) → Lawful (counted form vs) (λ fuel. read_counted (read fuel)) vs
 counted_lawful laws vs = sized_lawful (whole_lawful (list_lawful laws vs))
-
-abbrev started : ℕ → List ℕ → ℕ → Start
-started function arguments results = record { function = function; arguments = arguments; results = results }
 
 abbrev pub read_start : Reader Start
 read_start = read_sized (done (read_groups >>= λ function. read_list read_groups >>= λ arguments. read_groups >>= λ results. give (started function arguments results)))

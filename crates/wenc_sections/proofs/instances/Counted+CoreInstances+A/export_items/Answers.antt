@@ -1,0 +1,11 @@
+use Rattle.std.proofs.Common.{[], ◌∷◌, refl, inl, inr}
+use Rattle.wenc_base.specs.laws.Causes.{alone}
+use Rattle.wenc_base.specs.laws.Holders.{adds_list}
+use Rattle.wenc_base.specs.Fault.{text_cause}
+use Rattle.wenc_sections.specs.Instances.{core_export, core_export_view, CoreExports, core_instance_text}
+use Rattle.wenc_sections.proofs.instances.Counted+CoreInstances+A.export_items.Goals as goal
+
+pub returns : goal.returns
+returns g c =
+    rw (← c.self.view_is) (adds_list g.I.Iterator.next_gives c.args.exports core_instance_text _ _ _ (λ v. (core_export v).text) core_export_view _ (λ v. text_cause v.0.now) (0x01 ∷ [])
+    CoreExports (λ cs. refl) (λ v. alone (text_cause v.0.now) _ (λ fault h. elim h [ inl none ↦ none | inr p ↦ p.1 ])) c.add_listed.ensures.added)

@@ -1,0 +1,12 @@
+use Rattle.std.proofs.Common.{◌∷◌, refl}
+use Rattle.wenc_base.specs.laws.Causes.{alone}
+use Rattle.wenc_base.specs.laws.Holders.{adds_list}
+use Rattle.wenc_base.specs.Fault.{text_cause}
+use Rattle.wenc_base.specs.Number.{u32}
+use Rattle.wenc_sections.specs.Instances.{argument, argument_view, CoreInstantiate, core_instance_text}
+use Rattle.wenc_sections.proofs.instances.Counted+CoreInstances+A.instantiate.Goals as goal
+
+pub returns : goal.returns
+returns g c =
+    rw (← c.self.view_is) (adds_list g.I.Iterator.next_gives c.args.args core_instance_text _ _ _ (λ v. (argument v).text) argument_view _ (λ v. text_cause v.0.now) (0x00 ∷ (u32 c.args.module_index).text)
+    (CoreInstantiate c.args.module_index) (λ cs. refl) (λ v. alone (text_cause v.0.now) _ (λ fault h. h)) c.add_listed.ensures.added)

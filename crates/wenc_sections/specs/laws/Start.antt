@@ -1,0 +1,37 @@
+-- A start has no cause exactly where its piece fits.
+use Rattle.std.proofs.Common.{ℕ, ◌^◌, ◌<◌, List, length, map, arith}
+use Rattle.std.proofs.lemmas.List.{map-id}
+use Rattle.wenc_base.specs.Delimited.{NoCause, FreeFits}
+use Rattle.wenc_base.specs.Fault.{text_cause, count_cause, list_cause}
+use Rattle.wenc_base.specs.Forms.{list}
+use Rattle.wenc_base.specs.Number.{u32}
+use Rattle.wenc_base.specs.laws.Causes.{never, no_member}
+use Rattle.wenc_base.specs.laws.Delimited.{pair_cause_free, first_free, second_free, free_text}
+use Rattle.wenc_base.specs.declared.fault.Fault.TheVariants.{Memory, TooMany, TooLarge, Unfinished}
+use Rattle.wenc_sections.specs.Start.{Start, start, start_cause}
+
+text_free : (bytes : List ℕ) → length bytes < 2 ^ 32 → NoCause (text_cause bytes)
+text_free bytes h (Memory e) k = k
+text_free bytes h TooMany k = k
+text_free bytes h TooLarge k = absurd (omega (arith, h, k))
+text_free bytes h Unfinished k = k
+
+count_free : (n : ℕ) → n < 2 ^ 32 → NoCause (count_cause n)
+count_free n h (Memory e) k = k
+count_free n h TooMany k = absurd (omega (arith, h, k))
+count_free n h TooLarge k = k
+count_free n h Unfinished k = k
+
+-- what fits has no cause
+pub start_free : (s : Start) → (start s).Fits → NoCause (start_cause s)
+start_free s h = pair_cause_free _ _ (count_free _ h.1.1.0.0) (text_free _ h.0)
+
+-- numbers have no cause, so that only their number can be one
+listed : (numbers : List ℕ) → NoCause (count_cause (length numbers)) → NoCause (list_cause (λ (n : ℕ). never) numbers)
+listed numbers none = pair_cause_free _ _ none (no_member numbers)
+
+-- where it has no cause it fits, if its numbers are of 32 bits
+pub start_fits : (s : Start) → s.function < 2 ^ 32 → s.results < 2 ^ 32
+    → FreeFits (list_cause (λ (n : ℕ). never)) (map (λ (n : ℕ). n)) (list u32) s.arguments → NoCause (start_cause s) → (start s).Fits
+start_fits s function results arguments none =
+    (free_text _ (second_free _ _ none), (function, ((rw map-id at arguments) (listed s.arguments (first_free _ _ none)), results)))

@@ -1,0 +1,95 @@
+ghost use Rattle.std.specs.Prelude.{◌≡◌, ◌==◌, false, IfOk, IfErr};
+ghost use Rattle.wenc_base.specs.Fault.{IsMemory};
+ghost use Rattle.wenc_base.specs.Holder.{no_members, is_finished, section_text, EncodeCause};
+ghost use Rattle.wenc_parts.specs.SectionIds.{section_number};
+ghost use Rattle.wenc_parts.specs.declared.component.ComponentSectionId.{ComponentSectionId};
+
+use std::alloc::{Allocator, Global};
+use std::marker::{Model, PhantomData};
+use wenc_base::{Encode, Fault, Holder};
+use wenc_parts::{ComponentSection, ComponentSectionId};
+
+/// Which items a counted section has. What adds them stands beside the kind.
+pub trait CountedKind {
+    /// The id of its sections.
+    ghost ID: { ComponentSectionId };
+
+    /// The id of its sections.
+    const ID: ComponentSectionId;
+}
+
+/// A section of items of one kind: how many there are, and their texts. A call that is refused leaves it as it was.
+#[derive(Drop)]
+pub struct Counted<K, A: Allocator = Global> {
+    pub(crate) items: Holder<A>,
+    kind: PhantomData<K>,
+}
+
+impl<K, A: Allocator> Model for Counted<K, A> {
+    ghost use Rattle.wenc_base.specs.Holder.{Held};
+
+    ghost Value = { Held };
+
+    ghost view = { λ s. s.items };
+}
+
+impl<K, A: Allocator> Counted<K, A> {
+    /// No items. It takes no memory.
+    pub fn new(alloc: A) -> Self
+        ensures { result ≡ no_members }
+    {
+        Counted {
+            items: Holder::new(alloc),
+            kind: PhantomData,
+        }
+    }
+
+    /// How many items the section has.
+    pub fn len(&self) -> u32
+        ensures { result ≡ self.now.count }
+    {
+        self.items.len()
+    }
+
+    /// Whether it has none.
+    pub fn is_empty(&self) -> bool
+        ensures { result ≡ (self.now.count == 0) }
+    {
+        self.len() == 0
+    }
+
+    /// The same items once more. It is refused for want of memory alone.
+    pub fn clone(&self) -> Result<Self, Fault>
+    where
+        A: Clone,
+        ensures same { IfOk result (λ s. s ≡ self.now) }
+        ensures refused { IfErr result IsMemory }
+    {
+        let items = self.items.clone()?;
+        Ok(Counted {
+            items,
+            kind: PhantomData,
+        })
+    }
+}
+
+/// A finished section is refused for want of memory alone.
+impl<K, A: Allocator> Encode for Counted<K, A> {
+    ghost text = { λ s. section_text s };
+
+    ghost cause = { λ s. EncodeCause s };
+
+    ghost unfinished = { λ s. is_finished s ≡ false };
+
+    fn encode<B: Allocator>(&self, sink: &mut Vec<u8, B>) -> Result<(), Fault> {
+        self.items.encode_section(sink)
+    }
+}
+
+impl<K: CountedKind, A: Allocator> ComponentSection for Counted<K, A> {
+    ghost section_id = { λ _. section_number K.ID };
+
+    fn id(&self) -> u8 {
+        u8::from(K::ID)
+    }
+}
