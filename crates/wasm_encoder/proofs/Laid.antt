@@ -103,7 +103,7 @@ large_at : (h : Held) (text : List ℕ) (end : ℕ) (kind : Option Kind) (earlie
     → SectionIsLarge (buffered_content (buffer_view (lengthened h text) end kind earlier)).current → 2 ^ 32 ≤ content_size h.count (length (h.body ++ text))
 large_at h text end kind None None o l f large = let finished = rw o at f in cc
 large_at h text end None None (Some x) o l f large = let none = l.0.2 in cc
-large_at h text end (Some k) None (Some x) o l f large = let places = rw o at l.1 in all_of_it h.count x.before k (take end h.kept) (h.body ++ text) places.1 (rw o at large)
+large_at h text end (Some k) None (Some x) o l f large = let places = rw o at l.1 in all_of_it h.count x.member_start k (take end h.kept) (h.body ++ text) places.1 (rw o at large)
 large_at h text end None (Some e) opening o l f large = absurd l.another
 large_at h text end (Some k) (Some e) opening o l f large =
     let one : h.count ≡ 1 = ap (λ (x : Held). x.count) l.first in

@@ -54,8 +54,8 @@ id_of (Some k) = section_id k
 abbrev pub member_view : List ℕ → Option Kind → ℕ → List ℕ → Option Opening → Buffered
 member_view closed kind count body None = record { settled = record { closed = closed; current = open_view kind count body }; writing = None }
 member_view closed kind count body (Some o) = record {
-  settled = record { closed = closed; current = open_view kind (count - 1) (take o.before body) };
-  writing = Some (record { id = id_of kind; text = drop o.before body });
+  settled = record { closed = closed; current = open_view kind (count - 1) (take o.member_start body) };
+  writing = Some (record { id = id_of kind; text = drop o.member_start body });
 }
 
 -- the section before an item that opens another one
@@ -83,7 +83,7 @@ MembersAreIn (Some k) end h = length h.kept ≡ end + 11
 -- a member that is being written is one of them
 abbrev pub OpeningIsIn : Option Opening → ℕ → ℕ → Type 0
 OpeningIsIn None count size = Unit {0}
-OpeningIsIn (Some o) count size = (o.before ≤ size) × (1 ≤ count)
+OpeningIsIn (Some o) count size = (o.member_start ≤ size) × (1 ≤ count)
 
 -- the section of an item that is written behind a gap is another one
 abbrev pub KindIsApart : Option Kind → Earlier → Type 0
@@ -92,7 +92,7 @@ KindIsApart (Some k) e = OpensAnother (open_view e.kind e.count []) (section_id 
 
 -- an item behind a gap, and the earlier section before that
 pub record IsApart (h : Held) (kind : Option Kind) (e : Earlier) : Type 0 where
-  pub first : h ≡ record { kept = h.kept; count = 1; body = h.body; opening = Some (record { before = 0; lead = 0 }) }
+  pub first : h ≡ record { kept = h.kept; count = 1; body = h.body; opening = Some (record { member_start = 0; lead_end = 0 }) }
   pub gap : length h.kept ≡ e.settled + 11
   pub section : SectionIsIn e.kind e.end e.settled
   pub another : KindIsApart kind e

@@ -137,6 +137,7 @@ impl<A: Allocator> Buffer<A> {
             }
             Some(earlier) => {
                 let kept = earlier.kept();
+                self.holder.discard_unfinished();
                 self.holder.go_back(kept, earlier.settled, earlier.count);
                 self.end = earlier.end;
                 self.kind = earlier.kind;
