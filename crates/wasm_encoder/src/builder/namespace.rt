@@ -2,8 +2,10 @@ ghost use Rattle.std.specs.Prelude.{◌≡◌, ◌+◌, ◌<◌, ◌^◌, length
 ghost use Rattle.std.specs.Option.{option_copied};
 ghost use Rattle.wenc_base.specs.Number.{number_size};
 ghost use Rattle.wasm_encoder.specs.Builder.{no_names, namespace_with};
-ghost use Rattle.wasm_encoder.specs.Cause.{NamespaceIsMany, NamespaceIsLarge};
-ghost use Rattle.wasm_encoder.specs.Undo.{NamesFit, EnterCause};
+ghost use Rattle.wenc_base.specs.Fault.{IsWarranted};
+ghost use Rattle.wenc_base.specs.declared.fault.Fault.{Fault as FaultSpec};
+ghost use Rattle.wasm_encoder.specs.Cause.{SpaceCause};
+ghost use Rattle.wasm_encoder.specs.Spaces.{NamesFit};
 
 use std::alloc::{Allocator, Global};
 use std::marker::Model;
@@ -23,7 +25,7 @@ pub struct Namespace<A: Allocator = Global> {
 
 impl<A: Allocator> Model for Namespace<A> {
     ghost use Rattle.wasm_encoder.specs.Builder.{Namespace};
-    ghost use Rattle.wasm_encoder.specs.Undo.{NamesFit};
+    ghost use Rattle.wasm_encoder.specs.Spaces.{NamesFit};
 
     ghost Value = { Namespace };
 
@@ -69,12 +71,13 @@ impl<A: Allocator> Namespace<A> {
 
     /// One more item, with this name or none.
     #[tactic(auto, using(wenc_base::proofs::Groups::size_at_most_5))]
-    pub fn enter(&mut self, name: Option<&str>) -> Result<(), Fault>
+    pub fn add(&mut self, name: Option<&str>) -> Result<(), Fault>
         ensures ok { OnOk result (self.new ≡ namespace_with self.old 1 (option_copied name.entry)) }
+        ensures free { OnOk result ((fault : FaultSpec)
+            → SpaceCause (namespace_with self.old 1 (option_copied name.entry)) fault → ⊥) }
         ensures err { OnErr result (self.new ≡ self.old) }
-        ensures warranted { IfErr result (EnterCause (namespace_with self.old 1 (option_copied name.entry))) }
-        ensures few { OnOk result (NamespaceIsMany (namespace_with self.old 1 (option_copied name.entry)) → ⊥) }
-        ensures small { OnOk result (NamespaceIsLarge (namespace_with self.old 1 (option_copied name.entry)) → ⊥) }
+        ensures warranted { IfErr result (IsWarranted
+            (SpaceCause (namespace_with self.old 1 (option_copied name.entry)))) }
     {
         let Some(count) = self.count.checked_add(1) else {
             return Err(Fault::TooMany);
