@@ -9,7 +9,7 @@ use Rattle.wasm_encoder.specs.Item.{Item, item_cause, AliasItem, ImportItem, Exp
 use Rattle.wasm_encoder.specs.Sections.{runs}
 use Rattle.wasm_encoder.specs.Space.{kind_space, alias_space, defines, place}
 use Rattle.wasm_encoder.specs.Entry.{Entry, items}
-use Rattle.wasm_encoder.specs.Builder.{OpenSection, Namespace, namespace_at, with_entry, State, Begun}
+use Rattle.wasm_encoder.specs.Builder.{OpenSection, Namespace, namespace_at, with_entry, State}
 use Rattle.wasm_encoder.specs.Holds.{open_of, namespace_of, Holds}
 use Rattle.wasm_encoder.specs.Cause.{AddingCause, EnterCause, EntryCause}
 use Rattle.wasm_encoder.specs.Enters.{Enters}

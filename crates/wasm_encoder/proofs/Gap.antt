@@ -1,6 +1,6 @@
 -- The section whose items stand behind a gap, where the gap is filled.
 use Rattle.std.proofs.Common.{zero, length-take-le, take-append-drop, ◌≡◌, ℕ, suc, ◌+◌, ◌-◌, ◌≤◌, List, [], ◌∷◌, ◌++◌, length, take, drop, refl, arith, append_assoc, length-drop, sym, ap, ◌∙◌}
-use Rattle.wenc_base.specs.Number.{number_size, unsigned_text}
+use Rattle.wenc_base.specs.Number.{number_size}
 use Rattle.wasm_encoder.specs.Builder.{open_text_of}
 use Rattle.wasm_encoder.specs.Layout.{section_head}
 

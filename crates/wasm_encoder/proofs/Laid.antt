@@ -5,7 +5,7 @@ use Rattle.std.proofs.lemmas.Bool.{ne_eqb, eq-eqb}
 use Rattle.std.specs.Result.{OnOk, IfErr}
 use Rattle.wenc_base.specs.Number.{number_size}
 use Rattle.wenc_base.specs.Holder.{Held, is_finished, holding, all_bytes, content_size, AddCause}
-use Rattle.wenc_base.specs.Openings.{opened_with, lengthened, OpensMember, MoreCause}
+use Rattle.wenc_base.specs.Openings.{opened_with, OpensMember, MoreCause}
 use Rattle.wenc_base.specs.declared.holder.openings.Opening.{Opening}
 use Rattle.wenc_base.specs.declared.fault.Fault.{Fault}
 use Rattle.wenc_base.specs.declared.fault.Fault.TheVariants.{Memory, TooMany, TooLarge, Unfinished}

@@ -1,17 +1,17 @@
 -- An item that is begun, written and ended, or given up.
-use Rattle.std.proofs.Common.{◌≡◌, ℕ, ◌<◌, true, false, is_none, List, [], length, Option, Some, None, Result, Ok, Err, refl, sym, ◌∙◌, ap, subst, inr}
+use Rattle.std.proofs.Common.{◌≡◌, ℕ, ◌<◌, true, false, is_none, List, [], length, Option, Some, None, Ok, Err, refl, sym, ◌∙◌, inr}
 use Rattle.wenc_base.specs.Fault.{IsWarranted}
 use Rattle.wenc_base.specs.declared.fault.Fault.{Fault}
 use Rattle.wenc_base.specs.declared.fault.Fault.TheVariants.{Unfinished}
 use Rattle.wenc_base.specs.laws.Causes.{still_warranted}
-use Rattle.wasm_encoder.specs.Builder.{entered, Begun, State, builder_is_finished, namespace_at, content_of, Draft, draft, space_with, begun_with, appended, ended, builder_given_up}
+use Rattle.wasm_encoder.specs.Builder.{entered, State, namespace_at, content_of, Draft, draft, space_with, begun_with, appended, ended, builder_given_up}
 use Rattle.wasm_encoder.specs.Cause.{SectionCause, SpaceCause}
 use Rattle.wasm_encoder.specs.Enters.{Takes}
-use Rattle.wasm_encoder.specs.Layout.{AppendCause, Buffered, buffered_content, buffer_begun}
-use Rattle.wasm_encoder.specs.Spaces.{Spaced, spaces_begun, spaces_given_up}
+use Rattle.wasm_encoder.specs.Layout.{AppendCause, Buffered}
+use Rattle.wasm_encoder.specs.Spaces.{Spaced}
 use Rattle.wasm_encoder.specs.View.{Agree, builder_view}
 use Rattle.wasm_encoder.proofs.Caused.{space_refuses, section_refuses, begun_free, beginning_refuses, text_refuses, whole_free}
-use Rattle.wasm_encoder.proofs.Viewed.{finished_is, not_taking}
+use Rattle.wasm_encoder.proofs.Viewed.{finished_is}
 
 none_of : {A : Type 0} (o : Option A) → (is_none o ≡ false → ⊥) → o ≡ None
 none_of None h = refl

@@ -1,8 +1,8 @@
 -- A builder's state, by those of its buffer and its spaces.
 use Rattle.std.proofs.Common.{◌≡◌, List, ℕ, false, is_none, Option, Some, None, refl, ap, sym, ◌∙◌}
-use Rattle.wasm_encoder.specs.Builder.{Content, State, builder_is_finished, content_of, appended, ended, builder_given_up}
-use Rattle.wasm_encoder.specs.Layout.{Writing, Buffered, buffered_content, buffer_appended, buffer_ended, buffer_given_up}
-use Rattle.wasm_encoder.specs.Spaces.{Taking, Spaced, taken, spaces_ended, spaces_given_up}
+use Rattle.wasm_encoder.specs.Builder.{Content, State, builder_is_finished, content_of, appended, ended}
+use Rattle.wasm_encoder.specs.Layout.{Writing, Buffered, buffered_content, buffer_appended, buffer_ended}
+use Rattle.wasm_encoder.specs.Spaces.{Taking, Spaced, taken, spaces_ended}
 use Rattle.wasm_encoder.specs.View.{Agree, begun_of, builder_view}
 
 -- ---- nothing is begun in both, or in none

@@ -1,5 +1,5 @@
 -- What a builder holds: a list of entries.
-use Rattle.std.specs.Prelude.{◌≡◌, ℕ, List, [], ◌∷◌, ◌++◌, ◌<◌, length, Option, Some, None}
+use Rattle.std.specs.Prelude.{◌≡◌, ℕ, List, [], ◌∷◌, ◌<◌, length, Option, Some, None}
 use Rattle.std.specs.List.{flat_map}
 use Rattle.wasm_encoder.specs.Item.{Item, item}
 use Rattle.wasm_encoder.specs.Sections.{Section, Run, Alone, runs, whole}

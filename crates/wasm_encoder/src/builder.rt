@@ -222,7 +222,7 @@ impl<A: Allocator> ComponentBuilder<A> {
         item: &E,
     ) -> Result<u32, Fault>
         ensures { Takes self.old self.new (ended (begun_with self.old
-                (draft (kind_id kind) (space_number space) (option_copied name.entry) (E.text item.now))))
+            (draft (kind_id kind) (space_number space) (option_copied name.entry) (E.text item.now))))
             result (draft (kind_id kind) (space_number space) (option_copied name.entry) (E.text item.now))
             (E.cause item.now) }
     {
