@@ -26,7 +26,7 @@ use Rattle.wasm_encoder.specs.Layout.{kind_id}
 use Rattle.wasm_encoder.proofs.Caused.{cause_is}
 use Rattle.wasm_encoder.proofs.Step.{holds_step, holds_index, space_within}
 
--- this draft, for want of which nothing else can be the cause, is this entry
+-- This draft is this entry, and what is against its text is what is against the item.
 pub record IsDraftOf (x : Entry) (d : Draft) (cause : Fault → Type 0) : Type 0 where
   pub section : collected x.item ≡ Some d.id
   pub defined : defines x.item ≡ record { space = d.space; number = 1 }

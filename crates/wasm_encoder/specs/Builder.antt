@@ -59,6 +59,9 @@ pub record Namespace : Type 0 where
   pub named : ℕ
   pub names : List ℕ
 
+abbrev pub space_view : ℕ → ℕ → List ℕ → Namespace
+space_view count named names = record { count = count; named = named; names = names }
+
 abbrev pub no_names : Namespace
 no_names = record { count = 0; named = 0; names = [] }
 

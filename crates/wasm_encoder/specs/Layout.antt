@@ -10,8 +10,10 @@ use Rattle.wenc_base.specs.declared.fault.Fault.TheVariants.{TooLarge}
 use Rattle.wenc_parts.specs.declared.component.ComponentSectionId.TheVariants as ids
 use Rattle.wenc_parts.specs.SectionIds.{section_number}
 use Rattle.wenc_sections.specs.Component.{preamble}
-use Rattle.wasm_encoder.specs.Builder.{OpenSection, Sections, entered, open_text}
+use Rattle.wasm_encoder.specs.Space.{space_number}
+use Rattle.wasm_encoder.specs.Builder.{OpenSection, Sections, entered, open_text, Draft, draft}
 use Rattle.wasm_encoder.specs.Cause.{SectionCause}
+use Rattle.wasm_encoder.specs.declared.builder.space.Space.{Space}
 use Rattle.wasm_encoder.specs.declared.builder.kind.Kind.{Kind}
 use Rattle.wasm_encoder.specs.declared.builder.kind.Kind.TheVariants.{Alias, Import, Export}
 use Rattle.wasm_encoder.specs.declared.builder.earlier.Earlier.{Earlier}
@@ -21,6 +23,10 @@ abbrev pub kind_id : Kind → ℕ
 kind_id Alias = section_number ids.Alias
 kind_id Import = section_number ids.Import
 kind_id Export = section_number ids.Export
+
+-- an item of this kind, which takes one place in this space
+abbrev pub draft_of : Kind → Space → Option (List ℕ) → List ℕ → Draft
+draft_of kind space name text = draft (kind_id kind) (space_number space) name text
 
 -- a section's id, the size of what follows the size, and its count
 abbrev pub section_head : ℕ → ℕ → ℕ → List ℕ
@@ -53,12 +59,20 @@ nothing_buffered = record { settled = record { closed = preamble.text; current =
 abbrev pub buffer_begun : Buffered → ℕ → Buffered
 buffer_begun b id = record { settled = b.settled; writing = Some (record { id = id; text = [] }) }
 
+-- the open section, with an item of this id begun in it
+abbrev pub section_begun : Buffered → ℕ → Option OpenSection
+section_begun b id = (buffered_content (buffer_begun b id)).current
+
 abbrev pub writing_longer : Option Writing → List ℕ → Option Writing
 writing_longer None text = None
 writing_longer (Some w) text = Some (record { id = w.id; text = w.text ++ text })
 
 abbrev pub buffer_appended : Buffered → List ℕ → Buffered
 buffer_appended b text = record { settled = b.settled; writing = writing_longer b.writing text }
+
+-- the open section, with more bytes of the item
+abbrev pub section_appended : Buffered → List ℕ → Option OpenSection
+section_appended b text = (buffered_content (buffer_appended b text)).current
 
 abbrev pub buffer_ended : Buffered → Buffered
 buffer_ended b = record { settled = buffered_content b; writing = None }
@@ -152,6 +166,10 @@ kept_before (Some k) closed_len = closed_len + 11
 -- the closed bytes with the earlier section behind them
 abbrev pub closed_with : List ℕ → Earlier → List ℕ
 closed_with kept e = take e.closed_len kept ++ open_text (earlier_view kept e)
+
+-- the kept bytes with that section closed, what stood behind it behind it still
+abbrev pub kept_with : List ℕ → Earlier → List ℕ
+kept_with kept e = closed_with kept e ++ drop e.items_end kept
 
 -- ---- why the buffer refuses
 

@@ -17,16 +17,23 @@ pub record Spaced : Type 0 where
 abbrev pub empty_spaces : Spaced
 empty_spaces = record { settled = replicate 13 no_names; taking = None }
 
--- one more item in a space, with this name or none
+-- a space with one more item, with this name or none
+abbrev pub space_begun : Spaced → ℕ → Option (List ℕ) → Namespace
+space_begun s space name = namespace_with (namespace_at s.settled space) 1 name
+
 abbrev pub spaces_begun : Spaced → ℕ → Option (List ℕ) → Spaced
 spaces_begun s space name = record {
   settled = s.settled;
-  taking = Some (record { space = space; after = namespace_with (namespace_at s.settled space) 1 name });
+  taking = Some (record { space = space; after = space_begun s space name });
 }
 
 abbrev pub taken : List Namespace → Option Taking → List Namespace
 taken spaces None = spaces
 taken spaces (Some t) = slice_set spaces t.space t.after
+
+-- how many items a space has, the one that is being written with them
+abbrev pub count_at : Spaced → ℕ → ℕ
+count_at s space = (namespace_at (taken s.settled s.taking) space).count
 
 abbrev pub spaces_ended : Spaced → Spaced
 spaces_ended s = record { settled = taken s.settled s.taking; taking = None }

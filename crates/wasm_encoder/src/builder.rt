@@ -5,13 +5,12 @@ ghost use Rattle.wenc_base.specs.declared.fault.Fault.{Fault as FaultSpec};
 ghost use Rattle.wenc_parts.specs.Imports.{extern_name_view};
 ghost use Rattle.wenc_parts.specs.Aliases.{alias_view};
 ghost use Rattle.wasm_encoder.specs.Sections.{whole};
-ghost use Rattle.wasm_encoder.specs.Space.{space_number};
 ghost use Rattle.wasm_encoder.specs.Entry.{Entry, items, import_entry, export_entry, alias_entry, alias_export_entry, core_alias_export_entry};
-ghost use Rattle.wasm_encoder.specs.Builder.{builder_is_finished, count_in, draft, begun_with, appended, ended, builder_given_up, content_of};
+ghost use Rattle.wasm_encoder.specs.Builder.{builder_is_finished, count_in, begun_with, appended, ended, builder_given_up, content_of};
 ghost use Rattle.wasm_encoder.specs.Holds.{Holds};
 ghost use Rattle.wasm_encoder.specs.Cause.{SectionCause};
 ghost use Rattle.wasm_encoder.specs.Enters.{Enters, Takes};
-ghost use Rattle.wasm_encoder.specs.Layout.{kind_id, AppendCause};
+ghost use Rattle.wasm_encoder.specs.Layout.{draft_of, AppendCause};
 
 mod buffer;
 mod earlier;
@@ -164,8 +163,8 @@ impl<A: Allocator> ComponentBuilder<A> {
     /// Begins an item, which `give_up` takes back until it is ended. Answers its index.
     fn begin(&mut self, kind: Kind, space: Space, name: Option<&str>) -> Result<u32, Fault>
         ensures { Takes self.old self.new
-            (begun_with self.old (draft (kind_id kind) (space_number space) (option_copied name.entry) []))
-            result (draft (kind_id kind) (space_number space) (option_copied name.entry) []) (λ _. ⊥) }
+            (begun_with self.old (draft_of kind space (option_copied name.entry) []))
+            result (draft_of kind space (option_copied name.entry) []) (λ _. ⊥) }
     {
         if !self.buffer.is_finished() {
             return Err(Fault::Unfinished);
@@ -222,8 +221,8 @@ impl<A: Allocator> ComponentBuilder<A> {
         item: &E,
     ) -> Result<u32, Fault>
         ensures { Takes self.old self.new (ended (begun_with self.old
-            (draft (kind_id kind) (space_number space) (option_copied name.entry) (E.text item.now))))
-            result (draft (kind_id kind) (space_number space) (option_copied name.entry) (E.text item.now))
+            (draft_of kind space (option_copied name.entry) (E.text item.now))))
+            result (draft_of kind space (option_copied name.entry) (E.text item.now))
             (E.cause item.now) }
     {
         let index = match self.begin(kind, space, name) {
@@ -312,7 +311,8 @@ impl<A: Allocator> ComponentBuilder<A> {
         index: u32,
         ty: Option<ComponentTypeRef>,
     ) -> Result<u32, Fault>
-        ensures { Enters self.old self.new result (export_entry (extern_name_view name.entry) kind index ty) }
+        ensures { Enters self.old self.new result
+            (export_entry (extern_name_view name.entry) kind index ty) }
     {
         let export = (name, (kind, (index, ty)));
         let name = export.0.name.as_str();
@@ -321,7 +321,8 @@ impl<A: Allocator> ComponentBuilder<A> {
 
     /// All bytes of the component. It takes no memory, and is refused only while an item is unfinished.
     pub fn finish(self) -> Result<Vec<u8, A>, Fault>
-        ensures held { (es : List Entry) → Holds self es → IfOk result (λ v. v.items ≡ whole (items es)) }
+        ensures held { (es : List Entry) → Holds self es
+            → IfOk result (λ v. v.items ≡ whole (items es)) }
         ensures ok { IsOk result ↔ IsTrue (builder_is_finished self) }
         ensures fault { IfErr result (λ fault. fault ≡ Fault.Unfinished) }
     {

@@ -92,7 +92,8 @@ pub struct Built<A: Allocator = Global> {
 pub fn build<A: Allocator + Copy>(alloc: A, commands: &[Command]) -> Result<Built<A>, Fault>
     // There are entries that the commands and the answers lead to, and the bytes are the component of their items.
     ensures ran { IfOk result (λ b. (es : List Entry)
-        × Ran (map command_view commands.now) b.answers.items es × (b.bytes.items ≡ whole (items es))) }
+        × Ran (map command_view commands.now) b.answers.items es
+        × (b.bytes.items ≡ whole (items es))) }
     ensures refused { IfErr result IsMemory }
 {
     let mut builder = ComponentBuilder::new(alloc)?;

@@ -3,7 +3,7 @@ ghost use Rattle.wenc_base.specs.Fault.{IsMemory, IsWarranted};
 ghost use Rattle.wenc_base.specs.declared.fault.Fault.{Fault as FaultSpec};
 ghost use Rattle.wasm_encoder.specs.Builder.{sections_text};
 ghost use Rattle.wasm_encoder.specs.Cause.{SectionCause};
-ghost use Rattle.wasm_encoder.specs.Layout.{kind_id, OpensAnother, nothing_buffered, buffered_content, buffer_begun, buffer_appended, buffer_ended, buffer_given_up, AppendCause};
+ghost use Rattle.wasm_encoder.specs.Layout.{kind_id, OpensAnother, nothing_buffered, buffer_begun, section_begun, buffer_appended, section_appended, buffer_ended, buffer_given_up, AppendCause};
 
 use super::earlier::Earlier;
 use super::flush::{GAP, close_earlier, section_head};
@@ -67,10 +67,10 @@ impl<A: Allocator> Buffer<A> {
         requires { self.old.writing ≡ None }
         ensures ok { OnOk result (self.new ≡ buffer_begun self.old (kind_id kind)) }
         ensures free { OnOk result ((fault : FaultSpec)
-            → SectionCause (buffered_content (buffer_begun self.old (kind_id kind))).current fault → ⊥) }
+            → SectionCause (section_begun self.old (kind_id kind)) fault → ⊥) }
         ensures err { OnErr result (self.new ≡ self.old) }
         ensures warranted { IfErr result (IsWarranted
-            (SectionCause (buffered_content (buffer_begun self.old (kind_id kind))).current)) }
+            (SectionCause (section_begun self.old (kind_id kind)))) }
     {
         match self.kind {
             Some(open) => {
@@ -108,10 +108,10 @@ impl<A: Allocator> Buffer<A> {
         requires { is_none self.old.writing ≡ false }
         ensures ok { OnOk result (self.new ≡ buffer_appended self.old (E.text value.now)) }
         ensures free { OnOk result ((fault : FaultSpec) → AppendCause (E.cause value.now)
-            (buffered_content (buffer_appended self.old (E.text value.now))).current fault → ⊥) }
+            (section_appended self.old (E.text value.now)) fault → ⊥) }
         ensures err { OnErr result (self.new ≡ self.old) }
         ensures warranted { IfErr result (IsWarranted (AppendCause (E.cause value.now)
-            (buffered_content (buffer_appended self.old (E.text value.now))).current)) }
+            (section_appended self.old (E.text value.now)))) }
     {
         self.holder.append_encoded(value)
     }

@@ -1,7 +1,7 @@
 ghost use Rattle.std.specs.Prelude.{◌≡◌, ◌+◌, ◌<◌, ◌≤◌, ◌^◌, ◌++◌, length, drop};
 ghost use Rattle.wenc_base.specs.Number.{number_size};
 ghost use Rattle.wenc_base.specs.Holder.{with_kept};
-ghost use Rattle.wasm_encoder.specs.Layout.{kind_id, section_head as head_text, SectionIsIn, SectionFits, earlier_view, closed_with};
+ghost use Rattle.wasm_encoder.specs.Layout.{kind_id, section_head as head_text, SectionIsIn, SectionFits, earlier_view, closed_with, kept_with};
 
 use super::earlier::Earlier;
 use super::kind::Kind;
@@ -33,7 +33,7 @@ pub fn close_earlier<A: Allocator>(holder: &mut Holder<A>, earlier: Earlier) -> 
     requires within { earlier.items_end ≤ length holder.old.kept }
     requires section { SectionIsIn earlier.kind earlier.closed_len earlier.items_end }
     requires fits { SectionFits (earlier_view holder.old.kept earlier) }
-    ensures holder { holder.new ≡ with_kept holder.old (closed_with holder.old.kept earlier ++ drop earlier.items_end holder.old.kept) }
+    ensures holder { holder.new ≡ with_kept holder.old (kept_with holder.old.kept earlier) }
     ensures len { result ≡ length (closed_with holder.old.kept earlier) }
 {
     match earlier.kind {

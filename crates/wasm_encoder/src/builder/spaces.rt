@@ -3,9 +3,9 @@ ghost use Rattle.std.specs.Option.{option_copied};
 ghost use Rattle.wenc_base.specs.Fault.{IsMemory, IsWarranted};
 ghost use Rattle.wenc_base.specs.declared.fault.Fault.{Fault as FaultSpec};
 ghost use Rattle.wasm_encoder.specs.Space.{space_number};
-ghost use Rattle.wasm_encoder.specs.Builder.{namespace_with, namespace_at};
+ghost use Rattle.wasm_encoder.specs.Builder.{namespace_at};
 ghost use Rattle.wasm_encoder.specs.Cause.{SpaceCause};
-ghost use Rattle.wasm_encoder.specs.Spaces.{empty_spaces, spaces_begun, spaces_ended, spaces_given_up, taken};
+ghost use Rattle.wasm_encoder.specs.Spaces.{empty_spaces, space_begun, spaces_begun, spaces_ended, spaces_given_up, count_at};
 
 use super::namespace::Namespace;
 use super::space::Space;
@@ -61,7 +61,7 @@ impl<A: Allocator> Spaces<A> {
 
     /// How many items a space has, the one that is being written with them.
     pub fn count(&self, space: Space) -> u32
-        ensures { result ≡ (namespace_at (taken self.now.settled self.now.taking) (space_number space)).count }
+        ensures { result ≡ count_at self.now (space_number space) }
     {
         self.spaces[space.number()].count()
     }
@@ -69,13 +69,15 @@ impl<A: Allocator> Spaces<A> {
     /// One more item in a space, which may be given up until `end`. Answers its index.
     pub fn begin(&mut self, space: Space, name: Option<&str>) -> Result<u32, Fault>
         requires { self.old.taking ≡ None }
-        ensures index { IfOk result (λ i. i ≡ (namespace_at self.old.settled (space_number space)).count) }
-        ensures ok { OnOk result (self.new ≡ spaces_begun self.old (space_number space) (option_copied name.entry)) }
-        ensures free { OnOk result ((fault : FaultSpec) → SpaceCause (namespace_with
-            (namespace_at self.old.settled (space_number space)) 1 (option_copied name.entry)) fault → ⊥) }
+        ensures index { IfOk result (λ i.
+            i ≡ (namespace_at self.old.settled (space_number space)).count) }
+        ensures ok { OnOk result (self.new
+            ≡ spaces_begun self.old (space_number space) (option_copied name.entry)) }
+        ensures free { OnOk result ((fault : FaultSpec) → SpaceCause
+            (space_begun self.old (space_number space) (option_copied name.entry)) fault → ⊥) }
         ensures err { OnErr result (self.new ≡ self.old) }
-        ensures warranted { IfErr result (IsWarranted (SpaceCause (namespace_with
-            (namespace_at self.old.settled (space_number space)) 1 (option_copied name.entry)))) }
+        ensures warranted { IfErr result (IsWarranted
+            (SpaceCause (space_begun self.old (space_number space) (option_copied name.entry)))) }
         ensures all { length self.old.settled ≡ 13 }
     {
         let space = space.number();
