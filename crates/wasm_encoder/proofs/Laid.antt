@@ -1,18 +1,19 @@
 -- What keeps a buffer's layout.
-use Rattle.std.proofs.Common.{◌≡◌, ℕ, ◌+◌, ◌-◌, ◌<◌, ◌≤◌, ◌^◌, inl, inr, false, List, [], ◌++◌, length, take, drop, Option, Some, None, Result, Ok, Err, refl, arith, length-append, length-drop, length-take-le, take-append-drop, ap, ◌∙◌}
+use Rattle.std.proofs.Common.{◌≡◌, ℕ, ◌+◌, ◌-◌, ◌<◌, ◌≤◌, ◌^◌, inl, inr, false, List, [], ◌++◌, length, take, drop, Option, Some, None, Result, Ok, Err, is_none, refl, arith, append_assoc, length-append, length-drop, length-take-le, take-append-drop, ap, subst, ◌∙◌}
 use Rattle.std.proofs.lemmas.List.{take_at, drop_at}
 use Rattle.std.proofs.lemmas.Bool.{ne_eqb, eq-eqb}
 use Rattle.std.specs.Result.{OnOk, IfErr}
 use Rattle.wenc_base.specs.Number.{number_size}
 use Rattle.wenc_base.specs.Holder.{Held, is_finished, holding, all_bytes, content_size, AddCause}
-use Rattle.wenc_base.specs.Openings.{opened_with, lengthened, OpensMember, MoreCause}
+use Rattle.wenc_base.specs.Openings.{opened_with, OpensMember, MoreCause}
 use Rattle.wenc_base.specs.declared.holder.openings.Opening.{Opening}
 use Rattle.wenc_base.specs.declared.fault.Fault.{Fault}
 use Rattle.wenc_base.specs.declared.fault.Fault.TheVariants.{Memory, TooMany, TooLarge, Unfinished}
 use Rattle.wenc_base.proofs.Groups.{size_1}
-use Rattle.wasm_encoder.specs.Builder.{entered}
-use Rattle.wasm_encoder.specs.Cause.{SectionIsMany, SectionIsLarge}
-use Rattle.wasm_encoder.specs.Layout.{section_id, OpensAnother, Buffered, buffered_content, SectionFits, open_view, buffer_view, kept_before, SectionIsIn, MembersAreIn, OpeningIsIn, EarlierIsIn, IsApart, IsLaidOut}
+use Rattle.wasm_encoder.specs.Builder.{OpenSection, Sections, entered, entered_at}
+use Rattle.wasm_encoder.specs.Cause.{SectionCause}
+use Rattle.wasm_encoder.proofs.Caused.{cause_is}
+use Rattle.wasm_encoder.specs.Layout.{kind_id, OpensAnother, Buffered, buffered_content, buffer_appended, AppendCause, SectionFits, open_view, buffer_view, kept_before, SectionIsIn, MembersAreIn, OpeningIsIn, EarlierIsIn, IsApart, IsLaidOut}
 use Rattle.wasm_encoder.specs.declared.builder.earlier.Earlier.{Earlier}
 use Rattle.wasm_encoder.specs.declared.builder.kind.Kind.{Kind}
 
@@ -29,19 +30,19 @@ opens kept new (Err TooMany) o none = absurd (elim none [ inl own ↦ own | inr 
 opens kept new (Err TooLarge) o none = absurd (elim none [ inl own ↦ own | inr more ↦ elim more [ inl count ↦ omega (arith, count, size_of_one) | inr stopped ↦ cc ] ])
 opens kept new (Err Unfinished) o none = absurd (elim none [ inl own ↦ own | inr more ↦ elim more [ inl count ↦ count | inr stopped ↦ cc ] ])
 
-none_is_written_at : (h : Held) (end : ℕ) (kind : Option Kind) (earlier : Option Earlier) (opening : Option Opening) → h.opening ≡ opening → (buffer_view h end kind earlier).writing ≡ None → (earlier ≡ None) × (h.opening ≡ None)
-none_is_written_at h end kind None None o e = (refl, o)
-none_is_written_at h end kind None (Some x) o e = let written = rw o at e in cc
-none_is_written_at h end kind (Some x) opening o e = cc
+none_is_written_at : (h : Held) (closed_len : ℕ) (kind : Option Kind) (earlier : Option Earlier) (opening : Option Opening) → h.opening ≡ opening → (buffer_view h closed_len kind earlier).writing ≡ None → (earlier ≡ None) × (h.opening ≡ None)
+none_is_written_at h closed_len kind None None o e = (refl, o)
+none_is_written_at h closed_len kind None (Some x) o e = let written = rw o at e in cc
+none_is_written_at h closed_len kind (Some x) opening o e = cc
 
-none_is_written : (h : Held) (end : ℕ) (kind : Option Kind) (earlier : Option Earlier) → (buffer_view h end kind earlier).writing ≡ None → (earlier ≡ None) × (h.opening ≡ None)
-none_is_written h end kind earlier e = none_is_written_at h end kind earlier h.opening refl e
+none_is_written : (h : Held) (closed_len : ℕ) (kind : Option Kind) (earlier : Option Earlier) → (buffer_view h closed_len kind earlier).writing ≡ None → (earlier ≡ None) × (h.opening ≡ None)
+none_is_written h closed_len kind earlier e = none_is_written_at h closed_len kind earlier h.opening refl e
 
 -- the layout, where all that was there is kept and a member is begun behind a gap
-went_apart : (h : Held) (gap : List ℕ) (end : ℕ) (kind : Option Kind) (k : Kind) (count settled : ℕ) → MembersAreIn kind end h → length gap ≡ 11 → count ≡ h.count → content_size h.count (length h.body) < 2 ^ 32
-    → settled ≡ length (all_bytes h) → OpensAnother (open_view kind h.count h.body) (section_id k)
-    → IsApart (opened_with (holding (all_bytes h ++ gap) 0 []) []) (Some k) (record { kind = kind; count = count; end = end; settled = settled })
-went_apart h gap end None k count settled m g c f s d = record {
+went_apart : (h : Held) (gap : List ℕ) (closed_len : ℕ) (kind : Option Kind) (k : Kind) (count items_end : ℕ) → MembersAreIn kind closed_len h → length gap ≡ 11 → count ≡ h.count → content_size h.count (length h.body) < 2 ^ 32
+    → items_end ≡ length (all_bytes h) → OpensAnother (open_view kind h.count h.body) (kind_id k)
+    → IsApart (opened_with (holding (all_bytes h ++ gap) 0 []) []) (Some k) (record { kind = kind; count = count; closed_len = closed_len; items_end = items_end })
+went_apart h gap closed_len None k count items_end m g c f s d = record {
   first = refl;
   gap = omega (arith, s, g, length-append (all_bytes h) gap);
   section = rw (s, m.1) (omega (arith, m.0, length-append h.kept []));
@@ -49,7 +50,7 @@ went_apart h gap end None k count settled m g c f s d = record {
   counted = rw c (omega (arith, f));
   fits = tt;
 }
-went_apart h gap end (Some o) k count settled m g c f s d = record {
+went_apart h gap closed_len (Some o) k count items_end m g c f s d = record {
   first = refl;
   gap = omega (arith, s, g, length-append (all_bytes h) gap);
   section = omega (arith, s, m, length-append h.kept h.body);
@@ -58,70 +59,108 @@ went_apart h gap end (Some o) k count settled m g c f s d = record {
   fits = rw (c, s, take_at (all_bytes h) gap (length (all_bytes h)) refl, ← m, drop_at h.kept h.body (length h.kept) refl) f;
 }
 
-pub begun : (h opened new : Held) (gap : List ℕ) (end : ℕ) (kind : Option Kind) (earlier : Option Earlier) (k : Kind) (count settled : ℕ) (now : Buffered) (outcome : Result (Unit {0}) Fault) → IsLaidOut h end kind earlier
-    → buffer_view h end kind earlier ≡ now → now.writing ≡ None → OpensAnother now.settled.current (section_id k) → length gap ≡ 11 → count ≡ h.count → content_size h.count (length h.body) < 2 ^ 32 → settled ≡ length (all_bytes h)
+pub begun : (h opened new : Held) (gap : List ℕ) (closed_len : ℕ) (kind : Option Kind) (earlier : Option Earlier) (k : Kind) (count items_end : ℕ) (now : Buffered) (outcome : Result (Unit {0}) Fault) → IsLaidOut h closed_len kind earlier
+    → buffer_view h closed_len kind earlier ≡ now → now.writing ≡ None → OpensAnother now.settled.current (kind_id k) → length gap ≡ 11 → count ≡ h.count → content_size h.count (length h.body) < 2 ^ 32 → items_end ≡ length (all_bytes h)
     → opened ≡ holding (all_bytes h ++ gap) 0 [] → OpensMember opened new outcome [] → outcome ≡ Ok tt
-    → IsLaidOut new end (Some k) (Some (record { kind = kind; count = count; end = end; settled = settled }))
-begun h opened new gap end kind earlier k count settled now outcome l view none apart g c f s is o accepted = record { places = rw new_is (went_apart h gap end kind k count settled members.0 g c f s other) }
+    → IsLaidOut new closed_len (Some k) (Some (record { kind = kind; count = count; closed_len = closed_len; items_end = items_end }))
+begun h opened new gap closed_len kind earlier k count items_end now outcome l view none apart g c f s is o accepted = record { places = rw new_is (went_apart h gap closed_len kind k count items_end members.0 g c f s other) }
   where
     idle : (earlier ≡ None) × (h.opening ≡ None)
-    idle = none_is_written h end kind earlier (ap (λ (b : Buffered). b.writing) view ∙ none)
+    idle = none_is_written h closed_len kind earlier (ap (λ (b : Buffered). b.writing) view ∙ none)
 
-    members : MembersAreIn kind end h × OpeningIsIn h.opening h.count (length h.body)
+    members : MembersAreIn kind closed_len h × OpeningIsIn h.opening h.count (length h.body)
     members = (rw idle.0 at l).places
 
-    other : OpensAnother (open_view kind h.count h.body) (section_id k)
+    other : OpensAnother (open_view kind h.count h.body) (kind_id k)
     other = rw (← view, idle.0, idle.1) at apart
 
     new_is : new ≡ opened_with (holding (all_bytes h ++ gap) 0 []) []
     new_is = rw (accepted, is) at o.ok
 
--- ---- why an item behind its neighbours is refused
+-- ---- nothing is against an item that was begun
 
-pub few_after : (outcome : Result (Unit {0}) Fault) (h : Held) (end : ℕ) (kind : Option Kind) (earlier : Option Earlier) (k : Kind) (id : ℕ) (now : Buffered) → buffer_view h end kind earlier ≡ now → now.writing ≡ None
-    → kind ≡ Some k → section_id k ≡ id → OnOk outcome ((fault : Fault) → AddCause h [] (λ _. ⊥) fault → ⊥) → OnOk outcome (SectionIsMany (entered now.settled id []).current → ⊥)
-few_after (Err fault) h end kind earlier k id now view none is same free = tt
-few_after (Ok u) h end kind earlier k id now view none is same free = λ many.
-    let idle = none_is_written h end kind earlier (ap (λ (b : Buffered). b.writing) view ∙ none) in
-    let counted : 2 ^ 32 ≤ h.count + 1 = rw (← view, idle.0, idle.1, is, same, eq-eqb id id refl) at many in
-    free TooMany (inr (inl counted))
+pub neighbour_free : (outcome : Result (Unit {0}) Fault) (h : Held) (closed_len : ℕ) (kind : Option Kind) (earlier : Option Earlier) (k : Kind) (id : ℕ) (now : Buffered) → buffer_view h closed_len kind earlier ≡ now → now.writing ≡ None
+    → kind ≡ Some k → kind_id k ≡ id → OnOk outcome ((fault : Fault) → AddCause h [] (λ _. ⊥) fault → ⊥) → OnOk outcome ((fault : Fault) → SectionCause (entered now.settled id []).current fault → ⊥)
+neighbour_free (Err fault) h closed_len kind earlier k id now view none is same free = tt
+neighbour_free (Ok u) h closed_len kind earlier k id now view none is same free = λ fault c.
+    let idle = none_is_written h closed_len kind earlier (ap (λ (b : Buffered). b.writing) view ∙ none) in
+    let Stands : Fault → Type 0 = λ f. SectionCause (entered now.settled id []).current f in
+    elim (cause_is (entered now.settled id []).current fault c) [
+      | inl e ↦
+          let many : Stands TooMany = subst Stands e c in
+          let counted : 2 ^ 32 ≤ h.count + 1 = rw (← view, idle.0, idle.1, is, same, eq-eqb id id refl) at many in
+          free TooMany (inr (inl counted))
+      | inr e ↦
+          let large : Stands TooLarge = subst Stands e c in
+          let sized : 2 ^ 32 ≤ content_size (h.count + 1) (length (h.body ++ [])) = rw (← view, idle.0, idle.1, is, same, eq-eqb id id refl) at large in
+          free TooLarge (inr (inl sized))
+    ]
+
+one_free : (id : ℕ) (fault : Fault) → SectionCause (Some (record { id = id; count = 1; body = [] })) fault → ⊥
+one_free id (Memory e) h = h
+one_free id TooMany h = omega (arith, h)
+one_free id TooLarge h = omega (arith, h, size_of_one)
+one_free id Unfinished h = h
+
+apart_free_at : (closed : List ℕ) (o : Option OpenSection) (id : ℕ) → OpensAnother o id → (fault : Fault) → SectionCause (entered_at closed o id []).current fault → ⊥
+apart_free_at closed None id d fault c = one_free id fault c
+apart_free_at closed (Some o) id d fault c = one_free id fault (rw (ne_eqb o.id id d) at c)
+
+pub apart_free : (outcome : Result (Unit {0}) Fault) (s : Sections) (id : ℕ) → OpensAnother s.current id → OnOk outcome ((fault : Fault) → SectionCause (entered s id []).current fault → ⊥)
+apart_free (Ok u) s id d = apart_free_at s.closed s.current id d
+apart_free (Err fault) s id d = tt
 
 -- ---- more bytes
 
-all_of_it : (n size : ℕ) (k : Kind) (closed body : List ℕ) → 1 ≤ n → (SectionIsLarge (entered (record { closed = closed; current = Some (record { id = section_id k; count = n - 1; body = take size body }) }) (section_id k) (drop size body)).current)
-    → 2 ^ 32 ≤ content_size n (length body)
-all_of_it n size k closed body some large =
-    let next : n - 1 + 1 ≡ n = omega arith in
-    rw (eq-eqb (section_id k) (section_id k) refl, take-append-drop size body, next) at large
+some_is_written_at : (h : Held) (closed_len : ℕ) (kind : Option Kind) (earlier : Option Earlier) (opening : Option Opening) → h.opening ≡ opening → EarlierIsIn h closed_len kind earlier
+    → is_none (buffer_view h closed_len kind earlier).writing ≡ false → is_finished h ≡ false
+some_is_written_at h closed_len kind None None o l e = let written = rw o at e in cc
+some_is_written_at h closed_len kind None (Some x) o l e = rw o refl
+some_is_written_at h closed_len kind (Some x) opening o l e = rw (ap (λ (x : Held). x.opening) l.first) refl
 
-behind_gap : (ek : Option Kind) (k : Kind) (count : ℕ) (items closed body : List ℕ) → OpensAnother (open_view ek count []) (section_id k) → SectionIsLarge (entered (record { closed = closed; current = open_view ek count items }) (section_id k) body).current
+pub some_is_written : (h : Held) (closed_len : ℕ) (kind : Option Kind) (earlier : Option Earlier) (now : Buffered) → IsLaidOut h closed_len kind earlier → buffer_view h closed_len kind earlier ≡ now
+    → is_none now.writing ≡ false → is_finished h ≡ false
+some_is_written h closed_len kind earlier now l view e = some_is_written_at h closed_len kind earlier h.opening refl l.places (rw (← view) at e)
+
+all_of_it : (n size : ℕ) (k : Kind) (closed body text : List ℕ) → 1 ≤ n
+    → SectionCause (entered (record { closed = closed; current = Some (record { id = kind_id k; count = n - 1; body = take size body }) }) (kind_id k) (drop size body ++ text)).current TooLarge
+    → 2 ^ 32 ≤ content_size n (length (body ++ text))
+all_of_it n size k closed body text some large =
+    let next : n - 1 + 1 ≡ n = omega arith in
+    rw (eq-eqb (kind_id k) (kind_id k) refl, ← append_assoc (take size body) (drop size body) text, take-append-drop size body, next) at large
+
+behind_gap : (ek : Option Kind) (k : Kind) (count : ℕ) (items closed body : List ℕ) → OpensAnother (open_view ek count []) (kind_id k) → SectionCause (entered (record { closed = closed; current = open_view ek count items }) (kind_id k) body).current TooLarge
     → 2 ^ 32 ≤ content_size 1 (length body)
 behind_gap None k count items closed body d large = large
-behind_gap (Some o) k count items closed body d large = rw (ne_eqb (section_id o) (section_id k) d) at large
+behind_gap (Some o) k count items closed body d large = rw (ne_eqb (kind_id o) (kind_id k) d) at large
 
-large_at : (h : Held) (text : List ℕ) (end : ℕ) (kind : Option Kind) (earlier : Option Earlier) (opening : Option Opening) → h.opening ≡ opening → EarlierIsIn h end kind earlier → is_finished h ≡ false
-    → SectionIsLarge (buffered_content (buffer_view (lengthened h text) end kind earlier)).current → 2 ^ 32 ≤ content_size h.count (length (h.body ++ text))
-large_at h text end kind None None o l f large = let finished = rw o at f in cc
-large_at h text end None None (Some x) o l f large = let none = l.0.2 in cc
-large_at h text end (Some k) None (Some x) o l f large = let places = rw o at l.1 in all_of_it h.count x.before k (take end h.kept) (h.body ++ text) places.1 (rw o at large)
-large_at h text end None (Some e) opening o l f large = absurd l.another
-large_at h text end (Some k) (Some e) opening o l f large =
+large_at : (h : Held) (text : List ℕ) (closed_len : ℕ) (kind : Option Kind) (earlier : Option Earlier) (opening : Option Opening) → h.opening ≡ opening → EarlierIsIn h closed_len kind earlier → is_finished h ≡ false
+    → SectionCause (buffered_content (buffer_appended (buffer_view h closed_len kind earlier) text)).current TooLarge → 2 ^ 32 ≤ content_size h.count (length (h.body ++ text))
+large_at h text closed_len kind None None o l f large = let finished = rw o at f in cc
+large_at h text closed_len None None (Some x) o l f large = let none = l.0.2 in cc
+large_at h text closed_len (Some k) None (Some x) o l f large = let places = rw o at l.1 in all_of_it h.count x.member_start k (take closed_len h.kept) h.body text places.1 (rw o at large)
+large_at h text closed_len None (Some e) opening o l f large = absurd l.another
+large_at h text closed_len (Some k) (Some e) opening o l f large =
     let one : h.count ≡ 1 = ap (λ (x : Held). x.count) l.first in
     rw one (behind_gap e.kind k e.count _ _ (h.body ++ text) l.another large)
 
-pub small_after : (outcome : Result (Unit {0}) Fault) (old new : Held) (cause : Fault → Type 0) (text : List ℕ) (end : ℕ) (kind : Option Kind) (earlier : Option Earlier) → IsLaidOut old end kind earlier → is_finished old ≡ false
-    → OnOk outcome (new ≡ lengthened old text) → OnOk outcome ((fault : Fault) → MoreCause old text cause fault → ⊥) → OnOk outcome (SectionIsLarge (buffered_content (buffer_view new end kind earlier)).current → ⊥)
-small_after (Err fault) old new cause text end kind earlier l f is free = tt
-small_after (Ok u) old new cause text end kind earlier l f is free = λ large. free TooLarge (inr (refl, large_at old text end kind earlier old.opening refl l.places f (rw is at large)))
+pub append_free : (outcome : Result (Unit {0}) Fault) (old : Held) (cause : Fault → Type 0) (text : List ℕ) (closed_len : ℕ) (kind : Option Kind) (earlier : Option Earlier) (now : Buffered)
+    → IsLaidOut old closed_len kind earlier → buffer_view old closed_len kind earlier ≡ now → is_none now.writing ≡ false
+    → OnOk outcome ((fault : Fault) → MoreCause old text cause fault → ⊥) → OnOk outcome ((fault : Fault) → AppendCause cause (buffered_content (buffer_appended now text)).current fault → ⊥)
+append_free (Err fault) old cause text closed_len kind earlier now l view w free = tt
+append_free (Ok u) old cause text closed_len kind earlier now l view w free = λ fault c. elim c [
+  | inl own ↦ free fault (inl own)
+  | inr p ↦ free TooLarge (inr (refl, large_at old text closed_len kind earlier old.opening refl l.places (some_is_written old closed_len kind earlier now l view w) (rw (← view) at p.1)))
+]
 
 -- ---- an item is given up
 
-back_fits_at : (ek : Option Kind) (bytes : List ℕ) (count end settled : ℕ) → number_size count < 2 ^ 32 → SectionFits (open_view ek count (drop (end + 11) (take settled bytes))) → SectionIsIn ek end settled → settled ≤ length bytes
-    → content_size count (settled - kept_before ek end) < 2 ^ 32
-back_fits_at None bytes count end settled n f s l = omega (arith, n, s)
-back_fits_at (Some k) bytes count end settled n f s l = omega (arith, f, length-drop (end + 11) (take settled bytes), length-take-le settled bytes l)
+back_fits_at : (ek : Option Kind) (bytes : List ℕ) (count closed_len items_end : ℕ) → number_size count < 2 ^ 32 → SectionFits (open_view ek count (drop (closed_len + 11) (take items_end bytes))) → SectionIsIn ek closed_len items_end → items_end ≤ length bytes
+    → content_size count (items_end - kept_before ek closed_len) < 2 ^ 32
+back_fits_at None bytes count closed_len items_end n f s l = omega (arith, n, s)
+back_fits_at (Some k) bytes count closed_len items_end n f s l = omega (arith, f, length-drop (closed_len + 11) (take items_end bytes), length-take-le items_end bytes l)
 
-pub back_fits : (h : Held) (end : ℕ) (kind : Option Kind) (earlier : Option Earlier) (e : Earlier) → IsLaidOut h end kind earlier → earlier ≡ Some e → content_size e.count (e.settled - kept_before e.kind e.end) < 2 ^ 32
-back_fits h end kind earlier e l is =
+pub back_fits : (h : Held) (closed_len : ℕ) (kind : Option Kind) (earlier : Option Earlier) (e : Earlier) → IsLaidOut h closed_len kind earlier → earlier ≡ Some e → content_size e.count (e.items_end - kept_before e.kind e.closed_len) < 2 ^ 32
+back_fits h closed_len kind earlier e l is =
     let a : IsApart h kind e = (rw is at l).places in
-    back_fits_at e.kind h.kept e.count e.end e.settled a.counted a.fits a.section (omega (arith, a.gap))
+    back_fits_at e.kind h.kept e.count e.closed_len e.items_end a.counted a.fits a.section (omega (arith, a.gap))

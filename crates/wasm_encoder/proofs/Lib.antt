@@ -1,9 +1,11 @@
 pub mod Gap
+pub mod Caused
 pub mod Laid
 pub mod Undone
+pub mod Viewed
 pub mod Runs
 pub mod Step
-pub mod Adds
-pub mod Caused
+pub mod Taken
+pub mod Entered
 pub mod Answered
 pub mod Run

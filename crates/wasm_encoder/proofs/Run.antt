@@ -7,7 +7,9 @@ use Rattle.wasm_encoder.specs.Entry.{Entry}
 use Rattle.wasm_encoder.specs.Builder.{State}
 use Rattle.wasm_encoder.specs.Holds.{Holds}
 use Rattle.wasm_encoder.specs.Command.{CommandTree, entry_of}
-use Rattle.wasm_encoder.specs.Ran.{RanFrom, Ran, Answers}
+use Rattle.wasm_encoder.specs.Enters.{Enters}
+use Rattle.wasm_encoder.specs.Ran.{RanFrom, Ran}
+use Rattle.wasm_encoder.proofs.Answered.{answered}
 
 -- The answers so far led from nothing to entries that the builder holds: what is run from there is run from nothing.
 pub record RanSo (commands left : List CommandTree) (answers : List (Result (Option ℕ) Fault)) (s : State) : Type 0 where
@@ -24,16 +26,16 @@ kept (Ok i) = Ok (Some i)
 kept (Err fault) = Err fault
 
 pub ran_more : (commands left : List CommandTree) (c : CommandTree) (answers : List (Result (Option ℕ) Fault)) (result : Result ℕ Fault) (old new : State)
-    → RanSo commands (c ∷ left) answers old → Answers old new result (entry_of c) → RanSo commands left (answers ++ kept result ∷ []) new
+    → RanSo commands (c ∷ left) answers old → Enters old new result (entry_of c) → RanSo commands left (answers ++ kept result ∷ []) new
 ran_more commands left c answers (Ok i) old new r a =
-    let h = a.held r.so_far r.held in
+    let h = answered old new _ (entry_of c) r.so_far a r.held in
     record {
       so_far = r.so_far ++ entry_of c ∷ [];
       held = h.0;
-      goes_on = λ rest all q. rw (append_assoc answers (Ok (Some i) ∷ []) rest) (r.goes_on (Ok (Some i) ∷ rest) all ((rw h.1 refl, h.2, h.3), q));
+      goes_on = λ rest all q. rw (append_assoc answers (Ok (Some i) ∷ []) rest) (r.goes_on (Ok (Some i) ∷ rest) all ((rw h.1 refl, h.2), q));
     }
 ran_more commands left c answers (Err fault) old new r a =
-    let h = a.held r.so_far r.held in
+    let h = answered old new _ (entry_of c) r.so_far a r.held in
     record {
       so_far = r.so_far;
       held = h.0;

@@ -5,25 +5,23 @@ use Rattle.std.proofs.lemmas.List.{append_cancel_right}
 use Rattle.std.specs.List.{flat_map}
 use Rattle.wenc_base.specs.Number.{unsigned_text}
 use Rattle.wasm_encoder.specs.Item.{Item, collected, item}
-use Rattle.wasm_encoder.specs.Sections.{Section, Run, Alone, joined, runs, section, sections, preamble}
-use Rattle.wasm_encoder.specs.Builder.{Sections, sections_text, section_size, section_text, open_text, with_item, with_item_at}
+use Rattle.wasm_encoder.specs.Sections.{Section, Run, Alone, joined, runs, section_piece, sections, preamble}
+use Rattle.wasm_encoder.specs.Builder.{Sections, sections_text, open_text, open_text_of, with_item, with_item_at}
 use Rattle.wasm_encoder.specs.Holds.{open_of, SectionsHold}
 
 abbrev item_text : Item → List ℕ
 item_text x = (item x).text
 
 -- a section's text, by its count and its items' bytes
+abbrev run_text : ℕ → ℕ → List ℕ → List ℕ
+run_text id count body = open_text_of (record { id = id; count = count; body = body })
+
 abbrev piece_text : Section → List ℕ
-piece_text (Run id xs) = section_text id (length xs) (flat_map item_text xs)
+piece_text (Run id xs) = run_text id (length xs) (flat_map item_text xs)
 piece_text (Alone x) = item_text x
 
-regrouped : (size count body : List ℕ) → size ++ (count ++ body) ≡ (size ++ count) ++ body
-regrouped size count body = sym (append_assoc size count body)
-
-same_text : (s : Section) → (section s).text ≡ piece_text s
-same_text (Run id xs) =
-    rw (length-append (unsigned_text (length xs)) (flat_map item_text xs))
-    (ap (λ (bytes : List ℕ). id ∷ bytes) (regrouped (unsigned_text (section_size (length xs) (flat_map item_text xs))) (unsigned_text (length xs)) (flat_map item_text xs)))
+same_text : (s : Section) → (section_piece s).text ≡ piece_text s
+same_text (Run id xs) = rw (length-append (unsigned_text (length xs)) (flat_map item_text xs)) refl
 same_text (Alone x) = refl
 
 same_texts : (ss : List Section) → (sections ss).text ≡ flat_map piece_text ss
@@ -119,20 +117,20 @@ one_open id x = rw (append-nil (item_text x)) refl
 hold_one : (o : Option ℕ) (front closed : List ℕ) (p : Section) (x : Item) → closed ++ open_text (open_of (p ∷ [])) ≡ front ++ texts (p ∷ [])
     → Hold front (with_item_at o (record { closed = closed; current = open_of (p ∷ []) }) (item_text x)) (pushed o (p ∷ []) x)
 hold_one None front closed (Alone y) x h = record { bytes = behind (closed ++ []) front (item_text y) (item_text x) h; last = refl }
-hold_one None front closed (Run l ys) x h = record { bytes = behind (closed ++ section_text l (length ys) (flat_map item_text ys)) front (section_text l (length ys) (flat_map item_text ys)) (item_text x) h; last = refl }
+hold_one None front closed (Run l ys) x h = record { bytes = behind (closed ++ run_text l (length ys) (flat_map item_text ys)) front (run_text l (length ys) (flat_map item_text ys)) (item_text x) h; last = refl }
 hold_one (Some id) front closed (Alone y) x h =
-    record { bytes = rw (append-nil (item_text x)) (new_behind closed front (item_text y) (section_text id 1 (item_text x)) (sym (append-nil closed) ∙ h)); last = one_open id x }
+    record { bytes = rw (append-nil (item_text x)) (new_behind closed front (item_text y) (run_text id 1 (item_text x)) (sym (append-nil closed) ∙ h)); last = one_open id x }
 hold_one (Some id) front closed (Run l ys) x h =
     elim (eqb_tells l id) [
       | inl t ↦
-          let e : closed ≡ front = same_front closed front (section_text l (length ys) (flat_map item_text ys)) h in
+          let e : closed ≡ front = same_front closed front (run_text l (length ys) (flat_map item_text ys)) h in
           rw t.0 (record {
-            bytes = rw (flat_push ys x, count_push ys x, e) (ap (λ (r : List ℕ). front ++ r) (sym (append-nil (section_text l (length ys + 1) (flat_map item_text ys ++ item_text x)))));
+            bytes = rw (flat_push ys x, count_push ys x, e) (ap (λ (r : List ℕ). front ++ r) (sym (append-nil (run_text l (length ys + 1) (flat_map item_text ys ++ item_text x)))));
             last = rw (flat_push ys x, count_push ys x) refl;
           })
       | inr t ↦
           rw t.0 (record {
-            bytes = rw (append-nil (item_text x)) (new_behind (closed ++ section_text l (length ys) (flat_map item_text ys)) front (section_text l (length ys) (flat_map item_text ys)) (section_text id 1 (item_text x)) h);
+            bytes = rw (append-nil (item_text x)) (new_behind (closed ++ run_text l (length ys) (flat_map item_text ys)) front (run_text l (length ys) (flat_map item_text ys)) (run_text id 1 (item_text x)) h);
             last = one_open id x;
           })
     ]
@@ -142,7 +140,7 @@ pub hold_more : (o : Option ℕ) (front closed : List ℕ) (ps : List Section) (
 hold_more None front closed [] x h = record { bytes = rw h (simp (append_assoc, append-nil)); last = refl }
 hold_more (Some id) front closed [] x h =
     let e : closed ≡ front = sym (append-nil closed) ∙ h ∙ append-nil front in
-    record { bytes = rw (append-nil (item_text x), e) (ap (λ (r : List ℕ). front ++ r) (sym (append-nil (section_text id 1 (item_text x))))); last = one_open id x }
+    record { bytes = rw (append-nil (item_text x), e) (ap (λ (r : List ℕ). front ++ r) (sym (append-nil (run_text id 1 (item_text x))))); last = one_open id x }
 hold_more o front closed (p ∷ []) x h = hold_one o front closed p x h
 hold_more o front closed (p ∷ q ∷ ps) x h =
     let r = hold_more o (front ++ piece_text p) closed (q ∷ ps) x (h ∙ sym (append_assoc front (piece_text p) (texts (q ∷ ps)))) in

@@ -9,7 +9,7 @@ use Rattle.wasm_encoder.specs.Space.{space_number, defines, defined_in, place}
 use Rattle.wasm_encoder.specs.declared.builder.space.Space.{Space}
 use Rattle.wasm_encoder.specs.declared.builder.space.Space.TheVariants.{CoreModules, CoreFuncs, CoreTypes, CoreMemories, CoreTables, CoreInstances, CoreTags, CoreGlobals, Funcs, Instances, Values, Components, Types}
 use Rattle.wasm_encoder.specs.Entry.{Entry, items, Named, named, named_at, names_from, names, names_text}
-use Rattle.wasm_encoder.specs.Builder.{Namespace, no_names, namespace_at, namespace_with, Writing, Taking, State, step, settled_in, Agree}
+use Rattle.wasm_encoder.specs.Builder.{Namespace, no_names, namespace_at, namespace_with, State, step, settled_in}
 use Rattle.wasm_encoder.specs.Holds.{namespace_of, SpacesHold, Holds}
 use Rattle.wasm_encoder.proofs.Runs.{sections_hold_more}
 
@@ -61,7 +61,6 @@ spaces_hold_more spaces es x h = record {
 pub holds_step : (s : State) (es : List Entry) (x : Entry) → Holds s es → Holds (step s x) (es ++ x ∷ [])
 holds_step s es x h = record {
   finished = refl;
-  idle = refl;
   sections = rw (items_push es x) (sections_hold_more s.settled.sections (items es) x.item h.sections);
   spaces = spaces_hold_more s.settled.spaces es x h.spaces;
 }
@@ -77,15 +76,9 @@ none_of_many (suc n) (suc k) = none_of_many n k
 pub holds_nothing : Holds (settled_in (record { sections = record { closed = preamble.text; current = None }; spaces = replicate 13 no_names })) []
 holds_nothing = record {
   finished = refl;
-  idle = refl;
   sections = record { bytes = refl; last = refl };
   spaces = record { all = refl; each = λ k l. none_of_many 13 k };
 }
-
-pub no_taking : (w : Option Writing) (t : Option Taking) → Agree w t → w ≡ None → t ≡ None
-no_taking None None a e = refl
-no_taking None (Some t) a e = absurd a
-no_taking (Some w) t a e = cc
 
 pub space_within : (s : Space) → space_number s < 13
 space_within CoreModules = lit< tt

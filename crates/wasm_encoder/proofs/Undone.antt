@@ -1,10 +1,10 @@
--- An item that entered a space can be taken back.
+-- An item that took a place in a space can be given up.
 use Rattle.std.proofs.Common.{◌≡◌, ℕ, ◌<◌, List, length, set, get_or, Option, Some, None, refl, arith, sym, ◌∙◌, ap, subst}
 use Rattle.std.proofs.lemmas.List.{take_at, take_all, get_or-set_same, get_or_default, set-set, set-get_or, length-set}
 use Rattle.wasm_encoder.specs.Entry.{named}
-use Rattle.wasm_encoder.specs.Builder.{Namespace, no_names, namespace_at, namespace_with, taken}
-use Rattle.wasm_encoder.specs.Undo.{NamesFit, Spaced, before, spaced_view, CanUndo}
-use Rattle.wasm_encoder.specs.declared.builder.undo.Undo.{Undo}
+use Rattle.wasm_encoder.specs.Builder.{Namespace, no_names, namespace_at, namespace_with}
+use Rattle.wasm_encoder.specs.Spaces.{NamesFit, Spaced, spaces_begun, taken, before, spaced_view, CanUndo}
+use Rattle.wasm_encoder.specs.declared.builder.spaces.Undo.{Undo}
 
 -- what a space was is what the names up to its length say
 abbrev undo_at : ℕ → Namespace → Undo
@@ -34,22 +34,22 @@ thirteen : (spaces : List Namespace) (undo : Option Undo) → CanUndo spaces und
 thirteen spaces None h = h
 thirteen spaces (Some u) h = h.0
 
-pub entered_view : (spaces : List Namespace) (undo : Option Undo) (now : Spaced) (i : ℕ) (one new : Namespace) (count names len : ℕ) (name : Option (List ℕ))
+pub begun_view : (spaces : List Namespace) (undo : Option Undo) (now : Spaced) (i : ℕ) (one new : Namespace) (count names len : ℕ) (name : Option (List ℕ))
     → i < 13 → CanUndo spaces undo → spaced_view spaces undo ≡ now → now.taking ≡ None → one ≡ get_or spaces i one → new ≡ namespace_with one 1 name
     → count ≡ one.count → names ≡ one.named → len ≡ length one.names
     → spaced_view (set spaces i new) (Some (record { space = i; count = count; named = names; len = len }))
-    ≡ record { settled = now.settled; taking = Some (record { space = i; after = namespace_with (namespace_at now.settled i) 1 name }) }
-entered_view spaces undo now i one new count names len name h k e t o f c m l =
+    ≡ spaces_begun now i name
+begun_view spaces undo now i one new count names len name h k e t o f c m l =
     let inside : i < length spaces = omega (arith, thirteen spaces undo k) in
     let there : one ≡ namespace_at spaces i = o ∙ get_or_default spaces i one no_names inside in
     let same : spaces ≡ now.settled = settled_is spaces undo now e t in
     rw (c, m, l, kept spaces i one new name inside there f, get_or-set_same spaces i new no_names inside, f, there, same) refl
 
-pub entered_can : (spaces : List Namespace) (undo : Option Undo) (i : ℕ) (one new : Namespace) (count names len : ℕ) (name : Option (List ℕ))
+pub begun_can : (spaces : List Namespace) (undo : Option Undo) (i : ℕ) (one new : Namespace) (count names len : ℕ) (name : Option (List ℕ))
     → i < 13 → CanUndo spaces undo → new ≡ namespace_with one 1 name
     → names ≡ one.named → len ≡ length one.names → NamesFit one
     → CanUndo (set spaces i new) (Some (record { space = i; count = count; named = names; len = len }))
-entered_can spaces undo i one new count names len name h k f m l n =
+begun_can spaces undo i one new count names len name h k f m l n =
     let inside : i < length spaces = omega (arith, thirteen spaces undo k) in
     rw (m, l) (length-set spaces i new ∙ thirteen spaces undo k, h, kept_fits spaces i one new name inside f n)
 

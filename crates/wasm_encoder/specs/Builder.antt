@@ -1,7 +1,6 @@
--- What a builder is seen as: settled content, and while an item is being written, that item.
-use Rattle.std.specs.Prelude.{ℕ, List, [], ◌∷◌, ◌++◌, ◌+◌, length, Option, Some, None, Bool, is_none, nat_eq, if◌then◌else◌, slice_set, slice_index_or}
-use Rattle.wenc_base.specs.Number.{unsigned_text}
-use Rattle.wenc_base.specs.Holder.{content_size}
+-- What a builder is seen as: settled content and, where an item is being written, that item.
+use Rattle.std.specs.Prelude.{ℕ, List, [], ◌∷◌, ◌++◌, ◌+◌, Option, Some, None, Bool, is_none, nat_eq, if◌then◌else◌, slice_set, slice_index_or}
+use Rattle.wenc_base.specs.Holder.{holding, section_text}
 use Rattle.wasm_encoder.specs.Item.{Item, collected, item}
 use Rattle.wasm_encoder.specs.Space.{space_number, defines}
 use Rattle.wasm_encoder.specs.declared.builder.space.Space.{Space}
@@ -15,16 +14,8 @@ pub record OpenSection : Type 0 where
   pub count : ℕ
   pub body : List ℕ
 
--- the number of bytes after a section's size
-abbrev pub section_size : ℕ → List ℕ → ℕ
-section_size count body = content_size count (length body)
-
--- a section's id, the size of what follows the size, and its count
-abbrev pub section_head : ℕ → ℕ → ℕ → List ℕ
-section_head id count size = id ∷ (unsigned_text size ++ unsigned_text count)
-
-abbrev pub section_text : ℕ → ℕ → List ℕ → List ℕ
-section_text id count body = section_head id count (section_size count body) ++ body
+abbrev pub open_text_of : OpenSection → List ℕ
+open_text_of o = o.id ∷ section_text (holding [] o.count o.body)
 
 -- closed bytes, then the open section if there is one
 pub record Sections : Type 0 where
@@ -33,7 +24,7 @@ pub record Sections : Type 0 where
 
 abbrev pub open_text : Option OpenSection → List ℕ
 open_text None = []
-open_text (Some o) = section_text o.id o.count o.body
+open_text (Some o) = open_text_of o
 
 abbrev pub sections_text : Sections → List ℕ
 sections_text s = s.closed ++ open_text s.current
@@ -44,7 +35,7 @@ entered_at closed None id text = record { closed = closed; current = Some (recor
 entered_at closed (Some o) id text =
     if nat_eq o.id id
     then (record { closed = closed; current = Some (record { id = o.id; count = o.count + 1; body = o.body ++ text }) })
-    else (record { closed = closed ++ section_text o.id o.count o.body; current = Some (record { id = id; count = 1; body = text }) })
+    else (record { closed = closed ++ open_text_of o; current = Some (record { id = id; count = 1; body = text }) })
 
 abbrev pub entered : Sections → ℕ → List ℕ → Sections
 entered s id text = entered_at s.closed s.current id text
@@ -67,6 +58,9 @@ pub record Namespace : Type 0 where
   pub count : ℕ
   pub named : ℕ
   pub names : List ℕ
+
+abbrev pub space_view : ℕ → ℕ → List ℕ → Namespace
+space_view count named names = record { count = count; named = named; names = names }
 
 abbrev pub no_names : Namespace
 no_names = record { count = 0; named = 0; names = [] }
@@ -96,27 +90,23 @@ with_entry c e = record {
   spaces = slice_set c.spaces (defines e.item).space (namespace_with (namespace_at c.spaces (defines e.item).space) (defines e.item).number e.name);
 }
 
--- an item that is being written: its section's id, and its text so far
-pub record Writing : Type 0 where
+-- an item that is being written: its section's id, its text so far, its space, and what that is with it
+pub record Begun : Type 0 where
   pub id : ℕ
   pub text : List ℕ
-
--- its space, as it is with that item
-pub record Taking : Type 0 where
   pub space : ℕ
   pub after : Namespace
 
 pub record State : Type 0 where
   pub settled : Content
-  pub writing : Option Writing
-  pub taking : Option Taking
+  pub begun : Option Begun
 
 -- no item is being written
-abbrev pub is_finished : State → Bool
-is_finished s = is_none s.writing
+abbrev pub builder_is_finished : State → Bool
+builder_is_finished s = is_none s.begun
 
 abbrev pub settled_in : Content → State
-settled_in c = record { settled = c; writing = None; taking = None }
+settled_in c = record { settled = c; begun = None }
 
 -- what an accepted call does
 abbrev pub step : State → Entry → State
@@ -124,45 +114,50 @@ step s e = settled_in (with_entry s.settled e)
 
 -- ---- an item that is being written
 
-abbrev pub content_with : Sections → Option Writing → Sections
-content_with s None = s
-content_with s (Some w) = entered s w.id w.text
-
-abbrev pub longer : Option Writing → List ℕ → Option Writing
-longer None text = None
-longer (Some w) text = Some (record { id = w.id; text = w.text ++ text })
-
-abbrev pub taken : List Namespace → Option Taking → List Namespace
-taken spaces None = spaces
-taken spaces (Some t) = slice_set spaces t.space t.after
+abbrev pub content_with : Content → Option Begun → Content
+content_with c None = c
+content_with c (Some b) = record {
+  sections = entered c.sections b.id b.text;
+  spaces = slice_set c.spaces b.space b.after;
+}
 
 -- the content, as it is with that item
 abbrev pub content_of : State → Content
-content_of s = record { sections = content_with s.settled.sections s.writing; spaces = taken s.settled.spaces s.taking }
-
-abbrev pub opened : State → ℕ → ℕ → Option (List ℕ) → State
-opened s id space name = record {
-  settled = s.settled;
-  writing = Some (record { id = id; text = [] });
-  taking = Some (record { space = space; after = namespace_with (namespace_at s.settled.spaces space) 1 name });
-}
-
-abbrev pub written : State → List ℕ → State
-written s text = record { settled = s.settled; writing = longer s.writing text; taking = s.taking }
-
-abbrev pub ended : State → State
-ended s = settled_in (content_of s)
-
-abbrev pub given_up : State → State
-given_up s = settled_in s.settled
-
--- an item is being written in both, or in none
-abbrev pub Agree : Option Writing → Option Taking → Type 0
-Agree None None = Unit {0}
-Agree None (Some t) = ⊥
-Agree (Some w) None = ⊥
-Agree (Some w) (Some t) = Unit {0}
+content_of s = content_with s.settled s.begun
 
 -- how many items a space has, the one that is being written with them
 abbrev pub count_in : State → Space → ℕ
 count_in s space = (namespace_at (content_of s).spaces (space_number space)).count
+
+-- what is to be written: an item of the section with this id, which takes one place in this space
+pub record Draft : Type 0 where
+  pub id : ℕ
+  pub space : ℕ
+  pub name : Option (List ℕ)
+  pub text : List ℕ
+
+abbrev pub draft : ℕ → ℕ → Option (List ℕ) → List ℕ → Draft
+draft id space name text = record { id = id; space = space; name = name; text = text }
+
+-- its space, as it is with it
+abbrev pub space_with : State → Draft → Namespace
+space_with s d = namespace_with (namespace_at s.settled.spaces d.space) 1 d.name
+
+abbrev pub begun_with : State → Draft → State
+begun_with s d = record {
+  settled = s.settled;
+  begun = Some (record { id = d.id; text = d.text; space = d.space; after = space_with s d });
+}
+
+abbrev pub longer : Option Begun → List ℕ → Option Begun
+longer None text = None
+longer (Some b) text = Some (record { id = b.id; text = b.text ++ text; space = b.space; after = b.after })
+
+abbrev pub appended : State → List ℕ → State
+appended s text = record { settled = s.settled; begun = longer s.begun text }
+
+abbrev pub ended : State → State
+ended s = settled_in (content_of s)
+
+abbrev pub builder_given_up : State → State
+builder_given_up s = settled_in s.settled

@@ -4,7 +4,12 @@ use Rattle.std.specs.List.{flat_map}
 use Rattle.wenc_base.specs.Piece.{Form, ◌⨾◌}
 use Rattle.wenc_base.specs.Number.{u32}
 use Rattle.wenc_base.specs.Forms.{name as name_form}
-use Rattle.wasm_encoder.specs.Item.{Item}
+use Rattle.wenc_base.specs.declared.exports.ExportKind.{ExportKind}
+use Rattle.wenc_parts.specs.declared.exports.ComponentExportKind.{ComponentExportKind}
+use Rattle.wenc_parts.specs.declared.imports.ComponentTypeRef.{ComponentTypeRef}
+use Rattle.wenc_parts.specs.Imports.{ExternName}
+use Rattle.wenc_parts.specs.Aliases.{AliasOf, InstanceExport, CoreInstanceExport}
+use Rattle.wasm_encoder.specs.Item.{Item, AliasItem, ImportItem, ExportItem}
 use Rattle.wasm_encoder.specs.Space.{defines, defined_in}
 
 pub record Entry : Type 0 where
@@ -13,6 +18,29 @@ pub record Entry : Type 0 where
 
 abbrev pub entry : Item → Option (List ℕ) → Entry
 entry item name = record { item = item; name = name }
+
+-- ---- the entry of each call
+
+-- an import and an export have the debug name that is their name
+abbrev pub import_entry : ExternName → ComponentTypeRef → Entry
+import_entry name what = entry (ImportItem (record { name = name; what = what })) (Some name.name)
+
+abbrev pub export_entry : ExternName → ComponentExportKind → ℕ → Option ComponentTypeRef → Entry
+export_entry name kind index what =
+    entry (ExportItem (record { name = name; kind = kind; index = index; what = what })) (Some name.name)
+
+abbrev pub alias_entry : Option (List ℕ) → AliasOf → Entry
+alias_entry debug_name to = entry (AliasItem to) debug_name
+
+-- it has the debug name that is the name of the export
+abbrev pub alias_export_entry : ℕ → List ℕ → ComponentExportKind → Entry
+alias_export_entry instance name kind = alias_entry (Some name) (InstanceExport instance kind name)
+
+abbrev pub core_alias_export_entry : Option (List ℕ) → ℕ → List ℕ → ExportKind → Entry
+core_alias_export_entry debug_name instance name kind =
+    alias_entry debug_name (CoreInstanceExport instance kind name)
+
+-- ---- lists of entries
 
 abbrev pub items : List Entry → List Item
 items es = map (λ e. e.item) es

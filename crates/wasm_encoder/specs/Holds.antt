@@ -1,10 +1,9 @@
 -- What a builder holds: a list of entries.
-use Rattle.std.specs.Prelude.{◌≡◌, ℕ, List, [], ◌∷◌, ◌++◌, ◌<◌, length, Option, Some, None, Result, IfOk}
+use Rattle.std.specs.Prelude.{◌≡◌, ℕ, List, [], ◌∷◌, ◌<◌, length, Option, Some, None}
 use Rattle.std.specs.List.{flat_map}
-use Rattle.wenc_base.specs.declared.fault.Fault.{Fault}
 use Rattle.wasm_encoder.specs.Item.{Item, item}
 use Rattle.wasm_encoder.specs.Sections.{Section, Run, Alone, runs, whole}
-use Rattle.wasm_encoder.specs.Space.{defines, place}
+use Rattle.wasm_encoder.specs.Space.{place}
 use Rattle.wasm_encoder.specs.Entry.{Entry, items, names, names_text}
 use Rattle.wasm_encoder.specs.Builder.{OpenSection, Sections, sections_text, Namespace, namespace_at, State}
 
@@ -30,11 +29,6 @@ pub record SpacesHold (spaces : List Namespace) (es : List Entry) : Type 0 where
 -- The bytes are those of the entries' items, the open section is the last one, and each space has what
 -- they define, with their names.
 pub record Holds (s : State) (es : List Entry) : Type 0 where
-  pub finished : s.writing ≡ None
-  pub idle : s.taking ≡ None
+  pub finished : s.begun ≡ None
   pub sections : SectionsHold s.settled.sections (items es)
   pub spaces : SpacesHold s.settled.spaces es
-
--- An accepted call adds this entry to every list that was held, and answers its place.
-pub record Adds (old new : State) (result : Result ℕ Fault) (x : Entry) : Type 0 where
-  pub held : (es : List Entry) → Holds old es → IfOk result (λ i. Holds new (es ++ x ∷ []) × (i ≡ place (items es) (defines x.item).space))

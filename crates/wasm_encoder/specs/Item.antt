@@ -2,32 +2,32 @@
 use Rattle.std.specs.Prelude.{ℕ, Option, Some}
 use Rattle.wenc_base.specs.Piece.{Form}
 use Rattle.wenc_base.specs.declared.fault.Fault.{Fault}
-use Rattle.wenc_parts.specs.declared.exports.ComponentExportKind.{ComponentExportKind}
-use Rattle.wenc_parts.specs.declared.imports.ComponentTypeRef.{ComponentTypeRef}
-use Rattle.wenc_parts.specs.Imports.{ExternName, extern_name_cause}
+use Rattle.wenc_parts.specs.declared.component.ComponentSectionId.TheVariants as ids
+use Rattle.wenc_parts.specs.SectionIds.{section_number}
+use Rattle.wenc_parts.specs.Imports.{extern_name_cause}
 use Rattle.wenc_parts.specs.Aliases.{AliasOf, alias, alias_cause}
-use Rattle.wenc_sections.specs.Imports.{import_item}
-use Rattle.wenc_sections.specs.Exports.{export_item}
+use Rattle.wenc_sections.specs.Imports.{Import, import_item}
+use Rattle.wenc_sections.specs.Exports.{Export, export_item}
 
 pub data Item : Type 0 where
   AliasItem : (to : AliasOf) → Item
-  ImportItem : (name : ExternName) (what : ComponentTypeRef) → Item
-  ExportItem : (name : ExternName) (kind : ComponentExportKind) (number : ℕ) (what : Option ComponentTypeRef) → Item
+  ImportItem : (import : Import) → Item
+  ExportItem : (export : Export) → Item
 
 -- The id of the section that collects items of this kind; None where each item is a section of its own.
 abbrev pub collected : Item → Option ℕ
-collected (AliasItem to) = Some 6
-collected (ImportItem name what) = Some 10
-collected (ExportItem name kind number what) = Some 11
+collected (AliasItem to) = Some (section_number ids.Alias)
+collected (ImportItem import) = Some (section_number ids.Import)
+collected (ExportItem export) = Some (section_number ids.Export)
 
 -- an item as it stands in its section
 abbrev pub item : Form Item
 item (AliasItem to) = alias to
-item (ImportItem name what) = import_item (record { name = name; what = what })
-item (ExportItem name kind number what) = export_item (record { name = name; kind = kind; index = number; what = what })
+item (ImportItem import) = import_item import
+item (ExportItem export) = export_item export
 
 -- why an item can't be encoded, whatever it is added to
 abbrev pub item_cause : Item → Fault → Type 0
 item_cause (AliasItem to) = alias_cause to
-item_cause (ImportItem name what) = extern_name_cause name
-item_cause (ExportItem name kind number what) = extern_name_cause name
+item_cause (ImportItem import) = extern_name_cause import.name
+item_cause (ExportItem export) = extern_name_cause export.name

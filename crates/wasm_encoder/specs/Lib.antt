@@ -5,7 +5,9 @@ pub mod Entry
 pub mod Builder
 pub mod Holds
 pub mod Cause
+pub mod Enters
 pub mod Command
 pub mod Ran
 pub mod Layout
-pub mod Undo
+pub mod Spaces
+pub mod View

@@ -1,20 +1,18 @@
 -- What a run of commands is.
-use Rattle.std.specs.Prelude.{◌≡◌, ℕ, List, [], ◌∷◌, ◌++◌, Result, Ok, Err, Option, Some, MatchResult}
+use Rattle.std.specs.Prelude.{◌≡◌, ℕ, List, [], ◌∷◌, ◌++◌, Result, Ok, Err, Option, Some}
+use Rattle.wenc_base.specs.Fault.{IsWarranted}
 use Rattle.wenc_base.specs.declared.fault.Fault.{Fault}
-use Rattle.wenc_base.specs.declared.fault.Fault.TheVariants.{TooMany, TooLarge}
 use Rattle.wasm_encoder.specs.Space.{defines, place}
 use Rattle.wasm_encoder.specs.Entry.{Entry, items}
-use Rattle.wasm_encoder.specs.Builder.{State}
-use Rattle.wasm_encoder.specs.Holds.{Holds}
 use Rattle.wasm_encoder.specs.Cause.{EntryCause}
 use Rattle.wasm_encoder.specs.Command.{CommandTree, entry_of}
 
 -- After these entries the command may get this answer: the place of its entry if that has no cause, or a fault
--- that the entry has cause for.
+-- that the entry has cause for, or want of memory.
 abbrev pub Answered : List Entry → CommandTree → Result (Option ℕ) Fault → Type 0
 Answered es c (Ok i) =
-    (i ≡ Some (place (items es) (defines (entry_of c).item).space)) × ¬ (EntryCause es (entry_of c) TooMany) × ¬ (EntryCause es (entry_of c) TooLarge)
-Answered es c (Err fault) = EntryCause es (entry_of c) fault
+    (i ≡ Some (place (items es) (defines (entry_of c).item).space)) × ((fault : Fault) → EntryCause es (entry_of c) fault → ⊥)
+Answered es c (Err fault) = IsWarranted (EntryCause es (entry_of c)) fault
 
 -- An accepted command adds its entry, and a refused one nothing.
 abbrev pub entries_after : List Entry → CommandTree → Result (Option ℕ) Fault → List Entry
@@ -31,8 +29,3 @@ RanFrom es (c ∷ cs) (a ∷ answers) all = Answered es c a × RanFrom (entries_
 -- one answer for each command, from no entries on
 abbrev pub Ran : List CommandTree → List (Result (Option ℕ) Fault) → List Entry → Type 0
 Ran commands answers all = RanFrom [] commands answers all
-
--- What one call did whose entry is x, by every list that was held.
-pub record Answers (old new : State) (result : Result ℕ Fault) (x : Entry) : Type 0 where
-  pub held : (es : List Entry) → Holds old es
-      → MatchResult result (λ i. Holds new (es ++ x ∷ []) × (i ≡ place (items es) (defines x.item).space) × ¬ (EntryCause es x TooMany) × ¬ (EntryCause es x TooLarge)) (λ fault. Holds new es × EntryCause es x fault)

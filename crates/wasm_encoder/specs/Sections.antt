@@ -1,8 +1,10 @@
 -- Components: items cut into sections, and the sections' texts (component model, binary format, "Component
 -- Definitions").
 use Rattle.std.specs.Prelude.{◌≡◌, ℕ, ◌∷◌, [], List, Option, Some, None, Bool, ◌||◌, IsTrue, nat_eq, if◌then◌else◌}
-use Rattle.wenc_base.specs.Piece.{Spelling, Whole, Form, ◌▸◌, only_where, all_of, end, ◌⨾⨾◌}
-use Rattle.wenc_base.specs.Forms.{list, sized}
+use Rattle.wenc_base.specs.Piece.{Spelling, Whole, Form, ◌▸◌, only_where, end, ◌⨾⨾◌}
+use Rattle.wenc_base.specs.Forms.{counted}
+use Rattle.wenc_parts.specs.declared.component.ComponentSectionId.TheVariants as ids
+use Rattle.wenc_parts.specs.SectionIds.{section_number}
 pub use Rattle.wenc_sections.specs.Component.{preamble}
 use Rattle.wasm_encoder.specs.Item.{Item, collected, item}
 
@@ -26,21 +28,30 @@ runs (x ∷ xs) = joined (collected x) x (runs xs)
 
 -- ---- texts
 
--- the ids of the sections that collect items; the others are 0 (custom), 1 (core module), 4 (component), 9 (start)
+-- The ids of the sections that collect items. The others are those of custom sections, core modules, components
+-- and starts.
 abbrev pub collects : ℕ → Bool
-collects id = nat_eq id 2 || nat_eq id 3 || nat_eq id 5 || nat_eq id 6 || nat_eq id 7 || nat_eq id 8 || nat_eq id 10 || nat_eq id 11
+collects id =
+    nat_eq id (section_number ids.CoreInstance)
+    || nat_eq id (section_number ids.CoreType)
+    || nat_eq id (section_number ids.Instance)
+    || nat_eq id (section_number ids.Alias)
+    || nat_eq id (section_number ids.«Type»)
+    || nat_eq id (section_number ids.CanonicalFunction)
+    || nat_eq id (section_number ids.Import)
+    || nat_eq id (section_number ids.Export)
 
 -- an item of the kind that the section with this id collects
 abbrev pub item_of : ℕ → Form Item
 item_of id x = only_where (collected x ≡ Some id) (item x)
 
-abbrev pub section : Form Section
-section (Run id xs) = only_where (IsTrue (collects id)) (id ▸ sized (all_of (list (item_of id) xs)))
-section (Alone x) = only_where (collected x ≡ None) (item x)
+abbrev pub section_piece : Form Section
+section_piece (Run id xs) = only_where (IsTrue (collects id)) (id ▸ counted (item_of id) xs)
+section_piece (Alone x) = only_where (collected x ≡ None) (item x)
 
 abbrev pub sections : List Section → Whole
 sections [] = end
-sections (s ∷ ss) = section s ⨾⨾ sections ss
+sections (s ∷ ss) = section_piece s ⨾⨾ sections ss
 
 abbrev pub component : List Section → Whole
 component ss = preamble ⨾⨾ sections ss

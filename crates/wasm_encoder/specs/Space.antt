@@ -65,8 +65,8 @@ one_in s = record { space = space_number s; number = 1 }
 
 abbrev pub defines : Item → Defined
 defines (AliasItem to) = one_in (alias_space to)
-defines (ImportItem name what) = one_in (kind_space (kind_of what))
-defines (ExportItem name kind number what) = one_in (kind_space kind)
+defines (ImportItem import) = one_in (kind_space (kind_of import.what))
+defines (ExportItem export) = one_in (kind_space export.kind)
 
 -- how many an item defines in space k
 abbrev pub defined_in : ℕ → Item → ℕ

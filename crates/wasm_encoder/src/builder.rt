@@ -1,17 +1,16 @@
-ghost use Rattle.std.specs.Prelude.{◌≡◌, ◌<◌, ◌↔◌, [], List, OnOk, OnErr, IfOk, IfErr, IsOk, IsTrue, Some, None, false};
+ghost use Rattle.std.specs.Prelude.{◌≡◌, ◌↔◌, [], List, IfOk, IfErr, OnOk, OnErr, IsOk, IsTrue, None, false};
 ghost use Rattle.std.specs.Option.{option_copied};
-ghost use Rattle.wenc_base.specs.Fault.{IsMemory};
+ghost use Rattle.wenc_base.specs.Fault.{IsMemory, IsWarranted};
 ghost use Rattle.wenc_base.specs.declared.fault.Fault.{Fault as FaultSpec};
 ghost use Rattle.wenc_parts.specs.Imports.{extern_name_view};
-ghost use Rattle.wenc_parts.specs.Aliases.{InstanceExport, CoreInstanceExport, alias_view};
-ghost use Rattle.wasm_encoder.specs.Item.{AliasItem, ImportItem, ExportItem};
+ghost use Rattle.wenc_parts.specs.Aliases.{alias_view};
 ghost use Rattle.wasm_encoder.specs.Sections.{whole};
-ghost use Rattle.wasm_encoder.specs.Space.{space_number};
-ghost use Rattle.wasm_encoder.specs.Entry.{Entry, entry, items};
-ghost use Rattle.wasm_encoder.specs.Builder.{step, namespace_at, opened, written, ended, given_up, longer, content_of, count_in, is_finished};
-ghost use Rattle.wasm_encoder.specs.Holds.{Holds, Adds};
-ghost use Rattle.wasm_encoder.specs.Cause.{CallCause, Refuses, RefusesEntry, NamespaceIsLarge, SectionIsLarge};
-ghost use Rattle.wasm_encoder.specs.Layout.{section_id, AppendCause};
+ghost use Rattle.wasm_encoder.specs.Entry.{Entry, items, import_entry, export_entry, alias_entry, alias_export_entry, core_alias_export_entry};
+ghost use Rattle.wasm_encoder.specs.Builder.{builder_is_finished, count_in, begun_with, appended, ended, builder_given_up, content_of};
+ghost use Rattle.wasm_encoder.specs.Holds.{Holds};
+ghost use Rattle.wasm_encoder.specs.Cause.{SectionCause};
+ghost use Rattle.wasm_encoder.specs.Enters.{Enters, Takes};
+ghost use Rattle.wasm_encoder.specs.Layout.{draft_of, AppendCause};
 
 mod buffer;
 mod earlier;
@@ -20,7 +19,6 @@ mod kind;
 mod namespace;
 mod space;
 mod spaces;
-mod undo;
 
 use buffer::Buffer;
 use kind::Kind;
@@ -32,7 +30,14 @@ use wenc_base::{Encode, ExportKind, Fault};
 use wenc_parts::{Alias, ComponentExportKind, ComponentExternName, ComponentTypeRef};
 
 /// Builds a component call by call: collects neighbours of one kind in one section, and hands out the
-/// index of each item.
+/// index of each item. A refused call changes nothing, and the next one goes on as if it had not been made.
+///
+/// ```
+/// let mut builder = ComponentBuilder::new(alloc)?;
+/// let index = builder.import("f".into(), ComponentTypeRef::Func(0))?;
+/// builder.export("g".into(), ComponentExportKind::Func, index, None)?;
+/// let bytes = builder.finish()?;
+/// ```
 #[derive(Drop)]
 pub struct ComponentBuilder<A: Allocator = Global> {
     buffer: Buffer<A>,
@@ -40,15 +45,12 @@ pub struct ComponentBuilder<A: Allocator = Global> {
 }
 
 impl<A: Allocator> Model for ComponentBuilder<A> {
-    ghost use Rattle.wasm_encoder.specs.Builder.{State, Agree};
+    ghost use Rattle.wasm_encoder.specs.Builder.{State};
+    ghost use Rattle.wasm_encoder.specs.View.{Agree, builder_view};
 
     ghost Value = { State };
 
-    ghost view = { λ b. record {
-      settled = record { sections = b.buffer.settled; spaces = b.spaces.settled };
-      writing = b.buffer.writing;
-      taking = b.spaces.taking;
-    } };
+    ghost view = { λ b. builder_view b.buffer b.spaces };
 
     ghost invariant = { λ b. Agree b.buffer.writing b.spaces.taking };
 }
@@ -159,22 +161,15 @@ impl<A: Allocator> ComponentBuilder<A> {
     }
 
     /// Begins an item, which `give_up` takes back until it is ended. Answers its index.
-    #[tactic(auto, using(crate::proofs::Step::no_taking, crate::proofs::Caused::cause_enter, crate::proofs::Caused::cause_begin, crate::proofs::Caused::few_opened, crate::proofs::Caused::small_opened))]
-    fn open(&mut self, kind: Kind, space: Space, name: Option<&str>) -> Result<u32, Fault>
-        ensures index { IfOk result (λ i. i ≡ (namespace_at self.old.settled.spaces (space_number space)).count) }
-        ensures ok { OnOk result (self.new ≡ opened self.old (section_id kind) (space_number space) (option_copied name.entry)) }
-        ensures err { OnErr result (self.new ≡ self.old) }
-        ensures finished { OnOk result (self.old.writing ≡ None) }
-        ensures idle { OnOk result (self.old.taking ≡ None) }
-        ensures unfinished { is_finished self.old ≡ false → result ≡ Err Fault.Unfinished }
-        ensures warranted { IfErr result (CallCause self.old (λ _. ⊥) (content_of (opened self.old (section_id kind) (space_number space) (option_copied name.entry))) (space_number space)) }
-        ensures few { OnOk result (CallCause self.old (λ _. ⊥) (content_of (opened self.old (section_id kind) (space_number space) (option_copied name.entry))) (space_number space) Fault.TooMany → ⊥) }
-        ensures small { OnOk result (NamespaceIsLarge (namespace_at (content_of (opened self.old (section_id kind) (space_number space) (option_copied name.entry))).spaces (space_number space)) → ⊥) }
+    fn begin(&mut self, kind: Kind, space: Space, name: Option<&str>) -> Result<u32, Fault>
+        ensures { Takes self.old self.new
+            (begun_with self.old (draft_of kind space (option_copied name.entry) []))
+            result (draft_of kind space (option_copied name.entry) []) (λ _. ⊥) }
     {
-        if !self.buffer.is_settled() {
+        if !self.buffer.is_finished() {
             return Err(Fault::Unfinished);
         }
-        match self.spaces.enter(space, name) {
+        match self.spaces.begin(space, name) {
             Err(fault) => Err(fault),
             Ok(index) => {
                 if let Err(fault) = self.buffer.begin(kind) {
@@ -186,35 +181,38 @@ impl<A: Allocator> ComponentBuilder<A> {
         }
     }
 
-    /// Adds the text of a value to the item that is being written.
+    /// Appends the text of a value to the item that is being written.
     fn append<E: Encode>(&mut self, value: &E) -> Result<(), Fault>
-        ensures ok { OnOk result (self.new ≡ written self.old (E.text value.now)) }
+        requires { builder_is_finished self.old ≡ false }
+        ensures ok { OnOk result (self.new ≡ appended self.old (E.text value.now)) }
+        ensures free { OnOk result ((fault : FaultSpec) → AppendCause (E.cause value.now)
+            (content_of (appended self.old (E.text value.now))).sections.current fault → ⊥) }
         ensures err { OnErr result (self.new ≡ self.old) }
-        ensures encodable { (fault : FaultSpec) → E.cause value.now fault → OnOk result ⊥ }
-        ensures warranted { IfErr result (AppendCause (E.cause value.now) (record { settled = self.old.settled.sections; writing = longer self.old.writing (E.text value.now) })) }
-        ensures small { OnOk result (SectionIsLarge (content_of self.new).sections.current → ⊥) }
+        ensures warranted { IfErr result (IsWarranted (AppendCause (E.cause value.now)
+            (content_of (appended self.old (E.text value.now))).sections.current)) }
     {
         self.buffer.append(value)
     }
 
     /// Ends the item that is being written. It takes no memory.
     fn end(&mut self)
+        requires { builder_is_finished self.old ≡ false }
         ensures { self.new ≡ ended self.old }
     {
-        self.buffer.end_item();
+        self.buffer.end();
         self.spaces.end();
     }
 
     /// Gives up the item that is being written. It takes no memory.
     fn give_up(&mut self)
-        ensures { self.new ≡ given_up self.old }
+        requires { builder_is_finished self.old ≡ false }
+        ensures { self.new ≡ builder_given_up self.old }
     {
         self.buffer.give_up();
         self.spaces.give_up();
     }
 
     /// Adds an item in one go, with a debug name or none. Answers its index.
-    #[tactic(auto, using(crate::proofs::Caused::cause_open, crate::proofs::Caused::cause_append, crate::proofs::Caused::accepted, crate::proofs::Caused::refused))]
     fn add<E: Encode>(
         &mut self,
         kind: Kind,
@@ -222,16 +220,12 @@ impl<A: Allocator> ComponentBuilder<A> {
         name: Option<&str>,
         item: &E,
     ) -> Result<u32, Fault>
-        ensures index { IfOk result (λ i. i ≡ (namespace_at self.old.settled.spaces (space_number space)).count) }
-        ensures ok { OnOk result (self.new ≡ ended (written (opened self.old (section_id kind) (space_number space) (option_copied name.entry)) (E.text item.now))) }
-        ensures err { OnErr result (self.new ≡ self.old) }
-        ensures idle { OnOk result (self.old.taking ≡ None) }
-        ensures unfinished { is_finished self.old ≡ false → result ≡ Err Fault.Unfinished }
-        ensures refused { Refuses self.old result (E.cause item.now)
-            (content_of (written (opened self.old (section_id kind) (space_number space) (option_copied name.entry)) (E.text item.now)))
-            (space_number space) }
+        ensures { Takes self.old self.new (ended (begun_with self.old
+            (draft_of kind space (option_copied name.entry) (E.text item.now))))
+            result (draft_of kind space (option_copied name.entry) (E.text item.now))
+            (E.cause item.now) }
     {
-        let index = match self.open(kind, space, name) {
+        let index = match self.begin(kind, space, name) {
             Ok(index) => index,
             Err(fault) => return Err(fault),
         };
@@ -247,8 +241,8 @@ impl<A: Allocator> ComponentBuilder<A> {
         }
     }
 
-    /// Adds an alias of an export of a core instance, with a debug name or none, and answers its index. The
-    /// export's name is of at most 4294967295 bytes (component model, binary format, "Alias Definitions").
+    /// Adds an alias of an export of a core instance, with a debug name or none, and answers its index
+    /// (component model, binary format, "Alias Definitions").
     pub fn core_alias_export(
         &mut self,
         debug_name: Option<&str>,
@@ -256,11 +250,8 @@ impl<A: Allocator> ComponentBuilder<A> {
         name: &str,
         kind: ExportKind,
     ) -> Result<u32, Fault>
-        ensures held { Adds self.old self.new result (entry (AliasItem (CoreInstanceExport instance kind name.now)) (option_copied debug_name.entry)) }
-        ensures state { OnOk result (self.new ≡ step self.old (entry (AliasItem (CoreInstanceExport instance kind name.now)) (option_copied debug_name.entry))) }
-        ensures err { OnErr result (self.new ≡ self.old) }
-        ensures unfinished { is_finished self.old ≡ false → result ≡ Err Fault.Unfinished }
-        ensures refused { RefusesEntry self.old result (entry (AliasItem (CoreInstanceExport instance kind name.now)) (option_copied debug_name.entry)) }
+        ensures { Enters self.old self.new result
+            (core_alias_export_entry (option_copied debug_name.entry) instance name.now kind) }
     {
         let alias = Alias::CoreInstanceExport {
             instance,
@@ -273,28 +264,21 @@ impl<A: Allocator> ComponentBuilder<A> {
     /// Adds an alias, with a debug name or none, and answers its index. It takes a place in the space of
     /// what it stands for (component model, binary format, "Alias Definitions").
     pub fn alias(&mut self, debug_name: Option<&str>, alias: Alias<'_>) -> Result<u32, Fault>
-        ensures held { Adds self.old self.new result (entry (AliasItem (alias_view alias.entry)) (option_copied debug_name.entry)) }
-        ensures state { OnOk result (self.new ≡ step self.old (entry (AliasItem (alias_view alias.entry)) (option_copied debug_name.entry))) }
-        ensures err { OnErr result (self.new ≡ self.old) }
-        ensures unfinished { is_finished self.old ≡ false → result ≡ Err Fault.Unfinished }
-        ensures refused { RefusesEntry self.old result (entry (AliasItem (alias_view alias.entry)) (option_copied debug_name.entry)) }
+        ensures { Enters self.old self.new result
+            (alias_entry (option_copied debug_name.entry) (alias_view alias.entry)) }
     {
         self.add(Kind::Alias, Space::of_alias(&alias), debug_name, &alias)
     }
 
-    /// Adds an alias of an export of a component instance, under the export's name, of at most 4294967295
-    /// bytes, and answers its index (component model, binary format, "Alias Definitions").
+    /// Adds an alias of an export of a component instance, with the export's name as its debug name, and
+    /// answers its index (component model, binary format, "Alias Definitions").
     pub fn alias_export(
         &mut self,
         instance: u32,
         name: &str,
         kind: ComponentExportKind,
     ) -> Result<u32, Fault>
-        ensures held { Adds self.old self.new result (entry (AliasItem (InstanceExport instance kind name.now)) (Some name.now)) }
-        ensures state { OnOk result (self.new ≡ step self.old (entry (AliasItem (InstanceExport instance kind name.now)) (Some name.now))) }
-        ensures err { OnErr result (self.new ≡ self.old) }
-        ensures unfinished { is_finished self.old ≡ false → result ≡ Err Fault.Unfinished }
-        ensures refused { RefusesEntry self.old result (entry (AliasItem (InstanceExport instance kind name.now)) (Some name.now)) }
+        ensures { Enters self.old self.new result (alias_export_entry instance name.now kind) }
     {
         let alias = Alias::InstanceExport {
             instance,
@@ -304,27 +288,22 @@ impl<A: Allocator> ComponentBuilder<A> {
         self.alias(Some(name), alias)
     }
 
-    /// Imports an item under this name, of at most 4294967295 bytes, and answers its index (component
-    /// model, binary format, "Import and Export Definitions").
+    /// Imports an item under this name, and answers its index (component model, binary format, "Import and
+    /// Export Definitions").
     pub fn import<B: Allocator>(
         &mut self,
         name: ComponentExternName<'_, B>,
         ty: ComponentTypeRef,
     ) -> Result<u32, Fault>
-        ensures held { Adds self.old self.new result (entry (ImportItem (extern_name_view name.entry) ty) (Some (extern_name_view name.entry).name)) }
-        ensures state { OnOk result (self.new ≡ step self.old (entry (ImportItem (extern_name_view name.entry) ty) (Some (extern_name_view name.entry).name))) }
-        ensures err { OnErr result (self.new ≡ self.old) }
-        ensures unfinished { is_finished self.old ≡ false → result ≡ Err Fault.Unfinished }
-        ensures refused { RefusesEntry self.old result (entry (ImportItem (extern_name_view name.entry) ty) (Some (extern_name_view name.entry).name)) }
+        ensures { Enters self.old self.new result (import_entry (extern_name_view name.entry) ty) }
     {
         let import = (name, ty);
         let name = import.0.name.as_str();
         self.add(Kind::Import, Space::from(ty.kind()), Some(name), &import)
     }
 
-    /// Exports the item of this kind with this index, from 0 to 4294967295, under this name, of at most
-    /// 4294967295 bytes, with a type or none, and answers the index of the export (component model, binary
-    /// format, "Import and Export Definitions").
+    /// Exports the item of this kind with this index under this name, with a type or none, and answers the
+    /// index of the export (component model, binary format, "Import and Export Definitions").
     pub fn export<B: Allocator>(
         &mut self,
         name: ComponentExternName<'_, B>,
@@ -332,11 +311,8 @@ impl<A: Allocator> ComponentBuilder<A> {
         index: u32,
         ty: Option<ComponentTypeRef>,
     ) -> Result<u32, Fault>
-        ensures held { Adds self.old self.new result (entry (ExportItem (extern_name_view name.entry) kind index ty) (Some (extern_name_view name.entry).name)) }
-        ensures state { OnOk result (self.new ≡ step self.old (entry (ExportItem (extern_name_view name.entry) kind index ty) (Some (extern_name_view name.entry).name))) }
-        ensures err { OnErr result (self.new ≡ self.old) }
-        ensures unfinished { is_finished self.old ≡ false → result ≡ Err Fault.Unfinished }
-        ensures refused { RefusesEntry self.old result (entry (ExportItem (extern_name_view name.entry) kind index ty) (Some (extern_name_view name.entry).name)) }
+        ensures { Enters self.old self.new result
+            (export_entry (extern_name_view name.entry) kind index ty) }
     {
         let export = (name, (kind, (index, ty)));
         let name = export.0.name.as_str();
@@ -345,11 +321,12 @@ impl<A: Allocator> ComponentBuilder<A> {
 
     /// All bytes of the component. It takes no memory, and is refused only while an item is unfinished.
     pub fn finish(self) -> Result<Vec<u8, A>, Fault>
-        ensures held { (es : List Entry) → Holds self es → IfOk result (λ v. v.items ≡ whole (items es)) }
-        ensures ok { IsOk result ↔ IsTrue (is_finished self) }
+        ensures held { (es : List Entry) → Holds self es
+            → IfOk result (λ v. v.items ≡ whole (items es)) }
+        ensures ok { IsOk result ↔ IsTrue (builder_is_finished self) }
         ensures fault { IfErr result (λ fault. fault ≡ Fault.Unfinished) }
     {
-        if !self.buffer.is_settled() {
+        if !self.buffer.is_finished() {
             return Err(Fault::Unfinished);
         }
         let ComponentBuilder { buffer, spaces: _ } = self;

@@ -4,14 +4,22 @@ ghost use Rattle.wenc_base.specs.Fault.{IsMemory};
 ghost use Rattle.wasm_encoder.specs.Sections.{whole};
 ghost use Rattle.wasm_encoder.specs.Entry.{Entry, items};
 ghost use Rattle.wasm_encoder.specs.Command.{command_view, debug_name_view, entry_of};
-ghost use Rattle.wasm_encoder.specs.Ran.{Ran, Answers};
+ghost use Rattle.wasm_encoder.specs.Enters.{Enters};
+ghost use Rattle.wasm_encoder.specs.Ran.{Ran};
 
 use crate::builder::ComponentBuilder;
 use std::alloc::{Allocator, Global};
 use wenc_base::Fault;
 use wenc_parts::{AliasTree, ComponentExportKind, ComponentTypeRef, NameTree};
 
-/// One call of a builder, as data.
+/// One call of a builder, as data. Here the import of a function under the name that `name` holds:
+///
+/// ```
+/// let import = Command::Import {
+///     name: NameTree::from(name),
+///     ty: ComponentTypeRef::Func(0),
+/// };
+/// ```
 #[derive(Drop)]
 pub enum Command {
     /// An alias, with a debug name or none.
@@ -24,7 +32,7 @@ pub enum Command {
         name: NameTree,
         ty: ComponentTypeRef,
     },
-    /// An export of the item of this kind with this index, from 0 to 4294967295, with a type or none.
+    /// An export of the item of this kind with this index, with a type or none.
     Export {
         name: NameTree,
         kind: ComponentExportKind,
@@ -35,9 +43,8 @@ pub enum Command {
 
 impl Command {
     /// Makes the call that this command is.
-    #[tactic(auto, using(crate::proofs::Answered::answered))]
     fn run<A: Allocator>(&self, builder: &mut ComponentBuilder<A>) -> Result<u32, Fault>
-        ensures { Answers builder.old builder.new result (entry_of (command_view self.now)) }
+        ensures { Enters builder.old builder.new result (entry_of (command_view self.now)) }
     {
         match self {
             Command::Alias { n, alias } => builder.alias(debug_name(n), alias.as_alias()),
@@ -73,10 +80,20 @@ pub struct Built<A: Allocator = Global> {
 /// Makes the calls that the commands are, in order, on a new builder, keeps each answer, and finishes. A
 /// refused command adds nothing, and the ones after it run all the same. It is refused only where there is
 /// no memory for the builder or for the answers.
+///
+/// ```
+/// let built = build(alloc, &commands)?;
+/// for answer in &built.answers {
+///     // Ok(Some(index)), or why the command was refused
+/// }
+/// let component = built.bytes;
+/// ```
 #[tactic(auto, using(crate::proofs::Run::ran_none))]
 pub fn build<A: Allocator + Copy>(alloc: A, commands: &[Command]) -> Result<Built<A>, Fault>
     // There are entries that the commands and the answers lead to, and the bytes are the component of their items.
-    ensures ran { IfOk result (λ b. (es : List Entry) × Ran (map command_view commands.now) b.answers.items es × (b.bytes.items ≡ whole (items es))) }
+    ensures ran { IfOk result (λ b. (es : List Entry)
+        × Ran (map command_view commands.now) b.answers.items es
+        × (b.bytes.items ≡ whole (items es))) }
     ensures refused { IfErr result IsMemory }
 {
     let mut builder = ComponentBuilder::new(alloc)?;

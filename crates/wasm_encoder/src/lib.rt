@@ -1,22 +1,26 @@
 //! Writes WebAssembly components in the component model's binary format.
+//!
+//! `ComponentBuilder` collects items call by call and hands out their indices; `build` runs commands, which are
+//! such calls as data; `Component` and the sections write a component by hand. No number that is written is above
+//! 4294967295: an index, how many items a space or a section has, how many bytes a text or a section has.
 #![tactic(auto)]
 
 mod builder;
 pub mod command;
-pub mod examples;
 
 pub use builder::ComponentBuilder;
 pub use command::{Built, Command, build};
 pub use wenc_base::{
-    AbstractHeapType, CustomSection, Delimited, Encode, ExportKind, Fault, HeapType, Holder,
-    Module, ProducersField, ProducersSection, RawCustomSection, RawSection, RefType, Section,
-    SectionId, ValType, encode_list, encoding_size, section_size,
+    AbstractHeapType, CustomSection, Delimited, DelimitedEq, Encode, ExportKind, Fault, HeapType,
+    Holder, Lent, Module, ProducersField, ProducersSection, RawCustomSection, RawSection, RefType,
+    Section, SectionId, Tagged, ValType, Verbatim, WithSize, encode_list, encoding_size,
+    section_size,
 };
 pub use wenc_canon::{CanonicalFunctionSection, CanonicalOption};
 pub use wenc_parts::{
     Alias, AliasTree, ComponentExportKind, ComponentExternName, ComponentOuterAliasKind,
     ComponentSection, ComponentSectionId, ComponentTypeRef, ComponentValType, ModuleArg, NameTree,
-    PrimitiveValType, TypeBounds,
+    PrimitiveValType, ResultList, TypeBounds,
 };
 pub use wenc_sections::{
     Component, ComponentAliasSection, ComponentExportSection, ComponentImportSection,

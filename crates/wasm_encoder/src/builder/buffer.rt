@@ -1,10 +1,9 @@
-ghost use Rattle.std.specs.Prelude.{◌≡◌, [], OnOk, OnErr, IfOk, IfErr, is_none, None, Some};
-ghost use Rattle.wenc_base.specs.Fault.{IsWarranted};
+ghost use Rattle.std.specs.Prelude.{◌≡◌, OnOk, OnErr, IfOk, IfErr, is_none, None, false};
+ghost use Rattle.wenc_base.specs.Fault.{IsMemory, IsWarranted};
 ghost use Rattle.wenc_base.specs.declared.fault.Fault.{Fault as FaultSpec};
-ghost use Rattle.wasm_encoder.specs.Sections.{preamble};
-ghost use Rattle.wasm_encoder.specs.Builder.{sections_text, entered};
-ghost use Rattle.wasm_encoder.specs.Cause.{SectionIsMany, SectionIsLarge};
-ghost use Rattle.wasm_encoder.specs.Layout.{section_id, OpensAnother, buffered_content, appended, BeginCause, AppendCause};
+ghost use Rattle.wasm_encoder.specs.Builder.{sections_text};
+ghost use Rattle.wasm_encoder.specs.Cause.{SectionCause};
+ghost use Rattle.wasm_encoder.specs.Layout.{kind_id, OpensAnother, nothing_buffered, buffer_begun, section_begun, buffer_appended, section_appended, buffer_ended, buffer_given_up, AppendCause};
 
 use super::earlier::Earlier;
 use super::flush::{GAP, close_earlier, section_head};
@@ -19,8 +18,8 @@ use wenc_sections::Component;
 #[derive(Drop)]
 pub struct Buffer<A: Allocator = Global> {
     holder: Holder<A>,
-    /// Where the closed bytes end.
-    end: usize,
+    /// How many bytes are closed.
+    closed_len: usize,
     /// The kind of the members, where there is a section.
     kind: Option<Kind>,
     /// What was there before an item that opens another section, while that is being written.
@@ -34,30 +33,30 @@ impl<A: Allocator> Model for Buffer<A> {
 
     ghost use Rattle.wasm_encoder.specs.Layout.{buffer_view, IsLaidOut};
 
-    ghost view = { λ b. buffer_view b.holder b.end b.kind b.earlier };
+    ghost view = { λ b. buffer_view b.holder b.closed_len b.kind b.earlier };
 
-    ghost invariant = { λ b. IsLaidOut b.holder b.end b.kind b.earlier };
+    ghost invariant = { λ b. IsLaidOut b.holder b.closed_len b.kind b.earlier };
 }
 
 impl<A: Allocator> Buffer<A> {
     /// The header of a component, and no section.
     #[tactic(auto, using(wenc_base::proofs::Groups::size_1))]
     pub fn new(alloc: A) -> Result<Self, Fault>
-        ensures ok { IfOk result (λ b. b ≡ record { settled = record { closed = preamble.text; current = None }; writing = None }) }
-        ensures warranted { IfErr result (IsWarranted (λ _. ⊥)) }
+        ensures ok { IfOk result (λ b. b ≡ nothing_buffered) }
+        ensures refused { IfErr result IsMemory }
     {
         let bytes = Component::new(alloc)?.finish();
-        let end = bytes.len();
+        let closed_len = bytes.len();
         Ok(Buffer {
-            holder: Holder::over(bytes, end, 0),
-            end,
+            holder: Holder::over(bytes, closed_len, 0),
+            closed_len,
             kind: None,
             earlier: None,
         })
     }
 
     /// Whether no item is being written.
-    pub fn is_settled(&self) -> bool
+    pub fn is_finished(&self) -> bool
         ensures { result ≡ is_none self.now.writing }
     {
         self.holder.is_finished()
@@ -66,10 +65,12 @@ impl<A: Allocator> Buffer<A> {
     /// Begins an item of this kind.
     pub fn begin(&mut self, kind: Kind) -> Result<(), Fault>
         requires { self.old.writing ≡ None }
-        ensures ok { OnOk result (self.new ≡ record { settled = self.old.settled; writing = Some (record { id = section_id kind; text = [] }) }) }
+        ensures ok { OnOk result (self.new ≡ buffer_begun self.old (kind_id kind)) }
+        ensures free { OnOk result ((fault : FaultSpec)
+            → SectionCause (section_begun self.old (kind_id kind)) fault → ⊥) }
         ensures err { OnErr result (self.new ≡ self.old) }
-        ensures warranted { IfErr result (BeginCause (entered self.old.settled (section_id kind) []).current) }
-        ensures few { OnOk result (SectionIsMany (entered self.old.settled (section_id kind) []).current → ⊥) }
+        ensures warranted { IfErr result (IsWarranted
+            (SectionCause (section_begun self.old (kind_id kind)))) }
     {
         match self.kind {
             Some(open) => {
@@ -85,63 +86,60 @@ impl<A: Allocator> Buffer<A> {
     /// Begins an item that isn't one of the open section.
     fn begin_apart(&mut self, kind: Kind) -> Result<(), Fault>
         requires settled { self.old.writing ≡ None }
-        requires apart { OpensAnother self.old.settled.current (section_id kind) }
-        ensures ok { OnOk result (self.new ≡ record { settled = self.old.settled; writing = Some (record { id = section_id kind; text = [] }) }) }
+        requires apart { OpensAnother self.old.settled.current (kind_id kind) }
+        ensures ok { OnOk result (self.new ≡ buffer_begun self.old (kind_id kind)) }
         ensures err { OnErr result (self.new ≡ self.old) }
-        ensures warranted { IfErr result (IsWarranted (λ _. ⊥)) }
+        ensures refused { IfErr result IsMemory }
     {
         let count = self.holder.len();
-        let settled = self.holder.keep_all(&[0; GAP])?;
+        let items_end = self.holder.keep_all(&[0; GAP])?;
         self.earlier = Some(Earlier {
             kind: self.kind,
             count,
-            end: self.end,
-            settled,
+            closed_len: self.closed_len,
+            items_end,
         });
         self.kind = Some(kind);
         self.holder.open(&[])
     }
 
-    /// Adds the text of a value to the item that is being written.
+    /// Appends the text of a value to the item that is being written.
     pub fn append<E: Encode>(&mut self, value: &E) -> Result<(), Fault>
-        ensures ok { OnOk result (self.new ≡ appended self.old (E.text value.now)) }
+        requires { is_none self.old.writing ≡ false }
+        ensures ok { OnOk result (self.new ≡ buffer_appended self.old (E.text value.now)) }
+        ensures free { OnOk result ((fault : FaultSpec) → AppendCause (E.cause value.now)
+            (section_appended self.old (E.text value.now)) fault → ⊥) }
         ensures err { OnErr result (self.new ≡ self.old) }
-        ensures encodable { (fault : FaultSpec) → E.cause value.now fault → OnOk result ⊥ }
-        ensures warranted { IfErr result (AppendCause (E.cause value.now) (appended self.old (E.text value.now))) }
-        ensures small { OnOk result (SectionIsLarge (buffered_content self.new).current → ⊥) }
+        ensures warranted { IfErr result (IsWarranted (AppendCause (E.cause value.now)
+            (section_appended self.old (E.text value.now)))) }
     {
-        if self.is_settled() {
-            return Err(Fault::Unfinished);
-        }
         self.holder.append_encoded(value)
     }
 
     /// Ends the item that is being written: it is in its section from now on. It takes no memory.
-    pub fn end_item(&mut self)
-        ensures { self.new ≡ record { settled = buffered_content self.old; writing = None } }
+    pub fn end(&mut self)
+        requires { is_none self.old.writing ≡ false }
+        ensures { self.new ≡ buffer_ended self.old }
     {
         self.holder.finish_member();
         if let Some(earlier) = self.earlier {
-            self.end = close_earlier(&mut self.holder, earlier);
+            self.closed_len = close_earlier(&mut self.holder, earlier);
             self.earlier = None;
         }
     }
 
     /// Gives up the item that is being written. It takes no memory.
     pub fn give_up(&mut self)
-        ensures { self.new ≡ record { settled = self.old.settled; writing = None } }
+        requires { is_none self.old.writing ≡ false }
+        ensures { self.new ≡ buffer_given_up self.old }
     {
-        match self.earlier {
-            None => {
-                self.holder.discard_unfinished();
-            }
-            Some(earlier) => {
-                let kept = earlier.kept();
-                self.holder.go_back(kept, earlier.settled, earlier.count);
-                self.end = earlier.end;
-                self.kind = earlier.kind;
-                self.earlier = None;
-            }
+        self.holder.discard_unfinished();
+        if let Some(earlier) = self.earlier {
+            let kept = earlier.kept();
+            self.holder.go_back(kept, earlier.items_end, earlier.count);
+            self.closed_len = earlier.closed_len;
+            self.kind = earlier.kind;
+            self.earlier = None;
         }
     }
 
@@ -152,13 +150,13 @@ impl<A: Allocator> Buffer<A> {
     {
         let Buffer {
             mut holder,
-            end,
+            closed_len,
             kind,
             earlier: _,
         } = self;
         if let Some(kind) = kind {
             let head = section_head(kind, holder.len(), holder.as_slice().len());
-            holder.fill_kept(end, holder.kept_len(), head.as_slice());
+            holder.fill_kept(closed_len, holder.kept_len(), head.as_slice());
         }
         let (bytes, _, _, _) = holder.into_parts();
         bytes

@@ -1,8 +1,7 @@
 ghost use Rattle.std.specs.Prelude.{◌≡◌, ◌+◌, ◌<◌, ◌≤◌, ◌^◌, ◌++◌, length, drop};
 ghost use Rattle.wenc_base.specs.Number.{number_size};
 ghost use Rattle.wenc_base.specs.Holder.{with_kept};
-ghost use Rattle.wasm_encoder.specs.Builder.{section_head as head_text};
-ghost use Rattle.wasm_encoder.specs.Layout.{section_id, SectionIsIn, SectionFits, earlier_view, closed_with};
+ghost use Rattle.wasm_encoder.specs.Layout.{kind_id, section_head as head_text, SectionIsIn, SectionFits, earlier_view, closed_with, kept_with};
 
 use super::earlier::Earlier;
 use super::kind::Kind;
@@ -17,7 +16,7 @@ pub const GAP: usize = 11;
 #[tactic(auto, using(wenc_base::proofs::Groups::size_at_most_5))]
 pub fn section_head(kind: Kind, count: u32, body: usize) -> Short
     requires { number_size count + body < 2 ^ 32 }
-    ensures { result ≡ head_text (section_id kind) count (number_size count + body) }
+    ensures { result ≡ head_text (kind_id kind) count (number_size count + body) }
 {
     let size = encoding_size(count) + body;
     let mut head = Short::new();
@@ -27,24 +26,24 @@ pub fn section_head(kind: Kind, count: u32, body: usize) -> Short
     head
 }
 
-/// Closes the section before the members, which stay behind a gap. Answers where the closed bytes end. It takes
-/// no memory.
+/// Closes the section before the members, which stay behind a gap. Answers how many bytes are closed. It
+/// takes no memory.
 #[tactic(auto, using(wenc_base::proofs::Groups::size_at_most_5))]
 pub fn close_earlier<A: Allocator>(holder: &mut Holder<A>, earlier: Earlier) -> usize
-    requires settled { earlier.settled ≤ length holder.old.kept }
-    requires section { SectionIsIn earlier.kind earlier.end earlier.settled }
+    requires within { earlier.items_end ≤ length holder.old.kept }
+    requires section { SectionIsIn earlier.kind earlier.closed_len earlier.items_end }
     requires fits { SectionFits (earlier_view holder.old.kept earlier) }
-    ensures members { holder.new ≡ with_kept holder.old (closed_with holder.old.kept earlier ++ drop earlier.settled holder.old.kept) }
-    ensures end { result ≡ length (closed_with holder.old.kept earlier) }
+    ensures holder { holder.new ≡ with_kept holder.old (kept_with holder.old.kept earlier) }
+    ensures len { result ≡ length (closed_with holder.old.kept earlier) }
 {
     match earlier.kind {
-        None => earlier.end,
+        None => earlier.closed_len,
         Some(kind) => {
-            let start = earlier.end + GAP;
-            let head = section_head(kind, earlier.count, earlier.settled - start);
+            let start = earlier.closed_len + GAP;
+            let head = section_head(kind, earlier.count, earlier.items_end - start);
             let head = head.as_slice();
-            holder.fill_kept(earlier.end, start, head);
-            earlier.settled - (GAP - head.len())
+            holder.fill_kept(earlier.closed_len, start, head);
+            earlier.items_end - (GAP - head.len())
         }
     }
 }

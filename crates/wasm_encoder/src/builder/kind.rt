@@ -10,11 +10,11 @@ pub enum Kind {
 
 impl Kind {
     ghost use Rattle.std.specs.Prelude.{◌≡◌};
-    ghost use Rattle.wasm_encoder.specs.Layout.{section_id};
+    ghost use Rattle.wasm_encoder.specs.Layout.{kind_id};
 
     /// The id of the kind's sections.
     pub fn id(self) -> u8
-        ensures { result ≡ section_id self }
+        ensures { result ≡ kind_id self }
     {
         match self {
             Kind::Alias => u8::from(ComponentSectionId::Alias),

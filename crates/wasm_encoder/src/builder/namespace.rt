@@ -1,9 +1,11 @@
 ghost use Rattle.std.specs.Prelude.{◌≡◌, ◌+◌, ◌<◌, ◌^◌, length, take, OnOk, OnErr, IfErr};
 ghost use Rattle.std.specs.Option.{option_copied};
 ghost use Rattle.wenc_base.specs.Number.{number_size};
-ghost use Rattle.wasm_encoder.specs.Builder.{no_names, namespace_with};
-ghost use Rattle.wasm_encoder.specs.Cause.{NamespaceIsMany, NamespaceIsLarge};
-ghost use Rattle.wasm_encoder.specs.Undo.{NamesFit, EnterCause};
+ghost use Rattle.wasm_encoder.specs.Builder.{no_names, namespace_with, space_view};
+ghost use Rattle.wenc_base.specs.Fault.{IsWarranted};
+ghost use Rattle.wenc_base.specs.declared.fault.Fault.{Fault as FaultSpec};
+ghost use Rattle.wasm_encoder.specs.Cause.{SpaceCause};
+ghost use Rattle.wasm_encoder.specs.Spaces.{NamesFit};
 
 use std::alloc::{Allocator, Global};
 use std::marker::Model;
@@ -22,14 +24,14 @@ pub struct Namespace<A: Allocator = Global> {
 }
 
 impl<A: Allocator> Model for Namespace<A> {
-    ghost use Rattle.wasm_encoder.specs.Builder.{Namespace};
-    ghost use Rattle.wasm_encoder.specs.Undo.{NamesFit};
+    ghost use Rattle.wasm_encoder.specs.Builder.{Namespace, space_view};
+    ghost use Rattle.wasm_encoder.specs.Spaces.{NamesFit};
 
     ghost Value = { Namespace };
 
-    ghost view = { λ s. record { count = s.count; named = s.named; names = s.names.items } };
+    ghost view = { λ s. space_view s.count s.named s.names.items };
 
-    ghost invariant = { λ s. NamesFit (record { count = s.count; named = s.named; names = s.names.items }) };
+    ghost invariant = { λ s. NamesFit (space_view s.count s.named s.names.items) };
 }
 
 impl<A: Allocator> Namespace<A> {
@@ -69,12 +71,13 @@ impl<A: Allocator> Namespace<A> {
 
     /// One more item, with this name or none.
     #[tactic(auto, using(wenc_base::proofs::Groups::size_at_most_5))]
-    pub fn enter(&mut self, name: Option<&str>) -> Result<(), Fault>
+    pub fn add(&mut self, name: Option<&str>) -> Result<(), Fault>
         ensures ok { OnOk result (self.new ≡ namespace_with self.old 1 (option_copied name.entry)) }
+        ensures free { OnOk result ((fault : FaultSpec)
+            → SpaceCause (namespace_with self.old 1 (option_copied name.entry)) fault → ⊥) }
         ensures err { OnErr result (self.new ≡ self.old) }
-        ensures warranted { IfErr result (EnterCause (namespace_with self.old 1 (option_copied name.entry))) }
-        ensures few { OnOk result (NamespaceIsMany (namespace_with self.old 1 (option_copied name.entry)) → ⊥) }
-        ensures small { OnOk result (NamespaceIsLarge (namespace_with self.old 1 (option_copied name.entry)) → ⊥) }
+        ensures warranted { IfErr result (IsWarranted
+            (SpaceCause (namespace_with self.old 1 (option_copied name.entry)))) }
     {
         let Some(count) = self.count.checked_add(1) else {
             return Err(Fault::TooMany);
@@ -115,7 +118,7 @@ impl<A: Allocator> Namespace<A> {
     /// The space as it was, when it had so many items, names and bytes of names. It takes no memory.
     pub fn cut_back(&mut self, count: u32, named: u32, len: usize)
         requires { number_size named + length (take len self.old.names) < 2 ^ 32 }
-        ensures { self.new ≡ record { count = count; named = named; names = take len self.old.names } }
+        ensures { self.new ≡ space_view count named (take len self.old.names) }
     {
         self.names.truncate(len);
         self.count = count;

@@ -1,20 +1,29 @@
-ghost use Rattle.std.specs.Prelude.{◌≡◌, ◌<◌, length, replicate, OnOk, OnErr, IfOk, IfErr, Some, None};
+ghost use Rattle.std.specs.Prelude.{◌≡◌, ◌<◌, length, OnOk, OnErr, IfOk, IfErr, is_none, None, false};
 ghost use Rattle.std.specs.Option.{option_copied};
+ghost use Rattle.wenc_base.specs.Fault.{IsMemory, IsWarranted};
+ghost use Rattle.wenc_base.specs.declared.fault.Fault.{Fault as FaultSpec};
 ghost use Rattle.wasm_encoder.specs.Space.{space_number};
-ghost use Rattle.wasm_encoder.specs.Builder.{no_names, namespace_with, namespace_at, taken};
-ghost use Rattle.wasm_encoder.specs.Cause.{NamespaceIsMany, NamespaceIsLarge};
-ghost use Rattle.wasm_encoder.specs.Undo.{EnterCause};
-ghost use Rattle.wenc_base.specs.Fault.{IsMemory};
+ghost use Rattle.wasm_encoder.specs.Builder.{namespace_at};
+ghost use Rattle.wasm_encoder.specs.Cause.{SpaceCause};
+ghost use Rattle.wasm_encoder.specs.Spaces.{empty_spaces, space_begun, spaces_begun, spaces_ended, spaces_given_up, count_at};
 
 use super::namespace::Namespace;
 use super::space::Space;
-use super::undo::Undo;
 use std::alloc::{Allocator, Global};
 use std::marker::Model;
 use wenc_base::Fault;
 
 /// How many spaces there are.
 const SPACES: usize = 13;
+
+/// What a space was before an item took a place in it.
+#[derive(Clone, Copy)]
+pub struct Undo {
+    pub space: usize,
+    pub count: u32,
+    pub named: u32,
+    pub len: usize,
+}
 
 /// All index spaces, and what one of them was before the item that is being written.
 #[derive(Drop)]
@@ -24,11 +33,11 @@ pub struct Spaces<A: Allocator = Global> {
 }
 
 impl<A: Allocator> Model for Spaces<A> {
-    ghost use Rattle.wasm_encoder.specs.Undo.{Spaced};
+    ghost use Rattle.wasm_encoder.specs.Spaces.{Spaced};
 
     ghost Value = { Spaced };
 
-    ghost use Rattle.wasm_encoder.specs.Undo.{spaced_view, CanUndo};
+    ghost use Rattle.wasm_encoder.specs.Spaces.{spaced_view, CanUndo};
 
     ghost view = { λ s. spaced_view s.spaces.items s.undo };
 
@@ -40,7 +49,7 @@ impl<A: Allocator> Spaces<A> {
     pub fn new(alloc: A) -> Result<Self, Fault>
     where
         A: Copy,
-        ensures ok { IfOk result (λ s. s ≡ record { settled = replicate 13 no_names; taking = None }) }
+        ensures ok { IfOk result (λ s. s ≡ empty_spaces) }
         ensures refused { IfErr result IsMemory }
     {
         let mut spaces = Vec::with_capacity(alloc, SPACES)?;
@@ -52,23 +61,23 @@ impl<A: Allocator> Spaces<A> {
 
     /// How many items a space has, the one that is being written with them.
     pub fn count(&self, space: Space) -> u32
-        ensures { result ≡ (namespace_at (taken self.now.settled self.now.taking) (space_number space)).count }
+        ensures { result ≡ count_at self.now (space_number space) }
     {
         self.spaces[space.number()].count()
     }
 
     /// One more item in a space, which may be given up until `end`. Answers its index.
-    pub fn enter(&mut self, space: Space, name: Option<&str>) -> Result<u32, Fault>
+    pub fn begin(&mut self, space: Space, name: Option<&str>) -> Result<u32, Fault>
         requires { self.old.taking ≡ None }
-        ensures index { IfOk result (λ i. i ≡ (namespace_at self.old.settled (space_number space)).count) }
-        ensures ok { OnOk result (self.new ≡ record {
-          settled = self.old.settled;
-          taking = Some (record { space = space_number space; after = namespace_with (namespace_at self.old.settled (space_number space)) 1 (option_copied name.entry) });
-        }) }
+        ensures index { IfOk result (λ i.
+            i ≡ (namespace_at self.old.settled (space_number space)).count) }
+        ensures ok { OnOk result (self.new
+            ≡ spaces_begun self.old (space_number space) (option_copied name.entry)) }
+        ensures free { OnOk result ((fault : FaultSpec) → SpaceCause
+            (space_begun self.old (space_number space) (option_copied name.entry)) fault → ⊥) }
         ensures err { OnErr result (self.new ≡ self.old) }
-        ensures warranted { IfErr result (EnterCause (namespace_with (namespace_at self.old.settled (space_number space)) 1 (option_copied name.entry))) }
-        ensures few { OnOk result (NamespaceIsMany (namespace_with (namespace_at self.old.settled (space_number space)) 1 (option_copied name.entry)) → ⊥) }
-        ensures small { OnOk result (NamespaceIsLarge (namespace_with (namespace_at self.old.settled (space_number space)) 1 (option_copied name.entry)) → ⊥) }
+        ensures warranted { IfErr result (IsWarranted
+            (SpaceCause (space_begun self.old (space_number space) (option_copied name.entry)))) }
         ensures all { length self.old.settled ≡ 13 }
     {
         let space = space.number();
@@ -80,21 +89,23 @@ impl<A: Allocator> Spaces<A> {
             named: one.named(),
             len: one.names_len(),
         };
-        one.enter(name)?;
+        one.add(name)?;
         self.undo = Some(undo);
         Ok(index)
     }
 
-    /// The item that entered is there to stay.
+    /// The item that took a place is there to stay.
     pub fn end(&mut self)
-        ensures { self.new ≡ record { settled = taken self.old.settled self.old.taking; taking = None } }
+        requires { is_none self.old.taking ≡ false }
+        ensures { self.new ≡ spaces_ended self.old }
     {
         self.undo = None;
     }
 
-    /// Gives up the item that entered. It takes no memory.
+    /// Gives up the item that took a place. It takes no memory.
     pub fn give_up(&mut self)
-        ensures { self.new ≡ record { settled = self.old.settled; taking = None } }
+        requires { is_none self.old.taking ≡ false }
+        ensures { self.new ≡ spaces_given_up self.old }
     {
         if let Some(undo) = self.undo {
             self.spaces[undo.space].cut_back(undo.count, undo.named, undo.len);
