@@ -1,4 +1,4 @@
-//! Tests: worked components and parts, by the public calls of the crates below.
+//! Tests of `wasm_encoder`: worked components, and proved callers.
 #![tactic(auto)]
 
 ghost use Rattle.std.specs.Prelude.{◌≡◌, ◌∷◌, [], IfOk, None, codes};
@@ -24,20 +24,10 @@ pub fn passed_on<A: Allocator + Copy>(alloc: A) -> Result<Vec<u8, A>, Fault>
 }
 
 #[cfg(test)]
-mod aliases;
-#[cfg(test)]
 mod builder;
-pub mod by_hand;
-#[cfg(test)]
-mod canonicals;
 #[cfg(test)]
 mod commands;
 #[cfg(test)]
-mod names;
-pub mod own;
-#[cfg(test)]
-mod own_values;
-#[cfg(test)]
-mod parts;
-#[cfg(test)]
-mod sections;
+mod counts;
+pub mod importing;
+pub mod lights;

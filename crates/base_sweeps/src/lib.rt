@@ -1,0 +1,17 @@
+//! Tests: each request for memory of the calls of `wenc_base` is refused in turn.
+#![tactic(auto)]
+
+#[cfg(test)]
+mod holders;
+#[cfg(test)]
+mod lists;
+#[cfg(test)]
+mod modules;
+#[cfg(test)]
+mod pieces;
+#[cfg(test)]
+mod producers;
+#[cfg(test)]
+mod types;
+#[cfg(test)]
+mod values;

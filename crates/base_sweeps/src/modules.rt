@@ -1,0 +1,107 @@
+ghost use Rattle.wenc_base.specs.Fault.{text_cause};
+ghost use Rattle.wenc_base.specs.Forms.{name};
+
+use refusing::Refusing;
+use std::alloc::{Allocator, Global};
+use std::test::Fail;
+use sweeping::members::{Adds, Members, sweep_calls, sweep_clones, sweep_new};
+use sweeping::{Appends, NAME, TEXT, sweep, sweep_section};
+use wenc_base::{CustomSection, Encode, Fault, Module, RawCustomSection, RawSection, Section};
+
+/// A section of a core module, behind its id.
+#[derive(Clone, Copy)]
+pub struct InModule<'a, S>(pub &'a S);
+
+impl<'a, S: Section> Appends for InModule<'a, S> {
+    fn append<A: Allocator>(&self, sink: &mut Vec<u8, A>) -> Result<(), Fault> {
+        self.0.append_to(sink)
+    }
+}
+
+// In a component, and in a core module.
+#[test]
+fn custom_sections(rt: HostRuntime) -> Result<(), Fail> {
+    for name in ["", NAME] {
+        for data in [&[], TEXT] {
+            let custom = CustomSection { name, data };
+            assert!(rt; sweep_section(rt.alloc(), &custom)?);
+            assert!(rt; sweep(rt.alloc(), &InModule(&custom))?);
+        }
+    }
+    Ok(())
+}
+
+#[test]
+fn raw_sections(rt: HostRuntime) -> Result<(), Fail> {
+    for data in [&[], TEXT] {
+        let custom = RawCustomSection(data);
+        assert!(rt; sweep_section(rt.alloc(), &custom)?);
+        assert!(rt; sweep(rt.alloc(), &InModule(&custom))?);
+        let raw = RawSection { id: 12, data };
+        assert!(rt; sweep_section(rt.alloc(), &raw)?);
+        assert!(rt; sweep(rt.alloc(), &InModule(&raw))?);
+    }
+    Ok(())
+}
+
+/// A section of one's own, with this text in it.
+#[derive(Clone, Copy)]
+struct Own<'a>(&'a str);
+
+impl<'a> Encode for Own<'a> {
+    ghost text = { λ s. (name s.0.now).text };
+
+    ghost cause = { λ s. text_cause s.0.now };
+
+    fn encode<A: Allocator>(&self, sink: &mut Vec<u8, A>) -> Result<(), Fault> {
+        self.0.encode(sink)
+    }
+}
+
+impl<'a> Section for Own<'a> {
+    ghost section_id = { λ _. 98 };
+
+    fn id(&self) -> u8 {
+        98
+    }
+}
+
+/// A core module.
+#[derive(Drop)]
+struct Sections<'a>(Module<&'a Refusing>);
+
+impl<'a> Members<'a> for Sections<'a> {
+    fn empty(heap: &'a Refusing) -> Result<Self, Fault> {
+        Ok(Sections(Module::new(heap)?))
+    }
+
+    fn add_short(&mut self) -> Result<(), Fault> {
+        self.0.section(&RawCustomSection(&[]))
+    }
+
+    fn again(&self) -> Result<Self, Fault> {
+        Ok(Sections(self.0.clone()?))
+    }
+
+    fn state(&self, alloc: Global) -> Result<Vec<u8>, Fault> {
+        let mut state = Vec::new(alloc);
+        self.0.as_slice().encode(&mut state)?;
+        Ok(state)
+    }
+}
+
+impl<'a, 'b> Adds<Sections<'a>> for Own<'b> {
+    fn add(&self, to: &mut Sections<'a>) -> Result<(), Fault> {
+        to.0.section(self)
+    }
+}
+
+#[test]
+fn modules(rt: HostRuntime) -> Result<(), Fail> {
+    let heap = Refusing::new(rt.alloc());
+    let sections = [Own(""), Own(NAME)];
+    assert!(rt; sweep_new::<Sections>(rt.alloc(), &heap)?);
+    assert!(rt; sweep_calls::<Sections, Own>(rt.alloc(), &heap, sections.as_slice())?);
+    assert!(rt; sweep_clones::<Sections>(rt.alloc(), &heap, true)?);
+    Ok(())
+}

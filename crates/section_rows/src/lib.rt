@@ -1,0 +1,20 @@
+//! Tests of `wenc_sections`: worked sections and components, and a proved caller.
+#![tactic(auto)]
+
+pub mod by_hand;
+#[cfg(test)]
+mod checks;
+#[cfg(test)]
+mod components;
+#[cfg(test)]
+mod counted;
+#[cfg(test)]
+mod custom;
+#[cfg(test)]
+mod items;
+#[cfg(test)]
+mod nested;
+#[cfg(test)]
+mod producers;
+#[cfg(test)]
+mod sizes;

@@ -1,0 +1,76 @@
+use crate::checks::{alone, module_holds};
+use hexed::text;
+use std::alloc::Global;
+use std::test::Fail;
+use wenc_base::{Fault, Module, ProducersField, ProducersSection};
+
+/// The bytes of a section that says that "sdk" was "a" of version "1".
+const PRODUCED: &str = "00140970726f647563657273010373646b0101610131";
+
+fn tools(alloc: Global) -> Result<ProducersField, Fault> {
+    let mut field = ProducersField::new(alloc);
+    field.value("a", "1")?;
+    Ok(field)
+}
+
+fn produced(alloc: Global) -> Result<ProducersSection, Fault> {
+    let field = tools(alloc)?;
+    let mut section = ProducersSection::new(alloc);
+    section.field("sdk", &field)?;
+    Ok(section)
+}
+
+#[test]
+fn producers_fields(rt: HostRuntime) -> Result<(), Fail> {
+    let alloc = rt.alloc();
+    let none: ProducersField = ProducersField::new(alloc);
+    assert_eq!(rt; text(alloc, &none)?.as_str(), "ee00");
+    let field = tools(alloc)?;
+    assert_eq!(rt; text(alloc, &field)?.as_str(), "ee0101610131");
+    Ok(())
+}
+
+#[test]
+fn producers(rt: HostRuntime) -> Result<(), Fail> {
+    let alloc = rt.alloc();
+    let none: ProducersSection = ProducersSection::new(alloc);
+    alone(&rt, alloc, &none, "000b0970726f64756365727300")?;
+    let section = produced(alloc)?;
+    alone(&rt, alloc, &section, PRODUCED)?;
+    Ok(())
+}
+
+#[test]
+fn producers_of_a_module(rt: HostRuntime) -> Result<(), Fail> {
+    let alloc = rt.alloc();
+    let section = produced(alloc)?;
+    let mut module = Module::new(alloc)?;
+    module.section(&section)?;
+    module_holds(&rt, alloc, &module, PRODUCED)?;
+    Ok(())
+}
+
+#[test]
+fn copied_producers_fields(rt: HostRuntime) -> Result<(), Fail> {
+    let alloc = rt.alloc();
+    let field = tools(alloc)?;
+    let mut other = field.clone()?;
+    other.value("b", "")?;
+    assert_eq!(rt; text(alloc, &other)?.as_str(), "ee0201610131016200");
+    assert_eq!(rt; text(alloc, &field)?.as_str(), "ee0101610131");
+    Ok(())
+}
+
+#[test]
+fn copied_producers(rt: HostRuntime) -> Result<(), Fail> {
+    let alloc = rt.alloc();
+    let section = produced(alloc)?;
+    let mut copy = section.clone()?;
+    alone(&rt, alloc, &copy, PRODUCED)?;
+    let field = tools(alloc)?;
+    copy.field("l", &field)?;
+    let wanted = "001b0970726f647563657273020373646b0101610131016c0101610131";
+    alone(&rt, alloc, &copy, wanted)?;
+    alone(&rt, alloc, &section, PRODUCED)?;
+    Ok(())
+}
