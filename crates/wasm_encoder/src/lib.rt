@@ -7,6 +7,7 @@
 
 mod builder;
 pub mod command;
+pub mod laws;
 
 pub use builder::ComponentBuilder;
 pub use command::{Built, Command, build};

@@ -2,7 +2,7 @@
 use Rattle.std.specs.Prelude.{ℕ, Bool, List, [], ◌∷◌, ◌++◌, Option, Result, length}
 use Rattle.wenc_base.specs.Piece.{Form, byte, nothing, ◌▸◌, ◌⨾◌}
 use Rattle.wenc_base.specs.Number.{u32}
-use Rattle.wenc_base.specs.Forms.{flag, list, counted}
+use Rattle.wenc_base.specs.Forms.{flag, list}
 use Rattle.wenc_base.specs.Types.{val_type}
 use Rattle.wenc_base.specs.Fault.{count_cause}
 use Rattle.wenc_base.specs.Holder.{Held, AddsMember, AddsListed}
@@ -209,10 +209,6 @@ canonical_text c = (canonical c).text
 -- an opcode, fields, and options
 abbrev pub text_with_options : ℕ → List ℕ → List CanonicalOption → List ℕ
 text_with_options opcode fields options = opcode ∷ (fields ++ (list canonical_option options).text)
-
--- the section, behind its id
-abbrev pub canonical_section : Form (List Canonical)
-canonical_section = counted canonical
 
 -- ---- what the calls of a section add
 

@@ -1,14 +1,14 @@
 -- The laws of canonical functions.
 use Rattle.std.proofs.Common.{◌≡◌, ℕ, ◌+◌, List, [], ◌∷◌, map, Option, Ok, refl, ap, arith}
 use Rattle.wenc_base.specs.Holder.{Held}
-use Rattle.wenc_base.specs.laws.Lawful.{Lawful, Reader, ◌>>=◌, give, nowhere, choose, pick, done, row as in_row, row_byte, nothing_lawful, then, last, whole_lawful}
+use Rattle.wenc_base.specs.laws.Lawful.{Lawful, Reader, ◌>>=◌, give, nowhere, choose, pick, row as in_row, row_byte, nothing_lawful, then, last}
 use Rattle.wenc_base.specs.laws.Numbers.{read_groups, u32_lawful}
-use Rattle.wenc_base.specs.laws.Forms.{read_flag, flag_lawful, read_list, list_lawful, read_sized, sized_lawful}
+use Rattle.wenc_base.specs.laws.Forms.{read_flag, flag_lawful, read_list, list_lawful}
 use Rattle.wenc_base.specs.laws.Types.{read_val_type, val_type_lawful}
 use Rattle.wenc_parts.specs.laws.Types.{read_result_list, result_list_lawful}
 use Rattle.wenc_canon.specs.declared.canonicals.CanonicalOption.{CanonicalOption}
 use Rattle.wenc_canon.specs.declared.canonicals.CanonicalOption.TheVariants.{UTF8, UTF16, CompactUTF16, Memory, Realloc, PostReturn, Async, Callback, CoreType as CoreTypeOption, Gc}
-use Rattle.wenc_canon.specs.Canonicals.{canonical_option, Field, Index, Options, Flag, Zero, CoreType, Results, Value, field, Values, fields, Intrinsic, ResourceNew, row, intrinsics, Canonical, Lift, Lower, Provided, canonical, canonical_section, Adds, AddsWithOptions}
+use Rattle.wenc_canon.specs.Canonicals.{canonical_option, Field, Index, Options, Flag, Zero, CoreType, Results, Value, field, Values, fields, Intrinsic, ResourceNew, row, intrinsics, Canonical, Lift, Lower, Provided, canonical, Adds, AddsWithOptions}
 
 -- ---- options
 
@@ -88,12 +88,6 @@ pub canonical_lawful : (c : Canonical) → Lawful (canonical c) (λ fuel. read_c
 canonical_lawful (Lift f os t) = in_row _ _ 0x00 (in_row _ _ 0x00 (then _ (u32_lawful f) (then _ (list_lawful canonical_option_lawful os) (last (Lift f os) (u32_lawful t)))))
 canonical_lawful (Lower f os) = in_row _ _ 0x01 (in_row _ _ 0x00 (then _ (u32_lawful f) (last (Lower f) (list_lawful canonical_option_lawful os))))
 canonical_lawful (Provided i vs) = in_row _ _ (row i).opcode (rw (own_row i) (last (Provided i) (fields_lawful (row i).fields vs)))
-
-abbrev pub read_section : Reader (List Canonical)
-read_section = read_sized (done (read_list read_canonical))
-
-pub canonical_section_lawful : (cs : List Canonical) → Lawful (canonical_section cs) (λ fuel. read_section) cs
-canonical_section_lawful cs = sized_lawful (whole_lawful (list_lawful canonical_lawful cs))
 
 -- ---- what follows from an `Ok`
 

@@ -1,6 +1,5 @@
 -- The laws of the items of flat sections.
 use Rattle.std.proofs.Common.{ℕ, List, [], ◌∷◌, Option}
-use Rattle.wenc_base.specs.Piece.{Form}
 use Rattle.wenc_base.specs.laws.Lawful.{Lawful, Reader, ◌>>=◌, give, nowhere, choose, done, row, then, last, whole_lawful}
 use Rattle.wenc_base.specs.laws.Numbers.{read_groups, u32_lawful}
 use Rattle.wenc_base.specs.laws.Forms.{read_name, name_lawful, read_list, list_lawful, read_option, option_lawful, read_sized, sized_lawful}
@@ -15,7 +14,6 @@ use Rattle.wenc_parts.specs.laws.Imports.{read_type_reference, type_reference_la
 use Rattle.wenc_parts.specs.laws.Instances.{read_module_argument, module_argument_lawful}
 use Rattle.wenc_sections.specs.Imports.{Import, import_item}
 use Rattle.wenc_sections.specs.Exports.{Export, export_item}
-use Rattle.wenc_base.specs.Forms.{counted}
 use Rattle.wenc_sections.specs.Instances.{Argument, argument, CoreExport, core_export, CoreInstance, CoreInstantiate, CoreExports, core_instance, Given, given, Exported, exported, Instance, Instantiate, Exports, instance}
 use Rattle.wenc_sections.specs.Start.{Start, started, start}
 
@@ -98,12 +96,6 @@ instance_lawful (Instantiate component_index arguments) = row _ _ 0x00 (then _ (
 instance_lawful (Exports exports) = row _ _ 0x01 (last Exports (list_lawful exported_lawful exports))
 
 -- ---- sections
-
-abbrev pub read_counted : {A : Type 0} → Reader A → Reader (List A)
-read_counted read = read_sized (done (read_list read))
-
-pub counted_lawful : {A : Type 0} {form : Form A} {read : ℕ → Reader A} → ((v : A) → Lawful (form v) read v) → (vs : List A) → Lawful (counted form vs) (λ fuel. read_counted (read fuel)) vs
-counted_lawful laws vs = sized_lawful (whole_lawful (list_lawful laws vs))
 
 abbrev pub read_start : Reader Start
 read_start = read_sized (done (read_groups >>= λ function. read_list read_groups >>= λ arguments. read_groups >>= λ results. give (started function arguments results)))

@@ -1,0 +1,29 @@
+use Rattle.wenc_base.specs.laws.Holders.{section_of}
+use Rattle.wenc_base.proofs.Produced.{section_of_fields}
+use Rattle.wenc_canon.specs.Canonicals.{canonical}
+use Rattle.wenc_parts.specs.Aliases.{alias}
+use Rattle.wenc_sections.specs.Exports.{export_item}
+use Rattle.wenc_sections.specs.Imports.{import_item}
+use Rattle.wenc_sections.specs.Instances.{core_instance, instance}
+use Rattle.wasm_encoder.proofs.laws.sections_are_their_items.Goals as goal
+
+pub returns-clause-aliases : goal.returns-clause-aliases
+returns-clause-aliases c = λ section items contains. section_of alias section items contains
+
+pub returns-clause-imports : goal.returns-clause-imports
+returns-clause-imports c = λ section items contains. section_of import_item section items contains
+
+pub returns-clause-exports : goal.returns-clause-exports
+returns-clause-exports c = λ section items contains. section_of export_item section items contains
+
+pub returns-clause-core_instances : goal.returns-clause-core_instances
+returns-clause-core_instances c = λ section items contains. section_of core_instance section items contains
+
+pub returns-clause-instances : goal.returns-clause-instances
+returns-clause-instances c = λ section items contains. section_of instance section items contains
+
+pub returns-clause-canonical_functions : goal.returns-clause-canonical_functions
+returns-clause-canonical_functions c = λ section items contains. section_of canonical section items contains
+
+pub returns-clause-producers : goal.returns-clause-producers
+returns-clause-producers c = λ section fields contains. section_of_fields section fields contains
