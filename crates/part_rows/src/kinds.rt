@@ -62,7 +62,17 @@ fn references(rt: HostRuntime) -> Result<(), Fail> {
         assert!(rt; reference.kind() == kind);
         assert_eq!(rt; text(rt.alloc(), &reference)?.as_str(), wanted);
     }
-    assert_eq!(rt; text(rt.alloc(), &TypeBounds::Eq(3))?.as_str(), "ee0003");
+    Ok(())
+}
+
+#[test]
+fn bounds(rt: HostRuntime) -> Result<(), Fail> {
+    for (bounds, wanted) in [
+        (TypeBounds::Eq(3), "ee0003"),
+        (TypeBounds::SubResource, "ee01"),
+    ] {
+        assert_eq!(rt; text(rt.alloc(), &bounds)?.as_str(), wanted);
+    }
     Ok(())
 }
 
