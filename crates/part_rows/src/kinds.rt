@@ -1,9 +1,7 @@
 use hexed::text;
 use std::test::Fail;
 use wenc_base::ExportKind;
-use wenc_parts::{
-    ComponentExportKind, ComponentTypeRef, ComponentValType, ModuleArg, TypeBounds,
-};
+use wenc_parts::{ComponentExportKind, ComponentTypeRef, ComponentValType, ModuleArg, TypeBounds};
 
 #[test]
 fn kinds(rt: HostRuntime) -> Result<(), Fail> {

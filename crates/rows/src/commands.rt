@@ -63,11 +63,7 @@ fn named_alias(
 }
 
 /// The item of the first instance that has this name.
-fn alias(
-    alloc: Global,
-    text: &str,
-    kind: ComponentExportKind,
-) -> Result<Command, AllocError> {
+fn alias(alloc: Global, text: &str, kind: ComponentExportKind) -> Result<Command, AllocError> {
     Ok(Command::Alias {
         n: None,
         alias: AliasTree::InstanceExport {

@@ -19,7 +19,10 @@ fn sizes(rt: HostRuntime) -> Result<(), Fail> {
     assert_eq!(rt; text(alloc, &WithSize(&()))?.as_str(), "ee00");
     assert_eq!(rt; text(alloc, &WithSize(&"ab"))?.as_str(), "ee03026162");
     let content = (128u32, "a", false);
-    assert_eq!(rt; text(alloc, &WithSize(&content))?.as_str(), "ee058001016100");
+    assert_eq!(rt;
+        text(alloc, &WithSize(&content))?.as_str(),
+        "ee058001016100"
+    );
     Ok(())
 }
 
