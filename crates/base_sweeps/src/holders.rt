@@ -65,7 +65,7 @@ impl<'a> Adds<Whole<'a>> for Member {
 }
 
 #[test]
-fn members(rt: HostRuntime) -> Result<(), Fail> {
+fn added_members(rt: HostRuntime) -> Result<(), Fail> {
     let heap = Refusing::new(rt.alloc());
     let calls = [Member::Text, Member::Encoded, Member::Listed];
     assert!(rt; sweep_calls::<Whole, Member>(rt.alloc(), &heap, calls.as_slice())?);

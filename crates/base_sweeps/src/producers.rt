@@ -41,7 +41,7 @@ impl<'a, 'b> Adds<Tools<'a>> for Tool<'b> {
 }
 
 #[test]
-fn tools(rt: HostRuntime) -> Result<(), Fail> {
+fn added_tools(rt: HostRuntime) -> Result<(), Fail> {
     let heap = Refusing::new(rt.alloc());
     let tools = [Tool("", ""), Tool("a", NAME), Tool(NAME, "1")];
     assert!(rt; sweep_calls::<Tools, Tool>(rt.alloc(), &heap, tools.as_slice())?);
@@ -110,7 +110,7 @@ fn some_tools(alloc: Global) -> Result<ProducersField, Fault> {
 }
 
 #[test]
-fn fields(rt: HostRuntime) -> Result<(), Fail> {
+fn added_fields(rt: HostRuntime) -> Result<(), Fail> {
     let heap = Refusing::new(rt.alloc());
     let none = ProducersField::new(rt.alloc());
     let some = some_tools(rt.alloc())?;

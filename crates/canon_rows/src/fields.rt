@@ -14,7 +14,11 @@ fn each_option_is_written(rt: HostRuntime) -> Result<(), Fail> {
         (CanonicalOption::CompactUTF16, "ee02", "0100000102"),
         (CanonicalOption::Memory(128), "ee038001", "01000001038001"),
         (CanonicalOption::Realloc(128), "ee048001", "01000001048001"),
-        (CanonicalOption::PostReturn(128), "ee058001", "01000001058001"),
+        (
+            CanonicalOption::PostReturn(128),
+            "ee058001",
+            "01000001058001",
+        ),
         (CanonicalOption::Async, "ee06", "0100000106"),
         (CanonicalOption::Callback(128), "ee078001", "01000001078001"),
         (CanonicalOption::CoreType(128), "ee088001", "01000001088001"),
@@ -22,7 +26,12 @@ fn each_option_is_written(rt: HostRuntime) -> Result<(), Fail> {
     ] {
         assert_eq!(rt; text(rt.alloc(), &option)?.as_str(), alone);
         let options = [option];
-        row(&rt, rt.alloc(), &Function::Lower(0, options.as_slice()), wanted)?;
+        row(
+            &rt,
+            rt.alloc(),
+            &Function::Lower(0, options.as_slice()),
+            wanted,
+        )?;
     }
     Ok(())
 }

@@ -26,7 +26,10 @@ fn hashes_agree<T: Hash>(rt: &impl Abort, values: &[T], others: &[T]) {
     tells_apart(rt, values, others);
     for (i, value) in values.iter().enumerate() {
         for other in others {
-            assert!(rt; value != other || hash_of(value) == hash_of(other), "at {i}");
+            assert!(rt;
+                value != other || hash_of(value) == hash_of(other),
+                "at {i}"
+            );
         }
     }
 }
@@ -91,17 +94,29 @@ fn bounds(rt: HostRuntime) {
 
 #[test]
 fn references(rt: HostRuntime) {
-    hashes_agree(&rt, each_reference().as_slice(), each_reference().as_slice());
+    hashes_agree(
+        &rt,
+        each_reference().as_slice(),
+        each_reference().as_slice(),
+    );
 }
 
 #[test]
 fn primitive_types(rt: HostRuntime) {
-    hashes_agree(&rt, each_primitive().as_slice(), each_primitive().as_slice());
+    hashes_agree(
+        &rt,
+        each_primitive().as_slice(),
+        each_primitive().as_slice(),
+    );
 }
 
 #[test]
 fn value_types(rt: HostRuntime) {
-    hashes_agree(&rt, each_value_type().as_slice(), each_value_type().as_slice());
+    hashes_agree(
+        &rt,
+        each_value_type().as_slice(),
+        each_value_type().as_slice(),
+    );
 }
 
 fn each_argument() -> [ModuleArg; 4] {
@@ -129,5 +144,9 @@ fn each_outer_kind() -> [ComponentOuterAliasKind; 4] {
 
 #[test]
 fn outer_kinds(rt: HostRuntime) {
-    tells_apart(&rt, each_outer_kind().as_slice(), each_outer_kind().as_slice());
+    tells_apart(
+        &rt,
+        each_outer_kind().as_slice(),
+        each_outer_kind().as_slice(),
+    );
 }

@@ -1,9 +1,7 @@
 use hexed::text;
 use std::test::Fail;
 use wenc_base::ExportKind;
-use wenc_parts::{
-    ComponentExportKind, ComponentTypeRef, ComponentValType, ModuleArg, TypeBounds,
-};
+use wenc_parts::{ComponentExportKind, ComponentTypeRef, ComponentValType, ModuleArg, TypeBounds};
 
 #[test]
 fn kinds(rt: HostRuntime) -> Result<(), Fail> {
@@ -62,7 +60,17 @@ fn references(rt: HostRuntime) -> Result<(), Fail> {
         assert!(rt; reference.kind() == kind);
         assert_eq!(rt; text(rt.alloc(), &reference)?.as_str(), wanted);
     }
-    assert_eq!(rt; text(rt.alloc(), &TypeBounds::Eq(3))?.as_str(), "ee0003");
+    Ok(())
+}
+
+#[test]
+fn bounds(rt: HostRuntime) -> Result<(), Fail> {
+    for (bounds, wanted) in [
+        (TypeBounds::Eq(3), "ee0003"),
+        (TypeBounds::SubResource, "ee01"),
+    ] {
+        assert_eq!(rt; text(rt.alloc(), &bounds)?.as_str(), wanted);
+    }
     Ok(())
 }
 

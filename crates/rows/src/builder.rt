@@ -1,6 +1,8 @@
 use crate::importing::importing;
 use crate::passed_on;
+use std::alloc::Global;
 use std::borrow::CowStr;
+use std::process::Abort;
 use std::test::Fail;
 use wasm_encoder::{
     Alias, ComponentBuilder, ComponentExportKind, ComponentExternName, ComponentOuterAliasKind,
@@ -9,10 +11,23 @@ use wasm_encoder::{
 
 const HEADER: &str = "0061736d0d000100";
 
+/// The builder's component has these bytes.
+fn finished(
+    rt: &impl Abort,
+    alloc: Global,
+    builder: ComponentBuilder,
+    wanted: &str,
+) -> Result<(), Fault> {
+    let bytes = builder.finish()?;
+    let bytes = hex::encode(alloc, bytes.as_slice())?;
+    assert_eq!(rt; bytes.as_str(), wanted);
+    Ok(())
+}
+
 #[test]
 fn empty(rt: HostRuntime) -> Result<(), Fail> {
-    let bytes = ComponentBuilder::new(rt.alloc())?.finish()?;
-    assert_eq!(rt; hex::encode(rt.alloc(), bytes.as_slice())?.as_str(), HEADER);
+    let builder = ComponentBuilder::new(rt.alloc())?;
+    finished(&rt, rt.alloc(), builder, HEADER)?;
     Ok(())
 }
 
@@ -22,21 +37,23 @@ fn an_import_and_an_export(rt: HostRuntime) -> Result<(), Fail> {
     assert_eq!(rt; builder.import("f".into(), ComponentTypeRef::Func(0))?, 0);
     let index = builder.export("g".into(), ComponentExportKind::Func, 0, None)?;
     assert_eq!(rt; index, 1);
-    let bytes = builder.finish()?;
+    let wanted = "0061736d0d0001000a060100016601000b0701000167010000";
+    finished(&rt, rt.alloc(), builder, wanted)?;
+    Ok(())
+}
+
+#[test]
+fn a_function_passed_on(rt: HostRuntime) -> Result<(), Fail> {
+    let bytes = hex::encode(rt.alloc(), passed_on(rt.alloc())?.as_slice())?;
     assert_eq!(rt;
-        hex::encode(rt.alloc(), bytes.as_slice())?.as_str(),
+        bytes.as_str(),
         "0061736d0d0001000a060100016601000b0701000167010000"
     );
     Ok(())
 }
 
 #[test]
-fn proved_callers(rt: HostRuntime) -> Result<(), Fail> {
-    let bytes = hex::encode(rt.alloc(), passed_on(rt.alloc())?.as_slice())?;
-    assert_eq!(rt;
-        bytes.as_str(),
-        "0061736d0d0001000a060100016601000b0701000167010000"
-    );
+fn an_import_by_hand(rt: HostRuntime) -> Result<(), Fail> {
     let bytes = hex::encode(rt.alloc(), importing(rt.alloc())?.as_slice())?;
     assert_eq!(rt; bytes.as_str(), "0061736d0d0001000a06010001660100");
     Ok(())
@@ -48,11 +65,8 @@ fn an_export_with_a_type(rt: HostRuntime) -> Result<(), Fail> {
     let ty = Some(ComponentTypeRef::Func(1));
     let index = builder.export("g".into(), ComponentExportKind::Func, 0, ty)?;
     assert_eq!(rt; index, 0);
-    let bytes = builder.finish()?;
-    assert_eq!(rt;
-        hex::encode(rt.alloc(), bytes.as_slice())?.as_str(),
-        "0061736d0d0001000b09010001670100010101"
-    );
+    let wanted = "0061736d0d0001000b09010001670100010101";
+    finished(&rt, rt.alloc(), builder, wanted)?;
     Ok(())
 }
 
@@ -64,11 +78,8 @@ fn export_aliases(rt: HostRuntime) -> Result<(), Fail> {
         builder.alias_export(5, "m", ComponentExportKind::Module)?,
         0
     );
-    let bytes = builder.finish()?;
-    assert_eq!(rt;
-        hex::encode(rt.alloc(), bytes.as_slice())?.as_str(),
-        "0061736d0d000100060c02010000016600110005016d"
-    );
+    let wanted = "0061736d0d000100060c02010000016600110005016d";
+    finished(&rt, rt.alloc(), builder, wanted)?;
     Ok(())
 }
 
@@ -87,11 +98,8 @@ fn aliases(rt: HostRuntime) -> Result<(), Fail> {
         index: 1,
     };
     assert_eq!(rt; builder.alias(None, outer)?, 0);
-    let bytes = builder.finish()?;
-    assert_eq!(rt;
-        hex::encode(rt.alloc(), bytes.as_slice())?.as_str(),
-        "0061736d0d000100060a02010000016603020001"
-    );
+    let wanted = "0061736d0d000100060a02010000016603020001";
+    finished(&rt, rt.alloc(), builder, wanted)?;
     Ok(())
 }
 
@@ -103,11 +111,8 @@ fn a_core_export_alias(rt: HostRuntime) -> Result<(), Fail> {
         let index = builder.core_alias_export(debug_name, 0, "m", ExportKind::Memory)?;
         assert_eq!(rt; index, 0);
         assert_eq!(rt; builder.core_memory_count(), 1);
-        let bytes = builder.finish()?;
-        assert_eq!(rt;
-            hex::encode(rt.alloc(), bytes.as_slice())?.as_str(),
-            "0061736d0d00010006070100020100016d"
-        );
+        let wanted = "0061736d0d00010006070100020100016d";
+        finished(&rt, rt.alloc(), builder, wanted)?;
     }
     Ok(())
 }
@@ -122,11 +127,8 @@ fn an_import_with_options(rt: HostRuntime) -> Result<(), Fail> {
         external_id: Some(CowStr::Borrowed("")),
     };
     assert_eq!(rt; builder.import(name, ComponentTypeRef::Func(0))?, 0);
-    let bytes = builder.finish()?;
-    assert_eq!(rt;
-        hex::encode(rt.alloc(), bytes.as_slice())?.as_str(),
-        "0061736d0d0001000a0c010201610200016902000100"
-    );
+    let wanted = "0061736d0d0001000a0c010201610200016902000100";
+    finished(&rt, rt.alloc(), builder, wanted)?;
     Ok(())
 }
 
@@ -137,15 +139,13 @@ fn a_long_name(rt: HostRuntime) -> Result<(), Fail> {
     let mut builder = ComponentBuilder::new(rt.alloc())?;
     let index = builder.import(name.as_str().into(), ComponentTypeRef::Func(0))?;
     assert_eq!(rt; index, 0);
-    let bytes = builder.finish()?;
     let mut wanted = String::from_str(rt.alloc(), HEADER)?;
     wanted.push_str("0a860101008001")?;
     for _ in 0..128 {
         wanted.push_str("61")?;
     }
     wanted.push_str("0100")?;
-    let text = hex::encode(rt.alloc(), bytes.as_slice())?;
-    assert_eq!(rt; text.as_str(), wanted.as_str());
+    finished(&rt, rt.alloc(), builder, wanted.as_str())?;
     Ok(())
 }
 

@@ -8,7 +8,12 @@ use wenc_parts::ComponentSection;
 use wenc_sections::Component;
 
 /// The component's bytes are its header and these.
-pub fn holds(rt: &impl Abort, alloc: Global, component: &Component, wanted: &str) -> Result<(), Fault> {
+pub fn holds(
+    rt: &impl Abort,
+    alloc: Global,
+    component: &Component,
+    wanted: &str,
+) -> Result<(), Fault> {
     let bytes = hex::encode(alloc, component.as_slice())?;
     let bytes = bytes.as_str();
     assert_eq!(rt; bytes.get(..16).unwrap_or(""), "0061736d0d000100");

@@ -23,7 +23,10 @@ fn custom_sections(rt: HostRuntime) -> Result<(), Fail> {
         name: "test",
         data: &[11, 22, 33, 44],
     };
-    assert_eq!(rt; text(rt.alloc(), &custom)?.as_str(), "ee0904746573740b16212c");
+    assert_eq!(rt;
+        text(rt.alloc(), &custom)?.as_str(),
+        "ee0904746573740b16212c"
+    );
     alone(&rt, rt.alloc(), &custom, "000904746573740b16212c")?;
     alone(&rt, rt.alloc(), &RawCustomSection(&[0xaa]), "00aa")?;
     Ok(())

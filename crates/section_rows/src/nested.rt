@@ -1,9 +1,7 @@
 use crate::checks::{Own, alone};
 use std::test::Fail;
 use wenc_base::{CustomSection, Module};
-use wenc_sections::{
-    Component, ComponentStartSection, ModuleSection, NestedComponentSection,
-};
+use wenc_sections::{Component, ComponentStartSection, ModuleSection, NestedComponentSection};
 
 #[test]
 fn modules(rt: HostRuntime) -> Result<(), Fail> {

@@ -1,6 +1,6 @@
 use hexed::text;
 use std::test::Fail;
-use wenc_base::{Lent, WithSize};
+use wenc_base::{Holder, Lent, WithSize};
 
 #[test]
 fn triples(rt: HostRuntime) -> Result<(), Fail> {
@@ -19,7 +19,10 @@ fn sizes(rt: HostRuntime) -> Result<(), Fail> {
     assert_eq!(rt; text(alloc, &WithSize(&()))?.as_str(), "ee00");
     assert_eq!(rt; text(alloc, &WithSize(&"ab"))?.as_str(), "ee03026162");
     let content = (128u32, "a", false);
-    assert_eq!(rt; text(alloc, &WithSize(&content))?.as_str(), "ee058001016100");
+    assert_eq!(rt;
+        text(alloc, &WithSize(&content))?.as_str(),
+        "ee058001016100"
+    );
     Ok(())
 }
 
@@ -33,5 +36,16 @@ fn long_sizes(rt: HostRuntime) -> Result<(), Fail> {
         assert_eq!(rt; long.as_str().len(), len);
         assert_eq!(rt; long.as_str().get(..10).unwrap_or(""), wanted);
     }
+    Ok(())
+}
+
+// Without the size that a section has in front.
+#[test]
+fn members_behind_their_number(rt: HostRuntime) -> Result<(), Fail> {
+    let mut holder = Holder::new(rt.alloc());
+    assert_eq!(rt; text(rt.alloc(), &holder)?.as_str(), "ee00");
+    holder.add(&[0xaa, 0xbb])?;
+    holder.add_encoded(&("f", 128u32))?;
+    assert_eq!(rt; text(rt.alloc(), &holder)?.as_str(), "ee02aabb01668001");
     Ok(())
 }

@@ -18,8 +18,7 @@ impl<'a> Members<'a> for Exports<'a> {
     }
 
     fn add_short(&mut self) -> Result<(), Fault> {
-        self.0
-            .export("".into(), ComponentExportKind::Func, 0, None)
+        self.0.export("".into(), ComponentExportKind::Func, 0, None)
     }
 
     fn again(&self) -> Result<Self, Fault> {

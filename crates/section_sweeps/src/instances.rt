@@ -91,7 +91,7 @@ impl<'a> Adds<CoreInstances<'a>> for Instance {
 }
 
 #[test]
-fn core_instances(rt: HostRuntime) -> Result<(), Fail> {
+fn added_core_instances(rt: HostRuntime) -> Result<(), Fail> {
     let heap = Refusing::new(rt.alloc());
     assert!(rt; sweep_calls::<CoreInstances, Instance>(rt.alloc(), &heap, WAYS.as_slice())?);
     assert!(rt; sweep_clones::<CoreInstances>(rt.alloc(), &heap, false)?);
@@ -139,7 +139,7 @@ impl<'a> Adds<Instances<'a>> for Instance {
 }
 
 #[test]
-fn instances(rt: HostRuntime) -> Result<(), Fail> {
+fn added_instances(rt: HostRuntime) -> Result<(), Fail> {
     let heap = Refusing::new(rt.alloc());
     assert!(rt; sweep_calls::<Instances, Instance>(rt.alloc(), &heap, WAYS.as_slice())?);
     assert!(rt; sweep_clones::<Instances>(rt.alloc(), &heap, false)?);

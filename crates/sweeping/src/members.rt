@@ -96,7 +96,11 @@ fn refuse<'a, M: Members<'a>, C: Adds<M>>(
     if !is_as(alloc, &members, states.after.as_slice())? {
         return Ok(Found::Wrong);
     }
-    Ok(if was_refused { Found::Refusal } else { Found::NoRefusal })
+    Ok(if was_refused {
+        Found::Refusal
+    } else {
+        Found::NoRefusal
+    })
 }
 
 /// Has the call's requests refused in turn, with so many members there before it. Whether any was.
@@ -165,7 +169,11 @@ fn refuse_copy<'a, M: Members<'a>>(
     if !heap.was_refused() {
         let copy = outcome?;
         let is_same = is_as(alloc, &copy, wanted)?;
-        return Ok(if is_same { Found::NoRefusal } else { Found::Wrong });
+        return Ok(if is_same {
+            Found::NoRefusal
+        } else {
+            Found::Wrong
+        });
     }
     let is_answered = outcome.err() == Some(REFUSED) && heap.requests() == n;
     if !is_answered || !is_as(alloc, members, wanted)? {
@@ -173,7 +181,11 @@ fn refuse_copy<'a, M: Members<'a>>(
     }
     let copy = members.again()?;
     let is_same = is_as(alloc, &copy, wanted)?;
-    Ok(if is_same { Found::Refusal } else { Found::Wrong })
+    Ok(if is_same {
+        Found::Refusal
+    } else {
+        Found::Wrong
+    })
 }
 
 /// Whether a copy can be added to, and leaves the other as it was.

@@ -2,9 +2,7 @@ use refusing::Refusing;
 use std::alloc::{AllocError, Global};
 use std::test::Fail;
 use sweeping::{NAME, REFUSED};
-use wasm_encoder::{
-    AliasTree, Command, ComponentExportKind, ComponentTypeRef, NameTree, build,
-};
+use wasm_encoder::{AliasTree, Command, ComponentExportKind, ComponentTypeRef, NameTree, build};
 
 fn alias(alloc: Global, name: &str) -> Result<Command, AllocError> {
     Ok(Command::Alias {
