@@ -14,13 +14,22 @@ pub trait CountedKind {
     /// The id of its sections.
     ghost ID: { ComponentSectionId };
 
-    /// The id of its sections.
+    /// The same, which the code writes.
     const ID: ComponentSectionId;
 }
 
 /// A section of items of one kind: how many there are, and their texts. A call that is refused leaves it as it was.
+/// Each kind has a name of its own for it, as `ComponentAliasSection`.
+///
+/// ```
+/// let mut aliases = ComponentAliasSection::new(alloc);
+/// aliases.alias(alias)?;
+/// let copy = aliases.clone()?;
+/// component.section(&aliases)?;
+/// ```
 #[derive(Drop)]
 pub struct Counted<K, A: Allocator = Global> {
+    /// The calls that add an item are those of its kind, in other modules.
     pub(crate) items: Holder<A>,
     kind: PhantomData<K>,
 }

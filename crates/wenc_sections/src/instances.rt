@@ -3,7 +3,8 @@ ghost use Rattle.std.specs.Iterator.{IsFinite};
 ghost use Rattle.wenc_base.specs.Fault.{text_cause, drawn_cause};
 ghost use Rattle.wenc_base.specs.Holder.{AddsListed};
 ghost use Rattle.wenc_parts.specs.Imports.{extern_name_view, extern_name_cause};
-ghost use Rattle.wenc_sections.specs.Instances.{CoreInstantiate, CoreExports, core_instance_text, argument_view, core_export_view};
+ghost use Rattle.wenc_sections.specs.Instances.{CoreInstantiate, CoreExports, core_instance_text};
+ghost use Rattle.wenc_sections.specs.Instances.{argument_view, core_export_view};
 ghost use Rattle.wenc_sections.specs.Instances.{Instantiate, Exports, instance_text, given_view, exported_view};
 ghost use Rattle.wenc_parts.specs.declared.component.ComponentSectionId.{ComponentSectionId};
 
