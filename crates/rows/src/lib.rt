@@ -5,7 +5,7 @@ ghost use Rattle.std.specs.Prelude.{◌≡◌, ◌∷◌, [], IfOk, None, codes}
 ghost use Rattle.wenc_parts.specs.declared.exports.ComponentExportKind.{ComponentExportKind};
 ghost use Rattle.wenc_parts.specs.declared.imports.ComponentTypeRef.{ComponentTypeRef};
 ghost use Rattle.wenc_parts.specs.Imports.{plain_name};
-ghost use Rattle.wasm_encoder.specs.Item.{ImportItem, ExportItem};
+ghost use Rattle.wasm_encoder.specs.Entry.{import_entry, export_entry, items};
 ghost use Rattle.wasm_encoder.specs.Sections.{whole};
 
 use std::alloc::Allocator;
@@ -14,8 +14,9 @@ use wasm_encoder::{ComponentBuilder, ComponentExportKind, ComponentTypeRef, Faul
 /// A component that imports a function and exports it again. What it is follows from the contracts of the
 /// builder's calls alone.
 pub fn passed_on<A: Allocator + Copy>(alloc: A) -> Result<Vec<u8, A>, Fault>
-    ensures { IfOk result (λ bytes. bytes.items ≡ whole (ImportItem (plain_name (codes "f")) (ComponentTypeRef.Func 0)
-        ∷ ExportItem (plain_name (codes "g")) ComponentExportKind.Func 0 None ∷ [])) }
+    ensures { IfOk result (λ bytes. bytes.items ≡ whole (items (
+        import_entry (plain_name (codes "f")) (ComponentTypeRef.Func 0)
+        ∷ export_entry (plain_name (codes "g")) ComponentExportKind.Func 0 None ∷ []))) }
 {
     let mut builder = ComponentBuilder::new(alloc)?;
     let index = builder.import("f".into(), ComponentTypeRef::Func(0))?;

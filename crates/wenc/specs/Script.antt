@@ -67,12 +67,12 @@ reference kinds.Component i = refs.Component i
 abbrev pub import : List ℕ → Option ComponentExportKind → Option ℕ → Option CommandTree
 import name None i = None
 import name (Some k) None = None
-import name (Some k) (Some i) = Some (Import (plain_name name) (reference k i))
+import name (Some k) (Some i) = Some (Import (record { name = plain_name name; what = reference k i }))
 
 abbrev pub export : List ℕ → Option ComponentExportKind → Option ℕ → Option CommandTree
 export name None i = None
 export name (Some k) None = None
-export name (Some k) (Some i) = Some (Export (plain_name name) k i None)
+export name (Some k) (Some i) = Some (Export (record { name = plain_name name; kind = k; index = i; what = None }))
 
 -- the alias has its name as its debug name
 abbrev pub alias_export : Option ℕ → Option ComponentExportKind → List ℕ → Option CommandTree

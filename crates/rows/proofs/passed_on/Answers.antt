@@ -3,12 +3,13 @@ use Rattle.std.specs.Result.{IfOk}
 use Rattle.wenc_parts.specs.declared.exports.ComponentExportKind.TheVariants as kinds
 use Rattle.wenc_parts.specs.declared.imports.ComponentTypeRef.TheVariants as refs
 use Rattle.wenc_parts.specs.Imports.{ExternName, plain_name}
-use Rattle.wasm_encoder.specs.Item.{Item, ImportItem, ExportItem}
+use Rattle.wasm_encoder.specs.Item.{Item}
+use Rattle.wasm_encoder.specs.Entry.{import_entry, export_entry, items}
 use Rattle.wasm_encoder.specs.Sections.{whole}
 use Rattle.rows.proofs.passed_on.Goals as goal
 
 abbrev both : ExternName → ExternName → ℕ → List Item
-both f h i = ImportItem f (refs.Func 0) ∷ ExportItem h kinds.Func i None ∷ []
+both f h i = items (import_entry f (refs.Func 0) ∷ export_entry h kinds.Func i None ∷ [])
 
 same : (f f' h h' : ExternName) (i j : ℕ) → f ≡ f' → h ≡ h' → i ≡ j → both f h i ≡ both f' h' j
 same f f' h h' i j e d k = rw (e, d, k) refl
