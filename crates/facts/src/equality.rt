@@ -5,6 +5,7 @@ ghost use Rattle.wenc_parts.specs.SectionIds.{section_number};
 
 use std::cmp::Ordering;
 use wenc_base::{AbstractHeapType, ExportKind, Fault, HeapType, RefType, ValType};
+use wenc_canon::CanonicalOption;
 use wenc_parts::{
     ComponentExportKind, ComponentOuterAliasKind, ComponentSectionId, ComponentTypeRef,
     ComponentValType, ModuleArg, PrimitiveValType, ResultList, TypeBounds,
@@ -95,6 +96,12 @@ pub fn value_types(one: ComponentValType, other: ComponentValType) -> bool
 }
 
 pub fn result_lists(one: ResultList, other: ResultList) -> bool
+    ensures { IsTrue result ↔ (one ≡ other) }
+{
+    one == other
+}
+
+pub fn canonical_options(one: CanonicalOption, other: CanonicalOption) -> bool
     ensures { IsTrue result ↔ (one ≡ other) }
 {
     one == other

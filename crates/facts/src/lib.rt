@@ -2,6 +2,8 @@
 #![tactic(auto)]
 
 pub mod callers;
+pub mod canonicals;
+pub mod components;
 pub mod equality;
 pub mod numbers;
 pub mod parts;

@@ -17,6 +17,6 @@ same f f' h h' i j e d k = rw (e, d, k) refl
 pub returns : goal.returns
 returns g c =
     let P : List Item → Type 0 = λ xs. IfOk c.finish.result (λ bytes. bytes.items ≡ whole xs) in
-    let first = c.in_ok-index.ensures.held.held [] c.in_ok-builder.ensures.held in
-    let second = c.in_ok-export.ensures.held.held _ first.0 in
+    let first = c.in_ok-index.ensures.held [] c.in_ok-builder.ensures.held in
+    let second = c.in_ok-export.ensures.held _ first.0 in
     subst P (same _ (plain_name (codes "f")) _ (plain_name (codes "g")) _ 0 c.into.ensures c.into-2.ensures first.1) (c.finish.ensures.held _ second.0)

@@ -1,0 +1,28 @@
+//! Worked rows of canonical functions.
+ghost use Rattle.std.specs.Prelude.{◌≡◌, [], ◌∷◌, Some, None, true};
+ghost use Rattle.wenc_base.specs.Piece.{Wide};
+ghost use Rattle.wenc_base.specs.declared.types.ValType.{ValType};
+ghost use Rattle.wenc_canon.specs.declared.canonicals.CanonicalOption.{CanonicalOption};
+ghost use Rattle.wenc_canon.specs.Canonicals as rows;
+ghost use Rattle.wenc_base.specs.Forms.{counted};
+ghost use Rattle.wenc_canon.specs.Canonicals.{canonical, Lift, Lower, Provided};
+
+/// Rows and a section: their texts, and a spelling that is read.
+#[tactic(auto, unfolding(wenc_base::specs::Number::groups))]
+pub fn canonical_functions()
+    // core function 1 is lifted to type 2
+    ensures lift { (canonical (Lift 1 (CanonicalOption.Memory 0 ∷ CanonicalOption.Async ∷ []) 2)).text
+        ≡ 0x00 ∷ 0x00 ∷ 0x01 ∷ 0x02 ∷ 0x03 ∷ 0x00 ∷ 0x06 ∷ 0x02 ∷ [] }
+    ensures lower { (canonical (Lower 3 [])).text ≡ 0x01 ∷ 0x00 ∷ 0x03 ∷ 0x00 ∷ [] }
+    ensures padded_lower { (canonical (Lower 3 [])).Reads Wide
+        (0x01 ∷ 0x00 ∷ 0x83 ∷ 0x00 ∷ 0x00 ∷ []) [] }
+    ensures without_result { (canonical (Provided rows.TaskReturn (None, []))).text
+        ≡ 0x09 ∷ 0x01 ∷ 0x00 ∷ 0x00 ∷ [] }
+    ensures cancel { (canonical (Provided rows.StreamCancelRead (3, true))).text
+        ≡ 0x11 ∷ 0x03 ∷ 0x01 ∷ [] }
+    ensures poll { (canonical (Provided rows.WaitableSetPoll (tt, 0))).text
+        ≡ 0x21 ∷ 0x00 ∷ 0x00 ∷ [] }
+    ensures section { (counted canonical (Provided rows.ContextGet (ValType.I32, 0)
+        ∷ Provided rows.TaskCancel tt ∷ [])).text
+        ≡ 0x05 ∷ 0x02 ∷ 0x0a ∷ 0x7f ∷ 0x00 ∷ 0x05 ∷ [] }
+{}
