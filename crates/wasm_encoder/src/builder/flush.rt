@@ -6,7 +6,6 @@ ghost use Rattle.wasm_encoder.specs.Layout.{kind_id, section_head as head_text, 
 use super::earlier::Earlier;
 use super::kind::Kind;
 use std::alloc::Allocator;
-
 use wenc_base::{Holder, Short, encoding_size};
 
 /// The room in front of a section's items: for its id, its size and its count at their longest.

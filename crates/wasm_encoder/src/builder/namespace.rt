@@ -9,7 +9,6 @@ ghost use Rattle.wasm_encoder.specs.Spaces.{NamesFit};
 
 use std::alloc::{Allocator, Global};
 use std::marker::Model;
-
 use wenc_base::{Fault, Short, encoding_size, extend_in_room};
 
 /// What the text of a space's names is at most.
