@@ -1,4 +1,4 @@
-//! Tests of `wenc_parts`: worked parts, and a stranger's type.
+//! Tests of `wenc_parts` and of values of `wenc_base`: worked parts, and a stranger's type.
 #![tactic(auto)]
 
 #[cfg(test)]
@@ -15,4 +15,8 @@ mod own_values;
 #[cfg(test)]
 mod section_ids;
 #[cfg(test)]
+mod texts;
+#[cfg(test)]
 mod types;
+#[cfg(test)]
+mod values;

@@ -1,14 +1,53 @@
-use hexed::text;
+use crate::texts::texts;
 use std::alloc::{AllocError, Global};
 use std::borrow::CowStr;
 use std::test::Fail;
 use wenc_parts::{ComponentExternName, NameTree};
+
+/// The name of the interface, what follows the version, and the name elsewhere.
+type Options<'a> = (Option<&'a str>, Option<&'a str>, Option<&'a str>);
+
+/// A name, its options, and its text.
+type Row<'a> = (&'a str, Options<'a>, &'a str);
+
+const ROWS: [Row<'static>; 8] = [
+    ("", (None, None, None), "ee0000"),
+    ("f", (None, None, None), "ee000166"),
+    ("a", (Some("i"), None, Some("")), "ee020161020001690200"),
+    ("n", (None, Some("1"), Some("x")), "ee02016e02010131020178"),
+    (
+        "n",
+        (Some("i"), Some("1"), Some("x")),
+        "ee02016e03000169010131020178",
+    ),
+    // Each option alone.
+    ("n", (Some("i"), None, None), "ee02016e01000169"),
+    ("n", (None, Some("1"), None), "ee02016e01010131"),
+    ("n", (None, None, Some("x")), "ee02016e01020178"),
+];
 
 fn borrowed<'a>(text: Option<&'a str>) -> Option<CowStr<'a>> {
     match text {
         None => None,
         Some(text) => Some(CowStr::Borrowed(text)),
     }
+}
+
+fn lent<'a>(name: &'a str, options: Options<'a>) -> ComponentExternName<'a> {
+    ComponentExternName {
+        name: CowStr::Borrowed(name),
+        implements: borrowed(options.0),
+        version_suffix: borrowed(options.1),
+        external_id: borrowed(options.2),
+    }
+}
+
+#[test]
+fn lent_names(rt: HostRuntime) -> Result<(), Fail> {
+    for (name, options, wanted) in ROWS {
+        texts(&rt, rt.alloc(), &[(lent(name, options), wanted)])?;
+    }
+    Ok(())
 }
 
 fn string(alloc: Global, text: Option<&str>) -> Result<Option<String>, AllocError> {
@@ -18,6 +57,24 @@ fn string(alloc: Global, text: Option<&str>) -> Result<Option<String>, AllocErro
     }
 }
 
+fn tree(alloc: Global, name: &str, options: Options<'_>) -> Result<NameTree, AllocError> {
+    Ok(NameTree {
+        name: String::from_str(alloc, name)?,
+        implements: string(alloc, options.0)?,
+        version_suffix: string(alloc, options.1)?,
+        external_id: string(alloc, options.2)?,
+    })
+}
+
+#[test]
+fn trees(rt: HostRuntime) -> Result<(), Fail> {
+    for (name, options, wanted) in ROWS {
+        let tree = tree(rt.alloc(), name, options)?;
+        texts(&rt, rt.alloc(), &[(tree.as_name(), wanted)])?;
+    }
+    Ok(())
+}
+
 fn owned<'a>(text: Option<String>) -> Option<CowStr<'a>> {
     match text {
         None => None,
@@ -25,64 +82,20 @@ fn owned<'a>(text: Option<String>) -> Option<CowStr<'a>> {
     }
 }
 
-#[test]
-fn options(rt: HostRuntime) -> Result<(), Fail> {
-    let alloc = rt.alloc();
-    for (name, implements, version_suffix, external_id, wanted) in [
-        ("", None, None, None, "ee0000"),
-        ("f", None, None, None, "ee000166"),
-        ("a", Some("i"), None, Some(""), "ee020161020001690200"),
-        ("n", None, Some("1"), Some("x"), "ee02016e02010131020178"),
-        (
-            "n",
-            Some("i"),
-            Some("1"),
-            Some("x"),
-            "ee02016e03000169010131020178",
-        ),
-    ] {
-        let lent = ComponentExternName {
-            name: CowStr::Borrowed(name),
-            implements: borrowed(implements),
-            version_suffix: borrowed(version_suffix),
-            external_id: borrowed(external_id),
-        };
-        assert_eq!(rt; text(alloc, &lent)?.as_str(), wanted);
-
-        let kept: ComponentExternName = ComponentExternName {
-            name: CowStr::Owned(String::from_str(alloc, name)?),
-            implements: owned(string(alloc, implements)?),
-            version_suffix: owned(string(alloc, version_suffix)?),
-            external_id: owned(string(alloc, external_id)?),
-        };
-        assert_eq!(rt; text(alloc, &kept)?.as_str(), wanted);
-
-        let tree = NameTree {
-            name: String::from_str(alloc, name)?,
-            implements: string(alloc, implements)?,
-            version_suffix: string(alloc, version_suffix)?,
-            external_id: string(alloc, external_id)?,
-        };
-        assert_eq!(rt; text(alloc, &tree.as_name())?.as_str(), wanted);
+fn kept<'a>(tree: NameTree) -> ComponentExternName<'a> {
+    ComponentExternName {
+        name: CowStr::Owned(tree.name),
+        implements: owned(tree.implements),
+        version_suffix: owned(tree.version_suffix),
+        external_id: owned(tree.external_id),
     }
-    Ok(())
 }
 
-// Each option alone.
 #[test]
-fn one_option(rt: HostRuntime) -> Result<(), Fail> {
-    for (implements, version_suffix, external_id, wanted) in [
-        (Some("i"), None, None, "ee02016e01000169"),
-        (None, Some("1"), None, "ee02016e01010131"),
-        (None, None, Some("x"), "ee02016e01020178"),
-    ] {
-        let name = ComponentExternName {
-            name: CowStr::Borrowed("n"),
-            implements: borrowed(implements),
-            version_suffix: borrowed(version_suffix),
-            external_id: borrowed(external_id),
-        };
-        assert_eq!(rt; text(rt.alloc(), &name)?.as_str(), wanted);
+fn kept_names(rt: HostRuntime) -> Result<(), Fail> {
+    for (name, options, wanted) in ROWS {
+        let name = kept(tree(rt.alloc(), name, options)?);
+        texts(&rt, rt.alloc(), &[(name, wanted)])?;
     }
     Ok(())
 }
@@ -92,47 +105,58 @@ fn has_no_option(name: &ComponentExternName) -> bool {
 }
 
 #[test]
-fn made_of_texts(rt: HostRuntime) -> Result<(), Fail> {
-    let alloc = rt.alloc();
-    let of_str = ComponentExternName::from("f");
-    assert!(rt; has_no_option(&of_str));
-    assert_eq!(rt; text(alloc, &of_str)?.as_str(), "ee000166");
+fn made_of_borrowed_text(rt: HostRuntime) -> Result<(), Fail> {
+    let name = ComponentExternName::from("f");
+    assert!(rt; has_no_option(&name));
+    texts(&rt, rt.alloc(), &[(name, "ee000166")])
+}
 
-    let string = String::from_str(alloc, "f")?;
-    let of_lent = ComponentExternName::from(&string);
-    assert!(rt; has_no_option(&of_lent));
-    assert_eq!(rt; text(alloc, &of_lent)?.as_str(), "ee000166");
+#[test]
+fn made_of_lent_text(rt: HostRuntime) -> Result<(), Fail> {
+    let string = String::from_str(rt.alloc(), "f")?;
+    let name = ComponentExternName::from(&string);
+    assert!(rt; has_no_option(&name));
+    texts(&rt, rt.alloc(), &[(name, "ee000166")])
+}
 
-    let of_string = ComponentExternName::from(String::from_str(alloc, "f")?);
-    assert!(rt; has_no_option(&of_string));
-    assert_eq!(rt; text(alloc, &of_string)?.as_str(), "ee000166");
+#[test]
+fn made_of_owned_text(rt: HostRuntime) -> Result<(), Fail> {
+    let name = ComponentExternName::from(String::from_str(rt.alloc(), "f")?);
+    assert!(rt; has_no_option(&name));
+    texts(&rt, rt.alloc(), &[(name, "ee000166")])
+}
 
-    let tree = NameTree::from(String::from_str(alloc, "f")?);
-    assert!(rt; tree.implements.is_none());
-    assert!(rt; tree.version_suffix.is_none());
-    assert!(rt; tree.external_id.is_none());
+#[test]
+fn trees_made_of_text(rt: HostRuntime) -> Result<(), Fail> {
+    let tree = NameTree::from(String::from_str(rt.alloc(), "f")?);
     assert!(rt; has_no_option(&tree.as_name()));
-    assert_eq!(rt; text(alloc, &tree.as_name())?.as_str(), "ee000166");
-    Ok(())
+    texts(&rt, rt.alloc(), &[(tree.as_name(), "ee000166")])
+}
+
+fn with_two_options<'a>(alloc: Global) -> Result<ComponentExternName<'a>, AllocError> {
+    Ok(ComponentExternName {
+        name: CowStr::Borrowed("a"),
+        implements: Some(CowStr::Owned(String::from_str(alloc, "i")?)),
+        version_suffix: None,
+        external_id: Some(CowStr::Borrowed("")),
+    })
 }
 
 #[test]
 fn cloned(rt: HostRuntime) -> Result<(), Fail> {
-    let name: ComponentExternName = ComponentExternName {
-        name: CowStr::Borrowed("a"),
-        implements: Some(CowStr::Owned(String::from_str(rt.alloc(), "i")?)),
-        version_suffix: None,
-        external_id: Some(CowStr::Borrowed("")),
-    };
+    let name = with_two_options(rt.alloc())?;
     let other = name.clone()?;
     assert_eq!(rt; other.name.as_str(), "a");
     assert!(rt; other.implements == name.implements);
     assert!(rt; other.version_suffix.is_none());
     assert!(rt; other.external_id == name.external_id);
-    assert_eq!(rt; text(rt.alloc(), &other)?.as_str(), "ee020161020001690200");
-
-    // Dropping one leaves the other.
-    drop(name);
-    assert_eq!(rt; text(rt.alloc(), &other)?.as_str(), "ee020161020001690200");
     Ok(())
+}
+
+#[test]
+fn dropping_one_leaves_the_other(rt: HostRuntime) -> Result<(), Fail> {
+    let name = with_two_options(rt.alloc())?;
+    let other = name.clone()?;
+    drop(name);
+    texts(&rt, rt.alloc(), &[(other, "ee020161020001690200")])
 }

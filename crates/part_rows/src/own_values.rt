@@ -1,23 +1,28 @@
 use crate::own::{Light, write_all};
-use hexed::text;
+use crate::texts::texts;
 use std::test::Fail;
 
 #[test]
-fn alone_and_in_others(rt: HostRuntime) -> Result<(), Fail> {
-    let alloc = rt.alloc();
-    assert_eq!(rt; text(alloc, &Light::Red)?.as_str(), "ee72");
-    assert_eq!(rt; text(alloc, &Light::Green)?.as_str(), "ee67");
-    assert_eq!(rt; text(alloc, &Some(Light::Green))?.as_str(), "ee0167");
-    assert_eq!(rt; text(alloc, &None::<Light>)?.as_str(), "ee00");
+fn alone(rt: HostRuntime) -> Result<(), Fail> {
+    let rows = [(Light::Red, "ee72"), (Light::Green, "ee67")];
+    texts(&rt, rt.alloc(), rows.as_slice())
+}
+
+#[test]
+fn in_an_option(rt: HostRuntime) -> Result<(), Fail> {
+    let rows = [(Some(Light::Green), "ee0167"), (None, "ee00")];
+    texts(&rt, rt.alloc(), rows.as_slice())
+}
+
+#[test]
+fn in_a_list(rt: HostRuntime) -> Result<(), Fail> {
     let lights = [Light::Red, Light::Green, Light::Red];
-    assert_eq!(rt; text(alloc, &lights.as_slice())?.as_str(), "ee03726772");
-    Ok(())
+    texts(&rt, rt.alloc(), &[(lights.as_slice(), "ee03726772")])
 }
 
 #[test]
 fn generic(rt: HostRuntime) -> Result<(), Fail> {
-    let mut sink = Vec::new(rt.alloc());
-    sink.push(0xee)?;
+    let mut sink = [0xee].to_vec(rt.alloc())?;
     write_all(&[Light::Red, Light::Green], Some(Light::Red), &mut sink)?;
     write_all(&[], None::<Light>, &mut sink)?;
     let bytes = hex::encode(rt.alloc(), sink.as_slice())?;

@@ -1,51 +1,43 @@
 ghost use Rattle.std.specs.Prelude.{◌∷◌, []};
 
-use hexed::text;
+use crate::texts::texts;
 use std::alloc::Allocator;
 use std::test::Fail;
 use wenc_base::{Encode, Fault};
 use wenc_parts::{ComponentSection, ComponentSectionId};
 
+/// Each id stands at its number.
+const IDS: [(ComponentSectionId, &str); 12] = [
+    (ComponentSectionId::CoreCustom, "ee00"),
+    (ComponentSectionId::CoreModule, "ee01"),
+    (ComponentSectionId::CoreInstance, "ee02"),
+    (ComponentSectionId::CoreType, "ee03"),
+    (ComponentSectionId::Component, "ee04"),
+    (ComponentSectionId::Instance, "ee05"),
+    (ComponentSectionId::Alias, "ee06"),
+    (ComponentSectionId::Type, "ee07"),
+    (ComponentSectionId::CanonicalFunction, "ee08"),
+    (ComponentSectionId::Start, "ee09"),
+    (ComponentSectionId::Import, "ee0a"),
+    (ComponentSectionId::Export, "ee0b"),
+];
+
 #[test]
-fn section_ids(rt: HostRuntime) -> Result<(), Fail> {
-    for (id, number, wanted) in [
-        (ComponentSectionId::CoreCustom, 0u8, "ee00"),
-        (ComponentSectionId::CoreModule, 1, "ee01"),
-        (ComponentSectionId::CoreInstance, 2, "ee02"),
-        (ComponentSectionId::CoreType, 3, "ee03"),
-        (ComponentSectionId::Component, 4, "ee04"),
-        (ComponentSectionId::Instance, 5, "ee05"),
-        (ComponentSectionId::Alias, 6, "ee06"),
-        (ComponentSectionId::Type, 7, "ee07"),
-        (ComponentSectionId::CanonicalFunction, 8, "ee08"),
-        (ComponentSectionId::Start, 9, "ee09"),
-        (ComponentSectionId::Import, 10, "ee0a"),
-        (ComponentSectionId::Export, 11, "ee0b"),
-    ] {
-        assert_eq!(rt; u8::from(id), number);
-        assert_eq!(rt; text(rt.alloc(), &id)?.as_str(), wanted);
-    }
-    Ok(())
+fn ids(rt: HostRuntime) -> Result<(), Fail> {
+    texts(&rt, rt.alloc(), IDS.as_slice())
 }
 
 #[test]
-fn section_ids_are_ordered_by_number(rt: HostRuntime) {
-    let ids = [
-        ComponentSectionId::CoreCustom,
-        ComponentSectionId::CoreModule,
-        ComponentSectionId::CoreInstance,
-        ComponentSectionId::CoreType,
-        ComponentSectionId::Component,
-        ComponentSectionId::Instance,
-        ComponentSectionId::Alias,
-        ComponentSectionId::Type,
-        ComponentSectionId::CanonicalFunction,
-        ComponentSectionId::Start,
-        ComponentSectionId::Import,
-        ComponentSectionId::Export,
-    ];
-    for (i, one) in ids.iter().enumerate() {
-        for (j, other) in ids.iter().enumerate() {
+fn numbers(rt: HostRuntime) {
+    for (i, (id, _)) in IDS.iter().enumerate() {
+        assert_eq!(rt; usize::from(u8::from(*id)), i);
+    }
+}
+
+#[test]
+fn ordered_by_number(rt: HostRuntime) {
+    for (i, (one, _)) in IDS.iter().enumerate() {
+        for (j, (other, _)) in IDS.iter().enumerate() {
             assert!(rt; one.cmp(other) == i.cmp(&j), "{i} and {j}");
             assert!(rt; (one < other) == (i < j), "{i} and {j}");
             assert!(rt; (one == other) == (i == j), "{i} and {j}");
@@ -77,8 +69,7 @@ impl ComponentSection for Own {
 
 #[test]
 fn own_section(rt: HostRuntime) -> Result<(), Fail> {
-    let mut sink = Vec::new(rt.alloc());
-    sink.push(0xee)?;
+    let mut sink = [0xee].to_vec(rt.alloc())?;
     Own.append_to_component(&mut sink)?;
     let bytes = hex::encode(rt.alloc(), sink.as_slice())?;
     assert_eq!(rt; bytes.as_str(), "ee632a");

@@ -23,13 +23,13 @@ fn names(rt: HostRuntime) -> Result<(), Fail> {
     Ok(())
 }
 
-type Kept<'a, 'b> = ComponentExternName<'b, &'a Refusing>;
+type Kept<'a> = ComponentExternName<'a, &'a Refusing>;
 
-fn owned<'a, 'b>(heap: &'a Refusing) -> Result<CowStr<'b, &'a Refusing>, AllocError> {
+fn owned<'a>(heap: &'a Refusing) -> Result<CowStr<'a, &'a Refusing>, AllocError> {
     Ok(CowStr::Owned(String::from_str(heap, NAME)?))
 }
 
-fn owned_name<'a, 'b>(heap: &'a Refusing) -> Result<Kept<'a, 'b>, AllocError> {
+fn owned_name<'a>(heap: &'a Refusing) -> Result<Kept<'a>, AllocError> {
     Ok(ComponentExternName {
         name: owned(heap)?,
         implements: Some(owned(heap)?),
@@ -38,19 +38,28 @@ fn owned_name<'a, 'b>(heap: &'a Refusing) -> Result<Kept<'a, 'b>, AllocError> {
     })
 }
 
+/// Whether a copy's request number `n` is refused and leaves the name as it was.
+fn is_refused<'a>(heap: &'a Refusing, name: &Kept<'a>, n: u64) -> bool {
+    heap.refuse_nth(n);
+    let outcome = name.clone();
+    outcome.err() == Some(REFUSED) && heap.requests() == n && name.name.as_str() == NAME
+}
+
 // A copy takes memory for each text that is owned.
 #[test]
-fn cloned_names(rt: HostRuntime) -> Result<(), Fail> {
+fn refused_copies(rt: HostRuntime) -> Result<(), Fail> {
     let heap = Refusing::new(rt.alloc());
     let name = owned_name(&heap)?;
     for n in 1..5u64 {
-        heap.refuse_nth(n);
-        let outcome = name.clone();
-        assert!(rt; heap.was_refused());
-        assert!(rt; outcome.err() == Some(REFUSED));
-        assert_eq!(rt; heap.requests(), n);
-        assert_eq!(rt; name.name.as_str(), NAME);
+        assert!(rt; is_refused(&heap, &name, n), "{n}");
     }
+    Ok(())
+}
+
+#[test]
+fn copies(rt: HostRuntime) -> Result<(), Fail> {
+    let heap = Refusing::new(rt.alloc());
+    let name = owned_name(&heap)?;
     heap.refuse_nth(5);
     let copy = name.clone()?;
     assert_eq!(rt; heap.requests(), 4);

@@ -1,5 +1,5 @@
 //! The law on texts at a stranger's type, in a list and in an option.
-ghost use Rattle.std.specs.Prelude.{◌≡◌, ◌++◌, ℕ, List, Option as Optional, Some, true};
+ghost use Rattle.std.specs.Prelude.{◌≡◌, ◌++◌, ℕ, List, true};
 ghost use Rattle.std.specs.Cmp.Lexicographic.{pointwise};
 ghost use Rattle.std.specs.Option.{option_eq};
 ghost use Rattle.wenc_base.specs.Delimited.{NoCause};

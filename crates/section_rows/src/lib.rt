@@ -16,5 +16,3 @@ mod items;
 mod nested;
 #[cfg(test)]
 mod producers;
-#[cfg(test)]
-mod sizes;

@@ -1,5 +1,4 @@
 use crate::checks::{alone, module_holds};
-use hexed::text;
 use std::alloc::Global;
 use std::test::Fail;
 use wenc_base::{Fault, Module, ProducersField, ProducersSection};
@@ -21,16 +20,6 @@ fn produced(alloc: Global) -> Result<ProducersSection, Fault> {
 }
 
 #[test]
-fn producers_fields(rt: HostRuntime) -> Result<(), Fail> {
-    let alloc = rt.alloc();
-    let none: ProducersField = ProducersField::new(alloc);
-    assert_eq!(rt; text(alloc, &none)?.as_str(), "ee00");
-    let field = tools(alloc)?;
-    assert_eq!(rt; text(alloc, &field)?.as_str(), "ee0101610131");
-    Ok(())
-}
-
-#[test]
 fn producers(rt: HostRuntime) -> Result<(), Fail> {
     let alloc = rt.alloc();
     let none: ProducersSection = ProducersSection::new(alloc);
@@ -47,17 +36,6 @@ fn producers_of_a_module(rt: HostRuntime) -> Result<(), Fail> {
     let mut module = Module::new(alloc)?;
     module.section(&section)?;
     module_holds(&rt, alloc, &module, PRODUCED)?;
-    Ok(())
-}
-
-#[test]
-fn copied_producers_fields(rt: HostRuntime) -> Result<(), Fail> {
-    let alloc = rt.alloc();
-    let field = tools(alloc)?;
-    let mut other = field.clone()?;
-    other.value("b", "")?;
-    assert_eq!(rt; text(alloc, &other)?.as_str(), "ee0201610131016200");
-    assert_eq!(rt; text(alloc, &field)?.as_str(), "ee0101610131");
     Ok(())
 }
 

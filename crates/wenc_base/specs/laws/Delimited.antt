@@ -69,7 +69,7 @@ each_text_of text seen form is (v ∷ vs) = rw (is v, each_text_of text seen for
 pub list_text_of : {A S : Type 0} (text : A → List ℕ) (seen : A → S) (form : Form S) → IsTextOf text seen form → IsTextOf (list_text text) (map seen) (list form)
 list_text_of text seen form is vs = rw (length-map vs seen, each_text_of text seen form is vs) refl
 
-count_free : (n : ℕ) → n < 2 ^ 32 → NoCause (count_cause n)
+pub count_free : (n : ℕ) → n < 2 ^ 32 → NoCause (count_cause n)
 count_free n h (Memory e) k = k
 count_free n h TooMany k = absurd (omega (arith, h, k))
 count_free n h TooLarge k = k
@@ -101,7 +101,7 @@ more P vs i v lt e before h = All-more P vs i v lt before (rw e at h)
 
 -- ---- texts
 
-text_free : (bytes : List ℕ) → length bytes < 2 ^ 32 → NoCause (text_cause bytes)
+pub text_free : (bytes : List ℕ) → length bytes < 2 ^ 32 → NoCause (text_cause bytes)
 text_free bytes h (Memory e) k = k
 text_free bytes h TooMany k = k
 text_free bytes h TooLarge k = absurd (omega (arith, h, k))

@@ -6,21 +6,8 @@ use Rattle.wenc_base.specs.Fault.{text_cause, count_cause, list_cause}
 use Rattle.wenc_base.specs.Forms.{list}
 use Rattle.wenc_base.specs.Number.{u32}
 use Rattle.wenc_base.specs.laws.Causes.{never, no_member}
-use Rattle.wenc_base.specs.laws.Delimited.{pair_cause_free, first_free, second_free, free_text}
-use Rattle.wenc_base.specs.declared.fault.Fault.TheVariants.{Memory, TooMany, TooLarge, Unfinished}
+use Rattle.wenc_base.specs.laws.Delimited.{pair_cause_free, first_free, second_free, free_text, text_free, count_free}
 use Rattle.wenc_sections.specs.Start.{Start, start, start_cause}
-
-text_free : (bytes : List ℕ) → length bytes < 2 ^ 32 → NoCause (text_cause bytes)
-text_free bytes h (Memory e) k = k
-text_free bytes h TooMany k = k
-text_free bytes h TooLarge k = absurd (omega (arith, h, k))
-text_free bytes h Unfinished k = k
-
-count_free : (n : ℕ) → n < 2 ^ 32 → NoCause (count_cause n)
-count_free n h (Memory e) k = k
-count_free n h TooMany k = absurd (omega (arith, h, k))
-count_free n h TooLarge k = k
-count_free n h Unfinished k = k
 
 -- what fits has no cause
 pub start_free : (s : Start) → (start s).Fits → NoCause (start_cause s)
