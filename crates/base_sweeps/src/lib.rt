@@ -2,6 +2,10 @@
 #![tactic(auto)]
 
 #[cfg(test)]
+mod composites;
+#[cfg(test)]
+mod entities;
+#[cfg(test)]
 mod holders;
 #[cfg(test)]
 mod lists;

@@ -39,6 +39,7 @@ impl<'a> Members<'a> for Opened<'a> {
 enum Piece {
     Text,
     Encoded,
+    Listed,
     Last,
 }
 
@@ -50,6 +51,7 @@ impl<'a> Adds<Opened<'a>> for Piece {
         match self {
             Piece::Text => to.0.append(TEXT),
             Piece::Encoded => to.0.append_encoded(&(LARGE, TEXT)),
+            Piece::Listed => to.0.append_listed(TEXT, [LARGE, LARGE].into_iter()),
             Piece::Last => to.0.close(TEXT),
         }
     }
@@ -58,7 +60,7 @@ impl<'a> Adds<Opened<'a>> for Piece {
 #[test]
 fn pieces(rt: HostRuntime) -> Result<(), Fail> {
     let heap = Refusing::new(rt.alloc());
-    let calls = [Piece::Text, Piece::Encoded, Piece::Last];
+    let calls = [Piece::Text, Piece::Encoded, Piece::Listed, Piece::Last];
     assert!(rt; sweep_calls::<Opened, Piece>(rt.alloc(), &heap, calls.as_slice())?);
     Ok(())
 }

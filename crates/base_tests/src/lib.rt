@@ -2,9 +2,15 @@
 #![tactic(auto)]
 
 #[cfg(test)]
+mod composites;
+#[cfg(test)]
+mod entities;
+#[cfg(test)]
 mod holder;
 #[cfg(test)]
 mod kept;
+#[cfg(test)]
+mod lenders;
 #[cfg(test)]
 mod openings;
 #[cfg(test)]

@@ -9,7 +9,7 @@ use std::test::Fail;
 use wenc_base::{Encode, Fault, Holder};
 
 // What a holder has in which a member is being written. Nothing is made of it.
-fn check_unfinished(
+pub fn check_unfinished(
     rt: &impl Abort,
     alloc: Global,
     holder: &Holder,

@@ -1,15 +1,23 @@
 //! Two values are equal exactly where they are the same value, and ids of sections are ordered by their numbers.
 ghost use Rattle.std.specs.Prelude.{◌≡◌, ◌↔◌, IsTrue, nat_lt};
 ghost use Rattle.std.specs.Ordering.{nat_cmp};
+ghost use Rattle.wenc_base.specs.Composites.{function_view, structure_view, composite_view, sub_view, group_view};
 ghost use Rattle.wenc_parts.specs.SectionIds.{section_number};
+ghost use Rattle.wenc_types.specs.CoreTypeTrees.{core_type_view, module_declaration_view};
 
+use std::alloc::Allocator;
 use std::cmp::Ordering;
-use wenc_base::{AbstractHeapType, ExportKind, Fault, HeapType, RefType, ValType};
+use wenc_base::{
+    AbstractHeapType, ArrayType, CompositeType, EntityType, ExportKind, Fault, FieldType, FuncType,
+    GlobalType, GroupTree, HeapType, MemoryType, RefType, StorageType, StructType, SubType,
+    TableType, TagType, ValType,
+};
 use wenc_canon::CanonicalOption;
 use wenc_parts::{
     ComponentExportKind, ComponentOuterAliasKind, ComponentSectionId, ComponentTypeRef,
     ComponentValType, ModuleArg, PrimitiveValType, ResultList, TypeBounds,
 };
+use wenc_types::{CoreTypeTree, ModuleDecl};
 
 pub fn kinds_of_core_exports(one: ExportKind, other: ExportKind) -> bool
     ensures { IsTrue result ↔ (one ≡ other) }
@@ -37,6 +45,101 @@ pub fn heap_types(one: HeapType, other: HeapType) -> bool
 
 pub fn abstract_heap_types(one: AbstractHeapType, other: AbstractHeapType) -> bool
     ensures { IsTrue result ↔ (one ≡ other) }
+{
+    one == other
+}
+
+pub fn storage_types(one: StorageType, other: StorageType) -> bool
+    ensures { IsTrue result ↔ (one ≡ other) }
+{
+    one == other
+}
+
+#[tactic(auto, using(crate::proofs::Equalities::fields))]
+pub fn field_types(one: FieldType, other: FieldType) -> bool
+    ensures { IsTrue result ↔ (one ≡ other) }
+{
+    one == other
+}
+
+#[tactic(auto, using(crate::proofs::Equalities::arrays))]
+pub fn array_types(one: ArrayType, other: ArrayType) -> bool
+    ensures { IsTrue result ↔ (one ≡ other) }
+{
+    one == other
+}
+
+#[tactic(auto, using(crate::proofs::Equalities::tables))]
+pub fn table_types(one: TableType, other: TableType) -> bool
+    ensures { IsTrue result ↔ (one ≡ other) }
+{
+    one == other
+}
+
+pub fn memory_types(one: MemoryType, other: MemoryType) -> bool
+    ensures { IsTrue result ↔ (one ≡ other) }
+{
+    one == other
+}
+
+#[tactic(auto, using(crate::proofs::Equalities::globals))]
+pub fn global_types(one: GlobalType, other: GlobalType) -> bool
+    ensures { IsTrue result ↔ (one ≡ other) }
+{
+    one == other
+}
+
+pub fn tag_types(one: TagType, other: TagType) -> bool
+    ensures { IsTrue result ↔ (one ≡ other) }
+{
+    one == other
+}
+
+#[tactic(auto, using(crate::proofs::Equalities::entities))]
+pub fn entity_types(one: EntityType, other: EntityType) -> bool
+    ensures { IsTrue result ↔ (one ≡ other) }
+{
+    one == other
+}
+
+pub fn function_types<A: Allocator>(one: &FuncType<A>, other: &FuncType<A>) -> bool
+    ensures { IsTrue result ↔ (function_view one.now ≡ function_view other.now) }
+{
+    one == other
+}
+
+pub fn structure_types<A: Allocator>(one: &StructType<A>, other: &StructType<A>) -> bool
+    ensures { IsTrue result ↔ (structure_view one.now ≡ structure_view other.now) }
+{
+    one == other
+}
+
+pub fn composite_types<A: Allocator>(one: &CompositeType<A>, other: &CompositeType<A>) -> bool
+    ensures { IsTrue result ↔ (composite_view one.now ≡ composite_view other.now) }
+{
+    one == other
+}
+
+pub fn sub_types<A: Allocator>(one: &SubType<A>, other: &SubType<A>) -> bool
+    ensures { IsTrue result ↔ (sub_view one.now ≡ sub_view other.now) }
+{
+    one == other
+}
+
+pub fn groups_of_types<A: Allocator>(one: &GroupTree<A>, other: &GroupTree<A>) -> bool
+    ensures { IsTrue result ↔ (group_view one.now ≡ group_view other.now) }
+{
+    one == other
+}
+
+pub fn declarations_of_modules<A: Allocator>(one: &ModuleDecl<A>, other: &ModuleDecl<A>) -> bool
+    ensures { IsTrue result ↔ (module_declaration_view one.now ≡ module_declaration_view other.now) }
+{
+    one == other
+}
+
+pub fn core_types<A: Allocator>(one: &CoreTypeTree<A>, other: &CoreTypeTree<A>) -> bool
+    ensures { IsTrue result ↔ (core_type_view one.now ≡ core_type_view other.now) }
 {
     one == other
 }

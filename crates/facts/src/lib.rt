@@ -1,9 +1,11 @@
-//! Facts that are proved: worked texts and components on literals, and that derived equality goes by value.
+//! Facts that are proved: worked texts and components on literals, that derived equality goes by value, and callers.
 #![tactic(auto)]
 
 pub mod callers;
 pub mod canonicals;
 pub mod components;
+pub mod encoders;
 pub mod equality;
 pub mod numbers;
 pub mod parts;
+pub mod types;

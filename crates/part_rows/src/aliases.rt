@@ -1,4 +1,5 @@
 use crate::texts::texts;
+use hexed::text;
 use std::test::Fail;
 use wenc_base::ExportKind;
 use wenc_parts::{Alias, AliasTree, ComponentExportKind, ComponentOuterAliasKind};
@@ -75,7 +76,7 @@ fn outer(rt: HostRuntime) -> Result<(), Fail> {
 #[test]
 fn outer_trees(rt: HostRuntime) -> Result<(), Fail> {
     for (kind, count, index, wanted) in OUTER {
-        let tree = AliasTree::Outer { kind, count, index };
+        let tree: AliasTree = AliasTree::Outer { kind, count, index };
         texts(&rt, rt.alloc(), &[(tree.as_alias(), wanted)])?;
     }
     Ok(())
@@ -93,10 +94,12 @@ fn trees_of_exports(rt: HostRuntime) -> Result<(), Fail> {
 
 #[test]
 fn trees_of_core_exports(rt: HostRuntime) -> Result<(), Fail> {
+    let alloc = rt.alloc();
     let tree = AliasTree::CoreInstanceExport {
         instance: 0,
         kind: ExportKind::Tag,
-        name: String::from_str(rt.alloc(), "t")?,
+        name: String::from_str(&alloc, "t")?,
     };
-    texts(&rt, rt.alloc(), &[(tree.as_alias(), "ee000401000174")])
+    assert_eq!(rt; text(alloc, &tree.as_alias())?.as_str(), "ee000401000174");
+    Ok(())
 }

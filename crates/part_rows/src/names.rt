@@ -1,5 +1,6 @@
 use crate::texts::texts;
-use std::alloc::{AllocError, Global};
+use hexed::text;
+use std::alloc::{AllocError, Allocator, Global};
 use std::borrow::CowStr;
 use std::test::Fail;
 use wenc_parts::{ComponentExternName, NameTree};
@@ -50,14 +51,18 @@ fn lent_names(rt: HostRuntime) -> Result<(), Fail> {
     Ok(())
 }
 
-fn string(alloc: Global, text: Option<&str>) -> Result<Option<String>, AllocError> {
+fn string<A: Allocator>(alloc: A, text: Option<&str>) -> Result<Option<String<A>>, AllocError> {
     match text {
         None => Ok(None),
         Some(text) => Ok(Some(String::from_str(alloc, text)?)),
     }
 }
 
-fn tree(alloc: Global, name: &str, options: Options<'_>) -> Result<NameTree, AllocError> {
+fn tree<A: Allocator + Copy>(
+    alloc: A,
+    name: &str,
+    options: Options<'_>,
+) -> Result<NameTree<A>, AllocError> {
     Ok(NameTree {
         name: String::from_str(alloc, name)?,
         implements: string(alloc, options.0)?,
@@ -68,9 +73,10 @@ fn tree(alloc: Global, name: &str, options: Options<'_>) -> Result<NameTree, All
 
 #[test]
 fn trees(rt: HostRuntime) -> Result<(), Fail> {
+    let alloc = rt.alloc();
     for (name, options, wanted) in ROWS {
-        let tree = tree(rt.alloc(), name, options)?;
-        texts(&rt, rt.alloc(), &[(tree.as_name(), wanted)])?;
+        let tree = tree(&alloc, name, options)?;
+        assert_eq!(rt; text(alloc, &tree.as_name())?.as_str(), wanted);
     }
     Ok(())
 }

@@ -49,7 +49,7 @@ ran_all commands answers s r = (r.so_far, ran, r.held)
     ran : Ran commands answers r.so_far
     ran = let q : RanFrom [] commands (answers ++ []) r.so_far = r.goes_on [] r.so_far refl in rw append-nil at q
 
-pub next_is : (commands : List Command) (i : ℕ) (c d : Command) → i < length commands → c ≡ get_or commands i d → drop i commands ≡ c ∷ drop (i + 1) commands
+pub next_is : {A : Type 0} (commands : List (Command A)) (i : ℕ) (c d : Command A) → i < length commands → c ≡ get_or commands i d → drop i commands ≡ c ∷ drop (i + 1) commands
 next_is commands i c d h e = rw (add-one, e) (drop-cons commands i d h)
 
 pub mapped : (r : Result ℕ Fault) (a : Result (Option ℕ) Fault) → MatchResult r (λ i. IsOkAnd a (λ o. o ≡ Some i)) (λ fault. a ≡ Err fault) → a ≡ kept r

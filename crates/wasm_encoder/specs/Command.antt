@@ -26,7 +26,7 @@ abbrev pub debug_name_view : {A : Type 0} → Option (String A) → Option (List
 debug_name_view None = None
 debug_name_view (Some name) = Some (string_bytes name)
 
-abbrev pub command_view : Command → CommandTree
+abbrev pub command_view : {A : Type 0} → Command A → CommandTree
 command_view (commands.Alias n alias) = Alias (debug_name_view n) (alias_tree_view alias)
 command_view (commands.Import name ty) = Import (record { name = name_tree_view name; what = ty })
 command_view (commands.Export name kind index ty) = Export (record { name = name_tree_view name; kind = kind; index = index; what = ty })

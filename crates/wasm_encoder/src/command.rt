@@ -21,29 +21,29 @@ use wenc_parts::{AliasTree, ComponentExportKind, ComponentTypeRef, NameTree};
 /// };
 /// ```
 #[derive(Drop)]
-pub enum Command {
+pub enum Command<A: Allocator = Global> {
     /// An alias, with a debug name or none.
     Alias {
-        n: Option<String>,
-        alias: AliasTree,
+        n: Option<String<A>>,
+        alias: AliasTree<A>,
     },
     /// An import.
     Import {
-        name: NameTree,
+        name: NameTree<A>,
         ty: ComponentTypeRef,
     },
     /// An export of the item of this kind with this index, with a type or none.
     Export {
-        name: NameTree,
+        name: NameTree<A>,
         kind: ComponentExportKind,
         index: u32,
         ty: Option<ComponentTypeRef>,
     },
 }
 
-impl Command {
+impl<A: Allocator> Command<A> {
     /// Makes the call that this command is.
-    fn run<A: Allocator>(&self, builder: &mut ComponentBuilder<A>) -> Result<u32, Fault>
+    fn run<B: Allocator>(&self, builder: &mut ComponentBuilder<B>) -> Result<u32, Fault>
         ensures { Enters builder.old builder.new result (entry_of (command_view self.now)) }
     {
         match self {
@@ -59,7 +59,7 @@ impl Command {
     }
 }
 
-fn debug_name(name: &Option<String>) -> Option<&str>
+fn debug_name<A: Allocator>(name: &Option<String<A>>) -> Option<&str>
     ensures { option_copied result ≡ debug_name_view name.now }
 {
     match name {
@@ -89,7 +89,10 @@ pub struct Built<A: Allocator = Global> {
 /// let component = built.bytes;
 /// ```
 #[tactic(auto, using(crate::proofs::Run::ran_none))]
-pub fn build<A: Allocator + Copy>(alloc: A, commands: &[Command]) -> Result<Built<A>, Fault>
+pub fn build<A: Allocator + Copy, B: Allocator>(
+    alloc: A,
+    commands: &[Command<B>],
+) -> Result<Built<A>, Fault>
     // There are entries that the commands and the answers lead to, and the bytes are the component of their items.
     ensures ran { IfOk result (λ b. (es : List Entry)
         × Ran (map command_view commands.now) b.answers.items es

@@ -6,10 +6,13 @@ pub mod Encode
 pub mod Delimited
 pub mod Exports
 pub mod Types
+pub mod Composites
+pub mod Entities
 pub mod Custom
 pub mod Producers
 pub mod Modules
 pub mod Holder
+pub mod Lender
 pub mod Openings
 pub mod FormLaws
 pub mod laws

@@ -1,7 +1,8 @@
 -- A member that is written piece by piece into a holder: its opening, what is added to it, and its end.
-use Rattle.std.specs.Prelude.{◌≡◌, ℕ, ◌+◌, ◌-◌, ◌≤◌, ◌^◌, ◌⊎◌, false, ◌++◌, List, length, take, Option, Some, None, Result, Err, OnOk, OnErr, IfErr}
+use Rattle.std.specs.Prelude.{◌≡◌, ◌==◌, Bool, ℕ, ◌+◌, ◌-◌, ◌≤◌, ◌^◌, false, ◌++◌, List, length, take, Option, Some, None, Result, Err, OnOk, OnErr, IfErr}
 use Rattle.wenc_base.specs.Fault.{IsWarranted}
 use Rattle.wenc_base.specs.Holder.{Held, is_finished, holding, content_size, AddCause}
+use Rattle.wenc_base.specs.Lender.{either, Extends}
 use Rattle.wenc_base.specs.declared.fault.Fault.{Fault}
 use Rattle.wenc_base.specs.declared.fault.Fault.TheVariants.{TooLarge, Unfinished}
 use Rattle.wenc_base.specs.declared.holder.openings.Opening.{Opening}
@@ -32,12 +33,12 @@ abbrev pub given_up : Held → Held
 given_up h = given_up_at h h.opening
 
 -- A member is being written, and nothing stands behind its lead.
-abbrev pub IsOpenedAt : List ℕ → Option Opening → Type 0
-IsOpenedAt body None = ⊥
-IsOpenedAt body (Some o) = length body ≡ o.lead_end
+abbrev pub is_opened_at : List ℕ → Option Opening → Bool
+is_opened_at body None = false
+is_opened_at body (Some o) = length body == o.lead_end
 
-abbrev pub IsOpened : Held → Type 0
-IsOpened h = IsOpenedAt h.body h.opening
+abbrev pub is_opened : Held → Bool
+is_opened h = is_opened_at h.body h.opening
 
 -- A call opens a member with this lead, or is refused for a cause and changes nothing.
 pub record OpensMember (old new : Held) (outcome : Result (Unit {0}) Fault) (lead : List ℕ) : Type 0 where
@@ -47,13 +48,14 @@ pub record OpensMember (old new : Held) (outcome : Result (Unit {0}) Fault) (lea
   pub warranted : IfErr outcome (IsWarranted (AddCause old lead (λ _. ⊥)))
   pub unfinished_first : is_finished old ≡ false → outcome ≡ Err Unfinished
 
+-- the members have no room for so many more bytes
+abbrev pub no_room : Held → List ℕ → Fault → Type 0
+no_room h text fault = (fault ≡ TooLarge) × (2 ^ 32 ≤ content_size h.count (length (h.body ++ text)))
+
 -- why no more can be added to a member: for its own cause, or for the size
 abbrev pub MoreCause : Held → List ℕ → (Fault → Type 0) → Fault → Type 0
-MoreCause h text cause fault = cause fault ⊎ ((fault ≡ TooLarge) × (2 ^ 32 ≤ content_size h.count (length (h.body ++ text))))
+MoreCause h text cause = either cause (no_room h text)
 
 -- A call adds this to a member and leaves it so, or is refused for a cause and changes nothing.
-pub record Lengthens (old new next : Held) (outcome : Result (Unit {0}) Fault) (cause : Fault → Type 0) (text : List ℕ) : Type 0 where
-  pub ok : OnOk outcome (new ≡ next)
-  pub free : OnOk outcome ((fault : Fault) → MoreCause old text cause fault → ⊥)
-  pub err : OnErr outcome (new ≡ old)
-  pub warranted : IfErr outcome (IsWarranted (MoreCause old text cause))
+abbrev pub Lengthens : Held → Held → Held → Result (Unit {0}) Fault → (Fault → Type 0) → List ℕ → Type 0
+Lengthens old new next outcome cause text = Extends old new next outcome (MoreCause old text cause)

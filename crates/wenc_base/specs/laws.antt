@@ -7,6 +7,9 @@ pub mod Forms
 pub mod Delimited
 pub mod Exports
 pub mod Types
+pub mod Composites
+pub mod Entities
 pub mod Sections
 pub mod Causes
 pub mod Holders
+pub mod Lenders

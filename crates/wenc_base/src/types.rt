@@ -1,10 +1,23 @@
 ghost use Rattle.std.specs.Prelude.{◌≡◌, refl};
 ghost use Rattle.wenc_base.specs.laws.Delimited.{itself};
 
+pub mod composite;
+pub mod encoder;
+pub mod groups;
+pub mod guard;
+pub mod storage;
+pub mod sub;
+
 use crate::delimited::{Delimited, DelimitedEq};
 use crate::encode::{Encode, Tagged};
 use crate::fault::Fault;
+pub use composite::{ArrayType, CompositeType, FuncType, StructType};
+pub use encoder::CoreTypeEncoder;
+pub use groups::GroupTree;
+pub use guard::Guarded;
 use std::alloc::Allocator;
+pub use storage::{FieldType, StorageType};
+pub use sub::SubType;
 
 /// A value type of a core module (WebAssembly 3.0, binary format, "Value Types").
 #[derive(Clone, Copy, Debug, PartialEq, Eq)]

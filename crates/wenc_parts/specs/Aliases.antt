@@ -53,7 +53,7 @@ alias_view (alias_variants.InstanceExport instance kind name) = InstanceExport i
 alias_view (alias_variants.CoreInstanceExport instance kind name) = CoreInstanceExport instance kind name.now
 alias_view (alias_variants.Outer kind count index) = Outer kind count index
 
-abbrev pub alias_tree_view : AliasTree → AliasOf
+abbrev pub alias_tree_view : {A : Type 0} → AliasTree A → AliasOf
 alias_tree_view (tree_variants.InstanceExport instance kind name) = InstanceExport instance kind (string_bytes name)
 alias_tree_view (tree_variants.CoreInstanceExport instance kind name) = CoreInstanceExport instance kind (string_bytes name)
 alias_tree_view (tree_variants.Outer kind count index) = Outer kind count index

@@ -107,7 +107,7 @@ abbrev pub string_option : {A : Type 0} → Option (String A) → Option (List �
 string_option None = None
 string_option (Some text) = Some (string_bytes text)
 
-abbrev pub name_tree_view : NameTree → ExternName
+abbrev pub name_tree_view : {A : Type 0} → NameTree A → ExternName
 name_tree_view n = record {
   name = string_bytes n.name;
   implements = string_option n.implements;

@@ -3,7 +3,7 @@ ghost use Rattle.wenc_base.specs.laws.Delimited.{itself};
 
 use crate::component::{COMPONENT_SORT, CORE_MODULE_SORT, CORE_SORT, CORE_TYPE_SORT, TYPE_SORT};
 use crate::exports::ComponentExportKind;
-use std::alloc::Allocator;
+use std::alloc::{Allocator, Global};
 use wenc_base::{Delimited, DelimitedEq, Encode, ExportKind, Fault, Tagged};
 
 /// The kind of an item that an alias takes from an enclosing component (component model, binary format,
@@ -163,7 +163,7 @@ impl<'a> Delimited for Alias<'a> {
 
 /// An alias that owns its text, for commands.
 #[derive(Drop)]
-pub enum AliasTree {
+pub enum AliasTree<A: Allocator = Global> {
     /// An export of a component instance.
     InstanceExport {
         /// The index of the instance.
@@ -171,7 +171,7 @@ pub enum AliasTree {
         /// The kind of the export.
         kind: ComponentExportKind,
         /// The name of the export.
-        name: String,
+        name: String<A>,
     },
     /// An export of a core instance.
     CoreInstanceExport {
@@ -180,7 +180,7 @@ pub enum AliasTree {
         /// The kind of the export.
         kind: ExportKind,
         /// The name of the export.
-        name: String,
+        name: String<A>,
     },
     /// An item of an enclosing component.
     Outer {
@@ -193,7 +193,7 @@ pub enum AliasTree {
     },
 }
 
-impl AliasTree {
+impl<A: Allocator> AliasTree<A> {
     ghost use Rattle.wenc_parts.specs.Aliases.{alias_view, alias_tree_view};
 
     /// The same alias, borrowed.

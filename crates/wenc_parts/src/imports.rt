@@ -322,24 +322,24 @@ impl<'a> From<String> for ComponentExternName<'a> {
 
 /// A `ComponentExternName` that owns its texts, for commands.
 #[derive(Drop)]
-pub struct NameTree {
+pub struct NameTree<A: Allocator = Global> {
     /// The name.
-    pub name: String,
+    pub name: String<A>,
     /// The name of the interface that is implemented.
-    pub implements: Option<String>,
+    pub implements: Option<String<A>>,
     /// What follows the version that the name bears.
-    pub version_suffix: Option<String>,
+    pub version_suffix: Option<String<A>>,
     /// A name that this one has elsewhere.
-    pub external_id: Option<String>,
+    pub external_id: Option<String<A>>,
 }
 
-impl From<String> for NameTree {
+impl<A: Allocator> From<String<A>> for NameTree<A> {
     ghost use Rattle.std.specs.String.{string_bytes};
     ghost use Rattle.wenc_parts.specs.Imports.{name_tree_view, plain_name};
 
     ghost from_gives = { λ s n. name_tree_view n ≡ plain_name (string_bytes s) };
 
-    fn from(name: String) -> NameTree {
+    fn from(name: String<A>) -> NameTree<A> {
         NameTree {
             name,
             implements: None,
@@ -349,7 +349,7 @@ impl From<String> for NameTree {
     }
 }
 
-impl NameTree {
+impl<A: Allocator> NameTree<A> {
     ghost use Rattle.wenc_parts.specs.Imports.{extern_name_view, name_tree_view};
 
     /// The same name, borrowed.
@@ -365,7 +365,7 @@ impl NameTree {
     }
 }
 
-fn borrowed(text: &Option<String>) -> Option<CowStr<'_>>
+fn borrowed<A: Allocator>(text: &Option<String<A>>) -> Option<CowStr<'_>>
     ensures { text_option result ≡ string_option text.now }
 {
     match text {

@@ -4,6 +4,9 @@ ghost use Rattle.wenc_base.specs.Holder.{no_members, is_finished, section_text, 
 ghost use Rattle.wenc_parts.specs.SectionIds.{section_number};
 ghost use Rattle.wenc_parts.specs.declared.component.ComponentSectionId.{ComponentSectionId};
 
+mod lent;
+
+pub use lent::LentKind;
 use std::alloc::{Allocator, Global};
 use std::marker::{Model, PhantomData};
 use wenc_base::{Encode, Fault, Holder};

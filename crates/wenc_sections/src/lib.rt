@@ -14,13 +14,15 @@ pub mod imports;
 pub mod instances;
 pub mod modules;
 pub mod start;
+pub mod types;
 
 pub use aliases::ComponentAliasSection;
 pub use component::Component;
 pub use components::NestedComponentSection;
-pub use counted::Counted;
+pub use counted::{Counted, LentKind};
 pub use exports::ComponentExportSection;
 pub use imports::ComponentImportSection;
 pub use instances::{ComponentInstanceSection, InstanceSection};
 pub use modules::ModuleSection;
 pub use start::ComponentStartSection;
+pub use types::CoreTypeSection;

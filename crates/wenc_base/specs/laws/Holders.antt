@@ -1,5 +1,5 @@
 -- What follows where a holder took a member.
-use Rattle.std.proofs.Common.{◌≡◌, ℕ, ◌+◌, ◌-◌, true, is_none, Some, None, append_assoc, List, [], ◌∷◌, ◌++◌, Option, Result, Ok, Err, OnOk, IfErr, sym, ap, ◌∙◌, arith, inl, inr, refl, length, map}
+use Rattle.std.proofs.Common.{◌≡◌, ℕ, ◌+◌, ◌-◌, true, false, is_none, Some, None, append_assoc, List, [], ◌∷◌, ◌++◌, Option, Result, Ok, Err, OnOk, IfErr, sym, ap, ◌∙◌, arith, inl, inr, refl, length, map}
 use Rattle.std.proofs.lemmas.List.{take_at, append-nil, length-append, length-map}
 use Rattle.std.proofs.lemmas.List.Folds.{flat_map-map}
 use Rattle.std.proofs.lemmas.Grind.{flat_map-append}
@@ -11,7 +11,7 @@ use Rattle.wenc_base.specs.Number.{unsigned_text}
 use Rattle.wenc_base.specs.Forms.{list, list_text, sized}
 use Rattle.wenc_base.specs.Holder.{Held, is_finished, section_text, with_member, Contains, as_they_are, AddCause, Accepted, AddsMember, AddsListed, listed_text, listed_cause}
 use Rattle.wenc_base.specs.laws.Causes.{still_warranted, SameCause, never}
-use Rattle.wenc_base.specs.Openings.{opened_with, lengthened, closed, given_up}
+use Rattle.wenc_base.specs.Openings.{opened_with, lengthened, closed, given_up, is_opened, is_opened_at}
 use Rattle.wenc_base.specs.declared.holder.openings.Opening.{Opening}
 use Rattle.wenc_base.specs.declared.fault.Fault.{Fault}
 
@@ -91,7 +91,7 @@ member_as one other same (v ∷ vs) =
     )
 
 -- the causes of the values are those of the list
-listed_as : {A : Type 0} (one other : A → Fault → Type 0) → ((v : A) → SameCause (one v) (other v)) → (vs : List A) → SameCause (listed_cause never one never vs) (drawn_cause other vs)
+pub listed_as : {A : Type 0} (one other : A → Fault → Type 0) → ((v : A) → SameCause (one v) (other v)) → (vs : List A) → SameCause (listed_cause never one never vs) (drawn_cause other vs)
 listed_as one other same vs = (there, λ fault h. inr ((λ f n. n), inl (back fault h)))
   where
     back : (fault : Fault) → drawn_cause other vs fault → drawn_cause one vs fault
@@ -107,7 +107,7 @@ listed_as one other same vs = (there, λ fault h. inr ((λ f n. n), inl (back fa
     ]
 
 -- the values, and what they stand for
-list_text_map : {A B : Type 0} (text : B → List ℕ) (view : A → B) (vs : List A) → list_text (λ v. text (view v)) vs ≡ list_text text (map view vs)
+pub list_text_map : {A B : Type 0} (text : B → List ℕ) (view : A → B) (vs : List A) → list_text (λ v. text (view v)) vs ≡ list_text text (map view vs)
 list_text_map text view vs = rw (length-map vs view, flat_map-map text view vs) refl
 
 -- a call that adds a member which ends with a list of values
@@ -138,3 +138,15 @@ pub contains_opened : {A : Type 0} (text : A → List ℕ) (h : Held) (member : 
     → Contains text h members → Contains text (closed (lengthened (opened_with h lead) more)) (members ++ member ∷ [])
 contains_opened text h member members lead more e c =
     contains_next text h (closed (lengthened (opened_with h lead) more)) member members (rw (e, none_of h.opening c.finished, append_assoc h.body lead more) refl) c
+
+-- what is opened is being written
+pub opened_is_unfinished : (h : Held) → is_opened h ≡ true → is_finished h ≡ false
+opened_is_unfinished h opened = at h.opening opened
+  where
+    at : (o : Option Opening) → is_opened_at h.body o ≡ true → is_none o ≡ false
+    at None opened = cc
+    at (Some o) opened = refl
+
+-- bytes and then more are all of them
+pub lengthened_twice : (h : Held) (text more : List ℕ) → lengthened (lengthened h text) more ≡ lengthened h (text ++ more)
+lengthened_twice h text more = rw (append_assoc h.body text more) refl

@@ -89,19 +89,32 @@ read_reference = choose (reference_rows (λ r. r)) nowhere
 pub reference_lawful : (r : RefType) → Lawful (reference r) (λ fuel. read_reference) r
 reference_lawful r = reference_row (λ s. s) (λ fuel. []) _ r.nullable r.heap_type
 
-abbrev number_rows : List (ℕ × Reader ValType)
-number_rows = (0x7f, give I32) ∷ (0x7e, give I64) ∷ (0x7d, give F32) ∷ (0x7c, give F64) ∷ (0x7b, give V128) ∷ []
+abbrev number_rows : {A : Type 0} → (ValType → A) → List (ℕ × Reader A)
+number_rows make =
+    (0x7f, give (make I32)) ∷
+    (0x7e, give (make I64)) ∷
+    (0x7d, give (make F32)) ∷
+    (0x7c, give (make F64)) ∷
+    (0x7b, give (make V128)) ∷ []
+
+abbrev pub val_type_rows : {A : Type 0} → (ValType → A) → List (ℕ × Reader A)
+val_type_rows make = reference_rows (λ r. make (Ref r)) ++ number_rows make
+
+-- a value type, where other rows may follow in the table
+pub val_type_row : {A : Type 0} (make : ValType → A) (rows : ℕ → List (ℕ × Reader A)) (other : ℕ → Reader A) (t : ValType)
+    → Lawful (val_type t) (λ fuel. choose (val_type_rows make ++ rows fuel) (other fuel)) (make t)
+val_type_row make rows other I32 = row_byte _ _ 0x7f (λ fuel rest. refl)
+val_type_row make rows other I64 = row_byte _ _ 0x7e (λ fuel rest. refl)
+val_type_row make rows other F32 = row_byte _ _ 0x7d (λ fuel rest. refl)
+val_type_row make rows other F64 = row_byte _ _ 0x7c (λ fuel rest. refl)
+val_type_row make rows other V128 = row_byte _ _ 0x7b (λ fuel rest. refl)
+val_type_row make rows other (Ref r) = reference_row (λ s. make (Ref s)) (λ fuel. number_rows make ++ rows fuel) other r.nullable r.heap_type
 
 abbrev pub read_val_type : Reader ValType
-read_val_type = choose (reference_rows Ref ++ number_rows) nowhere
+read_val_type = choose (val_type_rows (λ t. t)) nowhere
 
 pub val_type_lawful : (t : ValType) → Lawful (val_type t) (λ fuel. read_val_type) t
-val_type_lawful I32 = row_byte _ _ 0x7f (λ fuel rest. refl)
-val_type_lawful I64 = row_byte _ _ 0x7e (λ fuel rest. refl)
-val_type_lawful F32 = row_byte _ _ 0x7d (λ fuel rest. refl)
-val_type_lawful F64 = row_byte _ _ 0x7c (λ fuel rest. refl)
-val_type_lawful V128 = row_byte _ _ 0x7b (λ fuel rest. refl)
-val_type_lawful (Ref r) = reference_row Ref (λ fuel. number_rows) _ r.nullable r.heap_type
+val_type_lawful t = val_type_row (λ u. u) (λ fuel. []) _ t
 
 -- a reference to what fits
 pub reference_fits : (r : RefType) → (heap_type r.heap_type).Fits → (reference r).Fits

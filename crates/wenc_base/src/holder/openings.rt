@@ -1,9 +1,13 @@
-ghost use Rattle.std.specs.Prelude.{◌≡◌, ◌↔◌, [], false, IsTrue, IfErr};
-ghost use Rattle.wenc_base.specs.declared.fault.Fault.TheVariants.{Unfinished};
-ghost use Rattle.wenc_base.specs.Holder.{is_finished, AddCause};
-ghost use Rattle.wenc_base.specs.Openings.{lengthened, closed, given_up, IsOpened, OpensMember, Lengthens};
+ghost use Rattle.std.specs.Prelude.{◌≡◌, ◌++◌, ◌≤◌, ◌<◌, ◌^◌, [], false, length, take, drop, OnOk, OnErr, IfErr};
+ghost use Rattle.wenc_base.specs.declared.fault.Fault.TheVariants.{TooLarge, Unfinished};
+ghost use Rattle.std.specs.Iterator.{IsFinite};
+ghost use Rattle.wenc_base.specs.Fault.{drawn_cause};
+ghost use Rattle.wenc_base.specs.Forms.{list_text};
+ghost use Rattle.wenc_base.specs.Holder.{is_finished, content_size, AddCause};
+ghost use Rattle.wenc_base.specs.Lender.{ExtendsListed, GivesUp};
+ghost use Rattle.wenc_base.specs.Openings.{lengthened, closed, given_up, no_room, is_opened, OpensMember, Lengthens};
 
-use super::{Holder, next_count, section_size};
+use super::{Holder, encode_listed, next_count, section_size};
 use crate::encode::{Encode, Verbatim};
 use crate::fault::Fault;
 use std::alloc::Allocator;
@@ -44,7 +48,7 @@ impl<A: Allocator> Holder<A> {
 
     /// Whether a member is being written of which there is the lead alone.
     pub fn is_opened(&self) -> bool
-        ensures { IsTrue result ↔ IsOpened self.now }
+        ensures { result ≡ is_opened self.now }
     {
         match self.opening {
             Some(opening) => self.bytes.len() - self.kept == opening.lead_end,
@@ -72,11 +76,26 @@ impl<A: Allocator> Holder<A> {
     {
         let start = self.bytes.len();
         value.encode(&mut self.bytes)?;
-        if let Err(fault) = section_size(self.count, (self.bytes.len() - self.kept) as u64) {
-            self.bytes.truncate(start);
-            return Err(fault);
-        }
-        Ok(())
+        keep_in_room(&mut self.bytes, self.kept, start, self.count)
+    }
+
+    /// Adds these bytes to the member that is being written, then the values as a list. It is refused as `append`
+    /// is, or as the values are.
+    pub fn append_listed<T: Encode + Drop, I: Iterator<Item = T> + Drop>(
+        &mut self,
+        lead: &[u8],
+        values: I,
+    ) -> Result<(), Fault>
+        requires unfinished { is_finished self.old ≡ false }
+        requires can { I.can_next values }
+        requires ends { IsFinite (I.remaining values) }
+        ensures { ExtendsListed I.next_gives values self.old self.new result
+            (lengthened self.old) (no_room self.old)
+            (drawn_cause T.cause) (λ vs. lead.now ++ list_text T.text vs) }
+    {
+        let start = self.bytes.len();
+        encode_listed(&Verbatim(lead), values, &(), &mut self.bytes)?;
+        keep_in_room(&mut self.bytes, self.kept, start, self.count)
     }
 
     /// Adds the last bytes of the member that is being written. It is refused as `append` is, and then the
@@ -101,8 +120,7 @@ impl<A: Allocator> Holder<A> {
     /// Gives up the member that is being written, and says whether there was one: the holder is as it was before
     /// `open`. It takes no memory.
     pub fn discard_unfinished(&mut self) -> bool
-        ensures discarded { self.new ≡ given_up self.old }
-        ensures told { IsTrue result ↔ (is_finished self.old ≡ false) }
+        ensures { GivesUp self.new (given_up self.old) (is_finished self.old) result }
     {
         match self.opening {
             Some(opening) => {
@@ -114,4 +132,25 @@ impl<A: Allocator> Holder<A> {
             None => false,
         }
     }
+}
+
+/// Cuts off what was written from `start` on, where there is no room for it.
+fn keep_in_room<A: Allocator>(
+    bytes: &mut Vec<u8, A>,
+    kept: usize,
+    start: usize,
+    count: u32,
+) -> Result<(), Fault>
+    requires { (kept ≤ start) × (start ≤ length bytes.old.items) }
+    ensures fits { OnOk result (content_size count (length (drop kept bytes.old.items)) < 2 ^ 32) }
+    ensures same { OnOk result (bytes.new.items ≡ bytes.old.items) }
+    ensures err { OnErr result (bytes.new.items ≡ take start bytes.old.items) }
+    ensures warranted { IfErr result (λ fault. (fault ≡ TooLarge)
+        × (2 ^ 32 ≤ content_size count (length (drop kept bytes.old.items)))) }
+{
+    if let Err(fault) = section_size(count, (bytes.len() - kept) as u64) {
+        bytes.truncate(start);
+        return Err(fault);
+    }
+    Ok(())
 }

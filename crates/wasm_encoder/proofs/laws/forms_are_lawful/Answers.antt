@@ -1,3 +1,5 @@
+use Rattle.wenc_base.specs.laws.Composites.{storage_type_lawful, field_type_lawful, composite_type_lawful, sub_type_lawful, group_lawful}
+use Rattle.wenc_base.specs.laws.Entities.{table_type_lawful, memory_type_lawful, global_type_lawful, tag_type_lawful, entity_type_lawful}
 use Rattle.wenc_base.specs.laws.Exports.{export_kind_lawful as core_kind_lawful}
 use Rattle.wenc_base.specs.laws.Forms.{flag_lawful, name_lawful, byte_list_lawful}
 use Rattle.wenc_base.specs.laws.Lawful.{form_laws}
@@ -11,6 +13,9 @@ use Rattle.wenc_parts.specs.laws.Instances.{module_argument_lawful}
 use Rattle.wenc_parts.specs.laws.SectionIds.{section_lawful}
 use Rattle.wenc_parts.specs.laws.Types.{primitive_lawful, value_type_lawful, result_list_lawful}
 use Rattle.wenc_sections.specs.laws.Items.{import_lawful, export_lawful, core_instance_lawful, instance_lawful}
+use Rattle.wenc_types.specs.laws.CoreTypes.{module_declaration_lawful, module_type_lawful, core_type_lawful}
+use Rattle.wenc_types.specs.laws.ComponentTypes.{type_lawful, instance_declaration_lawful, component_declaration_lawful}
+use Rattle.wenc_types.specs.laws.DefinedTypes.{defined_type_lawful, function_type_lawful}
 use Rattle.wasm_encoder.proofs.laws.forms_are_lawful.Goals as goal
 
 pub returns-clause-flags : goal.returns-clause-flags
@@ -48,6 +53,36 @@ returns-clause-references c = form_laws reference_lawful
 
 pub returns-clause-core_value_types : goal.returns-clause-core_value_types
 returns-clause-core_value_types c = form_laws val_type_lawful
+
+pub returns-clause-storage_types : goal.returns-clause-storage_types
+returns-clause-storage_types c = form_laws storage_type_lawful
+
+pub returns-clause-fields : goal.returns-clause-fields
+returns-clause-fields c = form_laws field_type_lawful
+
+pub returns-clause-composite_types : goal.returns-clause-composite_types
+returns-clause-composite_types c = form_laws composite_type_lawful
+
+pub returns-clause-sub_types : goal.returns-clause-sub_types
+returns-clause-sub_types c = form_laws sub_type_lawful
+
+pub returns-clause-groups : goal.returns-clause-groups
+returns-clause-groups c = form_laws group_lawful
+
+pub returns-clause-tables : goal.returns-clause-tables
+returns-clause-tables c = form_laws table_type_lawful
+
+pub returns-clause-memories : goal.returns-clause-memories
+returns-clause-memories c = form_laws memory_type_lawful
+
+pub returns-clause-globals : goal.returns-clause-globals
+returns-clause-globals c = form_laws global_type_lawful
+
+pub returns-clause-tags : goal.returns-clause-tags
+returns-clause-tags c = form_laws tag_type_lawful
+
+pub returns-clause-entities : goal.returns-clause-entities
+returns-clause-entities c = form_laws entity_type_lawful
 
 pub returns-clause-section_ids : goal.returns-clause-section_ids
 returns-clause-section_ids c = form_laws section_lawful
@@ -99,3 +134,27 @@ returns-clause-canonical_options c = form_laws canonical_option_lawful
 
 pub returns-clause-canonical_functions : goal.returns-clause-canonical_functions
 returns-clause-canonical_functions c = form_laws canonical_lawful
+
+pub returns-clause-module_declarations : goal.returns-clause-module_declarations
+returns-clause-module_declarations c = form_laws module_declaration_lawful
+
+pub returns-clause-module_types : goal.returns-clause-module_types
+returns-clause-module_types c = form_laws module_type_lawful
+
+pub returns-clause-core_types : goal.returns-clause-core_types
+returns-clause-core_types c = form_laws core_type_lawful
+
+pub returns-clause-defined_types : goal.returns-clause-defined_types
+returns-clause-defined_types c = form_laws defined_type_lawful
+
+pub returns-clause-function_types : goal.returns-clause-function_types
+returns-clause-function_types c = form_laws function_type_lawful
+
+pub returns-clause-types : goal.returns-clause-types
+returns-clause-types c = form_laws type_lawful
+
+pub returns-clause-instance_declarations : goal.returns-clause-instance_declarations
+returns-clause-instance_declarations c = form_laws instance_declaration_lawful
+
+pub returns-clause-component_declarations : goal.returns-clause-component_declarations
+returns-clause-component_declarations c = form_laws component_declaration_lawful

@@ -4,6 +4,8 @@ use Rattle.wenc_base.specs.laws.Sections.{custom_lawful, producer_lawful, produc
 use Rattle.wenc_canon.specs.laws.Canonicals.{canonical_lawful}
 use Rattle.wenc_parts.specs.laws.Aliases.{alias_lawful}
 use Rattle.wenc_sections.specs.laws.Items.{import_lawful, export_lawful, core_instance_lawful, instance_lawful, start_lawful}
+use Rattle.wenc_types.specs.laws.CoreTypes.{core_type_lawful}
+use Rattle.wenc_types.specs.laws.ComponentTypes.{type_lawful}
 use Rattle.wasm_encoder.proofs.laws.sections_are_lawful.Goals as goal
 
 pub returns-clause-customs : goal.returns-clause-customs
@@ -38,3 +40,9 @@ returns-clause-instances c = form_laws (counted_lawful instance_lawful)
 
 pub returns-clause-canonical_functions : goal.returns-clause-canonical_functions
 returns-clause-canonical_functions c = form_laws (counted_lawful canonical_lawful)
+
+pub returns-clause-core_types : goal.returns-clause-core_types
+returns-clause-core_types c = form_laws (counted_lawful core_type_lawful)
+
+pub returns-clause-types : goal.returns-clause-types
+returns-clause-types c = form_laws (counted_lawful type_lawful)

@@ -5,6 +5,8 @@ use Rattle.wenc_parts.specs.Aliases.{alias}
 use Rattle.wenc_sections.specs.Exports.{export_item}
 use Rattle.wenc_sections.specs.Imports.{import_item}
 use Rattle.wenc_sections.specs.Instances.{core_instance, instance}
+use Rattle.wenc_types.specs.CoreTypes.{core_type}
+use Rattle.wenc_types.specs.laws.CoreTypes.{module_type_of}
 use Rattle.wasm_encoder.proofs.laws.sections_are_their_items.Goals as goal
 
 pub returns-clause-aliases : goal.returns-clause-aliases
@@ -27,3 +29,9 @@ returns-clause-canonical_functions c = λ section items contains. section_of can
 
 pub returns-clause-producers : goal.returns-clause-producers
 returns-clause-producers c = λ section fields contains. section_of_fields section fields contains
+
+pub returns-clause-core_types : goal.returns-clause-core_types
+returns-clause-core_types c = λ section items contains. section_of core_type section items contains
+
+pub returns-clause-module_types : goal.returns-clause-module_types
+returns-clause-module_types c = λ ty ds declares. module_type_of ty ds declares

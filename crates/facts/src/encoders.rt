@@ -1,0 +1,54 @@
+//! Core types that are written by encoders, from the contracts that everybody sees.
+ghost use Rattle.std.specs.Prelude.{◌≡◌, ◌++◌, ◌∷◌, [], List, OnOk, Ok, true};
+ghost use Rattle.wenc_base.specs.Composites.{Single, sub_view};
+ghost use Rattle.wenc_base.specs.Holder.{Contains};
+ghost use Rattle.wenc_types.specs.CoreTypes.{CoreType, Grouped, ModuleDeclaration, Defined, core_type_text};
+ghost use Rattle.wenc_types.specs.ModuleTypes.{Declares};
+
+use std::alloc::Allocator;
+use wenc_base::{Fault, SubType};
+use wenc_sections::CoreTypeSection;
+use wenc_types::ModuleType;
+
+/// A type that is begun and dropped, given up, and begun again: the section has one type more, and no trace of the
+/// other.
+#[tactic(auto, using(wenc_base::specs::laws::Holders::contains_opened, wenc_base::specs::laws::Holders::given_up_is_before))]
+pub fn begun_again<A: Allocator, B: Allocator>(
+    section: &mut CoreTypeSection<A>,
+    ty: &SubType<B>,
+) -> Result<bool, Fault>
+    ensures had_begun { OnOk result (result ≡ Ok true) }
+    ensures one_more { OnOk result ((types : List CoreType)
+        → Contains core_type_text section.old types → Contains core_type_text section.new
+        (types ++ Grouped (Single (sub_view ty.now)) ∷ [])) }
+{
+    section.ty()?;
+    let had_begun = section.discard_unfinished();
+    section.ty()?.core().subtype(ty)?;
+    Ok(had_begun)
+}
+
+/// What is refused while a type is being written: another one. Given up, the section is as it was.
+#[tactic(auto, using(wenc_base::specs::laws::Holders::given_up_is_before))]
+pub fn refused_meanwhile<A: Allocator>(section: &mut CoreTypeSection<A>) -> Result<bool, Fault>
+    ensures unfinished { OnOk result (result ≡ Ok true) }
+    ensures same { OnOk result (section.new ≡ section.old) }
+{
+    section.ty()?;
+    if let Ok(_) = section.ty() {
+        return Ok(false);
+    }
+    Ok(section.discard_unfinished())
+}
+
+/// A type that a module type declares.
+#[tactic(auto, using(wenc_types::specs::laws::ModuleTypes::declares_written))]
+pub fn declared<A: Allocator, B: Allocator>(
+    types: &mut ModuleType<A>,
+    ty: &SubType<B>,
+) -> Result<(), Fault>
+    ensures { OnOk result ((ds : List ModuleDeclaration) → Declares types.old ds
+        → Declares types.new (ds ++ Defined (Single (sub_view ty.now)) ∷ [])) }
+{
+    types.ty()?.subtype(ty)
+}

@@ -1,0 +1,107 @@
+//! Module types that are finished.
+
+use crate::checks::{function, is_type};
+use std::alloc::Global;
+use std::test::Fail;
+use wenc_base::{
+    AbstractHeapType, EntityType, Fault, GlobalType, HeapType, MemoryType, RefType, StorageType,
+    TableType, TagType, ValType,
+};
+use wenc_types::ModuleType;
+
+const MEMORY: EntityType = EntityType::Memory(MemoryType {
+    minimum: 1,
+    maximum: Some(2),
+    memory64: false,
+    shared: true,
+});
+
+const WIDE_MEMORY: EntityType = EntityType::Memory(MemoryType {
+    minimum: 128,
+    maximum: Some(65536),
+    memory64: true,
+    shared: false,
+});
+
+const TABLE: EntityType = EntityType::Table(TableType {
+    element_type: RefType {
+        nullable: true,
+        heap_type: HeapType::Abstract(AbstractHeapType::Func),
+    },
+    table64: false,
+    minimum: 1,
+    maximum: None,
+});
+
+/// A module type with an entity of each kind, a type and an alias.
+pub fn entities(alloc: Global) -> Result<ModuleType, Fault> {
+    let mut ty = ModuleType::new(alloc);
+    ty.import("m", "f", EntityType::Function(0))?;
+    ty.import("m", "t", TABLE)?;
+    ty.ty()?
+        .function([ValType::I32].into_iter(), [ValType::I64].into_iter())?;
+    ty.import("", "", WIDE_MEMORY)?;
+    ty.alias_outer_core_type(128, 4294967295)?;
+    let global = GlobalType {
+        val_type: ValType::F64,
+        mutable: true,
+    };
+    ty.export("g", EntityType::Global(global))?;
+    ty.export("e", EntityType::Tag(TagType { func_type_idx: 128 }))?;
+    Ok(ty)
+}
+
+#[test]
+fn no_declarations(rt: HostRuntime) -> Result<(), Fail> {
+    is_type(&rt, rt.alloc(), &ModuleType::new(rt.alloc()), 0, "5000")?;
+    Ok(())
+}
+
+#[test]
+fn declarations(rt: HostRuntime) -> Result<(), Fail> {
+    let mut ty = ModuleType::new(rt.alloc());
+    ty.import("m", "n", MEMORY)?;
+    ty.alias_outer_core_type(1, 0)?;
+    ty.export("t", EntityType::Tag(TagType { func_type_idx: 0 }))?;
+    let text = "500300016d016e020301020210010100030174040000";
+    is_type(&rt, rt.alloc(), &ty, 1, text)?;
+    Ok(())
+}
+
+/// Upstream gives these.
+#[test]
+fn kinds_of_entities(rt: HostRuntime) -> Result<(), Fail> {
+    let text = "500700016d0166000000016d0174017000010160017f017e0000000205800180800402\
+         10018001ffffffff0f030167037c0103016504008001";
+    is_type(&rt, rt.alloc(), &entities(rt.alloc())?, 2, text)?;
+    Ok(())
+}
+
+/// Upstream gives these. A group is one type of what is counted.
+#[test]
+fn types(rt: HostRuntime) -> Result<(), Fail> {
+    let plain = function(rt.alloc(), true, None, &[])?;
+    let other = function(rt.alloc(), true, None, &[ValType::I32])?;
+    let mut ty = ModuleType::new(rt.alloc());
+    ty.ty()?
+        .function([ValType::I32].into_iter(), [].into_iter())?;
+    ty.ty()?.subtype(&function(rt.alloc(), false, None, &[])?)?;
+    ty.alias_outer_core_type(1, 0)?;
+    ty.ty()?.rec([&plain, &other].into_iter())?;
+    ty.ty()?.array(&StorageType::I8, true)?;
+    let text = "50050160017f000150006000000210010100014e0260000060017f00015e7801";
+    is_type(&rt, rt.alloc(), &ty, 5, text)?;
+    Ok(())
+}
+
+#[test]
+fn copies(rt: HostRuntime) -> Result<(), Fail> {
+    let mut ty = ModuleType::new(rt.alloc());
+    ty.alias_outer_core_type(1, 0)?;
+    let mut copy = ty.clone()?;
+    is_type(&rt, rt.alloc(), &copy, 1, "50010210010100")?;
+    copy.ty()?.function([].into_iter(), [].into_iter())?;
+    is_type(&rt, rt.alloc(), &copy, 2, "5002021001010001600000")?;
+    is_type(&rt, rt.alloc(), &ty, 1, "50010210010100")?;
+    Ok(())
+}

@@ -1,0 +1,10 @@
+use Rattle.std.proofs.Common.{◌∷◌, []}
+use Rattle.wenc_base.specs.Composites.{sub_type, sub_cause, sub_view}
+use Rattle.wenc_base.specs.laws.Lenders.{listed_map}
+use Rattle.wenc_base.proofs.types.encoder.CoreTypeEncoder.rec.Goals as goal
+
+pub returns : goal.returns
+returns g c =
+    listed_map g.I.Iterator.next_gives c.args.types c.args.self.lender.now c.end_with_list.new.self c.end_with_list.result
+    (λ bytes. g.L.Lender.ended (g.L.Lender.written c.args.self.lender.now bytes)) (g.L.Lender.refuses c.args.self.lender.now)
+    (λ s. sub_cause (sub_view s.now)) (0x4e ∷ []) (λ s. (sub_type s).text) (λ s. sub_view s.now) c.end_with_list.ensures

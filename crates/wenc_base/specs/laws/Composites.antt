@@ -1,0 +1,259 @@
+-- The laws of types that core modules define.
+use Rattle.std.specs.Cmp.Lexicographic.{pointwise}
+use Rattle.std.proofs.Common.{Vec, ◌&&◌, ℕ, ◌<◌, ◌^◌, Bool, true, false, List, [], ◌∷◌, ◌++◌, length, map, Option, Some, None, refl, sym, ap, subst, ◌≡◌}
+use Rattle.std.proofs.lemmas.List.{map-id}
+use Rattle.wenc_base.specs.Delimited.{NoCause, FreeFits, AlikeIsEqual}
+use Rattle.wenc_base.specs.declared.fault.Fault.{Fault}
+use Rattle.wenc_base.specs.Fault.{list_cause}
+use Rattle.wenc_base.specs.Forms.{list, option}
+use Rattle.wenc_base.specs.Number.{u32}
+use Rattle.wenc_base.specs.Piece.{◌⨾◌}
+use Rattle.wenc_base.specs.Types.{val_type}
+use Rattle.wenc_base.specs.laws.Causes.{no_member, seen_cause}
+use Rattle.wenc_base.specs.laws.Delimited.{count_free, pair_cause_free, first_free, second_free, list_free, list_equal}
+use Rattle.wenc_base.specs.laws.Lawful.{Lawful, Reader, ◌>>=◌, give, nowhere, choose, row, row_byte, then, last}
+use Rattle.wenc_base.specs.laws.Numbers.{read_groups, u32_lawful}
+use Rattle.wenc_base.specs.laws.Forms.{read_flag, flag_lawful, read_list, list_lawful, read_option, option_lawful}
+use Rattle.wenc_base.specs.laws.Types.{val_type_rows, val_type_row, read_val_type, val_type_lawful}
+use Rattle.wenc_base.specs.declared.types.ValType.{ValType}
+use Rattle.wenc_base.specs.declared.types.composite.FuncType.{FuncType}
+use Rattle.wenc_base.specs.declared.types.composite.ArrayType.{ArrayType}
+use Rattle.wenc_base.specs.declared.types.composite.StructType.{StructType}
+use Rattle.wenc_base.specs.declared.types.composite.CompositeType.{CompositeType}
+use Rattle.wenc_base.specs.declared.types.composite.CompositeType.TheVariants as composites
+use Rattle.wenc_base.specs.declared.types.sub.SubType.{SubType}
+use Rattle.wenc_base.specs.declared.types.groups.GroupTree.{GroupTree}
+use Rattle.wenc_base.specs.declared.types.groups.GroupTree.TheVariants as groups
+use Rattle.wenc_base.specs.declared.types.storage.StorageType.{StorageType}
+use Rattle.wenc_base.specs.declared.types.storage.StorageType.TheVariants.{I8, I16, Val}
+use Rattle.wenc_base.specs.declared.types.storage.FieldType.{FieldType}
+use Rattle.wenc_base.specs.Composites.{storage_type, field_type, Composite, Func, Array, Struct, composite_type, Sub, sub_type_of, sub_type, final, Group, Single, Rec, group, length_cause, composite_cause, sub_cause, group_cause, params_of, results_of, function_view, array_view, structure_view, composite_view, sub_view, group_view}
+
+-- ---- fields
+
+abbrev small_rows : List (ℕ × Reader StorageType)
+small_rows = (0x78, give I8) ∷ (0x77, give I16) ∷ []
+
+abbrev pub read_storage_type : Reader StorageType
+read_storage_type = choose (val_type_rows Val ++ small_rows) nowhere
+
+pub storage_type_lawful : (t : StorageType) → Lawful (storage_type t) (λ fuel. read_storage_type) t
+storage_type_lawful I8 = row_byte _ _ 0x78 (λ fuel rest. refl)
+storage_type_lawful I16 = row_byte _ _ 0x77 (λ fuel rest. refl)
+storage_type_lawful (Val t) = val_type_row Val (λ fuel. small_rows) _ t
+
+abbrev field_of : StorageType → Bool → FieldType
+field_of t mutable = record { element_type = t; mutable = mutable }
+
+abbrev pub read_field_type : Reader FieldType
+read_field_type = read_storage_type >>= λ t. read_flag >>= λ mutable. give (field_of t mutable)
+
+pub field_type_lawful : (f : FieldType) → Lawful (field_type f) (λ fuel. read_field_type) f
+field_type_lawful f = then _ (storage_type_lawful f.element_type) (last (field_of f.element_type) (flag_lawful f.mutable))
+
+-- ---- composite types
+
+abbrev pub composite_rows : {A : Type 0} → (Composite → A) → List (ℕ × Reader A)
+composite_rows make =
+    (0x60, read_list read_val_type >>= λ params. read_list read_val_type >>= λ results. give (make (Func params results))) ∷
+    (0x5e, read_field_type >>= λ f. give (make (Array f))) ∷
+    (0x5f, read_list read_field_type >>= λ fields. give (make (Struct fields))) ∷ []
+
+-- a composite type, where other rows may follow in the table
+pub composite_row : {A : Type 0} (make : Composite → A) (rows : ℕ → List (ℕ × Reader A)) (other : ℕ → Reader A) (c : Composite)
+    → Lawful (composite_type c) (λ fuel. choose (composite_rows make ++ rows fuel) (other fuel)) (make c)
+composite_row make rows other (Func params results) =
+    row _ _ 0x60 (then _ (list_lawful val_type_lawful params) (last (λ types. make (Func params types)) (list_lawful val_type_lawful results)))
+composite_row make rows other (Array f) = row _ _ 0x5e (last (λ g. make (Array g)) (field_type_lawful f))
+composite_row make rows other (Struct fields) = row _ _ 0x5f (last (λ fs. make (Struct fs)) (list_lawful field_type_lawful fields))
+
+abbrev pub read_composite : Reader Composite
+read_composite = choose (composite_rows (λ c. c)) nowhere
+
+pub composite_type_lawful : (c : Composite) → Lawful (composite_type c) (λ fuel. read_composite) c
+composite_type_lawful c = composite_row (λ d. d) (λ fuel. []) _ c
+
+-- ---- sub types
+
+-- what is extended, if anything, and how
+abbrev pub read_extension : {A : Type 0} → (Option ℕ → Composite → A) → Reader A
+read_extension make = read_option read_groups >>= λ supertype. read_composite >>= λ c. give (make supertype c)
+
+pub extension_lawful : {A : Type 0} (make : Option ℕ → Composite → A) (supertype : Option ℕ) (c : Composite)
+    → Lawful (option u32 supertype ⨾ composite_type c) (λ fuel. read_extension make) (make supertype c)
+extension_lawful make supertype c = then _ (option_lawful u32_lawful supertype) (last (make supertype) (composite_type_lawful c))
+
+abbrev pub sub_of : Bool → Option ℕ → Composite → Sub
+sub_of is_final supertype c = record { is_final = is_final; supertype = supertype; composite = c }
+
+abbrev pub final_rows : {A : Type 0} → (Sub → A) → List (ℕ × Reader A)
+final_rows make = composite_rows (λ c. make (final c)) ++ ((0x4f, read_extension (λ supertype c. make (sub_of true supertype c))) ∷ [])
+
+-- a type that can't be extended, where other rows may follow in the table
+pub final_row : {A : Type 0} (make : Sub → A) (rows : ℕ → List (ℕ × Reader A)) (other : ℕ → Reader A) (supertype : Option ℕ) (c : Composite)
+    → Lawful (sub_type_of true supertype c) (λ fuel. choose (final_rows make ++ rows fuel) (other fuel)) (make (sub_of true supertype c))
+final_row make rows other None c = composite_row (λ d. make (final d)) (λ fuel. (0x4f, read_extension (λ supertype d. make (sub_of true supertype d))) ∷ rows fuel) other c
+final_row make rows other (Some n) c = row _ _ 0x4f (extension_lawful (λ supertype d. make (sub_of true supertype d)) (Some n) c)
+
+abbrev pub sub_rows : {A : Type 0} → (Sub → A) → List (ℕ × Reader A)
+sub_rows make = final_rows make ++ ((0x50, read_extension (λ supertype c. make (sub_of false supertype c))) ∷ [])
+
+-- a sub type, where other rows may follow in the table
+pub sub_row : {A : Type 0} (make : Sub → A) (rows : ℕ → List (ℕ × Reader A)) (other : ℕ → Reader A) (s : Sub)
+    → Lawful (sub_type s) (λ fuel. choose (sub_rows make ++ rows fuel) (other fuel)) (make s)
+sub_row {A} make rows other s = of s.is_final s.supertype s.composite
+  where
+    of : (is_final : Bool) (supertype : Option ℕ) (c : Composite)
+        → Lawful (sub_type_of is_final supertype c) (λ fuel. choose (sub_rows make ++ rows fuel) (other fuel)) (make (sub_of is_final supertype c))
+    of true supertype c = final_row make (λ fuel. (0x50, read_extension (λ t d. make (sub_of false t d))) ∷ rows fuel) other supertype c
+    of false supertype c = row _ _ 0x50 (extension_lawful (λ t d. make (sub_of false t d)) supertype c)
+
+abbrev pub read_sub_type : Reader Sub
+read_sub_type = choose (sub_rows (λ s. s)) nowhere
+
+pub sub_type_lawful : (s : Sub) → Lawful (sub_type s) (λ fuel. read_sub_type) s
+sub_type_lawful s = sub_row (λ t. t) (λ fuel. []) _ s
+
+-- ---- groups
+
+abbrev pub read_types : {A : Type 0} → (Group → A) → Reader A
+read_types make = read_list read_sub_type >>= λ types. give (make (Rec types))
+
+pub types_lawful : {A : Type 0} (make : Group → A) (types : List Sub) → Lawful (list sub_type types) (λ fuel. read_types make) (make (Rec types))
+types_lawful make types = last (λ ts. make (Rec ts)) (list_lawful sub_type_lawful types)
+
+abbrev pub group_rows : {A : Type 0} → (Group → A) → List (ℕ × Reader A)
+group_rows make = sub_rows (λ s. make (Single s)) ++ ((0x4e, read_types make) ∷ [])
+
+-- a group, where other rows may follow in the table
+pub group_row : {A : Type 0} (make : Group → A) (rows : ℕ → List (ℕ × Reader A)) (other : ℕ → Reader A) (g : Group)
+    → Lawful (group g) (λ fuel. choose (group_rows make ++ rows fuel) (other fuel)) (make g)
+group_row make rows other (Single s) = sub_row (λ t. make (Single t)) (λ fuel. (0x4e, read_types make) ∷ rows fuel) other s
+group_row make rows other (Rec types) = row _ _ 0x4e (types_lawful make types)
+
+abbrev pub read_group : Reader Group
+read_group = choose (group_rows (λ g. g)) nowhere
+
+pub group_lawful : (g : Group) → Lawful (group g) (λ fuel. read_group) g
+group_lawful g = group_row (λ h. h) (λ fuel. []) _ g
+
+-- ---- what can be encoded
+
+length_free : {A : Type 0} (vs : List A) → length vs < 2 ^ 32 → NoCause (length_cause vs)
+length_free vs h = pair_cause_free _ _ (count_free (length vs) h) (no_member vs)
+
+-- what fits has no cause
+pub composite_free : (c : Composite) → (composite_type c).Fits → NoCause (composite_cause c)
+composite_free (Func params results) h = pair_cause_free _ _ (length_free params h.0.0) (length_free results h.1.0)
+composite_free (Array f) h = λ fault cause. cause
+composite_free (Struct fields) h = length_free fields h.0
+
+pub sub_free : (s : Sub) → (sub_type s).Fits → NoCause (sub_cause s)
+sub_free s = of s.is_final s.supertype s.composite
+  where
+    of : (is_final : Bool) (supertype : Option ℕ) (c : Composite) → (sub_type_of is_final supertype c).Fits → NoCause (composite_cause c)
+    of true None c h = composite_free c h
+    of true (Some n) c h = composite_free c h.1
+    of false supertype c h = composite_free c h.1
+
+pub group_free : (g : Group) → (group g).Fits → NoCause (group_cause g)
+group_free (Single s) h = sub_free s h
+group_free (Rec types) h = list_free sub_cause (λ s. s) sub_type sub_free types (rw (map-id types) h)
+
+-- lists that fit where they have no cause
+pub function_fits : (params results : List ValType) → FreeFits length_cause (map (λ t. t)) (list val_type) params → FreeFits length_cause (map (λ t. t)) (list val_type) results
+    → FreeFits composite_cause (λ c. c) composite_type (Func params results)
+function_fits params results one two none = (rw (map-id params) at (one (first_free _ _ none)), rw (map-id results) at (two (second_free _ _ none)))
+
+pub structure_fits : (fields : List FieldType) → FreeFits length_cause (map (λ f. f)) (list field_type) fields → FreeFits composite_cause (λ c. c) composite_type (Struct fields)
+structure_fits fields one none = rw (map-id fields) at (one none)
+
+pub sub_fits : (is_final : Bool) (supertype : Option ℕ) (c : Composite) → (option u32 supertype).Fits → (composite_type c).Fits → (sub_type_of is_final supertype c).Fits
+sub_fits true None c h k = k
+sub_fits true (Some n) c h k = (h, k)
+sub_fits false supertype c h k = (h, k)
+
+pub types_fit : {A : Type 0} (types : List (SubType A)) → FreeFits (list_cause (λ s. sub_cause (sub_view s))) (map sub_view) (list sub_type) types
+    → FreeFits group_cause (λ g. g) group (Rec (map sub_view types))
+types_fit types one none =
+    let P : (Fault → Type 0) → Type 0 = NoCause in
+    one (subst P (sym (seen_cause sub_view sub_cause types)) none)
+
+-- ---- equal types
+
+abbrev params : Composite → List ValType
+params (Func ps rs) = ps
+params (Array f) = []
+params (Struct fields) = []
+
+abbrev results : Composite → List ValType
+results (Func ps rs) = rs
+results (Array f) = []
+results (Struct fields) = []
+
+abbrev fields_of : Composite → List FieldType
+fields_of (Func ps rs) = []
+fields_of (Array f) = f ∷ []
+fields_of (Struct fields) = fields
+
+-- types that are seen alike have the same lists
+pub same_params : {A : Type 0} (f g : FuncType A) → function_view f ≡ function_view g → params_of f ≡ params_of g
+same_params f g e = ap params e
+
+pub same_results : {A : Type 0} (f g : FuncType A) → function_view f ≡ function_view g → results_of f ≡ results_of g
+same_results f g e = ap results e
+
+pub same_fields : {A : Type 0} (s t : StructType A) → structure_view s ≡ structure_view t → s.fields.items ≡ t.fields.items
+same_fields s t e = ap fields_of e
+
+pub same_element : (a b : ArrayType) → array_view a ≡ array_view b → a.0 ≡ b.0
+same_element a b e =
+    let elements : a.0 ∷ [] ≡ b.0 ∷ [] = ap fields_of e in
+    cc
+
+-- two composite types that are seen alike are of one kind
+pub by_kind : {A : Type 0} (eq : CompositeType A → CompositeType A → Bool)
+    → ((f g : FuncType A) → function_view f ≡ function_view g → eq (composites.Func f) (composites.Func g) ≡ true)
+    → ((a b : ArrayType) → array_view a ≡ array_view b → eq (composites.Array a) (composites.Array b) ≡ true)
+    → ((s t : StructType A) → structure_view s ≡ structure_view t → eq (composites.Struct s) (composites.Struct t) ≡ true)
+    → AlikeIsEqual eq composite_view
+by_kind eq f a s (composites.Func x) (composites.Func y) e = f x y e
+by_kind eq f a s (composites.Func x) (composites.Array y) e = absurd cc
+by_kind eq f a s (composites.Func x) (composites.Struct y) e = absurd cc
+by_kind eq f a s (composites.Array x) (composites.Func y) e = absurd cc
+by_kind eq f a s (composites.Array x) (composites.Array y) e = a x y e
+by_kind eq f a s (composites.Array x) (composites.Struct y) e = absurd cc
+by_kind eq f a s (composites.Struct x) (composites.Func y) e = absurd cc
+by_kind eq f a s (composites.Struct x) (composites.Array y) e = absurd cc
+by_kind eq f a s (composites.Struct x) (composites.Struct y) e = s x y e
+
+-- a final type without supertype
+abbrev pub plain : {A : Type 0} → CompositeType A → SubType A
+plain c = record { is_final = true; supertype_idx = None; composite_type = c }
+
+-- two sub types that are seen alike have composite types that are
+pub by_parts : {A : Type 0} (eq : SubType A → SubType A → Bool) → AlikeIsEqual (λ c d. eq (plain c) (plain d)) composite_view
+    → ((s t : SubType A) → s.is_final ≡ t.is_final → s.supertype_idx ≡ t.supertype_idx → eq (plain s.composite_type) (plain t.composite_type) ≡ true → eq s t ≡ true)
+    → AlikeIsEqual eq sub_view
+by_parts eq composites parts s t e =
+    parts s t (ap (λ (u : Sub). u.is_final) e) (ap (λ (u : Sub). u.supertype) e) (composites s.composite_type t.composite_type (ap (λ (u : Sub). u.composite) e))
+
+pub last_of_three : (p q r s : Bool) → p && (q && r) ≡ true → s ≡ true → p && (q && s) ≡ true
+last_of_three true true r s h k = k
+last_of_three true false r s h k = h
+last_of_three false q r s h k = h
+
+abbrev types_of : Group → List Sub
+types_of (Single s) = s ∷ []
+types_of (Rec types) = types
+
+-- two groups that are seen alike are of one kind
+pub by_group : {A : Type 0} (eq : GroupTree A → GroupTree A → Bool) → AlikeIsEqual (λ s t. eq (groups.Sub s) (groups.Sub t)) sub_view
+    → ((v w : Vec (SubType A) A) → pointwise (λ s t. eq (groups.Sub s) (groups.Sub t)) v.items w.items ≡ true → eq (groups.Rec v) (groups.Rec w) ≡ true)
+    → AlikeIsEqual eq group_view
+by_group eq alike lists (groups.Sub s) (groups.Sub t) e =
+    let alone : sub_view s ∷ [] ≡ sub_view t ∷ [] = ap types_of e in
+    alike s t cc
+by_group eq alike lists (groups.Sub s) (groups.Rec w) e = absurd cc
+by_group eq alike lists (groups.Rec v) (groups.Sub t) e = absurd cc
+by_group eq alike lists (groups.Rec v) (groups.Rec w) e = lists v w (list_equal _ sub_view alike v.items w.items (ap types_of e))

@@ -1,0 +1,56 @@
+ghost use Rattle.std.specs.Prelude.{◌≡◌, refl};
+ghost use Rattle.wenc_base.specs.laws.Delimited.{itself};
+
+use crate::delimited::{Delimited, DelimitedEq};
+use crate::encode::Encode;
+use crate::fault::Fault;
+use crate::types::ValType;
+use std::alloc::Allocator;
+
+/// The type of a global variable (WebAssembly 3.0, binary format, "Global Types").
+#[derive(Clone, Copy, Debug, PartialEq, Eq)]
+pub struct GlobalType {
+    /// What it contains.
+    pub val_type: ValType,
+    /// Whether it can be changed.
+    pub mutable: bool,
+}
+
+impl Encode for GlobalType {
+    ghost use Rattle.wenc_base.specs.Entities.{global_type};
+
+    ghost text = { λ g. (global_type g).text };
+
+    ghost cause = { λ _ _. ⊥ };
+
+    fn encode<A: Allocator>(&self, sink: &mut Vec<u8, A>) -> Result<(), Fault> {
+        (self.val_type, self.mutable).encode(sink)
+    }
+}
+
+impl Delimited for GlobalType {
+    ghost use Rattle.wenc_base.specs.Entities.{global_type};
+    ghost use Rattle.wenc_base.specs.laws.Entities.{read_global_type, global_type_lawful};
+    ghost use Rattle.wenc_base.specs.declared.globals.GlobalType.{GlobalType as Seen'};
+
+    ghost Seen = { Seen' };
+
+    ghost seen = { λ x. x };
+
+    ghost form = { global_type };
+
+    fn belongs(&self) {
+        self.val_type.belongs();
+        self.mutable.belongs();
+    }
+
+    ghost readable = { ((λ fuel. read_global_type), global_type_lawful) };
+
+    ghost text_of = { λ x. refl };
+
+    ghost free = { λ x h fault cause. cause };
+}
+
+impl DelimitedEq for GlobalType {
+    ghost alike = { itself _ };
+}

@@ -1,0 +1,76 @@
+ghost use Rattle.std.specs.Prelude.{◌≡◌, refl};
+ghost use Rattle.wenc_base.specs.laws.Delimited.{itself};
+
+use crate::delimited::{Delimited, DelimitedEq};
+use crate::encode::{Encode, Tagged};
+use crate::fault::Fault;
+use crate::globals::GlobalType;
+use crate::memories::MemoryType;
+use crate::tables::TableType;
+use crate::tags::TagType;
+use std::alloc::Allocator;
+
+/// The type of what a core module imports or exports (WebAssembly 3.0, binary format, "External Types").
+#[derive(Clone, Copy, Debug, PartialEq, Eq)]
+pub enum EntityType {
+    /// A function, whose type has this index, from 0 to 4294967295.
+    Function(u32),
+    /// A table.
+    Table(TableType),
+    /// A memory.
+    Memory(MemoryType),
+    /// A global variable.
+    Global(GlobalType),
+    /// A tag of exceptions.
+    Tag(TagType),
+}
+
+impl Encode for EntityType {
+    ghost use Rattle.wenc_base.specs.Entities.{entity_type};
+
+    ghost text = { λ e. (entity_type e).text };
+
+    ghost cause = { λ _ _. ⊥ };
+
+    fn encode<A: Allocator>(&self, sink: &mut Vec<u8, A>) -> Result<(), Fault> {
+        match self {
+            EntityType::Function(index) => Tagged(0x00, index).encode(sink),
+            EntityType::Table(ty) => Tagged(0x01, ty).encode(sink),
+            EntityType::Memory(ty) => Tagged(0x02, ty).encode(sink),
+            EntityType::Global(ty) => Tagged(0x03, ty).encode(sink),
+            EntityType::Tag(ty) => Tagged(0x04, ty).encode(sink),
+        }
+    }
+}
+
+impl Delimited for EntityType {
+    ghost use Rattle.wenc_base.specs.Entities.{entity_type};
+    ghost use Rattle.wenc_base.specs.laws.Entities.{read_entity_type, entity_type_lawful};
+    ghost use Rattle.wenc_base.specs.declared.imports.EntityType.{EntityType as Seen'};
+
+    ghost Seen = { Seen' };
+
+    ghost seen = { λ x. x };
+
+    ghost form = { entity_type };
+
+    fn belongs(&self) {
+        match self {
+            EntityType::Function(index) => index.belongs(),
+            EntityType::Table(ty) => ty.belongs(),
+            EntityType::Memory(ty) => ty.belongs(),
+            EntityType::Global(ty) => ty.belongs(),
+            EntityType::Tag(ty) => ty.belongs(),
+        }
+    }
+
+    ghost readable = { ((λ fuel. read_entity_type), entity_type_lawful) };
+
+    ghost text_of = { λ x. refl };
+
+    ghost free = { λ x h fault cause. cause };
+}
+
+impl DelimitedEq for EntityType {
+    ghost alike = { itself _ };
+}

@@ -1,0 +1,133 @@
+//! What encoders borrow: a holder, or a type, a section or a builder that has one.
+ghost use Rattle.std.specs.Iterator.{IsFinite};
+ghost use Rattle.std.specs.Prelude.{◌≡◌, ℕ, List, ◌++◌, Bool, true, false};
+ghost use Rattle.wenc_base.specs.Fault.{drawn_cause};
+ghost use Rattle.wenc_base.specs.Forms.{list_text};
+ghost use Rattle.wenc_base.specs.Lender.{either, Extends, ExtendsListed, Ends, EndsListed};
+ghost use Rattle.wenc_base.specs.declared.fault.Fault.{Fault as FaultSpec};
+ghost use Rattle.wenc_base.specs.declared.fault.Fault.TheVariants.{Unfinished};
+
+use crate::encode::Encode;
+use crate::fault::Fault;
+use crate::holder::Holder;
+use std::alloc::Allocator;
+
+/// A value that has a member which is being written, and lends itself to the encoder that writes it.
+pub trait Lender {
+    /// No member is being written.
+    ghost finished: { Self → Bool };
+
+    /// A member is being written of which there is the lead alone.
+    ghost opened: { Self → Bool };
+
+    /// The value with more bytes of the member.
+    ghost written: { Self → List ℕ → Self };
+
+    /// The value with the member ended.
+    ghost ended: { Self → Self };
+
+    /// Why these bytes can't be added to the member.
+    ghost refuses: { Self → List ℕ → FaultSpec → Type 0 };
+
+    /// What is opened is being written.
+    ghost begins: { (x : Self) → opened x ≡ true → finished x ≡ false };
+
+    /// The member stays unfinished.
+    ghost stays: { (x : Self) (text : List ℕ)
+        → finished x ≡ false → finished (written x text) ≡ false };
+
+    /// Bytes and then more are all of them.
+    ghost joins: { (x : Self) (text more : List ℕ)
+        → written (written x text) more ≡ written x (text ++ more) };
+
+    /// Adds the text of a value to the member. A refused call changes nothing.
+    fn append_value<E: Encode>(&mut self, value: &E) -> Result<(), Fault>
+        requires { finished self.old ≡ false }
+        ensures appended { Extends self.old self.new (written self.old (E.text value.now)) result
+            (either (E.cause value.now) (refuses self.old (E.text value.now))) }
+        ensures unfinished_value { E.unfinished value.now → result ≡ Err Unfinished };
+
+    /// Adds these bytes to the member, then the values as a list. A refused call changes nothing.
+    fn append_list<T: Encode + Drop, I: Iterator<Item = T> + Drop>(
+        &mut self,
+        lead: &[u8],
+        values: I,
+    ) -> Result<(), Fault>
+        requires unfinished { finished self.old ≡ false }
+        requires can { I.can_next values }
+        requires ends { IsFinite (I.remaining values) }
+        ensures { ExtendsListed I.next_gives values self.old self.new result (written self.old)
+            (refuses self.old) (drawn_cause T.cause) (λ vs. lead.now ++ list_text T.text vs) };
+
+    /// The member is whole. It takes no memory.
+    fn end_member(&mut self)
+        ensures { self.new ≡ ended self.old };
+
+    /// Adds the text of a value to the member, which is whole then. A refused call changes nothing.
+    fn end_with<E: Encode>(&mut self, value: &E) -> Result<(), Fault>
+        requires { finished self.old ≡ false }
+        ensures ended { Ends written Self.ended refuses self.old self.new result
+            (E.cause value.now) (E.text value.now) }
+        ensures unfinished_value { E.unfinished value.now → result ≡ Err Unfinished }
+    {
+        self.append_value(value)?;
+        self.end_member();
+        Ok(())
+    }
+
+    /// Adds these bytes to the member, then the values as a list, and it is whole then. A refused call changes
+    /// nothing.
+    fn end_with_list<T: Encode + Drop, I: Iterator<Item = T> + Drop>(
+        &mut self,
+        lead: &[u8],
+        values: I,
+    ) -> Result<(), Fault>
+        requires unfinished { finished self.old ≡ false }
+        requires can { I.can_next values }
+        requires ends { IsFinite (I.remaining values) }
+        ensures { EndsListed written Self.ended refuses I.next_gives values self.old self.new
+            result (drawn_cause T.cause) (λ vs. lead.now ++ list_text T.text vs) }
+    {
+        self.append_list(lead, values)?;
+        self.end_member();
+        Ok(())
+    }
+}
+
+impl<A: Allocator> Lender for Holder<A> {
+    ghost use Rattle.wenc_base.specs.Holder.{is_finished};
+    ghost use Rattle.wenc_base.specs.Openings.{lengthened, closed, no_room, is_opened};
+    ghost use Rattle.wenc_base.specs.laws.Holders.{opened_is_unfinished, lengthened_twice};
+
+    ghost finished = { is_finished };
+
+    ghost opened = { is_opened };
+
+    ghost written = { lengthened };
+
+    ghost ended = { closed };
+
+    ghost refuses = { no_room };
+
+    ghost begins = { opened_is_unfinished };
+
+    ghost stays = { λ _ _ unfinished. unfinished };
+
+    ghost joins = { lengthened_twice };
+
+    fn append_value<E: Encode>(&mut self, value: &E) -> Result<(), Fault> {
+        self.append_encoded(value)
+    }
+
+    fn append_list<T: Encode + Drop, I: Iterator<Item = T> + Drop>(
+        &mut self,
+        lead: &[u8],
+        values: I,
+    ) -> Result<(), Fault> {
+        self.append_listed(lead, values)
+    }
+
+    fn end_member(&mut self) {
+        self.finish_member();
+    }
+}

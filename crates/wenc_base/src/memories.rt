@@ -1,0 +1,69 @@
+ghost use Rattle.std.specs.Prelude.{◌≡◌, refl};
+ghost use Rattle.wenc_base.specs.laws.Delimited.{itself};
+
+use crate::delimited::{Delimited, DelimitedEq};
+use crate::encode::Encode;
+use crate::fault::Fault;
+use crate::limits::Limits;
+use std::alloc::Allocator;
+
+/// The type of a memory (WebAssembly 3.0, binary format, "Memory Types"). A shared one isn't in that standard.
+#[derive(Clone, Copy, Debug, PartialEq, Eq)]
+pub struct MemoryType {
+    /// How many pages it has at first, from 0 to 18446744073709551615.
+    pub minimum: u64,
+    /// How many it has at most, from 0 to 18446744073709551615, if there is a bound.
+    pub maximum: Option<u64>,
+    /// Whether its addresses have 64 bits.
+    pub memory64: bool,
+    /// Whether threads share it.
+    pub shared: bool,
+}
+
+impl Encode for MemoryType {
+    ghost use Rattle.wenc_base.specs.Entities.{memory_type};
+
+    ghost text = { λ m. (memory_type m).text };
+
+    ghost cause = { λ _ _. ⊥ };
+
+    fn encode<A: Allocator>(&self, sink: &mut Vec<u8, A>) -> Result<(), Fault> {
+        let limits = Limits {
+            minimum: self.minimum,
+            maximum: self.maximum,
+            is_shared: self.shared,
+            is_long: self.memory64,
+        };
+        limits.encode(sink)
+    }
+}
+
+impl Delimited for MemoryType {
+    ghost use Rattle.wenc_base.specs.Entities.{memory_type};
+    ghost use Rattle.wenc_base.specs.laws.Entities.{read_memory_type, memory_type_lawful};
+    ghost use Rattle.wenc_base.specs.declared.memories.MemoryType.{MemoryType as Seen'};
+
+    ghost Seen = { Seen' };
+
+    ghost seen = { λ x. x };
+
+    ghost form = { memory_type };
+
+    #[tactic(auto, using(crate::specs::laws::Entities::limits_fit))]
+    fn belongs(&self) {
+        self.minimum.belongs();
+        if let Some(maximum) = self.maximum {
+            maximum.belongs();
+        }
+    }
+
+    ghost readable = { ((λ fuel. read_memory_type), memory_type_lawful) };
+
+    ghost text_of = { λ x. refl };
+
+    ghost free = { λ x h fault cause. cause };
+}
+
+impl DelimitedEq for MemoryType {
+    ghost alike = { itself _ };
+}

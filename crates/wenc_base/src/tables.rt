@@ -1,0 +1,71 @@
+ghost use Rattle.std.specs.Prelude.{◌≡◌, refl};
+ghost use Rattle.wenc_base.specs.laws.Delimited.{itself};
+
+use crate::delimited::{Delimited, DelimitedEq};
+use crate::encode::Encode;
+use crate::fault::Fault;
+use crate::limits::Limits;
+use crate::types::RefType;
+use std::alloc::Allocator;
+
+/// The type of a table (WebAssembly 3.0, binary format, "Table Types").
+#[derive(Clone, Copy, Debug, PartialEq, Eq)]
+pub struct TableType {
+    /// What it contains.
+    pub element_type: RefType,
+    /// Whether its indices have 64 bits.
+    pub table64: bool,
+    /// How many elements it has at first, from 0 to 18446744073709551615.
+    pub minimum: u64,
+    /// How many it has at most, from 0 to 18446744073709551615, if there is a bound.
+    pub maximum: Option<u64>,
+}
+
+impl Encode for TableType {
+    ghost use Rattle.wenc_base.specs.Entities.{table_type};
+
+    ghost text = { λ t. (table_type t).text };
+
+    ghost cause = { λ _ _. ⊥ };
+
+    fn encode<A: Allocator>(&self, sink: &mut Vec<u8, A>) -> Result<(), Fault> {
+        let limits = Limits {
+            minimum: self.minimum,
+            maximum: self.maximum,
+            is_shared: false,
+            is_long: self.table64,
+        };
+        (self.element_type, limits).encode(sink)
+    }
+}
+
+impl Delimited for TableType {
+    ghost use Rattle.wenc_base.specs.Entities.{table_type};
+    ghost use Rattle.wenc_base.specs.laws.Entities.{read_table_type, table_type_lawful};
+    ghost use Rattle.wenc_base.specs.declared.tables.TableType.{TableType as Seen'};
+
+    ghost Seen = { Seen' };
+
+    ghost seen = { λ x. x };
+
+    ghost form = { table_type };
+
+    #[tactic(auto, using(crate::specs::laws::Entities::limits_fit))]
+    fn belongs(&self) {
+        self.element_type.belongs();
+        self.minimum.belongs();
+        if let Some(maximum) = self.maximum {
+            maximum.belongs();
+        }
+    }
+
+    ghost readable = { ((λ fuel. read_table_type), table_type_lawful) };
+
+    ghost text_of = { λ x. refl };
+
+    ghost free = { λ x h fault cause. cause };
+}
+
+impl DelimitedEq for TableType {
+    ghost alike = { itself _ };
+}

@@ -1,0 +1,52 @@
+ghost use Rattle.std.specs.Prelude.{◌≡◌, refl};
+ghost use Rattle.wenc_base.specs.laws.Delimited.{itself};
+
+use crate::delimited::{Delimited, DelimitedEq};
+use crate::encode::{Encode, Tagged};
+use crate::fault::Fault;
+use std::alloc::Allocator;
+
+/// The type of a tag of exceptions (WebAssembly 3.0, binary format, "Tag Types").
+#[derive(Clone, Copy, Debug, PartialEq, Eq)]
+pub struct TagType {
+    /// The index of the function type whose parameters an exception carries, from 0 to 4294967295.
+    pub func_type_idx: u32,
+}
+
+impl Encode for TagType {
+    ghost use Rattle.wenc_base.specs.Entities.{tag_type};
+
+    ghost text = { λ t. (tag_type t).text };
+
+    ghost cause = { λ _ _. ⊥ };
+
+    fn encode<A: Allocator>(&self, sink: &mut Vec<u8, A>) -> Result<(), Fault> {
+        Tagged(0x00, &self.func_type_idx).encode(sink)
+    }
+}
+
+impl Delimited for TagType {
+    ghost use Rattle.wenc_base.specs.Entities.{tag_type};
+    ghost use Rattle.wenc_base.specs.laws.Entities.{read_tag_type, tag_type_lawful};
+    ghost use Rattle.wenc_base.specs.declared.tags.TagType.{TagType as Seen'};
+
+    ghost Seen = { Seen' };
+
+    ghost seen = { λ x. x };
+
+    ghost form = { tag_type };
+
+    fn belongs(&self) {
+        self.func_type_idx.belongs();
+    }
+
+    ghost readable = { ((λ fuel. read_tag_type), tag_type_lawful) };
+
+    ghost text_of = { λ x. refl };
+
+    ghost free = { λ x h fault cause. cause };
+}
+
+impl DelimitedEq for TagType {
+    ghost alike = { itself _ };
+}

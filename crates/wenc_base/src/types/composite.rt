@@ -1,0 +1,256 @@
+ghost use Rattle.std.specs.Prelude.{◌≡◌, IfOk, IfErr, refl};
+ghost use Rattle.std.specs.Iterator.{IsFinite};
+ghost use Rattle.std.specs.Iterator.Runs.{WholeRun};
+ghost use Rattle.wenc_base.specs.Composites.{params_of, results_of};
+ghost use Rattle.wenc_base.specs.Fault.{IsMemory};
+
+use super::ValType;
+use super::storage::FieldType;
+use crate::delimited::{Delimited, DelimitedEq};
+use crate::encode::{Encode, Tagged};
+use crate::fault::Fault;
+use std::alloc::{Allocator, Global};
+
+/// The type of a function (WebAssembly 3.0, binary format, "Composite Types").
+#[derive(Drop)]
+#[derive_where(PartialEq, Eq, Debug)]
+pub struct FuncType<A: Allocator = Global> {
+    params: Vec<ValType, A>,
+    results: Vec<ValType, A>,
+}
+
+impl<A: Allocator> FuncType<A> {
+    /// A function type with these parameters and results. It is refused for want of memory alone. More than
+    /// 4294967295 of either can't be encoded.
+    pub fn new<P: Iterator<Item = ValType> + Drop, R: Iterator<Item = ValType> + Drop>(
+        alloc: A,
+        params: P,
+        results: R,
+    ) -> Result<Self, Fault>
+    where
+        A: Copy,
+        requires can_params { P.can_next params }
+        requires params_end { IsFinite (P.remaining params) }
+        requires can_results { R.can_next results }
+        requires results_end { IsFinite (R.remaining results) }
+        ensures params { IfOk result (λ f. WholeRun P.next_gives params (λ run.
+            params_of f ≡ run.items)) }
+        ensures results { IfOk result (λ f. WholeRun R.next_gives results (λ run.
+            results_of f ≡ run.items)) }
+        ensures refused { IfErr result IsMemory }
+    {
+        let params = params.collect(alloc)?;
+        let results = results.collect(alloc)?;
+        Ok(FuncType { params, results })
+    }
+
+    /// The types of the parameters, in their order.
+    pub fn params(&self) -> &[ValType]
+        ensures { result.now ≡ params_of self.now }
+    {
+        self.params.as_slice()
+    }
+
+    /// The types of the results, in their order.
+    pub fn results(&self) -> &[ValType]
+        ensures { result.now ≡ results_of self.now }
+    {
+        self.results.as_slice()
+    }
+}
+
+/// As a composite type.
+impl<A: Allocator> Encode for FuncType<A> {
+    ghost use Rattle.wenc_base.specs.Composites.{composite_type, composite_cause, function_view};
+
+    ghost text = { λ f. (composite_type (function_view f)).text };
+
+    ghost cause = { λ f. composite_cause (function_view f) };
+
+    fn encode<B: Allocator>(&self, sink: &mut Vec<u8, B>) -> Result<(), Fault> {
+        Tagged(0x60, &(self.params(), self.results())).encode(sink)
+    }
+}
+
+impl<A: Allocator> Delimited for FuncType<A> {
+    ghost use Rattle.wenc_base.specs.Composites.{Composite, composite_type, function_view};
+    ghost use Rattle.wenc_base.specs.laws.Composites.{read_composite, composite_type_lawful, composite_free};
+
+    ghost Seen = { Composite };
+
+    ghost seen = { function_view };
+
+    ghost form = { composite_type };
+
+    fn belongs(&self) {
+        self.params().belongs();
+        self.results().belongs();
+    }
+
+    ghost readable = { ((λ fuel. read_composite), composite_type_lawful) };
+
+    ghost text_of = { λ x. refl };
+
+    ghost free = { λ x. composite_free (function_view x) };
+}
+
+impl<A: Allocator> DelimitedEq for FuncType<A> {
+    ghost use Rattle.wenc_base.specs.laws.Composites.{same_params, same_results};
+
+    ghost alike = { λ laws a b e. rw (same_params a b e, same_results a b e) (laws.refl b) };
+}
+
+/// The type of an array, by that of its elements (WebAssembly 3.0, binary format, "Composite Types").
+#[derive(Clone, Copy, Debug, PartialEq, Eq)]
+pub struct ArrayType(pub FieldType);
+
+/// As a composite type.
+impl Encode for ArrayType {
+    ghost use Rattle.wenc_base.specs.Composites.{composite_type, array_view};
+
+    ghost text = { λ a. (composite_type (array_view a)).text };
+
+    ghost cause = { λ _ _. ⊥ };
+
+    fn encode<A: Allocator>(&self, sink: &mut Vec<u8, A>) -> Result<(), Fault> {
+        Tagged(0x5e, &self.0).encode(sink)
+    }
+}
+
+impl Delimited for ArrayType {
+    ghost use Rattle.wenc_base.specs.Composites.{Composite, composite_type, array_view};
+    ghost use Rattle.wenc_base.specs.laws.Composites.{read_composite, composite_type_lawful, composite_free};
+
+    ghost Seen = { Composite };
+
+    ghost seen = { array_view };
+
+    ghost form = { composite_type };
+
+    fn belongs(&self) {
+        self.0.belongs();
+    }
+
+    ghost readable = { ((λ fuel. read_composite), composite_type_lawful) };
+
+    ghost text_of = { λ x. refl };
+
+    ghost free = { λ x. composite_free (array_view x) };
+}
+
+impl DelimitedEq for ArrayType {
+    ghost use Rattle.wenc_base.specs.laws.Composites.{same_element};
+
+    ghost alike = { λ laws a b e. rw (same_element a b e) (laws.refl b) };
+}
+
+/// The type of a structure (WebAssembly 3.0, binary format, "Composite Types").
+#[derive(Drop)]
+#[derive_where(PartialEq, Eq, Debug)]
+pub struct StructType<A: Allocator = Global> {
+    /// The types of the fields, in their order. More than 4294967295 can't be encoded.
+    pub fields: Vec<FieldType, A>,
+}
+
+/// As a composite type.
+impl<A: Allocator> Encode for StructType<A> {
+    ghost use Rattle.wenc_base.specs.Composites.{composite_type, composite_cause, structure_view};
+
+    ghost text = { λ s. (composite_type (structure_view s)).text };
+
+    ghost cause = { λ s. composite_cause (structure_view s) };
+
+    fn encode<B: Allocator>(&self, sink: &mut Vec<u8, B>) -> Result<(), Fault> {
+        Tagged(0x5f, &self.fields.as_slice()).encode(sink)
+    }
+}
+
+impl<A: Allocator> Delimited for StructType<A> {
+    ghost use Rattle.wenc_base.specs.Composites.{Composite, composite_type, structure_view};
+    ghost use Rattle.wenc_base.specs.laws.Composites.{read_composite, composite_type_lawful, composite_free};
+
+    ghost Seen = { Composite };
+
+    ghost seen = { structure_view };
+
+    ghost form = { composite_type };
+
+    fn belongs(&self) {
+        self.fields.as_slice().belongs();
+    }
+
+    ghost readable = { ((λ fuel. read_composite), composite_type_lawful) };
+
+    ghost text_of = { λ x. refl };
+
+    ghost free = { λ x. composite_free (structure_view x) };
+}
+
+impl<A: Allocator> DelimitedEq for StructType<A> {
+    ghost use Rattle.wenc_base.specs.laws.Composites.{same_fields};
+
+    ghost alike = { λ laws a b e. rw (same_fields a b e) (laws.refl b) };
+}
+
+/// The type of a function, an array or a structure (WebAssembly 3.0, binary format, "Composite Types").
+#[derive(Drop)]
+#[derive_where(PartialEq, Eq, Debug)]
+pub enum CompositeType<A: Allocator = Global> {
+    /// A function.
+    Func(FuncType<A>),
+    /// An array.
+    Array(ArrayType),
+    /// A structure.
+    Struct(StructType<A>),
+}
+
+impl<A: Allocator> Encode for CompositeType<A> {
+    ghost use Rattle.wenc_base.specs.Composites.{composite_type, composite_cause, composite_view};
+
+    ghost text = { λ c. (composite_type (composite_view c)).text };
+
+    ghost cause = { λ c. composite_cause (composite_view c) };
+
+    fn encode<B: Allocator>(&self, sink: &mut Vec<u8, B>) -> Result<(), Fault> {
+        match self {
+            CompositeType::Func(ty) => ty.encode(sink),
+            CompositeType::Array(ty) => ty.encode(sink),
+            CompositeType::Struct(ty) => ty.encode(sink),
+        }
+    }
+}
+
+impl<A: Allocator> Delimited for CompositeType<A> {
+    ghost use Rattle.wenc_base.specs.Composites.{Composite, composite_type, composite_view};
+    ghost use Rattle.wenc_base.specs.laws.Composites.{read_composite, composite_type_lawful, composite_free};
+
+    ghost Seen = { Composite };
+
+    ghost seen = { composite_view };
+
+    ghost form = { composite_type };
+
+    fn belongs(&self) {
+        match self {
+            CompositeType::Func(ty) => ty.belongs(),
+            CompositeType::Array(ty) => ty.belongs(),
+            CompositeType::Struct(ty) => ty.belongs(),
+        }
+    }
+
+    ghost readable = { ((λ fuel. read_composite), composite_type_lawful) };
+
+    ghost text_of = { λ x. refl };
+
+    ghost free = { λ x. composite_free (composite_view x) };
+}
+
+impl<A: Allocator> DelimitedEq for CompositeType<A> {
+    ghost use Rattle.wenc_base.specs.declared.types.composite.CompositeType.TheVariants as composites;
+    ghost use Rattle.wenc_base.specs.laws.Composites.{by_kind, same_params, same_results, same_element, same_fields};
+
+    ghost alike = { λ laws. by_kind _
+        (λ f g e. rw (same_params f g e, same_results f g e) (laws.refl (composites.Func g)))
+        (λ a b e. rw (same_element a b e) (laws.refl (composites.Array b)))
+        (λ s t e. rw (same_fields s t e) (laws.refl (composites.Struct t))) };
+}

@@ -1,0 +1,74 @@
+ghost use Rattle.std.specs.Prelude.{refl};
+
+use super::sub::SubType;
+use crate::delimited::{Delimited, DelimitedEq};
+use crate::encode::{Encode, Tagged};
+use crate::fault::Fault;
+use std::alloc::{Allocator, Global};
+
+/// Types that a module defines together (WebAssembly 3.0, binary format, "Recursive Types").
+#[derive(Drop)]
+#[derive_where(PartialEq, Eq, Debug)]
+pub enum GroupTree<A: Allocator = Global> {
+    /// One type by itself.
+    Sub(SubType<A>),
+    /// Types that may refer to each other. More than 4294967295 can't be encoded.
+    Rec(Vec<SubType<A>, A>),
+}
+
+impl<A: Allocator> Encode for GroupTree<A> {
+    ghost use Rattle.wenc_base.specs.Composites.{group, group_cause, group_view};
+
+    ghost text = { λ g. (group (group_view g)).text };
+
+    ghost cause = { λ g. group_cause (group_view g) };
+
+    fn encode<B: Allocator>(&self, sink: &mut Vec<u8, B>) -> Result<(), Fault> {
+        match self {
+            GroupTree::Sub(ty) => ty.encode(sink),
+            GroupTree::Rec(types) => Tagged(0x4e, &types.as_slice()).encode(sink),
+        }
+    }
+}
+
+impl<A: Allocator> Delimited for GroupTree<A> {
+    ghost use Rattle.wenc_base.specs.Composites.{Group, group, group_view};
+    ghost use Rattle.wenc_base.specs.laws.Composites.{read_group, group_lawful, group_free};
+
+    ghost Seen = { Group };
+
+    ghost seen = { group_view };
+
+    ghost form = { group };
+
+    fn belongs(&self) {
+        match self {
+            GroupTree::Sub(ty) => ty.belongs(),
+            GroupTree::Rec(types) => types.as_slice().belongs(),
+        }
+    }
+
+    ghost readable = { ((λ fuel. read_group), group_lawful) };
+
+    ghost text_of = { λ x. refl };
+
+    ghost free = { λ x. group_free (group_view x) };
+}
+
+impl<A: Allocator> DelimitedEq for GroupTree<A> {
+    ghost use Rattle.wenc_base.specs.Composites.{sub_view};
+    ghost use Rattle.wenc_base.specs.declared.types.composite.CompositeType.TheVariants as composites;
+    ghost use Rattle.wenc_base.specs.declared.types.groups.GroupTree.TheVariants as groups;
+    ghost use Rattle.wenc_base.specs.laws.Composites.{by_group, by_parts, by_kind, plain, same_params, same_results, same_element, same_fields, last_of_three};
+
+    ghost alike = { λ laws. by_group _
+        (by_parts _
+        (by_kind _
+        (λ f g e. rw (same_params f g e, same_results f g e)
+        (laws.refl (groups.Sub (plain (composites.Func g)))))
+        (λ a b e. rw (same_element a b e) (laws.refl (groups.Sub (plain (composites.Array b)))))
+        (λ s t e. rw (same_fields s t e) (laws.refl (groups.Sub (plain (composites.Struct t))))))
+        (λ s t final supertype same. rw (final, supertype)
+        (last_of_three _ _ _ _ (laws.refl (groups.Sub t)) same)))
+        (λ v w same. same) };
+}

@@ -1,0 +1,37 @@
+ghost use Rattle.wenc_base.specs.Composites.{Single, standing, sub_cause, sub_view, group_cause, group_view};
+
+use super::{GroupTree, SubType};
+use crate::encode::{Encode, Tagged};
+use crate::fault::Fault;
+use std::alloc::Allocator;
+
+/// A type or a group. Where it is said to have guards, as in a component, a type by itself that isn't final has a byte
+/// `00` before it (component model, binary format, "Core Definitions").
+#[derive(Clone, Copy)]
+pub struct Guarded<'a, T>(pub bool, pub &'a T);
+
+impl<'a, A: Allocator> Encode for Guarded<'a, SubType<A>> {
+    ghost text = { λ g. (standing g.0 (Single (sub_view g.1.now))).text };
+
+    ghost cause = { λ g. sub_cause (sub_view g.1.now) };
+
+    fn encode<B: Allocator>(&self, sink: &mut Vec<u8, B>) -> Result<(), Fault> {
+        if self.0 && !self.1.is_final {
+            return Tagged(0x00, self.1).encode(sink);
+        }
+        self.1.encode(sink)
+    }
+}
+
+impl<'a, A: Allocator> Encode for Guarded<'a, GroupTree<A>> {
+    ghost text = { λ g. (standing g.0 (group_view g.1.now)).text };
+
+    ghost cause = { λ g. group_cause (group_view g.1.now) };
+
+    fn encode<B: Allocator>(&self, sink: &mut Vec<u8, B>) -> Result<(), Fault> {
+        match self.1 {
+            GroupTree::Sub(ty) => Guarded(self.0, ty).encode(sink),
+            GroupTree::Rec(_) => self.1.encode(sink),
+        }
+    }
+}

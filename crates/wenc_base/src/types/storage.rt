@@ -1,0 +1,115 @@
+ghost use Rattle.std.specs.Prelude.{◌≡◌, refl};
+ghost use Rattle.wenc_base.specs.laws.Delimited.{itself};
+
+use super::ValType;
+use crate::delimited::{Delimited, DelimitedEq};
+use crate::encode::Encode;
+use crate::fault::Fault;
+use std::alloc::Allocator;
+
+/// How a field of a structure, or an element of an array, is stored (WebAssembly 3.0, binary format, "Composite
+/// Types").
+#[derive(Clone, Copy, Debug, PartialEq, Eq)]
+pub enum StorageType {
+    /// An 8-bit integer.
+    I8,
+    /// A 16-bit integer.
+    I16,
+    /// A value of this type.
+    Val(ValType),
+}
+
+impl Encode for StorageType {
+    ghost use Rattle.wenc_base.specs.Composites.{storage_type};
+
+    ghost text = { λ t. (storage_type t).text };
+
+    ghost cause = { λ _ _. ⊥ };
+
+    fn encode<A: Allocator>(&self, sink: &mut Vec<u8, A>) -> Result<(), Fault> {
+        let byte = match self {
+            StorageType::I8 => 0x78,
+            StorageType::I16 => 0x77,
+            StorageType::Val(ty) => return ty.encode(sink),
+        };
+        sink.push(byte)?;
+        Ok(())
+    }
+}
+
+impl Delimited for StorageType {
+    ghost use Rattle.wenc_base.specs.Composites.{storage_type};
+    ghost use Rattle.wenc_base.specs.laws.Composites.{read_storage_type, storage_type_lawful};
+    ghost use Rattle.wenc_base.specs.declared.types.storage.StorageType.{StorageType as Seen'};
+
+    ghost Seen = { Seen' };
+
+    ghost seen = { λ x. x };
+
+    ghost form = { storage_type };
+
+    fn belongs(&self) {
+        if let StorageType::Val(ty) = self {
+            ty.belongs();
+        }
+    }
+
+    ghost readable = { ((λ fuel. read_storage_type), storage_type_lawful) };
+
+    ghost text_of = { λ x. refl };
+
+    ghost free = { λ x h fault cause. cause };
+}
+
+impl DelimitedEq for StorageType {
+    ghost alike = { itself _ };
+}
+
+/// The type of a field of a structure, or of the elements of an array (WebAssembly 3.0, binary format,
+/// "Composite Types").
+#[derive(Clone, Copy, Debug, PartialEq, Eq)]
+pub struct FieldType {
+    /// How it is stored.
+    pub element_type: StorageType,
+    /// Whether it can be changed.
+    pub mutable: bool,
+}
+
+impl Encode for FieldType {
+    ghost use Rattle.wenc_base.specs.Composites.{field_type};
+
+    ghost text = { λ f. (field_type f).text };
+
+    ghost cause = { λ _ _. ⊥ };
+
+    fn encode<A: Allocator>(&self, sink: &mut Vec<u8, A>) -> Result<(), Fault> {
+        (self.element_type, self.mutable).encode(sink)
+    }
+}
+
+impl Delimited for FieldType {
+    ghost use Rattle.wenc_base.specs.Composites.{field_type};
+    ghost use Rattle.wenc_base.specs.laws.Composites.{read_field_type, field_type_lawful};
+    ghost use Rattle.wenc_base.specs.declared.types.storage.FieldType.{FieldType as Seen'};
+
+    ghost Seen = { Seen' };
+
+    ghost seen = { λ x. x };
+
+    ghost form = { field_type };
+
+    fn belongs(&self) {
+        self.element_type.belongs();
+        self.mutable.belongs();
+    }
+
+    ghost readable = { ((λ fuel. read_field_type), field_type_lawful) };
+
+    ghost text_of = { λ x. refl };
+
+    ghost free = { λ x h fault cause. cause };
+}
+
+impl DelimitedEq for FieldType {
+    ghost alike = { itself _ };
+}

@@ -1,0 +1,105 @@
+ghost use Rattle.std.specs.Prelude.{◌++◌, ◌∷◌, refl};
+ghost use Rattle.wenc_base.specs.Encode.{Appends};
+ghost use Rattle.wenc_base.specs.Number.{unsigned_text};
+
+use super::composite::CompositeType;
+use crate::delimited::{Delimited, DelimitedEq};
+use crate::encode::{Encode, Lent, Tagged};
+use crate::fault::Fault;
+use std::alloc::{Allocator, Global};
+
+/// A composite type, what it extends, and whether it can be extended (WebAssembly 3.0, binary format, "Recursive
+/// Types").
+#[derive(Drop)]
+#[derive_where(PartialEq, Eq, Debug)]
+pub struct SubType<A: Allocator = Global> {
+    /// Whether no type extends it.
+    pub is_final: bool,
+    /// The index of the type that it extends, from 0 to 4294967295, if it extends one.
+    pub supertype_idx: Option<u32>,
+    /// The type itself.
+    pub composite_type: CompositeType<A>,
+}
+
+impl<A: Allocator> Encode for SubType<A> {
+    ghost use Rattle.wenc_base.specs.Composites.{sub_type, sub_cause, sub_view};
+
+    ghost text = { λ s. (sub_type (sub_view s)).text };
+
+    ghost cause = { λ s. sub_cause (sub_view s) };
+
+    fn encode<B: Allocator>(&self, sink: &mut Vec<u8, B>) -> Result<(), Fault> {
+        let ty = &self.composite_type;
+        match (self.is_final, self.supertype_idx) {
+            (true, None) => ty.encode(sink),
+            (true, Some(index)) => encode_extension(0x4f, index, ty, sink),
+            (false, None) => Tagged(0x50, &Tagged(0x00, ty)).encode(sink),
+            (false, Some(index)) => encode_extension(0x50, index, ty, sink),
+        }
+    }
+}
+
+impl<A: Allocator> Delimited for SubType<A> {
+    ghost use Rattle.wenc_base.specs.Composites.{Sub, sub_type, sub_view};
+    ghost use Rattle.wenc_base.specs.laws.Composites.{read_sub_type, sub_type_lawful, sub_free};
+
+    ghost Seen = { Sub };
+
+    ghost seen = { sub_view };
+
+    ghost form = { sub_type };
+
+    #[tactic(auto, using(crate::specs::laws::Composites::sub_fits))]
+    fn belongs(&self) {
+        if let Some(index) = self.supertype_idx {
+            index.belongs();
+        }
+        self.composite_type.belongs();
+    }
+
+    ghost readable = { ((λ fuel. read_sub_type), sub_type_lawful) };
+
+    ghost text_of = { λ x. refl };
+
+    ghost free = { λ x. sub_free (sub_view x) };
+}
+
+impl<A: Allocator> DelimitedEq for SubType<A> {
+    ghost use Rattle.wenc_base.specs.declared.types.composite.CompositeType.TheVariants as composites;
+    ghost use Rattle.wenc_base.specs.laws.Composites.{by_parts, by_kind, plain, same_params, same_results, same_element, same_fields, last_of_three};
+
+    ghost alike = { λ laws. by_parts _
+        (by_kind _
+        (λ f g e. rw (same_params f g e, same_results f g e)
+        (laws.refl (plain (composites.Func g))))
+        (λ a b e. rw (same_element a b e) (laws.refl (plain (composites.Array b))))
+        (λ s t e. rw (same_fields s t e) (laws.refl (plain (composites.Struct t)))))
+        (λ s t final supertype same. rw (final, supertype)
+        (last_of_three _ _ _ _ (laws.refl t) same)) };
+}
+
+/// A byte, the type that is extended, and a type.
+#[tactic(auto, using(crate::specs::laws::Causes::behind))]
+fn encode_extension<T: Encode, A: Allocator>(
+    tag: u8,
+    index: u32,
+    ty: &T,
+    sink: &mut Vec<u8, A>,
+) -> Result<(), Fault>
+    ensures { Appends (tag ∷ 0x01 ∷ (unsigned_text index ++ T.text ty.now)) (T.cause ty.now) ⊥
+        sink.old.items sink.new.items result }
+{
+    Tagged(tag, &Tagged(0x01, &(index, Lent(ty)))).encode(sink)
+}
+
+impl<A: Allocator> Encode for &SubType<A> {
+    ghost use Rattle.wenc_base.specs.Composites.{sub_type, sub_cause, sub_view};
+
+    ghost text = { λ s. (sub_type (sub_view s.now)).text };
+
+    ghost cause = { λ s. sub_cause (sub_view s.now) };
+
+    fn encode<B: Allocator>(&self, sink: &mut Vec<u8, B>) -> Result<(), Fault> {
+        Lent(*self).encode(sink)
+    }
+}

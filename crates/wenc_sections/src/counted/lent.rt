@@ -1,0 +1,67 @@
+ghost use Rattle.std.specs.Prelude.{◌≡◌};
+ghost use Rattle.wenc_base.specs.Holder.{is_finished};
+ghost use Rattle.wenc_base.specs.Lender.{GivesUp};
+ghost use Rattle.wenc_base.specs.Openings.{given_up};
+
+use super::{Counted, CountedKind};
+use std::alloc::Allocator;
+use wenc_base::{Encode, Fault, Lender};
+
+/// A kind whose items are written by encoders.
+pub trait LentKind: CountedKind {}
+
+/// From the call that begins an item on, until its encoder has ended it, the section is unfinished, and what grows or
+/// encodes it is refused with `Unfinished`.
+impl<K: LentKind, A: Allocator> Counted<K, A> {
+    /// Whether no item is being written.
+    pub fn is_finished(&self) -> bool
+        ensures { result ≡ is_finished self.now }
+    {
+        self.items.is_finished()
+    }
+
+    /// Gives up the item that is being written, and says whether there was one: the section is as it was before that
+    /// item. It takes no memory.
+    pub fn discard_unfinished(&mut self) -> bool
+        ensures { GivesUp self.new (given_up self.old) (is_finished self.old) result }
+    {
+        self.items.discard_unfinished()
+    }
+}
+
+impl<K: LentKind, A: Allocator> Lender for Counted<K, A> {
+    ghost use Rattle.wenc_base.specs.Openings.{lengthened, closed, no_room, is_opened};
+    ghost use Rattle.wenc_base.specs.laws.Holders.{opened_is_unfinished, lengthened_twice};
+
+    ghost finished = { is_finished };
+
+    ghost opened = { is_opened };
+
+    ghost written = { lengthened };
+
+    ghost ended = { closed };
+
+    ghost refuses = { no_room };
+
+    ghost begins = { opened_is_unfinished };
+
+    ghost stays = { λ _ _ unfinished. unfinished };
+
+    ghost joins = { lengthened_twice };
+
+    fn append_value<E: Encode>(&mut self, value: &E) -> Result<(), Fault> {
+        self.items.append_encoded(value)
+    }
+
+    fn append_list<T: Encode + Drop, I: Iterator<Item = T> + Drop>(
+        &mut self,
+        lead: &[u8],
+        values: I,
+    ) -> Result<(), Fault> {
+        self.items.append_listed(lead, values)
+    }
+
+    fn end_member(&mut self) {
+        self.items.finish_member();
+    }
+}

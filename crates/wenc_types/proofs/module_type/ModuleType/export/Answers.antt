@@ -1,0 +1,12 @@
+use Rattle.std.proofs.Common.{rules}
+use Rattle.wenc_base.specs.Fault.{text_cause, first_of}
+use Rattle.wenc_base.specs.laws.Causes.{never, alone}
+use Rattle.wenc_types.specs.CoreTypes.{Export}
+use Rattle.wenc_types.specs.laws.ModuleTypes.{took}
+use Rattle.wenc_types.proofs.module_type.ModuleType.export.Goals as goal
+
+pub returns : goal.returns
+returns g c =
+    let name = text_cause c.args.name.now in
+    took c.args.self.now c.self.inside.declarations c.add_encoded.new.self c.self.inside.types c.self.inside.types c.add_encoded.result
+    (first_of name never) (Export c.args.name.now c.args.ty) c.self.view_is (alone name never (λ fault h. h)) c.add_encoded.ensures.added (search rules) (search rules)

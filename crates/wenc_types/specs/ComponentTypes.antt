@@ -1,0 +1,103 @@
+-- Types that components define (component model, binary format, "Type Definitions").
+use Rattle.std.specs.Prelude.{ℕ, suc, max, Option}
+use Rattle.wenc_base.specs.Piece.{Piece, nothing, ◌▸◌, ◌⨾◌}
+use Rattle.wenc_base.specs.Number.{u32}
+use Rattle.wenc_base.specs.Forms.{option}
+use Rattle.wenc_base.specs.Types.{val_type}
+use Rattle.wenc_base.specs.declared.types.ValType.{ValType}
+use Rattle.wenc_parts.specs.declared.imports.ComponentTypeRef.{ComponentTypeRef}
+use Rattle.wenc_parts.specs.Imports.{ExternName, extern_name, type_reference}
+use Rattle.wenc_parts.specs.Aliases.{AliasOf, alias}
+use Rattle.wenc_types.specs.CoreTypes.{CoreType, core_type}
+use Rattle.wenc_types.specs.DefinedTypes.{Defined, defined_type, Function, function_type}
+
+mutual
+  pub data TypeOf : Type 0 where
+    DefinedType : (ty : Defined) → TypeOf
+    FunctionType : (ty : Function) → TypeOf
+    ComponentType : (declarations : ComponentDeclarations) → TypeOf
+    InstanceType : (declarations : InstanceDeclarations) → TypeOf
+    -- a resource: how it is represented, and the index of the function that ends it
+    ResourceType : (rep : ValType) (dtor : Option ℕ) → TypeOf
+
+  -- what an instance type declares
+  pub data InstanceDeclaration : Type 0 where
+    CoreTyped : (ty : CoreType) → InstanceDeclaration
+    Typed : (ty : TypeOf) → InstanceDeclaration
+    Aliased : (to : AliasOf) → InstanceDeclaration
+    Exported : (name : ExternName) (ty : ComponentTypeRef) → InstanceDeclaration
+
+  -- what a component type declares
+  pub data ComponentDeclaration : Type 0 where
+    Imported : (name : ExternName) (ty : ComponentTypeRef) → ComponentDeclaration
+    Declared : (declaration : InstanceDeclaration) → ComponentDeclaration
+
+  pub data InstanceDeclarations : Type 0 where
+    no_instance : InstanceDeclarations
+    and_instance : (first : InstanceDeclaration) (others : InstanceDeclarations) → InstanceDeclarations
+
+  pub data ComponentDeclarations : Type 0 where
+    no_component : ComponentDeclarations
+    and_component : (first : ComponentDeclaration) (others : ComponentDeclarations) → ComponentDeclarations
+
+-- how many there are
+abbrev pub instance_count : InstanceDeclarations → ℕ
+instance_count no_instance = 0
+instance_count (and_instance first others) = suc (instance_count others)
+
+abbrev pub component_count : ComponentDeclarations → ℕ
+component_count no_component = 0
+component_count (and_component first others) = suc (component_count others)
+
+-- ---- the form
+
+abbrev mutual
+  pub type_of : TypeOf → Piece
+  type_of (DefinedType ty) = defined_type ty
+  type_of (FunctionType ty) = function_type ty
+  type_of (ComponentType ds) = 0x41 ▸ (u32 (component_count ds) ⨾ each_component ds)
+  type_of (InstanceType ds) = 0x42 ▸ (u32 (instance_count ds) ⨾ each_instance ds)
+  type_of (ResourceType rep dtor) = 0x3f ▸ (val_type rep ⨾ option u32 dtor)
+
+  pub instance_declaration : InstanceDeclaration → Piece
+  instance_declaration (CoreTyped ty) = 0x00 ▸ core_type ty
+  instance_declaration (Typed ty) = 0x01 ▸ type_of ty
+  instance_declaration (Aliased to) = 0x02 ▸ alias to
+  instance_declaration (Exported name ty) = 0x04 ▸ (extern_name name ⨾ type_reference ty)
+
+  pub component_declaration : ComponentDeclaration → Piece
+  component_declaration (Imported name ty) = 0x03 ▸ (extern_name name ⨾ type_reference ty)
+  component_declaration (Declared d) = instance_declaration d
+
+  pub each_instance : InstanceDeclarations → Piece
+  each_instance no_instance = nothing
+  each_instance (and_instance first others) = instance_declaration first ⨾ each_instance others
+
+  pub each_component : ComponentDeclarations → Piece
+  each_component no_component = nothing
+  each_component (and_component first others) = component_declaration first ⨾ each_component others
+
+-- ---- how deep component and instance types nest: 1 in a section, and one more in a declaration
+
+abbrev mutual
+  pub depth : TypeOf → ℕ
+  depth (DefinedType ty) = 0
+  depth (FunctionType ty) = 0
+  depth (ComponentType ds) = suc (component_depth ds)
+  depth (InstanceType ds) = suc (instance_depth ds)
+  depth (ResourceType rep dtor) = 0
+
+  pub instance_depth : InstanceDeclarations → ℕ
+  instance_depth no_instance = 0
+  instance_depth (and_instance first others) = max (declared_depth first) (instance_depth others)
+
+  pub component_depth : ComponentDeclarations → ℕ
+  component_depth no_component = 0
+  component_depth (and_component (Imported name ty) others) = component_depth others
+  component_depth (and_component (Declared d) others) = max (declared_depth d) (component_depth others)
+
+  pub declared_depth : InstanceDeclaration → ℕ
+  declared_depth (CoreTyped ty) = 0
+  declared_depth (Typed ty) = depth ty
+  declared_depth (Aliased to) = 0
+  declared_depth (Exported name ty) = 0

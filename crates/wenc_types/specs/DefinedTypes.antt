@@ -1,0 +1,72 @@
+-- Types of values that components define, and types of functions (component model, binary format, "Type Definitions").
+use Rattle.std.specs.Prelude.{ℕ, Bool, true, false, List, Option}
+use Rattle.wenc_base.specs.Piece.{Form, byte, ◌▸◌, ◌⨾◌}
+use Rattle.wenc_base.specs.Number.{u32}
+use Rattle.wenc_base.specs.Forms.{list, option, name as name_form}
+use Rattle.wenc_parts.specs.Types.{primitive, value_type, result_list}
+use Rattle.wenc_parts.specs.declared.types.PrimitiveValType.{PrimitiveValType}
+use Rattle.wenc_parts.specs.declared.types.ComponentValType.{ComponentValType}
+
+-- a field or a parameter
+pub record Named : Type 0 where
+  pub name : List ℕ
+  pub ty : ComponentValType
+
+abbrev pub named : Form Named
+named f = name_form f.name ⨾ value_type f.ty
+
+-- a case, with a value or without; the byte is for cases that refine another, which there are none of
+pub record Case : Type 0 where
+  pub name : List ℕ
+  pub ty : Option ComponentValType
+
+abbrev pub case : Form Case
+case c = name_form c.name ⨾ option value_type c.ty ⨾ byte 0x00
+
+pub data Defined : Type 0 where
+  Primitive : (ty : PrimitiveValType) → Defined
+  Record : (fields : List Named) → Defined
+  Variant : (cases : List Case) → Defined
+  ListOf : (element : ComponentValType) → Defined
+  MapOf : (key value : ComponentValType) → Defined
+  FixedLengthList : (element : ComponentValType) (length : ℕ) → Defined
+  Tuple : (elements : List ComponentValType) → Defined
+  Flags : (names : List (List ℕ)) → Defined
+  Enumeration : (names : List (List ℕ)) → Defined
+  OptionOf : (ty : ComponentValType) → Defined
+  ResultOf : (ok error : Option ComponentValType) → Defined
+  -- handles of the resource type with this index
+  Own : (number : ℕ) → Defined
+  Borrow : (number : ℕ) → Defined
+  Future : (ty : Option ComponentValType) → Defined
+  Stream : (ty : Option ComponentValType) → Defined
+
+abbrev pub defined_type : Form Defined
+defined_type (Primitive p) = primitive p
+defined_type (Record fields) = 0x72 ▸ list named fields
+defined_type (Variant cases) = 0x71 ▸ list case cases
+defined_type (ListOf element) = 0x70 ▸ value_type element
+defined_type (Tuple elements) = 0x6f ▸ list value_type elements
+defined_type (Flags names) = 0x6e ▸ list name_form names
+defined_type (Enumeration names) = 0x6d ▸ list name_form names
+defined_type (OptionOf ty) = 0x6b ▸ value_type ty
+defined_type (ResultOf ok error) = 0x6a ▸ (option value_type ok ⨾ option value_type error)
+defined_type (Own number) = 0x69 ▸ u32 number
+defined_type (Borrow number) = 0x68 ▸ u32 number
+defined_type (FixedLengthList element length) = 0x67 ▸ (value_type element ⨾ u32 length)
+defined_type (Stream ty) = 0x66 ▸ option value_type ty
+defined_type (Future ty) = 0x65 ▸ option value_type ty
+defined_type (MapOf key value) = 0x63 ▸ (value_type key ⨾ value_type value)
+
+-- a function: whether it is asynchronous, its parameters, and what it answers
+pub record Function : Type 0 where
+  pub is_async : Bool
+  pub params : List Named
+  pub answer : Option ComponentValType
+
+abbrev pub function_type_of : Bool → List Named → Form (Option ComponentValType)
+function_type_of false params answer = 0x40 ▸ (list named params ⨾ result_list answer)
+function_type_of true params answer = 0x43 ▸ (list named params ⨾ result_list answer)
+
+abbrev pub function_type : Form Function
+function_type f = function_type_of f.is_async f.params f.answer

@@ -1,0 +1,6 @@
+pub mod CoreTypes
+pub mod DefinedTypes
+pub mod ComponentTypes
+pub mod ModuleTypes
+pub mod CoreTypeTrees
+pub mod laws

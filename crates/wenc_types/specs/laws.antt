@@ -1,0 +1,5 @@
+-- Why the laws hold, and what follows of the definitions: for proofs, here and in the crates above.
+pub mod ModuleTypes
+pub mod CoreTypes
+pub mod DefinedTypes
+pub mod ComponentTypes

@@ -1,0 +1,270 @@
+-- The laws of core types in components.
+use Rattle.std.proofs.Common.{String, ◌≡◌, ℕ, Bool, true, false, List, [], ◌∷◌, ◌++◌, Option, Result, Vec, map, refl, sym, ap, subst, ◌∙◌}
+use Rattle.std.proofs.lemmas.List.{map-id}
+use Rattle.std.specs.Cmp.{IsEquivalence}
+use Rattle.std.specs.Cmp.Lexicographic.{pointwise}
+use Rattle.std.specs.String.{string_bytes}
+use Rattle.wenc_base.specs.declared.types.composite.CompositeType.{CompositeType}
+use Rattle.wenc_base.specs.declared.types.composite.CompositeType.TheVariants as composites
+use Rattle.wenc_base.specs.declared.types.composite.FuncType.{FuncType}
+use Rattle.wenc_base.specs.declared.types.composite.StructType.{StructType}
+use Rattle.wenc_base.specs.declared.types.groups.GroupTree.{GroupTree}
+use Rattle.wenc_base.specs.declared.types.groups.GroupTree.TheVariants as groups
+use Rattle.wenc_base.specs.declared.types.storage.FieldType.{FieldType}
+use Rattle.wenc_base.specs.declared.types.sub.SubType.{SubType}
+use Rattle.wenc_base.specs.Composites.{params_of, results_of, composite_view, sub_view, group_view, Sub, sub_type_of, Group, Single, Rec, group, guard_before, standing, Composite}
+use Rattle.wenc_base.specs.Delimited.{NoCause, FreeFits, AlikeIsEqual}
+use Rattle.wenc_base.specs.Encode.{Appends}
+use Rattle.wenc_base.specs.Entities.{entity_type}
+use Rattle.wenc_base.specs.Fault.{text_cause, list_cause}
+use Rattle.wenc_base.specs.Forms.{list, list_text, name as name_form}
+use Rattle.wenc_base.specs.Holder.{held_text}
+use Rattle.wenc_base.specs.declared.fault.Fault.{Fault}
+use Rattle.wenc_base.specs.declared.imports.EntityType.{EntityType}
+use Rattle.wenc_base.specs.laws.Causes.{seen_cause}
+use Rattle.wenc_base.specs.laws.Composites.{read_extension, extension_lawful, sub_of, final_rows, final_row, read_types, types_lawful, read_group, group_lawful, group_free, same_params, same_results, same_element, same_fields}
+use Rattle.wenc_base.specs.laws.Delimited.{name_free, pair_cause_free, first_free, second_free, list_text_of, list_free}
+use Rattle.wenc_base.specs.laws.Entities.{read_entity_type, entity_type_lawful}
+use Rattle.wenc_base.specs.laws.Forms.{read_list, list_lawful, read_name, name_lawful}
+use Rattle.wenc_base.specs.laws.Lawful.{Lawful, Reader, ◌>>=◌, give, nowhere, choose, row, then, last}
+use Rattle.wenc_base.specs.laws.Numbers.{read_groups, u32_lawful}
+use Rattle.wenc_types.specs.CoreTypes.{ModuleDeclaration, Import, Defined, Outer, Export, module_declaration, module_type, CoreType, Grouped, Module, core_type}
+use Rattle.wenc_types.specs.CoreTypeTrees.{core_type_cause, module_declaration_view, core_type_view}
+use Rattle.wenc_types.specs.ModuleTypes.{declaration_cause, Declared, Declares}
+use Rattle.wenc_types.specs.declared.core_type_tree.ModuleDecl.{ModuleDecl}
+use Rattle.wenc_types.specs.declared.core_type_tree.ModuleDecl.TheVariants as decls
+use Rattle.wenc_types.specs.declared.core_type_tree.CoreTypeTree.{CoreTypeTree}
+use Rattle.wenc_types.specs.declared.core_type_tree.CoreTypeTree.TheVariants as trees
+
+-- ---- module types
+
+abbrev pub declaration_rows : {A : Type 0} → (ModuleDeclaration → A) → List (ℕ × Reader A)
+declaration_rows make =
+    (0x00, read_name >>= λ from. read_name >>= λ name. read_entity_type >>= λ ty. give (make (Import from name ty))) ∷
+    (0x01, read_group >>= λ g. give (make (Defined g))) ∷
+    (0x02, choose ((0x10, choose ((0x01, read_groups >>= λ count. read_groups >>= λ number. give (make (Outer count number))) ∷ []) nowhere) ∷ []) nowhere) ∷
+    (0x03, read_name >>= λ name. read_entity_type >>= λ ty. give (make (Export name ty))) ∷ []
+
+-- a declaration, where other rows may follow in the table
+pub declaration_row : {A : Type 0} (make : ModuleDeclaration → A) (rows : ℕ → List (ℕ × Reader A)) (other : ℕ → Reader A) (d : ModuleDeclaration)
+    → Lawful (module_declaration d) (λ fuel. choose (declaration_rows make ++ rows fuel) (other fuel)) (make d)
+declaration_row make rows other (Import from name ty) =
+    row _ _ 0x00 (then _ (name_lawful from) (then _ (name_lawful name) (last (λ t. make (Import from name t)) (entity_type_lawful ty))))
+declaration_row make rows other (Defined g) = row _ _ 0x01 (last (λ h. make (Defined h)) (group_lawful g))
+declaration_row make rows other (Outer count number) =
+    row _ _ 0x02 (row _ _ 0x10 (row _ _ 0x01 (then _ (u32_lawful count) (last (λ n. make (Outer count n)) (u32_lawful number)))))
+declaration_row make rows other (Export name ty) = row _ _ 0x03 (then _ (name_lawful name) (last (λ t. make (Export name t)) (entity_type_lawful ty)))
+
+abbrev pub read_module_declaration : Reader ModuleDeclaration
+read_module_declaration = choose (declaration_rows (λ d. d)) nowhere
+
+pub module_declaration_lawful : (d : ModuleDeclaration) → Lawful (module_declaration d) (λ fuel. read_module_declaration) d
+module_declaration_lawful d = declaration_row (λ e. e) (λ fuel. []) _ d
+
+abbrev pub read_declarations : {A : Type 0} → (List ModuleDeclaration → A) → Reader A
+read_declarations make = read_list read_module_declaration >>= λ ds. give (make ds)
+
+pub declarations_lawful : {A : Type 0} (make : List ModuleDeclaration → A) (ds : List ModuleDeclaration)
+    → Lawful (list module_declaration ds) (λ fuel. read_declarations make) (make ds)
+declarations_lawful make ds = last make (list_lawful module_declaration_lawful ds)
+
+abbrev pub read_module_type : Reader (List ModuleDeclaration)
+read_module_type = choose ((0x50, read_declarations (λ ds. ds)) ∷ []) nowhere
+
+pub module_type_lawful : (ds : List ModuleDeclaration) → Lawful (module_type ds) (λ fuel. read_module_type) ds
+module_type_lawful ds = row _ _ 0x50 (declarations_lawful (λ es. es) ds)
+
+-- the text of a module type is that of its declarations in the grammar
+pub module_type_of : (t : Declared) (ds : List ModuleDeclaration) → Declares t ds → 0x50 ∷ held_text t.held ≡ (module_type ds).text
+module_type_of t ds h = rw (← h.contained.count, h.contained.body) refl
+
+-- ---- core types
+
+-- what is read where a type has a guard
+abbrev pub read_open : {A : Type 0} → (Sub → A) → Reader A
+read_open make = choose ((0x50, read_extension (λ supertype c. make (sub_of false supertype c))) ∷ []) nowhere
+
+abbrev pub standing_rows : {A : Type 0} → (Group → A) → List (ℕ × Reader A)
+standing_rows make = final_rows (λ s. make (Single s)) ++ ((0x4e, read_types make) ∷ (0x00, read_open (λ s. make (Single s))) ∷ [])
+
+-- a group with guards, where other rows may follow in the table
+pub standing_row : {A : Type 0} (make : Group → A) (rows : ℕ → List (ℕ × Reader A)) (other : ℕ → Reader A) (g : Group)
+    → Lawful (standing true g) (λ fuel. choose (standing_rows make ++ rows fuel) (other fuel)) (make g)
+standing_row {A} make rows other (Single s) = of s.is_final s.supertype s.composite
+  where
+    of : (is_final : Bool) (supertype : Option ℕ) (c : Composite)
+        → Lawful (guard_before is_final (sub_type_of is_final supertype c)) (λ fuel. choose (standing_rows make ++ rows fuel) (other fuel)) (make (Single (sub_of is_final supertype c)))
+    of true supertype c = final_row (λ t. make (Single t)) (λ fuel. (0x4e, read_types make) ∷ (0x00, read_open (λ t. make (Single t))) ∷ rows fuel) other supertype c
+    of false supertype c = row _ _ 0x00 (row _ _ 0x50 (extension_lawful (λ t d. make (Single (sub_of false t d))) supertype c))
+standing_row make rows other (Rec types) = row _ _ 0x4e (types_lawful make types)
+
+abbrev pub core_type_rows : {A : Type 0} → (CoreType → A) → List (ℕ × Reader A)
+core_type_rows make = standing_rows (λ g. make (Grouped g)) ++ ((0x50, read_declarations (λ ds. make (Module ds))) ∷ [])
+
+-- a core type, where other rows may follow in the table
+pub core_type_row : {A : Type 0} (make : CoreType → A) (rows : ℕ → List (ℕ × Reader A)) (other : ℕ → Reader A) (t : CoreType)
+    → Lawful (core_type t) (λ fuel. choose (core_type_rows make ++ rows fuel) (other fuel)) (make t)
+core_type_row make rows other (Grouped g) = standing_row (λ h. make (Grouped h)) (λ fuel. (0x50, read_declarations (λ ds. make (Module ds))) ∷ rows fuel) other g
+core_type_row make rows other (Module ds) = row _ _ 0x50 (declarations_lawful (λ es. make (Module es)) ds)
+
+abbrev pub read_core_type : Reader CoreType
+read_core_type = choose (core_type_rows (λ t. t)) nowhere
+
+pub core_type_lawful : (t : CoreType) → Lawful (core_type t) (λ fuel. read_core_type) t
+core_type_lawful t = core_type_row (λ u. u) (λ fuel. []) _ t
+
+-- ---- what can be encoded
+
+-- a group fits with guards where it fits without
+pub standing_fits : (guards : Bool) (g : Group) → (group g).Fits → (standing guards g).Fits
+standing_fits true (Single s) h = of s.is_final s.supertype s.composite h
+  where
+    of : (is_final : Bool) (supertype : Option ℕ) (c : Composite) → (sub_type_of is_final supertype c).Fits → (guard_before is_final (sub_type_of is_final supertype c)).Fits
+    of true supertype c h = h
+    of false supertype c h = h
+standing_fits true (Rec types) h = h
+standing_fits false g h = h
+
+-- and without where it fits with them
+pub fits_without : (g : Group) → (standing true g).Fits → (group g).Fits
+fits_without (Single s) h = of s.is_final s.supertype s.composite h
+  where
+    of : (is_final : Bool) (supertype : Option ℕ) (c : Composite) → (guard_before is_final (sub_type_of is_final supertype c)).Fits → (sub_type_of is_final supertype c).Fits
+    of true supertype c h = h
+    of false supertype c h = h
+fits_without (Rec types) h = h
+
+-- what fits has no cause
+pub declaration_free : (d : ModuleDeclaration) → (module_declaration d).Fits → NoCause (declaration_cause d)
+declaration_free (Import from name ty) h = pair_cause_free _ _ (name_free from h.0) (name_free name h.1.0)
+declaration_free (Defined g) h = group_free g h
+declaration_free (Outer count number) h = λ fault cause. cause
+declaration_free (Export name ty) h = name_free name h.0
+
+pub core_type_free : (t : CoreType) → (core_type t).Fits → NoCause (core_type_cause t)
+core_type_free (Grouped g) h = group_free g (fits_without g h)
+core_type_free (Module ds) h = list_free declaration_cause (λ d. d) module_declaration declaration_free ds (rw (map-id ds) h)
+
+-- declarations and lists of them that fit where they have no cause
+pub import_fits : (from name : List ℕ) (ty : EntityType) → FreeFits text_cause (λ t. t) name_form from → FreeFits text_cause (λ t. t) name_form name → (entity_type ty).Fits
+    → FreeFits declaration_cause (λ d. d) module_declaration (Import from name ty)
+import_fits from name ty one two h none = (one (first_free _ _ none), (two (second_free _ _ none), h))
+
+pub export_fits : (name : List ℕ) (ty : EntityType) → FreeFits text_cause (λ t. t) name_form name → (entity_type ty).Fits
+    → FreeFits declaration_cause (λ d. d) module_declaration (Export name ty)
+export_fits name ty one h none = (one none, h)
+
+pub declarations_fit : {A : Type 0} (ds : List (ModuleDecl A)) → FreeFits (list_cause (λ d. declaration_cause (module_declaration_view d))) (map module_declaration_view) (list module_declaration) ds
+    → FreeFits core_type_cause (λ t. t) core_type (Module (map module_declaration_view ds))
+declarations_fit ds one none =
+    let P : (Fault → Type 0) → Type 0 = NoCause in
+    one (subst P (sym (seen_cause module_declaration_view declaration_cause ds)) none)
+
+-- what appends a module type, by its view
+pub module_appends : {A : Type 0} (ds : Vec (ModuleDecl A) A) (old new : List ℕ) (outcome : Result (Unit {0}) Fault)
+    → Appends (0x50 ∷ list_text (λ d. (module_declaration (module_declaration_view d)).text) ds.items) (list_cause (λ d. declaration_cause (module_declaration_view d)) ds.items) ⊥ old new outcome
+    → Appends (core_type (core_type_view (trees.Module ds))).text (core_type_cause (core_type_view (trees.Module ds))) ⊥ old new outcome
+module_appends ds old new outcome a =
+    rw (list_text_of (λ d. (module_declaration (module_declaration_view d)).text) module_declaration_view module_declaration (λ d. refl) ds.items, seen_cause module_declaration_view declaration_cause ds.items) at a
+
+-- ---- equal values
+
+-- A value compares with one that is seen alike as it does with itself.
+abbrev pub SeesAlike : {A S : Type 0} → (A → A → Bool) → (A → S) → Type 0
+SeesAlike {A} eq seen = (a b : A) → seen a ≡ seen b → eq a a ≡ eq a b
+
+-- so that values which are seen alike are equal
+pub alike_by : {A S : Type 0} (eq : A → A → Bool) (seen : A → S) → SeesAlike eq seen → IsEquivalence eq → AlikeIsEqual eq seen
+alike_by eq seen sees laws a b e = sym (sees a b e) ∙ laws.refl a
+
+each_sees : {A S : Type 0} (eq : A → A → Bool) (seen : A → S) → SeesAlike eq seen → SeesAlike (pointwise eq) (map seen)
+each_sees eq seen sees [] [] e = refl
+each_sees eq seen sees [] (w ∷ ws) e = absurd cc
+each_sees eq seen sees (v ∷ vs) [] e = absurd cc
+each_sees eq seen sees (v ∷ vs) (w ∷ ws) e =
+    let one : eq v v ≡ eq v w = sees v w cc in
+    let others : pointwise eq vs vs ≡ pointwise eq vs ws = each_sees eq seen sees vs ws cc in
+    rw (one, others) refl
+
+-- types, by what their kinds have
+pub composite_sees : {A : Type 0} (eq : CompositeType A → CompositeType A → Bool)
+    → ((f g : FuncType A) → params_of f ≡ params_of g → results_of f ≡ results_of g → eq (composites.Func f) (composites.Func f) ≡ eq (composites.Func f) (composites.Func g))
+    → ((s t : StructType A) → s.fields.items ≡ t.fields.items → eq (composites.Struct s) (composites.Struct s) ≡ eq (composites.Struct s) (composites.Struct t))
+    → SeesAlike eq composite_view
+composite_sees eq f s (composites.Func x) (composites.Func y) e = f x y (same_params x y e) (same_results x y e)
+composite_sees eq f s (composites.Func x) (composites.Array y) e = absurd cc
+composite_sees eq f s (composites.Func x) (composites.Struct y) e = absurd cc
+composite_sees eq f s (composites.Array x) (composites.Func y) e = absurd cc
+composite_sees eq f s (composites.Array x) (composites.Array y) e =
+    subst (λ (t : FieldType). eq (composites.Array x) (composites.Array x) ≡ eq (composites.Array x) (composites.Array (record { 0 = t }))) (same_element x y e) refl
+composite_sees eq f s (composites.Array x) (composites.Struct y) e = absurd cc
+composite_sees eq f s (composites.Struct x) (composites.Func y) e = absurd cc
+composite_sees eq f s (composites.Struct x) (composites.Array y) e = absurd cc
+composite_sees eq f s (composites.Struct x) (composites.Struct y) e = s x y (same_fields x y e)
+
+abbrev sub_with : {A : Type 0} → Bool → Option ℕ → CompositeType A → SubType A
+sub_with is_final supertype c = record { is_final = is_final; supertype_idx = supertype; composite_type = c }
+
+abbrev ByComposites : {A : Type 0} → (SubType A → SubType A → Bool) → Type 0
+ByComposites eq = (is_final : Bool) (supertype : Option ℕ) → SeesAlike (λ c d. eq (sub_with is_final supertype c) (sub_with is_final supertype d)) composite_view
+
+-- sub types, by their composite types
+pub sub_sees : {A : Type 0} (eq : SubType A → SubType A → Bool) → ByComposites eq → SeesAlike eq sub_view
+sub_sees eq sees s t e =
+    let finals : s.is_final ≡ t.is_final = ap (λ (v : Sub). v.is_final) e in
+    let supertypes : s.supertype_idx ≡ t.supertype_idx = ap (λ (v : Sub). v.supertype) e in
+    subst (λ (b : Bool). eq s s ≡ eq s (sub_with b t.supertype_idx t.composite_type)) finals
+    (subst (λ (o : Option ℕ). eq s s ≡ eq s (sub_with s.is_final o t.composite_type)) supertypes
+    (sees s.is_final s.supertype_idx s.composite_type t.composite_type (ap (λ (v : Sub). v.composite) e)))
+
+-- groups, by those of their sub types
+pub group_sees : {A : Type 0} (eq : GroupTree A → GroupTree A → Bool) (of : SubType A → SubType A → Bool) → ByComposites of
+    → ((s t : SubType A) → of s t ≡ eq (groups.Sub s) (groups.Sub t))
+    → ((ts us : Vec (SubType A) A) → pointwise of ts.items us.items ≡ eq (groups.Rec ts) (groups.Rec us))
+    → SeesAlike eq group_view
+group_sees eq of sees s r (groups.Sub x) (groups.Sub y) e = rw (← s x x, ← s x y) (sub_sees of sees x y cc)
+group_sees eq of sees s r (groups.Sub x) (groups.Rec us) e = absurd cc
+group_sees eq of sees s r (groups.Rec ts) (groups.Sub y) e = absurd cc
+group_sees eq of sees s r (groups.Rec ts) (groups.Rec us) e = rw (← r ts ts, ← r ts us) (each_sees of sub_view (sub_sees of sees) ts.items us.items cc)
+
+-- declarations, by what their kinds have
+pub declaration_sees : {A : Type 0} (eq : ModuleDecl A → ModuleDecl A → Bool)
+    → ((m n k l : String A) (t : EntityType) → string_bytes m ≡ string_bytes k → string_bytes n ≡ string_bytes l → eq (decls.Import m n t) (decls.Import m n t) ≡ eq (decls.Import m n t) (decls.Import k l t))
+    → SeesAlike (λ g h. eq (decls.«Type» g) (decls.«Type» h)) group_view
+    → ((n l : String A) (t : EntityType) → string_bytes n ≡ string_bytes l → eq (decls.Export n t) (decls.Export n t) ≡ eq (decls.Export n t) (decls.Export l t))
+    → SeesAlike eq module_declaration_view
+declaration_sees eq i g x (decls.Import m n t) (decls.Import k l u) e =
+    let types : t ≡ u = cc in
+    subst (λ (v : EntityType). eq (decls.Import m n t) (decls.Import m n t) ≡ eq (decls.Import m n t) (decls.Import k l v)) types (i m n k l t (cc) (cc))
+declaration_sees eq i g x (decls.Import m n t) (decls.«Type» h) e = absurd cc
+declaration_sees eq i g x (decls.Import m n t) (decls.Alias c k) e = absurd cc
+declaration_sees eq i g x (decls.Import m n t) (decls.Export l u) e = absurd cc
+declaration_sees eq i g x (decls.«Type» y) (decls.Import k l u) e = absurd cc
+declaration_sees eq i g x (decls.«Type» y) (decls.«Type» z) e = g y z cc
+declaration_sees eq i g x (decls.«Type» y) (decls.Alias c k) e = absurd cc
+declaration_sees eq i g x (decls.«Type» y) (decls.Export l u) e = absurd cc
+declaration_sees eq i g x (decls.Alias c n) (decls.Import k l u) e = absurd cc
+declaration_sees eq i g x (decls.Alias c n) (decls.«Type» z) e = absurd cc
+declaration_sees eq i g x (decls.Alias c n) (decls.Alias d k) e =
+    let counts : c ≡ d = cc in
+    let numbers : n ≡ k = cc in
+    rw (counts, numbers) refl
+declaration_sees eq i g x (decls.Alias c n) (decls.Export l u) e = absurd cc
+declaration_sees eq i g x (decls.Export n t) (decls.Import k l u) e = absurd cc
+declaration_sees eq i g x (decls.Export n t) (decls.«Type» z) e = absurd cc
+declaration_sees eq i g x (decls.Export n t) (decls.Alias c k) e = absurd cc
+declaration_sees eq i g x (decls.Export n t) (decls.Export l u) e =
+    let types : t ≡ u = cc in
+    subst (λ (v : EntityType). eq (decls.Export n t) (decls.Export n t) ≡ eq (decls.Export n t) (decls.Export l v)) types (x n l t cc)
+
+-- core types, by their declarations
+pub core_type_sees : {A : Type 0} (eq : CoreTypeTree A → CoreTypeTree A → Bool) (of : ModuleDecl A → ModuleDecl A → Bool) → SeesAlike of module_declaration_view
+    → ((g h : GroupTree A) → of (decls.«Type» g) (decls.«Type» h) ≡ eq (trees.Group g) (trees.Group h))
+    → ((ds es : Vec (ModuleDecl A) A) → pointwise of ds.items es.items ≡ eq (trees.Module ds) (trees.Module es))
+    → SeesAlike eq core_type_view
+core_type_sees eq of sees g m (trees.Group x) (trees.Group y) e =
+    let same : group_view x ≡ group_view y = cc in
+    rw (← g x x, ← g x y) (sees (decls.«Type» x) (decls.«Type» y) (ap Defined same))
+core_type_sees eq of sees g m (trees.Group x) (trees.Module es) e = absurd cc
+core_type_sees eq of sees g m (trees.Module ds) (trees.Group y) e = absurd cc
+core_type_sees eq of sees g m (trees.Module ds) (trees.Module es) e = rw (← m ds ds, ← m ds es) (each_sees of module_declaration_view sees ds.items es.items cc)

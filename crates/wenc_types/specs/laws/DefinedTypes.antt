@@ -1,0 +1,103 @@
+-- The laws of types of values that components define, and of types of functions.
+use Rattle.std.proofs.Common.{ℕ, Bool, true, false, List, [], ◌∷◌, ◌++◌, Option, refl}
+use Rattle.wenc_base.specs.laws.Forms.{read_list, list_lawful, read_name, name_lawful, read_option, option_lawful}
+use Rattle.wenc_base.specs.laws.Lawful.{Lawful, Reader, ◌>>=◌, give, nowhere, choose, row, row_byte, then, last}
+use Rattle.wenc_base.specs.laws.Numbers.{read_groups, u32_lawful}
+use Rattle.wenc_parts.specs.declared.types.ComponentValType.{ComponentValType}
+use Rattle.wenc_parts.specs.laws.Types.{primitive_rows, primitive_row, read_value_type, value_type_lawful, read_result_list, result_list_lawful}
+use Rattle.wenc_types.specs.DefinedTypes.{Named, named, Case, case, Defined, Primitive, Record, Variant, ListOf, MapOf, FixedLengthList, Tuple, Flags, Enumeration, OptionOf, ResultOf, Own, Borrow, Future, Stream, defined_type, Function, function_type_of, function_type}
+
+-- ---- parts
+
+abbrev to_named : List ℕ → ComponentValType → Named
+to_named name ty = record { name = name; ty = ty }
+
+abbrev pub read_named : Reader Named
+read_named = read_name >>= λ name. read_value_type >>= λ ty. give (to_named name ty)
+
+pub named_lawful : (f : Named) → Lawful (named f) (λ fuel. read_named) f
+named_lawful f = then _ (name_lawful f.name) (last (to_named f.name) (value_type_lawful f.ty))
+
+abbrev to_case : List ℕ → Option ComponentValType → Case
+to_case name ty = record { name = name; ty = ty }
+
+-- the byte behind a case
+abbrev read_end : {A : Type 0} → A → Reader A
+read_end v = choose ((0x00, give v) ∷ []) nowhere
+
+abbrev pub read_case : Reader Case
+read_case = read_name >>= λ name. read_option read_value_type >>= λ ty. read_end (to_case name ty)
+
+pub case_lawful : (c : Case) → Lawful (case c) (λ fuel. read_case) c
+case_lawful c = then _ (name_lawful c.name) (then _ (option_lawful value_type_lawful c.ty) (row_byte _ _ 0x00 (λ fuel rest. refl)))
+
+-- ---- defined types
+
+abbrev pub defined_rows : {A : Type 0} → (Defined → A) → List (ℕ × Reader A)
+defined_rows make =
+    (0x72, read_list read_named >>= λ fields. give (make (Record fields))) ∷
+    (0x71, read_list read_case >>= λ cases. give (make (Variant cases))) ∷
+    (0x70, read_value_type >>= λ element. give (make (ListOf element))) ∷
+    (0x6f, read_list read_value_type >>= λ elements. give (make (Tuple elements))) ∷
+    (0x6e, read_list read_name >>= λ names. give (make (Flags names))) ∷
+    (0x6d, read_list read_name >>= λ names. give (make (Enumeration names))) ∷
+    (0x6b, read_value_type >>= λ ty. give (make (OptionOf ty))) ∷
+    (0x6a, read_option read_value_type >>= λ ok. read_option read_value_type >>= λ error. give (make (ResultOf ok error))) ∷
+    (0x69, read_groups >>= λ number. give (make (Own number))) ∷
+    (0x68, read_groups >>= λ number. give (make (Borrow number))) ∷
+    (0x67, read_value_type >>= λ element. read_groups >>= λ length. give (make (FixedLengthList element length))) ∷
+    (0x66, read_option read_value_type >>= λ ty. give (make (Stream ty))) ∷
+    (0x65, read_option read_value_type >>= λ ty. give (make (Future ty))) ∷
+    (0x63, read_value_type >>= λ key. read_value_type >>= λ value. give (make (MapOf key value))) ∷ []
+
+-- a defined type, where other rows may follow in the table
+pub defined_row : {A : Type 0} (make : Defined → A) (rows : ℕ → List (ℕ × Reader A)) (other : ℕ → Reader A) (t : Defined)
+    → Lawful (defined_type t) (λ fuel. choose (primitive_rows (λ p. make (Primitive p)) ++ (defined_rows make ++ rows fuel)) (other fuel)) (make t)
+defined_row make rows other (Primitive p) = primitive_row (λ q. make (Primitive q)) (λ fuel. defined_rows make ++ rows fuel) other p
+defined_row make rows other (Record fields) = row _ _ 0x72 (last (λ fs. make (Record fs)) (list_lawful named_lawful fields))
+defined_row make rows other (Variant cases) = row _ _ 0x71 (last (λ cs. make (Variant cs)) (list_lawful case_lawful cases))
+defined_row make rows other (ListOf element) = row _ _ 0x70 (last (λ t. make (ListOf t)) (value_type_lawful element))
+defined_row make rows other (Tuple elements) = row _ _ 0x6f (last (λ ts. make (Tuple ts)) (list_lawful value_type_lawful elements))
+defined_row make rows other (Flags names) = row _ _ 0x6e (last (λ ns. make (Flags ns)) (list_lawful name_lawful names))
+defined_row make rows other (Enumeration names) = row _ _ 0x6d (last (λ ns. make (Enumeration ns)) (list_lawful name_lawful names))
+defined_row make rows other (OptionOf ty) = row _ _ 0x6b (last (λ t. make (OptionOf t)) (value_type_lawful ty))
+defined_row make rows other (ResultOf ok error) =
+    row _ _ 0x6a (then _ (option_lawful value_type_lawful ok) (last (λ e. make (ResultOf ok e)) (option_lawful value_type_lawful error)))
+defined_row make rows other (Own number) = row _ _ 0x69 (last (λ n. make (Own n)) (u32_lawful number))
+defined_row make rows other (Borrow number) = row _ _ 0x68 (last (λ n. make (Borrow n)) (u32_lawful number))
+defined_row make rows other (FixedLengthList element length) =
+    row _ _ 0x67 (then _ (value_type_lawful element) (last (λ n. make (FixedLengthList element n)) (u32_lawful length)))
+defined_row make rows other (Stream ty) = row _ _ 0x66 (last (λ t. make (Stream t)) (option_lawful value_type_lawful ty))
+defined_row make rows other (Future ty) = row _ _ 0x65 (last (λ t. make (Future t)) (option_lawful value_type_lawful ty))
+defined_row make rows other (MapOf key value) = row _ _ 0x63 (then _ (value_type_lawful key) (last (λ t. make (MapOf key t)) (value_type_lawful value)))
+
+abbrev pub read_defined : Reader Defined
+read_defined = choose (primitive_rows Primitive ++ defined_rows (λ t. t)) nowhere
+
+pub defined_type_lawful : (t : Defined) → Lawful (defined_type t) (λ fuel. read_defined) t
+defined_type_lawful t = defined_row (λ u. u) (λ fuel. []) _ t
+
+-- ---- types of functions
+
+abbrev pub to_function : Bool → List Named → Option ComponentValType → Function
+to_function is_async params answer = record { is_async = is_async; params = params; answer = answer }
+
+abbrev read_signature : {A : Type 0} → Bool → (Function → A) → Reader A
+read_signature is_async make = read_list read_named >>= λ params. read_result_list >>= λ answer. give (make (to_function is_async params answer))
+
+abbrev pub function_rows : {A : Type 0} → (Function → A) → List (ℕ × Reader A)
+function_rows make = (0x40, read_signature false make) ∷ (0x43, read_signature true make) ∷ []
+
+-- the type of a function, where other rows may follow in the table
+pub function_row : {A : Type 0} (make : Function → A) (rows : ℕ → List (ℕ × Reader A)) (other : ℕ → Reader A) (is_async : Bool) (params : List Named) (answer : Option ComponentValType)
+    → Lawful (function_type_of is_async params answer) (λ fuel. choose (function_rows make ++ rows fuel) (other fuel)) (make (to_function is_async params answer))
+function_row make rows other false params answer =
+    row _ _ 0x40 (then _ (list_lawful named_lawful params) (last (λ a. make (to_function false params a)) (result_list_lawful answer)))
+function_row make rows other true params answer =
+    row _ _ 0x43 (then _ (list_lawful named_lawful params) (last (λ a. make (to_function true params a)) (result_list_lawful answer)))
+
+abbrev pub read_function : Reader Function
+read_function = choose (function_rows (λ f. f)) nowhere
+
+pub function_type_lawful : (f : Function) → Lawful (function_type f) (λ fuel. read_function) f
+function_type_lawful f = function_row (λ g. g) (λ fuel. []) _ f.is_async f.params f.answer

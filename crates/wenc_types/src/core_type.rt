@@ -1,0 +1,67 @@
+ghost use Rattle.std.specs.Prelude.{◌≡◌, ◌∷◌, true, false};
+ghost use Rattle.wenc_base.specs.Holder.{is_finished, held_text, EncodeCause};
+ghost use Rattle.wenc_base.specs.Lender.{Ends};
+ghost use Rattle.wenc_base.specs.declared.fault.Fault.TheVariants.{Unfinished};
+ghost use Rattle.wenc_types.specs.CoreTypes.{core_type};
+ghost use Rattle.wenc_types.specs.CoreTypeTrees.{core_type_cause, core_type_view};
+
+use crate::core_type_tree::CoreTypeTree;
+use crate::module_type::ModuleType;
+use std::alloc::Allocator;
+use wenc_base::{CoreTypeEncoder, Fault, Lender};
+
+/// Writes one core type of a component into what it was lent: a holder, or a type, section or builder that has one
+/// (component model, binary format, "Core Definitions"). Where it is dropped, or its last call is refused, what it was
+/// lent is left unfinished, until that gives the type up.
+///
+/// ```
+/// let mut section = CoreTypeSection::new(alloc);
+/// section.ty()?.module(&module_type)?;
+/// section.ty()?.core().function([].into_iter(), [].into_iter())?;
+/// ```
+#[derive(Drop)]
+pub struct ComponentCoreTypeEncoder<'a, L: Lender> {
+    lender: &'a mut L,
+    ghost opened: { L.opened lender.now ≡ true },
+}
+
+impl<'a, L: Lender> ComponentCoreTypeEncoder<'a, L> {
+    /// An encoder of the member that the lender has just opened.
+    pub fn new(lender: &'a mut L) -> Self
+        requires { L.opened lender.old ≡ true }
+        ensures same_reference { result.lender.ghost_name ≡ lender.entry.ghost_name }
+        ensures now { result.lender.now ≡ lender.old }
+    {
+        ComponentCoreTypeEncoder { lender }
+    }
+
+    /// This module type, which ends the type. It is refused with `Unfinished` where the module type is unfinished, and
+    /// where there would be too many bytes in what was lent (`TooLarge`).
+    pub fn module<A: Allocator>(self, ty: &ModuleType<A>) -> Result<(), Fault>
+        ensures ended { Ends L.written L.ended L.refuses
+            self.entry.lender.now self.exit.0.now result
+            (EncodeCause ty.now.held) (0x50 ∷ held_text ty.now.held) }
+        ensures unfinished { is_finished ty.now.held ≡ false → result ≡ Err Unfinished }
+    {
+        self.lender.end_with(ty)
+    }
+
+    /// The type of this tree, which ends the type. It is refused where a list in it is too long (`TooMany`), or where
+    /// there would be too many bytes (`TooLarge`).
+    pub fn tree<A: Allocator>(self, ty: &CoreTypeTree<A>) -> Result<(), Fault>
+        ensures { Ends L.written L.ended L.refuses self.entry.lender.now self.exit.0.now result
+            (core_type_cause (core_type_view ty.now)) (core_type (core_type_view ty.now)).text }
+    {
+        self.lender.end_with(ty)
+    }
+
+    /// The encoder of another core type, with guards: in a component a type that isn't final has a byte `00` before it.
+    pub fn core(self) -> CoreTypeEncoder<'a, L>
+        ensures same_reference { result.lender.ghost_name ≡ self.entry.lender.ghost_name }
+        ensures now { result.lender.now ≡ self.entry.lender.now }
+        ensures guarded { result.guard ≡ true }
+    {
+        let ComponentCoreTypeEncoder { lender } = self;
+        CoreTypeEncoder::new(lender, true)
+    }
+}

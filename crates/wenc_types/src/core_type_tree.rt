@@ -1,0 +1,191 @@
+ghost use Rattle.std.specs.Prelude.{refl};
+
+use std::alloc::{Allocator, Global};
+use wenc_base::{
+    Delimited, DelimitedEq, Encode, EntityType, Fault, GroupTree, Guarded, Tagged, Verbatim,
+};
+
+/// A core type that a component defines, with all that is in it: types of the core, or the type of a module (component
+/// model, binary format, "Core Definitions").
+///
+/// ```
+/// let answer = ModuleDecl::Export {
+///     name: String::from_str(alloc, "answer")?,
+///     ty: EntityType::Function(0),
+/// };
+/// let function = FuncType::new(alloc, [].into_iter(), [ValType::I32].into_iter())?;
+/// let ty = SubType {
+///     is_final: true,
+///     supertype_idx: None,
+///     composite_type: CompositeType::Func(function),
+/// };
+/// let tree = CoreTypeTree::Module(vec![in alloc; ModuleDecl::Type(GroupTree::Sub(ty)), answer]?);
+/// tree.encode(&mut sink)?;
+/// ```
+#[derive(Drop)]
+#[derive_where(PartialEq, Eq, Debug)]
+pub enum CoreTypeTree<A: Allocator = Global> {
+    /// Types of the core. One by itself that others may extend is written behind a byte `00`, since it would begin as
+    /// a module type does.
+    Group(GroupTree<A>),
+    /// The type of a module, by its declarations in their order. More than 4294967295 can't be encoded.
+    Module(Vec<ModuleDecl<A>, A>),
+}
+
+impl<A: Allocator> Encode for CoreTypeTree<A> {
+    ghost use Rattle.wenc_types.specs.CoreTypes.{core_type};
+    ghost use Rattle.wenc_types.specs.CoreTypeTrees.{core_type_cause, core_type_view};
+
+    ghost text = { λ t. (core_type (core_type_view t)).text };
+
+    ghost cause = { λ t. core_type_cause (core_type_view t) };
+
+    fn encode<B: Allocator>(&self, sink: &mut Vec<u8, B>) -> Result<(), Fault> {
+        match self {
+            CoreTypeTree::Group(group) => Guarded(true, group).encode(sink),
+            CoreTypeTree::Module(decls) => Tagged(0x50, &decls.as_slice()).encode(sink),
+        }
+    }
+}
+
+impl<A: Allocator> Delimited for CoreTypeTree<A> {
+    ghost use Rattle.wenc_types.specs.CoreTypes.{CoreType, core_type};
+    ghost use Rattle.wenc_types.specs.CoreTypeTrees.{core_type_view};
+    ghost use Rattle.wenc_types.specs.laws.CoreTypes.{read_core_type, core_type_lawful, core_type_free};
+
+    ghost Seen = { CoreType };
+
+    ghost seen = { core_type_view };
+
+    ghost form = { core_type };
+
+    fn belongs(&self) {
+        match self {
+            CoreTypeTree::Group(group) => group.belongs(),
+            CoreTypeTree::Module(decls) => decls.as_slice().belongs(),
+        }
+    }
+
+    ghost readable = { ((λ fuel. read_core_type), core_type_lawful) };
+
+    ghost text_of = { λ x. refl };
+
+    ghost free = { λ x. core_type_free (core_type_view x) };
+}
+
+impl<A: Allocator> DelimitedEq for CoreTypeTree<A> {
+    ghost use Rattle.wenc_types.specs.laws.CoreTypes.{alike_by, composite_sees, group_sees, declaration_sees, core_type_sees};
+
+    ghost alike = { alike_by _ _ (core_type_sees _ _
+        (declaration_sees _
+        (λ m n k l t e f. rw (e, f) refl)
+        (group_sees _ _
+        (λ _ _. composite_sees _ (λ f g p r. rw (p, r) refl) (λ s t e. rw e refl))
+        (λ s t. refl) (λ ts us. refl))
+        (λ n l t e. rw e refl))
+        (λ g h. refl) (λ ds es. refl)) };
+}
+
+/// What a module type declares (component model, binary format, "Core Definitions"). A text of more than 4294967295
+/// bytes can't be encoded.
+#[derive(Drop)]
+#[derive_where(PartialEq, Eq, Debug)]
+pub enum ModuleDecl<A: Allocator = Global> {
+    /// The module imports this.
+    Import {
+        /// The name of the module that it is imported from.
+        module: String<A>,
+        /// Its name there.
+        name: String<A>,
+        /// Its type. An index of a type counts the types of this module type, from 0 to 4294967295.
+        ty: EntityType,
+    },
+    /// A type, which gets the next index.
+    Type(GroupTree<A>),
+    /// A core type of another scope, which gets the next index.
+    Alias {
+        /// How many scopes out it stands, from 0 to 4294967295: 0 is this module type itself.
+        count: u32,
+        /// Its index there, from 0 to 4294967295.
+        index: u32,
+    },
+    /// The module exports this.
+    Export {
+        /// Its name.
+        name: String<A>,
+        /// Its type. An index of a type counts the types of this module type, from 0 to 4294967295.
+        ty: EntityType,
+    },
+}
+
+impl<A: Allocator> Encode for ModuleDecl<A> {
+    ghost use Rattle.wenc_types.specs.CoreTypes.{module_declaration};
+    ghost use Rattle.wenc_types.specs.CoreTypeTrees.{module_declaration_view};
+    ghost use Rattle.wenc_types.specs.ModuleTypes.{declaration_cause};
+
+    ghost text = { λ d. (module_declaration (module_declaration_view d)).text };
+
+    ghost cause = { λ d. declaration_cause (module_declaration_view d) };
+
+    fn encode<B: Allocator>(&self, sink: &mut Vec<u8, B>) -> Result<(), Fault> {
+        match self {
+            ModuleDecl::Import { module, name, ty } => {
+                Tagged(0x00, &(module.as_str(), name.as_str(), *ty)).encode(sink)
+            }
+            ModuleDecl::Type(group) => Tagged(0x01, group).encode(sink),
+            ModuleDecl::Alias { count, index } => {
+                let sort_and_kind = Verbatim(&[0x10, 0x01]);
+                Tagged(0x02, &(sort_and_kind, *count, *index)).encode(sink)
+            }
+            ModuleDecl::Export { name, ty } => Tagged(0x03, &(name.as_str(), *ty)).encode(sink),
+        }
+    }
+}
+
+impl<A: Allocator> Delimited for ModuleDecl<A> {
+    ghost use Rattle.wenc_types.specs.CoreTypes.{ModuleDeclaration, module_declaration};
+    ghost use Rattle.wenc_types.specs.CoreTypeTrees.{module_declaration_view};
+    ghost use Rattle.wenc_types.specs.laws.CoreTypes.{read_module_declaration, module_declaration_lawful, declaration_free};
+
+    ghost Seen = { ModuleDeclaration };
+
+    ghost seen = { module_declaration_view };
+
+    ghost form = { module_declaration };
+
+    fn belongs(&self) {
+        match self {
+            ModuleDecl::Import { module, name, ty } => {
+                module.as_str().belongs();
+                name.as_str().belongs();
+                ty.belongs();
+            }
+            ModuleDecl::Type(group) => group.belongs(),
+            ModuleDecl::Alias { count, index } => {
+                count.belongs();
+                index.belongs();
+            }
+            ModuleDecl::Export { name, ty } => {
+                name.as_str().belongs();
+                ty.belongs();
+            }
+        }
+    }
+
+    ghost readable = { ((λ fuel. read_module_declaration), module_declaration_lawful) };
+
+    ghost text_of = { λ x. refl };
+
+    ghost free = { λ x. declaration_free (module_declaration_view x) };
+}
+
+impl<A: Allocator> DelimitedEq for ModuleDecl<A> {
+    ghost use Rattle.wenc_types.specs.laws.CoreTypes.{alike_by, composite_sees, group_sees, declaration_sees};
+
+    ghost alike = { alike_by _ _ (declaration_sees _
+        (λ m n k l t e f. rw (e, f) refl)
+        (group_sees _ _
+        (λ _ _. composite_sees _ (λ f g p r. rw (p, r) refl) (λ s t e. rw e refl))
+        (λ s t. refl) (λ ts us. refl))
+        (λ n l t e. rw e refl)) };
+}
