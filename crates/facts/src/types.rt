@@ -29,10 +29,12 @@ pub fn defined_types()
         ≡ 0x67 ∷ 0x7d ∷ 0x80 ∷ 0x01 ∷ [] }
     ensures handle { (defined_type (Own 64)).text ≡ 0x69 ∷ 0x40 ∷ [] }
     // "a" and "b" are strings, and so is what is answered
-    ensures function { (function_type (record { is_async = false;
-        params = record { name = 0x61 ∷ []; ty = primitive String }
-            ∷ record { name = 0x62 ∷ []; ty = primitive String } ∷ [];
-        answer = Some (primitive String) })).text
+    ensures function { (function_type (record {
+      is_async = false;
+      params = record { name = 0x61 ∷ []; ty = primitive String }
+          ∷ record { name = 0x62 ∷ []; ty = primitive String } ∷ [];
+      answer = Some (primitive String);
+    })).text
         ≡ 0x40 ∷ 0x02 ∷ 0x01 ∷ 0x61 ∷ 0x73 ∷ 0x01 ∷ 0x62 ∷ 0x73 ∷ 0x00 ∷ 0x73 ∷ [] }
     ensures asynchronous { (function_type (record { is_async = true; params = []; answer = None })).text
         ≡ 0x43 ∷ 0x00 ∷ 0x01 ∷ 0x00 ∷ [] }
@@ -56,7 +58,7 @@ pub fn component_types()
     // a core function type that can be extended, an imported resource "r", and an alias
     ensures component { (type_of (ComponentType
         (and_component (Declared (CoreTyped (Grouped (Single
-            (record { is_final = false; supertype = None; composite = Func [] [] })))))
+        (record { is_final = false; supertype = None; composite = Func [] [] })))))
         (and_component (Imported (plain_name (0x72 ∷ [])) (references.«Type» TypeBounds.SubResource))
         (and_component (Declared (Aliased (Outer ComponentOuterAliasKind.CoreType 1 0)))
         no_component))))).text
