@@ -8,6 +8,7 @@ ghost use Rattle.wenc_base.specs.laws.Delimited.{itself};
 mod made;
 
 use crate::encode::Encode;
+use std::alloc::Allocator;
 
 /// A value whose text tells which value it is, whatever follows the text. A type of your own may implement it
 /// too: it owes a form, that this form can be read, and that its text and its causes are those of the form.
@@ -167,6 +168,36 @@ impl DelimitedEq for &str {
     ghost use Rattle.std.specs.Cmp.Lexicographic.{nat_list_eq_equiv};
 
     ghost alike = { λ _ a b. itself _ nat_list_eq_equiv a.now b.now };
+}
+
+impl<A: Allocator> Delimited for String<A> {
+    ghost use Rattle.std.specs.String.{string_bytes};
+    ghost use Rattle.wenc_base.specs.Forms.{name};
+    ghost use Rattle.wenc_base.specs.laws.Forms.{read_name, name_lawful};
+    ghost use Rattle.wenc_base.specs.laws.Delimited.{name_free};
+
+    ghost Seen = { List ℕ };
+
+    ghost seen = { string_bytes };
+
+    ghost form = { name };
+
+    fn belongs(&self) {
+        self.as_str().belongs();
+    }
+
+    ghost readable = { ((λ fuel. read_name), name_lawful) };
+
+    ghost text_of = { λ s. refl };
+
+    ghost free = { λ s. name_free (string_bytes s) };
+}
+
+impl<A: Allocator> DelimitedEq for String<A> {
+    ghost use Rattle.std.specs.Cmp.Lexicographic.{nat_list_eq_equiv};
+    ghost use Rattle.std.specs.String.{string_bytes};
+
+    ghost alike = { λ _ a b. itself _ nat_list_eq_equiv (string_bytes a) (string_bytes b) };
 }
 
 impl Delimited for &[u8] {

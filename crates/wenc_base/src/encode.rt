@@ -140,6 +140,19 @@ impl Encode for &str {
     }
 }
 
+impl<A: Allocator> Encode for String<A> {
+    ghost use Rattle.std.specs.String.{string_bytes};
+    ghost use Rattle.wenc_base.specs.Forms.{name};
+
+    ghost text = { λ s. (name (string_bytes s)).text };
+
+    ghost cause = { λ s. text_cause (string_bytes s) };
+
+    fn encode<B: Allocator>(&self, sink: &mut Vec<u8, B>) -> Result<(), Fault> {
+        self.as_str().encode(sink)
+    }
+}
+
 impl Encode for &[u8] {
     ghost use Rattle.wenc_base.specs.Forms.{byte_list};
     ghost use Rattle.wenc_base.specs.Fault.{text_cause};
