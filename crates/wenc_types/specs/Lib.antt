@@ -2,5 +2,6 @@ pub mod CoreTypes
 pub mod DefinedTypes
 pub mod ComponentTypes
 pub mod ModuleTypes
+pub mod Declarations
 pub mod CoreTypeTrees
 pub mod laws

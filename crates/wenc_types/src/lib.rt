@@ -6,6 +6,7 @@
 #![tactic(auto)]
 
 pub mod core_type;
+mod declarations;
 pub mod core_type_tree;
 pub mod module_type;
 

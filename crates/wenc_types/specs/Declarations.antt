@@ -1,0 +1,169 @@
+-- Component types and instance types: their declarations, one by one, and what is counted of them.
+use Rattle.std.specs.Prelude.{◌≡◌, ℕ, ◌+◌, ◌-◌, ◌≤◌, List, [], ◌∷◌, ◌++◌, Option, Some, None, Result, OnOk, OnErr, true}
+use Rattle.wenc_base.specs.Holder.{Held, no_members, is_finished, Contains, AddsMember}
+use Rattle.wenc_base.specs.Openings.{opened_with, lengthened, closed, given_up}
+use Rattle.wenc_base.specs.declared.fault.Fault.{Fault}
+use Rattle.wenc_base.specs.declared.holder.openings.Opening.{Opening}
+use Rattle.wenc_parts.specs.Aliases.{AliasOf, InstanceExport, CoreInstanceExport, Outer}
+use Rattle.wenc_parts.specs.Imports.{kind_of}
+use Rattle.wenc_parts.specs.declared.aliases.ComponentOuterAliasKind.{ComponentOuterAliasKind}
+use Rattle.wenc_parts.specs.declared.aliases.ComponentOuterAliasKind.TheVariants as outers
+use Rattle.wenc_parts.specs.declared.exports.ComponentExportKind.{ComponentExportKind}
+use Rattle.wenc_parts.specs.declared.exports.ComponentExportKind.TheVariants as kinds
+use Rattle.wenc_types.specs.ComponentTypes.{InstanceDeclaration, CoreTyped, Typed, Aliased, Exported, ComponentDeclaration, Imported, Declared, InstanceDeclarations, no_instance, and_instance, ComponentDeclarations, no_component, and_component, instance_declaration, component_declaration}
+use Rattle.wenc_types.specs.declared.declarations.Counts.{Counts}
+use Rattle.wenc_types.specs.declared.declarations.Sort.{Sort}
+use Rattle.wenc_types.specs.declared.declarations.Sort.TheVariants.{CoreType, «Type» as TypeSort, Instance}
+
+abbrev pub instance_text : InstanceDeclaration → List ℕ
+instance_text d = (instance_declaration d).text
+
+abbrev pub component_text : ComponentDeclaration → List ℕ
+component_text d = (component_declaration d).text
+
+-- a list of them as one value
+abbrev pub instances_of : List InstanceDeclaration → InstanceDeclarations
+instances_of [] = no_instance
+instances_of (d ∷ ds) = and_instance d (instances_of ds)
+
+abbrev pub components_of : List ComponentDeclaration → ComponentDeclarations
+components_of [] = no_component
+components_of (d ∷ ds) = and_component d (components_of ds)
+
+-- ---- what a declaration counts as: a core type, a type, an instance, or nothing
+
+abbrev pub sort_of_kind : ComponentExportKind → Option Sort
+sort_of_kind kinds.Module = None
+sort_of_kind kinds.Func = None
+sort_of_kind kinds.Value = None
+sort_of_kind kinds.«Type» = Some TypeSort
+sort_of_kind kinds.Instance = Some Instance
+sort_of_kind kinds.Component = None
+
+abbrev pub sort_of_outer : ComponentOuterAliasKind → Option Sort
+sort_of_outer outers.CoreModule = None
+sort_of_outer outers.CoreType = Some CoreType
+sort_of_outer outers.«Type» = Some TypeSort
+sort_of_outer outers.Component = None
+
+abbrev pub sort_of_alias : AliasOf → Option Sort
+sort_of_alias (InstanceExport instance kind name) = sort_of_kind kind
+sort_of_alias (CoreInstanceExport instance kind name) = None
+sort_of_alias (Outer kind count number) = sort_of_outer kind
+
+abbrev pub instance_sort : InstanceDeclaration → Option Sort
+instance_sort (CoreTyped ty) = Some CoreType
+instance_sort (Typed ty) = Some TypeSort
+instance_sort (Aliased to) = sort_of_alias to
+instance_sort (Exported name ty) = sort_of_kind (kind_of ty)
+
+abbrev pub component_sort : ComponentDeclaration → Option Sort
+component_sort (Imported name ty) = sort_of_kind (kind_of ty)
+component_sort (Declared d) = instance_sort d
+
+abbrev pub no_counts : Counts
+no_counts = record { core_types = 0; types = 0; instances = 0 }
+
+-- one more of this sort
+abbrev pub counted : Option Sort → Counts → Counts
+counted None n = n
+counted (Some CoreType) n = record { core_types = n.core_types + 1; types = n.types; instances = n.instances }
+counted (Some TypeSort) n = record { core_types = n.core_types; types = n.types + 1; instances = n.instances }
+counted (Some Instance) n = record { core_types = n.core_types; types = n.types; instances = n.instances + 1 }
+
+-- how many there are of each sort
+abbrev pub counts_of : {D : Type 0} → (D → Option Sort) → List D → Counts
+counts_of sort [] = no_counts
+counts_of sort (d ∷ ds) = counted (sort d) (counts_of sort ds)
+
+-- ---- what contracts see of a component type or an instance type
+
+-- `begun`: what is being written counts as this.
+pub record Declaring : Type 0 where
+  pub held : Held
+  pub counts : Counts
+  pub begun : Option Sort
+
+abbrev pub no_declarations : Declaring
+no_declarations = record { held = no_members; counts = no_counts; begun = None }
+
+-- nothing is being written
+pub record Settled (t : Declaring) : Type 0 where
+  pub finished : is_finished t.held ≡ true
+  pub none_begun : t.begun ≡ None
+
+-- It has just these declarations, each with its text, and counts them.
+pub record Declares {D : Type 0} (text : D → List ℕ) (sort : D → Option Sort) (t : Declaring) (ds : List D) : Type 0 where
+  pub contained : Contains text t.held ds
+  pub counts : t.counts ≡ counts_of sort ds
+
+abbrev pub InstanceDeclares : Declaring → List InstanceDeclaration → Type 0
+InstanceDeclares = Declares instance_text instance_sort
+
+abbrev pub ComponentDeclares : Declaring → List ComponentDeclaration → Type 0
+ComponentDeclares = Declares component_text component_sort
+
+-- A call adds this declaration, or is refused for a cause and changes nothing.
+pub record AddsDeclaration {D : Type 0} (text : D → List ℕ) (sort : D → Option Sort) (old new : Declaring) (outcome : Result (Unit {0}) Fault) (cause : Fault → Type 0) (d : D) : Type 0 where
+  pub added : AddsMember text old.held new.held outcome cause d
+  pub counts : OnOk outcome (new.counts ≡ counted (sort d) old.counts)
+  pub begun : OnOk outcome (new.begun ≡ old.begun)
+  pub declared : OnOk outcome ((ds : List D) → Declares text sort old ds → Declares text sort new (ds ++ d ∷ []))
+  pub err : OnErr outcome (new ≡ old)
+
+abbrev pub AddsToInstance : Declaring → Declaring → Result (Unit {0}) Fault → (Fault → Type 0) → InstanceDeclaration → Type 0
+AddsToInstance = AddsDeclaration instance_text instance_sort
+
+abbrev pub AddsToComponent : Declaring → Declaring → Result (Unit {0}) Fault → (Fault → Type 0) → ComponentDeclaration → Type 0
+AddsToComponent = AddsDeclaration component_text component_sort
+
+-- ---- a type that is written by an encoder
+
+-- its first byte
+abbrev pub lead_of : Sort → List ℕ
+lead_of CoreType = 0x00 ∷ []
+lead_of TypeSort = 0x01 ∷ []
+lead_of Instance = []
+
+abbrev pub with_held : Declaring → Held → Declaring
+with_held t held = record { held = held; counts = t.counts; begun = t.begun }
+
+-- one type more, of which there is the first byte
+abbrev pub begun : Sort → Declaring → Declaring
+begun sort t = record { held = opened_with t.held (lead_of sort); counts = counted (Some sort) t.counts; begun = Some sort }
+
+-- more of that type
+abbrev pub written : Declaring → List ℕ → Declaring
+written t text = with_held t (lengthened t.held text)
+
+-- the type is whole
+abbrev pub ended : Declaring → Declaring
+ended t = record { held = closed t.held; counts = t.counts; begun = None }
+
+-- one less of this sort
+abbrev pub uncounted : Option Sort → Counts → Counts
+uncounted None n = n
+uncounted (Some CoreType) n = record { core_types = n.core_types - 1; types = n.types; instances = n.instances }
+uncounted (Some TypeSort) n = record { core_types = n.core_types; types = n.types - 1; instances = n.instances }
+uncounted (Some Instance) n = record { core_types = n.core_types; types = n.types; instances = n.instances - 1 }
+
+-- as it was before that type
+abbrev pub taken_back : Declaring → Declaring
+taken_back t = record { held = given_up t.held; counts = uncounted t.begun t.counts; begun = None }
+
+-- ---- what is always so
+
+-- one of this sort is there
+abbrev pub HasOne : Option Sort → Counts → Type 0
+HasOne None n = ⊥
+HasOne (Some CoreType) n = 1 ≤ n.core_types
+HasOne (Some TypeSort) n = 1 ≤ n.types
+HasOne (Some Instance) n = 1 ≤ n.instances
+
+-- what is being written is counted
+abbrev pub OpenedIsIn : Option Opening → Option Sort → Counts → Type 0
+OpenedIsIn None sort n = sort ≡ None
+OpenedIsIn (Some o) sort n = HasOne sort n
+
+abbrev pub total : Counts → ℕ
+total n = n.core_types + n.types + n.instances
