@@ -1,5 +1,6 @@
 -- Types of values that components define, and types of functions (component model, binary format, "Type Definitions").
 use Rattle.std.specs.Prelude.{ℕ, Bool, true, false, List, Option}
+use Rattle.std.specs.Borrow.{Bor}
 use Rattle.wenc_base.specs.Piece.{Form, byte, ◌▸◌, ◌⨾◌}
 use Rattle.wenc_base.specs.Number.{u32}
 use Rattle.wenc_base.specs.Fault.{text_cause, list_cause}
@@ -100,3 +101,11 @@ defined_cause (Stream ty) = λ fault. ⊥
 
 abbrev pub function_cause : Function → Fault → Type 0
 function_cause f = list_cause named_cause f.params
+
+-- ---- what an iterator gives, as pure values
+
+abbrev pub named_view : Bor (List ℕ) × ComponentValType → Named
+named_view f = record { name = f.0.now; ty = f.1 }
+
+abbrev pub case_view : Bor (List ℕ) × Option ComponentValType → Case
+case_view c = record { name = c.0.now; ty = c.1 }

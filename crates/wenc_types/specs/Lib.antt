@@ -3,5 +3,6 @@ pub mod DefinedTypes
 pub mod ComponentTypes
 pub mod ModuleTypes
 pub mod Declarations
+pub mod FuncStages
 pub mod CoreTypeTrees
 pub mod laws

@@ -6,10 +6,14 @@
 #![tactic(auto)]
 
 pub mod core_type;
-mod declarations;
 pub mod core_type_tree;
+mod declarations;
+pub mod defined_type;
+pub mod func_type;
 pub mod module_type;
 
 pub use core_type::ComponentCoreTypeEncoder;
 pub use core_type_tree::{CoreTypeTree, ModuleDecl};
+pub use defined_type::ComponentDefinedTypeEncoder;
+pub use func_type::{ComponentFuncTypeEncoder, FuncStage};
 pub use module_type::ModuleType;

@@ -2,7 +2,7 @@
 use Rattle.std.proofs.Common.{◌≡◌, List, [], ◌∷◌, map, ℕ, Result, Ok, Err, IfErr, inl, inr, refl, ap}
 use Rattle.std.proofs.lemmas.List.{length-map}
 use Rattle.wenc_base.specs.Encode.{Appends}
-use Rattle.wenc_base.specs.Fault.{IsWarranted, first_of, member_cause, list_cause}
+use Rattle.wenc_base.specs.Fault.{IsWarranted, first_of, member_cause, list_cause, drawn_cause}
 use Rattle.wenc_base.specs.declared.fault.Fault.{Fault}
 use Rattle.wenc_base.specs.declared.fault.Fault.TheVariants.{Memory, TooMany, TooLarge, Unfinished}
 
@@ -16,6 +16,9 @@ still_warranted one other f Unfinished h = f Unfinished h
 -- two causes that stand for the same faults
 abbrev pub SameCause : (Fault → Type 0) → (Fault → Type 0) → Type 0
 SameCause one other = ((fault : Fault) → one fault → other fault) × ((fault : Fault) → other fault → one fault)
+
+pub same_cause : {one : Fault → Type 0} → SameCause one one
+same_cause = ((λ fault h. h), λ fault h. h)
 
 -- what is never refused but for want of memory
 abbrev pub never : Fault → Type 0
@@ -70,3 +73,7 @@ member_seen seen cause (v ∷ vs) = ap (first_of (cause (seen v))) (member_seen 
 -- why a list of values can't be encoded, by what is seen of them
 pub seen_cause : {A S : Type 0} (seen : A → S) (cause : S → Fault → Type 0) (vs : List A) → list_cause (λ v. cause (seen v)) vs ≡ list_cause cause (map seen vs)
 seen_cause seen cause vs = rw (length-map vs seen, member_seen seen cause vs) refl
+
+-- the same of values that come one by one
+pub drawn_seen : {A S : Type 0} (seen : A → S) (cause : S → Fault → Type 0) (vs : List A) → drawn_cause (λ v. cause (seen v)) vs ≡ drawn_cause cause (map seen vs)
+drawn_seen seen cause vs = rw (length-map vs seen, member_seen seen cause vs) refl

@@ -90,20 +90,21 @@ member_as one other same (v ∷ vs) =
       λ fault h. elim h [ inl c ↦ inl ((same v).1 fault c) | inr p ↦ inr ((λ f c. p.0 f ((same v).0 f c)), rest.1 fault p.1) ],
     )
 
+-- the same causes of values that come one by one
+pub drawn_as : {A : Type 0} (one other : A → Fault → Type 0) → ((v : A) → SameCause (one v) (other v)) → (vs : List A) → SameCause (drawn_cause one vs) (drawn_cause other vs)
+drawn_as one other same vs = (
+  λ fault h. elim h [ inl c ↦ inl ((member_as one other same vs).0 fault c) | inr p ↦ inr ((λ f c. p.0 f ((member_as one other same vs).1 f c)), p.1) ],
+  λ fault h. elim h [ inl c ↦ inl ((member_as one other same vs).1 fault c) | inr p ↦ inr ((λ f c. p.0 f ((member_as one other same vs).0 f c)), p.1) ],
+)
+
 -- the causes of the values are those of the list
 pub listed_as : {A : Type 0} (one other : A → Fault → Type 0) → ((v : A) → SameCause (one v) (other v)) → (vs : List A) → SameCause (listed_cause never one never vs) (drawn_cause other vs)
-listed_as one other same vs = (there, λ fault h. inr ((λ f n. n), inl (back fault h)))
+listed_as one other same vs = (there, λ fault h. inr ((λ f n. n), inl ((drawn_as one other same vs).1 fault h)))
   where
-    back : (fault : Fault) → drawn_cause other vs fault → drawn_cause one vs fault
-    back fault h = elim h [ inl c ↦ inl ((member_as one other same vs).1 fault c) | inr p ↦ inr ((λ f c. p.0 f ((member_as one other same vs).0 f c)), p.1) ]
-
     there : (fault : Fault) → listed_cause never one never vs fault → drawn_cause other vs fault
     there fault h = elim h [
       | inl none ↦ absurd none
-      | inr p ↦ elim p.1 [
-        | inl d ↦ elim d [ inl c ↦ inl ((member_as one other same vs).0 fault c) | inr q ↦ inr ((λ f c. q.0 f ((member_as one other same vs).1 f c)), q.1) ]
-        | inr q ↦ absurd q.1
-      ]
+      | inr p ↦ elim p.1 [ inl d ↦ (drawn_as one other same vs).0 fault d | inr q ↦ absurd q.1 ]
     ]
 
 -- the values, and what they stand for

@@ -1,11 +1,12 @@
 -- What lenders that keep a holder, or another lender, owe: that what is done to it is done to them.
 use Rattle.std.proofs.Common.{◌≡◌, ℕ, List, ◌++◌, map, Option, Result, Ok, Err, OnOk, IfErr, inl, inr, ap, ◌∙◌}
-use Rattle.std.specs.Iterator.Runs.{SomeRun, WholeRun}
+use Rattle.std.proofs.iter.runs.Made.{seen}
+use Rattle.std.specs.Iterator.Runs.{SomeRun, WholeRun, EachRunFrom}
 use Rattle.wenc_base.specs.Fault.{IsWarranted, drawn_cause}
 use Rattle.wenc_base.specs.Forms.{list_text}
 use Rattle.wenc_base.specs.Lender.{either, Extends, ExtendsListed}
 use Rattle.wenc_base.specs.laws.Causes.{still_warranted, SameCause}
-use Rattle.wenc_base.specs.laws.Holders.{list_text_map}
+use Rattle.wenc_base.specs.laws.Holders.{drawn_as, list_text_map}
 use Rattle.wenc_base.specs.declared.fault.Fault.{Fault}
 
 module _ {T U : Type 0} (around : T → U) where
@@ -44,9 +45,31 @@ extends_as {B = B} steps values old new outcome next refuses cause other text wr
 
 -- a list of values, by what they stand for
 pub listed_map : {T S B C : Type 0} (steps : S → Option B → S → Type 0) (values : S) (old new : T) (outcome : Result (Unit {0}) Fault)
-    (next : List ℕ → T) (refuses : List ℕ → Fault → Type 0) (cause : B → Fault → Type 0) (lead : List ℕ) (text : C → List ℕ) (view : B → C)
+    (next : List ℕ → T) (refuses : List ℕ → Fault → Type 0) (cause own : B → Fault → Type 0) (lead : List ℕ) (text : C → List ℕ) (view : B → C) → ((v : B) → SameCause (cause v) (own v))
     → ExtendsListed steps values old new outcome next refuses (drawn_cause cause) (λ vs. lead ++ list_text (λ v. text (view v)) vs)
-    → ExtendsListed steps values old new outcome next refuses (drawn_cause cause) (λ vs. lead ++ list_text text (map view vs))
-listed_map steps values old new outcome next refuses cause lead text view =
-    extends_as steps values old new outcome next refuses (drawn_cause cause) (drawn_cause cause) (λ vs. lead ++ list_text (λ v. text (view v)) vs) (λ vs. lead ++ list_text text (map view vs))
-    (λ vs. ap (λ (t : List ℕ). lead ++ t) (list_text_map text view vs)) (λ vs. ((λ fault h. h), λ fault h. h))
+    → ExtendsListed steps values old new outcome next refuses (drawn_cause own) (λ vs. lead ++ list_text text (map view vs))
+listed_map steps values old new outcome next refuses cause own lead text view same =
+    extends_as steps values old new outcome next refuses (drawn_cause cause) (drawn_cause own) (λ vs. lead ++ list_text (λ v. text (view v)) vs) (λ vs. lead ++ list_text text (map view vs))
+    (λ vs. ap (λ (t : List ℕ). lead ++ t) (list_text_map text view vs)) (drawn_as cause own same)
+
+-- values that another iterator makes of those that one gives
+pub made_of : {T S R B C : Type 0} (steps : S → Option B → S → Type 0) (values : S) (making : R → Option C → R → Type 0) (made : R) (old new : T) (outcome : Result (Unit {0}) Fault)
+    (next : List ℕ → T) (refuses : List ℕ → Fault → Type 0) (cause : List C → Fault → Type 0) (text : List C → List ℕ) (make : B → C)
+    → EachRunFrom making made (λ p. SomeRun steps values (λ q. (q.whole ≡ p.whole) × (p.items ≡ map make q.items)))
+    → ExtendsListed making made old new outcome next refuses cause text
+    → ExtendsListed steps values old new outcome next refuses (λ vs. cause (map make vs)) (λ vs. text (map make vs))
+made_of steps values making made old new (Ok u) next refuses cause text make runs a = record {
+  ok = let p = a.ok.0 in
+       let q = runs p (seen p.len) a.ok.1 in
+       (q.0, q.1, q.2.0 ∙ a.ok.2, rw q.2.1 at a.ok.3);
+  err = tt;
+  warranted = tt;
+}
+made_of steps values making made old new (Err f) next refuses cause text make runs a = record {
+  ok = tt;
+  err = a.err;
+  warranted =
+       let p = a.warranted.0 in
+       let q = runs p (seen p.len) a.warranted.1 in
+       (q.0, q.1, rw q.2.1 at a.warranted.2);
+}

@@ -1,0 +1,14 @@
+use Rattle.std.proofs.Common.{◌∷◌, []}
+use Rattle.wenc_base.specs.Fault.{text_cause}
+use Rattle.wenc_base.specs.Forms.{name}
+use Rattle.wenc_base.specs.laws.Causes.{same_cause}
+use Rattle.wenc_base.specs.laws.Lenders.{listed_map}
+use Rattle.wenc_types.proofs.defined_type.ComponentDefinedTypeEncoder.flags.Goals as goal
+
+pub returns : goal.returns
+returns g c =
+    let lender = c.args.self.lender.now in
+    listed_map g.F.Iterator.next_gives c.args.names lender c.end_with_list.new.self c.end_with_list.result
+    (λ bytes. g.L.Lender.ended (g.L.Lender.written lender bytes)) (g.L.Lender.refuses lender)
+    (λ n. text_cause n.now) (λ n. text_cause n.now) (0x6e ∷ []) (λ n. (name n).text) (λ n. n.now)
+    (λ n. same_cause) c.end_with_list.ensures

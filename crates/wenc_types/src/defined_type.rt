@@ -1,0 +1,208 @@
+ghost use Rattle.std.specs.Iterator.{IsFinite};
+ghost use Rattle.std.specs.Prelude.{◌≡◌, true, false, map};
+ghost use Rattle.wenc_base.specs.Fault.{drawn_cause, text_cause};
+ghost use Rattle.wenc_base.specs.Lender.{Ends, EndsListed};
+ghost use Rattle.wenc_types.specs.DefinedTypes.{Primitive, Record, Variant, ListOf, MapOf, FixedLengthList, Tuple, Flags, Enumeration, OptionOf, ResultOf, Own, Borrow, Future, Stream, defined_type, named_cause, named_view, case_cause, case_view};
+
+use std::alloc::Allocator;
+use wenc_base::{Encode, Fault, Lender, Tagged};
+use wenc_parts::{ComponentValType, PrimitiveValType};
+
+/// Writes one type of values into what it was lent. Each call is its last. Where a call is refused, or the encoder is
+/// dropped, what it was lent is left unfinished, until that gives the type up (component model, binary format, "Type
+/// Definitions").
+///
+/// A call is refused where a list has more than 4294967295 values (`TooMany`), or where there would be too many bytes
+/// in a name or in what was lent (`TooLarge`).
+///
+/// ```
+/// let string = ComponentValType::Primitive(PrimitiveValType::String);
+/// types.defined_type()?.record([("name", string), ("street", string)].into_iter())?;
+/// types.defined_type()?.option(string)?;
+/// ```
+#[derive(Drop)]
+pub struct ComponentDefinedTypeEncoder<'a, L: Lender> {
+    lender: &'a mut L,
+    ghost unfinished: { L.finished lender.now ≡ false },
+}
+
+impl<'a, L: Lender> ComponentDefinedTypeEncoder<'a, L> {
+    /// An encoder of the member that the lender has just opened.
+    pub fn new(lender: &'a mut L) -> Self
+        requires { L.opened lender.old ≡ true }
+        ensures same_reference { result.lender.ghost_name ≡ lender.entry.ghost_name }
+        ensures now { result.lender.now ≡ lender.old }
+    {
+        ComponentDefinedTypeEncoder { lender }
+    }
+
+    /// A primitive type.
+    pub fn primitive(self, ty: PrimitiveValType) -> Result<(), Fault>
+        ensures { Ends L.written L.ended L.refuses self.entry.lender.now self.exit.0.now result
+            (λ _. ⊥) (defined_type (Primitive ty)).text }
+    {
+        self.lender.end_with(&ty)
+    }
+
+    /// A record with these fields.
+    pub fn record<'b, F>(self, fields: F) -> Result<(), Fault>
+    where
+        F: Iterator<Item = (&'b str, ComponentValType)> + Drop,
+        requires can { F.can_next fields }
+        requires ends { IsFinite (F.remaining fields) }
+        ensures { EndsListed L.written L.ended L.refuses F.next_gives fields
+            self.entry.lender.now self.exit.0.now result
+            (drawn_cause (λ f. named_cause (named_view f)))
+            (λ fs. (defined_type (Record (map named_view fs))).text) }
+    {
+        self.lender.end_with_list(&[0x72], fields)
+    }
+
+    /// A variant with these cases, each with a value or without.
+    pub fn variant<'b, C>(self, cases: C) -> Result<(), Fault>
+    where
+        C: Iterator<Item = (&'b str, Option<ComponentValType>)> + Drop,
+        requires can { C.can_next cases }
+        requires ends { IsFinite (C.remaining cases) }
+        ensures { EndsListed L.written L.ended L.refuses C.next_gives cases
+            self.entry.lender.now self.exit.0.now result
+            (drawn_cause (λ c. case_cause (case_view c)))
+            (λ cs. (defined_type (Variant (map case_view cs))).text) }
+    {
+        self.lender
+            .end_with_list(&[0x71], cases.map(|(name, ty)| Case { name, ty }))
+    }
+
+    /// A list of any length.
+    pub fn list(self, ty: ComponentValType) -> Result<(), Fault>
+        ensures { Ends L.written L.ended L.refuses self.entry.lender.now self.exit.0.now result
+            (λ _. ⊥) (defined_type (ListOf ty)).text }
+    {
+        self.lender.end_with(&Tagged(0x70, &ty))
+    }
+
+    /// A map from keys to values.
+    pub fn map(self, key: ComponentValType, value: ComponentValType) -> Result<(), Fault>
+        ensures { Ends L.written L.ended L.refuses self.entry.lender.now self.exit.0.now result
+            (λ _. ⊥) (defined_type (MapOf key value)).text }
+    {
+        self.lender.end_with(&Tagged(0x63, &(key, value)))
+    }
+
+    /// A list of this length, from 0 to 4294967295.
+    pub fn fixed_length_list(self, ty: ComponentValType, length: u32) -> Result<(), Fault>
+        ensures { Ends L.written L.ended L.refuses self.entry.lender.now self.exit.0.now result
+            (λ _. ⊥) (defined_type (FixedLengthList ty length)).text }
+    {
+        self.lender.end_with(&Tagged(0x67, &(ty, length)))
+    }
+
+    /// A tuple of values of these types.
+    pub fn tuple<T>(self, types: T) -> Result<(), Fault>
+    where
+        T: Iterator<Item = ComponentValType> + Drop,
+        requires can { T.can_next types }
+        requires ends { IsFinite (T.remaining types) }
+        ensures { EndsListed L.written L.ended L.refuses T.next_gives types
+            self.entry.lender.now self.exit.0.now result
+            (drawn_cause (λ _ _. ⊥)) (λ ts. (defined_type (Tuple ts)).text) }
+    {
+        self.lender.end_with_list(&[0x6f], types)
+    }
+
+    /// Flags with these names.
+    pub fn flags<'b, F: Iterator<Item = &'b str> + Drop>(self, names: F) -> Result<(), Fault>
+        requires can { F.can_next names }
+        requires ends { IsFinite (F.remaining names) }
+        ensures { EndsListed L.written L.ended L.refuses F.next_gives names
+            self.entry.lender.now self.exit.0.now result
+            (drawn_cause (λ n. text_cause n.now))
+            (λ ns. (defined_type (Flags (map (λ n. n.now) ns))).text) }
+    {
+        self.lender.end_with_list(&[0x6e], names)
+    }
+
+    /// An enumeration of these names.
+    pub fn enum_type<'b, C: Iterator<Item = &'b str> + Drop>(self, cases: C) -> Result<(), Fault>
+        requires can { C.can_next cases }
+        requires ends { IsFinite (C.remaining cases) }
+        ensures { EndsListed L.written L.ended L.refuses C.next_gives cases
+            self.entry.lender.now self.exit.0.now result
+            (drawn_cause (λ n. text_cause n.now))
+            (λ ns. (defined_type (Enumeration (map (λ n. n.now) ns))).text) }
+    {
+        self.lender.end_with_list(&[0x6d], cases)
+    }
+
+    /// A value of this type, or none.
+    pub fn option(self, ty: ComponentValType) -> Result<(), Fault>
+        ensures { Ends L.written L.ended L.refuses self.entry.lender.now self.exit.0.now result
+            (λ _. ⊥) (defined_type (OptionOf ty)).text }
+    {
+        self.lender.end_with(&Tagged(0x6b, &ty))
+    }
+
+    /// What went well or an error, each with a value or without.
+    pub fn result(
+        self,
+        ok: Option<ComponentValType>,
+        err: Option<ComponentValType>,
+    ) -> Result<(), Fault>
+        ensures { Ends L.written L.ended L.refuses self.entry.lender.now self.exit.0.now result
+            (λ _. ⊥) (defined_type (ResultOf ok err)).text }
+    {
+        self.lender.end_with(&Tagged(0x6a, &(ok, err)))
+    }
+
+    /// A handle that owns a resource of the type with this index.
+    pub fn own(self, index: u32) -> Result<(), Fault>
+        ensures { Ends L.written L.ended L.refuses self.entry.lender.now self.exit.0.now result
+            (λ _. ⊥) (defined_type (Own index)).text }
+    {
+        self.lender.end_with(&Tagged(0x69, &index))
+    }
+
+    /// A handle that borrows a resource of the type with this index.
+    pub fn borrow(self, index: u32) -> Result<(), Fault>
+        ensures { Ends L.written L.ended L.refuses self.entry.lender.now self.exit.0.now result
+            (λ _. ⊥) (defined_type (Borrow index)).text }
+    {
+        self.lender.end_with(&Tagged(0x68, &index))
+    }
+
+    /// What comes later: a value of this type, or none.
+    pub fn future(self, payload: Option<ComponentValType>) -> Result<(), Fault>
+        ensures { Ends L.written L.ended L.refuses self.entry.lender.now self.exit.0.now result
+            (λ _. ⊥) (defined_type (Future payload)).text }
+    {
+        self.lender.end_with(&Tagged(0x65, &payload))
+    }
+
+    /// What comes one by one: values of this type, or none.
+    pub fn stream(self, payload: Option<ComponentValType>) -> Result<(), Fault>
+        ensures { Ends L.written L.ended L.refuses self.entry.lender.now self.exit.0.now result
+            (λ _. ⊥) (defined_type (Stream payload)).text }
+    {
+        self.lender.end_with(&Tagged(0x66, &payload))
+    }
+}
+
+/// A case of a variant.
+#[derive(Clone, Copy)]
+struct Case<'a> {
+    name: &'a str,
+    ty: Option<ComponentValType>,
+}
+
+impl<'a> Encode for Case<'a> {
+    ghost use Rattle.wenc_types.specs.DefinedTypes.{case};
+
+    ghost text = { λ c. (case (record { name = c.name.now; ty = c.ty })).text };
+
+    ghost cause = { λ c. case_cause (record { name = c.name.now; ty = c.ty }) };
+
+    /// The byte behind says that it refines no other case.
+    fn encode<A: Allocator>(&self, sink: &mut Vec<u8, A>) -> Result<(), Fault> {
+        (self.name, self.ty, Tagged(0x00, &())).encode(sink)
+    }
+}

@@ -1,0 +1,150 @@
+ghost use Rattle.std.specs.Iterator.{IsFinite};
+ghost use Rattle.std.specs.Prelude.{◌≡◌, ◌∷◌, ◌++◌, [], true, false, map, OnOk, OnErr};
+ghost use Rattle.wenc_base.specs.Fault.{drawn_cause};
+ghost use Rattle.wenc_base.specs.Forms.{list};
+ghost use Rattle.wenc_base.specs.Lender.{either, Extends, ExtendsListed};
+ghost use Rattle.wenc_parts.specs.Types.{result_list};
+ghost use Rattle.wenc_types.specs.DefinedTypes.{named, named_cause, named_view};
+ghost use Rattle.wenc_types.specs.FuncStages.{async_byte, BeforeParams, lead_from, goes_on};
+ghost use Rattle.wenc_types.specs.declared.func_type.FuncStage.TheVariants as stages;
+
+use wenc_base::{Fault, Lender, Verbatim};
+use wenc_parts::{ComponentValType, ResultList};
+
+/// How far the type of a function is written.
+#[derive(Clone, Copy, Debug, PartialEq, Eq)]
+pub enum FuncStage {
+    /// Nothing of it.
+    Start,
+    /// Whether it is asynchronous.
+    Tagged,
+    /// That, and its parameters.
+    Params,
+    /// All of it.
+    Done,
+}
+
+impl FuncStage {
+    /// What stands in front of the parameters, from this stage on.
+    fn lead(self) -> &'static [u8]
+        ensures { result.now ≡ lead_from self }
+    {
+        match self {
+            FuncStage::Start => &[0x40],
+            _ => &[],
+        }
+    }
+}
+
+/// Writes the type of a function into what it was lent (component model, binary format, "Type Definitions"). First may
+/// come whether it is asynchronous, then its parameters, then what it answers, which ends the type. A refused call
+/// leaves what was written, and may be tried again. Where the encoder is dropped before, what it was lent is left
+/// unfinished, until that gives the type up.
+///
+/// A call is refused where a list has more than 4294967295 values (`TooMany`), or where there would be too many bytes
+/// in a name or in what was lent (`TooLarge`).
+///
+/// ```
+/// let mut function = types.function()?;
+/// function.params([("name", ComponentValType::Primitive(PrimitiveValType::String))].into_iter())?;
+/// function.result(None)?;
+/// ```
+#[derive(Drop)]
+pub struct ComponentFuncTypeEncoder<'a, L: Lender> {
+    lender: &'a mut L,
+    stage: FuncStage,
+    ghost going_on: { goes_on stage (L.finished lender.now) ≡ true },
+}
+
+impl<'a, L: Lender> ComponentFuncTypeEncoder<'a, L> {
+    /// An encoder of the member that the lender has just opened.
+    pub fn new(lender: &'a mut L) -> Self
+        requires { L.opened lender.old ≡ true }
+        ensures same_reference { result.lender.ghost_name ≡ lender.entry.ghost_name }
+        ensures now { result.lender.now ≡ lender.old }
+        ensures stage { result.stage ≡ stages.Start }
+    {
+        ComponentFuncTypeEncoder {
+            lender,
+            stage: FuncStage::Start,
+        }
+    }
+
+    /// How far the type is written.
+    pub fn stage(&self) -> FuncStage
+        ensures { result ≡ self.now.stage }
+    {
+        self.stage
+    }
+
+    /// Whether the function is asynchronous. Without this call it isn't.
+    pub fn async_(&mut self, is_async: bool) -> Result<(), Fault>
+        requires { self.old.stage ≡ stages.Start }
+        ensures same_reference { self.new.lender.ghost_name ≡ self.old.lender.ghost_name }
+        ensures appended { Extends self.old.lender.now self.new.lender.now
+            (L.written self.old.lender.now (async_byte is_async ∷ [])) result
+            (either (λ _. ⊥) (L.refuses self.old.lender.now (async_byte is_async ∷ []))) }
+        ensures next { OnOk result (self.new.stage ≡ stages.Tagged) }
+        ensures back { OnErr result (self.new.stage ≡ self.old.stage) }
+    {
+        let byte = if is_async { 0x43 } else { 0x40 };
+        self.lender.append_value(&Verbatim(&[byte]))?;
+        self.stage = FuncStage::Tagged;
+        Ok(())
+    }
+
+    /// The function's parameters, each with its name.
+    pub fn params<'b, P>(&mut self, params: P) -> Result<(), Fault>
+    where
+        P: Iterator<Item = (&'b str, ComponentValType)> + Drop,
+        requires stage { BeforeParams self.old.stage }
+        requires can { P.can_next params }
+        requires ends { IsFinite (P.remaining params) }
+        ensures same_reference { self.new.lender.ghost_name ≡ self.old.lender.ghost_name }
+        ensures appended { ExtendsListed P.next_gives params
+            self.old.lender.now self.new.lender.now result
+            (L.written self.old.lender.now) (L.refuses self.old.lender.now)
+            (drawn_cause (λ p. named_cause (named_view p)))
+            (λ ps. lead_from self.old.stage ++ (list named (map named_view ps)).text) }
+        ensures next { OnOk result (self.new.stage ≡ stages.Params) }
+        ensures back { OnErr result (self.new.stage ≡ self.old.stage) }
+    {
+        match append_named(self.lender, self.stage.lead(), params) {
+            Ok(()) => {
+                self.stage = FuncStage::Params;
+                Ok(())
+            }
+            Err(fault) => Err(fault),
+        }
+    }
+
+    /// What the function answers: a value of this type, or none. This ends the type.
+    pub fn result(&mut self, ty: Option<ComponentValType>) -> Result<(), Fault>
+        requires { self.old.stage ≡ stages.Params }
+        ensures same_reference { self.new.lender.ghost_name ≡ self.old.lender.ghost_name }
+        ensures ended { Extends self.old.lender.now self.new.lender.now
+            (L.ended (L.written self.old.lender.now (result_list ty).text)) result
+            (either (λ _. ⊥) (L.refuses self.old.lender.now (result_list ty).text)) }
+        ensures next { OnOk result (self.new.stage ≡ stages.Done) }
+        ensures back { OnErr result (self.new.stage ≡ self.old.stage) }
+    {
+        self.lender.end_with(&ResultList(ty))?;
+        self.stage = FuncStage::Done;
+        Ok(())
+    }
+}
+
+/// Adds these bytes to the member that is being written, then the fields or parameters as a list.
+fn append_named<'a, L: Lender, I>(lender: &mut L, lead: &[u8], values: I) -> Result<(), Fault>
+where
+    I: Iterator<Item = (&'a str, ComponentValType)> + Drop,
+    requires unfinished { L.finished lender.old ≡ false }
+    requires can { I.can_next values }
+    requires ends { IsFinite (I.remaining values) }
+    ensures { ExtendsListed I.next_gives values lender.old lender.new result
+        (L.written lender.old) (L.refuses lender.old)
+        (drawn_cause (λ v. named_cause (named_view v)))
+        (λ vs. lead.now ++ (list named (map named_view vs)).text) }
+{
+    lender.append_list(lead, values)
+}
