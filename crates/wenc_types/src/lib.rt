@@ -5,15 +5,21 @@
 //! something in it that was begun and not ended with `Unfinished`.
 #![tactic(auto)]
 
+pub mod component_type;
 pub mod core_type;
 pub mod core_type_tree;
 mod declarations;
 pub mod defined_type;
 pub mod func_type;
+pub mod instance_type;
 pub mod module_type;
+pub mod ty;
 
+pub use component_type::ComponentType;
 pub use core_type::ComponentCoreTypeEncoder;
 pub use core_type_tree::{CoreTypeTree, ModuleDecl};
 pub use defined_type::ComponentDefinedTypeEncoder;
 pub use func_type::{ComponentFuncTypeEncoder, FuncStage};
+pub use instance_type::InstanceType;
 pub use module_type::ModuleType;
+pub use ty::ComponentTypeEncoder;
