@@ -11,9 +11,9 @@ use Rattle.wenc_parts.specs.declared.aliases.ComponentOuterAliasKind.TheVariants
 use Rattle.wenc_parts.specs.declared.exports.ComponentExportKind.{ComponentExportKind}
 use Rattle.wenc_parts.specs.declared.exports.ComponentExportKind.TheVariants as kinds
 use Rattle.wenc_types.specs.ComponentTypes.{InstanceDeclaration, CoreTyped, Typed, Aliased, Exported, ComponentDeclaration, Imported, Declared, InstanceDeclarations, no_instance, and_instance, ComponentDeclarations, no_component, and_component, instance_declaration, component_declaration}
-use Rattle.wenc_types.specs.declared.declarations.Counts.{Counts}
-use Rattle.wenc_types.specs.declared.declarations.Sort.{Sort}
-use Rattle.wenc_types.specs.declared.declarations.Sort.TheVariants.{CoreType, «Type» as TypeSort, Instance}
+use Rattle.wenc_types.specs.declared.counts.Counts.{Counts}
+use Rattle.wenc_types.specs.declared.counts.Sort.{Sort}
+use Rattle.wenc_types.specs.declared.counts.Sort.TheVariants.{CoreType, «Type» as TypeSort, Instance}
 
 abbrev pub instance_text : InstanceDeclaration → List ℕ
 instance_text d = (instance_declaration d).text

@@ -1,111 +1,53 @@
-//! What component types and instance types keep: their declarations, and how many of these are types and instances.
-ghost use Rattle.std.specs.Prelude.{◌≡◌, ◌<◌, ◌∷◌, [], OnOk, OnErr, IfOk, IfErr, true, false};
+ghost use Rattle.std.specs.Borrow.{sem, RestsIfErr};
+ghost use Rattle.std.specs.Prelude.{◌≡◌, ◌==◌, ◌∷◌, ℕ, [], OnOk, OnErr, IfOk, IfErr, true, false};
 ghost use Rattle.wenc_base.specs.Fault.{IsMemory, IsWarranted};
 ghost use Rattle.wenc_base.specs.Holder.{is_finished, as_they_are, held_text, EncodeCause, AddCause, AddsMember};
-ghost use Rattle.wenc_base.specs.Lender.{GivesUp};
+ghost use Rattle.wenc_base.specs.Lender.{Lends, GivesUp};
 ghost use Rattle.wenc_base.specs.declared.fault.Fault.TheVariants.{Unfinished};
 ghost use Rattle.wenc_base.specs.declared.fault.Fault.{Fault as FaultSpec};
-ghost use Rattle.wenc_types.specs.Declarations.{sort_of_kind, sort_of_alias, counted, uncounted, total, no_declarations, lead_of, begun, taken_back, Settled};
-ghost use Rattle.wenc_types.specs.declared.declarations.Sort.TheVariants.{Instance};
-ghost use Rattle.wenc_parts.specs.Aliases.{alias_view};
+ghost use Rattle.wenc_types.specs.Declarations.{counted, no_declarations, lead_of, begun, taken_back, Settled};
+ghost use Rattle.wenc_types.specs.declared.counts.Sort.TheVariants as sorts;
 
-use std::alloc::Allocator;
-use std::marker::Model;
-use wenc_base::{Encode, Fault, Holder, Lender};
-use wenc_parts::{Alias, ComponentExportKind, ComponentOuterAliasKind};
+use crate::core_type::ComponentCoreTypeEncoder;
+use crate::counts::{Counts, Sort};
+use crate::ty::ComponentTypeEncoder;
+use std::alloc::{Allocator, Global};
+use std::marker::{Model, PhantomData};
+use wenc_base::{Encode, Fault, Holder, Lender, Tagged};
 
-/// What a declaration counts as.
-#[derive(Clone, Copy)]
-pub enum Sort {
-    /// A core type.
-    CoreType,
-    /// A type.
-    Type,
-    /// An instance.
-    Instance,
+/// Which types have declarations: those of components, or those of instances. What declares aliases, imports and
+/// exports stands beside the kind.
+pub trait DeclaringKind {
+    /// The byte with which such a type begins.
+    ghost LEAD: { ℕ };
+
+    /// The same, which the code writes.
+    const LEAD: u8;
 }
 
-/// What an item of this kind counts as.
-pub fn sort_of_kind(kind: ComponentExportKind) -> Option<Sort>
-    ensures { result ≡ sort_of_kind kind }
-{
-    match kind {
-        ComponentExportKind::Type => Some(Sort::Type),
-        ComponentExportKind::Instance => Some(Sort::Instance),
-        _ => None,
-    }
-}
-
-/// What an alias counts as.
-pub fn sort_of_alias(alias: &Alias<'_>) -> Option<Sort>
-    ensures { result ≡ sort_of_alias (alias_view alias.now) }
-{
-    match alias {
-        Alias::InstanceExport { kind, .. } => sort_of_kind(*kind),
-        Alias::Outer {
-            kind: ComponentOuterAliasKind::Type,
-            ..
-        } => Some(Sort::Type),
-        Alias::Outer {
-            kind: ComponentOuterAliasKind::CoreType,
-            ..
-        } => Some(Sort::CoreType),
-        _ => None,
-    }
-}
-
-/// How many declarations there are of each sort.
-#[derive(Clone, Copy)]
-pub struct Counts {
-    /// Core types.
-    pub core_types: u32,
-    /// Types.
-    pub types: u32,
-    /// Instances.
-    pub instances: u32,
-}
-
-impl Counts {
-    /// One more of this sort, where there are so many declarations.
-    fn counted(self, sort: Option<Sort>, declarations: u32) -> Counts
-        requires { total self < declarations }
-        ensures { result ≡ counted sort self }
-    {
-        let mut counts = self;
-        match sort {
-            Some(Sort::CoreType) => counts.core_types += 1,
-            Some(Sort::Type) => counts.types += 1,
-            Some(Sort::Instance) => counts.instances += 1,
-            None => {}
-        }
-        counts
-    }
-
-    /// One less of this sort.
-    fn uncounted(self, sort: Option<Sort>) -> Counts
-        ensures { result ≡ uncounted sort self }
-    {
-        let mut counts = self;
-        match sort {
-            Some(Sort::CoreType) => counts.core_types = counts.core_types.saturating_sub(1),
-            Some(Sort::Type) => counts.types = counts.types.saturating_sub(1),
-            Some(Sort::Instance) => counts.instances = counts.instances.saturating_sub(1),
-            None => {}
-        }
-        counts
-    }
-}
-
-/// Declarations, and what is counted of them.
+/// The type of a component or of an instance, by its declarations. Each kind has a name of its own for it:
+/// `ComponentType` and `InstanceType`. A call that is refused leaves it as it was.
+///
+/// Types are written by the encoders that `core_type` and `ty` answer. Until such an encoder has ended its type, this
+/// one is unfinished, and what grows or encodes it is refused with `Unfinished`; `discard_unfinished` gives the type
+/// up.
+///
+/// ```
+/// let mut ty = InstanceType::new(alloc);
+/// ty.ty()?.defined_type().option(ComponentValType::Primitive(PrimitiveValType::String))?;
+/// ty.core_type()?.core().function([].into_iter(), [].into_iter())?;
+/// let copy = ty.clone()?;
+/// ```
 #[derive(Drop)]
-pub struct Declarations<A: Allocator> {
+pub struct Declarations<K, A: Allocator = Global> {
     held: Holder<A>,
     counts: Counts,
     /// What is being written counts as this.
     begun: Option<Sort>,
+    kind: PhantomData<K>,
 }
 
-impl<A: Allocator> Model for Declarations<A> {
+impl<K, A: Allocator> Model for Declarations<K, A> {
     ghost use Rattle.std.specs.Prelude.{◌≤◌};
     ghost use Rattle.wenc_types.specs.Declarations.{Declaring, OpenedIsIn, total};
 
@@ -117,24 +59,27 @@ impl<A: Allocator> Model for Declarations<A> {
         × OpenedIsIn t.held.opening t.begun t.counts };
 }
 
-impl<A: Allocator> Declarations<A> {
+impl<K, A: Allocator> Declarations<K, A> {
+    ghost use Rattle.wenc_types.specs.contracts.declarations.Declarations.{the_row};
+
+    /// No declarations. It takes no memory.
     pub fn new(alloc: A) -> Self
         ensures { result ≡ no_declarations }
     {
-        let counts = Counts {
-            core_types: 0,
-            types: 0,
-            instances: 0,
-        };
         Declarations {
             held: Holder::new(alloc),
-            counts,
+            counts: Counts::none(),
             begun: None,
+            kind: PhantomData,
         }
     }
 
     /// Adds a declaration with the text of this value, which counts as this.
-    pub fn add<E: Encode>(&mut self, declaration: &E, sort: Option<Sort>) -> Result<(), Fault>
+    pub(crate) fn add<E: Encode>(
+        &mut self,
+        declaration: &E,
+        sort: Option<Sort>,
+    ) -> Result<(), Fault>
         ensures added { AddsMember as_they_are self.old.held self.new.held result
             (E.cause declaration.now) (E.text declaration.now) }
         ensures counts { OnOk result (self.new.counts ≡ counted sort self.old.counts) }
@@ -148,7 +93,7 @@ impl<A: Allocator> Declarations<A> {
     }
 
     /// Begins a type, by the byte that says that it is one.
-    pub fn begin(&mut self, lead: u8, sort: Sort) -> Result<(), Fault>
+    fn begin(&mut self, lead: u8, sort: Sort) -> Result<(), Fault>
         requires { lead_of sort ≡ lead ∷ [] }
         ensures ok { OnOk result (self.new ≡ begun sort self.old) }
         ensures settled { OnOk result (Settled self.old) }
@@ -166,6 +111,35 @@ impl<A: Allocator> Declarations<A> {
         Ok(())
     }
 
+    /// Begins a core type, which is written by the encoder that is answered. It is refused where there would be too
+    /// many declarations (`TooMany`), or too many bytes in them (`TooLarge`).
+    pub fn core_type(&mut self) -> Result<ComponentCoreTypeEncoder<'_, Declarations<K, A>>, Fault>
+        ensures* refused { sem 𝓛 (RestsIfErr (the_row K.row A.row A.Allocator) self.entry
+            (λ e. e.lender.ghost_name) result (λ n. n ≡ self.old)) }
+        ensures same_reference { IfOk result (λ e. e.lender.ghost_name ≡ self.entry.ghost_name) }
+        ensures lent { Lends (λ e. e.lender.now) (begun sorts.CoreType self.old)
+            (is_finished self.old.held) result
+            (AddCause self.old.held (lead_of sorts.CoreType) (λ _. ⊥)) }
+        ensures settled { OnOk result (Settled self.old) }
+    {
+        self.begin(0x00, Sort::CoreType)?;
+        Ok(ComponentCoreTypeEncoder::new(self))
+    }
+
+    /// Begins a type, which is written by the encoder that is answered. It is refused as `core_type` is.
+    pub fn ty(&mut self) -> Result<ComponentTypeEncoder<'_, Declarations<K, A>>, Fault>
+        ensures* refused { sem 𝓛 (RestsIfErr (the_row K.row A.row A.Allocator) self.entry
+            (λ e. e.lender.ghost_name) result (λ n. n ≡ self.old)) }
+        ensures same_reference { IfOk result (λ e. e.lender.ghost_name ≡ self.entry.ghost_name) }
+        ensures lent { Lends (λ e. e.lender.now) (begun sorts.«Type» self.old)
+            (is_finished self.old.held) result
+            (AddCause self.old.held (lead_of sorts.«Type») (λ _. ⊥)) }
+        ensures settled { OnOk result (Settled self.old) }
+    {
+        self.begin(0x01, Sort::Type)?;
+        Ok(ComponentTypeEncoder::new(self))
+    }
+
     /// How many declarations there are, one that is being written among them.
     pub fn len(&self) -> u32
         ensures { result ≡ self.now.held.count }
@@ -173,13 +147,37 @@ impl<A: Allocator> Declarations<A> {
         self.held.len()
     }
 
-    /// How many of them are types and instances.
-    pub fn counts(&self) -> Counts
-        ensures { result ≡ self.now.counts }
+    /// Whether there are none.
+    pub fn is_empty(&self) -> bool
+        ensures { result ≡ (self.now.held.count == 0) }
     {
-        self.counts
+        self.len() == 0
     }
 
+    /// How many core types there are: those of `core_type`, one that is being written among them, and those of outer
+    /// aliases.
+    pub fn core_type_count(&self) -> u32
+        ensures { result ≡ self.now.counts.core_types }
+    {
+        self.counts.core_types
+    }
+
+    /// How many types there are: those of `ty`, one that is being written among them, and those of aliases, imports
+    /// and exports.
+    pub fn type_count(&self) -> u32
+        ensures { result ≡ self.now.counts.types }
+    {
+        self.counts.types
+    }
+
+    /// How many instances there are: those of aliases, imports and exports.
+    pub fn instance_count(&self) -> u32
+        ensures { result ≡ self.now.counts.instances }
+    {
+        self.counts.instances
+    }
+
+    /// Whether no type is being written.
     pub fn is_finished(&self) -> bool
         ensures finished { result ≡ is_finished self.now.held }
         ensures settled { is_finished self.now.held ≡ true → Settled self.now }
@@ -187,6 +185,8 @@ impl<A: Allocator> Declarations<A> {
         self.held.is_finished()
     }
 
+    /// Gives up the type that is being written, and says whether there was one: all is as it was before that type. It
+    /// takes no memory.
     pub fn discard_unfinished(&mut self) -> bool
         ensures given_up { GivesUp self.new (taken_back self.old) (is_finished self.old.held) result }
         ensures same { is_finished self.old.held ≡ true → self.new ≡ self.old }
@@ -197,6 +197,7 @@ impl<A: Allocator> Declarations<A> {
         was
     }
 
+    /// The same declarations once more. It is refused for want of memory alone.
     pub fn clone(&self) -> Result<Self, Fault>
     where
         A: Clone,
@@ -208,24 +209,25 @@ impl<A: Allocator> Declarations<A> {
             held,
             counts: self.counts,
             begun: self.begun,
+            kind: PhantomData,
         })
     }
 }
 
-/// How many declarations, then these. A finished one is refused for want of memory alone.
-impl<A: Allocator> Encode for Declarations<A> {
-    ghost text = { λ t. held_text t.held };
+/// A byte, then the number of declarations, then these. A finished one is refused for want of memory alone.
+impl<K: DeclaringKind, A: Allocator> Encode for Declarations<K, A> {
+    ghost text = { λ t. K.LEAD ∷ held_text t.held };
 
     ghost cause = { λ t. EncodeCause t.held };
 
     ghost unfinished = { λ t. is_finished t.held ≡ false };
 
     fn encode<B: Allocator>(&self, sink: &mut Vec<u8, B>) -> Result<(), Fault> {
-        self.held.encode(sink)
+        Tagged(K::LEAD, &self.held).encode(sink)
     }
 }
 
-impl<A: Allocator> Lender for Declarations<A> {
+impl<K, A: Allocator> Lender for Declarations<K, A> {
     ghost use Rattle.wenc_base.specs.Openings.{no_room, is_opened};
     ghost use Rattle.wenc_base.specs.laws.Holders.{opened_is_unfinished};
     ghost use Rattle.wenc_types.specs.Declarations.{written, ended};

@@ -8,7 +8,8 @@
 pub mod component_type;
 pub mod core_type;
 pub mod core_type_tree;
-mod declarations;
+pub mod counts;
+pub mod declarations;
 pub mod defined_type;
 pub mod func_type;
 pub mod instance_type;
@@ -18,6 +19,7 @@ pub mod ty;
 pub use component_type::ComponentType;
 pub use core_type::ComponentCoreTypeEncoder;
 pub use core_type_tree::{CoreTypeTree, ModuleDecl};
+pub use declarations::{Declarations, DeclaringKind};
 pub use defined_type::ComponentDefinedTypeEncoder;
 pub use func_type::{ComponentFuncTypeEncoder, FuncStage};
 pub use instance_type::InstanceType;

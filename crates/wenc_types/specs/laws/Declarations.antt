@@ -5,9 +5,9 @@ use Rattle.wenc_base.specs.laws.Causes.{SameCause}
 use Rattle.wenc_base.specs.laws.Holders.{adds_as, contains_opened, given_up_is_before, lengthened_twice}
 use Rattle.wenc_base.specs.declared.fault.Fault.{Fault}
 use Rattle.wenc_types.specs.Declarations.{no_counts, counted, uncounted, counts_of, Declaring, Settled, Declares, AddsDeclaration, lead_of, with_held, begun, written, ended, taken_back}
-use Rattle.wenc_types.specs.declared.declarations.Counts.{Counts}
-use Rattle.wenc_types.specs.declared.declarations.Sort.{Sort}
-use Rattle.wenc_types.specs.declared.declarations.Sort.TheVariants.{CoreType, «Type» as TypeSort, Instance}
+use Rattle.wenc_types.specs.declared.counts.Counts.{Counts}
+use Rattle.wenc_types.specs.declared.counts.Sort.{Sort}
+use Rattle.wenc_types.specs.declared.counts.Sort.TheVariants.{CoreType, «Type» as TypeSort, Instance}
 
 -- the order in which two are counted is the same
 counted_swapped : (a b : Option Sort) (n : Counts) → counted a (counted b n) ≡ counted b (counted a n)
@@ -26,6 +26,31 @@ counted_swapped (Some Instance) (Some Instance) n = refl
 pub counts_next : {D : Type 0} (sort : D → Option Sort) (ds : List D) (d : D) → counts_of sort (ds ++ d ∷ []) ≡ counted (sort d) (counts_of sort ds)
 counts_next sort [] d = refl
 counts_next sort (e ∷ ds) d = ap (counted (sort e)) (counts_next sort ds d) ∙ counted_swapped (sort e) (sort d) (counts_of sort ds)
+
+-- A declaration that its holder took, where it is counted.
+pub took : {D : Type 0} (text_of : D → List ℕ) (sort : D → Option Sort) (old new : Declaring) (outcome : Result (Unit {0}) Fault) (cause own : Fault → Type 0) (d : D)
+    → SameCause cause own → AddsMember as_they_are old.held new.held outcome cause (text_of d)
+    → OnOk outcome (new.counts ≡ counted (sort d) old.counts) → OnOk outcome (new.begun ≡ old.begun) → OnErr outcome (new ≡ old)
+    → AddsDeclaration text_of sort old new outcome own d
+took text_of sort old new (Ok u) cause own d alike a counts begun err =
+    let added : AddsMember text_of old.held new.held (Ok u) own d = adds_as text_of old.held new.held (Ok u) cause own d alike a in
+    record {
+      added = added;
+      counts = counts;
+      begun = begun;
+      declared = λ ds h. record {
+        contained = added.ok.contained ds h.contained;
+        counts = counts ∙ ap (counted (sort d)) h.counts ∙ sym (counts_next sort ds d);
+      };
+      err = tt;
+    }
+took text_of sort old new (Err f) cause own d alike a counts begun err = record {
+  added = adds_as text_of old.held new.held (Err f) cause own d alike a;
+  counts = tt;
+  begun = tt;
+  declared = tt;
+  err = err;
+}
 
 -- ---- a type that is written by an encoder
 

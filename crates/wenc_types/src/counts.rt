@@ -1,0 +1,99 @@
+//! What is counted of declarations: core types, types and instances.
+ghost use Rattle.std.specs.Prelude.{◌≡◌, ◌<◌};
+ghost use Rattle.wenc_parts.specs.Aliases.{alias_view};
+ghost use Rattle.wenc_types.specs.Declarations.{sort_of_kind, sort_of_alias, counted, uncounted, total, no_counts};
+
+use wenc_parts::{Alias, ComponentExportKind, ComponentOuterAliasKind};
+
+/// What a declaration counts as.
+#[derive(Clone, Copy)]
+pub enum Sort {
+    /// A core type.
+    CoreType,
+    /// A type.
+    Type,
+    /// An instance.
+    Instance,
+}
+
+/// What an item of this kind counts as.
+pub fn sort_of_kind(kind: ComponentExportKind) -> Option<Sort>
+    ensures { result ≡ sort_of_kind kind }
+{
+    match kind {
+        ComponentExportKind::Type => Some(Sort::Type),
+        ComponentExportKind::Instance => Some(Sort::Instance),
+        _ => None,
+    }
+}
+
+/// What an alias counts as.
+pub fn sort_of_alias(alias: &Alias<'_>) -> Option<Sort>
+    ensures { result ≡ sort_of_alias (alias_view alias.now) }
+{
+    match alias {
+        Alias::InstanceExport { kind, .. } => sort_of_kind(*kind),
+        Alias::Outer {
+            kind: ComponentOuterAliasKind::Type,
+            ..
+        } => Some(Sort::Type),
+        Alias::Outer {
+            kind: ComponentOuterAliasKind::CoreType,
+            ..
+        } => Some(Sort::CoreType),
+        _ => None,
+    }
+}
+
+/// How many declarations there are of each sort.
+#[derive(Clone, Copy)]
+pub struct Counts {
+    /// Core types.
+    pub core_types: u32,
+    /// Types.
+    pub types: u32,
+    /// Instances.
+    pub instances: u32,
+}
+
+impl Counts {
+    /// None.
+    pub fn none() -> Counts
+        ensures { result ≡ no_counts }
+    {
+        Counts {
+            core_types: 0,
+            types: 0,
+            instances: 0,
+        }
+    }
+
+    /// One more of this sort, where there are so many declarations.
+    pub fn counted(self, sort: Option<Sort>, declarations: u32) -> Counts
+        requires { total self < declarations }
+        ensures { result ≡ counted sort self }
+    {
+        let mut counts = self;
+        match sort {
+            Some(Sort::CoreType) => counts.core_types += 1,
+            Some(Sort::Type) => counts.types += 1,
+            Some(Sort::Instance) => counts.instances += 1,
+            None => {}
+        }
+        counts
+    }
+
+    /// One less of this sort.
+    pub fn uncounted(self, sort: Option<Sort>) -> Counts
+        ensures { result ≡ uncounted sort self }
+    {
+        let mut counts = self;
+        match sort {
+            Some(Sort::CoreType) => counts.core_types = counts.core_types.saturating_sub(1),
+            Some(Sort::Type) => counts.types = counts.types.saturating_sub(1),
+            Some(Sort::Instance) => counts.instances = counts.instances.saturating_sub(1),
+            None => {}
+        }
+        counts
+    }
+}
