@@ -25,4 +25,4 @@ pub use imports::ComponentImportSection;
 pub use instances::{ComponentInstanceSection, InstanceSection};
 pub use modules::ModuleSection;
 pub use start::ComponentStartSection;
-pub use types::CoreTypeSection;
+pub use types::{ComponentTypeSection, CoreTypeSection};

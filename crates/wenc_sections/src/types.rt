@@ -1,15 +1,21 @@
 ghost use Rattle.std.specs.Borrow.{sem, RestsIfErr};
-ghost use Rattle.std.specs.Prelude.{◌≡◌, [], IfOk, IfErr};
-ghost use Rattle.wenc_base.specs.Holder.{is_finished, AddCause};
+ghost use Rattle.std.specs.Prelude.{◌≡◌, ◌∷◌, [], false, IfOk, IfErr};
+ghost use Rattle.wenc_base.specs.Holder.{is_finished, as_they_are, held_text, AddCause, AddsMember, EncodeCause};
 ghost use Rattle.wenc_base.specs.Lender.{Lends};
 ghost use Rattle.wenc_base.specs.Openings.{opened_with, OpensMember};
+ghost use Rattle.wenc_base.specs.declared.fault.Fault.TheVariants.{Unfinished};
 ghost use Rattle.wenc_parts.specs.declared.component.ComponentSectionId.{ComponentSectionId};
+ghost use Rattle.wenc_types.specs.ComponentTypes.{ResourceType, type_text};
+ghost use Rattle.wenc_types.specs.declared.func_type.FuncStage.TheVariants as stages;
 
 use crate::counted::{Counted, CountedKind, LentKind};
 use std::alloc::{Allocator, Global};
-use wenc_base::Fault;
+use wenc_base::{Fault, Tagged, ValType};
 use wenc_parts::ComponentSectionId;
-use wenc_types::ComponentCoreTypeEncoder;
+use wenc_types::{
+    ComponentCoreTypeEncoder, ComponentDefinedTypeEncoder, ComponentFuncTypeEncoder, ComponentType,
+    ComponentTypeEncoder, InstanceType,
+};
 
 /// The kind of section that has core types.
 pub struct CoreTypes;
@@ -49,5 +55,106 @@ impl<A: Allocator> Counted<CoreTypes, A> {
     {
         self.items.open(&[])?;
         Ok(ComponentCoreTypeEncoder::new(self))
+    }
+}
+
+/// The kind of section that has types.
+pub struct ComponentTypes;
+
+impl CountedKind for ComponentTypes {
+    ghost ID = { ComponentSectionId.«Type» };
+
+    const ID: ComponentSectionId = ComponentSectionId::Type;
+}
+
+impl LentKind for ComponentTypes {}
+
+/// The section of types (component model, binary format, "Type Definitions").
+///
+/// ```
+/// let string = ComponentValType::Primitive(PrimitiveValType::String);
+/// let mut types = ComponentTypeSection::new(alloc);
+/// types.defined_type()?.record([("name", string)].into_iter())?;
+/// types.component(&component_type)?;
+/// component.section(&types)?;
+/// ```
+pub type ComponentTypeSection<A = Global> = Counted<ComponentTypes, A>;
+
+impl<A: Allocator> Counted<ComponentTypes, A> {
+    ghost use Rattle.wenc_sections.specs.contracts.counted.Counted.{the_row};
+    ghost use Rattle.wenc_sections.specs.contracts.types.ComponentTypes.{the_row as kind};
+
+    /// Begins a type, which is written by the encoder that is answered. It takes no memory, and is refused where there
+    /// would be too many types (`TooMany`), or too many bytes with those of their number (`TooLarge`), or where one is
+    /// being written (`Unfinished`).
+    pub fn ty(&mut self) -> Result<ComponentTypeEncoder<'_, ComponentTypeSection<A>>, Fault>
+        ensures* refused { sem 𝓛 (RestsIfErr (the_row kind A.row A.Allocator) self.entry
+            (λ e. e.lender.ghost_name) result (λ n. n ≡ self.old)) }
+        ensures same_reference { IfOk result (λ e. e.lender.ghost_name ≡ self.entry.ghost_name) }
+        ensures lent { Lends (λ e. e.lender.now) (opened_with self.old [])
+            (is_finished self.old) result (AddCause self.old [] (λ _. ⊥)) }
+        ensures no_memory { IfErr result (AddCause self.old [] (λ _. ⊥)) }
+    {
+        self.items.open(&[])?;
+        Ok(ComponentTypeEncoder::new(self))
+    }
+
+    /// Begins a type of functions. It is refused as `ty` is.
+    pub fn function(
+        &mut self,
+    ) -> Result<ComponentFuncTypeEncoder<'_, ComponentTypeSection<A>>, Fault>
+        ensures* refused { sem 𝓛 (RestsIfErr (the_row kind A.row A.Allocator) self.entry
+            (λ e. e.lender.ghost_name) result (λ n. n ≡ self.old)) }
+        ensures same_reference { IfOk result (λ e. e.lender.ghost_name ≡ self.entry.ghost_name) }
+        ensures lent { Lends (λ e. e.lender.now) (opened_with self.old [])
+            (is_finished self.old) result (AddCause self.old [] (λ _. ⊥)) }
+        ensures no_memory { IfErr result (AddCause self.old [] (λ _. ⊥)) }
+        ensures stage { IfOk result (λ e. e.stage ≡ stages.Start) }
+    {
+        self.items.open(&[])?;
+        Ok(ComponentFuncTypeEncoder::new(self))
+    }
+
+    /// Begins a type of values. It is refused as `ty` is.
+    pub fn defined_type(
+        &mut self,
+    ) -> Result<ComponentDefinedTypeEncoder<'_, ComponentTypeSection<A>>, Fault>
+        ensures* refused { sem 𝓛 (RestsIfErr (the_row kind A.row A.Allocator) self.entry
+            (λ e. e.lender.ghost_name) result (λ n. n ≡ self.old)) }
+        ensures same_reference { IfOk result (λ e. e.lender.ghost_name ≡ self.entry.ghost_name) }
+        ensures lent { Lends (λ e. e.lender.now) (opened_with self.old [])
+            (is_finished self.old) result (AddCause self.old [] (λ _. ⊥)) }
+        ensures no_memory { IfErr result (AddCause self.old [] (λ _. ⊥)) }
+    {
+        self.items.open(&[])?;
+        Ok(ComponentDefinedTypeEncoder::new(self))
+    }
+
+    /// Adds this component type. It is refused with `Unfinished` where either is unfinished, where there would be too
+    /// many types (`TooMany`), or too many bytes in the section (`TooLarge`).
+    pub fn component<B: Allocator>(&mut self, ty: &ComponentType<B>) -> Result<(), Fault>
+        ensures added { AddsMember as_they_are self.old self.new result
+            (EncodeCause ty.now.held) (0x41 ∷ held_text ty.now.held) }
+        ensures unfinished { is_finished ty.now.held ≡ false → result ≡ Err Unfinished }
+    {
+        self.items.add_encoded(ty)
+    }
+
+    /// Adds this instance type. It is refused as `component` is.
+    pub fn instance<B: Allocator>(&mut self, ty: &InstanceType<B>) -> Result<(), Fault>
+        ensures added { AddsMember as_they_are self.old self.new result
+            (EncodeCause ty.now.held) (0x42 ∷ held_text ty.now.held) }
+        ensures unfinished { is_finished ty.now.held ≡ false → result ≡ Err Unfinished }
+    {
+        self.items.add_encoded(ty)
+    }
+
+    /// Adds a resource type, by how a resource is represented, and the index of the core function that is called when
+    /// one is dropped, where there is such a function. It is refused where there would be too many types (`TooMany`),
+    /// or too many bytes in the section (`TooLarge`).
+    pub fn resource(&mut self, rep: ValType, dtor: Option<u32>) -> Result<(), Fault>
+        ensures { AddsMember type_text self.old self.new result (λ _. ⊥) (ResourceType rep dtor) }
+    {
+        self.items.add_encoded(&Tagged(0x3f, &(rep, dtor)))
     }
 }

@@ -1,5 +1,5 @@
 -- Types that components define (component model, binary format, "Type Definitions").
-use Rattle.std.specs.Prelude.{ℕ, suc, max, Option}
+use Rattle.std.specs.Prelude.{ℕ, suc, max, List, Option}
 use Rattle.wenc_base.specs.Piece.{Piece, nothing, ◌▸◌, ◌⨾◌}
 use Rattle.wenc_base.specs.Number.{u32}
 use Rattle.wenc_base.specs.Forms.{option}
@@ -76,6 +76,9 @@ abbrev mutual
   pub each_component : ComponentDeclarations → Piece
   each_component no_component = nothing
   each_component (and_component first others) = component_declaration first ⨾ each_component others
+
+abbrev pub type_text : TypeOf → List ℕ
+type_text t = (type_of t).text
 
 -- ---- how deep component and instance types nest: 1 in a section, and one more in a declaration
 
