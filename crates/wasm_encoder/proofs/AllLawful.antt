@@ -36,12 +36,15 @@ use Rattle.wasm_encoder.specs.Entry.{Named, named}
 nullable_readable : IsReadable nullable
 nullable_readable = (_, λ h. last (λ (r : RefType). r.heap_type) (reference_lawful (to true h)))
 
+-- what is read of a group in a component
 abbrev read_standing : Reader Group
 read_standing = choose (standing_rows (λ g. g)) nowhere
 
+-- groups in a component, as they stand there
 standing_lawful : (g : Group) → Lawful (standing true g) (λ fuel. read_standing) g
 standing_lawful g = standing_row (λ h. h) (λ fuel. []) _ g
 
+-- they have a reader
 standing_readable : IsReadable (standing true)
 standing_readable = (_, standing_lawful)
 
@@ -50,21 +53,27 @@ abbrev alone : Group → Sub
 alone (Single s) = s
 alone (Rec types) = final (Func [] [])
 
+-- a type with its guard is a group of one
 guarded_readable : IsReadable guarded
 guarded_readable = (_, λ s. last alone (standing_lawful (Single s)))
 
+-- a name and its place
 abbrev named_at : ℕ → List ℕ → Named
 named_at place name = record { place = place; name = name }
 
+-- the place, then the name
 abbrev read_named : Reader Named
 read_named = read_groups >>= λ place. read_name >>= λ name. give (named_at place name)
 
+-- members of a name map have a reader
 named_readable : IsReadable named
 named_readable = ((λ fuel. read_named), λ n. then _ (u32_lawful n.place) (last (named_at n.place) (name_lawful n.name)))
 
+-- the function, its arguments, how many results
 abbrev read_start_content : Reader Start
 read_start_content = read_groups >>= λ function. read_list read_groups >>= λ arguments. read_groups >>= λ results. give (started function arguments results)
 
+-- starts without their size have a reader
 start_content_readable : IsReadable start_content
 start_content_readable = (
   (λ fuel. read_start_content),
@@ -73,6 +82,7 @@ start_content_readable = (
 
 -- ---- the table
 
+-- each form has a reader, by the law of each of its values
 pub lawful_of : (f : FormName) → IsReadable (form_of f)
 lawful_of forms.Flags = (_, flag_lawful)
 lawful_of forms.Numbers = (_, u32_lawful)
@@ -152,5 +162,6 @@ lawful_of (forms.ListsOf member) = (_, list_lawful (lawful_of member).1)
 lawful_of (forms.OptionsOf member) = (_, option_lawful (lawful_of member).1)
 lawful_of (forms.PairsOf first second) = pair_readable (form_of first) (form_of second) (lawful_of first) (lawful_of second)
 
+-- so that all laws hold of it
 pub laws_of : (f : FormName) → FormLaws (form_of f)
 laws_of f = form_laws (lawful_of f).1

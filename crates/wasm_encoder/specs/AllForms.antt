@@ -57,7 +57,7 @@ pub data FormName : Type 0 where
   LongNumbers : FormName
   -- of 64 bits
   SignedNumbers : FormName
-  -- written as signed numbers
+  -- of types, written as signed numbers
   Indices : FormName
   Names : FormName
   -- core modules and nested components too
@@ -130,7 +130,7 @@ pub data FormName : Type 0 where
   -- its fields, by their kinds
   CanonicalFields : (kinds : List Field) → FormName
   CanonicalFunctions : FormName
-  -- a tool and its version
+  -- a tool and its version, in a field of a producers section
   VersionedTools : FormName
   -- what tools did, and the tools
   ProducersFields : FormName
@@ -158,7 +158,7 @@ pub data FormName : Type 0 where
   -- one after the other
   PairsOf : (first second : FormName) → FormName
 
--- the values that the form is of
+-- the type of a form's values
 abbrev pub value_of : FormName → Type 0
 value_of Flags = Bool
 value_of Numbers = ℕ

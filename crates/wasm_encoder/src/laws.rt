@@ -70,8 +70,8 @@ pub fn delimited()
 {}
 
 /// From the same bytes no form reads two values or two rests, be it strictly, widely, or one of each. The text of a
-/// value that can be encoded is read as that value, whatever follows, and it is all that is read strictly of that value.
-/// What is read strictly is read widely too.
+/// value that can be encoded is read as that value, whatever follows. What is read strictly is the text of a value that
+/// can be encoded, and it is read widely too.
 pub fn reads_once()
     ensures once { (f : FormName) (v w : value_of f) (mode other : Spelling) (bytes r s : List ℕ)
         → (form_of f v).Reads mode bytes r → (form_of f w).Reads other bytes s
