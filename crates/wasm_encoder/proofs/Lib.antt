@@ -9,3 +9,4 @@ pub mod Taken
 pub mod Entered
 pub mod Answered
 pub mod Run
+pub mod AllLawful

@@ -11,3 +11,4 @@ pub mod Ran
 pub mod Layout
 pub mod Spaces
 pub mod View
+pub mod AllForms

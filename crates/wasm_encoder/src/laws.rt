@@ -2,34 +2,24 @@
 //! one way only; that a section's text is that of what it contains. A call of these does nothing.
 ghost use Rattle.std.specs.Prelude.{◌≡◌, ◌+◌, ℕ, ℤ, ◌^◌, ◌<◌, ◌++◌, ◌∷◌, [], List, FitsSigned, true, Ok};
 ghost use Rattle.std.specs.Int.{w64};
-ghost use Rattle.wenc_base.specs.Composites.{storage_type, field_type, composite_type, sub_type, Group, group};
-ghost use Rattle.wenc_base.specs.Custom.{custom};
+ghost use Rattle.wenc_base.specs.Composites.{Group, group};
 ghost use Rattle.wenc_base.specs.Delimited.{NoCause};
-ghost use Rattle.wenc_base.specs.Entities.{table_type, memory_type, global_type, tag_type, entity_type};
-ghost use Rattle.wenc_base.specs.Exports.{export_kind as core_kind};
 ghost use Rattle.wenc_base.specs.FormLaws.{FormLaws};
-ghost use Rattle.wenc_base.specs.Forms.{flag, name, byte_list, counted};
+ghost use Rattle.wenc_base.specs.Forms.{name, counted};
 ghost use Rattle.wenc_base.specs.Holder.{Held, Contains, is_finished, as_they_are, held_text, section_text};
-ghost use Rattle.wenc_base.specs.Number.{unsigned_text, signed_text, IsUnsignedText, IsSignedText, index};
-ghost use Rattle.wenc_base.specs.Number.{u32 as number, u64 as long_number, i64 as signed_number};
+ghost use Rattle.wenc_base.specs.Number.{unsigned_text, signed_text, IsUnsignedText, IsSignedText};
+ghost use Rattle.wenc_base.specs.Number.{u32 as number};
 ghost use Rattle.wenc_base.specs.Openings.{opened_with, lengthened, closed, given_up};
-ghost use Rattle.wenc_base.specs.Producers.{producer, Producers, producers_field, field_text, producers_section, producers_text};
-ghost use Rattle.wenc_base.specs.Types.{abstract_type, heap_type, reference, val_type};
-ghost use Rattle.wenc_canon.specs.Canonicals.{Intrinsic, row, Values, Canonical, canonical_option, canonical, canonical_text, Adds};
-ghost use Rattle.wenc_parts.specs.Aliases.{AliasOf, outer_kind, alias, alias_text};
-ghost use Rattle.wenc_parts.specs.Exports.{export_kind};
-ghost use Rattle.wenc_parts.specs.Imports.{type_bounds, type_reference, extern_name};
-ghost use Rattle.wenc_parts.specs.Instances.{module_argument};
-ghost use Rattle.wenc_parts.specs.SectionIds.{section_id};
-ghost use Rattle.wenc_parts.specs.Types.{primitive, value_type, result_list};
+ghost use Rattle.wenc_base.specs.Piece.{Spelling, Strict, Wide};
+ghost use Rattle.wenc_base.specs.Producers.{Producers, field_text, producers_section, producers_text};
+ghost use Rattle.wenc_canon.specs.Canonicals.{Intrinsic, row, Values, Canonical, canonical, canonical_text, Adds};
+ghost use Rattle.wenc_parts.specs.Aliases.{AliasOf, alias, alias_text};
 ghost use Rattle.wenc_sections.specs.Exports.{Export, export_item, export_text};
 ghost use Rattle.wenc_sections.specs.Imports.{Import, import_item, import_text};
 ghost use Rattle.wenc_sections.specs.Instances.{CoreInstance, core_instance, core_instance_text, Instance, instance, instance_text};
-ghost use Rattle.wenc_sections.specs.Start.{start};
-ghost use Rattle.wenc_types.specs.ComponentTypes.{type_of, instance_declaration, component_declaration};
-ghost use Rattle.wenc_types.specs.CoreTypes.{ModuleDeclaration, Defined, module_declaration, module_type, CoreType, core_type, core_type_text};
-ghost use Rattle.wenc_types.specs.DefinedTypes.{defined_type, function_type};
+ghost use Rattle.wenc_types.specs.CoreTypes.{ModuleDeclaration, Defined, module_type, CoreType, core_type, core_type_text};
 ghost use Rattle.wenc_types.specs.ModuleTypes.{Declared, Declares, begun, written, ended, taken_back};
+ghost use Rattle.wasm_encoder.specs.AllForms.{FormName, value_of, form_of};
 
 use wenc_base::{Delimited, DelimitedEq};
 
@@ -71,75 +61,29 @@ pub fn values_are_lawful<T: Delimited>()
     ensures { FormLaws T.form }
 {}
 
-/// The same of each form that there is.
-pub fn forms_are_lawful()
-    ensures flags { FormLaws flag }
-    ensures numbers { FormLaws number }
-    ensures long_numbers { FormLaws long_number }
-    ensures signed_numbers { FormLaws signed_number }
-    ensures indices { FormLaws index }
-    ensures names { FormLaws name }
-    ensures byte_lists { FormLaws byte_list }
-    ensures core_kinds { FormLaws core_kind }
-    ensures abstract_heap_types { FormLaws abstract_type }
-    ensures heap_types { FormLaws heap_type }
-    ensures references { FormLaws reference }
-    ensures core_value_types { FormLaws val_type }
-    ensures storage_types { FormLaws storage_type }
-    ensures fields { FormLaws field_type }
-    ensures composite_types { FormLaws composite_type }
-    ensures sub_types { FormLaws sub_type }
-    ensures groups { FormLaws group }
-    ensures tables { FormLaws table_type }
-    ensures memories { FormLaws memory_type }
-    ensures globals { FormLaws global_type }
-    ensures tags { FormLaws tag_type }
-    ensures entities { FormLaws entity_type }
-
-    ensures section_ids { FormLaws section_id }
-    ensures primitive_types { FormLaws primitive }
-    ensures value_types { FormLaws value_type }
-    ensures result_lists { FormLaws result_list }
-    ensures export_kinds { FormLaws export_kind }
-    ensures type_bounds { FormLaws type_bounds }
-    ensures type_references { FormLaws type_reference }
-    ensures extern_names { FormLaws extern_name }
-    ensures module_arguments { FormLaws module_argument }
-    ensures outer_kinds { FormLaws outer_kind }
-
-    ensures module_declarations { FormLaws module_declaration }
-    ensures module_types { FormLaws module_type }
-    ensures core_types { FormLaws core_type }
-    ensures defined_types { FormLaws defined_type }
-    ensures function_types { FormLaws function_type }
-    ensures types { FormLaws type_of }
-    ensures instance_declarations { FormLaws instance_declaration }
-    ensures component_declarations { FormLaws component_declaration }
-
-    ensures aliases { FormLaws alias }
-    ensures imports { FormLaws import_item }
-    ensures exports { FormLaws export_item }
-    ensures core_instances { FormLaws core_instance }
-    ensures instances { FormLaws instance }
-    ensures canonical_options { FormLaws canonical_option }
-    ensures canonical_functions { FormLaws canonical }
+/// Where the texts of two values of one form that can be encoded, each followed by any bytes, are equal, the values are
+/// equal, and so are the bytes that follow. So it is for every form but the raw sections, each by its name.
+pub fn delimited()
+    ensures { (f : FormName) (a b : value_of f) (r s : List ℕ)
+        → (form_of f a).Fits → (form_of f b).Fits
+        → (form_of f a).text ++ r ≡ (form_of f b).text ++ s → (a ≡ b) × (r ≡ s) }
 {}
 
-/// The same of each section but the raw ones. Nested components and core modules are lists of bytes.
-pub fn sections_are_lawful()
-    ensures customs { FormLaws custom }
-    ensures producers { FormLaws producers_section }
-    ensures producers_of_a_field { FormLaws producer }
-    ensures producers_fields { FormLaws producers_field }
-    ensures starts { FormLaws start }
-    ensures core_types { FormLaws (counted core_type) }
-    ensures types { FormLaws (counted type_of) }
-    ensures aliases { FormLaws (counted alias) }
-    ensures imports { FormLaws (counted import_item) }
-    ensures exports { FormLaws (counted export_item) }
-    ensures core_instances { FormLaws (counted core_instance) }
-    ensures instances { FormLaws (counted instance) }
-    ensures canonical_functions { FormLaws (counted canonical) }
+/// From the same bytes no form reads two values or two rests, be it strictly, widely, or one of each. The text of a
+/// value that can be encoded is read as that value, whatever follows. What is read strictly is the text of a value that
+/// can be encoded, and it is read widely too.
+pub fn reads_once()
+    ensures once { (f : FormName) (v w : value_of f) (mode other : Spelling) (bytes r s : List ℕ)
+        → (form_of f v).Reads mode bytes r → (form_of f w).Reads other bytes s
+        → (v ≡ w) × (r ≡ s) }
+    ensures text_is_read { (f : FormName) (v : value_of f) (mode : Spelling) (rest : List ℕ)
+        → (form_of f v).Fits → (form_of f v).Reads mode ((form_of f v).text ++ rest) rest }
+    ensures strict_is_text { (f : FormName) (v : value_of f) (bytes rest : List ℕ)
+        → (form_of f v).Reads Strict bytes rest → bytes ≡ (form_of f v).text ++ rest }
+    ensures strict_fits { (f : FormName) (v : value_of f) (bytes rest : List ℕ)
+        → (form_of f v).Reads Strict bytes rest → (form_of f v).Fits }
+    ensures strict_is_wide { (f : FormName) (v : value_of f) (bytes rest : List ℕ)
+        → (form_of f v).Reads Strict bytes rest → (form_of f v).Reads Wide bytes rest }
 {}
 
 /// The text of a section that contains some items is their size, their number and the items. That of a module type with

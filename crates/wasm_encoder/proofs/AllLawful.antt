@@ -1,0 +1,167 @@
+-- Why every form is lawful: its values have a reader in common.
+use Rattle.std.proofs.Common.{ℕ, List, [], true}
+use Rattle.wenc_base.specs.Composites.{Sub, Single, Rec, Group, Func, final, guarded, standing}
+use Rattle.wenc_base.specs.Delimited.{IsReadable}
+use Rattle.wenc_base.specs.FormLaws.{FormLaws}
+use Rattle.wenc_base.specs.Types.{nullable}
+use Rattle.wenc_base.specs.declared.types.RefType.{RefType}
+use Rattle.wenc_base.specs.laws.Composites.{storage_type_lawful, field_type_lawful, composite_type_lawful, sub_type_lawful, group_lawful}
+use Rattle.wenc_base.specs.laws.Delimited.{pair_readable}
+use Rattle.wenc_base.specs.laws.Entities.{table_type_lawful, memory_type_lawful, global_type_lawful, tag_type_lawful, entity_type_lawful}
+use Rattle.wenc_base.specs.laws.Exports.{export_kind_lawful as core_kind_lawful}
+use Rattle.wenc_base.specs.laws.Forms.{flag_lawful, read_name, name_lawful, byte_list_lawful, read_list, list_lawful, option_lawful, counted_lawful}
+use Rattle.wenc_base.specs.laws.Lawful.{form_laws, Lawful, Reader, ◌>>=◌, give, nowhere, choose, then, last}
+use Rattle.wenc_base.specs.laws.Numbers.{read_groups, u32_lawful, u64_lawful, index_lawful, i64_lawful}
+use Rattle.wenc_base.specs.laws.Sections.{custom_lawful, producer_lawful, producers_field_lawful, producers_section_lawful}
+use Rattle.wenc_base.specs.laws.Types.{abstract_type_lawful, heap_type_lawful, to, reference_lawful, val_type_lawful}
+use Rattle.wenc_canon.specs.laws.Canonicals.{canonical_option_lawful, field_lawful, fields_lawful, canonical_lawful}
+use Rattle.wenc_parts.specs.laws.Aliases.{outer_kind_lawful, alias_lawful}
+use Rattle.wenc_parts.specs.laws.Exports.{export_kind_lawful}
+use Rattle.wenc_parts.specs.laws.Imports.{type_bounds_lawful, type_reference_lawful, name_option_lawful, extern_name_lawful}
+use Rattle.wenc_parts.specs.laws.Instances.{module_argument_lawful}
+use Rattle.wenc_parts.specs.laws.SectionIds.{section_lawful}
+use Rattle.wenc_parts.specs.laws.Types.{primitive_lawful, value_type_lawful, result_list_lawful}
+use Rattle.wenc_sections.specs.Start.{Start, started, start_content}
+use Rattle.wenc_sections.specs.laws.Items.{import_lawful, export_lawful, argument_lawful, core_export_lawful, core_instance_lawful, given_lawful, exported_lawful, instance_lawful, start_lawful}
+use Rattle.wenc_types.specs.laws.ComponentTypes.{type_lawful, instance_declaration_lawful, component_declaration_lawful}
+use Rattle.wenc_types.specs.laws.CoreTypes.{module_declaration_lawful, module_type_lawful, standing_rows, standing_row, core_type_lawful}
+use Rattle.wenc_types.specs.laws.DefinedTypes.{named_lawful as named_type_lawful, case_lawful, defined_type_lawful, function_type_lawful}
+use Rattle.wasm_encoder.specs.AllForms as forms
+use Rattle.wasm_encoder.specs.AllForms.{FormName, form_of}
+use Rattle.wasm_encoder.specs.Entry.{Named, named}
+
+-- ---- parts of other forms
+
+-- a nullable reference is a reference
+nullable_readable : IsReadable nullable
+nullable_readable = (_, λ h. last (λ (r : RefType). r.heap_type) (reference_lawful (to true h)))
+
+-- what is read of a group in a component
+abbrev read_standing : Reader Group
+read_standing = choose (standing_rows (λ g. g)) nowhere
+
+-- groups in a component, as they stand there
+standing_lawful : (g : Group) → Lawful (standing true g) (λ fuel. read_standing) g
+standing_lawful g = standing_row (λ h. h) (λ fuel. []) _ g
+
+-- they have a reader
+standing_readable : IsReadable (standing true)
+standing_readable = (_, standing_lawful)
+
+-- the type of a group of one; of another any
+abbrev alone : Group → Sub
+alone (Single s) = s
+alone (Rec types) = final (Func [] [])
+
+-- a type with its guard is a group of one
+guarded_readable : IsReadable guarded
+guarded_readable = (_, λ s. last alone (standing_lawful (Single s)))
+
+-- a name and its place
+abbrev named_at : ℕ → List ℕ → Named
+named_at place name = record { place = place; name = name }
+
+-- the place, then the name
+abbrev read_named : Reader Named
+read_named = read_groups >>= λ place. read_name >>= λ name. give (named_at place name)
+
+-- members of a name map have a reader
+named_readable : IsReadable named
+named_readable = ((λ fuel. read_named), λ n. then _ (u32_lawful n.place) (last (named_at n.place) (name_lawful n.name)))
+
+-- the function, its arguments, how many results
+abbrev read_start_content : Reader Start
+read_start_content = read_groups >>= λ function. read_list read_groups >>= λ arguments. read_groups >>= λ results. give (started function arguments results)
+
+-- starts without their size have a reader
+start_content_readable : IsReadable start_content
+start_content_readable = (
+  (λ fuel. read_start_content),
+  λ s. then _ (u32_lawful s.function) (then _ (list_lawful u32_lawful s.arguments) (last (started s.function s.arguments) (u32_lawful s.results))),
+)
+
+-- ---- the table
+
+-- each form has a reader, by the law of each of its values
+pub lawful_of : (f : FormName) → IsReadable (form_of f)
+lawful_of forms.Flags = (_, flag_lawful)
+lawful_of forms.Numbers = (_, u32_lawful)
+lawful_of forms.LongNumbers = (_, u64_lawful)
+lawful_of forms.SignedNumbers = (_, i64_lawful)
+lawful_of forms.Indices = (_, index_lawful)
+lawful_of forms.Names = (_, name_lawful)
+lawful_of forms.ByteLists = (_, byte_list_lawful)
+lawful_of forms.CoreKinds = (_, core_kind_lawful)
+lawful_of forms.AbstractHeapTypes = (_, abstract_type_lawful)
+lawful_of forms.HeapTypes = (_, heap_type_lawful)
+lawful_of forms.NullableReferences = nullable_readable
+lawful_of forms.References = (_, reference_lawful)
+lawful_of forms.CoreValueTypes = (_, val_type_lawful)
+lawful_of forms.StorageTypes = (_, storage_type_lawful)
+lawful_of forms.FieldTypes = (_, field_type_lawful)
+lawful_of forms.CompositeTypes = (_, composite_type_lawful)
+lawful_of forms.SubTypes = (_, sub_type_lawful)
+lawful_of forms.Groups = (_, group_lawful)
+lawful_of forms.TableTypes = (_, table_type_lawful)
+lawful_of forms.MemoryTypes = (_, memory_type_lawful)
+lawful_of forms.GlobalTypes = (_, global_type_lawful)
+lawful_of forms.TagTypes = (_, tag_type_lawful)
+lawful_of forms.EntityTypes = (_, entity_type_lawful)
+lawful_of forms.SectionIds = (_, section_lawful)
+lawful_of forms.PrimitiveTypes = (_, primitive_lawful)
+lawful_of forms.ValueTypes = (_, value_type_lawful)
+lawful_of forms.ResultLists = (_, result_list_lawful)
+lawful_of forms.ExportKinds = (_, export_kind_lawful)
+lawful_of forms.Bounds = (_, type_bounds_lawful)
+lawful_of forms.TypeReferences = (_, type_reference_lawful)
+lawful_of forms.NameOptions = (_, name_option_lawful)
+lawful_of forms.ExternNames = (_, extern_name_lawful)
+lawful_of forms.ModuleArguments = (_, module_argument_lawful)
+lawful_of forms.OuterKinds = (_, outer_kind_lawful)
+lawful_of forms.GuardedSubTypes = guarded_readable
+lawful_of forms.GroupsInComponents = standing_readable
+lawful_of forms.ModuleDeclarations = (_, module_declaration_lawful)
+lawful_of forms.ModuleTypes = (_, module_type_lawful)
+lawful_of forms.CoreTypes = (_, core_type_lawful)
+lawful_of forms.NamedTypes = (_, named_type_lawful)
+lawful_of forms.Cases = (_, case_lawful)
+lawful_of forms.DefinedTypes = (_, defined_type_lawful)
+lawful_of forms.FunctionTypes = (_, function_type_lawful)
+lawful_of forms.Types = (_, type_lawful)
+lawful_of forms.InstanceDeclarations = (_, instance_declaration_lawful)
+lawful_of forms.ComponentDeclarations = (_, component_declaration_lawful)
+lawful_of forms.Aliases = (_, alias_lawful)
+lawful_of forms.Imports = (_, import_lawful)
+lawful_of forms.Exports = (_, export_lawful)
+lawful_of forms.Arguments = (_, argument_lawful)
+lawful_of forms.CoreExports = (_, core_export_lawful)
+lawful_of forms.CoreInstances = (_, core_instance_lawful)
+lawful_of forms.ComponentArguments = (_, given_lawful)
+lawful_of forms.InstanceExports = (_, exported_lawful)
+lawful_of forms.Instances = (_, instance_lawful)
+lawful_of forms.CanonicalOptions = (_, canonical_option_lawful)
+lawful_of (forms.CanonicalField kind) = (_, field_lawful kind)
+lawful_of (forms.CanonicalFields kinds) = (_, fields_lawful kinds)
+lawful_of forms.CanonicalFunctions = (_, canonical_lawful)
+lawful_of forms.VersionedTools = (_, producer_lawful)
+lawful_of forms.ProducersFields = (_, producers_field_lawful)
+lawful_of forms.NamedPlaces = named_readable
+lawful_of forms.CustomSections = (_, custom_lawful)
+lawful_of forms.ProducersSections = (_, producers_section_lawful)
+lawful_of forms.StartContents = start_content_readable
+lawful_of forms.StartSections = (_, start_lawful)
+lawful_of forms.CoreTypeSections = (_, counted_lawful core_type_lawful)
+lawful_of forms.TypeSections = (_, counted_lawful type_lawful)
+lawful_of forms.AliasSections = (_, counted_lawful alias_lawful)
+lawful_of forms.ImportSections = (_, counted_lawful import_lawful)
+lawful_of forms.ExportSections = (_, counted_lawful export_lawful)
+lawful_of forms.CoreInstanceSections = (_, counted_lawful core_instance_lawful)
+lawful_of forms.InstanceSections = (_, counted_lawful instance_lawful)
+lawful_of forms.CanonicalSections = (_, counted_lawful canonical_lawful)
+lawful_of (forms.ListsOf member) = (_, list_lawful (lawful_of member).1)
+lawful_of (forms.OptionsOf member) = (_, option_lawful (lawful_of member).1)
+lawful_of (forms.PairsOf first second) = pair_readable (form_of first) (form_of second) (lawful_of first) (lawful_of second)
+
+-- so that all laws hold of it
+pub laws_of : (f : FormName) → FormLaws (form_of f)
+laws_of f = form_laws (lawful_of f).1
