@@ -3,4 +3,5 @@ pub mod DefinedTypes
 pub mod ComponentTypes
 pub mod ModuleTypes
 pub mod CoreTypeTrees
+pub mod TypeTrees
 pub mod laws

@@ -3,3 +3,4 @@ pub mod ModuleTypes
 pub mod CoreTypes
 pub mod DefinedTypes
 pub mod ComponentTypes
+pub mod TypeTrees

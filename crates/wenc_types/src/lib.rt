@@ -7,8 +7,12 @@
 
 pub mod core_type;
 pub mod core_type_tree;
+pub mod defined_tree;
 pub mod module_type;
+pub mod type_tree;
 
 pub use core_type::ComponentCoreTypeEncoder;
 pub use core_type_tree::{CoreTypeTree, ModuleDecl};
+pub use defined_tree::{CaseTree, DefinedTree};
 pub use module_type::ModuleType;
+pub use type_tree::{ComponentDecl, InstanceDecl, TypeTree};
