@@ -1,7 +1,12 @@
-ghost use Rattle.std.specs.Prelude.{◌∷◌, refl};
+ghost use Rattle.std.specs.Prelude.{◌∷◌, map, refl};
+ghost use Rattle.wenc_base.specs.Delimited.{NoCause, FreeFits};
 ghost use Rattle.wenc_base.specs.Encode.{Appends};
 ghost use Rattle.wenc_base.specs.Fault.{list_cause};
-ghost use Rattle.wenc_base.specs.Forms.{list_text};
+ghost use Rattle.wenc_base.specs.Forms.{list_text, list};
+ghost use Rattle.wenc_base.specs.Piece.{◌⨾◌};
+ghost use Rattle.wenc_parts.specs.Imports.{extern_name, extern_name_cause, name_tree_view, type_reference};
+ghost use Rattle.wenc_types.specs.DefinedTypes.{function_type, function_cause};
+ghost use Rattle.wenc_types.specs.TypeTrees.{function_view};
 
 use crate::core_type_tree::CoreTypeTree;
 use crate::defined_tree::DefinedTree;
@@ -141,6 +146,99 @@ impl<A: Allocator> Encode for ComponentDecl<A> {
     }
 }
 
+impl<A: Allocator> Delimited for TypeTree<A> {
+    ghost use Rattle.wenc_types.specs.ComponentTypes.{TypeOf, type_of};
+    ghost use Rattle.wenc_types.specs.TypeTrees.{type_view};
+    ghost use Rattle.wenc_types.specs.laws.ComponentTypes.{read_type, type_lawful};
+    ghost use Rattle.wenc_types.specs.laws.TypeTrees.{type_free};
+
+    ghost Seen = { TypeOf };
+
+    ghost seen = { type_view };
+
+    ghost form = { type_of };
+
+    #[cycle(belongs)]
+    fn belongs(&self) {
+        match self {
+            TypeTree::Defined(ty) => ty.belongs(),
+            TypeTree::Func {
+                is_async,
+                params,
+                result,
+            } => function_belongs(*is_async, params, *result),
+            TypeTree::Component(decls) => members_belong(decls),
+            TypeTree::Instance(decls) => members_belong(decls),
+            TypeTree::Resource { rep, dtor } => {
+                rep.belongs();
+                dtor.belongs();
+            }
+        }
+    }
+
+    ghost readable = { (read_type, type_lawful) };
+
+    ghost text_of = { λ x. refl };
+
+    ghost free = { λ x. type_free (type_view x) };
+}
+
+impl<A: Allocator> Delimited for InstanceDecl<A> {
+    ghost use Rattle.wenc_types.specs.ComponentTypes.{InstanceDeclaration, instance_declaration};
+    ghost use Rattle.wenc_types.specs.TypeTrees.{instance_declaration_view};
+    ghost use Rattle.wenc_types.specs.laws.ComponentTypes.{read_type, read_instance_declaration, instance_declaration_lawful};
+    ghost use Rattle.wenc_types.specs.laws.TypeTrees.{instance_declaration_free};
+
+    ghost Seen = { InstanceDeclaration };
+
+    ghost seen = { instance_declaration_view };
+
+    ghost form = { instance_declaration };
+
+    #[cycle(belongs)]
+    fn belongs(&self) {
+        match self {
+            InstanceDecl::CoreType(ty) => ty.belongs(),
+            InstanceDecl::Type(ty) => ty.belongs(),
+            InstanceDecl::Alias(alias) => alias.as_alias().belongs(),
+            InstanceDecl::Export { name, ty } => extern_belongs(name, *ty),
+        }
+    }
+
+    ghost readable = { ((λ fuel. read_instance_declaration (read_type fuel)), instance_declaration_lawful) };
+
+    ghost text_of = { λ x. refl };
+
+    ghost free = { λ x. instance_declaration_free (instance_declaration_view x) };
+}
+
+impl<A: Allocator> Delimited for ComponentDecl<A> {
+    ghost use Rattle.wenc_types.specs.ComponentTypes.{ComponentDeclaration, component_declaration};
+    ghost use Rattle.wenc_types.specs.TypeTrees.{component_declaration_view};
+    ghost use Rattle.wenc_types.specs.laws.ComponentTypes.{read_type, read_component_declaration, component_declaration_lawful};
+    ghost use Rattle.wenc_types.specs.laws.TypeTrees.{component_declaration_free};
+
+    ghost Seen = { ComponentDeclaration };
+
+    ghost seen = { component_declaration_view };
+
+    ghost form = { component_declaration };
+
+    #[cycle(belongs)]
+    fn belongs(&self) {
+        match self {
+            ComponentDecl::Import { name, ty } => extern_belongs(name, *ty),
+            ComponentDecl::Decl(decl) => decl.belongs(),
+        }
+    }
+
+    ghost readable = { ((λ fuel. read_component_declaration (read_type fuel)), component_declaration_lawful) };
+
+    ghost text_of = { λ x. refl };
+
+    ghost free = { λ x. component_declaration_free (component_declaration_view x) };
+}
+
 /// A byte, then a value.
 fn encode_tagged<T: Encode, A: Allocator>(
     tag: u8,
@@ -172,8 +270,6 @@ fn encode_function<A: Allocator, B: Allocator>(
     answer: Option<ComponentValType>,
     sink: &mut Vec<u8, B>,
 ) -> Result<(), Fault>
-    ghost use Rattle.wenc_types.specs.DefinedTypes.{function_type, function_cause};
-    ghost use Rattle.wenc_types.specs.TypeTrees.{function_view};
     ensures { Appends (function_type (function_view is_async params.now.items answer)).text
         (function_cause (function_view is_async params.now.items answer)) ⊥
         sink.old.items sink.new.items result }
@@ -189,10 +285,37 @@ fn encode_extern<A: Allocator, B: Allocator>(
     ty: ComponentTypeRef,
     sink: &mut Vec<u8, B>,
 ) -> Result<(), Fault>
-    ghost use Rattle.wenc_parts.specs.Imports.{extern_name, extern_name_cause, name_tree_view, type_reference};
-    ghost use Rattle.wenc_base.specs.Piece.{◌⨾◌};
     ensures { Appends (tag ∷ (extern_name (name_tree_view name.now) ⨾ type_reference ty).text)
         (extern_name_cause (name_tree_view name.now)) ⊥ sink.old.items sink.new.items result }
 {
     Tagged(tag, &(name.as_name(), ty)).encode(sink)
+}
+
+/// Values that nothing keeps from being encoded have a text in the form of a list. The call does nothing.
+fn members_belong<T: Delimited, A: Allocator>(values: &Vec<T, A>)
+    ensures { FreeFits (list_cause T.cause) (map T.seen) (list T.form) values.now.items }
+{
+    values.as_slice().belongs();
+}
+
+/// The type of a function that nothing keeps from being encoded has a text in its form. The call does nothing.
+fn function_belongs<A: Allocator>(
+    is_async: bool,
+    params: &Vec<(String<A>, ComponentValType), A>,
+    answer: Option<ComponentValType>,
+)
+    ensures { NoCause (function_cause (function_view is_async params.now.items answer))
+        → (function_type (function_view is_async params.now.items answer)).Fits }
+{
+    params.as_slice().belongs();
+    ResultList(answer).belongs();
+}
+
+/// A name and a type that nothing keeps from being encoded have a text in their form. The call does nothing.
+fn extern_belongs<A: Allocator>(name: &NameTree<A>, ty: ComponentTypeRef)
+    ensures { NoCause (extern_name_cause (name_tree_view name.now))
+        → (extern_name (name_tree_view name.now) ⨾ type_reference ty).Fits }
+{
+    name.as_name().belongs();
+    ty.belongs();
 }

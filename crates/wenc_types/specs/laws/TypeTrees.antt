@@ -1,8 +1,8 @@
 -- What follows for types that components define, with all that is in them.
-use Rattle.std.proofs.Common.{String, ◌≡◌, ℕ, Bool, true, false, List, [], ◌∷◌, ◌++◌, Option, Result, Vec, map, inl, inr, refl, sym, ap, subst}
+use Rattle.std.proofs.Common.{String, ◌≡◌, ℕ, suc, Bool, true, false, List, [], ◌∷◌, ◌++◌, Option, Result, Vec, length, map, inl, inr, refl, sym, ap, subst, rules}
 use Rattle.std.proofs.lemmas.List.{length-map, map-id}
 use Rattle.std.specs.Cmp.Lexicographic.{pointwise}
-use Rattle.std.specs.List.{AllByRecursion}
+use Rattle.std.specs.List.{flat_map, AllByRecursion}
 use Rattle.std.specs.String.{string_bytes}
 use Rattle.wenc_base.specs.Delimited.{NoCause, IsTextOf, FreeFits, pair}
 use Rattle.wenc_base.specs.Encode.{Appends}
@@ -11,15 +11,31 @@ use Rattle.wenc_base.specs.Forms.{list, list_text, name as name_form}
 use Rattle.wenc_base.specs.Piece.{Form, ◌▸◌}
 use Rattle.wenc_base.specs.declared.fault.Fault.{Fault}
 use Rattle.wenc_base.specs.laws.Causes.{SameCause, never, alone, appends_as}
-use Rattle.wenc_base.specs.laws.Delimited.{name_free, list_text_of, list_free}
-use Rattle.wenc_parts.specs.Types.{value_type}
+use Rattle.wenc_base.specs.laws.Delimited.{name_free, pair_cause_free, count_free, list_text_of, list_free}
+use Rattle.wenc_parts.specs.Aliases.{alias_tree_view}
+use Rattle.wenc_parts.specs.Imports.{name_tree_view}
+use Rattle.wenc_parts.specs.Types.{value_type, result_list}
+use Rattle.wenc_parts.specs.declared.aliases.AliasTree.{AliasTree}
+use Rattle.wenc_parts.specs.declared.imports.ComponentTypeRef.{ComponentTypeRef}
+use Rattle.wenc_parts.specs.declared.imports.NameTree.{NameTree}
 use Rattle.wenc_parts.specs.declared.types.ComponentValType.{ComponentValType}
-use Rattle.wenc_types.specs.DefinedTypes.{Named, named, Case, case, Defined, Primitive, Record, Variant, ListOf, MapOf, FixedLengthList, Tuple, Flags, Enumeration, OptionOf, ResultOf, Own, Borrow, Future, Stream, defined_type, named_cause, case_cause, defined_cause}
-use Rattle.wenc_types.specs.TypeTrees.{named_view, case_view, defined_view}
+use Rattle.wenc_parts.specs.laws.Aliases.{alias_free}
+use Rattle.wenc_parts.specs.laws.Imports.{extern_name_free}
+use Rattle.wenc_types.specs.ComponentTypes.{TypeOf, DefinedType, FunctionType, ComponentType, InstanceType, ResourceType, InstanceDeclaration, CoreTyped, Typed, Aliased, Exported, ComponentDeclaration, Imported, Declared, InstanceDeclarations, no_instance, and_instance, ComponentDeclarations, no_component, and_component, instance_count, component_count, type_of, instance_declaration, component_declaration, each_instance, each_component}
+use Rattle.wenc_types.specs.CoreTypeTrees.{core_type_view}
+use Rattle.wenc_types.specs.DefinedTypes.{Named, named, Case, case, Defined, Primitive, Record, Variant, ListOf, MapOf, FixedLengthList, Tuple, Flags, Enumeration, OptionOf, ResultOf, Own, Borrow, Future, Stream, defined_type, named_cause, case_cause, defined_cause, Function, function_type_of, function_type, function_cause}
+use Rattle.wenc_types.specs.TypeTrees.{type_cause, instance_declaration_cause, component_declaration_cause, each_instance_cause, each_component_cause, named_view, case_view, defined_view, function_view, instances_of, components_of, type_view, instance_declaration_view, component_declaration_view}
+use Rattle.wenc_types.specs.declared.core_type_tree.CoreTypeTree.{CoreTypeTree}
 use Rattle.wenc_types.specs.declared.defined_tree.CaseTree.{CaseTree}
 use Rattle.wenc_types.specs.declared.defined_tree.DefinedTree.{DefinedTree}
 use Rattle.wenc_types.specs.declared.defined_tree.DefinedTree.TheVariants as trees
-use Rattle.wenc_types.specs.laws.CoreTypes.{SeesAlike, each_sees}
+use Rattle.wenc_types.specs.declared.type_tree.ComponentDecl.{ComponentDecl}
+use Rattle.wenc_types.specs.declared.type_tree.ComponentDecl.TheVariants as components
+use Rattle.wenc_types.specs.declared.type_tree.InstanceDecl.{InstanceDecl}
+use Rattle.wenc_types.specs.declared.type_tree.InstanceDecl.TheVariants as instances
+use Rattle.wenc_types.specs.declared.type_tree.TypeTree.{TypeTree, the_lemmas}
+use Rattle.wenc_types.specs.declared.type_tree.TypeTree.TheVariants as types
+use Rattle.wenc_types.specs.laws.CoreTypes.{core_type_free, SeesAlike, each_sees}
 
 -- ---- lists, by what is seen of their values
 
@@ -208,3 +224,167 @@ defined_sees {A} eq records variants tuples flags enums a b e = of a (subst (λ 
     of (trees.Borrow number) h = rw h refl
     of (trees.Future ty) h = rw h refl
     of (trees.Stream ty) h = rw h refl
+
+-- ---- types of functions
+
+abbrev async_byte : Bool → ℕ
+async_byte false = 0x40
+async_byte true = 0x43
+
+-- what appends the type of a function, by its view
+pub function_appends : {A : Type 0} (is_async : Bool) (tag : ℕ) (params : List (String A × ComponentValType)) (answer : Option ComponentValType) (old new : List ℕ) (outcome : Result (Unit {0}) Fault)
+    → tag ≡ async_byte is_async → Appends (tag ∷ list_text field_text params ++ (result_list answer).text) (first_of (list_cause field_cause params) never) ⊥ old new outcome
+    → Appends (function_type (function_view is_async params answer)).text (function_cause (function_view is_async params answer)) ⊥ old new outcome
+function_appends {A} is_async tag params answer old new outcome e a = rw (text is_async, ← e, ← list_text_of field_text named_view named (λ f. refl) params)
+    (appends_as _ (list_cause field_cause params) _ ⊥ old new outcome (list_as field_cause named_view named_cause fields_cause params)
+    (appends_as _ _ (list_cause field_cause params) ⊥ old new outcome (alone (list_cause field_cause params) never (λ fault k. k)) a))
+  where
+    text : (is_async : Bool) → (function_type_of is_async (map named_view params) answer).text ≡ async_byte is_async ∷ (list named (map named_view params)).text ++ (result_list answer).text
+    text false = refl
+    text true = refl
+
+pub function_fits : {A : Type 0} (is_async : Bool) (params : List (String A × ComponentValType)) (answer : Option ComponentValType)
+    → FreeFits (list_cause field_cause) (map (λ f. (string_bytes f.0, f.1))) (list (pair name_form value_type)) params → (result_list answer).Fits
+    → NoCause (function_cause (function_view is_async params answer)) → (function_type (function_view is_async params answer)).Fits
+function_fits false params answer one two none = (fields_fit params one none, two)
+function_fits true params answer one two none = (fields_fit params one none, two)
+
+pub function_free : (f : Function) → (function_type f).Fits → NoCause (function_cause f)
+function_free f h = list_free named_cause (λ g. g) named named_free f.params (rw (map-id f.params) (params f.is_async h))
+  where
+    params : (is_async : Bool) → (function_type_of is_async f.params f.answer).Fits → (list named f.params).Fits
+    params false k = k.0
+    params true k = k.0
+
+-- ---- what the code's trees are seen as, level by level
+
+pub view_defined : {A : Type 0} (ty : DefinedTree A) → type_view (types.Defined ty) ≡ DefinedType (defined_view ty)
+view_defined ty = search (rules, the_lemmas)
+
+pub view_function : {A : Type 0} (is_async : Bool) (params : Vec (String A × ComponentValType) A) (answer : Option ComponentValType)
+    → type_view (types.Func is_async params answer) ≡ FunctionType (function_view is_async params.items answer)
+view_function is_async params answer = search (rules, the_lemmas)
+
+pub view_component : {A : Type 0} (ds : Vec (ComponentDecl A) A) → type_view (types.Component ds) ≡ ComponentType (components_of (map component_declaration_view ds.items))
+view_component ds = search (rules, the_lemmas)
+
+pub view_instance : {A : Type 0} (ds : Vec (InstanceDecl A) A) → type_view (types.Instance ds) ≡ InstanceType (instances_of (map instance_declaration_view ds.items))
+view_instance ds = search (rules, the_lemmas)
+
+pub view_core : {A : Type 0} (ty : CoreTypeTree A) → instance_declaration_view (instances.CoreType ty) ≡ CoreTyped (core_type_view ty)
+view_core ty = search (rules, the_lemmas)
+
+pub view_type : {A : Type 0} (ty : TypeTree A) → instance_declaration_view (instances.«Type» ty) ≡ Typed (type_view ty)
+view_type ty = search (rules, the_lemmas)
+
+pub view_alias : {A : Type 0} (a : AliasTree A) → instance_declaration_view (instances.Alias a) ≡ Aliased (alias_tree_view a)
+view_alias a = search (rules, the_lemmas)
+
+pub view_exported : {A : Type 0} (name : NameTree A) (ty : ComponentTypeRef) → instance_declaration_view (instances.Export name ty) ≡ Exported (name_tree_view name) ty
+view_exported name ty = search (rules, the_lemmas)
+
+pub view_imported : {A : Type 0} (name : NameTree A) (ty : ComponentTypeRef) → component_declaration_view (components.Import name ty) ≡ Imported (name_tree_view name) ty
+view_imported name ty = search (rules, the_lemmas)
+
+pub view_declared : {A : Type 0} (d : InstanceDecl A) → component_declaration_view (components.Decl d) ≡ Declared (instance_declaration_view d)
+view_declared d = search (rules, the_lemmas)
+
+-- ---- several declarations: their number, texts and causes
+
+abbrev pub instance_text_of : {A : Type 0} → InstanceDecl A → List ℕ
+instance_text_of d = (instance_declaration (instance_declaration_view d)).text
+
+abbrev pub component_text_of : {A : Type 0} → ComponentDecl A → List ℕ
+component_text_of d = (component_declaration (component_declaration_view d)).text
+
+abbrev pub instance_cause_of : {A : Type 0} → InstanceDecl A → Fault → Type 0
+instance_cause_of d = instance_declaration_cause (instance_declaration_view d)
+
+abbrev pub component_cause_of : {A : Type 0} → ComponentDecl A → Fault → Type 0
+component_cause_of d = component_declaration_cause (component_declaration_view d)
+
+instances_counted : {A : Type 0} (ds : List (InstanceDecl A)) → instance_count (instances_of (map instance_declaration_view ds)) ≡ length ds
+instances_counted [] = refl
+instances_counted (d ∷ ds) = ap suc (instances_counted ds)
+
+components_counted : {A : Type 0} (ds : List (ComponentDecl A)) → component_count (components_of (map component_declaration_view ds)) ≡ length ds
+components_counted [] = refl
+components_counted (d ∷ ds) = ap suc (components_counted ds)
+
+instance_texts : {A : Type 0} (ds : List (InstanceDecl A)) → (each_instance (instances_of (map instance_declaration_view ds))).text ≡ flat_map instance_text_of ds
+instance_texts [] = refl
+instance_texts (d ∷ ds) = ap (λ (t : List ℕ). instance_text_of d ++ t) (instance_texts ds)
+
+component_texts : {A : Type 0} (ds : List (ComponentDecl A)) → (each_component (components_of (map component_declaration_view ds))).text ≡ flat_map component_text_of ds
+component_texts [] = refl
+component_texts (d ∷ ds) = ap (λ (t : List ℕ). component_text_of d ++ t) (component_texts ds)
+
+instance_causes : {A : Type 0} (ds : List (InstanceDecl A)) → each_instance_cause (instances_of (map instance_declaration_view ds)) ≡ member_cause instance_cause_of ds
+instance_causes [] = refl
+instance_causes (d ∷ ds) = ap (first_of (instance_cause_of d)) (instance_causes ds)
+
+component_causes : {A : Type 0} (ds : List (ComponentDecl A)) → each_component_cause (components_of (map component_declaration_view ds)) ≡ member_cause component_cause_of ds
+component_causes [] = refl
+component_causes (d ∷ ds) = ap (first_of (component_cause_of d)) (component_causes ds)
+
+pub instance_text : {A : Type 0} (ds : Vec (InstanceDecl A) A) → (type_of (type_view (types.Instance ds))).text ≡ 0x42 ∷ list_text instance_text_of ds.items
+instance_text ds = rw (view_instance ds, instances_counted ds.items, instance_texts ds.items) refl
+
+pub component_text : {A : Type 0} (ds : Vec (ComponentDecl A) A) → (type_of (type_view (types.Component ds))).text ≡ 0x41 ∷ list_text component_text_of ds.items
+component_text ds = rw (view_component ds, components_counted ds.items, component_texts ds.items) refl
+
+pub instance_cause : {A : Type 0} (ds : Vec (InstanceDecl A) A) → type_cause (type_view (types.Instance ds)) ≡ list_cause instance_cause_of ds.items
+instance_cause ds = rw (view_instance ds, instances_counted ds.items, instance_causes ds.items) refl
+
+pub component_cause : {A : Type 0} (ds : Vec (ComponentDecl A) A) → type_cause (type_view (types.Component ds)) ≡ list_cause component_cause_of ds.items
+component_cause ds = rw (view_component ds, components_counted ds.items, component_causes ds.items) refl
+
+-- ---- types that can be encoded
+
+each_instance_fits : {A : Type 0} (ds : List (InstanceDecl A)) → AllByRecursion (λ d. (instance_declaration d).Fits) (map instance_declaration_view ds)
+    → (each_instance (instances_of (map instance_declaration_view ds))).Fits
+each_instance_fits [] h = tt
+each_instance_fits (d ∷ ds) h = (h.0, each_instance_fits ds h.1)
+
+each_component_fits : {A : Type 0} (ds : List (ComponentDecl A)) → AllByRecursion (λ d. (component_declaration d).Fits) (map component_declaration_view ds)
+    → (each_component (components_of (map component_declaration_view ds))).Fits
+each_component_fits [] h = tt
+each_component_fits (d ∷ ds) h = (h.0, each_component_fits ds h.1)
+
+pub instances_fit : {A : Type 0} (ds : Vec (InstanceDecl A) A) → FreeFits (list_cause instance_cause_of) (map instance_declaration_view) (list instance_declaration) ds.items
+    → NoCause (type_cause (type_view (types.Instance ds))) → (type_of (type_view (types.Instance ds))).Fits
+instances_fit ds one none =
+    let h : (list instance_declaration (map instance_declaration_view ds.items)).Fits = one (rw (instance_cause ds) at none) in
+    rw (view_instance ds) (rw (instances_counted ds.items, ← length-map ds.items instance_declaration_view) h.0, each_instance_fits ds.items h.1)
+
+pub components_fit : {A : Type 0} (ds : Vec (ComponentDecl A) A) → FreeFits (list_cause component_cause_of) (map component_declaration_view) (list component_declaration) ds.items
+    → NoCause (type_cause (type_view (types.Component ds))) → (type_of (type_view (types.Component ds))).Fits
+components_fit ds one none =
+    let h : (list component_declaration (map component_declaration_view ds.items)).Fits = one (rw (component_cause ds) at none) in
+    rw (view_component ds) (rw (components_counted ds.items, ← length-map ds.items component_declaration_view) h.0, each_component_fits ds.items h.1)
+
+mutual
+  pub type_free : (t : TypeOf) → (type_of t).Fits → NoCause (type_cause t)
+  type_free (DefinedType ty) h = defined_free ty h
+  type_free (FunctionType f) h = function_free f h
+  type_free (ComponentType ds) h = pair_cause_free _ _ (count_free (component_count ds) h.0) (each_component_free ds h.1)
+  type_free (InstanceType ds) h = pair_cause_free _ _ (count_free (instance_count ds) h.0) (each_instance_free ds h.1)
+  type_free (ResourceType rep dtor) h = λ fault k. k
+
+  pub instance_declaration_free : (d : InstanceDeclaration) → (instance_declaration d).Fits → NoCause (instance_declaration_cause d)
+  instance_declaration_free (CoreTyped ty) h = core_type_free ty h
+  instance_declaration_free (Typed ty) h = type_free ty h
+  instance_declaration_free (Aliased to) h = alias_free to h
+  instance_declaration_free (Exported name ty) h = extern_name_free name h.0
+
+  pub component_declaration_free : (d : ComponentDeclaration) → (component_declaration d).Fits → NoCause (component_declaration_cause d)
+  component_declaration_free (Imported name ty) h = extern_name_free name h.0
+  component_declaration_free (Declared d) h = instance_declaration_free d h
+
+  pub each_instance_free : (ds : InstanceDeclarations) → (each_instance ds).Fits → NoCause (each_instance_cause ds)
+  each_instance_free no_instance h = λ fault k. k
+  each_instance_free (and_instance d ds) h = pair_cause_free _ _ (instance_declaration_free d h.0) (each_instance_free ds h.1)
+
+  pub each_component_free : (ds : ComponentDeclarations) → (each_component ds).Fits → NoCause (each_component_cause ds)
+  each_component_free no_component h = λ fault k. k
+  each_component_free (and_component d ds) h = pair_cause_free _ _ (component_declaration_free d h.0) (each_component_free ds h.1)
