@@ -8,12 +8,12 @@ use Rattle.wenc_base.specs.Delimited.{NoCause, IsTextOf, FreeFits, pair}
 use Rattle.wenc_base.specs.Encode.{Appends}
 use Rattle.wenc_base.specs.Fault.{text_cause, first_of, member_cause, list_cause}
 use Rattle.wenc_base.specs.Forms.{list, list_text, name as name_form}
-use Rattle.wenc_base.specs.Piece.{Form, ◌▸◌}
+use Rattle.wenc_base.specs.Piece.{Form, ◌⨾◌}
 use Rattle.wenc_base.specs.declared.fault.Fault.{Fault}
 use Rattle.wenc_base.specs.laws.Causes.{SameCause, never, alone, appends_as}
 use Rattle.wenc_base.specs.laws.Delimited.{name_free, pair_cause_free, count_free, list_text_of, list_free}
 use Rattle.wenc_parts.specs.Aliases.{alias_tree_view}
-use Rattle.wenc_parts.specs.Imports.{name_tree_view}
+use Rattle.wenc_parts.specs.Imports.{ExternName, extern_name, extern_name_cause, name_tree_view, type_reference}
 use Rattle.wenc_parts.specs.Types.{value_type, result_list}
 use Rattle.wenc_parts.specs.declared.aliases.AliasTree.{AliasTree}
 use Rattle.wenc_parts.specs.declared.imports.ComponentTypeRef.{ComponentTypeRef}
@@ -288,6 +288,13 @@ view_imported name ty = search (rules, the_lemmas)
 
 pub view_declared : {A : Type 0} (d : InstanceDecl A) → component_declaration_view (components.Decl d) ≡ Declared (instance_declaration_view d)
 view_declared d = search (rules, the_lemmas)
+
+-- what appends a name and a type, by the name's view
+pub extern_appends : (seen name : ExternName) → seen ≡ name → (tag : ℕ) (ty : ComponentTypeRef) (old new : List ℕ) (outcome : Result (Unit {0}) Fault)
+    → Appends (tag ∷ (extern_name seen ⨾ type_reference ty).text) (first_of (extern_name_cause seen) never) ⊥ old new outcome
+    → Appends (tag ∷ (extern_name name ⨾ type_reference ty).text) (extern_name_cause name) ⊥ old new outcome
+extern_appends seen name e tag ty old new outcome a =
+    rw (← e) (appends_as _ _ (extern_name_cause seen) ⊥ old new outcome (alone (extern_name_cause seen) never (λ fault k. k)) a)
 
 -- ---- several declarations: their number, texts and causes
 
