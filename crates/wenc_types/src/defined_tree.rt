@@ -9,8 +9,9 @@ use wenc_parts::{ComponentValType, PrimitiveValType};
 /// than 4294967295 bytes.
 ///
 /// ```
-/// let names = vec![in alloc; String::from_str(alloc, "read")?, String::from_str(alloc, "write")?]?;
-/// DefinedTree::Flags(names).encode(&mut sink)?;
+/// let read = String::from_str(alloc, "read")?;
+/// let write = String::from_str(alloc, "write")?;
+/// DefinedTree::Flags(vec![in alloc; read, write]?).encode(&mut sink)?;
 /// ```
 #[derive(Drop)]
 #[derive_where(PartialEq, Eq, Debug)]
@@ -172,8 +173,8 @@ impl<A: Allocator> Encode for CaseTree<A> {
     ghost cause = { λ c. case_cause (case_view c) };
 
     fn encode<B: Allocator>(&self, sink: &mut Vec<u8, B>) -> Result<(), Fault> {
-        let refines_none = Tagged(0x00, &());
-        (self.name.as_str(), self.ty, refines_none).encode(sink)
+        // the byte would say which case this one refines
+        (self.name.as_str(), self.ty, Tagged(0x00, &())).encode(sink)
     }
 }
 

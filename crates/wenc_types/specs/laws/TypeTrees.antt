@@ -1,7 +1,6 @@
 -- What follows for types that components define, with all that is in them.
 use Rattle.std.proofs.Common.{String, ◌≡◌, ℕ, suc, Bool, true, false, List, [], ◌∷◌, ◌++◌, Option, Result, Vec, length, map, inl, inr, refl, sym, ap, subst, rules}
 use Rattle.std.proofs.lemmas.List.{length-map, map-id}
-use Rattle.std.specs.Cmp.Lexicographic.{pointwise}
 use Rattle.std.specs.List.{flat_map, AllByRecursion}
 use Rattle.std.specs.String.{string_bytes}
 use Rattle.wenc_base.specs.Delimited.{NoCause, IsTextOf, FreeFits, pair}
@@ -35,7 +34,7 @@ use Rattle.wenc_types.specs.declared.type_tree.InstanceDecl.{InstanceDecl}
 use Rattle.wenc_types.specs.declared.type_tree.InstanceDecl.TheVariants as instances
 use Rattle.wenc_types.specs.declared.type_tree.TypeTree.{TypeTree, the_lemmas}
 use Rattle.wenc_types.specs.declared.type_tree.TypeTree.TheVariants as types
-use Rattle.wenc_types.specs.laws.CoreTypes.{core_type_free, SeesAlike, each_sees}
+use Rattle.wenc_types.specs.laws.CoreTypes.{core_type_free, SeesAlike}
 
 -- ---- lists, by what is seen of their values
 
