@@ -57,9 +57,9 @@ pub enum DefinedTree<A: Allocator = Global> {
     Own(u32),
     /// A handle that borrows a resource, by the index of the resource's type, from 0 to 4294967295.
     Borrow(u32),
-    /// A value that comes later, by its type, or none that comes later.
+    /// A value that comes later, by its type, or nothing but that it has come.
     Future(Option<ComponentValType>),
-    /// Values that come one after the other, by their type, or none.
+    /// Values that come one after the other, by their type, or nothing but that they have come.
     Stream(Option<ComponentValType>),
 }
 

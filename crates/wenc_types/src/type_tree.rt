@@ -205,7 +205,10 @@ impl<A: Allocator> Delimited for InstanceDecl<A> {
         }
     }
 
-    ghost readable = { ((λ fuel. read_instance_declaration (read_type fuel)), instance_declaration_lawful) };
+    ghost readable = { (
+      (λ fuel. read_instance_declaration (read_type fuel)),
+      instance_declaration_lawful,
+    ) };
 
     ghost text_of = { λ x. refl };
 
@@ -232,7 +235,10 @@ impl<A: Allocator> Delimited for ComponentDecl<A> {
         }
     }
 
-    ghost readable = { ((λ fuel. read_component_declaration (read_type fuel)), component_declaration_lawful) };
+    ghost readable = { (
+      (λ fuel. read_component_declaration (read_type fuel)),
+      component_declaration_lawful,
+    ) };
 
     ghost text_of = { λ x. refl };
 

@@ -9,6 +9,7 @@ use Rattle.wenc_base.specs.Fault.{text_cause, first_of, member_cause, list_cause
 use Rattle.wenc_base.specs.Forms.{list, list_text, name as name_form}
 use Rattle.wenc_base.specs.Piece.{Form, ◌⨾◌}
 use Rattle.wenc_base.specs.declared.fault.Fault.{Fault}
+use Rattle.wenc_base.specs.declared.types.ValType.{ValType}
 use Rattle.wenc_base.specs.laws.Causes.{SameCause, never, alone, appends_as}
 use Rattle.wenc_base.specs.laws.Delimited.{name_free, pair_cause_free, count_free, list_text_of, list_free}
 use Rattle.wenc_parts.specs.Aliases.{alias_tree_view}
@@ -269,6 +270,9 @@ view_component ds = search (rules, the_lemmas)
 
 pub view_instance : {A : Type 0} (ds : Vec (InstanceDecl A) A) → type_view (types.Instance ds) ≡ InstanceType (instances_of (map instance_declaration_view ds.items))
 view_instance ds = search (rules, the_lemmas)
+
+pub view_resource : {A : Type 0} (rep : ValType) (dtor : Option ℕ) → type_view {A = A} (types.Resource rep dtor) ≡ ResourceType rep dtor
+view_resource rep dtor = search (rules, the_lemmas)
 
 pub view_core : {A : Type 0} (ty : CoreTypeTree A) → instance_declaration_view (instances.CoreType ty) ≡ CoreTyped (core_type_view ty)
 view_core ty = search (rules, the_lemmas)
