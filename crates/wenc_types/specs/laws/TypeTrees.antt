@@ -271,8 +271,8 @@ view_component ds = search (rules, the_lemmas)
 pub view_instance : {A : Type 0} (ds : Vec (InstanceDecl A) A) → type_view (types.Instance ds) ≡ InstanceType (instances_of (map instance_declaration_view ds.items))
 view_instance ds = search (rules, the_lemmas)
 
-pub view_resource : {A : Type 0} (rep : ValType) (dtor : Option ℕ) → type_view {A = A} (types.Resource rep dtor) ≡ ResourceType rep dtor
-view_resource rep dtor = search (rules, the_lemmas)
+pub view_resource : (A : Type 0) (rep : ValType) (dtor : Option ℕ) → type_view {A = A} (types.Resource rep dtor) ≡ ResourceType rep dtor
+view_resource A rep dtor = search (rules, the_lemmas)
 
 pub view_core : {A : Type 0} (ty : CoreTypeTree A) → instance_declaration_view (instances.CoreType ty) ≡ CoreTyped (core_type_view ty)
 view_core ty = search (rules, the_lemmas)
