@@ -39,6 +39,9 @@ use Rattle.wenc_types.specs.laws.CoreTypes.{core_type_free, SeesAlike}
 
 -- ---- lists, by what is seen of their values
 
+unchanged : (cause : Fault → Type 0) → SameCause cause cause
+unchanged cause = (λ fault k. k, λ fault k. k)
+
 both_as : (one next one' next' : Fault → Type 0) → SameCause one one' → SameCause next next' → SameCause (first_of one next) (first_of one' next')
 both_as one next one' next' first second = (
   λ fault h. elim h [ inl c ↦ inl (first.0 fault c) | inr p ↦ inr ((λ other c. p.0 other (first.1 other c)), second.0 fault p.1) ],
@@ -51,12 +54,12 @@ SeenCause {A} cause seen other = (v : A) → SameCause (cause v) (other (seen v)
 
 member_as : {A S : Type 0} (cause : A → Fault → Type 0) (seen : A → S) (other : S → Fault → Type 0) → SeenCause cause seen other
     → (vs : List A) → SameCause (member_cause cause vs) (member_cause other (map seen vs))
-member_as cause seen other same [] = (λ fault k. k, λ fault k. k)
+member_as cause seen other same [] = unchanged _
 member_as cause seen other same (v ∷ vs) = both_as _ _ _ _ (same v) (member_as cause seen other same vs)
 
 pub list_as : {A S : Type 0} (cause : A → Fault → Type 0) (seen : A → S) (other : S → Fault → Type 0) → SeenCause cause seen other
     → (vs : List A) → SameCause (list_cause cause vs) (list_cause other (map seen vs))
-list_as cause seen other same vs = rw (length-map vs seen) (both_as _ _ _ _ (λ fault k. k, λ fault k. k) (member_as cause seen other same vs))
+list_as cause seen other same vs = rw (length-map vs seen) (both_as _ _ _ _ (unchanged _) (member_as cause seen other same vs))
 
 -- what appends a list, by what is seen of its values
 pub list_appends : {A S : Type 0} (tag : ℕ) (text : A → List ℕ) (cause : A → Fault → Type 0) (seen : A → S) (form : Form S) (other : S → Fault → Type 0)
@@ -98,12 +101,12 @@ record_appends fields = list_appends 0x72 field_text field_cause named_view name
 pub variant_appends : {A : Type 0} (cases : Vec (CaseTree A) A) (old new : List ℕ) (outcome : Result (Unit {0}) Fault)
     → Appends (0x71 ∷ list_text (λ c. (case (case_view c)).text) cases.items) (list_cause (λ c. case_cause (case_view c)) cases.items) ⊥ old new outcome
     → Appends (defined_type (defined_view (trees.Variant cases))).text (defined_cause (defined_view (trees.Variant cases))) ⊥ old new outcome
-variant_appends cases = list_appends 0x71 _ _ case_view case case_cause (λ c. refl) (λ c. (λ fault k. k, λ fault k. k)) cases.items
+variant_appends cases = list_appends 0x71 _ _ case_view case case_cause (λ c. refl) (λ c. unchanged _) cases.items
 
 pub names_append : {A : Type 0} (tag : ℕ) (names : List (String A)) (old new : List ℕ) (outcome : Result (Unit {0}) Fault)
     → Appends (tag ∷ list_text (λ s. (name_form (string_bytes s)).text) names) (list_cause (λ s. text_cause (string_bytes s)) names) ⊥ old new outcome
     → Appends (tag ∷ (list name_form (map string_bytes names)).text) (list_cause text_cause (map string_bytes names)) ⊥ old new outcome
-names_append tag = list_appends tag _ _ string_bytes name_form text_cause (λ s. refl) (λ s. (λ fault k. k, λ fault k. k))
+names_append tag = list_appends tag _ _ string_bytes name_form text_cause (λ s. refl) (λ s. unchanged _)
 
 -- ---- what can be encoded
 
@@ -136,11 +139,11 @@ fields_fit = list_fit field_cause (λ f. (string_bytes f.0, f.1)) (pair name_for
 
 pub cases_fit : {A : Type 0} (cases : List (CaseTree A)) → FreeFits (list_cause (λ c. case_cause (case_view c))) (map case_view) (list case) cases
     → NoCause (list_cause case_cause (map case_view cases)) → (list case (map case_view cases)).Fits
-cases_fit = list_fit _ case_view case case_cause case_view case (λ c. (λ fault k. k, λ fault k. k)) (λ c h. h)
+cases_fit = list_fit _ case_view case case_cause case_view case (λ c. unchanged _) (λ c h. h)
 
 pub names_fit : {A : Type 0} (names : List (String A)) → FreeFits (list_cause (λ s. text_cause (string_bytes s))) (map string_bytes) (list name_form) names
     → NoCause (list_cause text_cause (map string_bytes names)) → (list name_form (map string_bytes names)).Fits
-names_fit = list_fit _ string_bytes name_form text_cause string_bytes name_form (λ s. (λ fault k. k, λ fault k. k)) (λ s h. h)
+names_fit = list_fit _ string_bytes name_form text_cause string_bytes name_form (λ s. unchanged _) (λ s h. h)
 
 pub elements_fit : (elements : List ComponentValType) → FreeFits (list_cause (λ ty fault. ⊥)) (map (λ t. t)) (list value_type) elements → FreeFits (list_cause (λ ty fault. ⊥)) (λ ts. ts) (list value_type) elements
 elements_fit elements h = rw (map-id elements) at h
