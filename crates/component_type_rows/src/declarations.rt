@@ -13,6 +13,20 @@ use wenc_parts::{
 use wenc_sections::ComponentTypeSection;
 use wenc_types::{ComponentType, CoreTypeTree, InstanceType};
 
+/// An alias that counts as an instance.
+const AN_INSTANCE: Alias<'static> = Alias::InstanceExport {
+    instance: 1,
+    kind: ComponentExportKind::Instance,
+    name: "i",
+};
+
+/// An alias that counts as a core type.
+const A_CORE_TYPE: Alias<'static> = Alias::Outer {
+    kind: ComponentOuterAliasKind::CoreType,
+    count: 1,
+    index: 0,
+};
+
 /// Aliases that count as a type, an instance, nothing, nothing, a core type, a type, nothing, nothing.
 const ALIASES: [Alias<'static>; 8] = [
     Alias::InstanceExport {
@@ -35,11 +49,7 @@ const ALIASES: [Alias<'static>; 8] = [
         kind: ExportKind::Memory,
         name: "m",
     },
-    Alias::Outer {
-        kind: ComponentOuterAliasKind::CoreType,
-        count: 1,
-        index: 0,
-    },
+    A_CORE_TYPE,
     Alias::Outer {
         kind: ComponentOuterAliasKind::Type,
         count: 1,
@@ -182,7 +192,7 @@ fn component_types(rt: HostRuntime) -> Result<(), Fail> {
 
 const RESOURCE: [Declaration<'static>; 2] = [
     Declaration::Import("r", ComponentTypeRef::Type(TypeBounds::SubResource)),
-    Declaration::Alias(ALIASES[4]),
+    Declaration::Alias(A_CORE_TYPE),
 ];
 
 #[test]
@@ -225,8 +235,8 @@ fn an_exported_option(rt: HostRuntime) -> Result<(), Fail> {
 const SEVEN: [Declaration<'static>; 7] = [
     Declaration::Array,
     Declaration::Type(Call::Resource(ValType::I64, Some(3))),
-    Declaration::Alias(ALIASES[1]),
-    Declaration::Alias(ALIASES[4]),
+    Declaration::Alias(AN_INSTANCE),
+    Declaration::Alias(A_CORE_TYPE),
     Declaration::Export("f", ComponentTypeRef::Func(6)),
     Declaration::Export("s", ComponentTypeRef::Type(TypeBounds::SubResource)),
     Declaration::Export("i", ComponentTypeRef::Instance(8)),

@@ -1,5 +1,5 @@
 -- Types that components define (component model, binary format, "Type Definitions").
-use Rattle.std.specs.Prelude.{ℕ, suc, max, List, Option}
+use Rattle.std.specs.Prelude.{ℕ, suc, max, List, [], ◌∷◌, Option}
 use Rattle.wenc_base.specs.Piece.{Piece, nothing, ◌▸◌, ◌⨾◌}
 use Rattle.wenc_base.specs.Number.{u32}
 use Rattle.wenc_base.specs.Forms.{option}
@@ -39,6 +39,15 @@ mutual
   pub data ComponentDeclarations : Type 0 where
     no_component : ComponentDeclarations
     and_component : (first : ComponentDeclaration) (others : ComponentDeclarations) → ComponentDeclarations
+
+-- several of them
+abbrev pub instances_of : List InstanceDeclaration → InstanceDeclarations
+instances_of [] = no_instance
+instances_of (d ∷ ds) = and_instance d (instances_of ds)
+
+abbrev pub components_of : List ComponentDeclaration → ComponentDeclarations
+components_of [] = no_component
+components_of (d ∷ ds) = and_component d (components_of ds)
 
 -- how many there are
 abbrev pub instance_count : InstanceDeclarations → ℕ

@@ -10,7 +10,7 @@ use Rattle.wenc_parts.specs.declared.aliases.ComponentOuterAliasKind.{ComponentO
 use Rattle.wenc_parts.specs.declared.aliases.ComponentOuterAliasKind.TheVariants as outers
 use Rattle.wenc_parts.specs.declared.exports.ComponentExportKind.{ComponentExportKind}
 use Rattle.wenc_parts.specs.declared.exports.ComponentExportKind.TheVariants as kinds
-use Rattle.wenc_types.specs.ComponentTypes.{InstanceDeclaration, CoreTyped, Typed, Aliased, Exported, ComponentDeclaration, Imported, Declared, InstanceDeclarations, no_instance, and_instance, ComponentDeclarations, no_component, and_component, instance_declaration, component_declaration}
+use Rattle.wenc_types.specs.ComponentTypes.{InstanceDeclaration, CoreTyped, Typed, Aliased, Exported, ComponentDeclaration, Imported, Declared, instance_declaration, component_declaration}
 use Rattle.wenc_types.specs.declared.counts.Counts.{Counts}
 use Rattle.wenc_types.specs.declared.counts.Sort.{Sort}
 use Rattle.wenc_types.specs.declared.counts.Sort.TheVariants.{CoreType, «Type» as TypeSort, Instance}
@@ -20,15 +20,6 @@ instance_text d = (instance_declaration d).text
 
 abbrev pub component_text : ComponentDeclaration → List ℕ
 component_text d = (component_declaration d).text
-
--- a list of them as one value
-abbrev pub instances_of : List InstanceDeclaration → InstanceDeclarations
-instances_of [] = no_instance
-instances_of (d ∷ ds) = and_instance d (instances_of ds)
-
-abbrev pub components_of : List ComponentDeclaration → ComponentDeclarations
-components_of [] = no_component
-components_of (d ∷ ds) = and_component d (components_of ds)
 
 -- ---- what a declaration counts as: a core type, a type, an instance, or nothing
 

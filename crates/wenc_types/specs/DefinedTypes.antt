@@ -104,8 +104,8 @@ function_cause f = list_cause named_cause f.params
 
 -- ---- what an iterator gives, as pure values
 
-abbrev pub named_view : Bor (List ℕ) × ComponentValType → Named
-named_view f = record { name = f.0.now; ty = f.1 }
+abbrev pub lent_named : Bor (List ℕ) × ComponentValType → Named
+lent_named f = record { name = f.0.now; ty = f.1 }
 
-abbrev pub case_view : Bor (List ℕ) × Option ComponentValType → Case
-case_view c = record { name = c.0.now; ty = c.1 }
+abbrev pub lent_case : Bor (List ℕ) × Option ComponentValType → Case
+lent_case c = record { name = c.0.now; ty = c.1 }

@@ -4,3 +4,4 @@ pub mod Declarations
 pub mod CoreTypes
 pub mod DefinedTypes
 pub mod ComponentTypes
+pub mod TypeTrees

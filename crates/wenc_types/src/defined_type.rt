@@ -2,8 +2,10 @@ ghost use Rattle.std.specs.Iterator.{IsFinite};
 ghost use Rattle.std.specs.Prelude.{◌≡◌, true, false, map};
 ghost use Rattle.wenc_base.specs.Fault.{drawn_cause, text_cause};
 ghost use Rattle.wenc_base.specs.Lender.{Ends, EndsListed};
-ghost use Rattle.wenc_types.specs.DefinedTypes.{Primitive, Record, Variant, ListOf, MapOf, FixedLengthList, Tuple, Flags, Enumeration, OptionOf, ResultOf, Own, Borrow, Future, Stream, defined_type, named_cause, named_view, case_cause, case_view};
+ghost use Rattle.wenc_types.specs.DefinedTypes.{Primitive, Record, Variant, ListOf, MapOf, FixedLengthList, Tuple, Flags, Enumeration, OptionOf, ResultOf, Own, Borrow, Future, Stream, defined_cause, defined_type, named_cause, lent_named, case_cause, lent_case};
+ghost use Rattle.wenc_types.specs.TypeTrees.{defined_view};
 
+use crate::defined_tree::DefinedTree;
 use std::alloc::Allocator;
 use wenc_base::{Encode, Fault, Lender, Tagged};
 use wenc_parts::{ComponentValType, PrimitiveValType};
@@ -36,6 +38,14 @@ impl<'a, L: Lender> ComponentDefinedTypeEncoder<'a, L> {
         ComponentDefinedTypeEncoder { lender }
     }
 
+    /// The type of this tree.
+    pub fn tree<A: Allocator>(self, ty: &DefinedTree<A>) -> Result<(), Fault>
+        ensures { Ends L.written L.ended L.refuses self.entry.lender.now self.exit.0.now result
+            (defined_cause (defined_view ty.now)) (defined_type (defined_view ty.now)).text }
+    {
+        self.lender.end_with(ty)
+    }
+
     /// A primitive type.
     pub fn primitive(self, ty: PrimitiveValType) -> Result<(), Fault>
         ensures { Ends L.written L.ended L.refuses self.entry.lender.now self.exit.0.now result
@@ -52,8 +62,8 @@ impl<'a, L: Lender> ComponentDefinedTypeEncoder<'a, L> {
         requires ends { IsFinite (F.remaining fields) }
         ensures { EndsListed L.written L.ended L.refuses F.next_gives fields
             self.entry.lender.now self.exit.0.now result
-            (drawn_cause (λ f. named_cause (named_view f)))
-            (λ fs. (defined_type (Record (map named_view fs))).text) }
+            (drawn_cause (λ f. named_cause (lent_named f)))
+            (λ fs. (defined_type (Record (map lent_named fs))).text) }
     {
         self.lender.end_with_list(&[0x72], fields)
     }
@@ -66,8 +76,8 @@ impl<'a, L: Lender> ComponentDefinedTypeEncoder<'a, L> {
         requires ends { IsFinite (C.remaining cases) }
         ensures { EndsListed L.written L.ended L.refuses C.next_gives cases
             self.entry.lender.now self.exit.0.now result
-            (drawn_cause (λ c. case_cause (case_view c)))
-            (λ cs. (defined_type (Variant (map case_view cs))).text) }
+            (drawn_cause (λ c. case_cause (lent_case c)))
+            (λ cs. (defined_type (Variant (map lent_case cs))).text) }
     {
         self.lender
             .end_with_list(&[0x71], cases.map(|(name, ty)| Case { name, ty }))

@@ -4,7 +4,7 @@ ghost use Rattle.wenc_base.specs.Fault.{drawn_cause};
 ghost use Rattle.wenc_base.specs.Forms.{list};
 ghost use Rattle.wenc_base.specs.Lender.{either, Extends, ExtendsListed};
 ghost use Rattle.wenc_parts.specs.Types.{result_list};
-ghost use Rattle.wenc_types.specs.DefinedTypes.{named, named_cause, named_view};
+ghost use Rattle.wenc_types.specs.DefinedTypes.{named, named_cause, lent_named};
 ghost use Rattle.wenc_types.specs.FuncStages.{async_byte, BeforeParams, lead_from, goes_on};
 ghost use Rattle.wenc_types.specs.declared.func_type.FuncStage.TheVariants as stages;
 
@@ -104,8 +104,8 @@ impl<'a, L: Lender> ComponentFuncTypeEncoder<'a, L> {
         ensures appended { ExtendsListed P.next_gives params
             self.old.lender.now self.new.lender.now result
             (L.written self.old.lender.now) (L.refuses self.old.lender.now)
-            (drawn_cause (λ p. named_cause (named_view p)))
-            (λ ps. lead_from self.old.stage ++ (list named (map named_view ps)).text) }
+            (drawn_cause (λ p. named_cause (lent_named p)))
+            (λ ps. lead_from self.old.stage ++ (list named (map lent_named ps)).text) }
         ensures next { OnOk result (self.new.stage ≡ stages.Params) }
         ensures back { OnErr result (self.new.stage ≡ self.old.stage) }
     {
@@ -143,8 +143,8 @@ where
     requires ends { IsFinite (I.remaining values) }
     ensures { ExtendsListed I.next_gives values lender.old lender.new result
         (L.written lender.old) (L.refuses lender.old)
-        (drawn_cause (λ v. named_cause (named_view v)))
-        (λ vs. lead.now ++ (list named (map named_view vs)).text) }
+        (drawn_cause (λ v. named_cause (lent_named v)))
+        (λ vs. lead.now ++ (list named (map lent_named vs)).text) }
 {
     lender.append_list(lead, values)
 }

@@ -2,13 +2,15 @@ ghost use Rattle.std.specs.Prelude.{◌≡◌, ◌∷◌, true, false};
 ghost use Rattle.wenc_base.specs.Holder.{is_finished, held_text, EncodeCause};
 ghost use Rattle.wenc_base.specs.Lender.{Ends};
 ghost use Rattle.wenc_base.specs.declared.fault.Fault.TheVariants.{Unfinished};
-ghost use Rattle.wenc_types.specs.ComponentTypes.{ResourceType, type_of};
+ghost use Rattle.wenc_types.specs.ComponentTypes.{ResourceType, type_text};
+ghost use Rattle.wenc_types.specs.TypeTrees.{type_cause, type_view};
 ghost use Rattle.wenc_types.specs.declared.func_type.FuncStage.TheVariants as stages;
 
 use crate::component_type::ComponentType;
 use crate::defined_type::ComponentDefinedTypeEncoder;
 use crate::func_type::ComponentFuncTypeEncoder;
 use crate::instance_type::InstanceType;
+use crate::type_tree::TypeTree;
 use std::alloc::Allocator;
 use wenc_base::{Fault, Lender, Tagged, ValType};
 
@@ -58,6 +60,15 @@ impl<'a, L: Lender> ComponentTypeEncoder<'a, L> {
         self.lender.end_with(ty)
     }
 
+    /// The type of this tree, which ends the type. It is refused where a list in it is too long (`TooMany`), or where
+    /// there would be too many bytes (`TooLarge`).
+    pub fn tree<A: Allocator>(self, ty: &TypeTree<A>) -> Result<(), Fault>
+        ensures { Ends L.written L.ended L.refuses self.entry.lender.now self.exit.0.now result
+            (type_cause (type_view ty.now)) (type_text (type_view ty.now)) }
+    {
+        self.lender.end_with(ty)
+    }
+
     /// The encoder of a type of functions.
     pub fn function(self) -> ComponentFuncTypeEncoder<'a, L>
         ensures same_reference { result.lender.ghost_name ≡ self.entry.lender.ghost_name }
@@ -82,7 +93,7 @@ impl<'a, L: Lender> ComponentTypeEncoder<'a, L> {
     /// bytes in what was lent (`TooLarge`).
     pub fn resource(self, rep: ValType, dtor: Option<u32>) -> Result<(), Fault>
         ensures { Ends L.written L.ended L.refuses self.entry.lender.now self.exit.0.now result
-            (λ _. ⊥) (type_of (ResourceType rep dtor)).text }
+            (λ _. ⊥) (type_text (ResourceType rep dtor)) }
     {
         self.lender.end_with(&Tagged(0x3f, &(rep, dtor)))
     }

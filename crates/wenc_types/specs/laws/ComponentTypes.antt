@@ -1,5 +1,6 @@
 -- The laws of types that components define.
-use Rattle.std.proofs.Common.{ℕ, zero, suc, Bool, true, false, List, [], ◌∷◌, ◌++◌, Option}
+use Rattle.std.proofs.Common.{ℕ, zero, suc, Bool, true, false, List, [], ◌∷◌, ◌++◌, Option, ◌≡◌, length, refl, ap}
+use Rattle.std.specs.List.{flat_map}
 use Rattle.wenc_base.specs.laws.Forms.{list_lawful, read_option, option_lawful}
 use Rattle.wenc_base.specs.laws.Lawful.{Lawful, Reader, ◌>>=◌, give, nowhere, choose, row, then, last, deeper, nothing_lawful}
 use Rattle.wenc_base.specs.laws.Numbers.{read_groups, u32_lawful}
@@ -11,7 +12,7 @@ use Rattle.wenc_parts.specs.laws.Types.{primitive_rows, result_list_lawful}
 use Rattle.wenc_types.specs.DefinedTypes.{Named, Primitive, function_type_of}
 use Rattle.wenc_types.specs.laws.CoreTypes.{read_core_type, core_type_lawful}
 use Rattle.wenc_types.specs.laws.DefinedTypes.{named_lawful, defined_rows, defined_row, to_function, function_rows}
-use Rattle.wenc_types.specs.ComponentTypes.{TypeOf, DefinedType, FunctionType, ComponentType, InstanceType, ResourceType, InstanceDeclaration, CoreTyped, Typed, Aliased, Exported, ComponentDeclaration, Imported, Declared, InstanceDeclarations, no_instance, and_instance, ComponentDeclarations, no_component, and_component, instance_count, component_count, type_of, instance_declaration, component_declaration, each_instance, each_component}
+use Rattle.wenc_types.specs.ComponentTypes.{TypeOf, DefinedType, FunctionType, ComponentType, InstanceType, ResourceType, InstanceDeclaration, CoreTyped, Typed, Aliased, Exported, ComponentDeclaration, Imported, Declared, InstanceDeclarations, no_instance, and_instance, ComponentDeclarations, no_component, and_component, instance_count, component_count, instances_of, components_of, type_of, instance_declaration, component_declaration, each_instance, each_component}
 
 -- ---- readers, each by the reader of a type
 
@@ -89,3 +90,21 @@ mutual
   pub components_lawful : (ds : ComponentDeclarations) → Lawful (each_component ds) (λ fuel. component_times (read_type fuel) (component_count ds)) ds
   components_lawful no_component = nothing_lawful no_component
   components_lawful (and_component d ds) = then _ (component_declaration_lawful d) (last _ (components_lawful ds))
+
+-- ---- several declarations
+
+pub instances_counted : (ds : List InstanceDeclaration) → instance_count (instances_of ds) ≡ length ds
+instances_counted [] = refl
+instances_counted (d ∷ ds) = ap suc (instances_counted ds)
+
+pub components_counted : (ds : List ComponentDeclaration) → component_count (components_of ds) ≡ length ds
+components_counted [] = refl
+components_counted (d ∷ ds) = ap suc (components_counted ds)
+
+pub instances_text : (ds : List InstanceDeclaration) → (each_instance (instances_of ds)).text ≡ flat_map (λ d. (instance_declaration d).text) ds
+instances_text [] = refl
+instances_text (d ∷ ds) = ap (λ (t : List ℕ). (instance_declaration d).text ++ t) (instances_text ds)
+
+pub components_text : (ds : List ComponentDeclaration) → (each_component (components_of ds)).text ≡ flat_map (λ d. (component_declaration d).text) ds
+components_text [] = refl
+components_text (d ∷ ds) = ap (λ (t : List ℕ). (component_declaration d).text ++ t) (components_text ds)

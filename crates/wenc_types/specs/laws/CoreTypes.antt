@@ -177,7 +177,7 @@ SeesAlike {A} eq seen = (a b : A) → seen a ≡ seen b → eq a a ≡ eq a b
 pub alike_by : {A S : Type 0} (eq : A → A → Bool) (seen : A → S) → SeesAlike eq seen → IsEquivalence eq → AlikeIsEqual eq seen
 alike_by eq seen sees laws a b e = sym (sees a b e) ∙ laws.refl a
 
-each_sees : {A S : Type 0} (eq : A → A → Bool) (seen : A → S) → SeesAlike eq seen → SeesAlike (pointwise eq) (map seen)
+pub each_sees : {A S : Type 0} (eq : A → A → Bool) (seen : A → S) → SeesAlike eq seen → SeesAlike (pointwise eq) (map seen)
 each_sees eq seen sees [] [] e = refl
 each_sees eq seen sees [] (w ∷ ws) e = absurd cc
 each_sees eq seen sees (v ∷ vs) [] e = absurd cc

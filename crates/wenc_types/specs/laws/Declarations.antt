@@ -1,12 +1,12 @@
 -- What follows for the declarations of component types and instance types.
 use Rattle.std.proofs.Common.{◌≡◌, ℕ, ◌+◌, ◌-◌, suc, List, [], ◌∷◌, ◌++◌, length, Option, Some, None, Result, Ok, Err, OnOk, OnErr, refl, ap, sym, ◌∙◌, arith, true}
 use Rattle.wenc_base.specs.Holder.{Held, is_finished, as_they_are, held_text, AddsMember}
-use Rattle.std.specs.List.{flat_map}
 use Rattle.wenc_base.specs.laws.Causes.{SameCause}
 use Rattle.wenc_base.specs.laws.Holders.{adds_as, contains_opened, given_up_is_before, lengthened_twice}
 use Rattle.wenc_base.specs.declared.fault.Fault.{Fault}
-use Rattle.wenc_types.specs.ComponentTypes.{InstanceDeclaration, ComponentDeclaration, ComponentType, InstanceType, instance_count, component_count, each_instance, each_component, type_of}
-use Rattle.wenc_types.specs.Declarations.{instance_text, component_text, instances_of, components_of, InstanceDeclares, ComponentDeclares, no_counts, counted, uncounted, counts_of, Declaring, Settled, Declares, AddsDeclaration, lead_of, with_held, begun, written, ended, taken_back}
+use Rattle.wenc_types.specs.ComponentTypes.{InstanceDeclaration, ComponentDeclaration, ComponentType, InstanceType, instances_of, components_of, type_of}
+use Rattle.wenc_types.specs.laws.ComponentTypes.{instances_counted, components_counted, instances_text, components_text}
+use Rattle.wenc_types.specs.Declarations.{InstanceDeclares, ComponentDeclares, no_counts, counted, uncounted, counts_of, Declaring, Settled, Declares, AddsDeclaration, lead_of, with_held, begun, written, ended, taken_back}
 use Rattle.wenc_types.specs.declared.counts.Counts.{Counts}
 use Rattle.wenc_types.specs.declared.counts.Sort.{Sort}
 use Rattle.wenc_types.specs.declared.counts.Sort.TheVariants.{CoreType, «Type» as TypeSort, Instance}
@@ -79,22 +79,6 @@ taken_back_is_before t s text settled =
     rw (back_again s t.counts, given_up_is_before t.held (lead_of s) text settled.finished, ← settled.none_begun) refl
 
 -- ---- their texts
-
-pub instances_counted : (ds : List InstanceDeclaration) → instance_count (instances_of ds) ≡ length ds
-instances_counted [] = refl
-instances_counted (d ∷ ds) = ap suc (instances_counted ds)
-
-pub components_counted : (ds : List ComponentDeclaration) → component_count (components_of ds) ≡ length ds
-components_counted [] = refl
-components_counted (d ∷ ds) = ap suc (components_counted ds)
-
-pub instances_text : (ds : List InstanceDeclaration) → (each_instance (instances_of ds)).text ≡ flat_map instance_text ds
-instances_text [] = refl
-instances_text (d ∷ ds) = ap (λ (t : List ℕ). instance_text d ++ t) (instances_text ds)
-
-pub components_text : (ds : List ComponentDeclaration) → (each_component (components_of ds)).text ≡ flat_map component_text ds
-components_text [] = refl
-components_text (d ∷ ds) = ap (λ (t : List ℕ). component_text d ++ t) (components_text ds)
 
 pub instance_type_text : (t : Declaring) (ds : List InstanceDeclaration) → InstanceDeclares t ds → 0x42 ∷ held_text t.held ≡ (type_of (InstanceType (instances_of ds))).text
 instance_type_text t ds h = rw (instances_counted ds, instances_text ds, h.contained.count, h.contained.body) refl

@@ -2,7 +2,7 @@ use Rattle.std.proofs.Common.{◌∷◌, []}
 use Rattle.wenc_base.specs.Fault.{first_of}
 use Rattle.wenc_base.specs.laws.Causes.{never, alone}
 use Rattle.wenc_base.specs.laws.Lenders.{listed_map}
-use Rattle.wenc_types.specs.DefinedTypes.{named, named_cause, named_view}
+use Rattle.wenc_types.specs.DefinedTypes.{named, named_cause, lent_named}
 use Rattle.wenc_types.proofs.defined_type.ComponentDefinedTypeEncoder.record.Goals as goal
 
 pub returns : goal.returns
@@ -10,5 +10,5 @@ returns g c =
     let lender = c.args.self.lender.now in
     listed_map g.F.Iterator.next_gives c.args.fields lender c.end_with_list.new.self c.end_with_list.result
     (λ bytes. g.L.Lender.ended (g.L.Lender.written lender bytes)) (g.L.Lender.refuses lender)
-    (λ f. first_of (named_cause (named_view f)) never) (λ f. named_cause (named_view f)) (0x72 ∷ []) (λ f. (named f).text) named_view
-    (λ f. alone (named_cause (named_view f)) never (λ fault h. h)) c.end_with_list.ensures
+    (λ f. first_of (named_cause (lent_named f)) never) (λ f. named_cause (lent_named f)) (0x72 ∷ []) (λ f. (named f).text) lent_named
+    (λ f. alone (named_cause (lent_named f)) never (λ fault h. h)) c.end_with_list.ensures

@@ -7,7 +7,7 @@ use Rattle.wenc_base.specs.laws.Lenders.{extends_as, made_of}
 use Rattle.wenc_base.specs.Fault.{drawn_cause}
 use Rattle.wenc_base.specs.declared.fault.Fault.{Fault}
 use Rattle.wenc_parts.specs.declared.types.ComponentValType.{ComponentValType}
-use Rattle.wenc_types.specs.DefinedTypes.{case, case_cause, case_view}
+use Rattle.wenc_types.specs.DefinedTypes.{case, case_cause, lent_case}
 use Rattle.wenc_types.specs.declared.defined_type.Case.{Case}
 use Rattle.wenc_types.proofs.defined_type.ComponentDefinedTypeEncoder.variant.Goals as goal
 
@@ -25,10 +25,10 @@ returns g c =
     let lender = c.args.self.lender.now in
     extends_as g.C.Iterator.next_gives c.args.cases lender c.end_with_list.new.self c.end_with_list.result
     (λ bytes. g.L.Lender.ended (g.L.Lender.written lender bytes)) (g.L.Lender.refuses lender)
-    (λ vs. drawn_cause made_cause (map made vs)) (drawn_cause (λ v. case_cause (case_view v)))
-    (λ vs. 0x71 ∷ list_text made_text (map made vs)) (λ vs. 0x71 ∷ list_text (λ x. (case x).text) (map case_view vs))
-    (λ vs. ap (λ (t : List ℕ). 0x71 ∷ t) (sym (list_text_map made_text made vs) ∙ list_text_map (λ x. (case x).text) case_view vs))
-    (λ vs. subst (λ (cause : Fault → Type 0). SameCause cause (drawn_cause (λ v. case_cause (case_view v)) vs)) (drawn_seen made made_cause vs) same_cause)
+    (λ vs. drawn_cause made_cause (map made vs)) (drawn_cause (λ v. case_cause (lent_case v)))
+    (λ vs. 0x71 ∷ list_text made_text (map made vs)) (λ vs. 0x71 ∷ list_text (λ x. (case x).text) (map lent_case vs))
+    (λ vs. ap (λ (t : List ℕ). 0x71 ∷ t) (sym (list_text_map made_text made vs) ∙ list_text_map (λ x. (case x).text) lent_case vs))
+    (λ vs. subst (λ (cause : Fault → Type 0). SameCause cause (drawn_cause (λ v. case_cause (lent_case v)) vs)) (drawn_seen made made_cause vs) same_cause)
     (made_of g.C.Iterator.next_gives c.args.cases _ c.map.result lender c.end_with_list.new.self c.end_with_list.result
     (λ bytes. g.L.Lender.ended (g.L.Lender.written lender bytes)) (g.L.Lender.refuses lender)
     (drawn_cause made_cause) (λ cs. 0x71 ∷ list_text made_text cs) made

@@ -1,0 +1,210 @@
+ghost use Rattle.std.specs.Prelude.{refl};
+
+use std::alloc::{Allocator, Global};
+use wenc_base::{Delimited, DelimitedEq, Encode, Fault, Tagged};
+use wenc_parts::{ComponentValType, PrimitiveValType};
+
+/// A type of values that a component defines, with all that is in it (component model, binary format, "Type
+/// Definitions"). More than 4294967295 fields, cases, elements or names can't be encoded, nor can a text of more
+/// than 4294967295 bytes.
+///
+/// ```
+/// let read = String::from_str(alloc, "read")?;
+/// let write = String::from_str(alloc, "write")?;
+/// DefinedTree::Flags(vec![in alloc; read, write]?).encode(&mut sink)?;
+/// ```
+#[derive(Drop)]
+#[derive_where(PartialEq, Eq, Debug)]
+pub enum DefinedTree<A: Allocator = Global> {
+    /// A primitive type.
+    Primitive(PrimitiveValType),
+    /// A record, by its fields in their order: the name of each, and its type.
+    Record(Vec<(String<A>, ComponentValType), A>),
+    /// A variant, by its cases in their order.
+    Variant(Vec<CaseTree<A>, A>),
+    /// A list, by the type of its elements.
+    List(ComponentValType),
+    /// A map.
+    Map {
+        /// The type of the keys.
+        key: ComponentValType,
+        /// The type of the values.
+        value: ComponentValType,
+    },
+    /// A list with a set number of elements.
+    FixedLengthList {
+        /// The type of the elements.
+        element: ComponentValType,
+        /// How many there are, from 0 to 4294967295.
+        length: u32,
+    },
+    /// A tuple, by the types of its elements in their order.
+    Tuple(Vec<ComponentValType, A>),
+    /// Flags, by their names in their order.
+    Flags(Vec<String<A>, A>),
+    /// An enumeration, by the names of its cases in their order.
+    Enum(Vec<String<A>, A>),
+    /// A value of this type, or none.
+    Option(ComponentValType),
+    /// A success or a failure, each with a value or without.
+    Result {
+        /// The type of the value of a success.
+        ok: Option<ComponentValType>,
+        /// The type of the value of a failure.
+        err: Option<ComponentValType>,
+    },
+    /// A handle that owns a resource, by the index of the resource's type, from 0 to 4294967295.
+    Own(u32),
+    /// A handle that borrows a resource, by the index of the resource's type, from 0 to 4294967295.
+    Borrow(u32),
+    /// A value that comes later, by its type, or nothing but that it has come.
+    Future(Option<ComponentValType>),
+    /// Values that come one after the other, by their type, or nothing but that they have come.
+    Stream(Option<ComponentValType>),
+}
+
+impl<A: Allocator> Encode for DefinedTree<A> {
+    ghost use Rattle.wenc_types.specs.DefinedTypes.{defined_type, defined_cause};
+    ghost use Rattle.wenc_types.specs.TypeTrees.{defined_view};
+
+    ghost text = { λ t. (defined_type (defined_view t)).text };
+
+    ghost cause = { λ t. defined_cause (defined_view t) };
+
+    fn encode<B: Allocator>(&self, sink: &mut Vec<u8, B>) -> Result<(), Fault> {
+        match self {
+            DefinedTree::Primitive(ty) => ty.encode(sink),
+            DefinedTree::Record(fields) => Tagged(0x72, &fields.as_slice()).encode(sink),
+            DefinedTree::Variant(cases) => Tagged(0x71, &cases.as_slice()).encode(sink),
+            DefinedTree::List(element) => Tagged(0x70, element).encode(sink),
+            DefinedTree::Map { key, value } => Tagged(0x63, &(*key, *value)).encode(sink),
+            DefinedTree::FixedLengthList { element, length } => {
+                Tagged(0x67, &(*element, *length)).encode(sink)
+            }
+            DefinedTree::Tuple(elements) => Tagged(0x6f, &elements.as_slice()).encode(sink),
+            DefinedTree::Flags(names) => Tagged(0x6e, &names.as_slice()).encode(sink),
+            DefinedTree::Enum(names) => Tagged(0x6d, &names.as_slice()).encode(sink),
+            DefinedTree::Option(ty) => Tagged(0x6b, ty).encode(sink),
+            DefinedTree::Result { ok, err } => Tagged(0x6a, &(*ok, *err)).encode(sink),
+            DefinedTree::Own(index) => Tagged(0x69, index).encode(sink),
+            DefinedTree::Borrow(index) => Tagged(0x68, index).encode(sink),
+            DefinedTree::Future(ty) => Tagged(0x65, ty).encode(sink),
+            DefinedTree::Stream(ty) => Tagged(0x66, ty).encode(sink),
+        }
+    }
+}
+
+impl<A: Allocator> Delimited for DefinedTree<A> {
+    ghost use Rattle.wenc_types.specs.DefinedTypes.{Defined, defined_type};
+    ghost use Rattle.wenc_types.specs.TypeTrees.{defined_view};
+    ghost use Rattle.wenc_types.specs.laws.DefinedTypes.{read_defined, defined_type_lawful};
+    ghost use Rattle.wenc_types.specs.laws.TypeTrees.{defined_free};
+
+    ghost Seen = { Defined };
+
+    ghost seen = { defined_view };
+
+    ghost form = { defined_type };
+
+    fn belongs(&self) {
+        match self {
+            DefinedTree::Primitive(ty) => ty.belongs(),
+            DefinedTree::Record(fields) => fields.as_slice().belongs(),
+            DefinedTree::Variant(cases) => cases.as_slice().belongs(),
+            DefinedTree::Tuple(elements) => elements.as_slice().belongs(),
+            DefinedTree::Flags(names) => names.as_slice().belongs(),
+            DefinedTree::Enum(names) => names.as_slice().belongs(),
+            DefinedTree::List(ty) | DefinedTree::Option(ty) => ty.belongs(),
+            DefinedTree::Future(ty) | DefinedTree::Stream(ty) => ty.belongs(),
+            DefinedTree::Own(index) | DefinedTree::Borrow(index) => index.belongs(),
+            DefinedTree::Map { key, value } => {
+                key.belongs();
+                value.belongs();
+            }
+            DefinedTree::FixedLengthList { element, length } => {
+                element.belongs();
+                length.belongs();
+            }
+            DefinedTree::Result { ok, err } => {
+                ok.belongs();
+                err.belongs();
+            }
+        }
+    }
+
+    ghost readable = { ((λ fuel. read_defined), defined_type_lawful) };
+
+    ghost text_of = { λ x. refl };
+
+    ghost free = { λ x. defined_free (defined_view x) };
+}
+
+impl<A: Allocator> DelimitedEq for DefinedTree<A> {
+    ghost use Rattle.std.specs.String.{string_bytes};
+    ghost use Rattle.wenc_types.specs.TypeTrees.{named_view, case_view};
+    ghost use Rattle.wenc_types.specs.laws.CoreTypes.{alike_by, each_sees};
+    ghost use Rattle.wenc_types.specs.laws.TypeTrees.{named_sees, case_sees, defined_sees};
+
+    ghost alike = { alike_by _ _ (defined_sees _
+        (λ v w. each_sees _ named_view (named_sees _ (λ m n t e. rw e refl)) v.items w.items)
+        (λ v w. each_sees _ case_view (case_sees _ (λ m n t e. rw e refl)) v.items w.items)
+        (λ v w e. rw e refl)
+        (λ v w. each_sees _ string_bytes (λ m n e. rw e refl) v.items w.items)
+        (λ v w. each_sees _ string_bytes (λ m n e. rw e refl) v.items w.items)) };
+}
+
+/// A case of a variant (component model, binary format, "Type Definitions"). A text of more than 4294967295 bytes
+/// can't be encoded.
+#[derive(Drop)]
+#[derive_where(PartialEq, Eq, Debug)]
+pub struct CaseTree<A: Allocator = Global> {
+    /// Its name.
+    pub name: String<A>,
+    /// The type of its value, where it has one.
+    pub ty: Option<ComponentValType>,
+}
+
+impl<A: Allocator> Encode for CaseTree<A> {
+    ghost use Rattle.wenc_types.specs.DefinedTypes.{case, case_cause};
+    ghost use Rattle.wenc_types.specs.TypeTrees.{case_view};
+
+    ghost text = { λ c. (case (case_view c)).text };
+
+    ghost cause = { λ c. case_cause (case_view c) };
+
+    fn encode<B: Allocator>(&self, sink: &mut Vec<u8, B>) -> Result<(), Fault> {
+        // the byte would say which case this one refines
+        (self.name.as_str(), self.ty, Tagged(0x00, &())).encode(sink)
+    }
+}
+
+impl<A: Allocator> Delimited for CaseTree<A> {
+    ghost use Rattle.wenc_types.specs.DefinedTypes.{Case, case};
+    ghost use Rattle.wenc_types.specs.TypeTrees.{case_view};
+    ghost use Rattle.wenc_types.specs.laws.DefinedTypes.{read_case, case_lawful};
+    ghost use Rattle.wenc_types.specs.laws.TypeTrees.{case_free};
+
+    ghost Seen = { Case };
+
+    ghost seen = { case_view };
+
+    ghost form = { case };
+
+    fn belongs(&self) {
+        self.name.belongs();
+        self.ty.belongs();
+    }
+
+    ghost readable = { ((λ fuel. read_case), case_lawful) };
+
+    ghost text_of = { λ x. refl };
+
+    ghost free = { λ x. case_free (case_view x) };
+}
+
+impl<A: Allocator> DelimitedEq for CaseTree<A> {
+    ghost use Rattle.wenc_types.specs.laws.CoreTypes.{alike_by};
+    ghost use Rattle.wenc_types.specs.laws.TypeTrees.{case_sees};
+
+    ghost alike = { alike_by _ _ (case_sees _ (λ m n t e. rw e refl)) };
+}

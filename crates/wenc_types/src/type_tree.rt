@@ -1,0 +1,327 @@
+ghost use Rattle.std.specs.Prelude.{◌∷◌, map, refl};
+ghost use Rattle.wenc_base.specs.Delimited.{NoCause, FreeFits};
+ghost use Rattle.wenc_base.specs.Encode.{Appends};
+ghost use Rattle.wenc_base.specs.Fault.{list_cause};
+ghost use Rattle.wenc_base.specs.Forms.{list_text, list};
+ghost use Rattle.wenc_base.specs.Piece.{◌⨾◌};
+ghost use Rattle.wenc_parts.specs.Imports.{extern_name, extern_name_cause, name_tree_view, type_reference};
+ghost use Rattle.wenc_types.specs.DefinedTypes.{function_type, function_cause};
+ghost use Rattle.wenc_types.specs.TypeTrees.{function_view};
+
+use crate::core_type_tree::CoreTypeTree;
+use crate::defined_tree::DefinedTree;
+use std::alloc::{Allocator, Global};
+use wenc_base::{Delimited, Encode, Fault, Tagged, ValType};
+use wenc_parts::{AliasTree, ComponentTypeRef, ComponentValType, NameTree, ResultList};
+
+/// A type that a component defines, with all that is in it, however deep (component model, binary format, "Type
+/// Definitions").
+///
+/// ```
+/// let name = NameTree::from(String::from_str(alloc, "f")?);
+/// let ty = ComponentTypeRef::Func(0);
+/// let function = TypeTree::Func { is_async: false, params: Vec::new(alloc), result: None };
+/// let decls = vec![in alloc; InstanceDecl::Type(function), InstanceDecl::Export { name, ty }]?;
+/// TypeTree::Instance(decls).encode(&mut sink)?;
+/// ```
+#[cycle(types)]
+#[derive(Drop)]
+pub enum TypeTree<A: Allocator = Global> {
+    /// A type of values.
+    Defined(DefinedTree<A>),
+    /// A function.
+    Func {
+        /// Whether it is asynchronous.
+        is_async: bool,
+        /// The name of each parameter and its type, in their order. More than 4294967295 can't be encoded, nor can a
+        /// name of more than 4294967295 bytes.
+        params: Vec<(String<A>, ComponentValType), A>,
+        /// The type of the value that it answers, where it answers one.
+        result: Option<ComponentValType>,
+    },
+    /// A component, by its declarations in their order. More than 4294967295 can't be encoded.
+    Component(Vec<ComponentDecl<A>, A>),
+    /// An instance, by its declarations in their order. More than 4294967295 can't be encoded.
+    Instance(Vec<InstanceDecl<A>, A>),
+    /// A resource.
+    Resource {
+        /// How it is represented.
+        rep: ValType,
+        /// The index of the function that ends it, from 0 to 4294967295, where there is one.
+        dtor: Option<u32>,
+    },
+}
+
+/// What an instance type declares (component model, binary format, "Type Definitions").
+#[cycle(types)]
+#[derive(Drop)]
+pub enum InstanceDecl<A: Allocator = Global> {
+    /// A core type, which gets the next index of core types.
+    CoreType(CoreTypeTree<A>),
+    /// A type, which gets the next index of types.
+    Type(TypeTree<A>),
+    /// An alias, which gets the next index of its kind. A text of more than 4294967295 bytes can't be encoded.
+    Alias(AliasTree<A>),
+    /// The instance exports this.
+    Export {
+        /// Its name. A text of more than 4294967295 bytes can't be encoded.
+        name: NameTree<A>,
+        /// Its type. An index of a type counts the types of this instance type, from 0 to 4294967295.
+        ty: ComponentTypeRef,
+    },
+}
+
+/// What a component type declares (component model, binary format, "Type Definitions").
+#[cycle(types)]
+#[derive(Drop)]
+pub enum ComponentDecl<A: Allocator = Global> {
+    /// The component imports this.
+    Import {
+        /// Its name. A text of more than 4294967295 bytes can't be encoded.
+        name: NameTree<A>,
+        /// Its type. An index of a type counts the types of this component type, from 0 to 4294967295.
+        ty: ComponentTypeRef,
+    },
+    /// What an instance type may declare as well.
+    Decl(InstanceDecl<A>),
+}
+
+impl<A: Allocator> Encode for TypeTree<A> {
+    ghost use Rattle.wenc_types.specs.ComponentTypes.{type_of};
+    ghost use Rattle.wenc_types.specs.TypeTrees.{type_cause, type_view};
+
+    ghost text = { λ t. (type_of (type_view t)).text };
+
+    ghost cause = { λ t. type_cause (type_view t) };
+
+    #[cycle(encode)]
+    fn encode<B: Allocator>(&self, sink: &mut Vec<u8, B>) -> Result<(), Fault> {
+        match self {
+            TypeTree::Defined(ty) => ty.encode(sink),
+            TypeTree::Func {
+                is_async,
+                params,
+                result,
+            } => encode_function(*is_async, params, *result, sink),
+            TypeTree::Component(decls) => encode_members(0x41, decls, sink),
+            TypeTree::Instance(decls) => encode_members(0x42, decls, sink),
+            TypeTree::Resource { rep, dtor } => Tagged(0x3f, &(*rep, *dtor)).encode(sink),
+        }
+    }
+}
+
+impl<A: Allocator> Encode for InstanceDecl<A> {
+    ghost use Rattle.wenc_types.specs.ComponentTypes.{instance_declaration};
+    ghost use Rattle.wenc_types.specs.TypeTrees.{instance_declaration_cause, instance_declaration_view};
+
+    ghost text = { λ d. (instance_declaration (instance_declaration_view d)).text };
+
+    ghost cause = { λ d. instance_declaration_cause (instance_declaration_view d) };
+
+    #[cycle(encode)]
+    fn encode<B: Allocator>(&self, sink: &mut Vec<u8, B>) -> Result<(), Fault> {
+        match self {
+            InstanceDecl::CoreType(ty) => Tagged(0x00, ty).encode(sink),
+            InstanceDecl::Type(ty) => encode_tagged(0x01, ty, sink),
+            InstanceDecl::Alias(alias) => Tagged(0x02, &alias.as_alias()).encode(sink),
+            InstanceDecl::Export { name, ty } => encode_extern(0x04, name, *ty, sink),
+        }
+    }
+}
+
+impl<A: Allocator> Encode for ComponentDecl<A> {
+    ghost use Rattle.wenc_types.specs.ComponentTypes.{component_declaration};
+    ghost use Rattle.wenc_types.specs.TypeTrees.{component_declaration_cause, component_declaration_view};
+
+    ghost text = { λ d. (component_declaration (component_declaration_view d)).text };
+
+    ghost cause = { λ d. component_declaration_cause (component_declaration_view d) };
+
+    #[cycle(encode)]
+    fn encode<B: Allocator>(&self, sink: &mut Vec<u8, B>) -> Result<(), Fault> {
+        match self {
+            ComponentDecl::Import { name, ty } => encode_extern(0x03, name, *ty, sink),
+            ComponentDecl::Decl(decl) => decl.encode(sink),
+        }
+    }
+}
+
+impl<A: Allocator> Delimited for TypeTree<A> {
+    ghost use Rattle.wenc_types.specs.ComponentTypes.{TypeOf, type_of};
+    ghost use Rattle.wenc_types.specs.TypeTrees.{type_view};
+    ghost use Rattle.wenc_types.specs.laws.ComponentTypes.{read_type, type_lawful};
+    ghost use Rattle.wenc_types.specs.laws.TypeTrees.{type_free};
+
+    ghost Seen = { TypeOf };
+
+    ghost seen = { type_view };
+
+    ghost form = { type_of };
+
+    #[cycle(belongs)]
+    fn belongs(&self) {
+        match self {
+            TypeTree::Defined(ty) => ty.belongs(),
+            TypeTree::Func {
+                is_async,
+                params,
+                result,
+            } => function_belongs(*is_async, params, *result),
+            TypeTree::Component(decls) => members_belong(decls),
+            TypeTree::Instance(decls) => members_belong(decls),
+            TypeTree::Resource { rep, dtor } => {
+                rep.belongs();
+                dtor.belongs();
+            }
+        }
+    }
+
+    ghost readable = { (read_type, type_lawful) };
+
+    ghost text_of = { λ x. refl };
+
+    ghost free = { λ x. type_free (type_view x) };
+}
+
+impl<A: Allocator> Delimited for InstanceDecl<A> {
+    ghost use Rattle.wenc_types.specs.ComponentTypes.{InstanceDeclaration, instance_declaration};
+    ghost use Rattle.wenc_types.specs.TypeTrees.{instance_declaration_view};
+    ghost use Rattle.wenc_types.specs.laws.ComponentTypes.{read_type, read_instance_declaration, instance_declaration_lawful};
+    ghost use Rattle.wenc_types.specs.laws.TypeTrees.{instance_declaration_free};
+
+    ghost Seen = { InstanceDeclaration };
+
+    ghost seen = { instance_declaration_view };
+
+    ghost form = { instance_declaration };
+
+    #[cycle(belongs)]
+    fn belongs(&self) {
+        match self {
+            InstanceDecl::CoreType(ty) => ty.belongs(),
+            InstanceDecl::Type(ty) => ty.belongs(),
+            InstanceDecl::Alias(alias) => alias.as_alias().belongs(),
+            InstanceDecl::Export { name, ty } => extern_belongs(name, *ty),
+        }
+    }
+
+    ghost readable = { (
+      (λ fuel. read_instance_declaration (read_type fuel)),
+      instance_declaration_lawful,
+    ) };
+
+    ghost text_of = { λ x. refl };
+
+    ghost free = { λ x. instance_declaration_free (instance_declaration_view x) };
+}
+
+impl<A: Allocator> Delimited for ComponentDecl<A> {
+    ghost use Rattle.wenc_types.specs.ComponentTypes.{ComponentDeclaration, component_declaration};
+    ghost use Rattle.wenc_types.specs.TypeTrees.{component_declaration_view};
+    ghost use Rattle.wenc_types.specs.laws.ComponentTypes.{read_type, read_component_declaration, component_declaration_lawful};
+    ghost use Rattle.wenc_types.specs.laws.TypeTrees.{component_declaration_free};
+
+    ghost Seen = { ComponentDeclaration };
+
+    ghost seen = { component_declaration_view };
+
+    ghost form = { component_declaration };
+
+    #[cycle(belongs)]
+    fn belongs(&self) {
+        match self {
+            ComponentDecl::Import { name, ty } => extern_belongs(name, *ty),
+            ComponentDecl::Decl(decl) => decl.belongs(),
+        }
+    }
+
+    ghost readable = { (
+      (λ fuel. read_component_declaration (read_type fuel)),
+      component_declaration_lawful,
+    ) };
+
+    ghost text_of = { λ x. refl };
+
+    ghost free = { λ x. component_declaration_free (component_declaration_view x) };
+}
+
+/// A byte, then a value.
+fn encode_tagged<T: Encode, A: Allocator>(
+    tag: u8,
+    value: &T,
+    sink: &mut Vec<u8, A>,
+) -> Result<(), Fault>
+    ensures { Appends (tag ∷ T.text value.now) (T.cause value.now) (T.unfinished value.now)
+        sink.old.items sink.new.items result }
+{
+    Tagged(tag, value).encode(sink)
+}
+
+/// A byte, then how many values, then each.
+fn encode_members<T: Encode, A: Allocator, B: Allocator>(
+    tag: u8,
+    values: &Vec<T, A>,
+    sink: &mut Vec<u8, B>,
+) -> Result<(), Fault>
+    ensures { Appends (tag ∷ list_text T.text values.now.items)
+        (list_cause T.cause values.now.items) ⊥ sink.old.items sink.new.items result }
+{
+    Tagged(tag, &values.as_slice()).encode(sink)
+}
+
+/// A function, behind a byte that says whether it is asynchronous.
+fn encode_function<A: Allocator, B: Allocator>(
+    is_async: bool,
+    params: &Vec<(String<A>, ComponentValType), A>,
+    answer: Option<ComponentValType>,
+    sink: &mut Vec<u8, B>,
+) -> Result<(), Fault>
+    ensures { Appends (function_type (function_view is_async params.now.items answer)).text
+        (function_cause (function_view is_async params.now.items answer)) ⊥
+        sink.old.items sink.new.items result }
+{
+    let tag = if is_async { 0x43 } else { 0x40 };
+    Tagged(tag, &(params.as_slice(), ResultList(answer))).encode(sink)
+}
+
+/// A byte that says whether it is imported or exported, then a name and its type.
+fn encode_extern<A: Allocator, B: Allocator>(
+    tag: u8,
+    name: &NameTree<A>,
+    ty: ComponentTypeRef,
+    sink: &mut Vec<u8, B>,
+) -> Result<(), Fault>
+    ensures { Appends (tag ∷ (extern_name (name_tree_view name.now) ⨾ type_reference ty).text)
+        (extern_name_cause (name_tree_view name.now)) ⊥ sink.old.items sink.new.items result }
+{
+    Tagged(tag, &(name.as_name(), ty)).encode(sink)
+}
+
+/// Values that nothing keeps from being encoded have a text in the form of a list. The call does nothing.
+fn members_belong<T: Delimited, A: Allocator>(values: &Vec<T, A>)
+    ensures { FreeFits (list_cause T.cause) (map T.seen) (list T.form) values.now.items }
+{
+    values.as_slice().belongs();
+}
+
+/// The type of a function that nothing keeps from being encoded has a text in its form. The call does nothing.
+fn function_belongs<A: Allocator>(
+    is_async: bool,
+    params: &Vec<(String<A>, ComponentValType), A>,
+    answer: Option<ComponentValType>,
+)
+    ensures { NoCause (function_cause (function_view is_async params.now.items answer))
+        → (function_type (function_view is_async params.now.items answer)).Fits }
+{
+    params.as_slice().belongs();
+    ResultList(answer).belongs();
+}
+
+/// A name and a type that nothing keeps from being encoded have a text in their form. The call does nothing.
+fn extern_belongs<A: Allocator>(name: &NameTree<A>, ty: ComponentTypeRef)
+    ensures { NoCause (extern_name_cause (name_tree_view name.now))
+        → (extern_name (name_tree_view name.now) ⨾ type_reference ty).Fits }
+{
+    name.as_name().belongs();
+    ty.belongs();
+}
