@@ -18,7 +18,13 @@ ghost use Rattle.wenc_sections.specs.Exports.{Export, export_item, export_text};
 ghost use Rattle.wenc_sections.specs.Imports.{Import, import_item, import_text};
 ghost use Rattle.wenc_sections.specs.Instances.{CoreInstance, core_instance, core_instance_text, Instance, instance, instance_text};
 ghost use Rattle.wenc_types.specs.CoreTypes.{ModuleDeclaration, Defined, module_type, CoreType, core_type, core_type_text};
+ghost use Rattle.wenc_types.specs.ComponentTypes as component;
+ghost use Rattle.wenc_types.specs.ComponentTypes.{TypeOf, ComponentType, InstanceType, InstanceDeclaration, ComponentDeclaration, CoreTyped, Typed, components_of, instances_of, type_of, type_text};
+ghost use Rattle.wenc_types.specs.Declarations as types;
+ghost use Rattle.wenc_types.specs.Declarations.{Declaring, Settled, ComponentDeclares, InstanceDeclares};
 ghost use Rattle.wenc_types.specs.ModuleTypes.{Declared, Declares, begun, written, ended, taken_back};
+ghost use Rattle.wenc_types.specs.declared.counts.Sort.TheVariants as sorts;
+ghost use Rattle.wenc_types.specs.declared.counts.Sort.{Sort};
 ghost use Rattle.wasm_encoder.specs.AllForms.{FormName, value_of, form_of};
 
 use wenc_base::{Delimited, DelimitedEq};
@@ -86,14 +92,22 @@ pub fn reads_once()
         → (form_of f v).Reads Strict bytes rest → (form_of f v).Reads Wide bytes rest }
 {}
 
-/// The text of a section that contains some items is their size, their number and the items. That of a module type with
-/// some declarations is a byte, their number and the declarations.
+/// The text of a section that contains some items is their size, their number and the items. That of a module type, a
+/// component type or an instance type with some declarations is a byte, their number and the declarations.
 pub fn sections_are_their_items()
     ensures core_types { (section : Held) (items : List CoreType)
         → Contains core_type_text section items
         → section_text section ≡ (counted core_type items).text }
+    ensures types { (section : Held) (items : List TypeOf) → Contains type_text section items
+        → section_text section ≡ (counted type_of items).text }
     ensures module_types { (ty : Declared) (ds : List ModuleDeclaration) → Declares ty ds
         → 0x50 ∷ held_text ty.held ≡ (module_type ds).text }
+    ensures component_types { (t : Declaring) (ds : List ComponentDeclaration)
+        → ComponentDeclares t ds
+        → 0x41 ∷ held_text t.held ≡ (type_of (ComponentType (components_of ds))).text }
+    ensures instance_types { (t : Declaring) (ds : List InstanceDeclaration)
+        → InstanceDeclares t ds
+        → 0x42 ∷ held_text t.held ≡ (type_of (InstanceType (instances_of ds))).text }
     ensures aliases { (section : Held) (items : List AliasOf) → Contains alias_text section items
         → section_text section ≡ (counted alias items).text }
     ensures imports { (section : Held) (items : List Import) → Contains import_text section items
@@ -112,8 +126,8 @@ pub fn sections_are_their_items()
         → producers_text section ≡ (producers_section fields).text }
 {}
 
-/// A member that is written piece by piece, and a type that a module type declares: given up it leaves no trace, and
-/// ended it is one more.
+/// A member that is written piece by piece, and a type that a module type, a component type or an instance type
+/// declares: given up it leaves no trace, and ended it is one more.
 pub fn openings_are_members()
     ensures given_up { (h : Held) (lead more : List ℕ) → is_finished h ≡ true
         → given_up (lengthened (opened_with h lead) more) ≡ h }
@@ -124,6 +138,26 @@ pub fn openings_are_members()
         → taken_back (written (begun ty) text) ≡ ty }
     ensures module_ended { (ty : Declared) (g : Group) (ds : List ModuleDeclaration) → Declares ty ds
         → Declares (ended (written (begun ty) (group g).text)) (ds ++ Defined g ∷ []) }
+    ensures type_given_up { (t : Declaring) (sort : Sort) (text : List ℕ) → Settled t
+        → types.taken_back (types.written (types.begun sort t) text) ≡ t }
+    ensures type_ended_in_component { (t : Declaring) (ty : TypeOf) (ds : List ComponentDeclaration)
+        → ComponentDeclares t ds
+        → ComponentDeclares (types.ended (types.written (types.begun sorts.«Type» t) (type_text ty)))
+        (ds ++ component.Declared (Typed ty) ∷ []) }
+    ensures core_type_ended_in_component { (t : Declaring) (ty : CoreType)
+        (ds : List ComponentDeclaration) → ComponentDeclares t ds
+        → ComponentDeclares
+        (types.ended (types.written (types.begun sorts.CoreType t) (core_type_text ty)))
+        (ds ++ component.Declared (CoreTyped ty) ∷ []) }
+    ensures type_ended_in_instance { (t : Declaring) (ty : TypeOf) (ds : List InstanceDeclaration)
+        → InstanceDeclares t ds
+        → InstanceDeclares (types.ended (types.written (types.begun sorts.«Type» t) (type_text ty)))
+        (ds ++ Typed ty ∷ []) }
+    ensures core_type_ended_in_instance { (t : Declaring) (ty : CoreType)
+        (ds : List InstanceDeclaration) → InstanceDeclares t ds
+        → InstanceDeclares
+        (types.ended (types.written (types.begun sorts.CoreType t) (core_type_text ty)))
+        (ds ++ CoreTyped ty ∷ []) }
 {}
 
 /// A call that adds an intrinsic and answers `Ok` has added it: there is one function more, so that a call which leaves

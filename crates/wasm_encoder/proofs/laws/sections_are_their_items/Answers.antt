@@ -6,7 +6,9 @@ use Rattle.wenc_sections.specs.Exports.{export_item}
 use Rattle.wenc_sections.specs.Imports.{import_item}
 use Rattle.wenc_sections.specs.Instances.{core_instance, instance}
 use Rattle.wenc_types.specs.CoreTypes.{core_type}
+use Rattle.wenc_types.specs.ComponentTypes.{type_of}
 use Rattle.wenc_types.specs.laws.CoreTypes.{module_type_of}
+use Rattle.wenc_types.specs.laws.Declarations.{component_type_text, instance_type_text}
 use Rattle.wasm_encoder.proofs.laws.sections_are_their_items.Goals as goal
 
 pub returns-clause-aliases : goal.returns-clause-aliases
@@ -35,3 +37,12 @@ returns-clause-core_types c = λ section items contains. section_of core_type se
 
 pub returns-clause-module_types : goal.returns-clause-module_types
 returns-clause-module_types c = λ ty ds declares. module_type_of ty ds declares
+
+pub returns-clause-types : goal.returns-clause-types
+returns-clause-types c = λ section items contains. section_of type_of section items contains
+
+pub returns-clause-component_types : goal.returns-clause-component_types
+returns-clause-component_types c = λ t ds declares. component_type_text t ds declares
+
+pub returns-clause-instance_types : goal.returns-clause-instance_types
+returns-clause-instance_types c = λ t ds declares. instance_type_text t ds declares
