@@ -1,1 +1,2 @@
+pub mod DefinedEqualities
 pub mod Equalities

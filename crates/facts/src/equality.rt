@@ -4,6 +4,7 @@ ghost use Rattle.std.specs.Ordering.{nat_cmp};
 ghost use Rattle.wenc_base.specs.Composites.{function_view, structure_view, composite_view, sub_view, group_view};
 ghost use Rattle.wenc_parts.specs.SectionIds.{section_number};
 ghost use Rattle.wenc_types.specs.CoreTypeTrees.{core_type_view, module_declaration_view};
+ghost use Rattle.wenc_types.specs.TypeTrees.{case_view, defined_view};
 
 use std::alloc::Allocator;
 use std::cmp::Ordering;
@@ -17,7 +18,7 @@ use wenc_parts::{
     ComponentExportKind, ComponentOuterAliasKind, ComponentSectionId, ComponentTypeRef,
     ComponentValType, ModuleArg, PrimitiveValType, ResultList, TypeBounds,
 };
-use wenc_types::{CoreTypeTree, ModuleDecl};
+use wenc_types::{CaseTree, CoreTypeTree, DefinedTree, FuncStage, ModuleDecl};
 
 pub fn kinds_of_core_exports(one: ExportKind, other: ExportKind) -> bool
     ensures { IsTrue result ↔ (one ≡ other) }
@@ -140,6 +141,24 @@ pub fn declarations_of_modules<A: Allocator>(one: &ModuleDecl<A>, other: &Module
 
 pub fn core_types<A: Allocator>(one: &CoreTypeTree<A>, other: &CoreTypeTree<A>) -> bool
     ensures { IsTrue result ↔ (core_type_view one.now ≡ core_type_view other.now) }
+{
+    one == other
+}
+
+pub fn stages_of_functions(one: FuncStage, other: FuncStage) -> bool
+    ensures { IsTrue result ↔ (one ≡ other) }
+{
+    one == other
+}
+
+pub fn cases_of_variants<A: Allocator>(one: &CaseTree<A>, other: &CaseTree<A>) -> bool
+    ensures { IsTrue result ↔ (case_view one.now ≡ case_view other.now) }
+{
+    one == other
+}
+
+pub fn defined_types<A: Allocator>(one: &DefinedTree<A>, other: &DefinedTree<A>) -> bool
+    ensures { IsTrue result ↔ (defined_view one.now ≡ defined_view other.now) }
 {
     one == other
 }

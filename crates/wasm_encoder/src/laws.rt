@@ -142,7 +142,8 @@ pub fn openings_are_members()
         → types.taken_back (types.written (types.begun sort t) text) ≡ t }
     ensures type_ended_in_component { (t : Declaring) (ty : TypeOf) (ds : List ComponentDeclaration)
         → ComponentDeclares t ds
-        → ComponentDeclares (types.ended (types.written (types.begun sorts.«Type» t) (type_text ty)))
+        → ComponentDeclares
+        (types.ended (types.written (types.begun sorts.«Type» t) (type_text ty)))
         (ds ++ component.Declared (Typed ty) ∷ []) }
     ensures core_type_ended_in_component { (t : Declaring) (ty : CoreType)
         (ds : List ComponentDeclaration) → ComponentDeclares t ds
@@ -151,7 +152,8 @@ pub fn openings_are_members()
         (ds ++ component.Declared (CoreTyped ty) ∷ []) }
     ensures type_ended_in_instance { (t : Declaring) (ty : TypeOf) (ds : List InstanceDeclaration)
         → InstanceDeclares t ds
-        → InstanceDeclares (types.ended (types.written (types.begun sorts.«Type» t) (type_text ty)))
+        → InstanceDeclares
+        (types.ended (types.written (types.begun sorts.«Type» t) (type_text ty)))
         (ds ++ Typed ty ∷ []) }
     ensures core_type_ended_in_instance { (t : Declaring) (ty : CoreType)
         (ds : List InstanceDeclaration) → InstanceDeclares t ds
