@@ -1,2 +1,3 @@
 pub mod DefinedEqualities
 pub mod Equalities
+pub mod Functions

@@ -1,13 +1,18 @@
-//! Core types that are written by encoders, from the contracts that everybody sees.
-ghost use Rattle.std.specs.Prelude.{◌≡◌, ◌++◌, ◌∷◌, [], List, OnOk, Ok, true};
+//! Types that are written by encoders, from the contracts that everybody sees.
+ghost use Rattle.std.specs.Iterator.Runs.{WholeRun};
+ghost use Rattle.std.specs.Iterator.{IsFinite};
+ghost use Rattle.std.specs.Prelude.{◌≡◌, ◌++◌, ◌∷◌, [], List, map, OnOk, Ok, true, false};
 ghost use Rattle.wenc_base.specs.Composites.{Single, sub_view};
 ghost use Rattle.wenc_base.specs.Holder.{Contains};
+ghost use Rattle.wenc_types.specs.ComponentTypes.{TypeOf, FunctionType, type_text};
 ghost use Rattle.wenc_types.specs.CoreTypes.{CoreType, Grouped, ModuleDeclaration, Defined, core_type_text};
+ghost use Rattle.wenc_types.specs.DefinedTypes.{lent_named};
 ghost use Rattle.wenc_types.specs.ModuleTypes.{Declares};
 
 use std::alloc::Allocator;
 use wenc_base::{Fault, SubType};
-use wenc_sections::CoreTypeSection;
+use wenc_parts::ComponentValType;
+use wenc_sections::{ComponentTypeSection, CoreTypeSection};
 use wenc_types::ModuleType;
 
 /// A type that is begun and dropped, given up, and begun again: the section has one type more, and no trace of the
@@ -51,4 +56,27 @@ pub fn declared<A: Allocator, B: Allocator>(
         → Declares types.new (ds ++ Defined (Single (sub_view ty.now)) ∷ [])) }
 {
     types.ty()?.subtype(ty)
+}
+
+/// A type of functions, from its opening to its end.
+pub fn function_written<'b, A: Allocator, P>(
+    section: &mut ComponentTypeSection<A>,
+    params: P,
+    answer: Option<ComponentValType>,
+) -> Result<(), Fault>
+where
+    P: Iterator<Item = (&'b str, ComponentValType)> + Drop,
+    requires can { P.can_next params }
+    requires ends { IsFinite (P.remaining params) }
+    ensures { OnOk result (WholeRun P.next_gives params (λ run. (types : List TypeOf)
+        → Contains type_text section.old types → Contains type_text section.new
+        (types ++ FunctionType (record {
+          is_async = false;
+          params = map lent_named run.items;
+          answer = answer;
+        }) ∷ []))) }
+{
+    let mut function = section.function()?;
+    function.params(params)?;
+    function.result(answer)
 }
