@@ -1,3 +1,4 @@
 pub mod DefinedEqualities
 pub mod Equalities
 pub mod Functions
+pub mod Options

@@ -4,16 +4,17 @@ ghost use Rattle.std.specs.Iterator.{IsFinite};
 ghost use Rattle.std.specs.Prelude.{◌≡◌, ◌++◌, ◌∷◌, [], List, map, OnOk, Ok, true, false};
 ghost use Rattle.wenc_base.specs.Composites.{Single, sub_view};
 ghost use Rattle.wenc_base.specs.Holder.{Contains};
-ghost use Rattle.wenc_types.specs.ComponentTypes.{TypeOf, FunctionType, type_text};
+ghost use Rattle.wenc_types.specs.ComponentTypes.{TypeOf, DefinedType, FunctionType, ComponentDeclaration, Declared, Typed, type_text};
+ghost use Rattle.wenc_types.specs.Declarations.{ComponentDeclares};
 ghost use Rattle.wenc_types.specs.CoreTypes.{CoreType, Grouped, ModuleDeclaration, Defined, core_type_text};
-ghost use Rattle.wenc_types.specs.DefinedTypes.{lent_named};
+ghost use Rattle.wenc_types.specs.DefinedTypes.{OptionOf, lent_named};
 ghost use Rattle.wenc_types.specs.ModuleTypes.{Declares};
 
 use std::alloc::Allocator;
 use wenc_base::{Fault, SubType};
 use wenc_parts::ComponentValType;
 use wenc_sections::{ComponentTypeSection, CoreTypeSection};
-use wenc_types::ModuleType;
+use wenc_types::{ComponentType, ModuleType};
 
 /// A type that is begun and dropped, given up, and begun again: the section has one type more, and no trace of the
 /// other.
@@ -79,4 +80,15 @@ where
     let mut function = section.function()?;
     function.params(params)?;
     function.result(answer)
+}
+
+/// An option that a component type declares: there is one declaration more.
+pub fn option_declared<A: Allocator>(
+    types: &mut ComponentType<A>,
+    ty: ComponentValType,
+) -> Result<(), Fault>
+    ensures { OnOk result ((ds : List ComponentDeclaration) → ComponentDeclares types.old ds
+        → ComponentDeclares types.new (ds ++ Declared (Typed (DefinedType (OptionOf ty))) ∷ [])) }
+{
+    types.ty()?.defined_type().option(ty)
 }
