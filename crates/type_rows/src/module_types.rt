@@ -3,6 +3,7 @@
 use crate::calls::Call;
 use crate::checks::{copy_type, function, is_type, pair};
 use std::alloc::Global;
+use std::process::Abort;
 use std::test::Fail;
 use wenc_base::{
     AbstractHeapType, EntityType, Fault, GlobalType, HeapType, MemoryType, RefType, StorageType,
@@ -115,13 +116,17 @@ fn types(rt: HostRuntime) -> Result<(), Fail> {
     Ok(())
 }
 
+/// The copy of a module type with an alias takes a type.
+fn grows(rt: &impl Abort, alloc: Global, copy: &mut ModuleType) -> Result<(), Fault> {
+    is_type(rt, alloc, copy, 1, "50010210010100")?;
+    Call::Function(&[], &[]).write(copy)?;
+    is_type(rt, alloc, copy, 2, "5002021001010001600000")
+}
+
 #[test]
 fn copies(rt: HostRuntime) -> Result<(), Fail> {
     let ty = alias(rt.alloc())?;
-    let mut copy = copy_type(&ty)?;
-    is_type(&rt, rt.alloc(), &copy, 1, "50010210010100")?;
-    Call::Function(&[], &[]).write(&mut copy)?;
-    is_type(&rt, rt.alloc(), &copy, 2, "5002021001010001600000")?;
+    grows(&rt, rt.alloc(), &mut copy_type(&ty)?)?;
     is_type(&rt, rt.alloc(), &ty, 1, "50010210010100")?;
     Ok(())
 }

@@ -80,15 +80,24 @@ fn several(rt: HostRuntime) -> Result<(), Fail> {
     Ok(())
 }
 
+/// A section of a module type with nothing in it.
+fn of_module(alloc: Global) -> Result<CoreTypeSection, Fault> {
+    let mut section = CoreTypeSection::new(alloc);
+    add_module(&mut section, &ModuleType::new(alloc))?;
+    Ok(section)
+}
+
+/// The copy of a section of a module type takes another one.
+fn grows(rt: &impl Abort, alloc: Global, copy: &mut CoreTypeSection) -> Result<(), Fault> {
+    is_section(rt, alloc, copy, 1, "0303015000")?;
+    add_module(copy, &ModuleType::new(alloc))?;
+    is_section(rt, alloc, copy, 2, "03050250005000")
+}
+
 #[test]
 fn copies(rt: HostRuntime) -> Result<(), Fail> {
-    let ty = ModuleType::new(rt.alloc());
-    let mut section = CoreTypeSection::new(rt.alloc());
-    add_module(&mut section, &ty)?;
-    let mut copy = copy(&section)?;
-    is_section(&rt, rt.alloc(), &copy, 1, "0303015000")?;
-    add_module(&mut copy, &ty)?;
-    is_section(&rt, rt.alloc(), &copy, 2, "03050250005000")?;
+    let section = of_module(rt.alloc())?;
+    grows(&rt, rt.alloc(), &mut copy(&section)?)?;
     is_section(&rt, rt.alloc(), &section, 1, "0303015000")?;
     Ok(())
 }

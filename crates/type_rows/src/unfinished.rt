@@ -129,12 +129,17 @@ fn begin_type(ty: &mut ModuleType) -> Result<(), Fault> {
     Ok(())
 }
 
+/// A copy is unfinished too.
+fn copies(rt: &impl Abort, alloc: Global, ty: &mut ModuleType) -> Result<(), Fault> {
+    is_begun(rt, alloc, ty)?;
+    is_taken_back(rt, alloc, &mut copy_type(ty)?)
+}
+
 #[test]
 fn module_types(rt: HostRuntime) -> Result<(), Fail> {
     let mut ty = ModuleType::new(rt.alloc());
     begin_type(&mut ty)?;
-    is_begun(&rt, rt.alloc(), &mut ty)?;
-    is_taken_back(&rt, rt.alloc(), &mut copy_type(&ty)?)?;
+    copies(&rt, rt.alloc(), &mut ty)?;
     is_taken_back(&rt, rt.alloc(), &mut ty)?;
     ty.alias_outer_core_type(1, 0)?;
     is_type(&rt, rt.alloc(), &ty, 1, "50010210010100")?;
