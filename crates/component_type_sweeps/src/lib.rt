@@ -7,3 +7,5 @@ mod declarations;
 mod rows;
 #[cfg(test)]
 mod section;
+#[cfg(test)]
+mod trees;
