@@ -1,4 +1,4 @@
-//! Sweeps of the calls of component types and instance types, and of the encoders that they lend themselves to.
+//! Sweeps of the calls of component types and instance types, and of the encoders that they lend.
 
 use crate::rows::{CALLS, EXPORT, INDEXED, component_type, instance_type};
 use component_type_rows::Declaration;
@@ -74,8 +74,8 @@ impl<'a, 't, K: Declares> Adds<Declared<'a, K>> for Declaration<'t> {
     }
 }
 
-/// A type, from its beginning on. Where a call is refused but the beginning was not, it is unfinished until the type
-/// is given up. `TooMany` says that it was otherwise.
+/// A type, from its beginning on. Where a later call is refused, it is unfinished until given up.
+/// `TooMany` says that it was otherwise.
 #[derive(Clone, Copy)]
 struct Lent<'t>(Declaration<'t>);
 
@@ -92,7 +92,7 @@ impl<'a, 't, K: Declares> Adds<Declared<'a, K>> for Lent<'t> {
     }
 }
 
-/// What either declares by one call. The last is an import.
+/// What either declares by one call.
 const DECLARATIONS: [Declaration<'static>; 5] = [
     Declaration::Alias(Alias::InstanceExport {
         instance: LARGE,
@@ -130,7 +130,8 @@ fn added(rt: HostRuntime) -> Result<(), Fail> {
 fn imports(rt: HostRuntime) -> Result<(), Fail> {
     let heap = Refusing::new(rt.alloc());
     let alloc = rt.alloc();
-    assert!(rt; sweep_add::<Declared<'_, ComponentTypes>, Declaration<'_>>(alloc, &heap, &IMPORT)?);
+    let call = IMPORT;
+    assert!(rt; sweep_add::<Declared<'_, ComponentTypes>, Declaration<'_>>(alloc, &heap, &call)?);
     Ok(())
 }
 

@@ -1,4 +1,4 @@
-//! The calls that write types, and types that are whole, of more bytes than a first growth has room for.
+//! The calls that write types, and types that are whole, mostly longer than a first growth.
 
 use component_type_rows::{Call, Declaration};
 use std::alloc::Global;

@@ -18,7 +18,7 @@ use wenc_types::{ComponentType, InstanceType};
 struct Types<'a>(ComponentTypeSection<&'a Refusing>);
 
 impl<'a> Types<'a> {
-    /// Gives up the item that a refused call has left unfinished. `TooMany` says that there was none.
+    /// Gives up the item that a refused call has left unfinished. `TooMany`: there was none.
     fn give_up(&mut self) -> Result<(), Fault> {
         let is_unfinished = !self.0.is_finished() && self.0.ty().err() == Some(Fault::Unfinished);
         if is_unfinished && self.0.discard_unfinished() {
@@ -28,7 +28,7 @@ impl<'a> Types<'a> {
         }
     }
 
-    /// The same, where this came of a call by an encoder and is a refusal.
+    /// The same, where an encoder's call was refused. Answers what the call did.
     fn ended(&mut self, outcome: Result<(), Fault>) -> Result<(), Fault> {
         if outcome.is_err() {
             self.give_up()?;
@@ -137,7 +137,7 @@ fn sections(rt: HostRuntime) -> Result<(), Fail> {
     Ok(())
 }
 
-/// With room for no more, the last call is refused, and leaves the section unfinished until the item is given up.
+/// With room for no more, the last call is refused, and the item is unfinished until given up.
 fn is_refused(rt: &impl Abort, heap: &Refusing, call: Call<'_>) -> Result<(), Fault> {
     let mut members: Types = started(heap, 8)?;
     heap.refuse_all();
@@ -167,7 +167,7 @@ fn begin(members: &mut Types<'_>) -> Result<(), Fault> {
     members.give_up()
 }
 
-/// A section is made without memory, as a copy of none, and items are begun and given up without it.
+/// Items are begun and given up without memory.
 #[test]
 fn begun(rt: HostRuntime) -> Result<(), Fail> {
     let heap = Refusing::new(rt.alloc());
@@ -181,6 +181,7 @@ fn begun(rt: HostRuntime) -> Result<(), Fail> {
     Ok(())
 }
 
+/// A section is made without memory, and so is a copy of none.
 #[test]
 fn new(rt: HostRuntime) -> Result<(), Fail> {
     let heap = Refusing::new(rt.alloc());
