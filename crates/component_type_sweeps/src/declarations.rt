@@ -207,10 +207,15 @@ fn is_not_begun<K: Declares>(rt: &impl Abort, heap: &Refusing) {
     assert_eq!(rt; (ty.core_type_count(), ty.type_count()), (0, 0));
 }
 
+fn begin<K: Declares>(members: &mut Declared<'_, K>) -> Result<(), Fault> {
+    members.0.core_type()?;
+    Ok(())
+}
+
 /// A type is given up without memory.
 fn is_given_up<K: Declares>(rt: &impl Abort, heap: &Refusing) -> Result<(), Fault> {
     let mut members: Declared<'_, K> = started(heap, 2)?;
-    members.0.core_type()?;
+    begin(&mut members)?;
     heap.refuse_all();
     assert!(rt; members.0.discard_unfinished() && members.0.is_finished());
     assert_eq!(rt;
