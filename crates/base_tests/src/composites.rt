@@ -1,5 +1,6 @@
 use crate::values::check;
 use std::alloc::Global;
+use std::process::Abort;
 use std::test::Fail;
 use wenc_base::{
     AbstractHeapType, ArrayType, CompositeType, Fault, FieldType, FuncType, GroupTree, HeapType,
@@ -66,6 +67,12 @@ fn fields(rt: HostRuntime) -> Result<(), Fail> {
     Ok(())
 }
 
+// By itself, and as one of the composite types.
+fn check_function(rt: &impl Abort, alloc: Global, ty: FuncType, bytes: &[u8]) -> Result<(), Fail> {
+    check(rt, alloc, &ty, bytes)?;
+    check(rt, alloc, &CompositeType::Func(ty), bytes)
+}
+
 #[test]
 fn functions(rt: HostRuntime) -> Result<(), Fail> {
     let params = [ValType::I32, ValType::I64].as_slice();
@@ -74,84 +81,134 @@ fn functions(rt: HostRuntime) -> Result<(), Fail> {
     assert_eq!(rt; ty.params(), params);
     assert_eq!(rt; ty.results(), results);
     let bytes = [0x60, 0x02, 0x7f, 0x7e, 0x01, 0x7d].as_slice();
-    check(&rt, rt.alloc(), &ty, bytes)?;
-    check(&rt, rt.alloc(), &CompositeType::Func(ty), bytes)?;
+    check_function(&rt, rt.alloc(), ty, bytes)?;
     let none = function(rt.alloc(), &[], &[])?;
-    check(&rt, rt.alloc(), &none, [0x60, 0x00, 0x00].as_slice())?;
-    Ok(())
+    check_function(&rt, rt.alloc(), none, &[0x60, 0x00, 0x00])
 }
 
 #[test]
-fn arrays_and_structures(rt: HostRuntime) -> Result<(), Fail> {
+fn arrays(rt: HostRuntime) -> Result<(), Fail> {
     let array = ArrayType(I8);
     let bytes = [0x5e, 0x78, 0x01].as_slice();
     check(&rt, rt.alloc(), &array, bytes)?;
     let array: CompositeType = CompositeType::Array(array);
-    check(&rt, rt.alloc(), &array, bytes)?;
+    check(&rt, rt.alloc(), &array, bytes)
+}
 
-    let ty = structure(rt.alloc(), [I8, I32].as_slice())?;
+// By itself, and as one of the composite types.
+fn check_structure(
+    rt: &impl Abort,
+    alloc: Global,
+    ty: StructType,
+    bytes: &[u8],
+) -> Result<(), Fail> {
+    check(rt, alloc, &ty, bytes)?;
+    check(rt, alloc, &CompositeType::Struct(ty), bytes)
+}
+
+#[test]
+fn structures(rt: HostRuntime) -> Result<(), Fail> {
+    let ty = structure(rt.alloc(), &[I8, I32])?;
     let bytes = [0x5f, 0x02, 0x78, 0x01, 0x7f, 0x00].as_slice();
-    check(&rt, rt.alloc(), &ty, bytes)?;
-    check(&rt, rt.alloc(), &CompositeType::Struct(ty), bytes)?;
+    check_structure(&rt, rt.alloc(), ty, bytes)?;
     let none = structure(rt.alloc(), &[])?;
-    check(&rt, rt.alloc(), &none, [0x5f, 0x00].as_slice())?;
-    Ok(())
+    check_structure(&rt, rt.alloc(), none, &[0x5f, 0x00])
+}
+
+// By itself, and behind a reference.
+fn check_sub(rt: &impl Abort, alloc: Global, ty: &SubType, bytes: &[u8]) -> Result<(), Fail> {
+    check(rt, alloc, ty, bytes)?;
+    check(rt, alloc, &ty, bytes)
+}
+
+// A function without parameters and results.
+fn none_to_none(alloc: Global, is_final: bool) -> Result<SubType, Fault> {
+    Ok(sub_type(is_final, None, composite(alloc, &[], &[])?))
 }
 
 #[test]
 fn sub_types(rt: HostRuntime) -> Result<(), Fail> {
-    let plain = sub_type(true, None, composite(rt.alloc(), &[], &[])?);
-    check(&rt, rt.alloc(), &plain, [0x60, 0x00, 0x00].as_slice())?;
+    let plain = none_to_none(rt.alloc(), true)?;
+    check_sub(&rt, rt.alloc(), &plain, &[0x60, 0x00, 0x00])?;
+    let open = none_to_none(rt.alloc(), false)?;
+    check_sub(&rt, rt.alloc(), &open, &[0x50, 0x00, 0x60, 0x00, 0x00])
+}
 
-    let open = sub_type(false, None, composite(rt.alloc(), &[], &[])?);
-    let bytes = [0x50, 0x00, 0x60, 0x00, 0x00].as_slice();
-    check(&rt, rt.alloc(), &open, bytes)?;
-    check(&rt, rt.alloc(), &&open, bytes)?;
-
+#[test]
+fn sub_types_of_others(rt: HostRuntime) -> Result<(), Fail> {
     let array = sub_type(true, Some(4), CompositeType::Array(ArrayType(I16)));
     let bytes = [0x4f, 0x01, 0x04, 0x5e, 0x77, 0x00].as_slice();
-    check(&rt, rt.alloc(), &array, bytes)?;
-    check(&rt, rt.alloc(), &&array, bytes)?;
-
+    check_sub(&rt, rt.alloc(), &array, bytes)?;
     let array = sub_type(false, Some(128), CompositeType::Array(ArrayType(I16)));
     let bytes = [0x50, 0x01, 0x80, 0x01, 0x5e, 0x77, 0x00].as_slice();
-    check(&rt, rt.alloc(), &array, bytes)?;
-    Ok(())
+    check_sub(&rt, rt.alloc(), &array, bytes)
+}
+
+// A function of a number, and one that gives a number.
+fn taker(alloc: Global) -> Result<CompositeType, Fault> {
+    composite(alloc, &[ValType::I32], &[])
+}
+
+fn giver(alloc: Global) -> Result<CompositeType, Fault> {
+    composite(alloc, &[], &[ValType::I32])
+}
+
+fn plain(alloc: Global, is_taker: bool) -> Result<SubType, Fault> {
+    let ty = if is_taker {
+        taker(alloc)?
+    } else {
+        giver(alloc)?
+    };
+    Ok(sub_type(true, None, ty))
+}
+
+fn pair(alloc: Global) -> Result<Vec<SubType>, Fault> {
+    let first = none_to_none(alloc, true)?;
+    let second = plain(alloc, true)?;
+    Ok(vec![in alloc; first, second]?)
 }
 
 #[test]
 fn groups(rt: HostRuntime) -> Result<(), Fail> {
-    let plain = sub_type(true, None, composite(rt.alloc(), &[], &[])?);
-    let other = sub_type(true, None, composite(rt.alloc(), &[ValType::I32], &[])?);
-    let types = vec![in rt.alloc(); plain, other]?;
+    let types = pair(rt.alloc())?;
     let bytes = [0x4e, 0x02, 0x60, 0x00, 0x00, 0x60, 0x01, 0x7f, 0x00];
     check(&rt, rt.alloc(), &GroupTree::Rec(types), bytes.as_slice())?;
 
     let none: GroupTree = GroupTree::Rec(Vec::new(rt.alloc()));
-    check(&rt, rt.alloc(), &none, [0x4e, 0x00].as_slice())?;
+    check(&rt, rt.alloc(), &none, &[0x4e, 0x00])?;
 
-    let open = sub_type(false, None, composite(rt.alloc(), &[], &[])?);
+    let open = none_to_none(rt.alloc(), false)?;
     let bytes = [0x50, 0x00, 0x60, 0x00, 0x00].as_slice();
-    check(&rt, rt.alloc(), &GroupTree::Sub(open), bytes)?;
+    check(&rt, rt.alloc(), &GroupTree::Sub(open), bytes)
+}
+
+#[test]
+fn composites_are_compared(rt: HostRuntime) -> Result<(), Fail> {
+    let one = taker(rt.alloc())?;
+    let same = taker(rt.alloc())?;
+    let turned = giver(rt.alloc())?;
+    assert!(rt; one == same);
+    assert!(rt; one != turned);
+    assert!(rt; one != CompositeType::Array(ArrayType(I8)));
     Ok(())
 }
 
 #[test]
-fn types_are_compared_and_printed(rt: HostRuntime) -> Result<(), Fail> {
-    let one = composite(rt.alloc(), &[ValType::I32], &[])?;
-    let same = composite(rt.alloc(), &[ValType::I32], &[])?;
-    let turned = composite(rt.alloc(), &[], &[ValType::I32])?;
-    assert!(rt; one == same);
-    assert!(rt; one != turned);
-    assert!(rt; one != CompositeType::Array(ArrayType(I8)));
-    let printed = format!(in rt.alloc(); "{:?}", turned)?;
+fn composites_are_printed(rt: HostRuntime) -> Result<(), Fail> {
+    let ty = giver(rt.alloc())?;
+    let printed = format!(in rt.alloc(); "{:?}", ty)?;
     assert_eq!(rt;
         printed.as_str(),
         "Func(FuncType { params: [], results: [I32] })"
     );
-    let one = sub_type(true, None, one);
-    let same = sub_type(true, None, same);
-    let turned = sub_type(true, None, turned);
+    Ok(())
+}
+
+#[test]
+fn sub_types_are_compared(rt: HostRuntime) -> Result<(), Fail> {
+    let one = plain(rt.alloc(), true)?;
+    let same = plain(rt.alloc(), true)?;
+    let turned = plain(rt.alloc(), false)?;
     assert!(rt; one == same);
     assert!(rt; one != turned);
     assert!(rt; GroupTree::Sub(one) == GroupTree::Sub(same));

@@ -1,8 +1,22 @@
+use crate::openings::with_a_member;
 use crate::values::{Item, check};
 use std::alloc::Global;
 use std::process::Abort;
 use std::test::Fail;
 use wenc_base::{Encode, Fault, Holder, Verbatim, section_size};
+
+// What the holder's section adds to a sink.
+pub fn encode_section(holder: &Holder, sink: &mut Vec<u8>) -> Result<(), Fault> {
+    holder.encode_section(sink)
+}
+
+fn add(holder: &mut Holder, text: &[u8]) -> Result<(), Fault> {
+    holder.add(text)
+}
+
+pub fn copy(holder: &Holder) -> Result<Holder, Fault> {
+    Ok(holder.clone()?)
+}
 
 // What the holder has, and its section behind a byte that the sink has.
 pub fn check_holder(
@@ -17,8 +31,8 @@ pub fn check_holder(
     assert_eq!(rt; holder.as_slice(), body);
     assert!(rt; holder.is_finished());
     let mut sink = [0x99].to_vec(alloc)?;
+    encode_section(holder, &mut sink)?;
     let mut expected = [0x99].to_vec(alloc)?;
-    holder.encode_section(&mut sink)?;
     expected.extend_from_slice(section)?;
     assert_eq!(rt; sink, expected);
     Ok(())
@@ -98,10 +112,10 @@ fn empty_members(rt: HostRuntime) -> Result<(), Fail> {
 fn long_sections(rt: HostRuntime) -> Result<(), Fail> {
     let mut holder = Holder::new(rt.alloc());
     for _ in 0..128u32 {
-        holder.add(&[0x2a])?;
+        add(&mut holder, &[0x2a])?;
     }
     let mut sink = Vec::new(rt.alloc());
-    holder.encode_section(&mut sink)?;
+    encode_section(&holder, &mut sink)?;
     assert_eq!(rt; sink.len(), 132);
     assert_eq!(rt;
         &sink.as_slice()[..5],
@@ -112,14 +126,13 @@ fn long_sections(rt: HostRuntime) -> Result<(), Fail> {
 
 #[test]
 fn clones(rt: HostRuntime) -> Result<(), Fail> {
-    let mut holder = Holder::new(rt.alloc());
-    holder.add(&[0xaa])?;
-    let mut other = holder.clone()?;
+    let mut holder = with_a_member(rt.alloc())?;
+    let mut other = copy(&holder)?;
     check_holder(&rt, rt.alloc(), &other, 1, &[0xaa], &[0x02, 0x01, 0xaa])?;
-    holder.add(&[0xbb])?;
+    add(&mut holder, &[0xbb])?;
     check_holder(&rt, rt.alloc(), &other, 1, &[0xaa], &[0x02, 0x01, 0xaa])?;
-    other.add(&[0xcc])?;
-    other.add(&[0xdd])?;
+    add(&mut other, &[0xcc])?;
+    add(&mut other, &[0xdd])?;
     check_holder(
         &rt,
         rt.alloc(),
@@ -138,39 +151,41 @@ fn clones(rt: HostRuntime) -> Result<(), Fail> {
     )
 }
 
+fn refuses<T: Encode>(rt: &impl Abort, holder: &mut Holder, value: &T, fault: Fault) {
+    assert_eq!(rt; holder.add_encoded(value), Err(fault));
+}
+
+fn refuses_listed<L: Encode, T: Encode>(
+    rt: &impl Abort,
+    holder: &mut Holder,
+    lead: &L,
+    values: &[usize],
+    tail: &T,
+    fault: Fault,
+) {
+    let values = values.iter().copied();
+    assert_eq!(rt; holder.add_listed(lead, values, tail), Err(fault));
+}
+
+const LARGE: usize = 4294967296;
+
+const OPEN: Item = Item { is_open: true };
+
 // Each of these has a part that is refused, some behind parts that were written.
 #[test]
 fn refused_members(rt: HostRuntime) -> Result<(), Fail> {
-    let large = 4294967296usize;
-    let open = Item { is_open: true };
-    let mut holder = Holder::new(rt.alloc());
-    holder.add(&[0xaa])?;
-    assert_eq!(rt; holder.add_encoded(&large), Err(Fault::TooMany));
-    assert_eq!(rt; holder.add_encoded(&(1u32, large)), Err(Fault::TooMany));
-    assert_eq!(rt;
-        holder.add_listed(&large, [1u32].into_iter(), &()),
-        Err(Fault::TooMany)
-    );
-    assert_eq!(rt;
-        holder.add_listed(&1u32, [1, large].into_iter(), &()),
-        Err(Fault::TooMany)
-    );
-    assert_eq!(rt;
-        holder.add_listed(&1u32, [1u32].into_iter(), &large),
-        Err(Fault::TooMany)
-    );
-    assert_eq!(rt; holder.add_encoded(&open), Err(Fault::Unfinished));
+    let mut holder = with_a_member(rt.alloc())?;
+    refuses(&rt, &mut holder, &LARGE, Fault::TooMany);
+    refuses(&rt, &mut holder, &(1u32, LARGE), Fault::TooMany);
+    refuses(&rt, &mut holder, &OPEN, Fault::Unfinished);
+    refuses_listed(&rt, &mut holder, &LARGE, &[1], &(), Fault::TooMany);
+    refuses_listed(&rt, &mut holder, &1u32, &[1, LARGE], &(), Fault::TooMany);
+    refuses_listed(&rt, &mut holder, &1u32, &[1], &LARGE, Fault::TooMany);
     // The first refusal that is met is answered.
-    assert_eq!(rt;
-        holder.add_listed(&open, [large].into_iter(), &large),
-        Err(Fault::Unfinished)
-    );
-    assert_eq!(rt;
-        holder.add_listed(&1u32, [large].into_iter(), &open),
-        Err(Fault::TooMany)
-    );
+    refuses_listed(&rt, &mut holder, &OPEN, &[LARGE], &LARGE, Fault::Unfinished);
+    refuses_listed(&rt, &mut holder, &1u32, &[LARGE], &OPEN, Fault::TooMany);
     check_holder(&rt, rt.alloc(), &holder, 1, &[0xaa], &[0x02, 0x01, 0xaa])?;
-    holder.add(&[0xbb])?;
+    add(&mut holder, &[0xbb])?;
     check_holder(
         &rt,
         rt.alloc(),

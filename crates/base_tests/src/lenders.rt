@@ -50,6 +50,14 @@ fn refused(rt: HostRuntime) -> Result<(), Fail> {
     assert_eq!(rt; holder.append_value(&large), Err(Fault::TooMany));
     let values = [3, large].into_iter();
     assert_eq!(rt; holder.append_list(&[2], values), Err(Fault::TooMany));
+    check_unfinished(&rt, rt.alloc(), &holder, 1, &[1], true)
+}
+
+#[test]
+fn refused_ends(rt: HostRuntime) -> Result<(), Fail> {
+    let large = 4294967296usize;
+    let mut holder = Holder::new(rt.alloc());
+    holder.open(&[1])?;
     assert_eq!(rt; holder.end_with(&large), Err(Fault::TooMany));
     assert!(rt; !holder.is_finished());
     let values = [3, large].into_iter();

@@ -1,12 +1,21 @@
 ghost use Rattle.std.specs.Prelude.{◌≡◌, ◌∷◌, [], IfOk};
 ghost use Rattle.wenc_base.specs.Holder.{holding};
 
-use crate::holder::check_holder;
-use crate::values::Item;
+use crate::holder::{check_holder, copy, encode_section};
+use crate::values::{Item, encode};
 use std::alloc::Global;
 use std::process::Abort;
 use std::test::Fail;
-use wenc_base::{Encode, Fault, Holder};
+use wenc_base::{Fault, Holder};
+
+// Neither a section nor a list of members comes of it.
+fn is_not_written(rt: &impl Abort, alloc: Global, holder: &Holder) -> Result<(), Fail> {
+    let mut sink = [0x99].to_vec(alloc)?;
+    assert_eq!(rt; encode_section(holder, &mut sink), Err(Fault::Unfinished));
+    assert_eq!(rt; encode(holder, &mut sink), Err(Fault::Unfinished));
+    assert_eq!(rt; sink.as_slice(), [0x99].as_slice());
+    Ok(())
+}
 
 // What a holder has in which a member is being written. Nothing is made of it.
 pub fn check_unfinished(
@@ -21,11 +30,7 @@ pub fn check_unfinished(
     assert_eq!(rt; holder.as_slice(), body);
     assert_eq!(rt; holder.is_opened(), is_opened);
     assert!(rt; !holder.is_finished());
-    let mut sink = [0x99].to_vec(alloc)?;
-    assert_eq!(rt; holder.encode_section(&mut sink), Err(Fault::Unfinished));
-    assert_eq!(rt; holder.encode(&mut sink), Err(Fault::Unfinished));
-    assert_eq!(rt; sink.as_slice(), [0x99].as_slice());
-    Ok(())
+    is_not_written(rt, alloc, holder)
 }
 
 // All that it is made of.
@@ -52,7 +57,7 @@ pub fn over_four_bytes(alloc: Global) -> Result<Holder, Fail>
     Ok(Holder::over([0xaa, 0xbb, 0x03, 0x00].to_vec(alloc)?, 2, 1))
 }
 
-fn with_a_member(alloc: Global) -> Result<Holder, Fail> {
+pub fn with_a_member(alloc: Global) -> Result<Holder, Fail> {
     let mut holder = Holder::new(alloc);
     holder.add(&[0xaa])?;
     Ok(holder)
@@ -209,9 +214,9 @@ fn opened_once(rt: HostRuntime) -> Result<(), Fail> {
 fn unfinished_clones(rt: HostRuntime) -> Result<(), Fail> {
     let mut holder = with_a_member(rt.alloc())?;
     holder.open(&[1])?;
-    let opened = holder.clone()?;
+    let opened = copy(&holder)?;
     holder.append(&[2])?;
-    let mut begun = holder.clone()?;
+    let mut begun = copy(&holder)?;
     check_unfinished(&rt, rt.alloc(), &opened, 2, &[0xaa, 1], true)?;
     check_unfinished(&rt, rt.alloc(), &begun, 2, &[0xaa, 1, 2], false)?;
     assert!(rt; begun.discard_unfinished());

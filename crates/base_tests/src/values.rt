@@ -11,6 +11,11 @@ use wenc_base::{
     extend_in_room,
 };
 
+// What `encode` answers.
+pub fn encode<T: Encode>(value: &T, sink: &mut Vec<u8>) -> Result<(), Fault> {
+    value.encode(sink)
+}
+
 // Each value is written behind a byte that the sink has.
 pub fn check<T: Encode>(
     rt: &impl Abort,
@@ -19,8 +24,8 @@ pub fn check<T: Encode>(
     bytes: &[u8],
 ) -> Result<(), Fail> {
     let mut sink = [0x99].to_vec(alloc)?;
+    encode(value, &mut sink)?;
     let mut expected = [0x99].to_vec(alloc)?;
-    value.encode(&mut sink)?;
     expected.extend_from_slice(bytes)?;
     assert_eq!(rt; sink, expected);
     Ok(())
@@ -96,11 +101,19 @@ fn small_and_large(rt: HostRuntime) -> Result<(), Fail> {
         &18446744073709551615u64,
         [0xff, 0xff, 0xff, 0xff, 0xff, 0xff, 0xff, 0xff, 0xff, 0x01].as_slice(),
     )?;
-    check(&rt, rt.alloc(), &128usize, [0x80, 0x01].as_slice())?;
+    check(&rt, rt.alloc(), &128usize, [0x80, 0x01].as_slice())
+}
 
+#[test]
+fn too_many(rt: HostRuntime) -> Result<(), Fail> {
     let mut sink = [0x99].to_vec(rt.alloc())?;
-    assert_eq!(rt; 4294967296usize.encode(&mut sink), Err(Fault::TooMany));
+    assert_eq!(rt; encode(&4294967296usize, &mut sink), Err(Fault::TooMany));
     assert_eq!(rt; sink.as_slice(), [0x99].as_slice());
+    Ok(())
+}
+
+#[test]
+fn kinds_of_exports(rt: HostRuntime) -> Result<(), Fail> {
     for (kind, byte) in [
         (ExportKind::Func, 0x00),
         (ExportKind::Table, 0x01),
@@ -137,8 +150,12 @@ fn lists(rt: HostRuntime) -> Result<(), Fail> {
         [0x02, 0x01, 0x61, 0x01, 0x00, 0x02].as_slice(),
     )?;
     let none: [u32; 0] = [];
-    check(&rt, rt.alloc(), &none.as_slice(), [0x00].as_slice())?;
+    check(&rt, rt.alloc(), &none.as_slice(), [0x00].as_slice())
+}
 
+#[test]
+fn lists_from_iterators(rt: HostRuntime) -> Result<(), Fail> {
+    let none: [u32; 0] = [];
     let mut sink = [0x99].to_vec(rt.alloc())?;
     encode_vector([1, 128, 3].to_vec(rt.alloc())?, &mut sink)?;
     encode_list(none.into_iter(), &mut sink)?;
@@ -146,15 +163,20 @@ fn lists(rt: HostRuntime) -> Result<(), Fail> {
         sink.as_slice(),
         [0x99, 0x03, 0x01, 0x80, 0x01, 0x03, 0x00].as_slice()
     );
+    Ok(())
+}
 
-    // The second of these is refused, behind the text of the first.
+// The second of these is refused, behind the text of the first.
+#[test]
+fn refused_lists(rt: HostRuntime) -> Result<(), Fail> {
+    let mut sink = [0x99].to_vec(rt.alloc())?;
     let values = [1, 4294967296usize];
-    assert_eq!(rt; values.as_slice().encode(&mut sink), Err(Fault::TooMany));
+    assert_eq!(rt; encode(&values.as_slice(), &mut sink), Err(Fault::TooMany));
     assert_eq!(rt;
         encode_list(values.into_iter(), &mut sink),
         Err(Fault::TooMany)
     );
-    assert_eq!(rt; sink.len(), 7);
+    assert_eq!(rt; sink.as_slice(), [0x99].as_slice());
     Ok(())
 }
 
@@ -179,33 +201,38 @@ impl Encode for Item {
     }
 }
 
+// It is refused, and the sink stays as it was.
+fn check_refused<T: Encode>(
+    rt: &impl Abort,
+    alloc: Global,
+    value: &T,
+    fault: Fault,
+) -> Result<(), Fail> {
+    let mut sink = [0x99].to_vec(alloc)?;
+    assert_eq!(rt; encode(value, &mut sink), Err(fault));
+    assert_eq!(rt; sink.as_slice(), [0x99].as_slice());
+    Ok(())
+}
+
+const OPEN: Item = Item { is_open: true };
+
 #[test]
 fn unfinished(rt: HostRuntime) -> Result<(), Fail> {
-    let items = [(1u32, Item { is_open: false }), (2, Item { is_open: true })];
-    let mut sink = [0x99].to_vec(rt.alloc())?;
-    assert_eq!(rt; items.as_slice().encode(&mut sink), Err(Fault::Unfinished));
-
-    // The first refusal that is met is answered.
-    let large = 4294967296usize;
-    let open = Item { is_open: true };
-    let mut full = [0x99].to_vec(rt.alloc())?;
-    assert_eq!(rt;
-        Tagged(0x2a, &open).encode(&mut full),
-        Err(Fault::Unfinished)
-    );
-    assert_eq!(rt;
-        Some(Item { is_open: true }).encode(&mut sink),
-        Err(Fault::Unfinished)
-    );
-    let open_first = (Item { is_open: true }, large);
-    assert_eq!(rt; open_first.encode(&mut sink), Err(Fault::Unfinished));
-    let large_first = (large, open);
-    assert_eq!(rt; large_first.encode(&mut sink), Err(Fault::TooMany));
-    let pairs = [(1, Item { is_open: true }), (large, Item { is_open: true })];
-    assert_eq!(rt; pairs.as_slice().encode(&mut sink), Err(Fault::Unfinished));
-    assert_eq!(rt; full.as_slice(), [0x99].as_slice());
-    assert_eq!(rt; sink.as_slice(), [0x99].as_slice());
+    let items = [(1u32, Item { is_open: false }), (2, OPEN)];
+    check_refused(&rt, rt.alloc(), &items.as_slice(), Fault::Unfinished)?;
+    check_refused(&rt, rt.alloc(), &Tagged(0x2a, &OPEN), Fault::Unfinished)?;
+    check_refused(&rt, rt.alloc(), &Some(OPEN), Fault::Unfinished)?;
     check(&rt, rt.alloc(), &items[0], [0x01].as_slice())
+}
+
+// The first refusal that is met is answered.
+#[test]
+fn first_refusals(rt: HostRuntime) -> Result<(), Fail> {
+    let large = 4294967296usize;
+    check_refused(&rt, rt.alloc(), &(OPEN, large), Fault::Unfinished)?;
+    check_refused(&rt, rt.alloc(), &(large, OPEN), Fault::TooMany)?;
+    let pairs = [(1, OPEN), (large, OPEN)];
+    check_refused(&rt, rt.alloc(), &pairs.as_slice(), Fault::Unfinished)
 }
 
 #[test]

@@ -1,15 +1,9 @@
 //! The calls of an encoder of types, for these tests and for sweeps.
-ghost use Rattle.std.specs.Prelude.{◌≡◌};
-ghost use Rattle.wenc_types.specs.declared.func_type.FuncStage.TheVariants as stages;
-
 use std::alloc::Allocator;
 use wenc_base::{Fault, Lender, ValType};
 use wenc_parts::{ComponentValType, PrimitiveValType};
 use wenc_sections::ComponentTypeSection;
-use wenc_types::{
-    ComponentDefinedTypeEncoder, ComponentFuncTypeEncoder, ComponentType, ComponentTypeEncoder,
-    InstanceType,
-};
+use wenc_types::{ComponentType, ComponentTypeEncoder, InstanceType};
 
 /// What an encoder of types borrows.
 pub trait Lends {
@@ -69,54 +63,74 @@ pub enum Call<'t> {
 impl<'t> Call<'t> {
     /// Begins a type, and makes the call.
     pub fn write<L: Lends>(self, to: &mut L) -> Result<(), Fault> {
-        let encoder = to.encoder()?;
         match self {
-            Call::Resource(rep, dtor) => encoder.resource(rep, dtor),
-            Call::Function(is_async, params, answer) => {
-                write_function(encoder.function(), is_async, params, answer)
+            Call::Primitive(ty) => to.encoder()?.defined_type().primitive(ty),
+            Call::Record(fields) => {
+                let encoder = to.encoder()?.defined_type();
+                encoder.record(fields.iter().copied())
             }
-            _ => self.write_values(encoder.defined_type()),
+            Call::Variant(cases) => {
+                let encoder = to.encoder()?.defined_type();
+                encoder.variant(cases.iter().copied())
+            }
+            Call::List(ty) => to.encoder()?.defined_type().list(ty),
+            Call::Map(key, value) => to.encoder()?.defined_type().map(key, value),
+            Call::FixedLengthList(ty, length) => {
+                let encoder = to.encoder()?.defined_type();
+                encoder.fixed_length_list(ty, length)
+            }
+            Call::Tuple(types) => {
+                let encoder = to.encoder()?.defined_type();
+                encoder.tuple(types.iter().copied())
+            }
+            _ => self.write_others(to),
         }
     }
 
-    /// A type of values.
-    fn write_values<L: Lender>(
-        self,
-        encoder: ComponentDefinedTypeEncoder<'_, L>,
-    ) -> Result<(), Fault> {
+    /// The same of the other calls.
+    fn write_others<L: Lends>(self, to: &mut L) -> Result<(), Fault> {
         match self {
-            Call::Primitive(ty) => encoder.primitive(ty),
-            Call::Record(fields) => encoder.record(fields.iter().copied()),
-            Call::Variant(cases) => encoder.variant(cases.iter().copied()),
-            Call::List(ty) => encoder.list(ty),
-            Call::Map(key, value) => encoder.map(key, value),
-            Call::FixedLengthList(ty, length) => encoder.fixed_length_list(ty, length),
-            Call::Tuple(types) => encoder.tuple(types.iter().copied()),
-            Call::Flags(names) => encoder.flags(names.iter().copied()),
-            Call::EnumType(cases) => encoder.enum_type(cases.iter().copied()),
-            Call::Option(ty) => encoder.option(ty),
-            Call::Result(ok, err) => encoder.result(ok, err),
-            Call::Own(index) => encoder.own(index),
-            Call::Borrow(index) => encoder.borrow(index),
-            Call::Future(payload) => encoder.future(payload),
-            Call::Stream(payload) => encoder.stream(payload),
-            Call::Resource(..) | Call::Function(..) => Ok(()),
+            Call::Flags(names) => to.encoder()?.defined_type().flags(names.iter().copied()),
+            Call::EnumType(cases) => {
+                let encoder = to.encoder()?.defined_type();
+                encoder.enum_type(cases.iter().copied())
+            }
+            Call::Option(ty) => to.encoder()?.defined_type().option(ty),
+            Call::Result(ok, err) => to.encoder()?.defined_type().result(ok, err),
+            Call::Own(index) => to.encoder()?.defined_type().own(index),
+            Call::Borrow(index) => to.encoder()?.defined_type().borrow(index),
+            Call::Future(payload) => to.encoder()?.defined_type().future(payload),
+            Call::Stream(payload) => to.encoder()?.defined_type().stream(payload),
+            Call::Resource(rep, dtor) => to.encoder()?.resource(rep, dtor),
+            Call::Function(None, params, answer) => write_function(to, params, answer),
+            Call::Function(Some(is_async), params, answer) => {
+                write_tagged(to, is_async, params, answer)
+            }
+            _ => Err(Fault::TooMany),
         }
     }
 }
 
-/// A type of functions.
-fn write_function<L: Lender>(
-    mut encoder: ComponentFuncTypeEncoder<'_, L>,
-    is_async: Option<bool>,
+/// A type of functions of which nothing is said but its parameters and its answer.
+fn write_function<L: Lends>(
+    to: &mut L,
     params: &[(&str, ComponentValType)],
     answer: Option<ComponentValType>,
-) -> Result<(), Fault>
-    requires { encoder.stage ≡ stages.Start }
-{
-    if let Some(is_async) = is_async {
-        encoder.async_(is_async)?;
-    }
-    encoder.params(params.iter().copied())?;
-    encoder.result(answer)
+) -> Result<(), Fault> {
+    let mut function = to.encoder()?.function();
+    function.params(params.iter().copied())?;
+    function.result(answer)
+}
+
+/// One that is said to be asynchronous or not.
+fn write_tagged<L: Lends>(
+    to: &mut L,
+    is_async: bool,
+    params: &[(&str, ComponentValType)],
+    answer: Option<ComponentValType>,
+) -> Result<(), Fault> {
+    let mut function = to.encoder()?.function();
+    function.async_(is_async)?;
+    function.params(params.iter().copied())?;
+    function.result(answer)
 }

@@ -53,17 +53,17 @@ pub enum Call<'t> {
 impl<'t> Call<'t> {
     /// Begins a type, and makes the call.
     pub fn write<L: Lends>(self, to: &mut L) -> Result<(), Fault> {
+        let encoder = to.encoder()?;
         match self {
             Call::Function(params, results) => {
-                let encoder = to.encoder()?;
                 encoder.function(params.iter().copied(), results.iter().copied())
             }
-            Call::FuncType(ty) => to.encoder()?.func_type(ty),
-            Call::Array(ty, mutable) => to.encoder()?.array(&ty, mutable),
-            Call::Struct(fields) => to.encoder()?.struct_(fields.iter().copied()),
-            Call::Subtype(ty) => to.encoder()?.subtype(ty),
-            Call::Rec(types) => to.encoder()?.rec(types.iter()),
-            Call::Group(ty) => to.encoder()?.group(ty),
+            Call::FuncType(ty) => encoder.func_type(ty),
+            Call::Array(ty, mutable) => encoder.array(&ty, mutable),
+            Call::Struct(fields) => encoder.struct_(fields.iter().copied()),
+            Call::Subtype(ty) => encoder.subtype(ty),
+            Call::Rec(types) => encoder.rec(types.iter()),
+            Call::Group(ty) => encoder.group(ty),
         }
     }
 }

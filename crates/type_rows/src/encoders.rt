@@ -1,7 +1,7 @@
 //! Each call of an encoder, with each thing that it can borrow, and with guards and without.
 
 use crate::calls::{Call, Lends};
-use crate::checks::{I8, I16, I32, array, function};
+use crate::checks::{I8, I16, I32, array, function, is_section, is_type};
 use std::alloc::Global;
 use std::process::Abort;
 use std::test::Fail;
@@ -28,27 +28,42 @@ impl Lends for Held {
     }
 }
 
-/// Where the encoder has guards or not, the call ends a holder's member with this text.
-fn in_a_holder(
-    rt: &impl Abort,
-    alloc: Global,
-    guard: bool,
-    call: Call<'_>,
-    text: &str,
-) -> Result<(), Fault> {
+/// The holder in which an encoder with guards or without made the call.
+fn holder(alloc: Global, guard: bool, call: Call<'_>) -> Result<Holder, Fault> {
     let mut held = Held {
         holder: Holder::new(alloc),
         guard,
     };
     call.write(&mut held)?;
-    assert!(rt; held.holder.is_finished());
-    assert_eq!(rt; held.holder.len(), 1);
-    let written = hex::encode(alloc, held.holder.as_slice())?;
-    assert_eq!(rt; written.as_str(), text);
+    Ok(held.holder)
+}
+
+/// The holder has one member, which is finished, with this text.
+fn is_held(rt: &impl Abort, alloc: Global, holder: &Holder, text: &str) -> Result<(), Fault> {
+    assert!(rt; holder.is_finished());
+    assert_eq!(rt; holder.len(), 1);
+    assert_eq!(rt; hex::encode(alloc, holder.as_slice())?.as_str(), text);
     Ok(())
 }
 
-/// The call adds this text to a module type, and the guarded one to a section, each behind its lead.
+/// The call adds this text to a module type, behind its lead.
+fn in_a_type(rt: &impl Abort, alloc: Global, call: Call<'_>, text: &str) -> Result<(), Fault> {
+    let mut ty = ModuleType::new(alloc);
+    call.write(&mut ty)?;
+    let wanted = format!(in alloc; "500101{text}")?;
+    is_type(rt, alloc, &ty, 1, wanted.as_str())
+}
+
+/// The call adds this text to a section, behind its lead.
+fn in_a_section(rt: &impl Abort, alloc: Global, call: Call<'_>, text: &str) -> Result<(), Fault> {
+    let mut section = CoreTypeSection::new(alloc);
+    call.write(&mut section)?;
+    let size = text.len() / 2 + 1;
+    let wanted = format!(in alloc; "03{size:02x}01{text}")?;
+    is_section(rt, alloc, &section, 1, wanted.as_str())
+}
+
+/// The call adds this text to what has no guards, and the guarded one to what has.
 fn check(
     rt: &impl Abort,
     alloc: Global,
@@ -56,26 +71,35 @@ fn check(
     text: &str,
     guarded: &str,
 ) -> Result<(), Fault> {
-    in_a_holder(rt, alloc, false, call, text)?;
-    in_a_holder(rt, alloc, true, call, guarded)?;
+    is_held(rt, alloc, &holder(alloc, false, call)?, text)?;
+    is_held(rt, alloc, &holder(alloc, true, call)?, guarded)?;
+    in_a_type(rt, alloc, call, text)?;
+    in_a_section(rt, alloc, call, guarded)
+}
 
-    let mut ty = ModuleType::new(alloc);
-    call.write(&mut ty)?;
-    assert!(rt; ty.is_finished());
-    assert_eq!(rt; ty.type_count(), 1);
-    assert_eq!(rt;
-        hexed::text(alloc, &ty)?,
-        format!(in alloc; "ee500101{text}")?
-    );
+/// So do the calls for this subtype, and for the tree of it alone.
+fn check_subtype(
+    rt: &impl Abort,
+    alloc: Global,
+    ty: SubType,
+    text: &str,
+    guarded: &str,
+) -> Result<(), Fault> {
+    check(rt, alloc, Call::Subtype(&ty), text, guarded)?;
+    let tree = GroupTree::Sub(ty);
+    check(rt, alloc, Call::Group(&tree), text, guarded)
+}
 
-    let mut section = CoreTypeSection::new(alloc);
-    call.write(&mut section)?;
-    assert!(rt; section.is_finished());
-    assert_eq!(rt; section.len(), 1);
-    let size = guarded.len() / 2 + 1;
-    let wanted = format!(in alloc; "ee{size:02x}01{guarded}")?;
-    assert_eq!(rt; hexed::text(alloc, &section)?, wanted);
-    Ok(())
+/// So do the calls for types that refer to each other, which have no guards.
+fn check_group(
+    rt: &impl Abort,
+    alloc: Global,
+    types: Vec<SubType>,
+    text: &str,
+) -> Result<(), Fault> {
+    check(rt, alloc, Call::Rec(types.as_slice()), text, text)?;
+    let tree = GroupTree::Rec(types);
+    check(rt, alloc, Call::Group(&tree), text, text)
 }
 
 fn structure(alloc: Global, supertype: u32) -> Result<SubType, Fault> {
@@ -112,49 +136,30 @@ fn composites(rt: HostRuntime) -> Result<(), Fail> {
 
 #[test]
 fn subtypes(rt: HostRuntime) -> Result<(), Fail> {
-    for (ty, text, guarded) in [
-        (function(rt.alloc(), true, None, &[])?, "600000", "600000"),
-        (
-            function(rt.alloc(), false, None, &[])?,
-            "5000600000",
-            "005000600000",
-        ),
-        (array(true, Some(4), I16), "4f01045e7700", "4f01045e7700"),
-        (
-            array(false, Some(128), I16),
-            "500180015e7700",
-            "00500180015e7700",
-        ),
-        (
-            structure(rt.alloc(), 0)?,
-            "5001005f017801",
-            "005001005f017801",
-        ),
-    ] {
-        check(&rt, rt.alloc(), Call::Subtype(&ty), text, guarded)?;
-        let tree = GroupTree::Sub(ty);
-        check(&rt, rt.alloc(), Call::Group(&tree), text, guarded)?;
-    }
+    let ty = function(rt.alloc(), true, None, &[])?;
+    check_subtype(&rt, rt.alloc(), ty, "600000", "600000")?;
+    let ty = function(rt.alloc(), false, None, &[])?;
+    check_subtype(&rt, rt.alloc(), ty, "5000600000", "005000600000")?;
+    let ty = array(true, Some(4), I16);
+    check_subtype(&rt, rt.alloc(), ty, "4f01045e7700", "4f01045e7700")?;
+    let ty = array(false, Some(128), I16);
+    check_subtype(&rt, rt.alloc(), ty, "500180015e7700", "00500180015e7700")?;
+    let ty = structure(rt.alloc(), 0)?;
+    check_subtype(&rt, rt.alloc(), ty, "5001005f017801", "005001005f017801")?;
     Ok(())
 }
 
-/// Types that refer to each other have no guards.
 #[test]
 fn groups(rt: HostRuntime) -> Result<(), Fail> {
+    check_group(&rt, rt.alloc(), Vec::new(rt.alloc()), "4e00")?;
+
     let plain = function(rt.alloc(), true, None, &[])?;
     let one = function(rt.alloc(), true, None, &[ValType::I32])?;
+    let types = vec![in rt.alloc(); plain, one]?;
+    check_group(&rt, rt.alloc(), types, "4e0260000060017f00")?;
+
     let open = function(rt.alloc(), false, None, &[])?;
-    for (types, text) in [
-        (Vec::new(rt.alloc()), "4e00"),
-        (vec![in rt.alloc(); plain, one]?, "4e0260000060017f00"),
-        (
-            vec![in rt.alloc(); open, array(false, Some(128), I16)]?,
-            "4e025000600000500180015e7700",
-        ),
-    ] {
-        check(&rt, rt.alloc(), Call::Rec(types.as_slice()), text, text)?;
-        let tree = GroupTree::Rec(types);
-        check(&rt, rt.alloc(), Call::Group(&tree), text, text)?;
-    }
+    let types = vec![in rt.alloc(); open, array(false, Some(128), I16)]?;
+    check_group(&rt, rt.alloc(), types, "4e025000600000500180015e7700")?;
     Ok(())
 }

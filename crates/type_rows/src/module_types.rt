@@ -1,7 +1,9 @@
 //! Module types that are finished.
 
-use crate::checks::{function, is_type};
+use crate::calls::Call;
+use crate::checks::{copy_type, function, is_type, pair};
 use std::alloc::Global;
+use std::process::Abort;
 use std::test::Fail;
 use wenc_base::{
     AbstractHeapType, EntityType, Fault, GlobalType, HeapType, MemoryType, RefType, StorageType,
@@ -33,21 +35,25 @@ const TABLE: EntityType = EntityType::Table(TableType {
     maximum: None,
 });
 
-/// A module type with an entity of each kind, a type and an alias.
-pub fn entities(alloc: Global) -> Result<ModuleType, Fault> {
-    let mut ty = ModuleType::new(alloc);
-    ty.import("m", "f", EntityType::Function(0))?;
-    ty.import("m", "t", TABLE)?;
-    ty.ty()?
-        .function([ValType::I32].into_iter(), [ValType::I64].into_iter())?;
-    ty.import("", "", WIDE_MEMORY)?;
-    ty.alias_outer_core_type(128, 4294967295)?;
+/// Adds exports.
+fn exports(ty: &mut ModuleType) -> Result<(), Fault> {
     let global = GlobalType {
         val_type: ValType::F64,
         mutable: true,
     };
     ty.export("g", EntityType::Global(global))?;
-    ty.export("e", EntityType::Tag(TagType { func_type_idx: 128 }))?;
+    ty.export("e", EntityType::Tag(TagType { func_type_idx: 128 }))
+}
+
+/// A module type with an entity of each kind, a type and an alias.
+pub fn entities(alloc: Global) -> Result<ModuleType, Fault> {
+    let mut ty = ModuleType::new(alloc);
+    ty.import("m", "f", EntityType::Function(0))?;
+    ty.import("m", "t", TABLE)?;
+    Call::Function(&[ValType::I32], &[ValType::I64]).write(&mut ty)?;
+    ty.import("", "", WIDE_MEMORY)?;
+    ty.alias_outer_core_type(128, 4294967295)?;
+    exports(&mut ty)?;
     Ok(ty)
 }
 
@@ -77,31 +83,50 @@ fn kinds_of_entities(rt: HostRuntime) -> Result<(), Fail> {
     Ok(())
 }
 
+/// Adds a subtype that is not final.
+pub fn add_open(ty: &mut ModuleType, alloc: Global) -> Result<(), Fault> {
+    let open = function(alloc, false, None, &[])?;
+    Call::Subtype(&open).write(ty)
+}
+
+/// Adds a group of types, and an array.
+fn add_group(ty: &mut ModuleType, alloc: Global) -> Result<(), Fault> {
+    let group = pair(alloc, true)?;
+    Call::Rec(group.as_slice()).write(ty)?;
+    Call::Array(StorageType::I8, true).write(ty)
+}
+
+/// A module type with an alias.
+pub fn alias(alloc: Global) -> Result<ModuleType, Fault> {
+    let mut ty = ModuleType::new(alloc);
+    ty.alias_outer_core_type(1, 0)?;
+    Ok(ty)
+}
+
 /// Upstream gives these. A group is one type of what is counted.
 #[test]
 fn types(rt: HostRuntime) -> Result<(), Fail> {
-    let plain = function(rt.alloc(), true, None, &[])?;
-    let other = function(rt.alloc(), true, None, &[ValType::I32])?;
     let mut ty = ModuleType::new(rt.alloc());
-    ty.ty()?
-        .function([ValType::I32].into_iter(), [].into_iter())?;
-    ty.ty()?.subtype(&function(rt.alloc(), false, None, &[])?)?;
+    Call::Function(&[ValType::I32], &[]).write(&mut ty)?;
+    add_open(&mut ty, rt.alloc())?;
     ty.alias_outer_core_type(1, 0)?;
-    ty.ty()?.rec([&plain, &other].into_iter())?;
-    ty.ty()?.array(&StorageType::I8, true)?;
+    add_group(&mut ty, rt.alloc())?;
     let text = "50050160017f000150006000000210010100014e0260000060017f00015e7801";
     is_type(&rt, rt.alloc(), &ty, 5, text)?;
     Ok(())
 }
 
+/// The copy of a module type with an alias takes a type.
+fn grows(rt: &impl Abort, alloc: Global, copy: &mut ModuleType) -> Result<(), Fault> {
+    is_type(rt, alloc, copy, 1, "50010210010100")?;
+    Call::Function(&[], &[]).write(copy)?;
+    is_type(rt, alloc, copy, 2, "5002021001010001600000")
+}
+
 #[test]
 fn copies(rt: HostRuntime) -> Result<(), Fail> {
-    let mut ty = ModuleType::new(rt.alloc());
-    ty.alias_outer_core_type(1, 0)?;
-    let mut copy = ty.clone()?;
-    is_type(&rt, rt.alloc(), &copy, 1, "50010210010100")?;
-    copy.ty()?.function([].into_iter(), [].into_iter())?;
-    is_type(&rt, rt.alloc(), &copy, 2, "5002021001010001600000")?;
+    let ty = alias(rt.alloc())?;
+    grows(&rt, rt.alloc(), &mut copy_type(&ty)?)?;
     is_type(&rt, rt.alloc(), &ty, 1, "50010210010100")?;
     Ok(())
 }

@@ -1,92 +1,103 @@
 //! Sections of core types that are finished.
 
-use crate::checks::{I8, I16, I32, alone, array, function};
-use crate::module_types::entities;
+use crate::calls::Call;
+use crate::checks::{I8, I16, I32, add_module, array, copy, function, is_section, pair};
+use crate::module_types::{add_open, entities};
+use std::alloc::Global;
+use std::process::Abort;
 use std::test::Fail;
-use wenc_base::{StorageType, ValType};
+use wenc_base::{Fault, StorageType, ValType};
 use wenc_sections::CoreTypeSection;
 use wenc_types::ModuleType;
 
+/// A section of this core type alone has these bytes.
+fn core(rt: &impl Abort, alloc: Global, call: Call<'_>, wanted: &str) -> Result<(), Fault> {
+    let mut section = CoreTypeSection::new(alloc);
+    call.write(&mut section)?;
+    is_section(rt, alloc, &section, 1, wanted)
+}
+
+/// A section of this module type alone has these bytes.
+fn module(rt: &impl Abort, alloc: Global, ty: &ModuleType, wanted: &str) -> Result<(), Fault> {
+    let mut section = CoreTypeSection::new(alloc);
+    add_module(&mut section, ty)?;
+    is_section(rt, alloc, &section, 1, wanted)
+}
+
 #[test]
 fn subtypes(rt: HostRuntime) -> Result<(), Fail> {
-    let mut section = CoreTypeSection::new(rt.alloc());
     let open = function(rt.alloc(), false, None, &[])?;
-    section.ty()?.core().subtype(&open)?;
-    assert_eq!(rt; section.len(), 1);
-    assert!(rt; !section.is_empty() && section.is_finished());
-    alone(&rt, rt.alloc(), &section, "030701005000600000")?;
-
-    let mut section = CoreTypeSection::new(rt.alloc());
-    section.ty()?.core().subtype(&array(true, Some(4), I16))?;
-    alone(&rt, rt.alloc(), &section, "0307014f01045e7700")?;
+    core(&rt, rt.alloc(), Call::Subtype(&open), "030701005000600000")?;
+    let array = array(true, Some(4), I16);
+    core(&rt, rt.alloc(), Call::Subtype(&array), "0307014f01045e7700")?;
     Ok(())
 }
 
 #[test]
 fn recursion_groups(rt: HostRuntime) -> Result<(), Fail> {
-    let none = function(rt.alloc(), true, None, &[])?;
-    let one = function(rt.alloc(), true, None, &[ValType::I32])?;
-    let mut section = CoreTypeSection::new(rt.alloc());
-    section.ty()?.core().rec([&none, &one].into_iter())?;
-    assert_eq!(rt; section.len(), 1);
-    alone(&rt, rt.alloc(), &section, "030a014e0260000060017f00")?;
+    let types = pair(rt.alloc(), true)?;
+    let text = "030a014e0260000060017f00";
+    core(&rt, rt.alloc(), Call::Rec(types.as_slice()), text)?;
     Ok(())
 }
 
 #[test]
 fn types_of_modules(rt: HostRuntime) -> Result<(), Fail> {
-    let mut section = CoreTypeSection::new(rt.alloc());
     let mut ty = ModuleType::new(rt.alloc());
-    section.ty()?.module(&ty)?;
-    assert_eq!(rt; section.len(), 1);
-    alone(&rt, rt.alloc(), &section, "0303015000")?;
-
-    ty.ty()?.subtype(&function(rt.alloc(), false, None, &[])?)?;
-    let mut section = CoreTypeSection::new(rt.alloc());
-    section.ty()?.module(&ty)?;
-    assert_eq!(rt; section.len(), 1);
-    alone(&rt, rt.alloc(), &section, "0309015001015000600000")?;
+    module(&rt, rt.alloc(), &ty, "0303015000")?;
+    add_open(&mut ty, rt.alloc())?;
+    module(&rt, rt.alloc(), &ty, "0309015001015000600000")?;
     Ok(())
+}
+
+/// Adds a type of functions, a module type, and a subtype that is not final.
+fn first_items(section: &mut CoreTypeSection, alloc: Global) -> Result<(), Fault> {
+    Call::Function(&[ValType::I32], &[]).write(section)?;
+    add_module(section, &entities(alloc)?)?;
+    let open = function(alloc, false, None, &[])?;
+    Call::Subtype(&open).write(section)
+}
+
+/// Adds a group, an array and a structure.
+fn last_items(section: &mut CoreTypeSection, alloc: Global) -> Result<(), Fault> {
+    let group = pair(alloc, false)?;
+    Call::Rec(group.as_slice()).write(section)?;
+    Call::Array(StorageType::I8, true).write(section)?;
+    Call::Struct(&[I8, I32]).write(section)
 }
 
 /// Upstream gives this section.
 #[test]
 fn several(rt: HostRuntime) -> Result<(), Fail> {
-    let open = function(rt.alloc(), false, None, &[])?;
-    let plain = function(rt.alloc(), true, None, &[])?;
-    let other = function(rt.alloc(), false, None, &[ValType::I32])?;
     let mut section = CoreTypeSection::new(rt.alloc());
-    section
-        .ty()?
-        .core()
-        .function([ValType::I32].into_iter(), [].into_iter())?;
-    section.ty()?.module(&entities(rt.alloc())?)?;
-    section.ty()?.core().subtype(&open)?;
-    section.ty()?.core().rec([&plain, &other].into_iter())?;
-    section.ty()?.core().array(&StorageType::I8, true)?;
-    section.ty()?.core().struct_([I8, I32].into_iter())?;
-    assert_eq!(rt; section.len(), 6);
-    alone(
-        &rt,
-        rt.alloc(),
-        &section,
+    first_items(&mut section, rt.alloc())?;
+    last_items(&mut section, rt.alloc())?;
+    let text =
         "03580660017f00500700016d0166000000016d0174017000010160017f017e0000000205800180800402\
          10018001ffffffff0f030167037c01030165040080010050006000004e02600000500060017f005e78015f02\
-         78017f00",
-    )?;
+         78017f00";
+    is_section(&rt, rt.alloc(), &section, 6, text)?;
     Ok(())
+}
+
+/// A section of a module type with nothing in it.
+fn of_module(alloc: Global) -> Result<CoreTypeSection, Fault> {
+    let mut section = CoreTypeSection::new(alloc);
+    add_module(&mut section, &ModuleType::new(alloc))?;
+    Ok(section)
+}
+
+/// The copy of a section of a module type takes another one.
+fn grows(rt: &impl Abort, alloc: Global, copy: &mut CoreTypeSection) -> Result<(), Fault> {
+    is_section(rt, alloc, copy, 1, "0303015000")?;
+    add_module(copy, &ModuleType::new(alloc))?;
+    is_section(rt, alloc, copy, 2, "03050250005000")
 }
 
 #[test]
 fn copies(rt: HostRuntime) -> Result<(), Fail> {
-    let mut section = CoreTypeSection::new(rt.alloc());
-    section.ty()?.module(&ModuleType::new(rt.alloc()))?;
-    let mut copy = section.clone()?;
-    alone(&rt, rt.alloc(), &copy, "0303015000")?;
-    copy.ty()?.module(&ModuleType::new(rt.alloc()))?;
-    assert_eq!(rt; copy.len(), 2);
-    alone(&rt, rt.alloc(), &copy, "03050250005000")?;
-    assert_eq!(rt; section.len(), 1);
-    alone(&rt, rt.alloc(), &section, "0303015000")?;
+    let section = of_module(rt.alloc())?;
+    grows(&rt, rt.alloc(), &mut copy(&section)?)?;
+    is_section(&rt, rt.alloc(), &section, 1, "0303015000")?;
     Ok(())
 }

@@ -1,5 +1,5 @@
 -- Types that components define, with all that is in them: why one can't be encoded, and the code's as pure ones.
-use Rattle.std.specs.Prelude.{Bool, List, [], ◌∷◌, map, Option, String}
+use Rattle.std.specs.Prelude.{Bool, List, map, Option, String}
 use Rattle.std.specs.String.{string_bytes}
 use Rattle.wenc_base.specs.Fault.{count_cause, first_of}
 use Rattle.wenc_base.specs.declared.fault.Fault.{Fault}

@@ -60,8 +60,8 @@ pub made_of : {T S R B C : Type 0} (steps : S → Option B → S → Type 0) (va
     → ExtendsListed steps values old new outcome next refuses (λ vs. cause (map make vs)) (λ vs. text (map make vs))
 made_of steps values making made old new (Ok u) next refuses cause text make runs a = record {
   ok = let p = a.ok.0 in
-       let q = runs p (seen p.len) a.ok.1 in
-       (q.0, q.1, q.2.0 ∙ a.ok.2, rw q.2.1 at a.ok.3);
+      let q = runs p (seen p.len) a.ok.1 in
+      (q.0, q.1, q.2.0 ∙ a.ok.2, rw q.2.1 at a.ok.3);
   err = tt;
   warranted = tt;
 }
@@ -69,7 +69,7 @@ made_of steps values making made old new (Err f) next refuses cause text make ru
   ok = tt;
   err = a.err;
   warranted =
-       let p = a.warranted.0 in
-       let q = runs p (seen p.len) a.warranted.1 in
-       (q.0, q.1, rw q.2.1 at a.warranted.2);
+      let p = a.warranted.0 in
+      let q = runs p (seen p.len) a.warranted.1 in
+      (q.0, q.1, rw q.2.1 at a.warranted.2);
 }

@@ -1,12 +1,12 @@
 -- What follows for the declarations of component types and instance types.
-use Rattle.std.proofs.Common.{◌≡◌, ℕ, ◌+◌, ◌-◌, suc, List, [], ◌∷◌, ◌++◌, length, Option, Some, None, Result, Ok, Err, OnOk, OnErr, refl, ap, sym, ◌∙◌, arith, true}
-use Rattle.wenc_base.specs.Holder.{Held, is_finished, as_they_are, held_text, AddsMember}
+use Rattle.std.proofs.Common.{◌≡◌, ℕ, ◌+◌, ◌-◌, List, [], ◌∷◌, ◌++◌, Option, Some, None, Result, Ok, Err, OnOk, OnErr, refl, ap, sym, ◌∙◌, arith}
+use Rattle.wenc_base.specs.Holder.{Held, as_they_are, held_text, AddsMember}
 use Rattle.wenc_base.specs.laws.Causes.{SameCause}
 use Rattle.wenc_base.specs.laws.Holders.{adds_as, contains_opened, given_up_is_before, lengthened_twice}
 use Rattle.wenc_base.specs.declared.fault.Fault.{Fault}
 use Rattle.wenc_types.specs.ComponentTypes.{InstanceDeclaration, ComponentDeclaration, ComponentType, InstanceType, instances_of, components_of, type_of}
 use Rattle.wenc_types.specs.laws.ComponentTypes.{instances_counted, components_counted, instances_text, components_text}
-use Rattle.wenc_types.specs.Declarations.{InstanceDeclares, ComponentDeclares, no_counts, counted, uncounted, counts_of, Declaring, Settled, Declares, AddsDeclaration, lead_of, with_held, begun, written, ended, taken_back}
+use Rattle.wenc_types.specs.Declarations.{InstanceDeclares, ComponentDeclares, counted, uncounted, counts_of, Declaring, Settled, Declares, AddsDeclaration, lead_of, with_held, begun, written, ended, taken_back}
 use Rattle.wenc_types.specs.declared.counts.Counts.{Counts}
 use Rattle.wenc_types.specs.declared.counts.Sort.{Sort}
 use Rattle.wenc_types.specs.declared.counts.Sort.TheVariants.{CoreType, «Type» as TypeSort, Instance}

@@ -1,4 +1,4 @@
-use Rattle.std.proofs.Common.{◌≡◌, ◌∷◌, ◌++◌, [], ℕ, List, Option, map, subst, ap, sym, ◌∙◌, rules}
+use Rattle.std.proofs.Common.{◌∷◌, ℕ, List, Option, map, subst, ap, sym, ◌∙◌, rules}
 use Rattle.std.specs.Borrow.{Bor}
 use Rattle.wenc_base.specs.Forms.{list_text}
 use Rattle.wenc_base.specs.laws.Causes.{SameCause, same_cause, drawn_seen}
