@@ -3,7 +3,7 @@ use std::alloc::{Allocator, Global};
 use std::test::Fail;
 use sweeping::members::{Adds, Members, sweep_calls, sweep_clones};
 use sweeping::{Appends, LARGE, TEXT, sweep, sweep_encode};
-use wenc_base::{Encode, Fault, Holder};
+use wenc_base::{Encode, Fault, Holder, Verbatim};
 
 /// A holder of whole members.
 #[derive(Drop)]
@@ -57,7 +57,7 @@ impl<'a> Adds<Whole<'a>> for Member {
             Member::Listed => to.0.add_listed(&LARGE, [7, LARGE, 8].into_iter(), &TEXT),
             Member::Lead => to.0.open(TEXT),
             Member::KeptInFront => {
-                to.0.keep_all(TEXT)?;
+                to.0.keep_all(&Verbatim(TEXT))?;
                 Ok(())
             }
         }

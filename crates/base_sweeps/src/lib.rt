@@ -12,6 +12,8 @@ mod lists;
 #[cfg(test)]
 mod modules;
 #[cfg(test)]
+mod names;
+#[cfg(test)]
 mod pieces;
 #[cfg(test)]
 mod producers;

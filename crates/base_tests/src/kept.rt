@@ -1,14 +1,14 @@
 use crate::holder::check_holder;
 use crate::openings::{check_parts, over_four_bytes};
 use std::test::Fail;
-use wenc_base::Fault;
+use wenc_base::{Fault, Verbatim};
 
 // All bytes are kept, and what comes next is the first member behind them.
 #[test]
 fn all_are_kept(rt: HostRuntime) -> Result<(), Fail> {
     let mut holder = over_four_bytes(rt.alloc())?;
     assert_eq!(rt; holder.kept_len(), 2);
-    assert_eq!(rt; holder.keep_all(&[0x10, 0x11]), Ok(4));
+    assert_eq!(rt; holder.keep_all(&Verbatim(&[0x10, 0x11])), Ok(4));
     assert_eq!(rt; holder.kept_len(), 6);
     check_holder(&rt, rt.alloc(), &holder, 0, &[], &[0x01, 0x00])?;
     holder.add(&[0x2a])?;
@@ -29,7 +29,7 @@ fn all_are_kept(rt: HostRuntime) -> Result<(), Fail> {
 #[tactic(auto, using(wenc_base::proofs::Groups::size_1))]
 fn gone_back(rt: HostRuntime) -> Result<(), Fail> {
     let mut holder = over_four_bytes(rt.alloc())?;
-    holder.keep_all(&[0x10, 0x11])?;
+    holder.keep_all(&Verbatim(&[0x10, 0x11]))?;
     holder.go_back(2, 4, 1);
     check_holder(
         &rt,
@@ -65,7 +65,7 @@ fn kept_bytes_filled(rt: HostRuntime) -> Result<(), Fail> {
 fn unfinished_is_not_kept(rt: HostRuntime) -> Result<(), Fail> {
     let mut holder = over_four_bytes(rt.alloc())?;
     holder.open(&[0x2a])?;
-    assert_eq!(rt; holder.keep_all(&[0x10]), Err(Fault::Unfinished));
+    assert_eq!(rt; holder.keep_all(&Verbatim(&[0x10])), Err(Fault::Unfinished));
     assert_eq!(rt; holder.kept_len(), 2);
     assert_eq!(rt; holder.as_slice(), [0x03, 0x00, 0x2a].as_slice());
     assert!(rt; holder.is_opened());

@@ -12,6 +12,8 @@ mod kept;
 #[cfg(test)]
 mod lenders;
 #[cfg(test)]
+mod names;
+#[cfg(test)]
 mod openings;
 #[cfg(test)]
 mod types;

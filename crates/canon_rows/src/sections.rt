@@ -1,8 +1,8 @@
 use hexed::text;
-use std::alloc::Global;
+use std::alloc::{AllocError, Global};
 use std::process::Abort;
 use std::test::Fail;
-use wenc_base::{Fault, ValType};
+use wenc_base::{Fault, Holder, ValType};
 use wenc_canon::{CanonicalFunctionSection, CanonicalOption};
 use wenc_parts::ComponentSection;
 
@@ -94,5 +94,36 @@ fn sources_leave_their_clones_alone(rt: HostRuntime) -> Result<(), Fail> {
     source.subtask_drop()?;
     has_text(&rt, alloc, &source, "ee040202010d")?;
     has_text(&rt, alloc, &copy, "ee03010201")?;
+    Ok(())
+}
+
+/// A section behind two bytes that are kept, with a function.
+#[tactic(auto, using(wenc_base::proofs::Groups::size_1))]
+fn over(alloc: Global) -> Result<CanonicalFunctionSection, AllocError> {
+    let holder = Holder::over([0xaa, 0xbb, 0x05].to_vec(alloc)?, 2, 1);
+    Ok(CanonicalFunctionSection::from_holder(holder))
+}
+
+fn resource_drop(section: &mut CanonicalFunctionSection) -> Result<(), Fault> {
+    section.resource_drop(0)
+}
+
+/// What the section's holder is made of: all bytes, of which two are kept.
+fn gives_back(rt: &impl Abort, section: CanonicalFunctionSection, bytes: &[u8], count: u32) {
+    let parts = section.into_holder().into_parts();
+    assert_eq!(rt; parts.0.as_slice(), bytes);
+    assert_eq!(rt; parts.1, 2);
+    assert_eq!(rt; parts.2, count);
+    assert!(rt; parts.3);
+}
+
+#[test]
+fn behind_bytes_that_are_kept(rt: HostRuntime) -> Result<(), Fail> {
+    let alloc = rt.alloc();
+    let mut section = over(alloc)?;
+    has_text(&rt, alloc, &section, "ee020105")?;
+    resource_drop(&mut section)?;
+    has_text(&rt, alloc, &section, "ee0402050300")?;
+    gives_back(&rt, section, &[0xaa, 0xbb, 0x05, 0x03, 0x00], 2);
     Ok(())
 }

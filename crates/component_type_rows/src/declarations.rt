@@ -105,6 +105,34 @@ fn instance_counts(ty: &InstanceType) -> [u32; 3] {
     [ty.core_type_count(), ty.type_count(), ty.instance_count()]
 }
 
+/// A section with this component type alone.
+fn section_of(alloc: Global, ty: &ComponentType) -> Result<ComponentTypeSection, Fault> {
+    let mut section = ComponentTypeSection::new(alloc);
+    section.component(ty)?;
+    Ok(section)
+}
+
+/// The same by an encoder.
+fn encoded(alloc: Global, ty: &ComponentType) -> Result<ComponentTypeSection, Fault> {
+    let mut section = ComponentTypeSection::new(alloc);
+    section.ty()?.component(ty)?;
+    Ok(section)
+}
+
+/// A section with this instance type alone.
+fn section_of_instance(alloc: Global, ty: &InstanceType) -> Result<ComponentTypeSection, Fault> {
+    let mut section = ComponentTypeSection::new(alloc);
+    section.instance(ty)?;
+    Ok(section)
+}
+
+/// The same by an encoder.
+fn encoded_instance(alloc: Global, ty: &InstanceType) -> Result<ComponentTypeSection, Fault> {
+    let mut section = ComponentTypeSection::new(alloc);
+    section.ty()?.instance(ty)?;
+    Ok(section)
+}
+
 /// In a section the component type alone has these bytes.
 fn in_a_section(
     rt: &impl Abort,
@@ -112,12 +140,8 @@ fn in_a_section(
     ty: &ComponentType,
     wanted: &str,
 ) -> Result<(), Fault> {
-    let mut section = ComponentTypeSection::new(alloc);
-    section.component(ty)?;
-    is_section(rt, alloc, &section, 1, wanted)?;
-    let mut section = ComponentTypeSection::new(alloc);
-    section.ty()?.component(ty)?;
-    is_section(rt, alloc, &section, 1, wanted)
+    is_section(rt, alloc, &section_of(alloc, ty)?, 1, wanted)?;
+    is_section(rt, alloc, &encoded(alloc, ty)?, 1, wanted)
 }
 
 /// So has the instance type.
@@ -127,12 +151,8 @@ fn instance_in_a_section(
     ty: &InstanceType,
     wanted: &str,
 ) -> Result<(), Fault> {
-    let mut section = ComponentTypeSection::new(alloc);
-    section.instance(ty)?;
-    is_section(rt, alloc, &section, 1, wanted)?;
-    let mut section = ComponentTypeSection::new(alloc);
-    section.ty()?.instance(ty)?;
-    is_section(rt, alloc, &section, 1, wanted)
+    is_section(rt, alloc, &section_of_instance(alloc, ty)?, 1, wanted)?;
+    is_section(rt, alloc, &encoded_instance(alloc, ty)?, 1, wanted)
 }
 
 /// Declares these.
@@ -153,23 +173,44 @@ fn declare_in_instance(
     Ok(())
 }
 
+fn alias(ty: &mut ComponentType, alias: Alias<'_>) -> Result<(), Fault> {
+    ty.alias(alias)
+}
+
+fn import(ty: &mut ComponentType, name: &str, what: ComponentTypeRef) -> Result<(), Fault> {
+    ty.import(name.into(), what)
+}
+
+fn export(ty: &mut ComponentType, name: &str, what: ComponentTypeRef) -> Result<(), Fault> {
+    ty.export(name.into(), what)
+}
+
 /// All aliases, then all references as imports.
 fn add_most(ty: &mut ComponentType) -> Result<(), Fault> {
     Declaration::Type(Call::Option(STRING)).add_to(ty)?;
-    for alias in ALIASES {
-        ty.alias(alias)?;
+    for to in ALIASES {
+        alias(ty, to)?;
     }
     for (name, reference) in REFERENCES {
-        ty.import(name.into(), reference)?;
+        import(ty, name, reference)?;
     }
     Ok(())
 }
 
 fn add_exports(ty: &mut ComponentType) -> Result<(), Fault> {
     for (name, reference) in REFERENCES {
-        ty.export(name.into(), reference)?;
+        export(ty, name, reference)?;
     }
     Ok(())
+}
+
+/// A copy of a component type goes its own way.
+fn copy_goes_its_own_way(rt: &impl Abort, alloc: Global, ty: &ComponentType) -> Result<(), Fault> {
+    let mut copy = ty.clone()?;
+    assert_eq!(rt; counts(&copy), [0, 1, 0]);
+    Declaration::Import("i", ComponentTypeRef::Instance(8)).add_to(&mut copy)?;
+    assert_eq!(rt; counts(&copy), [0, 1, 1]);
+    is_text(rt, alloc, &copy, "4102016b73030001690508")
 }
 
 const FULL: &str =
@@ -206,11 +247,16 @@ fn an_imported_resource(rt: HostRuntime) -> Result<(), Fail> {
 }
 
 #[test]
-fn empty_types(rt: HostRuntime) -> Result<(), Fail> {
+fn an_empty_component_type(rt: HostRuntime) -> Result<(), Fail> {
     let ty = ComponentType::new(rt.alloc());
     assert!(rt; ty.is_empty() && ty.is_finished());
     assert_eq!(rt; counts(&ty), [0, 0, 0]);
     in_a_section(&rt, rt.alloc(), &ty, "0703014100")?;
+    Ok(())
+}
+
+#[test]
+fn an_empty_instance_type(rt: HostRuntime) -> Result<(), Fail> {
     let ty = InstanceType::new(rt.alloc());
     assert!(rt; ty.is_empty() && ty.is_finished());
     assert_eq!(rt; instance_counts(&ty), [0, 0, 0]);
@@ -272,11 +318,7 @@ fn nested_instance_types(rt: HostRuntime) -> Result<(), Fail> {
 fn copies(rt: HostRuntime) -> Result<(), Fail> {
     let mut ty = ComponentType::new(rt.alloc());
     Declaration::Type(Call::Option(STRING)).add_to(&mut ty)?;
-    let mut copy = ty.clone()?;
-    assert_eq!(rt; counts(&copy), [0, 1, 0]);
-    Declaration::Import("i", ComponentTypeRef::Instance(8)).add_to(&mut copy)?;
-    assert_eq!(rt; counts(&copy), [0, 1, 1]);
-    is_text(&rt, rt.alloc(), &copy, "4102016b73030001690508")?;
+    copy_goes_its_own_way(&rt, rt.alloc(), &ty)?;
     assert_eq!(rt; counts(&ty), [0, 1, 0]);
     is_text(&rt, rt.alloc(), &ty, "4101016b73")?;
     Ok(())

@@ -2,23 +2,41 @@
 
 use crate::calls::Call;
 use crate::checks::{STRING, is_section};
+use crate::declaring::Declaration;
 use std::alloc::Global;
+use std::process::Abort;
 use std::test::Fail;
 use wenc_base::{Fault, ValType};
-use wenc_parts::{ComponentTypeRef, ComponentValType, PrimitiveValType};
+use wenc_parts::{ComponentSection, ComponentTypeRef, ComponentValType, PrimitiveValType};
 use wenc_sections::{Component, ComponentImportSection, ComponentTypeSection};
 use wenc_types::{ComponentType, InstanceType};
 
+const FOUR: [Call<'static>; 4] = [
+    Call::Result(None, Some(STRING)),
+    Call::Map(STRING, ComponentValType::Primitive(PrimitiveValType::U32)),
+    Call::FixedLengthList(ComponentValType::Primitive(PrimitiveValType::U8), 128),
+    Call::Own(64),
+];
+
 /// Four types of values.
 fn four(alloc: Global) -> Result<ComponentTypeSection, Fault> {
-    let u8 = ComponentValType::Primitive(PrimitiveValType::U8);
-    let u32 = ComponentValType::Primitive(PrimitiveValType::U32);
     let mut section = ComponentTypeSection::new(alloc);
-    section.defined_type()?.result(None, Some(STRING))?;
-    section.defined_type()?.map(STRING, u32)?;
-    section.defined_type()?.fixed_length_list(u8, 128)?;
-    section.defined_type()?.own(64)?;
+    for call in FOUR {
+        call.write(&mut section)?;
+    }
     Ok(section)
+}
+
+fn add_resource(section: &mut ComponentTypeSection, dtor: Option<u32>) -> Result<(), Fault> {
+    section.resource(ValType::I32, dtor)
+}
+
+fn add_component(section: &mut ComponentTypeSection, ty: &ComponentType) -> Result<(), Fault> {
+    section.ty()?.component(ty)
+}
+
+fn add_instance(section: &mut ComponentTypeSection, ty: &InstanceType) -> Result<(), Fault> {
+    section.ty()?.instance(ty)
 }
 
 #[test]
@@ -37,9 +55,9 @@ fn types_of_values(rt: HostRuntime) -> Result<(), Fail> {
 #[test]
 fn resources(rt: HostRuntime) -> Result<(), Fail> {
     let mut section = ComponentTypeSection::new(rt.alloc());
-    section.resource(ValType::I32, None)?;
+    add_resource(&mut section, None)?;
     is_section(&rt, rt.alloc(), &section, 1, "0704013f7f00")?;
-    section.resource(ValType::I32, Some(3))?;
+    add_resource(&mut section, Some(3))?;
     is_section(&rt, rt.alloc(), &section, 2, "0708023f7f003f7f0103")?;
     Ok(())
 }
@@ -52,60 +70,97 @@ fn inner(alloc: Global) -> Result<InstanceType, Fault> {
 }
 
 /// A component type with that one and an empty one.
-fn outer(alloc: Global, inner: &InstanceType) -> Result<ComponentType, Fault> {
+fn outer(
+    alloc: Global,
+    inner: &InstanceType,
+    empty: &ComponentType,
+) -> Result<ComponentType, Fault> {
     let mut ty = ComponentType::new(alloc);
-    ty.ty()?.instance(inner)?;
-    ty.ty()?.component(&ComponentType::new(alloc))?;
+    Declaration::Instance(inner).add_to(&mut ty)?;
+    Declaration::Component(empty).add_to(&mut ty)?;
     Ok(ty)
 }
 
-/// Upstream gives this section.
-fn five(alloc: Global) -> Result<ComponentTypeSection, Fault> {
-    let inner = inner(alloc)?;
+/// Upstream gives this section of both.
+fn five(
+    alloc: Global,
+    outer: &ComponentType,
+    inner: &InstanceType,
+) -> Result<ComponentTypeSection, Fault> {
     let mut section = ComponentTypeSection::new(alloc);
-    section.ty()?.component(&outer(alloc, &inner)?)?;
-    section.ty()?.instance(&inner)?;
-    section.ty()?.resource(ValType::I32, None)?;
-    section.ty()?.defined_type().own(0)?;
-    section.resource(ValType::I32, Some(3))?;
+    add_component(&mut section, outer)?;
+    add_instance(&mut section, inner)?;
+    Call::Resource(ValType::I32, None).write(&mut section)?;
+    Call::Own(0).write(&mut section)?;
+    add_resource(&mut section, Some(3))?;
     Ok(section)
+}
+
+/// A section of both, where the outer one has an empty one too.
+fn nested(
+    alloc: Global,
+    inner: &InstanceType,
+    empty: &ComponentType,
+) -> Result<ComponentTypeSection, Fault> {
+    five(alloc, &outer(alloc, inner, empty)?, inner)
 }
 
 #[test]
 fn several(rt: HostRuntime) -> Result<(), Fail> {
-    let section = five(rt.alloc())?;
+    let section = nested(
+        rt.alloc(),
+        &inner(rt.alloc())?,
+        &ComponentType::new(rt.alloc()),
+    )?;
     let wanted = "07260541020142010140010170c000010001410042010140010170c00001003f7f0069003f7f0103";
     is_section(&rt, rt.alloc(), &section, 5, wanted)?;
     Ok(())
 }
 
-fn copied(section: &ComponentTypeSection) -> Result<ComponentTypeSection, Fault> {
+/// A copy of a section with an option has an item more, and the section hasn't.
+fn copy_has_one_more(
+    rt: &impl Abort,
+    alloc: Global,
+    section: &ComponentTypeSection,
+) -> Result<(), Fault> {
     let mut copy = section.clone()?;
-    copy.defined_type()?.own(64)?;
-    Ok(copy)
+    Call::Own(64).write(&mut copy)?;
+    is_section(rt, alloc, &copy, 2, "0705026b736940")?;
+    is_section(rt, alloc, section, 1, "0703016b73")
 }
 
 #[test]
 fn copies(rt: HostRuntime) -> Result<(), Fail> {
     let mut section = ComponentTypeSection::new(rt.alloc());
-    section.defined_type()?.option(STRING)?;
-    let copy = copied(&section)?;
-    is_section(&rt, rt.alloc(), &section, 1, "0703016b73")?;
-    is_section(&rt, rt.alloc(), &copy, 2, "0705026b736940")?;
+    Call::Option(STRING).write(&mut section)?;
+    copy_has_one_more(&rt, rt.alloc(), &section)?;
     Ok(())
 }
 
-/// A type of functions, and an import of such a function.
-fn with_an_import(alloc: Global) -> Result<Component, Fault> {
+/// A type of functions.
+fn function(alloc: Global) -> Result<ComponentTypeSection, Fault> {
     let mut types = ComponentTypeSection::new(alloc);
-    let mut function = types.function()?;
-    function.params([("a", STRING), ("b", STRING)].into_iter())?;
-    function.result(Some(STRING))?;
+    let params = [("a", STRING), ("b", STRING)];
+    Call::Function(None, params.as_slice(), Some(STRING)).write(&mut types)?;
+    Ok(types)
+}
+
+/// An import of such a function.
+fn import(alloc: Global) -> Result<ComponentImportSection, Fault> {
     let mut imports = ComponentImportSection::new(alloc);
     imports.import("f".into(), ComponentTypeRef::Func(0))?;
+    Ok(imports)
+}
+
+fn put(component: &mut Component, section: &impl ComponentSection) -> Result<(), Fault> {
+    component.section(section)
+}
+
+/// Both sections in a component.
+fn with_an_import(alloc: Global) -> Result<Component, Fault> {
     let mut component = Component::new(alloc)?;
-    component.section(&types)?;
-    component.section(&imports)?;
+    put(&mut component, &function(alloc)?)?;
+    put(&mut component, &import(alloc)?)?;
     Ok(component)
 }
 

@@ -9,8 +9,6 @@ use wenc_parts::{Alias, ComponentOuterAliasKind, ComponentTypeRef};
 use wenc_sections::{Component, ComponentTypeSection};
 use wenc_types::{ComponentType, FuncStage, InstanceType};
 
-const UNFINISHED: Result<(), Fault> = Err(Fault::Unfinished);
-
 const OUTER: Alias<'static> = Alias::Outer {
     kind: ComponentOuterAliasKind::Type,
     count: 1,
@@ -19,26 +17,78 @@ const OUTER: Alias<'static> = Alias::Outer {
 
 const FUNC: ComponentTypeRef = ComponentTypeRef::Func(0);
 
+/// The call was refused since something is unfinished.
+fn is_unfinished(outcome: Result<(), Fault>) -> bool {
+    outcome == Err(Fault::Unfinished)
+}
+
+/// What it was called for wasn't begun since something is unfinished.
+fn is_not_begun(fault: Option<Fault>) -> bool {
+    fault == Some(Fault::Unfinished)
+}
+
 /// `encode` is refused, and leaves the sink as it was.
 fn is_not_encoded(rt: &impl Abort, alloc: Global, value: &impl Encode) -> Result<(), Fault> {
     let mut sink = [0x99].to_vec(alloc)?;
-    assert_eq!(rt; value.encode(&mut sink), UNFINISHED);
+    assert!(rt; is_unfinished(value.encode(&mut sink)));
     assert_eq!(rt; sink.as_slice(), [0x99].as_slice());
     Ok(())
 }
 
+// ---- sections
+
+fn no_type(section: &mut ComponentTypeSection) -> bool {
+    is_not_begun(section.ty().err())
+}
+
+fn no_function(section: &mut ComponentTypeSection) -> bool {
+    is_not_begun(section.function().err())
+}
+
+fn no_defined_type(section: &mut ComponentTypeSection) -> bool {
+    is_not_begun(section.defined_type().err())
+}
+
+fn no_resource(section: &mut ComponentTypeSection) -> bool {
+    is_unfinished(section.resource(ValType::I32, None))
+}
+
+fn no_component(section: &mut ComponentTypeSection, ty: &ComponentType) -> bool {
+    is_unfinished(section.component(ty))
+}
+
+fn no_instance(section: &mut ComponentTypeSection, ty: &InstanceType) -> bool {
+    is_unfinished(section.instance(ty))
+}
+
+fn is_not_in(component: &mut Component, section: &ComponentTypeSection) -> bool {
+    is_unfinished(component.section(section))
+}
+
+fn is_one_unfinished(section: &ComponentTypeSection) -> bool {
+    section.len() == 1 && !section.is_finished()
+}
+
+fn give_up(section: &mut ComponentTypeSection) -> bool {
+    section.discard_unfinished()
+}
+
+fn copy(section: &ComponentTypeSection) -> Result<ComponentTypeSection, Fault> {
+    Ok(section.clone()?)
+}
+
 /// Nothing is begun in the section.
-fn is_not_begun(rt: &impl Abort, section: &mut ComponentTypeSection) {
-    assert_eq!(rt; section.ty().err(), Some(Fault::Unfinished));
-    assert_eq!(rt; section.function().err(), Some(Fault::Unfinished));
-    assert_eq!(rt; section.defined_type().err(), Some(Fault::Unfinished));
-    assert_eq!(rt; section.resource(ValType::I32, None), UNFINISHED);
+fn begins_nothing(rt: &impl Abort, section: &mut ComponentTypeSection) {
+    assert!(rt; no_type(section));
+    assert!(rt; no_function(section));
+    assert!(rt; no_defined_type(section));
+    assert!(rt; no_resource(section));
 }
 
 /// Nothing is added to the section.
-fn is_not_added_to(rt: &impl Abort, alloc: Global, section: &mut ComponentTypeSection) {
-    assert_eq!(rt; section.component(&ComponentType::new(alloc)), UNFINISHED);
-    assert_eq!(rt; section.instance(&InstanceType::new(alloc)), UNFINISHED);
+fn takes_nothing(rt: &impl Abort, alloc: Global, section: &mut ComponentTypeSection) {
+    assert!(rt; no_component(section, &ComponentType::new(alloc)));
+    assert!(rt; no_instance(section, &InstanceType::new(alloc)));
 }
 
 /// Nothing is made of the section.
@@ -49,7 +99,7 @@ fn is_not_made(
 ) -> Result<(), Fault> {
     is_not_encoded(rt, alloc, section)?;
     let mut component = Component::new(alloc)?;
-    assert_eq!(rt; component.section(section), UNFINISHED);
+    assert!(rt; is_not_in(&mut component, section));
     assert_eq!(rt; component.as_slice().len(), 8);
     Ok(())
 }
@@ -60,12 +110,12 @@ fn is_given_up(
     alloc: Global,
     section: &mut ComponentTypeSection,
 ) -> Result<(), Fault> {
-    assert!(rt; section.len() == 1 && !section.is_finished());
-    is_not_begun(rt, section);
-    is_not_added_to(rt, alloc, section);
+    assert!(rt; is_one_unfinished(section));
+    begins_nothing(rt, section);
+    takes_nothing(rt, alloc, section);
     is_not_made(rt, alloc, section)?;
-    assert!(rt; section.discard_unfinished());
-    assert!(rt; !section.discard_unfinished());
+    assert!(rt; give_up(section));
+    assert!(rt; !give_up(section));
     is_section(rt, alloc, section, 0, "070100")
 }
 
@@ -75,20 +125,39 @@ fn are_given_up(
     alloc: Global,
     section: &mut ComponentTypeSection,
 ) -> Result<(), Fault> {
-    is_given_up(rt, alloc, &mut section.clone()?)?;
+    is_given_up(rt, alloc, &mut copy(section)?)?;
     is_given_up(rt, alloc, section)
+}
+
+fn begin_type(section: &mut ComponentTypeSection) -> Result<(), Fault> {
+    section.ty()?;
+    Ok(())
+}
+
+fn begin_type_of_values(section: &mut ComponentTypeSection) -> Result<(), Fault> {
+    section.ty()?.defined_type();
+    Ok(())
+}
+
+fn begin_defined_type(section: &mut ComponentTypeSection) -> Result<(), Fault> {
+    section.defined_type()?;
+    Ok(())
+}
+
+fn add_own(section: &mut ComponentTypeSection) -> Result<(), Fault> {
+    section.defined_type()?.own(64)
 }
 
 #[test]
 fn sections(rt: HostRuntime) -> Result<(), Fail> {
     let mut section = ComponentTypeSection::new(rt.alloc());
-    section.ty()?;
+    begin_type(&mut section)?;
     are_given_up(&rt, rt.alloc(), &mut section)?;
-    section.ty()?.defined_type();
+    begin_type_of_values(&mut section)?;
     are_given_up(&rt, rt.alloc(), &mut section)?;
-    section.defined_type()?;
+    begin_defined_type(&mut section)?;
     are_given_up(&rt, rt.alloc(), &mut section)?;
-    section.defined_type()?.own(64)?;
+    add_own(&mut section)?;
     is_section(&rt, rt.alloc(), &section, 1, "0703016940")?;
     Ok(())
 }
@@ -115,7 +184,7 @@ fn add_function(section: &mut ComponentTypeSection) -> Result<(), Fault> {
 fn functions(rt: HostRuntime) -> Result<(), Fail> {
     let mut section = ComponentTypeSection::new(rt.alloc());
     for stage in [FuncStage::Start, FuncStage::Tagged, FuncStage::Params] {
-        assert_eq!(rt; begin(&mut section, stage)?, stage);
+        assert!(rt; begin(&mut section, stage) == Ok(stage));
         are_given_up(&rt, rt.alloc(), &mut section)?;
     }
     add_function(&mut section)?;
@@ -123,21 +192,66 @@ fn functions(rt: HostRuntime) -> Result<(), Fail> {
     Ok(())
 }
 
+// ---- component types
+
+fn no_alias(ty: &mut ComponentType) -> bool {
+    is_unfinished(ty.alias(OUTER))
+}
+
+fn no_import(ty: &mut ComponentType) -> bool {
+    is_unfinished(ty.import("f".into(), FUNC))
+}
+
+fn no_export(ty: &mut ComponentType) -> bool {
+    is_unfinished(ty.export("f".into(), FUNC))
+}
+
+fn declares_no_type(ty: &mut ComponentType) -> bool {
+    is_not_begun(ty.ty().err())
+}
+
+fn declares_no_core_type(ty: &mut ComponentType) -> bool {
+    is_not_begun(ty.core_type().err())
+}
+
+fn no_component_by_an_encoder(
+    section: &mut ComponentTypeSection,
+    ty: &ComponentType,
+) -> Result<bool, Fault> {
+    Ok(is_unfinished(section.ty()?.component(ty)))
+}
+
+fn counts(ty: &ComponentType) -> (u32, u32) {
+    (ty.core_type_count(), ty.type_count())
+}
+
+fn give_up_type(ty: &mut ComponentType) -> bool {
+    ty.discard_unfinished()
+}
+
+fn is_whole_and_empty(ty: &ComponentType) -> bool {
+    ty.is_finished() && ty.is_empty()
+}
+
+fn copy_type(ty: &ComponentType) -> Result<ComponentType, Fault> {
+    Ok(ty.clone()?)
+}
+
 /// The component type has a type that is being written. Nothing is declared.
 fn is_not_declared(rt: &impl Abort, ty: &mut ComponentType) {
-    assert_eq!(rt; ty.alias(OUTER), UNFINISHED);
-    assert_eq!(rt; ty.import("f".into(), FUNC), UNFINISHED);
-    assert_eq!(rt; ty.export("f".into(), FUNC), UNFINISHED);
-    assert_eq!(rt; ty.ty().err(), Some(Fault::Unfinished));
-    assert_eq!(rt; ty.core_type().err(), Some(Fault::Unfinished));
+    assert!(rt; no_alias(ty));
+    assert!(rt; no_import(ty));
+    assert!(rt; no_export(ty));
+    assert!(rt; declares_no_type(ty));
+    assert!(rt; declares_no_core_type(ty));
 }
 
 /// Nor is anything made of it: a section stays as it was, and what was lent is left unfinished.
 fn is_not_item(rt: &impl Abort, alloc: Global, ty: &ComponentType) -> Result<(), Fault> {
     let mut section = ComponentTypeSection::new(alloc);
-    assert_eq!(rt; section.component(ty), UNFINISHED);
+    assert!(rt; no_component(&mut section, ty));
     is_section(rt, alloc, &section, 0, "070100")?;
-    assert_eq!(rt; section.ty()?.component(ty), UNFINISHED);
+    assert!(rt; no_component_by_an_encoder(&mut section, ty) == Ok(true));
     is_given_up(rt, alloc, &mut section)
 }
 
@@ -147,62 +261,121 @@ fn takes_back(rt: &impl Abort, alloc: Global, ty: &mut ComponentType) -> Result<
     is_not_encoded(rt, alloc, ty)?;
     is_not_declared(rt, ty);
     is_not_item(rt, alloc, ty)?;
-    assert!(rt; ty.discard_unfinished());
-    assert!(rt; !ty.discard_unfinished());
-    assert!(rt; ty.is_finished() && ty.is_empty());
-    assert_eq!(rt; (ty.core_type_count(), ty.type_count()), (0, 0));
+    assert!(rt; give_up_type(ty));
+    assert!(rt; !give_up_type(ty));
+    assert!(rt; is_whole_and_empty(ty));
+    assert_eq!(rt; counts(ty), (0, 0));
     is_text(rt, alloc, ty, "4100")
+}
+
+fn begin_declared_type(ty: &mut ComponentType) -> Result<(), Fault> {
+    ty.ty()?;
+    Ok(())
+}
+
+fn begin_declared_core_type(ty: &mut ComponentType) -> Result<(), Fault> {
+    ty.core_type()?;
+    Ok(())
+}
+
+fn declare_own(ty: &mut ComponentType) -> Result<(), Fault> {
+    ty.ty()?.defined_type().own(64)
 }
 
 #[test]
 fn component_types(rt: HostRuntime) -> Result<(), Fail> {
     let mut ty = ComponentType::new(rt.alloc());
-    ty.ty()?;
-    assert_eq!(rt; (ty.core_type_count(), ty.type_count()), (0, 1));
-    takes_back(&rt, rt.alloc(), &mut ty.clone()?)?;
+    begin_declared_type(&mut ty)?;
+    assert_eq!(rt; counts(&ty), (0, 1));
+    takes_back(&rt, rt.alloc(), &mut copy_type(&ty)?)?;
     takes_back(&rt, rt.alloc(), &mut ty)?;
-    ty.core_type()?;
-    assert_eq!(rt; (ty.core_type_count(), ty.type_count()), (1, 0));
+    begin_declared_core_type(&mut ty)?;
+    assert_eq!(rt; counts(&ty), (1, 0));
     takes_back(&rt, rt.alloc(), &mut ty)?;
-    ty.ty()?.defined_type().own(64)?;
+    declare_own(&mut ty)?;
     is_text(&rt, rt.alloc(), &ty, "4101016940")?;
     Ok(())
 }
 
-/// The same of an instance type.
+// ---- instance types
+
+fn instance_has_no_alias(ty: &mut InstanceType) -> bool {
+    is_unfinished(ty.alias(OUTER))
+}
+
+fn instance_has_no_export(ty: &mut InstanceType) -> bool {
+    is_unfinished(ty.export("f".into(), FUNC))
+}
+
+fn instance_declares_no_type(ty: &mut InstanceType) -> bool {
+    is_not_begun(ty.ty().err())
+}
+
+fn instance_declares_no_core_type(ty: &mut InstanceType) -> bool {
+    is_not_begun(ty.core_type().err())
+}
+
+fn no_instance_by_an_encoder(
+    section: &mut ComponentTypeSection,
+    ty: &InstanceType,
+) -> Result<bool, Fault> {
+    Ok(is_unfinished(section.ty()?.instance(ty)))
+}
+
+fn instance_counts(ty: &InstanceType) -> (u32, u32) {
+    (ty.core_type_count(), ty.type_count())
+}
+
+fn give_up_instance(ty: &mut InstanceType) -> bool {
+    ty.discard_unfinished()
+}
+
+fn declares_one_unfinished(ty: &InstanceType) -> bool {
+    ty.len() == 1 && !ty.is_finished()
+}
+
 fn is_not_declared_either(rt: &impl Abort, ty: &mut InstanceType) {
-    assert_eq!(rt; ty.alias(OUTER), UNFINISHED);
-    assert_eq!(rt; ty.export("f".into(), FUNC), UNFINISHED);
-    assert_eq!(rt; ty.ty().err(), Some(Fault::Unfinished));
-    assert_eq!(rt; ty.core_type().err(), Some(Fault::Unfinished));
+    assert!(rt; instance_has_no_alias(ty));
+    assert!(rt; instance_has_no_export(ty));
+    assert!(rt; instance_declares_no_type(ty));
+    assert!(rt; instance_declares_no_core_type(ty));
 }
 
 fn is_not_item_either(rt: &impl Abort, alloc: Global, ty: &InstanceType) -> Result<(), Fault> {
     let mut section = ComponentTypeSection::new(alloc);
-    assert_eq!(rt; section.instance(ty), UNFINISHED);
+    assert!(rt; no_instance(&mut section, ty));
     is_section(rt, alloc, &section, 0, "070100")?;
-    assert_eq!(rt; section.ty()?.instance(ty), UNFINISHED);
+    assert!(rt; no_instance_by_an_encoder(&mut section, ty) == Ok(true));
     is_given_up(rt, alloc, &mut section)
 }
 
 fn takes_back_too(rt: &impl Abort, alloc: Global, ty: &mut InstanceType) -> Result<(), Fault> {
-    assert!(rt; ty.len() == 1 && !ty.is_finished());
+    assert!(rt; declares_one_unfinished(ty));
     is_not_encoded(rt, alloc, ty)?;
     is_not_declared_either(rt, ty);
     is_not_item_either(rt, alloc, ty)?;
-    assert!(rt; ty.discard_unfinished());
-    assert_eq!(rt; (ty.core_type_count(), ty.type_count()), (0, 0));
+    assert!(rt; give_up_instance(ty));
+    assert_eq!(rt; instance_counts(ty), (0, 0));
     is_text(rt, alloc, ty, "4200")
+}
+
+fn begin_tagged_function(ty: &mut InstanceType) -> Result<(), Fault> {
+    ty.ty()?.function().async_(true)
+}
+
+fn begin_group(ty: &mut InstanceType) -> Result<(), Fault> {
+    ty.core_type()?.core();
+    Ok(())
 }
 
 #[test]
 fn instance_types(rt: HostRuntime) -> Result<(), Fail> {
     let mut ty = InstanceType::new(rt.alloc());
-    ty.ty()?.function().async_(true)?;
-    assert_eq!(rt; (ty.core_type_count(), ty.type_count()), (0, 1));
+    begin_tagged_function(&mut ty)?;
+    assert_eq!(rt; instance_counts(&ty), (0, 1));
     takes_back_too(&rt, rt.alloc(), &mut ty)?;
-    ty.core_type()?.core();
-    assert_eq!(rt; (ty.core_type_count(), ty.type_count()), (1, 0));
+    begin_group(&mut ty)?;
+    assert_eq!(rt; instance_counts(&ty), (1, 0));
     takes_back_too(&rt, rt.alloc(), &mut ty)?;
     Ok(())
 }

@@ -1,7 +1,7 @@
 //! Worked components: neighbours of one kind share a section.
 ghost use Rattle.std.specs.Prelude.{◌≡◌, ◌∷◌, [], None};
-ghost use Rattle.wasm_encoder.specs.Entry.{import_entry, export_entry, alias_export_entry, items};
-ghost use Rattle.wasm_encoder.specs.Sections.{Run, runs, whole};
+ghost use Rattle.wenc_builder.specs.Entry.{import_entry, export_entry, alias_export_entry, items};
+ghost use Rattle.wenc_builder.specs.Sections.{Run, runs, whole};
 ghost use Rattle.wenc_parts.specs.Imports.{plain_name};
 ghost use Rattle.wenc_parts.specs.declared.exports.ComponentExportKind.{ComponentExportKind};
 ghost use Rattle.wenc_parts.specs.declared.imports.ComponentTypeRef.{ComponentTypeRef};

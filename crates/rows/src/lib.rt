@@ -5,8 +5,8 @@ ghost use Rattle.std.specs.Prelude.{◌≡◌, ◌∷◌, [], IfOk, None, codes}
 ghost use Rattle.wenc_parts.specs.declared.exports.ComponentExportKind.{ComponentExportKind};
 ghost use Rattle.wenc_parts.specs.declared.imports.ComponentTypeRef.{ComponentTypeRef};
 ghost use Rattle.wenc_parts.specs.Imports.{plain_name};
-ghost use Rattle.wasm_encoder.specs.Entry.{import_entry, export_entry, items};
-ghost use Rattle.wasm_encoder.specs.Sections.{whole};
+ghost use Rattle.wenc_builder.specs.Entry.{import_entry, export_entry, items};
+ghost use Rattle.wenc_builder.specs.Sections.{whole};
 
 use std::alloc::Allocator;
 use wasm_encoder::{ComponentBuilder, ComponentExportKind, ComponentTypeRef, Fault};
@@ -25,10 +25,8 @@ pub fn passed_on<A: Allocator + Copy>(alloc: A) -> Result<Vec<u8, A>, Fault>
 }
 
 #[cfg(test)]
-mod builder;
+mod callers;
 #[cfg(test)]
 mod commands;
-#[cfg(test)]
-mod counts;
 pub mod importing;
 pub mod lights;

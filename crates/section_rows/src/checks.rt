@@ -7,6 +7,16 @@ use wenc_base::{Encode, Fault, Module, Section};
 use wenc_parts::ComponentSection;
 use wenc_sections::Component;
 
+/// The component's bytes in hexadecimal.
+fn component_text(alloc: Global, component: &Component) -> Result<String, Fault> {
+    Ok(hex::encode(alloc, component.as_slice())?)
+}
+
+/// The module's bytes in hexadecimal.
+fn module_text(alloc: Global, module: &Module) -> Result<String, Fault> {
+    Ok(hex::encode(alloc, module.as_slice())?)
+}
+
 /// The component's bytes are its header and these.
 pub fn holds(
     rt: &impl Abort,
@@ -14,10 +24,11 @@ pub fn holds(
     component: &Component,
     wanted: &str,
 ) -> Result<(), Fault> {
-    let bytes = hex::encode(alloc, component.as_slice())?;
-    let bytes = bytes.as_str();
-    assert_eq!(rt; bytes.get(..16).unwrap_or(""), "0061736d0d000100");
-    assert_eq!(rt; bytes.get(16..).unwrap_or("none"), wanted);
+    let text = component_text(alloc, component)?;
+    assert_eq!(rt;
+        text.as_str().strip_prefix("0061736d0d000100"),
+        Some(wanted)
+    );
     Ok(())
 }
 
@@ -28,11 +39,29 @@ pub fn module_holds(
     module: &Module,
     wanted: &str,
 ) -> Result<(), Fault> {
-    let bytes = hex::encode(alloc, module.as_slice())?;
-    let bytes = bytes.as_str();
-    assert_eq!(rt; bytes.get(..16).unwrap_or(""), "0061736d01000000");
-    assert_eq!(rt; bytes.get(16..).unwrap_or("none"), wanted);
+    let text = module_text(alloc, module)?;
+    assert_eq!(rt;
+        text.as_str().strip_prefix("0061736d01000000"),
+        Some(wanted)
+    );
     Ok(())
+}
+
+/// Puts the section behind the component's bytes.
+pub fn put(component: &mut Component, section: &impl ComponentSection) -> Result<(), Fault> {
+    component.section(section)
+}
+
+/// Puts the section behind the module's bytes.
+pub fn put_in(module: &mut Module, section: &impl Section) -> Result<(), Fault> {
+    module.section(section)
+}
+
+/// A component with this section alone.
+fn made(alloc: Global, section: &impl ComponentSection) -> Result<Component, Fault> {
+    let mut component = Component::new(alloc)?;
+    component.section(section)?;
+    Ok(component)
 }
 
 /// A component with this section alone has these bytes behind its header.
@@ -42,9 +71,7 @@ pub fn alone(
     section: &impl ComponentSection,
     wanted: &str,
 ) -> Result<(), Fault> {
-    let mut component = Component::new(alloc)?;
-    component.section(section)?;
-    holds(rt, alloc, &component, wanted)
+    holds(rt, alloc, &made(alloc, section)?, wanted)
 }
 
 /// A section that no standard names.

@@ -1,5 +1,7 @@
 use crate::by_hand::by_hand;
-use crate::checks::{Large, Own, holds, module_holds};
+use crate::checks::{Large, Own, holds, module_holds, put, put_in};
+use std::alloc::Global;
+use std::process::Abort;
 use std::test::Fail;
 use wenc_base::{Fault, Module, RawCustomSection};
 use wenc_sections::{Component, ComponentAliasSection};
@@ -34,18 +36,47 @@ fn modules_without_sections(rt: HostRuntime) -> Result<(), Fail> {
     Ok(())
 }
 
+/// Finished, the component has these bytes.
+fn finishes(
+    rt: &impl Abort,
+    alloc: Global,
+    component: Component,
+    wanted: &str,
+) -> Result<(), Fault> {
+    let bytes = component.finish();
+    assert_eq!(rt; hex::encode(alloc, bytes.as_slice())?.as_str(), wanted);
+    Ok(())
+}
+
+/// Finished, the module has these bytes.
+fn module_finishes(
+    rt: &impl Abort,
+    alloc: Global,
+    module: Module,
+    wanted: &str,
+) -> Result<(), Fault> {
+    let bytes = module.finish();
+    assert_eq!(rt; hex::encode(alloc, bytes.as_slice())?.as_str(), wanted);
+    Ok(())
+}
+
+/// Puts a section without aliases behind the component's bytes.
+fn put_no_aliases(alloc: Global, component: &mut Component) -> Result<(), Fault> {
+    let none = ComponentAliasSection::new(alloc);
+    put(component, &none)
+}
+
 #[test]
 fn sections_stand_in_their_order(rt: HostRuntime) -> Result<(), Fail> {
     let alloc = rt.alloc();
     let mut component = Component::new(alloc)?;
-    component.section(&Own)?;
-    component.section(&ComponentAliasSection::new(alloc))?;
+    put(&mut component, &Own)?;
+    put_no_aliases(alloc, &mut component)?;
     holds(&rt, alloc, &component, "632a060100")?;
-    component.section(&RAW)?;
-    component.section(&Own)?;
+    put(&mut component, &RAW)?;
+    put(&mut component, &Own)?;
     holds(&rt, alloc, &component, "632a06010000aa632a")?;
-    let bytes = hex::encode(alloc, component.finish().as_slice())?;
-    assert_eq!(rt; bytes.as_str(), "0061736d0d000100632a06010000aa632a");
+    finishes(&rt, alloc, component, "0061736d0d000100632a06010000aa632a")?;
     Ok(())
 }
 
@@ -53,11 +84,10 @@ fn sections_stand_in_their_order(rt: HostRuntime) -> Result<(), Fail> {
 fn sections_of_modules_stand_in_their_order(rt: HostRuntime) -> Result<(), Fail> {
     let alloc = rt.alloc();
     let mut module = Module::new(alloc)?;
-    module.section(&RAW)?;
-    module.section(&Own)?;
+    put_in(&mut module, &RAW)?;
+    put_in(&mut module, &Own)?;
     module_holds(&rt, alloc, &module, "00aa622a")?;
-    let bytes = hex::encode(alloc, module.finish().as_slice())?;
-    assert_eq!(rt; bytes.as_str(), "0061736d0100000000aa622a");
+    module_finishes(&rt, alloc, module, "0061736d0100000000aa622a")?;
     Ok(())
 }
 
@@ -76,10 +106,10 @@ fn written_by_hand(rt: HostRuntime) -> Result<(), Fail> {
 fn refused_sections_leave_nothing(rt: HostRuntime) -> Result<(), Fail> {
     let alloc = rt.alloc();
     let mut component = Component::new(alloc)?;
-    assert!(rt; component.section(&Large) == Err(Fault::TooLarge));
+    assert!(rt; put(&mut component, &Large) == Err(Fault::TooLarge));
     holds(&rt, alloc, &component, "")?;
-    component.section(&Own)?;
-    assert!(rt; component.section(&Large) == Err(Fault::TooLarge));
+    put(&mut component, &Own)?;
+    assert!(rt; put(&mut component, &Large) == Err(Fault::TooLarge));
     holds(&rt, alloc, &component, "632a")?;
     Ok(())
 }
@@ -88,27 +118,48 @@ fn refused_sections_leave_nothing(rt: HostRuntime) -> Result<(), Fail> {
 fn refused_sections_leave_nothing_in_modules(rt: HostRuntime) -> Result<(), Fail> {
     let alloc = rt.alloc();
     let mut module = Module::new(alloc)?;
-    assert!(rt; module.section(&Large) == Err(Fault::TooLarge));
+    assert!(rt; put_in(&mut module, &Large) == Err(Fault::TooLarge));
     module_holds(&rt, alloc, &module, "")?;
-    module.section(&Own)?;
-    assert!(rt; module.section(&Large) == Err(Fault::TooLarge));
+    put_in(&mut module, &Own)?;
+    assert!(rt; put_in(&mut module, &Large) == Err(Fault::TooLarge));
     module_holds(&rt, alloc, &module, "622a")?;
     Ok(())
+}
+
+/// A copy of a component with one section of its own goes its own way.
+fn copy_goes_its_own_way(
+    rt: &impl Abort,
+    alloc: Global,
+    component: &Component,
+) -> Result<(), Fault> {
+    let mut copy = component.clone()?;
+    holds(rt, alloc, &copy, "632a")?;
+    put_no_aliases(alloc, &mut copy)?;
+    holds(rt, alloc, &copy, "632a060100")?;
+    holds(rt, alloc, component, "632a")
+}
+
+/// A copy of a module with one section of its own goes its own way.
+fn module_copy_goes_its_own_way(
+    rt: &impl Abort,
+    alloc: Global,
+    module: &Module,
+) -> Result<(), Fault> {
+    let mut copy = module.clone()?;
+    module_holds(rt, alloc, &copy, "622a")?;
+    put_in(&mut copy, &RAW)?;
+    module_holds(rt, alloc, &copy, "622a00aa")?;
+    module_holds(rt, alloc, module, "622a")
 }
 
 #[test]
 fn copies_go_their_own_way(rt: HostRuntime) -> Result<(), Fail> {
     let alloc = rt.alloc();
     let mut component = Component::new(alloc)?;
-    component.section(&Own)?;
-    let mut copy = component.clone()?;
-    holds(&rt, alloc, &copy, "632a")?;
-    copy.section(&ComponentAliasSection::new(alloc))?;
-    holds(&rt, alloc, &copy, "632a060100")?;
-    holds(&rt, alloc, &component, "632a")?;
-    component.section(&Own)?;
+    put(&mut component, &Own)?;
+    copy_goes_its_own_way(&rt, alloc, &component)?;
+    put(&mut component, &Own)?;
     holds(&rt, alloc, &component, "632a632a")?;
-    holds(&rt, alloc, &copy, "632a060100")?;
     Ok(())
 }
 
@@ -116,14 +167,9 @@ fn copies_go_their_own_way(rt: HostRuntime) -> Result<(), Fail> {
 fn copies_of_modules_go_their_own_way(rt: HostRuntime) -> Result<(), Fail> {
     let alloc = rt.alloc();
     let mut module = Module::new(alloc)?;
-    module.section(&Own)?;
-    let mut copy = module.clone()?;
-    module_holds(&rt, alloc, &copy, "622a")?;
-    copy.section(&RAW)?;
-    module_holds(&rt, alloc, &copy, "622a00aa")?;
-    module_holds(&rt, alloc, &module, "622a")?;
-    module.section(&Own)?;
+    put_in(&mut module, &Own)?;
+    module_copy_goes_its_own_way(&rt, alloc, &module)?;
+    put_in(&mut module, &Own)?;
     module_holds(&rt, alloc, &module, "622a622a")?;
-    module_holds(&rt, alloc, &copy, "622a00aa")?;
     Ok(())
 }

@@ -154,7 +154,22 @@ fn has<S: Items>(
     alone(rt, alloc, section, wanted)
 }
 
-/// The section's bytes with no item, with one and with two; and a copy goes its own way.
+/// A copy of a section with one item goes its own way.
+fn copy_goes_its_own_way<S: Items>(
+    rt: &impl Abort,
+    alloc: Global,
+    section: &S,
+    one: &str,
+    two: &str,
+) -> Result<(), Fault> {
+    let mut copy = section.again()?;
+    has(rt, alloc, &copy, 1, one)?;
+    copy.add()?;
+    has(rt, alloc, &copy, 2, two)?;
+    has(rt, alloc, section, 1, one)
+}
+
+/// The section's bytes with no item, with one and with two.
 fn counts<S: Items>(
     rt: &impl Abort,
     alloc: Global,
@@ -166,12 +181,7 @@ fn counts<S: Items>(
     has(rt, alloc, &section, 0, none)?;
     section.add()?;
     has(rt, alloc, &section, 1, one)?;
-
-    let mut copy = section.again()?;
-    has(rt, alloc, &copy, 1, one)?;
-    copy.add()?;
-    has(rt, alloc, &copy, 2, two)?;
-    has(rt, alloc, &section, 1, one)?;
+    copy_goes_its_own_way(rt, alloc, &section, one, two)?;
     section.add()?;
     has(rt, alloc, &section, 2, two)
 }

@@ -1,4 +1,4 @@
-use crate::checks::{Own, alone, module_holds};
+use crate::checks::{Own, alone, module_holds, put_in};
 use hexed::text;
 use std::test::Fail;
 use wenc_base::{CustomSection, Module, RawCustomSection, RawSection};
@@ -12,7 +12,7 @@ fn own_section(rt: HostRuntime) -> Result<(), Fail> {
 #[test]
 fn own_section_of_a_module(rt: HostRuntime) -> Result<(), Fail> {
     let mut module = Module::new(rt.alloc())?;
-    module.section(&Own)?;
+    put_in(&mut module, &Own)?;
     module_holds(&rt, rt.alloc(), &module, "622a")?;
     Ok(())
 }

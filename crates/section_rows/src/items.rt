@@ -1,7 +1,8 @@
 use crate::checks::alone;
+use std::alloc::Global;
 use std::borrow::CowStr;
 use std::test::Fail;
-use wenc_base::ExportKind;
+use wenc_base::{ExportKind, Fault};
 use wenc_canon::{CanonicalFunctionSection, CanonicalOption};
 use wenc_parts::{
     Alias, ComponentExportKind, ComponentExternName, ComponentOuterAliasKind, ComponentTypeRef,
@@ -12,73 +13,52 @@ use wenc_sections::{
     ComponentInstanceSection, InstanceSection,
 };
 
-#[test]
-fn canonical_functions(rt: HostRuntime) -> Result<(), Fail> {
-    let mut section = CanonicalFunctionSection::new(rt.alloc());
+fn one_lift(alloc: Global) -> Result<CanonicalFunctionSection, Fault> {
+    let mut section = CanonicalFunctionSection::new(alloc);
     section.lift(0, 0, [CanonicalOption::UTF8].into_iter())?;
-    alone(&rt, rt.alloc(), &section, "080701000000010000")?;
-    Ok(())
+    Ok(section)
 }
 
-#[test]
-fn aliases(rt: HostRuntime) -> Result<(), Fail> {
-    let mut section = ComponentAliasSection::new(rt.alloc());
-    alone(&rt, rt.alloc(), &section, "060100")?;
+fn function_of_an_instance(section: &mut ComponentAliasSection) -> Result<(), Fault> {
     section.alias(Alias::InstanceExport {
         instance: 0,
         kind: ComponentExportKind::Func,
         name: "f",
-    })?;
+    })
+}
+
+fn outer_type(section: &mut ComponentAliasSection) -> Result<(), Fault> {
     section.alias(Alias::Outer {
         kind: ComponentOuterAliasKind::Type,
         count: 0,
         index: 1,
-    })?;
-    alone(&rt, rt.alloc(), &section, "060a02010000016603020001")?;
-    Ok(())
+    })
 }
 
-#[test]
-fn core_instances(rt: HostRuntime) -> Result<(), Fail> {
-    let mut section = InstanceSection::new(rt.alloc());
-    section.export_items([("foo", ExportKind::Func, 0)].into_iter())?;
-    section.instantiate(1, [("foo", ModuleArg::Instance(0))].into_iter())?;
-    alone(
-        &rt,
-        rt.alloc(),
-        &section,
-        "021202010103666f6f000000010103666f6f1200",
-    )?;
-    Ok(())
+fn core_exports(section: &mut InstanceSection) -> Result<(), Fault> {
+    section.export_items([("foo", ExportKind::Func, 0)].into_iter())
 }
 
-#[test]
-fn instances(rt: HostRuntime) -> Result<(), Fail> {
-    let mut section = ComponentInstanceSection::new(rt.alloc());
+fn core_instance(section: &mut InstanceSection) -> Result<(), Fault> {
+    section.instantiate(1, [("foo", ModuleArg::Instance(0))].into_iter())
+}
+
+fn component_exports(section: &mut ComponentInstanceSection) -> Result<(), Fault> {
     let foo: ComponentExternName = "foo".into();
-    section.export_items([(foo, ComponentExportKind::Func, 0)].into_iter())?;
-    section.instantiate(1, [("foo", ComponentExportKind::Instance, 0)].into_iter())?;
-    alone(
-        &rt,
-        rt.alloc(),
-        &section,
-        "05130201010003666f6f010000010103666f6f0500",
-    )?;
-    Ok(())
+    section.export_items([(foo, ComponentExportKind::Func, 0)].into_iter())
 }
 
-#[test]
-fn imports(rt: HostRuntime) -> Result<(), Fail> {
-    let alloc = rt.alloc();
+fn component_instance(section: &mut ComponentInstanceSection) -> Result<(), Fault> {
+    section.instantiate(1, [("foo", ComponentExportKind::Instance, 0)].into_iter())
+}
+
+fn one_import(alloc: Global) -> Result<ComponentImportSection, Fault> {
     let mut section = ComponentImportSection::new(alloc);
     section.import("f".into(), ComponentTypeRef::Func(0))?;
-    alone(&rt, alloc, &section, "0a06010001660100")?;
-    Ok(())
+    Ok(section)
 }
 
-#[test]
-fn imports_with_options(rt: HostRuntime) -> Result<(), Fail> {
-    let alloc = rt.alloc();
+fn import_with_options(alloc: Global) -> Result<ComponentImportSection, Fault> {
     let mut section = ComponentImportSection::new(alloc);
     let name: ComponentExternName = ComponentExternName {
         name: CowStr::Borrowed("a"),
@@ -87,25 +67,81 @@ fn imports_with_options(rt: HostRuntime) -> Result<(), Fail> {
         external_id: None,
     };
     section.import(name, ComponentTypeRef::Type(TypeBounds::SubResource))?;
-    alone(&rt, alloc, &section, "0a0a01020161010001690301")?;
+    Ok(section)
+}
+
+fn one_export(
+    alloc: Global,
+    name: &str,
+    index: u32,
+    ty: Option<ComponentTypeRef>,
+) -> Result<ComponentExportSection, Fault> {
+    let mut section = ComponentExportSection::new(alloc);
+    section.export(name.into(), ComponentExportKind::Func, index, ty)?;
+    Ok(section)
+}
+
+#[test]
+fn canonical_functions(rt: HostRuntime) -> Result<(), Fail> {
+    let section = one_lift(rt.alloc())?;
+    alone(&rt, rt.alloc(), &section, "080701000000010000")?;
+    Ok(())
+}
+
+#[test]
+fn aliases(rt: HostRuntime) -> Result<(), Fail> {
+    let mut section = ComponentAliasSection::new(rt.alloc());
+    alone(&rt, rt.alloc(), &section, "060100")?;
+    function_of_an_instance(&mut section)?;
+    outer_type(&mut section)?;
+    alone(&rt, rt.alloc(), &section, "060a02010000016603020001")?;
+    Ok(())
+}
+
+#[test]
+fn core_instances(rt: HostRuntime) -> Result<(), Fail> {
+    let mut section = InstanceSection::new(rt.alloc());
+    core_exports(&mut section)?;
+    core_instance(&mut section)?;
+    let wanted = "021202010103666f6f000000010103666f6f1200";
+    alone(&rt, rt.alloc(), &section, wanted)?;
+    Ok(())
+}
+
+#[test]
+fn instances(rt: HostRuntime) -> Result<(), Fail> {
+    let mut section = ComponentInstanceSection::new(rt.alloc());
+    component_exports(&mut section)?;
+    component_instance(&mut section)?;
+    let wanted = "05130201010003666f6f010000010103666f6f0500";
+    alone(&rt, rt.alloc(), &section, wanted)?;
+    Ok(())
+}
+
+#[test]
+fn imports(rt: HostRuntime) -> Result<(), Fail> {
+    let section = one_import(rt.alloc())?;
+    alone(&rt, rt.alloc(), &section, "0a06010001660100")?;
+    Ok(())
+}
+
+#[test]
+fn imports_with_options(rt: HostRuntime) -> Result<(), Fail> {
+    let section = import_with_options(rt.alloc())?;
+    alone(&rt, rt.alloc(), &section, "0a0a01020161010001690301")?;
     Ok(())
 }
 
 #[test]
 fn exports(rt: HostRuntime) -> Result<(), Fail> {
-    let alloc = rt.alloc();
-    let mut section = ComponentExportSection::new(alloc);
-    section.export("foo".into(), ComponentExportKind::Func, 0, None)?;
-    alone(&rt, alloc, &section, "0b09010003666f6f010000")?;
+    let section = one_export(rt.alloc(), "foo", 0, None)?;
+    alone(&rt, rt.alloc(), &section, "0b09010003666f6f010000")?;
     Ok(())
 }
 
 #[test]
 fn exports_with_a_type(rt: HostRuntime) -> Result<(), Fail> {
-    let alloc = rt.alloc();
-    let mut section = ComponentExportSection::new(alloc);
-    let ty = Some(ComponentTypeRef::Func(2));
-    section.export("a".into(), ComponentExportKind::Func, 1, ty)?;
-    alone(&rt, alloc, &section, "0b09010001610101010102")?;
+    let section = one_export(rt.alloc(), "a", 1, Some(ComponentTypeRef::Func(2)))?;
+    alone(&rt, rt.alloc(), &section, "0b09010001610101010102")?;
     Ok(())
 }

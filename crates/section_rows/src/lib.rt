@@ -11,7 +11,13 @@ mod counted;
 #[cfg(test)]
 mod custom;
 #[cfg(test)]
+mod holders;
+#[cfg(test)]
+mod instance_trees;
+#[cfg(test)]
 mod items;
+#[cfg(test)]
+mod names;
 #[cfg(test)]
 mod nested;
 #[cfg(test)]

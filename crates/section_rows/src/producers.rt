@@ -1,5 +1,6 @@
-use crate::checks::{alone, module_holds};
+use crate::checks::{alone, module_holds, put_in};
 use std::alloc::Global;
+use std::process::Abort;
 use std::test::Fail;
 use wenc_base::{Fault, Module, ProducersField, ProducersSection};
 
@@ -34,21 +35,30 @@ fn producers_of_a_module(rt: HostRuntime) -> Result<(), Fail> {
     let alloc = rt.alloc();
     let section = produced(alloc)?;
     let mut module = Module::new(alloc)?;
-    module.section(&section)?;
+    put_in(&mut module, &section)?;
     module_holds(&rt, alloc, &module, PRODUCED)?;
     Ok(())
 }
 
+/// Says that "l" was those tools.
+fn say_more(alloc: Global, section: &mut ProducersSection) -> Result<(), Fault> {
+    let field = tools(alloc)?;
+    section.field("l", &field)
+}
+
+/// A copy of what was produced says more, and what it was copied from doesn't.
+fn copy_says_more(rt: &impl Abort, alloc: Global, section: &ProducersSection) -> Result<(), Fault> {
+    let mut copy = section.clone()?;
+    alone(rt, alloc, &copy, PRODUCED)?;
+    say_more(alloc, &mut copy)?;
+    let wanted = "001b0970726f647563657273020373646b0101610131016c0101610131";
+    alone(rt, alloc, &copy, wanted)?;
+    alone(rt, alloc, section, PRODUCED)
+}
+
 #[test]
 fn copied_producers(rt: HostRuntime) -> Result<(), Fail> {
-    let alloc = rt.alloc();
-    let section = produced(alloc)?;
-    let mut copy = section.clone()?;
-    alone(&rt, alloc, &copy, PRODUCED)?;
-    let field = tools(alloc)?;
-    copy.field("l", &field)?;
-    let wanted = "001b0970726f647563657273020373646b0101610131016c0101610131";
-    alone(&rt, alloc, &copy, wanted)?;
-    alone(&rt, alloc, &section, PRODUCED)?;
+    let section = produced(rt.alloc())?;
+    copy_says_more(&rt, rt.alloc(), &section)?;
     Ok(())
 }

@@ -10,8 +10,12 @@ mod exports;
 #[cfg(test)]
 mod imports;
 #[cfg(test)]
+mod instance_trees;
+#[cfg(test)]
 mod instances;
 #[cfg(test)]
 mod items;
+#[cfg(test)]
+mod names;
 #[cfg(test)]
 mod nested;

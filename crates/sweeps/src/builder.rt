@@ -4,8 +4,11 @@ use std::test::Fail;
 use sweeping::{NAME, REFUSED};
 use wasm_encoder::{
     Alias, ComponentBuilder, ComponentExportKind, ComponentOuterAliasKind, ComponentTypeRef,
-    ExportKind, Fault,
+    CustomSection, ExportKind, Fault,
 };
+
+/// As many bytes as make a buffer grow.
+const MANY: [u8; 100] = [0xaa; 100];
 
 /// Each call that adds an item.
 #[derive(Clone, Copy, Debug)]
@@ -16,10 +19,26 @@ enum Call {
     Alias,
     OuterAlias,
     CoreAliasExport,
+    CoreModule,
+    Component,
+    Start,
+    Provided,
+    Custom,
+    RawCustom,
+}
+
+/// Such a call answers no index.
+fn placeless(outcome: Result<(), Fault>) -> Result<u32, Fault> {
+    outcome?;
+    Ok(0)
 }
 
 impl Call {
-    fn make(self, builder: &mut ComponentBuilder<&Refusing>) -> Result<u32, Fault> {
+    fn make(
+        self,
+        heap: &Refusing,
+        builder: &mut ComponentBuilder<&Refusing>,
+    ) -> Result<u32, Fault> {
         match self {
             Call::Import => builder.import(NAME.into(), ComponentTypeRef::Func(0)),
             Call::Export => builder.export(NAME.into(), ComponentExportKind::Func, 0, None),
@@ -43,6 +62,18 @@ impl Call {
             Call::CoreAliasExport => {
                 builder.core_alias_export(Some(NAME), 0, NAME, ExportKind::Func)
             }
+            Call::CoreModule => builder.core_module_raw(Some(NAME), &MANY),
+            Call::Component => builder.component_raw(Some(NAME), &MANY),
+            Call::Start => builder.start(0, Vec::<u32, &Refusing>::new(heap), 4294967295),
+            Call::Provided => builder.resource_drop(4294967295),
+            Call::Custom => {
+                let section = CustomSection {
+                    name: NAME,
+                    data: &MANY,
+                };
+                placeless(builder.custom_section(&section))
+            }
+            Call::RawCustom => placeless(builder.raw_custom_section(&MANY)),
         }
     }
 
@@ -50,7 +81,7 @@ impl Call {
     fn answer(self) -> Result<u32, Fault> {
         match self {
             Call::Import | Call::Export | Call::AliasExport | Call::Alias => Ok(1),
-            Call::OuterAlias | Call::CoreAliasExport => Ok(0),
+            _ => Ok(0),
         }
     }
 }
@@ -94,7 +125,7 @@ fn refuse(rt: &impl Abort, heap: &Refusing, call: Call, n: u64) -> Result<bool, 
     let mut builder = started(heap)?;
     let before = counts(&builder);
     heap.refuse_nth(n);
-    let outcome = call.make(&mut builder);
+    let outcome = call.make(heap, &mut builder);
     if !heap.was_refused() {
         assert!(rt; outcome == call.answer());
         return Ok(false);
@@ -115,12 +146,12 @@ fn refuse(rt: &impl Abort, heap: &Refusing, call: Call, n: u64) -> Result<bool, 
 fn succeed_then(rt: &impl Abort, heap: &Refusing, call: Call, n: u64) -> Result<(), Fault> {
     let mut builder = started(heap)?;
     heap.refuse_nth(n);
-    assert!(rt; call.make(&mut builder) == Err(REFUSED));
+    assert!(rt; call.make(heap, &mut builder) == Err(REFUSED));
     heap.refuse_none();
-    assert!(rt; call.make(&mut builder) == call.answer());
+    assert!(rt; call.make(heap, &mut builder) == call.answer());
     let bytes = finished(builder)?;
     let mut other = started(heap)?;
-    call.make(&mut other)?;
+    call.make(heap, &mut other)?;
     let wanted = finished(other)?;
     assert!(rt; bytes.as_slice() == wanted.as_slice());
     Ok(())
@@ -135,6 +166,12 @@ fn builder_calls(rt: HostRuntime) -> Result<(), Fail> {
         Call::Alias,
         Call::OuterAlias,
         Call::CoreAliasExport,
+        Call::CoreModule,
+        Call::Component,
+        Call::Start,
+        Call::Provided,
+        Call::Custom,
+        Call::RawCustom,
     ] {
         let heap = Refusing::new(rt.alloc());
         let mut done = false;

@@ -10,6 +10,7 @@ use Rattle.wenc_base.specs.laws.Delimited.{pair_readable}
 use Rattle.wenc_base.specs.laws.Entities.{table_type_lawful, memory_type_lawful, global_type_lawful, tag_type_lawful, entity_type_lawful}
 use Rattle.wenc_base.specs.laws.Exports.{export_kind_lawful as core_kind_lawful}
 use Rattle.wenc_base.specs.laws.Forms.{flag_lawful, read_name, name_lawful, byte_list_lawful, read_list, list_lawful, option_lawful, counted_lawful}
+use Rattle.wenc_base.specs.laws.Names.{named_lawful}
 use Rattle.wenc_base.specs.laws.Lawful.{form_laws, Lawful, Reader, ◌>>=◌, give, nowhere, choose, then, last}
 use Rattle.wenc_base.specs.laws.Numbers.{read_groups, u32_lawful, u64_lawful, index_lawful, i64_lawful}
 use Rattle.wenc_base.specs.laws.Sections.{custom_lawful, producer_lawful, producers_field_lawful, producers_section_lawful}
@@ -22,13 +23,13 @@ use Rattle.wenc_parts.specs.laws.Instances.{module_argument_lawful}
 use Rattle.wenc_parts.specs.laws.SectionIds.{section_lawful}
 use Rattle.wenc_parts.specs.laws.Types.{primitive_lawful, value_type_lawful, result_list_lawful}
 use Rattle.wenc_sections.specs.Start.{Start, started, start_content}
+use Rattle.wenc_sections.specs.laws.Names.{sort_lawful, names_section_lawful}
 use Rattle.wenc_sections.specs.laws.Items.{import_lawful, export_lawful, argument_lawful, core_export_lawful, core_instance_lawful, given_lawful, exported_lawful, instance_lawful, start_lawful}
 use Rattle.wenc_types.specs.laws.ComponentTypes.{type_lawful, instance_declaration_lawful, component_declaration_lawful}
 use Rattle.wenc_types.specs.laws.CoreTypes.{module_declaration_lawful, module_type_lawful, standing_rows, standing_row, core_type_lawful}
 use Rattle.wenc_types.specs.laws.DefinedTypes.{named_lawful as named_type_lawful, case_lawful, defined_type_lawful, function_type_lawful}
 use Rattle.wasm_encoder.specs.AllForms as forms
 use Rattle.wasm_encoder.specs.AllForms.{FormName, form_of}
-use Rattle.wasm_encoder.specs.Entry.{Named, named}
 
 -- ---- parts of other forms
 
@@ -56,18 +57,6 @@ alone (Rec types) = final (Func [] [])
 -- a type with its guard is a group of one
 guarded_readable : IsReadable guarded
 guarded_readable = (_, λ s. last alone (standing_lawful (Single s)))
-
--- a name and its place
-abbrev named_at : ℕ → List ℕ → Named
-named_at place name = record { place = place; name = name }
-
--- the place, then the name
-abbrev read_named : Reader Named
-read_named = read_groups >>= λ place. read_name >>= λ name. give (named_at place name)
-
--- members of a name map have a reader
-named_readable : IsReadable named
-named_readable = ((λ fuel. read_named), λ n. then _ (u32_lawful n.place) (last (named_at n.place) (name_lawful n.name)))
 
 -- the function, its arguments, how many results
 abbrev read_start_content : Reader Start
@@ -145,8 +134,10 @@ lawful_of (forms.CanonicalFields kinds) = (_, fields_lawful kinds)
 lawful_of forms.CanonicalFunctions = (_, canonical_lawful)
 lawful_of forms.VersionedTools = (_, producer_lawful)
 lawful_of forms.ProducersFields = (_, producers_field_lawful)
-lawful_of forms.NamedPlaces = named_readable
+lawful_of forms.NamedPlaces = (_, named_lawful)
+lawful_of forms.ItemSorts = (_, sort_lawful)
 lawful_of forms.CustomSections = (_, custom_lawful)
+lawful_of forms.NameSections = (_, names_section_lawful)
 lawful_of forms.ProducersSections = (_, producers_section_lawful)
 lawful_of forms.StartContents = start_content_readable
 lawful_of forms.StartSections = (_, start_lawful)

@@ -1,12 +1,2 @@
-pub mod Gap
-pub mod Caused
-pub mod Laid
-pub mod Undone
-pub mod Viewed
-pub mod Runs
-pub mod Step
-pub mod Taken
-pub mod Entered
-pub mod Answered
 pub mod Run
 pub mod AllLawful

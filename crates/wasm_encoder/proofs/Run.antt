@@ -3,13 +3,13 @@ use Rattle.std.proofs.Common.{◌≡◌, ℕ, ◌+◌, ◌<◌, List, [], ◌∷
 use Rattle.std.specs.Result.{MatchResult, IsOkAnd}
 use Rattle.wenc_base.specs.declared.fault.Fault.{Fault}
 use Rattle.wasm_encoder.specs.declared.command.Command.{Command}
-use Rattle.wasm_encoder.specs.Entry.{Entry}
-use Rattle.wasm_encoder.specs.Builder.{State}
-use Rattle.wasm_encoder.specs.Holds.{Holds}
+use Rattle.wenc_builder.specs.Entry.{Entry}
+use Rattle.wenc_builder.specs.Builder.{State}
+use Rattle.wenc_builder.specs.Holds.{Holds}
 use Rattle.wasm_encoder.specs.Command.{CommandTree, entry_of}
-use Rattle.wasm_encoder.specs.Enters.{Enters}
+use Rattle.wenc_builder.specs.Enters.{Enters}
 use Rattle.wasm_encoder.specs.Ran.{RanFrom, Ran}
-use Rattle.wasm_encoder.proofs.Answered.{answered}
+use Rattle.wenc_builder.specs.laws.Answered.{answered}
 
 -- The answers so far led from nothing to entries that the builder holds: what is run from there is run from nothing.
 pub record RanSo (commands left : List CommandTree) (answers : List (Result (Option ℕ) Fault)) (s : State) : Type 0 where
@@ -32,7 +32,7 @@ ran_more commands left c answers (Ok i) old new r a =
     record {
       so_far = r.so_far ++ entry_of c ∷ [];
       held = h.0;
-      goes_on = λ rest all q. rw (append_assoc answers (Ok (Some i) ∷ []) rest) (r.goes_on (Ok (Some i) ∷ rest) all ((rw h.1 refl, h.2), q));
+      goes_on = λ rest all q. rw (append_assoc answers (Ok (Some i) ∷ []) rest) (r.goes_on (Ok (Some i) ∷ rest) all ((h.1, h.2), q));
     }
 ran_more commands left c answers (Err fault) old new r a =
     let h = answered old new _ (entry_of c) r.so_far a r.held in

@@ -41,11 +41,13 @@ use Rattle.wenc_parts.specs.Types.{primitive, value_type, result_list}
 use Rattle.wenc_sections.specs.Exports.{Export, export_item}
 use Rattle.wenc_sections.specs.Imports.{Import, import_item}
 use Rattle.wenc_sections.specs.Instances.{Argument, argument, CoreExport, core_export, CoreInstance, core_instance, Given, given, Exported, exported, Instance, instance}
+use Rattle.wenc_sections.specs.declared.names.Sort.{Sort}
+use Rattle.wenc_sections.specs.Names.{item_sort, names_section}
 use Rattle.wenc_sections.specs.Start.{Start, start_content, start}
 use Rattle.wenc_types.specs.ComponentTypes.{TypeOf, type_of, InstanceDeclaration, instance_declaration, ComponentDeclaration, component_declaration}
 use Rattle.wenc_types.specs.CoreTypes.{ModuleDeclaration, module_declaration, module_type, CoreType, core_type}
 use Rattle.wenc_types.specs.DefinedTypes.{Named as NamedType, named as named_type, Case, case, Defined, defined_type, Function, function_type}
-use Rattle.wasm_encoder.specs.Entry.{Named as NamedPlace, named as named_place}
+use Rattle.wenc_base.specs.Names.{Named as NamedPlace, named as named_place}
 
 -- a form's name
 pub data FormName : Type 0 where
@@ -136,8 +138,11 @@ pub data FormName : Type 0 where
   ProducersFields : FormName
   -- a place, and its name in a name map
   NamedPlaces : FormName
+  -- of what names are of
+  ItemSorts : FormName
   -- ---- sections, behind their ids
   CustomSections : FormName
+  NameSections : FormName
   ProducersSections : FormName
   -- of a start section, without its size
   StartContents : FormName
@@ -222,7 +227,9 @@ value_of CanonicalFunctions = Canonical
 value_of VersionedTools = Producer
 value_of ProducersFields = Producers
 value_of NamedPlaces = NamedPlace
+value_of ItemSorts = Sort
 value_of CustomSections = Custom
+value_of NameSections = List ℕ
 value_of ProducersSections = List Producers
 value_of StartContents = Start
 value_of StartSections = Start
@@ -302,7 +309,9 @@ form_of CanonicalFunctions = canonical
 form_of VersionedTools = producer
 form_of ProducersFields = producers_field
 form_of NamedPlaces = named_place
+form_of ItemSorts = item_sort
 form_of CustomSections = custom
+form_of NameSections = names_section
 form_of ProducersSections = producers_section
 form_of StartContents = start_content
 form_of StartSections = start

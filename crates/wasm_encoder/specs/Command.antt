@@ -7,7 +7,7 @@ use Rattle.wenc_sections.specs.Imports as imports
 use Rattle.wenc_sections.specs.Exports as exports
 use Rattle.wasm_encoder.specs.declared.command.Command.{Command}
 use Rattle.wasm_encoder.specs.declared.command.Command.TheVariants as commands
-use Rattle.wasm_encoder.specs.Entry.{Entry, alias_entry, import_entry, export_entry}
+use Rattle.wenc_builder.specs.Entry.{Entry, alias_entry, import_entry, export_entry}
 
 pub data CommandTree : Type 0 where
   Alias : (debug_name : Option (List ℕ)) (to : AliasOf) → CommandTree

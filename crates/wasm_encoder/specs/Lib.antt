@@ -1,14 +1,3 @@
-pub mod Item
-pub mod Sections
-pub mod Space
-pub mod Entry
-pub mod Builder
-pub mod Holds
-pub mod Cause
-pub mod Enters
 pub mod Command
 pub mod Ran
-pub mod Layout
-pub mod Spaces
-pub mod View
 pub mod AllForms

@@ -2,16 +2,16 @@
 use Rattle.std.specs.Prelude.{◌≡◌, ℕ, List, [], ◌∷◌, ◌++◌, Result, Ok, Err, Option, Some}
 use Rattle.wenc_base.specs.Fault.{IsWarranted}
 use Rattle.wenc_base.specs.declared.fault.Fault.{Fault}
-use Rattle.wasm_encoder.specs.Space.{defines, place}
-use Rattle.wasm_encoder.specs.Entry.{Entry, items}
-use Rattle.wasm_encoder.specs.Cause.{EntryCause}
+use Rattle.wenc_builder.specs.Space.{place_of}
+use Rattle.wenc_builder.specs.Entry.{Entry, items}
+use Rattle.wenc_builder.specs.Cause.{EntryCause}
 use Rattle.wasm_encoder.specs.Command.{CommandTree, entry_of}
 
 -- After these entries the command may get this answer: the place of its entry if that has no cause, or a fault
 -- that the entry has cause for, or want of memory.
 abbrev pub Answered : List Entry → CommandTree → Result (Option ℕ) Fault → Type 0
 Answered es c (Ok i) =
-    (i ≡ Some (place (items es) (defines (entry_of c).item).space)) × ((fault : Fault) → EntryCause es (entry_of c) fault → ⊥)
+    (i ≡ place_of (items es) (entry_of c).item) × ((fault : Fault) → EntryCause es (entry_of c) fault → ⊥)
 Answered es c (Err fault) = IsWarranted (EntryCause es (entry_of c)) fault
 
 -- An accepted command adds its entry, and a refused one nothing.

@@ -1,15 +1,15 @@
 ghost use Rattle.std.specs.Prelude.{◌≡◌, List, IfOk, IfErr, map};
 ghost use Rattle.std.specs.Option.{option_copied};
 ghost use Rattle.wenc_base.specs.Fault.{IsMemory};
-ghost use Rattle.wasm_encoder.specs.Sections.{whole};
-ghost use Rattle.wasm_encoder.specs.Entry.{Entry, items};
+ghost use Rattle.wenc_builder.specs.Sections.{whole};
+ghost use Rattle.wenc_builder.specs.Entry.{Entry, items};
 ghost use Rattle.wasm_encoder.specs.Command.{command_view, debug_name_view, entry_of};
-ghost use Rattle.wasm_encoder.specs.Enters.{Enters};
+ghost use Rattle.wenc_builder.specs.Enters.{Enters};
 ghost use Rattle.wasm_encoder.specs.Ran.{Ran};
 
-use crate::builder::ComponentBuilder;
 use std::alloc::{Allocator, Global};
 use wenc_base::Fault;
+use wenc_builder::ComponentBuilder;
 use wenc_parts::{AliasTree, ComponentExportKind, ComponentTypeRef, NameTree};
 
 /// One call of a builder, as data. Here the import of a function under the name that `name` holds:

@@ -5,19 +5,18 @@
 //! 4294967295: an index, how many items a space or a section has, how many bytes a text or a section has.
 #![tactic(auto)]
 
-mod builder;
 pub mod command;
 pub mod laws;
 
-pub use builder::ComponentBuilder;
 pub use command::{Built, Command, build};
 pub use wenc_base::{
     AbstractHeapType, CustomSection, Delimited, DelimitedEq, Encode, ExportKind, Fault, HeapType,
-    Holder, Lent, Module, ProducersField, ProducersSection, RawCustomSection, RawSection, RefType,
-    Section, SectionId, Tagged, ValType, Verbatim, WithSize, encode_list, encoding_size,
+    Holder, Lent, Module, NameMap, ProducersField, ProducersSection, RawCustomSection, RawSection,
+    RefType, Section, SectionId, Tagged, ValType, Verbatim, WithSize, encode_list, encoding_size,
     section_size,
 };
-pub use wenc_canon::{CanonicalFunctionSection, CanonicalOption};
+pub use wenc_builder::ComponentBuilder;
+pub use wenc_canon::{CanonTree, CanonicalFunctionSection, CanonicalOption};
 pub use wenc_parts::{
     Alias, AliasTree, ComponentExportKind, ComponentExternName, ComponentOuterAliasKind,
     ComponentSection, ComponentSectionId, ComponentTypeRef, ComponentValType, ModuleArg, NameTree,
@@ -25,6 +24,6 @@ pub use wenc_parts::{
 };
 pub use wenc_sections::{
     Component, ComponentAliasSection, ComponentExportSection, ComponentImportSection,
-    ComponentInstanceSection, ComponentStartSection, InstanceSection, ModuleSection,
-    NestedComponentSection,
+    ComponentInstanceSection, ComponentNameSection, ComponentStartSection, CoreInstanceTree,
+    InstanceSection, InstanceTree, ModuleSection, NestedComponentSection,
 };

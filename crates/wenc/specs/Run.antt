@@ -4,8 +4,8 @@ use Rattle.std.specs.Fmt.{decimal}
 use Rattle.std.specs.Io.KnownBytes.{Appends, Keeps}
 use Rattle.wenc_base.specs.declared.fault.Fault.{Fault}
 use Rattle.wenc_base.specs.Fault.{fault_number}
-use Rattle.wasm_encoder.specs.Sections.{whole}
-use Rattle.wasm_encoder.specs.Entry.{Entry, items}
+use Rattle.wenc_builder.specs.Sections.{whole}
+use Rattle.wenc_builder.specs.Entry.{Entry, items}
 use Rattle.wasm_encoder.specs.Command.{CommandTree}
 use Rattle.wasm_encoder.specs.Ran.{Ran}
 use Rattle.wenc.specs.Script.{script}

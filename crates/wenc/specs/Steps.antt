@@ -3,8 +3,8 @@ use Rattle.std.specs.Prelude.{◌≡◌, ℕ, List, ◌⊎◌, All, Any, IsOk, I
 use Rattle.std.specs.Io.KnownBytes.{Consumes, IsAtEnd}
 use Rattle.wenc_base.specs.Fault.{IsMemory}
 use Rattle.wenc_base.specs.declared.fault.Fault.{Fault as FaultSpec}
-use Rattle.wasm_encoder.specs.Sections.{whole}
-use Rattle.wasm_encoder.specs.Entry.{Entry, items}
+use Rattle.wenc_builder.specs.Sections.{whole}
+use Rattle.wenc_builder.specs.Entry.{Entry, items}
 use Rattle.wasm_encoder.specs.Command.{CommandTree}
 use Rattle.wasm_encoder.specs.Ran.{Ran}
 use Rattle.wenc.specs.declared.failure.Failure.{Failure}

@@ -12,6 +12,7 @@ pub mod Custom
 pub mod Producers
 pub mod Modules
 pub mod Holder
+pub mod Names
 pub mod Lender
 pub mod Openings
 pub mod FormLaws

@@ -12,4 +12,5 @@ pub mod Entities
 pub mod Sections
 pub mod Causes
 pub mod Holders
+pub mod Names
 pub mod Lenders

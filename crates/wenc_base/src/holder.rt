@@ -307,7 +307,7 @@ fn end_member<A: Allocator>(
 }
 
 /// The number of members with one more, with which their texts have `body` bytes.
-fn next_count(count: u32, body: usize) -> Result<u32, Fault>
+pub(crate) fn next_count(count: u32, body: usize) -> Result<u32, Fault>
     ensures ok { IfOk result (λ next. (next ≡ count + 1) × (content_size next body < 2 ^ 32)) }
     ensures free { (fault : FaultSpec) → CountCause count body fault → OnOk result ⊥ }
     ensures warranted { IfErr result (CountCause count body) }

@@ -203,6 +203,27 @@ canonical (Lift function options type_index) = 0x00 ▸ 0x00 ▸ u32 function �
 canonical (Lower function options) = 0x01 ▸ 0x00 ▸ u32 function ⨾ list canonical_option options
 canonical (Provided i values) = (row i).opcode ▸ fields (row i).fields values
 
+-- why a field can't be encoded: for its number of options
+abbrev pub field_cause : (f : Field) → Value f → Fault → Type 0
+field_cause Index n fault = ⊥
+field_cause Options options fault = count_cause (length options) fault
+field_cause Flag b fault = ⊥
+field_cause Zero v fault = ⊥
+field_cause CoreType t fault = ⊥
+field_cause Results r fault = ⊥
+
+-- that of the last field: options come last
+abbrev pub fields_cause : (fs : List Field) → Values fs → Fault → Type 0
+fields_cause [] vs fault = ⊥
+fields_cause (f ∷ []) v fault = field_cause f v fault
+fields_cause (f ∷ g ∷ fs) vs fault = fields_cause (g ∷ fs) vs.1 fault
+
+-- why a canonical function can't be encoded
+abbrev pub canonical_cause : Canonical → Fault → Type 0
+canonical_cause (Lift function options type_index) = count_cause (length options)
+canonical_cause (Lower function options) = count_cause (length options)
+canonical_cause (Provided i values) = fields_cause (row i).fields values
+
 abbrev pub canonical_text : Canonical → List ℕ
 canonical_text c = (canonical c).text
 

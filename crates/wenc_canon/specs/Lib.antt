@@ -1,2 +1,3 @@
 pub mod Canonicals
+pub mod CanonTrees
 pub mod laws

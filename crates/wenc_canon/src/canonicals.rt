@@ -8,6 +8,7 @@ ghost use Rattle.wenc_canon.specs.Canonicals.{AddsWithOptions, Lift, Lower, text
 
 mod intrinsics;
 
+pub(crate) use intrinsics::CANCELLABLE;
 use std::alloc::{Allocator, Global};
 use std::marker::Model;
 use wenc_base::{Delimited, DelimitedEq, Encode, Fault, Holder, Tagged};
@@ -128,6 +129,32 @@ impl<A: Allocator> CanonicalFunctionSection<A> {
         CanonicalFunctionSection {
             functions: Holder::new(alloc),
         }
+    }
+
+    /// The section whose functions are the members of this holder. It takes no memory.
+    ///
+    /// So a section may be written behind bytes that are kept: `Holder::over` begins it there, the calls
+    /// that add leave these bytes where they are, and `encode` writes the section alone. `into_holder` and
+    /// `Holder::into_parts` give all of them back. Where the holder has a member that is being written, the
+    /// section is unfinished: a call that adds, and `encode`, answer `Unfinished`.
+    ///
+    /// ```
+    /// let mut functions = CanonicalFunctionSection::from_holder(Holder::over(bytes, kept, 0));
+    /// functions.resource_drop(2)?;
+    /// let (bytes, kept, count, _) = functions.into_holder().into_parts();
+    /// ```
+    pub fn from_holder(functions: Holder<A>) -> Self
+        ensures { result ≡ functions }
+    {
+        CanonicalFunctionSection { functions }
+    }
+
+    /// The holder of the functions, with the bytes that it keeps in front of them. It takes no memory.
+    pub fn into_holder(self) -> Holder<A>
+        ensures { result ≡ self }
+    {
+        let CanonicalFunctionSection { functions } = self;
+        functions
     }
 
     /// How many functions the section has.

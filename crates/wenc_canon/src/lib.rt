@@ -4,6 +4,8 @@
 //! many bytes behind its size. An index is from 0 to 4294967295; it is handed in as it is.
 #![tactic(auto)]
 
+pub mod canon_tree;
 pub mod canonicals;
 
+pub use canon_tree::CanonTree;
 pub use canonicals::{CanonicalFunctionSection, CanonicalOption};

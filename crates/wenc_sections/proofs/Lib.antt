@@ -1,2 +1,3 @@
 pub mod Exported
 pub mod Started
+pub mod Appended

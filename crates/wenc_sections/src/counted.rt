@@ -56,6 +56,34 @@ impl<K, A: Allocator> Counted<K, A> {
         }
     }
 
+    /// The section whose items are the members of this holder. It takes no memory.
+    ///
+    /// So a section may be written behind bytes that are kept: `Holder::over` begins it there, the calls that add leave
+    /// these bytes where they are, and `encode` writes the section alone. `into_holder` and `Holder::into_parts` give
+    /// all of them back. Where the holder has a member that is being written, the section is unfinished.
+    ///
+    /// ```
+    /// let mut aliases = ComponentAliasSection::from_holder(Holder::over(bytes, kept, 0));
+    /// aliases.alias(alias)?;
+    /// let (bytes, kept, count, _) = aliases.into_holder().into_parts();
+    /// ```
+    pub fn from_holder(items: Holder<A>) -> Self
+        ensures { result ≡ items }
+    {
+        Counted {
+            items,
+            kind: PhantomData,
+        }
+    }
+
+    /// The holder of the items, with the bytes that it keeps in front of them. It takes no memory.
+    pub fn into_holder(self) -> Holder<A>
+        ensures { result ≡ self }
+    {
+        let Counted { items, kind: _ } = self;
+        items
+    }
+
     /// How many items the section has.
     pub fn len(&self) -> u32
         ensures { result ≡ self.now.count }

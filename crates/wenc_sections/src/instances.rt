@@ -14,13 +14,13 @@ use wenc_base::{ExportKind, Fault, Tagged};
 use wenc_parts::{ComponentExportKind, ComponentExternName, ComponentSectionId, ModuleArg};
 
 // What begins an instance (component model, binary format, `core:instanceexpr` and `instanceexpr`).
-const CORE_INSTANTIATE: u8 = 0x00;
+pub(crate) const CORE_INSTANTIATE: u8 = 0x00;
 
-const CORE_EXPORTS: u8 = 0x01;
+pub(crate) const CORE_EXPORTS: u8 = 0x01;
 
-const INSTANTIATE: u8 = 0x00;
+pub(crate) const INSTANTIATE: u8 = 0x00;
 
-const EXPORTS: u8 = 0x01;
+pub(crate) const EXPORTS: u8 = 0x01;
 
 /// The kind of section that has instances of core modules.
 pub struct CoreInstances;

@@ -3,9 +3,9 @@ use Rattle.std.specs.Result.{IfOk}
 use Rattle.wenc_parts.specs.declared.exports.ComponentExportKind.TheVariants as kinds
 use Rattle.wenc_parts.specs.declared.imports.ComponentTypeRef.TheVariants as refs
 use Rattle.wenc_parts.specs.Imports.{ExternName, plain_name}
-use Rattle.wasm_encoder.specs.Item.{Item}
-use Rattle.wasm_encoder.specs.Entry.{import_entry, export_entry, items}
-use Rattle.wasm_encoder.specs.Sections.{whole}
+use Rattle.wenc_builder.specs.Item.{Item}
+use Rattle.wenc_builder.specs.Entry.{import_entry, export_entry, items}
+use Rattle.wenc_builder.specs.Sections.{whole}
 use Rattle.rows.proofs.passed_on.Goals as goal
 
 abbrev both : ExternName → ExternName → ℕ → List Item

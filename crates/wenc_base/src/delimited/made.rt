@@ -88,6 +88,32 @@ impl<T: DelimitedEq, U: DelimitedEq> DelimitedEq for (T, U) {
     ghost alike = { λ _. pair_equal T.eq U.eq T.seen U.seen (T.alike T.Eq.laws) (U.alike U.Eq.laws) };
 }
 
+impl<T: Delimited, U: Delimited, V: Delimited> Delimited for (T, U, V) {
+    ghost use Rattle.wenc_base.specs.Delimited.{pair};
+    ghost use Rattle.wenc_base.specs.laws.Delimited.{pair_readable, pair_text_of, pair_cause_free};
+
+    ghost Seen = { T.Seen × (U.Seen × V.Seen) };
+
+    ghost seen = { λ t. (T.seen t.0, (U.seen t.1, V.seen t.2)) };
+
+    ghost form = { pair T.form (pair U.form V.form) };
+
+    fn belongs(&self) {
+        self.0.belongs();
+        self.1.belongs();
+        self.2.belongs();
+    }
+
+    ghost readable = { pair_readable T.form (pair U.form V.form)
+        T.readable (pair_readable U.form V.form U.readable V.readable) };
+
+    ghost text_of = { λ t. pair_text_of (T.text_of t.0)
+        (pair_text_of (U.text_of t.1) (V.text_of t.2)) };
+
+    ghost free = { λ t h. pair_cause_free _ _ (T.free t.0 h.0)
+        (pair_cause_free _ _ (U.free t.1 h.1.0) (V.free t.2 h.1.1)) };
+}
+
 fn each_belongs<T: Delimited>(values: &[T])
     ensures { All (FreeFits T.cause T.seen T.form) values.now }
 {

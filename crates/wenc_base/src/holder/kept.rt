@@ -1,9 +1,12 @@
 ghost use Rattle.std.specs.Prelude.{◌≡◌, ◌+◌, ◌-◌, ◌<◌, ◌≤◌, ◌^◌, ◌++◌, [], true, false, length, take, drop, OnOk, OnErr, IfOk, IfErr};
+ghost use Rattle.wenc_base.specs.Delimited.{NoCause};
 ghost use Rattle.wenc_base.specs.Fault.{IsWarranted};
 ghost use Rattle.wenc_base.specs.Holder.{is_finished, holding, gone_back, content_size, all_bytes, with_kept, filled, EncodeCause};
+ghost use Rattle.wenc_base.specs.Lender.{either};
 ghost use Rattle.wenc_base.specs.declared.fault.Fault.TheVariants.{Unfinished};
 
 use super::Holder;
+use crate::encode::Encode;
 use crate::fault::Fault;
 use std::alloc::Allocator;
 
@@ -16,21 +19,30 @@ impl<A: Allocator> Holder<A> {
         self.kept
     }
 
-    /// Keeps the members too, with these bytes behind them, and has no members then. Answers how many bytes there
-    /// were. A finished holder is refused for want of memory alone.
-    pub fn keep_all(&mut self, more: &[u8]) -> Result<usize, Fault>
-        ensures ok { OnOk result (self.new ≡ holding (all_bytes self.old ++ more.now) 0 []) }
+    /// The bytes that are kept.
+    pub fn kept(&self) -> &[u8]
+        ensures { result.now ≡ self.now.kept }
+    {
+        &self.bytes[..self.kept]
+    }
+
+    /// Keeps the members too, with this value's text behind them, and has no members then. Answers how many bytes
+    /// there were. A finished holder is refused for the value's own cause alone.
+    pub fn keep_all<E: Encode>(&mut self, more: &E) -> Result<usize, Fault>
+        ensures ok { OnOk result (self.new ≡ holding (all_bytes self.old ++ E.text more.now) 0 []) }
         ensures before { IfOk result (λ len. len ≡ length (all_bytes self.old)) }
         ensures finished { OnOk result (is_finished self.old ≡ true) }
+        ensures free { OnOk result (NoCause (E.cause more.now)) }
         ensures err { OnErr result (self.new ≡ self.old) }
-        ensures warranted { IfErr result (IsWarranted (EncodeCause self.old)) }
+        ensures warranted { IfErr result (IsWarranted
+            (either (E.cause more.now) (EncodeCause self.old))) }
         ensures unfinished_first { is_finished self.old ≡ false → result ≡ Err Unfinished }
     {
         if !self.is_finished() {
             return Err(Fault::Unfinished);
         }
         let len = self.bytes.len();
-        self.bytes.extend_from_slice(more)?;
+        more.encode(&mut self.bytes)?;
         self.kept = self.bytes.len();
         self.count = 0;
         Ok(len)

@@ -10,7 +10,7 @@ use wenc_base::{Fault, ValType};
 use wenc_parts::{ComponentValType, ResultList};
 
 /// Functions that wait have a byte that says whether they can be cancelled. Here none can.
-const CANCELLABLE: bool = false;
+pub(crate) const CANCELLABLE: bool = false;
 
 /// The functions that the component model provides: each call adds one. Refused as the type says.
 impl<A: Allocator> CanonicalFunctionSection<A> {

@@ -1,7 +1,7 @@
 use Rattle.std.proofs.Common.{subst}
 use Rattle.wenc_parts.specs.Imports.{ExternName}
-use Rattle.wasm_encoder.specs.Entry.{import_entry, export_entry}
-use Rattle.wasm_encoder.specs.Enters.{Enters}
+use Rattle.wenc_builder.specs.Entry.{import_entry, export_entry}
+use Rattle.wenc_builder.specs.Enters.{Enters}
 use Rattle.wasm_encoder.proofs.command.Command.run.Goals as goal
 
 pub returns-in-Alias : goal.returns-in-Alias

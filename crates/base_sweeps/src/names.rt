@@ -1,0 +1,60 @@
+use refusing::Refusing;
+use std::alloc::Global;
+use std::test::Fail;
+use sweeping::members::{Adds, Members, sweep_calls, sweep_clones};
+use sweeping::{LARGE, NAME, sweep_encode};
+use wenc_base::{Encode, Fault, NameMap};
+
+/// Names of items.
+#[derive(Drop)]
+struct Names<'a>(NameMap<&'a Refusing>);
+
+impl<'a> Members<'a> for Names<'a> {
+    fn empty(heap: &'a Refusing) -> Result<Self, Fault> {
+        Ok(Names(NameMap::new(heap)))
+    }
+
+    fn add_short(&mut self) -> Result<(), Fault> {
+        self.0.append(0, "")
+    }
+
+    fn again(&self) -> Result<Self, Fault> {
+        Ok(Names(self.0.clone()?))
+    }
+
+    fn state(&self, alloc: Global) -> Result<Vec<u8>, Fault> {
+        let mut state = Vec::new(alloc);
+        (self.0.size(), (self.0.len(), self.0.is_empty())).encode(&mut state)?;
+        self.0.encode(&mut state)?;
+        Ok(state)
+    }
+}
+
+/// An index, and a name.
+#[derive(Clone, Copy)]
+struct Named<'a>(u32, &'a str);
+
+impl<'a, 'b> Adds<Names<'a>> for Named<'b> {
+    fn add(&self, to: &mut Names<'a>) -> Result<(), Fault> {
+        to.0.append(self.0, self.1)
+    }
+}
+
+#[test]
+fn added_names(rt: HostRuntime) -> Result<(), Fail> {
+    let heap = Refusing::new(rt.alloc());
+    let names = [Named(0, ""), Named(LARGE, ""), Named(7, NAME)];
+    assert!(rt; sweep_calls::<Names, Named>(rt.alloc(), &heap, names.as_slice())?);
+    assert!(rt; sweep_clones::<Names>(rt.alloc(), &heap, false)?);
+    Ok(())
+}
+
+#[test]
+fn encoded_names(rt: HostRuntime) -> Result<(), Fail> {
+    let mut names = NameMap::new(rt.alloc());
+    for name in ["", NAME, "a"] {
+        assert!(rt; sweep_encode(rt.alloc(), &names)?);
+        names.append(LARGE, name)?;
+    }
+    Ok(())
+}

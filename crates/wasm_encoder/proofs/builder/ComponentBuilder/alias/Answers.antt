@@ -1,8 +1,0 @@
-use Rattle.std.specs.Option.{option_copied}
-use Rattle.wenc_parts.specs.Aliases.{alias_view}
-use Rattle.wasm_encoder.proofs.Entered.{alias_enters}
-use Rattle.wasm_encoder.proofs.builder.ComponentBuilder.alias.Goals as goal
-
-pub returns : goal.returns
-returns g c =
-    alias_enters c.args.self.now c.add.new.self c.add.result (alias_view c.args.alias) c.of_alias.result (option_copied c.args.debug_name) c.of_alias.ensures c.add.ensures

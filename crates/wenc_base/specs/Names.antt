@@ -1,0 +1,27 @@
+-- Names of items, by their places (WebAssembly 3.0, binary format, "Name Maps"; component model, binary format,
+-- "Name Section").
+use Rattle.std.specs.Prelude.{ℕ, List}
+use Rattle.std.specs.List.{flat_map}
+use Rattle.wenc_base.specs.Piece.{Form, ◌⨾◌}
+use Rattle.wenc_base.specs.Number.{u32}
+use Rattle.wenc_base.specs.Forms.{name as name_form, list}
+
+-- a name, and the place of what it names
+pub record Named : Type 0 where
+  pub place : ℕ
+  pub name : List ℕ
+
+-- as it stands in a name map
+abbrev pub named : Form Named
+named n = u32 n.place ⨾ name_form n.name
+
+abbrev pub named_text : Named → List ℕ
+named_text n = (named n).text
+
+-- names one behind the other
+abbrev pub names_text : List Named → List ℕ
+names_text ns = flat_map named_text ns
+
+-- how many names, then each
+abbrev pub name_map : Form (List Named)
+name_map ns = list named ns

@@ -1,0 +1,136 @@
+ghost use Rattle.std.specs.Prelude.{◌≡◌, ◌==◌, ◌<◌, ◌≤◌, ◌^◌, [], length, IfOk, IfErr};
+ghost use Rattle.wenc_base.specs.Fault.{IsMemory, text_cause};
+ghost use Rattle.wenc_base.specs.Holder.{no_members, holding, held_text, cut_to, AddsMember};
+ghost use Rattle.wenc_base.specs.Names.{Named, named_text};
+
+use crate::encode::{Encode, Verbatim, extend_in_room};
+use crate::fault::Fault;
+use crate::holder::next_count;
+use crate::number::encoding_size;
+use crate::short::Short;
+use std::alloc::{Allocator, Global};
+use std::marker::Model;
+
+/// Names of items, each with the item's index, in the order in which they were appended (WebAssembly 3.0, binary
+/// format, "Name Maps"). A call that is refused leaves it as it was.
+///
+/// ```rust
+/// let mut names = NameMap::new(alloc);
+/// names.append(0, "f")?;
+/// names.encode(&mut sink)?;
+/// ```
+#[derive(Drop)]
+pub struct NameMap<A: Allocator = Global> {
+    count: u32,
+    /// The texts of the names, each behind that of its index.
+    names: Vec<u8, A>,
+}
+
+impl<A: Allocator> Model for NameMap<A> {
+    ghost use Rattle.std.specs.Prelude.{◌<◌, ◌^◌, [], length};
+    ghost use Rattle.wenc_base.specs.Holder.{Held, holding, content_size};
+
+    ghost Value = { Held };
+
+    ghost view = { λ m. holding [] m.count m.names.items };
+
+    ghost invariant = { λ m. content_size m.count (length m.names.items) < 2 ^ 32 };
+}
+
+impl<A: Allocator> NameMap<A> {
+    /// No names. It takes no memory.
+    #[tactic(auto, using(crate::proofs::Groups::size_1))]
+    pub fn new(alloc: A) -> Self
+        ensures { result ≡ no_members }
+    {
+        NameMap {
+            count: 0,
+            names: Vec::new(alloc),
+        }
+    }
+
+    /// Names the item with this index. Nothing is asked of the order of indices. It is refused where there would be
+    /// too many names (`TooMany`), or too many bytes in the name or in the map (`TooLarge`).
+    #[tactic(auto, using(crate::proofs::Groups::size_of_u32))]
+    pub fn append(&mut self, idx: u32, name: &str) -> Result<(), Fault>
+        ensures { let entry : Named = record { place = idx; name = name.now } in
+            AddsMember named_text self.old self.new result (text_cause name.now) entry }
+    {
+        let body = self.names.len();
+        let Ok(len) = u32::try_from(name.len()) else {
+            return Err(Fault::TooLarge);
+        };
+        let mut lead = Short::new();
+        lead.unsigned(u64::from(idx));
+        lead.unsigned(u64::from(len));
+        let lead = lead.as_slice();
+        let more = lead.len() + name.len();
+        let count = next_count(self.count, body + more)?;
+        self.names.try_reserve(more)?;
+        extend_in_room(&mut self.names, lead);
+        extend_in_room(&mut self.names, name.as_bytes());
+        self.count = count;
+        Ok(())
+    }
+
+    /// How many bytes `encode` appends.
+    pub fn size(&self) -> usize
+        ensures is { result ≡ length (held_text self.now) }
+        ensures fits { result < 2 ^ 32 }
+    {
+        encoding_size(self.count) + self.names.len()
+    }
+
+    /// How many names there are. The map is never unfinished.
+    pub fn len(&self) -> u32
+        ensures count { result ≡ self.now.count }
+        ensures finished { self.now ≡ holding [] self.now.count self.now.body }
+    {
+        self.count
+    }
+
+    /// Whether there are none.
+    pub fn is_empty(&self) -> bool
+        ensures { result ≡ (self.now.count == 0) }
+    {
+        self.count == 0
+    }
+
+    /// Takes back the last names, so that there are `len`, in the first `bytes` bytes behind the map's count. It
+    /// takes no memory.
+    #[tactic(auto, using(crate::proofs::Groups::size_monotone))]
+    pub fn cut_back(&mut self, len: u32, bytes: usize)
+        requires { (len ≤ self.old.count) × (bytes ≤ length self.old.body) }
+        ensures { self.new ≡ cut_to self.old len bytes }
+    {
+        self.names.truncate(bytes);
+        self.count = len;
+    }
+
+    /// The same names once more. It is refused for want of memory alone.
+    pub fn clone(&self) -> Result<Self, Fault>
+    where
+        A: Clone,
+        ensures same { IfOk result (λ m. m ≡ self.now) }
+        ensures refused { IfErr result IsMemory }
+    {
+        let mut names = Vec::new(self.names.allocator().clone()?);
+        names.extend_from_slice(self.names.as_slice())?;
+        Ok(NameMap {
+            count: self.count,
+            names,
+        })
+    }
+}
+
+/// How many names there are, then each behind its index. It is refused for want of memory alone.
+impl<A: Allocator> Encode for NameMap<A> {
+    ghost text = { λ m. held_text m };
+
+    ghost cause = { λ _ _. ⊥ };
+
+    #[tactic(auto, using(crate::specs::laws::Causes::behind))]
+    fn encode<B: Allocator>(&self, sink: &mut Vec<u8, B>) -> Result<(), Fault> {
+        (self.count, Verbatim(self.names.as_slice())).encode(sink)
+    }
+}

@@ -1,0 +1,100 @@
+-- What refuses a part of a call refuses the call.
+use Rattle.std.proofs.Common.{◌≡◌, ℕ, ◌+◌, ◌<◌, ◌^◌, ◌⊎◌, inl, inr, List, [], ◌++◌, length, Option, Some, None, sym, refl, arith, length-append, subst}
+use Rattle.std.proofs.lemmas.List.{get_or-set_same}
+use Rattle.std.proofs.lemmas.Bool.Decides.{eqb_tells}
+use Rattle.wenc_base.specs.Number.{number_size}
+use Rattle.wenc_base.specs.declared.fault.Fault.{Fault}
+use Rattle.wenc_base.specs.declared.fault.Fault.TheVariants.{Memory, TooMany, TooLarge, Unfinished}
+use Rattle.wenc_builder.specs.Builder.{OpenSection, entered, entered_at, Namespace, no_names, namespace_at, State, content_of, Draft, draft, draft_place, space_with, begun_with}
+use Rattle.wenc_builder.specs.Cause.{SectionCause, SpaceCause, CallCause}
+use Rattle.wenc_builder.specs.Layout.{AppendCause}
+
+-- ---- a section, a space
+
+-- a section is too much in these two ways alone
+pub cause_is : (o : Option OpenSection) (fault : Fault) → SectionCause o fault → (fault ≡ TooMany) ⊎ (fault ≡ TooLarge)
+cause_is None fault c = absurd c
+cause_is (Some o) (Memory e) c = absurd c
+cause_is (Some o) TooMany c = inl refl
+cause_is (Some o) TooLarge c = inr refl
+cause_is (Some o) Unfinished c = absurd c
+
+-- a space that fits has no cause
+pub space_free : (s : Namespace) → s.count < 2 ^ 32 → s.named < 2 ^ 32 → number_size s.named + length s.names < 2 ^ 32 → (fault : Fault) → SpaceCause s fault → ⊥
+space_free s count named size (Memory e) c = c
+space_free s count named size TooMany (inl c) = omega (arith, count, c)
+space_free s count named size TooMany (inr c) = omega (arith, named, c)
+space_free s count named size TooLarge c = omega (arith, size, c)
+space_free s count named size Unfinished c = c
+
+-- ---- an item that is begun
+
+there : (old : State) (d : Draft) → length old.settled.spaces ≡ 13 → d.space < 13 → namespace_at (content_of (begun_with old d)).spaces d.space ≡ space_with old d
+there old d h l = get_or-set_same old.settled.spaces d.space (space_with old d) no_names (omega arith)
+
+pub space_refuses : (old : State) (d : Draft) (cause : Fault → Type 0) → length old.settled.spaces ≡ 13 → d.space < 13
+    → (fault : Fault) → SpaceCause (space_with old d) fault → CallCause old cause (content_of (begun_with old d)) (Some (draft_place d)) fault
+space_refuses old d cause h l fault c = inl (inr (inl (subst (λ (s : Namespace). SpaceCause s fault) (sym (there old d h l)) c)))
+
+pub section_refuses : (old : State) (d : Draft) (cause : Fault → Type 0) (fault : Fault) → SectionCause (entered old.settled.sections d.id d.text).current fault → CallCause old cause (content_of (begun_with old d)) (Some (draft_place d)) fault
+section_refuses old d cause fault c = inl (inr (inr c))
+
+-- where nothing is against its space nor its section, nothing is against it
+pub begun_free : (old : State) (d : Draft) → length old.settled.spaces ≡ 13 → d.space < 13 → old.begun ≡ None
+    → ((fault : Fault) → SpaceCause (space_with old d) fault → ⊥) → ((fault : Fault) → SectionCause (entered old.settled.sections d.id d.text).current fault → ⊥)
+    → (fault : Fault) → CallCause old (λ _. ⊥) (content_of (begun_with old d)) (Some (draft_place d)) fault → ⊥
+begun_free old d h l none space section fault (inl (inl c)) = c
+begun_free old d h l none space section fault (inl (inr (inl c))) = space fault (subst (λ (s : Namespace). SpaceCause s fault) (there old d h l) c)
+begun_free old d h l none space section fault (inl (inr (inr c))) = section fault c
+begun_free old d h l none space section fault (inr c) = let unfinished = c.1 in cc
+
+-- ---- its text
+
+-- a section with more bytes has more causes
+grows_at : (id count : ℕ) (body text : List ℕ) (fault : Fault) → SectionCause (Some (record { id = id; count = count; body = body ++ [] })) fault → SectionCause (Some (record { id = id; count = count; body = body ++ text })) fault
+grows_at id count body text (Memory e) c = c
+grows_at id count body text TooMany c = c
+grows_at id count body text TooLarge c = omega (arith, c, length-append body [], length-append body text)
+grows_at id count body text Unfinished c = c
+
+section_grows : (closed : List ℕ) (o : Option OpenSection) (id : ℕ) (text : List ℕ) (fault : Fault) → SectionCause (entered_at closed o id []).current fault → SectionCause (entered_at closed o id text).current fault
+section_grows closed None id text fault c = grows_at id 1 [] text fault c
+section_grows closed (Some o) id text fault c =
+    elim (eqb_tells o.id id) [
+      | inl t ↦ let d = rw t.0 at c in rw t.0 (grows_at o.id (o.count + 1) o.body text fault d)
+      | inr t ↦ let d = rw t.0 at c in rw t.0 (grows_at id 1 [] text fault d)
+    ]
+
+many_shrinks : (closed : List ℕ) (o : Option OpenSection) (id : ℕ) (text : List ℕ) → SectionCause (entered_at closed o id text).current TooMany → SectionCause (entered_at closed o id []).current TooMany
+many_shrinks closed None id text c = c
+many_shrinks closed (Some o) id text c =
+    elim (eqb_tells o.id id) [
+      | inl t ↦ let d = rw t.0 at c in rw t.0 d
+      | inr t ↦ let d = rw t.0 at c in rw t.0 d
+    ]
+
+pub beginning_refuses : (old : State) (id space : ℕ) (name : Option (List ℕ)) (text : List ℕ) (cause : Fault → Type 0) (fault : Fault)
+    → CallCause old (λ _. ⊥) (content_of (begun_with old (draft id space name []))) (Some (draft_place (draft id space name []))) fault → CallCause old cause (content_of (begun_with old (draft id space name text))) (Some (draft_place (draft id space name text))) fault
+beginning_refuses old id space name text cause fault (inl (inl c)) = absurd c
+beginning_refuses old id space name text cause fault (inl (inr (inl c))) = inl (inr (inl c))
+beginning_refuses old id space name text cause fault (inl (inr (inr c))) = inl (inr (inr (section_grows old.settled.sections.closed old.settled.sections.current id text fault c)))
+beginning_refuses old id space name text cause fault (inr c) = inr c
+
+pub text_refuses : (old : State) (d : Draft) (cause : Fault → Type 0) (fault : Fault) → AppendCause cause (entered old.settled.sections d.id d.text).current fault → CallCause old cause (content_of (begun_with old d)) (Some (draft_place d)) fault
+text_refuses old d cause fault (inl c) = inl (inl c)
+text_refuses old d cause fault (inr c) = subst (λ (f : Fault). CallCause old cause (content_of (begun_with old d)) (Some (draft_place d)) f) (sym c.0) (inl (inr (inr c.1)))
+
+-- where nothing is against its beginning nor its text, nothing is against it
+pub whole_free : (old : State) (id space : ℕ) (name : Option (List ℕ)) (text : List ℕ) (cause : Fault → Type 0)
+    → ((fault : Fault) → CallCause old (λ _. ⊥) (content_of (begun_with old (draft id space name []))) (Some (draft_place (draft id space name []))) fault → ⊥)
+    → ((fault : Fault) → AppendCause cause (entered old.settled.sections id text).current fault → ⊥)
+    → (fault : Fault) → CallCause old cause (content_of (begun_with old (draft id space name text))) (Some (draft_place (draft id space name text))) fault → ⊥
+whole_free old id space name text cause beginning appending fault (inl (inl c)) = appending fault (inl c)
+whole_free old id space name text cause beginning appending fault (inl (inr (inl c))) = beginning fault (inl (inr (inl c)))
+whole_free old id space name text cause beginning appending fault (inl (inr (inr c))) =
+    let Stands : Fault → Type 0 = λ f. SectionCause (entered old.settled.sections id text).current f in
+    elim (cause_is (entered old.settled.sections id text).current fault c) [
+      | inl e ↦ beginning TooMany (inl (inr (inr (many_shrinks old.settled.sections.closed old.settled.sections.current id text (subst Stands e c)))))
+      | inr e ↦ appending TooLarge (inr (refl, subst Stands e c))
+    ]
+whole_free old id space name text cause beginning appending fault (inr c) = beginning fault (inr c)

@@ -1,0 +1,27 @@
+-- The section whose items stand behind a gap, where the gap is filled.
+use Rattle.std.proofs.Common.{zero, length-take-le, take-append-drop, ◌≡◌, ℕ, suc, ◌+◌, ◌-◌, ◌≤◌, List, [], ◌∷◌, ◌++◌, length, take, drop, refl, arith, append_assoc, length-drop, sym, ap, ◌∙◌}
+use Rattle.wenc_base.specs.Number.{number_size}
+use Rattle.wenc_builder.specs.Builder.{open_text_of}
+use Rattle.wenc_builder.specs.Layout.{section_head}
+
+drop_split : (k n : ℕ) (xs : List ℕ) → k ≤ n → drop k xs ≡ drop k (take n xs) ++ drop n xs
+drop_split zero n xs h = sym (take-append-drop n xs)
+drop_split (suc k) zero xs h = absurd (omega arith)
+drop_split (suc k) (suc n) [] h = refl
+drop_split (suc k) (suc n) (x ∷ xs) h = drop_split k n xs (omega arith)
+
+length_between : (k n : ℕ) (xs : List ℕ) → n ≤ length xs → length (drop k (take n xs)) ≡ n - k
+length_between k n xs h = omega (arith, length-drop k (take n xs), length-take-le n xs)
+
+-- a section's head in front of its items is its text
+headed : (id count : ℕ) (body rest : List ℕ) → section_head id count (number_size count + length body) ++ (body ++ rest)
+    ≡ open_text_of (record { id = id; count = count; body = body }) ++ rest
+headed id count body rest = simp append_assoc
+
+pub closed_items : (xs : List ℕ) (e n id count : ℕ) → e + 11 ≤ n → n ≤ length xs
+    → take e xs ++ (section_head id count (number_size count + (n - (e + 11))) ++ drop (e + 11) xs)
+    ≡ (take e xs ++ open_text_of (record { id = id; count = count; body = drop (e + 11) (take n xs) })) ++ drop n xs
+closed_items xs e n id count h l =
+    let body = drop (e + 11) (take n xs) in
+    rw (← length_between (e + 11) n xs l, drop_split (e + 11) n xs h)
+    (ap (λ (t : List ℕ). take e xs ++ t) (headed id count body (drop n xs)) ∙ sym (append_assoc (take e xs) (open_text_of (record { id = id; count = count; body = body })) (drop n xs)))

@@ -1,0 +1,235 @@
+-- What keeps a buffer's layout.
+use Rattle.std.proofs.Common.{◌≡◌, ℕ, ◌+◌, ◌-◌, ◌<◌, ◌≤◌, ◌^◌, inl, inr, false, List, [], ◌++◌, length, take, drop, Option, Some, None, Result, Ok, Err, is_none, refl, arith, append_assoc, length-append, length-drop, length-take-le, take-append-drop, ap, subst, ◌∙◌}
+use Rattle.std.proofs.lemmas.List.{take_at, drop_at, take_all, take-append-le}
+use Rattle.std.proofs.lemmas.Bool.{ne_eqb, eq-eqb}
+use Rattle.std.specs.Result.{OnOk, IfErr}
+use Rattle.wenc_base.specs.Number.{number_size}
+use Rattle.wenc_base.specs.Holder.{Held, is_finished, holding, all_bytes, with_kept, content_size, AddCause}
+use Rattle.wenc_base.specs.Openings.{opened_with, OpensMember, MoreCause}
+use Rattle.wenc_base.specs.declared.holder.openings.Opening.{Opening}
+use Rattle.wenc_base.specs.declared.fault.Fault.{Fault}
+use Rattle.wenc_base.specs.declared.fault.Fault.TheVariants.{Memory, TooMany, TooLarge, Unfinished}
+use Rattle.wenc_base.proofs.Groups.{size_1}
+use Rattle.wenc_builder.specs.Builder.{OpenSection, Sections, sections_text, entered, entered_at}
+use Rattle.wenc_builder.specs.Cause.{SectionCause}
+use Rattle.wenc_builder.proofs.Caused.{cause_is}
+use Rattle.wenc_builder.specs.Layout.{kind_id, open_head, OpensAnother, Buffered, buffered_content, buffer_appended, buffer_with, AppendCause, SectionFits, open_view, earlier_view, buffer_view, kept_before, kept_with, SectionIsIn, MembersAreIn, OpeningIsIn, EarlierIsIn, IsApart, IsLaidOut}
+use Rattle.wenc_builder.specs.declared.builder.earlier.Earlier.{Earlier}
+use Rattle.wenc_builder.specs.declared.builder.kind.Kind.{Kind}
+
+size_of_one : number_size 1 ≡ 1
+size_of_one = size_1 1 (omega arith)
+
+-- ---- an item behind a gap
+
+-- nothing keeps an empty holder from an opening without a lead
+pub opens : (kept : List ℕ) (new : Held) (outcome : Result (Unit {0}) Fault) → OpensMember (holding kept 0 []) new outcome [] → IfErr outcome (AddCause (holding kept 0 []) [] (λ _. ⊥)) → outcome ≡ Ok tt
+opens kept new (Ok u) o none = refl
+opens kept new (Err (Memory e)) o none = absurd (elim none [ inl own ↦ own | inr more ↦ elim more [ inl count ↦ count | inr stopped ↦ cc ] ])
+opens kept new (Err TooMany) o none = absurd (elim none [ inl own ↦ own | inr more ↦ elim more [ inl count ↦ omega (arith, count) | inr stopped ↦ cc ] ])
+opens kept new (Err TooLarge) o none = absurd (elim none [ inl own ↦ own | inr more ↦ elim more [ inl count ↦ omega (arith, count, size_of_one) | inr stopped ↦ cc ] ])
+opens kept new (Err Unfinished) o none = absurd (elim none [ inl own ↦ own | inr more ↦ elim more [ inl count ↦ count | inr stopped ↦ cc ] ])
+
+none_is_written_at : (h : Held) (closed_len : ℕ) (kind : Option Kind) (earlier : Option Earlier) (opening : Option Opening) → h.opening ≡ opening → (buffer_view h closed_len kind earlier).writing ≡ None → (earlier ≡ None) × (h.opening ≡ None)
+none_is_written_at h closed_len kind None None o e = (refl, o)
+none_is_written_at h closed_len kind None (Some x) o e = let written = rw o at e in cc
+none_is_written_at h closed_len kind (Some x) opening o e = cc
+
+none_is_written : (h : Held) (closed_len : ℕ) (kind : Option Kind) (earlier : Option Earlier) → (buffer_view h closed_len kind earlier).writing ≡ None → (earlier ≡ None) × (h.opening ≡ None)
+none_is_written h closed_len kind earlier e = none_is_written_at h closed_len kind earlier h.opening refl e
+
+-- the layout, where all that was there is kept and a member is begun behind a gap
+went_apart : (h : Held) (gap : List ℕ) (closed_len : ℕ) (kind : Option Kind) (k : Kind) (count items_end : ℕ) → MembersAreIn kind closed_len h → length gap ≡ 11 → count ≡ h.count → content_size h.count (length h.body) < 2 ^ 32
+    → items_end ≡ length (all_bytes h) → OpensAnother (open_view kind h.count h.body) (kind_id k)
+    → IsApart (opened_with (holding (all_bytes h ++ gap) 0 []) []) (Some k) (record { kind = kind; count = count; closed_len = closed_len; items_end = items_end })
+went_apart h gap closed_len None k count items_end m g c f s d = record {
+  first = refl;
+  gap = omega (arith, s, g, length-append (all_bytes h) gap);
+  section = rw (s, m.1) (omega (arith, m.0, length-append h.kept []));
+  another = tt;
+  counted = rw c (omega (arith, f));
+  fits = tt;
+}
+went_apart h gap closed_len (Some o) k count items_end m g c f s d = record {
+  first = refl;
+  gap = omega (arith, s, g, length-append (all_bytes h) gap);
+  section = omega (arith, s, m, length-append h.kept h.body);
+  another = d;
+  counted = rw c (omega (arith, f));
+  fits = rw (c, s, take_at (all_bytes h) gap (length (all_bytes h)) refl, ← m, drop_at h.kept h.body (length h.kept) refl) f;
+}
+
+pub begun : (h opened new : Held) (gap : List ℕ) (closed_len : ℕ) (kind : Option Kind) (earlier : Option Earlier) (k : Kind) (count items_end : ℕ) (now : Buffered) (outcome : Result (Unit {0}) Fault) → IsLaidOut h closed_len kind earlier
+    → buffer_view h closed_len kind earlier ≡ now → now.writing ≡ None → OpensAnother now.settled.current (kind_id k) → length gap ≡ 11 → count ≡ h.count → content_size h.count (length h.body) < 2 ^ 32 → items_end ≡ length (all_bytes h)
+    → opened ≡ holding (all_bytes h ++ gap) 0 [] → OpensMember opened new outcome [] → outcome ≡ Ok tt
+    → IsLaidOut new closed_len (Some k) (Some (record { kind = kind; count = count; closed_len = closed_len; items_end = items_end }))
+begun h opened new gap closed_len kind earlier k count items_end now outcome l view none apart g c f s is o accepted = record { places = rw new_is (went_apart h gap closed_len kind k count items_end members.0 g c f s other) }
+  where
+    idle : (earlier ≡ None) × (h.opening ≡ None)
+    idle = none_is_written h closed_len kind earlier (ap (λ (b : Buffered). b.writing) view ∙ none)
+
+    members : MembersAreIn kind closed_len h × OpeningIsIn h.opening h.count (length h.body)
+    members = (rw idle.0 at l).places
+
+    other : OpensAnother (open_view kind h.count h.body) (kind_id k)
+    other = rw (← view, idle.0, idle.1) at apart
+
+    new_is : new ≡ opened_with (holding (all_bytes h ++ gap) 0 []) []
+    new_is = rw (accepted, is) at o.ok
+
+-- ---- nothing is against an item that was begun
+
+pub neighbour_free : (outcome : Result (Unit {0}) Fault) (h : Held) (closed_len : ℕ) (kind : Option Kind) (earlier : Option Earlier) (k : Kind) (id : ℕ) (now : Buffered) → buffer_view h closed_len kind earlier ≡ now → now.writing ≡ None
+    → kind ≡ Some k → kind_id k ≡ id → OnOk outcome ((fault : Fault) → AddCause h [] (λ _. ⊥) fault → ⊥) → OnOk outcome ((fault : Fault) → SectionCause (entered now.settled id []).current fault → ⊥)
+neighbour_free (Err fault) h closed_len kind earlier k id now view none is same free = tt
+neighbour_free (Ok u) h closed_len kind earlier k id now view none is same free = λ fault c.
+    let idle = none_is_written h closed_len kind earlier (ap (λ (b : Buffered). b.writing) view ∙ none) in
+    let Stands : Fault → Type 0 = λ f. SectionCause (entered now.settled id []).current f in
+    elim (cause_is (entered now.settled id []).current fault c) [
+      | inl e ↦
+          let many : Stands TooMany = subst Stands e c in
+          let counted : 2 ^ 32 ≤ h.count + 1 = rw (← view, idle.0, idle.1, is, same, eq-eqb id id refl) at many in
+          free TooMany (inr (inl counted))
+      | inr e ↦
+          let large : Stands TooLarge = subst Stands e c in
+          let sized : 2 ^ 32 ≤ content_size (h.count + 1) (length (h.body ++ [])) = rw (← view, idle.0, idle.1, is, same, eq-eqb id id refl) at large in
+          free TooLarge (inr (inl sized))
+    ]
+
+one_free : (id : ℕ) (fault : Fault) → SectionCause (Some (record { id = id; count = 1; body = [] })) fault → ⊥
+one_free id (Memory e) h = h
+one_free id TooMany h = omega (arith, h)
+one_free id TooLarge h = omega (arith, h, size_of_one)
+one_free id Unfinished h = h
+
+apart_free_at : (closed : List ℕ) (o : Option OpenSection) (id : ℕ) → OpensAnother o id → (fault : Fault) → SectionCause (entered_at closed o id []).current fault → ⊥
+apart_free_at closed None id d fault c = one_free id fault c
+apart_free_at closed (Some o) id d fault c = one_free id fault (rw (ne_eqb o.id id d) at c)
+
+pub apart_free : (outcome : Result (Unit {0}) Fault) (s : Sections) (id : ℕ) → OpensAnother s.current id → OnOk outcome ((fault : Fault) → SectionCause (entered s id []).current fault → ⊥)
+apart_free (Ok u) s id d = apart_free_at s.closed s.current id d
+apart_free (Err fault) s id d = tt
+
+-- ---- more bytes
+
+some_is_written_at : (h : Held) (closed_len : ℕ) (kind : Option Kind) (earlier : Option Earlier) (opening : Option Opening) → h.opening ≡ opening → EarlierIsIn h closed_len kind earlier
+    → is_none (buffer_view h closed_len kind earlier).writing ≡ false → is_finished h ≡ false
+some_is_written_at h closed_len kind None None o l e = let written = rw o at e in cc
+some_is_written_at h closed_len kind None (Some x) o l e = rw o refl
+some_is_written_at h closed_len kind (Some x) opening o l e = rw (ap (λ (x : Held). x.opening) l.first) refl
+
+pub some_is_written : (h : Held) (closed_len : ℕ) (kind : Option Kind) (earlier : Option Earlier) (now : Buffered) → IsLaidOut h closed_len kind earlier → buffer_view h closed_len kind earlier ≡ now
+    → is_none now.writing ≡ false → is_finished h ≡ false
+some_is_written h closed_len kind earlier now l view e = some_is_written_at h closed_len kind earlier h.opening refl l.places (rw (← view) at e)
+
+all_of_it : (n size : ℕ) (k : Kind) (closed body text : List ℕ) → 1 ≤ n
+    → SectionCause (entered (record { closed = closed; current = Some (record { id = kind_id k; count = n - 1; body = take size body }) }) (kind_id k) (drop size body ++ text)).current TooLarge
+    → 2 ^ 32 ≤ content_size n (length (body ++ text))
+all_of_it n size k closed body text some large =
+    let next : n - 1 + 1 ≡ n = omega arith in
+    rw (eq-eqb (kind_id k) (kind_id k) refl, ← append_assoc (take size body) (drop size body) text, take-append-drop size body, next) at large
+
+behind_gap : (ek : Option Kind) (k : Kind) (count : ℕ) (items closed body : List ℕ) → OpensAnother (open_view ek count []) (kind_id k) → SectionCause (entered (record { closed = closed; current = open_view ek count items }) (kind_id k) body).current TooLarge
+    → 2 ^ 32 ≤ content_size 1 (length body)
+behind_gap None k count items closed body d large = large
+behind_gap (Some o) k count items closed body d large = rw (ne_eqb (kind_id o) (kind_id k) d) at large
+
+large_at : (h : Held) (text : List ℕ) (closed_len : ℕ) (kind : Option Kind) (earlier : Option Earlier) (opening : Option Opening) → h.opening ≡ opening → EarlierIsIn h closed_len kind earlier → is_finished h ≡ false
+    → SectionCause (buffered_content (buffer_appended (buffer_view h closed_len kind earlier) text)).current TooLarge → 2 ^ 32 ≤ content_size h.count (length (h.body ++ text))
+large_at h text closed_len kind None None o l f large = let finished = rw o at f in cc
+large_at h text closed_len None None (Some x) o l f large = let none = l.0.2 in cc
+large_at h text closed_len (Some k) None (Some x) o l f large = let places = rw o at l.1 in all_of_it h.count x.member_start k (take closed_len h.kept) h.body text places.1 (rw o at large)
+large_at h text closed_len None (Some e) opening o l f large = absurd l.another
+large_at h text closed_len (Some k) (Some e) opening o l f large =
+    let one : h.count ≡ 1 = ap (λ (x : Held). x.count) l.first in
+    rw one (behind_gap e.kind k e.count _ _ (h.body ++ text) l.another large)
+
+pub append_free : (outcome : Result (Unit {0}) Fault) (old : Held) (cause : Fault → Type 0) (text : List ℕ) (closed_len : ℕ) (kind : Option Kind) (earlier : Option Earlier) (now : Buffered)
+    → IsLaidOut old closed_len kind earlier → buffer_view old closed_len kind earlier ≡ now → is_none now.writing ≡ false
+    → OnOk outcome ((fault : Fault) → MoreCause old text cause fault → ⊥) → OnOk outcome ((fault : Fault) → AppendCause cause (buffered_content (buffer_appended now text)).current fault → ⊥)
+append_free (Err fault) old cause text closed_len kind earlier now l view w free = tt
+append_free (Ok u) old cause text closed_len kind earlier now l view w free = λ fault c. elim c [
+  | inl own ↦ free fault (inl own)
+  | inr p ↦ free TooLarge (inr (refl, large_at old text closed_len kind earlier old.opening refl l.places (some_is_written old closed_len kind earlier now l view w) (rw (← view) at p.1)))
+]
+
+-- ---- an item is given up
+
+back_fits_at : (ek : Option Kind) (bytes : List ℕ) (count closed_len items_end : ℕ) → number_size count < 2 ^ 32 → SectionFits (open_view ek count (drop (closed_len + 11) (take items_end bytes))) → SectionIsIn ek closed_len items_end → items_end ≤ length bytes
+    → content_size count (items_end - kept_before ek closed_len) < 2 ^ 32
+back_fits_at None bytes count closed_len items_end n f s l = omega (arith, n, s)
+back_fits_at (Some k) bytes count closed_len items_end n f s l = omega (arith, f, length-drop (closed_len + 11) (take items_end bytes), length-take-le items_end bytes l)
+
+pub back_fits : (h : Held) (closed_len : ℕ) (kind : Option Kind) (earlier : Option Earlier) (e : Earlier) → IsLaidOut h closed_len kind earlier → earlier ≡ Some e → content_size e.count (e.items_end - kept_before e.kind e.closed_len) < 2 ^ 32
+back_fits h closed_len kind earlier e l is =
+    let a : IsApart h kind e = (rw is at l).places in
+    back_fits_at e.kind h.kept e.count e.closed_len e.items_end a.counted a.fits a.section (omega (arith, a.gap))
+
+-- ---- something that stands alone
+
+within_kept : (h : Held) (closed_len : ℕ) (kind : Option Kind) → MembersAreIn kind closed_len h → closed_len ≤ length h.kept
+within_kept h closed_len None m = omega (arith, m.0)
+within_kept h closed_len (Some k) m = omega (arith, m)
+
+abbrev earlier_at : Held → ℕ → Option Kind → Earlier
+earlier_at h closed_len kind = record { kind = kind; count = h.count; closed_len = closed_len; items_end = length (all_bytes h) }
+
+earlier_is : (h : Held) (text : List ℕ) (closed_len : ℕ) (kind : Option Kind) → MembersAreIn kind closed_len h → earlier_view (all_bytes h ++ text) (earlier_at h closed_len kind) ≡ open_view kind h.count h.body
+earlier_is h text closed_len None m = refl
+earlier_is h text closed_len (Some k) m = rw (take_at (all_bytes h) text (length (all_bytes h)) refl, ← m, drop_at h.kept h.body (length h.kept) refl) refl
+
+closed_is : (h : Held) (text : List ℕ) (closed_len : ℕ) (kind : Option Kind) → MembersAreIn kind closed_len h
+    → kept_with (all_bytes h ++ text) (earlier_at h closed_len kind) ≡ sections_text (record { closed = take closed_len h.kept; current = open_view kind h.count h.body }) ++ text
+closed_is h text closed_len kind m =
+    let within = within_kept h closed_len kind m in
+    rw (
+      drop_at (all_bytes h) text (length (all_bytes h)) refl,
+      earlier_is h text closed_len kind m,
+      take-append-le closed_len (all_bytes h) text (omega (arith, within, length-append h.kept h.body)),
+      take-append-le closed_len h.kept h.body within,
+    ) refl
+
+section_at : (h : Held) (closed_len : ℕ) (kind : Option Kind) → MembersAreIn kind closed_len h → SectionIsIn kind closed_len (length (all_bytes h))
+section_at h closed_len None m = rw m.1 (omega (arith, m.0, length-append h.kept []))
+section_at h closed_len (Some k) m = omega (arith, m, length-append h.kept h.body)
+
+fits_at : (h : Held) (kind : Option Kind) → content_size h.count (length h.body) < 2 ^ 32 → SectionFits (open_view kind h.count h.body)
+fits_at h None f = tt
+fits_at h (Some k) f = f
+
+-- the section before it can be closed
+pub can_close : (h kept : Held) (text : List ℕ) (closed_len : ℕ) (kind : Option Kind) (earlier : Option Earlier) (count items_end : ℕ) (now : Buffered) → IsLaidOut h closed_len kind earlier
+    → buffer_view h closed_len kind earlier ≡ now → now.writing ≡ None → count ≡ h.count → content_size h.count (length h.body) < 2 ^ 32 → items_end ≡ length (all_bytes h) → kept ≡ holding (all_bytes h ++ text) 0 []
+    → (items_end ≤ length kept.kept) × SectionIsIn kind closed_len items_end × SectionFits (earlier_view kept.kept (record { kind = kind; count = count; closed_len = closed_len; items_end = items_end }))
+can_close h kept text closed_len kind earlier count items_end now l view none c f e k =
+    let idle = none_is_written h closed_len kind earlier (ap (λ (b : Buffered). b.writing) view ∙ none) in
+    let members : MembersAreIn kind closed_len h × OpeningIsIn h.opening h.count (length h.body) = (rw idle.0 at l).places in
+    rw (k, c, e) (omega (arith, length-append (all_bytes h) text), section_at h closed_len kind members.0, rw (earlier_is h text closed_len kind members.0) (fits_at h kind f))
+
+-- and then all bytes are closed
+pub stood : (h kept new : Held) (text : List ℕ) (closed_len new_len : ℕ) (kind : Option Kind) (earlier : Option Earlier) (count items_end : ℕ) (now : Buffered) → IsLaidOut h closed_len kind earlier
+    → buffer_view h closed_len kind earlier ≡ now → now.writing ≡ None → count ≡ h.count → items_end ≡ length (all_bytes h) → kept ≡ holding (all_bytes h ++ text) 0 []
+    → new ≡ with_kept kept (kept_with kept.kept (record { kind = kind; count = count; closed_len = closed_len; items_end = items_end })) → new_len ≡ length new.kept
+    → IsLaidOut new new_len None earlier × (buffer_view new new_len None earlier ≡ buffer_with now text)
+stood h kept new text closed_len new_len kind earlier count items_end now l view none c e k w n =
+    let idle = none_is_written h closed_len kind earlier (ap (λ (b : Buffered). b.writing) view ∙ none) in
+    let members : MembersAreIn kind closed_len h × OpeningIsIn h.opening h.count (length h.body) = (rw idle.0 at l).places in
+    let all : new ≡ holding (sections_text (record { closed = take closed_len h.kept; current = open_view kind h.count h.body }) ++ text) 0 [] =
+    w ∙ rw (k, c, e) (ap (λ (b : List ℕ). holding b 0 []) (closed_is h text closed_len kind members.0)) in
+    let closed = sections_text (record { closed = take closed_len h.kept; current = open_view kind h.count h.body }) ++ text in
+    rw (n, all, idle.0) (record { places = ((refl, refl, refl), tt) }, rw (← view, idle.0, idle.1, take_all (length closed) closed (omega arith)) refl)
+
+-- ---- all bytes
+
+all_at : (h : Held) (closed_len : ℕ) (kind : Option Kind) → MembersAreIn kind closed_len h
+    → sections_text (record { closed = take closed_len h.kept; current = open_view kind h.count h.body }) ≡ take closed_len h.kept ++ (open_head kind h.count (length h.body) ++ h.body)
+all_at h closed_len None m = rw m.1 refl
+all_at h closed_len (Some k) m = simp append_assoc
+
+-- the closed bytes, then the open section
+pub all_is : (h : Held) (closed_len : ℕ) (kind : Option Kind) (earlier : Option Earlier) (now : Buffered) → IsLaidOut h closed_len kind earlier → buffer_view h closed_len kind earlier ≡ now → now.writing ≡ None
+    → sections_text now.settled ≡ take closed_len h.kept ++ (open_head kind h.count (length h.body) ++ h.body)
+all_is h closed_len kind earlier now l view none =
+    let idle = none_is_written h closed_len kind earlier (ap (λ (b : Buffered). b.writing) view ∙ none) in
+    let members : MembersAreIn kind closed_len h × OpeningIsIn h.opening h.count (length h.body) = (rw idle.0 at l).places in
+    rw (← view, idle.0, idle.1) (all_at h closed_len kind members.0)

@@ -1,0 +1,126 @@
+-- An item that is begun, written and ended, or given up.
+use Rattle.std.proofs.Common.{◌≡◌, ℕ, ◌<◌, true, false, is_none, List, [], length, Option, Some, None, Ok, Err, refl, sym, ◌∙◌, inr}
+use Rattle.wenc_base.specs.Fault.{IsWarranted}
+use Rattle.wenc_base.specs.declared.fault.Fault.{Fault}
+use Rattle.wenc_base.specs.declared.fault.Fault.TheVariants.{Unfinished}
+use Rattle.wenc_base.specs.laws.Causes.{still_warranted}
+use Rattle.wenc_builder.specs.Builder.{entered, Content, State, namespace_at, content_of, Draft, draft, space_with, begun_with, appended, ended, builder_given_up}
+use Rattle.wenc_builder.specs.Cause.{SectionCause, SpaceCause}
+use Rattle.wenc_builder.specs.Enters.{TakesWith, Takes}
+use Rattle.wenc_builder.specs.Layout.{AppendCause, Buffered}
+use Rattle.wenc_builder.specs.Space.{Defined}
+use Rattle.wenc_builder.specs.Spaces.{Spaced}
+use Rattle.wenc_builder.specs.View.{Agree, builder_view}
+use Rattle.wenc_builder.proofs.Caused.{space_refuses, section_refuses, begun_free, beginning_refuses, text_refuses, whole_free}
+use Rattle.wenc_builder.proofs.Viewed.{finished_is}
+
+none_of : {A : Type 0} (o : Option A) → (is_none o ≡ false → ⊥) → o ≡ None
+none_of None h = refl
+none_of (Some x) h = absurd (h refl)
+
+none_is : {A : Type 0} (o : Option A) → is_none o ≡ true → o ≡ None
+none_is None e = refl
+none_is (Some x) e = cc
+
+-- ---- an item is begun
+
+-- nothing is taken while another item is being written
+pub unfinished_before : {R : Type 0} (b : Buffered) (s : Spaced) (old new next : State) (after : Content) (places : Option Defined) (cause : Fault → Type 0) (Told : R → Type 0) → Agree b.writing s.taking → builder_view b s ≡ old
+    → is_none b.writing ≡ false → new ≡ old → TakesWith old new next (Err Unfinished) after places cause Told
+unfinished_before b s old new next after places cause Told a view w same = record {
+  told = tt;
+  ok = tt;
+  free = tt;
+  err = same;
+  warranted = inr (refl, sym (finished_is b s old a view) ∙ w);
+  unfinished_first = λ e. refl;
+}
+
+-- a builder without an item that is being written
+pub settled_before : (b : Buffered) (s : Spaced) (old : State) → Agree b.writing s.taking → builder_view b s ≡ old → is_none b.writing ≡ true → old.begun ≡ None
+settled_before b s old a view w = none_is old.begun (sym (finished_is b s old a view) ∙ w)
+
+pub space_refused : (b : Buffered) (s : Spaced) (old new next : State) (fault : Fault) (d : Draft) → Agree b.writing s.taking → builder_view b s ≡ old → is_none b.writing ≡ true → new ≡ old
+    → length old.settled.spaces ≡ 13 → d.space < 13 → IsWarranted (SpaceCause (space_with old d)) fault
+    → Takes old new next (Err fault) d (λ _. ⊥)
+space_refused b s old new next fault d a view w same all within refused = record {
+  told = tt;
+  ok = tt;
+  free = tt;
+  err = same;
+  warranted = still_warranted _ _ (space_refuses old d (λ _. ⊥) all within) fault refused;
+  unfinished_first = λ e. let none = settled_before b s old a view w in cc;
+}
+
+pub section_refused : (b : Buffered) (s : Spaced) (old new next : State) (fault : Fault) (d : Draft) → Agree b.writing s.taking → builder_view b s ≡ old → is_none b.writing ≡ true → new ≡ old
+    → IsWarranted (SectionCause (entered old.settled.sections d.id d.text).current) fault
+    → Takes old new next (Err fault) d (λ _. ⊥)
+section_refused b s old new next fault d a view w same refused = record {
+  told = tt;
+  ok = tt;
+  free = tt;
+  err = same;
+  warranted = still_warranted _ _ (section_refuses old d (λ _. ⊥)) fault refused;
+  unfinished_first = λ e. let none = settled_before b s old a view w in cc;
+}
+
+pub begins : (b : Buffered) (s : Spaced) (old new next : State) (index : ℕ) (d : Draft) → Agree b.writing s.taking → builder_view b s ≡ old → is_none b.writing ≡ true → new ≡ next
+    → index ≡ (namespace_at old.settled.spaces d.space).count → length old.settled.spaces ≡ 13 → d.space < 13
+    → ((fault : Fault) → SpaceCause (space_with old d) fault → ⊥) → ((fault : Fault) → SectionCause (entered old.settled.sections d.id d.text).current fault → ⊥)
+    → Takes old new next (Ok index) d (λ _. ⊥)
+begins b s old new next index d a view w is counted all within space section = record {
+  told = counted;
+  ok = is;
+  free = begun_free old d all within (settled_before b s old a view w) space section;
+  err = tt;
+  warranted = tt;
+  unfinished_first = λ e. let none = settled_before b s old a view w in cc;
+}
+
+-- ---- an item is written
+
+pub not_begun : (old new next whole : State) (fault : Fault) (id space : ℕ) (name : Option (List ℕ)) (text : List ℕ) (cause : Fault → Type 0)
+    → Takes old new next (Err fault) (draft id space name []) (λ _. ⊥) → Takes old new whole (Err fault) (draft id space name text) cause
+not_begun old new next whole fault id space name text cause t = record {
+  told = tt;
+  ok = tt;
+  free = tt;
+  err = t.err;
+  warranted = still_warranted _ _ (beginning_refuses old id space name text cause) fault t.warranted;
+  unfinished_first = t.unfinished_first;
+}
+
+pub added : (old begun written new : State) (index id space : ℕ) (name : Option (List ℕ)) (text : List ℕ) (cause : Fault → Type 0)
+    → Takes old begun (begun_with old (draft id space name [])) (Ok index) (draft id space name []) (λ _. ⊥)
+    → written ≡ appended begun text → ((fault : Fault) → AppendCause cause (content_of (appended begun text)).sections.current fault → ⊥) → new ≡ ended written
+    → Takes old new (ended (begun_with old (draft id space name text))) (Ok index) (draft id space name text) cause
+added old begun written new index id space name text cause t w free e = record {
+  told = t.told;
+  ok = rw (e, w, t.ok) refl;
+  free = whole_free old id space name text cause t.free (rw t.ok at free);
+  err = tt;
+  warranted = tt;
+  unfinished_first = λ u. absurd (never index (t.unfinished_first u));
+}
+  where
+    never : (i : ℕ) → Ok i ≡ Err Unfinished → ⊥
+    never i e = cc
+
+pub not_written : (old begun written new whole : State) (fault : Fault) (index id space : ℕ) (name : Option (List ℕ)) (text : List ℕ) (cause : Fault → Type 0)
+    → Takes old begun (begun_with old (draft id space name [])) (Ok index) (draft id space name []) (λ _. ⊥)
+    → IsWarranted (AppendCause cause (content_of (appended begun text)).sections.current) fault → written ≡ begun → new ≡ builder_given_up written
+    → Takes old new whole (Err fault) (draft id space name text) cause
+not_written old begun written new whole fault index id space name text cause t refused w e = record {
+  told = tt;
+  ok = tt;
+  free = tt;
+  err = rw (e, w, t.ok) (back old (none_of old.begun (λ u. never index (t.unfinished_first u))));
+  warranted = still_warranted _ _ (text_refuses old (draft id space name text) cause) fault (rw t.ok at refused);
+  unfinished_first = λ u. absurd (never index (t.unfinished_first u));
+}
+  where
+    never : (i : ℕ) → Ok i ≡ Err Unfinished → ⊥
+    never i e = cc
+
+    back : (s : State) → s.begun ≡ None → record { settled = s.settled; begun = None } ≡ s
+    back s none = rw (← none) refl

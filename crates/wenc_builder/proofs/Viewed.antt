@@ -1,0 +1,73 @@
+-- A builder's state, by those of its buffer and its spaces.
+use Rattle.std.proofs.Common.{◌≡◌, List, ℕ, false, is_none, Option, Some, None, refl, ap, sym, ◌∙◌}
+use Rattle.wenc_builder.specs.Builder.{Content, State, builder_is_finished, content_of, appended, ended}
+use Rattle.wenc_builder.specs.Layout.{Writing, Buffered, buffered_content, buffer_appended, buffer_ended}
+use Rattle.wenc_builder.specs.Spaces.{Taking, Spaced, taken, spaces_ended}
+use Rattle.wenc_builder.specs.View.{Agree, begun_of, builder_view}
+
+-- ---- nothing is begun in both, or in none
+
+finished_at : (w : Option Writing) (t : Option Taking) → Agree w t → is_none (begun_of w t) ≡ is_none w
+finished_at None t a = refl
+finished_at (Some w) None a = absurd a
+finished_at (Some w) (Some t) a = refl
+
+pub finished_is : (b : Buffered) (s : Spaced) (now : State) → Agree b.writing s.taking → builder_view b s ≡ now → is_none b.writing ≡ builder_is_finished now
+finished_is b s now a view = rw (← view) (rw (finished_at b.writing s.taking a) refl)
+
+taking_at : (w : Option Writing) (t : Option Taking) → Agree w t → is_none (begun_of w t) ≡ false → is_none t ≡ false
+taking_at None t a e = cc
+taking_at (Some w) None a e = absurd a
+taking_at (Some w) (Some t) a e = refl
+
+pub taking_is : (b : Buffered) (s : Spaced) (now : State) → Agree b.writing s.taking → builder_view b s ≡ now → builder_is_finished now ≡ false → is_none s.taking ≡ false
+taking_is b s now a view e = taking_at b.writing s.taking a (rw (← view) at e)
+
+pub writing_is : (b : Buffered) (s : Spaced) (now : State) → Agree b.writing s.taking → builder_view b s ≡ now → builder_is_finished now ≡ false → is_none b.writing ≡ false
+writing_is b s now a view e = finished_is b s now a view ∙ e
+
+-- nothing is taken where nothing is written
+pub not_taking : (w : Option Writing) (t : Option Taking) → Agree w t → w ≡ None → t ≡ None
+not_taking None None a e = refl
+not_taking None (Some t) a e = absurd a
+not_taking (Some w) t a e = cc
+
+-- ---- what is begun
+
+content_at : (b : Buffered) (s : Spaced) (w : Option Writing) (t : Option Taking) → b.writing ≡ w → s.taking ≡ t → Agree w t
+    → content_of (builder_view b s) ≡ record { sections = buffered_content b; spaces = taken s.settled s.taking }
+content_at b s None None e f a = rw (e, f) refl
+content_at b s None (Some t) e f a = absurd a
+content_at b s (Some w) None e f a = absurd a
+content_at b s (Some w) (Some t) e f a = rw (e, f) refl
+
+pub content_is : (b : Buffered) (s : Spaced) → Agree b.writing s.taking → content_of (builder_view b s) ≡ record { sections = buffered_content b; spaces = taken s.settled s.taking }
+content_is b s a = content_at b s b.writing s.taking refl refl a
+
+appended_at : (b : Buffered) (s : Spaced) (text : List ℕ) (w : Option Writing) (t : Option Taking) → b.writing ≡ w → s.taking ≡ t → Agree w t
+    → builder_view (buffer_appended b text) s ≡ appended (builder_view b s) text
+appended_at b s text None t e f a = rw e refl
+appended_at b s text (Some w) None e f a = absurd a
+appended_at b s text (Some w) (Some t) e f a = rw (e, f) refl
+
+pub appended_is : (b : Buffered) (s : Spaced) (text : List ℕ) → Agree b.writing s.taking → builder_view (buffer_appended b text) s ≡ appended (builder_view b s) text
+appended_is b s text a = appended_at b s text b.writing s.taking refl refl a
+
+still_agree_at : (w : Option Writing) (t : Option Taking) (b : Buffered) (text : List ℕ) → b.writing ≡ w → Agree w t → Agree (buffer_appended b text).writing t
+still_agree_at None t b text e a = rw e a
+still_agree_at (Some w) None b text e a = absurd a
+still_agree_at (Some w) (Some t) b text e a = rw e tt
+
+pub still_agree : (b : Buffered) (s : Spaced) (text : List ℕ) → Agree b.writing s.taking → Agree (buffer_appended b text).writing s.taking
+still_agree b s text a = still_agree_at b.writing s.taking b text refl a
+
+pub ended_is : (b : Buffered) (s : Spaced) → Agree b.writing s.taking → builder_view (buffer_ended b) (spaces_ended s) ≡ ended (builder_view b s)
+ended_is b s a = rw (content_is b s a) refl
+
+-- the open section, with more bytes of the item
+pub appended_section : (b : Buffered) (s : Spaced) (now : State) (text : List ℕ) → Agree b.writing s.taking → builder_view b s ≡ now
+    → (content_of (appended now text)).sections ≡ buffered_content (buffer_appended b text)
+appended_section b s now text a view =
+    let same : builder_view (buffer_appended b text) s ≡ appended now text = appended_is b s text a ∙ ap (λ (n : State). appended n text) view in
+    let content = content_is (buffer_appended b text) s (still_agree b s text a) in
+    ap (λ (c : Content). c.sections) (sym (ap (λ (n : State). content_of n) same) ∙ content)

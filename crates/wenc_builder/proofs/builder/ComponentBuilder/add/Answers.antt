@@ -1,0 +1,11 @@
+use Rattle.std.specs.Option.{option_copied}
+use Rattle.wenc_builder.specs.Space.{space_number}
+use Rattle.wenc_builder.specs.Layout.{kind_id}
+use Rattle.wenc_builder.proofs.Taken.{added}
+use Rattle.wenc_builder.proofs.builder.ComponentBuilder.add.Goals as goal
+
+pub returns-in-Ok-append : goal.returns-in-Ok-append
+returns-in-Ok-append g c =
+    let a = c.in-Ok-append.ensures in
+    added c.args.self.now c.begin.new.self c.append.new.self c.end.new.self c.in-Ok.index (kind_id c.args.kind) (space_number c.args.space) (option_copied c.args.name)
+    (g.E.Encode.text c.args.item.now) (g.E.Encode.cause c.args.item.now) c.in-Ok.ensures a.ok a.free c.end.ensures

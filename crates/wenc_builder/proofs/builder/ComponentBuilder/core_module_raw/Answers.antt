@@ -1,0 +1,7 @@
+use Rattle.std.proofs.Common.{refl}
+use Rattle.std.specs.Option.{option_copied}
+use Rattle.wenc_builder.proofs.Entered.{module_enters}
+use Rattle.wenc_builder.proofs.builder.ComponentBuilder.core_module_raw.Goals as goal
+
+pub returns : goal.returns
+returns g c = module_enters c.args.self.now c.stand_alone.new.self c.stand_alone.result c.args.bytes.now _ (option_copied c.args.debug_name) (rw c.into.ensures refl) c.stand_alone.ensures

@@ -1,0 +1,7 @@
+use Rattle.std.proofs.Common.{refl}
+use Rattle.wenc_builder.proofs.Entered.{custom_enters}
+use Rattle.wenc_builder.proofs.builder.ComponentBuilder.custom_section.Goals as goal
+
+pub returns : goal.returns
+returns g c =
+    custom_enters c.args.self.now c.place_nowhere.new.self c.place_nowhere.result (record { label = c.args.section.now.name.now; bytes = c.args.section.now.data.now }) _ (rw c.into.ensures refl) c.place_nowhere.ensures

@@ -1,0 +1,174 @@
+-- What a builder is seen as: settled content and, where an item is being written, that item.
+use Rattle.std.specs.Prelude.{ℕ, List, [], ◌∷◌, ◌++◌, ◌+◌, Option, Some, None, Bool, is_none, nat_eq, if◌then◌else◌, slice_set, slice_index_or}
+use Rattle.wenc_base.specs.Holder.{holding, section_text}
+use Rattle.wenc_builder.specs.Item.{Item, collected, item}
+use Rattle.wenc_builder.specs.Space.{space_number, Defined, defines}
+use Rattle.wenc_builder.specs.declared.builder.space.Space.{Space}
+use Rattle.wenc_base.specs.Names.{named}
+use Rattle.wenc_builder.specs.Entry.{Entry}
+
+-- ---- sections
+
+-- the section that takes more items: its id, how many items it has, and their bytes
+pub record OpenSection : Type 0 where
+  pub id : ℕ
+  pub count : ℕ
+  pub body : List ℕ
+
+abbrev pub open_text_of : OpenSection → List ℕ
+open_text_of o = o.id ∷ section_text (holding [] o.count o.body)
+
+-- closed bytes, then the open section if there is one
+pub record Sections : Type 0 where
+  pub closed : List ℕ
+  pub current : Option OpenSection
+
+abbrev pub open_text : Option OpenSection → List ℕ
+open_text None = []
+open_text (Some o) = open_text_of o
+
+abbrev pub sections_text : Sections → List ℕ
+sections_text s = s.closed ++ open_text s.current
+
+-- one more item: in the open section if that is of its kind, else in a new one
+abbrev pub entered_at : List ℕ → Option OpenSection → ℕ → List ℕ → Sections
+entered_at closed None id text = record { closed = closed; current = Some (record { id = id; count = 1; body = text }) }
+entered_at closed (Some o) id text =
+    if nat_eq o.id id
+    then (record { closed = closed; current = Some (record { id = o.id; count = o.count + 1; body = o.body ++ text }) })
+    else (record { closed = closed ++ open_text_of o; current = Some (record { id = id; count = 1; body = text }) })
+
+abbrev pub entered : Sections → ℕ → List ℕ → Sections
+entered s id text = entered_at s.closed s.current id text
+
+-- an item that stands alone
+abbrev pub stood_alone : Sections → List ℕ → Sections
+stood_alone s text = record { closed = sections_text s ++ text; current = None }
+
+abbrev pub with_item_at : Option ℕ → Sections → List ℕ → Sections
+with_item_at None s text = stood_alone s text
+with_item_at (Some id) s text = entered s id text
+
+abbrev pub with_item : Sections → Item → Sections
+with_item s x = with_item_at (collected x) s (item x).text
+
+-- ---- index spaces
+
+-- how many items a space has, how many of them have names, and the text of those names
+pub record Namespace : Type 0 where
+  pub count : ℕ
+  pub named : ℕ
+  pub names : List ℕ
+
+abbrev pub space_view : ℕ → ℕ → List ℕ → Namespace
+space_view count named names = record { count = count; named = named; names = names }
+
+abbrev pub no_names : Namespace
+no_names = record { count = 0; named = 0; names = [] }
+
+-- so many more items, the first of them with this name or none
+abbrev pub namespace_with : Namespace → ℕ → Option (List ℕ) → Namespace
+namespace_with s number None = record { count = s.count + number; named = s.named; names = s.names }
+namespace_with s number (Some name) = record {
+  count = s.count + number;
+  named = s.named + 1;
+  names = s.names ++ (named (record { place = s.count; name = name })).text;
+}
+
+abbrev pub namespace_at : List Namespace → ℕ → Namespace
+namespace_at spaces k = slice_index_or spaces k no_names
+
+-- ---- a builder
+
+pub record Content : Type 0 where
+  pub sections : Sections
+  pub spaces : List Namespace
+
+-- the spaces, where these places are taken in one of them
+abbrev pub spaces_with : List Namespace → Option Defined → Option (List ℕ) → List Namespace
+spaces_with spaces None name = spaces
+spaces_with spaces (Some d) name = slice_set spaces d.space (namespace_with (namespace_at spaces d.space) d.number name)
+
+-- one more entry
+abbrev pub with_entry : Content → Entry → Content
+with_entry c e = record { sections = with_item c.sections e.item; spaces = spaces_with c.spaces (defines e.item) e.name }
+
+-- an item that is being written: its section's id, its text so far, its space, and what that is with it
+pub record Begun : Type 0 where
+  pub id : ℕ
+  pub text : List ℕ
+  pub space : ℕ
+  pub after : Namespace
+
+pub record State : Type 0 where
+  pub settled : Content
+  pub begun : Option Begun
+
+-- no item is being written
+abbrev pub builder_is_finished : State → Bool
+builder_is_finished s = is_none s.begun
+
+abbrev pub settled_in : Content → State
+settled_in c = record { settled = c; begun = None }
+
+-- what an accepted call does
+abbrev pub step : State → Entry → State
+step s e = settled_in (with_entry s.settled e)
+
+-- what stands alone, with its places and its name or none
+abbrev pub with_alone : Content → Option Defined → Option (List ℕ) → List ℕ → Content
+with_alone c places name text = record { sections = stood_alone c.sections text; spaces = spaces_with c.spaces places name }
+
+-- ---- an item that is being written
+
+abbrev pub content_with : Content → Option Begun → Content
+content_with c None = c
+content_with c (Some b) = record {
+  sections = entered c.sections b.id b.text;
+  spaces = slice_set c.spaces b.space b.after;
+}
+
+-- the content, as it is with that item
+abbrev pub content_of : State → Content
+content_of s = content_with s.settled s.begun
+
+-- how many items a space has, the one that is being written with them
+abbrev pub count_in : State → Space → ℕ
+count_in s space = (namespace_at (content_of s).spaces (space_number space)).count
+
+-- what is to be written: an item of the section with this id, which takes one place in this space
+pub record Draft : Type 0 where
+  pub id : ℕ
+  pub space : ℕ
+  pub name : Option (List ℕ)
+  pub text : List ℕ
+
+abbrev pub draft : ℕ → ℕ → Option (List ℕ) → List ℕ → Draft
+draft id space name text = record { id = id; space = space; name = name; text = text }
+
+-- its place
+abbrev pub draft_place : Draft → Defined
+draft_place d = record { space = d.space; number = 1 }
+
+-- its space, as it is with it
+abbrev pub space_with : State → Draft → Namespace
+space_with s d = namespace_with (namespace_at s.settled.spaces d.space) 1 d.name
+
+abbrev pub begun_with : State → Draft → State
+begun_with s d = record {
+  settled = s.settled;
+  begun = Some (record { id = d.id; text = d.text; space = d.space; after = space_with s d });
+}
+
+abbrev pub longer : Option Begun → List ℕ → Option Begun
+longer None text = None
+longer (Some b) text = Some (record { id = b.id; text = b.text ++ text; space = b.space; after = b.after })
+
+abbrev pub appended : State → List ℕ → State
+appended s text = record { settled = s.settled; begun = longer s.begun text }
+
+abbrev pub ended : State → State
+ended s = settled_in (content_of s)
+
+abbrev pub builder_given_up : State → State
+builder_given_up s = settled_in s.settled

@@ -1,0 +1,56 @@
+-- Why a builder's call is refused.
+use Rattle.std.specs.Prelude.{◌≡◌, ℕ, List, [], ◌∷◌, ◌++◌, ◌+◌, ◌≤◌, ◌^◌, ◌⊎◌, length, Option, Some, None, false}
+use Rattle.wenc_base.specs.Number.{number_size}
+use Rattle.wenc_base.specs.Holder.{content_size}
+use Rattle.wenc_base.specs.declared.fault.Fault.{Fault}
+use Rattle.wenc_base.specs.declared.fault.Fault.TheVariants.{Memory, TooMany, TooLarge, Unfinished}
+use Rattle.wenc_builder.specs.Item.{item_cause}
+use Rattle.wenc_builder.specs.Sections.{runs}
+use Rattle.wenc_builder.specs.Space.{Defined, defines}
+use Rattle.wenc_builder.specs.Entry.{Entry, items}
+use Rattle.wenc_builder.specs.Builder.{OpenSection, Namespace, namespace_at, Content, with_entry, State, builder_is_finished}
+use Rattle.wenc_builder.specs.Holds.{open_of, namespace_of}
+
+-- ---- too much of something
+
+-- too many items, or too many bytes with those of their number
+abbrev pub SectionCause : Option OpenSection → Fault → Type 0
+SectionCause None fault = ⊥
+SectionCause (Some o) (Memory e) = ⊥
+SectionCause (Some o) TooMany = 2 ^ 32 ≤ o.count
+SectionCause (Some o) TooLarge = 2 ^ 32 ≤ content_size o.count (length o.body)
+SectionCause (Some o) Unfinished = ⊥
+
+-- too many items or names, or too many bytes of names with those of their number
+abbrev pub SpaceCause : Namespace → Fault → Type 0
+SpaceCause s (Memory e) = ⊥
+SpaceCause s TooMany = (2 ^ 32 ≤ s.count) ⊎ (2 ^ 32 ≤ s.named)
+SpaceCause s TooLarge = 2 ^ 32 ≤ number_size s.named + length s.names
+SpaceCause s Unfinished = ⊥
+
+-- too much of what the space of these places is
+abbrev pub PlaceCause : (ℕ → Namespace) → Option Defined → Fault → Type 0
+PlaceCause space None fault = ⊥
+PlaceCause space (Some d) fault = SpaceCause (space d.space) fault
+
+-- Adding an item makes too much: of what keeps it from being encoded, of what its space is then, or of what the
+-- open section is then.
+abbrev pub AddingCause : (Fault → Type 0) → (ℕ → Namespace) → Option Defined → Option OpenSection → Fault → Type 0
+AddingCause cause space places current fault = cause fault ⊎ (PlaceCause space places fault ⊎ SectionCause current fault)
+
+-- ---- calls
+
+-- why a call that would leave this content is refused: it makes too much, or an item is being written
+abbrev pub CallCause : State → (Fault → Type 0) → Content → Option Defined → Fault → Type 0
+CallCause old cause after places fault =
+    AddingCause cause (namespace_at after.spaces) places after.sections.current fault
+    ⊎ ((fault ≡ Unfinished) × (builder_is_finished old ≡ false))
+
+-- the same of a call that adds this entry
+abbrev pub EnterCause : State → Entry → Fault → Type 0
+EnterCause old x = CallCause old (item_cause x.item) (with_entry old.settled x) (defines x.item)
+
+-- the cause that x has after these entries
+abbrev pub EntryCause : List Entry → Entry → Fault → Type 0
+EntryCause es x =
+    AddingCause (item_cause x.item) (namespace_of (es ++ x ∷ [])) (defines x.item) (open_of (runs (items (es ++ x ∷ []))))

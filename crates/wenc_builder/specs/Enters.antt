@@ -1,0 +1,56 @@
+-- What a call of a builder does.
+use Rattle.std.specs.Prelude.{◌≡◌, ◌↔◌, ℕ, List, [], ◌∷◌, ◌++◌, Option, Some, None, false, Result, Err, IfOk, OnOk, OnErr, IfErr}
+use Rattle.wenc_base.specs.Fault.{IsWarranted}
+use Rattle.wenc_base.specs.declared.fault.Fault.{Fault}
+use Rattle.wenc_base.specs.declared.fault.Fault.TheVariants.{Unfinished}
+use Rattle.wenc_builder.specs.Space.{Defined, IsPlaceOf}
+use Rattle.wenc_builder.specs.Entry.{Entry, items}
+use Rattle.wenc_builder.specs.Builder.{Content, State, step, settled_in, with_alone, builder_is_finished, namespace_at, Draft, draft_place, begun_with, content_of}
+use Rattle.wenc_builder.specs.Holds.{Holds}
+use Rattle.wenc_builder.specs.Cause.{CallCause, EnterCause}
+
+-- A call adds this entry to every list that was held, where nothing stands against it, and says this of its answer;
+-- or it is refused for a cause and changes nothing. While an item is being written, and only then, it is `Unfinished`.
+pub record EntersWith {R : Type 0} (old new : State) (result : Result R Fault) (x : Entry) (Told : List Entry → R → Type 0) : Type 0 where
+  pub held : (es : List Entry) → Holds old es → IfOk result (λ r. Holds new (es ++ x ∷ []) × Told es r)
+  pub state : OnOk result (new ≡ step old x)
+  pub free : OnOk result ((fault : Fault) → EnterCause old x fault → ⊥)
+  pub err : OnErr result (new ≡ old)
+  pub warranted : IfErr result (IsWarranted (EnterCause old x))
+  pub unfinished : (builder_is_finished old ≡ false) ↔ (result ≡ Err Unfinished)
+
+-- The same, where the answer is the entry's place.
+abbrev pub Enters : State → State → Result ℕ Fault → Entry → Type 0
+Enters old new result x = EntersWith old new result x (λ es i. IsPlaceOf (items es) x.item i)
+
+-- The same, where the entry has no place.
+abbrev pub EntersPlaceless : State → State → Result (Unit {0}) Fault → Entry → Type 0
+EntersPlaceless old new result x = EntersWith old new result x (λ es r. Unit {0})
+
+-- A call takes these places or none, which leaves `next` and would leave this content when it is done, and says this of
+-- its answer; or it is refused for a cause and changes nothing.
+pub record TakesWith {R : Type 0} (old new next : State) (result : Result R Fault) (after : Content) (places : Option Defined) (cause : Fault → Type 0) (Told : R → Type 0) : Type 0 where
+  pub told : IfOk result Told
+  pub ok : OnOk result (new ≡ next)
+  pub free : OnOk result ((fault : Fault) → CallCause old cause after places fault → ⊥)
+  pub err : OnErr result (new ≡ old)
+  pub warranted : IfErr result (IsWarranted (CallCause old cause after places))
+  pub unfinished_first : builder_is_finished old ≡ false → result ≡ Err Unfinished
+
+-- The same where the answer is the number of items in the places' space.
+abbrev pub TakesPlaces : State → State → State → Result ℕ Fault → Content → Defined → (Fault → Type 0) → Type 0
+TakesPlaces old new next result after d cause = TakesWith old new next result after (Some d) cause (λ i. i ≡ (namespace_at old.settled.spaces d.space).count)
+
+-- The same of the place of a draft.
+abbrev pub Takes : State → State → State → Result ℕ Fault → Draft → (Fault → Type 0) → Type 0
+Takes old new next result d cause = TakesPlaces old new next result (content_of (begun_with old d)) (draft_place d) cause
+
+-- The same of what stands alone.
+abbrev pub TakesAlone : State → State → Result ℕ Fault → Defined → Option (List ℕ) → List ℕ → (Fault → Type 0) → Type 0
+TakesAlone old new result d name text cause =
+    TakesPlaces old new (settled_in (with_alone old.settled (Some d) name text)) result (with_alone old.settled (Some d) name text) d cause
+
+-- The same of what stands alone and has no place.
+abbrev pub TakesNoPlace : State → State → Result (Unit {0}) Fault → List ℕ → (Fault → Type 0) → Type 0
+TakesNoPlace old new result text cause =
+    TakesWith old new (settled_in (with_alone old.settled None None text)) result (with_alone old.settled None None text) None cause (λ r. Unit {0})

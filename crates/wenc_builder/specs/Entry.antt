@@ -1,0 +1,86 @@
+-- Items with their debug names.
+use Rattle.std.specs.Prelude.{ℕ, List, [], ◌∷◌, ◌++◌, ◌+◌, map, Option, Some, None, nat_eq, if◌then◌else◌}
+use Rattle.wenc_base.specs.Names.{Named}
+use Rattle.wenc_base.specs.declared.exports.ExportKind.{ExportKind}
+use Rattle.wenc_parts.specs.declared.exports.ComponentExportKind.{ComponentExportKind}
+use Rattle.wenc_parts.specs.declared.imports.ComponentTypeRef.{ComponentTypeRef}
+use Rattle.wenc_parts.specs.Imports.{ExternName}
+use Rattle.wenc_parts.specs.Aliases.{AliasOf, InstanceExport, CoreInstanceExport}
+use Rattle.wenc_canon.specs.Canonicals.{row, Values, Intrinsic, Canonical, Provided}
+use Rattle.wenc_sections.specs.Start.{started}
+use Rattle.wenc_builder.specs.CanonicalNames.{provided_name}
+use Rattle.wenc_builder.specs.Item.{Item, ModuleItem, ComponentItem, AliasItem, CanonItem, StartItem, ImportItem, ExportItem, CustomItem, RawItem}
+use Rattle.wenc_builder.specs.Space.{Defined, defines, defined_in}
+
+pub record Entry : Type 0 where
+  pub item : Item
+  pub name : Option (List ℕ)
+
+abbrev pub entry : Item → Option (List ℕ) → Entry
+entry item name = record { item = item; name = name }
+
+-- ---- the entry of each call
+
+-- an import and an export have the debug name that is their name
+abbrev pub import_entry : ExternName → ComponentTypeRef → Entry
+import_entry name what = entry (ImportItem (record { name = name; what = what })) (Some name.name)
+
+abbrev pub export_entry : ExternName → ComponentExportKind → ℕ → Option ComponentTypeRef → Entry
+export_entry name kind index what =
+    entry (ExportItem (record { name = name; kind = kind; index = index; what = what })) (Some name.name)
+
+abbrev pub alias_entry : Option (List ℕ) → AliasOf → Entry
+alias_entry debug_name to = entry (AliasItem to) debug_name
+
+-- it has the debug name that is the name of the export
+abbrev pub alias_export_entry : ℕ → List ℕ → ComponentExportKind → Entry
+alias_export_entry instance name kind = alias_entry (Some name) (InstanceExport instance kind name)
+
+abbrev pub core_alias_export_entry : Option (List ℕ) → ℕ → List ℕ → ExportKind → Entry
+core_alias_export_entry debug_name instance name kind =
+    alias_entry debug_name (CoreInstanceExport instance kind name)
+
+abbrev pub module_entry : Option (List ℕ) → List ℕ → Entry
+module_entry debug_name bytes = entry (ModuleItem bytes) debug_name
+
+abbrev pub component_entry : Option (List ℕ) → List ℕ → Entry
+component_entry debug_name bytes = entry (ComponentItem bytes) debug_name
+
+abbrev pub canonical_entry : Option (List ℕ) → Canonical → Entry
+canonical_entry debug_name function = entry (CanonItem function) debug_name
+
+-- it has the debug name that is its own
+abbrev pub provided_entry : (i : Intrinsic) → Values (row i).fields → Entry
+provided_entry i values = canonical_entry (Some (provided_name i values)) (Provided i values)
+
+-- none of these has a name
+abbrev pub start_entry : ℕ → List ℕ → ℕ → Entry
+start_entry function arguments results = entry (StartItem (started function arguments results)) None
+
+abbrev pub custom_entry : List ℕ → List ℕ → Entry
+custom_entry name bytes = entry (CustomItem (record { label = name; bytes = bytes })) None
+
+abbrev pub raw_entry : List ℕ → Entry
+raw_entry bytes = entry (RawItem bytes) None
+
+-- ---- lists of entries
+
+abbrev pub items : List Entry → List Item
+items es = map (λ e. e.item) es
+
+abbrev pub named_as : ℕ → Option (List ℕ) → List Named
+named_as n None = []
+named_as n (Some name) = record { place = n; name = name } ∷ []
+
+-- the name of what takes these places, if they are in space k
+abbrev pub named_in : ℕ → Option Defined → ℕ → Option (List ℕ) → List Named
+named_in k None n name = []
+named_in k (Some d) n name = if nat_eq d.space k then named_as n name else []
+
+-- the places and names of the named entries in space k, of which the first has place n
+abbrev pub names_from : ℕ → ℕ → List Entry → List Named
+names_from k n [] = []
+names_from k n (e ∷ es) = named_in k (defines e.item) n e.name ++ names_from k (n + defined_in k e.item) es
+
+abbrev pub names : List Entry → ℕ → List Named
+names es k = names_from k 0 es

@@ -1,0 +1,35 @@
+-- What a builder holds: a list of entries.
+use Rattle.std.specs.Prelude.{◌≡◌, ℕ, List, [], ◌∷◌, ◌<◌, length, Option, Some, None}
+use Rattle.std.specs.List.{flat_map}
+use Rattle.wenc_builder.specs.Item.{Item, item}
+use Rattle.wenc_builder.specs.Sections.{Section, Run, Alone, runs, whole}
+use Rattle.wenc_builder.specs.Space.{place}
+use Rattle.wenc_base.specs.Names.{names_text}
+use Rattle.wenc_builder.specs.Entry.{Entry, items, names}
+use Rattle.wenc_builder.specs.Builder.{OpenSection, Sections, sections_text, Namespace, namespace_at, State}
+
+-- the open section that the last section is, where it collects items
+abbrev pub open_of : List Section → Option OpenSection
+open_of [] = None
+open_of (Run id xs ∷ []) = Some (record { id = id; count = length xs; body = flat_map (λ x. (item x).text) xs })
+open_of (Alone x ∷ []) = None
+open_of (s ∷ t ∷ ss) = open_of (t ∷ ss)
+
+pub record SectionsHold (s : Sections) (xs : List Item) : Type 0 where
+  pub bytes : sections_text s ≡ whole xs
+  pub last : s.current ≡ open_of (runs xs)
+
+-- what the entries make of space k
+abbrev pub namespace_of : List Entry → ℕ → Namespace
+namespace_of es k = record { count = place (items es) k; named = length (names es k); names = names_text (names es k) }
+
+pub record SpacesHold (spaces : List Namespace) (es : List Entry) : Type 0 where
+  pub all : length spaces ≡ 13
+  pub each : (k : ℕ) → k < 13 → namespace_at spaces k ≡ namespace_of es k
+
+-- The bytes are those of the entries' items, the open section is the last one, and each space has what
+-- they define, with their names.
+pub record Holds (s : State) (es : List Entry) : Type 0 where
+  pub finished : s.begun ≡ None
+  pub sections : SectionsHold s.settled.sections (items es)
+  pub spaces : SpacesHold s.settled.spaces es

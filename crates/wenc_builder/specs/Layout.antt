@@ -1,0 +1,194 @@
+-- How a builder's bytes lie in its holder: it keeps the closed bytes and, where a section is open, a gap of 11 bytes;
+-- its members are the items of that section. While an item that opens another section is being written, it keeps
+-- that section too, and a gap behind it, and the item is its only member.
+use Rattle.std.specs.Prelude.{◌≡◌, ℕ, List, [], ◌∷◌, ◌++◌, ◌+◌, ◌-◌, ◌<◌, ◌≤◌, ◌^◌, ◌⊎◌, length, take, drop, Option, Some, None, is_none, false}
+use Rattle.wenc_base.specs.Number.{unsigned_text, number_size}
+use Rattle.wenc_base.specs.Holder.{Held, content_size}
+use Rattle.wenc_base.specs.declared.holder.openings.Opening.{Opening}
+use Rattle.wenc_base.specs.declared.fault.Fault.{Fault}
+use Rattle.wenc_base.specs.Fault.{text_cause}
+use Rattle.wenc_base.specs.Lender.{either}
+use Rattle.wenc_base.specs.declared.fault.Fault.TheVariants.{TooLarge, Unfinished}
+use Rattle.wenc_parts.specs.declared.component.ComponentSectionId.TheVariants as ids
+use Rattle.wenc_parts.specs.SectionIds.{section_number}
+use Rattle.wenc_sections.specs.Component.{preamble}
+use Rattle.wenc_builder.specs.Space.{space_number}
+use Rattle.wenc_builder.specs.Builder.{OpenSection, Sections, sections_text, entered, stood_alone, open_text, Draft, draft}
+use Rattle.wenc_builder.specs.Cause.{SectionCause}
+use Rattle.wenc_builder.specs.declared.builder.space.Space.{Space}
+use Rattle.wenc_builder.specs.declared.builder.kind.Kind.{Kind}
+use Rattle.wenc_builder.specs.declared.builder.kind.Kind.TheVariants.{Alias, CanonicalFunction, Import, Export}
+use Rattle.wenc_builder.specs.declared.builder.earlier.Earlier.{Earlier}
+
+-- the id of the kind's sections
+abbrev pub kind_id : Kind → ℕ
+kind_id Alias = section_number ids.Alias
+kind_id CanonicalFunction = section_number ids.CanonicalFunction
+kind_id Import = section_number ids.Import
+kind_id Export = section_number ids.Export
+
+-- an item of this kind, which takes one place in this space
+abbrev pub draft_of : Kind → Space → Option (List ℕ) → List ℕ → Draft
+draft_of kind space name text = draft (kind_id kind) (space_number space) name text
+
+-- a section's id, the size of what follows the size, and its count
+abbrev pub section_head : ℕ → ℕ → ℕ → List ℕ
+section_head id count size = id ∷ (unsigned_text size ++ unsigned_text count)
+
+-- that of a section that may be open, whose items have so many bytes
+abbrev pub open_head : Option Kind → ℕ → ℕ → List ℕ
+open_head None count body = []
+open_head (Some k) count body = section_head (kind_id k) count (number_size count + body)
+
+-- ---- what a buffer is seen as
+
+-- an item that is being written: its section's id, and its text so far
+pub record Writing : Type 0 where
+  pub id : ℕ
+  pub text : List ℕ
+
+-- settled sections, and the item that is being written behind them
+pub record Buffered : Type 0 where
+  pub settled : Sections
+  pub writing : Option Writing
+
+abbrev pub sections_with : Sections → Option Writing → Sections
+sections_with s None = s
+sections_with s (Some w) = entered s w.id w.text
+
+-- the sections, as they are with that item
+abbrev pub buffered_content : Buffered → Sections
+buffered_content b = sections_with b.settled b.writing
+
+-- the header alone
+abbrev pub nothing_buffered : Buffered
+nothing_buffered = record { settled = record { closed = preamble.text; current = None }; writing = None }
+
+abbrev pub buffer_begun : Buffered → ℕ → Buffered
+buffer_begun b id = record { settled = b.settled; writing = Some (record { id = id; text = [] }) }
+
+-- the open section, with an item of this id begun in it
+abbrev pub section_begun : Buffered → ℕ → Option OpenSection
+section_begun b id = (buffered_content (buffer_begun b id)).current
+
+abbrev pub writing_longer : Option Writing → List ℕ → Option Writing
+writing_longer None text = None
+writing_longer (Some w) text = Some (record { id = w.id; text = w.text ++ text })
+
+abbrev pub buffer_appended : Buffered → List ℕ → Buffered
+buffer_appended b text = record { settled = b.settled; writing = writing_longer b.writing text }
+
+-- the open section, with more bytes of the item
+abbrev pub section_appended : Buffered → List ℕ → Option OpenSection
+section_appended b text = (buffered_content (buffer_appended b text)).current
+
+abbrev pub buffer_ended : Buffered → Buffered
+buffer_ended b = record { settled = buffered_content b; writing = None }
+
+abbrev pub buffer_given_up : Buffered → Buffered
+buffer_given_up b = record { settled = b.settled; writing = None }
+
+-- something that stands alone behind all sections
+abbrev pub buffer_with : Buffered → List ℕ → Buffered
+buffer_with b text = record { settled = stood_alone b.settled text; writing = None }
+
+abbrev pub SectionFits : Option OpenSection → Type 0
+SectionFits None = Unit {0}
+SectionFits (Some o) = content_size o.count (length o.body) < 2 ^ 32
+
+-- an item of the section with this id isn't one of the open section
+abbrev pub OpensAnother : Option OpenSection → ℕ → Type 0
+OpensAnother None id = Unit {0}
+OpensAnother (Some o) id = o.id ≡ id → ⊥
+
+-- ---- the layout
+
+-- so many members of this kind, with these bytes
+abbrev pub open_view : Option Kind → ℕ → List ℕ → Option OpenSection
+open_view None count items = None
+open_view (Some k) count items = Some (record { id = kind_id k; count = count; body = items })
+
+abbrev pub id_of : Option Kind → ℕ
+id_of None = 0
+id_of (Some k) = kind_id k
+
+-- members behind closed bytes, the last of them being written or none
+abbrev pub member_view : List ℕ → Option Kind → ℕ → List ℕ → Option Opening → Buffered
+member_view closed kind count body None = record { settled = record { closed = closed; current = open_view kind count body }; writing = None }
+member_view closed kind count body (Some o) = record {
+  settled = record { closed = closed; current = open_view kind (count - 1) (take o.member_start body) };
+  writing = Some (record { id = id_of kind; text = drop o.member_start body });
+}
+
+-- the section before an item that opens another one
+abbrev pub earlier_view : List ℕ → Earlier → Option OpenSection
+earlier_view kept e = open_view e.kind e.count (drop (e.closed_len + 11) (take e.items_end kept))
+
+-- closed bytes, and the members; or the earlier section and one member
+abbrev pub buffer_view : Held → ℕ → Option Kind → Option Earlier → Buffered
+buffer_view h closed_len kind None = member_view (take closed_len h.kept) kind h.count h.body h.opening
+buffer_view h closed_len kind (Some e) = record {
+  settled = record { closed = take e.closed_len h.kept; current = earlier_view h.kept e };
+  writing = Some (record { id = id_of kind; text = h.body });
+}
+
+-- a gap and its items stand between these two places, where there is a section
+abbrev pub SectionIsIn : Option Kind → ℕ → ℕ → Type 0
+SectionIsIn None closed_len items_end = closed_len ≡ items_end
+SectionIsIn (Some k) closed_len items_end = closed_len + 11 ≤ items_end
+
+-- the kept bytes end with the gap, where there is a section; else there are no members
+abbrev pub MembersAreIn : Option Kind → ℕ → Held → Type 0
+MembersAreIn None closed_len h = (length h.kept ≡ closed_len) × (h.body ≡ []) × (h.opening ≡ None)
+MembersAreIn (Some k) closed_len h = length h.kept ≡ closed_len + 11
+
+-- a member that is being written is one of them
+abbrev pub OpeningIsIn : Option Opening → ℕ → ℕ → Type 0
+OpeningIsIn None count size = Unit {0}
+OpeningIsIn (Some o) count size = (o.member_start ≤ size) × (1 ≤ count)
+
+-- the section of an item that is written behind a gap is another one
+abbrev pub KindIsApart : Option Kind → Earlier → Type 0
+KindIsApart None e = ⊥
+KindIsApart (Some k) e = OpensAnother (open_view e.kind e.count []) (kind_id k)
+
+-- an item behind a gap, and the earlier section before that
+pub record IsApart (h : Held) (kind : Option Kind) (e : Earlier) : Type 0 where
+  pub first : h ≡ record { kept = h.kept; count = 1; body = h.body; opening = Some (record { member_start = 0; lead_end = 0 }) }
+  pub gap : length h.kept ≡ e.items_end + 11
+  pub section : SectionIsIn e.kind e.closed_len e.items_end
+  pub another : KindIsApart kind e
+  pub counted : number_size e.count < 2 ^ 32
+  pub fits : SectionFits (earlier_view h.kept e)
+
+abbrev pub EarlierIsIn : Held → ℕ → Option Kind → Option Earlier → Type 0
+EarlierIsIn h closed_len kind None = MembersAreIn kind closed_len h × OpeningIsIn h.opening h.count (length h.body)
+EarlierIsIn h closed_len kind (Some e) = IsApart h kind e
+
+pub record IsLaidOut (h : Held) (closed_len : ℕ) (kind : Option Kind) (earlier : Option Earlier) : Type 0 where
+  pub places : EarlierIsIn h closed_len kind earlier
+
+-- ---- an item behind a gap
+
+-- how many bytes are kept before the items of a section
+abbrev pub kept_before : Option Kind → ℕ → ℕ
+kept_before None closed_len = closed_len
+kept_before (Some k) closed_len = closed_len + 11
+
+-- the closed bytes with the earlier section behind them
+abbrev pub closed_with : List ℕ → Earlier → List ℕ
+closed_with kept e = take e.closed_len kept ++ open_text (earlier_view kept e)
+
+-- the kept bytes with that section closed, what stood behind it behind it still
+abbrev pub kept_with : List ℕ → Earlier → List ℕ
+kept_with kept e = closed_with kept e ++ drop e.items_end kept
+
+-- ---- why the buffer refuses
+
+-- why all bytes can't be those of a nested component: there are too many, or an item is being written
+abbrev pub NestCause : Buffered → Fault → Type 0
+NestCause b = either (text_cause (sections_text b.settled)) (λ fault. (fault ≡ Unfinished) × (is_none b.writing ≡ false))
+
+-- why no more can be added to an item: for its own cause, or for the section that this would leave
+abbrev pub AppendCause : (Fault → Type 0) → Option OpenSection → Fault → Type 0
+AppendCause cause current fault = cause fault ⊎ ((fault ≡ TooLarge) × SectionCause current TooLarge)

@@ -1,0 +1,13 @@
+pub mod Item
+pub mod Sections
+pub mod Space
+pub mod CanonicalNames
+pub mod Entry
+pub mod Builder
+pub mod Holds
+pub mod Cause
+pub mod Enters
+pub mod Layout
+pub mod Spaces
+pub mod View
+pub mod laws

@@ -1,0 +1,65 @@
+-- Components: items cut into sections, and the sections' texts (component model, binary format, "Component
+-- Definitions").
+use Rattle.std.specs.Prelude.{◌≡◌, ℕ, ◌∷◌, [], List, Option, Some, None, Bool, ◌||◌, IsTrue, nat_eq, if◌then◌else◌}
+use Rattle.wenc_base.specs.Piece.{Spelling, Whole, Form, ◌▸◌, only_where, end, ◌⨾⨾◌}
+use Rattle.wenc_base.specs.Forms.{counted}
+use Rattle.wenc_parts.specs.declared.component.ComponentSectionId.TheVariants as ids
+use Rattle.wenc_parts.specs.SectionIds.{section_number}
+pub use Rattle.wenc_sections.specs.Component.{preamble}
+use Rattle.wenc_builder.specs.Item.{Item, collected, item}
+
+-- neighbours of one collected kind, with their section's id; or an item that is a section of its own
+pub data Section : Type 0 where
+  Run : (id : ℕ) (items : List Item) → Section
+  Alone : (item : Item) → Section
+
+-- an item put in front of sections
+abbrev pub joined : Option ℕ → Item → List Section → List Section
+joined None x ss = Alone x ∷ ss
+joined (Some id) x [] = Run id (x ∷ []) ∷ []
+joined (Some id) x (Alone y ∷ ss) = Run id (x ∷ []) ∷ Alone y ∷ ss
+joined (Some id) x (Run other ys ∷ ss) =
+    if nat_eq id other then Run other (x ∷ ys) ∷ ss else (Run id (x ∷ []) ∷ Run other ys ∷ ss)
+
+-- items cut into sections: neighbours of one collected kind share one
+abbrev pub runs : List Item → List Section
+runs [] = []
+runs (x ∷ xs) = joined (collected x) x (runs xs)
+
+-- ---- texts
+
+-- The ids of the sections that collect items. The others are those of custom sections, core modules, components
+-- and starts.
+abbrev pub collects : ℕ → Bool
+collects id =
+    nat_eq id (section_number ids.CoreInstance)
+    || nat_eq id (section_number ids.CoreType)
+    || nat_eq id (section_number ids.Instance)
+    || nat_eq id (section_number ids.Alias)
+    || nat_eq id (section_number ids.«Type»)
+    || nat_eq id (section_number ids.CanonicalFunction)
+    || nat_eq id (section_number ids.Import)
+    || nat_eq id (section_number ids.Export)
+
+-- an item of the kind that the section with this id collects
+abbrev pub item_of : ℕ → Form Item
+item_of id x = only_where (collected x ≡ Some id) (item x)
+
+abbrev pub section_piece : Form Section
+section_piece (Run id xs) = only_where (IsTrue (collects id)) (id ▸ counted (item_of id) xs)
+section_piece (Alone x) = only_where (collected x ≡ None) (item x)
+
+abbrev pub sections : List Section → Whole
+sections [] = end
+sections (s ∷ ss) = section_piece s ⨾⨾ sections ss
+
+abbrev pub component : List Section → Whole
+component ss = preamble ⨾⨾ sections ss
+
+-- The bytes are a component with these sections, and nothing else.
+abbrev pub Reading : Spelling → List ℕ → List Section → Type 0
+Reading mode bytes ss = (component ss).ReadsAll mode bytes
+
+-- the bytes of the component with these items
+abbrev pub whole : List Item → List ℕ
+whole xs = (component (runs xs)).text

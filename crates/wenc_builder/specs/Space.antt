@@ -1,0 +1,116 @@
+-- Index spaces: which one an item defines in, and the place that it gets (component model, explainer, "Index
+-- Spaces").
+use Rattle.std.specs.Prelude.{◌≡◌, ℕ, ◌+◌, List, [], ◌∷◌, Option, Some, None, nat_eq, if◌then◌else◌}
+use Rattle.wenc_parts.specs.declared.exports.ComponentExportKind.{ComponentExportKind}
+use Rattle.wenc_parts.specs.declared.exports.ComponentExportKind.TheVariants.{Module, Func, Value, «Type» as TypeKind, Instance, Component}
+use Rattle.wenc_base.specs.declared.exports.ExportKind.{ExportKind}
+use Rattle.wenc_base.specs.declared.exports.ExportKind.TheVariants as core_kinds
+use Rattle.wenc_parts.specs.declared.aliases.ComponentOuterAliasKind.{ComponentOuterAliasKind}
+use Rattle.wenc_parts.specs.declared.aliases.ComponentOuterAliasKind.TheVariants as outer_kinds
+use Rattle.wenc_builder.specs.declared.builder.space.Space.{Space}
+use Rattle.wenc_builder.specs.declared.builder.space.Space.TheVariants.{CoreModules, CoreFuncs, CoreTypes, CoreMemories, CoreTables, CoreInstances, CoreTags, CoreGlobals, Funcs, Instances, Values, Components, Types}
+use Rattle.wenc_parts.specs.Imports.{kind_of}
+use Rattle.wenc_parts.specs.Aliases.{AliasOf, InstanceExport, CoreInstanceExport, Outer}
+use Rattle.wenc_canon.specs.Canonicals.{Canonical, Lift, Lower, Provided}
+use Rattle.wenc_builder.specs.Item.{Item, ModuleItem, ComponentItem, AliasItem, CanonItem, StartItem, ImportItem, ExportItem, CustomItem, RawItem}
+
+-- the thirteen spaces by their numbers, in the order in which a builder tells their counts
+abbrev pub space_number : Space → ℕ
+space_number CoreModules = 0
+space_number CoreFuncs = 1
+space_number CoreTypes = 2
+space_number CoreMemories = 3
+space_number CoreTables = 4
+space_number CoreInstances = 5
+space_number CoreTags = 6
+space_number CoreGlobals = 7
+space_number Funcs = 8
+space_number Instances = 9
+space_number Values = 10
+space_number Components = 11
+space_number Types = 12
+
+abbrev pub kind_space : ComponentExportKind → Space
+kind_space Module = CoreModules
+kind_space Func = Funcs
+kind_space Value = Values
+kind_space TypeKind = Types
+kind_space Instance = Instances
+kind_space Component = Components
+
+abbrev pub core_kind_space : ExportKind → Space
+core_kind_space core_kinds.Func = CoreFuncs
+core_kind_space core_kinds.Table = CoreTables
+core_kind_space core_kinds.Memory = CoreMemories
+core_kind_space core_kinds.Global = CoreGlobals
+core_kind_space core_kinds.Tag = CoreTags
+
+abbrev pub outer_kind_space : ComponentOuterAliasKind → Space
+outer_kind_space outer_kinds.CoreModule = CoreModules
+outer_kind_space outer_kinds.CoreType = CoreTypes
+outer_kind_space outer_kinds.«Type» = Types
+outer_kind_space outer_kinds.Component = Components
+
+abbrev pub alias_space : AliasOf → Space
+alias_space (InstanceExport instance kind name) = kind_space kind
+alias_space (CoreInstanceExport instance kind name) = core_kind_space kind
+alias_space (Outer kind count number) = outer_kind_space kind
+
+-- a function that is lifted is one of the component, and any other is a core one
+abbrev pub canonical_space : Canonical → Space
+canonical_space (Lift function options ty) = Funcs
+canonical_space (Lower function options) = CoreFuncs
+canonical_space (Provided i values) = CoreFuncs
+
+-- so many places in this space
+pub record Defined : Type 0 where
+  pub space : ℕ
+  pub number : ℕ
+
+abbrev pub defined_as : Space → ℕ → Defined
+defined_as s number = record { space = space_number s; number = number }
+
+abbrev pub some_in : Space → ℕ → Option Defined
+some_in s number = Some (defined_as s number)
+
+-- the places that an item takes, where it takes any
+abbrev pub defines : Item → Option Defined
+defines (ModuleItem bytes) = some_in CoreModules 1
+defines (ComponentItem bytes) = some_in Components 1
+defines (AliasItem to) = some_in (alias_space to) 1
+defines (CanonItem function) = some_in (canonical_space function) 1
+defines (StartItem start) = some_in Values start.results
+defines (ImportItem import) = some_in (kind_space (kind_of import.what)) 1
+defines (ExportItem export) = some_in (kind_space export.kind) 1
+defines (CustomItem custom) = None
+defines (RawItem bytes) = None
+
+-- how many of these places are in space k
+abbrev pub number_in : ℕ → Option Defined → ℕ
+number_in k None = 0
+number_in k (Some d) = if nat_eq d.space k then d.number else 0
+
+-- how many an item takes in space k
+abbrev pub defined_in : ℕ → Item → ℕ
+defined_in k x = number_in k (defines x)
+
+-- how many the items take in space k: the place there of what comes next
+abbrev pub place : List Item → ℕ → ℕ
+place [] k = 0
+place (x ∷ xs) k = defined_in k x + place xs k
+
+-- This is the first of these places, for an item that comes next.
+abbrev pub IsPlaceAt : List Item → Option Defined → ℕ → Type 0
+IsPlaceAt xs None i = ⊥
+IsPlaceAt xs (Some d) i = i ≡ place xs d.space
+
+abbrev pub IsPlaceOf : List Item → Item → ℕ → Type 0
+IsPlaceOf xs x i = IsPlaceAt xs (defines x) i
+
+-- the first of these places, where there are any
+abbrev pub place_at : List Item → Option Defined → Option ℕ
+place_at xs None = None
+place_at xs (Some d) = Some (place xs d.space)
+
+abbrev pub place_of : List Item → Item → Option ℕ
+place_of xs x = place_at xs (defines x)

@@ -1,0 +1,62 @@
+-- The index spaces with the item that is being written in one of them, and what that was before.
+use Rattle.std.specs.Prelude.{◌≡◌, ℕ, ◌+◌, List, ◌<◌, ◌^◌, length, take, replicate, Option, Some, None, slice_set}
+use Rattle.wenc_base.specs.Number.{number_size}
+use Rattle.wenc_builder.specs.Builder.{Namespace, no_names, namespace_at, namespace_with}
+use Rattle.wenc_builder.specs.declared.builder.spaces.Undo.{Undo}
+
+-- the space that an item is taking a place in, as it is with that item
+pub record Taking : Type 0 where
+  pub space : ℕ
+  pub after : Namespace
+
+-- settled spaces, and the one that an item is taking a place in
+pub record Spaced : Type 0 where
+  pub settled : List Namespace
+  pub taking : Option Taking
+
+abbrev pub empty_spaces : Spaced
+empty_spaces = record { settled = replicate 13 no_names; taking = None }
+
+-- a space with so many more items, the first of them with this name or none
+abbrev pub space_begun : Spaced → ℕ → ℕ → Option (List ℕ) → Namespace
+space_begun s space number name = namespace_with (namespace_at s.settled space) number name
+
+abbrev pub spaces_begun : Spaced → ℕ → ℕ → Option (List ℕ) → Spaced
+spaces_begun s space number name = record {
+  settled = s.settled;
+  taking = Some (record { space = space; after = space_begun s space number name });
+}
+
+abbrev pub taken : List Namespace → Option Taking → List Namespace
+taken spaces None = spaces
+taken spaces (Some t) = slice_set spaces t.space t.after
+
+-- how many items a space has, the one that is being written with them
+abbrev pub count_at : Spaced → ℕ → ℕ
+count_at s space = (namespace_at (taken s.settled s.taking) space).count
+
+abbrev pub spaces_ended : Spaced → Spaced
+spaces_ended s = record { settled = taken s.settled s.taking; taking = None }
+
+abbrev pub spaces_given_up : Spaced → Spaced
+spaces_given_up s = record { settled = s.settled; taking = None }
+
+-- ---- what an item's space was
+
+abbrev pub NamesFit : Namespace → Type 0
+NamesFit s = number_size s.named + length s.names < 2 ^ 32
+
+-- what the undo record says of a space with these names
+abbrev pub before : Undo → List ℕ → Namespace
+before u names = record { count = u.count; named = u.named; names = take u.len names }
+
+abbrev pub spaced_view : List Namespace → Option Undo → Spaced
+spaced_view spaces None = record { settled = spaces; taking = None }
+spaced_view spaces (Some u) = record {
+  settled = slice_set spaces u.space (before u (namespace_at spaces u.space).names);
+  taking = Some (record { space = u.space; after = namespace_at spaces u.space });
+}
+
+abbrev pub CanUndo : List Namespace → Option Undo → Type 0
+CanUndo spaces None = length spaces ≡ 13
+CanUndo spaces (Some u) = (length spaces ≡ 13) × (u.space < 13) × NamesFit (before u (namespace_at spaces u.space).names)

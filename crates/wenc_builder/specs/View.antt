@@ -1,0 +1,23 @@
+-- A builder's state, by those of its buffer and its spaces.
+use Rattle.std.specs.Prelude.{Option, Some, None}
+use Rattle.wenc_builder.specs.Builder.{Begun, State}
+use Rattle.wenc_builder.specs.Layout.{Writing, Buffered}
+use Rattle.wenc_builder.specs.Spaces.{Taking, Spaced}
+
+-- an item is being written in both, or in none
+abbrev pub Agree : Option Writing → Option Taking → Type 0
+Agree None None = Unit {0}
+Agree None (Some t) = ⊥
+Agree (Some w) None = ⊥
+Agree (Some w) (Some t) = Unit {0}
+
+abbrev pub begun_of : Option Writing → Option Taking → Option Begun
+begun_of None t = None
+begun_of (Some w) None = None
+begun_of (Some w) (Some t) = Some (record { id = w.id; text = w.text; space = t.space; after = t.after })
+
+abbrev pub builder_view : Buffered → Spaced → State
+builder_view b s = record {
+  settled = record { sections = b.settled; spaces = s.settled };
+  begun = begun_of b.writing s.taking;
+}

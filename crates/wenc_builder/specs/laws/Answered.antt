@@ -1,0 +1,59 @@
+-- What a call did, by the list that was held.
+use Rattle.std.proofs.Common.{◌≡◌, ℕ, inl, inr, List, [], ◌∷◌, ◌++◌, Option, Some, None, refl, Result, Ok, Err, sym, ap, subst}
+use Rattle.std.specs.Result.{MatchResult}
+use Rattle.wenc_base.specs.Fault.{IsWarranted}
+use Rattle.wenc_base.specs.declared.fault.Fault.{Fault}
+use Rattle.wenc_base.specs.laws.Causes.{still_warranted}
+use Rattle.wenc_builder.specs.Item.{Item, item_cause}
+use Rattle.wenc_builder.specs.Sections.{runs}
+use Rattle.wenc_builder.specs.Space.{Defined, defines, IsPlaceAt, place_at, place_of}
+use Rattle.wenc_builder.specs.Entry.{Entry, items}
+use Rattle.wenc_builder.specs.Builder.{OpenSection, Namespace, namespace_at, with_entry, State}
+use Rattle.wenc_builder.specs.Holds.{open_of, namespace_of, Holds}
+use Rattle.wenc_builder.specs.Cause.{SectionCause, SpaceCause, PlaceCause, AddingCause, EnterCause, EntryCause}
+use Rattle.wenc_builder.specs.Enters.{Enters}
+use Rattle.wenc_builder.specs.laws.Step.{holds_step, places_within}
+
+-- what the content with one more entry is, by the list that is held then
+current_is : (old : State) (es : List Entry) (x : Entry) → Holds old es → (with_entry old.settled x).sections.current ≡ open_of (runs (items (es ++ x ∷ [])))
+current_is old es x h = (holds_step old es x h).sections.last
+
+-- the spaces agree at these places
+abbrev Agrees : (ℕ → Namespace) → (ℕ → Namespace) → Option Defined → Type 0
+Agrees one other None = Unit {0}
+Agrees one other (Some d) = one d.space ≡ other d.space
+
+space_is : (old : State) (es : List Entry) (x : Entry) (o : Option Defined) → defines x.item ≡ o → Holds old es
+    → Agrees (namespace_at (with_entry old.settled x).spaces) (namespace_of (es ++ x ∷ [])) o
+space_is old es x None e h = tt
+space_is old es x (Some d) e h = (holds_step old es x h).spaces.each d.space (places_within x.item d e)
+
+backwards : (one other : ℕ → Namespace) (d : Option Defined) → Agrees one other d → Agrees other one d
+backwards one other None e = tt
+backwards one other (Some d) e = sym e
+
+place_moved : (one other : ℕ → Namespace) (d : Option Defined) (f : Fault) → Agrees one other d → PlaceCause one d f → PlaceCause other d f
+place_moved one other None f e c = c
+place_moved one other (Some d) f e c = subst (λ (n : Namespace). SpaceCause n f) e c
+
+moved : (cause : Fault → Type 0) (s t : ℕ → Namespace) (d : Option Defined) (o p : Option OpenSection) (f : Fault) → Agrees s t d → o ≡ p → AddingCause cause s d o f → AddingCause cause t d p f
+moved cause s t d o p f e q (inl c) = inl c
+moved cause s t d o p f e q (inr (inl c)) = inr (inl (place_moved s t d f e c))
+moved cause s t d o p f e q (inr (inr c)) = inr (inr (subst (λ (n : Option OpenSection). SectionCause n f) q c))
+
+-- the call's cause is the entry's
+to_entry : (old : State) (es : List Entry) (x : Entry) → Holds old es → (f : Fault) → EnterCause old x f → EntryCause es x f
+to_entry old es x h f (inl c) = moved (item_cause x.item) _ _ _ _ _ f (space_is old es x _ refl h) (current_is old es x h) c
+to_entry old es x h f (inr c) = let none : old.begun ≡ None = h.finished in let some = c.1 in cc
+
+from_entry : (old : State) (es : List Entry) (x : Entry) → Holds old es → (f : Fault) → EntryCause es x f → EnterCause old x f
+from_entry old es x h f c = inl (moved (item_cause x.item) _ _ _ _ _ f (backwards _ _ _ (space_is old es x _ refl h)) (sym (current_is old es x h)) c)
+
+place_is : (xs : List Item) (d : Option Defined) (i : ℕ) → IsPlaceAt xs d i → Some i ≡ place_at xs d
+place_is xs None i p = absurd p
+place_is xs (Some d) i p = ap (λ (n : ℕ). Some n) p
+
+pub answered : (old new : State) (result : Result ℕ Fault) (x : Entry) (es : List Entry) → Enters old new result x → Holds old es
+    → MatchResult result (λ i. Holds new (es ++ x ∷ []) × (Some i ≡ place_of (items es) x.item) × ((fault : Fault) → EntryCause es x fault → ⊥)) (λ fault. Holds new es × IsWarranted (EntryCause es x) fault)
+answered old new (Ok i) x es e h = ((e.held es h).0, place_is (items es) (defines x.item) i (e.held es h).1, λ fault c. e.free fault (from_entry old es x h fault c))
+answered old new (Err fault) x es e h = (rw e.err h, still_warranted _ _ (to_entry old es x h) fault e.warranted)

@@ -1,0 +1,533 @@
+ghost use Rattle.std.specs.Prelude.{◌≡◌, ◌↔◌, [], List, IfOk, IfErr, OnOk, OnErr, IsOk, IsTrue, Some, None, Err, false};
+ghost use Rattle.std.specs.Option.{option_copied};
+ghost use Rattle.wenc_base.specs.Fault.{IsMemory, IsWarranted};
+ghost use Rattle.wenc_base.specs.Lender.{GivesUp};
+ghost use Rattle.wenc_base.specs.declared.fault.Fault.{Fault as FaultSpec};
+ghost use Rattle.wenc_base.specs.declared.fault.Fault.TheVariants.{Unfinished};
+ghost use Rattle.wenc_parts.specs.Imports.{extern_name_view};
+ghost use Rattle.wenc_parts.specs.Aliases.{alias_view};
+ghost use Rattle.wenc_canon.specs.CanonTrees.{canon_view};
+ghost use Rattle.wenc_builder.specs.Sections.{whole};
+ghost use Rattle.wenc_builder.specs.Entry.{Entry, items, module_entry, component_entry, canonical_entry, start_entry, custom_entry, raw_entry};
+ghost use Rattle.wenc_builder.specs.Entry.{import_entry, export_entry, alias_entry, alias_export_entry, core_alias_export_entry};
+ghost use Rattle.wenc_builder.specs.Builder.{builder_is_finished, count_in, begun_with, appended, ended, builder_given_up, content_of};
+ghost use Rattle.wenc_builder.specs.Holds.{Holds};
+ghost use Rattle.wenc_builder.specs.Cause.{SectionCause};
+ghost use Rattle.wenc_builder.specs.Enters.{Enters, EntersPlaceless, Takes, TakesAlone, TakesNoPlace};
+ghost use Rattle.wenc_builder.specs.Space.{defined_as, canonical_space};
+ghost use Rattle.wenc_builder.specs.Layout.{draft_of, AppendCause};
+
+mod buffer;
+mod canonicals;
+mod earlier;
+mod flush;
+mod kind;
+mod namespace;
+mod nested;
+mod space;
+mod spaces;
+
+use buffer::Buffer;
+use kind::Kind;
+use nested::Nested;
+use space::Space;
+use spaces::Spaces;
+use std::alloc::{Allocator, Global};
+use std::marker::Model;
+use wenc_base::{CustomSection, Encode, ExportKind, Fault, Module, RawCustomSection, Tagged};
+use wenc_canon::CanonTree;
+use wenc_parts::{
+    Alias, ComponentExportKind, ComponentExternName, ComponentSectionId, ComponentTypeRef,
+};
+use wenc_sections::ComponentStartSection;
+
+/// Builds a component call by call: collects neighbours of one kind in one section, and hands out the
+/// index of each item. A refused call changes nothing, and the next one goes on as if it had not been made.
+///
+/// ```
+/// let mut builder = ComponentBuilder::new(alloc)?;
+/// let index = builder.import("f".into(), ComponentTypeRef::Func(0))?;
+/// builder.export("g".into(), ComponentExportKind::Func, index, None)?;
+/// let bytes = builder.finish()?;
+/// ```
+#[derive(Drop)]
+pub struct ComponentBuilder<A: Allocator = Global> {
+    buffer: Buffer<A>,
+    spaces: Spaces<A>,
+}
+
+impl<A: Allocator> Model for ComponentBuilder<A> {
+    ghost use Rattle.wenc_builder.specs.Builder.{State};
+    ghost use Rattle.wenc_builder.specs.View.{Agree, builder_view};
+
+    ghost Value = { State };
+
+    ghost view = { λ b. builder_view b.buffer b.spaces };
+
+    ghost invariant = { λ b. Agree b.buffer.writing b.spaces.taking };
+}
+
+impl<A: Allocator> ComponentBuilder<A> {
+    /// A component without items. It is refused for want of memory alone.
+    pub fn new(alloc: A) -> Result<Self, Fault>
+    where
+        A: Copy,
+        ensures held { IfOk result (λ b. Holds b []) }
+        ensures refused { IfErr result IsMemory }
+    {
+        Ok(ComponentBuilder {
+            buffer: Buffer::new(alloc)?,
+            spaces: Spaces::new(alloc)?,
+        })
+    }
+
+    /// The number of core modules so far.
+    pub fn core_module_count(&self) -> u32
+        ensures { result ≡ count_in self.now Space.CoreModules }
+    {
+        self.spaces.count(Space::CoreModules)
+    }
+
+    /// The number of core functions so far.
+    pub fn core_func_count(&self) -> u32
+        ensures { result ≡ count_in self.now Space.CoreFuncs }
+    {
+        self.spaces.count(Space::CoreFuncs)
+    }
+
+    /// The number of core types so far.
+    pub fn core_type_count(&self) -> u32
+        ensures { result ≡ count_in self.now Space.CoreTypes }
+    {
+        self.spaces.count(Space::CoreTypes)
+    }
+
+    /// The number of core memories so far.
+    pub fn core_memory_count(&self) -> u32
+        ensures { result ≡ count_in self.now Space.CoreMemories }
+    {
+        self.spaces.count(Space::CoreMemories)
+    }
+
+    /// The number of core tables so far.
+    pub fn core_table_count(&self) -> u32
+        ensures { result ≡ count_in self.now Space.CoreTables }
+    {
+        self.spaces.count(Space::CoreTables)
+    }
+
+    /// The number of core instances so far.
+    pub fn core_instance_count(&self) -> u32
+        ensures { result ≡ count_in self.now Space.CoreInstances }
+    {
+        self.spaces.count(Space::CoreInstances)
+    }
+
+    /// The number of core tags so far.
+    pub fn core_tag_count(&self) -> u32
+        ensures { result ≡ count_in self.now Space.CoreTags }
+    {
+        self.spaces.count(Space::CoreTags)
+    }
+
+    /// The number of core globals so far.
+    pub fn core_global_count(&self) -> u32
+        ensures { result ≡ count_in self.now Space.CoreGlobals }
+    {
+        self.spaces.count(Space::CoreGlobals)
+    }
+
+    /// The number of functions so far.
+    pub fn func_count(&self) -> u32
+        ensures { result ≡ count_in self.now Space.Funcs }
+    {
+        self.spaces.count(Space::Funcs)
+    }
+
+    /// The number of instances so far.
+    pub fn instance_count(&self) -> u32
+        ensures { result ≡ count_in self.now Space.Instances }
+    {
+        self.spaces.count(Space::Instances)
+    }
+
+    /// The number of values so far.
+    pub fn value_count(&self) -> u32
+        ensures { result ≡ count_in self.now Space.Values }
+    {
+        self.spaces.count(Space::Values)
+    }
+
+    /// The number of components so far.
+    pub fn component_count(&self) -> u32
+        ensures { result ≡ count_in self.now Space.Components }
+    {
+        self.spaces.count(Space::Components)
+    }
+
+    /// The number of types so far.
+    pub fn type_count(&self) -> u32
+        ensures { result ≡ count_in self.now Space.Types }
+    {
+        self.spaces.count(Space::Types)
+    }
+
+    /// Begins an item, which `give_up` takes back until it is ended. Answers its index.
+    fn begin(&mut self, kind: Kind, space: Space, name: Option<&str>) -> Result<u32, Fault>
+        ensures { Takes self.old self.new
+            (begun_with self.old (draft_of kind space (option_copied name.entry) []))
+            result (draft_of kind space (option_copied name.entry) []) (λ _. ⊥) }
+    {
+        if !self.buffer.is_finished() {
+            return Err(Fault::Unfinished);
+        }
+        match self.spaces.begin(space, 1, name) {
+            Err(fault) => Err(fault),
+            Ok(index) => {
+                if let Err(fault) = self.buffer.begin(kind) {
+                    self.spaces.give_up();
+                    return Err(fault);
+                }
+                Ok(index)
+            }
+        }
+    }
+
+    /// Appends the text of a value to the item that is being written.
+    fn append<E: Encode>(&mut self, value: &E) -> Result<(), Fault>
+        requires { builder_is_finished self.old ≡ false }
+        ensures ok { OnOk result (self.new ≡ appended self.old (E.text value.now)) }
+        ensures free { OnOk result ((fault : FaultSpec) → AppendCause (E.cause value.now)
+            (content_of (appended self.old (E.text value.now))).sections.current fault → ⊥) }
+        ensures err { OnErr result (self.new ≡ self.old) }
+        ensures warranted { IfErr result (IsWarranted (AppendCause (E.cause value.now)
+            (content_of (appended self.old (E.text value.now))).sections.current)) }
+    {
+        self.buffer.append(value)
+    }
+
+    /// Ends the item that is being written. It takes no memory.
+    fn end(&mut self)
+        requires { builder_is_finished self.old ≡ false }
+        ensures { self.new ≡ ended self.old }
+    {
+        self.buffer.end();
+        self.spaces.end();
+    }
+
+    /// Gives up the item that is being written. It takes no memory.
+    fn give_up(&mut self)
+        requires { builder_is_finished self.old ≡ false }
+        ensures { self.new ≡ builder_given_up self.old }
+    {
+        self.buffer.give_up();
+        self.spaces.give_up();
+    }
+
+    /// Adds an item in one go, with a debug name or none. Answers its index.
+    fn add<E: Encode>(
+        &mut self,
+        kind: Kind,
+        space: Space,
+        name: Option<&str>,
+        item: &E,
+    ) -> Result<u32, Fault>
+        ensures { Takes self.old self.new (ended (begun_with self.old
+            (draft_of kind space (option_copied name.entry) (E.text item.now))))
+            result (draft_of kind space (option_copied name.entry) (E.text item.now))
+            (E.cause item.now) }
+    {
+        let index = match self.begin(kind, space, name) {
+            Ok(index) => index,
+            Err(fault) => return Err(fault),
+        };
+        match self.append(item) {
+            Ok(()) => {
+                self.end();
+                Ok(index)
+            }
+            Err(fault) => {
+                self.give_up();
+                Err(fault)
+            }
+        }
+    }
+
+    /// Adds what stands alone, with so many places in a space, of which the first has a debug name or none. Answers
+    /// the index of that.
+    fn stand_alone<E: Encode>(
+        &mut self,
+        space: Space,
+        number: u32,
+        name: Option<&str>,
+        section: &E,
+    ) -> Result<u32, Fault>
+        ensures { TakesAlone self.old self.new result (defined_as space number)
+            (option_copied name.entry) (E.text section.now) (E.cause section.now) }
+    {
+        if !self.buffer.is_finished() {
+            return Err(Fault::Unfinished);
+        }
+        match self.spaces.begin(space, number, name) {
+            Err(fault) => Err(fault),
+            Ok(index) => match self.buffer.stand_alone(section) {
+                Ok(()) => {
+                    self.spaces.end();
+                    Ok(index)
+                }
+                Err(fault) => {
+                    self.spaces.give_up();
+                    Err(fault)
+                }
+            },
+        }
+    }
+
+    /// Adds what stands alone and has no place.
+    fn place_nowhere<E: Encode>(&mut self, section: &E) -> Result<(), Fault>
+        ensures { TakesNoPlace self.old self.new result (E.text section.now) (E.cause section.now) }
+    {
+        if !self.buffer.is_finished() {
+            return Err(Fault::Unfinished);
+        }
+        self.buffer.stand_alone(section)
+    }
+
+    /// Adds a function that gives a core one, with this debug name. Answers its index.
+    fn provide(&mut self, name: &str, function: &CanonTree) -> Result<u32, Fault>
+        requires { canonical_space (canon_view function.now) ≡ Space.CoreFuncs }
+        ensures { Enters self.old self.new result
+            (canonical_entry (Some name.now) (canon_view function.now)) }
+    {
+        self.add(
+            Kind::CanonicalFunction,
+            Space::CoreFuncs,
+            Some(name),
+            function,
+        )
+    }
+
+    /// Adds a core module, with a debug name or none, and answers its index. Refused as the type says.
+    pub fn core_module<B: Allocator>(
+        &mut self,
+        debug_name: Option<&str>,
+        module: &Module<B>,
+    ) -> Result<u32, Fault>
+        ensures { Enters self.old self.new result
+            (module_entry (option_copied debug_name.entry) «module».now) }
+    {
+        self.core_module_raw(debug_name, module.as_slice())
+    }
+
+    /// Adds the core module with these bytes, with a debug name or none, and answers its index. Nothing checks that
+    /// they are a module's. Refused as the type says.
+    pub fn core_module_raw(&mut self, debug_name: Option<&str>, bytes: &[u8]) -> Result<u32, Fault>
+        ensures { Enters self.old self.new result
+            (module_entry (option_copied debug_name.entry) bytes.now) }
+    {
+        let section = Tagged(ComponentSectionId::CoreModule.into(), &bytes);
+        self.stand_alone(Space::CoreModules, 1, debug_name, &section)
+    }
+
+    /// Adds an alias of an export of a core instance, with a debug name or none, and answers its index
+    /// (component model, binary format, "Alias Definitions").
+    pub fn core_alias_export(
+        &mut self,
+        debug_name: Option<&str>,
+        instance: u32,
+        name: &str,
+        kind: ExportKind,
+    ) -> Result<u32, Fault>
+        ensures { Enters self.old self.new result
+            (core_alias_export_entry (option_copied debug_name.entry) instance name.now kind) }
+    {
+        let alias = Alias::CoreInstanceExport {
+            instance,
+            kind,
+            name,
+        };
+        self.alias(debug_name, alias)
+    }
+
+    /// Adds an alias, with a debug name or none, and answers its index. It takes a place in the space of
+    /// what it stands for (component model, binary format, "Alias Definitions").
+    pub fn alias(&mut self, debug_name: Option<&str>, alias: Alias<'_>) -> Result<u32, Fault>
+        ensures { Enters self.old self.new result
+            (alias_entry (option_copied debug_name.entry) (alias_view alias.entry)) }
+    {
+        self.add(Kind::Alias, Space::of_alias(&alias), debug_name, &alias)
+    }
+
+    /// Adds an alias of an export of a component instance, with the export's name as its debug name, and
+    /// answers its index (component model, binary format, "Alias Definitions").
+    pub fn alias_export(
+        &mut self,
+        instance: u32,
+        name: &str,
+        kind: ComponentExportKind,
+    ) -> Result<u32, Fault>
+        ensures { Enters self.old self.new result (alias_export_entry instance name.now kind) }
+    {
+        let alias = Alias::InstanceExport {
+            instance,
+            kind,
+            name,
+        };
+        self.alias(Some(name), alias)
+    }
+
+    /// Imports an item under this name, and answers its index (component model, binary format, "Import and
+    /// Export Definitions").
+    pub fn import<B: Allocator>(
+        &mut self,
+        name: ComponentExternName<'_, B>,
+        ty: ComponentTypeRef,
+    ) -> Result<u32, Fault>
+        ensures { Enters self.old self.new result (import_entry (extern_name_view name.entry) ty) }
+    {
+        let import = (name, ty);
+        let name = import.0.name.as_str();
+        self.add(Kind::Import, Space::from(ty.kind()), Some(name), &import)
+    }
+
+    /// Exports the item of this kind with this index under this name, with a type or none, and answers the
+    /// index of the export (component model, binary format, "Import and Export Definitions").
+    pub fn export<B: Allocator>(
+        &mut self,
+        name: ComponentExternName<'_, B>,
+        kind: ComponentExportKind,
+        index: u32,
+        ty: Option<ComponentTypeRef>,
+    ) -> Result<u32, Fault>
+        ensures { Enters self.old self.new result
+            (export_entry (extern_name_view name.entry) kind index ty) }
+    {
+        let export = (name, (kind, (index, ty)));
+        let name = export.0.name.as_str();
+        self.add(Kind::Export, Space::from(kind), Some(name), &export)
+    }
+
+    /// Adds what another builder holds as a nested component, with a debug name or none, and answers its index. That
+    /// builder is given up, also where the call is refused: as the type says, and where either is unfinished
+    /// (`Unfinished`).
+    pub fn component<B: Allocator>(
+        &mut self,
+        debug_name: Option<&str>,
+        component: ComponentBuilder<B>,
+    ) -> Result<u32, Fault>
+        ensures entered { (es : List Entry) → Holds component es → Enters self.old self.new result
+            (component_entry (option_copied debug_name.entry) (whole (items es))) }
+        ensures unfinished { builder_is_finished component ≡ false → result ≡ Err Unfinished }
+        ensures err { OnErr result (self.new ≡ self.old) }
+    {
+        self.component_ref(debug_name, &component)
+    }
+
+    /// Adds what another builder holds as a nested component, with a debug name or none, and answers its index. The
+    /// other builder stays as it is, and may be used again. Refused as the type says, and where either is unfinished
+    /// (`Unfinished`).
+    pub fn component_ref<B: Allocator>(
+        &mut self,
+        debug_name: Option<&str>,
+        component: &ComponentBuilder<B>,
+    ) -> Result<u32, Fault>
+        ensures entered { (es : List Entry) → Holds component.now es
+            → Enters self.old self.new result
+            (component_entry (option_copied debug_name.entry) (whole (items es))) }
+        ensures unfinished { builder_is_finished component.now ≡ false
+            → result ≡ Err Unfinished }
+        ensures err { OnErr result (self.new ≡ self.old) }
+    {
+        if !component.is_finished() {
+            return Err(Fault::Unfinished);
+        }
+        let nested = Nested(&component.buffer);
+        let section = Tagged(ComponentSectionId::Component.into(), &nested);
+        self.stand_alone(Space::Components, 1, debug_name, &section)
+    }
+
+    /// Adds the component with these bytes, with a debug name or none, and answers its index. Nothing checks that they
+    /// are a component's. Refused as the type says.
+    pub fn component_raw(
+        &mut self,
+        debug_name: Option<&str>,
+        component: &[u8],
+    ) -> Result<u32, Fault>
+        ensures { Enters self.old self.new result
+            (component_entry (option_copied debug_name.entry) component.now) }
+    {
+        let section = Tagged(ComponentSectionId::Component.into(), &component);
+        self.stand_alone(Space::Components, 1, debug_name, &section)
+    }
+
+    /// Has a function called with these values when the component is instantiated. Answers the number of values so
+    /// far, which is the index of the first result (component model, binary format, "Start Definitions"). Refused as
+    /// the type says.
+    pub fn start<B: Allocator>(
+        &mut self,
+        function_index: u32,
+        args: Vec<u32, B>,
+        results: u32,
+    ) -> Result<u32, Fault>
+        ensures { Enters self.old self.new result
+            (start_entry function_index args.items results) }
+    {
+        let start = ComponentStartSection {
+            function_index,
+            args,
+            results,
+        };
+        let section = Tagged(ComponentSectionId::Start.into(), &start);
+        self.stand_alone(Space::Values, results, None, &section)
+    }
+
+    /// Adds a custom section. Refused as the type says.
+    pub fn custom_section(&mut self, section: &CustomSection<'_>) -> Result<(), Fault>
+        ensures { EntersPlaceless self.old self.new result
+            (custom_entry section.now.name.now section.now.data.now) }
+    {
+        self.place_nowhere(&Tagged(ComponentSectionId::CoreCustom.into(), section))
+    }
+
+    /// Adds a custom section with these bytes behind its id. Nothing checks that they are such a section's. Refused as
+    /// the type says.
+    pub fn raw_custom_section(&mut self, section: &[u8]) -> Result<(), Fault>
+        ensures { EntersPlaceless self.old self.new result (raw_entry section.now) }
+    {
+        let raw = RawCustomSection(section);
+        self.place_nowhere(&Tagged(ComponentSectionId::CoreCustom.into(), &raw))
+    }
+
+    /// Whether no item is being written.
+    pub fn is_finished(&self) -> bool
+        ensures { result ≡ builder_is_finished self.now }
+    {
+        self.buffer.is_finished()
+    }
+
+    /// Gives up the item that is being written, with its index, its debug name and its place in a section, and says
+    /// whether there was one. It takes no memory.
+    pub fn discard_unfinished(&mut self) -> bool
+        ensures { GivesUp self.new (builder_given_up self.old) (builder_is_finished self.old) result }
+    {
+        if self.is_finished() {
+            return false;
+        }
+        self.give_up();
+        true
+    }
+
+    /// All bytes of the component. It takes no memory, and is refused only while an item is unfinished.
+    pub fn finish(self) -> Result<Vec<u8, A>, Fault>
+        ensures held { (es : List Entry) → Holds self es
+            → IfOk result (λ v. v.items ≡ whole (items es)) }
+        ensures ok { IsOk result ↔ IsTrue (builder_is_finished self) }
+        ensures fault { IfErr result (λ fault. fault ≡ Fault.Unfinished) }
+    {
+        if !self.buffer.is_finished() {
+            return Err(Fault::Unfinished);
+        }
+        let ComponentBuilder { buffer, spaces: _ } = self;
+        Ok(buffer.finish())
+    }
+}

@@ -1,0 +1,218 @@
+ghost use Rattle.std.specs.Prelude.{◌≡◌, OnOk, OnErr, IfOk, IfErr, is_none, None, false};
+ghost use Rattle.wenc_base.specs.Delimited.{NoCause};
+ghost use Rattle.wenc_base.specs.Encode.{Appends};
+ghost use Rattle.wenc_base.specs.Forms.{byte_list};
+ghost use Rattle.wenc_base.specs.Fault.{IsMemory, IsWarranted};
+ghost use Rattle.wenc_base.specs.declared.fault.Fault.{Fault as FaultSpec};
+ghost use Rattle.wenc_builder.specs.Builder.{sections_text};
+ghost use Rattle.wenc_builder.specs.Cause.{SectionCause};
+ghost use Rattle.wenc_builder.specs.Layout.{kind_id, OpensAnother, nothing_buffered, buffer_begun, section_begun, buffer_appended, section_appended, buffer_ended, buffer_given_up, buffer_with, AppendCause, NestCause};
+
+use super::earlier::Earlier;
+use super::flush::{GAP, close_earlier, open_head, section_head};
+use super::kind::Kind;
+use std::alloc::{Allocator, Global};
+use std::marker::Model;
+use wenc_base::{Encode, Fault, Holder, Short, Verbatim, extend_in_room};
+use wenc_sections::Component;
+
+/// All sections of a component in one holder: it keeps the closed bytes and a gap, and its members are the
+/// items of the open section.
+#[derive(Drop)]
+pub struct Buffer<A: Allocator = Global> {
+    holder: Holder<A>,
+    /// How many bytes are closed.
+    closed_len: usize,
+    /// The kind of the members, where there is a section.
+    kind: Option<Kind>,
+    /// What was there before an item that opens another section, while that is being written.
+    earlier: Option<Earlier>,
+}
+
+impl<A: Allocator> Model for Buffer<A> {
+    ghost use Rattle.wenc_builder.specs.Layout.{Buffered};
+
+    ghost Value = { Buffered };
+
+    ghost use Rattle.wenc_builder.specs.Layout.{buffer_view, IsLaidOut};
+
+    ghost view = { λ b. buffer_view b.holder b.closed_len b.kind b.earlier };
+
+    ghost invariant = { λ b. IsLaidOut b.holder b.closed_len b.kind b.earlier };
+}
+
+impl<A: Allocator> Buffer<A> {
+    /// The header of a component, and no section.
+    #[tactic(auto, using(wenc_base::proofs::Groups::size_1))]
+    pub fn new(alloc: A) -> Result<Self, Fault>
+        ensures ok { IfOk result (λ b. b ≡ nothing_buffered) }
+        ensures refused { IfErr result IsMemory }
+    {
+        let bytes = Component::new(alloc)?.finish();
+        let closed_len = bytes.len();
+        Ok(Buffer {
+            holder: Holder::over(bytes, closed_len, 0),
+            closed_len,
+            kind: None,
+            earlier: None,
+        })
+    }
+
+    /// Whether no item is being written.
+    pub fn is_finished(&self) -> bool
+        ensures { result ≡ is_none self.now.writing }
+    {
+        self.holder.is_finished()
+    }
+
+    /// Begins an item of this kind.
+    pub fn begin(&mut self, kind: Kind) -> Result<(), Fault>
+        requires { self.old.writing ≡ None }
+        ensures ok { OnOk result (self.new ≡ buffer_begun self.old (kind_id kind)) }
+        ensures free { OnOk result ((fault : FaultSpec)
+            → SectionCause (section_begun self.old (kind_id kind)) fault → ⊥) }
+        ensures err { OnErr result (self.new ≡ self.old) }
+        ensures warranted { IfErr result (IsWarranted
+            (SectionCause (section_begun self.old (kind_id kind)))) }
+    {
+        match self.kind {
+            Some(open) => {
+                if open.id() != kind.id() {
+                    return self.begin_apart(kind);
+                }
+                self.holder.open(&[])
+            }
+            None => self.begin_apart(kind),
+        }
+    }
+
+    /// Begins an item that isn't one of the open section.
+    fn begin_apart(&mut self, kind: Kind) -> Result<(), Fault>
+        requires settled { self.old.writing ≡ None }
+        requires apart { OpensAnother self.old.settled.current (kind_id kind) }
+        ensures ok { OnOk result (self.new ≡ buffer_begun self.old (kind_id kind)) }
+        ensures err { OnErr result (self.new ≡ self.old) }
+        ensures refused { IfErr result IsMemory }
+    {
+        let count = self.holder.len();
+        let items_end = self.holder.keep_all(&Verbatim(&[0; GAP]))?;
+        self.earlier = Some(Earlier {
+            kind: self.kind,
+            count,
+            closed_len: self.closed_len,
+            items_end,
+        });
+        self.kind = Some(kind);
+        self.holder.open(&[])
+    }
+
+    /// Appends the text of a value to the item that is being written.
+    pub fn append<E: Encode>(&mut self, value: &E) -> Result<(), Fault>
+        requires { is_none self.old.writing ≡ false }
+        ensures ok { OnOk result (self.new ≡ buffer_appended self.old (E.text value.now)) }
+        ensures free { OnOk result ((fault : FaultSpec) → AppendCause (E.cause value.now)
+            (section_appended self.old (E.text value.now)) fault → ⊥) }
+        ensures err { OnErr result (self.new ≡ self.old) }
+        ensures warranted { IfErr result (IsWarranted (AppendCause (E.cause value.now)
+            (section_appended self.old (E.text value.now)))) }
+    {
+        self.holder.append_encoded(value)
+    }
+
+    /// Ends the item that is being written: it is in its section from now on. It takes no memory.
+    pub fn end(&mut self)
+        requires { is_none self.old.writing ≡ false }
+        ensures { self.new ≡ buffer_ended self.old }
+    {
+        self.holder.finish_member();
+        if let Some(earlier) = self.earlier {
+            self.closed_len = close_earlier(&mut self.holder, earlier);
+            self.earlier = None;
+        }
+    }
+
+    /// Gives up the item that is being written. It takes no memory.
+    pub fn give_up(&mut self)
+        requires { is_none self.old.writing ≡ false }
+        ensures { self.new ≡ buffer_given_up self.old }
+    {
+        self.holder.discard_unfinished();
+        if let Some(earlier) = self.earlier {
+            let kept = earlier.kept();
+            self.holder.go_back(kept, earlier.items_end, earlier.count);
+            self.closed_len = earlier.closed_len;
+            self.kind = earlier.kind;
+            self.earlier = None;
+        }
+    }
+
+    /// Writes what stands alone behind all sections, of which none is open then. It is refused for that value's own
+    /// cause alone.
+    pub fn stand_alone<E: Encode>(&mut self, section: &E) -> Result<(), Fault>
+        requires { self.old.writing ≡ None }
+        ensures ok { OnOk result (self.new ≡ buffer_with self.old (E.text section.now)) }
+        ensures free { OnOk result (NoCause (E.cause section.now)) }
+        ensures err { OnErr result (self.new ≡ self.old) }
+        ensures warranted { IfErr result (IsWarranted (E.cause section.now)) }
+    {
+        let count = self.holder.len();
+        let items_end = self.holder.keep_all(section)?;
+        let earlier = Earlier {
+            kind: self.kind,
+            count,
+            closed_len: self.closed_len,
+            items_end,
+        };
+        close_earlier(&mut self.holder, earlier);
+        self.closed_len = self.holder.kept_len();
+        self.kind = None;
+        Ok(())
+    }
+
+    /// Appends all bytes as a list of bytes, the open section in its place, which stays open here. It is refused where
+    /// there are more than 4294967295 bytes (`TooLarge`), and while an item is being written (`Unfinished`).
+    #[tactic(auto, using(wenc_base::proofs::Groups::size_at_most_5))]
+    pub fn append_to<B: Allocator>(&self, sink: &mut Vec<u8, B>) -> Result<(), Fault>
+        ensures { Appends (byte_list (sections_text self.now.settled)).text (NestCause self.now)
+            (is_none self.now.writing ≡ false) sink.old.items sink.new.items result }
+    {
+        if !self.is_finished() {
+            return Err(Fault::Unfinished);
+        }
+        let closed = &self.holder.kept()[..self.closed_len];
+        let items = self.holder.as_slice();
+        let head = open_head(self.kind, self.holder.len(), items.len());
+        let head = head.as_slice();
+        let Ok(len) = u32::try_from(closed.len() + head.len() + items.len()) else {
+            return Err(Fault::TooLarge);
+        };
+        let mut lead = Short::new();
+        lead.unsigned(u64::from(len));
+        let lead = lead.as_slice();
+        sink.try_reserve(lead.len() + len as usize)?;
+        extend_in_room(sink, lead);
+        extend_in_room(sink, closed);
+        extend_in_room(sink, head);
+        extend_in_room(sink, items);
+        Ok(())
+    }
+
+    /// All bytes, the open section in its place. It takes no memory.
+    pub fn finish(self) -> Vec<u8, A>
+        requires { self.writing ≡ None }
+        ensures { result.items ≡ sections_text self.settled }
+    {
+        let Buffer {
+            mut holder,
+            closed_len,
+            kind,
+            earlier: _,
+        } = self;
+        if let Some(kind) = kind {
+            let head = section_head(kind, holder.len(), holder.as_slice().len());
+            holder.fill_kept(closed_len, holder.kept_len(), head.as_slice());
+        }
+        let (bytes, _, _, _) = holder.into_parts();
+        bytes
+    }
+}

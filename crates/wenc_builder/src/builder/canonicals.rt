@@ -1,0 +1,346 @@
+ghost use Rattle.wenc_builder.specs.Enters.{Enters};
+ghost use Rattle.wenc_builder.specs.Entry.{provided_entry};
+ghost use Rattle.wenc_canon.specs.Canonicals as rows;
+
+use super::ComponentBuilder;
+use std::alloc::Allocator;
+use wenc_base::{Fault, ValType};
+use wenc_canon::CanonTree;
+
+/// The functions that the component model provides: each call adds one, with its own name as its
+/// debug name, and
+/// answers its index among core functions (component model, binary format, "Canonical
+/// Definitions"). An index that is
+/// handed in is from 0 to 4294967295. Refused as the type says.
+impl<A: Allocator> ComponentBuilder<A> {
+    /// `resource.new`: makes a handle that owns a resource of this type.
+    pub fn resource_new(&mut self, ty: u32) -> Result<u32, Fault>
+        ensures { Enters self.old self.new result (provided_entry rows.ResourceNew ty) }
+    {
+        self.provide("resource.new", &CanonTree::ResourceNew(ty))
+    }
+
+    /// `resource.drop`: drops a handle of this type.
+    pub fn resource_drop(&mut self, ty: u32) -> Result<u32, Fault>
+        ensures { Enters self.old self.new result (provided_entry rows.ResourceDrop ty) }
+    {
+        self.provide("resource.drop", &CanonTree::ResourceDrop(ty))
+    }
+
+    /// `resource.rep`: gives the representation of a resource of this type.
+    pub fn resource_rep(&mut self, ty: u32) -> Result<u32, Fault>
+        ensures { Enters self.old self.new result (provided_entry rows.ResourceRep ty) }
+    {
+        self.provide("resource.rep", &CanonTree::ResourceRep(ty))
+    }
+
+    /// `thread.spawn-ref`: starts a thread in a shared function of this type, by a reference to it.
+    pub fn thread_spawn_ref(&mut self, ty: u32) -> Result<u32, Fault>
+        ensures { Enters self.old self.new result (provided_entry rows.ThreadSpawnRef ty) }
+    {
+        self.provide("thread.spawn-ref", &CanonTree::ThreadSpawnRef(ty))
+    }
+
+    /// `thread.spawn-indirect`: starts a thread in a shared function of this type, by its place in a table.
+    pub fn thread_spawn_indirect(&mut self, ty: u32, table: u32) -> Result<u32, Fault>
+        ensures { Enters self.old self.new result (provided_entry rows.ThreadSpawnIndirect (ty, table)) }
+    {
+        self.provide(
+            "thread.spawn-indirect",
+            &CanonTree::ThreadSpawnIndirect { ty, table },
+        )
+    }
+
+    /// `thread.available-parallelism`: gives the number of threads that can be expected to run at once.
+    pub fn thread_available_parallelism(&mut self) -> Result<u32, Fault>
+        ensures { Enters self.old self.new result (provided_entry rows.ThreadAvailableParallelism tt) }
+    {
+        self.provide(
+            "thread.available-parallelism",
+            &CanonTree::ThreadAvailableParallelism,
+        )
+    }
+
+    /// `backpressure.inc`: raises the counter that keeps new calls back.
+    pub fn backpressure_inc(&mut self) -> Result<u32, Fault>
+        ensures { Enters self.old self.new result (provided_entry rows.BackpressureInc tt) }
+    {
+        self.provide("backpressure.inc", &CanonTree::BackpressureInc)
+    }
+
+    /// `backpressure.dec`: lowers the counter that keeps new calls back.
+    pub fn backpressure_dec(&mut self) -> Result<u32, Fault>
+        ensures { Enters self.old self.new result (provided_entry rows.BackpressureDec tt) }
+    {
+        self.provide("backpressure.dec", &CanonTree::BackpressureDec)
+    }
+
+    /// `task.cancel`: says that the current task was cancelled.
+    pub fn task_cancel(&mut self) -> Result<u32, Fault>
+        ensures { Enters self.old self.new result (provided_entry rows.TaskCancel tt) }
+    {
+        self.provide("task.cancel", &CanonTree::TaskCancel)
+    }
+
+    /// `context.get`: reads a slot of the current task, which has this value type. The slot's number stands in its
+    /// debug name.
+    pub fn context_get(&mut self, ty: ValType, slot: u32) -> Result<u32, Fault>
+    where
+        A: Clone,
+        ensures { Enters self.old self.new result (provided_entry rows.ContextGet (ty, slot)) }
+    {
+        if !self.is_finished() {
+            return Err(Fault::Unfinished);
+        }
+        let alloc = self.spaces.allocator().clone()?;
+        let name = format!(in alloc; "context.get {slot}")?;
+        self.provide(name.as_str(), &CanonTree::ContextGet { ty, slot })
+    }
+
+    /// `context.set`: writes a slot of the current task, which has this value type. The slot's number stands in its
+    /// debug name.
+    pub fn context_set(&mut self, ty: ValType, slot: u32) -> Result<u32, Fault>
+    where
+        A: Clone,
+        ensures { Enters self.old self.new result (provided_entry rows.ContextSet (ty, slot)) }
+    {
+        if !self.is_finished() {
+            return Err(Fault::Unfinished);
+        }
+        let alloc = self.spaces.allocator().clone()?;
+        let name = format!(in alloc; "context.set {slot}")?;
+        self.provide(name.as_str(), &CanonTree::ContextSet { ty, slot })
+    }
+
+    /// `subtask.drop`: drops a subtask that has ended.
+    pub fn subtask_drop(&mut self) -> Result<u32, Fault>
+        ensures { Enters self.old self.new result (provided_entry rows.SubtaskDrop tt) }
+    {
+        self.provide("subtask.drop", &CanonTree::SubtaskDrop)
+    }
+
+    /// `subtask.cancel`: cancels a subtask.
+    pub fn subtask_cancel(&mut self, async_: bool) -> Result<u32, Fault>
+        ensures { Enters self.old self.new result (provided_entry rows.SubtaskCancel async_) }
+    {
+        self.provide("subtask.cancel", &CanonTree::SubtaskCancel(async_))
+    }
+
+    /// `stream.new`: makes a stream of this type.
+    pub fn stream_new(&mut self, ty: u32) -> Result<u32, Fault>
+        ensures { Enters self.old self.new result (provided_entry rows.StreamNew ty) }
+    {
+        self.provide("stream.new", &CanonTree::StreamNew(ty))
+    }
+
+    /// `stream.forward`: hands on what is left in one stream of this type to another.
+    pub fn stream_forward(&mut self, ty: u32) -> Result<u32, Fault>
+        ensures { Enters self.old self.new result (provided_entry rows.StreamForward ty) }
+    {
+        self.provide("stream.forward", &CanonTree::StreamForward(ty))
+    }
+
+    /// `stream.cancel-read`: cancels a read from a stream of this type.
+    pub fn stream_cancel_read(&mut self, ty: u32, async_: bool) -> Result<u32, Fault>
+        ensures { Enters self.old self.new result (provided_entry rows.StreamCancelRead (ty, async_)) }
+    {
+        self.provide(
+            "stream.cancel-read",
+            &CanonTree::StreamCancelRead { ty, async_ },
+        )
+    }
+
+    /// `stream.cancel-write`: cancels a write to a stream of this type.
+    pub fn stream_cancel_write(&mut self, ty: u32, async_: bool) -> Result<u32, Fault>
+        ensures { Enters self.old self.new result (provided_entry rows.StreamCancelWrite (ty, async_)) }
+    {
+        self.provide(
+            "stream.cancel-write",
+            &CanonTree::StreamCancelWrite { ty, async_ },
+        )
+    }
+
+    /// `stream.drop-readable`: drops the end of a stream of this type that is read.
+    pub fn stream_drop_readable(&mut self, ty: u32) -> Result<u32, Fault>
+        ensures { Enters self.old self.new result (provided_entry rows.StreamDropReadable ty) }
+    {
+        self.provide("stream.drop-readable", &CanonTree::StreamDropReadable(ty))
+    }
+
+    /// `stream.drop-writable`: drops the end of a stream of this type that is written.
+    pub fn stream_drop_writable(&mut self, ty: u32) -> Result<u32, Fault>
+        ensures { Enters self.old self.new result (provided_entry rows.StreamDropWritable ty) }
+    {
+        self.provide("stream.drop-writable", &CanonTree::StreamDropWritable(ty))
+    }
+
+    /// `future.new`: makes a future of this type.
+    pub fn future_new(&mut self, ty: u32) -> Result<u32, Fault>
+        ensures { Enters self.old self.new result (provided_entry rows.FutureNew ty) }
+    {
+        self.provide("future.new", &CanonTree::FutureNew(ty))
+    }
+
+    /// `future.forward`: hands on the value of one future of this type to another.
+    pub fn future_forward(&mut self, ty: u32) -> Result<u32, Fault>
+        ensures { Enters self.old self.new result (provided_entry rows.FutureForward ty) }
+    {
+        self.provide("future.forward", &CanonTree::FutureForward(ty))
+    }
+
+    /// `future.cancel-read`: cancels a read from a future of this type.
+    pub fn future_cancel_read(&mut self, ty: u32, async_: bool) -> Result<u32, Fault>
+        ensures { Enters self.old self.new result (provided_entry rows.FutureCancelRead (ty, async_)) }
+    {
+        self.provide(
+            "future.cancel-read",
+            &CanonTree::FutureCancelRead { ty, async_ },
+        )
+    }
+
+    /// `future.cancel-write`: cancels a write to a future of this type.
+    pub fn future_cancel_write(&mut self, ty: u32, async_: bool) -> Result<u32, Fault>
+        ensures { Enters self.old self.new result (provided_entry rows.FutureCancelWrite (ty, async_)) }
+    {
+        self.provide(
+            "future.cancel-write",
+            &CanonTree::FutureCancelWrite { ty, async_ },
+        )
+    }
+
+    /// `future.drop-readable`: drops the end of a future of this type that is read.
+    pub fn future_drop_readable(&mut self, ty: u32) -> Result<u32, Fault>
+        ensures { Enters self.old self.new result (provided_entry rows.FutureDropReadable ty) }
+    {
+        self.provide("future.drop-readable", &CanonTree::FutureDropReadable(ty))
+    }
+
+    /// `future.drop-writable`: drops the end of a future of this type that is written.
+    pub fn future_drop_writable(&mut self, ty: u32) -> Result<u32, Fault>
+        ensures { Enters self.old self.new result (provided_entry rows.FutureDropWritable ty) }
+    {
+        self.provide("future.drop-writable", &CanonTree::FutureDropWritable(ty))
+    }
+
+    /// `error-context.drop`: drops an error context.
+    pub fn error_context_drop(&mut self) -> Result<u32, Fault>
+        ensures { Enters self.old self.new result (provided_entry rows.ErrorContextDrop tt) }
+    {
+        self.provide("error-context.drop", &CanonTree::ErrorContextDrop)
+    }
+
+    /// `waitable-set.new`: makes a set of what can be waited for.
+    pub fn waitable_set_new(&mut self) -> Result<u32, Fault>
+        ensures { Enters self.old self.new result (provided_entry rows.WaitableSetNew tt) }
+    {
+        self.provide("waitable-set.new", &CanonTree::WaitableSetNew)
+    }
+
+    /// `waitable-set.wait`: waits until something in a set happens, which is written to this memory.
+    pub fn waitable_set_wait(&mut self, memory: u32) -> Result<u32, Fault>
+        ensures { Enters self.old self.new result (provided_entry rows.WaitableSetWait (tt, memory)) }
+    {
+        self.provide("waitable-set.wait", &CanonTree::WaitableSetWait(memory))
+    }
+
+    /// `waitable-set.poll`: looks whether something in a set happened, which is written to this memory.
+    pub fn waitable_set_poll(&mut self, memory: u32) -> Result<u32, Fault>
+        ensures { Enters self.old self.new result (provided_entry rows.WaitableSetPoll (tt, memory)) }
+    {
+        self.provide("waitable-set.poll", &CanonTree::WaitableSetPoll(memory))
+    }
+
+    /// `waitable-set.drop`: drops a set of what can be waited for.
+    pub fn waitable_set_drop(&mut self) -> Result<u32, Fault>
+        ensures { Enters self.old self.new result (provided_entry rows.WaitableSetDrop tt) }
+    {
+        self.provide("waitable-set.drop", &CanonTree::WaitableSetDrop)
+    }
+
+    /// `waitable.join`: puts something that can be waited for into a set.
+    pub fn waitable_join(&mut self) -> Result<u32, Fault>
+        ensures { Enters self.old self.new result (provided_entry rows.WaitableJoin tt) }
+    {
+        self.provide("waitable.join", &CanonTree::WaitableJoin)
+    }
+
+    /// `thread.index`: gives the index of the current thread.
+    pub fn thread_index(&mut self) -> Result<u32, Fault>
+        ensures { Enters self.old self.new result (provided_entry rows.ThreadIndex tt) }
+    {
+        self.provide("thread.index", &CanonTree::ThreadIndex)
+    }
+
+    /// `thread.new-indirect`: makes a thread of a function of this type, by its place in a table.
+    pub fn thread_new_indirect(&mut self, ty: u32, table: u32) -> Result<u32, Fault>
+        ensures { Enters self.old self.new result (provided_entry rows.ThreadNewIndirect (ty, table)) }
+    {
+        self.provide(
+            "thread.new-indirect",
+            &CanonTree::ThreadNewIndirect { ty, table },
+        )
+    }
+
+    /// `thread.resume-later`: lets a thread that was suspended go on later.
+    pub fn thread_resume_later(&mut self) -> Result<u32, Fault>
+        ensures { Enters self.old self.new result (provided_entry rows.ThreadResumeLater tt) }
+    {
+        self.provide("thread.resume-later", &CanonTree::ThreadResumeLater)
+    }
+
+    /// `thread.suspend`: suspends the current thread.
+    pub fn thread_suspend(&mut self) -> Result<u32, Fault>
+        ensures { Enters self.old self.new result (provided_entry rows.ThreadSuspend tt) }
+    {
+        self.provide("thread.suspend", &CanonTree::ThreadSuspend)
+    }
+
+    /// `thread.yield`: lets other threads go on.
+    pub fn thread_yield(&mut self) -> Result<u32, Fault>
+        ensures { Enters self.old self.new result (provided_entry rows.ThreadYield tt) }
+    {
+        self.provide("thread.yield", &CanonTree::ThreadYield)
+    }
+
+    /// `thread.suspend-then-resume`: suspends the current thread, and lets another go on at once.
+    pub fn thread_suspend_then_resume(&mut self) -> Result<u32, Fault>
+        ensures { Enters self.old self.new result (provided_entry rows.ThreadSuspendThenResume tt) }
+    {
+        self.provide(
+            "thread.suspend-then-resume",
+            &CanonTree::ThreadSuspendThenResume,
+        )
+    }
+
+    /// `thread.yield-then-resume`: lets another thread go on at once, and this one after it.
+    pub fn thread_yield_then_resume(&mut self) -> Result<u32, Fault>
+        ensures { Enters self.old self.new result (provided_entry rows.ThreadYieldThenResume tt) }
+    {
+        self.provide(
+            "thread.yield-then-resume",
+            &CanonTree::ThreadYieldThenResume,
+        )
+    }
+
+    /// `thread.suspend-then-promote`: suspends the current thread, and moves another to the front
+    /// of those that wait.
+    pub fn thread_suspend_then_promote(&mut self) -> Result<u32, Fault>
+        ensures { Enters self.old self.new result (provided_entry rows.ThreadSuspendThenPromote tt) }
+    {
+        self.provide(
+            "thread.suspend-then-promote",
+            &CanonTree::ThreadSuspendThenPromote,
+        )
+    }
+
+    /// `thread.yield-then-promote`: lets other threads go on, first the one that is moved to the
+    /// front of those that wait.
+    pub fn thread_yield_then_promote(&mut self) -> Result<u32, Fault>
+        ensures { Enters self.old self.new result (provided_entry rows.ThreadYieldThenPromote tt) }
+    {
+        self.provide(
+            "thread.yield-then-promote",
+            &CanonTree::ThreadYieldThenPromote,
+        )
+    }
+}

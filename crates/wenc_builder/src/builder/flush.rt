@@ -1,0 +1,59 @@
+ghost use Rattle.std.specs.Prelude.{◌≡◌, ◌+◌, ◌<◌, ◌≤◌, ◌^◌, ◌++◌, length, drop};
+ghost use Rattle.wenc_base.specs.Number.{number_size};
+ghost use Rattle.wenc_base.specs.Holder.{with_kept};
+ghost use Rattle.wenc_builder.specs.Layout.{kind_id, section_head as head_text, open_head as open_head_text, SectionIsIn, SectionFits, earlier_view, closed_with, kept_with};
+
+use super::earlier::Earlier;
+use super::kind::Kind;
+use std::alloc::Allocator;
+use wenc_base::{Holder, Short, encoding_size};
+
+/// The room in front of a section's items: for its id, its size and its count at their longest.
+pub const GAP: usize = 11;
+
+/// The id, the size and the count of a section whose items have `body` bytes.
+#[tactic(auto, using(wenc_base::proofs::Groups::size_at_most_5))]
+pub fn section_head(kind: Kind, count: u32, body: usize) -> Short
+    requires { number_size count + body < 2 ^ 32 }
+    ensures { result ≡ head_text (kind_id kind) count (number_size count + body) }
+{
+    let size = encoding_size(count) + body;
+    let mut head = Short::new();
+    head.push(kind.id());
+    head.unsigned(size as u64);
+    head.unsigned(u64::from(count));
+    head
+}
+
+/// The same of the open section, or nothing where none is open.
+pub fn open_head(kind: Option<Kind>, count: u32, body: usize) -> Short
+    requires { number_size count + body < 2 ^ 32 }
+    ensures { result ≡ open_head_text kind count body }
+{
+    match kind {
+        None => Short::new(),
+        Some(kind) => section_head(kind, count, body),
+    }
+}
+
+/// Closes the section before the members, which stay behind a gap. Answers how many bytes are closed. It
+/// takes no memory.
+#[tactic(auto, using(wenc_base::proofs::Groups::size_at_most_5))]
+pub fn close_earlier<A: Allocator>(holder: &mut Holder<A>, earlier: Earlier) -> usize
+    requires within { earlier.items_end ≤ length holder.old.kept }
+    requires section { SectionIsIn earlier.kind earlier.closed_len earlier.items_end }
+    requires fits { SectionFits (earlier_view holder.old.kept earlier) }
+    ensures holder { holder.new ≡ with_kept holder.old (kept_with holder.old.kept earlier) }
+    ensures len { result ≡ length (closed_with holder.old.kept earlier) }
+{
+    match earlier.kind {
+        None => earlier.closed_len,
+        Some(kind) => {
+            let start = earlier.closed_len + GAP;
+            let head = section_head(kind, earlier.count, earlier.items_end - start);
+            let head = head.as_slice();
+            holder.fill_kept(earlier.closed_len, start, head);
+            earlier.items_end - (GAP - head.len())
+        }
+    }
+}

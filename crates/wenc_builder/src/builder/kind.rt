@@ -1,0 +1,27 @@
+use wenc_parts::ComponentSectionId;
+
+/// The kinds of items of which neighbours stand in one section.
+#[derive(Clone, Copy, Debug, PartialEq, Eq)]
+pub enum Kind {
+    Alias,
+    CanonicalFunction,
+    Import,
+    Export,
+}
+
+impl Kind {
+    ghost use Rattle.std.specs.Prelude.{◌≡◌};
+    ghost use Rattle.wenc_builder.specs.Layout.{kind_id};
+
+    /// The id of the kind's sections.
+    pub fn id(self) -> u8
+        ensures { result ≡ kind_id self }
+    {
+        match self {
+            Kind::Alias => u8::from(ComponentSectionId::Alias),
+            Kind::CanonicalFunction => u8::from(ComponentSectionId::CanonicalFunction),
+            Kind::Import => u8::from(ComponentSectionId::Import),
+            Kind::Export => u8::from(ComponentSectionId::Export),
+        }
+    }
+}

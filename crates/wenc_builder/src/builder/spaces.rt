@@ -1,0 +1,121 @@
+ghost use Rattle.std.specs.Prelude.{◌≡◌, ◌<◌, length, OnOk, OnErr, IfOk, IfErr, is_none, None, false};
+ghost use Rattle.std.specs.Option.{option_copied};
+ghost use Rattle.wenc_base.specs.Fault.{IsMemory, IsWarranted};
+ghost use Rattle.wenc_base.specs.declared.fault.Fault.{Fault as FaultSpec};
+ghost use Rattle.wenc_builder.specs.Space.{space_number};
+ghost use Rattle.wenc_builder.specs.Builder.{namespace_at};
+ghost use Rattle.wenc_builder.specs.Cause.{SpaceCause};
+ghost use Rattle.wenc_builder.specs.Spaces.{empty_spaces, space_begun, spaces_begun, spaces_ended, spaces_given_up, count_at};
+
+use super::namespace::Namespace;
+use super::space::Space;
+use std::alloc::{Allocator, Global};
+use std::marker::Model;
+use wenc_base::Fault;
+
+/// How many spaces there are.
+const SPACES: usize = 13;
+
+/// What a space was before an item took a place in it.
+#[derive(Clone, Copy)]
+pub struct Undo {
+    pub space: usize,
+    pub count: u32,
+    pub named: u32,
+    pub len: usize,
+}
+
+/// All index spaces, and what one of them was before the item that is being written.
+#[derive(Drop)]
+pub struct Spaces<A: Allocator = Global> {
+    spaces: Vec<Namespace<A>, A>,
+    undo: Option<Undo>,
+}
+
+impl<A: Allocator> Model for Spaces<A> {
+    ghost use Rattle.wenc_builder.specs.Spaces.{Spaced};
+
+    ghost Value = { Spaced };
+
+    ghost use Rattle.wenc_builder.specs.Spaces.{spaced_view, CanUndo};
+
+    ghost view = { λ s. spaced_view s.spaces.items s.undo };
+
+    ghost invariant = { λ s. CanUndo s.spaces.items s.undo };
+}
+
+impl<A: Allocator> Spaces<A> {
+    /// Spaces without items. It is refused for want of memory alone.
+    pub fn new(alloc: A) -> Result<Self, Fault>
+    where
+        A: Copy,
+        ensures ok { IfOk result (λ s. s ≡ empty_spaces) }
+        ensures refused { IfErr result IsMemory }
+    {
+        let mut spaces = Vec::with_capacity(alloc, SPACES)?;
+        for _ in 0..SPACES {
+            spaces.push(Namespace::new(alloc))?;
+        }
+        Ok(Spaces { spaces, undo: None })
+    }
+
+    /// What the spaces' names are allocated with.
+    pub fn allocator(&self) -> &A {
+        self.spaces.allocator()
+    }
+
+    /// How many items a space has, the one that is being written with them.
+    pub fn count(&self, space: Space) -> u32
+        ensures { result ≡ count_at self.now (space_number space) }
+    {
+        self.spaces[space.number()].count()
+    }
+
+    /// So many more items in a space, the first of them with this name or none, which may be given up until `end`.
+    /// Answers the index of the first.
+    pub fn begin(&mut self, space: Space, number: u32, name: Option<&str>) -> Result<u32, Fault>
+        requires { self.old.taking ≡ None }
+        ensures index { IfOk result (λ i.
+            i ≡ (namespace_at self.old.settled (space_number space)).count) }
+        ensures ok { OnOk result (self.new
+            ≡ spaces_begun self.old (space_number space) number (option_copied name.entry)) }
+        ensures free { OnOk result ((fault : FaultSpec) → SpaceCause
+            (space_begun self.old (space_number space) number (option_copied name.entry)) fault → ⊥) }
+        ensures err { OnErr result (self.new ≡ self.old) }
+        ensures warranted { IfErr result (IsWarranted
+            (SpaceCause (space_begun self.old (space_number space) number (option_copied name.entry)))) }
+        ensures all { length self.old.settled ≡ 13 }
+    {
+        let space = space.number();
+        let one = &mut self.spaces[space];
+        let index = one.count();
+        let undo = Undo {
+            space,
+            count: index,
+            named: one.named(),
+            len: one.names_len(),
+        };
+        one.add(number, name)?;
+        self.undo = Some(undo);
+        Ok(index)
+    }
+
+    /// The item that took a place is there to stay.
+    pub fn end(&mut self)
+        requires { is_none self.old.taking ≡ false }
+        ensures { self.new ≡ spaces_ended self.old }
+    {
+        self.undo = None;
+    }
+
+    /// Gives up the item that took a place. It takes no memory.
+    pub fn give_up(&mut self)
+        requires { is_none self.old.taking ≡ false }
+        ensures { self.new ≡ spaces_given_up self.old }
+    {
+        if let Some(undo) = self.undo {
+            self.spaces[undo.space].cut_back(undo.count, undo.named, undo.len);
+            self.undo = None;
+        }
+    }
+}

@@ -1,0 +1,317 @@
+ghost use Rattle.std.specs.Prelude.{length};
+ghost use Rattle.wenc_base.specs.Delimited.{NoCause};
+ghost use Rattle.wenc_base.specs.Encode.{Appends};
+ghost use Rattle.wenc_base.specs.Fault.{count_cause};
+ghost use Rattle.wenc_canon.specs.Canonicals.{Lift, canonical_text, text_with_options};
+
+use crate::canonicals::{CANCELLABLE, CanonicalOption};
+use std::alloc::{Allocator, Global};
+use wenc_base::{Encode, Fault, Tagged, ValType};
+use wenc_parts::{ComponentValType, ResultList};
+
+/// A canonical function, with all that it is made of (component model, binary format, "Canonical
+/// Definitions"). Each
+/// index is from 0 to 4294967295. More than 4294967295 options can't be encoded (`TooMany`).
+///
+/// ```
+/// let drop: CanonTree = CanonTree::ResourceDrop(0);
+/// drop.encode(&mut sink)?;
+/// ```
+#[derive(Drop)]
+#[derive_where(PartialEq, Eq, Debug)]
+pub enum CanonTree<A: Allocator = Global> {
+    /// Lifts a core function to a function of a component type.
+    Lift {
+        /// The index of the core function.
+        core_func: u32,
+        /// The index of the type.
+        ty: u32,
+        /// The options, in their order.
+        options: Vec<CanonicalOption, A>,
+    },
+    /// Lowers a component function to a core function.
+    Lower {
+        /// The index of the function.
+        func: u32,
+        /// The options, in their order.
+        options: Vec<CanonicalOption, A>,
+    },
+    /// `resource.new`: makes a handle that owns a resource of this type.
+    ResourceNew(u32),
+    /// `resource.drop`: drops a handle of this type.
+    ResourceDrop(u32),
+    /// `resource.rep`: gives the representation of a resource of this type.
+    ResourceRep(u32),
+    /// `task.cancel`: says that the current task was cancelled.
+    TaskCancel,
+    /// `subtask.cancel`: cancels a subtask.
+    SubtaskCancel(bool),
+    /// `task.return`: gives the caller of a lifted function its result, or none, while the callee goes on.
+    TaskReturn {
+        /// The type of the result, or none.
+        ty: Option<ComponentValType>,
+        /// The options, in their order.
+        options: Vec<CanonicalOption, A>,
+    },
+    /// `context.get`: reads a slot of the current task, which has this value type.
+    ContextGet {
+        /// The type of the slot.
+        ty: ValType,
+        /// The index of the slot.
+        slot: u32,
+    },
+    /// `context.set`: writes a slot of the current task, which has this value type.
+    ContextSet {
+        /// The type of the slot.
+        ty: ValType,
+        /// The index of the slot.
+        slot: u32,
+    },
+    /// `thread.yield`: lets other threads go on.
+    ThreadYield,
+    /// `subtask.drop`: drops a subtask that has ended.
+    SubtaskDrop,
+    /// `stream.new`: makes a stream of this type.
+    StreamNew(u32),
+    /// `stream.read`: reads from a stream of this type.
+    StreamRead {
+        /// The index of the type.
+        ty: u32,
+        /// The options, in their order.
+        options: Vec<CanonicalOption, A>,
+    },
+    /// `stream.write`: writes to a stream of this type.
+    StreamWrite {
+        /// The index of the type.
+        ty: u32,
+        /// The options, in their order.
+        options: Vec<CanonicalOption, A>,
+    },
+    /// `stream.cancel-read`: cancels a read from a stream of this type.
+    StreamCancelRead {
+        /// The index of the type.
+        ty: u32,
+        /// Whether it may be answered later.
+        async_: bool,
+    },
+    /// `stream.cancel-write`: cancels a write to a stream of this type.
+    StreamCancelWrite {
+        /// The index of the type.
+        ty: u32,
+        /// Whether it may be answered later.
+        async_: bool,
+    },
+    /// `stream.drop-readable`: drops the end of a stream of this type that is read.
+    StreamDropReadable(u32),
+    /// `stream.drop-writable`: drops the end of a stream of this type that is written.
+    StreamDropWritable(u32),
+    /// `future.new`: makes a future of this type.
+    FutureNew(u32),
+    /// `future.read`: reads from a future of this type.
+    FutureRead {
+        /// The index of the type.
+        ty: u32,
+        /// The options, in their order.
+        options: Vec<CanonicalOption, A>,
+    },
+    /// `future.write`: writes to a future of this type.
+    FutureWrite {
+        /// The index of the type.
+        ty: u32,
+        /// The options, in their order.
+        options: Vec<CanonicalOption, A>,
+    },
+    /// `future.cancel-read`: cancels a read from a future of this type.
+    FutureCancelRead {
+        /// The index of the type.
+        ty: u32,
+        /// Whether it may be answered later.
+        async_: bool,
+    },
+    /// `future.cancel-write`: cancels a write to a future of this type.
+    FutureCancelWrite {
+        /// The index of the type.
+        ty: u32,
+        /// Whether it may be answered later.
+        async_: bool,
+    },
+    /// `future.drop-readable`: drops the end of a future of this type that is read.
+    FutureDropReadable(u32),
+    /// `future.drop-writable`: drops the end of a future of this type that is written.
+    FutureDropWritable(u32),
+    /// `error-context.new`: makes an error context of a message.
+    ErrorContextNew(Vec<CanonicalOption, A>),
+    /// `error-context.debug-message`: gives the message of an error context.
+    ErrorContextDebugMessage(Vec<CanonicalOption, A>),
+    /// `error-context.drop`: drops an error context.
+    ErrorContextDrop,
+    /// `waitable-set.new`: makes a set of what can be waited for.
+    WaitableSetNew,
+    /// `waitable-set.wait`: waits until something in a set happens, which is written to this memory.
+    WaitableSetWait(u32),
+    /// `waitable-set.poll`: looks whether something in a set happened, which is written to this memory.
+    WaitableSetPoll(u32),
+    /// `waitable-set.drop`: drops a set of what can be waited for.
+    WaitableSetDrop,
+    /// `waitable.join`: puts something that can be waited for into a set.
+    WaitableJoin,
+    /// `backpressure.inc`: raises the counter that keeps new calls back.
+    BackpressureInc,
+    /// `backpressure.dec`: lowers the counter that keeps new calls back.
+    BackpressureDec,
+    /// `thread.index`: gives the index of the current thread.
+    ThreadIndex,
+    /// `thread.new-indirect`: makes a thread of a function of this type, by its place in a table.
+    ThreadNewIndirect {
+        /// The index of the type.
+        ty: u32,
+        /// The index of the table.
+        table: u32,
+    },
+    /// `thread.resume-later`: lets a thread that was suspended go on later.
+    ThreadResumeLater,
+    /// `thread.suspend`: suspends the current thread.
+    ThreadSuspend,
+    /// `thread.suspend-then-resume`: suspends the current thread, and lets another go on at once.
+    ThreadSuspendThenResume,
+    /// `thread.yield-then-resume`: lets another thread go on at once, and this one after it.
+    ThreadYieldThenResume,
+    /// `thread.suspend-then-promote`: suspends the current thread, and moves another to the front
+    /// of those that wait.
+    ThreadSuspendThenPromote,
+    /// `thread.yield-then-promote`: lets other threads go on, first the one that is moved to the
+    /// front of those that wait.
+    ThreadYieldThenPromote,
+    /// `stream.forward`: hands on what is left in one stream of this type to another.
+    StreamForward(u32),
+    /// `future.forward`: hands on the value of one future of this type to another.
+    FutureForward(u32),
+    /// `thread.spawn-ref`: starts a thread in a shared function of this type, by a reference to it.
+    ThreadSpawnRef(u32),
+    /// `thread.spawn-indirect`: starts a thread in a shared function of this type, by its place in a table.
+    ThreadSpawnIndirect {
+        /// The index of the type.
+        ty: u32,
+        /// The index of the table.
+        table: u32,
+    },
+    /// `thread.available-parallelism`: gives the number of threads that can be expected to run at once.
+    ThreadAvailableParallelism,
+}
+
+impl<A: Allocator> Encode for CanonTree<A> {
+    ghost use Rattle.wenc_canon.specs.Canonicals.{canonical_text, canonical_cause};
+    ghost use Rattle.wenc_canon.specs.CanonTrees.{canon_view};
+
+    ghost text = { λ t. canonical_text (canon_view t) };
+
+    ghost cause = { λ t. canonical_cause (canon_view t) };
+
+    fn encode<B: Allocator>(&self, sink: &mut Vec<u8, B>) -> Result<(), Fault> {
+        match self {
+            CanonTree::Lift {
+                core_func,
+                ty,
+                options,
+            } => with_type(core_func, *ty, options, sink),
+            CanonTree::Lower { func, options } => {
+                with_options(0x01, &Tagged(0x00, func), options, sink)
+            }
+            CanonTree::ResourceNew(ty) => Tagged(0x02, ty).encode(sink),
+            CanonTree::ResourceDrop(ty) => Tagged(0x03, ty).encode(sink),
+            CanonTree::ResourceRep(ty) => Tagged(0x04, ty).encode(sink),
+            CanonTree::TaskCancel => Tagged(0x05, &()).encode(sink),
+            CanonTree::SubtaskCancel(async_) => Tagged(0x06, async_).encode(sink),
+            CanonTree::TaskReturn { ty, options } => with_options(
+                0x09,
+                &ResultList(*ty),
+                options,
+                sink,
+            ),
+            CanonTree::ContextGet { ty, slot } => Tagged(0x0a, &(*ty, *slot)).encode(sink),
+            CanonTree::ContextSet { ty, slot } => Tagged(0x0b, &(*ty, *slot)).encode(sink),
+            CanonTree::ThreadYield => Tagged(0x0c, &CANCELLABLE).encode(sink),
+            CanonTree::SubtaskDrop => Tagged(0x0d, &()).encode(sink),
+            CanonTree::StreamNew(ty) => Tagged(0x0e, ty).encode(sink),
+            CanonTree::StreamRead { ty, options } => with_options(0x0f, ty, options, sink),
+            CanonTree::StreamWrite { ty, options } => with_options(0x10, ty, options, sink),
+            CanonTree::StreamCancelRead { ty, async_ } => Tagged(0x11, &(*ty, *async_)).encode(
+                sink,
+            ),
+            CanonTree::StreamCancelWrite { ty, async_ } => Tagged(0x12, &(*ty, *async_)).encode(
+                sink,
+            ),
+            CanonTree::StreamDropReadable(ty) => Tagged(0x13, ty).encode(sink),
+            CanonTree::StreamDropWritable(ty) => Tagged(0x14, ty).encode(sink),
+            CanonTree::FutureNew(ty) => Tagged(0x15, ty).encode(sink),
+            CanonTree::FutureRead { ty, options } => with_options(0x16, ty, options, sink),
+            CanonTree::FutureWrite { ty, options } => with_options(0x17, ty, options, sink),
+            CanonTree::FutureCancelRead { ty, async_ } => Tagged(0x18, &(*ty, *async_)).encode(
+                sink,
+            ),
+            CanonTree::FutureCancelWrite { ty, async_ } => Tagged(0x19, &(*ty, *async_)).encode(
+                sink,
+            ),
+            CanonTree::FutureDropReadable(ty) => Tagged(0x1a, ty).encode(sink),
+            CanonTree::FutureDropWritable(ty) => Tagged(0x1b, ty).encode(sink),
+            CanonTree::ErrorContextNew(options) => with_options(0x1c, &(), options, sink),
+            CanonTree::ErrorContextDebugMessage(options) => with_options(0x1d, &(), options, sink),
+            CanonTree::ErrorContextDrop => Tagged(0x1e, &()).encode(sink),
+            CanonTree::WaitableSetNew => Tagged(0x1f, &()).encode(sink),
+            CanonTree::WaitableSetWait(memory) => Tagged(0x20, &(CANCELLABLE, *memory)).encode(
+                sink,
+            ),
+            CanonTree::WaitableSetPoll(memory) => Tagged(0x21, &(CANCELLABLE, *memory)).encode(
+                sink,
+            ),
+            CanonTree::WaitableSetDrop => Tagged(0x22, &()).encode(sink),
+            CanonTree::WaitableJoin => Tagged(0x23, &()).encode(sink),
+            CanonTree::BackpressureInc => Tagged(0x24, &()).encode(sink),
+            CanonTree::BackpressureDec => Tagged(0x25, &()).encode(sink),
+            CanonTree::ThreadIndex => Tagged(0x26, &()).encode(sink),
+            CanonTree::ThreadNewIndirect { ty, table } => Tagged(0x27, &(*ty, *table)).encode(sink),
+            CanonTree::ThreadResumeLater => Tagged(0x28, &()).encode(sink),
+            CanonTree::ThreadSuspend => Tagged(0x29, &CANCELLABLE).encode(sink),
+            CanonTree::ThreadSuspendThenResume => Tagged(0x2a, &CANCELLABLE).encode(sink),
+            CanonTree::ThreadYieldThenResume => Tagged(0x2b, &CANCELLABLE).encode(sink),
+            CanonTree::ThreadSuspendThenPromote => Tagged(0x2c, &CANCELLABLE).encode(sink),
+            CanonTree::ThreadYieldThenPromote => Tagged(0x2d, &CANCELLABLE).encode(sink),
+            CanonTree::StreamForward(ty) => Tagged(0x2e, ty).encode(sink),
+            CanonTree::FutureForward(ty) => Tagged(0x2f, ty).encode(sink),
+            CanonTree::ThreadSpawnRef(ty) => Tagged(0x40, ty).encode(sink),
+            CanonTree::ThreadSpawnIndirect { ty, table } => Tagged(0x41, &(*ty, *table)).encode(
+                sink,
+            ),
+            CanonTree::ThreadAvailableParallelism => Tagged(0x42, &()).encode(sink),
+        }
+    }
+}
+
+/// Writes what begins with this opcode and these fields, against which nothing stands, and ends
+/// with options.
+fn with_options<E: Encode, A: Allocator, B: Allocator>(
+    opcode: u8,
+    fields: &E,
+    options: &Vec<CanonicalOption, A>,
+    sink: &mut Vec<u8, B>,
+) -> Result<(), Fault>
+    requires free { NoCause (E.cause fields.now) }
+    ensures { Appends (text_with_options opcode (E.text fields.now) options.now.items)
+        (count_cause (length options.now.items)) ⊥ sink.old.items sink.new.items result }
+{
+    (Tagged(opcode, fields), options.as_slice()).encode(sink)
+}
+
+/// Writes a function that is lifted: its options stand in front of its type.
+fn with_type<A: Allocator, B: Allocator>(
+    core_func: &u32,
+    ty: u32,
+    options: &Vec<CanonicalOption, A>,
+    sink: &mut Vec<u8, B>,
+) -> Result<(), Fault>
+    ensures { Appends (canonical_text (Lift core_func.now options.now.items ty))
+        (count_cause (length options.now.items)) ⊥ sink.old.items sink.new.items result }
+{
+    let lead = Tagged(0x00, core_func);
+    (Tagged(0x00, &lead), (options.as_slice(), ty)).encode(sink)
+}

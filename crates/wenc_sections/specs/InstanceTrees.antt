@@ -1,0 +1,45 @@
+-- The code's trees of instances as pure instances.
+use Rattle.std.specs.Prelude.{ℕ, List, String, map}
+use Rattle.std.specs.String.{string_bytes}
+use Rattle.wenc_base.specs.declared.exports.ExportKind.{ExportKind}
+use Rattle.wenc_base.specs.declared.fault.Fault.{Fault}
+use Rattle.wenc_parts.specs.Imports.{name_tree_view}
+use Rattle.wenc_parts.specs.declared.exports.ComponentExportKind.{ComponentExportKind}
+use Rattle.wenc_parts.specs.declared.imports.NameTree.{NameTree}
+use Rattle.wenc_parts.specs.declared.instances.ModuleArg.{ModuleArg}
+use Rattle.wenc_sections.specs.Instances.{Argument, CoreExport, CoreInstance, CoreInstantiate, CoreExports, Given, Exported, exported, exported_cause, Instance, Instantiate, Exports}
+use Rattle.wenc_sections.specs.declared.instance_trees.CoreInstanceTree.{CoreInstanceTree}
+use Rattle.wenc_sections.specs.declared.instance_trees.CoreInstanceTree.TheVariants as core_trees
+use Rattle.wenc_sections.specs.declared.instance_trees.InstanceTree.{InstanceTree}
+use Rattle.wenc_sections.specs.declared.instance_trees.InstanceTree.TheVariants as trees
+
+-- ---- of core modules
+
+abbrev pub argument_tree_view : {A : Type 0} → String A × ModuleArg → Argument
+argument_tree_view a = record { name = string_bytes a.0; value = a.1 }
+
+abbrev pub core_export_tree_view : {A : Type 0} → String A × ExportKind × ℕ → CoreExport
+core_export_tree_view e = record { name = string_bytes e.0; kind = e.1; index = e.2 }
+
+abbrev pub core_instance_tree_view : {A : Type 0} → CoreInstanceTree A → CoreInstance
+core_instance_tree_view (core_trees.Instantiate index args) = CoreInstantiate index (map argument_tree_view args.items)
+core_instance_tree_view (core_trees.Exports exports) = CoreExports (map core_export_tree_view exports.items)
+
+-- ---- of components
+
+abbrev pub given_tree_view : {A : Type 0} → String A × ComponentExportKind × ℕ → Given
+given_tree_view g = record { name = string_bytes g.0; kind = g.1; index = g.2 }
+
+abbrev pub exported_tree_view : {A : Type 0} → NameTree A × ComponentExportKind × ℕ → Exported
+exported_tree_view e = record { name = name_tree_view e.0; kind = e.1; index = e.2 }
+
+abbrev pub instance_tree_view : {A : Type 0} → InstanceTree A → Instance
+instance_tree_view (trees.Instantiate index args) = Instantiate index (map given_tree_view args.items)
+instance_tree_view (trees.Exports exports) = Exports (map exported_tree_view exports.items)
+
+-- the text of an export of a tree, and why it can't be encoded
+abbrev pub exported_tree_text : {A : Type 0} → NameTree A × ComponentExportKind × ℕ → List ℕ
+exported_tree_text e = (exported (exported_tree_view e)).text
+
+abbrev pub exported_tree_cause : {A : Type 0} → NameTree A × ComponentExportKind × ℕ → Fault → Type 0
+exported_tree_cause e = exported_cause (exported_tree_view e)

@@ -1,0 +1,86 @@
+-- The section of names (component model, binary format, "Name Section").
+use Rattle.std.specs.Prelude.{◌≡◌, ℕ, ◌+◌, ◌≤◌, ◌^◌, List, [], ◌∷◌, ◌++◌, length, Result}
+use Rattle.std.specs.List.{flat_map}
+use Rattle.wenc_base.specs.Piece.{Form, byte, ◌▸◌, ◌⨾◌, all_of}
+use Rattle.wenc_base.specs.Forms.{name, sized, byte_list}
+use Rattle.wenc_base.specs.Custom.{Custom, custom}
+use Rattle.wenc_base.specs.Encode.{Appends}
+use Rattle.wenc_base.specs.Holder.{Held, held_text, Contains}
+use Rattle.wenc_base.specs.Names.{Named, named_text, name_map}
+use Rattle.wenc_base.specs.declared.fault.Fault.{Fault}
+use Rattle.wenc_base.specs.declared.fault.Fault.TheVariants.{TooLarge}
+use Rattle.wenc_sections.specs.declared.names.Sort.{Sort}
+use Rattle.wenc_sections.specs.declared.names.Sort.TheVariants.{CoreFunc, CoreTable, CoreMemory, CoreGlobal, CoreTag, CoreType, CoreModule, CoreInstance, Func, Value, «Type» as TypeSort, Component, Instance}
+
+-- what names are of (component model, binary format, `sort` and `core:sort`)
+abbrev pub item_sort : Form Sort
+item_sort CoreFunc = 0x00 ▸ byte 0x00
+item_sort CoreTable = 0x00 ▸ byte 0x01
+item_sort CoreMemory = 0x00 ▸ byte 0x02
+item_sort CoreGlobal = 0x00 ▸ byte 0x03
+item_sort CoreTag = 0x00 ▸ byte 0x04
+item_sort CoreType = 0x00 ▸ byte 0x10
+item_sort CoreModule = 0x00 ▸ byte 0x11
+item_sort CoreInstance = 0x00 ▸ byte 0x12
+item_sort Func = byte 0x01
+item_sort Value = byte 0x02
+item_sort TypeSort = byte 0x03
+item_sort Component = byte 0x04
+item_sort Instance = byte 0x05
+
+-- ---- subsections
+
+-- the component's own name, names of items of one sort, or any bytes under any id
+pub data Subsection : Type 0 where
+  ComponentName : (name : List ℕ) → Subsection
+  ItemNames : (sort : Sort) (names : List Named) → Subsection
+  RawNames : (id : ℕ) (bytes : List ℕ) → Subsection
+
+-- its id, how many bytes come, and these
+abbrev pub subsection : Form Subsection
+subsection (ComponentName text) = 0x00 ▸ sized (all_of (name text))
+subsection (ItemNames sort names) = 0x01 ▸ sized (all_of (item_sort sort ⨾ name_map names))
+subsection (RawNames id bytes) = id ▸ byte_list bytes
+
+-- subsections one behind the other
+abbrev pub subsections_text : List Subsection → List ℕ
+subsections_text ss = flat_map (λ s. (subsection s).text) ss
+
+-- what a subsection of names has behind its size, where the names are held
+abbrev pub items_content : Sort → Held → List ℕ
+items_content sort held = (item_sort sort).text ++ held_text held
+
+-- the names of a sort, where it has some
+abbrev pub item_names : Sort → List Named → List Subsection
+item_names sort [] = []
+item_names sort (n ∷ ns) = ItemNames sort (n ∷ ns) ∷ []
+
+-- a subsection for each of these sorts that has names
+abbrev pub name_subsections : List (Sort × List Named) → List Subsection
+name_subsections sorts = flat_map (λ p. item_names p.0 p.1) sorts
+
+-- ---- the section
+
+-- "component-name"
+abbrev pub names_label : List ℕ
+names_label = 0x63 ∷ 0x6f ∷ 0x6d ∷ 0x70 ∷ 0x6f ∷ 0x6e ∷ 0x65 ∷ 0x6e ∷ 0x74 ∷ 0x2d ∷ 0x6e ∷ 0x61 ∷ 0x6d ∷ 0x65 ∷ []
+
+-- the custom section of that name, with these bytes behind it
+abbrev pub names_custom : List ℕ → Custom
+names_custom bytes = record { label = names_label; bytes = bytes }
+
+abbrev pub names_section : Form (List ℕ)
+names_section bytes = custom (names_custom bytes)
+
+-- Why these bytes can't come behind those: with its name, which has 15 bytes, the section would be too large.
+abbrev pub RoomCause : List ℕ → List ℕ → Fault → Type 0
+RoomCause before text fault = (fault ≡ TooLarge) × (2 ^ 32 ≤ 15 + length (before ++ text))
+
+-- A call appends this subsection, or is refused for a cause and changes nothing.
+abbrev pub AppendsSubsection : Subsection → List ℕ → List ℕ → Result (Unit {0}) Fault → Type 0
+AppendsSubsection s old new outcome = Appends (subsection s).text (RoomCause old (subsection s).text) ⊥ old new outcome
+
+-- A call appends the names of a sort that are held: as bytes and, whatever names these are, as their subsection.
+pub record AppendsNames (sort : Sort) (held : Held) (old new : List ℕ) (outcome : Result (Unit {0}) Fault) : Type 0 where
+  pub bytes : AppendsSubsection (RawNames 0x01 (items_content sort held)) old new outcome
+  pub named : (names : List Named) → Contains named_text held names → AppendsSubsection (ItemNames sort names) old new outcome

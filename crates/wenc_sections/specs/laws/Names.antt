@@ -1,0 +1,79 @@
+-- The laws of the section of names.
+use Rattle.std.proofs.Common.{◌≡◌, ℕ, List, [], ◌∷◌, ◌++◌, length, Some, refl, ap}
+use Rattle.wenc_base.specs.Forms.{AreBytes}
+use Rattle.wenc_base.specs.Holder.{Held, held_text, Contains}
+use Rattle.wenc_base.specs.Names.{Named, named_text}
+use Rattle.wenc_base.specs.laws.Forms.{read_name, name_lawful, read_sized, sized_lawful}
+use Rattle.wenc_base.specs.laws.Lawful.{Lawful, Reader, ◌>>=◌, give, nowhere, choose, done, go_on, row, row_byte, then, last, then_whole, whole_lawful, raw_lawful}
+use Rattle.wenc_base.specs.laws.Names.{read_name_map, name_map_lawful, held_names}
+use Rattle.wenc_sections.specs.declared.names.Sort.{Sort}
+use Rattle.wenc_sections.specs.declared.names.Sort.TheVariants.{CoreFunc, CoreTable, CoreMemory, CoreGlobal, CoreTag, CoreType, CoreModule, CoreInstance, Func, Value, «Type» as TypeSort, Component, Instance}
+use Rattle.wenc_sections.specs.Names.{item_sort, Subsection, ComponentName, ItemNames, RawNames, subsection, items_content, names_label, names_section}
+
+-- ---- sorts
+
+abbrev read_core_sort : Reader Sort
+read_core_sort = choose (
+    (0x00, give CoreFunc) ∷
+    (0x01, give CoreTable) ∷
+    (0x02, give CoreMemory) ∷
+    (0x03, give CoreGlobal) ∷
+    (0x04, give CoreTag) ∷
+    (0x10, give CoreType) ∷
+    (0x11, give CoreModule) ∷
+    (0x12, give CoreInstance) ∷ []) nowhere
+
+abbrev pub read_sort : Reader Sort
+read_sort = choose (
+    (0x00, read_core_sort) ∷
+    (0x01, give Func) ∷
+    (0x02, give Value) ∷
+    (0x03, give TypeSort) ∷
+    (0x04, give Component) ∷
+    (0x05, give Instance) ∷ []) nowhere
+
+pub sort_lawful : (sort : Sort) → Lawful (item_sort sort) (λ fuel. read_sort) sort
+sort_lawful CoreFunc = row _ _ 0x00 (row_byte _ _ 0x00 (λ fuel rest. refl))
+sort_lawful CoreTable = row _ _ 0x00 (row_byte _ _ 0x01 (λ fuel rest. refl))
+sort_lawful CoreMemory = row _ _ 0x00 (row_byte _ _ 0x02 (λ fuel rest. refl))
+sort_lawful CoreGlobal = row _ _ 0x00 (row_byte _ _ 0x03 (λ fuel rest. refl))
+sort_lawful CoreTag = row _ _ 0x00 (row_byte _ _ 0x04 (λ fuel rest. refl))
+sort_lawful CoreType = row _ _ 0x00 (row_byte _ _ 0x10 (λ fuel rest. refl))
+sort_lawful CoreModule = row _ _ 0x00 (row_byte _ _ 0x11 (λ fuel rest. refl))
+sort_lawful CoreInstance = row _ _ 0x00 (row_byte _ _ 0x12 (λ fuel rest. refl))
+sort_lawful Func = row_byte _ _ 0x01 (λ fuel rest. refl)
+sort_lawful Value = row_byte _ _ 0x02 (λ fuel rest. refl)
+sort_lawful TypeSort = row_byte _ _ 0x03 (λ fuel rest. refl)
+sort_lawful Component = row_byte _ _ 0x04 (λ fuel rest. refl)
+sort_lawful Instance = row_byte _ _ 0x05 (λ fuel rest. refl)
+
+-- ---- subsections
+
+abbrev read_component_name : Reader Subsection
+read_component_name = read_sized (done (read_name >>= λ text. give (ComponentName text)))
+
+abbrev read_item_names : Reader Subsection
+read_item_names = read_sized (done (read_sort >>= λ sort. read_name_map >>= λ names. give (ItemNames sort names)))
+
+-- all but raw ones
+abbrev pub read_subsection : Reader Subsection
+read_subsection = choose ((0x00, read_component_name) ∷ (0x01, read_item_names) ∷ []) nowhere
+
+pub component_name_lawful : (text : List ℕ) → Lawful (subsection (ComponentName text)) (λ fuel. read_subsection) (ComponentName text)
+component_name_lawful text = row _ _ 0x00 (sized_lawful (whole_lawful (last ComponentName (name_lawful text))))
+
+pub item_names_lawful : (sort : Sort) (names : List Named) → Lawful (subsection (ItemNames sort names)) (λ fuel. read_subsection) (ItemNames sort names)
+item_names_lawful sort names = row _ _ 0x01 (sized_lawful (whole_lawful (then _ (sort_lawful sort) (last (ItemNames sort) (name_map_lawful names)))))
+
+-- the names that are held are a subsection
+pub held_subsection : (sort : Sort) (held : Held) (names : List Named) → Contains named_text held names
+    → (subsection (RawNames 0x01 (items_content sort held))).text ≡ (subsection (ItemNames sort names)).text
+held_subsection sort held names holds = rw (held_names held names holds) refl
+
+-- ---- the section
+
+abbrev pub read_names_section : Reader (List ℕ)
+read_names_section = read_sized (λ content. go_on (read_name content) (λ label bytes. Some bytes))
+
+pub names_section_lawful : (bytes : List ℕ) → Lawful (names_section bytes) (λ fuel. read_names_section) bytes
+names_section_lawful bytes = sized_lawful (then_whole _ (name_lawful names_label) (raw_lawful AreBytes bytes (λ bytes. bytes)))

@@ -1,0 +1,226 @@
+ghost use Rattle.std.specs.List.{flat_map};
+ghost use Rattle.std.specs.Prelude.{◌≡◌, ◌++◌, ℕ, List, All, refl, OnOk, OnErr, IfErr};
+ghost use Rattle.wenc_base.specs.Delimited.{FreeFits};
+ghost use Rattle.wenc_base.specs.Encode.{Appends};
+ghost use Rattle.wenc_base.specs.Fault.{IsWarranted, list_cause, member_cause};
+ghost use Rattle.wenc_base.specs.Forms.{list_text};
+ghost use Rattle.wenc_base.specs.declared.fault.Fault.{Fault as FaultSpec};
+ghost use Rattle.wenc_sections.specs.Instances.{exported};
+ghost use Rattle.wenc_sections.specs.InstanceTrees.{exported_tree_view, exported_tree_text};
+ghost use Rattle.wenc_sections.specs.InstanceTrees.{exported_tree_cause};
+
+use crate::instances::{CORE_EXPORTS, CORE_INSTANTIATE, EXPORTS, INSTANTIATE};
+use std::alloc::{Allocator, Global};
+use wenc_base::{Delimited, Encode, ExportKind, Fault, Tagged};
+use wenc_parts::{ComponentExportKind, ModuleArg, NameTree};
+
+/// An instance of a core module that owns its texts, for commands (component model, binary format,
+/// `core:instanceexpr`). More than 4294967295 arguments or exports can't be encoded, nor can a name of more than
+/// 4294967295 bytes.
+///
+/// ```
+/// let name = String::from_str(alloc, "env")?;
+/// let args = vec![in alloc; (name, ModuleArg::Instance(0))]?;
+/// CoreInstanceTree::Instantiate { module: 1, args }.encode(&mut sink)?;
+/// ```
+#[derive(Drop)]
+pub enum CoreInstanceTree<A: Allocator = Global> {
+    /// An instance of a core module, which is given these arguments under their names.
+    Instantiate {
+        /// The index of the module, from 0 to 4294967295.
+        module: u32,
+        /// The arguments, in their order.
+        args: Vec<(String<A>, ModuleArg), A>,
+    },
+    /// An instance that exports these core items under their names: the kind of each, and its index, from 0 to
+    /// 4294967295.
+    Exports(Vec<(String<A>, ExportKind, u32), A>),
+}
+
+impl<A: Allocator> Encode for CoreInstanceTree<A> {
+    ghost use Rattle.wenc_sections.specs.InstanceTrees.{core_instance_tree_view};
+    ghost use Rattle.wenc_sections.specs.Instances.{core_instance, core_instance_cause};
+
+    ghost text = { λ t. (core_instance (core_instance_tree_view t)).text };
+
+    ghost cause = { λ t. core_instance_cause (core_instance_tree_view t) };
+
+    fn encode<B: Allocator>(&self, sink: &mut Vec<u8, B>) -> Result<(), Fault> {
+        match self {
+            CoreInstanceTree::Instantiate { module, args } => {
+                Tagged(CORE_INSTANTIATE, &(*module, args.as_slice())).encode(sink)
+            }
+            CoreInstanceTree::Exports(exports) => {
+                Tagged(CORE_EXPORTS, &exports.as_slice()).encode(sink)
+            }
+        }
+    }
+}
+
+impl<A: Allocator> Delimited for CoreInstanceTree<A> {
+    ghost use Rattle.wenc_sections.specs.InstanceTrees.{core_instance_tree_view};
+    ghost use Rattle.wenc_sections.specs.Instances.{CoreInstance, core_instance};
+    ghost use Rattle.wenc_sections.specs.laws.Instances.{core_instance_free};
+    ghost use Rattle.wenc_sections.specs.laws.Items.{read_core_instance, core_instance_lawful};
+
+    ghost Seen = { CoreInstance };
+
+    ghost seen = { core_instance_tree_view };
+
+    ghost form = { core_instance };
+
+    fn belongs(&self) {
+        match self {
+            CoreInstanceTree::Instantiate { module, args } => {
+                module.belongs();
+                args.as_slice().belongs();
+            }
+            CoreInstanceTree::Exports(exports) => exports.as_slice().belongs(),
+        }
+    }
+
+    ghost readable = { ((λ fuel. read_core_instance), core_instance_lawful) };
+
+    ghost text_of = { λ x. refl };
+
+    ghost free = { λ x. core_instance_free (core_instance_tree_view x) };
+}
+
+/// An instance of a component that owns its texts, for commands (component model, binary format, `instanceexpr`).
+/// More than 4294967295 arguments or exports can't be encoded, nor can a text of more than 4294967295 bytes.
+///
+/// ```
+/// let name = NameTree::from(String::from_str(alloc, "f")?);
+/// let exports = vec![in alloc; (name, ComponentExportKind::Func, 0)]?;
+/// InstanceTree::Exports(exports).encode(&mut sink)?;
+/// ```
+#[derive(Drop)]
+pub enum InstanceTree<A: Allocator = Global> {
+    /// An instance of a component, which is given these items under their names.
+    Instantiate {
+        /// The index of the component, from 0 to 4294967295.
+        component: u32,
+        /// The name of each item, its kind, and its index, from 0 to 4294967295, in their order.
+        args: Vec<(String<A>, ComponentExportKind, u32), A>,
+    },
+    /// An instance that exports these items under their names: the kind of each, and its index, from 0 to 4294967295.
+    Exports(Vec<(NameTree<A>, ComponentExportKind, u32), A>),
+}
+
+impl<A: Allocator> Encode for InstanceTree<A> {
+    ghost use Rattle.wenc_sections.specs.InstanceTrees.{instance_tree_view};
+    ghost use Rattle.wenc_sections.specs.Instances.{instance, instance_cause};
+
+    ghost text = { λ t. (instance (instance_tree_view t)).text };
+
+    ghost cause = { λ t. instance_cause (instance_tree_view t) };
+
+    fn encode<B: Allocator>(&self, sink: &mut Vec<u8, B>) -> Result<(), Fault> {
+        match self {
+            InstanceTree::Instantiate { component, args } => {
+                Tagged(INSTANTIATE, &(*component, args.as_slice())).encode(sink)
+            }
+            InstanceTree::Exports(exports) => {
+                Tagged(EXPORTS, &ExportList(exports.as_slice())).encode(sink)
+            }
+        }
+    }
+}
+
+impl<A: Allocator> Delimited for InstanceTree<A> {
+    ghost use Rattle.wenc_sections.specs.InstanceTrees.{instance_tree_view};
+    ghost use Rattle.wenc_sections.specs.Instances.{Instance, instance};
+    ghost use Rattle.wenc_sections.specs.laws.Instances.{instance_free};
+    ghost use Rattle.wenc_sections.specs.laws.Items.{read_instance, instance_lawful};
+
+    ghost Seen = { Instance };
+
+    ghost seen = { instance_tree_view };
+
+    ghost form = { instance };
+
+    fn belongs(&self) {
+        match self {
+            InstanceTree::Instantiate { component, args } => {
+                component.belongs();
+                args.as_slice().belongs();
+            }
+            InstanceTree::Exports(exports) => exports_belong(exports.as_slice()),
+        }
+    }
+
+    ghost readable = { ((λ fuel. read_instance), instance_lawful) };
+
+    ghost text_of = { λ x. refl };
+
+    ghost free = { λ x. instance_free (instance_tree_view x) };
+}
+
+/// How many exports, then each. The first refusal that is met is answered.
+#[derive(Drop)]
+struct ExportList<'a, A: Allocator>(&'a [(NameTree<A>, ComponentExportKind, u32)]);
+
+impl<'a, A: Allocator> Encode for ExportList<'a, A> {
+    ghost text = { λ l. list_text exported_tree_text l.0.now };
+
+    ghost cause = { λ l. list_cause exported_tree_cause l.0.now };
+
+    fn encode<B: Allocator>(&self, sink: &mut Vec<u8, B>) -> Result<(), Fault> {
+        let start = sink.len();
+        self.0.len().encode(sink)?;
+        match encode_exports(self.0, sink) {
+            Ok(()) => Ok(()),
+            Err(fault) => {
+                sink.truncate(start);
+                Err(fault)
+            }
+        }
+    }
+}
+
+/// Appends the text of each export, up to the first that is refused.
+fn encode_exports<A: Allocator, B: Allocator>(
+    exports: &[(NameTree<A>, ComponentExportKind, u32)],
+    sink: &mut Vec<u8, B>,
+) -> Result<(), Fault>
+    ensures ok { OnOk result
+        (sink.new.items ≡ sink.old.items ++ flat_map exported_tree_text exports.now) }
+    ensures encodable { (fault : FaultSpec)
+        → member_cause exported_tree_cause exports.now fault → OnOk result ⊥ }
+    ensures err { OnErr result ((more : List ℕ) × (sink.new.items ≡ sink.old.items ++ more)) }
+    ensures warranted { IfErr result (IsWarranted (member_cause exported_tree_cause exports.now)) }
+{
+    for export in exports {
+        encode_export(export, sink)?;
+    }
+    Ok(())
+}
+
+/// Appends the text of an export, or leaves the sink as it was.
+fn encode_export<A: Allocator, B: Allocator>(
+    export: &(NameTree<A>, ComponentExportKind, u32),
+    sink: &mut Vec<u8, B>,
+) -> Result<(), Fault>
+    ensures { Appends (exported_tree_text export.now) (exported_tree_cause export.now) ⊥
+        sink.old.items sink.new.items result }
+{
+    (export.0.as_name(), export.1, export.2).encode(sink)
+}
+
+/// Exports that nothing keeps from being encoded have a text in their form. The call does nothing.
+fn exports_belong<A: Allocator>(exports: &[(NameTree<A>, ComponentExportKind, u32)])
+    ensures { All (FreeFits exported_tree_cause exported_tree_view exported) exports.now }
+{
+    for export in exports {
+        export_belongs(export);
+    }
+}
+
+/// An export that nothing keeps from being encoded has a text in its form. The call does nothing.
+fn export_belongs<A: Allocator>(export: &(NameTree<A>, ComponentExportKind, u32))
+    ensures { FreeFits exported_tree_cause exported_tree_view exported export.now }
+{
+    export.0.as_name().belongs();
+    export.1.belongs();
+    export.2.belongs();
+}

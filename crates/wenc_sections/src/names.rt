@@ -1,0 +1,348 @@
+ghost use Rattle.std.specs.Prelude.{◌≡◌, ◌==◌, ◌+◌, ◌<◌, ◌^◌, [], length, IfOk, IfErr};
+ghost use Rattle.wenc_base.specs.Encode.{Appends};
+ghost use Rattle.wenc_base.specs.Fault.{IsMemory};
+ghost use Rattle.wenc_base.specs.declared.fault.Fault.{Fault as FaultSpec};
+ghost use Rattle.wenc_sections.specs.Names.{item_sort, ComponentName, RawNames, names_label, RoomCause, AppendsSubsection, AppendsNames};
+
+use std::alloc::{Allocator, Global};
+use std::marker::Model;
+use wenc_base::{
+    CustomSection, Delimited, Encode, Fault, Lent, NameMap, Tagged, Verbatim, WithSize,
+};
+use wenc_parts::component::{
+    COMPONENT_SORT, CORE_INSTANCE_SORT, CORE_MODULE_SORT, CORE_SORT, CORE_TYPE_SORT, FUNCTION_SORT,
+    INSTANCE_SORT, TYPE_SORT, VALUE_SORT,
+};
+use wenc_parts::{ComponentSection, ComponentSectionId};
+
+/// The id of the subsection that names the component itself.
+const COMPONENT_NAME: u8 = 0x00;
+
+/// The id of a subsection that names items.
+const ITEM_NAMES: u8 = 0x01;
+
+/// How many bytes the subsections have at most: 15 more are those of the section's name, with its length.
+const LIMIT: usize = 4294967280;
+
+/// What names are of (component model, binary format, `sort` and `core:sort`).
+#[derive(Clone, Copy, Debug, PartialEq, Eq)]
+pub enum Sort {
+    /// Functions of core modules.
+    CoreFunc,
+    /// Tables of core modules.
+    CoreTable,
+    /// Memories of core modules.
+    CoreMemory,
+    /// Globals of core modules.
+    CoreGlobal,
+    /// Tags of core modules.
+    CoreTag,
+    /// Core types.
+    CoreType,
+    /// Core modules.
+    CoreModule,
+    /// Instances of core modules.
+    CoreInstance,
+    /// Functions.
+    Func,
+    /// Values.
+    Value,
+    /// Types.
+    Type,
+    /// Components.
+    Component,
+    /// Instances.
+    Instance,
+}
+
+/// The sort's bytes.
+fn sort_bytes(sort: Sort) -> &'static [u8]
+    ensures { result.now ≡ (item_sort sort).text }
+{
+    match sort {
+        Sort::CoreFunc => &[CORE_SORT, 0x00],
+        Sort::CoreTable => &[CORE_SORT, 0x01],
+        Sort::CoreMemory => &[CORE_SORT, 0x02],
+        Sort::CoreGlobal => &[CORE_SORT, 0x03],
+        Sort::CoreTag => &[CORE_SORT, 0x04],
+        Sort::CoreType => &[CORE_SORT, CORE_TYPE_SORT],
+        Sort::CoreModule => &[CORE_SORT, CORE_MODULE_SORT],
+        Sort::CoreInstance => &[CORE_SORT, CORE_INSTANCE_SORT],
+        Sort::Func => &[FUNCTION_SORT],
+        Sort::Value => &[VALUE_SORT],
+        Sort::Type => &[TYPE_SORT],
+        Sort::Component => &[COMPONENT_SORT],
+        Sort::Instance => &[INSTANCE_SORT],
+    }
+}
+
+/// The subsection of the names of items of one sort (component model, binary format, "Name Section"). It is refused
+/// where it has too many bytes behind its size (`TooLarge`).
+#[derive(Clone, Copy)]
+pub struct NamesOf<'a, A: Allocator = Global>(pub Sort, pub &'a NameMap<A>);
+
+impl<'a, A: Allocator> Encode for NamesOf<'a, A> {
+    ghost use Rattle.wenc_base.specs.Fault.{text_cause};
+    ghost use Rattle.wenc_sections.specs.Names.{RawNames, subsection, items_content};
+
+    ghost text = { λ n. (subsection (RawNames 0x01 (items_content n.0 n.1.now))).text };
+
+    ghost cause = { λ n. text_cause (items_content n.0 n.1.now) };
+
+    fn encode<B: Allocator>(&self, sink: &mut Vec<u8, B>) -> Result<(), Fault> {
+        let sort = sort_bytes(self.0);
+        let Ok(size) = u32::try_from(sort.len() + self.1.size()) else {
+            return Err(Fault::TooLarge);
+        };
+        Tagged(ITEM_NAMES, &(size, Verbatim(sort), Lent(self.1))).encode(sink)
+    }
+}
+
+/// Names of a component and of the items in it: a custom section (component model, binary format, "Name Section").
+/// A call that is refused leaves it as it was. Nothing is asked of the order of the calls.
+///
+/// ```
+/// let mut funcs = NameMap::new(alloc);
+/// funcs.append(0, "f")?;
+/// let mut names = ComponentNameSection::new(alloc);
+/// names.component("c")?;
+/// names.funcs(&funcs)?;
+/// component.section(&names)?;
+/// ```
+#[derive(Drop)]
+pub struct ComponentNameSection<A: Allocator = Global> {
+    /// The subsections, one behind the other.
+    bytes: Vec<u8, A>,
+}
+
+impl<A: Allocator> Model for ComponentNameSection<A> {
+    ghost use Rattle.std.specs.Prelude.{List, ℕ, ◌<◌, ◌+◌, ◌^◌, length};
+
+    ghost Value = { List ℕ };
+
+    ghost view = { λ s. s.bytes.items };
+
+    ghost invariant = { λ s. 15 + length s.bytes.items < 2 ^ 32 };
+}
+
+impl<A: Allocator> ComponentNameSection<A> {
+    /// No names. It takes no memory.
+    pub fn new(alloc: A) -> Self
+        ensures { result ≡ [] }
+    {
+        ComponentNameSection {
+            bytes: Vec::new(alloc),
+        }
+    }
+
+    /// Names the component itself. It is refused, as each call here that names something, where there would be too
+    /// many bytes behind the section's size (`TooLarge`).
+    pub fn component(&mut self, name: &str) -> Result<(), Fault>
+        ensures { AppendsSubsection (ComponentName name.now) self.old self.new result }
+    {
+        self.append(&Tagged(COMPONENT_NAME, &WithSize(&name)))
+    }
+
+    /// Names functions of core modules.
+    pub fn core_funcs<B: Allocator>(&mut self, names: &NameMap<B>) -> Result<(), Fault>
+        ensures { AppendsNames Sort.CoreFunc names.now self.old self.new result }
+    {
+        self.append_names(Sort::CoreFunc, names)
+    }
+
+    /// Names tables of core modules.
+    pub fn core_tables<B: Allocator>(&mut self, names: &NameMap<B>) -> Result<(), Fault>
+        ensures { AppendsNames Sort.CoreTable names.now self.old self.new result }
+    {
+        self.append_names(Sort::CoreTable, names)
+    }
+
+    /// Names memories of core modules.
+    pub fn core_memories<B: Allocator>(&mut self, names: &NameMap<B>) -> Result<(), Fault>
+        ensures { AppendsNames Sort.CoreMemory names.now self.old self.new result }
+    {
+        self.append_names(Sort::CoreMemory, names)
+    }
+
+    /// Names globals of core modules.
+    pub fn core_globals<B: Allocator>(&mut self, names: &NameMap<B>) -> Result<(), Fault>
+        ensures { AppendsNames Sort.CoreGlobal names.now self.old self.new result }
+    {
+        self.append_names(Sort::CoreGlobal, names)
+    }
+
+    /// Names tags of core modules.
+    pub fn core_tags<B: Allocator>(&mut self, names: &NameMap<B>) -> Result<(), Fault>
+        ensures { AppendsNames Sort.CoreTag names.now self.old self.new result }
+    {
+        self.append_names(Sort::CoreTag, names)
+    }
+
+    /// Names core types.
+    pub fn core_types<B: Allocator>(&mut self, names: &NameMap<B>) -> Result<(), Fault>
+        ensures { AppendsNames Sort.CoreType names.now self.old self.new result }
+    {
+        self.append_names(Sort::CoreType, names)
+    }
+
+    /// Names core modules.
+    pub fn core_modules<B: Allocator>(&mut self, names: &NameMap<B>) -> Result<(), Fault>
+        ensures { AppendsNames Sort.CoreModule names.now self.old self.new result }
+    {
+        self.append_names(Sort::CoreModule, names)
+    }
+
+    /// Names instances of core modules.
+    pub fn core_instances<B: Allocator>(&mut self, names: &NameMap<B>) -> Result<(), Fault>
+        ensures { AppendsNames Sort.CoreInstance names.now self.old self.new result }
+    {
+        self.append_names(Sort::CoreInstance, names)
+    }
+
+    /// Names functions.
+    pub fn funcs<B: Allocator>(&mut self, names: &NameMap<B>) -> Result<(), Fault>
+        ensures { AppendsNames Sort.Func names.now self.old self.new result }
+    {
+        self.append_names(Sort::Func, names)
+    }
+
+    /// Names values.
+    pub fn values<B: Allocator>(&mut self, names: &NameMap<B>) -> Result<(), Fault>
+        ensures { AppendsNames Sort.Value names.now self.old self.new result }
+    {
+        self.append_names(Sort::Value, names)
+    }
+
+    /// Names types.
+    pub fn types<B: Allocator>(&mut self, names: &NameMap<B>) -> Result<(), Fault>
+        ensures { AppendsNames Sort.«Type» names.now self.old self.new result }
+    {
+        self.append_names(Sort::Type, names)
+    }
+
+    /// Names components.
+    pub fn components<B: Allocator>(&mut self, names: &NameMap<B>) -> Result<(), Fault>
+        ensures { AppendsNames Sort.Component names.now self.old self.new result }
+    {
+        self.append_names(Sort::Component, names)
+    }
+
+    /// Names instances.
+    pub fn instances<B: Allocator>(&mut self, names: &NameMap<B>) -> Result<(), Fault>
+        ensures { AppendsNames Sort.Instance names.now self.old self.new result }
+    {
+        self.append_names(Sort::Instance, names)
+    }
+
+    /// Appends a subsection with this id and these bytes, as they are.
+    #[tactic(auto, using(crate::proofs::Appended::no_room))]
+    pub fn raw(&mut self, id: u8, data: &[u8]) -> Result<(), Fault>
+        ensures { AppendsSubsection (RawNames id «data».now) self.old self.new result }
+    {
+        self.append(&Tagged(id, &data))
+    }
+
+    /// Appends the subsection of names of this sort.
+    #[tactic(auto, using(crate::proofs::Appended::no_room, crate::proofs::Appended::names_appended))]
+    fn append_names<B: Allocator>(&mut self, sort: Sort, names: &NameMap<B>) -> Result<(), Fault>
+        ensures { AppendsNames sort names.now self.old self.new result }
+    {
+        self.append(&NamesOf(sort, names))
+    }
+
+    /// Appends a subsection, or cuts it off where the section would be too large.
+    #[tactic(auto, using(wenc_base::specs::laws::Causes::still_warranted))]
+    fn append<E: Encode>(&mut self, subsection: &E) -> Result<(), Fault>
+        requires { (fault : FaultSpec) → E.cause subsection.now fault
+            → RoomCause self.old (E.text subsection.now) fault }
+        ensures { Appends (E.text subsection.now) (RoomCause self.old (E.text subsection.now)) ⊥
+            self.old self.new result }
+    {
+        let start = self.bytes.len();
+        subsection.encode(&mut self.bytes)?;
+        if self.bytes.len() > LIMIT {
+            self.bytes.truncate(start);
+            return Err(Fault::TooLarge);
+        }
+        Ok(())
+    }
+
+    /// Whether there is no subsection.
+    pub fn is_empty(&self) -> bool
+        ensures { result ≡ (length self.now == 0) }
+    {
+        self.bytes.is_empty()
+    }
+
+    /// The section as it stands in a component. It takes no memory.
+    pub fn as_custom(&self) -> CustomSection<'_>
+        ensures name { result.name.now ≡ names_label }
+        ensures bytes { result.«data».now ≡ self.now }
+        ensures fits { 15 + length self.now < 2 ^ 32 }
+    {
+        CustomSection {
+            name: "component-name",
+            data: self.bytes.as_slice(),
+        }
+    }
+
+    /// The same names once more. It is refused for want of memory alone.
+    pub fn clone(&self) -> Result<Self, Fault>
+    where
+        A: Clone,
+        ensures same { IfOk result (λ s. s ≡ self.now) }
+        ensures refused { IfErr result IsMemory }
+    {
+        let mut bytes = Vec::new(self.bytes.allocator().clone()?);
+        bytes.extend_from_slice(self.bytes.as_slice())?;
+        Ok(ComponentNameSection { bytes })
+    }
+}
+
+/// It is refused for want of memory alone.
+impl<A: Allocator> Encode for ComponentNameSection<A> {
+    ghost use Rattle.wenc_sections.specs.Names.{names_section};
+
+    ghost text = { λ s. (names_section s).text };
+
+    ghost cause = { λ _ _. ⊥ };
+
+    fn encode<B: Allocator>(&self, sink: &mut Vec<u8, B>) -> Result<(), Fault> {
+        self.as_custom().encode(sink)
+    }
+}
+
+impl<A: Allocator> Delimited for ComponentNameSection<A> {
+    ghost use Rattle.std.specs.Prelude.{refl, List, ℕ};
+    ghost use Rattle.wenc_sections.specs.Names.{names_section};
+    ghost use Rattle.wenc_sections.specs.laws.Names.{read_names_section, names_section_lawful};
+
+    ghost Seen = { List ℕ };
+
+    ghost seen = { λ s. s };
+
+    ghost form = { names_section };
+
+    fn belongs(&self) {
+        let custom = self.as_custom();
+        custom.name.belongs();
+        custom.data.belongs();
+    }
+
+    ghost readable = { ((λ fuel. read_names_section), names_section_lawful) };
+
+    ghost text_of = { λ s. refl };
+
+    ghost free = { λ s h fault cause. cause };
+}
+
+impl<A: Allocator> ComponentSection for ComponentNameSection<A> {
+    ghost use Rattle.wenc_parts.specs.SectionIds.{section_number};
+    ghost use Rattle.wenc_parts.specs.declared.component.ComponentSectionId.{ComponentSectionId};
+
+    ghost section_id = { λ _. section_number ComponentSectionId.CoreCustom };
+
+    fn id(&self) -> u8 {
+        u8::from(ComponentSectionId::CoreCustom)
+    }
+}
