@@ -12,4 +12,12 @@ mod counts;
 #[cfg(test)]
 mod imports;
 #[cfg(test)]
+mod instances;
+#[cfg(test)]
+mod names;
+#[cfg(test)]
 mod nested;
+#[cfg(test)]
+mod options;
+#[cfg(test)]
+mod types;

@@ -1,5 +1,6 @@
 use crate::importing::importing;
 use crate::passed_on;
+use crate::wrapping::wrapped;
 use std::alloc::Global;
 use std::test::Fail;
 use wasm_encoder::Fault;
@@ -22,6 +23,27 @@ fn a_function_passed_on(rt: HostRuntime) -> Result<(), Fail> {
 fn an_import_by_hand(rt: HostRuntime) -> Result<(), Fail> {
     let bytes = text(rt.alloc(), importing(rt.alloc())?)?;
     assert_eq!(rt; bytes.as_str(), "0061736d0d0001000a06010001660100");
+    Ok(())
+}
+
+/// A core module without sections.
+const MODULE: [u8; 8] = [0x00, 0x61, 0x73, 0x6d, 0x01, 0x00, 0x00, 0x00];
+
+/// That module, an instance of it, an alias of its export, a type, the lifted function, and an export.
+const WRAPPED: &str = concat!(
+    "0061736d0d000100",
+    "01080061736d01000000",
+    "020401000000",
+    "060901000001000372756e",
+    "07050140000100",
+    "0806010000000000",
+    "0b0901000372756e010000",
+);
+
+#[test]
+fn a_module_wrapped(rt: HostRuntime) -> Result<(), Fail> {
+    let bytes = text(rt.alloc(), wrapped(rt.alloc(), &MODULE)?)?;
+    assert_eq!(rt; bytes.as_str(), WRAPPED);
     Ok(())
 }
 

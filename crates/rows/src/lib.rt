@@ -30,3 +30,4 @@ mod callers;
 mod commands;
 pub mod importing;
 pub mod lights;
+pub mod wrapping;

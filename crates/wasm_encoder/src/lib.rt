@@ -10,9 +10,11 @@ pub mod laws;
 
 pub use command::{Built, Command, build};
 pub use wenc_base::{
-    AbstractHeapType, CustomSection, Delimited, DelimitedEq, Encode, ExportKind, Fault, HeapType,
-    Holder, Lent, Module, NameMap, ProducersField, ProducersSection, RawCustomSection, RawSection,
-    RefType, Section, SectionId, Tagged, ValType, Verbatim, WithSize, encode_list, encoding_size,
+    AbstractHeapType, ArrayType, CompositeType, CoreTypeEncoder, CustomSection, Delimited,
+    DelimitedEq, Encode, EntityType, ExportKind, Fault, FieldType, FuncType, GlobalType, GroupTree,
+    HeapType, Holder, Lender, Lent, MemoryType, Module, NameMap, ProducersField, ProducersSection,
+    RawCustomSection, RawSection, RefType, Section, SectionId, StorageType, StructType, SubType,
+    TableType, TagType, Tagged, ValType, Verbatim, WithSize, encode_list, encoding_size,
     section_size,
 };
 pub use wenc_builder::ComponentBuilder;
@@ -24,6 +26,12 @@ pub use wenc_parts::{
 };
 pub use wenc_sections::{
     Component, ComponentAliasSection, ComponentExportSection, ComponentImportSection,
-    ComponentInstanceSection, ComponentNameSection, ComponentStartSection, CoreInstanceTree,
-    InstanceSection, InstanceTree, ModuleSection, NestedComponentSection,
+    ComponentInstanceSection, ComponentNameSection, ComponentStartSection, ComponentTypeSection,
+    CoreInstanceTree, CoreTypeSection, InstanceSection, InstanceTree, ModuleSection,
+    NestedComponentSection,
+};
+pub use wenc_types::{
+    CaseTree, ComponentCoreTypeEncoder, ComponentDecl, ComponentDefinedTypeEncoder,
+    ComponentFuncTypeEncoder, ComponentType, ComponentTypeEncoder, CoreTypeTree, DefinedTree,
+    FuncStage, InstanceDecl, InstanceType, ModuleDecl, ModuleType, TypeTree,
 };

@@ -1,5 +1,5 @@
 -- What refuses a part of a call refuses the call.
-use Rattle.std.proofs.Common.{◌≡◌, ℕ, ◌+◌, ◌<◌, ◌^◌, ◌⊎◌, inl, inr, List, [], ◌++◌, length, Option, Some, None, sym, refl, arith, length-append, subst}
+use Rattle.std.proofs.Common.{◌≡◌, ℕ, ◌+◌, ◌<◌, ◌≤◌, ◌^◌, ◌⊎◌, inl, inr, List, [], ◌++◌, length, Option, Some, None, sym, refl, arith, length-append, subst}
 use Rattle.std.proofs.lemmas.List.{get_or-set_same}
 use Rattle.std.proofs.lemmas.Bool.Decides.{eqb_tells}
 use Rattle.wenc_base.specs.Number.{number_size}
@@ -51,18 +51,27 @@ begun_free old d h l none space section fault (inr c) = let unfinished = c.1 in 
 -- ---- its text
 
 -- a section with more bytes has more causes
-grows_at : (id count : ℕ) (body text : List ℕ) (fault : Fault) → SectionCause (Some (record { id = id; count = count; body = body ++ [] })) fault → SectionCause (Some (record { id = id; count = count; body = body ++ text })) fault
-grows_at id count body text (Memory e) c = c
-grows_at id count body text TooMany c = c
-grows_at id count body text TooLarge c = omega (arith, c, length-append body [], length-append body text)
-grows_at id count body text Unfinished c = c
+grows_at : (id count : ℕ) (body text more : List ℕ) (fault : Fault) → SectionCause (Some (record { id = id; count = count; body = body ++ text })) fault → SectionCause (Some (record { id = id; count = count; body = body ++ (text ++ more) })) fault
+grows_at id count body text more (Memory e) c = c
+grows_at id count body text more TooMany c = c
+grows_at id count body text more TooLarge c = omega (arith, c, length-append body text, length-append body (text ++ more), length-append text more)
+grows_at id count body text more Unfinished c = c
 
-section_grows : (closed : List ℕ) (o : Option OpenSection) (id : ℕ) (text : List ℕ) (fault : Fault) → SectionCause (entered_at closed o id []).current fault → SectionCause (entered_at closed o id text).current fault
-section_grows closed None id text fault c = grows_at id 1 [] text fault c
-section_grows closed (Some o) id text fault c =
+pub section_grows : (closed : List ℕ) (o : Option OpenSection) (id : ℕ) (text more : List ℕ) (fault : Fault) → SectionCause (entered_at closed o id text).current fault → SectionCause (entered_at closed o id (text ++ more)).current fault
+section_grows closed None id text more fault c = grows_at id 1 [] text more fault c
+section_grows closed (Some o) id text more fault c =
     elim (eqb_tells o.id id) [
-      | inl t ↦ let d = rw t.0 at c in rw t.0 (grows_at o.id (o.count + 1) o.body text fault d)
-      | inr t ↦ let d = rw t.0 at c in rw t.0 (grows_at id 1 [] text fault d)
+      | inl t ↦ let d = rw t.0 at c in rw t.0 (grows_at o.id (o.count + 1) o.body text more fault d)
+      | inr t ↦ let d = rw t.0 at c in rw t.0 (grows_at id 1 [] text more fault d)
+    ]
+
+-- a text that is too long alone makes too large a section
+pub long_is_large : (closed : List ℕ) (o : Option OpenSection) (id : ℕ) (text : List ℕ) → 2 ^ 32 ≤ length text → SectionCause (entered_at closed o id text).current TooLarge
+long_is_large closed None id text h = omega (arith, h)
+long_is_large closed (Some o) id text h =
+    elim (eqb_tells o.id id) [
+      | inl t ↦ rw t.0 (omega (arith, h, length-append o.body text))
+      | inr t ↦ rw t.0 (omega (arith, h))
     ]
 
 many_shrinks : (closed : List ℕ) (o : Option OpenSection) (id : ℕ) (text : List ℕ) → SectionCause (entered_at closed o id text).current TooMany → SectionCause (entered_at closed o id []).current TooMany
@@ -77,7 +86,7 @@ pub beginning_refuses : (old : State) (id space : ℕ) (name : Option (List ℕ)
     → CallCause old (λ _. ⊥) (content_of (begun_with old (draft id space name []))) (Some (draft_place (draft id space name []))) fault → CallCause old cause (content_of (begun_with old (draft id space name text))) (Some (draft_place (draft id space name text))) fault
 beginning_refuses old id space name text cause fault (inl (inl c)) = absurd c
 beginning_refuses old id space name text cause fault (inl (inr (inl c))) = inl (inr (inl c))
-beginning_refuses old id space name text cause fault (inl (inr (inr c))) = inl (inr (inr (section_grows old.settled.sections.closed old.settled.sections.current id text fault c)))
+beginning_refuses old id space name text cause fault (inl (inr (inr c))) = inl (inr (inr (section_grows old.settled.sections.closed old.settled.sections.current id [] text fault c)))
 beginning_refuses old id space name text cause fault (inr c) = inr c
 
 pub text_refuses : (old : State) (d : Draft) (cause : Fault → Type 0) (fault : Fault) → AppendCause cause (entered old.settled.sections d.id d.text).current fault → CallCause old cause (content_of (begun_with old d)) (Some (draft_place d)) fault

@@ -1,70 +1,84 @@
 -- A draft that is an entry enters every list that was held.
-use Rattle.std.proofs.Common.{◌≡◌, ℕ, inl, inr, List, [], ◌∷◌, ◌++◌, Option, None, Some, Result, Ok, Err, true, false, is_none, refl, sym, ◌∙◌, ap, subst}
+use Rattle.std.proofs.Common.{◌≡◌, ℕ, ◌<◌, ◌^◌, inl, inr, List, [], ◌∷◌, ◌++◌, length, Option, None, Some, Result, Ok, Err, true, false, is_none, refl, sym, ◌∙◌, ap, subst}
+use Rattle.std.proofs.lemmas.Bool.{cases_lt}
 use Rattle.std.specs.Result.{IfOk, IfErr, OnOk}
+use Rattle.wenc_base.specs.Holder.{Held, is_finished, EncodeCause}
 use Rattle.wenc_base.specs.Number.{unsigned_text}
 use Rattle.wenc_base.specs.Fault.{IsWarranted, first_of, text_cause}
 use Rattle.wenc_base.specs.Forms.{option_text}
 use Rattle.wenc_base.specs.declared.fault.Fault.{Fault}
 use Rattle.wenc_base.specs.declared.fault.Fault.TheVariants.{Memory, TooMany, TooLarge, Unfinished}
-use Rattle.wenc_base.specs.laws.Causes.{SameCause, still_warranted}
+use Rattle.wenc_base.specs.Delimited.{NoCause}
+use Rattle.wenc_base.specs.laws.Causes.{SameCause, still_warranted, alone, never}
 use Rattle.wenc_parts.specs.declared.exports.ComponentExportKind.{ComponentExportKind}
 use Rattle.wenc_parts.specs.declared.imports.ComponentTypeRef.{ComponentTypeRef}
 use Rattle.wenc_parts.specs.Exports.{export_kind}
-use Rattle.wenc_parts.specs.Imports.{kind_of, ExternName, extern_name, extern_name_cause, option_cause, type_reference}
-use Rattle.wenc_parts.specs.Aliases.{AliasOf, InstanceExport, CoreInstanceExport, Outer, alias, alias_cause}
-use Rattle.wenc_canon.specs.Canonicals.{Field, Index, Options, Flag, Zero, CoreType, Results, Value, Values, field_cause, fields_cause, row, Canonical, Lift, Lower, Provided, canonical, canonical_cause}
+use Rattle.wenc_parts.specs.Imports.{kind_of, ExternName, extern_name, extern_name_cause, type_reference}
+use Rattle.wenc_parts.specs.Aliases.{AliasOf, alias, alias_cause}
+use Rattle.wenc_canon.specs.Canonicals.{Canonical, canonical, canonical_cause}
+use Rattle.wenc_types.specs.ComponentTypes.{TypeOf, type_text}
+use Rattle.wenc_types.specs.TypeTrees.{type_cause}
+use Rattle.wenc_types.specs.laws.Sizes.{short_type_free}
 use Rattle.wenc_sections.specs.Start.{Start, start_cause}
 use Rattle.wenc_base.specs.Custom.{Custom, custom_cause}
 use Rattle.wenc_sections.specs.Exports.{export_text}
 use Rattle.wenc_builder.specs.declared.builder.space.Space.{Space}
 use Rattle.wenc_builder.specs.declared.builder.kind.Kind.TheVariants as kinds
-use Rattle.wenc_builder.specs.Item.{Item, ModuleItem, ComponentItem, AliasItem, CanonItem, StartItem, ImportItem, ExportItem, CustomItem, RawItem, collected, item, item_cause}
+use Rattle.wenc_builder.specs.Item.{ModuleItem, ComponentItem, StartItem, CustomItem, RawItem, collected, item, item_cause}
 use Rattle.wenc_builder.specs.Space.{space_number, kind_space, alias_space, canonical_space, IsPlaceOf, Defined, defined_as, defines}
 use Rattle.wenc_builder.specs.declared.builder.space.Space.TheVariants as spaces
-use Rattle.wenc_builder.specs.Entry.{Entry, entry, items, module_entry, component_entry, canonical_entry, raw_entry, import_entry, export_entry, alias_entry}
+use Rattle.wenc_builder.specs.Entry.{Entry, entry, items, module_entry, component_entry, canonical_entry, raw_entry, import_entry, export_entry, alias_entry, type_entry}
 use Rattle.wenc_builder.specs.Builder.{Namespace, sections_text, Content, with_entry, with_alone, State, builder_is_finished, step, settled_in, content_of, namespace_at, Draft, draft, draft_place, begun_with, ended}
 use Rattle.wenc_builder.specs.Holds.{Holds}
 use Rattle.wenc_builder.specs.Cause.{PlaceCause, CallCause, EnterCause}
 use Rattle.wenc_builder.specs.Enters.{EntersWith, Enters, EntersPlaceless, TakesWith, Takes, TakesAlone, TakesNoPlace}
-use Rattle.wenc_builder.specs.Layout.{kind_id, Buffered, NestCause}
-use Rattle.wenc_builder.proofs.Caused.{cause_is}
+use Rattle.wenc_builder.specs.Layout.{kind_id, draft_of, Buffered, NestCause}
+use Rattle.wenc_builder.proofs.Caused.{cause_is, long_is_large}
+use Rattle.wenc_builder.proofs.Never.{never_unfinished}
 use Rattle.wenc_builder.specs.laws.Step.{holds_step, holds_index, places_within}
 
--- This content is the one with this entry, which takes these places, and what is against the item is this.
-pub record IsEntry (old : State) (x : Entry) (after : Content) (places : Option Defined) (cause : Fault → Type 0) : Type 0 where
+-- What one stands for, the other does, and there is no other without the one.
+abbrev pub Leads : (Fault → Type 0) → (Fault → Type 0) → Type 0
+Leads one other = ((fault : Fault) → one fault → other fault) × (NoCause one → NoCause other)
+
+pub leads : (one other : Fault → Type 0) → SameCause one other → Leads one other
+leads one other same = (same.0, λ none fault c. none fault (same.1 fault c))
+
+pub through : (one two three : Fault → Type 0) → Leads one two → Leads two three → Leads one three
+through one two three a b = (λ fault c. b.0 fault (a.0 fault c), λ none. b.1 (a.1 none))
+
+-- This content is the one with this entry, which takes these places.
+pub record IsEntry (old : State) (x : Entry) (after : Content) (places : Option Defined) : Type 0 where
   pub content : after ≡ with_entry old.settled x
   pub defined : defines x.item ≡ places
-  pub same : SameCause cause (item_cause x.item)
 
--- This draft is this entry, and what is against its text is what is against the item.
+-- This draft is this entry, and what is against its text is against the item.
 pub record IsDraftOf (x : Entry) (d : Draft) (cause : Fault → Type 0) : Type 0 where
   pub section : collected x.item ≡ Some d.id
   pub defined : defines x.item ≡ Some (draft_place d)
   pub named : x.name ≡ d.name
   pub bytes : (item x.item).text ≡ d.text
-  pub same : SameCause cause (item_cause x.item)
+  pub leads : Leads cause (item_cause x.item)
 
-draft_is : (old : State) (x : Entry) (d : Draft) (cause : Fault → Type 0) → IsDraftOf x d cause → IsEntry old x (content_of (begun_with old d)) (Some (draft_place d)) cause
-draft_is old x d cause w = record {
-  content = rw (w.section, w.defined, w.named, w.bytes) refl;
-  defined = w.defined;
-  same = w.same;
+draft_is : (old : State) (x : Entry) (d : Draft) → collected x.item ≡ Some d.id → defines x.item ≡ Some (draft_place d) → x.name ≡ d.name → (item x.item).text ≡ d.text → IsEntry old x (content_of (begun_with old d)) (Some (draft_place d))
+draft_is old x d section defined named bytes = record {
+  content = rw (section, defined, named, bytes) refl;
+  defined = defined;
 }
 
--- What stands alone is this entry, and what is against its text is what is against the item.
+-- What stands alone is this entry, and what is against its text is against the item.
 pub record IsAloneOf (x : Entry) (places : Option Defined) (name : Option (List ℕ)) (text : List ℕ) (cause : Fault → Type 0) : Type 0 where
   pub alone : collected x.item ≡ None
   pub defined : defines x.item ≡ places
   pub named : x.name ≡ name
   pub bytes : (item x.item).text ≡ text
-  pub same : SameCause cause (item_cause x.item)
+  pub leads : Leads cause (item_cause x.item)
 
 alone_is : (old : State) (x : Entry) (places : Option Defined) (name : Option (List ℕ)) (text : List ℕ) (cause : Fault → Type 0) → IsAloneOf x places name text cause
-    → IsEntry old x (with_alone old.settled places name text) places cause
+    → IsEntry old x (with_alone old.settled places name text) places
 alone_is old x places name text cause w = record {
   content = rw (w.alone, w.defined, w.named, w.bytes) refl;
   defined = w.defined;
-  same = w.same;
 }
 
 -- ---- its causes
@@ -74,60 +88,17 @@ same_call old one other after places fault f (inl (inl c)) = inl (inl (f c))
 same_call old one other after places fault f (inl (inr c)) = inl (inr c)
 same_call old one other after places fault f (inr c) = inr c
 
-to_entry : (old : State) (x : Entry) (after : Content) (places : Option Defined) (cause : Fault → Type 0) → IsEntry old x after places cause → (fault : Fault) → CallCause old cause after places fault → EnterCause old x fault
-to_entry old x after places cause w fault c =
+to_entry : (old : State) (x : Entry) (after : Content) (places : Option Defined) (cause : Fault → Type 0) → IsEntry old x after places → ((fault : Fault) → cause fault → item_cause x.item fault) → (fault : Fault) → CallCause old cause after places fault → EnterCause old x fault
+to_entry old x after places cause w leads fault c =
     let P : Content → Type 0 = λ k. CallCause old cause k places fault in
     let Q : Option Defined → Type 0 = λ k. CallCause old cause (with_entry old.settled x) k fault in
-    same_call old cause (item_cause x.item) (with_entry old.settled x) (defines x.item) fault (w.same.0 fault) (subst Q (sym w.defined) (subst P w.content c))
+    same_call old cause (item_cause x.item) (with_entry old.settled x) (defines x.item) fault (leads fault) (subst Q (sym w.defined) (subst P w.content c))
 
-from_entry : (old : State) (x : Entry) (after : Content) (places : Option Defined) (cause : Fault → Type 0) → IsEntry old x after places cause → (fault : Fault) → EnterCause old x fault → CallCause old cause after places fault
-from_entry old x after places cause w fault c =
+from_entry : (old : State) (x : Entry) (after : Content) (places : Option Defined) (cause : Fault → Type 0) → IsEntry old x after places → NoCause (item_cause x.item) → (fault : Fault) → EnterCause old x fault → CallCause old cause after places fault
+from_entry old x after places cause w none fault c =
     let P : Content → Type 0 = λ k. CallCause old cause k places fault in
     let Q : Option Defined → Type 0 = λ k. CallCause old cause (with_entry old.settled x) k fault in
-    subst P (sym w.content) (subst Q w.defined (same_call old (item_cause x.item) cause (with_entry old.settled x) (defines x.item) fault (w.same.1 fault) c))
-
--- an item is never unfinished
-field_never_unfinished : (f : Field) (v : Value f) → field_cause f v Unfinished → ⊥
-field_never_unfinished Index v c = c
-field_never_unfinished Options v c = c
-field_never_unfinished Flag v c = c
-field_never_unfinished Zero v c = c
-field_never_unfinished CoreType v c = c
-field_never_unfinished Results v c = c
-
-option_never_unfinished : (o : Option (List ℕ)) → option_cause o Unfinished → ⊥
-option_never_unfinished None c = c
-option_never_unfinished (Some text) c = c
-
-name_never_unfinished : (n : ExternName) → extern_name_cause n Unfinished → ⊥
-name_never_unfinished n (inl c) = c
-name_never_unfinished n (inr (inl c)) = option_never_unfinished n.implements c
-name_never_unfinished n (inr (inr (inl c))) = option_never_unfinished n.version_suffix c
-name_never_unfinished n (inr (inr (inr c))) = option_never_unfinished n.external_id c
-
-fields_never_unfinished : (fs : List Field) (vs : Values fs) → fields_cause fs vs Unfinished → ⊥
-fields_never_unfinished [] vs c = c
-fields_never_unfinished (f ∷ []) v c = field_never_unfinished f v c
-fields_never_unfinished (f ∷ g ∷ fs) vs c = fields_never_unfinished (g ∷ fs) vs.1 c
-
-function_never_unfinished : (f : Canonical) → canonical_cause f Unfinished → ⊥
-function_never_unfinished (Lift function options ty) c = c
-function_never_unfinished (Lower function options) c = c
-function_never_unfinished (Provided i values) c = fields_never_unfinished (row i).fields values c
-
-never_unfinished : (x : Item) → item_cause x Unfinished → ⊥
-never_unfinished (ModuleItem bytes) c = c
-never_unfinished (ComponentItem bytes) c = c
-never_unfinished (AliasItem (InstanceExport instance kind name)) c = c
-never_unfinished (AliasItem (CoreInstanceExport instance kind name)) c = c
-never_unfinished (AliasItem (Outer kind count number)) c = c
-never_unfinished (CanonItem function) c = function_never_unfinished function c
-never_unfinished (StartItem start) (inl c) = c
-never_unfinished (StartItem start) (inr c) = c.1
-never_unfinished (ImportItem import) c = name_never_unfinished import.name c
-never_unfinished (ExportItem export) c = name_never_unfinished export.name c
-never_unfinished (CustomItem custom) c = c
-never_unfinished (RawItem bytes) c = c
+    subst P (sym w.content) (subst Q w.defined (same_call old (item_cause x.item) cause (with_entry old.settled x) (defines x.item) fault (λ own. absurd (none fault own)) c))
 
 place_never_unfinished : (space : ℕ → Namespace) (d : Option Defined) → PlaceCause space d Unfinished → ⊥
 place_never_unfinished space None c = c
@@ -142,12 +113,12 @@ only_unfinished old x (inr c) = c.1
 -- ---- its call
 
 pub enters : {R : Type 0} (old new next : State) (result : Result R Fault) (x : Entry) (after : Content) (places : Option Defined) (cause : Fault → Type 0) (Told : R → Type 0) (Tells : List Entry → R → Type 0)
-    → IsEntry old x after places cause → next ≡ settled_in after → ((es : List Entry) → Holds old es → (r : R) → Told r → Tells es r)
+    → IsEntry old x after places → ((fault : Fault) → cause fault → item_cause x.item fault) → OnOk result (NoCause (item_cause x.item)) → next ≡ settled_in after → ((es : List Entry) → Holds old es → (r : R) → Told r → Tells es r)
     → TakesWith old new next result after places cause Told → EntersWith old new result x Tells
-enters {R} old new next result x after places cause Told Tells w done tells t = record {
+enters {R} old new next result x after places cause Told Tells w leads none done tells t = record {
   held = held result t.ok t.told;
   state = state result t.ok;
-  free = free result t.free;
+  free = free result none t.free;
   err = t.err;
   warranted = warranted result t.warranted;
   unfinished = (t.unfinished_first, only result t.warranted);
@@ -164,40 +135,54 @@ enters {R} old new next result x after places cause Told Tells w done tells t = 
     state (Ok a) e = is_step e
     state (Err fault) e = tt
 
-    free : (r : Result R Fault) → OnOk r ((fault : Fault) → CallCause old cause after places fault → ⊥) → OnOk r ((fault : Fault) → EnterCause old x fault → ⊥)
-    free (Ok a) f = λ fault c. f fault (from_entry old x after places cause w fault c)
-    free (Err fault) f = tt
+    free : (r : Result R Fault) → OnOk r (NoCause (item_cause x.item)) → OnOk r ((fault : Fault) → CallCause old cause after places fault → ⊥) → OnOk r ((fault : Fault) → EnterCause old x fault → ⊥)
+    free (Ok a) own f = λ fault c. f fault (from_entry old x after places cause w own fault c)
+    free (Err fault) own f = tt
 
     warranted : (r : Result R Fault) → IfErr r (IsWarranted (CallCause old cause after places)) → IfErr r (IsWarranted (EnterCause old x))
     warranted (Ok a) f = tt
-    warranted (Err fault) f = still_warranted _ _ (to_entry old x after places cause w) fault f
+    warranted (Err fault) f = still_warranted _ _ (to_entry old x after places cause w leads) fault f
 
     only : (r : Result R Fault) → IfErr r (IsWarranted (CallCause old cause after places)) → r ≡ Err Unfinished → builder_is_finished old ≡ false
     only (Ok a) f e = cc
     only (Err (Memory m)) f e = cc
     only (Err TooMany) f e = cc
     only (Err TooLarge) f e = cc
-    only (Err Unfinished) f e = only_unfinished old x (to_entry old x after places cause w Unfinished f)
+    only (Err Unfinished) f e = only_unfinished old x (to_entry old x after places cause w leads Unfinished f)
+
+-- nothing stands against a text that was taken
+none_own : {R : Type 0} (old new next : State) (result : Result R Fault) (after : Content) (places : Option Defined) (cause own : Fault → Type 0) (Told : R → Type 0) → (NoCause cause → NoCause own)
+    → TakesWith old new next result after places cause Told → OnOk result (NoCause own)
+none_own old new next (Ok a) after places cause own Told leads t = leads (λ fault c. t.free fault (inl (inl c)))
+none_own old new next (Err fault) after places cause own Told leads t = tt
 
 -- the number of items in a space is the place of what comes next
 place_told : (old : State) (x : Entry) (d : Defined) → defines x.item ≡ Some d → (es : List Entry) → Holds old es → (i : ℕ) → i ≡ (namespace_at old.settled.spaces d.space).count → IsPlaceOf (items es) x.item i
 place_told old x d e es h i f = rw e (holds_index old es d.space i h (places_within x.item d e) f)
 
 pub draft_enters : (old new : State) (result : Result ℕ Fault) (x : Entry) (d : Draft) (cause : Fault → Type 0) → IsDraftOf x d cause → Takes old new (ended (begun_with old d)) result d cause → Enters old new result x
-draft_enters old new result x d cause w t = enters old new (ended (begun_with old d)) result x (content_of (begun_with old d)) (Some (draft_place d)) cause _ _ (draft_is old x d cause w) refl (place_told old x (draft_place d) w.defined) t
+draft_enters old new result x d cause w t =
+    enters old new (ended (begun_with old d)) result x (content_of (begun_with old d)) (Some (draft_place d)) cause _ _ (draft_is old x d w.section w.defined w.named w.bytes) w.leads.0
+    (none_own old new (ended (begun_with old d)) result (content_of (begun_with old d)) (Some (draft_place d)) cause (item_cause x.item) _ w.leads.1 t) refl (place_told old x (draft_place d) w.defined) t
 
 pub alone_enters : (old new : State) (result : Result ℕ Fault) (x : Entry) (d : Defined) (name : Option (List ℕ)) (text : List ℕ) (cause : Fault → Type 0) → IsAloneOf x (Some d) name text cause
     → TakesAlone old new result d name text cause → Enters old new result x
-alone_enters old new result x d name text cause w t = enters old new (settled_in (with_alone old.settled (Some d) name text)) result x (with_alone old.settled (Some d) name text) (Some d) cause _ _ (alone_is old x (Some d) name text cause w) refl (place_told old x d w.defined) t
+alone_enters old new result x d name text cause w t =
+    let after = with_alone old.settled (Some d) name text in
+    enters old new (settled_in after) result x after (Some d) cause _ _ (alone_is old x (Some d) name text cause w) w.leads.0
+    (none_own old new (settled_in after) result after (Some d) cause (item_cause x.item) _ w.leads.1 t) refl (place_told old x d w.defined) t
 
 pub placeless_enters : (old new : State) (result : Result (Unit {0}) Fault) (x : Entry) (text : List ℕ) (cause : Fault → Type 0) → IsAloneOf x None None text cause
     → TakesNoPlace old new result text cause → EntersPlaceless old new result x
-placeless_enters old new result x text cause w t = enters old new (settled_in (with_alone old.settled None None text)) result x (with_alone old.settled None None text) None cause _ _ (alone_is old x None None text cause w) refl (λ es h r u. tt) t
+placeless_enters old new result x text cause w t =
+    let after = with_alone old.settled None None text in
+    enters old new (settled_in after) result x after None cause _ _ (alone_is old x None None text cause w) w.leads.0
+    (none_own old new (settled_in after) result after None cause (item_cause x.item) _ w.leads.1 t) refl (λ es h r u. tt) t
 
 -- ---- each call
 
-itself : (cause : Fault → Type 0) → SameCause cause cause
-itself cause = (λ fault c. c, λ fault c. c)
+pub itself : (cause : Fault → Type 0) → Leads cause cause
+itself cause = (λ fault c. c, λ none. none)
 
 pub canonical_enters : (old new : State) (result : Result ℕ Fault) (f : Canonical) (space : Space) (name : Option (List ℕ)) → canonical_space f ≡ space
     → Takes old new (ended (begun_with old (draft (kind_id kinds.CanonicalFunction) (space_number space) name (canonical f).text))) result (draft (kind_id kinds.CanonicalFunction) (space_number space) name (canonical f).text) (canonical_cause f)
@@ -207,41 +192,63 @@ canonical_enters old new result f space name s t = draft_enters old new result (
   defined = rw s refl;
   named = refl;
   bytes = refl;
-  same = itself (canonical_cause f);
+  leads = itself (canonical_cause f);
 }) t
 
 pub module_enters : (old new : State) (result : Result ℕ Fault) (bytes text : List ℕ) (name : Option (List ℕ)) → text ≡ (item (ModuleItem bytes)).text
     → TakesAlone old new result (defined_as spaces.CoreModules 1) name text (text_cause bytes) → Enters old new result (module_entry name bytes)
 module_enters old new result bytes text name e t = alone_enters old new result (module_entry name bytes) (defined_as spaces.CoreModules 1) name text (text_cause bytes)
-    (record { alone = refl; defined = refl; named = refl; bytes = sym e; same = itself (text_cause bytes) }) t
+    (record { alone = refl; defined = refl; named = refl; bytes = sym e; leads = itself (text_cause bytes) }) t
 
 pub component_enters : (old new : State) (result : Result ℕ Fault) (bytes text : List ℕ) (name : Option (List ℕ)) → text ≡ (item (ComponentItem bytes)).text
     → TakesAlone old new result (defined_as spaces.Components 1) name text (text_cause bytes) → Enters old new result (component_entry name bytes)
 component_enters old new result bytes text name e t = alone_enters old new result (component_entry name bytes) (defined_as spaces.Components 1) name text (text_cause bytes)
-    (record { alone = refl; defined = refl; named = refl; bytes = sym e; same = itself (text_cause bytes) }) t
+    (record { alone = refl; defined = refl; named = refl; bytes = sym e; leads = itself (text_cause bytes) }) t
 
 pub start_enters : (old new : State) (result : Result ℕ Fault) (s : Start) (text : List ℕ) → text ≡ (item (StartItem s)).text
     → TakesAlone old new result (defined_as spaces.Values s.results) None text (start_cause s) → Enters old new result (entry (StartItem s) None)
 start_enters old new result s text e t = alone_enters old new result (entry (StartItem s) None) (defined_as spaces.Values s.results) None text (start_cause s)
-    (record { alone = refl; defined = refl; named = refl; bytes = sym e; same = itself (start_cause s) }) t
+    (record { alone = refl; defined = refl; named = refl; bytes = sym e; leads = itself (start_cause s) }) t
 
 pub custom_enters : (old new : State) (result : Result (Unit {0}) Fault) (c : Custom) (text : List ℕ) → text ≡ (item (CustomItem c)).text
     → TakesNoPlace old new result text (custom_cause c) → EntersPlaceless old new result (entry (CustomItem c) None)
 custom_enters old new result c text e t = placeless_enters old new result (entry (CustomItem c) None) text (custom_cause c)
-    (record { alone = refl; defined = refl; named = refl; bytes = sym e; same = itself (custom_cause c) }) t
+    (record { alone = refl; defined = refl; named = refl; bytes = sym e; leads = itself (custom_cause c) }) t
 
 pub raw_enters : (old new : State) (result : Result (Unit {0}) Fault) (bytes text : List ℕ) → text ≡ (item (RawItem bytes)).text
     → TakesNoPlace old new result text (λ _. ⊥) → EntersPlaceless old new result (raw_entry bytes)
 raw_enters old new result bytes text e t = placeless_enters old new result (raw_entry bytes) text (λ _. ⊥)
-    (record { alone = refl; defined = refl; named = refl; bytes = sym e; same = itself (λ _. ⊥) }) t
+    (record { alone = refl; defined = refl; named = refl; bytes = sym e; leads = itself (λ _. ⊥) }) t
+
+-- nothing is against a holder that is finished
+pub finished_free : (h : Held) → is_finished h ≡ true → (fault : Fault) → EncodeCause h fault → ⊥
+finished_free h e fault own = let unfinished = own.1 in cc
+
+-- a type: where its text is short enough for a section, nothing in it has a cause
+pub type_enters : (old new : State) (result : Result ℕ Fault) (t : TypeOf) (name : Option (List ℕ)) (text : List ℕ) (cause : Fault → Type 0) → text ≡ type_text t → ((fault : Fault) → cause fault → type_cause t fault)
+    → Takes old new (ended (begun_with old (draft_of kinds.«Type» spaces.Types name text))) result (draft_of kinds.«Type» spaces.Types name text) cause → Enters old new result (type_entry name t)
+type_enters old new result t name text cause e own k =
+    enters old new (ended (begun_with old d)) result (type_entry name t) (content_of (begun_with old d)) (Some (draft_place d)) cause _ _ (draft_is old (type_entry name t) d refl refl refl (sym e)) own (none result k.free) refl (place_told old (type_entry name t) (draft_place d) refl) k
+  where
+    d : Draft
+    d = draft_of kinds.«Type» spaces.Types name text
+
+    none : (r : Result ℕ Fault) → OnOk r ((fault : Fault) → CallCause old cause (content_of (begun_with old d)) (Some (draft_place d)) fault → ⊥) → OnOk r (NoCause (type_cause t))
+    none (Ok i) free =
+        let short : length text < 2 ^ 32 = elim (cases_lt (length text) (2 ^ 32)) [
+          | inl short ↦ short
+          | inr long ↦ absurd (free TooLarge (inl (inr (inr (long_is_large old.settled.sections.closed old.settled.sections.current d.id text long)))))
+        ] in
+        short_type_free t (rw e at short)
+    none (Err f) free = tt
 
 -- what refuses a pair refuses its name, where the rest is never refused
-first_cause : (cause : Fault → Type 0) → SameCause (first_of cause (λ fault. ⊥)) cause
-first_cause cause = (λ fault h. elim h [ inl c ↦ c | inr p ↦ absurd p.1 ], λ fault c. inl c)
+first_cause : (cause : Fault → Type 0) → Leads (first_of cause (λ fault. ⊥)) cause
+first_cause cause = leads _ _ (alone cause never (λ fault none. none))
 
 only_name : {P : ComponentTypeRef → Type 0} (cause : Fault → Type 0)
-    → SameCause (first_of cause (first_of (λ fault. ⊥) (first_of (λ fault. ⊥) (λ fault. (r : ComponentTypeRef) × P r × ⊥)))) cause
-only_name cause = (
+    → Leads (first_of cause (first_of (λ fault. ⊥) (first_of (λ fault. ⊥) (λ fault. (r : ComponentTypeRef) × P r × ⊥)))) cause
+only_name cause = leads _ _ (
   λ fault h. elim h [ inl c ↦ c | inr p ↦ elim p.1 [ inl one ↦ absurd one | inr q ↦ elim q.1 [ inl two ↦ absurd two | inr r ↦ absurd r.1.2 ] ] ],
   λ fault c. inl c,
 )
@@ -255,7 +262,7 @@ import_enters old new result n ty kind space name k s e d is t = draft_enters ol
   defined = rw (s, k) refl;
   named = rw e refl;
   bytes = refl;
-  same = first_cause (extern_name_cause n);
+  leads = first_cause (extern_name_cause n);
 })) t
 
 pub export_enters : {P : ComponentTypeRef → Type 0} (old new : State) (result : Result ℕ Fault) (n : ExternName) (kind : ComponentExportKind) (index : ℕ) (ty : Option ComponentTypeRef) (space : Space) (name : List ℕ)
@@ -267,7 +274,7 @@ export_enters old new result n kind index ty space name s e d is t = draft_enter
   defined = rw s refl;
   named = rw e refl;
   bytes = bytes ty;
-  same = only_name (extern_name_cause n);
+  leads = only_name (extern_name_cause n);
 })) t
   where
     bytes : (ty : Option ComponentTypeRef) → export_text (record { name = n; kind = kind; index = index; what = ty }) ≡ (extern_name n).text ++ ((export_kind kind).text ++ (unsigned_text index ++ option_text (λ r. (type_reference r).text) ty))
@@ -282,14 +289,14 @@ alias_enters old new result to space name s t = draft_enters old new result (ali
   defined = rw s refl;
   named = refl;
   bytes = refl;
-  same = (λ fault c. c, λ fault c. c);
+  leads = itself (alias_cause to);
 }) t
 
 -- ---- a nested builder
 
 -- only its length can be against a component that is finished
-nest_same : (b : Buffered) (bytes : List ℕ) → sections_text b.settled ≡ bytes → is_none b.writing ≡ true → SameCause (NestCause b) (text_cause bytes)
-nest_same b bytes e none = (there, λ fault c. inl (rw e c))
+nest_same : (b : Buffered) (bytes : List ℕ) → sections_text b.settled ≡ bytes → is_none b.writing ≡ true → Leads (NestCause b) (text_cause bytes)
+nest_same b bytes e none = leads _ _ (there, λ fault c. inl (rw e c))
   where
     there : (fault : Fault) → NestCause b fault → text_cause bytes fault
     there fault (inl c) = rw e at c
@@ -298,7 +305,7 @@ nest_same b bytes e none = (there, λ fault c. inl (rw e c))
 pub nested_enters : (old new : State) (result : Result ℕ Fault) (b : Buffered) (bytes text : List ℕ) (name : Option (List ℕ)) → sections_text b.settled ≡ bytes → is_none b.writing ≡ true → text ≡ (item (ComponentItem (sections_text b.settled))).text
     → TakesAlone old new result (defined_as spaces.Components 1) name text (NestCause b) → Enters old new result (component_entry name bytes)
 nested_enters old new result b bytes text name e none t taken = alone_enters old new result (component_entry name bytes) (defined_as spaces.Components 1) name text (NestCause b)
-    (record { alone = refl; defined = refl; named = refl; bytes = rw (t, e) refl; same = nest_same b bytes e none }) taken
+    (record { alone = refl; defined = refl; named = refl; bytes = rw (t, e) refl; leads = nest_same b bytes e none }) taken
 
 -- ---- refused before anything else
 

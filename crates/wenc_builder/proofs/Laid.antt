@@ -1,11 +1,13 @@
 -- What keeps a buffer's layout.
 use Rattle.std.proofs.Common.{◌≡◌, ℕ, ◌+◌, ◌-◌, ◌<◌, ◌≤◌, ◌^◌, inl, inr, false, List, [], ◌++◌, length, take, drop, Option, Some, None, Result, Ok, Err, is_none, refl, arith, append_assoc, length-append, length-drop, length-take-le, take-append-drop, ap, subst, ◌∙◌}
-use Rattle.std.proofs.lemmas.List.{take_at, drop_at, take_all, take-append-le}
+use Rattle.std.proofs.lemmas.List.{take_at, drop_at, take_all, take-append-le, drop-append-le}
 use Rattle.std.proofs.lemmas.Bool.{ne_eqb, eq-eqb}
 use Rattle.std.specs.Result.{OnOk, IfErr}
 use Rattle.wenc_base.specs.Number.{number_size}
 use Rattle.wenc_base.specs.Holder.{Held, is_finished, holding, all_bytes, with_kept, content_size, AddCause}
-use Rattle.wenc_base.specs.Openings.{opened_with, OpensMember, MoreCause}
+use Rattle.wenc_base.specs.Lender.{either, Extends, ExtendsListed}
+use Rattle.wenc_base.specs.Openings.{opened_with, lengthened, OpensMember, no_room, MoreCause}
+use Rattle.wenc_base.specs.laws.Causes.{still_warranted}
 use Rattle.wenc_base.specs.declared.holder.openings.Opening.{Opening}
 use Rattle.wenc_base.specs.declared.fault.Fault.{Fault}
 use Rattle.wenc_base.specs.declared.fault.Fault.TheVariants.{Memory, TooMany, TooLarge, Unfinished}
@@ -13,7 +15,7 @@ use Rattle.wenc_base.proofs.Groups.{size_1}
 use Rattle.wenc_builder.specs.Builder.{OpenSection, Sections, sections_text, entered, entered_at}
 use Rattle.wenc_builder.specs.Cause.{SectionCause}
 use Rattle.wenc_builder.proofs.Caused.{cause_is}
-use Rattle.wenc_builder.specs.Layout.{kind_id, open_head, OpensAnother, Buffered, buffered_content, buffer_appended, buffer_with, AppendCause, SectionFits, open_view, earlier_view, buffer_view, kept_before, kept_with, SectionIsIn, MembersAreIn, OpeningIsIn, EarlierIsIn, IsApart, IsLaidOut}
+use Rattle.wenc_builder.specs.Layout.{kind_id, open_head, OpensAnother, Buffered, buffered_content, buffer_appended, section_appended, buffer_with, NoRoom, AppendCause, SectionFits, open_view, earlier_view, buffer_view, kept_before, kept_with, SectionIsIn, MembersAreIn, OpeningIsIn, EarlierIsIn, IsApart, IsLaidOut}
 use Rattle.wenc_builder.specs.declared.builder.earlier.Earlier.{Earlier}
 use Rattle.wenc_builder.specs.declared.builder.kind.Kind.{Kind}
 
@@ -144,14 +146,100 @@ large_at h text closed_len (Some k) (Some e) opening o l f large =
     let one : h.count ≡ 1 = ap (λ (x : Held). x.count) l.first in
     rw one (behind_gap e.kind k e.count _ _ (h.body ++ text) l.another large)
 
-pub append_free : (outcome : Result (Unit {0}) Fault) (old : Held) (cause : Fault → Type 0) (text : List ℕ) (closed_len : ℕ) (kind : Option Kind) (earlier : Option Earlier) (now : Buffered)
-    → IsLaidOut old closed_len kind earlier → buffer_view old closed_len kind earlier ≡ now → is_none now.writing ≡ false
-    → OnOk outcome ((fault : Fault) → MoreCause old text cause fault → ⊥) → OnOk outcome ((fault : Fault) → AppendCause cause (buffered_content (buffer_appended now text)).current fault → ⊥)
-append_free (Err fault) old cause text closed_len kind earlier now l view w free = tt
-append_free (Ok u) old cause text closed_len kind earlier now l view w free = λ fault c. elim c [
-  | inl own ↦ free fault (inl own)
-  | inr p ↦ free TooLarge (inr (refl, large_at old text closed_len kind earlier old.opening refl l.places (some_is_written old closed_len kind earlier now l view w) (rw (← view) at p.1)))
-]
+part_of_it : (n size : ℕ) (k : Kind) (closed body text : List ℕ) → 1 ≤ n → 2 ^ 32 ≤ content_size n (length (body ++ text))
+    → SectionCause (entered (record { closed = closed; current = Some (record { id = kind_id k; count = n - 1; body = take size body }) }) (kind_id k) (drop size body ++ text)).current TooLarge
+part_of_it n size k closed body text some large =
+    let next : n - 1 + 1 ≡ n = omega arith in
+    rw (eq-eqb (kind_id k) (kind_id k) refl, ← append_assoc (take size body) (drop size body) text, take-append-drop size body, next) large
+
+one_of_it : (ek : Option Kind) (k : Kind) (count : ℕ) (items closed body : List ℕ) → OpensAnother (open_view ek count []) (kind_id k) → 2 ^ 32 ≤ content_size 1 (length body)
+    → SectionCause (entered (record { closed = closed; current = open_view ek count items }) (kind_id k) body).current TooLarge
+one_of_it None k count items closed body d large = large
+one_of_it (Some o) k count items closed body d large = rw (ne_eqb (kind_id o) (kind_id k) d) large
+
+too_large_at : (h : Held) (text : List ℕ) (closed_len : ℕ) (kind : Option Kind) (earlier : Option Earlier) (opening : Option Opening) → h.opening ≡ opening → EarlierIsIn h closed_len kind earlier → is_finished h ≡ false
+    → 2 ^ 32 ≤ content_size h.count (length (h.body ++ text)) → SectionCause (buffered_content (buffer_appended (buffer_view h closed_len kind earlier) text)).current TooLarge
+too_large_at h text closed_len kind None None o l f large = let finished = rw o at f in cc
+too_large_at h text closed_len None None (Some x) o l f large = let none = l.0.2 in cc
+too_large_at h text closed_len (Some k) None (Some x) o l f large = let places = rw o at l.1 in rw o (part_of_it h.count x.member_start k (take closed_len h.kept) h.body text places.1 large)
+too_large_at h text closed_len None (Some e) opening o l f large = absurd l.another
+too_large_at h text closed_len (Some k) (Some e) opening o l f large =
+    let one : h.count ≡ 1 = ap (λ (x : Held). x.count) l.first in
+    one_of_it e.kind k e.count _ _ (h.body ++ text) l.another (rw one at large)
+
+lengthened_at : (h : Held) (text : List ℕ) (closed_len : ℕ) (kind : Option Kind) (earlier : Option Earlier) (opening : Option Opening) → h.opening ≡ opening → EarlierIsIn h closed_len kind earlier → is_finished h ≡ false
+    → buffer_view (lengthened h text) closed_len kind earlier ≡ buffer_appended (buffer_view h closed_len kind earlier) text
+lengthened_at h text closed_len kind None None o l f = let finished = rw o at f in cc
+lengthened_at h text closed_len None None (Some x) o l f = let none = l.0.2 in cc
+lengthened_at h text closed_len (Some k) None (Some x) o l f =
+    let places = rw o at l.1 in
+    rw (o, take-append-le x.member_start h.body text places.0, drop-append-le x.member_start h.body text places.0) refl
+lengthened_at h text closed_len kind (Some e) opening o l f = refl
+
+still_at : (h : Held) (text : List ℕ) (closed_len : ℕ) (kind : Option Kind) (earlier : Option Earlier) (opening : Option Opening) → h.opening ≡ opening → EarlierIsIn h closed_len kind earlier → is_finished h ≡ false
+    → EarlierIsIn (lengthened h text) closed_len kind earlier
+still_at h text closed_len kind None None o l f = let finished = rw o at f in cc
+still_at h text closed_len None None (Some x) o l f = let none = l.0.2 in cc
+still_at h text closed_len (Some k) None (Some x) o l f =
+    let places = rw o at l.1 in
+    (l.0, rw o (omega (arith, places.0, length-append h.body text), places.1))
+still_at h text closed_len kind (Some e) opening o l f = record {
+  first = ap (λ (x : Held). lengthened x text) l.first;
+  gap = l.gap;
+  section = l.section;
+  another = l.another;
+  counted = l.counted;
+  fits = l.fits;
+}
+
+module _ (old : Held) (closed_len : ℕ) (kind : Option Kind) (earlier : Option Earlier) (now : Buffered) (laid : IsLaidOut old closed_len kind earlier) (view : buffer_view old closed_len kind earlier ≡ now) (writing : is_none now.writing ≡ false) where
+  unfinished : is_finished old ≡ false
+  unfinished = some_is_written old closed_len kind earlier now laid view writing
+
+  pub longer_view : (text : List ℕ) → buffer_view (lengthened old text) closed_len kind earlier ≡ buffer_appended now text
+  longer_view text = rw (← view) (lengthened_at old text closed_len kind earlier old.opening refl laid.places unfinished)
+
+  pub still_laid : (text : List ℕ) → IsLaidOut (lengthened old text) closed_len kind earlier
+  still_laid text = record { places = still_at old text closed_len kind earlier old.opening refl laid.places unfinished }
+
+  -- there is room in the holder where there is room in the section
+  room_there : (text : List ℕ) (fault : Fault) → no_room old text fault → NoRoom (section_appended now text) fault
+  room_there text fault p = (p.0, rw (← view) (too_large_at old text closed_len kind earlier old.opening refl laid.places unfinished p.1))
+
+  room_back : (text : List ℕ) (fault : Fault) → NoRoom (section_appended now text) fault → no_room old text fault
+  room_back text fault p = (p.0, large_at old text closed_len kind earlier old.opening refl laid.places unfinished (rw (← view) at p.1))
+
+  module _ (cause : Fault → Type 0) (text : List ℕ) where
+    there : (fault : Fault) → either cause (no_room old text) fault → AppendCause cause (section_appended now text) fault
+    there fault c = elim c [ inl own ↦ inl own | inr p ↦ inr (room_there text fault p) ]
+
+    back : (fault : Fault) → AppendCause cause (section_appended now text) fault → either cause (no_room old text) fault
+    back fault c = elim c [ inl own ↦ inl own | inr p ↦ inr (room_back text fault p) ]
+
+  pub appended_value : (new : Held) (outcome : Result (Unit {0}) Fault) (cause : Fault → Type 0) (text : List ℕ) → Extends old new (lengthened old text) outcome (MoreCause old text cause)
+      → Extends now (buffer_view new closed_len kind earlier) (buffer_appended now text) outcome (AppendCause cause (section_appended now text))
+  appended_value new (Ok u) cause text a = record { ok = rw a.ok (longer_view text); free = λ fault c. a.free fault (back cause text fault c); err = tt; warranted = tt }
+  appended_value new (Err f) cause text a = record { ok = tt; free = tt; err = rw a.err view; warranted = still_warranted _ _ (there cause text) f a.warranted }
+
+  pub appended_list : {S B : Type 0} (steps : S → Option B → S → Type 0) (values : S) (new : Held) (outcome : Result (Unit {0}) Fault) (cause : List B → Fault → Type 0) (text : List B → List ℕ)
+      → ExtendsListed steps values old new outcome (lengthened old) (no_room old) cause text
+      → ExtendsListed steps values now (buffer_view new closed_len kind earlier) outcome (buffer_appended now) (λ bytes. NoRoom (section_appended now bytes)) cause text
+  appended_list steps values new (Ok u) cause text a =
+      let items = a.ok.0.items in
+      record {
+        ok = (a.ok.0, a.ok.1, a.ok.2, (rw a.ok.3.0 (longer_view (text items)), λ fault c. a.ok.3.1 fault (back (cause items) (text items) fault c)));
+        err = tt;
+        warranted = tt;
+      }
+  appended_list steps values new (Err f) cause text a =
+      let items = a.warranted.0.items in
+      record { ok = tt; err = rw a.err view; warranted = (a.warranted.0, a.warranted.1, still_warranted _ _ (there (cause items) (text items)) f a.warranted.2) }
+
+  -- the layout is kept
+  pub list_laid : {S B : Type 0} (steps : S → Option B → S → Type 0) (values : S) (new : Held) (outcome : Result (Unit {0}) Fault) (cause : List B → Fault → Type 0) (text : List B → List ℕ)
+      → ExtendsListed steps values old new outcome (lengthened old) (no_room old) cause text → IsLaidOut new closed_len kind earlier
+  list_laid steps values new (Ok u) cause text a = rw a.ok.3.0 (still_laid (text a.ok.0.items))
+  list_laid steps values new (Err f) cause text a = rw a.err laid
 
 -- ---- an item is given up
 

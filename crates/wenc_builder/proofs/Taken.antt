@@ -1,17 +1,18 @@
 -- An item that is begun, written and ended, or given up.
-use Rattle.std.proofs.Common.{◌≡◌, ℕ, ◌<◌, true, false, is_none, List, [], length, Option, Some, None, Ok, Err, refl, sym, ◌∙◌, inr}
+use Rattle.std.proofs.Common.{◌≡◌, ℕ, ◌<◌, true, false, is_none, List, [], length, Option, Some, None, Result, Ok, Err, refl, sym, ap, ◌∙◌, inr}
 use Rattle.wenc_base.specs.Fault.{IsWarranted}
 use Rattle.wenc_base.specs.declared.fault.Fault.{Fault}
 use Rattle.wenc_base.specs.declared.fault.Fault.TheVariants.{Unfinished}
 use Rattle.wenc_base.specs.laws.Causes.{still_warranted}
 use Rattle.wenc_builder.specs.Builder.{entered, Content, State, namespace_at, content_of, Draft, draft, space_with, begun_with, appended, ended, builder_given_up}
 use Rattle.wenc_builder.specs.Cause.{SectionCause, SpaceCause}
-use Rattle.wenc_builder.specs.Enters.{TakesWith, Takes}
+use Rattle.wenc_builder.specs.Enters.{TakesWith, Takes, Begins}
 use Rattle.wenc_builder.specs.Layout.{AppendCause, Buffered}
 use Rattle.wenc_builder.specs.Space.{Defined}
 use Rattle.wenc_builder.specs.Spaces.{Spaced}
 use Rattle.wenc_builder.specs.View.{Agree, builder_view}
 use Rattle.wenc_builder.proofs.Caused.{space_refuses, section_refuses, begun_free, beginning_refuses, text_refuses, whole_free}
+use Rattle.wenc_builder.specs.laws.Step.{holds_index}
 use Rattle.wenc_builder.proofs.Viewed.{finished_is}
 
 none_of : {A : Type 0} (o : Option A) → (is_none o ≡ false → ⊥) → o ≡ None
@@ -106,11 +107,11 @@ added old begun written new index id space name text cause t w free e = record {
     never : (i : ℕ) → Ok i ≡ Err Unfinished → ⊥
     never i e = cc
 
-pub not_written : (old begun written new whole : State) (fault : Fault) (index id space : ℕ) (name : Option (List ℕ)) (text : List ℕ) (cause : Fault → Type 0)
+pub partly_written : (old begun written new whole : State) (fault : Fault) (index id space : ℕ) (name : Option (List ℕ)) (text : List ℕ) (cause : Fault → Type 0)
     → Takes old begun (begun_with old (draft id space name [])) (Ok index) (draft id space name []) (λ _. ⊥)
-    → IsWarranted (AppendCause cause (content_of (appended begun text)).sections.current) fault → written ≡ begun → new ≡ builder_given_up written
+    → IsWarranted (AppendCause cause (content_of (appended begun text)).sections.current) fault → written.settled ≡ begun.settled → new ≡ builder_given_up written
     → Takes old new whole (Err fault) (draft id space name text) cause
-not_written old begun written new whole fault index id space name text cause t refused w e = record {
+partly_written old begun written new whole fault index id space name text cause t refused w e = record {
   told = tt;
   ok = tt;
   free = tt;
@@ -124,3 +125,30 @@ not_written old begun written new whole fault index id space name text cause t r
 
     back : (s : State) → s.begun ≡ None → record { settled = s.settled; begun = None } ≡ s
     back s none = rw (← none) refl
+
+pub not_written : (old begun written new whole : State) (fault : Fault) (index id space : ℕ) (name : Option (List ℕ)) (text : List ℕ) (cause : Fault → Type 0)
+    → Takes old begun (begun_with old (draft id space name [])) (Ok index) (draft id space name []) (λ _. ⊥)
+    → IsWarranted (AppendCause cause (content_of (appended begun text)).sections.current) fault → written ≡ begun → new ≡ builder_given_up written
+    → Takes old new whole (Err fault) (draft id space name text) cause
+not_written old begun written new whole fault index id space name text cause t refused w e =
+    partly_written old begun written new whole fault index id space name text cause t refused (ap (λ (s : State). s.settled) w) e
+
+-- ---- an item that is begun for an encoder
+
+pub begins_lent : {E : Type 0} (index : E → ℕ) (lent : E → State) (old new : State) (i : ℕ) (e : E) (d : Draft) → d.space < 13 → Takes old new (begun_with old d) (Ok i) d (λ _. ⊥) → index e ≡ i → lent e ≡ new → Begins index lent old (Ok e) d
+begins_lent index lent old new i e d within t is same = record {
+  begun = same ∙ t.ok;
+  placed = λ es h. holds_index old es d.space (index e) h within (is ∙ t.told);
+  free = t.free;
+  warranted = tt;
+  unfinished_first = λ u. absurd (never i (t.unfinished_first u));
+}
+  where
+    never : (j : ℕ) → Ok j ≡ Err Unfinished → ⊥
+    never j q = cc
+
+pub begins_refused : {E : Type 0} (index : E → ℕ) (lent : E → State) (old new next : State) (fault : Fault) (d : Draft) → Takes old new next (Err fault) d (λ _. ⊥) → Begins index lent old (Err fault) d
+begins_refused index lent old new next fault d t = record { begun = tt; placed = tt; free = tt; warranted = t.warranted; unfinished_first = λ u. rw (erred fault (Err fault) refl (t.unfinished_first u)) refl }
+  where
+    erred : (f : Fault) (r : Result ℕ Fault) → r ≡ Err f → r ≡ Err Unfinished → f ≡ Unfinished
+    erred f r e u = cc

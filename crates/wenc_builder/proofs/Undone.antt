@@ -1,9 +1,9 @@
 -- An item that took a place in a space can be given up.
-use Rattle.std.proofs.Common.{◌≡◌, ℕ, ◌<◌, List, length, set, get_or, Option, Some, None, refl, arith, sym, ◌∙◌, ap, subst}
+use Rattle.std.proofs.Common.{◌≡◌, ℕ, ◌<◌, ◌≤◌, List, length, length-append, set, get_or, Option, Some, None, refl, arith, sym, ◌∙◌, ap, subst}
 use Rattle.std.proofs.lemmas.List.{take_at, take_all, get_or-set_same, get_or_default, set-set, set-get_or, length-set}
 use Rattle.wenc_base.specs.Names.{named}
 use Rattle.wenc_builder.specs.Builder.{Namespace, no_names, namespace_at, namespace_with}
-use Rattle.wenc_builder.specs.Spaces.{NamesFit, Spaced, spaces_begun, taken, before, spaced_view, CanUndo}
+use Rattle.wenc_builder.specs.Spaces.{Spaced, spaces_begun, taken, before, spaced_view, CanUndo}
 use Rattle.wenc_builder.specs.declared.builder.spaces.Undo.{Undo}
 
 -- what a space was is what the names up to its length say
@@ -22,9 +22,10 @@ kept : (spaces : List Namespace) (i n : ℕ) (old new : Namespace) (name : Optio
     → set (set spaces i new) i (before (undo_at i old) (namespace_at (set spaces i new) i).names) ≡ spaces
 kept spaces i n old new name h e f = rw (back_at spaces i n old new name h f, set-set spaces i new old, e) (set-get_or spaces i no_names)
 
-kept_fits : (spaces : List Namespace) (i n : ℕ) (old new : Namespace) (name : Option (List ℕ)) → i < length spaces → new ≡ namespace_with old n name → NamesFit old
-    → NamesFit (before (undo_at i old) (namespace_at (set spaces i new) i).names)
-kept_fits spaces i n old new name h f fits = subst (λ (s : Namespace). NamesFit s) (sym (back_at spaces i n old new name h f)) fits
+-- a space has no less than it had
+no_less : (n : ℕ) (s : Namespace) (name : Option (List ℕ)) → (s.named ≤ (namespace_with s n name).named) × (length s.names ≤ length (namespace_with s n name).names)
+no_less n s None = (omega arith, omega arith)
+no_less n s (Some name) = (omega arith, omega (arith, length-append s.names (named (record { place = s.count; name = name })).text))
 
 settled_is : (spaces : List Namespace) (undo : Option Undo) (now : Spaced) → spaced_view spaces undo ≡ now → now.taking ≡ None → spaces ≡ now.settled
 settled_is spaces None now e t = ap (λ (x : Spaced). x.settled) e
@@ -46,12 +47,11 @@ begun_view spaces undo now i n one new count names len name h k e t o f c m l =
     rw (c, m, l, kept spaces i n one new name inside there f, get_or-set_same spaces i new no_names inside, f, there, same) refl
 
 pub begun_can : (spaces : List Namespace) (undo : Option Undo) (i n : ℕ) (one new : Namespace) (count names len : ℕ) (name : Option (List ℕ))
-    → i < 13 → CanUndo spaces undo → new ≡ namespace_with one n name
-    → names ≡ one.named → len ≡ length one.names → NamesFit one
+    → i < 13 → CanUndo spaces undo → new ≡ namespace_with one n name → names ≡ one.named → len ≡ length one.names
     → CanUndo (set spaces i new) (Some (record { space = i; count = count; named = names; len = len }))
-begun_can spaces undo i n one new count names len name h k f m l fits =
+begun_can spaces undo i n one new count names len name h k f m l =
     let inside : i < length spaces = omega (arith, thirteen spaces undo k) in
-    rw (m, l) (length-set spaces i new ∙ thirteen spaces undo k, h, kept_fits spaces i n one new name inside f fits)
+    rw (m, l, get_or-set_same spaces i new no_names inside, f) (length-set spaces i (namespace_with one n name) ∙ thirteen spaces undo k, h, (no_less n one name).0, (no_less n one name).1)
 
 -- the spaces with the item that is being written
 pub taken_is : (spaces : List Namespace) (undo : Option Undo) (now : Spaced) → spaced_view spaces undo ≡ now → spaces ≡ taken now.settled now.taking

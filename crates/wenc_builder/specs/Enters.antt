@@ -1,13 +1,16 @@
 -- What a call of a builder does.
 use Rattle.std.specs.Prelude.{◌≡◌, ◌↔◌, ℕ, List, [], ◌∷◌, ◌++◌, Option, Some, None, false, Result, Err, IfOk, OnOk, OnErr, IfErr}
+use Rattle.std.specs.Iterator.Runs.{SomeRun, WholeRun}
 use Rattle.wenc_base.specs.Fault.{IsWarranted}
+use Rattle.wenc_base.specs.Lender.{either}
 use Rattle.wenc_base.specs.declared.fault.Fault.{Fault}
 use Rattle.wenc_base.specs.declared.fault.Fault.TheVariants.{Unfinished}
-use Rattle.wenc_builder.specs.Space.{Defined, IsPlaceOf}
+use Rattle.wenc_builder.specs.Space.{Defined, IsPlaceOf, place}
 use Rattle.wenc_builder.specs.Entry.{Entry, items}
-use Rattle.wenc_builder.specs.Builder.{Content, State, step, settled_in, with_alone, builder_is_finished, namespace_at, Draft, draft_place, begun_with, content_of}
+use Rattle.wenc_builder.specs.Builder.{Content, State, step, settled_in, with_alone, builder_is_finished, namespace_at, Draft, draft_place, begun_with, content_of, appended, ended}
 use Rattle.wenc_builder.specs.Holds.{Holds}
 use Rattle.wenc_builder.specs.Cause.{CallCause, EnterCause}
+use Rattle.wenc_builder.specs.Lent.{no_room}
 
 -- A call adds this entry to every list that was held, where nothing stands against it, and says this of its answer;
 -- or it is refused for a cause and changes nothing. While an item is being written, and only then, it is `Unfinished`.
@@ -26,6 +29,20 @@ Enters old new result x = EntersWith old new result x (λ es i. IsPlaceOf (items
 -- The same, where the entry has no place.
 abbrev pub EntersPlaceless : State → State → Result (Unit {0}) Fault → Entry → Type 0
 EntersPlaceless old new result x = EntersWith old new result x (λ es r. Unit {0})
+
+-- The same of a call whose entry is made of the values that an iterator gives: of all of them, or of those that came
+-- before it was refused.
+pub record EntersListed {S B : Type 0} (steps : S → Option B → S → Type 0) (values : S) (old new : State) (result : Result ℕ Fault) (x : List B → Entry) : Type 0 where
+  pub ok : OnOk result (WholeRun steps values (λ run. Enters old new result (x run.items)))
+  pub refused : OnErr result (SomeRun steps values (λ run. Enters old new result (x run.items)))
+
+-- A call begins an item and lends the builder to an encoder, with the item's place; or it is refused for a cause.
+pub record Begins {E : Type 0} (index : E → ℕ) (lent : E → State) (old : State) (result : Result E Fault) (d : Draft) : Type 0 where
+  pub begun : IfOk result (λ e. lent e ≡ begun_with old d)
+  pub placed : IfOk result (λ e. (es : List Entry) → Holds old es → index e ≡ place (items es) d.space)
+  pub free : OnOk result ((fault : Fault) → CallCause old (λ _. ⊥) (content_of (begun_with old d)) (Some (draft_place d)) fault → ⊥)
+  pub warranted : IfErr result (IsWarranted (CallCause old (λ _. ⊥) (content_of (begun_with old d)) (Some (draft_place d))))
+  pub unfinished_first : builder_is_finished old ≡ false → result ≡ Err Unfinished
 
 -- A call takes these places or none, which leaves `next` and would leave this content when it is done, and says this of
 -- its answer; or it is refused for a cause and changes nothing.
@@ -54,3 +71,16 @@ TakesAlone old new result d name text cause =
 abbrev pub TakesNoPlace : State → State → Result (Unit {0}) Fault → List ℕ → (Fault → Type 0) → Type 0
 TakesNoPlace old new result text cause =
     TakesWith old new (settled_in (with_alone old.settled None None text)) result (with_alone old.settled None None text) None cause (λ r. Unit {0})
+
+-- A call appends a text to the item that is being written, which is made of the values that an iterator gives; where it
+-- is refused, it may have appended a part.
+pub record AppendsListed {S B : Type 0} (steps : S → Option B → S → Type 0) (values : S) (old new : State) (outcome : Result (Unit {0}) Fault) (cause : List B → Fault → Type 0) (text : List B → List ℕ) : Type 0 where
+  pub ok : OnOk outcome (WholeRun steps values (λ run. (new ≡ appended old (text run.items)) × ((fault : Fault) → either (cause run.items) (no_room old (text run.items)) fault → ⊥)))
+  pub settled : OnErr outcome (new.settled ≡ old.settled)
+  pub still : builder_is_finished new ≡ false
+  pub warranted : IfErr outcome (λ fault. SomeRun steps values (λ run. IsWarranted (either (cause run.items) (no_room old (text run.items))) fault))
+
+-- The same of a draft whose text is made of the values that an iterator gives.
+pub record TakesListed {S B : Type 0} (steps : S → Option B → S → Type 0) (values : S) (old new : State) (result : Result ℕ Fault) (d : List ℕ → Draft) (cause : List B → Fault → Type 0) (text : List B → List ℕ) : Type 0 where
+  pub ok : OnOk result (WholeRun steps values (λ run. Takes old new (ended (begun_with old (d (text run.items)))) result (d (text run.items)) (cause run.items)))
+  pub refused : OnErr result (SomeRun steps values (λ run. Takes old new (ended (begun_with old (d (text run.items)))) result (d (text run.items)) (cause run.items)))

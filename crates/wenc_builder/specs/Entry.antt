@@ -8,8 +8,11 @@ use Rattle.wenc_parts.specs.Imports.{ExternName}
 use Rattle.wenc_parts.specs.Aliases.{AliasOf, InstanceExport, CoreInstanceExport}
 use Rattle.wenc_canon.specs.Canonicals.{row, Values, Intrinsic, Canonical, Provided}
 use Rattle.wenc_sections.specs.Start.{started}
+use Rattle.wenc_sections.specs.Instances.{CoreInstance, Instance}
+use Rattle.wenc_types.specs.CoreTypes.{CoreType}
+use Rattle.wenc_types.specs.ComponentTypes.{TypeOf}
 use Rattle.wenc_builder.specs.CanonicalNames.{provided_name}
-use Rattle.wenc_builder.specs.Item.{Item, ModuleItem, ComponentItem, AliasItem, CanonItem, StartItem, ImportItem, ExportItem, CustomItem, RawItem}
+use Rattle.wenc_builder.specs.Item.{Item, ModuleItem, CoreInstanceItem, CoreTypeItem, ComponentItem, InstanceItem, AliasItem, TypeItem, CanonItem, StartItem, ImportItem, ExportItem, CustomItem, RawItem}
 use Rattle.wenc_builder.specs.Space.{Defined, defines, defined_in}
 
 pub record Entry : Type 0 where
@@ -45,6 +48,18 @@ module_entry debug_name bytes = entry (ModuleItem bytes) debug_name
 
 abbrev pub component_entry : Option (List ℕ) → List ℕ → Entry
 component_entry debug_name bytes = entry (ComponentItem bytes) debug_name
+
+abbrev pub core_instance_entry : Option (List ℕ) → CoreInstance → Entry
+core_instance_entry debug_name instance = entry (CoreInstanceItem instance) debug_name
+
+abbrev pub instance_entry : Option (List ℕ) → Instance → Entry
+instance_entry debug_name instance = entry (InstanceItem instance) debug_name
+
+abbrev pub core_type_entry : Option (List ℕ) → CoreType → Entry
+core_type_entry debug_name ty = entry (CoreTypeItem ty) debug_name
+
+abbrev pub type_entry : Option (List ℕ) → TypeOf → Entry
+type_entry debug_name ty = entry (TypeItem ty) debug_name
 
 abbrev pub canonical_entry : Option (List ℕ) → Canonical → Entry
 canonical_entry debug_name function = entry (CanonItem function) debug_name

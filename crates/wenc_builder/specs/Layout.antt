@@ -1,7 +1,7 @@
 -- How a builder's bytes lie in its holder: it keeps the closed bytes and, where a section is open, a gap of 11 bytes;
 -- its members are the items of that section. While an item that opens another section is being written, it keeps
 -- that section too, and a gap behind it, and the item is its only member.
-use Rattle.std.specs.Prelude.{◌≡◌, ℕ, List, [], ◌∷◌, ◌++◌, ◌+◌, ◌-◌, ◌<◌, ◌≤◌, ◌^◌, ◌⊎◌, length, take, drop, Option, Some, None, is_none, false}
+use Rattle.std.specs.Prelude.{◌≡◌, ℕ, List, [], ◌∷◌, ◌++◌, ◌+◌, ◌-◌, ◌<◌, ◌≤◌, ◌^◌, length, take, drop, Option, Some, None, is_none, false}
 use Rattle.wenc_base.specs.Number.{unsigned_text, number_size}
 use Rattle.wenc_base.specs.Holder.{Held, content_size}
 use Rattle.wenc_base.specs.declared.holder.openings.Opening.{Opening}
@@ -17,12 +17,16 @@ use Rattle.wenc_builder.specs.Builder.{OpenSection, Sections, sections_text, ent
 use Rattle.wenc_builder.specs.Cause.{SectionCause}
 use Rattle.wenc_builder.specs.declared.builder.space.Space.{Space}
 use Rattle.wenc_builder.specs.declared.builder.kind.Kind.{Kind}
-use Rattle.wenc_builder.specs.declared.builder.kind.Kind.TheVariants.{Alias, CanonicalFunction, Import, Export}
+use Rattle.wenc_builder.specs.declared.builder.kind.Kind.TheVariants.{CoreInstance, CoreType, Instance, Alias, «Type» as TypeKind, CanonicalFunction, Import, Export}
 use Rattle.wenc_builder.specs.declared.builder.earlier.Earlier.{Earlier}
 
 -- the id of the kind's sections
 abbrev pub kind_id : Kind → ℕ
+kind_id CoreInstance = section_number ids.CoreInstance
+kind_id CoreType = section_number ids.CoreType
+kind_id Instance = section_number ids.Instance
 kind_id Alias = section_number ids.Alias
+kind_id TypeKind = section_number ids.«Type»
 kind_id CanonicalFunction = section_number ids.CanonicalFunction
 kind_id Import = section_number ids.Import
 kind_id Export = section_number ids.Export
@@ -189,6 +193,10 @@ kept_with kept e = closed_with kept e ++ drop e.items_end kept
 abbrev pub NestCause : Buffered → Fault → Type 0
 NestCause b = either (text_cause (sections_text b.settled)) (λ fault. (fault ≡ Unfinished) × (is_none b.writing ≡ false))
 
+-- The open section, as it would be, is too large.
+abbrev pub NoRoom : Option OpenSection → Fault → Type 0
+NoRoom current fault = (fault ≡ TooLarge) × SectionCause current TooLarge
+
 -- why no more can be added to an item: for its own cause, or for the section that this would leave
 abbrev pub AppendCause : (Fault → Type 0) → Option OpenSection → Fault → Type 0
-AppendCause cause current fault = cause fault ⊎ ((fault ≡ TooLarge) × SectionCause current TooLarge)
+AppendCause cause current = either cause (NoRoom current)

@@ -8,6 +8,8 @@ pub mod Holds
 pub mod Cause
 pub mod Enters
 pub mod Layout
+pub mod Lent
+pub mod Names
 pub mod Spaces
 pub mod View
 pub mod laws

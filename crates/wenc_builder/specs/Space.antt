@@ -12,7 +12,7 @@ use Rattle.wenc_builder.specs.declared.builder.space.Space.TheVariants.{CoreModu
 use Rattle.wenc_parts.specs.Imports.{kind_of}
 use Rattle.wenc_parts.specs.Aliases.{AliasOf, InstanceExport, CoreInstanceExport, Outer}
 use Rattle.wenc_canon.specs.Canonicals.{Canonical, Lift, Lower, Provided}
-use Rattle.wenc_builder.specs.Item.{Item, ModuleItem, ComponentItem, AliasItem, CanonItem, StartItem, ImportItem, ExportItem, CustomItem, RawItem}
+use Rattle.wenc_builder.specs.Item.{Item, ModuleItem, CoreInstanceItem, CoreTypeItem, ComponentItem, InstanceItem, AliasItem, TypeItem, CanonItem, StartItem, ImportItem, ExportItem, CustomItem, RawItem}
 
 -- the thirteen spaces by their numbers, in the order in which a builder tells their counts
 abbrev pub space_number : Space → ℕ
@@ -76,8 +76,12 @@ some_in s number = Some (defined_as s number)
 -- the places that an item takes, where it takes any
 abbrev pub defines : Item → Option Defined
 defines (ModuleItem bytes) = some_in CoreModules 1
+defines (CoreInstanceItem instance) = some_in CoreInstances 1
+defines (CoreTypeItem ty) = some_in CoreTypes 1
 defines (ComponentItem bytes) = some_in Components 1
+defines (InstanceItem instance) = some_in Instances 1
 defines (AliasItem to) = some_in (alias_space to) 1
+defines (TypeItem ty) = some_in Types 1
 defines (CanonItem function) = some_in (canonical_space function) 1
 defines (StartItem start) = some_in Values start.results
 defines (ImportItem import) = some_in (kind_space (kind_of import.what)) 1

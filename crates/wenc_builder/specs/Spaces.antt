@@ -1,6 +1,6 @@
 -- The index spaces with the item that is being written in one of them, and what that was before.
-use Rattle.std.specs.Prelude.{◌≡◌, ℕ, ◌+◌, List, ◌<◌, ◌^◌, length, take, replicate, Option, Some, None, slice_set}
-use Rattle.wenc_base.specs.Number.{number_size}
+use Rattle.std.specs.Prelude.{◌≡◌, ℕ, List, [], ◌<◌, ◌≤◌, ◌^◌, length, take, replicate, Option, Some, None, slice_set}
+use Rattle.wenc_base.specs.Holder.{Held, holding, content_size}
 use Rattle.wenc_builder.specs.Builder.{Namespace, no_names, namespace_at, namespace_with}
 use Rattle.wenc_builder.specs.declared.builder.spaces.Undo.{Undo}
 
@@ -43,8 +43,9 @@ spaces_given_up s = record { settled = s.settled; taking = None }
 
 -- ---- what an item's space was
 
-abbrev pub NamesFit : Namespace → Type 0
-NamesFit s = number_size s.named + length s.names < 2 ^ 32
+-- a map of names that is finished, and not too large
+abbrev pub NamesFit : Held → Type 0
+NamesFit h = (h ≡ holding [] h.count h.body) × (h.count < 2 ^ 32) × (content_size h.count (length h.body) < 2 ^ 32)
 
 -- what the undo record says of a space with these names
 abbrev pub before : Undo → List ℕ → Namespace
@@ -59,4 +60,4 @@ spaced_view spaces (Some u) = record {
 
 abbrev pub CanUndo : List Namespace → Option Undo → Type 0
 CanUndo spaces None = length spaces ≡ 13
-CanUndo spaces (Some u) = (length spaces ≡ 13) × (u.space < 13) × NamesFit (before u (namespace_at spaces u.space).names)
+CanUndo spaces (Some u) = (length spaces ≡ 13) × (u.space < 13) × (u.named ≤ (namespace_at spaces u.space).named) × (u.len ≤ length (namespace_at spaces u.space).names)

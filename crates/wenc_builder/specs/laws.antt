@@ -1,3 +1,4 @@
 pub mod Runs
 pub mod Step
 pub mod Answered
+pub mod Lent

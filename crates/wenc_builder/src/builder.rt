@@ -1,31 +1,38 @@
-ghost use Rattle.std.specs.Prelude.{◌≡◌, ◌↔◌, [], List, IfOk, IfErr, OnOk, OnErr, IsOk, IsTrue, Some, None, Err, false};
+ghost use Rattle.std.specs.Prelude.{◌≡◌, ◌↔◌, ◌∷◌, [], List, IfOk, IfErr, OnErr, IsOk, IsTrue, Some, None, Err, false};
+ghost use Rattle.std.specs.Iterator.{IsFinite};
 ghost use Rattle.std.specs.Option.{option_copied};
 ghost use Rattle.wenc_base.specs.Fault.{IsMemory, IsWarranted};
+ghost use Rattle.wenc_base.specs.Holder.{listed_text, listed_cause};
+ghost use Rattle.wenc_base.specs.laws.Causes.{never};
 ghost use Rattle.wenc_base.specs.Lender.{GivesUp};
-ghost use Rattle.wenc_base.specs.declared.fault.Fault.{Fault as FaultSpec};
 ghost use Rattle.wenc_base.specs.declared.fault.Fault.TheVariants.{Unfinished};
 ghost use Rattle.wenc_parts.specs.Imports.{extern_name_view};
 ghost use Rattle.wenc_parts.specs.Aliases.{alias_view};
+ghost use Rattle.wenc_canon.specs.Canonicals.{canonical_option};
 ghost use Rattle.wenc_canon.specs.CanonTrees.{canon_view};
 ghost use Rattle.wenc_builder.specs.Sections.{whole};
 ghost use Rattle.wenc_builder.specs.Entry.{Entry, items, module_entry, component_entry, canonical_entry, start_entry, custom_entry, raw_entry};
 ghost use Rattle.wenc_builder.specs.Entry.{import_entry, export_entry, alias_entry, alias_export_entry, core_alias_export_entry};
-ghost use Rattle.wenc_builder.specs.Builder.{builder_is_finished, count_in, begun_with, appended, ended, builder_given_up, content_of};
+ghost use Rattle.wenc_builder.specs.Builder.{builder_is_finished, count_in, begun_with, ended, builder_given_up};
 ghost use Rattle.wenc_builder.specs.Holds.{Holds};
-ghost use Rattle.wenc_builder.specs.Cause.{SectionCause};
-ghost use Rattle.wenc_builder.specs.Enters.{Enters, EntersPlaceless, Takes, TakesAlone, TakesNoPlace};
+ghost use Rattle.wenc_builder.specs.Enters.{Enters, EntersPlaceless, Takes, TakesAlone, TakesNoPlace, AppendsListed, TakesListed};
 ghost use Rattle.wenc_builder.specs.Space.{defined_as, canonical_space};
-ghost use Rattle.wenc_builder.specs.Layout.{draft_of, AppendCause};
+ghost use Rattle.wenc_builder.specs.Layout.{draft_of};
+ghost use Rattle.wenc_builder.specs.Names.{AddsNames};
 
 mod buffer;
 mod canonicals;
 mod earlier;
 mod flush;
+mod functions;
+mod instances;
 mod kind;
+mod names;
 mod namespace;
 mod nested;
 mod space;
 mod spaces;
+mod types;
 
 use buffer::Buffer;
 use kind::Kind;
@@ -34,12 +41,15 @@ use space::Space;
 use spaces::Spaces;
 use std::alloc::{Allocator, Global};
 use std::marker::Model;
-use wenc_base::{CustomSection, Encode, ExportKind, Fault, Module, RawCustomSection, Tagged};
-use wenc_canon::CanonTree;
+use wenc_base::{
+    CustomSection, Encode, ExportKind, Fault, Lender, Module, RawCustomSection, Tagged, WithSize,
+};
+use wenc_canon::{CanonTree, CanonicalOption};
 use wenc_parts::{
     Alias, ComponentExportKind, ComponentExternName, ComponentSectionId, ComponentTypeRef,
 };
 use wenc_sections::ComponentStartSection;
+use wenc_sections::names::NAMES_LABEL;
 
 /// Builds a component call by call: collects neighbours of one kind in one section, and hands out the
 /// index of each item. A refused call changes nothing, and the next one goes on as if it had not been made.
@@ -193,19 +203,6 @@ impl<A: Allocator> ComponentBuilder<A> {
         }
     }
 
-    /// Appends the text of a value to the item that is being written.
-    fn append<E: Encode>(&mut self, value: &E) -> Result<(), Fault>
-        requires { builder_is_finished self.old ≡ false }
-        ensures ok { OnOk result (self.new ≡ appended self.old (E.text value.now)) }
-        ensures free { OnOk result ((fault : FaultSpec) → AppendCause (E.cause value.now)
-            (content_of (appended self.old (E.text value.now))).sections.current fault → ⊥) }
-        ensures err { OnErr result (self.new ≡ self.old) }
-        ensures warranted { IfErr result (IsWarranted (AppendCause (E.cause value.now)
-            (content_of (appended self.old (E.text value.now))).sections.current)) }
-    {
-        self.buffer.append(value)
-    }
-
     /// Ends the item that is being written. It takes no memory.
     fn end(&mut self)
         requires { builder_is_finished self.old ≡ false }
@@ -241,7 +238,64 @@ impl<A: Allocator> ComponentBuilder<A> {
             Ok(index) => index,
             Err(fault) => return Err(fault),
         };
-        match self.append(item) {
+        match self.append_value(item) {
+            Ok(()) => {
+                self.end();
+                Ok(index)
+            }
+            Err(fault) => {
+                self.give_up();
+                Err(fault)
+            }
+        }
+    }
+
+    /// Appends the text of `lead`, the values as a list, and the text of `tail` to the item that is being written. Where
+    /// it is refused, a part of that may have been appended.
+    fn append_between<E: Encode, T: Encode + Drop, I: Iterator<Item = T> + Drop, F: Encode>(
+        &mut self,
+        lead: &E,
+        values: I,
+        tail: &F,
+    ) -> Result<(), Fault>
+        requires unfinished { builder_is_finished self.old ≡ false }
+        requires can { I.can_next values }
+        requires ends { IsFinite (I.remaining values) }
+        ensures { AppendsListed I.next_gives values self.old self.new result
+            (listed_cause (E.cause lead.now) T.cause (F.cause tail.now))
+            (listed_text (E.text lead.now) T.text (F.text tail.now)) }
+    {
+        if let Err(fault) = self.append_value(lead) {
+            return Err(fault);
+        }
+        if let Err(fault) = self.append_list(&[], values) {
+            return Err(fault);
+        }
+        self.append_value(tail)
+    }
+
+    /// Adds an item that consists of these in one go, with a debug name or none. Answers its index.
+    fn add_listed<E: Encode, T: Encode + Drop, I: Iterator<Item = T> + Drop, F: Encode>(
+        &mut self,
+        kind: Kind,
+        space: Space,
+        name: Option<&str>,
+        lead: &E,
+        values: I,
+        tail: &F,
+    ) -> Result<u32, Fault>
+        requires can { I.can_next values }
+        requires ends { IsFinite (I.remaining values) }
+        ensures { TakesListed I.next_gives values self.old self.new result
+            (draft_of kind space (option_copied name.entry))
+            (listed_cause (E.cause lead.now) T.cause (F.cause tail.now))
+            (listed_text (E.text lead.now) T.text (F.text tail.now)) }
+    {
+        let index = match self.begin(kind, space, name) {
+            Ok(index) => index,
+            Err(fault) => return Err(fault),
+        };
+        match self.append_between(lead, values, tail) {
             Ok(()) => {
                 self.end();
                 Ok(index)
@@ -293,6 +347,32 @@ impl<A: Allocator> ComponentBuilder<A> {
         self.buffer.stand_alone(section)
     }
 
+    /// Adds what begins with this opcode and has these fields and, behind them, options, with a debug name or none. Answers
+    /// its index among core functions.
+    fn add_with_options<E: Encode, I: Iterator<Item = CanonicalOption> + Drop>(
+        &mut self,
+        name: Option<&str>,
+        opcode: u8,
+        fields: &E,
+        options: I,
+    ) -> Result<u32, Fault>
+        requires can { I.can_next options }
+        requires ends { IsFinite (I.remaining options) }
+        ensures { TakesListed I.next_gives options self.old self.new result
+            (draft_of Kind.CanonicalFunction Space.CoreFuncs (option_copied name.entry))
+            (listed_cause (E.cause fields.now) (λ _. never) never)
+            (listed_text (opcode ∷ E.text fields.now) (λ o. (canonical_option o).text) []) }
+    {
+        self.add_listed(
+            Kind::CanonicalFunction,
+            Space::CoreFuncs,
+            name,
+            &Tagged(opcode, fields),
+            options,
+            &(),
+        )
+    }
+
     /// Adds a function that gives a core one, with this debug name. Answers its index.
     fn provide(&mut self, name: &str, function: &CanonTree) -> Result<u32, Fault>
         requires { canonical_space (canon_view function.now) ≡ Space.CoreFuncs }
@@ -305,6 +385,25 @@ impl<A: Allocator> ComponentBuilder<A> {
             Some(name),
             function,
         )
+    }
+
+    /// Adds a section of the debug names so far, in the order of their spaces' sorts; the names stay, so that a second
+    /// call writes them again. Where there are no names it adds nothing, and the open section stays open. Refused as the
+    /// type says, but where there are no names only while an item is being written (component model, binary format, "Name
+    /// Section").
+    pub fn append_names(&mut self) -> Result<(), Fault>
+        ensures { AddsNames self.old self.new result }
+    {
+        if !self.buffer.is_finished() {
+            return Err(Fault::Unfinished);
+        }
+        let names = self.spaces.sorted_names();
+        if names.is_empty() {
+            return Ok(());
+        }
+        let content = (NAMES_LABEL, names);
+        let section = Tagged(ComponentSectionId::CoreCustom.into(), &WithSize(&content));
+        self.buffer.stand_alone(&section)
     }
 
     /// Adds a core module, with a debug name or none, and answers its index. Refused as the type says.
@@ -529,5 +628,47 @@ impl<A: Allocator> ComponentBuilder<A> {
         }
         let ComponentBuilder { buffer, spaces: _ } = self;
         Ok(buffer.finish())
+    }
+}
+
+/// A builder lends itself to the encoders of types. Until an encoder's last call has ended its item, what grows or
+/// finishes the builder is refused with `Unfinished`; `discard_unfinished` gives the item up.
+impl<A: Allocator> Lender for ComponentBuilder<A> {
+    ghost use Rattle.wenc_builder.specs.Builder.{builder_is_finished, appended, ended};
+    ghost use Rattle.wenc_builder.specs.Lent.{is_bare_in, no_room};
+    ghost use Rattle.wenc_builder.specs.laws.Lent.{bare_is_begun, still_begun, appended_twice};
+
+    ghost finished = { builder_is_finished };
+
+    ghost opened = { is_bare_in };
+
+    ghost written = { appended };
+
+    ghost ended = { ended };
+
+    ghost refuses = { no_room };
+
+    ghost begins = { bare_is_begun };
+
+    ghost stays = { still_begun };
+
+    ghost joins = { appended_twice };
+
+    fn append_value<E: Encode>(&mut self, value: &E) -> Result<(), Fault> {
+        self.buffer.append(value)
+    }
+
+    fn append_list<T: Encode + Drop, I: Iterator<Item = T> + Drop>(
+        &mut self,
+        lead: &[u8],
+        values: I,
+    ) -> Result<(), Fault> {
+        self.buffer.append_listed(lead, values)
+    }
+
+    fn end_member(&mut self) {
+        if !self.is_finished() {
+            self.end();
+        }
     }
 }

@@ -5,6 +5,7 @@ ghost use Rattle.wenc_base.specs.Fault.{count_cause};
 ghost use Rattle.wenc_canon.specs.Canonicals.{Lift, canonical_text, text_with_options};
 
 use crate::canonicals::{CANCELLABLE, CanonicalOption};
+use crate::opcodes;
 use std::alloc::{Allocator, Global};
 use wenc_base::{Encode, Fault, Tagged, ValType};
 use wenc_parts::{ComponentValType, ResultList};
@@ -215,74 +216,145 @@ impl<A: Allocator> Encode for CanonTree<A> {
                 options,
             } => with_type(core_func, *ty, options, sink),
             CanonTree::Lower { func, options } => {
-                with_options(0x01, &Tagged(0x00, func), options, sink)
+                with_options(opcodes::LOWER, &Tagged(opcodes::PLAIN, func), options, sink)
             }
-            CanonTree::ResourceNew(ty) => Tagged(0x02, ty).encode(sink),
-            CanonTree::ResourceDrop(ty) => Tagged(0x03, ty).encode(sink),
-            CanonTree::ResourceRep(ty) => Tagged(0x04, ty).encode(sink),
-            CanonTree::TaskCancel => Tagged(0x05, &()).encode(sink),
-            CanonTree::SubtaskCancel(async_) => Tagged(0x06, async_).encode(sink),
+            CanonTree::ResourceNew(ty) => Tagged(opcodes::RESOURCE_NEW, ty).encode(sink),
+            CanonTree::ResourceDrop(ty) => Tagged(opcodes::RESOURCE_DROP, ty).encode(sink),
+            CanonTree::ResourceRep(ty) => Tagged(opcodes::RESOURCE_REP, ty).encode(sink),
+            CanonTree::TaskCancel => Tagged(opcodes::TASK_CANCEL, &()).encode(sink),
+            CanonTree::SubtaskCancel(async_) => Tagged(opcodes::SUBTASK_CANCEL, async_).encode(
+                sink,
+            ),
             CanonTree::TaskReturn { ty, options } => with_options(
-                0x09,
+                opcodes::TASK_RETURN,
                 &ResultList(*ty),
                 options,
                 sink,
             ),
-            CanonTree::ContextGet { ty, slot } => Tagged(0x0a, &(*ty, *slot)).encode(sink),
-            CanonTree::ContextSet { ty, slot } => Tagged(0x0b, &(*ty, *slot)).encode(sink),
-            CanonTree::ThreadYield => Tagged(0x0c, &CANCELLABLE).encode(sink),
-            CanonTree::SubtaskDrop => Tagged(0x0d, &()).encode(sink),
-            CanonTree::StreamNew(ty) => Tagged(0x0e, ty).encode(sink),
-            CanonTree::StreamRead { ty, options } => with_options(0x0f, ty, options, sink),
-            CanonTree::StreamWrite { ty, options } => with_options(0x10, ty, options, sink),
-            CanonTree::StreamCancelRead { ty, async_ } => Tagged(0x11, &(*ty, *async_)).encode(
+            CanonTree::ContextGet { ty, slot } => Tagged(
+                opcodes::CONTEXT_GET,
+                &(*ty, *slot),
+            ).encode(sink),
+            CanonTree::ContextSet { ty, slot } => Tagged(
+                opcodes::CONTEXT_SET,
+                &(*ty, *slot),
+            ).encode(sink),
+            CanonTree::ThreadYield => Tagged(opcodes::THREAD_YIELD, &CANCELLABLE).encode(sink),
+            CanonTree::SubtaskDrop => Tagged(opcodes::SUBTASK_DROP, &()).encode(sink),
+            CanonTree::StreamNew(ty) => Tagged(opcodes::STREAM_NEW, ty).encode(sink),
+            CanonTree::StreamRead { ty, options } => with_options(
+                opcodes::STREAM_READ,
+                ty,
+                options,
                 sink,
             ),
-            CanonTree::StreamCancelWrite { ty, async_ } => Tagged(0x12, &(*ty, *async_)).encode(
+            CanonTree::StreamWrite { ty, options } => with_options(
+                opcodes::STREAM_WRITE,
+                ty,
+                options,
                 sink,
             ),
-            CanonTree::StreamDropReadable(ty) => Tagged(0x13, ty).encode(sink),
-            CanonTree::StreamDropWritable(ty) => Tagged(0x14, ty).encode(sink),
-            CanonTree::FutureNew(ty) => Tagged(0x15, ty).encode(sink),
-            CanonTree::FutureRead { ty, options } => with_options(0x16, ty, options, sink),
-            CanonTree::FutureWrite { ty, options } => with_options(0x17, ty, options, sink),
-            CanonTree::FutureCancelRead { ty, async_ } => Tagged(0x18, &(*ty, *async_)).encode(
+            CanonTree::StreamCancelRead { ty, async_ } => Tagged(
+                opcodes::STREAM_CANCEL_READ,
+                &(*ty, *async_),
+            ).encode(sink),
+            CanonTree::StreamCancelWrite { ty, async_ } => Tagged(
+                opcodes::STREAM_CANCEL_WRITE,
+                &(*ty, *async_),
+            ).encode(sink),
+            CanonTree::StreamDropReadable(ty) => Tagged(opcodes::STREAM_DROP_READABLE, ty).encode(
                 sink,
             ),
-            CanonTree::FutureCancelWrite { ty, async_ } => Tagged(0x19, &(*ty, *async_)).encode(
+            CanonTree::StreamDropWritable(ty) => Tagged(opcodes::STREAM_DROP_WRITABLE, ty).encode(
                 sink,
             ),
-            CanonTree::FutureDropReadable(ty) => Tagged(0x1a, ty).encode(sink),
-            CanonTree::FutureDropWritable(ty) => Tagged(0x1b, ty).encode(sink),
-            CanonTree::ErrorContextNew(options) => with_options(0x1c, &(), options, sink),
-            CanonTree::ErrorContextDebugMessage(options) => with_options(0x1d, &(), options, sink),
-            CanonTree::ErrorContextDrop => Tagged(0x1e, &()).encode(sink),
-            CanonTree::WaitableSetNew => Tagged(0x1f, &()).encode(sink),
-            CanonTree::WaitableSetWait(memory) => Tagged(0x20, &(CANCELLABLE, *memory)).encode(
+            CanonTree::FutureNew(ty) => Tagged(opcodes::FUTURE_NEW, ty).encode(sink),
+            CanonTree::FutureRead { ty, options } => with_options(
+                opcodes::FUTURE_READ,
+                ty,
+                options,
                 sink,
             ),
-            CanonTree::WaitableSetPoll(memory) => Tagged(0x21, &(CANCELLABLE, *memory)).encode(
+            CanonTree::FutureWrite { ty, options } => with_options(
+                opcodes::FUTURE_WRITE,
+                ty,
+                options,
                 sink,
             ),
-            CanonTree::WaitableSetDrop => Tagged(0x22, &()).encode(sink),
-            CanonTree::WaitableJoin => Tagged(0x23, &()).encode(sink),
-            CanonTree::BackpressureInc => Tagged(0x24, &()).encode(sink),
-            CanonTree::BackpressureDec => Tagged(0x25, &()).encode(sink),
-            CanonTree::ThreadIndex => Tagged(0x26, &()).encode(sink),
-            CanonTree::ThreadNewIndirect { ty, table } => Tagged(0x27, &(*ty, *table)).encode(sink),
-            CanonTree::ThreadResumeLater => Tagged(0x28, &()).encode(sink),
-            CanonTree::ThreadSuspend => Tagged(0x29, &CANCELLABLE).encode(sink),
-            CanonTree::ThreadSuspendThenResume => Tagged(0x2a, &CANCELLABLE).encode(sink),
-            CanonTree::ThreadYieldThenResume => Tagged(0x2b, &CANCELLABLE).encode(sink),
-            CanonTree::ThreadSuspendThenPromote => Tagged(0x2c, &CANCELLABLE).encode(sink),
-            CanonTree::ThreadYieldThenPromote => Tagged(0x2d, &CANCELLABLE).encode(sink),
-            CanonTree::StreamForward(ty) => Tagged(0x2e, ty).encode(sink),
-            CanonTree::FutureForward(ty) => Tagged(0x2f, ty).encode(sink),
-            CanonTree::ThreadSpawnRef(ty) => Tagged(0x40, ty).encode(sink),
-            CanonTree::ThreadSpawnIndirect { ty, table } => Tagged(0x41, &(*ty, *table)).encode(
+            CanonTree::FutureCancelRead { ty, async_ } => Tagged(
+                opcodes::FUTURE_CANCEL_READ,
+                &(*ty, *async_),
+            ).encode(sink),
+            CanonTree::FutureCancelWrite { ty, async_ } => Tagged(
+                opcodes::FUTURE_CANCEL_WRITE,
+                &(*ty, *async_),
+            ).encode(sink),
+            CanonTree::FutureDropReadable(ty) => Tagged(opcodes::FUTURE_DROP_READABLE, ty).encode(
                 sink,
             ),
-            CanonTree::ThreadAvailableParallelism => Tagged(0x42, &()).encode(sink),
+            CanonTree::FutureDropWritable(ty) => Tagged(opcodes::FUTURE_DROP_WRITABLE, ty).encode(
+                sink,
+            ),
+            CanonTree::ErrorContextNew(options) => with_options(
+                opcodes::ERROR_CONTEXT_NEW,
+                &(),
+                options,
+                sink,
+            ),
+            CanonTree::ErrorContextDebugMessage(options) => with_options(
+                opcodes::ERROR_CONTEXT_DEBUG_MESSAGE,
+                &(),
+                options,
+                sink,
+            ),
+            CanonTree::ErrorContextDrop => Tagged(opcodes::ERROR_CONTEXT_DROP, &()).encode(sink),
+            CanonTree::WaitableSetNew => Tagged(opcodes::WAITABLE_SET_NEW, &()).encode(sink),
+            CanonTree::WaitableSetWait(memory) => Tagged(
+                opcodes::WAITABLE_SET_WAIT,
+                &(CANCELLABLE, *memory),
+            ).encode(sink),
+            CanonTree::WaitableSetPoll(memory) => Tagged(
+                opcodes::WAITABLE_SET_POLL,
+                &(CANCELLABLE, *memory),
+            ).encode(sink),
+            CanonTree::WaitableSetDrop => Tagged(opcodes::WAITABLE_SET_DROP, &()).encode(sink),
+            CanonTree::WaitableJoin => Tagged(opcodes::WAITABLE_JOIN, &()).encode(sink),
+            CanonTree::BackpressureInc => Tagged(opcodes::BACKPRESSURE_INC, &()).encode(sink),
+            CanonTree::BackpressureDec => Tagged(opcodes::BACKPRESSURE_DEC, &()).encode(sink),
+            CanonTree::ThreadIndex => Tagged(opcodes::THREAD_INDEX, &()).encode(sink),
+            CanonTree::ThreadNewIndirect { ty, table } => Tagged(
+                opcodes::THREAD_NEW_INDIRECT,
+                &(*ty, *table),
+            ).encode(sink),
+            CanonTree::ThreadResumeLater => Tagged(opcodes::THREAD_RESUME_LATER, &()).encode(sink),
+            CanonTree::ThreadSuspend => Tagged(opcodes::THREAD_SUSPEND, &CANCELLABLE).encode(sink),
+            CanonTree::ThreadSuspendThenResume => Tagged(
+                opcodes::THREAD_SUSPEND_THEN_RESUME,
+                &CANCELLABLE,
+            ).encode(sink),
+            CanonTree::ThreadYieldThenResume => Tagged(
+                opcodes::THREAD_YIELD_THEN_RESUME,
+                &CANCELLABLE,
+            ).encode(sink),
+            CanonTree::ThreadSuspendThenPromote => Tagged(
+                opcodes::THREAD_SUSPEND_THEN_PROMOTE,
+                &CANCELLABLE,
+            ).encode(sink),
+            CanonTree::ThreadYieldThenPromote => Tagged(
+                opcodes::THREAD_YIELD_THEN_PROMOTE,
+                &CANCELLABLE,
+            ).encode(sink),
+            CanonTree::StreamForward(ty) => Tagged(opcodes::STREAM_FORWARD, ty).encode(sink),
+            CanonTree::FutureForward(ty) => Tagged(opcodes::FUTURE_FORWARD, ty).encode(sink),
+            CanonTree::ThreadSpawnRef(ty) => Tagged(opcodes::THREAD_SPAWN_REF, ty).encode(sink),
+            CanonTree::ThreadSpawnIndirect { ty, table } => Tagged(
+                opcodes::THREAD_SPAWN_INDIRECT,
+                &(*ty, *table),
+            ).encode(sink),
+            CanonTree::ThreadAvailableParallelism => Tagged(
+                opcodes::THREAD_AVAILABLE_PARALLELISM,
+                &(),
+            ).encode(sink),
         }
     }
 }
@@ -312,6 +384,6 @@ fn with_type<A: Allocator, B: Allocator>(
     ensures { Appends (canonical_text (Lift core_func.now options.now.items ty))
         (count_cause (length options.now.items)) ⊥ sink.old.items sink.new.items result }
 {
-    let lead = Tagged(0x00, core_func);
-    (Tagged(0x00, &lead), (options.as_slice(), ty)).encode(sink)
+    let lead = Tagged(opcodes::PLAIN, core_func);
+    (Tagged(opcodes::LIFT, &lead), (options.as_slice(), ty)).encode(sink)
 }

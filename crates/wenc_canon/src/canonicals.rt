@@ -8,6 +8,7 @@ ghost use Rattle.wenc_canon.specs.Canonicals.{AddsWithOptions, Lift, Lower, text
 
 mod intrinsics;
 
+use crate::opcodes;
 pub(crate) use intrinsics::CANCELLABLE;
 use std::alloc::{Allocator, Global};
 use std::marker::Model;
@@ -195,9 +196,9 @@ impl<A: Allocator> CanonicalFunctionSection<A> {
         ensures { AddsWithOptions I.next_gives options self.old self.new result
             (λ os. Lift core_func os ty) }
     {
-        let lead = Tagged(0x00, &core_func);
+        let lead = Tagged(opcodes::PLAIN, &core_func);
         self.functions
-            .add_listed(&Tagged(0x00, &lead), options, &ty)
+            .add_listed(&Tagged(opcodes::LIFT, &lead), options, &ty)
     }
 
     /// Lowers the component function with this index to a core function. Refused as the type says.
@@ -211,7 +212,7 @@ impl<A: Allocator> CanonicalFunctionSection<A> {
         ensures { AddsWithOptions I.next_gives options self.old self.new result
             (λ os. Lower func os) }
     {
-        self.add_row_with_options(0x01, &Tagged(0x00, &func), options)
+        self.add_row_with_options(opcodes::LOWER, &Tagged(opcodes::PLAIN, &func), options)
     }
 
     /// Adds what begins with this opcode and has these fields.

@@ -13,14 +13,17 @@ use std::alloc::{Allocator, Global};
 use wenc_base::{ExportKind, Fault, Tagged};
 use wenc_parts::{ComponentExportKind, ComponentExternName, ComponentSectionId, ModuleArg};
 
-// What begins an instance (component model, binary format, `core:instanceexpr` and `instanceexpr`).
-pub(crate) const CORE_INSTANTIATE: u8 = 0x00;
+/// What begins an instance of a core module (component model, binary format, `core:instanceexpr`).
+pub const CORE_INSTANTIATE: u8 = 0x00;
 
-pub(crate) const CORE_EXPORTS: u8 = 0x01;
+/// What begins a core instance that exports items alone (component model, binary format, `core:instanceexpr`).
+pub const CORE_EXPORTS: u8 = 0x01;
 
-pub(crate) const INSTANTIATE: u8 = 0x00;
+/// What begins an instance of a component (component model, binary format, `instanceexpr`).
+pub const INSTANTIATE: u8 = 0x00;
 
-pub(crate) const EXPORTS: u8 = 0x01;
+/// What begins an instance that exports items alone (component model, binary format, `instanceexpr`).
+pub const EXPORTS: u8 = 0x01;
 
 /// The kind of section that has instances of core modules.
 pub struct CoreInstances;

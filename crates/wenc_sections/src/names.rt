@@ -21,6 +21,9 @@ const COMPONENT_NAME: u8 = 0x00;
 /// The id of a subsection that names items.
 const ITEM_NAMES: u8 = 0x01;
 
+/// The name of a custom section that has names.
+pub const NAMES_LABEL: &str = "component-name";
+
 /// How many bytes the subsections have at most: 15 more are those of the section's name, with its length.
 const LIMIT: usize = 4294967280;
 
@@ -281,7 +284,7 @@ impl<A: Allocator> ComponentNameSection<A> {
         ensures fits { 15 + length self.now < 2 ^ 32 }
     {
         CustomSection {
-            name: "component-name",
+            name: NAMES_LABEL,
             data: self.bytes.as_slice(),
         }
     }

@@ -5,3 +5,4 @@ pub mod CoreTypes
 pub mod DefinedTypes
 pub mod ComponentTypes
 pub mod TypeTrees
+pub mod Sizes

@@ -5,7 +5,7 @@ use Rattle.std.proofs.lemmas.List.{get_or-set_same, get_or-set_other, length-set
 use Rattle.std.proofs.lemmas.Bool.{eq-eqb, ne_eqb}
 use Rattle.std.proofs.lemmas.Option.{same_Some}
 use Rattle.wenc_parts.specs.Imports.{kind_of}
-use Rattle.wenc_builder.specs.Item.{Item, ModuleItem, ComponentItem, AliasItem, CanonItem, StartItem, ImportItem, ExportItem, CustomItem, RawItem}
+use Rattle.wenc_builder.specs.Item.{Item, ModuleItem, CoreInstanceItem, CoreTypeItem, ComponentItem, InstanceItem, AliasItem, TypeItem, CanonItem, StartItem, ImportItem, ExportItem, CustomItem, RawItem}
 use Rattle.wenc_builder.specs.Sections.{preamble}
 use Rattle.wenc_builder.specs.Space.{space_number, canonical_space, alias_space, kind_space, some_in, Defined, defines, defined_in, place}
 use Rattle.wenc_builder.specs.declared.builder.space.Space.{Space}
@@ -112,8 +112,12 @@ within_at s number d e = subst (λ (k : Defined). k.space < 13) (same_Some _ d e
 
 pub places_within : (x : Item) (d : Defined) → defines x ≡ Some d → d.space < 13
 places_within (ModuleItem bytes) d e = within_at CoreModules 1 d e
+places_within (CoreInstanceItem instance) d e = within_at CoreInstances 1 d e
+places_within (CoreTypeItem ty) d e = within_at CoreTypes 1 d e
 places_within (ComponentItem bytes) d e = within_at Components 1 d e
+places_within (InstanceItem instance) d e = within_at Instances 1 d e
 places_within (AliasItem to) d e = within_at (alias_space to) 1 d e
+places_within (TypeItem ty) d e = within_at Types 1 d e
 places_within (CanonItem function) d e = within_at (canonical_space function) 1 d e
 places_within (StartItem start) d e = within_at Values start.results d e
 places_within (ImportItem import) d e = within_at (kind_space (kind_of import.what)) 1 d e

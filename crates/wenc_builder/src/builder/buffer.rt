@@ -1,12 +1,15 @@
-ghost use Rattle.std.specs.Prelude.{◌≡◌, OnOk, OnErr, IfOk, IfErr, is_none, None, false};
+ghost use Rattle.std.specs.Prelude.{◌≡◌, ◌++◌, OnOk, OnErr, IfOk, IfErr, is_none, None, Err, false};
+ghost use Rattle.std.specs.Iterator.{IsFinite};
 ghost use Rattle.wenc_base.specs.Delimited.{NoCause};
 ghost use Rattle.wenc_base.specs.Encode.{Appends};
-ghost use Rattle.wenc_base.specs.Forms.{byte_list};
-ghost use Rattle.wenc_base.specs.Fault.{IsMemory, IsWarranted};
+ghost use Rattle.wenc_base.specs.Forms.{byte_list, list_text};
+ghost use Rattle.wenc_base.specs.Fault.{IsMemory, IsWarranted, drawn_cause};
+ghost use Rattle.wenc_base.specs.Lender.{Extends, ExtendsListed};
+ghost use Rattle.wenc_base.specs.declared.fault.Fault.TheVariants.{Unfinished};
 ghost use Rattle.wenc_base.specs.declared.fault.Fault.{Fault as FaultSpec};
 ghost use Rattle.wenc_builder.specs.Builder.{sections_text};
 ghost use Rattle.wenc_builder.specs.Cause.{SectionCause};
-ghost use Rattle.wenc_builder.specs.Layout.{kind_id, OpensAnother, nothing_buffered, buffer_begun, section_begun, buffer_appended, section_appended, buffer_ended, buffer_given_up, buffer_with, AppendCause, NestCause};
+ghost use Rattle.wenc_builder.specs.Layout.{kind_id, OpensAnother, nothing_buffered, buffer_begun, section_begun, buffer_appended, section_appended, buffer_ended, buffer_given_up, buffer_with, NoRoom, AppendCause, NestCause};
 
 use super::earlier::Earlier;
 use super::flush::{GAP, close_earlier, open_head, section_head};
@@ -109,14 +112,28 @@ impl<A: Allocator> Buffer<A> {
     /// Appends the text of a value to the item that is being written.
     pub fn append<E: Encode>(&mut self, value: &E) -> Result<(), Fault>
         requires { is_none self.old.writing ≡ false }
-        ensures ok { OnOk result (self.new ≡ buffer_appended self.old (E.text value.now)) }
-        ensures free { OnOk result ((fault : FaultSpec) → AppendCause (E.cause value.now)
-            (section_appended self.old (E.text value.now)) fault → ⊥) }
-        ensures err { OnErr result (self.new ≡ self.old) }
-        ensures warranted { IfErr result (IsWarranted (AppendCause (E.cause value.now)
-            (section_appended self.old (E.text value.now)))) }
+        ensures appended { Extends self.old self.new (buffer_appended self.old (E.text value.now))
+            result (AppendCause (E.cause value.now)
+            (section_appended self.old (E.text value.now))) }
+        ensures unfinished_value { E.unfinished value.now → result ≡ Err Unfinished }
     {
         self.holder.append_encoded(value)
+    }
+
+    /// Appends these bytes to the item that is being written, then the values as a list.
+    pub fn append_listed<T: Encode + Drop, I: Iterator<Item = T> + Drop>(
+        &mut self,
+        lead: &[u8],
+        values: I,
+    ) -> Result<(), Fault>
+        requires unfinished { is_none self.old.writing ≡ false }
+        requires can { I.can_next values }
+        requires ends { IsFinite (I.remaining values) }
+        ensures { ExtendsListed I.next_gives values self.old self.new result
+            (buffer_appended self.old) (λ bytes. NoRoom (section_appended self.old bytes))
+            (drawn_cause T.cause) (λ vs. lead.now ++ list_text T.text vs) }
+    {
+        self.holder.append_listed(lead, values)
     }
 
     /// Ends the item that is being written: it is in its section from now on. It takes no memory.

@@ -1,17 +1,17 @@
-ghost use Rattle.wenc_builder.specs.Enters.{Enters};
+ghost use Rattle.std.specs.Iterator.{IsFinite};
+ghost use Rattle.wenc_builder.specs.Enters.{Enters, EntersListed};
 ghost use Rattle.wenc_builder.specs.Entry.{provided_entry};
 ghost use Rattle.wenc_canon.specs.Canonicals as rows;
 
 use super::ComponentBuilder;
 use std::alloc::Allocator;
 use wenc_base::{Fault, ValType};
-use wenc_canon::CanonTree;
+use wenc_canon::{CanonTree, CanonicalOption, opcodes};
+use wenc_parts::{ComponentValType, ResultList};
 
-/// The functions that the component model provides: each call adds one, with its own name as its
-/// debug name, and
-/// answers its index among core functions (component model, binary format, "Canonical
-/// Definitions"). An index that is
-/// handed in is from 0 to 4294967295. Refused as the type says.
+/// The functions that the component model provides: each call adds one, with its own name as its debug name, and
+/// answers its index among core functions (component model, binary format, "Canonical Definitions"). An index that is
+/// handed in is from 0 to 4294967295; options are written in the order in which they come. Refused as the type says.
 impl<A: Allocator> ComponentBuilder<A> {
     /// `resource.new`: makes a handle that owns a resource of this type.
     pub fn resource_new(&mut self, ty: u32) -> Result<u32, Fault>
@@ -75,6 +75,25 @@ impl<A: Allocator> ComponentBuilder<A> {
         self.provide("backpressure.dec", &CanonTree::BackpressureDec)
     }
 
+    /// `task.return`: gives the caller of a lifted function its result, or none, while the callee goes on.
+    pub fn task_return<I: Iterator<Item = CanonicalOption> + Drop>(
+        &mut self,
+        ty: Option<ComponentValType>,
+        options: I,
+    ) -> Result<u32, Fault>
+        requires can { I.can_next options }
+        requires ends { IsFinite (I.remaining options) }
+        ensures { EntersListed I.next_gives options self.old self.new result
+            (λ os. provided_entry rows.TaskReturn (ty, os)) }
+    {
+        self.add_with_options(
+            Some("task.return"),
+            opcodes::TASK_RETURN,
+            &ResultList(ty),
+            options,
+        )
+    }
+
     /// `task.cancel`: says that the current task was cancelled.
     pub fn task_cancel(&mut self) -> Result<u32, Fault>
         ensures { Enters self.old self.new result (provided_entry rows.TaskCancel tt) }
@@ -133,6 +152,34 @@ impl<A: Allocator> ComponentBuilder<A> {
         self.provide("stream.new", &CanonTree::StreamNew(ty))
     }
 
+    /// `stream.read`: reads from a stream of this type.
+    pub fn stream_read<I: Iterator<Item = CanonicalOption> + Drop>(
+        &mut self,
+        ty: u32,
+        options: I,
+    ) -> Result<u32, Fault>
+        requires can { I.can_next options }
+        requires ends { IsFinite (I.remaining options) }
+        ensures { EntersListed I.next_gives options self.old self.new result
+            (λ os. provided_entry rows.StreamRead (ty, os)) }
+    {
+        self.add_with_options(Some("stream.read"), opcodes::STREAM_READ, &ty, options)
+    }
+
+    /// `stream.write`: writes to a stream of this type.
+    pub fn stream_write<I: Iterator<Item = CanonicalOption> + Drop>(
+        &mut self,
+        ty: u32,
+        options: I,
+    ) -> Result<u32, Fault>
+        requires can { I.can_next options }
+        requires ends { IsFinite (I.remaining options) }
+        ensures { EntersListed I.next_gives options self.old self.new result
+            (λ os. provided_entry rows.StreamWrite (ty, os)) }
+    {
+        self.add_with_options(Some("stream.write"), opcodes::STREAM_WRITE, &ty, options)
+    }
+
     /// `stream.forward`: hands on what is left in one stream of this type to another.
     pub fn stream_forward(&mut self, ty: u32) -> Result<u32, Fault>
         ensures { Enters self.old self.new result (provided_entry rows.StreamForward ty) }
@@ -181,6 +228,34 @@ impl<A: Allocator> ComponentBuilder<A> {
         self.provide("future.new", &CanonTree::FutureNew(ty))
     }
 
+    /// `future.read`: reads from a future of this type.
+    pub fn future_read<I: Iterator<Item = CanonicalOption> + Drop>(
+        &mut self,
+        ty: u32,
+        options: I,
+    ) -> Result<u32, Fault>
+        requires can { I.can_next options }
+        requires ends { IsFinite (I.remaining options) }
+        ensures { EntersListed I.next_gives options self.old self.new result
+            (λ os. provided_entry rows.FutureRead (ty, os)) }
+    {
+        self.add_with_options(Some("future.read"), opcodes::FUTURE_READ, &ty, options)
+    }
+
+    /// `future.write`: writes to a future of this type.
+    pub fn future_write<I: Iterator<Item = CanonicalOption> + Drop>(
+        &mut self,
+        ty: u32,
+        options: I,
+    ) -> Result<u32, Fault>
+        requires can { I.can_next options }
+        requires ends { IsFinite (I.remaining options) }
+        ensures { EntersListed I.next_gives options self.old self.new result
+            (λ os. provided_entry rows.FutureWrite (ty, os)) }
+    {
+        self.add_with_options(Some("future.write"), opcodes::FUTURE_WRITE, &ty, options)
+    }
+
     /// `future.forward`: hands on the value of one future of this type to another.
     pub fn future_forward(&mut self, ty: u32) -> Result<u32, Fault>
         ensures { Enters self.old self.new result (provided_entry rows.FutureForward ty) }
@@ -220,6 +295,42 @@ impl<A: Allocator> ComponentBuilder<A> {
         ensures { Enters self.old self.new result (provided_entry rows.FutureDropWritable ty) }
     {
         self.provide("future.drop-writable", &CanonTree::FutureDropWritable(ty))
+    }
+
+    /// `error-context.new`: makes an error context of a message.
+    pub fn error_context_new<I: Iterator<Item = CanonicalOption> + Drop>(
+        &mut self,
+        options: I,
+    ) -> Result<u32, Fault>
+        requires can { I.can_next options }
+        requires ends { IsFinite (I.remaining options) }
+        ensures { EntersListed I.next_gives options self.old self.new result
+            (λ os. provided_entry rows.ErrorContextNew os) }
+    {
+        self.add_with_options(
+            Some("error-context.new"),
+            opcodes::ERROR_CONTEXT_NEW,
+            &(),
+            options,
+        )
+    }
+
+    /// `error-context.debug-message`: gives the message of an error context.
+    pub fn error_context_debug_message<I: Iterator<Item = CanonicalOption> + Drop>(
+        &mut self,
+        options: I,
+    ) -> Result<u32, Fault>
+        requires can { I.can_next options }
+        requires ends { IsFinite (I.remaining options) }
+        ensures { EntersListed I.next_gives options self.old self.new result
+            (λ os. provided_entry rows.ErrorContextDebugMessage os) }
+    {
+        self.add_with_options(
+            Some("error-context.debug-message"),
+            opcodes::ERROR_CONTEXT_DEBUG_MESSAGE,
+            &(),
+            options,
+        )
     }
 
     /// `error-context.drop`: drops an error context.

@@ -3,7 +3,11 @@ use wenc_parts::ComponentSectionId;
 /// The kinds of items of which neighbours stand in one section.
 #[derive(Clone, Copy, Debug, PartialEq, Eq)]
 pub enum Kind {
+    CoreInstance,
+    CoreType,
+    Instance,
     Alias,
+    Type,
     CanonicalFunction,
     Import,
     Export,
@@ -18,7 +22,11 @@ impl Kind {
         ensures { result ≡ kind_id self }
     {
         match self {
+            Kind::CoreInstance => u8::from(ComponentSectionId::CoreInstance),
+            Kind::CoreType => u8::from(ComponentSectionId::CoreType),
+            Kind::Instance => u8::from(ComponentSectionId::Instance),
             Kind::Alias => u8::from(ComponentSectionId::Alias),
+            Kind::Type => u8::from(ComponentSectionId::Type),
             Kind::CanonicalFunction => u8::from(ComponentSectionId::CanonicalFunction),
             Kind::Import => u8::from(ComponentSectionId::Import),
             Kind::Export => u8::from(ComponentSectionId::Export),

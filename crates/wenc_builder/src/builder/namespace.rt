@@ -1,25 +1,20 @@
-ghost use Rattle.std.specs.Prelude.{◌≡◌, ◌+◌, ◌<◌, ◌^◌, length, take, OnOk, OnErr, IfErr};
 ghost use Rattle.std.specs.Option.{option_copied};
-ghost use Rattle.wenc_base.specs.Number.{number_size};
-ghost use Rattle.wenc_builder.specs.Builder.{no_names, namespace_with, space_view};
+ghost use Rattle.std.specs.Prelude.{◌≡◌, ◌≤◌, [], length, take, OnOk, OnErr, IfErr};
 ghost use Rattle.wenc_base.specs.Fault.{IsWarranted};
+ghost use Rattle.wenc_base.specs.Holder.{holding};
 ghost use Rattle.wenc_base.specs.declared.fault.Fault.{Fault as FaultSpec};
+ghost use Rattle.wenc_builder.specs.Builder.{no_names, namespace_with, space_view};
 ghost use Rattle.wenc_builder.specs.Cause.{SpaceCause};
-ghost use Rattle.wenc_builder.specs.Spaces.{NamesFit};
 
 use std::alloc::{Allocator, Global};
 use std::marker::Model;
-use wenc_base::{Fault, Short, encoding_size, extend_in_room};
+use wenc_base::{Fault, NameMap, encoding_size};
 
-/// What the text of a space's names is at most.
-const LIMIT: usize = 4294967295;
-
-/// An index space: how many items it has, and the names of some, as they stand in a name map.
+/// An index space: how many items it has, and the names of some.
 #[derive(Drop)]
 pub struct Namespace<A: Allocator = Global> {
     count: u32,
-    named: u32,
-    names: Vec<u8, A>,
+    names: NameMap<A>,
 }
 
 impl<A: Allocator> Model for Namespace<A> {
@@ -28,21 +23,20 @@ impl<A: Allocator> Model for Namespace<A> {
 
     ghost Value = { Namespace };
 
-    ghost view = { λ s. space_view s.count s.named s.names.items };
+    ghost view = { λ s. space_view s.count s.names.count s.names.body };
 
-    ghost invariant = { λ s. NamesFit (space_view s.count s.named s.names.items) };
+    ghost invariant = { λ s. NamesFit s.names };
 }
 
 impl<A: Allocator> Namespace<A> {
     /// No items.
-    #[tactic(auto, using(wenc_base::proofs::Groups::size_at_most_5))]
+    #[tactic(auto, using(wenc_base::proofs::Groups::size_1))]
     pub fn new(alloc: A) -> Self
         ensures { result ≡ no_names }
     {
         Namespace {
             count: 0,
-            named: 0,
-            names: Vec::new(alloc),
+            names: NameMap::new(alloc),
         }
     }
 
@@ -53,23 +47,22 @@ impl<A: Allocator> Namespace<A> {
         self.count
     }
 
-    /// How many names.
-    pub fn named(&self) -> u32
-        ensures is { result ≡ self.now.named }
-        ensures fits { NamesFit self.now }
+    /// The names.
+    pub fn names(&self) -> &NameMap<A>
+        ensures { result.now ≡ holding [] self.now.named self.now.names }
     {
-        self.named
+        &self.names
     }
 
     /// How many bytes the names have.
     pub fn names_len(&self) -> usize
         ensures { result ≡ length self.now.names }
     {
-        self.names.len()
+        self.names.size() - encoding_size(self.names.len())
     }
 
     /// So many more items, the first of them with this name or none.
-    #[tactic(auto, using(wenc_base::proofs::Groups::size_at_most_5))]
+    #[tactic(auto, using(crate::proofs::Mapped::unnamed_free))]
     pub fn add(&mut self, number: u32, name: Option<&str>) -> Result<(), Fault>
         ensures ok { OnOk result (self.new ≡ namespace_with self.old number (option_copied name.entry)) }
         ensures free { OnOk result ((fault : FaultSpec)
@@ -86,41 +79,22 @@ impl<A: Allocator> Namespace<A> {
                 self.count = count;
                 Ok(())
             }
-            Some(name) => {
-                let Some(named) = self.named.checked_add(1) else {
-                    return Err(Fault::TooMany);
-                };
-                let Ok(len) = u32::try_from(name.len()) else {
-                    return Err(Fault::TooLarge);
-                };
-                let mut lead = Short::new();
-                lead.unsigned(u64::from(self.count));
-                lead.unsigned(u64::from(len));
-                let lead = lead.as_slice();
-                let more = lead.len() + name.len();
-                if LIMIT - encoding_size(named) < more {
-                    return Err(Fault::TooLarge);
+            Some(name) => match self.names.append(self.count, name) {
+                Ok(()) => {
+                    self.count = count;
+                    Ok(())
                 }
-                if LIMIT - encoding_size(named) - more < self.names.len() {
-                    return Err(Fault::TooLarge);
-                }
-                self.names.try_reserve(more)?;
-                extend_in_room(&mut self.names, lead);
-                extend_in_room(&mut self.names, name.as_bytes());
-                self.count = count;
-                self.named = named;
-                Ok(())
-            }
+                Err(fault) => Err(fault),
+            },
         }
     }
 
     /// The space as it was, when it had so many items, names and bytes of names. It takes no memory.
     pub fn cut_back(&mut self, count: u32, named: u32, len: usize)
-        requires { number_size named + length (take len self.old.names) < 2 ^ 32 }
+        requires { (named ≤ self.old.named) × (len ≤ length self.old.names) }
         ensures { self.new ≡ space_view count named (take len self.old.names) }
     {
-        self.names.truncate(len);
+        self.names.cut_back(named, len);
         self.count = count;
-        self.named = named;
     }
 }

@@ -1,20 +1,23 @@
-ghost use Rattle.std.specs.Prelude.{◌≡◌, ◌<◌, length, OnOk, OnErr, IfOk, IfErr, is_none, None, false};
+ghost use Rattle.std.specs.Prelude.{◌≡◌, ◌<◌, length, map, OnOk, OnErr, IfOk, IfErr, is_none, None, false};
 ghost use Rattle.std.specs.Option.{option_copied};
 ghost use Rattle.wenc_base.specs.Fault.{IsMemory, IsWarranted};
 ghost use Rattle.wenc_base.specs.declared.fault.Fault.{Fault as FaultSpec};
 ghost use Rattle.wenc_builder.specs.Space.{space_number};
 ghost use Rattle.wenc_builder.specs.Builder.{namespace_at};
 ghost use Rattle.wenc_builder.specs.Cause.{SpaceCause};
+ghost use Rattle.wenc_builder.specs.Names.{by_sort, names_held};
 ghost use Rattle.wenc_builder.specs.Spaces.{empty_spaces, space_begun, spaces_begun, spaces_ended, spaces_given_up, count_at};
 
+use super::names::{SpaceNames, Subsections};
 use super::namespace::Namespace;
 use super::space::Space;
 use std::alloc::{Allocator, Global};
 use std::marker::Model;
-use wenc_base::Fault;
+use wenc_base::{Fault, NameMap};
+use wenc_sections::Sort;
 
 /// How many spaces there are.
-const SPACES: usize = 13;
+pub const SPACES: usize = 13;
 
 /// What a space was before an item took a place in it.
 #[derive(Clone, Copy)]
@@ -71,6 +74,37 @@ impl<A: Allocator> Spaces<A> {
         self.spaces[space.number()].count()
     }
 
+    /// The names in a space.
+    pub fn names(&self, space: Space) -> &NameMap<A>
+        requires { self.now.taking ≡ None }
+        ensures { result.now ≡ names_held (namespace_at self.now.settled (space_number space)) }
+    {
+        self.spaces[space.number()].names()
+    }
+
+    /// The names in all spaces, in the order in which a section has them.
+    pub fn sorted_names(&self) -> Subsections<'_, A>
+        requires { self.now.taking ≡ None }
+        ensures { map (λ n. (n.0, n.1.now)) result.0
+            ≡ by_sort (λ k. names_held (namespace_at self.now.settled k)) }
+    {
+        Subsections([
+            SpaceNames(Sort::CoreFunc, self.names(Space::CoreFuncs)),
+            SpaceNames(Sort::CoreTable, self.names(Space::CoreTables)),
+            SpaceNames(Sort::CoreMemory, self.names(Space::CoreMemories)),
+            SpaceNames(Sort::CoreGlobal, self.names(Space::CoreGlobals)),
+            SpaceNames(Sort::CoreTag, self.names(Space::CoreTags)),
+            SpaceNames(Sort::CoreType, self.names(Space::CoreTypes)),
+            SpaceNames(Sort::CoreModule, self.names(Space::CoreModules)),
+            SpaceNames(Sort::CoreInstance, self.names(Space::CoreInstances)),
+            SpaceNames(Sort::Instance, self.names(Space::Instances)),
+            SpaceNames(Sort::Func, self.names(Space::Funcs)),
+            SpaceNames(Sort::Type, self.names(Space::Types)),
+            SpaceNames(Sort::Component, self.names(Space::Components)),
+            SpaceNames(Sort::Value, self.names(Space::Values)),
+        ])
+    }
+
     /// So many more items in a space, the first of them with this name or none, which may be given up until `end`.
     /// Answers the index of the first.
     pub fn begin(&mut self, space: Space, number: u32, name: Option<&str>) -> Result<u32, Fault>
@@ -92,7 +126,7 @@ impl<A: Allocator> Spaces<A> {
         let undo = Undo {
             space,
             count: index,
-            named: one.named(),
+            named: one.names().len(),
             len: one.names_len(),
         };
         one.add(number, name)?;

@@ -5,6 +5,7 @@ ghost use Rattle.wenc_canon.specs.Canonicals as rows;
 ghost use Rattle.wenc_canon.specs.Canonicals.{Adds, AddsWithOptions, Provided};
 
 use super::{CanonicalFunctionSection, CanonicalOption};
+use crate::opcodes;
 use std::alloc::Allocator;
 use wenc_base::{Fault, ValType};
 use wenc_parts::{ComponentValType, ResultList};
@@ -18,28 +19,28 @@ impl<A: Allocator> CanonicalFunctionSection<A> {
     pub fn resource_new(&mut self, ty: u32) -> Result<(), Fault>
         ensures { Adds self.old self.new result rows.ResourceNew ty }
     {
-        self.add_row(0x02, &ty)
+        self.add_row(opcodes::RESOURCE_NEW, &ty)
     }
 
     /// `resource.drop`: drops a handle of this type.
     pub fn resource_drop(&mut self, ty: u32) -> Result<(), Fault>
         ensures { Adds self.old self.new result rows.ResourceDrop ty }
     {
-        self.add_row(0x03, &ty)
+        self.add_row(opcodes::RESOURCE_DROP, &ty)
     }
 
     /// `resource.rep`: gives the representation of a resource of this type.
     pub fn resource_rep(&mut self, ty: u32) -> Result<(), Fault>
         ensures { Adds self.old self.new result rows.ResourceRep ty }
     {
-        self.add_row(0x04, &ty)
+        self.add_row(opcodes::RESOURCE_REP, &ty)
     }
 
     /// `thread.spawn-ref`: starts a thread in a shared function of this type, by a reference to it.
     pub fn thread_spawn_ref(&mut self, ty: u32) -> Result<(), Fault>
         ensures { Adds self.old self.new result rows.ThreadSpawnRef ty }
     {
-        self.add_row(0x40, &ty)
+        self.add_row(opcodes::THREAD_SPAWN_REF, &ty)
     }
 
     /// `thread.spawn-indirect`: starts a thread in a shared function of this type, by its place in a
@@ -47,28 +48,28 @@ impl<A: Allocator> CanonicalFunctionSection<A> {
     pub fn thread_spawn_indirect(&mut self, ty: u32, table: u32) -> Result<(), Fault>
         ensures { Adds self.old self.new result rows.ThreadSpawnIndirect (ty, table) }
     {
-        self.add_row(0x41, &(ty, table))
+        self.add_row(opcodes::THREAD_SPAWN_INDIRECT, &(ty, table))
     }
 
     /// `thread.available-parallelism`: gives the number of threads that can be expected to run at once.
     pub fn thread_available_parallelism(&mut self) -> Result<(), Fault>
         ensures { Adds self.old self.new result rows.ThreadAvailableParallelism tt }
     {
-        self.add_row(0x42, &())
+        self.add_row(opcodes::THREAD_AVAILABLE_PARALLELISM, &())
     }
 
     /// `backpressure.inc`: raises the counter that keeps new calls back.
     pub fn backpressure_inc(&mut self) -> Result<(), Fault>
         ensures { Adds self.old self.new result rows.BackpressureInc tt }
     {
-        self.add_row(0x24, &())
+        self.add_row(opcodes::BACKPRESSURE_INC, &())
     }
 
     /// `backpressure.dec`: lowers the counter that keeps new calls back.
     pub fn backpressure_dec(&mut self) -> Result<(), Fault>
         ensures { Adds self.old self.new result rows.BackpressureDec tt }
     {
-        self.add_row(0x25, &())
+        self.add_row(opcodes::BACKPRESSURE_DEC, &())
     }
 
     /// `task.return`: gives the caller of a lifted function its result, or none, while the callee goes
@@ -83,49 +84,49 @@ impl<A: Allocator> CanonicalFunctionSection<A> {
         ensures { AddsWithOptions I.next_gives options self.old self.new result
             (λ os. Provided rows.TaskReturn (ty, os)) }
     {
-        self.add_row_with_options(0x09, &ResultList(ty), options)
+        self.add_row_with_options(opcodes::TASK_RETURN, &ResultList(ty), options)
     }
 
     /// `task.cancel`: says that the current task was cancelled.
     pub fn task_cancel(&mut self) -> Result<(), Fault>
         ensures { Adds self.old self.new result rows.TaskCancel tt }
     {
-        self.add_row(0x05, &())
+        self.add_row(opcodes::TASK_CANCEL, &())
     }
 
     /// `context.get`: reads a slot of the current task, which has this value type.
     pub fn context_get(&mut self, ty: ValType, slot: u32) -> Result<(), Fault>
         ensures { Adds self.old self.new result rows.ContextGet (ty, slot) }
     {
-        self.add_row(0x0a, &(ty, slot))
+        self.add_row(opcodes::CONTEXT_GET, &(ty, slot))
     }
 
     /// `context.set`: writes a slot of the current task, which has this value type.
     pub fn context_set(&mut self, ty: ValType, slot: u32) -> Result<(), Fault>
         ensures { Adds self.old self.new result rows.ContextSet (ty, slot) }
     {
-        self.add_row(0x0b, &(ty, slot))
+        self.add_row(opcodes::CONTEXT_SET, &(ty, slot))
     }
 
     /// `subtask.drop`: drops a subtask that has ended.
     pub fn subtask_drop(&mut self) -> Result<(), Fault>
         ensures { Adds self.old self.new result rows.SubtaskDrop tt }
     {
-        self.add_row(0x0d, &())
+        self.add_row(opcodes::SUBTASK_DROP, &())
     }
 
     /// `subtask.cancel`: cancels a subtask.
     pub fn subtask_cancel(&mut self, async_: bool) -> Result<(), Fault>
         ensures { Adds self.old self.new result rows.SubtaskCancel async_ }
     {
-        self.add_row(0x06, &async_)
+        self.add_row(opcodes::SUBTASK_CANCEL, &async_)
     }
 
     /// `stream.new`: makes a stream of this type.
     pub fn stream_new(&mut self, ty: u32) -> Result<(), Fault>
         ensures { Adds self.old self.new result rows.StreamNew ty }
     {
-        self.add_row(0x0e, &ty)
+        self.add_row(opcodes::STREAM_NEW, &ty)
     }
 
     /// `stream.read`: reads from a stream of this type.
@@ -139,7 +140,7 @@ impl<A: Allocator> CanonicalFunctionSection<A> {
         ensures { AddsWithOptions I.next_gives options self.old self.new result
             (λ os. Provided rows.StreamRead (ty, os)) }
     {
-        self.add_row_with_options(0x0f, &ty, options)
+        self.add_row_with_options(opcodes::STREAM_READ, &ty, options)
     }
 
     /// `stream.write`: writes to a stream of this type.
@@ -153,49 +154,49 @@ impl<A: Allocator> CanonicalFunctionSection<A> {
         ensures { AddsWithOptions I.next_gives options self.old self.new result
             (λ os. Provided rows.StreamWrite (ty, os)) }
     {
-        self.add_row_with_options(0x10, &ty, options)
+        self.add_row_with_options(opcodes::STREAM_WRITE, &ty, options)
     }
 
     /// `stream.forward`: hands on what is left in one stream of this type to another.
     pub fn stream_forward(&mut self, ty: u32) -> Result<(), Fault>
         ensures { Adds self.old self.new result rows.StreamForward ty }
     {
-        self.add_row(0x2e, &ty)
+        self.add_row(opcodes::STREAM_FORWARD, &ty)
     }
 
     /// `stream.cancel-read`: cancels a read from a stream of this type.
     pub fn stream_cancel_read(&mut self, ty: u32, async_: bool) -> Result<(), Fault>
         ensures { Adds self.old self.new result rows.StreamCancelRead (ty, async_) }
     {
-        self.add_row(0x11, &(ty, async_))
+        self.add_row(opcodes::STREAM_CANCEL_READ, &(ty, async_))
     }
 
     /// `stream.cancel-write`: cancels a write to a stream of this type.
     pub fn stream_cancel_write(&mut self, ty: u32, async_: bool) -> Result<(), Fault>
         ensures { Adds self.old self.new result rows.StreamCancelWrite (ty, async_) }
     {
-        self.add_row(0x12, &(ty, async_))
+        self.add_row(opcodes::STREAM_CANCEL_WRITE, &(ty, async_))
     }
 
     /// `stream.drop-readable`: drops the end of a stream of this type that is read.
     pub fn stream_drop_readable(&mut self, ty: u32) -> Result<(), Fault>
         ensures { Adds self.old self.new result rows.StreamDropReadable ty }
     {
-        self.add_row(0x13, &ty)
+        self.add_row(opcodes::STREAM_DROP_READABLE, &ty)
     }
 
     /// `stream.drop-writable`: drops the end of a stream of this type that is written.
     pub fn stream_drop_writable(&mut self, ty: u32) -> Result<(), Fault>
         ensures { Adds self.old self.new result rows.StreamDropWritable ty }
     {
-        self.add_row(0x14, &ty)
+        self.add_row(opcodes::STREAM_DROP_WRITABLE, &ty)
     }
 
     /// `future.new`: makes a future of this type.
     pub fn future_new(&mut self, ty: u32) -> Result<(), Fault>
         ensures { Adds self.old self.new result rows.FutureNew ty }
     {
-        self.add_row(0x15, &ty)
+        self.add_row(opcodes::FUTURE_NEW, &ty)
     }
 
     /// `future.read`: reads from a future of this type.
@@ -209,7 +210,7 @@ impl<A: Allocator> CanonicalFunctionSection<A> {
         ensures { AddsWithOptions I.next_gives options self.old self.new result
             (λ os. Provided rows.FutureRead (ty, os)) }
     {
-        self.add_row_with_options(0x16, &ty, options)
+        self.add_row_with_options(opcodes::FUTURE_READ, &ty, options)
     }
 
     /// `future.write`: writes to a future of this type.
@@ -223,42 +224,42 @@ impl<A: Allocator> CanonicalFunctionSection<A> {
         ensures { AddsWithOptions I.next_gives options self.old self.new result
             (λ os. Provided rows.FutureWrite (ty, os)) }
     {
-        self.add_row_with_options(0x17, &ty, options)
+        self.add_row_with_options(opcodes::FUTURE_WRITE, &ty, options)
     }
 
     /// `future.forward`: hands on the value of one future of this type to another.
     pub fn future_forward(&mut self, ty: u32) -> Result<(), Fault>
         ensures { Adds self.old self.new result rows.FutureForward ty }
     {
-        self.add_row(0x2f, &ty)
+        self.add_row(opcodes::FUTURE_FORWARD, &ty)
     }
 
     /// `future.cancel-read`: cancels a read from a future of this type.
     pub fn future_cancel_read(&mut self, ty: u32, async_: bool) -> Result<(), Fault>
         ensures { Adds self.old self.new result rows.FutureCancelRead (ty, async_) }
     {
-        self.add_row(0x18, &(ty, async_))
+        self.add_row(opcodes::FUTURE_CANCEL_READ, &(ty, async_))
     }
 
     /// `future.cancel-write`: cancels a write to a future of this type.
     pub fn future_cancel_write(&mut self, ty: u32, async_: bool) -> Result<(), Fault>
         ensures { Adds self.old self.new result rows.FutureCancelWrite (ty, async_) }
     {
-        self.add_row(0x19, &(ty, async_))
+        self.add_row(opcodes::FUTURE_CANCEL_WRITE, &(ty, async_))
     }
 
     /// `future.drop-readable`: drops the end of a future of this type that is read.
     pub fn future_drop_readable(&mut self, ty: u32) -> Result<(), Fault>
         ensures { Adds self.old self.new result rows.FutureDropReadable ty }
     {
-        self.add_row(0x1a, &ty)
+        self.add_row(opcodes::FUTURE_DROP_READABLE, &ty)
     }
 
     /// `future.drop-writable`: drops the end of a future of this type that is written.
     pub fn future_drop_writable(&mut self, ty: u32) -> Result<(), Fault>
         ensures { Adds self.old self.new result rows.FutureDropWritable ty }
     {
-        self.add_row(0x1b, &ty)
+        self.add_row(opcodes::FUTURE_DROP_WRITABLE, &ty)
     }
 
     /// `error-context.new`: makes an error context of a message.
@@ -271,7 +272,7 @@ impl<A: Allocator> CanonicalFunctionSection<A> {
         ensures { AddsWithOptions I.next_gives options self.old self.new result
             (λ os. Provided rows.ErrorContextNew os) }
     {
-        self.add_row_with_options(0x1c, &(), options)
+        self.add_row_with_options(opcodes::ERROR_CONTEXT_NEW, &(), options)
     }
 
     /// `error-context.debug-message`: gives the message of an error context.
@@ -284,98 +285,98 @@ impl<A: Allocator> CanonicalFunctionSection<A> {
         ensures { AddsWithOptions I.next_gives options self.old self.new result
             (λ os. Provided rows.ErrorContextDebugMessage os) }
     {
-        self.add_row_with_options(0x1d, &(), options)
+        self.add_row_with_options(opcodes::ERROR_CONTEXT_DEBUG_MESSAGE, &(), options)
     }
 
     /// `error-context.drop`: drops an error context.
     pub fn error_context_drop(&mut self) -> Result<(), Fault>
         ensures { Adds self.old self.new result rows.ErrorContextDrop tt }
     {
-        self.add_row(0x1e, &())
+        self.add_row(opcodes::ERROR_CONTEXT_DROP, &())
     }
 
     /// `waitable-set.new`: makes a set of what can be waited for.
     pub fn waitable_set_new(&mut self) -> Result<(), Fault>
         ensures { Adds self.old self.new result rows.WaitableSetNew tt }
     {
-        self.add_row(0x1f, &())
+        self.add_row(opcodes::WAITABLE_SET_NEW, &())
     }
 
     /// `waitable-set.wait`: waits until something in a set happens, which is written to this memory.
     pub fn waitable_set_wait(&mut self, memory: u32) -> Result<(), Fault>
         ensures { Adds self.old self.new result rows.WaitableSetWait (tt, memory) }
     {
-        self.add_row(0x20, &(CANCELLABLE, memory))
+        self.add_row(opcodes::WAITABLE_SET_WAIT, &(CANCELLABLE, memory))
     }
 
     /// `waitable-set.poll`: looks whether something in a set happened, which is written to this memory.
     pub fn waitable_set_poll(&mut self, memory: u32) -> Result<(), Fault>
         ensures { Adds self.old self.new result rows.WaitableSetPoll (tt, memory) }
     {
-        self.add_row(0x21, &(CANCELLABLE, memory))
+        self.add_row(opcodes::WAITABLE_SET_POLL, &(CANCELLABLE, memory))
     }
 
     /// `waitable-set.drop`: drops a set of what can be waited for.
     pub fn waitable_set_drop(&mut self) -> Result<(), Fault>
         ensures { Adds self.old self.new result rows.WaitableSetDrop tt }
     {
-        self.add_row(0x22, &())
+        self.add_row(opcodes::WAITABLE_SET_DROP, &())
     }
 
     /// `waitable.join`: puts something that can be waited for into a set.
     pub fn waitable_join(&mut self) -> Result<(), Fault>
         ensures { Adds self.old self.new result rows.WaitableJoin tt }
     {
-        self.add_row(0x23, &())
+        self.add_row(opcodes::WAITABLE_JOIN, &())
     }
 
     /// `thread.index`: gives the index of the current thread.
     pub fn thread_index(&mut self) -> Result<(), Fault>
         ensures { Adds self.old self.new result rows.ThreadIndex tt }
     {
-        self.add_row(0x26, &())
+        self.add_row(opcodes::THREAD_INDEX, &())
     }
 
     /// `thread.new-indirect`: makes a thread of a function of this type, by its place in a table.
     pub fn thread_new_indirect(&mut self, ty: u32, table: u32) -> Result<(), Fault>
         ensures { Adds self.old self.new result rows.ThreadNewIndirect (ty, table) }
     {
-        self.add_row(0x27, &(ty, table))
+        self.add_row(opcodes::THREAD_NEW_INDIRECT, &(ty, table))
     }
 
     /// `thread.resume-later`: lets a thread that was suspended go on later.
     pub fn thread_resume_later(&mut self) -> Result<(), Fault>
         ensures { Adds self.old self.new result rows.ThreadResumeLater tt }
     {
-        self.add_row(0x28, &())
+        self.add_row(opcodes::THREAD_RESUME_LATER, &())
     }
 
     /// `thread.suspend`: suspends the current thread.
     pub fn thread_suspend(&mut self) -> Result<(), Fault>
         ensures { Adds self.old self.new result rows.ThreadSuspend tt }
     {
-        self.add_row(0x29, &CANCELLABLE)
+        self.add_row(opcodes::THREAD_SUSPEND, &CANCELLABLE)
     }
 
     /// `thread.yield`: lets other threads go on.
     pub fn thread_yield(&mut self) -> Result<(), Fault>
         ensures { Adds self.old self.new result rows.ThreadYield tt }
     {
-        self.add_row(0x0c, &CANCELLABLE)
+        self.add_row(opcodes::THREAD_YIELD, &CANCELLABLE)
     }
 
     /// `thread.suspend-then-resume`: suspends the current thread, and lets another go on at once.
     pub fn thread_suspend_then_resume(&mut self) -> Result<(), Fault>
         ensures { Adds self.old self.new result rows.ThreadSuspendThenResume tt }
     {
-        self.add_row(0x2a, &CANCELLABLE)
+        self.add_row(opcodes::THREAD_SUSPEND_THEN_RESUME, &CANCELLABLE)
     }
 
     /// `thread.yield-then-resume`: lets another thread go on at once, and this one after it.
     pub fn thread_yield_then_resume(&mut self) -> Result<(), Fault>
         ensures { Adds self.old self.new result rows.ThreadYieldThenResume tt }
     {
-        self.add_row(0x2b, &CANCELLABLE)
+        self.add_row(opcodes::THREAD_YIELD_THEN_RESUME, &CANCELLABLE)
     }
 
     /// `thread.suspend-then-promote`: suspends the current thread, and moves another to the front of
@@ -383,7 +384,7 @@ impl<A: Allocator> CanonicalFunctionSection<A> {
     pub fn thread_suspend_then_promote(&mut self) -> Result<(), Fault>
         ensures { Adds self.old self.new result rows.ThreadSuspendThenPromote tt }
     {
-        self.add_row(0x2c, &CANCELLABLE)
+        self.add_row(opcodes::THREAD_SUSPEND_THEN_PROMOTE, &CANCELLABLE)
     }
 
     /// `thread.yield-then-promote`: lets other threads go on, first the one that is moved to the front
@@ -391,6 +392,6 @@ impl<A: Allocator> CanonicalFunctionSection<A> {
     pub fn thread_yield_then_promote(&mut self) -> Result<(), Fault>
         ensures { Adds self.old self.new result rows.ThreadYieldThenPromote tt }
     {
-        self.add_row(0x2d, &CANCELLABLE)
+        self.add_row(opcodes::THREAD_YIELD_THEN_PROMOTE, &CANCELLABLE)
     }
 }

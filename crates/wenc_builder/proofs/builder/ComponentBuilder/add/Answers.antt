@@ -4,8 +4,8 @@ use Rattle.wenc_builder.specs.Layout.{kind_id}
 use Rattle.wenc_builder.proofs.Taken.{added}
 use Rattle.wenc_builder.proofs.builder.ComponentBuilder.add.Goals as goal
 
-pub returns-in-Ok-append : goal.returns-in-Ok-append
-returns-in-Ok-append g c =
-    let a = c.in-Ok-append.ensures in
-    added c.args.self.now c.begin.new.self c.append.new.self c.end.new.self c.in-Ok.index (kind_id c.args.kind) (space_number c.args.space) (option_copied c.args.name)
+pub returns-in-Ok-append_value : goal.returns-in-Ok-append_value
+returns-in-Ok-append_value g c =
+    let a = c.in-Ok-append_value.ensures.appended in
+    added c.args.self.now c.begin.new.self c.append_value.new.self c.end.new.self c.in-Ok.index (kind_id c.args.kind) (space_number c.args.space) (option_copied c.args.name)
     (g.E.Encode.text c.args.item.now) (g.E.Encode.cause c.args.item.now) c.in-Ok.ensures a.ok a.free c.end.ensures

@@ -1,0 +1,98 @@
+//! How long the builder takes for the calls that upstream's bench makes: `bench N` by rounds, `bench N grouped` call by
+//! call. It prints how many bytes came and their hash, and on standard error how many nanoseconds it took.
+#![tactic(auto)]
+
+mod calls;
+mod hash;
+
+use calls::{Names, build};
+use hash::fnv1a;
+use std::io::Write;
+use std::process::ExitCode;
+use std::rt::Env;
+use std::time::{Clock, Instant};
+use std::{env, io};
+
+/// How many rounds there are where no argument says it.
+const ROUNDS: u32 = 1000;
+
+/// What a run is asked for.
+#[derive(Clone, Copy)]
+struct Plan {
+    rounds: u32,
+    grouped: bool,
+}
+
+/// What a run found.
+#[derive(Clone, Copy)]
+struct Outcome {
+    bytes: usize,
+    hash: u64,
+    nanoseconds: u128,
+}
+
+/// The plan that the arguments say, or nothing where they say none.
+fn plan<R: Env + AllocGlobal>(rt: &R) -> Option<Plan> {
+    let mut args = env::args(rt).ok()?;
+    let _program = args.next();
+    let rounds = match args.next() {
+        None => ROUNDS,
+        Some(text) => text.as_str().parse::<u32>().ok()?,
+    };
+    let grouped = match args.next() {
+        None => false,
+        Some(word) => {
+            if word.as_str() != "grouped" {
+                return None;
+            }
+            true
+        }
+    };
+    Some(Plan { rounds, grouped })
+}
+
+/// Builds what the plan says, on the clock.
+fn timed<R: Clock + AllocGlobal>(rt: &R, plan: Plan) -> Option<Outcome> {
+    let names = Names::new(rt.alloc(), plan.rounds).ok()?;
+    let start = Instant::now(rt).ok()?;
+    let bytes = build(rt.alloc(), &names, plan.grouped).ok()?;
+    let nanoseconds = start.elapsed(rt).ok()?.as_nanos();
+    Some(Outcome {
+        bytes: bytes.len(),
+        hash: fnv1a(bytes.as_slice()),
+        nanoseconds,
+    })
+}
+
+/// Prints it, the time apart.
+fn print<R: AllocGlobal, O: Write, E: Write>(
+    rt: &R,
+    outcome: &Outcome,
+    out: &mut O,
+    err: &mut E,
+) -> io::Result<()> {
+    let Ok(found) = format!(in rt.alloc(); "bytes {}\nfnv1a {:016x}\n", outcome.bytes, outcome.hash)
+    else {
+        return Ok(());
+    };
+    out.write_all(found.as_bytes())?;
+    let Ok(time) = format!(in rt.alloc(); "nanoseconds {}\n", outcome.nanoseconds) else {
+        return Ok(());
+    };
+    err.write_all(time.as_bytes())
+}
+
+fn main(rt: HostRuntime) -> ExitCode {
+    let Some(plan) = plan(&rt) else {
+        return ExitCode::from(1);
+    };
+    let Some(outcome) = timed(&rt, plan) else {
+        return ExitCode::from(2);
+    };
+    let mut out = rt.stdout();
+    let mut err = rt.stderr();
+    match print(&rt, &outcome, &mut out, &mut err) {
+        Ok(()) => ExitCode::from(0),
+        Err(_) => ExitCode::from(4),
+    }
+}

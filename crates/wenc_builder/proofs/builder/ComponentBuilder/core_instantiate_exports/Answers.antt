@@ -1,0 +1,19 @@
+use Rattle.std.proofs.Common.{refl, ◌∷◌, [], inl, inr}
+use Rattle.std.specs.Option.{option_copied}
+use Rattle.wenc_base.specs.Fault.{text_cause}
+use Rattle.wenc_base.specs.laws.Causes.{alone}
+use Rattle.wenc_sections.specs.Instances.{core_export, core_export_view, core_export_cause, CoreExports}
+use Rattle.wenc_builder.specs.Item.{CoreInstanceItem}
+use Rattle.wenc_builder.specs.Layout.{kind_id}
+use Rattle.wenc_builder.specs.Space.{space_number}
+use Rattle.wenc_builder.specs.declared.builder.kind.Kind.TheVariants as kinds
+use Rattle.wenc_builder.specs.declared.builder.space.Space.TheVariants as spaces
+use Rattle.wenc_builder.proofs.Entered.{itself}
+use Rattle.wenc_builder.proofs.Listed.{members_enter}
+use Rattle.wenc_builder.proofs.builder.ComponentBuilder.core_instantiate_exports.Goals as goal
+
+pub returns : goal.returns
+returns g c =
+    members_enter g.I.Iterator.next_gives c.args.exports c.args.self.now c.add_listed.new.self c.add_listed.result (λ cs. CoreInstanceItem (CoreExports cs)) (kind_id kinds.CoreInstance) (space_number spaces.CoreInstances) (option_copied c.args.debug_name)
+    (0x01 ∷ []) (λ v. (core_export v).text) core_export_view _ core_export_cause (λ cs. refl) (λ cs. refl) (λ cs. refl) (λ cs. itself _)
+    (λ v. alone (text_cause v.0.now) _ (λ fault h. elim h [ inl none ↦ none | inr p ↦ p.1 ])) c.add_listed.ensures

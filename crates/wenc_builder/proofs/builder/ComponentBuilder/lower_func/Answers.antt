@@ -1,0 +1,14 @@
+use Rattle.std.proofs.Common.{refl, ◌∷◌}
+use Rattle.std.specs.Option.{option_copied}
+use Rattle.wenc_base.specs.Number.{u32}
+use Rattle.wenc_base.specs.laws.Causes.{never}
+use Rattle.wenc_canon.specs.Canonicals.{Lower}
+use Rattle.wenc_builder.specs.declared.builder.space.Space.TheVariants as spaces
+use Rattle.wenc_builder.proofs.Entered.{itself}
+use Rattle.wenc_builder.proofs.Listed.{last_options_enter}
+use Rattle.wenc_builder.proofs.builder.ComponentBuilder.lower_func.Goals as goal
+
+pub returns : goal.returns
+returns g c =
+    last_options_enter g.I.Iterator.next_gives c.args.options c.args.self.now c.add_with_options.new.self c.add_with_options.result (λ os. Lower c.args.func_index os) spaces.CoreFuncs (option_copied c.args.debug_name)
+    0x01 (0x00 ∷ (u32 c.args.func_index).text) never (λ os. refl) (λ os. refl) (λ os. itself _) (λ fault none. none) c.add_with_options.ensures

@@ -1,0 +1,13 @@
+use Rattle.std.proofs.Common.{◌∷◌, sym}
+use Rattle.std.specs.Option.{option_copied}
+use Rattle.wenc_base.specs.Holder.{held_text, EncodeCause}
+use Rattle.wenc_types.specs.ComponentTypes.{ComponentType, components_of}
+use Rattle.wenc_types.specs.laws.Declarations.{component_type_text}
+use Rattle.wenc_builder.proofs.Entered.{type_enters, finished_free}
+use Rattle.wenc_builder.proofs.builder.ComponentBuilder.type_component.Goals as goal
+
+pub returns-clause-entered : goal.returns-clause-entered
+returns-clause-entered g c ds h =
+    let t = c.args.ty.now in
+    type_enters c.args.self.now c.add.new.self c.add.result (ComponentType (components_of ds)) (option_copied c.args.debug_name) (0x41 ∷ held_text t.held) (EncodeCause t.held) (component_type_text t ds h)
+    (λ fault own. absurd (finished_free t.held (sym c.if-not-is_finished.ensures.finished) fault own)) c.add.ensures

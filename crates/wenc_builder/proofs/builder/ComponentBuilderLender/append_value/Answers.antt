@@ -1,0 +1,7 @@
+use Rattle.wenc_builder.proofs.Viewed.{appended_value}
+use Rattle.wenc_builder.proofs.builder.ComponentBuilderLender.append_value.Goals as goal
+
+pub returns-clause-appended : goal.returns-clause-appended
+returns-clause-appended g c =
+    appended_value c.self.inside.buffer c.self.inside.spaces c.args.self.now c.self.invariant c.self.view_is c.append.new.self c.append.result
+    (g.E.Encode.cause c.args.value.now) (g.E.Encode.text c.args.value.now) c.append.ensures.appended

@@ -1,0 +1,79 @@
+-- The section of debug names that a builder adds (component model, binary format, "Name Section").
+use Rattle.std.specs.Prelude.{◌≡◌, ◌↔◌, ℕ, List, [], ◌∷◌, map, nat_eq, if◌then◌else◌, Bool, true, false, Option, Some, None, Result, Ok, Err, OnErr}
+use Rattle.std.specs.Option.{MatchOption}
+use Rattle.std.specs.List.{flat_map}
+use Rattle.wenc_base.specs.Fault.{text_cause, member_cause}
+use Rattle.wenc_base.specs.Holder.{Held, holding}
+use Rattle.wenc_base.specs.declared.fault.Fault.{Fault}
+use Rattle.wenc_base.specs.declared.fault.Fault.TheVariants.{Unfinished}
+use Rattle.wenc_sections.specs.Names.{Subsection, RawNames, subsection, subsections_text, name_subsections, items_content, names_label}
+use Rattle.wenc_sections.specs.declared.names.Sort.{Sort}
+use Rattle.wenc_sections.specs.declared.names.Sort.TheVariants as sorts
+use Rattle.wenc_builder.specs.Entry.{Entry, custom_entry, names}
+use Rattle.wenc_builder.specs.Builder.{Namespace, State, builder_is_finished}
+use Rattle.wenc_builder.specs.Enters.{EntersPlaceless}
+use Rattle.wenc_builder.specs.Holds.{Holds}
+use Rattle.wenc_builder.specs.Space.{space_number}
+use Rattle.wenc_builder.specs.declared.builder.space.Space.{Space}
+use Rattle.wenc_builder.specs.declared.builder.space.Space.TheVariants as spaces
+
+-- the sorts of the items in each space, in the order in which their names are written
+abbrev pub named_sorts : List (Sort × Space)
+named_sorts =
+    (sorts.CoreFunc, spaces.CoreFuncs) ∷
+    (sorts.CoreTable, spaces.CoreTables) ∷
+    (sorts.CoreMemory, spaces.CoreMemories) ∷
+    (sorts.CoreGlobal, spaces.CoreGlobals) ∷
+    (sorts.CoreTag, spaces.CoreTags) ∷
+    (sorts.CoreType, spaces.CoreTypes) ∷
+    (sorts.CoreModule, spaces.CoreModules) ∷
+    (sorts.CoreInstance, spaces.CoreInstances) ∷
+    (sorts.Instance, spaces.Instances) ∷
+    (sorts.Func, spaces.Funcs) ∷
+    (sorts.«Type», spaces.Types) ∷
+    (sorts.Component, spaces.Components) ∷
+    (sorts.Value, spaces.Values) ∷ []
+
+-- what each space has, by its sort
+abbrev pub by_sort : {A : Type 0} → (ℕ → A) → List (Sort × A)
+by_sort at = map (λ p. (p.0, at (space_number p.1))) named_sorts
+
+-- the entry of these subsections, where there are any
+abbrev pub named_entry : List Subsection → Option Entry
+named_entry [] = None
+named_entry (s ∷ ss) = Some (custom_entry names_label (subsections_text (s ∷ ss)))
+
+-- the entry of the names of all entries
+abbrev pub names_entry : List Entry → Option Entry
+names_entry es = named_entry (name_subsections (by_sort (names es)))
+
+-- A call adds that entry to every list that was held or, where there is none, changes nothing and is never refused.
+pub record AddsNames (old new : State) (result : Result (Unit {0}) Fault) : Type 0 where
+  pub held : (es : List Entry) → Holds old es → MatchOption (names_entry es) ((result ≡ Ok tt) × (new ≡ old)) (λ x. EntersPlaceless old new result x)
+  pub err : OnErr result (new ≡ old)
+  pub unfinished : (builder_is_finished old ≡ false) ↔ (result ≡ Err Unfinished)
+
+-- ---- as they are kept
+
+-- the names in a space
+abbrev pub names_held : Namespace → Held
+names_held s = holding [] s.named s.names
+
+-- the subsection of names that are kept, where there are some
+abbrev pub space_names : Sort × Held → List ℕ
+space_names p = if nat_eq p.1.count 0 then [] else (subsection (RawNames 0x01 (items_content p.0 p.1))).text
+
+-- why it can't be encoded
+abbrev pub space_names_cause : Sort × Held → Fault → Type 0
+space_names_cause p fault = (nat_eq p.1.count 0 ≡ false) × text_cause (items_content p.0 p.1) fault
+
+abbrev pub all_names : List (Sort × Held) → List ℕ
+all_names ps = flat_map space_names ps
+
+abbrev pub all_names_cause : List (Sort × Held) → Fault → Type 0
+all_names_cause ps = member_cause space_names_cause ps
+
+-- there is no name at all
+abbrev pub none_named : List (Sort × Held) → Bool
+none_named [] = true
+none_named (p ∷ ps) = if nat_eq p.1.count 0 then none_named ps else false

@@ -1,0 +1,62 @@
+ghost use Rattle.std.specs.Iterator.{IsFinite};
+ghost use Rattle.std.specs.Option.{option_copied};
+ghost use Rattle.wenc_builder.specs.Enters.{EntersListed};
+ghost use Rattle.wenc_builder.specs.Entry.{canonical_entry};
+ghost use Rattle.wenc_canon.specs.Canonicals.{Lift, Lower};
+
+use super::ComponentBuilder;
+use super::kind::Kind;
+use super::space::Space;
+use std::alloc::Allocator;
+use wenc_base::{Fault, Tagged};
+use wenc_canon::{CanonicalOption, opcodes};
+
+/// Functions that are lifted and lowered: each call adds one, with a debug name or none, and answers its index
+/// (component model, binary format, "Canonical Definitions"). Options are written in the order in which they come.
+/// Refused as the type says.
+impl<A: Allocator> ComponentBuilder<A> {
+    /// Lowers the component function with this index to a core function.
+    pub fn lower_func<I: Iterator<Item = CanonicalOption> + Drop>(
+        &mut self,
+        debug_name: Option<&str>,
+        func_index: u32,
+        options: I,
+    ) -> Result<u32, Fault>
+        requires can { I.can_next options }
+        requires ends { IsFinite (I.remaining options) }
+        ensures { EntersListed I.next_gives options self.old self.new result
+            (λ os. canonical_entry (option_copied debug_name.entry) (Lower func_index os)) }
+    {
+        self.add_with_options(
+            debug_name,
+            opcodes::LOWER,
+            &Tagged(opcodes::PLAIN, &func_index),
+            options,
+        )
+    }
+
+    /// Lifts the core function with this index to a component function of the type with that one.
+    pub fn lift_func<I: Iterator<Item = CanonicalOption> + Drop>(
+        &mut self,
+        debug_name: Option<&str>,
+        core_func_index: u32,
+        type_index: u32,
+        options: I,
+    ) -> Result<u32, Fault>
+        requires can { I.can_next options }
+        requires ends { IsFinite (I.remaining options) }
+        ensures { EntersListed I.next_gives options self.old self.new result
+            (λ os. canonical_entry (option_copied debug_name.entry)
+            (Lift core_func_index os type_index)) }
+    {
+        let lead = Tagged(opcodes::PLAIN, &core_func_index);
+        self.add_listed(
+            Kind::CanonicalFunction,
+            Space::Funcs,
+            debug_name,
+            &Tagged(opcodes::LIFT, &lead),
+            options,
+            &type_index,
+        )
+    }
+}

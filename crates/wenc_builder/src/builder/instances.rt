@@ -1,0 +1,115 @@
+ghost use Rattle.std.specs.Iterator.{IsFinite};
+ghost use Rattle.std.specs.Option.{option_copied};
+ghost use Rattle.std.specs.Prelude.{map};
+ghost use Rattle.wenc_builder.specs.Enters.{EntersListed};
+ghost use Rattle.wenc_builder.specs.Entry.{core_instance_entry, instance_entry};
+ghost use Rattle.wenc_sections.specs.Instances.{CoreInstantiate, CoreExports, argument_view, core_export_view};
+ghost use Rattle.wenc_sections.specs.Instances.{Instantiate, Exports, given_view, exported_view};
+
+use super::ComponentBuilder;
+use super::kind::Kind;
+use super::space::Space;
+use std::alloc::Allocator;
+use wenc_base::{ExportKind, Fault, Tagged};
+use wenc_parts::{ComponentExportKind, ComponentExternName, ModuleArg};
+use wenc_sections::instances::{CORE_EXPORTS, CORE_INSTANTIATE, EXPORTS, INSTANTIATE};
+
+/// Instances of core modules and of components: each call adds one, with a debug name or none, and answers its index
+/// (component model, binary format, "Instance Definitions"). What is handed in as an iterator is written in the order
+/// in which it comes. Refused as the type says.
+impl<A: Allocator> ComponentBuilder<A> {
+    /// Adds an instance of the core module with this index, which is given these arguments under their names.
+    pub fn core_instantiate<'a, I: Iterator<Item = (&'a str, ModuleArg)> + Drop>(
+        &mut self,
+        debug_name: Option<&str>,
+        module_index: u32,
+        args: I,
+    ) -> Result<u32, Fault>
+        requires can { I.can_next args }
+        requires ends { IsFinite (I.remaining args) }
+        ensures { EntersListed I.next_gives args self.old self.new result
+            (λ items. core_instance_entry (option_copied debug_name.entry)
+            (CoreInstantiate module_index (map argument_view items))) }
+    {
+        let lead = Tagged(CORE_INSTANTIATE, &module_index);
+        self.add_listed(
+            Kind::CoreInstance,
+            Space::CoreInstances,
+            debug_name,
+            &lead,
+            args,
+            &(),
+        )
+    }
+
+    /// Adds a core instance that exports these core items under their names: the kind of each, and its index.
+    pub fn core_instantiate_exports<'a, I: Iterator<Item = (&'a str, ExportKind, u32)> + Drop>(
+        &mut self,
+        debug_name: Option<&str>,
+        exports: I,
+    ) -> Result<u32, Fault>
+        requires can { I.can_next exports }
+        requires ends { IsFinite (I.remaining exports) }
+        ensures { EntersListed I.next_gives exports self.old self.new result
+            (λ items. core_instance_entry (option_copied debug_name.entry)
+            (CoreExports (map core_export_view items))) }
+    {
+        let lead = Tagged(CORE_EXPORTS, &());
+        self.add_listed(
+            Kind::CoreInstance,
+            Space::CoreInstances,
+            debug_name,
+            &lead,
+            exports,
+            &(),
+        )
+    }
+
+    /// Adds an instance of the component with this index, which is given the items of these kinds and indices under
+    /// their names.
+    pub fn instantiate<'a, I: Iterator<Item = (&'a str, ComponentExportKind, u32)> + Drop>(
+        &mut self,
+        debug_name: Option<&str>,
+        component_index: u32,
+        args: I,
+    ) -> Result<u32, Fault>
+        requires can { I.can_next args }
+        requires ends { IsFinite (I.remaining args) }
+        ensures { EntersListed I.next_gives args self.old self.new result
+            (λ items. instance_entry (option_copied debug_name.entry)
+            (Instantiate component_index (map given_view items))) }
+    {
+        let lead = Tagged(INSTANTIATE, &component_index);
+        self.add_listed(
+            Kind::Instance,
+            Space::Instances,
+            debug_name,
+            &lead,
+            args,
+            &(),
+        )
+    }
+
+    /// Adds an instance that exports the items of these kinds and indices under their names.
+    pub fn instantiate_exports<
+        'a,
+        N: Allocator + Drop,
+        I: Iterator<Item = (ComponentExternName<'a, N>, ComponentExportKind, u32)> + Drop,
+    >(&mut self, debug_name: Option<&str>, exports: I) -> Result<u32, Fault>
+        requires can { I.can_next exports }
+        requires ends { IsFinite (I.remaining exports) }
+        ensures { EntersListed I.next_gives exports self.old self.new result
+            (λ items. instance_entry (option_copied debug_name.entry)
+            (Exports (map exported_view items))) }
+    {
+        let lead = Tagged(EXPORTS, &());
+        self.add_listed(
+            Kind::Instance,
+            Space::Instances,
+            debug_name,
+            &lead,
+            exports,
+            &(),
+        )
+    }
+}

@@ -1,0 +1,88 @@
+ghost use Rattle.std.specs.List.{flat_map};
+ghost use Rattle.std.specs.Prelude.{◌≡◌, ◌++◌, ℕ, List, map, OnOk, OnErr, IfErr};
+ghost use Rattle.wenc_base.specs.Fault.{IsWarranted, member_cause};
+ghost use Rattle.wenc_base.specs.declared.fault.Fault.{Fault as FaultSpec};
+ghost use Rattle.wenc_builder.specs.Names.{space_names, space_names_cause, none_named};
+
+use super::spaces::SPACES;
+use std::alloc::{Allocator, Global};
+use wenc_base::{Encode, Fault, NameMap};
+use wenc_sections::{NamesOf, Sort};
+
+/// The subsection of the names of one sort, or nothing where there are none.
+#[derive(Clone, Copy)]
+pub struct SpaceNames<'a, A: Allocator = Global>(pub Sort, pub &'a NameMap<A>);
+
+impl<'a, A: Allocator> Encode for SpaceNames<'a, A> {
+    ghost text = { λ n. space_names (n.0, n.1.now) };
+
+    ghost cause = { λ n. space_names_cause (n.0, n.1.now) };
+
+    fn encode<B: Allocator>(&self, sink: &mut Vec<u8, B>) -> Result<(), Fault> {
+        if self.1.is_empty() {
+            return Ok(());
+        }
+        NamesOf(self.0, self.1).encode(sink)
+    }
+}
+
+/// The subsections of all sorts, one behind the other.
+#[derive(Clone, Copy)]
+pub struct Subsections<'a, A: Allocator = Global>(pub [SpaceNames<'a, A>; SPACES]);
+
+impl<'a, A: Allocator> Encode for Subsections<'a, A> {
+    ghost text = { λ s. flat_map (λ n. space_names (n.0, n.1.now)) s.0 };
+
+    ghost cause = { λ s. member_cause (λ n. space_names_cause (n.0, n.1.now)) s.0 };
+
+    fn encode<B: Allocator>(&self, sink: &mut Vec<u8, B>) -> Result<(), Fault> {
+        let start = sink.len();
+        match encode_each(&self.0, sink) {
+            Ok(()) => Ok(()),
+            Err(fault) => {
+                sink.truncate(start);
+                Err(fault)
+            }
+        }
+    }
+}
+
+/// Appends each subsection, up to the first that is refused.
+fn encode_each<A: Allocator, B: Allocator>(
+    names: &[SpaceNames<'_, A>],
+    sink: &mut Vec<u8, B>,
+) -> Result<(), Fault>
+    ensures ok { OnOk result
+        (sink.new.items ≡ sink.old.items ++ flat_map (λ n. space_names (n.0, n.1.now)) names.now) }
+    ensures encodable { (fault : FaultSpec)
+        → member_cause (λ n. space_names_cause (n.0, n.1.now)) names.now fault → OnOk result ⊥ }
+    ensures err { OnErr result ((more : List ℕ) × (sink.new.items ≡ sink.old.items ++ more)) }
+    ensures warranted { IfErr result
+        (IsWarranted (member_cause (λ n. space_names_cause (n.0, n.1.now)) names.now)) }
+{
+    for one in names {
+        one.encode(sink)?;
+    }
+    Ok(())
+}
+
+impl<'a, A: Allocator> Subsections<'a, A> {
+    /// Whether there is no name at all.
+    pub fn is_empty(&self) -> bool
+        ensures { result ≡ none_named (map (λ n. (n.0, n.1.now)) self.now.0) }
+    {
+        are_empty(&self.0)
+    }
+}
+
+/// Whether there is no name among them.
+fn are_empty<A: Allocator>(names: &[SpaceNames<'_, A>]) -> bool
+    ensures { result ≡ none_named (map (λ n. (n.0, n.1.now)) names.now) }
+{
+    for one in names {
+        if !one.1.is_empty() {
+            return false;
+        }
+    }
+    true
+}

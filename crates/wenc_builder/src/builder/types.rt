@@ -1,0 +1,145 @@
+ghost use Rattle.std.specs.Borrow.{sem, RestsIfErr};
+ghost use Rattle.std.specs.Option.{option_copied};
+ghost use Rattle.std.specs.Prelude.{◌≡◌, [], List, false, Err, IfOk, OnErr};
+ghost use Rattle.wenc_base.specs.Holder.{is_finished};
+ghost use Rattle.wenc_base.specs.declared.fault.Fault.TheVariants.{Unfinished};
+ghost use Rattle.wenc_builder.specs.Enters.{Begins, Enters};
+ghost use Rattle.wenc_builder.specs.Entry.{type_entry};
+ghost use Rattle.wenc_builder.specs.Layout.{draft_of};
+ghost use Rattle.wenc_types.specs.ComponentTypes.{InstanceDeclaration, ComponentDeclaration, InstanceType, ComponentType as ComponentTypeSpec, ResourceType, instances_of, components_of};
+ghost use Rattle.wenc_types.specs.Declarations.{InstanceDeclares, ComponentDeclares};
+ghost use Rattle.wenc_types.specs.declared.func_type.FuncStage.TheVariants as stages;
+
+use super::ComponentBuilder;
+use super::kind::Kind;
+use super::space::Space;
+use std::alloc::Allocator;
+use wenc_base::{Fault, ValType};
+use wenc_types::{
+    ComponentCoreTypeEncoder, ComponentDefinedTypeEncoder, ComponentFuncTypeEncoder, ComponentType,
+    ComponentTypeEncoder, InstanceType, TypeTree,
+};
+
+/// Types: each call adds one, with a debug name or none, and answers its index (component model, binary format, "Core
+/// Definitions" and "Type Definitions"). A call that answers an encoder too has begun the type: it has its index and
+/// its name, and the builder is unfinished until the encoder's last call. Refused as the type says.
+///
+/// ```
+/// let (index, ty) = builder.type_defined(None)?;
+/// ty.record([("name", ComponentValType::Primitive(PrimitiveValType::String))].into_iter())?;
+/// ```
+impl<A: Allocator> ComponentBuilder<A> {
+    ghost use Rattle.wenc_builder.specs.contracts.builder.ComponentBuilder.{the_row};
+
+    /// Begins a core type, which is written by the encoder that is answered.
+    pub fn core_type(
+        &mut self,
+        debug_name: Option<&str>,
+    ) -> Result<(u32, ComponentCoreTypeEncoder<'_, ComponentBuilder<A>>), Fault>
+        ensures* refused { sem 𝓛 (RestsIfErr (the_row A.row A.Allocator) self.entry
+            (λ e. e.1.lender.ghost_name) result (λ n. n ≡ self.old)) }
+        ensures same_reference { IfOk result (λ e. e.1.lender.ghost_name ≡ self.entry.ghost_name) }
+        ensures begun { Begins (λ e. e.0) (λ e. e.1.lender.now) self.old result
+            (draft_of Kind.CoreType Space.CoreTypes (option_copied debug_name.entry) []) }
+    {
+        let index = self.begin(Kind::CoreType, Space::CoreTypes, debug_name)?;
+        Ok((index, ComponentCoreTypeEncoder::new(self)))
+    }
+
+    /// Begins a type, which is written by the encoder that is answered.
+    pub fn ty(
+        &mut self,
+        debug_name: Option<&str>,
+    ) -> Result<(u32, ComponentTypeEncoder<'_, ComponentBuilder<A>>), Fault>
+        ensures* refused { sem 𝓛 (RestsIfErr (the_row A.row A.Allocator) self.entry
+            (λ e. e.1.lender.ghost_name) result (λ n. n ≡ self.old)) }
+        ensures same_reference { IfOk result (λ e. e.1.lender.ghost_name ≡ self.entry.ghost_name) }
+        ensures begun { Begins (λ e. e.0) (λ e. e.1.lender.now) self.old result
+            (draft_of Kind.«Type» Space.Types (option_copied debug_name.entry) []) }
+    {
+        let index = self.begin(Kind::Type, Space::Types, debug_name)?;
+        Ok((index, ComponentTypeEncoder::new(self)))
+    }
+
+    /// Adds this instance type. It is refused with `Unfinished` where either is unfinished.
+    pub fn type_instance<B: Allocator>(
+        &mut self,
+        debug_name: Option<&str>,
+        ty: &InstanceType<B>,
+    ) -> Result<u32, Fault>
+        ensures entered { (ds : List InstanceDeclaration) → InstanceDeclares ty.now ds
+            → Enters self.old self.new result
+            (type_entry (option_copied debug_name.entry) (InstanceType (instances_of ds))) }
+        ensures unfinished { is_finished ty.now.held ≡ false → result ≡ Err Unfinished }
+        ensures err { OnErr result (self.new ≡ self.old) }
+    {
+        if !ty.is_finished() {
+            return Err(Fault::Unfinished);
+        }
+        self.add(Kind::Type, Space::Types, debug_name, ty)
+    }
+
+    /// Adds this component type. It is refused with `Unfinished` where either is unfinished.
+    pub fn type_component<B: Allocator>(
+        &mut self,
+        debug_name: Option<&str>,
+        ty: &ComponentType<B>,
+    ) -> Result<u32, Fault>
+        ensures entered { (ds : List ComponentDeclaration) → ComponentDeclares ty.now ds
+            → Enters self.old self.new result
+            (type_entry (option_copied debug_name.entry) (ComponentTypeSpec (components_of ds))) }
+        ensures unfinished { is_finished ty.now.held ≡ false → result ≡ Err Unfinished }
+        ensures err { OnErr result (self.new ≡ self.old) }
+    {
+        if !ty.is_finished() {
+            return Err(Fault::Unfinished);
+        }
+        self.add(Kind::Type, Space::Types, debug_name, ty)
+    }
+
+    /// Begins a type of values, which is written by the encoder that is answered.
+    pub fn type_defined(
+        &mut self,
+        debug_name: Option<&str>,
+    ) -> Result<(u32, ComponentDefinedTypeEncoder<'_, ComponentBuilder<A>>), Fault>
+        ensures* refused { sem 𝓛 (RestsIfErr (the_row A.row A.Allocator) self.entry
+            (λ e. e.1.lender.ghost_name) result (λ n. n ≡ self.old)) }
+        ensures same_reference { IfOk result (λ e. e.1.lender.ghost_name ≡ self.entry.ghost_name) }
+        ensures begun { Begins (λ e. e.0) (λ e. e.1.lender.now) self.old result
+            (draft_of Kind.«Type» Space.Types (option_copied debug_name.entry) []) }
+    {
+        let index = self.begin(Kind::Type, Space::Types, debug_name)?;
+        Ok((index, ComponentDefinedTypeEncoder::new(self)))
+    }
+
+    /// Begins a type of functions, which is written by the encoder that is answered.
+    pub fn type_function(
+        &mut self,
+        debug_name: Option<&str>,
+    ) -> Result<(u32, ComponentFuncTypeEncoder<'_, ComponentBuilder<A>>), Fault>
+        ensures* refused { sem 𝓛 (RestsIfErr (the_row A.row A.Allocator) self.entry
+            (λ e. e.1.lender.ghost_name) result (λ n. n ≡ self.old)) }
+        ensures same_reference { IfOk result (λ e. e.1.lender.ghost_name ≡ self.entry.ghost_name) }
+        ensures begun { Begins (λ e. e.0) (λ e. e.1.lender.now) self.old result
+            (draft_of Kind.«Type» Space.Types (option_copied debug_name.entry) []) }
+        ensures stage { IfOk result (λ e. e.1.stage ≡ stages.Start) }
+    {
+        let index = self.begin(Kind::Type, Space::Types, debug_name)?;
+        Ok((index, ComponentFuncTypeEncoder::new(self)))
+    }
+
+    /// Adds a resource type, by how a resource is represented, and the index of the core function that is called when
+    /// one is dropped, where there is such a function.
+    pub fn type_resource(
+        &mut self,
+        debug_name: Option<&str>,
+        rep: ValType,
+        dtor: Option<u32>,
+    ) -> Result<u32, Fault>
+        ensures { Enters self.old self.new result
+            (type_entry (option_copied debug_name.entry) (ResourceType rep dtor)) }
+    {
+        let resource: TypeTree = TypeTree::Resource { rep, dtor };
+        self.add(Kind::Type, Space::Types, debug_name, &resource)
+    }
+}
