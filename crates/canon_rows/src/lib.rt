@@ -8,3 +8,6 @@ mod fields;
 mod rows;
 #[cfg(test)]
 mod sections;
+#[cfg(test)]
+mod tree_rows;
+pub mod trees;

@@ -5,3 +5,5 @@
 mod calls;
 #[cfg(test)]
 mod sections;
+#[cfg(test)]
+mod trees;

@@ -1,0 +1,88 @@
+//! The functions that have options, as trees.
+
+use std::alloc::{AllocError, Global};
+use wenc_canon::{CanonTree, CanonicalOption};
+use wenc_parts::{ComponentValType, PrimitiveValType};
+
+/// A function that has options, without them.
+#[derive(Clone, Copy)]
+pub enum WithOptions {
+    Lift(u32, u32),
+    Lower(u32),
+    TaskReturn(Option<ComponentValType>),
+    StreamRead(u32),
+    StreamWrite(u32),
+    FutureRead(u32),
+    FutureWrite(u32),
+    ErrorContextNew,
+    ErrorContextDebugMessage,
+}
+
+impl WithOptions {
+    /// The function with these options.
+    pub fn tree(self, alloc: Global, options: &[CanonicalOption]) -> Result<CanonTree, AllocError> {
+        let options = options.to_vec(alloc)?;
+        Ok(match self {
+            WithOptions::Lift(core_func, ty) => CanonTree::Lift {
+                core_func,
+                ty,
+                options,
+            },
+            WithOptions::Lower(func) => CanonTree::Lower { func, options },
+            WithOptions::TaskReturn(ty) => CanonTree::TaskReturn { ty, options },
+            WithOptions::StreamRead(ty) => CanonTree::StreamRead { ty, options },
+            WithOptions::StreamWrite(ty) => CanonTree::StreamWrite { ty, options },
+            WithOptions::FutureRead(ty) => CanonTree::FutureRead { ty, options },
+            WithOptions::FutureWrite(ty) => CanonTree::FutureWrite { ty, options },
+            WithOptions::ErrorContextNew => CanonTree::ErrorContextNew(options),
+            WithOptions::ErrorContextDebugMessage => {
+                CanonTree::ErrorContextDebugMessage(options)
+            }
+        })
+    }
+}
+
+const STRING: ComponentValType = ComponentValType::Primitive(PrimitiveValType::String);
+
+/// Each of them, with what stands in front of its options and behind them.
+pub const FUNCTIONS: [(WithOptions, &str, &str); 11] = [
+    (WithOptions::Lift(128, 200), "00008001", "c801"),
+    (WithOptions::Lower(128), "01008001", ""),
+    (WithOptions::TaskReturn(None), "090100", ""),
+    (WithOptions::TaskReturn(Some(STRING)), "090073", ""),
+    (
+        WithOptions::TaskReturn(Some(ComponentValType::Type(64))),
+        "0900c000",
+        "",
+    ),
+    (WithOptions::StreamRead(128), "0f8001", ""),
+    (WithOptions::StreamWrite(128), "108001", ""),
+    (WithOptions::FutureRead(128), "168001", ""),
+    (WithOptions::FutureWrite(128), "178001", ""),
+    (WithOptions::ErrorContextNew, "1c", ""),
+    (WithOptions::ErrorContextDebugMessage, "1d", ""),
+];
+
+/// Options, with their list.
+pub const OPTIONS: [(&[CanonicalOption], &str); 4] = [
+    (&[], "00"),
+    (&[CanonicalOption::Gc], "0109"),
+    (
+        &[CanonicalOption::UTF8, CanonicalOption::Memory(0)],
+        "02000300",
+    ),
+    (EACH, "0a0001020380010480010580010607800108800109"),
+];
+
+const EACH: &[CanonicalOption] = &[
+    CanonicalOption::UTF8,
+    CanonicalOption::UTF16,
+    CanonicalOption::CompactUTF16,
+    CanonicalOption::Memory(128),
+    CanonicalOption::Realloc(128),
+    CanonicalOption::PostReturn(128),
+    CanonicalOption::Async,
+    CanonicalOption::Callback(128),
+    CanonicalOption::CoreType(128),
+    CanonicalOption::Gc,
+];
