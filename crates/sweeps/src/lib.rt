@@ -2,6 +2,14 @@
 #![tactic(auto)]
 
 #[cfg(test)]
+mod alone;
+#[cfg(test)]
 mod builder;
 #[cfg(test)]
+mod canonicals;
+#[cfg(test)]
 mod commands;
+#[cfg(test)]
+mod names;
+#[cfg(test)]
+mod types;
