@@ -1,6 +1,7 @@
 //! Facts that are proved: worked texts and components on literals, that derived equality goes by value, and callers.
 #![tactic(auto)]
 
+pub mod built;
 pub mod callers;
 pub mod canonicals;
 pub mod components;

@@ -5,7 +5,7 @@ use Rattle.wenc_types.specs.CoreTypes.{CoreType, core_type_text}
 use Rattle.wenc_builder.specs.Item.{collected, item}
 use Rattle.wenc_builder.specs.Space.{defines}
 use Rattle.wenc_builder.specs.Entry.{Entry, core_type_entry, type_entry}
-use Rattle.wenc_builder.specs.Builder.{Begun, State, builder_is_finished, step, Draft, draft_place, begun_with, longer, appended, ended}
+use Rattle.wenc_builder.specs.Builder.{Begun, State, builder_is_finished, step, Draft, draft_place, begun_with, longer, appended, ended, builder_given_up}
 use Rattle.wenc_builder.specs.Holds.{Holds}
 use Rattle.wenc_builder.specs.Layout.{draft_of}
 use Rattle.wenc_builder.specs.Lent.{is_bare, is_bare_in}
@@ -51,3 +51,10 @@ type_written old new es name t = written_holds old new es (type_entry name t) (d
 pub core_type_written : (old new : State) (es : List Entry) (name : Option (List ℕ)) (t : CoreType) → new ≡ ended (appended (begun_with old (draft_of kinds.CoreType spaces.CoreTypes name [])) (core_type_text t))
     → Holds old es → Holds new (es ++ core_type_entry name t ∷ [])
 core_type_written old new es name t = written_holds old new es (core_type_entry name t) (draft_of kinds.CoreType spaces.CoreTypes name []) (core_type_text t) refl refl refl refl refl
+
+-- An item that was begun and given up, whatever was written of it: what was held is held.
+pub begun_given_up : (old lent new : State) (es : List Entry) (d : Draft) → lent ≡ begun_with old d → new ≡ builder_given_up lent → Holds old es → Holds new es
+begun_given_up old lent new es d b e h = rw (e, b) (record { finished = refl; sections = h.sections; spaces = h.spaces })
+
+pub written_given_up : (old lent new : State) (es : List Entry) (d : Draft) (text : List ℕ) → lent ≡ appended (begun_with old d) text → new ≡ builder_given_up lent → Holds old es → Holds new es
+written_given_up old lent new es d text b e h = rw (e, b) (record { finished = refl; sections = h.sections; spaces = h.spaces })

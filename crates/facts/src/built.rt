@@ -1,0 +1,45 @@
+//! Types that a builder hands encoders out for, from the contracts that everybody sees.
+ghost use Rattle.std.specs.Prelude.{◌≡◌, ◌++◌, ◌∷◌, [], List, OnOk, IfOk, None, Ok, true};
+ghost use Rattle.wenc_builder.specs.Entry.{Entry, items, type_entry};
+ghost use Rattle.wenc_builder.specs.Holds.{Holds};
+ghost use Rattle.wenc_builder.specs.Space.{place, space_number};
+ghost use Rattle.wenc_builder.specs.declared.builder.space.Space.TheVariants as spaces;
+ghost use Rattle.wenc_types.specs.ComponentTypes.{DefinedType};
+ghost use Rattle.wenc_types.specs.DefinedTypes.{OptionOf};
+
+use std::alloc::Allocator;
+use wenc_base::Fault;
+use wenc_builder::ComponentBuilder;
+use wenc_parts::ComponentValType;
+
+/// An option: the builder holds its entry behind those that it held, and the answer is its place.
+pub fn option_built<A: Allocator>(
+    builder: &mut ComponentBuilder<A>,
+    ty: ComponentValType,
+) -> Result<u32, Fault>
+    ensures held { (es : List Entry) → Holds builder.old es → OnOk result
+        (Holds builder.new (es ++ type_entry None (DefinedType (OptionOf ty)) ∷ [])) }
+    ensures placed { (es : List Entry) → Holds builder.old es → IfOk result
+        (λ i. i ≡ place (items es) (space_number spaces.Types)) }
+{
+    match builder.type_defined(None) {
+        Ok((index, encoder)) => {
+            encoder.option(ty)?;
+            Ok(index)
+        }
+        Err(fault) => Err(fault),
+    }
+}
+
+/// One that is dropped and given up: the builder holds what it held.
+#[tactic(auto, using(wenc_builder::specs::laws::Lent::begun_given_up))]
+pub fn option_given_up<A: Allocator>(builder: &mut ComponentBuilder<A>) -> Result<bool, Fault>
+    ensures unfinished { OnOk result (result ≡ Ok true) }
+    ensures back { (es : List Entry) → Holds builder.old es → OnOk result (Holds builder.new es) }
+{
+    match builder.type_defined(None) {
+        Ok((_, _encoder)) => {}
+        Err(fault) => return Err(fault),
+    }
+    Ok(builder.discard_unfinished())
+}
