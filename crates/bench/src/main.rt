@@ -32,7 +32,7 @@ struct Outcome {
 }
 
 /// The plan that the arguments say, or nothing where they say none.
-fn plan<R: Env + AllocGlobal>(rt: &R) -> Option<Plan> {
+fn asked<R: Env + AllocGlobal>(rt: &R) -> Option<Plan> {
     let mut args = env::args(rt).ok()?;
     let _program = args.next();
     let rounds = match args.next() {
@@ -83,7 +83,7 @@ fn print<R: AllocGlobal, O: Write, E: Write>(
 }
 
 fn main(rt: HostRuntime) -> ExitCode {
-    let Some(plan) = plan(&rt) else {
+    let Some(plan) = asked(&rt) else {
         return ExitCode::from(1);
     };
     let Some(outcome) = timed(&rt, plan) else {
