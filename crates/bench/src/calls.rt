@@ -10,6 +10,7 @@ const CALLS: u32 = 7;
 /// The names of all rounds, which are made before the clock starts.
 #[derive(Drop)]
 pub struct Names {
+    rounds: u32,
     imports: Vec<String>,
     exports: Vec<String>,
     aliases: Vec<String>,
@@ -29,15 +30,11 @@ impl Names {
     /// The names of so many rounds.
     pub fn new(alloc: Global, rounds: u32) -> Result<Names, Fault> {
         Ok(Names {
+            rounds,
             imports: numbered(alloc, "i", rounds)?,
             exports: numbered(alloc, "e", rounds)?,
             aliases: numbered(alloc, "a", rounds)?,
         })
-    }
-
-    /// How many rounds there are.
-    fn rounds(&self) -> usize {
-        self.imports.len()
     }
 }
 
@@ -86,33 +83,32 @@ fn exports(builder: &mut ComponentBuilder, i: u32) -> Result<u32, Fault> {
 }
 
 /// The call with this number, from 0, of round `i`.
-fn call(builder: &mut ComponentBuilder, names: &Names, number: u32, i: usize) -> Result<(), Fault> {
-    let index = i as u32;
+fn call(builder: &mut ComponentBuilder, names: &Names, number: u32, i: u32) -> Result<(), Fault> {
     match number {
         0 => {
-            import(builder, name_at(&names.imports, i), index)?;
+            import(builder, name_at(&names.imports, i), i)?;
         }
         1 => {
-            export(builder, name_at(&names.exports, i), index)?;
+            export(builder, name_at(&names.exports, i), i)?;
         }
         2 => {
-            alias(builder, name_at(&names.aliases, i), index)?;
+            alias(builder, name_at(&names.aliases, i), i)?;
         }
         3 => {
-            builder.resource_drop(index)?;
+            builder.resource_drop(i)?;
         }
-        4 => record(builder, index)?,
-        5 => function(builder, index)?,
+        4 => record(builder, i)?,
+        5 => function(builder, i)?,
         _ => {
-            exports(builder, index)?;
+            exports(builder, i)?;
         }
     }
     Ok(())
 }
 
 /// The name at this place.
-fn name_at(names: &Vec<String>, i: usize) -> &str {
-    match names.get(i) {
+fn name_at(names: &Vec<String>, i: u32) -> &str {
+    match names.get(i as usize) {
         Some(name) => name.as_str(),
         None => "",
     }
@@ -123,12 +119,12 @@ pub fn build(alloc: Global, names: &Names, grouped: bool) -> Result<Vec<u8>, Fau
     let mut builder = ComponentBuilder::new(alloc)?;
     if grouped {
         for number in 0..CALLS {
-            for i in 0..names.rounds() {
+            for i in 0..names.rounds {
                 call(&mut builder, names, number, i)?;
             }
         }
     } else {
-        for i in 0..names.rounds() {
+        for i in 0..names.rounds {
             for number in 0..CALLS {
                 call(&mut builder, names, number, i)?;
             }
