@@ -39,14 +39,14 @@ fn refuse(rt: &impl Abort, heap: &Refusing, n: u64) -> Result<bool, Fault> {
 #[test]
 fn of_a_function(rt: HostRuntime) -> Result<(), Fail> {
     let heap = Refusing::new(rt.alloc());
-    let mut growths = 0u64;
+    let mut had_growths = false;
     for n in 1..20u64 {
         if !refuse(&rt, &heap, n)? {
+            had_growths = n > 1;
             break;
         }
-        growths += 1;
     }
-    assert!(rt; growths > 0 && growths < 19);
+    assert!(rt; had_growths);
     Ok(())
 }
 
