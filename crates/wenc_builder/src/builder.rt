@@ -54,6 +54,10 @@ use wenc_sections::names::NAMES_LABEL;
 /// Builds a component call by call: collects neighbours of one kind in one section, and hands out the
 /// index of each item. A refused call changes nothing, and the next one goes on as if it had not been made.
 ///
+/// A call is refused where an index space, a section, a list or the names of a space would have more than 4294967295
+/// members (`TooMany`), where a text, a module, a component, a section or the names of a space would have more than
+/// 4294967295 bytes (`TooLarge`), for want of memory (`Memory`), and while an item is being written (`Unfinished`).
+///
 /// ```
 /// let mut builder = ComponentBuilder::new(alloc)?;
 /// let index = builder.import("f".into(), ComponentTypeRef::Func(0))?;
