@@ -1,7 +1,8 @@
+use crate::swept::{check, check_each};
 use refusing::Refusing;
-use std::alloc::Global;
+use std::alloc::{Allocator, Global};
 use std::test::Fail;
-use sweeping::{LARGE, REFUSED, sweep_each, sweep_encode};
+use sweeping::{LARGE, REFUSED};
 use wenc_base::{
     ArrayType, CompositeType, Fault, FieldType, FuncType, GroupTree, HeapType, RefType,
     StorageType, StructType, SubType, ValType,
@@ -27,8 +28,12 @@ const FIELD: FieldType = FieldType {
     mutable: true,
 };
 
-fn function(alloc: Global) -> Result<FuncType, Fault> {
-    FuncType::new(alloc, PARAMS.iter().copied(), RESULTS.iter().copied())
+fn function<A: Allocator + Copy>(
+    alloc: A,
+    params: &[ValType],
+    results: &[ValType],
+) -> Result<FuncType<A>, Fault> {
+    FuncType::new(alloc, params.iter().copied(), results.iter().copied())
 }
 
 fn structure(alloc: Global) -> Result<StructType, Fault> {
@@ -37,109 +42,160 @@ fn structure(alloc: Global) -> Result<StructType, Fault> {
     })
 }
 
-/// A function, an array and a structure.
-fn each_composite(alloc: Global) -> Result<Vec<CompositeType>, Fault> {
-    let func = CompositeType::Func(function(alloc)?);
-    let array = CompositeType::Array(ArrayType(FIELD));
-    let composite = CompositeType::Struct(structure(alloc)?);
-    Ok(vec![in alloc; func, array, composite]?)
+fn composite_function(alloc: Global) -> Result<CompositeType, Fault> {
+    Ok(CompositeType::Func(function(alloc, PARAMS, RESULTS)?))
+}
+
+fn composite_structure(alloc: Global) -> Result<CompositeType, Fault> {
+    Ok(CompositeType::Struct(structure(alloc)?))
 }
 
 /// In the short spelling, and in each of the long ones.
+const SUB_TYPES: &[(bool, Option<u32>)] = &[
+    (true, None),
+    (true, Some(LARGE)),
+    (false, None),
+    (false, Some(LARGE)),
+];
+
+fn sub_type(alloc: Global, is_final: bool, supertype_idx: Option<u32>) -> Result<SubType, Fault> {
+    let composite_type = composite_function(alloc)?;
+    Ok(SubType {
+        is_final,
+        supertype_idx,
+        composite_type,
+    })
+}
+
 fn each_sub_type(alloc: Global) -> Result<Vec<SubType>, Fault> {
     let mut types = Vec::new(alloc);
-    for is_final in [true, false] {
-        for supertype_idx in [None, Some(LARGE)] {
-            let composite_type = CompositeType::Func(function(alloc)?);
-            types.push(SubType {
-                is_final,
-                supertype_idx,
-                composite_type,
-            })?;
-        }
+    for (is_final, supertype_idx) in SUB_TYPES {
+        types.push(sub_type(alloc, *is_final, *supertype_idx)?)?;
     }
     Ok(types)
 }
 
+const STORAGES: &[StorageType] = &[
+    StorageType::I8,
+    StorageType::I16,
+    StorageType::Val(LARGE_REFERENCE),
+];
+
 #[test]
-fn fields(rt: HostRuntime) -> Result<(), Fail> {
-    let types = [
-        StorageType::I8,
-        StorageType::I16,
-        StorageType::Val(LARGE_REFERENCE),
-    ];
-    assert!(rt; sweep_each(rt.alloc(), types.as_slice())?);
-    assert!(rt; sweep_encode(rt.alloc(), &FIELD)?);
+fn fields(rt: HostRuntime) {
+    check_each(&rt, rt.alloc(), STORAGES);
+    check(&rt, rt.alloc(), &FIELD);
+}
+
+#[test]
+fn parts_of_composites(rt: HostRuntime) -> Result<(), Fail> {
+    check(&rt, rt.alloc(), &ArrayType(FIELD));
+    check(&rt, rt.alloc(), &function(rt.alloc(), PARAMS, RESULTS)?);
+    check(&rt, rt.alloc(), &structure(rt.alloc())?);
     Ok(())
 }
 
 #[test]
 fn composite_types(rt: HostRuntime) -> Result<(), Fail> {
-    assert!(rt; sweep_encode(rt.alloc(), &function(rt.alloc())?)?);
-    assert!(rt; sweep_encode(rt.alloc(), &ArrayType(FIELD))?);
-    assert!(rt; sweep_encode(rt.alloc(), &structure(rt.alloc())?)?);
-    let types = each_composite(rt.alloc())?;
-    assert!(rt; sweep_each(rt.alloc(), types.as_slice())?);
+    let array: CompositeType = CompositeType::Array(ArrayType(FIELD));
+    check(&rt, rt.alloc(), &array);
+    check(&rt, rt.alloc(), &composite_function(rt.alloc())?);
+    check(&rt, rt.alloc(), &composite_structure(rt.alloc())?);
     Ok(())
 }
 
+// By themselves, and behind a reference.
 #[test]
 fn sub_types(rt: HostRuntime) -> Result<(), Fail> {
     let types = each_sub_type(rt.alloc())?;
-    assert!(rt; sweep_each(rt.alloc(), types.as_slice())?);
     for ty in types.as_slice() {
-        assert!(rt; sweep_encode(rt.alloc(), &ty)?);
+        check(&rt, rt.alloc(), ty);
+        check(&rt, rt.alloc(), &ty);
     }
     Ok(())
+}
+
+fn group_of_one(alloc: Global, row: &(bool, Option<u32>)) -> Result<GroupTree, Fault> {
+    Ok(GroupTree::Sub(sub_type(alloc, row.0, row.1)?))
+}
+
+fn group(alloc: Global) -> Result<GroupTree, Fault> {
+    Ok(GroupTree::Rec(each_sub_type(alloc)?))
 }
 
 #[test]
 fn groups(rt: HostRuntime) -> Result<(), Fail> {
-    let group = GroupTree::Rec(each_sub_type(rt.alloc())?);
-    assert!(rt; sweep_encode(rt.alloc(), &group)?);
-    for ty in each_sub_type(rt.alloc())? {
-        assert!(rt; sweep_encode(rt.alloc(), &GroupTree::Sub(ty))?);
+    check(&rt, rt.alloc(), &group(rt.alloc())?);
+    for row in SUB_TYPES {
+        check(&rt, rt.alloc(), &group_of_one(rt.alloc(), row)?);
     }
     Ok(())
+}
+
+/// It has these types, or it was refused for the memory that was.
+fn is_answered<A: Allocator>(
+    outcome: &Result<FuncType<A>, Fault>,
+    was_refused: bool,
+    params: &[ValType],
+    results: &[ValType],
+) -> bool {
+    match outcome {
+        Ok(ty) => ty.params() == params && ty.results() == results,
+        Err(fault) => was_refused && *fault == REFUSED,
+    }
+}
+
+/// Whether the request number `n` was there to be refused, and whether all was as it should be.
+fn refuse_nth(alloc: Global, n: u64) -> (bool, bool) {
+    let heap = Refusing::new(alloc);
+    heap.refuse_nth(n);
+    let outcome = function(&heap, PARAMS, RESULTS);
+    let was_refused = heap.was_refused();
+    let is_well = is_answered(&outcome, was_refused, PARAMS, RESULTS);
+    (was_refused, is_well)
 }
 
 // A refused growth is asked for once more, for less, so that one refusal alone may be got over.
 #[test]
-fn new_functions(rt: HostRuntime) -> Result<(), Fail> {
+fn new_functions(rt: HostRuntime) {
     for n in 1..20u64 {
-        let heap = Refusing::new(rt.alloc());
-        heap.refuse_nth(n);
-        let outcome = FuncType::new(&heap, PARAMS.iter().copied(), RESULTS.iter().copied());
-        let was_refused = heap.was_refused();
-        match outcome {
-            Ok(ty) => {
-                assert_eq!(rt; ty.params(), PARAMS);
-                assert_eq!(rt; ty.results(), RESULTS);
-            }
-            Err(fault) => {
-                assert!(rt; was_refused);
-                assert_eq!(rt; fault, REFUSED);
-            }
-        }
+        let (was_refused, is_well) = refuse_nth(rt.alloc(), n);
+        assert!(rt; is_well, "{n}");
         if !was_refused {
-            return Ok(());
+            return;
         }
     }
     assert!(rt; false);
-    Ok(())
+}
+
+const REFUSED_LISTS: &[(&[ValType], &[ValType])] = &[
+    (PARAMS, RESULTS),
+    (PARAMS, &[]),
+    (&[], RESULTS),
+];
+
+/// Without memory a function is refused.
+fn is_refused(heap: &Refusing, params: &[ValType], results: &[ValType]) -> bool {
+    match function(heap, params, results) {
+        Ok(_) => false,
+        Err(fault) => fault == REFUSED,
+    }
+}
+
+/// One without types takes none.
+fn is_made_empty(heap: &Refusing) -> bool {
+    match function(heap, &[], &[]) {
+        Ok(none) => none.params().is_empty() && none.results().is_empty(),
+        Err(_) => false,
+    }
 }
 
 #[test]
-fn new_functions_without_memory(rt: HostRuntime) -> Result<(), Fail> {
+fn new_functions_without_memory(rt: HostRuntime) {
     let heap = Refusing::new(rt.alloc());
     heap.refuse_all();
-    for (params, results) in [(PARAMS, RESULTS), (PARAMS, &[]), (&[], RESULTS)] {
-        match FuncType::new(&heap, params.iter().copied(), results.iter().copied()) {
-            Ok(_) => assert!(rt; false),
-            Err(fault) => assert_eq!(rt; fault, REFUSED),
-        }
+    for (params, results) in REFUSED_LISTS {
+        assert!(rt; is_refused(&heap, params, results));
     }
-    let none = FuncType::new(&heap, [].into_iter(), [].into_iter())?;
-    assert!(rt; none.params().is_empty() && none.results().is_empty());
-    Ok(())
+    assert!(rt; is_made_empty(&heap));
 }

@@ -1,5 +1,5 @@
-use std::test::Fail;
-use sweeping::{LARGE, sweep_each};
+use crate::swept::{check, check_each};
+use sweeping::LARGE;
 use wenc_base::{
     EntityType, GlobalType, HeapType, MemoryType, RefType, TableType, TagType, ValType,
 };
@@ -7,72 +7,75 @@ use wenc_base::{
 /// A size whose text has ten bytes.
 const HUGE: u64 = 18446744073709551615;
 
-/// With no maximum, and with one.
-fn tables() -> [TableType; 2] {
-    [table(None), table(Some(HUGE))]
-}
+const TABLE: TableType = TableType {
+    element_type: RefType {
+        nullable: false,
+        heap_type: HeapType::Concrete(LARGE),
+    },
+    table64: true,
+    minimum: HUGE,
+    maximum: None,
+};
 
-fn table(maximum: Option<u64>) -> TableType {
-    TableType {
-        element_type: RefType {
-            nullable: false,
-            heap_type: HeapType::Concrete(LARGE),
-        },
-        table64: true,
-        minimum: HUGE,
-        maximum,
-    }
-}
+const BOUNDED_TABLE: TableType = TableType {
+    element_type: RefType {
+        nullable: false,
+        heap_type: HeapType::Concrete(LARGE),
+    },
+    table64: true,
+    minimum: HUGE,
+    maximum: Some(HUGE),
+};
 
-fn memories() -> [MemoryType; 2] {
-    [memory(None), memory(Some(HUGE))]
-}
+const MEMORY: MemoryType = MemoryType {
+    minimum: HUGE,
+    maximum: None,
+    memory64: true,
+    shared: true,
+};
 
-fn memory(maximum: Option<u64>) -> MemoryType {
-    MemoryType {
-        minimum: HUGE,
-        maximum,
-        memory64: true,
-        shared: true,
-    }
-}
+const BOUNDED_MEMORY: MemoryType = MemoryType {
+    minimum: HUGE,
+    maximum: Some(HUGE),
+    memory64: true,
+    shared: true,
+};
 
-fn global() -> GlobalType {
-    GlobalType {
-        val_type: ValType::Ref(RefType {
-            nullable: true,
-            heap_type: HeapType::Concrete(LARGE),
-        }),
-        mutable: true,
-    }
-}
+const GLOBAL: GlobalType = GlobalType {
+    val_type: ValType::Ref(RefType {
+        nullable: true,
+        heap_type: HeapType::Concrete(LARGE),
+    }),
+    mutable: true,
+};
 
-fn tag() -> TagType {
-    TagType {
-        func_type_idx: LARGE,
-    }
-}
+const TAG: TagType = TagType {
+    func_type_idx: LARGE,
+};
 
-#[test]
-fn parts_of_entities(rt: HostRuntime) -> Result<(), Fail> {
-    assert!(rt; sweep_each(rt.alloc(), tables().as_slice())?);
-    assert!(rt; sweep_each(rt.alloc(), memories().as_slice())?);
-    assert!(rt; sweep_each(rt.alloc(), [global()].as_slice())?);
-    assert!(rt; sweep_each(rt.alloc(), [tag()].as_slice())?);
-    Ok(())
-}
+const TABLES: &[TableType] = &[TABLE, BOUNDED_TABLE];
+
+const MEMORIES: &[MemoryType] = &[MEMORY, BOUNDED_MEMORY];
 
 #[test]
-fn entities(rt: HostRuntime) -> Result<(), Fail> {
-    let entities = [
-        EntityType::Function(LARGE),
-        EntityType::Table(table(None)),
-        EntityType::Table(table(Some(HUGE))),
-        EntityType::Memory(memory(None)),
-        EntityType::Memory(memory(Some(HUGE))),
-        EntityType::Global(global()),
-        EntityType::Tag(tag()),
-    ];
-    assert!(rt; sweep_each(rt.alloc(), entities.as_slice())?);
-    Ok(())
+fn parts_of_entities(rt: HostRuntime) {
+    check_each(&rt, rt.alloc(), TABLES);
+    check_each(&rt, rt.alloc(), MEMORIES);
+    check(&rt, rt.alloc(), &GLOBAL);
+    check(&rt, rt.alloc(), &TAG);
+}
+
+const ENTITIES: &[EntityType] = &[
+    EntityType::Function(LARGE),
+    EntityType::Table(TABLE),
+    EntityType::Table(BOUNDED_TABLE),
+    EntityType::Memory(MEMORY),
+    EntityType::Memory(BOUNDED_MEMORY),
+    EntityType::Global(GLOBAL),
+    EntityType::Tag(TAG),
+];
+
+#[test]
+fn entities(rt: HostRuntime) {
+    check_each(&rt, rt.alloc(), ENTITIES);
 }

@@ -1,8 +1,9 @@
+use crate::swept::{check, check_call, is_well};
 use refusing::Refusing;
 use std::alloc::{Allocator, Global};
 use std::test::Fail;
 use sweeping::members::{Adds, Members, sweep_calls, sweep_clones};
-use sweeping::{Appends, LARGE, TEXT, sweep, sweep_encode};
+use sweeping::{Appends, LARGE, TEXT};
 use wenc_base::{Encode, Fault, Holder, Verbatim};
 
 /// A holder of whole members.
@@ -49,42 +50,65 @@ enum Member {
     KeptInFront,
 }
 
+type Swept<'a> = Holder<&'a Refusing>;
+
+fn add_text(holder: &mut Swept) -> Result<(), Fault> {
+    holder.add(TEXT)
+}
+
+fn add_encoded(holder: &mut Swept) -> Result<(), Fault> {
+    holder.add_encoded(&(LARGE, TEXT))
+}
+
+const LISTED: &[u32] = &[7, LARGE, 8];
+
+fn add_listed(holder: &mut Swept) -> Result<(), Fault> {
+    holder.add_listed(&LARGE, LISTED.iter().copied(), &TEXT)
+}
+
+fn open(holder: &mut Swept) -> Result<(), Fault> {
+    holder.open(TEXT)
+}
+
+fn keep_in_front(holder: &mut Swept) -> Result<(), Fault> {
+    holder.keep_all(&Verbatim(TEXT))?;
+    Ok(())
+}
+
 impl<'a> Adds<Whole<'a>> for Member {
     fn add(&self, to: &mut Whole<'a>) -> Result<(), Fault> {
         match self {
-            Member::Text => to.0.add(TEXT),
-            Member::Encoded => to.0.add_encoded(&(LARGE, TEXT)),
-            Member::Listed => to.0.add_listed(&LARGE, [7, LARGE, 8].into_iter(), &TEXT),
-            Member::Lead => to.0.open(TEXT),
-            Member::KeptInFront => {
-                to.0.keep_all(&Verbatim(TEXT))?;
-                Ok(())
-            }
+            Member::Text => add_text(&mut to.0),
+            Member::Encoded => add_encoded(&mut to.0),
+            Member::Listed => add_listed(&mut to.0),
+            Member::Lead => open(&mut to.0),
+            Member::KeptInFront => keep_in_front(&mut to.0),
         }
     }
 }
 
-#[test]
-fn added_members(rt: HostRuntime) -> Result<(), Fail> {
-    let heap = Refusing::new(rt.alloc());
-    let calls = [Member::Text, Member::Encoded, Member::Listed];
-    assert!(rt; sweep_calls::<Whole, Member>(rt.alloc(), &heap, calls.as_slice())?);
-    Ok(())
+const MEMBERS: &[Member] = &[
+    Member::Text,
+    Member::Encoded,
+    Member::Listed,
+    Member::Lead,
+    Member::KeptInFront,
+];
+
+fn sweep_members(alloc: Global) -> Result<bool, Fault> {
+    let heap = Refusing::new(alloc);
+    sweep_calls::<Whole, Member>(alloc, &heap, MEMBERS)
+}
+
+fn sweep_copies(alloc: Global) -> Result<bool, Fault> {
+    let heap = Refusing::new(alloc);
+    sweep_clones::<Whole>(alloc, &heap, false)
 }
 
 #[test]
-fn leads_and_bytes_in_front(rt: HostRuntime) -> Result<(), Fail> {
-    let heap = Refusing::new(rt.alloc());
-    let calls = [Member::Lead, Member::KeptInFront];
-    assert!(rt; sweep_calls::<Whole, Member>(rt.alloc(), &heap, calls.as_slice())?);
-    Ok(())
-}
-
-#[test]
-fn clones(rt: HostRuntime) -> Result<(), Fail> {
-    let heap = Refusing::new(rt.alloc());
-    assert!(rt; sweep_clones::<Whole>(rt.alloc(), &heap, false)?);
-    Ok(())
+fn added_and_copied_members(rt: HostRuntime) {
+    is_well(&rt, sweep_members(rt.alloc()));
+    is_well(&rt, sweep_copies(rt.alloc()));
 }
 
 /// A holder's section.
@@ -97,14 +121,18 @@ impl<'a> Appends for Counted<'a> {
     }
 }
 
+fn add(holder: &mut Holder) -> Result<(), Fault> {
+    holder.add(TEXT)
+}
+
 // With none, with one and with two members.
 #[test]
 fn sections(rt: HostRuntime) -> Result<(), Fail> {
     let mut holder = Holder::new(rt.alloc());
     for _ in 0..3 {
-        assert!(rt; sweep(rt.alloc(), &Counted(&holder))?);
-        assert!(rt; sweep_encode(rt.alloc(), &holder)?);
-        holder.add(TEXT)?;
+        check_call(&rt, rt.alloc(), &Counted(&holder));
+        check(&rt, rt.alloc(), &holder);
+        add(&mut holder)?;
     }
     Ok(())
 }

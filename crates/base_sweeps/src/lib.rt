@@ -18,6 +18,8 @@ mod pieces;
 #[cfg(test)]
 mod producers;
 #[cfg(test)]
+mod swept;
+#[cfg(test)]
 mod types;
 #[cfg(test)]
 mod values;

@@ -1,27 +1,27 @@
+use crate::swept::{check, check_call, check_each};
 use std::alloc::Allocator;
-use std::test::Fail;
-use sweeping::{Appends, LARGE, NAME, sweep, sweep_encode};
+use sweeping::{Appends, LARGE, NAME};
 use wenc_base::{Fault, encode_list};
 
 const NUMBERS: &[u32] = &[1, 128, 3, 4, LARGE];
 
+const LISTS: &[&[u32]] = &[&[], NUMBERS];
+
 const TEXTS: &[&str] = &[NAME, "", NAME];
 
+const TWICE: &[&[u32]] = &[NUMBERS, NUMBERS];
+
 #[test]
-fn lists(rt: HostRuntime) -> Result<(), Fail> {
-    let none: [u32; 0] = [];
-    assert!(rt; sweep_encode(rt.alloc(), &none.as_slice())?);
-    assert!(rt; sweep_encode(rt.alloc(), &NUMBERS)?);
-    assert!(rt; sweep_encode(rt.alloc(), &TEXTS)?);
-    Ok(())
+fn lists(rt: HostRuntime) {
+    check_each(&rt, rt.alloc(), LISTS);
+    check(&rt, rt.alloc(), &TEXTS);
 }
 
 #[test]
-fn lists_in_others(rt: HostRuntime) -> Result<(), Fail> {
-    assert!(rt; sweep_encode(rt.alloc(), &(NUMBERS, TEXTS))?);
-    assert!(rt; sweep_encode(rt.alloc(), &(TEXTS, NUMBERS))?);
-    assert!(rt; sweep_encode(rt.alloc(), &[NUMBERS, NUMBERS].as_slice())?);
-    Ok(())
+fn lists_in_others(rt: HostRuntime) {
+    check(&rt, rt.alloc(), &(NUMBERS, TEXTS));
+    check(&rt, rt.alloc(), &(TEXTS, NUMBERS));
+    check(&rt, rt.alloc(), &TWICE);
 }
 
 #[derive(Clone, Copy)]
@@ -34,10 +34,11 @@ impl<'a> Appends for Listed<'a> {
 }
 
 // Five values of a byte fill the sink's first growth, so that the second is for their number.
+const LISTED: &[&[u32]] = &[&[], &[1, 2, 3, 4, 5], &[LARGE, LARGE, LARGE, LARGE, LARGE]];
+
 #[test]
-fn listed_values(rt: HostRuntime) -> Result<(), Fail> {
-    assert!(rt; sweep(rt.alloc(), &Listed(&[]))?);
-    assert!(rt; sweep(rt.alloc(), &Listed(&[1, 2, 3, 4, 5]))?);
-    assert!(rt; sweep(rt.alloc(), &Listed(&[LARGE, LARGE, LARGE, LARGE, LARGE]))?);
-    Ok(())
+fn listed_values(rt: HostRuntime) {
+    for values in LISTED {
+        check_call(&rt, rt.alloc(), &Listed(values));
+    }
 }

@@ -1,11 +1,11 @@
 ghost use Rattle.wenc_base.specs.Fault.{text_cause};
 ghost use Rattle.wenc_base.specs.Forms.{name};
 
+use crate::swept::{check_call, is_well};
 use refusing::Refusing;
 use std::alloc::{Allocator, Global};
-use std::test::Fail;
 use sweeping::members::{Adds, Members, sweep_calls, sweep_clones, sweep_new};
-use sweeping::{Appends, NAME, TEXT, sweep, sweep_section};
+use sweeping::{Appends, NAME, TEXT, sweep_section};
 use wenc_base::{CustomSection, Encode, Fault, Module, RawCustomSection, RawSection, Section};
 
 /// A section of a core module, behind its id.
@@ -19,29 +19,29 @@ impl<'a, S: Section> Appends for InModule<'a, S> {
 }
 
 // In a component, and in a core module.
-#[test]
-fn custom_sections(rt: HostRuntime) -> Result<(), Fail> {
-    for name in ["", NAME] {
-        for data in [&[], TEXT] {
-            let custom = CustomSection { name, data };
-            assert!(rt; sweep_section(rt.alloc(), &custom)?);
-            assert!(rt; sweep(rt.alloc(), &InModule(&custom))?);
-        }
-    }
-    Ok(())
-}
+const CUSTOM: &[(&str, &[u8])] = &[("", &[]), ("", TEXT), (NAME, &[]), (NAME, TEXT)];
 
 #[test]
-fn raw_sections(rt: HostRuntime) -> Result<(), Fail> {
-    for data in [&[], TEXT] {
-        let custom = RawCustomSection(data);
-        assert!(rt; sweep_section(rt.alloc(), &custom)?);
-        assert!(rt; sweep(rt.alloc(), &InModule(&custom))?);
-        let raw = RawSection { id: 12, data };
-        assert!(rt; sweep_section(rt.alloc(), &raw)?);
-        assert!(rt; sweep(rt.alloc(), &InModule(&raw))?);
+fn custom_sections(rt: HostRuntime) {
+    for (name, data) in CUSTOM {
+        let custom = CustomSection { name, data };
+        is_well(&rt, sweep_section(rt.alloc(), &custom));
+        check_call(&rt, rt.alloc(), &InModule(&custom));
     }
-    Ok(())
+}
+
+const DATA: &[&[u8]] = &[&[], TEXT];
+
+#[test]
+fn raw_sections(rt: HostRuntime) {
+    for data in DATA {
+        let custom = RawCustomSection(data);
+        is_well(&rt, sweep_section(rt.alloc(), &custom));
+        check_call(&rt, rt.alloc(), &InModule(&custom));
+        let raw = RawSection { id: 12, data };
+        is_well(&rt, sweep_section(rt.alloc(), &raw));
+        check_call(&rt, rt.alloc(), &InModule(&raw));
+    }
 }
 
 /// A section of one's own, with this text in it.
@@ -96,12 +96,26 @@ impl<'a, 'b> Adds<Sections<'a>> for Own<'b> {
     }
 }
 
+fn sweep_new_modules(alloc: Global) -> Result<bool, Fault> {
+    let heap = Refusing::new(alloc);
+    sweep_new::<Sections>(alloc, &heap)
+}
+
+const OWN: &[Own<'static>] = &[Own(""), Own(NAME)];
+
+fn sweep_sections(alloc: Global) -> Result<bool, Fault> {
+    let heap = Refusing::new(alloc);
+    sweep_calls::<Sections, Own>(alloc, &heap, OWN)
+}
+
+fn sweep_copies(alloc: Global) -> Result<bool, Fault> {
+    let heap = Refusing::new(alloc);
+    sweep_clones::<Sections>(alloc, &heap, true)
+}
+
 #[test]
-fn modules(rt: HostRuntime) -> Result<(), Fail> {
-    let heap = Refusing::new(rt.alloc());
-    let sections = [Own(""), Own(NAME)];
-    assert!(rt; sweep_new::<Sections>(rt.alloc(), &heap)?);
-    assert!(rt; sweep_calls::<Sections, Own>(rt.alloc(), &heap, sections.as_slice())?);
-    assert!(rt; sweep_clones::<Sections>(rt.alloc(), &heap, true)?);
-    Ok(())
+fn modules(rt: HostRuntime) {
+    is_well(&rt, sweep_new_modules(rt.alloc()));
+    is_well(&rt, sweep_sections(rt.alloc()));
+    is_well(&rt, sweep_copies(rt.alloc()));
 }

@@ -1,8 +1,9 @@
+use crate::swept::{check, is_well};
 use refusing::Refusing;
 use std::alloc::Global;
 use std::test::Fail;
 use sweeping::members::{Adds, Members, sweep_calls, sweep_clones};
-use sweeping::{LARGE, NAME, sweep_encode};
+use sweeping::{LARGE, NAME};
 use wenc_base::{Encode, Fault, NameMap};
 
 /// Names of items.
@@ -40,21 +41,36 @@ impl<'a, 'b> Adds<Names<'a>> for Named<'b> {
     }
 }
 
-#[test]
-fn added_names(rt: HostRuntime) -> Result<(), Fail> {
-    let heap = Refusing::new(rt.alloc());
-    let names = [Named(0, ""), Named(LARGE, ""), Named(7, NAME)];
-    assert!(rt; sweep_calls::<Names, Named>(rt.alloc(), &heap, names.as_slice())?);
-    assert!(rt; sweep_clones::<Names>(rt.alloc(), &heap, false)?);
-    Ok(())
+const NAMED: &[Named<'static>] = &[Named(0, ""), Named(LARGE, ""), Named(7, NAME)];
+
+fn sweep_names(alloc: Global) -> Result<bool, Fault> {
+    let heap = Refusing::new(alloc);
+    sweep_calls::<Names, Named>(alloc, &heap, NAMED)
 }
+
+fn sweep_copies(alloc: Global) -> Result<bool, Fault> {
+    let heap = Refusing::new(alloc);
+    sweep_clones::<Names>(alloc, &heap, false)
+}
+
+#[test]
+fn added_and_copied_names(rt: HostRuntime) {
+    is_well(&rt, sweep_names(rt.alloc()));
+    is_well(&rt, sweep_copies(rt.alloc()));
+}
+
+fn append(names: &mut NameMap, name: &str) -> Result<(), Fault> {
+    names.append(LARGE, name)
+}
+
+const NAMES: &[&str] = &["", NAME, "a"];
 
 #[test]
 fn encoded_names(rt: HostRuntime) -> Result<(), Fail> {
     let mut names = NameMap::new(rt.alloc());
-    for name in ["", NAME, "a"] {
-        assert!(rt; sweep_encode(rt.alloc(), &names)?);
-        names.append(LARGE, name)?;
+    for name in NAMES {
+        check(&rt, rt.alloc(), &names);
+        append(&mut names, name)?;
     }
     Ok(())
 }

@@ -1,7 +1,7 @@
 use crate::holders::{Whole, seen};
+use crate::swept::is_well;
 use refusing::Refusing;
 use std::alloc::Global;
-use std::test::Fail;
 use sweeping::members::{Adds, Members, started, sweep_calls, sweep_clones};
 use sweeping::{LARGE, TEXT};
 use wenc_base::{Fault, Holder};
@@ -43,64 +43,98 @@ enum Piece {
     Last,
 }
 
+type Swept<'a> = Holder<&'a Refusing>;
+
+// Each of these calls asks for a holder that is unfinished.
+
+fn append_text(holder: &mut Swept) -> Result<(), Fault> {
+    if holder.is_finished() {
+        return Err(Fault::TooLarge);
+    }
+    holder.append(TEXT)
+}
+
+fn append_encoded(holder: &mut Swept) -> Result<(), Fault> {
+    if holder.is_finished() {
+        return Err(Fault::TooLarge);
+    }
+    holder.append_encoded(&(LARGE, TEXT))
+}
+
+const LISTED: &[u32] = &[LARGE, LARGE];
+
+fn append_listed(holder: &mut Swept) -> Result<(), Fault> {
+    if holder.is_finished() {
+        return Err(Fault::TooLarge);
+    }
+    holder.append_listed(TEXT, LISTED.iter().copied())
+}
+
+fn close(holder: &mut Swept) -> Result<(), Fault> {
+    if holder.is_finished() {
+        return Err(Fault::TooLarge);
+    }
+    holder.close(TEXT)
+}
+
 impl<'a> Adds<Opened<'a>> for Piece {
     fn add(&self, to: &mut Opened<'a>) -> Result<(), Fault> {
-        if to.0.is_finished() {
-            return Err(Fault::Unfinished);
-        }
         match self {
-            Piece::Text => to.0.append(TEXT),
-            Piece::Encoded => to.0.append_encoded(&(LARGE, TEXT)),
-            Piece::Listed => to.0.append_listed(TEXT, [LARGE, LARGE].into_iter()),
-            Piece::Last => to.0.close(TEXT),
+            Piece::Text => append_text(&mut to.0),
+            Piece::Encoded => append_encoded(&mut to.0),
+            Piece::Listed => append_listed(&mut to.0),
+            Piece::Last => close(&mut to.0),
         }
     }
 }
 
-#[test]
-fn pieces(rt: HostRuntime) -> Result<(), Fail> {
-    let heap = Refusing::new(rt.alloc());
-    let calls = [Piece::Text, Piece::Encoded, Piece::Listed, Piece::Last];
-    assert!(rt; sweep_calls::<Opened, Piece>(rt.alloc(), &heap, calls.as_slice())?);
-    Ok(())
+const PIECES: &[Piece] = &[Piece::Text, Piece::Encoded, Piece::Listed, Piece::Last];
+
+fn sweep_pieces(alloc: Global) -> Result<bool, Fault> {
+    let heap = Refusing::new(alloc);
+    sweep_calls::<Opened, Piece>(alloc, &heap, PIECES)
+}
+
+fn sweep_copies(alloc: Global) -> Result<bool, Fault> {
+    let heap = Refusing::new(alloc);
+    sweep_clones::<Opened>(alloc, &heap, false)
 }
 
 #[test]
-fn unfinished_clones(rt: HostRuntime) -> Result<(), Fail> {
-    let heap = Refusing::new(rt.alloc());
-    assert!(rt; sweep_clones::<Opened>(rt.alloc(), &heap, false)?);
-    Ok(())
+fn pieces_and_copies(rt: HostRuntime) {
+    is_well(&rt, sweep_pieces(rt.alloc()));
+    is_well(&rt, sweep_copies(rt.alloc()));
 }
 
 // Eight bytes fill the first growth, so that one byte more would take memory.
-#[test]
-fn empty_leads_take_no_memory(rt: HostRuntime) -> Result<(), Fail> {
-    let heap = Refusing::new(rt.alloc());
-    for count in [0, 8u32] {
-        let Whole(mut holder) = started(&heap, count)?;
-        heap.refuse_all();
-        holder.open(&[])?;
-        assert!(rt; holder.is_opened());
-        holder.finish_member();
-        assert!(rt; holder.is_finished());
-        assert!(rt; u64::from(holder.len()) == u64::from(count) + 1);
-        assert!(rt; heap.requests() == 0);
-    }
-    Ok(())
+fn empty_lead(alloc: Global, count: u32) -> Result<bool, Fault> {
+    let heap = Refusing::new(alloc);
+    let Whole(mut holder) = started(&heap, count)?;
+    heap.refuse_all();
+    holder.open(&[])?;
+    let was_opened = holder.is_opened();
+    holder.finish_member();
+    let is_ended = holder.is_finished() && u64::from(holder.len()) == u64::from(count) + 1;
+    Ok(was_opened && is_ended && heap.requests() == 0)
+}
+
+fn giving_up(alloc: Global, count: u32) -> Result<bool, Fault> {
+    let heap = Refusing::new(alloc);
+    let Whole(mut holder) = started(&heap, count)?;
+    let before = seen(alloc, &holder)?;
+    holder.open(TEXT)?;
+    append_text(&mut holder)?;
+    heap.refuse_all();
+    let was_given_up = holder.discard_unfinished() && heap.requests() == 0;
+    let after = seen(alloc, &holder)?;
+    Ok(was_given_up && after.as_slice() == before.as_slice())
 }
 
 #[test]
-fn giving_up_takes_no_memory(rt: HostRuntime) -> Result<(), Fail> {
-    let heap = Refusing::new(rt.alloc());
-    for count in [0, 8u32] {
-        let Whole(mut holder) = started(&heap, count)?;
-        let before = seen(rt.alloc(), &holder)?;
-        holder.open(TEXT)?;
-        holder.append(TEXT)?;
-        heap.refuse_all();
-        assert!(rt; holder.discard_unfinished());
-        assert!(rt; heap.requests() == 0);
-        assert!(rt; seen(rt.alloc(), &holder)?.as_slice() == before.as_slice());
-    }
-    Ok(())
+fn no_memory_is_taken(rt: HostRuntime) {
+    let alloc = rt.alloc();
+    is_well(&rt, empty_lead(alloc, 0));
+    is_well(&rt, empty_lead(alloc, 8));
+    is_well(&rt, giving_up(alloc, 0));
+    is_well(&rt, giving_up(alloc, 8));
 }

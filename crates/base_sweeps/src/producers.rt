@@ -1,9 +1,10 @@
 use crate::modules::InModule;
+use crate::swept::{check, check_call, is_well};
 use refusing::Refusing;
 use std::alloc::Global;
 use std::test::Fail;
-use sweeping::members::{Adds, Members, sweep_calls, sweep_clones};
-use sweeping::{NAME, sweep, sweep_encode, sweep_section};
+use sweeping::members::{Adds, Members, sweep_add, sweep_calls, sweep_clones};
+use sweeping::{NAME, sweep_section};
 use wenc_base::{Encode, Fault, ProducersField, ProducersSection};
 
 /// A field of tools.
@@ -40,21 +41,36 @@ impl<'a, 'b> Adds<Tools<'a>> for Tool<'b> {
     }
 }
 
-#[test]
-fn added_tools(rt: HostRuntime) -> Result<(), Fail> {
-    let heap = Refusing::new(rt.alloc());
-    let tools = [Tool("", ""), Tool("a", NAME), Tool(NAME, "1")];
-    assert!(rt; sweep_calls::<Tools, Tool>(rt.alloc(), &heap, tools.as_slice())?);
-    assert!(rt; sweep_clones::<Tools>(rt.alloc(), &heap, false)?);
-    Ok(())
+const TOOLS: &[Tool<'static>] = &[Tool("", ""), Tool("a", NAME), Tool(NAME, "1")];
+
+fn sweep_tools(alloc: Global) -> Result<bool, Fault> {
+    let heap = Refusing::new(alloc);
+    sweep_calls::<Tools, Tool>(alloc, &heap, TOOLS)
 }
+
+fn sweep_copied_tools(alloc: Global) -> Result<bool, Fault> {
+    let heap = Refusing::new(alloc);
+    sweep_clones::<Tools>(alloc, &heap, false)
+}
+
+#[test]
+fn added_and_copied_tools(rt: HostRuntime) {
+    is_well(&rt, sweep_tools(rt.alloc()));
+    is_well(&rt, sweep_copied_tools(rt.alloc()));
+}
+
+fn add_tool(field: &mut ProducersField, name: &str, version: &str) -> Result<(), Fault> {
+    field.value(name, version)
+}
+
+const VERSIONS: &[(&str, &str)] = &[("a", "1"), (NAME, NAME), ("", "")];
 
 #[test]
 fn encoded_tools(rt: HostRuntime) -> Result<(), Fail> {
     let mut field = ProducersField::new(rt.alloc());
-    for (name, version) in [("a", "1"), (NAME, NAME), ("", "")] {
-        assert!(rt; sweep_encode(rt.alloc(), &field)?);
-        field.value(name, version)?;
+    for (name, version) in VERSIONS {
+        check(&rt, rt.alloc(), &field);
+        add_tool(&mut field, name, version)?;
     }
     Ok(())
 }
@@ -104,31 +120,52 @@ impl<'a, 'b> Adds<Fields<'a>> for Field<'b> {
 
 fn some_tools(alloc: Global) -> Result<ProducersField, Fault> {
     let mut field = ProducersField::new(alloc);
-    field.value("a", "1")?;
-    field.value(NAME, NAME)?;
+    add_tool(&mut field, "a", "1")?;
+    add_tool(&mut field, NAME, NAME)?;
     Ok(field)
 }
 
+fn sweep_field(alloc: Global, name: &str, field: &ProducersField) -> Result<bool, Fault> {
+    let heap = Refusing::new(alloc);
+    sweep_add::<Fields, Field>(alloc, &heap, &Field(name, field))
+}
+
+fn sweep_copied_fields(alloc: Global) -> Result<bool, Fault> {
+    let heap = Refusing::new(alloc);
+    sweep_clones::<Fields>(alloc, &heap, false)
+}
+
 #[test]
-fn added_fields(rt: HostRuntime) -> Result<(), Fail> {
-    let heap = Refusing::new(rt.alloc());
-    let none = ProducersField::new(rt.alloc());
-    let some = some_tools(rt.alloc())?;
-    let fields = [Field("", &none), Field(NAME, &none), Field("a", &some)];
-    assert!(rt; sweep_calls::<Fields, Field>(rt.alloc(), &heap, fields.as_slice())?);
-    assert!(rt; sweep_clones::<Fields>(rt.alloc(), &heap, false)?);
+fn added_and_copied_fields(rt: HostRuntime) -> Result<(), Fail> {
+    let alloc = rt.alloc();
+    let some = some_tools(alloc)?;
+    let none = ProducersField::new(alloc);
+    is_well(&rt, sweep_field(alloc, "", &none));
+    is_well(&rt, sweep_field(alloc, NAME, &none));
+    is_well(&rt, sweep_field(alloc, "a", &some));
+    is_well(&rt, sweep_copied_fields(alloc));
     Ok(())
 }
+
+fn add_field(
+    section: &mut ProducersSection,
+    name: &str,
+    field: &ProducersField,
+) -> Result<(), Fault> {
+    section.field(name, field)
+}
+
+const NAMES: &[&str] = &["", NAME, "a"];
 
 // In a component, and in a core module.
 #[test]
 fn sections(rt: HostRuntime) -> Result<(), Fail> {
     let some = some_tools(rt.alloc())?;
     let mut section = ProducersSection::new(rt.alloc());
-    for name in ["", NAME, "a"] {
-        assert!(rt; sweep_section(rt.alloc(), &section)?);
-        assert!(rt; sweep(rt.alloc(), &InModule(&section))?);
-        section.field(name, &some)?;
+    for name in NAMES {
+        is_well(&rt, sweep_section(rt.alloc(), &section));
+        check_call(&rt, rt.alloc(), &InModule(&section));
+        add_field(&mut section, name, &some)?;
     }
     Ok(())
 }

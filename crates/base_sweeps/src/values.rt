@@ -1,50 +1,45 @@
-use std::test::Fail;
-use sweeping::{LARGE, NAME, TEXT, sweep_encode};
+use crate::swept::check;
+use sweeping::{LARGE, NAME, TEXT};
 use wenc_base::{Lent, Tagged, Verbatim, WithSize};
 
 #[test]
-fn numbers(rt: HostRuntime) -> Result<(), Fail> {
-    assert!(rt; sweep_encode(rt.alloc(), &true)?);
-    assert!(rt; sweep_encode(rt.alloc(), &LARGE)?);
-    assert!(rt; sweep_encode(rt.alloc(), &18446744073709551615u64)?);
-    assert!(rt; sweep_encode(rt.alloc(), &4294967295usize)?);
-    assert!(rt; sweep_encode(rt.alloc(), &-65i64)?);
-    Ok(())
+fn numbers(rt: HostRuntime) {
+    check(&rt, rt.alloc(), &true);
+    check(&rt, rt.alloc(), &LARGE);
+    check(&rt, rt.alloc(), &18446744073709551615u64);
+    check(&rt, rt.alloc(), &4294967295usize);
+    check(&rt, rt.alloc(), &-65i64);
 }
 
 #[test]
-fn texts(rt: HostRuntime) -> Result<(), Fail> {
-    assert!(rt; sweep_encode(rt.alloc(), &())?);
-    assert!(rt; sweep_encode(rt.alloc(), &NAME)?);
-    assert!(rt; sweep_encode(rt.alloc(), &NAME.as_bytes())?);
-    assert!(rt; sweep_encode(rt.alloc(), &Verbatim(TEXT))?);
-    Ok(())
+fn texts(rt: HostRuntime) {
+    check(&rt, rt.alloc(), &());
+    check(&rt, rt.alloc(), &NAME);
+    check(&rt, rt.alloc(), &NAME.as_bytes());
+    check(&rt, rt.alloc(), &Verbatim(TEXT));
 }
 
 #[test]
-fn options_and_pairs(rt: HostRuntime) -> Result<(), Fail> {
-    assert!(rt; sweep_encode(rt.alloc(), &None::<u32>)?);
-    assert!(rt; sweep_encode(rt.alloc(), &Some(NAME))?);
-    assert!(rt; sweep_encode(rt.alloc(), &(NAME, NAME))?);
-    assert!(rt; sweep_encode(rt.alloc(), &Tagged(7, &NAME))?);
-    Ok(())
+fn options_and_pairs(rt: HostRuntime) {
+    check(&rt, rt.alloc(), &None::<u32>);
+    check(&rt, rt.alloc(), &Some(NAME));
+    check(&rt, rt.alloc(), &(NAME, NAME));
+    check(&rt, rt.alloc(), &Tagged(7, &NAME));
 }
 
 #[test]
-fn triples(rt: HostRuntime) -> Result<(), Fail> {
-    assert!(rt; sweep_encode(rt.alloc(), &(LARGE, NAME, TEXT))?);
-    assert!(rt; sweep_encode(rt.alloc(), &(NAME, TEXT, LARGE))?);
-    assert!(rt; sweep_encode(rt.alloc(), &(1u32, "abcd", LARGE))?);
-    assert!(rt; sweep_encode(rt.alloc(), &Lent(&NAME))?);
-    Ok(())
+fn triples(rt: HostRuntime) {
+    check(&rt, rt.alloc(), &(LARGE, NAME, TEXT));
+    check(&rt, rt.alloc(), &(NAME, TEXT, LARGE));
+    check(&rt, rt.alloc(), &(1u32, "abcd", LARGE));
+    check(&rt, rt.alloc(), &Lent(&NAME));
 }
 
 #[test]
-fn sizes(rt: HostRuntime) -> Result<(), Fail> {
-    assert!(rt; sweep_encode(rt.alloc(), &WithSize(&()))?);
-    assert!(rt; sweep_encode(rt.alloc(), &WithSize(&NAME))?);
+fn sizes(rt: HostRuntime) {
+    check(&rt, rt.alloc(), &WithSize(&()));
+    check(&rt, rt.alloc(), &WithSize(&NAME));
     // Nothing of the first growth is left for the size.
-    assert!(rt; sweep_encode(rt.alloc(), &WithSize(&"abcd"))?);
-    assert!(rt; sweep_encode(rt.alloc(), &WithSize(&(LARGE, NAME, TEXT)))?);
-    Ok(())
+    check(&rt, rt.alloc(), &WithSize(&"abcd"));
+    check(&rt, rt.alloc(), &WithSize(&(LARGE, NAME, TEXT)));
 }

@@ -1,10 +1,10 @@
-use crate::values::check;
+use crate::values::{check, check_all};
 use std::alloc::Global;
 use std::process::Abort;
 use std::test::Fail;
 use wenc_base::{
-    AbstractHeapType, ArrayType, CompositeType, Fault, FieldType, FuncType, GroupTree, HeapType,
-    RefType, StorageType, StructType, SubType, ValType,
+    AbstractHeapType, ArrayType, CompositeType, Encode, Fault, FieldType, FuncType, GroupTree,
+    HeapType, RefType, StorageType, StructType, SubType, ValType,
 };
 
 const I8: FieldType = FieldType {
@@ -22,10 +22,30 @@ const I32: FieldType = FieldType {
     mutable: false,
 };
 
+const REFERENCE: StorageType = StorageType::Val(ValType::Ref(RefType {
+    nullable: true,
+    heap_type: HeapType::Abstract(AbstractHeapType::Any),
+}));
+
+const STORAGES: &[(StorageType, &[u8])] = &[
+    (StorageType::I8, &[0x78]),
+    (StorageType::I16, &[0x77]),
+    (REFERENCE, &[0x63, 0x6e]),
+];
+
+const FIELDS: &[(FieldType, &[u8])] = &[(I8, &[0x78, 0x01]), (I32, &[0x7f, 0x00])];
+
+#[test]
+fn fields(rt: HostRuntime) {
+    check_all(&rt, rt.alloc(), STORAGES);
+    check_all(&rt, rt.alloc(), FIELDS);
+}
+
 fn function(alloc: Global, params: &[ValType], results: &[ValType]) -> Result<FuncType, Fault> {
     FuncType::new(alloc, params.iter().copied(), results.iter().copied())
 }
 
+// As one of the composite types.
 fn composite(
     alloc: Global,
     params: &[ValType],
@@ -34,10 +54,79 @@ fn composite(
     Ok(CompositeType::Func(function(alloc, params, results)?))
 }
 
+const PARAMS: &[ValType] = &[ValType::I32, ValType::I64];
+
+const RESULTS: &[ValType] = &[ValType::F32];
+
+const FUNCTION: &[u8] = &[0x60, 0x02, 0x7f, 0x7e, 0x01, 0x7d];
+
+const EMPTY: &[u8] = &[0x60, 0x00, 0x00];
+
+// It is made, and written as these bytes.
+fn check_made<T: Encode + Drop>(
+    rt: &impl Abort,
+    alloc: Global,
+    made: Result<T, Fault>,
+    bytes: &[u8],
+) {
+    match made {
+        Ok(value) => check(rt, alloc, &value, bytes),
+        Err(_) => assert!(rt; false, "no memory"),
+    }
+}
+
+#[test]
+fn functions(rt: HostRuntime) {
+    let alloc = rt.alloc();
+    check_made(&rt, alloc, function(alloc, PARAMS, RESULTS), FUNCTION);
+    check_made(&rt, alloc, function(alloc, &[], &[]), EMPTY);
+    check_made(&rt, alloc, composite(alloc, PARAMS, RESULTS), FUNCTION);
+    check_made(&rt, alloc, composite(alloc, &[], &[]), EMPTY);
+}
+
+#[test]
+fn types_of_functions(rt: HostRuntime) -> Result<(), Fail> {
+    let ty = function(rt.alloc(), PARAMS, RESULTS)?;
+    assert!(rt; ty.params() == PARAMS);
+    assert!(rt; ty.results() == RESULTS);
+    Ok(())
+}
+
+const ARRAY: ArrayType = ArrayType(I8);
+
+// By itself, and as one of the composite types.
+#[test]
+fn arrays(rt: HostRuntime) {
+    let bytes = [0x5e, 0x78, 0x01].as_slice();
+    check(&rt, rt.alloc(), &ARRAY, bytes);
+    let array: CompositeType = CompositeType::Array(ARRAY);
+    check(&rt, rt.alloc(), &array, bytes);
+}
+
 fn structure(alloc: Global, fields: &[FieldType]) -> Result<StructType, Fault> {
     Ok(StructType {
         fields: fields.to_vec(alloc)?,
     })
+}
+
+// As one of the composite types.
+fn composite_structure(alloc: Global, fields: &[FieldType]) -> Result<CompositeType, Fault> {
+    Ok(CompositeType::Struct(structure(alloc, fields)?))
+}
+
+const STRUCTURE: &[u8] = &[0x5f, 0x02, 0x78, 0x01, 0x7f, 0x00];
+
+const TWO_FIELDS: &[FieldType] = &[I8, I32];
+
+#[test]
+fn structures(rt: HostRuntime) {
+    let alloc = rt.alloc();
+    check_made(&rt, alloc, structure(alloc, TWO_FIELDS), STRUCTURE);
+    check_made(&rt, alloc, structure(alloc, &[]), &[0x5f, 0x00]);
+    let composite = composite_structure(alloc, TWO_FIELDS);
+    check_made(&rt, alloc, composite, STRUCTURE);
+    let none = composite_structure(alloc, &[]);
+    check_made(&rt, alloc, none, &[0x5f, 0x00]);
 }
 
 fn sub_type(is_final: bool, supertype_idx: Option<u32>, composite_type: CompositeType) -> SubType {
@@ -48,169 +137,97 @@ fn sub_type(is_final: bool, supertype_idx: Option<u32>, composite_type: Composit
     }
 }
 
-#[test]
-fn fields(rt: HostRuntime) -> Result<(), Fail> {
-    let reference = ValType::Ref(RefType {
-        nullable: true,
-        heap_type: HeapType::Abstract(AbstractHeapType::Any),
-    });
-    check(&rt, rt.alloc(), &StorageType::I8, [0x78].as_slice())?;
-    check(&rt, rt.alloc(), &StorageType::I16, [0x77].as_slice())?;
-    check(
-        &rt,
-        rt.alloc(),
-        &StorageType::Val(reference),
-        [0x63, 0x6e].as_slice(),
-    )?;
-    check(&rt, rt.alloc(), &I8, [0x78, 0x01].as_slice())?;
-    check(&rt, rt.alloc(), &I32, [0x7f, 0x00].as_slice())?;
-    Ok(())
-}
-
-// By itself, and as one of the composite types.
-fn check_function(rt: &impl Abort, alloc: Global, ty: FuncType, bytes: &[u8]) -> Result<(), Fail> {
-    check(rt, alloc, &ty, bytes)?;
-    check(rt, alloc, &CompositeType::Func(ty), bytes)
-}
-
-#[test]
-fn functions(rt: HostRuntime) -> Result<(), Fail> {
-    let params = [ValType::I32, ValType::I64].as_slice();
-    let results = [ValType::F32].as_slice();
-    let ty = function(rt.alloc(), params, results)?;
-    assert_eq!(rt; ty.params(), params);
-    assert_eq!(rt; ty.results(), results);
-    let bytes = [0x60, 0x02, 0x7f, 0x7e, 0x01, 0x7d].as_slice();
-    check_function(&rt, rt.alloc(), ty, bytes)?;
-    let none = function(rt.alloc(), &[], &[])?;
-    check_function(&rt, rt.alloc(), none, &[0x60, 0x00, 0x00])
-}
-
-#[test]
-fn arrays(rt: HostRuntime) -> Result<(), Fail> {
-    let array = ArrayType(I8);
-    let bytes = [0x5e, 0x78, 0x01].as_slice();
-    check(&rt, rt.alloc(), &array, bytes)?;
-    let array: CompositeType = CompositeType::Array(array);
-    check(&rt, rt.alloc(), &array, bytes)
-}
-
-// By itself, and as one of the composite types.
-fn check_structure(
-    rt: &impl Abort,
+// A function that extends no other type.
+fn sub_function(
     alloc: Global,
-    ty: StructType,
-    bytes: &[u8],
-) -> Result<(), Fail> {
-    check(rt, alloc, &ty, bytes)?;
-    check(rt, alloc, &CompositeType::Struct(ty), bytes)
+    is_final: bool,
+    params: &[ValType],
+    results: &[ValType],
+) -> Result<SubType, Fault> {
+    let ty = composite(alloc, params, results)?;
+    Ok(sub_type(is_final, None, ty))
 }
 
-#[test]
-fn structures(rt: HostRuntime) -> Result<(), Fail> {
-    let ty = structure(rt.alloc(), &[I8, I32])?;
-    let bytes = [0x5f, 0x02, 0x78, 0x01, 0x7f, 0x00].as_slice();
-    check_structure(&rt, rt.alloc(), ty, bytes)?;
-    let none = structure(rt.alloc(), &[])?;
-    check_structure(&rt, rt.alloc(), none, &[0x5f, 0x00])
+// One of that array extends the type with this index.
+fn sub_array(is_final: bool, supertype_idx: u32) -> SubType {
+    let ty = CompositeType::Array(ArrayType(I16));
+    sub_type(is_final, Some(supertype_idx), ty)
 }
 
 // By itself, and behind a reference.
-fn check_sub(rt: &impl Abort, alloc: Global, ty: &SubType, bytes: &[u8]) -> Result<(), Fail> {
-    check(rt, alloc, ty, bytes)?;
-    check(rt, alloc, &ty, bytes)
+fn check_sub(rt: &impl Abort, alloc: Global, ty: &SubType, bytes: &[u8]) {
+    check(rt, alloc, ty, bytes);
+    check(rt, alloc, &ty, bytes);
 }
 
-// A function without parameters and results.
-fn none_to_none(alloc: Global, is_final: bool) -> Result<SubType, Fault> {
-    Ok(sub_type(is_final, None, composite(alloc, &[], &[])?))
-}
+const OPEN: &[u8] = &[0x50, 0x00, 0x60, 0x00, 0x00];
 
 #[test]
 fn sub_types(rt: HostRuntime) -> Result<(), Fail> {
-    let plain = none_to_none(rt.alloc(), true)?;
-    check_sub(&rt, rt.alloc(), &plain, &[0x60, 0x00, 0x00])?;
-    let open = none_to_none(rt.alloc(), false)?;
-    check_sub(&rt, rt.alloc(), &open, &[0x50, 0x00, 0x60, 0x00, 0x00])
+    let plain = sub_function(rt.alloc(), true, &[], &[])?;
+    check_sub(&rt, rt.alloc(), &plain, EMPTY);
+    let open = sub_function(rt.alloc(), false, &[], &[])?;
+    check_sub(&rt, rt.alloc(), &open, OPEN);
+    Ok(())
 }
 
 #[test]
-fn sub_types_of_others(rt: HostRuntime) -> Result<(), Fail> {
-    let array = sub_type(true, Some(4), CompositeType::Array(ArrayType(I16)));
+fn sub_types_of_others(rt: HostRuntime) {
     let bytes = [0x4f, 0x01, 0x04, 0x5e, 0x77, 0x00].as_slice();
-    check_sub(&rt, rt.alloc(), &array, bytes)?;
-    let array = sub_type(false, Some(128), CompositeType::Array(ArrayType(I16)));
+    check_sub(&rt, rt.alloc(), &sub_array(true, 4), bytes);
     let bytes = [0x50, 0x01, 0x80, 0x01, 0x5e, 0x77, 0x00].as_slice();
-    check_sub(&rt, rt.alloc(), &array, bytes)
+    check_sub(&rt, rt.alloc(), &sub_array(false, 128), bytes);
 }
 
-// A function of a number, and one that gives a number.
-fn taker(alloc: Global) -> Result<CompositeType, Fault> {
-    composite(alloc, &[ValType::I32], &[])
+const NUMBER: &[ValType] = &[ValType::I32];
+
+fn pair(alloc: Global) -> Result<GroupTree, Fault> {
+    let first = sub_function(alloc, true, &[], &[])?;
+    let second = sub_function(alloc, true, NUMBER, &[])?;
+    Ok(GroupTree::Rec(vec![in alloc; first, second]?))
 }
 
-fn giver(alloc: Global) -> Result<CompositeType, Fault> {
-    composite(alloc, &[], &[ValType::I32])
+fn group_of_one(ty: SubType) -> GroupTree {
+    GroupTree::Sub(ty)
 }
 
-fn plain(alloc: Global, is_taker: bool) -> Result<SubType, Fault> {
-    let ty = if is_taker {
-        taker(alloc)?
-    } else {
-        giver(alloc)?
-    };
-    Ok(sub_type(true, None, ty))
+fn open_group(alloc: Global) -> Result<GroupTree, Fault> {
+    Ok(group_of_one(sub_function(alloc, false, &[], &[])?))
 }
 
-fn pair(alloc: Global) -> Result<Vec<SubType>, Fault> {
-    let first = none_to_none(alloc, true)?;
-    let second = plain(alloc, true)?;
-    Ok(vec![in alloc; first, second]?)
+fn no_types(alloc: Global) -> GroupTree {
+    GroupTree::Rec(Vec::new(alloc))
 }
 
 #[test]
-fn groups(rt: HostRuntime) -> Result<(), Fail> {
-    let types = pair(rt.alloc())?;
+fn groups(rt: HostRuntime) {
+    let alloc = rt.alloc();
     let bytes = [0x4e, 0x02, 0x60, 0x00, 0x00, 0x60, 0x01, 0x7f, 0x00];
-    check(&rt, rt.alloc(), &GroupTree::Rec(types), bytes.as_slice())?;
-
-    let none: GroupTree = GroupTree::Rec(Vec::new(rt.alloc()));
-    check(&rt, rt.alloc(), &none, &[0x4e, 0x00])?;
-
-    let open = none_to_none(rt.alloc(), false)?;
-    let bytes = [0x50, 0x00, 0x60, 0x00, 0x00].as_slice();
-    check(&rt, rt.alloc(), &GroupTree::Sub(open), bytes)
+    check_made(&rt, alloc, pair(alloc), bytes.as_slice());
+    check(&rt, alloc, &no_types(alloc), &[0x4e, 0x00]);
+    check_made(&rt, alloc, open_group(alloc), OPEN);
 }
 
+// A function of a number, the same once more, and one that gives a number.
 #[test]
 fn composites_are_compared(rt: HostRuntime) -> Result<(), Fail> {
-    let one = taker(rt.alloc())?;
-    let same = taker(rt.alloc())?;
-    let turned = giver(rt.alloc())?;
+    let one = composite(rt.alloc(), NUMBER, &[])?;
+    let same = composite(rt.alloc(), NUMBER, &[])?;
+    let turned = composite(rt.alloc(), &[], NUMBER)?;
     assert!(rt; one == same);
     assert!(rt; one != turned);
-    assert!(rt; one != CompositeType::Array(ArrayType(I8)));
+    assert!(rt; one != CompositeType::Array(ARRAY));
     Ok(())
 }
 
-#[test]
-fn composites_are_printed(rt: HostRuntime) -> Result<(), Fail> {
-    let ty = giver(rt.alloc())?;
-    let printed = format!(in rt.alloc(); "{:?}", ty)?;
-    assert_eq!(rt;
-        printed.as_str(),
-        "Func(FuncType { params: [], results: [I32] })"
-    );
-    Ok(())
-}
-
+// Likewise.
 #[test]
 fn sub_types_are_compared(rt: HostRuntime) -> Result<(), Fail> {
-    let one = plain(rt.alloc(), true)?;
-    let same = plain(rt.alloc(), true)?;
-    let turned = plain(rt.alloc(), false)?;
+    let one = sub_function(rt.alloc(), true, NUMBER, &[])?;
+    let same = sub_function(rt.alloc(), true, NUMBER, &[])?;
+    let turned = sub_function(rt.alloc(), true, &[], NUMBER)?;
     assert!(rt; one == same);
     assert!(rt; one != turned);
-    assert!(rt; GroupTree::Sub(one) == GroupTree::Sub(same));
+    assert!(rt; group_of_one(one) == group_of_one(same));
     Ok(())
 }

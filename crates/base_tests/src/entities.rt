@@ -1,9 +1,78 @@
-use crate::values::check;
-use std::test::Fail;
+use crate::values::{check, check_all};
 use wenc_base::{
     AbstractHeapType, EntityType, GlobalType, HeapType, MemoryType, RefType, TableType, TagType,
     ValType,
 };
+
+const FUNCTIONS: &[(EntityType, &[u8])] = &[
+    (EntityType::Function(0), &[0x00, 0x00]),
+    (EntityType::Function(128), &[0x00, 0x80, 0x01]),
+    (
+        EntityType::Function(4294967295),
+        &[0x00, 0xff, 0xff, 0xff, 0xff, 0x0f],
+    ),
+];
+
+#[test]
+fn functions(rt: HostRuntime) {
+    check_all(&rt, rt.alloc(), FUNCTIONS);
+}
+
+const FUNCS: RefType = RefType {
+    nullable: true,
+    heap_type: HeapType::Abstract(AbstractHeapType::Func),
+};
+
+const CONCRETE: RefType = RefType {
+    nullable: false,
+    heap_type: HeapType::Concrete(5),
+};
+
+// The type, the sizes, whether they have 64 bits, and the bytes.
+const TABLES: &[(RefType, u64, Option<u64>, bool, &[u8])] = &[
+    (FUNCS, 0, None, false, &[0x01, 0x70, 0x00, 0x00]),
+    (FUNCS, 1, Some(2), false, &[0x01, 0x70, 0x01, 0x01, 0x02]),
+    (FUNCS, 0, None, true, &[0x01, 0x70, 0x04, 0x00]),
+    (
+        FUNCS,
+        1,
+        Some(128),
+        true,
+        &[0x01, 0x70, 0x05, 0x01, 0x80, 0x01],
+    ),
+    (CONCRETE, 1, None, false, &[0x01, 0x64, 0x05, 0x00, 0x01]),
+];
+
+fn table(element_type: RefType, minimum: u64, maximum: Option<u64>, table64: bool) -> TableType {
+    TableType {
+        element_type,
+        table64,
+        minimum,
+        maximum,
+    }
+}
+
+#[test]
+fn tables(rt: HostRuntime) {
+    for (element_type, minimum, maximum, table64, bytes) in TABLES {
+        let ty = table(*element_type, *minimum, *maximum, *table64);
+        check(&rt, rt.alloc(), &EntityType::Table(ty), bytes);
+    }
+    let ty = table(FUNCS, 0, Some(0), false);
+    check(&rt, rt.alloc(), &ty, &[0x70, 0x01, 0x00, 0x00]);
+}
+
+// The sizes, whether they have 64 bits, whether it is shared, and the bytes.
+const MEMORIES: &[(u64, Option<u64>, bool, bool, &[u8])] = &[
+    (1, None, false, false, &[0x02, 0x00, 0x01]),
+    (1, Some(2), false, false, &[0x02, 0x01, 0x01, 0x02]),
+    (1, None, false, true, &[0x02, 0x02, 0x01]),
+    (1, Some(2), false, true, &[0x02, 0x03, 0x01, 0x02]),
+    (1, None, true, false, &[0x02, 0x04, 0x01]),
+    (1, Some(2), true, false, &[0x02, 0x05, 0x01, 0x02]),
+    (1, None, true, true, &[0x02, 0x06, 0x01]),
+    (1, Some(2), true, true, &[0x02, 0x07, 0x01, 0x02]),
+];
 
 fn memory(minimum: u64, maximum: Option<u64>, memory64: bool, shared: bool) -> MemoryType {
     MemoryType {
@@ -14,157 +83,85 @@ fn memory(minimum: u64, maximum: Option<u64>, memory64: bool, shared: bool) -> M
     }
 }
 
-fn funcs(minimum: u64, maximum: Option<u64>, table64: bool) -> TableType {
-    TableType {
-        element_type: RefType {
-            nullable: true,
-            heap_type: HeapType::Abstract(AbstractHeapType::Func),
-        },
-        table64,
-        minimum,
-        maximum,
-    }
-}
-
-#[test]
-fn functions(rt: HostRuntime) -> Result<(), Fail> {
-    for (index, bytes) in [
-        (0u32, [0x00, 0x00].as_slice()),
-        (128, [0x00, 0x80, 0x01].as_slice()),
-        (4294967295, [0x00, 0xff, 0xff, 0xff, 0xff, 0x0f].as_slice()),
-    ] {
-        check(&rt, rt.alloc(), &EntityType::Function(index), bytes)?;
-    }
-    Ok(())
-}
-
-#[test]
-fn tables(rt: HostRuntime) -> Result<(), Fail> {
-    let concrete = TableType {
-        element_type: RefType {
-            nullable: false,
-            heap_type: HeapType::Concrete(5),
-        },
-        table64: false,
-        minimum: 1,
-        maximum: None,
-    };
-    for (ty, bytes) in [
-        (funcs(0, None, false), [0x01, 0x70, 0x00, 0x00].as_slice()),
-        (
-            funcs(1, Some(2), false),
-            [0x01, 0x70, 0x01, 0x01, 0x02].as_slice(),
-        ),
-        (funcs(0, None, true), [0x01, 0x70, 0x04, 0x00].as_slice()),
-        (
-            funcs(1, Some(128), true),
-            [0x01, 0x70, 0x05, 0x01, 0x80, 0x01].as_slice(),
-        ),
-        (concrete, [0x01, 0x64, 0x05, 0x00, 0x01].as_slice()),
-    ] {
-        check(&rt, rt.alloc(), &EntityType::Table(ty), bytes)?;
-    }
-    check(
-        &rt,
-        rt.alloc(),
-        &funcs(0, Some(0), false),
-        [0x70, 0x01, 0x00, 0x00].as_slice(),
-    )?;
-    Ok(())
-}
-
 // Every flag.
 #[test]
-fn memories(rt: HostRuntime) -> Result<(), Fail> {
-    for (ty, bytes) in [
-        (memory(1, None, false, false), [0x02, 0x00, 0x01].as_slice()),
-        (
-            memory(1, Some(2), false, false),
-            [0x02, 0x01, 0x01, 0x02].as_slice(),
-        ),
-        (memory(1, None, false, true), [0x02, 0x02, 0x01].as_slice()),
-        (
-            memory(1, Some(2), false, true),
-            [0x02, 0x03, 0x01, 0x02].as_slice(),
-        ),
-        (memory(1, None, true, false), [0x02, 0x04, 0x01].as_slice()),
-        (
-            memory(1, Some(2), true, false),
-            [0x02, 0x05, 0x01, 0x02].as_slice(),
-        ),
-        (memory(1, None, true, true), [0x02, 0x06, 0x01].as_slice()),
-        (
-            memory(1, Some(2), true, true),
-            [0x02, 0x07, 0x01, 0x02].as_slice(),
-        ),
-    ] {
-        check(&rt, rt.alloc(), &EntityType::Memory(ty), bytes)?;
+fn memories(rt: HostRuntime) {
+    for (minimum, maximum, memory64, shared, bytes) in MEMORIES {
+        let ty = memory(*minimum, *maximum, *memory64, *shared);
+        check(&rt, rt.alloc(), &EntityType::Memory(ty), bytes);
     }
-    Ok(())
 }
 
 // Sizes are numbers of 64 bits.
-#[test]
-fn large_memories(rt: HostRuntime) -> Result<(), Fail> {
-    check(
-        &rt,
-        rt.alloc(),
-        &memory(0, Some(18446744073709551615), true, false),
-        [
+const LARGE_MEMORIES: &[(MemoryType, &[u8])] = &[
+    (
+        MemoryType {
+            minimum: 0,
+            maximum: Some(18446744073709551615),
+            memory64: true,
+            shared: false,
+        },
+        &[
             0x05, 0x00, 0xff, 0xff, 0xff, 0xff, 0xff, 0xff, 0xff, 0xff, 0xff, 0x01,
-        ]
-        .as_slice(),
-    )?;
-    check(
-        &rt,
-        rt.alloc(),
-        &memory(65536, None, false, false),
-        [0x00, 0x80, 0x80, 0x04].as_slice(),
-    )?;
-    Ok(())
+        ],
+    ),
+    (
+        MemoryType {
+            minimum: 65536,
+            maximum: None,
+            memory64: false,
+            shared: false,
+        },
+        &[0x00, 0x80, 0x80, 0x04],
+    ),
+];
+
+#[test]
+fn large_memories(rt: HostRuntime) {
+    check_all(&rt, rt.alloc(), LARGE_MEMORIES);
+}
+
+fn global(val_type: ValType, mutable: bool) -> GlobalType {
+    GlobalType { val_type, mutable }
+}
+
+// As entities, and by themselves.
+#[test]
+fn globals(rt: HostRuntime) {
+    let alloc = rt.alloc();
+    let mutable = EntityType::Global(global(ValType::I64, true));
+    check(&rt, alloc, &mutable, &[0x03, 0x7e, 0x01]);
+    let fixed = EntityType::Global(global(ValType::F32, false));
+    check(&rt, alloc, &fixed, &[0x03, 0x7d, 0x00]);
+    check(&rt, alloc, &global(ValType::I32, false), &[0x7f, 0x00]);
+}
+
+const TAG: TagType = TagType { func_type_idx: 0 };
+
+const TAGS: &[(TagType, &[u8])] = &[
+    (TAG, &[0x00, 0x00]),
+    (TagType { func_type_idx: 300 }, &[0x00, 0xac, 0x02]),
+];
+
+#[test]
+fn tags(rt: HostRuntime) {
+    check_all(&rt, rt.alloc(), TAGS);
+    check(&rt, rt.alloc(), &EntityType::Tag(TAG), &[0x04, 0x00, 0x00]);
+}
+
+fn tag(func_type_idx: u32) -> EntityType {
+    EntityType::Tag(TagType { func_type_idx })
 }
 
 #[test]
-fn globals(rt: HostRuntime) -> Result<(), Fail> {
-    for (val_type, mutable, bytes) in [
-        (ValType::I64, true, [0x03, 0x7e, 0x01].as_slice()),
-        (ValType::F32, false, [0x03, 0x7d, 0x00].as_slice()),
-    ] {
-        let ty = GlobalType { val_type, mutable };
-        check(&rt, rt.alloc(), &EntityType::Global(ty), bytes)?;
-    }
-    let ty = GlobalType {
-        val_type: ValType::I32,
-        mutable: false,
-    };
-    check(&rt, rt.alloc(), &ty, [0x7f, 0x00].as_slice())?;
-    Ok(())
+fn entities_are_compared(rt: HostRuntime) {
+    assert!(rt; tag(7) == tag(7));
+    assert!(rt; tag(7) != tag(8));
+    assert!(rt; tag(7) != EntityType::Function(7));
 }
 
 #[test]
-fn tags(rt: HostRuntime) -> Result<(), Fail> {
-    let first = TagType { func_type_idx: 0 };
-    let other = TagType { func_type_idx: 300 };
-    check(&rt, rt.alloc(), &first, [0x00, 0x00].as_slice())?;
-    check(&rt, rt.alloc(), &other, [0x00, 0xac, 0x02].as_slice())?;
-    check(
-        &rt,
-        rt.alloc(),
-        &EntityType::Tag(first),
-        [0x04, 0x00, 0x00].as_slice(),
-    )?;
-    Ok(())
-}
-
-#[test]
-fn entities_are_compared_and_printed(rt: HostRuntime) -> Result<(), Fail> {
-    let tag = EntityType::Tag(TagType { func_type_idx: 7 });
-    assert!(rt; tag == EntityType::Tag(TagType { func_type_idx: 7 }));
-    assert!(rt; tag != EntityType::Tag(TagType { func_type_idx: 8 }));
-    assert!(rt; tag != EntityType::Function(7));
-    assert!(rt; funcs(0, None, false) != funcs(0, None, true));
+fn parts_are_compared(rt: HostRuntime) {
+    assert!(rt; table(FUNCS, 0, None, false) != table(FUNCS, 0, None, true));
     assert!(rt; memory(1, None, false, false) != memory(1, Some(1), false, false));
-    let printed = format!(in rt.alloc(); "{:?}", tag)?;
-    assert_eq!(rt; printed.as_str(), "Tag(TagType { func_type_idx: 7 })");
-    Ok(())
 }

@@ -16,19 +16,46 @@ pub fn encode<T: Encode>(value: &T, sink: &mut Vec<u8>) -> Result<(), Fault> {
     value.encode(sink)
 }
 
-// Each value is written behind a byte that the sink has.
-pub fn check<T: Encode>(
-    rt: &impl Abort,
-    alloc: Global,
-    value: &T,
-    bytes: &[u8],
-) -> Result<(), Fail> {
+// A byte that a sink has, and these.
+pub fn behind(alloc: Global, bytes: &[u8]) -> Result<Vec<u8>, Fault> {
     let mut sink = [0x99].to_vec(alloc)?;
+    sink.extend_from_slice(bytes)?;
+    Ok(sink)
+}
+
+// What a value appends behind that byte.
+fn appended<T: Encode>(alloc: Global, value: &T) -> Result<Vec<u8>, Fault> {
+    let mut sink = behind(alloc, &[])?;
     encode(value, &mut sink)?;
-    let mut expected = [0x99].to_vec(alloc)?;
-    expected.extend_from_slice(bytes)?;
-    assert_eq!(rt; sink, expected);
-    Ok(())
+    Ok(sink)
+}
+
+pub fn are(rt: &impl Abort, given: &[u8], wanted: &[u8]) {
+    assert_eq!(rt; given, wanted);
+}
+
+pub fn answers(rt: &impl Abort, given: Result<(), Fault>, wanted: Result<(), Fault>) {
+    assert_eq!(rt; given, wanted);
+}
+
+// What was appended, and what was to be.
+pub fn agree(rt: &impl Abort, given: Result<Vec<u8>, Fault>, wanted: Result<Vec<u8>, Fault>) {
+    match (given, wanted) {
+        (Ok(given), Ok(wanted)) => are(rt, given.as_slice(), wanted.as_slice()),
+        _ => assert!(rt; false, "no memory"),
+    }
+}
+
+// Each value is written behind a byte that the sink has.
+pub fn check<T: Encode>(rt: &impl Abort, alloc: Global, value: &T, bytes: &[u8]) {
+    agree(rt, appended(alloc, value), behind(alloc, bytes));
+}
+
+// Each of these is written as what stands beside it.
+pub fn check_all<T: Encode>(rt: &impl Abort, alloc: Global, rows: &[(T, &[u8])]) {
+    for (value, bytes) in rows {
+        check(rt, alloc, value, bytes);
+    }
 }
 
 // The bytes of a value, in a vector of their own.
@@ -40,90 +67,83 @@ fn encoded<T: Encode, A: Allocator>(alloc: A, value: &T) -> Result<Vec<u8, A>, F
     Ok(bytes)
 }
 
+const UNSIGNED: &[(u32, &[u8])] = &[
+    (624485, &[0xe5, 0x8e, 0x26]),
+    (0, &[0x00]),
+    (128, &[0x80, 0x01]),
+    (4294967295, &[0xff, 0xff, 0xff, 0xff, 0x0f]),
+];
+
+const SIGNED: &[(i64, &[u8])] = &[
+    (-1, &[0x7f]),
+    (-64, &[0x40]),
+    (-65, &[0xbf, 0x7f]),
+    (63, &[0x3f]),
+    (64, &[0xc0, 0x00]),
+    (
+        9223372036854775807,
+        &[0xff, 0xff, 0xff, 0xff, 0xff, 0xff, 0xff, 0xff, 0xff, 0x00],
+    ),
+    (
+        -9223372036854775808,
+        &[0x80, 0x80, 0x80, 0x80, 0x80, 0x80, 0x80, 0x80, 0x80, 0x7f],
+    ),
+];
+
+const LONG: &[(u64, &[u8])] = &[(
+    18446744073709551615,
+    &[0xff, 0xff, 0xff, 0xff, 0xff, 0xff, 0xff, 0xff, 0xff, 0x01],
+)];
+
 #[test]
-fn unsigned_numbers(rt: HostRuntime) -> Result<(), Fail> {
-    for (n, bytes) in [
-        (624485u32, [0xe5, 0x8e, 0x26].as_slice()),
-        (0, [0x00].as_slice()),
-        (128, [0x80, 0x01].as_slice()),
-        (4294967295, [0xff, 0xff, 0xff, 0xff, 0x0f].as_slice()),
-    ] {
-        check(&rt, rt.alloc(), &n, bytes)?;
-    }
+fn numbers(rt: HostRuntime) {
+    let alloc = rt.alloc();
+    check_all(&rt, alloc, UNSIGNED);
+    check_all(&rt, alloc, SIGNED);
+    check_all(&rt, alloc, LONG);
+    check(&rt, alloc, &128usize, &[0x80, 0x01]);
+}
+
+const TRUTHS: &[(bool, &[u8])] = &[(false, &[0x00]), (true, &[0x01])];
+
+const TEXTS: &[(&str, &[u8])] = &[("f", &[0x01, 0x66]), ("", &[0x00])];
+
+const BYTE_LISTS: &[(&[u8], &[u8])] = &[(&[0xaa], &[0x01, 0xaa])];
+
+#[test]
+fn truths_and_texts(rt: HostRuntime) {
+    let alloc = rt.alloc();
+    check_all(&rt, alloc, TRUTHS);
+    check_all(&rt, alloc, TEXTS);
+    check_all(&rt, alloc, BYTE_LISTS);
+}
+
+// Three values in one sink.
+fn joined(alloc: Global) -> Result<Vec<u8>, Fault> {
+    let mut sink = encoded(alloc, &"f")?;
+    encode(&"", &mut sink)?;
+    encode(&[0xaau8].as_slice(), &mut sink)?;
+    Ok(sink)
+}
+
+#[test]
+fn texts_in_one_sink(rt: HostRuntime) -> Result<(), Fail> {
+    let sink = joined(rt.alloc())?;
+    are(&rt, sink.as_slice(), &[0x01, 0x66, 0x00, 0x01, 0xaa]);
     Ok(())
 }
 
-#[test]
-fn signed_numbers(rt: HostRuntime) -> Result<(), Fail> {
-    for (n, bytes) in [
-        (-1i64, [0x7f].as_slice()),
-        (-64, [0x40].as_slice()),
-        (-65, [0xbf, 0x7f].as_slice()),
-        (63, [0x3f].as_slice()),
-        (64, [0xc0, 0x00].as_slice()),
-        (
-            9223372036854775807,
-            [0xff, 0xff, 0xff, 0xff, 0xff, 0xff, 0xff, 0xff, 0xff, 0x00].as_slice(),
-        ),
-        (
-            -9223372036854775808,
-            [0x80, 0x80, 0x80, 0x80, 0x80, 0x80, 0x80, 0x80, 0x80, 0x7f].as_slice(),
-        ),
-    ] {
-        check(&rt, rt.alloc(), &n, bytes)?;
-    }
-    Ok(())
-}
+const KINDS: &[(ExportKind, &[u8])] = &[
+    (ExportKind::Func, &[0x00]),
+    (ExportKind::Table, &[0x01]),
+    (ExportKind::Memory, &[0x02]),
+    (ExportKind::Global, &[0x03]),
+    (ExportKind::Tag, &[0x04]),
+];
 
 #[test]
-fn texts_and_byte_lists(rt: HostRuntime) -> Result<(), Fail> {
-    let mut sink = encoded(rt.alloc(), &"f")?;
-    "".encode(&mut sink)?;
-    [0xaau8].as_slice().encode(&mut sink)?;
-    assert_eq!(rt; sink.as_slice(), [0x01, 0x66, 0x00, 0x01, 0xaa].as_slice());
-    check(&rt, rt.alloc(), &"f", [0x01, 0x66].as_slice())?;
-    check(&rt, rt.alloc(), &"", [0x00].as_slice())?;
-    check(
-        &rt,
-        rt.alloc(),
-        &[0xaau8].as_slice(),
-        [0x01, 0xaa].as_slice(),
-    )
-}
-
-#[test]
-fn small_and_large(rt: HostRuntime) -> Result<(), Fail> {
-    check(&rt, rt.alloc(), &false, [0x00].as_slice())?;
-    check(&rt, rt.alloc(), &true, [0x01].as_slice())?;
-    check(
-        &rt,
-        rt.alloc(),
-        &18446744073709551615u64,
-        [0xff, 0xff, 0xff, 0xff, 0xff, 0xff, 0xff, 0xff, 0xff, 0x01].as_slice(),
-    )?;
-    check(&rt, rt.alloc(), &128usize, [0x80, 0x01].as_slice())
-}
-
-#[test]
-fn too_many(rt: HostRuntime) -> Result<(), Fail> {
-    let mut sink = [0x99].to_vec(rt.alloc())?;
-    assert_eq!(rt; encode(&4294967296usize, &mut sink), Err(Fault::TooMany));
-    assert_eq!(rt; sink.as_slice(), [0x99].as_slice());
-    Ok(())
-}
-
-#[test]
-fn kinds_of_exports(rt: HostRuntime) -> Result<(), Fail> {
-    for (kind, byte) in [
-        (ExportKind::Func, 0x00),
-        (ExportKind::Table, 0x01),
-        (ExportKind::Memory, 0x02),
-        (ExportKind::Global, 0x03),
-        (ExportKind::Tag, 0x04),
-    ] {
-        check(&rt, rt.alloc(), &kind, [byte].as_slice())?;
-    }
-    Ok(())
+fn kinds_of_exports(rt: HostRuntime) {
+    check_all(&rt, rt.alloc(), KINDS);
 }
 
 // The values of a vector are the members.
@@ -134,34 +154,42 @@ fn encode_vector<A: Allocator>(values: Vec<u32>, sink: &mut Vec<u8, A>) -> Resul
     Ok(())
 }
 
+const LISTS: &[(&[u32], &[u8])] = &[
+    (&[1, 128, 3], &[0x03, 0x01, 0x80, 0x01, 0x03]),
+    (&[], &[0x00]),
+];
+
+const LISTS_OF_PAIRS: &[(&[(&str, u32)], &[u8])] = &[(
+    &[("a", 1), ("", 2)],
+    &[0x02, 0x01, 0x61, 0x01, 0x00, 0x02],
+)];
+
 #[test]
-fn lists(rt: HostRuntime) -> Result<(), Fail> {
-    let three = [0x03, 0x01, 0x80, 0x01, 0x03];
-    check(
-        &rt,
-        rt.alloc(),
-        &[1u32, 128, 3].as_slice(),
-        three.as_slice(),
-    )?;
-    check(
-        &rt,
-        rt.alloc(),
-        &[("a", 1u32), ("", 2)].as_slice(),
-        [0x02, 0x01, 0x61, 0x01, 0x00, 0x02].as_slice(),
-    )?;
-    let none: [u32; 0] = [];
-    check(&rt, rt.alloc(), &none.as_slice(), [0x00].as_slice())
+fn lists(rt: HostRuntime) {
+    let alloc = rt.alloc();
+    check_all(&rt, alloc, LISTS);
+    check_all(&rt, alloc, LISTS_OF_PAIRS);
+}
+
+fn encode_copied(values: &[usize], sink: &mut Vec<u8>) -> Result<(), Fault> {
+    encode_list(values.iter().copied(), sink)?;
+    Ok(())
+}
+
+fn of_iterators(alloc: Global) -> Result<Vec<u8>, Fault> {
+    let mut sink = behind(alloc, &[])?;
+    encode_vector([1, 128, 3].to_vec(alloc)?, &mut sink)?;
+    encode_copied(&[], &mut sink)?;
+    Ok(sink)
 }
 
 #[test]
 fn lists_from_iterators(rt: HostRuntime) -> Result<(), Fail> {
-    let none: [u32; 0] = [];
-    let mut sink = [0x99].to_vec(rt.alloc())?;
-    encode_vector([1, 128, 3].to_vec(rt.alloc())?, &mut sink)?;
-    encode_list(none.into_iter(), &mut sink)?;
-    assert_eq!(rt;
+    let sink = of_iterators(rt.alloc())?;
+    are(
+        &rt,
         sink.as_slice(),
-        [0x99, 0x03, 0x01, 0x80, 0x01, 0x03, 0x00].as_slice()
+        &[0x99, 0x03, 0x01, 0x80, 0x01, 0x03, 0x00],
     );
     Ok(())
 }
@@ -169,14 +197,11 @@ fn lists_from_iterators(rt: HostRuntime) -> Result<(), Fail> {
 // The second of these is refused, behind the text of the first.
 #[test]
 fn refused_lists(rt: HostRuntime) -> Result<(), Fail> {
-    let mut sink = [0x99].to_vec(rt.alloc())?;
-    let values = [1, 4294967296usize];
-    assert_eq!(rt; encode(&values.as_slice(), &mut sink), Err(Fault::TooMany));
-    assert_eq!(rt;
-        encode_list(values.into_iter(), &mut sink),
-        Err(Fault::TooMany)
-    );
-    assert_eq!(rt; sink.as_slice(), [0x99].as_slice());
+    let mut sink = behind(rt.alloc(), &[])?;
+    let values: &[usize] = &[1, LARGE];
+    answers(&rt, encode(&values, &mut sink), Err(Fault::TooMany));
+    answers(&rt, encode_copied(values, &mut sink), Err(Fault::TooMany));
+    are(&rt, sink.as_slice(), &[0x99]);
     Ok(())
 }
 
@@ -201,110 +226,149 @@ impl Encode for Item {
     }
 }
 
-// It is refused, and the sink stays as it was.
-fn check_refused<T: Encode>(
-    rt: &impl Abort,
-    alloc: Global,
-    value: &T,
-    fault: Fault,
-) -> Result<(), Fail> {
-    let mut sink = [0x99].to_vec(alloc)?;
-    assert_eq!(rt; encode(value, &mut sink), Err(fault));
-    assert_eq!(rt; sink.as_slice(), [0x99].as_slice());
-    Ok(())
+// An answer, and what the sink has then.
+pub type Outcome = (Result<(), Fault>, Vec<u8>);
+
+fn outcome<T: Encode>(alloc: Global, value: &T) -> Result<Outcome, Fault> {
+    let mut sink = behind(alloc, &[])?;
+    let given = encode(value, &mut sink);
+    Ok((given, sink))
 }
 
-const OPEN: Item = Item { is_open: true };
+// It was refused, and the sink stays as it was.
+pub fn check_refusal(rt: &impl Abort, outcome: Result<Outcome, Fault>, fault: Fault) {
+    match outcome {
+        Ok((given, sink)) => {
+            answers(rt, given, Err(fault));
+            are(rt, sink.as_slice(), &[0x99]);
+        }
+        Err(_) => assert!(rt; false, "no memory"),
+    }
+}
+
+// It is refused.
+pub fn check_refused<T: Encode>(rt: &impl Abort, alloc: Global, value: &T, fault: Fault) {
+    check_refusal(rt, outcome(alloc, value), fault);
+}
+
+// More than a count can be.
+pub const LARGE: usize = 4294967296;
+
+pub const OPEN: Item = Item { is_open: true };
+
+const ENDED: Item = Item { is_open: false };
+
+const SECOND_OPEN: &[(u32, Item)] = &[(1, ENDED), (2, OPEN)];
 
 #[test]
-fn unfinished(rt: HostRuntime) -> Result<(), Fail> {
-    let items = [(1u32, Item { is_open: false }), (2, OPEN)];
-    check_refused(&rt, rt.alloc(), &items.as_slice(), Fault::Unfinished)?;
-    check_refused(&rt, rt.alloc(), &Tagged(0x2a, &OPEN), Fault::Unfinished)?;
-    check_refused(&rt, rt.alloc(), &Some(OPEN), Fault::Unfinished)?;
-    check(&rt, rt.alloc(), &items[0], [0x01].as_slice())
+fn unfinished(rt: HostRuntime) {
+    let alloc = rt.alloc();
+    check_refused(&rt, alloc, &SECOND_OPEN, Fault::Unfinished);
+    check_refused(&rt, alloc, &Tagged(0x2a, &OPEN), Fault::Unfinished);
+    check_refused(&rt, alloc, &Some(OPEN), Fault::Unfinished);
+    check(&rt, alloc, &(1u32, ENDED), &[0x01]);
 }
+
+const BOTH_OPEN: &[(usize, Item)] = &[(1, OPEN), (LARGE, OPEN)];
 
 // The first refusal that is met is answered.
 #[test]
-fn first_refusals(rt: HostRuntime) -> Result<(), Fail> {
-    let large = 4294967296usize;
-    check_refused(&rt, rt.alloc(), &(OPEN, large), Fault::Unfinished)?;
-    check_refused(&rt, rt.alloc(), &(large, OPEN), Fault::TooMany)?;
-    let pairs = [(1, OPEN), (large, OPEN)];
-    check_refused(&rt, rt.alloc(), &pairs.as_slice(), Fault::Unfinished)
+fn first_refusals(rt: HostRuntime) {
+    let alloc = rt.alloc();
+    check_refused(&rt, alloc, &LARGE, Fault::TooMany);
+    check_refused(&rt, alloc, &(OPEN, LARGE), Fault::Unfinished);
+    check_refused(&rt, alloc, &(LARGE, OPEN), Fault::TooMany);
+    check_refused(&rt, alloc, &BOTH_OPEN, Fault::Unfinished);
 }
 
+const OPTIONS: &[(Option<u32>, &[u8])] = &[(None, &[0x00]), (Some(5), &[0x01, 0x05])];
+
 #[test]
-fn made_of_others(rt: HostRuntime) -> Result<(), Fail> {
-    check(&rt, rt.alloc(), &None::<u32>, [0x00].as_slice())?;
-    check(&rt, rt.alloc(), &Some(5u32), [0x01, 0x05].as_slice())?;
-    check(&rt, rt.alloc(), &(1u32, "a"), [0x01, 0x01, 0x61].as_slice())?;
-    check(
-        &rt,
-        rt.alloc(),
-        &Tagged(0x2a, &7u32),
-        [0x2a, 0x07].as_slice(),
-    )
+fn made_of_others(rt: HostRuntime) {
+    let alloc = rt.alloc();
+    check_all(&rt, alloc, OPTIONS);
+    check(&rt, alloc, &(1u32, "a"), &[0x01, 0x01, 0x61]);
+    check(&rt, alloc, &Tagged(0x2a, &7u32), &[0x2a, 0x07]);
 }
+
+const SIZES: &[(u32, usize)] = &[
+    (127, 1),
+    (128, 2),
+    (16383, 2),
+    (16384, 3),
+    (624485, 3),
+    (2097151, 3),
+    (2097152, 4),
+    (268435455, 4),
+    (268435456, 5),
+    (4294967295, 5),
+];
 
 #[test]
 fn sizes(rt: HostRuntime) {
-    for (n, size) in [
-        (127, 1),
-        (128, 2),
-        (16383, 2),
-        (16384, 3),
-        (624485, 3),
-        (2097151, 3),
-        (2097152, 4),
-        (268435455, 4),
-        (268435456, 5),
-        (4294967295, 5),
-    ] {
-        assert_eq!(rt; encoding_size(n), size, "of {n}");
+    for (n, size) in SIZES {
+        assert!(rt; encoding_size(*n) == *size, "of {n}");
     }
+}
+
+const FAULTS: &[(Fault, u8, &str)] = &[
+    (Fault::Memory(AllocError), 1, "no memory"),
+    (Fault::TooMany, 2, "too many"),
+    (Fault::TooLarge, 3, "too large"),
+    (Fault::Unfinished, 4, "unfinished"),
+];
+
+fn printed(alloc: Global, fault: Fault) -> Result<String, Fault> {
+    Ok(format!(in alloc; "{fault}")?)
 }
 
 #[test]
 fn faults(rt: HostRuntime) -> Result<(), Fail> {
-    for (fault, number, text) in [
-        (Fault::from(AllocError), 1, "no memory"),
-        (Fault::TooMany, 2, "too many"),
-        (Fault::TooLarge, 3, "too large"),
-        (Fault::Unfinished, 4, "unfinished"),
-    ] {
-        assert_eq!(rt; fault.number(), number);
-        let printed = format!(in rt.alloc(); "{fault}")?;
-        assert_eq!(rt; printed.as_str(), text);
+    assert!(rt; Fault::from(AllocError) == Fault::Memory(AllocError));
+    for (fault, number, text) in FAULTS {
+        assert!(rt; fault.number() == *number);
+        assert!(rt; printed(rt.alloc(), *fault)?.as_str() == *text);
     }
     Ok(())
 }
 
-#[test]
+// A byte, and two numbers.
 #[tactic(auto, unfolding(wenc_base::specs::Number::groups))]
-fn without_memory(rt: HostRuntime) -> Result<(), Fail> {
+fn short() -> Short {
     let mut short = Short::new();
     short.push(0x2a);
     short.unsigned(128);
     short.signed(-65);
-    assert_eq!(rt; short.as_slice(), [0x2a, 0x80, 0x01, 0xbf, 0x7f].as_slice());
+    short
+}
 
-    let mut sink = Vec::with_capacity(rt.alloc(), 8)?;
-    extend_in_room(&mut sink, short.as_slice());
-    assert_eq!(rt; sink.as_slice(), short.as_slice());
+fn extended(alloc: Global) -> Result<Vec<u8>, Fault> {
+    let mut sink = Vec::with_capacity(alloc, 8)?;
+    extend_in_room(&mut sink, &[0x2a, 0x80, 0x01, 0xbf, 0x7f]);
+    Ok(sink)
+}
+
+#[test]
+fn without_memory(rt: HostRuntime) -> Result<(), Fail> {
+    are(&rt, short().as_slice(), &[0x2a, 0x80, 0x01, 0xbf, 0x7f]);
+    let sink = extended(rt.alloc())?;
+    are(&rt, sink.as_slice(), &[0x2a, 0x80, 0x01, 0xbf, 0x7f]);
     Ok(())
+}
+
+fn append_section(section: &CustomSection, sink: &mut Vec<u8>) -> Result<(), Fault> {
+    section.append_to(sink)
 }
 
 // A section of a core module: its id, its size, its name, no data.
 #[test]
 fn core_section(rt: HostRuntime) -> Result<(), Fail> {
-    let mut sink = [0x99].to_vec(rt.alloc())?;
+    let mut sink = behind(rt.alloc(), &[])?;
     let section = CustomSection {
         name: "x",
         data: &[],
     };
-    section.append_to(&mut sink)?;
-    assert_eq!(rt; sink.as_slice(), [0x99, 0x00, 0x02, 0x01, 0x78].as_slice());
+    append_section(&section, &mut sink)?;
+    are(&rt, sink.as_slice(), &[0x99, 0x00, 0x02, 0x01, 0x78]);
     Ok(())
 }

@@ -1,105 +1,128 @@
-use crate::texts::texts;
-use hexed::text;
+use crate::texts::{text_is, texts};
+use std::alloc::{AllocError, Allocator};
 use std::test::Fail;
 use wenc_base::ExportKind;
 use wenc_parts::{Alias, AliasTree, ComponentExportKind, ComponentOuterAliasKind};
 
-#[test]
-fn outer_kinds(rt: HostRuntime) -> Result<(), Fail> {
-    let rows = [
-        (ComponentOuterAliasKind::CoreModule, "ee0011"),
-        (ComponentOuterAliasKind::CoreType, "ee0010"),
-        (ComponentOuterAliasKind::Type, "ee03"),
-        (ComponentOuterAliasKind::Component, "ee04"),
-    ];
-    texts(&rt, rt.alloc(), rows.as_slice())
-}
-
-fn of_export(instance: u32, kind: ComponentExportKind, name: &str) -> Alias<'_> {
-    Alias::InstanceExport {
-        instance,
-        kind,
-        name,
-    }
-}
+const OUTER_KINDS: &[(ComponentOuterAliasKind, &str)] = &[
+    (ComponentOuterAliasKind::CoreModule, "ee0011"),
+    (ComponentOuterAliasKind::CoreType, "ee0010"),
+    (ComponentOuterAliasKind::Type, "ee03"),
+    (ComponentOuterAliasKind::Component, "ee04"),
+];
 
 #[test]
-fn of_exports(rt: HostRuntime) -> Result<(), Fail> {
-    let rows = [
-        (of_export(0, ComponentExportKind::Func, "f"), "ee0100000166"),
-        (
-            of_export(5, ComponentExportKind::Module, "m"),
-            "ee00110005016d",
-        ),
-        (
-            of_export(128, ComponentExportKind::Value, ""),
-            "ee0200800100",
-        ),
-    ];
-    texts(&rt, rt.alloc(), rows.as_slice())
+fn outer_kinds(rt: HostRuntime) {
+    texts(&rt, rt.alloc(), OUTER_KINDS);
 }
 
-fn of_core_export(instance: u32, kind: ExportKind, name: &str) -> Alias<'_> {
-    Alias::CoreInstanceExport {
-        instance,
-        kind,
-        name,
-    }
-}
+const OF_EXPORTS: &[(Alias, &str)] = &[
+    (
+        Alias::InstanceExport {
+            instance: 0,
+            kind: ComponentExportKind::Func,
+            name: "f",
+        },
+        "ee0100000166",
+    ),
+    (
+        Alias::InstanceExport {
+            instance: 5,
+            kind: ComponentExportKind::Module,
+            name: "m",
+        },
+        "ee00110005016d",
+    ),
+    (
+        Alias::InstanceExport {
+            instance: 128,
+            kind: ComponentExportKind::Value,
+            name: "",
+        },
+        "ee0200800100",
+    ),
+];
+
+const OF_CORE_EXPORTS: &[(Alias, &str)] = &[
+    (
+        Alias::CoreInstanceExport {
+            instance: 0,
+            kind: ExportKind::Tag,
+            name: "t",
+        },
+        "ee000401000174",
+    ),
+    (
+        Alias::CoreInstanceExport {
+            instance: 0,
+            kind: ExportKind::Memory,
+            name: "m",
+        },
+        "ee00020100016d",
+    ),
+    (
+        Alias::CoreInstanceExport {
+            instance: 128,
+            kind: ExportKind::Func,
+            name: "",
+        },
+        "ee000001800100",
+    ),
+];
 
 #[test]
-fn of_core_exports(rt: HostRuntime) -> Result<(), Fail> {
-    let rows = [
-        (of_core_export(0, ExportKind::Tag, "t"), "ee000401000174"),
-        (of_core_export(0, ExportKind::Memory, "m"), "ee00020100016d"),
-        (of_core_export(128, ExportKind::Func, ""), "ee000001800100"),
-    ];
-    texts(&rt, rt.alloc(), rows.as_slice())
+fn of_exports(rt: HostRuntime) {
+    texts(&rt, rt.alloc(), OF_EXPORTS);
+    texts(&rt, rt.alloc(), OF_CORE_EXPORTS);
 }
 
-const OUTER: [(ComponentOuterAliasKind, u32, u32, &str); 4] = [
+const OUTER: &[(ComponentOuterAliasKind, u32, u32, &str)] = &[
     (ComponentOuterAliasKind::CoreType, 1, 2, "ee0010020102"),
     (ComponentOuterAliasKind::CoreModule, 0, 5, "ee0011020005"),
     (ComponentOuterAliasKind::Type, 0, 1, "ee03020001"),
     (ComponentOuterAliasKind::Component, 2, 128, "ee0402028001"),
 ];
 
-#[test]
-fn outer(rt: HostRuntime) -> Result<(), Fail> {
-    for (kind, count, index, wanted) in OUTER {
-        let alias = Alias::Outer { kind, count, index };
-        texts(&rt, rt.alloc(), &[(alias, wanted)])?;
-    }
-    Ok(())
+fn outer_alias(kind: ComponentOuterAliasKind, count: u32, index: u32) -> Alias<'static> {
+    Alias::Outer { kind, count, index }
+}
+
+fn outer_tree(kind: ComponentOuterAliasKind, count: u32, index: u32) -> AliasTree {
+    AliasTree::Outer { kind, count, index }
 }
 
 #[test]
-fn outer_trees(rt: HostRuntime) -> Result<(), Fail> {
+fn outer(rt: HostRuntime) {
     for (kind, count, index, wanted) in OUTER {
-        let tree: AliasTree = AliasTree::Outer { kind, count, index };
-        texts(&rt, rt.alloc(), &[(tree.as_alias(), wanted)])?;
+        let alias = outer_alias(*kind, *count, *index);
+        text_is(&rt, rt.alloc(), &alias, wanted);
+        let tree = outer_tree(*kind, *count, *index);
+        text_is(&rt, rt.alloc(), &tree.as_alias(), wanted);
     }
-    Ok(())
+}
+
+fn tree_of_export<A: Allocator>(alloc: A) -> Result<AliasTree<A>, AllocError> {
+    Ok(AliasTree::InstanceExport {
+        instance: 0,
+        kind: ComponentExportKind::Func,
+        name: String::from_str(alloc, "f")?,
+    })
+}
+
+fn tree_of_core_export<A: Allocator>(alloc: A) -> Result<AliasTree<A>, AllocError> {
+    Ok(AliasTree::CoreInstanceExport {
+        instance: 0,
+        kind: ExportKind::Tag,
+        name: String::from_str(alloc, "t")?,
+    })
 }
 
 #[test]
 fn trees_of_exports(rt: HostRuntime) -> Result<(), Fail> {
-    let tree = AliasTree::InstanceExport {
-        instance: 0,
-        kind: ComponentExportKind::Func,
-        name: String::from_str(rt.alloc(), "f")?,
-    };
-    texts(&rt, rt.alloc(), &[(tree.as_alias(), "ee0100000166")])
-}
-
-#[test]
-fn trees_of_core_exports(rt: HostRuntime) -> Result<(), Fail> {
     let alloc = rt.alloc();
-    let tree = AliasTree::CoreInstanceExport {
-        instance: 0,
-        kind: ExportKind::Tag,
-        name: String::from_str(&alloc, "t")?,
-    };
-    assert_eq!(rt; text(alloc, &tree.as_alias())?.as_str(), "ee000401000174");
+    let tree = tree_of_export(alloc)?;
+    text_is(&rt, alloc, &tree.as_alias(), "ee0100000166");
+    let core_tree = tree_of_core_export(&alloc)?;
+    text_is(&rt, alloc, &core_tree.as_alias(), "ee000401000174");
     Ok(())
 }

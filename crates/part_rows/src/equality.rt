@@ -5,11 +5,10 @@ use wenc_parts::{
     TypeBounds,
 };
 
-/// Values at the same place are equal, and others aren't.
-fn tells_apart<T: Eq>(rt: &impl Abort, values: &[T], others: &[T]) {
-    assert_eq!(rt; values.len(), others.len());
+/// Each of these values equals itself alone.
+fn tells_apart<T: Eq>(rt: &impl Abort, values: &[T]) {
     for (i, value) in values.iter().enumerate() {
-        for (j, other) in others.iter().enumerate() {
+        for (j, other) in values.iter().enumerate() {
             assert!(rt; (value == other) == (i == j), "{i} and {j}");
         }
     }
@@ -21,132 +20,105 @@ fn hash_of<T: Hash>(value: &T) -> u64 {
     state.finish()
 }
 
+fn hash_agrees<T: Hash>(value: &T, other: &T) -> bool {
+    value != other || hash_of(value) == hash_of(other)
+}
+
 /// The same, and equal values have equal hashes.
-fn hashes_agree<T: Hash>(rt: &impl Abort, values: &[T], others: &[T]) {
-    tells_apart(rt, values, others);
+fn hashes_agree<T: Hash>(rt: &impl Abort, values: &[T]) {
+    tells_apart(rt, values);
     for (i, value) in values.iter().enumerate() {
-        for other in others {
-            assert!(rt;
-                value != other || hash_of(value) == hash_of(other),
-                "at {i}"
-            );
+        for other in values {
+            assert!(rt; hash_agrees(value, other), "at {i}");
         }
     }
 }
 
-fn each_bound() -> [TypeBounds; 4] {
-    [
-        TypeBounds::Eq(0),
-        TypeBounds::Eq(3),
-        TypeBounds::Eq(4294967295),
-        TypeBounds::SubResource,
-    ]
-}
+const BOUNDS: &[TypeBounds] = &[
+    TypeBounds::Eq(0),
+    TypeBounds::Eq(3),
+    TypeBounds::Eq(4294967295),
+    TypeBounds::SubResource,
+];
 
-fn each_reference() -> [ComponentTypeRef; 10] {
-    [
-        ComponentTypeRef::Func(1),
-        ComponentTypeRef::Func(2),
-        ComponentTypeRef::Instance(1),
-        ComponentTypeRef::Module(1),
-        ComponentTypeRef::Component(1),
-        ComponentTypeRef::Value(ComponentValType::Type(1)),
-        ComponentTypeRef::Value(ComponentValType::Primitive(PrimitiveValType::U8)),
-        ComponentTypeRef::Type(TypeBounds::Eq(1)),
-        ComponentTypeRef::Type(TypeBounds::Eq(3)),
-        ComponentTypeRef::Type(TypeBounds::SubResource),
-    ]
-}
+const REFERENCES: &[ComponentTypeRef] = &[
+    ComponentTypeRef::Func(1),
+    ComponentTypeRef::Func(2),
+    ComponentTypeRef::Instance(1),
+    ComponentTypeRef::Module(1),
+    ComponentTypeRef::Component(1),
+    ComponentTypeRef::Value(ComponentValType::Type(1)),
+    ComponentTypeRef::Value(ComponentValType::Primitive(PrimitiveValType::U8)),
+    ComponentTypeRef::Type(TypeBounds::Eq(1)),
+    ComponentTypeRef::Type(TypeBounds::Eq(3)),
+    ComponentTypeRef::Type(TypeBounds::SubResource),
+];
 
-fn each_primitive() -> [PrimitiveValType; 14] {
-    [
-        PrimitiveValType::Bool,
-        PrimitiveValType::S8,
-        PrimitiveValType::U8,
-        PrimitiveValType::S16,
-        PrimitiveValType::U16,
-        PrimitiveValType::S32,
-        PrimitiveValType::U32,
-        PrimitiveValType::S64,
-        PrimitiveValType::U64,
-        PrimitiveValType::F32,
-        PrimitiveValType::F64,
-        PrimitiveValType::Char,
-        PrimitiveValType::String,
-        PrimitiveValType::ErrorContext,
-    ]
-}
+const PRIMITIVES: &[PrimitiveValType] = &[
+    PrimitiveValType::Bool,
+    PrimitiveValType::S8,
+    PrimitiveValType::U8,
+    PrimitiveValType::S16,
+    PrimitiveValType::U16,
+    PrimitiveValType::S32,
+    PrimitiveValType::U32,
+    PrimitiveValType::S64,
+    PrimitiveValType::U64,
+    PrimitiveValType::F32,
+    PrimitiveValType::F64,
+    PrimitiveValType::Char,
+    PrimitiveValType::String,
+    PrimitiveValType::ErrorContext,
+];
 
-fn each_value_type() -> [ComponentValType; 5] {
-    [
-        ComponentValType::Primitive(PrimitiveValType::Bool),
-        ComponentValType::Primitive(PrimitiveValType::String),
-        ComponentValType::Type(0),
-        ComponentValType::Type(64),
-        ComponentValType::Type(4294967295),
-    ]
-}
+const VALUE_TYPES: &[ComponentValType] = &[
+    ComponentValType::Primitive(PrimitiveValType::Bool),
+    ComponentValType::Primitive(PrimitiveValType::String),
+    ComponentValType::Type(0),
+    ComponentValType::Type(64),
+    ComponentValType::Type(4294967295),
+];
 
 #[test]
 fn bounds(rt: HostRuntime) {
-    hashes_agree(&rt, each_bound().as_slice(), each_bound().as_slice());
+    hashes_agree(&rt, BOUNDS);
 }
 
 #[test]
 fn references(rt: HostRuntime) {
-    hashes_agree(
-        &rt,
-        each_reference().as_slice(),
-        each_reference().as_slice(),
-    );
+    hashes_agree(&rt, REFERENCES);
 }
 
 #[test]
 fn primitive_types(rt: HostRuntime) {
-    hashes_agree(
-        &rt,
-        each_primitive().as_slice(),
-        each_primitive().as_slice(),
-    );
+    hashes_agree(&rt, PRIMITIVES);
 }
 
 #[test]
 fn value_types(rt: HostRuntime) {
-    hashes_agree(
-        &rt,
-        each_value_type().as_slice(),
-        each_value_type().as_slice(),
-    );
+    hashes_agree(&rt, VALUE_TYPES);
 }
 
-fn each_argument() -> [ModuleArg; 4] {
-    [
-        ModuleArg::Instance(0),
-        ModuleArg::Instance(1),
-        ModuleArg::Instance(128),
-        ModuleArg::Instance(4294967295),
-    ]
-}
+const ARGUMENTS: &[ModuleArg] = &[
+    ModuleArg::Instance(0),
+    ModuleArg::Instance(1),
+    ModuleArg::Instance(128),
+    ModuleArg::Instance(4294967295),
+];
 
 #[test]
 fn module_arguments(rt: HostRuntime) {
-    tells_apart(&rt, each_argument().as_slice(), each_argument().as_slice());
+    tells_apart(&rt, ARGUMENTS);
 }
 
-fn each_outer_kind() -> [ComponentOuterAliasKind; 4] {
-    [
-        ComponentOuterAliasKind::CoreModule,
-        ComponentOuterAliasKind::CoreType,
-        ComponentOuterAliasKind::Type,
-        ComponentOuterAliasKind::Component,
-    ]
-}
+const OUTER_KINDS: &[ComponentOuterAliasKind] = &[
+    ComponentOuterAliasKind::CoreModule,
+    ComponentOuterAliasKind::CoreType,
+    ComponentOuterAliasKind::Type,
+    ComponentOuterAliasKind::Component,
+];
 
 #[test]
 fn outer_kinds(rt: HostRuntime) {
-    tells_apart(
-        &rt,
-        each_outer_kind().as_slice(),
-        each_outer_kind().as_slice(),
-    );
+    tells_apart(&rt, OUTER_KINDS);
 }

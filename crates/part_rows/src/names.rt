@@ -1,8 +1,10 @@
-use crate::texts::texts;
+use crate::texts::{is, text_is};
 use hexed::text;
 use std::alloc::{AllocError, Allocator, Global};
 use std::borrow::CowStr;
+use std::process::Abort;
 use std::test::Fail;
+use wenc_base::Fault;
 use wenc_parts::{ComponentExternName, NameTree};
 
 /// The name of the interface, what follows the version, and the name elsewhere.
@@ -11,7 +13,7 @@ type Options<'a> = (Option<&'a str>, Option<&'a str>, Option<&'a str>);
 /// A name, its options, and its text.
 type Row<'a> = (&'a str, Options<'a>, &'a str);
 
-const ROWS: [Row<'static>; 8] = [
+const ROWS: &[Row<'static>] = &[
     ("", (None, None, None), "ee0000"),
     ("f", (None, None, None), "ee000166"),
     ("a", (Some("i"), None, Some("")), "ee020161020001690200"),
@@ -44,11 +46,10 @@ fn lent<'a>(name: &'a str, options: Options<'a>) -> ComponentExternName<'a> {
 }
 
 #[test]
-fn lent_names(rt: HostRuntime) -> Result<(), Fail> {
+fn lent_names(rt: HostRuntime) {
     for (name, options, wanted) in ROWS {
-        texts(&rt, rt.alloc(), &[(lent(name, options), wanted)])?;
+        text_is(&rt, rt.alloc(), &lent(name, *options), wanted);
     }
-    Ok(())
 }
 
 fn string<A: Allocator>(alloc: A, text: Option<&str>) -> Result<Option<String<A>>, AllocError> {
@@ -71,14 +72,10 @@ fn tree<A: Allocator + Copy>(
     })
 }
 
-#[test]
-fn trees(rt: HostRuntime) -> Result<(), Fail> {
-    let alloc = rt.alloc();
-    for (name, options, wanted) in ROWS {
-        let tree = tree(&alloc, name, options)?;
-        assert_eq!(rt; text(alloc, &tree.as_name())?.as_str(), wanted);
-    }
-    Ok(())
+// In an allocator that isn't the sink's.
+fn tree_text(alloc: Global, name: &str, options: Options<'_>) -> Result<String, Fault> {
+    let tree = tree(&alloc, name, options)?;
+    text(alloc, &tree.as_name())
 }
 
 fn owned<'a>(text: Option<String>) -> Option<CowStr<'a>> {
@@ -97,46 +94,46 @@ fn kept<'a>(tree: NameTree) -> ComponentExternName<'a> {
     }
 }
 
+fn kept_text(alloc: Global, name: &str, options: Options<'_>) -> Result<String, Fault> {
+    text(alloc, &kept(tree(alloc, name, options)?))
+}
+
 #[test]
-fn kept_names(rt: HostRuntime) -> Result<(), Fail> {
+fn trees(rt: HostRuntime) {
     for (name, options, wanted) in ROWS {
-        let name = kept(tree(rt.alloc(), name, options)?);
-        texts(&rt, rt.alloc(), &[(name, wanted)])?;
+        is(&rt, tree_text(rt.alloc(), name, *options), wanted);
     }
+}
+
+#[test]
+fn kept_names(rt: HostRuntime) {
+    for (name, options, wanted) in ROWS {
+        is(&rt, kept_text(rt.alloc(), name, *options), wanted);
+    }
+}
+
+/// No option is there, and it is written as the name alone.
+fn check_plain(rt: &impl Abort, alloc: Global, name: &ComponentExternName) {
+    assert!(rt; name.implements.is_none());
+    assert!(rt; name.version_suffix.is_none());
+    assert!(rt; name.external_id.is_none());
+    text_is(rt, alloc, name, "ee000166");
+}
+
+fn plain_tree(alloc: Global) -> Result<NameTree, AllocError> {
+    Ok(NameTree::from(String::from_str(alloc, "f")?))
+}
+
+#[test]
+fn made_of_text(rt: HostRuntime) -> Result<(), Fail> {
+    let alloc = rt.alloc();
+    check_plain(&rt, alloc, &ComponentExternName::from("f"));
+    let string = String::from_str(alloc, "f")?;
+    check_plain(&rt, alloc, &ComponentExternName::from(&string));
+    check_plain(&rt, alloc, &ComponentExternName::from(string));
+    let tree = plain_tree(alloc)?;
+    check_plain(&rt, alloc, &tree.as_name());
     Ok(())
-}
-
-fn has_no_option(name: &ComponentExternName) -> bool {
-    name.implements.is_none() && name.version_suffix.is_none() && name.external_id.is_none()
-}
-
-#[test]
-fn made_of_borrowed_text(rt: HostRuntime) -> Result<(), Fail> {
-    let name = ComponentExternName::from("f");
-    assert!(rt; has_no_option(&name));
-    texts(&rt, rt.alloc(), &[(name, "ee000166")])
-}
-
-#[test]
-fn made_of_lent_text(rt: HostRuntime) -> Result<(), Fail> {
-    let string = String::from_str(rt.alloc(), "f")?;
-    let name = ComponentExternName::from(&string);
-    assert!(rt; has_no_option(&name));
-    texts(&rt, rt.alloc(), &[(name, "ee000166")])
-}
-
-#[test]
-fn made_of_owned_text(rt: HostRuntime) -> Result<(), Fail> {
-    let name = ComponentExternName::from(String::from_str(rt.alloc(), "f")?);
-    assert!(rt; has_no_option(&name));
-    texts(&rt, rt.alloc(), &[(name, "ee000166")])
-}
-
-#[test]
-fn trees_made_of_text(rt: HostRuntime) -> Result<(), Fail> {
-    let tree = NameTree::from(String::from_str(rt.alloc(), "f")?);
-    assert!(rt; has_no_option(&tree.as_name()));
-    texts(&rt, rt.alloc(), &[(tree.as_name(), "ee000166")])
 }
 
 fn with_two_options<'a>(alloc: Global) -> Result<ComponentExternName<'a>, AllocError> {
@@ -148,21 +145,25 @@ fn with_two_options<'a>(alloc: Global) -> Result<ComponentExternName<'a>, AllocE
     })
 }
 
-#[test]
-fn cloned(rt: HostRuntime) -> Result<(), Fail> {
-    let name = with_two_options(rt.alloc())?;
-    let other = name.clone()?;
-    assert_eq!(rt; other.name.as_str(), "a");
-    assert!(rt; other.implements == name.implements);
-    assert!(rt; other.version_suffix.is_none());
-    assert!(rt; other.external_id == name.external_id);
-    Ok(())
+fn copy<'a>(name: &ComponentExternName<'a>) -> Result<ComponentExternName<'a>, Fault> {
+    name.clone()
+}
+
+fn are_same(one: &ComponentExternName, other: &ComponentExternName) -> bool {
+    one.name.as_str() == other.name.as_str()
+        && one.implements == other.implements
+        && one.version_suffix == other.version_suffix
+        && one.external_id == other.external_id
 }
 
 #[test]
-fn dropping_one_leaves_the_other(rt: HostRuntime) -> Result<(), Fail> {
+fn cloned(rt: HostRuntime) -> Result<(), Fail> {
     let name = with_two_options(rt.alloc())?;
-    let other = name.clone()?;
+    let other = copy(&name)?;
+    assert!(rt; other.name.as_str() == "a");
+    assert!(rt; other.version_suffix.is_none());
+    assert!(rt; are_same(&other, &name));
     drop(name);
-    texts(&rt, rt.alloc(), &[(other, "ee020161020001690200")])
+    text_is(&rt, rt.alloc(), &other, "ee020161020001690200");
+    Ok(())
 }

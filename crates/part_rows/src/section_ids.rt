@@ -1,13 +1,13 @@
 ghost use Rattle.std.specs.Prelude.{◌∷◌, []};
 
 use crate::texts::texts;
-use std::alloc::Allocator;
+use std::alloc::{Allocator, Global};
 use std::test::Fail;
 use wenc_base::{Encode, Fault};
 use wenc_parts::{ComponentSection, ComponentSectionId};
 
 /// Each id stands at its number.
-const IDS: [(ComponentSectionId, &str); 12] = [
+const IDS: &[(ComponentSectionId, &str)] = &[
     (ComponentSectionId::CoreCustom, "ee00"),
     (ComponentSectionId::CoreModule, "ee01"),
     (ComponentSectionId::CoreInstance, "ee02"),
@@ -23,24 +23,27 @@ const IDS: [(ComponentSectionId, &str); 12] = [
 ];
 
 #[test]
-fn ids(rt: HostRuntime) -> Result<(), Fail> {
-    texts(&rt, rt.alloc(), IDS.as_slice())
+fn ids(rt: HostRuntime) {
+    texts(&rt, rt.alloc(), IDS);
 }
 
 #[test]
 fn numbers(rt: HostRuntime) {
     for (i, (id, _)) in IDS.iter().enumerate() {
-        assert_eq!(rt; usize::from(u8::from(*id)), i);
+        assert!(rt; usize::from(u8::from(*id)) == i, "{i}");
     }
+}
+
+/// All comparisons go by these places.
+fn are_ordered(one: ComponentSectionId, i: usize, other: ComponentSectionId, j: usize) -> bool {
+    one.cmp(&other) == i.cmp(&j) && (one < other) == (i < j) && (one == other) == (i == j)
 }
 
 #[test]
 fn ordered_by_number(rt: HostRuntime) {
     for (i, (one, _)) in IDS.iter().enumerate() {
         for (j, (other, _)) in IDS.iter().enumerate() {
-            assert!(rt; one.cmp(other) == i.cmp(&j), "{i} and {j}");
-            assert!(rt; (one < other) == (i < j), "{i} and {j}");
-            assert!(rt; (one == other) == (i == j), "{i} and {j}");
+            assert!(rt; are_ordered(*one, i, *other, j), "{i} and {j}");
         }
     }
 }
@@ -67,11 +70,15 @@ impl ComponentSection for Own {
     }
 }
 
-#[test]
-fn own_section(rt: HostRuntime) -> Result<(), Fail> {
-    let mut sink = [0xee].to_vec(rt.alloc())?;
+fn own_section(alloc: Global) -> Result<String, Fault> {
+    let mut sink = [0xee].to_vec(alloc)?;
     Own.append_to_component(&mut sink)?;
-    let bytes = hex::encode(rt.alloc(), sink.as_slice())?;
-    assert_eq!(rt; bytes.as_str(), "ee632a");
+    Ok(hex::encode(alloc, sink.as_slice())?)
+}
+
+#[test]
+fn section_of_ones_own(rt: HostRuntime) -> Result<(), Fail> {
+    let bytes = own_section(rt.alloc())?;
+    assert!(rt; bytes.as_str() == "ee632a");
     Ok(())
 }

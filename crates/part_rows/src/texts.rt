@@ -1,13 +1,24 @@
 use hexed::text;
 use std::alloc::Global;
 use std::process::Abort;
-use std::test::Fail;
-use wenc_base::Encode;
+use wenc_base::{Encode, Fault};
+
+/// A text was made, and is this one.
+pub fn is(rt: &impl Abort, given: Result<String, Fault>, wanted: &str) {
+    match given {
+        Ok(given) => assert_eq!(rt; given.as_str(), wanted),
+        Err(_) => assert!(rt; false, "no memory"),
+    }
+}
+
+/// The value appends this.
+pub fn text_is<T: Encode>(rt: &impl Abort, alloc: Global, value: &T, wanted: &str) {
+    is(rt, text(alloc, value), wanted);
+}
 
 /// Each value appends what stands beside it.
-pub fn texts<T: Encode>(rt: &impl Abort, alloc: Global, rows: &[(T, &str)]) -> Result<(), Fail> {
-    for (i, (value, wanted)) in rows.iter().enumerate() {
-        assert_eq!(rt; text(alloc, value)?.as_str(), *wanted, "at {i}");
+pub fn texts<T: Encode>(rt: &impl Abort, alloc: Global, rows: &[(T, &str)]) {
+    for (value, wanted) in rows {
+        text_is(rt, alloc, value, wanted);
     }
-    Ok(())
 }

@@ -1,8 +1,7 @@
-use crate::texts::texts;
-use std::test::Fail;
+use crate::texts::{text_is, texts};
 use wenc_parts::{ComponentValType, PrimitiveValType, ResultList};
 
-const PRIMITIVES: [(PrimitiveValType, &str); 14] = [
+const PRIMITIVES: &[(PrimitiveValType, &str)] = &[
     (PrimitiveValType::Bool, "ee7f"),
     (PrimitiveValType::S8, "ee7e"),
     (PrimitiveValType::U8, "ee7d"),
@@ -20,36 +19,38 @@ const PRIMITIVES: [(PrimitiveValType, &str); 14] = [
 ];
 
 #[test]
-fn primitive_types(rt: HostRuntime) -> Result<(), Fail> {
-    texts(&rt, rt.alloc(), PRIMITIVES.as_slice())
+fn primitive_types(rt: HostRuntime) {
+    texts(&rt, rt.alloc(), PRIMITIVES);
 }
 
 #[test]
-fn primitive_value_types(rt: HostRuntime) -> Result<(), Fail> {
+fn primitive_value_types(rt: HostRuntime) {
     for (ty, wanted) in PRIMITIVES {
-        texts(&rt, rt.alloc(), &[(ComponentValType::from(ty), wanted)])?;
+        text_is(&rt, rt.alloc(), &ComponentValType::from(*ty), wanted);
     }
-    Ok(())
 }
 
-#[test]
-fn type_indices_are_signed(rt: HostRuntime) -> Result<(), Fail> {
-    let rows = [
-        (ComponentValType::Type(0), "ee00"),
-        (ComponentValType::Type(63), "ee3f"),
-        (ComponentValType::Type(64), "eec000"),
-        (ComponentValType::Type(4294967295), "eeffffffff0f"),
-    ];
-    texts(&rt, rt.alloc(), rows.as_slice())
-}
+const INDICES: &[(ComponentValType, &str)] = &[
+    (ComponentValType::Type(0), "ee00"),
+    (ComponentValType::Type(63), "ee3f"),
+    (ComponentValType::Type(64), "eec000"),
+    (ComponentValType::Type(4294967295), "eeffffffff0f"),
+];
 
 #[test]
-fn results(rt: HostRuntime) -> Result<(), Fail> {
-    let string = ComponentValType::Primitive(PrimitiveValType::String);
-    let rows = [
-        (ResultList(None), "ee0100"),
-        (ResultList(Some(string)), "ee0073"),
-        (ResultList(Some(ComponentValType::Type(64))), "ee00c000"),
-    ];
-    texts(&rt, rt.alloc(), rows.as_slice())
+fn type_indices_are_signed(rt: HostRuntime) {
+    texts(&rt, rt.alloc(), INDICES);
+}
+
+const STRING: ComponentValType = ComponentValType::Primitive(PrimitiveValType::String);
+
+const RESULTS: &[(ResultList, &str)] = &[
+    (ResultList(None), "ee0100"),
+    (ResultList(Some(STRING)), "ee0073"),
+    (ResultList(Some(ComponentValType::Type(64))), "ee00c000"),
+];
+
+#[test]
+fn results(rt: HostRuntime) {
+    texts(&rt, rt.alloc(), RESULTS);
 }

@@ -1,7 +1,7 @@
 ghost use Rattle.std.specs.Prelude.{◌≡◌, ℕ, ◌+◌, ◌<◌, ◌≤◌, ◌++◌, ◌∷◌, [], List, length, vec_len, vec_capacity};
 ghost use Rattle.wenc_base.specs.Encode.{Appends};
 ghost use Rattle.wenc_base.specs.Fault.{text_cause};
-ghost use Rattle.wenc_base.specs.Number.{unsigned_text};
+ghost use Rattle.wenc_base.specs.Number.{number_size, unsigned_text};
 ghost use Rattle.wenc_base.specs.declared.fault.Fault.{Fault as FaultSpec};
 
 mod front;
@@ -9,6 +9,7 @@ mod lists;
 mod sized;
 
 use crate::fault::Fault;
+use crate::number::encoding_size;
 use crate::short::Short;
 pub use lists::encode_list;
 pub use sized::WithSize;
@@ -69,12 +70,8 @@ impl Encode for u32 {
 
     ghost cause = { λ _ _. ⊥ };
 
-    #[tactic(auto, using(crate::proofs::Groups::groups_length))]
     fn encode<A: Allocator>(&self, sink: &mut Vec<u8, A>) -> Result<(), Fault> {
-        let mut text = Short::new();
-        text.unsigned(u64::from(*self));
-        sink.extend_from_slice(text.as_slice())?;
-        Ok(())
+        encode_number(u64::from(*self), sink)
     }
 }
 
@@ -85,12 +82,8 @@ impl Encode for u64 {
 
     ghost cause = { λ _ _. ⊥ };
 
-    #[tactic(auto, using(crate::proofs::Groups::groups_length))]
     fn encode<A: Allocator>(&self, sink: &mut Vec<u8, A>) -> Result<(), Fault> {
-        let mut text = Short::new();
-        text.unsigned(*self);
-        sink.extend_from_slice(text.as_slice())?;
-        Ok(())
+        encode_number(*self, sink)
     }
 }
 
@@ -167,7 +160,6 @@ impl Encode for &[u8] {
 }
 
 /// Appends the number of bytes, and the bytes, in one growth.
-#[tactic(auto, using(crate::proofs::Groups::groups_length))]
 fn encode_bytes<A: Allocator>(bytes: &[u8], sink: &mut Vec<u8, A>) -> Result<(), Fault>
     ensures { Appends (unsigned_text (length bytes.now) ++ bytes.now) (text_cause bytes.now) ⊥
         sink.old.items sink.new.items result }
@@ -175,16 +167,58 @@ fn encode_bytes<A: Allocator>(bytes: &[u8], sink: &mut Vec<u8, A>) -> Result<(),
     let Ok(len) = u32::try_from(bytes.len()) else {
         return Err(Fault::TooLarge);
     };
-    let mut lead = Short::new();
-    lead.unsigned(u64::from(len));
-    let lead = lead.as_slice();
-    sink.try_reserve(lead.len() + bytes.len())?;
-    extend_in_room(sink, lead);
+    sink.try_reserve(encoding_size(len) + bytes.len())?;
+    number_in_room(len, sink);
     extend_in_room(sink, bytes);
     Ok(())
 }
 
+/// Appends the text of a number. Most have one byte, which needs no room of its own.
+#[tactic(auto, using(crate::proofs::Groups::groups_length, crate::proofs::Groups::groups_below))]
+fn encode_number<A: Allocator>(n: u64, sink: &mut Vec<u8, A>) -> Result<(), Fault>
+    ensures { Appends (unsigned_text n) (λ _. ⊥) ⊥ sink.old.items sink.new.items result }
+{
+    if n < 128 {
+        sink.push(n as u8)?;
+        return Ok(());
+    }
+    let mut text = Short::new();
+    text.unsigned(n);
+    sink.extend_from_slice(text.as_slice())?;
+    Ok(())
+}
+
+/// The same where there is room, which takes no memory.
+#[tactic(auto, using(crate::proofs::Groups::size_of_u32, crate::proofs::Groups::groups_below))]
+#[inline]
+pub(crate) fn number_in_room<A: Allocator>(n: u32, sink: &mut Vec<u8, A>)
+    requires { vec_len sink.old + number_size n ≤ vec_capacity sink.old }
+    ensures items { sink.new.items ≡ sink.old.items ++ unsigned_text n }
+    ensures len { vec_len sink.new ≡ vec_len sink.old + number_size n }
+    ensures capacity { vec_capacity sink.old ≤ vec_capacity sink.new }
+{
+    if n < 128 {
+        push_in_room(sink, n as u8);
+        return;
+    }
+    let mut text = Short::new();
+    text.unsigned(u64::from(n));
+    extend_in_room(sink, text.as_slice());
+}
+
+/// Appends a byte where there is room, which takes no memory.
+#[inline]
+fn push_in_room<A: Allocator>(sink: &mut Vec<u8, A>, byte: u8)
+    requires { vec_len sink.old < vec_capacity sink.old }
+    ensures items { sink.new.items ≡ sink.old.items ++ byte ∷ [] }
+    ensures len { vec_len sink.new ≡ vec_len sink.old + 1 }
+    ensures capacity { vec_capacity sink.old ≤ vec_capacity sink.new }
+{
+    let _ = sink.push(byte);
+}
+
 /// Appends where there is room, which takes no memory.
+#[inline]
 pub fn extend_in_room<A: Allocator>(sink: &mut Vec<u8, A>, bytes: &[u8])
     requires { vec_len sink.old + length bytes.now ≤ vec_capacity sink.old }
     ensures items { sink.new.items ≡ sink.old.items ++ bytes.now }
@@ -211,7 +245,7 @@ impl<'a, T: Encode> Encode for Tagged<'a, T> {
         let start = sink.len();
         let is_full = start == sink.capacity();
         if !is_full {
-            extend_in_room(sink, &[self.0]);
+            push_in_room(sink, self.0);
         }
         let mut outcome = self.1.encode(sink);
         if is_full && outcome.is_ok() {

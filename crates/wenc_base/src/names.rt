@@ -3,11 +3,10 @@ ghost use Rattle.wenc_base.specs.Fault.{IsMemory, text_cause};
 ghost use Rattle.wenc_base.specs.Holder.{no_members, holding, held_text, cut_to, AddsMember};
 ghost use Rattle.wenc_base.specs.Names.{Named, named_text};
 
-use crate::encode::{Encode, Verbatim, extend_in_room};
+use crate::encode::{Encode, Verbatim, extend_in_room, number_in_room};
 use crate::fault::Fault;
 use crate::holder::next_count;
 use crate::number::encoding_size;
-use crate::short::Short;
 use std::alloc::{Allocator, Global};
 use std::marker::Model;
 
@@ -60,14 +59,11 @@ impl<A: Allocator> NameMap<A> {
         let Ok(len) = u32::try_from(name.len()) else {
             return Err(Fault::TooLarge);
         };
-        let mut lead = Short::new();
-        lead.unsigned(u64::from(idx));
-        lead.unsigned(u64::from(len));
-        let lead = lead.as_slice();
-        let more = lead.len() + name.len();
+        let more = encoding_size(idx) + encoding_size(len) + name.len();
         let count = next_count(self.count, body + more)?;
         self.names.try_reserve(more)?;
-        extend_in_room(&mut self.names, lead);
+        number_in_room(idx, &mut self.names);
+        number_in_room(len, &mut self.names);
         extend_in_room(&mut self.names, name.as_bytes());
         self.count = count;
         Ok(())

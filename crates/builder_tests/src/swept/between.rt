@@ -1,0 +1,330 @@
+//! Each call of the builder stands between two aliases, which share a section where the call is refused.
+
+use refusing::Refusing;
+use std::alloc::{AllocError, Allocator, Global};
+use std::process::Abort;
+use std::test::Fail;
+use sweeping::{LARGE, REFUSED};
+use wasm_encoder::{
+    Alias, ComponentBuilder, ComponentExportKind, ComponentOuterAliasKind, ComponentTypeRef,
+    ExportKind, Fault,
+};
+
+/// It has more bytes than there is room for without a growth.
+pub const NAME: &str = "an-interface-with-a-long-name";
+
+/// A call that adds an item. What it is given is made with `alloc`, which refuses nothing.
+pub trait Call: Copy {
+    fn make(self, alloc: Global, builder: &mut ComponentBuilder<&Refusing>) -> Result<u32, Fault>;
+}
+
+/// The alias in front of a call.
+const FUNCTION: Alias<'static> = Alias::InstanceExport {
+    instance: 0,
+    kind: ComponentExportKind::Func,
+    name: "f",
+};
+
+/// The alias behind it.
+const TYPE: Alias<'static> = Alias::Outer {
+    kind: ComponentOuterAliasKind::Type,
+    count: 0,
+    index: 1,
+};
+
+/// A section of the alias behind.
+const BEHIND: &[u8] = b"\x06\x05\x01\x03\x02\x00\x01";
+
+/// How often there is an alias in front of a call.
+#[derive(Clone, Copy)]
+pub struct Start {
+    aliases: u32,
+    /// The component that has these alone.
+    bytes: &'static [u8],
+    /// The component that has these and the alias behind.
+    without: &'static [u8],
+}
+
+pub const ONE: Start = Start {
+    aliases: 1,
+    bytes: b"\x00asm\x0d\x00\x01\x00\x06\x06\x01\x01\x00\x00\x01\x66",
+    without: b"\x00asm\x0d\x00\x01\x00\x06\x0a\x02\x01\x00\x00\x01\x66\x03\x02\x00\x01",
+};
+
+/// A section behind these has to grow before its first item.
+pub const TWO: Start = Start {
+    aliases: 2,
+    bytes: b"\x00asm\x0d\x00\x01\x00\x06\x0b\x02\x01\x00\x00\x01\x66\x01\x00\x00\x01\x66",
+    without: b"\x00asm\x0d\x00\x01\x00\x06\x0f\x03\x01\x00\x00\x01\x66\x01\x00\x00\x01\x66\x03\x02\x00\x01",
+};
+
+/// A call, its answer, and the component in which it is accepted.
+#[derive(Clone, Copy)]
+struct Case<'a, C> {
+    start: Start,
+    call: C,
+    answer: u32,
+    with: &'a [u8],
+}
+
+fn alias(builder: &mut ComponentBuilder<&Refusing>, alias: Alias<'_>) -> Result<u32, Fault> {
+    builder.alias(None, alias)
+}
+
+/// A builder that has so many aliases.
+pub fn started(heap: &Refusing, aliases: u32) -> Result<ComponentBuilder<&Refusing>, Fault> {
+    heap.refuse_none();
+    let mut builder = ComponentBuilder::new(heap)?;
+    for _ in 0..aliases {
+        alias(&mut builder, FUNCTION)?;
+    }
+    Ok(builder)
+}
+
+fn counts(builder: &ComponentBuilder<&Refusing>) -> [u32; 13] {
+    [
+        builder.core_module_count(),
+        builder.core_func_count(),
+        builder.core_type_count(),
+        builder.core_memory_count(),
+        builder.core_table_count(),
+        builder.core_instance_count(),
+        builder.core_tag_count(),
+        builder.core_global_count(),
+        builder.func_count(),
+        builder.instance_count(),
+        builder.value_count(),
+        builder.component_count(),
+        builder.type_count(),
+    ]
+}
+
+/// The component has these bytes.
+pub fn finishes<A: Allocator>(
+    rt: &impl Abort,
+    builder: ComponentBuilder<A>,
+    wanted: &[u8],
+) -> Result<(), Fault> {
+    let bytes = builder.finish()?;
+    assert_eq!(rt; bytes.as_slice(), wanted);
+    Ok(())
+}
+
+/// Where growth number `n` of a call is refused, it leaves nothing behind. Whether there is such a growth.
+fn refuse<C: Call>(
+    rt: &impl Abort,
+    alloc: Global,
+    heap: &Refusing,
+    case: &Case<'_, C>,
+    n: u64,
+) -> Result<bool, Fault> {
+    let aliases = case.start.aliases;
+    let mut builder = started(heap, aliases)?;
+    heap.refuse_nth(n);
+    let outcome = case.call.make(alloc, &mut builder);
+    if !heap.was_refused() {
+        return Ok(false);
+    }
+    assert!(rt; outcome == Err(REFUSED));
+    assert!(rt; heap.requests() == n);
+    heap.refuse_none();
+    assert!(rt; alias(&mut builder, TYPE) == Ok(0));
+    assert!(rt; counts(&builder) == [0, 0, 0, 0, 0, 0, 0, 0, aliases, 0, 0, 0, 1]);
+    finishes(rt, builder, case.start.without)?;
+    Ok(true)
+}
+
+/// The call is accepted, once more where its growth number `n` is refused.
+fn accept<C: Call>(
+    rt: &impl Abort,
+    alloc: Global,
+    heap: &Refusing,
+    case: &Case<'_, C>,
+    n: u64,
+) -> Result<(), Fault> {
+    let mut builder = started(heap, case.start.aliases)?;
+    heap.refuse_nth(n);
+    let mut outcome = case.call.make(alloc, &mut builder);
+    let was_refused = heap.was_refused();
+    heap.refuse_none();
+    if was_refused {
+        outcome = case.call.make(alloc, &mut builder);
+    }
+    assert!(rt; outcome == Ok(case.answer));
+    alias(&mut builder, TYPE)?;
+    finishes(rt, builder, case.with)
+}
+
+/// Has the growths of a call refused in turn, of which there is at least one.
+fn sweep<C: Call>(rt: &impl Abort, alloc: Global, case: &Case<'_, C>) -> Result<bool, Fault> {
+    let heap = Refusing::new(alloc);
+    for n in 1..20u64 {
+        accept(rt, alloc, &heap, case, n)?;
+        if !refuse(rt, alloc, &heap, case, n)? {
+            return Ok(n > 1);
+        }
+    }
+    Ok(false)
+}
+
+/// The component where a call adds this section.
+fn apart(alloc: Global, start: Start, section: &[u8]) -> Result<Vec<u8>, AllocError> {
+    let mut bytes = start.bytes.to_vec(alloc)?;
+    bytes.extend_from_slice(section)?;
+    bytes.extend_from_slice(BEHIND)?;
+    Ok(bytes)
+}
+
+/// Sweeps a call that adds this section.
+pub fn sweep_section<C: Call>(
+    rt: &impl Abort,
+    alloc: Global,
+    start: Start,
+    call: C,
+    answer: u32,
+    section: &[u8],
+) -> Result<(), Fault> {
+    let with = apart(alloc, start, section)?;
+    let case = Case {
+        start,
+        call,
+        answer,
+        with: with.as_slice(),
+    };
+    assert!(rt; sweep(rt, alloc, &case)?);
+    Ok(())
+}
+
+/// Sweeps a call whose item stands in the section of both aliases, with which the component is this.
+fn sweep_joined<C: Call>(
+    rt: &impl Abort,
+    alloc: Global,
+    call: C,
+    answer: u32,
+    with: &[u8],
+) -> Result<(), Fault> {
+    let case = Case {
+        start: ONE,
+        call,
+        answer,
+        with,
+    };
+    assert!(rt; sweep(rt, alloc, &case)?);
+    Ok(())
+}
+
+/// Imports, exports and aliases.
+#[derive(Clone, Copy)]
+enum Item {
+    Import,
+    Export,
+    AliasExport,
+    Alias(Alias<'static>),
+    CoreAliasExport,
+}
+
+impl Call for Item {
+    fn make(self, _: Global, builder: &mut ComponentBuilder<&Refusing>) -> Result<u32, Fault> {
+        match self {
+            Item::Import => builder.import(NAME.into(), ComponentTypeRef::Func(0)),
+            Item::Export => builder.export(NAME.into(), ComponentExportKind::Func, 0, None),
+            Item::AliasExport => builder.alias_export(0, NAME, ComponentExportKind::Func),
+            Item::Alias(alias) => builder.alias(Some(NAME), alias),
+            Item::CoreAliasExport => {
+                builder.core_alias_export(Some(NAME), 0, NAME, ExportKind::Func)
+            }
+        }
+    }
+}
+
+/// An import and an export, each with its answer and its section.
+const APART: [(Item, u32, &[u8]); 2] = [
+    (
+        Item::Import,
+        1,
+        b"\x0a\x22\x01\x00\x1dan-interface-with-a-long-name\x01\x00",
+    ),
+    (
+        Item::Export,
+        1,
+        b"\x0b\x23\x01\x00\x1dan-interface-with-a-long-name\x01\x00\x00",
+    ),
+];
+
+/// Aliases, each with its answer and the whole component: all stand in one section.
+const JOINED: [(Item, u32, &[u8]); 4] = [
+    (
+        Item::AliasExport,
+        1,
+        b"\x00asm\x0d\x00\x01\x00\x06\x2b\x03\x01\x00\x00\x01\x66\x01\x00\x00\x1dan-interface-with-a-long-name\x03\x02\x00\x01",
+    ),
+    (
+        Item::Alias(Alias::InstanceExport {
+            instance: 0,
+            kind: ComponentExportKind::Func,
+            name: NAME,
+        }),
+        1,
+        b"\x00asm\x0d\x00\x01\x00\x06\x2b\x03\x01\x00\x00\x01\x66\x01\x00\x00\x1dan-interface-with-a-long-name\x03\x02\x00\x01",
+    ),
+    (
+        Item::Alias(Alias::Outer {
+            kind: ComponentOuterAliasKind::Type,
+            count: LARGE,
+            index: LARGE,
+        }),
+        0,
+        b"\x00asm\x0d\x00\x01\x00\x06\x16\x03\x01\x00\x00\x01\x66\x03\x02\xff\xff\xff\xff\x0f\xff\xff\xff\xff\x0f\x03\x02\x00\x01",
+    ),
+    (
+        Item::CoreAliasExport,
+        0,
+        b"\x00asm\x0d\x00\x01\x00\x06\x2c\x03\x01\x00\x00\x01\x66\x00\x00\x01\x00\x1dan-interface-with-a-long-name\x03\x02\x00\x01",
+    ),
+];
+
+#[test]
+fn imports_and_exports(rt: HostRuntime) -> Result<(), Fail> {
+    for (call, answer, section) in APART.as_slice() {
+        sweep_section(&rt, rt.alloc(), ONE, *call, *answer, section)?;
+    }
+    Ok(())
+}
+
+#[test]
+fn aliases(rt: HostRuntime) -> Result<(), Fail> {
+    for (call, answer, with) in JOINED.as_slice() {
+        sweep_joined(&rt, rt.alloc(), *call, *answer, with)?;
+    }
+    Ok(())
+}
+
+#[test]
+fn new_builder(rt: HostRuntime) -> Result<(), Fail> {
+    let heap = Refusing::new(rt.alloc());
+    let mut done = false;
+    for n in 1..20u64 {
+        heap.refuse_nth(n);
+        let outcome = ComponentBuilder::new(&heap);
+        if !heap.was_refused() {
+            assert!(rt; outcome.is_ok());
+            done = true;
+            break;
+        }
+        assert!(rt; outcome.err() == Some(REFUSED));
+        assert_eq!(rt; heap.requests(), n);
+    }
+    assert!(rt; done);
+    Ok(())
+}
+
+// `finish` takes no memory.
+#[test]
+fn finish(rt: HostRuntime) -> Result<(), Fail> {
+    let heap = Refusing::new(rt.alloc());
+    let builder = started(&heap, 1)?;
+    heap.refuse_all();
+    finishes(&rt, builder, ONE.bytes)?;
+    assert_eq!(rt; heap.requests(), 0);
+    Ok(())
+}

@@ -1,0 +1,65 @@
+//! Sections of canonical functions whose requests for memory can be refused.
+
+use refusing::Refusing;
+use std::alloc::Global;
+use std::test::Fail;
+use sweeping::members::{Members, sweep_clones};
+use sweeping::{LARGE, sweep_section};
+use wenc_base::{Encode, Fault};
+use wenc_canon::{CanonicalFunctionSection, CanonicalOption};
+use wenc_parts::ComponentSection;
+
+pub const LONG: &[CanonicalOption] = &[
+    CanonicalOption::UTF8,
+    CanonicalOption::Memory(LARGE),
+    CanonicalOption::Callback(LARGE),
+];
+
+/// A section of canonical functions.
+#[derive(Drop)]
+pub struct Functions<'a>(pub CanonicalFunctionSection<&'a Refusing>);
+
+impl<'a> Members<'a> for Functions<'a> {
+    fn empty(heap: &'a Refusing) -> Result<Self, Fault> {
+        Ok(Functions(CanonicalFunctionSection::new(heap)))
+    }
+
+    fn add_short(&mut self) -> Result<(), Fault> {
+        self.0.task_cancel()
+    }
+
+    fn again(&self) -> Result<Self, Fault> {
+        Ok(Functions(self.0.clone()?))
+    }
+
+    /// How many rows it has, whether it has none, and its bytes behind its id.
+    fn state(&self, alloc: Global) -> Result<Vec<u8>, Fault> {
+        let mut state = Vec::new(alloc);
+        (self.0.len(), self.0.is_empty()).encode(&mut state)?;
+        self.0.append_to_component(&mut state)?;
+        Ok(state)
+    }
+}
+
+#[test]
+fn clones(rt: HostRuntime) -> Result<(), Fail> {
+    let heap = Refusing::new(rt.alloc());
+    assert!(rt; sweep_clones::<Functions>(rt.alloc(), &heap, false)?);
+    Ok(())
+}
+
+/// Adds a function with numbers of five bytes.
+fn add_long(section: &mut CanonicalFunctionSection) -> Result<(), Fault> {
+    section.lift(LARGE, LARGE, LONG.iter().copied())
+}
+
+// With none, with one and with two functions.
+#[test]
+fn sections(rt: HostRuntime) -> Result<(), Fail> {
+    let mut section = CanonicalFunctionSection::new(rt.alloc());
+    for _ in 0..3 {
+        assert!(rt; sweep_section(rt.alloc(), &section)?);
+        add_long(&mut section)?;
+    }
+    Ok(())
+}

@@ -1,0 +1,95 @@
+//! Sections over holders, with bytes that are kept in front.
+
+use crate::checks::are;
+use hexed::text;
+use std::alloc::{AllocError, Global};
+use std::process::Abort;
+use std::test::Fail;
+use wenc_base::{Fault, Holder};
+use wenc_parts::{Alias, ComponentOuterAliasKind};
+use wenc_sections::ComponentAliasSection;
+
+/// Two bytes, and the text of an alias behind them.
+const BYTES: [u8; 7] = [0xaa, 0xbb, 0x01, 0x00, 0x00, 0x01, 0x66];
+
+#[tactic(auto, using(wenc_base::proofs::Groups::size_1))]
+fn over(alloc: Global) -> Result<Holder, AllocError> {
+    Ok(Holder::over(BYTES.to_vec(alloc)?, 2, 1))
+}
+
+fn section(alloc: Global) -> Result<ComponentAliasSection, AllocError> {
+    Ok(ComponentAliasSection::from_holder(over(alloc)?))
+}
+
+/// A section in which an alias is being written.
+fn unfinished(alloc: Global) -> Result<ComponentAliasSection, Fault> {
+    let mut holder = over(alloc)?;
+    holder.open(&[0x03])?;
+    Ok(ComponentAliasSection::from_holder(holder))
+}
+
+fn outer_type(section: &mut ComponentAliasSection) -> Result<(), Fault> {
+    section.alias(Alias::Outer {
+        kind: ComponentOuterAliasKind::Type,
+        count: 0,
+        index: 1,
+    })
+}
+
+/// The section has this text, in which no byte is that is kept.
+fn is_text(
+    rt: &impl Abort,
+    alloc: Global,
+    section: &ComponentAliasSection,
+    wanted: &str,
+) -> Result<(), Fault> {
+    let bytes = text(alloc, section)?;
+    assert!(rt; bytes.as_str() == wanted);
+    Ok(())
+}
+
+/// What the section's holder is made of: all bytes, how many of them are kept, its number of items, and whether it is
+/// finished.
+fn parts(section: ComponentAliasSection) -> (Vec<u8>, usize, u32, bool) {
+    section.into_holder().into_parts()
+}
+
+/// The section's holder is made of these bytes, of which two are kept.
+fn gives_back(
+    rt: &impl Abort,
+    alloc: Global,
+    section: ComponentAliasSection,
+    wanted: &str,
+    wanted_count: u32,
+    is_whole: bool,
+) -> Result<(), Fault> {
+    let (bytes, kept, count, is_finished) = parts(section);
+    assert!(rt; kept == 2 && count == wanted_count && is_finished == is_whole);
+    are(rt, alloc, bytes.as_slice(), wanted)
+}
+
+#[test]
+fn one_more(rt: HostRuntime) -> Result<(), Fail> {
+    let mut section = section(rt.alloc())?;
+    is_text(&rt, rt.alloc(), &section, "ee06010100000166")?;
+    outer_type(&mut section)?;
+    is_text(&rt, rt.alloc(), &section, "ee0a02010000016603020001")?;
+    let wanted = "aabb010000016603020001";
+    gives_back(&rt, rt.alloc(), section, wanted, 2, true)?;
+    Ok(())
+}
+
+#[test]
+fn given_back(rt: HostRuntime) -> Result<(), Fail> {
+    let section = section(rt.alloc())?;
+    gives_back(&rt, rt.alloc(), section, "aabb0100000166", 1, true)?;
+    Ok(())
+}
+
+#[test]
+fn being_written(rt: HostRuntime) -> Result<(), Fail> {
+    let mut section = unfinished(rt.alloc())?;
+    assert!(rt; outer_type(&mut section) == Err(Fault::Unfinished));
+    gives_back(&rt, rt.alloc(), section, "aabb010000016603", 2, false)?;
+    Ok(())
+}

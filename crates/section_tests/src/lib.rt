@@ -1,0 +1,38 @@
+//! Tests of `wenc_sections`: worked sections and components, each request for memory refused in turn, and a proved
+//! caller.
+#![tactic(auto)]
+
+#[cfg(test)]
+mod aliases;
+#[cfg(test)]
+mod by_hand;
+#[cfg(test)]
+mod checks;
+#[cfg(test)]
+mod components;
+#[cfg(test)]
+mod counted;
+#[cfg(test)]
+mod custom;
+#[cfg(test)]
+mod exports;
+#[cfg(test)]
+mod holders;
+#[cfg(test)]
+mod imports;
+#[cfg(test)]
+mod instance_trees;
+#[cfg(test)]
+mod instances;
+#[cfg(test)]
+mod named;
+#[cfg(test)]
+mod names;
+#[cfg(test)]
+mod nested;
+#[cfg(test)]
+mod own;
+#[cfg(test)]
+mod producers;
+#[cfg(test)]
+mod sweeps;

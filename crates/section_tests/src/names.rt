@@ -1,0 +1,318 @@
+//! Sections of names.
+
+use crate::checks::{alone, are};
+use hexed::text;
+use refusing::Refusing;
+use std::alloc::Global;
+use std::process::Abort;
+use std::test::Fail;
+use sweeping::members::{Adds, Members, sweep_calls, sweep_clones};
+use sweeping::{LARGE, NAME, TEXT, sweep_encode, sweep_section};
+use wenc_base::{CustomSection, Encode, Fault, NameMap};
+use wenc_parts::ComponentSection;
+use wenc_sections::{ComponentNameSection, NamesOf, Sort};
+
+/// A section of names.
+#[derive(Drop)]
+struct Names<'a>(ComponentNameSection<&'a Refusing>);
+
+impl<'a> Members<'a> for Names<'a> {
+    fn empty(heap: &'a Refusing) -> Result<Self, Fault> {
+        Ok(Names(ComponentNameSection::new(heap)))
+    }
+
+    fn add_short(&mut self) -> Result<(), Fault> {
+        self.0.raw(9, &[])
+    }
+
+    fn again(&self) -> Result<Self, Fault> {
+        Ok(Names(self.0.clone()?))
+    }
+
+    fn state(&self, alloc: Global) -> Result<Vec<u8>, Fault> {
+        let mut state = Vec::new(alloc);
+        self.0.is_empty().encode(&mut state)?;
+        self.0.encode(&mut state)?;
+        Ok(state)
+    }
+}
+
+/// Names items of this sort by the call that is theirs.
+fn name_items(
+    section: &mut ComponentNameSection<&Refusing>,
+    sort: Sort,
+    names: &NameMap,
+) -> Result<(), Fault> {
+    match sort {
+        Sort::CoreFunc => section.core_funcs(names),
+        Sort::CoreTable => section.core_tables(names),
+        Sort::CoreMemory => section.core_memories(names),
+        Sort::CoreGlobal => section.core_globals(names),
+        Sort::CoreTag => section.core_tags(names),
+        Sort::CoreType => section.core_types(names),
+        Sort::CoreModule => section.core_modules(names),
+        Sort::CoreInstance => section.core_instances(names),
+        Sort::Func => section.funcs(names),
+        Sort::Value => section.values(names),
+        Sort::Type => section.types(names),
+        Sort::Component => section.components(names),
+        Sort::Instance => section.instances(names),
+    }
+}
+
+/// A subsection.
+#[derive(Clone, Copy)]
+enum Subsection<'a> {
+    Items(Sort, &'a NameMap),
+    Component(&'a str),
+    Raw(u8, &'a [u8]),
+}
+
+fn name_component(section: &mut ComponentNameSection<&Refusing>, name: &str) -> Result<(), Fault> {
+    section.component(name)
+}
+
+fn append_raw(
+    section: &mut ComponentNameSection<&Refusing>,
+    id: u8,
+    data: &[u8],
+) -> Result<(), Fault> {
+    section.raw(id, data)
+}
+
+impl<'a, 'b> Adds<Names<'a>> for Subsection<'b> {
+    fn add(&self, to: &mut Names<'a>) -> Result<(), Fault> {
+        match self {
+            Subsection::Items(sort, names) => name_items(&mut to.0, *sort, names),
+            Subsection::Component(name) => name_component(&mut to.0, name),
+            Subsection::Raw(id, data) => append_raw(&mut to.0, *id, data),
+        }
+    }
+}
+
+/// Each sort, and the bytes of its subsection with one name, "t" of index 0.
+const SORTS: &[(Sort, &str)] = &[
+    (Sort::CoreFunc, "0106000001000174"),
+    (Sort::CoreTable, "0106000101000174"),
+    (Sort::CoreMemory, "0106000201000174"),
+    (Sort::CoreGlobal, "0106000301000174"),
+    (Sort::CoreTag, "0106000401000174"),
+    (Sort::CoreType, "0106001001000174"),
+    (Sort::CoreModule, "0106001101000174"),
+    (Sort::CoreInstance, "0106001201000174"),
+    (Sort::Func, "01050101000174"),
+    (Sort::Value, "01050201000174"),
+    (Sort::Type, "01050301000174"),
+    (Sort::Component, "01050401000174"),
+    (Sort::Instance, "01050501000174"),
+];
+
+fn map(alloc: Global, index: u32, name: &str) -> Result<NameMap, Fault> {
+    let mut names = NameMap::new(alloc);
+    names.append(index, name)?;
+    Ok(names)
+}
+
+fn long_names(alloc: Global) -> Result<NameMap, Fault> {
+    let mut names = map(alloc, LARGE, NAME)?;
+    names.append(0, NAME)?;
+    Ok(names)
+}
+
+/// The section as a custom one.
+fn custom<'b>(names: &'b Names<'_>) -> CustomSection<'b> {
+    names.0.as_custom()
+}
+
+/// The bytes behind the section's name are these.
+fn has_data(rt: &impl Abort, alloc: Global, names: &Names<'_>, wanted: &str) -> Result<(), Fault> {
+    assert!(rt; names.0.is_empty() == wanted.is_empty());
+    are(rt, alloc, custom(names).data, wanted)
+}
+
+/// A section of these subsections.
+fn made<'a>(heap: &'a Refusing, subsections: &[Subsection<'_>]) -> Result<Names<'a>, Fault> {
+    let mut names = Names::empty(heap)?;
+    for subsection in subsections {
+        subsection.add(&mut names)?;
+    }
+    Ok(names)
+}
+
+/// Behind the section's name stand the bytes of these subsections.
+fn made_has_data(
+    rt: &impl Abort,
+    alloc: Global,
+    heap: &Refusing,
+    subsections: &[Subsection<'_>],
+    wanted: &str,
+) -> Result<(), Fault> {
+    let section = made(heap, subsections)?;
+    has_data(rt, alloc, &section, wanted)
+}
+
+/// A subsection by itself.
+fn check_subsection(
+    rt: &impl Abort,
+    alloc: Global,
+    sort: Sort,
+    names: &NameMap,
+    wanted: &str,
+) -> Result<(), Fault> {
+    let text = text(alloc, &NamesOf(sort, names))?;
+    assert!(rt; text.as_str().strip_prefix("ee") == Some(wanted));
+    Ok(())
+}
+
+/// A subsection in a section, and by itself.
+fn check_sort(
+    rt: &impl Abort,
+    alloc: Global,
+    heap: &Refusing,
+    sort: Sort,
+    wanted: &str,
+) -> Result<(), Fault> {
+    let names = map(alloc, 0, "t")?;
+    let subsections = [Subsection::Items(sort, &names)];
+    made_has_data(rt, alloc, heap, subsections.as_slice(), wanted)?;
+    check_subsection(rt, alloc, sort, &names, wanted)
+}
+
+/// Sweeps the call of this sort, and its subsection by itself.
+fn sweep_sort(alloc: Global, sort: Sort, names: &NameMap) -> Result<bool, Fault> {
+    let heap = Refusing::new(alloc);
+    let items = [Subsection::Items(sort, names)];
+    Ok(
+        sweep_calls::<Names, Subsection>(alloc, &heap, items.as_slice())?
+            && sweep_encode(alloc, &NamesOf(sort, names))?,
+    )
+}
+
+#[test]
+fn sorts(rt: HostRuntime) -> Result<(), Fail> {
+    let heap = Refusing::new(rt.alloc());
+    let long = long_names(rt.alloc())?;
+    for (sort, wanted) in SORTS {
+        check_sort(&rt, rt.alloc(), &heap, *sort, wanted)?;
+        assert!(rt; sweep_sort(rt.alloc(), *sort, &long)?);
+    }
+    Ok(())
+}
+
+/// The bytes of the section, behind its id.
+fn made_is(
+    rt: &impl Abort,
+    alloc: Global,
+    heap: &Refusing,
+    subsections: &[Subsection<'_>],
+    wanted: &str,
+) -> Result<(), Fault> {
+    let section = made(heap, subsections)?;
+    alone(rt, alloc, &section.0, wanted)
+}
+
+fn has_name(rt: &impl Abort, heap: &Refusing) -> Result<(), Fault> {
+    let section = Names::empty(heap)?;
+    assert!(rt; custom(&section).name == "component-name");
+    Ok(())
+}
+
+const NO_NAMES: &str = "000f0e636f6d706f6e656e742d6e616d65";
+
+const NO_NAME: &str = "00120e636f6d706f6e656e742d6e616d65000100";
+
+#[test]
+fn without_names(rt: HostRuntime) -> Result<(), Fail> {
+    let heap = Refusing::new(rt.alloc());
+    has_name(&rt, &heap)?;
+    made_has_data(&rt, rt.alloc(), &heap, &[], "")?;
+    made_is(&rt, rt.alloc(), &heap, &[], NO_NAMES)?;
+    let empty = [Subsection::Component("")];
+    made_is(&rt, rt.alloc(), &heap, empty.as_slice(), NO_NAME)?;
+    Ok(())
+}
+
+/// Three kinds of subsections, behind the id of the section.
+const THREE_KINDS: &str = "001e0e636f6d706f6e656e742d6e616d650002016301060010010001740901aa";
+
+/// A copy has a subsection more, and what it was copied from hasn't.
+fn copy_names_more(rt: &impl Abort, alloc: Global, section: &Names<'_>) -> Result<(), Fault> {
+    let mut copied = section.again()?;
+    alone(rt, alloc, &copied.0, THREE_KINDS)?;
+    Subsection::Raw(255, &[]).add(&mut copied)?;
+    has_data(rt, alloc, &copied, "0002016301060010010001740901aaff00")?;
+    alone(rt, alloc, &section.0, THREE_KINDS)
+}
+
+/// Three kinds of subsections, and a copy of them.
+fn three_kinds(
+    rt: &impl Abort,
+    alloc: Global,
+    heap: &Refusing,
+    names: &NameMap,
+) -> Result<(), Fault> {
+    let kinds = [
+        Subsection::Component("c"),
+        Subsection::Items(Sort::CoreType, names),
+        Subsection::Raw(9, &[0xaa]),
+    ];
+    let section = made(heap, kinds.as_slice())?;
+    alone(rt, alloc, &section.0, THREE_KINDS)?;
+    copy_names_more(rt, alloc, &section)
+}
+
+#[test]
+fn kinds_of_subsections(rt: HostRuntime) -> Result<(), Fail> {
+    let heap = Refusing::new(rt.alloc());
+    let names = map(rt.alloc(), 0, "t")?;
+    three_kinds(&rt, rt.alloc(), &heap, &names)?;
+    Ok(())
+}
+
+// Ids of names under `raw` too, and a size of two bytes.
+fn raw(rt: &impl Abort, alloc: Global, heap: &Refusing) -> Result<(), Fault> {
+    let subsections = [Subsection::Raw(0, &[]), Subsection::Raw(1, &[0x07])];
+    let mut section = made(heap, subsections.as_slice())?;
+    has_data(rt, alloc, &section, "0000010107")?;
+    Subsection::Raw(2, [0x00; 128].as_slice()).add(&mut section)?;
+    assert!(rt; custom(&section).data.len() == 136);
+    Ok(())
+}
+
+#[test]
+fn raw_subsections(rt: HostRuntime) -> Result<(), Fail> {
+    let heap = Refusing::new(rt.alloc());
+    raw(&rt, rt.alloc(), &heap)?;
+    Ok(())
+}
+
+/// Sweeps the calls of other subsections.
+fn sweep_others(alloc: Global, heap: &Refusing) -> Result<bool, Fault> {
+    let others = [
+        Subsection::Component(""),
+        Subsection::Component(NAME),
+        Subsection::Raw(9, &[]),
+        Subsection::Raw(9, TEXT),
+    ];
+    sweep_calls::<Names, Subsection>(alloc, heap, others.as_slice())
+}
+
+/// Sweeps the section with no subsection, with one and with two.
+fn sweep_sections(alloc: Global, heap: &Refusing) -> Result<bool, Fault> {
+    let mut section = Names::empty(heap)?;
+    let mut is_well = true;
+    for name in ["", NAME, "a"].as_slice() {
+        is_well = is_well && sweep_section(alloc, &section.0)?;
+        Subsection::Component(name).add(&mut section)?;
+    }
+    Ok(is_well)
+}
+
+#[test]
+fn sections_are_swept(rt: HostRuntime) -> Result<(), Fail> {
+    let heap = Refusing::new(rt.alloc());
+    assert!(rt; sweep_sections(rt.alloc(), &heap)?);
+    assert!(rt; sweep_others(rt.alloc(), &heap)?);
+    assert!(rt; sweep_clones::<Names>(rt.alloc(), &heap, false)?);
+    Ok(())
+}

@@ -1,0 +1,75 @@
+//! Components whose requests for memory can be refused.
+
+ghost use Rattle.wenc_base.specs.Fault.{text_cause};
+ghost use Rattle.wenc_base.specs.Forms.{name};
+
+use refusing::Refusing;
+use std::alloc::{Allocator, Global};
+use std::test::Fail;
+use sweeping::NAME;
+use sweeping::members::{Adds, Members, sweep_calls, sweep_clones, sweep_new};
+use wenc_base::{Encode, Fault, RawCustomSection};
+use wenc_parts::ComponentSection;
+use wenc_sections::Component;
+
+/// A section of one's own, with this text in it.
+#[derive(Clone, Copy)]
+struct OwnText<'a>(&'a str);
+
+impl<'a> Encode for OwnText<'a> {
+    ghost text = { λ s. (name s.0.now).text };
+
+    ghost cause = { λ s. text_cause s.0.now };
+
+    fn encode<A: Allocator>(&self, sink: &mut Vec<u8, A>) -> Result<(), Fault> {
+        self.0.encode(sink)
+    }
+}
+
+impl<'a> ComponentSection for OwnText<'a> {
+    ghost section_id = { λ _. 99 };
+
+    fn id(&self) -> u8 {
+        99
+    }
+}
+
+/// A component.
+#[derive(Drop)]
+struct Sections<'a>(Component<&'a Refusing>);
+
+impl<'a> Members<'a> for Sections<'a> {
+    fn empty(heap: &'a Refusing) -> Result<Self, Fault> {
+        Ok(Sections(Component::new(heap)?))
+    }
+
+    fn add_short(&mut self) -> Result<(), Fault> {
+        self.0.section(&RawCustomSection(&[]))
+    }
+
+    fn again(&self) -> Result<Self, Fault> {
+        Ok(Sections(self.0.clone()?))
+    }
+
+    fn state(&self, alloc: Global) -> Result<Vec<u8>, Fault> {
+        let mut state = Vec::new(alloc);
+        self.0.as_slice().encode(&mut state)?;
+        Ok(state)
+    }
+}
+
+impl<'a, 'b> Adds<Sections<'a>> for OwnText<'b> {
+    fn add(&self, to: &mut Sections<'a>) -> Result<(), Fault> {
+        to.0.section(self)
+    }
+}
+
+#[test]
+fn components_are_swept(rt: HostRuntime) -> Result<(), Fail> {
+    let heap = Refusing::new(rt.alloc());
+    let sections = [OwnText(""), OwnText(NAME)];
+    assert!(rt; sweep_new::<Sections>(rt.alloc(), &heap)?);
+    assert!(rt; sweep_calls::<Sections, OwnText>(rt.alloc(), &heap, sections.as_slice())?);
+    assert!(rt; sweep_clones::<Sections>(rt.alloc(), &heap, true)?);
+    Ok(())
+}

@@ -1,0 +1,93 @@
+//! Core types of which the tests are made.
+
+use std::alloc::Global;
+use wenc_base::{
+    ArrayType, CompositeType, Fault, FieldType, FuncType, StorageType, StructType, SubType, ValType,
+};
+
+pub const I8: FieldType = FieldType {
+    element_type: StorageType::I8,
+    mutable: true,
+};
+
+pub const I16: FieldType = FieldType {
+    element_type: StorageType::I16,
+    mutable: false,
+};
+
+pub const I32: FieldType = FieldType {
+    element_type: StorageType::Val(ValType::I32),
+    mutable: false,
+};
+
+/// What functions take and answer.
+pub fn func_type(
+    alloc: Global,
+    params: &[ValType],
+    results: &[ValType],
+) -> Result<FuncType, Fault> {
+    FuncType::new(alloc, params.iter().copied(), results.iter().copied())
+}
+
+/// A type of functions.
+pub fn function(
+    alloc: Global,
+    is_final: bool,
+    supertype_idx: Option<u32>,
+    params: &[ValType],
+) -> Result<SubType, Fault> {
+    let ty = func_type(alloc, params, &[])?;
+    Ok(SubType {
+        is_final,
+        supertype_idx,
+        composite_type: CompositeType::Func(ty),
+    })
+}
+
+/// A type of arrays.
+pub fn array(is_final: bool, supertype_idx: Option<u32>, element: FieldType) -> SubType {
+    SubType {
+        is_final,
+        supertype_idx,
+        composite_type: CompositeType::Array(ArrayType(element)),
+    }
+}
+
+/// A type of structures of one field.
+pub fn structure(alloc: Global, supertype: u32) -> Result<SubType, Fault> {
+    let fields = [I8].to_vec(alloc)?;
+    Ok(SubType {
+        is_final: false,
+        supertype_idx: Some(supertype),
+        composite_type: CompositeType::Struct(StructType { fields }),
+    })
+}
+
+/// Adds a type.
+pub fn add(types: &mut Vec<SubType>, ty: SubType) -> Result<(), Fault> {
+    types.push(ty)?;
+    Ok(())
+}
+
+/// Adds a type of functions.
+pub fn add_function(
+    types: &mut Vec<SubType>,
+    alloc: Global,
+    is_final: bool,
+    params: &[ValType],
+) -> Result<(), Fault> {
+    add(types, function(alloc, is_final, None, params)?)
+}
+
+/// Adds a final type of functions with no parameters, and one with a parameter.
+pub fn add_pair(types: &mut Vec<SubType>, alloc: Global, is_final: bool) -> Result<(), Fault> {
+    add_function(types, alloc, true, &[])?;
+    add_function(types, alloc, is_final, &[ValType::I32])
+}
+
+/// These types alone.
+pub fn pair(alloc: Global, is_final: bool) -> Result<Vec<SubType>, Fault> {
+    let mut types = Vec::new(alloc);
+    add_pair(&mut types, alloc, is_final)?;
+    Ok(types)
+}
