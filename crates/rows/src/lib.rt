@@ -25,6 +25,8 @@ pub fn passed_on<A: Allocator + Copy>(alloc: A) -> Result<Vec<u8, A>, Fault>
 }
 
 #[cfg(test)]
+mod all_commands;
+#[cfg(test)]
 mod callers;
 #[cfg(test)]
 mod commands;

@@ -1,5 +1,5 @@
 -- Why every form is lawful: its values have a reader in common.
-use Rattle.std.proofs.Common.{ℕ, List, [], true}
+use Rattle.std.proofs.Common.{[], true}
 use Rattle.wenc_base.specs.Composites.{Sub, Single, Rec, Group, Func, final, guarded, standing}
 use Rattle.wenc_base.specs.Delimited.{IsReadable}
 use Rattle.wenc_base.specs.FormLaws.{FormLaws}
@@ -9,7 +9,7 @@ use Rattle.wenc_base.specs.laws.Composites.{storage_type_lawful, field_type_lawf
 use Rattle.wenc_base.specs.laws.Delimited.{pair_readable}
 use Rattle.wenc_base.specs.laws.Entities.{table_type_lawful, memory_type_lawful, global_type_lawful, tag_type_lawful, entity_type_lawful}
 use Rattle.wenc_base.specs.laws.Exports.{export_kind_lawful as core_kind_lawful}
-use Rattle.wenc_base.specs.laws.Forms.{flag_lawful, read_name, name_lawful, byte_list_lawful, read_list, list_lawful, option_lawful, counted_lawful}
+use Rattle.wenc_base.specs.laws.Forms.{flag_lawful, name_lawful, byte_list_lawful, read_list, list_lawful, option_lawful, counted_lawful}
 use Rattle.wenc_base.specs.laws.Names.{named_lawful}
 use Rattle.wenc_base.specs.laws.Lawful.{form_laws, Lawful, Reader, ◌>>=◌, give, nowhere, choose, then, last}
 use Rattle.wenc_base.specs.laws.Numbers.{read_groups, u32_lawful, u64_lawful, index_lawful, i64_lawful}

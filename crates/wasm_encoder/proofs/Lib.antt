@@ -1,2 +1,6 @@
+pub mod Called
+pub mod Nested
+pub mod Typed
 pub mod Run
 pub mod AllLawful
+pub mod Reading

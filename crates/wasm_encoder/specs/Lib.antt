@@ -1,3 +1,6 @@
 pub mod Command
+pub mod Cause
 pub mod Ran
+pub mod Steps
+pub mod Raw
 pub mod AllForms

@@ -1,22 +1,25 @@
--- What a run of commands is.
-use Rattle.std.specs.Prelude.{◌≡◌, ℕ, List, [], ◌∷◌, ◌++◌, Result, Ok, Err, Option, Some}
+-- What a run of commands is, and what stops one.
+use Rattle.std.specs.Prelude.{◌≡◌, ℕ, List, [], ◌∷◌, ◌++◌, Result, Ok, Err, Option}
+use Rattle.wenc_base.specs.Delimited.{NoCause}
 use Rattle.wenc_base.specs.Fault.{IsWarranted}
 use Rattle.wenc_base.specs.declared.fault.Fault.{Fault}
-use Rattle.wenc_builder.specs.Space.{place_of}
-use Rattle.wenc_builder.specs.Entry.{Entry, items}
-use Rattle.wenc_builder.specs.Cause.{EntryCause}
-use Rattle.wasm_encoder.specs.Command.{CommandTree, entry_of}
+use Rattle.wenc_base.specs.declared.fault.Fault.TheVariants.{Unfinished}
+use Rattle.wenc_builder.specs.Entry.{Entry}
+use Rattle.wasm_encoder.specs.Command.{CommandTree, CoreType, «Type»}
+use Rattle.wasm_encoder.specs.Cause.{added, answer_of, cause}
 
--- After these entries the command may get this answer: the place of its entry if that has no cause, or a fault
--- that the entry has cause for, or want of memory.
-abbrev pub Answered : List Entry → CommandTree → Result (Option ℕ) Fault → Type 0
-Answered es c (Ok i) =
-    (i ≡ place_of (items es) (entry_of c).item) × ((fault : Fault) → EntryCause es (entry_of c) fault → ⊥)
-Answered es c (Err fault) = IsWarranted (EntryCause es (entry_of c)) fault
+-- A command may be refused with this fault: for want of memory, or with this cause; never as unfinished.
+abbrev pub IsRefusal : (Fault → Type 0) → Fault → Type 0
+IsRefusal cause fault = IsWarranted cause fault × (fault ≡ Unfinished → ⊥)
+
+-- After these entries the command may get this answer: where it has no cause, the place of its item, if that has one.
+abbrev pub IsDue : List Entry → CommandTree → Result (Option ℕ) Fault → Type 0
+IsDue es c (Ok answer) = (answer ≡ answer_of es c) × NoCause (cause es c)
+IsDue es c (Err fault) = IsRefusal (cause es c) fault
 
 -- An accepted command adds its entry, and a refused one nothing.
 abbrev pub entries_after : List Entry → CommandTree → Result (Option ℕ) Fault → List Entry
-entries_after es c (Ok i) = es ++ entry_of c ∷ []
+entries_after es c (Ok answer) = es ++ added es c
 entries_after es c (Err fault) = es
 
 -- After the entries es, the commands got these answers and led to these entries.
@@ -24,8 +27,28 @@ abbrev pub RanFrom : List Entry → List CommandTree → List (Result (Option �
 RanFrom es [] [] all = es ≡ all
 RanFrom es [] (a ∷ answers) all = ⊥
 RanFrom es (c ∷ cs) [] all = ⊥
-RanFrom es (c ∷ cs) (a ∷ answers) all = Answered es c a × RanFrom (entries_after es c a) cs answers all
+RanFrom es (c ∷ cs) (a ∷ answers) all = IsDue es c a × RanFrom (entries_after es c a) cs answers all
 
 -- one answer for each command, from no entries on
 abbrev pub Ran : List CommandTree → List (Result (Option ℕ) Fault) → List Entry → Type 0
 Ran commands answers all = RanFrom [] commands answers all
+
+-- ---- what stops a run
+
+-- a command that has a type written by an encoder
+abbrev pub IsTyped : CommandTree → Type 0
+IsTyped (CoreType name ty) = Unit {0}
+IsTyped («Type» name ty) = Unit {0}
+IsTyped c = ⊥
+
+-- A front of the commands ran, and the next one has a type written and may be refused so.
+pub record IsStopped (commands : List CommandTree) (fault : Fault) : Type 0 where
+  pub front : List CommandTree
+  pub next : CommandTree
+  pub rest : List CommandTree
+  pub split : commands ≡ front ++ next ∷ rest
+  pub answers : List (Result (Option ℕ) Fault)
+  pub so_far : List Entry
+  pub ran : Ran front answers so_far
+  pub typed : IsTyped next
+  pub refused : IsRefusal (cause so_far next) fault

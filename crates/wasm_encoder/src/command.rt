@@ -1,18 +1,29 @@
-ghost use Rattle.std.specs.Prelude.{◌≡◌, List, IfOk, IfErr, map};
+ghost use Rattle.std.specs.Prelude.{◌≡◌, ◌⊎◌, List, [], Ok, IfOk, IfErr, map};
 ghost use Rattle.std.specs.Option.{option_copied};
+ghost use Rattle.wenc_base.specs.Delimited.{NoCause};
 ghost use Rattle.wenc_base.specs.Fault.{IsMemory};
 ghost use Rattle.wenc_builder.specs.Sections.{whole};
-ghost use Rattle.wenc_builder.specs.Entry.{Entry, items};
-ghost use Rattle.wasm_encoder.specs.Command.{command_view, debug_name_view, entry_of};
-ghost use Rattle.wenc_builder.specs.Enters.{Enters};
-ghost use Rattle.wasm_encoder.specs.Ran.{Ran};
+ghost use Rattle.wenc_builder.specs.Enters.{EntersPlaceless};
+ghost use Rattle.wenc_builder.specs.Entry.{Entry, items, custom_entry};
+ghost use Rattle.wenc_builder.specs.Holds.{Holds};
+ghost use Rattle.wenc_types.specs.CoreTypeTrees.{core_type_view};
+ghost use Rattle.wenc_types.specs.TypeTrees.{type_view};
+ghost use Rattle.wasm_encoder.specs.Cause.{led, first_cause};
+ghost use Rattle.wasm_encoder.specs.Command.{CoreType, «Type»};
+ghost use Rattle.wasm_encoder.specs.Command.{command_view, commands_view, debug_name_view};
+ghost use Rattle.wasm_encoder.specs.Ran.{Ran, IsRefusal, IsStopped};
+ghost use Rattle.wasm_encoder.specs.Steps.{Runs, placed as placed_of, placeless as placeless_of};
 
 use std::alloc::{Allocator, Global};
-use wenc_base::Fault;
+use wenc_base::{CustomSection, Fault};
 use wenc_builder::ComponentBuilder;
+use wenc_canon::CanonTree;
 use wenc_parts::{AliasTree, ComponentExportKind, ComponentTypeRef, NameTree};
+use wenc_sections::{CoreInstanceTree, InstanceTree};
+use wenc_types::{CoreTypeTree, TypeTree};
 
-/// One call of a builder, as data. Here the import of a function under the name that `name` holds:
+/// One call of a builder, as data. `n` is the debug name of what it adds, or none. Here the import of a function under
+/// the name that `name` holds:
 ///
 /// ```
 /// let import = Command::Import {
@@ -22,10 +33,58 @@ use wenc_parts::{AliasTree, ComponentExportKind, ComponentTypeRef, NameTree};
 /// ```
 #[derive(Drop)]
 pub enum Command<A: Allocator = Global> {
-    /// An alias, with a debug name or none.
+    /// A core module, by its bytes, which nothing checks.
+    CoreModule {
+        n: Option<String<A>>,
+        bytes: Vec<u8, A>,
+    },
+    /// An instance of a core module, or one of core items.
+    CoreInstance {
+        n: Option<String<A>>,
+        instance: CoreInstanceTree<A>,
+    },
+    /// A core type.
+    CoreType {
+        n: Option<String<A>>,
+        ty: CoreTypeTree<A>,
+    },
+    /// A nested component, made by these commands. It is accepted only with all of them accepted, and else refused with
+    /// the first fault among them.
+    Component {
+        n: Option<String<A>>,
+        commands: Vec<Command<A>, A>,
+    },
+    /// A nested component, by its bytes, which nothing checks.
+    ComponentRaw {
+        n: Option<String<A>>,
+        bytes: Vec<u8, A>,
+    },
+    /// An instance of a component, or one of items.
+    Instance {
+        n: Option<String<A>>,
+        instance: InstanceTree<A>,
+    },
+    /// An alias.
     Alias {
         n: Option<String<A>>,
         alias: AliasTree<A>,
+    },
+    /// A type.
+    Type {
+        n: Option<String<A>>,
+        ty: TypeTree<A>,
+    },
+    /// A canonical function. Where it is neither lifted nor lowered it has its own debug name, whatever `n` is.
+    Canon {
+        n: Option<String<A>>,
+        canon: CanonTree<A>,
+    },
+    /// A call, at instantiation, of the function with this index, with the values of these indices, that answers so
+    /// many values.
+    Start {
+        function: u32,
+        args: Vec<u32, A>,
+        results: u32,
     },
     /// An import.
     Import {
@@ -39,23 +98,150 @@ pub enum Command<A: Allocator = Global> {
         index: u32,
         ty: Option<ComponentTypeRef>,
     },
+    /// A section of the debug names so far, where there are any.
+    AppendNames,
+    /// A custom section.
+    Custom {
+        name: String<A>,
+        data: Vec<u8, A>,
+    },
+    /// A custom section, by the bytes behind its id, which nothing checks.
+    RawCustom {
+        bytes: Vec<u8, A>,
+    },
 }
 
-impl<A: Allocator> Command<A> {
-    /// Makes the call that this command is.
-    fn run<B: Allocator>(&self, builder: &mut ComponentBuilder<B>) -> Result<u32, Fault>
-        ensures { Enters builder.old builder.new result (entry_of (command_view self.now)) }
-    {
-        match self {
-            Command::Alias { n, alias } => builder.alias(debug_name(n), alias.as_alias()),
-            Command::Import { name, ty } => builder.import(name.as_name(), *ty),
-            Command::Export {
-                name,
-                kind,
-                index,
-                ty,
-            } => builder.export(name.as_name(), *kind, *index, *ty),
+/// Makes the call that a command is. `Err`: the encoder of a type was refused, and the builder is unfinished.
+#[cycle(running)]
+fn run<A: Allocator, B: Allocator + Copy>(
+    command: &Command<A>,
+    alloc: B,
+    builder: &mut ComponentBuilder<B>,
+) -> Result<Result<Option<u32>, Fault>, Fault>
+    ensures { Runs builder.old builder.new result (command_view command.now) }
+{
+    match command {
+        Command::CoreModule { n, bytes } => placed(builder.core_module_raw(debug_name(n), bytes)),
+        Command::CoreInstance { n, instance } => {
+            placed(builder.core_instance_tree(debug_name(n), instance))
         }
+        Command::CoreType { n, ty } => core_type_of(builder, debug_name(n), ty),
+        Command::Component { n, commands } => match run_all(commands, alloc) {
+            Ok(inner) => placed(builder.component(debug_name(n), inner)),
+            Err(fault) => Ok(Err(fault)),
+        },
+        Command::ComponentRaw { n, bytes } => placed(builder.component_raw(debug_name(n), bytes)),
+        Command::Instance { n, instance } => placed(builder.instance_tree(debug_name(n), instance)),
+        Command::Alias { n, alias } => placed(builder.alias(debug_name(n), alias.as_alias())),
+        Command::Type { n, ty } => type_of(builder, debug_name(n), ty),
+        Command::Canon { n, canon } => placed(builder.canonical_tree(debug_name(n), canon)),
+        Command::Start {
+            function,
+            args,
+            results,
+        } => placed(builder.start(*function, args, *results)),
+        Command::Import { name, ty } => placed(builder.import(name.as_name(), *ty)),
+        Command::Export {
+            name,
+            kind,
+            index,
+            ty,
+        } => placed(builder.export(name.as_name(), *kind, *index, *ty)),
+        Command::AppendNames => placeless(builder.append_names()),
+        Command::Custom { name, data } => placeless(custom(builder, name.as_str(), data)),
+        Command::RawCustom { bytes } => placeless(builder.raw_custom_section(bytes)),
+    }
+}
+
+/// Makes the calls that the commands are on a new builder, up to the first that is refused.
+#[cycle(running)]
+fn run_all<A: Allocator, B: Allocator + Copy>(
+    commands: &Vec<Command<A>, A>,
+    alloc: B,
+) -> Result<ComponentBuilder<B>, Fault>
+    ensures accepted { IfOk result (λ b. Holds b (led [] (commands_view commands.now.items))
+        × NoCause (first_cause [] (commands_view commands.now.items))) }
+    ensures refused { IfErr result
+        (IsRefusal (first_cause [] (commands_view commands.now.items))) }
+{
+    let mut builder = match ComponentBuilder::new(alloc) {
+        Ok(builder) => builder,
+        Err(fault) => return Err(fault),
+    };
+    for command in commands {
+        match run(command, alloc, &mut builder) {
+            Ok(Ok(_)) => {}
+            Ok(Err(fault)) => return Err(fault),
+            Err(fault) => return Err(fault),
+        }
+    }
+    Ok(builder)
+}
+
+/// Has an encoder write a core type. `Err`: it was refused, and the builder is unfinished.
+fn core_type_of<A: Allocator, B: Allocator>(
+    builder: &mut ComponentBuilder<B>,
+    debug_name: Option<&str>,
+    ty: &CoreTypeTree<A>,
+) -> Result<Result<Option<u32>, Fault>, Fault>
+    ensures { Runs builder.old builder.new result
+        (CoreType (option_copied debug_name.entry) (core_type_view ty.now)) }
+{
+    match builder.core_type(debug_name) {
+        Ok((index, encoder)) => match encoder.tree(ty) {
+            Ok(()) => Ok(Ok(Some(index))),
+            Err(fault) => Err(fault),
+        },
+        Err(fault) => Ok(Err(fault)),
+    }
+}
+
+/// Has an encoder write a type. `Err`: it was refused, and the builder is unfinished.
+fn type_of<A: Allocator, B: Allocator>(
+    builder: &mut ComponentBuilder<B>,
+    debug_name: Option<&str>,
+    ty: &TypeTree<A>,
+) -> Result<Result<Option<u32>, Fault>, Fault>
+    ensures { Runs builder.old builder.new result
+        («Type» (option_copied debug_name.entry) (type_view ty.now)) }
+{
+    match builder.ty(debug_name) {
+        Ok((index, encoder)) => match encoder.tree(ty) {
+            Ok(()) => Ok(Ok(Some(index))),
+            Err(fault) => Err(fault),
+        },
+        Err(fault) => Ok(Err(fault)),
+    }
+}
+
+/// Adds a custom section.
+fn custom<B: Allocator>(
+    builder: &mut ComponentBuilder<B>,
+    name: &str,
+    bytes: &[u8],
+) -> Result<(), Fault>
+    ensures { EntersPlaceless builder.old builder.new result (custom_entry name.now bytes.now) }
+{
+    builder.custom_section(&CustomSection { name, data: bytes })
+}
+
+/// What a call answers that answers an index.
+fn placed(answer: Result<u32, Fault>) -> Result<Result<Option<u32>, Fault>, Fault>
+    ensures { result ≡ Ok (placed_of answer) }
+{
+    match answer {
+        Ok(index) => Ok(Ok(Some(index))),
+        Err(fault) => Ok(Err(fault)),
+    }
+}
+
+/// What a call answers that answers none.
+fn placeless(answer: Result<(), Fault>) -> Result<Result<Option<u32>, Fault>, Fault>
+    ensures { result ≡ Ok (placeless_of answer) }
+{
+    match answer {
+        Ok(()) => Ok(Ok(None)),
+        Err(fault) => Ok(Err(fault)),
     }
 }
 
@@ -71,24 +257,24 @@ fn debug_name<A: Allocator>(name: &Option<String<A>>) -> Option<&str>
 /// What the commands of a run answered, and the bytes.
 #[derive(Drop)]
 pub struct Built<A: Allocator = Global> {
-    /// One answer for each command: the index of its item, or why it was refused.
+    /// One answer for each command: the index of its item, if that has one, or why it was refused. Custom sections and
+    /// names have none.
     pub answers: Vec<Result<Option<u32>, Fault>, A>,
     /// The component.
     pub bytes: Vec<u8, A>,
 }
 
-/// Makes the calls that the commands are, in order, on a new builder, keeps each answer, and finishes. A
-/// refused command adds nothing, and the ones after it run all the same. It is refused only where there is
-/// no memory for the builder or for the answers.
+/// Makes the calls that the commands are, in order, on a new builder, keeps each answer, and finishes. A refused
+/// command adds nothing, and the ones after it run all the same. It is refused where there is no memory for the builder
+/// or for the answers, and where a type is refused while it is written: with that fault, and no further command runs.
 ///
 /// ```
 /// let built = build(alloc, &commands)?;
 /// for answer in &built.answers {
-///     // Ok(Some(index)), or why the command was refused
+///     // Ok(Some(index)), Ok(None), or why the command was refused
 /// }
 /// let component = built.bytes;
 /// ```
-#[tactic(auto, using(crate::proofs::Run::ran_none))]
 pub fn build<A: Allocator + Copy, B: Allocator>(
     alloc: A,
     commands: &[Command<B>],
@@ -97,12 +283,17 @@ pub fn build<A: Allocator + Copy, B: Allocator>(
     ensures ran { IfOk result (λ b. (es : List Entry)
         × Ran (map command_view commands.now) b.answers.items es
         × (b.bytes.items ≡ whole (items es))) }
-    ensures refused { IfErr result IsMemory }
+    // It is refused for want of memory, or by a type behind a front of the commands that ran.
+    ensures refused { IfErr result (λ fault. IsMemory fault
+        ⊎ IsStopped (map command_view commands.now) fault) }
 {
     let mut builder = ComponentBuilder::new(alloc)?;
     let mut answers = Vec::new(alloc);
     for command in commands {
-        let answer = command.run(&mut builder).map(Some);
+        let answer = match run(command, alloc, &mut builder) {
+            Ok(answer) => answer,
+            Err(fault) => return Err(fault),
+        };
         answers.push(answer)?;
     }
     let bytes = builder.finish()?;

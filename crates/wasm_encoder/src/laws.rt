@@ -1,6 +1,6 @@
-//! Laws over the definitions: what the numbers' texts are, in words; that every form is read as it is written, and in
-//! one way only; that a section's text is that of what it contains. A call of these does nothing.
-ghost use Rattle.std.specs.Prelude.{◌≡◌, ◌+◌, ℕ, ℤ, ◌^◌, ◌<◌, ◌++◌, ◌∷◌, [], List, FitsSigned, true, Ok};
+//! Laws over the definitions: what the numbers' texts are, in words; that every form, and a whole component, is read as
+//! it is written, and in one way only; that a section's text is that of what it contains. A call of these does nothing.
+ghost use Rattle.std.specs.Prelude.{◌≡◌, ◌↔◌, ◌+◌, ℕ, ℤ, ◌^◌, ◌<◌, ◌++◌, ◌∷◌, [], List, FitsSigned, true, Ok};
 ghost use Rattle.std.specs.Int.{w64};
 ghost use Rattle.wenc_base.specs.Composites.{Group, group};
 ghost use Rattle.wenc_base.specs.Delimited.{NoCause};
@@ -12,6 +12,8 @@ ghost use Rattle.wenc_base.specs.Number.{u32 as number};
 ghost use Rattle.wenc_base.specs.Openings.{opened_with, lengthened, closed, given_up};
 ghost use Rattle.wenc_base.specs.Piece.{Spelling, Strict, Wide};
 ghost use Rattle.wenc_base.specs.Producers.{Producers, field_text, producers_section, producers_text};
+ghost use Rattle.wenc_builder.specs.Item.{Item};
+ghost use Rattle.wenc_builder.specs.Sections.{Section, runs, component, Reading, whole};
 ghost use Rattle.wenc_canon.specs.Canonicals.{Intrinsic, row, Values, Canonical, canonical, canonical_text, Adds};
 ghost use Rattle.wenc_parts.specs.Aliases.{AliasOf, alias, alias_text};
 ghost use Rattle.wenc_sections.specs.Exports.{Export, export_item, export_text};
@@ -26,6 +28,7 @@ ghost use Rattle.wenc_types.specs.ModuleTypes.{Declared, Declares, begun, writte
 ghost use Rattle.wenc_types.specs.declared.counts.Sort.TheVariants as sorts;
 ghost use Rattle.wenc_types.specs.declared.counts.Sort.{Sort};
 ghost use Rattle.wasm_encoder.specs.AllForms.{FormName, value_of, form_of};
+ghost use Rattle.wasm_encoder.specs.Raw.{HasNoRaw, SectionsHaveNoRaw, AreEncodable, IsEncodable};
 
 use wenc_base::{Delimited, DelimitedEq};
 
@@ -90,6 +93,29 @@ pub fn reads_once()
         → (form_of f v).Reads Strict bytes rest → (form_of f v).Fits }
     ensures strict_is_wide { (f : FormName) (v : value_of f) (bytes rest : List ℕ)
         → (form_of f v).Reads Strict bytes rest → (form_of f v).Reads Wide bytes rest }
+{}
+
+/// No bytes are a component with one list of sections and with another, be it strictly, widely, or one of each. The
+/// text of any sections without a raw item that can be encoded, empty ones included, is read as these; so the whole of
+/// a list of items is read as the runs of that list, and as nothing else. What is read strictly is the text of sections
+/// that can be encoded.
+pub fn one_reading()
+    ensures once { (mode other : Spelling) (bytes : List ℕ) (ss ts : List Section)
+        → Reading mode bytes ss → Reading other bytes ts → ss ≡ ts }
+    ensures of_sections { (mode : Spelling) (ss : List Section) → SectionsHaveNoRaw ss
+        → AreEncodable ss → Reading mode (component ss).text ss }
+    ensures of_items { (mode : Spelling) (xs : List Item) (ss : List Section) → HasNoRaw xs
+        → IsEncodable xs → (Reading mode (whole xs) ss ↔ (ss ≡ runs xs)) }
+    ensures strict_is_text { (bytes : List ℕ) (ss : List Section) → Reading Strict bytes ss
+        → bytes ≡ (component ss).text }
+    ensures strict_fits { (bytes : List ℕ) (ss : List Section) → Reading Strict bytes ss
+        → AreEncodable ss }
+{}
+
+/// Two lists of items without a raw one that can be encoded are equal where their wholes are.
+pub fn one_list()
+    ensures { (xs ys : List Item) → HasNoRaw xs → HasNoRaw ys → IsEncodable xs → IsEncodable ys
+        → whole xs ≡ whole ys → xs ≡ ys }
 {}
 
 /// The text of a section that contains some items is their size, their number and the items. That of a module type, a

@@ -4,3 +4,4 @@ pub mod Commands
 pub mod Lines
 pub mod Sent
 pub mod Ended
+pub mod Untyped

@@ -4,8 +4,9 @@ use Rattle.std.proofs.lemmas.Bool.{cases_lt}
 use Rattle.std.specs.Result.{IfOk, IfErr, OnOk}
 use Rattle.wenc_base.specs.Holder.{Held, is_finished, EncodeCause}
 use Rattle.wenc_base.specs.Number.{unsigned_text}
-use Rattle.wenc_base.specs.Fault.{IsWarranted, first_of, text_cause}
+use Rattle.wenc_base.specs.Fault.{IsWarranted, first_of, text_cause, count_cause, member_cause}
 use Rattle.wenc_base.specs.Forms.{option_text}
+use Rattle.wenc_base.specs.Lender.{either}
 use Rattle.wenc_base.specs.declared.fault.Fault.{Fault}
 use Rattle.wenc_base.specs.declared.fault.Fault.TheVariants.{Memory, TooMany, TooLarge, Unfinished}
 use Rattle.wenc_base.specs.Delimited.{NoCause}
@@ -22,20 +23,23 @@ use Rattle.wenc_types.specs.laws.Sizes.{short_type_free}
 use Rattle.wenc_sections.specs.Start.{Start, start_cause}
 use Rattle.wenc_base.specs.Custom.{Custom, custom_cause}
 use Rattle.wenc_sections.specs.Exports.{export_text}
+use Rattle.wenc_sections.specs.Instances.{CoreInstance, CoreInstantiate, CoreExports, core_instance, argument_cause, core_export_cause, core_instance_cause as core_instance_tells}
+use Rattle.wenc_sections.specs.Instances.{Instance, Instantiate, Exports, instance, given_cause, exported_cause, instance_cause as instance_tells}
 use Rattle.wenc_builder.specs.declared.builder.space.Space.{Space}
 use Rattle.wenc_builder.specs.declared.builder.kind.Kind.TheVariants as kinds
-use Rattle.wenc_builder.specs.Item.{ModuleItem, ComponentItem, StartItem, CustomItem, RawItem, collected, item, item_cause}
+use Rattle.wenc_builder.specs.Item.{ModuleItem, ComponentItem, StartItem, CustomItem, RawItem, collected, item, item_cause, core_instance_cause, instance_cause}
 use Rattle.wenc_builder.specs.Space.{space_number, kind_space, alias_space, canonical_space, IsPlaceOf, Defined, defined_as, defines}
 use Rattle.wenc_builder.specs.declared.builder.space.Space.TheVariants as spaces
-use Rattle.wenc_builder.specs.Entry.{Entry, entry, items, module_entry, component_entry, canonical_entry, raw_entry, import_entry, export_entry, alias_entry, type_entry}
-use Rattle.wenc_builder.specs.Builder.{Namespace, sections_text, Content, with_entry, with_alone, State, builder_is_finished, step, settled_in, content_of, namespace_at, Draft, draft, draft_place, begun_with, ended}
+use Rattle.wenc_builder.specs.Entry.{Entry, entry, items, module_entry, component_entry, canonical_entry, raw_entry, import_entry, export_entry, alias_entry, core_instance_entry, instance_entry, type_entry}
+use Rattle.wenc_builder.specs.Builder.{sections_text, Content, with_entry, with_alone, State, builder_is_finished, step, settled_in, content_of, namespace_at, Draft, draft, draft_place, begun_with, ended}
 use Rattle.wenc_builder.specs.Holds.{Holds}
-use Rattle.wenc_builder.specs.Cause.{PlaceCause, CallCause, EnterCause}
+use Rattle.wenc_builder.specs.Cause.{CallCause, EnterCause}
 use Rattle.wenc_builder.specs.Enters.{EntersWith, Enters, EntersPlaceless, TakesWith, Takes, TakesAlone, TakesNoPlace}
 use Rattle.wenc_builder.specs.Layout.{kind_id, draft_of, Buffered, NestCause}
-use Rattle.wenc_builder.proofs.Caused.{cause_is, long_is_large}
-use Rattle.wenc_builder.proofs.Never.{never_unfinished}
+use Rattle.wenc_builder.specs.laws.Caused.{long_is_large, adding_never_unfinished}
+use Rattle.wenc_builder.specs.laws.Never.{never_unfinished}
 use Rattle.wenc_builder.specs.laws.Step.{holds_step, holds_index, places_within}
+use Rattle.wenc_builder.specs.laws.Typed.{drafted}
 
 -- What one stands for, the other does, and there is no other without the one.
 abbrev pub Leads : (Fault → Type 0) → (Fault → Type 0) → Type 0
@@ -62,7 +66,7 @@ pub record IsDraftOf (x : Entry) (d : Draft) (cause : Fault → Type 0) : Type 0
 
 draft_is : (old : State) (x : Entry) (d : Draft) → collected x.item ≡ Some d.id → defines x.item ≡ Some (draft_place d) → x.name ≡ d.name → (item x.item).text ≡ d.text → IsEntry old x (content_of (begun_with old d)) (Some (draft_place d))
 draft_is old x d section defined named bytes = record {
-  content = rw (section, defined, named, bytes) refl;
+  content = drafted old x d section defined named bytes;
   defined = defined;
 }
 
@@ -100,14 +104,10 @@ from_entry old x after places cause w none fault c =
     let Q : Option Defined → Type 0 = λ k. CallCause old cause (with_entry old.settled x) k fault in
     subst P (sym w.content) (subst Q w.defined (same_call old (item_cause x.item) cause (with_entry old.settled x) (defines x.item) fault (λ own. absurd (none fault own)) c))
 
-place_never_unfinished : (space : ℕ → Namespace) (d : Option Defined) → PlaceCause space d Unfinished → ⊥
-place_never_unfinished space None c = c
-place_never_unfinished space (Some d) c = c
-
 only_unfinished : (old : State) (x : Entry) → EnterCause old x Unfinished → builder_is_finished old ≡ false
-only_unfinished old x (inl (inl c)) = absurd (never_unfinished x.item c)
-only_unfinished old x (inl (inr (inl c))) = absurd (place_never_unfinished _ (defines x.item) c)
-only_unfinished old x (inl (inr (inr c))) = elim (cause_is (with_entry old.settled x).sections.current Unfinished c) [ inl e ↦ cc | inr e ↦ cc ]
+only_unfinished old x (inl c) =
+    let after = with_entry old.settled x in
+    absurd (adding_never_unfinished (item_cause x.item) (namespace_at after.spaces) (defines x.item) after.sections.current (never_unfinished x.item) c)
 only_unfinished old x (inr c) = c.1
 
 -- ---- its call
@@ -291,6 +291,48 @@ alias_enters old new result to space name s t = draft_enters old new result (ali
   bytes = refl;
   leads = itself (alias_cause to);
 }) t
+
+-- ---- instances
+
+-- what is asked first is no more and no less than either
+either_leads : (one next : Fault → Type 0) → Leads (first_of one next) (either one next)
+either_leads one next = (there, none)
+  where
+    there : (fault : Fault) → first_of one next fault → either one next fault
+    there fault (inl c) = inl c
+    there fault (inr p) = inr p.1
+
+    none : NoCause (first_of one next) → NoCause (either one next)
+    none no_cause fault (inl c) = no_cause fault (inl c)
+    none no_cause fault (inr c) = no_cause fault (inr ((λ other k. no_cause other (inl k)), c))
+
+core_instance_leads : (i : CoreInstance) → Leads (core_instance_tells i) (core_instance_cause i)
+core_instance_leads (CoreInstantiate module_index arguments) = either_leads (count_cause (length arguments)) (member_cause argument_cause arguments)
+core_instance_leads (CoreExports exports) = either_leads (count_cause (length exports)) (member_cause core_export_cause exports)
+
+pub core_instance_enters : (old new : State) (result : Result ℕ Fault) (i : CoreInstance) (name : Option (List ℕ)) (d : Draft) → d ≡ draft_of kinds.CoreInstance spaces.CoreInstances name (core_instance i).text
+    → Takes old new (ended (begun_with old d)) result d (core_instance_tells i) → Enters old new result (core_instance_entry name i)
+core_instance_enters old new result i name d is t = draft_enters old new result (core_instance_entry name i) d _ (rw is (record {
+  section = refl;
+  defined = refl;
+  named = refl;
+  bytes = refl;
+  leads = core_instance_leads i;
+})) t
+
+instance_leads : (i : Instance) → Leads (instance_tells i) (instance_cause i)
+instance_leads (Instantiate component_index arguments) = either_leads (count_cause (length arguments)) (member_cause given_cause arguments)
+instance_leads (Exports exports) = either_leads (count_cause (length exports)) (member_cause exported_cause exports)
+
+pub instance_enters : (old new : State) (result : Result ℕ Fault) (i : Instance) (name : Option (List ℕ)) (d : Draft) → d ≡ draft_of kinds.Instance spaces.Instances name (instance i).text
+    → Takes old new (ended (begun_with old d)) result d (instance_tells i) → Enters old new result (instance_entry name i)
+instance_enters old new result i name d is t = draft_enters old new result (instance_entry name i) d _ (rw is (record {
+  section = refl;
+  defined = refl;
+  named = refl;
+  bytes = refl;
+  leads = instance_leads i;
+})) t
 
 -- ---- a nested builder
 

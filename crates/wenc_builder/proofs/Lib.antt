@@ -1,12 +1,10 @@
 pub mod Gap
-pub mod Caused
 pub mod Mapped
 pub mod Laid
 pub mod Undone
 pub mod Viewed
 pub mod Taken
 pub mod Alone
-pub mod Never
 pub mod Entered
 pub mod Listed
 pub mod Named

@@ -26,7 +26,7 @@ use Rattle.wenc_builder.specs.Lent.{no_room}
 use Rattle.wenc_builder.specs.declared.builder.kind.Kind.TheVariants as kinds
 use Rattle.wenc_builder.specs.declared.builder.space.Space.{Space}
 use Rattle.wenc_builder.specs.laws.Lent.{still_begun, appended_twice}
-use Rattle.wenc_builder.proofs.Caused.{section_grows}
+use Rattle.wenc_builder.specs.laws.Caused.{section_grows}
 use Rattle.wenc_builder.proofs.Taken.{not_begun, added, partly_written}
 use Rattle.wenc_builder.proofs.Entered.{Leads, leads, through, IsDraftOf, draft_enters}
 

@@ -9,7 +9,7 @@ use Rattle.wenc_base.proofs.Groups.{size_monotone}
 use Rattle.wenc_builder.specs.Builder.{Namespace, space_view, namespace_with}
 use Rattle.wenc_builder.specs.Cause.{SpaceCause}
 use Rattle.wenc_builder.specs.Spaces.{NamesFit}
-use Rattle.wenc_builder.proofs.Caused.{space_free}
+use Rattle.wenc_builder.specs.laws.Caused.{space_free}
 
 -- one name more that was accepted
 pub named_fit : (old new : Held) (cause : Fault → Type 0) (n : Named) → NamesFit old → Accepted named_text old new cause n → NamesFit new

@@ -11,7 +11,7 @@ use Rattle.wenc_builder.specs.Layout.{AppendCause, Buffered}
 use Rattle.wenc_builder.specs.Space.{Defined}
 use Rattle.wenc_builder.specs.Spaces.{Spaced}
 use Rattle.wenc_builder.specs.View.{Agree, builder_view}
-use Rattle.wenc_builder.proofs.Caused.{space_refuses, section_refuses, begun_free, beginning_refuses, text_refuses, whole_free}
+use Rattle.wenc_builder.specs.laws.Caused.{space_refuses, section_refuses, begun_free, beginning_refuses, text_refuses, whole_free}
 use Rattle.wenc_builder.specs.laws.Step.{holds_index}
 use Rattle.wenc_builder.proofs.Viewed.{finished_is}
 

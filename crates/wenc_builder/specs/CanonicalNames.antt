@@ -1,7 +1,7 @@
--- The debug names of the functions that the component model provides: their own names (component model, explainer,
--- "Canonical Built-ins").
-use Rattle.std.specs.Prelude.{ℕ, List, ◌++◌, codes, decimal}
-use Rattle.wenc_canon.specs.Canonicals.{row, Values, Intrinsic, ResourceNew, ResourceDrop, ResourceRep, TaskCancel, SubtaskCancel, TaskReturn, ContextGet, ContextSet, ThreadYield, SubtaskDrop, StreamNew, StreamRead, StreamWrite, StreamCancelRead, StreamCancelWrite, StreamDropReadable, StreamDropWritable, FutureNew, FutureRead, FutureWrite, FutureCancelRead, FutureCancelWrite, FutureDropReadable, FutureDropWritable, ErrorContextNew, ErrorContextDebugMessage, ErrorContextDrop, WaitableSetNew, WaitableSetWait, WaitableSetPoll, WaitableSetDrop, WaitableJoin, BackpressureInc, BackpressureDec, ThreadIndex, ThreadNewIndirect, ThreadResumeLater, ThreadSuspend, ThreadSuspendThenResume, ThreadYieldThenResume, ThreadSuspendThenPromote, ThreadYieldThenPromote, StreamForward, FutureForward, ThreadSpawnRef, ThreadSpawnIndirect, ThreadAvailableParallelism}
+-- The debug names of canonical functions. Those that the component model provides have their own names (component
+-- model, explainer, "Canonical Built-ins").
+use Rattle.std.specs.Prelude.{ℕ, List, ◌++◌, Option, Some, codes, decimal}
+use Rattle.wenc_canon.specs.Canonicals.{Canonical, Lift, Lower, Provided, row, Values, Intrinsic, ResourceNew, ResourceDrop, ResourceRep, TaskCancel, SubtaskCancel, TaskReturn, ContextGet, ContextSet, ThreadYield, SubtaskDrop, StreamNew, StreamRead, StreamWrite, StreamCancelRead, StreamCancelWrite, StreamDropReadable, StreamDropWritable, FutureNew, FutureRead, FutureWrite, FutureCancelRead, FutureCancelWrite, FutureDropReadable, FutureDropWritable, ErrorContextNew, ErrorContextDebugMessage, ErrorContextDrop, WaitableSetNew, WaitableSetWait, WaitableSetPoll, WaitableSetDrop, WaitableJoin, BackpressureInc, BackpressureDec, ThreadIndex, ThreadNewIndirect, ThreadResumeLater, ThreadSuspend, ThreadSuspendThenResume, ThreadYieldThenResume, ThreadSuspendThenPromote, ThreadYieldThenPromote, StreamForward, FutureForward, ThreadSpawnRef, ThreadSpawnIndirect, ThreadAvailableParallelism}
 
 -- that of a slot of a task has the slot's number behind it
 abbrev pub provided_name : (i : Intrinsic) → Values (row i).fields → List ℕ
@@ -52,3 +52,9 @@ provided_name FutureForward values = codes "future.forward"
 provided_name ThreadSpawnRef values = codes "thread.spawn-ref"
 provided_name ThreadSpawnIndirect values = codes "thread.spawn-indirect"
 provided_name ThreadAvailableParallelism values = codes "thread.available-parallelism"
+
+-- the debug name of a canonical function: its own, or for one that is lifted or lowered the one that is given
+abbrev pub canonical_name : Option (List ℕ) → Canonical → Option (List ℕ)
+canonical_name debug_name (Lift function options ty) = debug_name
+canonical_name debug_name (Lower function options) = debug_name
+canonical_name debug_name (Provided i values) = Some (provided_name i values)

@@ -10,6 +10,7 @@ pub mod Enters
 pub mod Layout
 pub mod Lent
 pub mod Names
+pub mod Naming
 pub mod Spaces
 pub mod View
 pub mod laws

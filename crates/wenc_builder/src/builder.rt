@@ -19,6 +19,7 @@ ghost use Rattle.wenc_builder.specs.Enters.{Enters, EntersPlaceless, Takes, Take
 ghost use Rattle.wenc_builder.specs.Space.{defined_as, canonical_space};
 ghost use Rattle.wenc_builder.specs.Layout.{draft_of};
 ghost use Rattle.wenc_builder.specs.Names.{AddsNames};
+ghost use Rattle.wenc_builder.specs.Naming.{slot_name};
 
 mod buffer;
 mod canonicals;
@@ -32,6 +33,7 @@ mod namespace;
 mod nested;
 mod space;
 mod spaces;
+mod trees;
 mod types;
 
 use buffer::Buffer;
@@ -40,6 +42,7 @@ use nested::Nested;
 use space::Space;
 use spaces::Spaces;
 use std::alloc::{Allocator, Global};
+use std::convert::AsSlice;
 use std::marker::Model;
 use wenc_base::{
     CustomSection, Encode, ExportKind, Fault, Lender, Module, RawCustomSection, Tagged, WithSize,
@@ -377,18 +380,49 @@ impl<A: Allocator> ComponentBuilder<A> {
         )
     }
 
+    /// Adds a canonical function, which has its place in this space, with a debug name or none. Answers its index.
+    fn add_canonical<B: Allocator>(
+        &mut self,
+        space: Space,
+        name: Option<&str>,
+        function: &CanonTree<B>,
+    ) -> Result<u32, Fault>
+        requires { canonical_space (canon_view function.now) ≡ space }
+        ensures { Enters self.old self.new result
+            (canonical_entry (option_copied name.entry) (canon_view function.now)) }
+    {
+        self.add(Kind::CanonicalFunction, space, name, function)
+    }
+
     /// Adds a function that gives a core one, with this debug name. Answers its index.
     fn provide(&mut self, name: &str, function: &CanonTree) -> Result<u32, Fault>
         requires { canonical_space (canon_view function.now) ≡ Space.CoreFuncs }
         ensures { Enters self.old self.new result
             (canonical_entry (Some name.now) (canon_view function.now)) }
     {
-        self.add(
-            Kind::CanonicalFunction,
-            Space::CoreFuncs,
-            Some(name),
-            function,
-        )
+        self.add_canonical(Space::CoreFuncs, Some(name), function)
+    }
+
+    /// Adds a function of a slot of a task, whose debug name is this word with the number of the slot behind it. Answers
+    /// its index.
+    fn provide_for_slot<B: Allocator>(
+        &mut self,
+        word: &str,
+        slot: u32,
+        function: &CanonTree<B>,
+    ) -> Result<u32, Fault>
+    where
+        A: Clone,
+        requires { canonical_space (canon_view function.now) ≡ Space.CoreFuncs }
+        ensures { Enters self.old self.new result
+            (canonical_entry (Some (slot_name word.now slot)) (canon_view function.now)) }
+    {
+        if !self.is_finished() {
+            return Err(Fault::Unfinished);
+        }
+        let alloc = self.spaces.allocator().clone()?;
+        let name = format!(in alloc; "{word} {slot}")?;
+        self.add_canonical(Space::CoreFuncs, Some(name.as_str()), function)
     }
 
     /// Adds a section of the debug names so far, in the order of their spaces' sorts; the names stay, so that a second
@@ -566,14 +600,14 @@ impl<A: Allocator> ComponentBuilder<A> {
     /// Has a function called with these values when the component is instantiated. Answers the number of values so
     /// far, which is the index of the first result (component model, binary format, "Start Definitions"). Refused as
     /// the type says.
-    pub fn start<B: Allocator>(
+    pub fn start<V: AsSlice<u32> + Drop>(
         &mut self,
         function_index: u32,
-        args: Vec<u32, B>,
+        args: V,
         results: u32,
     ) -> Result<u32, Fault>
         ensures { Enters self.old self.new result
-            (start_entry function_index args.items results) }
+            (start_entry function_index (V.items args) results) }
     {
         let start = ComponentStartSection {
             function_index,

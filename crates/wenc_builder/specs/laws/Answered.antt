@@ -3,15 +3,18 @@ use Rattle.std.proofs.Common.{◌≡◌, ℕ, inl, inr, List, [], ◌∷◌, ◌
 use Rattle.std.specs.Result.{MatchResult}
 use Rattle.wenc_base.specs.Fault.{IsWarranted}
 use Rattle.wenc_base.specs.declared.fault.Fault.{Fault}
+use Rattle.wenc_base.specs.declared.fault.Fault.TheVariants.{Unfinished}
 use Rattle.wenc_base.specs.laws.Causes.{still_warranted}
 use Rattle.wenc_builder.specs.Item.{Item, item_cause}
 use Rattle.wenc_builder.specs.Sections.{runs}
-use Rattle.wenc_builder.specs.Space.{Defined, defines, IsPlaceAt, place_at, place_of}
+use Rattle.wenc_builder.specs.Space.{Defined, defines, IsPlaceAt, IsPlaceOf, place_at, place_of}
 use Rattle.wenc_builder.specs.Entry.{Entry, items}
 use Rattle.wenc_builder.specs.Builder.{OpenSection, Namespace, namespace_at, with_entry, State}
 use Rattle.wenc_builder.specs.Holds.{open_of, namespace_of, Holds}
 use Rattle.wenc_builder.specs.Cause.{SectionCause, SpaceCause, PlaceCause, AddingCause, EnterCause, EntryCause}
-use Rattle.wenc_builder.specs.Enters.{Enters}
+use Rattle.wenc_builder.specs.Enters.{EntersWith, Enters}
+use Rattle.wenc_builder.specs.laws.Caused.{adding_never_unfinished}
+use Rattle.wenc_builder.specs.laws.Never.{never_unfinished}
 use Rattle.wenc_builder.specs.laws.Step.{holds_step, places_within}
 
 -- what the content with one more entry is, by the list that is held then
@@ -42,18 +45,32 @@ moved cause s t d o p f e q (inr (inl c)) = inr (inl (place_moved s t d f e c))
 moved cause s t d o p f e q (inr (inr c)) = inr (inr (subst (λ (n : Option OpenSection). SectionCause n f) q c))
 
 -- the call's cause is the entry's
-to_entry : (old : State) (es : List Entry) (x : Entry) → Holds old es → (f : Fault) → EnterCause old x f → EntryCause es x f
+pub to_entry : (old : State) (es : List Entry) (x : Entry) → Holds old es → (f : Fault) → EnterCause old x f → EntryCause es x f
 to_entry old es x h f (inl c) = moved (item_cause x.item) _ _ _ _ _ f (space_is old es x _ refl h) (current_is old es x h) c
 to_entry old es x h f (inr c) = let none : old.begun ≡ None = h.finished in let some = c.1 in cc
 
-from_entry : (old : State) (es : List Entry) (x : Entry) → Holds old es → (f : Fault) → EntryCause es x f → EnterCause old x f
+pub from_entry : (old : State) (es : List Entry) (x : Entry) → Holds old es → (f : Fault) → EntryCause es x f → EnterCause old x f
 from_entry old es x h f c = inl (moved (item_cause x.item) _ _ _ _ _ f (backwards _ _ _ (space_is old es x _ refl h)) (sym (current_is old es x h)) c)
+
+-- an entry's cause is never that something is unfinished
+pub entry_never_unfinished : (es : List Entry) (x : Entry) → EntryCause es x Unfinished → ⊥
+entry_never_unfinished es x c =
+    let after = es ++ x ∷ [] in
+    adding_never_unfinished (item_cause x.item) (namespace_of after) (defines x.item) (open_of (runs (items after))) (never_unfinished x.item) c
+
+pub answered_with : {R : Type 0} (old new : State) (result : Result R Fault) (x : Entry) (Told : List Entry → R → Type 0) (es : List Entry) → EntersWith old new result x Told → Holds old es
+    → MatchResult result (λ r. Holds new (es ++ x ∷ []) × Told es r × ((fault : Fault) → EntryCause es x fault → ⊥)) (λ fault. Holds new es × IsWarranted (EntryCause es x) fault)
+answered_with old new (Ok r) x Told es e h = ((e.held es h).0, (e.held es h).1, λ fault c. e.free fault (from_entry old es x h fault c))
+answered_with old new (Err fault) x Told es e h = (rw e.err h, still_warranted _ _ (to_entry old es x h) fault e.warranted)
 
 place_is : (xs : List Item) (d : Option Defined) (i : ℕ) → IsPlaceAt xs d i → Some i ≡ place_at xs d
 place_is xs None i p = absurd p
 place_is xs (Some d) i p = ap (λ (n : ℕ). Some n) p
 
+-- the same where the answer is the entry's place
 pub answered : (old new : State) (result : Result ℕ Fault) (x : Entry) (es : List Entry) → Enters old new result x → Holds old es
     → MatchResult result (λ i. Holds new (es ++ x ∷ []) × (Some i ≡ place_of (items es) x.item) × ((fault : Fault) → EntryCause es x fault → ⊥)) (λ fault. Holds new es × IsWarranted (EntryCause es x) fault)
-answered old new (Ok i) x es e h = ((e.held es h).0, place_is (items es) (defines x.item) i (e.held es h).1, λ fault c. e.free fault (from_entry old es x h fault c))
-answered old new (Err fault) x es e h = (rw e.err h, still_warranted _ _ (to_entry old es x h) fault e.warranted)
+answered old new (Ok i) x es e h =
+    let a = answered_with old new (Ok i) x (λ es i. IsPlaceOf (items es) x.item i) es e h in
+    (a.0, place_is (items es) (defines x.item) i a.1, a.2)
+answered old new (Err fault) x es e h = answered_with old new (Err fault) x (λ es i. IsPlaceOf (items es) x.item i) es e h

@@ -72,7 +72,7 @@ runs_push (y ∷ ys) x = rw (runs_push ys x) (around (collected y) (collected x)
 
 -- ---- the texts
 
-pushed_some : (o : Option ℕ) (ps : List Section) (x : Item) → (r : Section) × (rs : List Section) × (pushed o ps x ≡ r ∷ rs)
+pub pushed_some : (o : Option ℕ) (ps : List Section) (x : Item) → (r : Section) × (rs : List Section) × (pushed o ps x ≡ r ∷ rs)
 pushed_some None [] x = (_, _, refl)
 pushed_some (Some id) [] x = (_, _, refl)
 pushed_some None (p ∷ []) x = (_, _, refl)
@@ -81,7 +81,7 @@ pushed_some (Some id) (Run l ys ∷ []) x =
     elim (eqb_tells l id) [ inl t ↦ (Run l (ys ++ x ∷ []), [], rw t.0 refl) | inr t ↦ (Run l ys, Run id (x ∷ []) ∷ [], rw t.0 refl) ]
 pushed_some o (p ∷ q ∷ ps) x = (_, _, refl)
 
-open_skip : (p r : Section) (ps rs : List Section) → ps ≡ r ∷ rs → open_of (p ∷ ps) ≡ open_of ps
+pub open_skip : (p r : Section) (ps rs : List Section) → ps ≡ r ∷ rs → open_of (p ∷ ps) ≡ open_of ps
 open_skip p r ps rs e = rw e refl
 
 abbrev pub texts : List Section → List ℕ

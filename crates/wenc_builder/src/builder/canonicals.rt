@@ -108,12 +108,8 @@ impl<A: Allocator> ComponentBuilder<A> {
         A: Clone,
         ensures { Enters self.old self.new result (provided_entry rows.ContextGet (ty, slot)) }
     {
-        if !self.is_finished() {
-            return Err(Fault::Unfinished);
-        }
-        let alloc = self.spaces.allocator().clone()?;
-        let name = format!(in alloc; "context.get {slot}")?;
-        self.provide(name.as_str(), &CanonTree::ContextGet { ty, slot })
+        let function: CanonTree = CanonTree::ContextGet { ty, slot };
+        self.provide_for_slot("context.get", slot, &function)
     }
 
     /// `context.set`: writes a slot of the current task, which has this value type. The slot's number stands in its
@@ -123,12 +119,8 @@ impl<A: Allocator> ComponentBuilder<A> {
         A: Clone,
         ensures { Enters self.old self.new result (provided_entry rows.ContextSet (ty, slot)) }
     {
-        if !self.is_finished() {
-            return Err(Fault::Unfinished);
-        }
-        let alloc = self.spaces.allocator().clone()?;
-        let name = format!(in alloc; "context.set {slot}")?;
-        self.provide(name.as_str(), &CanonTree::ContextSet { ty, slot })
+        let function: CanonTree = CanonTree::ContextSet { ty, slot };
+        self.provide_for_slot("context.set", slot, &function)
     }
 
     /// `subtask.drop`: drops a subtask that has ended.

@@ -1,14 +1,28 @@
-use Rattle.std.proofs.Common.{◌≡◌, ◌+◌, [], ◌∷◌, drop, map, arith}
+use Rattle.std.proofs.Common.{false, true, ◌≡◌, ◌+◌, [], ◌∷◌, drop, map, arith, refl, inr}
 use Rattle.std.proofs.lemmas.List.{drop_all}
+use Rattle.std.specs.Prelude.{IsTrue}
+use Rattle.wenc_builder.specs.Builder.{builder_is_finished}
 use Rattle.wasm_encoder.specs.Command.{command_view}
-use Rattle.wasm_encoder.proofs.Run.{ran_more, ran_all, next_is, mapped}
+use Rattle.wasm_encoder.proofs.Run.{ran_none, ran_more, ran_all, ran_stopped, next_is}
 use Rattle.wasm_encoder.proofs.command.build.Goals as goal
+
+pub loop-command-init : goal.loop-command-init
+loop-command-init g c = rw c.new-answers.ensures.items (ran_none (map command_view c.args.commands.now) c.in_ok-builder.builder c.in_ok-builder.ensures.held)
 
 pub loop-command-preserved : goal.loop-command-preserved
 loop-command-preserved g c =
     let split : drop c.loop-command.command-index c.args.commands.now ≡ c.command-item.result ∷ drop (c.loop-command.command-index + 1) c.args.commands.now = next_is c.args.commands.now c.loop-command.command-index c.command-item.result c.command-item.result (omega arith) c.command-item.is in
-    rw (c.in_ok-push.ensures.items, mapped c.run.result c.map-answer.result c.map-answer.ensures.cases)
-    (ran_more (map command_view c.args.commands.now) _ (command_view c.command-item.result) _ c.run.result _ _ (rw split at c.loop-command.invariant) c.run.ensures)
+    rw c.in_ok-push.ensures.items (ran_more (map command_view c.args.commands.now) _ (command_view c.command-item.result) _ c.in-Ok.answer _ _ (rw split at c.loop-command.invariant) c.in-Ok.ensures)
+
+pub returns-in-Err-clause-refused : goal.returns-in-Err-clause-refused
+returns-in-Err-clause-refused g c =
+    let split : drop c.loop-command.command-index c.args.commands.now ≡ c.command-item.result ∷ drop (c.loop-command.command-index + 1) c.args.commands.now = next_is c.args.commands.now c.loop-command.command-index c.command-item.result c.command-item.result (omega arith) c.command-item.is in
+    inr (ran_stopped (map command_view c.args.commands.now) _ (command_view c.command-item.result) _ c.in-Err.fault _ (rw split at c.loop-command.invariant) c.in-Err.ensures)
+
+pub returns-in_err-bytes-clause-refused : goal.returns-in_err-bytes-clause-refused
+returns-in_err-bytes-clause-refused g c =
+    let finished : IsTrue (builder_is_finished c.loop-command.builder) = rw c.loop-command.invariant.held.finished refl in
+    let no : false ≡ true = c.in_err-bytes.ensures.ok.1 finished in cc
 
 pub returns-clause-ran : goal.returns-clause-ran
 returns-clause-ran g c =

@@ -4,4 +4,4 @@ use Rattle.wenc_builder.proofs.Entered.{start_enters}
 use Rattle.wenc_builder.proofs.builder.ComponentBuilder.start.Goals as goal
 
 pub returns : goal.returns
-returns g c = start_enters c.args.self.now c.stand_alone.new.self c.stand_alone.result (started c.args.function_index c.args.args.items c.args.results) _ (rw c.into.ensures refl) c.stand_alone.ensures
+returns g c = start_enters c.args.self.now c.stand_alone.new.self c.stand_alone.result (started c.args.function_index (g.V.AsSlice.items c.args.args) c.args.results) _ (rw c.into.ensures refl) c.stand_alone.ensures

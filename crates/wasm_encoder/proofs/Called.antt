@@ -1,0 +1,95 @@
+-- A call of a builder is a command's answer.
+use Rattle.std.proofs.Common.{◌≡◌, ℕ, List, [], ◌∷◌, ◌++◌, Result, Ok, Err, Option, Some, None, refl, sym, subst, append-nil}
+use Rattle.std.proofs.lemmas.Option.{same_Some}
+use Rattle.std.specs.Option.{MatchOption}
+use Rattle.std.specs.Result.{MatchResult}
+use Rattle.wenc_base.specs.Delimited.{NoCause}
+use Rattle.wenc_base.specs.Fault.{IsWarranted, IsMemory}
+use Rattle.wenc_base.specs.declared.fault.Fault.{Fault}
+use Rattle.wenc_base.specs.declared.fault.Fault.TheVariants.{Memory, TooMany, TooLarge, Unfinished}
+use Rattle.wenc_base.specs.laws.Causes.{SameCause, same_cause, still_warranted}
+use Rattle.wenc_builder.specs.Builder.{State}
+use Rattle.wenc_builder.specs.Cause.{EntryCause}
+use Rattle.wenc_builder.specs.Entry.{Entry, items}
+use Rattle.wenc_builder.specs.Enters.{Enters, EntersPlaceless}
+use Rattle.wenc_builder.specs.Holds.{Holds}
+use Rattle.wenc_builder.specs.Item.{Item}
+use Rattle.wenc_builder.specs.Names.{named_entry, names_entry, AddsNames}
+use Rattle.wenc_builder.specs.Space.{place_of}
+use Rattle.wenc_sections.specs.Names.{Subsection}
+use Rattle.wenc_builder.specs.laws.Answered.{answered, answered_with, entry_never_unfinished}
+use Rattle.wasm_encoder.specs.Command.{CommandTree, AppendNames}
+use Rattle.wasm_encoder.specs.Cause.{one_or_none, added, place_added, added_cause, cause}
+use Rattle.wasm_encoder.specs.Ran.{IsRefusal}
+use Rattle.wasm_encoder.specs.Steps.{Answers, placed, placeless}
+
+-- what warrants an entry's refusal is never that something is unfinished
+pub refusal : (es : List Entry) (x : Entry) (fault : Fault) → IsWarranted (EntryCause es x) fault → IsRefusal (EntryCause es x) fault
+refusal es x fault w = (w, λ e. entry_never_unfinished es x (subst (IsWarranted (EntryCause es x)) e w))
+
+-- want of memory may refuse what has any cause
+pub memory_alone : (cause : Fault → Type 0) (fault : Fault) → IsMemory fault → IsRefusal cause fault
+memory_alone cause (Memory e) m = (tt, λ same. cc)
+memory_alone cause TooMany m = absurd m
+memory_alone cause TooLarge m = absurd m
+memory_alone cause Unfinished m = absurd m
+
+-- a refusal for a cause that follows
+pub refusal_as : (one other : Fault → Type 0) → ((fault : Fault) → one fault → other fault) → (fault : Fault) → IsRefusal one fault → IsRefusal other fault
+refusal_as one other leads fault r = (still_warranted one other leads fault r.0, r.1)
+
+-- After these entries an answer is due to a command that adds these, and leaves them held.
+abbrev pub IsDueTo : List Entry → List Entry → (Fault → Type 0) → State → Result (Option ℕ) Fault → Type 0
+IsDueTo es xs cause new (Ok answer) = Holds new (es ++ xs) × (answer ≡ place_added es xs) × NoCause cause
+IsDueTo es xs cause new (Err fault) = Holds new es × IsRefusal cause fault
+
+-- That is an answer of each command which adds these and has that cause.
+pub due : (old new : State) (a : Result (Option ℕ) Fault) (c : CommandTree)
+    → ((es : List Entry) → Holds old es → (xs : List Entry) × (other : Fault → Type 0) × (added es c ≡ xs) × SameCause (cause es c) other × IsDueTo es xs other new a) → Answers old new a c
+due old new (Ok answer) c d = record {
+  held = λ es h.
+      let k = d es h in
+      let e : k.0 ≡ added es c = sym k.2 in
+      (subst (λ (xs : List Entry). Holds new (es ++ xs)) e k.4.0, (subst (λ (xs : List Entry). answer ≡ place_added es xs) e k.4.1, λ fault why. k.4.2 fault (k.3.0 fault why)));
+}
+due old new (Err fault) c d = record {
+  held = λ es h. let k = d es h in (k.4.0, refusal_as k.1 (cause es c) k.3.1 fault k.4.1);
+}
+
+-- a call that adds this entry
+pub entered : (old new : State) (r : Result ℕ Fault) (c : CommandTree) (x : Entry) → ((es : List Entry) → added es c ≡ x ∷ []) → ((es : List Entry) → SameCause (cause es c) (EntryCause es x))
+    → Enters old new r x → Answers old new (placed r) c
+entered old new r c x adds caused e = due old new (placed r) c (λ es h. (x ∷ [], EntryCause es x, adds es, caused es, is_due r es (answered old new r x es e h)))
+  where
+    is_due : (r : Result ℕ Fault) (es : List Entry)
+        → MatchResult r (λ i. Holds new (es ++ x ∷ []) × (Some i ≡ place_of (items es) x.item) × NoCause (EntryCause es x)) (λ fault. Holds new es × IsWarranted (EntryCause es x) fault)
+        → IsDueTo es (x ∷ []) (EntryCause es x) new (placed r)
+    is_due (Ok i) es a = a
+    is_due (Err fault) es a = (a.0, refusal es x fault a.1)
+
+-- a call that adds an entry which has no place
+pub entered_placeless : (old new : State) (r : Result (Unit {0}) Fault) (c : CommandTree) (x : Entry) → ((es : List Entry) → added es c ≡ x ∷ []) → ((es : List Entry) → SameCause (cause es c) (EntryCause es x))
+    → ((es : List Entry) → place_of (items es) x.item ≡ None) → EntersPlaceless old new r x → Answers old new (placeless r) c
+entered_placeless old new r c x adds caused nowhere e = due old new (placeless r) c (λ es h. (x ∷ [], EntryCause es x, adds es, caused es, is_due r es (answered_with old new r x (λ _ _. Unit {0}) es e h)))
+  where
+    is_due : (r : Result (Unit {0}) Fault) (es : List Entry)
+        → MatchResult r (λ u. Holds new (es ++ x ∷ []) × Unit {0} × NoCause (EntryCause es x)) (λ fault. Holds new es × IsWarranted (EntryCause es x) fault)
+        → IsDueTo es (x ∷ []) (EntryCause es x) new (placeless r)
+    is_due (Ok u) es a = (a.0, sym (nowhere es), a.2)
+    is_due (Err fault) es a = (a.0, refusal es x fault a.1)
+
+-- the section of names has no place
+names_nowhere : (xs : List Item) (names : List Subsection) (x : Entry) → named_entry names ≡ Some x → place_of xs x.item ≡ None
+names_nowhere xs [] x e = absurd cc
+names_nowhere xs (n ∷ names) x e = subst (λ (y : Entry). place_of xs y.item ≡ None) (same_Some _ x e) refl
+
+-- the call that adds the names so far
+pub names_entered : (old new : State) (r : Result (Unit {0}) Fault) → AddsNames old new r → Answers old new (placeless r) AppendNames
+names_entered old new r a = due old new (placeless r) AppendNames (λ es h. (one_or_none (names_entry es), added_cause es (one_or_none (names_entry es)), refl, same_cause, is_due r es (names_entry es) h (names_nowhere (items es) _) (a.held es h)))
+  where
+    is_due : (r : Result (Unit {0}) Fault) (es : List Entry) (o : Option Entry) → Holds old es → ((x : Entry) → o ≡ Some x → place_of (items es) x.item ≡ None)
+        → MatchOption o ((r ≡ Ok tt) × (new ≡ old)) (λ x. EntersPlaceless old new r x) → IsDueTo es (one_or_none o) (added_cause es (one_or_none o)) new (placeless r)
+    is_due (Ok u) es None h none m = (rw (m.1, append-nil es) h, refl, λ fault c. c)
+    is_due (Err fault) es None h none m = absurd cc
+    is_due (Ok u) es (Some x) h none m = let k = answered_with old new (Ok u) x (λ _ _. Unit {0}) es m h in (k.0, sym (none x refl), k.2)
+    is_due (Err fault) es (Some x) h none m = let k = answered_with old new (Err fault) x (λ _ _. Unit {0}) es m h in (k.0, refusal es x fault k.1)

@@ -1,0 +1,5 @@
+use Rattle.wasm_encoder.proofs.Reading.{same_list}
+use Rattle.wasm_encoder.proofs.laws.one_list.Goals as goal
+
+pub returns : goal.returns
+returns c = same_list

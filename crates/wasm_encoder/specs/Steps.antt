@@ -1,0 +1,32 @@
+-- What running one command does to a builder.
+use Rattle.std.specs.Prelude.{ℕ, List, Result, Ok, Err, MatchResult, Option, Some, None}
+use Rattle.wenc_base.specs.declared.fault.Fault.{Fault}
+use Rattle.wenc_builder.specs.Builder.{State}
+use Rattle.wenc_builder.specs.Entry.{Entry}
+use Rattle.wenc_builder.specs.Holds.{Holds}
+use Rattle.wasm_encoder.specs.Command.{CommandTree}
+use Rattle.wasm_encoder.specs.Cause.{cause}
+use Rattle.wasm_encoder.specs.Ran.{IsRefusal, IsDue, entries_after, IsTyped}
+
+-- A command got an answer, for every list of entries that was held.
+pub record Answers (old new : State) (answer : Result (Option ℕ) Fault) (c : CommandTree) : Type 0 where
+  pub held : (es : List Entry) → Holds old es → Holds new (entries_after es c answer) × IsDue es c answer
+
+-- A command's type was refused by its encoder, so that the builder is unfinished.
+pub record Stops (old : State) (fault : Fault) (c : CommandTree) : Type 0 where
+  pub typed : IsTyped c
+  pub refused : (es : List Entry) → Holds old es → IsRefusal (cause es c) fault
+
+-- what running a command does
+abbrev pub Runs : State → State → Result (Result (Option ℕ) Fault) Fault → CommandTree → Type 0
+Runs old new outcome c = MatchResult outcome (λ answer. Answers old new answer c) (λ fault. Stops old fault c)
+
+-- the answer of a call that answers an index
+abbrev pub placed : Result ℕ Fault → Result (Option ℕ) Fault
+placed (Ok index) = Ok (Some index)
+placed (Err fault) = Err fault
+
+-- and of one that answers none
+abbrev pub placeless : Result (Unit {0}) Fault → Result (Option ℕ) Fault
+placeless (Ok done) = Ok None
+placeless (Err fault) = Err fault

@@ -1,0 +1,84 @@
+-- What an item that is begun and then written owes to its entry's cause.
+use Rattle.std.proofs.Common.{◌≡◌, ℕ, List, [], Option, Some, refl, sym, ap, subst}
+use Rattle.wenc_base.specs.Lender.{either}
+use Rattle.wenc_base.specs.declared.fault.Fault.{Fault}
+use Rattle.wenc_types.specs.ComponentTypes.{TypeOf}
+use Rattle.wenc_types.specs.CoreTypes.{CoreType}
+use Rattle.wenc_builder.specs.Item.{collected, item, item_cause}
+use Rattle.wenc_builder.specs.Space.{Defined, defines}
+use Rattle.wenc_builder.specs.Entry.{Entry, type_entry, core_type_entry}
+use Rattle.wenc_builder.specs.Builder.{Content, with_entry, State, content_of, Draft, draft, draft_place, begun_with}
+use Rattle.wenc_builder.specs.Cause.{CallCause, EntryCause}
+use Rattle.wenc_builder.specs.Holds.{Holds}
+use Rattle.wenc_builder.specs.Layout.{draft_of}
+use Rattle.wenc_builder.specs.Lent.{no_room}
+use Rattle.wenc_builder.specs.declared.builder.kind.Kind.TheVariants as kinds
+use Rattle.wenc_builder.specs.declared.builder.space.Space.TheVariants as spaces
+use Rattle.wenc_builder.specs.laws.Answered.{to_entry, from_entry}
+use Rattle.wenc_builder.specs.laws.Caused.{beginning_refuses, text_refuses, whole_free}
+
+-- the content with a draft is the one with the entry that it is
+pub drafted : (old : State) (x : Entry) (d : Draft) → collected x.item ≡ Some d.id → defines x.item ≡ Some (draft_place d) → x.name ≡ d.name → (item x.item).text ≡ d.text → content_of (begun_with old d) ≡ with_entry old.settled x
+drafted old x d section defined named bytes = rw (section, defined, named, bytes) refl
+
+-- an item that is begun as this draft, with nothing of it written yet, and then written whole, is this entry
+pub record IsWritten (x : Entry) (d : Draft) : Type 0 where
+  pub bare : d.text ≡ []
+  pub section : collected x.item ≡ Some d.id
+  pub defined : defines x.item ≡ Some (draft_place d)
+  pub named : x.name ≡ d.name
+
+-- why it can't be begun, and why it can't be written then
+abbrev OpeningCause : State → Draft → Fault → Type 0
+OpeningCause old d = CallCause old (λ _. ⊥) (content_of (begun_with old d)) (Some (draft_place d))
+
+abbrev WritingCause : State → Entry → Draft → Fault → Type 0
+WritingCause old x d = either (item_cause x.item) (no_room (begun_with old d) (item x.item).text)
+
+module _ (old : State) (es : List Entry) (x : Entry) (d : Draft) (w : IsWritten x d) (h : Holds old es) where
+  -- the draft with its text, and the one that it is without
+  abbrev whole : Draft
+  whole = draft d.id d.space d.name (item x.item).text
+
+  bare_is : d ≡ draft d.id d.space d.name []
+  bare_is = ap (λ (t : List ℕ). draft d.id d.space d.name t) w.bare
+
+  content_is : content_of (begun_with old whole) ≡ with_entry old.settled x
+  content_is = drafted old x whole w.section w.defined w.named refl
+
+  abbrev WholeCause : Fault → Type 0
+  WholeCause = CallCause old (item_cause x.item) (content_of (begun_with old whole)) (Some (draft_place whole))
+
+  to_whole : (fault : Fault) → EntryCause es x fault → WholeCause fault
+  to_whole fault c =
+      let P : Content → Type 0 = λ k. CallCause old (item_cause x.item) k (defines x.item) fault in
+      let Q : Option Defined → Type 0 = λ k. CallCause old (item_cause x.item) (content_of (begun_with old whole)) k fault in
+      subst Q w.defined (subst P (sym content_is) (from_entry old es x h fault c))
+
+  from_whole : (fault : Fault) → WholeCause fault → EntryCause es x fault
+  from_whole fault c =
+      let P : Content → Type 0 = λ k. CallCause old (item_cause x.item) k (defines x.item) fault in
+      let Q : Option Defined → Type 0 = λ k. CallCause old (item_cause x.item) (content_of (begun_with old whole)) k fault in
+      to_entry old es x h fault (subst P content_is (subst Q (sym w.defined) c))
+
+  -- what refuses its beginning is the entry's cause
+  pub opening_due : (fault : Fault) → OpeningCause old d fault → EntryCause es x fault
+  opening_due fault c =
+      from_whole fault (beginning_refuses old d.id d.space d.name (item x.item).text (item_cause x.item) fault (subst (λ (e : Draft). OpeningCause old e fault) bare_is c))
+
+  -- what refuses its text too
+  pub writing_due : (fault : Fault) → WritingCause old x d fault → EntryCause es x fault
+  writing_due fault c = from_whole fault (text_refuses old whole (item_cause x.item) fault (subst (λ (e : Draft). WritingCause old x e fault) bare_is c))
+
+  -- and where neither is refused, the entry has no cause
+  pub written_free : ((fault : Fault) → OpeningCause old d fault → ⊥) → ((fault : Fault) → WritingCause old x d fault → ⊥) → (fault : Fault) → EntryCause es x fault → ⊥
+  written_free opening writing fault c =
+      whole_free old d.id d.space d.name (item x.item).text (item_cause x.item) (λ f k. opening f (subst (λ (e : Draft). OpeningCause old e f) (sym bare_is) k)) (λ f k. writing f (subst (λ (e : Draft). WritingCause old x e f) (sym bare_is) k))
+      fault (to_whole fault c)
+
+-- types are written so
+pub type_is_written : (name : Option (List ℕ)) (t : TypeOf) → IsWritten (type_entry name t) (draft_of kinds.«Type» spaces.Types name [])
+type_is_written name t = record { bare = refl; section = refl; defined = refl; named = refl }
+
+pub core_type_is_written : (name : Option (List ℕ)) (t : CoreType) → IsWritten (core_type_entry name t) (draft_of kinds.CoreType spaces.CoreTypes name [])
+core_type_is_written name t = record { bare = refl; section = refl; defined = refl; named = refl }
