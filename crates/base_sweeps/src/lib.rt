@@ -1,4 +1,4 @@
-//! Tests: each request for memory of the calls of `wenc_base` is refused in turn.
+//! Tests: each request for memory of the calls of `wenc_base` is refused in turn. And of the allocator that refuses.
 #![tactic(auto)]
 
 #[cfg(test)]
@@ -17,6 +17,8 @@ mod names;
 mod pieces;
 #[cfg(test)]
 mod producers;
+#[cfg(test)]
+mod refused;
 #[cfg(test)]
 mod swept;
 #[cfg(test)]

@@ -23,10 +23,10 @@ pub fn option_built<A: Allocator>(
         (λ i. i ≡ place (items es) (space_number spaces.Types)) }
 {
     match builder.type_defined(None) {
-        Ok((index, encoder)) => {
-            encoder.option(ty)?;
-            Ok(index)
-        }
+        Ok((index, encoder)) => match encoder.option(ty) {
+            Ok(()) => Ok(index),
+            Err(fault) => Err(fault),
+        },
         Err(fault) => Err(fault),
     }
 }
