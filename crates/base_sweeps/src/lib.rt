@@ -1,10 +1,13 @@
-//! Tests: each request for memory of the calls of `wenc_base` is refused in turn. And of the allocator that refuses.
+//! Tests: each request for memory of the calls of `wenc_base` and `wenc_parts` is refused in turn; and of the allocator
+//! that refuses.
 #![tactic(auto)]
 
 #[cfg(test)]
 mod composites;
 #[cfg(test)]
 mod entities;
+#[cfg(test)]
+mod extern_names;
 #[cfg(test)]
 mod holders;
 #[cfg(test)]
@@ -13,6 +16,8 @@ mod lists;
 mod modules;
 #[cfg(test)]
 mod names;
+#[cfg(test)]
+mod parts;
 #[cfg(test)]
 mod pieces;
 #[cfg(test)]
@@ -23,5 +28,7 @@ mod refused;
 mod swept;
 #[cfg(test)]
 mod types;
+#[cfg(test)]
+mod unfinished;
 #[cfg(test)]
 mod values;
