@@ -1,9 +1,9 @@
 -- Numbers read from their first digit on.
-use Rattle.std.proofs.Common.{◌≡◌, ℕ, ◌+◌, ◌-◌, ◌*◌, ◌^◌, ◌<◌, ◌≤◌, Bool, true, false, cond, List, [], ◌∷◌, Some, None, refl, ◌∙◌, arith, length, drop, get_or, add-one, eqb}
+use Rattle.std.proofs.Common.{◌≡◌, ℕ, ◌++◌, Option, ap, append_assoc, append-nil, ◌+◌, ◌-◌, ◌*◌, ◌^◌, ◌<◌, ◌≤◌, Bool, true, false, cond, List, [], ◌∷◌, Some, None, refl, ◌∙◌, arith, length, drop, get_or, add-one, eqb}
 use Rattle.std.proofs.lemmas.Bool.{le-ltb, lt-ltb}
 use Rattle.std.proofs.lemmas.List.{drop_all}
 use Rattle.std.proofs.Math.Seq.{drop-cons}
-use Rattle.wenc.specs.Script.{value_behind, at_most_32_bits, is_digit, number}
+use Rattle.wenc.specs.Fields.{value_behind, at_most_32_bits, is_digit, number, number_before}
 
 -- a digit more, or the end at another byte
 value_chosen : (is : Bool) (n m : ℕ) (bytes : List ℕ) → at_most_32_bits (value_behind m bytes) ≡ None → at_most_32_bits (cond is (value_behind m bytes) None) ≡ None
@@ -30,3 +30,19 @@ pub number_ends : (word : List ℕ) (i n : ℕ) → eqb (length word) 0 ≡ fals
     → n < 2 ^ 32 → number word ≡ Some n
 number_ends [] i n some ended same small = absurd cc
 number_ends (b ∷ word) i n some ended same small = same ∙ rw (drop_all i (b ∷ word) ended, lt-ltb _ _ small) refl
+
+-- ---- numbers one after the other
+
+-- numbers, and then those that words are, where all of these are numbers
+abbrev pub put_front : List ℕ → Option (List ℕ) → Option (List ℕ)
+put_front ns None = None
+put_front ns (Some behind) = Some (ns ++ behind)
+
+-- one more was read
+pub number_read : (ns : List ℕ) (n : ℕ) (behind : Option (List ℕ)) → put_front (ns ++ n ∷ []) behind ≡ put_front ns (number_before (Some n) behind)
+number_read ns n None = refl
+number_read ns n (Some behind) = ap (λ (all : List ℕ). Some all) (append_assoc ns (n ∷ []) behind)
+
+-- none is left
+pub numbers_read : (ns : List ℕ) → put_front ns (Some []) ≡ Some ns
+numbers_read ns = ap (λ (all : List ℕ). Some all) (append-nil ns)

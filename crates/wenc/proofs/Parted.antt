@@ -5,7 +5,7 @@ use Rattle.std.proofs.lemmas.Bool.{cases_lt, le-ltb, lt-ltb}
 use Rattle.std.proofs.lemmas.List.{take_all}
 use Rattle.std.proofs.lemmas.List.Sums.{prefix_len-le-length}
 use Rattle.std.specs.List.{position_or_len, before_first, after_first, position}
-use Rattle.wenc.specs.Script.{parted, command_of}
+use Rattle.wenc.specs.Parts.{parted}
 
 pub parted_whole : (separator : ℕ) (s : List ℕ) → position_or_len (λ b. eqb b separator) s ≡ length s → parted separator s ≡ s ∷ []
 parted_whole separator [] h = refl
@@ -34,16 +34,6 @@ parted_first separator (b ∷ s) h =
           let e : n < length s = omega (arith, rw t.0 at h) in
           rw (t.0, parted_first separator s e, take_one_more n b s, drop_one_more n b s) refl
     ]
-
-parted_some : (separator : ℕ) (s : List ℕ) → (part : List ℕ) × (parts : List (List ℕ)) × (parted separator s ≡ part ∷ parts)
-parted_some separator [] = ([], [], refl)
-parted_some separator (b ∷ s) =
-    let h = parted_some separator s in
-    elim (eqb_tells b separator) [ inl t ↦ ([], parted separator s, rw t.0 refl) | inr t ↦ (b ∷ h.0, h.1, rw (t.0, h.2) refl) ]
-
--- no line has five words
-pub no_fifth : (a b c d s : List ℕ) → command_of (a ∷ b ∷ c ∷ d ∷ parted 32 s) ≡ None
-no_fifth a b c d s = let h = parted_some 32 s in rw h.2 refl
 
 -- ---- the first line
 

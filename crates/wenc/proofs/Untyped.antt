@@ -1,14 +1,18 @@
 -- A script has no types, so that nothing but want of memory stops its run.
 use Rattle.std.proofs.Common.{◌≡◌, ℕ, ◌+◌, ◌⊎◌, List, [], ◌∷◌, ◌++◌, Bool, true, false, Option, None, Some, Result, Ok, Err, inl, inr, subst}
-use Rattle.std.specs.Prelude.{if◌then◌else◌, codes}
+use Rattle.std.specs.Prelude.{if◌then◌else◌, option_map, codes}
 use Rattle.std.specs.Str.{is_utf8, bytes_eq}
 use Rattle.wenc_base.specs.Fault.{IsMemory}
 use Rattle.wenc_base.specs.declared.fault.Fault.{Fault}
 use Rattle.wenc_parts.specs.declared.exports.ComponentExportKind.{ComponentExportKind}
-use Rattle.wasm_encoder.specs.Command.{CommandTree}
+use Rattle.wenc_canon.specs.Canonicals.{Canonical}
+use Rattle.wasm_encoder.specs.Command.{CommandTree, CoreModule, Canon}
 use Rattle.wasm_encoder.specs.Ran.{IsTyped, IsStopped}
 use Rattle.std.specs.Result.{IsErr, IsErrAnd}
-use Rattle.wenc.specs.Script.{number, kind, parted, has_empty, import, export, alias_export, command_of, line_command, with_line, commands_from, script}
+use Rattle.wenc.specs.Fields.{number, numbers, hex, kind}
+use Rattle.wenc.specs.Intrinsics.{intrinsic}
+use Rattle.wenc.specs.Parts.{parted}
+use Rattle.wenc.specs.Script.{has_empty, import_of, import, export_of, export, alias_of, alias_export, core_module, start_of, start, append_names, command_of, line_command, with_line, commands_from, script}
 use Rattle.wenc.specs.Steps.{Translates}
 use Rattle.wenc.specs.declared.failure.Failure.{Failure}
 use Rattle.wenc.specs.declared.failure.Failure.TheVariants as failures
@@ -32,33 +36,81 @@ either : (b : Bool) (x y : Option CommandTree) → Untyped x → Untyped y → U
 either true x y one other = one
 either false x y one other = other
 
-import_untyped : (name : List ℕ) (k : Option ComponentExportKind) (i : Option ℕ) → Untyped (import name k i)
-import_untyped name None i = tt
-import_untyped name (Some k) None = tt
-import_untyped name (Some k) (Some i) = λ typed. typed
+import_untyped : (words : List (List ℕ)) → Untyped (import words)
+import_untyped (name ∷ k ∷ i ∷ []) = of (kind k) (number i)
+  where
+    of : (k : Option ComponentExportKind) (i : Option ℕ) → Untyped (import_of name k i)
+    of None i = tt
+    of (Some k) None = tt
+    of (Some k) (Some i) = λ typed. typed
+import_untyped other = tt
 
-export_untyped : (name : List ℕ) (k : Option ComponentExportKind) (i : Option ℕ) → Untyped (export name k i)
-export_untyped name None i = tt
-export_untyped name (Some k) None = tt
-export_untyped name (Some k) (Some i) = λ typed. typed
+export_untyped : (words : List (List ℕ)) → Untyped (export words)
+export_untyped (name ∷ k ∷ i ∷ []) = of (kind k) (number i)
+  where
+    of : (k : Option ComponentExportKind) (i : Option ℕ) → Untyped (export_of name k i)
+    of None i = tt
+    of (Some k) None = tt
+    of (Some k) (Some i) = λ typed. typed
+export_untyped other = tt
 
-alias_untyped : (i : Option ℕ) (k : Option ComponentExportKind) (name : List ℕ) → Untyped (alias_export i k name)
-alias_untyped None k name = tt
-alias_untyped (Some i) None name = tt
-alias_untyped (Some i) (Some k) name = λ typed. typed
+alias_untyped : (words : List (List ℕ)) → Untyped (alias_export words)
+alias_untyped (i ∷ k ∷ name ∷ []) = of (number i) (kind k)
+  where
+    of : (i : Option ℕ) (k : Option ComponentExportKind) → Untyped (alias_of i k name)
+    of None k = tt
+    of (Some i) None = tt
+    of (Some i) (Some k) = λ typed. typed
+alias_untyped other = tt
+
+module_untyped : (words : List (List ℕ)) → Untyped (core_module words)
+module_untyped (bytes ∷ []) = of (hex bytes)
+  where
+    of : (bytes : Option (List ℕ)) → Untyped (option_map (CoreModule None) bytes)
+    of None = tt
+    of (Some bytes) = λ typed. typed
+module_untyped other = tt
+
+start_untyped : (words : List (List ℕ)) → Untyped (start words)
+start_untyped (function ∷ results ∷ arguments) = of (number function) (number results) (numbers arguments)
+  where
+    of : (f r : Option ℕ) (values : Option (List ℕ)) → Untyped (start_of f r values)
+    of None r values = tt
+    of (Some f) None values = tt
+    of (Some f) (Some r) None = tt
+    of (Some f) (Some r) (Some values) = λ typed. typed
+start_untyped other = tt
+
+names_untyped : (words : List (List ℕ)) → Untyped (append_names words)
+names_untyped [] = λ typed. typed
+names_untyped other = tt
+
+canon_untyped : (function : Option Canonical) → Untyped (option_map (Canon None) function)
+canon_untyped None = tt
+canon_untyped (Some function) = λ typed. typed
+
+-- whichever of the words it is
+by_word : (a b c d e f : Bool) (verb : List ℕ) (words : List (List ℕ)) → Untyped (
+  if a then import words
+  else if b then export words
+  else if c then alias_export words
+  else if d then core_module words
+  else if e then start words
+  else if f then append_names words
+  else option_map (Canon None) (intrinsic verb words))
+by_word true b c d e f verb words = import_untyped words
+by_word false true c d e f verb words = export_untyped words
+by_word false false true d e f verb words = alias_untyped words
+by_word false false false true e f verb words = module_untyped words
+by_word false false false false true f verb words = start_untyped words
+by_word false false false false false true verb words = names_untyped words
+by_word false false false false false false verb words = canon_untyped (intrinsic verb words)
 
 command_untyped : (words : List (List ℕ)) → Untyped (command_of words)
 command_untyped [] = tt
-command_untyped (verb ∷ []) = tt
-command_untyped (verb ∷ a ∷ []) = tt
-command_untyped (verb ∷ a ∷ b ∷ []) = tt
-command_untyped (verb ∷ a ∷ b ∷ c ∷ []) =
-    let aliased = if bytes_eq verb (codes "alias-export") then alias_export (number a) (kind b) c else None in
-    let exported = if bytes_eq verb (codes "export") then export a (kind b) (number c) else aliased in
-    either (bytes_eq verb (codes "import")) (import a (kind b) (number c)) exported (import_untyped a (kind b) (number c))
-    (either (bytes_eq verb (codes "export")) (export a (kind b) (number c)) aliased (export_untyped a (kind b) (number c))
-    (either (bytes_eq verb (codes "alias-export")) (alias_export (number a) (kind b) c) None (alias_untyped (number a) (kind b) c) tt))
-command_untyped (verb ∷ a ∷ b ∷ c ∷ d ∷ words) = tt
+command_untyped (verb ∷ words) =
+    by_word (bytes_eq verb (codes "import")) (bytes_eq verb (codes "export")) (bytes_eq verb (codes "alias-export"))
+    (bytes_eq verb (codes "core-module")) (bytes_eq verb (codes "start")) (bytes_eq verb (codes "append-names")) verb words
 
 line_untyped : (line : List ℕ) → Untyped (line_command line)
 line_untyped line =

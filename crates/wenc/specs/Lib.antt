@@ -1,3 +1,6 @@
+pub mod Parts
+pub mod Fields
+pub mod Intrinsics
 pub mod Script
 pub mod Words
 pub mod Parsed

@@ -1,103 +1,87 @@
 -- Scripts: what each line of a text says.
-use Rattle.std.specs.Prelude.{ℕ, ◌+◌, ◌-◌, ◌*◌, ◌^◌, ◌==◌, ◌&&◌, nat_le, nat_lt, if◌then◌else◌, List, [], ◌∷◌, Bool, true, false, Option, Some, None, Result, Ok, Err, codes}
+use Rattle.std.specs.Prelude.{ℕ, ◌+◌, ◌==◌, if◌then◌else◌, List, [], ◌∷◌, Bool, true, false, Option, Some, None, option_map, Result, Ok, Err, codes}
 use Rattle.std.specs.Str.{is_utf8, bytes_eq}
 use Rattle.wenc_parts.specs.declared.exports.ComponentExportKind.{ComponentExportKind}
-use Rattle.wenc_parts.specs.declared.exports.ComponentExportKind.TheVariants as kinds
-use Rattle.wenc_parts.specs.declared.imports.ComponentTypeRef.{ComponentTypeRef}
-use Rattle.wenc_parts.specs.declared.imports.ComponentTypeRef.TheVariants as refs
-use Rattle.wenc_parts.specs.declared.imports.TypeBounds.TheVariants.{Eq}
-use Rattle.wenc_parts.specs.declared.types.ComponentValType.TheVariants as values
 use Rattle.wenc_parts.specs.Imports.{plain_name}
 use Rattle.wenc_parts.specs.Aliases.{InstanceExport}
-use Rattle.wasm_encoder.specs.Command.{CommandTree, Alias, Import, Export}
-
--- a byte put in front of the first part
-abbrev pub first_grown : ℕ → List (List ℕ) → List (List ℕ)
-first_grown b [] = (b ∷ []) ∷ []
-first_grown b (part ∷ parts) = (b ∷ part) ∷ parts
-
--- the parts between separators: one more than there are separators
-abbrev pub parted : ℕ → List ℕ → List (List ℕ)
-parted separator [] = [] ∷ []
-parted separator (b ∷ bytes) = if b == separator then [] ∷ parted separator bytes else first_grown b (parted separator bytes)
-
--- the parts of what is left behind a separator, if there was one
-abbrev pub parted_rest : ℕ → Option (List ℕ) → List (List ℕ)
-parted_rest separator None = []
-parted_rest separator (Some bytes) = parted separator bytes
-
-abbrev pub is_digit : ℕ → Bool
-is_digit b = nat_le 48 b && nat_le b 57
-
--- the value of decimal digits behind n
-abbrev pub value_behind : ℕ → List ℕ → Option ℕ
-value_behind n [] = Some n
-value_behind n (b ∷ bytes) = if is_digit b then value_behind (n * 10 + (b - 48)) bytes else None
-
-abbrev pub at_most_32_bits : Option ℕ → Option ℕ
-at_most_32_bits None = None
-at_most_32_bits (Some n) = if nat_lt n (2 ^ 32) then Some n else None
-
--- decimal digits, at least one, of a value of at most 4294967295
-abbrev pub number : List ℕ → Option ℕ
-number [] = None
-number (b ∷ bytes) = at_most_32_bits (value_behind 0 (b ∷ bytes))
-
-abbrev pub kind : List ℕ → Option ComponentExportKind
-kind word =
-    if bytes_eq word (codes "module") then Some kinds.Module
-    else if bytes_eq word (codes "func") then Some kinds.Func
-    else if bytes_eq word (codes "value") then Some kinds.Value
-    else if bytes_eq word (codes "type") then Some kinds.«Type»
-    else if bytes_eq word (codes "instance") then Some kinds.Instance
-    else if bytes_eq word (codes "component") then Some kinds.Component
-    else None
-
--- what an import of this kind with this index refers to
-abbrev pub reference : ComponentExportKind → ℕ → ComponentTypeRef
-reference kinds.Module i = refs.Module i
-reference kinds.Func i = refs.Func i
-reference kinds.Value i = refs.Value (values.«Type» i)
-reference kinds.«Type» i = refs.«Type» (Eq i)
-reference kinds.Instance i = refs.Instance i
-reference kinds.Component i = refs.Component i
+use Rattle.wasm_encoder.specs.Command.{CommandTree, CoreModule, Alias, Canon, Start, Import, Export, AppendNames}
+use Rattle.wenc.specs.Fields.{number, numbers, hex, kind, reference}
+use Rattle.wenc.specs.Intrinsics.{intrinsic}
+use Rattle.wenc.specs.Parts.{parted}
 
 -- ---- lines
 
-abbrev pub import : List ℕ → Option ComponentExportKind → Option ℕ → Option CommandTree
-import name None i = None
-import name (Some k) None = None
-import name (Some k) (Some i) = Some (Import (record { name = plain_name name; what = reference k i }))
+-- import NAME KIND I
+abbrev pub import_of : List ℕ → Option ComponentExportKind → Option ℕ → Option CommandTree
+import_of name None i = None
+import_of name (Some k) None = None
+import_of name (Some k) (Some i) = Some (Import (record { name = plain_name name; what = reference k i }))
 
-abbrev pub export : List ℕ → Option ComponentExportKind → Option ℕ → Option CommandTree
-export name None i = None
-export name (Some k) None = None
-export name (Some k) (Some i) = Some (Export (record { name = plain_name name; kind = k; index = i; what = None }))
+abbrev pub import : List (List ℕ) → Option CommandTree
+import (name ∷ k ∷ i ∷ []) = import_of name (kind k) (number i)
+import other = None
 
--- the alias has its name as its debug name
-abbrev pub alias_export : Option ℕ → Option ComponentExportKind → List ℕ → Option CommandTree
-alias_export None k name = None
-alias_export (Some i) None name = None
-alias_export (Some i) (Some k) name = Some (Alias (Some name) (InstanceExport i k name))
+-- export NAME KIND I
+abbrev pub export_of : List ℕ → Option ComponentExportKind → Option ℕ → Option CommandTree
+export_of name None i = None
+export_of name (Some k) None = None
+export_of name (Some k) (Some i) = Some (Export (record { name = plain_name name; kind = k; index = i; what = None }))
+
+abbrev pub export : List (List ℕ) → Option CommandTree
+export (name ∷ k ∷ i ∷ []) = export_of name (kind k) (number i)
+export other = None
+
+-- alias-export I KIND NAME: the alias has its name as its debug name
+abbrev pub alias_of : Option ℕ → Option ComponentExportKind → List ℕ → Option CommandTree
+alias_of None k name = None
+alias_of (Some i) None name = None
+alias_of (Some i) (Some k) name = Some (Alias (Some name) (InstanceExport i k name))
+
+abbrev pub alias_export : List (List ℕ) → Option CommandTree
+alias_export (i ∷ k ∷ name ∷ []) = alias_of (number i) (kind k) name
+alias_export other = None
+
+-- core-module HEX
+abbrev pub core_module : List (List ℕ) → Option CommandTree
+core_module (bytes ∷ []) = option_map (CoreModule None) (hex bytes)
+core_module other = None
+
+-- start F R A..
+abbrev pub start_of : Option ℕ → Option ℕ → Option (List ℕ) → Option CommandTree
+start_of None results arguments = None
+start_of (Some f) None arguments = None
+start_of (Some f) (Some r) None = None
+start_of (Some f) (Some r) (Some values) = Some (Start f values r)
+
+abbrev pub start : List (List ℕ) → Option CommandTree
+start (function ∷ results ∷ arguments) = start_of (number function) (number results) (numbers arguments)
+start other = None
+
+-- append-names
+abbrev pub append_names : List (List ℕ) → Option CommandTree
+append_names [] = Some AppendNames
+append_names other = None
+
+-- the intrinsics have words of their own
+abbrev pub command_by : List ℕ → List (List ℕ) → Option CommandTree
+command_by verb words =
+    if bytes_eq verb (codes "import") then import words
+    else if bytes_eq verb (codes "export") then export words
+    else if bytes_eq verb (codes "alias-export") then alias_export words
+    else if bytes_eq verb (codes "core-module") then core_module words
+    else if bytes_eq verb (codes "start") then start words
+    else if bytes_eq verb (codes "append-names") then append_names words
+    else option_map (Canon None) (intrinsic verb words)
+
+abbrev pub command_of : List (List ℕ) → Option CommandTree
+command_of [] = None
+command_of (verb ∷ words) = command_by verb words
 
 -- no word is empty: words are parted by one space
 abbrev pub has_empty : List (List ℕ) → Bool
 has_empty [] = false
 has_empty ([] ∷ words) = true
 has_empty ((b ∷ word) ∷ words) = has_empty words
-
--- import NAME KIND I, export NAME KIND I, alias-export I KIND NAME
-abbrev pub command_of : List (List ℕ) → Option CommandTree
-command_of [] = None
-command_of (verb ∷ []) = None
-command_of (verb ∷ a ∷ []) = None
-command_of (verb ∷ a ∷ b ∷ []) = None
-command_of (verb ∷ a ∷ b ∷ c ∷ []) =
-    if bytes_eq verb (codes "import") then import a (kind b) (number c)
-    else if bytes_eq verb (codes "export") then export a (kind b) (number c)
-    else if bytes_eq verb (codes "alias-export") then alias_export (number a) (kind b) c
-    else None
-command_of (verb ∷ a ∷ b ∷ c ∷ d ∷ words) = None
 
 abbrev pub line_command : List ℕ → Option CommandTree
 line_command line =

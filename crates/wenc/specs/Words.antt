@@ -1,12 +1,8 @@
--- The four words of a line.
-use Rattle.std.specs.Prelude.{◌≡◌, ℕ, List, [], ◌∷◌, Option, Some, None}
-use Rattle.wenc.specs.declared.line.Words.{Words}
-use Rattle.wenc.specs.Script.{command_of}
+-- The words that are left of a line.
+use Rattle.std.specs.Option.{option_copied}
+use Rattle.std.specs.Prelude.{ℕ, List}
+use Rattle.wenc.specs.Parts.{parted_rest}
+use Rattle.wenc.specs.declared.words.Words.{Words}
 
-abbrev pub word_list : Words → List (List ℕ)
-word_list w = w.verb.now ∷ w.first.now ∷ w.second.now ∷ w.third.now ∷ []
-
--- A line has these four parts, or has no command for another number of parts.
-abbrev pub AreWords : Option Words → List (List ℕ) → Type 0
-AreWords None parts = command_of parts ≡ None
-AreWords (Some w) parts = parts ≡ word_list w
+abbrev pub words_left : Words → List (List ℕ)
+words_left w = parted_rest 32 (option_copied w.rest)

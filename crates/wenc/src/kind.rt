@@ -1,5 +1,5 @@
 ghost use Rattle.std.specs.Prelude.{◌≡◌};
-ghost use Rattle.wenc.specs.Script.{kind, reference};
+ghost use Rattle.wenc.specs.Fields.{kind, reference};
 
 use wasm_encoder::{ComponentExportKind, ComponentTypeRef, ComponentValType, TypeBounds};
 

@@ -4,6 +4,7 @@
 
 pub mod failure;
 pub mod input;
+pub mod intrinsic;
 pub mod kind;
 pub mod line;
 pub mod number;
@@ -11,5 +12,6 @@ pub mod output;
 pub mod print;
 pub mod program;
 pub mod script;
+pub mod words;
 
 pub use program::run;

@@ -1,88 +1,23 @@
-ghost use Rattle.std.specs.Prelude.{◌≡◌, ◌∷◌, [], IfOk, MatchOption, option_map};
+ghost use Rattle.std.specs.Prelude.{◌≡◌, IfOk, option_map};
 ghost use Rattle.wasm_encoder.specs.Command.{command_view};
-ghost use Rattle.wenc.specs.Script.{parted, import, export, alias_export, line_command, has_empty};
-ghost use Rattle.wenc.specs.Script.{command_of};
+ghost use Rattle.wenc.specs.Script.{import, export, alias_export, core_module, start, append_names, command_of, line_command};
+ghost use Rattle.wenc.specs.Words.{words_left};
 
+use crate::intrinsic::intrinsic;
 use crate::kind::{kind, reference};
-use crate::number::number;
+use crate::number::{bytes, number};
+use crate::words::Words;
 use std::alloc::{AllocError, Global};
-use wasm_encoder::{AliasTree, Command, ComponentExportKind, NameTree};
+use wasm_encoder::{AliasTree, Command, NameTree};
 
-/// The first word of a line, and what stands behind the space that ends it.
-#[tactic(auto, using(crate::proofs::Parted::parted_whole, crate::proofs::Parted::parted_first))]
-fn split_word(line: &str) -> Option<(&str, &str)>
-    ensures { MatchOption result
-        (parted 32 line.now ≡ line.now ∷ [])
-        (λ split. parted 32 line.now ≡ split.0.now ∷ parted 32 split.1.now) }
+/// `import NAME KIND I`
+fn import(alloc: Global, words: Words) -> Result<Option<Command>, AllocError>
+    ensures { IfOk result (λ c. option_map command_view c ≡ import (words_left words.entry)) }
 {
-    line.split_once(' ')
-}
-
-/// The four words of a line.
-#[derive(Clone, Copy)]
-pub struct Words<'a> {
-    pub verb: &'a str,
-    pub first: &'a str,
-    pub second: &'a str,
-    pub third: &'a str,
-}
-
-impl<'a> Words<'a> {
-    ghost use Rattle.wenc.specs.Words.{AreWords, word_list};
-
-    /// The words of a line that has four.
-    pub fn of(line: &'a str) -> Option<Words<'a>>
-        ensures { AreWords result (parted 32 line.now) }
-    {
-        let (verb, rest) = split_word(line)?;
-        let (first, rest) = split_word(rest)?;
-        let (second, third) = split_word(rest)?;
-        if split_word(third).is_some() {
-            return None;
-        }
-        Some(Words {
-            verb,
-            first,
-            second,
-            third,
-        })
-    }
-
-    /// Whether a word is empty, as where two spaces follow one another.
-    pub fn has_empty(&self) -> bool
-        ensures { result ≡ has_empty (word_list self.now) }
-    {
-        self.verb.is_empty()
-            || self.first.is_empty()
-            || self.second.is_empty()
-            || self.third.is_empty()
-    }
-
-    /// The command that the words say.
-    pub fn command(&self, alloc: Global) -> Result<Option<Command>, AllocError>
-        ensures { IfOk result (λ c. option_map command_view c ≡ command_of (word_list self.now)) }
-    {
-        if self.verb == "import" {
-            import(alloc, self.first, kind(self.second), number(self.third))
-        } else if self.verb == "export" {
-            export(alloc, self.first, kind(self.second), number(self.third))
-        } else if self.verb == "alias-export" {
-            alias_export(alloc, number(self.first), kind(self.second), self.third)
-        } else {
-            Ok(None)
-        }
-    }
-}
-
-fn import(
-    alloc: Global,
-    name: &str,
-    kind: Option<ComponentExportKind>,
-    index: Option<u32>,
-) -> Result<Option<Command>, AllocError>
-    ensures { IfOk result (λ c. option_map command_view c ≡ import name.now kind index) }
-{
-    let (Some(kind), Some(index)) = (kind, index) else {
+    let Some((name, word, index)) = words.three() else {
+        return Ok(None);
+    };
+    let (Some(kind), Some(index)) = (kind(word), number(index)) else {
         return Ok(None);
     };
     let name = NameTree::from(String::from_str(alloc, name)?);
@@ -90,15 +25,14 @@ fn import(
     Ok(Some(Command::Import { name, ty }))
 }
 
-fn export(
-    alloc: Global,
-    name: &str,
-    kind: Option<ComponentExportKind>,
-    index: Option<u32>,
-) -> Result<Option<Command>, AllocError>
-    ensures { IfOk result (λ c. option_map command_view c ≡ export name.now kind index) }
+/// `export NAME KIND I`
+fn export(alloc: Global, words: Words) -> Result<Option<Command>, AllocError>
+    ensures { IfOk result (λ c. option_map command_view c ≡ export (words_left words.entry)) }
 {
-    let (Some(kind), Some(index)) = (kind, index) else {
+    let Some((name, word, index)) = words.three() else {
+        return Ok(None);
+    };
+    let (Some(kind), Some(index)) = (kind(word), number(index)) else {
         return Ok(None);
     };
     let name = NameTree::from(String::from_str(alloc, name)?);
@@ -110,15 +44,14 @@ fn export(
     }))
 }
 
-fn alias_export(
-    alloc: Global,
-    index: Option<u32>,
-    kind: Option<ComponentExportKind>,
-    name: &str,
-) -> Result<Option<Command>, AllocError>
-    ensures { IfOk result (λ c. option_map command_view c ≡ alias_export index kind name.now) }
+/// `alias-export I KIND NAME`
+fn alias_export(alloc: Global, words: Words) -> Result<Option<Command>, AllocError>
+    ensures { IfOk result (λ c. option_map command_view c ≡ alias_export (words_left words.entry)) }
 {
-    let (Some(instance), Some(kind)) = (index, kind) else {
+    let Some((instance, word, name)) = words.three() else {
+        return Ok(None);
+    };
+    let (Some(instance), Some(kind)) = (number(instance), kind(word)) else {
         return Ok(None);
     };
     let debug_name = String::from_str(alloc, name)?;
@@ -133,6 +66,78 @@ fn alias_export(
     }))
 }
 
+/// `core-module HEX`
+fn core_module(alloc: Global, words: Words) -> Result<Option<Command>, AllocError>
+    ensures { IfOk result (λ c. option_map command_view c ≡ core_module (words_left words.entry)) }
+{
+    let mut words = words;
+    let (Some(word), None) = (words.next(), words.next()) else {
+        return Ok(None);
+    };
+    match bytes(alloc, word)? {
+        Some(bytes) => Ok(Some(Command::CoreModule { n: None, bytes })),
+        None => Ok(None),
+    }
+}
+
+/// `start F R A..`
+fn start(alloc: Global, words: Words) -> Result<Option<Command>, AllocError>
+    ensures { IfOk result (λ c. option_map command_view c ≡ start (words_left words.entry)) }
+{
+    let mut words = words;
+    let (Some(function), Some(results)) = (words.next(), words.next()) else {
+        return Ok(None);
+    };
+    let (Some(function), Some(results)) = (number(function), number(results)) else {
+        return Ok(None);
+    };
+    let mut args = Vec::new(alloc);
+    while let Some(word) = words.next() {
+        let Some(value) = number(word) else {
+            return Ok(None);
+        };
+        args.push(value)?;
+    }
+    Ok(Some(Command::Start {
+        function,
+        args,
+        results,
+    }))
+}
+
+/// `append-names`
+fn append_names(words: Words) -> Option<Command>
+    ensures { option_map command_view result ≡ append_names (words_left words.entry) }
+{
+    let mut words = words;
+    match words.next() {
+        None => Some(Command::AppendNames),
+        Some(_) => None,
+    }
+}
+
+/// The command that the words of a line say, if they say one.
+fn command_of(alloc: Global, words: Words) -> Result<Option<Command>, AllocError>
+    ensures { IfOk result (λ c. option_map command_view c ≡ command_of (words_left words.entry)) }
+{
+    let mut words = words;
+    let Some(verb) = words.next() else {
+        return Ok(None);
+    };
+    match verb {
+        "import" => import(alloc, words),
+        "export" => export(alloc, words),
+        "alias-export" => alias_export(alloc, words),
+        "core-module" => core_module(alloc, words),
+        "start" => start(alloc, words),
+        "append-names" => Ok(append_names(words)),
+        _ => match intrinsic(verb, words) {
+            Some(canon) => Ok(Some(Command::Canon { n: None, canon })),
+            None => Ok(None),
+        },
+    }
+}
+
 /// The command that a line says, if it says one.
 pub fn command(alloc: Global, line: &[u8]) -> Result<Option<Command>, AllocError>
     ensures { IfOk result (λ c. option_map command_view c ≡ line_command line.now) }
@@ -140,8 +145,9 @@ pub fn command(alloc: Global, line: &[u8]) -> Result<Option<Command>, AllocError
     let Ok(line) = str::from_utf8(line) else {
         return Ok(None);
     };
-    match Words::of(line) {
-        Some(words) if !words.has_empty() => words.command(alloc),
-        _ => Ok(None),
+    let words = Words::of(line);
+    if words.has_empty() {
+        return Ok(None);
     }
+    command_of(alloc, words)
 }

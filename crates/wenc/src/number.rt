@@ -1,5 +1,8 @@
-ghost use Rattle.std.specs.Prelude.{◌≡◌};
-ghost use Rattle.wenc.specs.Script.{number};
+ghost use Rattle.std.specs.Prelude.{◌≡◌, IfOk, option_map};
+ghost use Rattle.wenc.specs.Fields.{number, flag, hex};
+
+use hex::FromHexError;
+use std::alloc::{AllocError, Global};
 
 /// The value of decimal digits, at least one, if it is at most 4294967295.
 pub fn number(word: &str) -> Option<u32>
@@ -16,4 +19,29 @@ pub fn number(word: &str) -> Option<u32>
         value = value.checked_mul(10)?.checked_add(u32::from(*byte - b'0'))?;
     }
     Some(value)
+}
+
+/// What `0` or `1` says.
+pub fn flag(word: &str) -> Option<bool>
+    ensures { result ≡ flag word.now }
+{
+    match word {
+        "0" => Some(false),
+        "1" => Some(true),
+        _ => None,
+    }
+}
+
+/// The bytes that hexadecimal digits say, or none for `-`.
+pub fn bytes(alloc: Global, word: &str) -> Result<Option<Vec<u8>>, AllocError>
+    ensures { IfOk result (λ bytes. option_map (λ v. v.items) bytes ≡ hex word.now) }
+{
+    if word == "-" {
+        return Ok(Some(Vec::new(alloc)));
+    }
+    match hex::decode(alloc, word) {
+        Ok(bytes) => Ok(Some(bytes)),
+        Err(FromHexError::OutOfMemory) => Err(AllocError),
+        Err(_) => Ok(None),
+    }
 }

@@ -1,6 +1,7 @@
 ghost use Rattle.std.specs.Prelude.{◌≡◌, ◌∷◌, ◌+◌, ◌≤◌, ◌<◌, length, IfSome, ◌==◌, position};
 ghost use Rattle.std.specs.Option.{option_copied};
-ghost use Rattle.wenc.specs.Script.{script, parted, parted_rest};
+ghost use Rattle.wenc.specs.Parts.{parted, parted_rest};
+ghost use Rattle.wenc.specs.Script.{script};
 ghost use Rattle.wenc.specs.Parsed.{Parses};
 
 use crate::failure::Failure;

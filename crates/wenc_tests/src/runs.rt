@@ -8,7 +8,7 @@ use wenc::run;
 
 #[test]
 fn bad_scripts(rt: HostRuntime) {
-    let scripts: [&[u8]; 11] = [
+    let scripts: [&[u8]; 24] = [
         b"import  f func 0",
         b" import f func 0",
         b"import f func 0 ",
@@ -19,6 +19,19 @@ fn bad_scripts(rt: HostRuntime) {
         b"subtask.cancel 2",
         b"resource.drop",
         b"stream.read 1",
+        b"append-names x",
+        b"core-module",
+        b"core-module 0g",
+        b"core-module 00 00",
+        b"start 1",
+        b"start 1 1 x",
+        b"start 1 1 ",
+        b"task.cancel 0",
+        b"resource.drop 1 2",
+        b"stream.cancel-read 1 2",
+        b"thread.new-indirect 1",
+        b"thread.new-indirect 1 2 3",
+        b"future.forward 4294967296",
         b"\xff",
     ];
     for script in scripts {
@@ -45,6 +58,31 @@ fn any_argument_is_too_many(rt: HostRuntime) -> Result<(), Fail> {
     assert_eq!(rt; input.calls, 0);
     assert_eq!(rt; out.calls, 0);
     Ok(())
+}
+
+#[test]
+fn words_of_all_kinds(rt: HostRuntime) {
+    let rows: [(&str, &[u8], &[u8]); 8] = [
+        ("a start", b"start 7 1 0 1", b"0\n0061736d0d00010009050702000101\n"),
+        ("an empty module", b"core-module -", b"0\n0061736d0d0001000100\n"),
+        ("a module", b"core-module 0aFf", b"0\n0061736d0d00010001020aff\n"),
+        ("a flag", b"subtask.cancel 1", b"0\n0061736d0d0001000803010601\n"),
+        ("two indices", b"thread.spawn-indirect 1 2", b"0\n0061736d0d000100080401410102\n"),
+        ("an index and a flag", b"stream.cancel-write 3 0", b"0\n0061736d0d000100080401120300\n"),
+        ("a memory", b"waitable-set.wait 5", b"0\n0061736d0d000100080401200005\n"),
+        ("no names", b"append-names", b"-\n0061736d0d000100\n"),
+    ];
+    for (name, script, out) in rows {
+        expect(&rt, name, script, 0, out, b"");
+    }
+    expect(
+        &rt,
+        "a refused command",
+        b"start 7 4294967295\nimport v value 0",
+        2,
+        b"0\nrefused 2\n0061736d0d00010009070700ffffffff0f\n",
+        b"",
+    );
 }
 
 #[test]

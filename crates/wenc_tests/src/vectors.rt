@@ -7,7 +7,9 @@ use std::process::Abort;
 mod bad;
 mod edges;
 mod long;
+mod long_words;
 mod short;
+mod words;
 
 /// A script, and the status, the standard output and the standard error of its run.
 #[derive(Clone, Copy)]
@@ -50,4 +52,10 @@ fn short_scripts_are_built(rt: HostRuntime) {
 #[test]
 fn long_scripts_are_built(rt: HostRuntime) {
     replay(&rt, &long::VECTORS);
+}
+
+#[test]
+fn scripts_of_all_words_are_built(rt: HostRuntime) {
+    replay(&rt, &words::VECTORS);
+    replay(&rt, &long_words::VECTORS);
 }

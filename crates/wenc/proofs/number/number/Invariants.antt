@@ -1,5 +1,5 @@
 use Rattle.std.proofs.Common.{◌≡◌, ◌<◌, ◌^◌, drop}
-use Rattle.wenc.specs.Script.{value_behind, at_most_32_bits}
+use Rattle.wenc.specs.Fields.{value_behind, at_most_32_bits}
 use Rattle.wenc.proofs.number.number.Given as goal
 
 abbrev pub invariant-loop-byte : goal.invariant-loop-byte

@@ -1,7 +1,8 @@
 use Rattle.std.proofs.Common.{◌≡◌, ◌+◌, ◌≤◌, map, length}
 use Rattle.std.specs.Option.{option_copied}
 use Rattle.wasm_encoder.specs.Command.{command_view}
-use Rattle.wenc.specs.Script.{script, commands_from, parted_rest}
+use Rattle.wenc.specs.Parts.{parted_rest}
+use Rattle.wenc.specs.Script.{script, commands_from}
 use Rattle.wenc.proofs.Commands.{put_before, size}
 use Rattle.wenc.proofs.script.parse.Given as goal
 

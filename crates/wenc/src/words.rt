@@ -1,0 +1,67 @@
+ghost use Rattle.std.specs.Prelude.{◌≡◌, ◌≢◌, ◌∷◌, [], length, MatchOption};
+ghost use Rattle.wenc.specs.Parts.{parted};
+ghost use Rattle.wenc.specs.Script.{has_empty};
+ghost use Rattle.wenc.specs.Words.{words_left};
+
+/// The words of a line that are left, parted by one space.
+#[derive(Clone, Copy)]
+pub struct Words<'a> {
+    /// The line from the next word on, if there is one.
+    rest: Option<&'a str>,
+}
+
+impl<'a> Words<'a> {
+    /// All words of a line.
+    pub fn of(line: &'a str) -> Words<'a>
+        ensures { words_left result ≡ parted 32 line.now }
+    {
+        Words { rest: Some(line) }
+    }
+
+    /// The next word, if there is one.
+    #[tactic(auto, using(crate::proofs::Parted::parted_whole, crate::proofs::Parted::parted_first))]
+    pub fn next(&mut self) -> Option<&'a str>
+        ensures { MatchOption result
+            (words_left self.old ≡ [])
+            (λ word. words_left self.old ≡ word.now ∷ words_left self.new) }
+    {
+        let line = self.rest?;
+        match line.split_once(' ') {
+            Some((word, rest)) => {
+                self.rest = Some(rest);
+                Some(word)
+            }
+            None => {
+                self.rest = None;
+                Some(line)
+            }
+        }
+    }
+
+    /// The words that are left, if there are three.
+    pub fn three(self) -> Option<(&'a str, &'a str, &'a str)>
+        ensures { MatchOption result
+            (length (words_left self.entry) ≢ 3)
+            (λ three. words_left self.entry ≡ three.0.now ∷ three.1.now ∷ three.2.now ∷ []) }
+    {
+        let mut words = self;
+        let three = (words.next()?, words.next()?, words.next()?);
+        match words.next() {
+            None => Some(three),
+            Some(_) => None,
+        }
+    }
+
+    /// Whether a word is empty, as where two spaces follow one another.
+    pub fn has_empty(self) -> bool
+        ensures { result ≡ has_empty (words_left self.entry) }
+    {
+        let mut words = self;
+        while let Some(word) = words.next() {
+            if word.is_empty() {
+                return true;
+            }
+        }
+        false
+    }
+}
