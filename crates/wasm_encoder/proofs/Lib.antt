@@ -4,3 +4,5 @@ pub mod Typed
 pub mod Run
 pub mod AllLawful
 pub mod Reading
+pub mod Belonging
+pub mod Headline

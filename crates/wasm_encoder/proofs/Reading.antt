@@ -1,5 +1,5 @@
 -- Why the bytes of a component have one reading.
-use Rattle.std.proofs.Common.{◌≡◌, ◌⊎◌, ℕ, zero, suc, false, true≢false, List, [], ◌∷◌, Option, Some, None, refl, sym, ap, ◌∙◌, inl, inr}
+use Rattle.std.proofs.Common.{◌≡◌, ◌↔◌, ◌⊎◌, ℕ, zero, suc, false, true≢false, List, [], ◌∷◌, Option, Some, None, refl, sym, ap, ◌∙◌, inl, inr}
 use Rattle.std.proofs.lemmas.Bool.Decides.{eqb_tells}
 use Rattle.std.proofs.lemmas.Option.{same_Some}
 use Rattle.std.specs.List.{flat_map}
@@ -186,7 +186,7 @@ joined_members (Some id) x (Run other ys ∷ ss) =
     elim (eqb_tells id other) [ inl t ↦ rw t.0 refl | inr t ↦ rw t.0 refl ]
 
 -- the sections' items are the list's
-runs_members : (xs : List Item) → flat_map members (runs xs) ≡ xs
+pub runs_members : (xs : List Item) → flat_map members (runs xs) ≡ xs
 runs_members [] = refl
 runs_members (x ∷ xs) = joined_members (collected x) x (runs xs) ∙ ap (λ (ys : List Item). x ∷ ys) (runs_members xs)
 
@@ -199,8 +199,14 @@ once mode other bytes ss ts a b =
 pub text_is_read : (mode : Spelling) (ss : List Section) → SectionsHaveNoRaw ss → AreEncodable ss → Reading mode (component ss).text ss
 text_is_read mode ss h fits = (component_lawful ss h).text_is_read mode fits
 
-pub whole_is_read : (mode : Spelling) (xs : List Item) → HasNoRaw xs → IsEncodable xs → Reading mode (whole xs) (runs xs)
+whole_is_read : (mode : Spelling) (xs : List Item) → HasNoRaw xs → IsEncodable xs → Reading mode (whole xs) (runs xs)
 whole_is_read mode xs h fits = text_is_read mode (runs xs) (runs_no_raw xs h) fits
+
+-- so the bytes of a list of items are read as its runs, and as nothing else
+pub of_items : (mode : Spelling) (xs : List Item) (ss : List Section) → HasNoRaw xs → IsEncodable xs → Reading mode (whole xs) ss ↔ (ss ≡ runs xs)
+of_items mode xs ss h fits =
+    let read = whole_is_read mode xs h fits in
+    (λ r. once mode mode (whole xs) ss (runs xs) r read, λ e. rw e read)
 
 pub strict_is_text : (bytes : List ℕ) (ss : List Section) → Reading Strict bytes ss → bytes ≡ (component ss).text
 strict_is_text bytes ss r = (component_lawful ss (sections_read ss Strict r.0 r.2)).strict_is_text bytes r
@@ -212,3 +218,7 @@ pub same_list : (xs ys : List Item) → HasNoRaw xs → HasNoRaw ys → IsEncoda
 same_list xs ys h k fits fits' e =
     let same : runs xs ≡ runs ys = once Strict Strict (whole xs) (runs xs) (runs ys) (whole_is_read Strict xs h fits) (rw e (whole_is_read Strict ys k fits')) in
     sym (runs_members xs) ∙ ap (flat_map members) same ∙ runs_members ys
+
+-- and no other list of items has these bytes
+pub of_bytes : (xs ys : List Item) → HasNoRaw xs → IsEncodable xs → HasNoRaw ys → IsEncodable ys → (whole ys ≡ whole xs) ↔ (ys ≡ xs)
+of_bytes xs ys h fits k fits' = (λ e. same_list ys xs k h fits' fits e, λ e. ap whole e)

@@ -3,4 +3,5 @@ pub mod Cause
 pub mod Ran
 pub mod Steps
 pub mod Raw
+pub mod Belongs
 pub mod AllForms

@@ -1,8 +1,10 @@
-ghost use Rattle.std.specs.Prelude.{◌≡◌, ◌⊎◌, List, [], Ok, IfOk, IfErr, map};
+ghost use Rattle.std.specs.Prelude.{◌≡◌, ◌↔◌, ◌⊎◌, List, [], Ok, IfOk, IfErr, map};
 ghost use Rattle.std.specs.Option.{option_copied};
 ghost use Rattle.wenc_base.specs.Delimited.{NoCause};
 ghost use Rattle.wenc_base.specs.Fault.{IsMemory};
-ghost use Rattle.wenc_builder.specs.Sections.{whole};
+ghost use Rattle.wenc_base.specs.Piece.{Spelling};
+ghost use Rattle.wenc_builder.specs.Item.{Item};
+ghost use Rattle.wenc_builder.specs.Sections.{Section, runs, Reading, whole};
 ghost use Rattle.wenc_builder.specs.Enters.{EntersPlaceless};
 ghost use Rattle.wenc_builder.specs.Entry.{Entry, items, custom_entry};
 ghost use Rattle.wenc_builder.specs.Holds.{Holds};
@@ -12,8 +14,12 @@ ghost use Rattle.wasm_encoder.specs.Cause.{led, first_cause};
 ghost use Rattle.wasm_encoder.specs.Command.{CoreType, «Type»};
 ghost use Rattle.wasm_encoder.specs.Command.{command_view, commands_view, debug_name_view};
 ghost use Rattle.wasm_encoder.specs.Ran.{Ran, IsRefusal, IsStopped};
+ghost use Rattle.wasm_encoder.specs.Raw.{HasNoRaw, IsEncodable};
 ghost use Rattle.wasm_encoder.specs.Steps.{Runs, placed as placed_of, placeless as placeless_of};
 
+mod belonging;
+
+use belonging::{are_bytes, belongs};
 use std::alloc::{Allocator, Global};
 use wenc_base::{CustomSection, Fault};
 use wenc_builder::ComponentBuilder;
@@ -283,6 +289,19 @@ pub fn build<A: Allocator + Copy, B: Allocator>(
     ensures ran { IfOk result (λ b. (es : List Entry)
         × Ran (map command_view commands.now) b.answers.items es
         × (b.bytes.items ≡ whole (items es))) }
+    // Their items can be encoded.
+    ensures encodable { IfOk result (λ b. (es : List Entry)
+        → Ran (map command_view commands.now) b.answers.items es → IsEncodable (items es)) }
+    // Where none of them is raw, the bytes have one reading, strictly and widely: the sections into which they are cut.
+    ensures one_reading { IfOk result (λ b. (es : List Entry)
+        → Ran (map command_view commands.now) b.answers.items es → HasNoRaw (items es)
+        → (mode : Spelling) (ss : List Section)
+        → Reading mode b.bytes.items ss ↔ (ss ≡ runs (items es))) }
+    // And no other items that can be encoded, none of them raw, have these bytes.
+    ensures one_list { IfOk result (λ b. (es : List Entry)
+        → Ran (map command_view commands.now) b.answers.items es → HasNoRaw (items es)
+        → (xs : List Item) → HasNoRaw xs → IsEncodable xs
+        → (whole xs ≡ b.bytes.items) ↔ (xs ≡ items es)) }
     // It is refused for want of memory, or by a type behind a front of the commands that ran.
     ensures refused { IfErr result (λ fault. IsMemory fault
         ⊎ IsStopped (map command_view commands.now) fault) }
@@ -290,6 +309,7 @@ pub fn build<A: Allocator + Copy, B: Allocator>(
     let mut builder = ComponentBuilder::new(alloc)?;
     let mut answers = Vec::new(alloc);
     for command in commands {
+        belongs(command);
         let answer = match run(command, alloc, &mut builder) {
             Ok(answer) => answer,
             Err(fault) => return Err(fault),
@@ -297,5 +317,6 @@ pub fn build<A: Allocator + Copy, B: Allocator>(
         answers.push(answer)?;
     }
     let bytes = builder.finish()?;
+    are_bytes(&bytes);
     Ok(Built { answers, bytes })
 }
