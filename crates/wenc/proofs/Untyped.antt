@@ -91,13 +91,13 @@ canon_untyped (Some function) = λ typed. typed
 
 -- whichever of the words it is
 by_word : (a b c d e f : Bool) (verb : List ℕ) (words : List (List ℕ)) → Untyped (
-  if a then import words
-  else if b then export words
-  else if c then alias_export words
-  else if d then core_module words
-  else if e then start words
-  else if f then append_names words
-  else option_map (Canon None) (intrinsic verb words))
+    if a then import words
+    else if b then export words
+    else if c then alias_export words
+    else if d then core_module words
+    else if e then start words
+    else if f then append_names words
+    else option_map (Canon None) (intrinsic verb words))
 by_word true b c d e f verb words = import_untyped words
 by_word false true c d e f verb words = export_untyped words
 by_word false false true d e f verb words = alias_untyped words

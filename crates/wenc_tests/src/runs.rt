@@ -63,13 +63,41 @@ fn any_argument_is_too_many(rt: HostRuntime) -> Result<(), Fail> {
 #[test]
 fn words_of_all_kinds(rt: HostRuntime) {
     let rows: [(&str, &[u8], &[u8]); 8] = [
-        ("a start", b"start 7 1 0 1", b"0\n0061736d0d00010009050702000101\n"),
-        ("an empty module", b"core-module -", b"0\n0061736d0d0001000100\n"),
-        ("a module", b"core-module 0aFf", b"0\n0061736d0d00010001020aff\n"),
-        ("a flag", b"subtask.cancel 1", b"0\n0061736d0d0001000803010601\n"),
-        ("two indices", b"thread.spawn-indirect 1 2", b"0\n0061736d0d000100080401410102\n"),
-        ("an index and a flag", b"stream.cancel-write 3 0", b"0\n0061736d0d000100080401120300\n"),
-        ("a memory", b"waitable-set.wait 5", b"0\n0061736d0d000100080401200005\n"),
+        (
+            "a start",
+            b"start 7 1 0 1",
+            b"0\n0061736d0d00010009050702000101\n",
+        ),
+        (
+            "an empty module",
+            b"core-module -",
+            b"0\n0061736d0d0001000100\n",
+        ),
+        (
+            "a module",
+            b"core-module 0aFf",
+            b"0\n0061736d0d00010001020aff\n",
+        ),
+        (
+            "a flag",
+            b"subtask.cancel 1",
+            b"0\n0061736d0d0001000803010601\n",
+        ),
+        (
+            "two indices",
+            b"thread.spawn-indirect 1 2",
+            b"0\n0061736d0d000100080401410102\n",
+        ),
+        (
+            "an index and a flag",
+            b"stream.cancel-write 3 0",
+            b"0\n0061736d0d000100080401120300\n",
+        ),
+        (
+            "a memory",
+            b"waitable-set.wait 5",
+            b"0\n0061736d0d000100080401200005\n",
+        ),
         ("no names", b"append-names", b"-\n0061736d0d000100\n"),
     ];
     for (name, script, out) in rows {
