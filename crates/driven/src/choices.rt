@@ -1,0 +1,159 @@
+use std::alloc::Global;
+
+/// Choices that are taken from bytes, one by one. Where the bytes end, more are 0.
+#[derive(Drop)]
+pub struct Choices<'a> {
+    bytes: &'a [u8],
+    /// Where what is chosen lies.
+    pub alloc: Global,
+    /// Whether memory ran out, so that something is missing in what was chosen.
+    pub is_out_of_memory: bool,
+}
+
+impl<'a> Choices<'a> {
+    pub fn new(alloc: Global, bytes: &'a [u8]) -> Choices<'a> {
+        Choices {
+            bytes,
+            alloc,
+            is_out_of_memory: false,
+        }
+    }
+
+    /// The next byte.
+    pub fn byte(&mut self) -> u8 {
+        match self.bytes {
+            [first, rest @ ..] => {
+                self.bytes = rest;
+                *first
+            }
+            [] => 0,
+        }
+    }
+
+    /// How many there are of something: from 0 to 3.
+    pub fn count(&mut self) -> u8 {
+        self.byte() % 4
+    }
+
+    /// The next bytes as a number, the highest first.
+    fn wide(&mut self, bytes: u8) -> u64 {
+        let mut number = 0u64;
+        for _ in 0..bytes {
+            number = number % 0x0100_0000_0000_0000 * 256 + u64::from(self.byte());
+        }
+        number
+    }
+
+    /// One value more, if there is memory.
+    pub fn push<T: Drop>(&mut self, values: &mut Vec<T>, value: T) {
+        if values.push(value).is_err() {
+            self.is_out_of_memory = true;
+        }
+    }
+}
+
+/// A value that is chosen.
+pub trait Choose: Drop {
+    fn choose(choices: &mut Choices) -> Self;
+}
+
+impl Choose for bool {
+    fn choose(choices: &mut Choices) -> bool {
+        choices.byte() % 2 == 1
+    }
+}
+
+/// A byte below 200 is the number, modulo 16; one below 230 is followed by a number of two bytes, any other by one of
+/// four.
+impl Choose for u32 {
+    fn choose(choices: &mut Choices) -> u32 {
+        let byte = choices.byte();
+        let number = if byte < 200 {
+            u64::from(byte) % 16
+        } else if byte < 230 {
+            choices.wide(2)
+        } else {
+            choices.wide(4)
+        };
+        (number % 0x0001_0000_0000) as u32
+    }
+}
+
+/// A byte below 200 is the number, modulo 16; any other is followed by a number of eight bytes.
+impl Choose for u64 {
+    fn choose(choices: &mut Choices) -> u64 {
+        let byte = choices.byte();
+        if byte < 200 {
+            u64::from(byte) % 16
+        } else {
+            choices.wide(8)
+        }
+    }
+}
+
+/// As many letters as a byte says, modulo 8: each is a small letter by a byte modulo 27, or the letter é.
+impl Choose for String {
+    fn choose(choices: &mut Choices) -> String {
+        let mut text = String::new(choices.alloc);
+        for _ in 0..choices.byte() % 8 {
+            let letter = choices.byte() % 27;
+            let letter = if letter < 26 {
+                char::from(b'a' + letter)
+            } else {
+                'é'
+            };
+            if text.push(letter).is_err() {
+                choices.is_out_of_memory = true;
+            }
+        }
+        text
+    }
+}
+
+impl<T: Choose> Choose for Option<T> {
+    fn choose(choices: &mut Choices) -> Option<T> {
+        if bool::choose(choices) {
+            Some(T::choose(choices))
+        } else {
+            None
+        }
+    }
+}
+
+impl<T: Choose> Choose for Vec<T> {
+    fn choose(choices: &mut Choices) -> Vec<T> {
+        let mut values = Vec::new(choices.alloc);
+        for _ in 0..choices.count() {
+            let value = T::choose(choices);
+            choices.push(&mut values, value);
+        }
+        values
+    }
+}
+
+impl<T: Choose, U: Choose> Choose for (T, U) {
+    fn choose(choices: &mut Choices) -> (T, U) {
+        let one = T::choose(choices);
+        let other = U::choose(choices);
+        (one, other)
+    }
+}
+
+impl<T: Choose, U: Choose, V: Choose> Choose for (T, U, V) {
+    fn choose(choices: &mut Choices) -> (T, U, V) {
+        let one = T::choose(choices);
+        let other = U::choose(choices);
+        let last = V::choose(choices);
+        (one, other, last)
+    }
+}
+
+/// As many bytes as a byte says, modulo 8.
+pub fn bytes(choices: &mut Choices) -> Vec<u8> {
+    let mut bytes = Vec::new(choices.alloc);
+    for _ in 0..choices.byte() % 8 {
+        let byte = choices.byte();
+        choices.push(&mut bytes, byte);
+    }
+    bytes
+}

@@ -1,0 +1,113 @@
+use crate::choices::{Choices, Choose, bytes};
+use crate::types::ty;
+use wasm_encoder::{
+    AliasTree, CanonTree, Command, ComponentExportKind, ComponentTypeRef, CoreInstanceTree,
+    CoreTypeTree, InstanceTree, NameTree,
+};
+
+/// How deep components stand in one another, and the types in a type.
+pub const DEPTH: u8 = 3;
+
+/// Commands, as many as a byte says, modulo 16.
+#[cycle(commands)]
+pub fn commands(choices: &mut Choices, depth: u8) -> Vec<Command> {
+    let mut commands = Vec::new(choices.alloc);
+    for _ in 0..choices.byte() % 16 {
+        let command = command(choices, depth);
+        choices.push(&mut commands, command);
+    }
+    commands
+}
+
+#[cycle(commands)]
+fn command(choices: &mut Choices, depth: u8) -> Command {
+    let which = choices.byte() % 15;
+    if which >= 9 {
+        return nameless(which, choices);
+    }
+    let n = Option::choose(choices);
+    match which {
+        0 => {
+            let bytes = bytes(choices);
+            Command::CoreModule { n, bytes }
+        }
+        1 => {
+            let instance = CoreInstanceTree::choose(choices);
+            Command::CoreInstance { n, instance }
+        }
+        2 => {
+            let ty = CoreTypeTree::choose(choices);
+            Command::CoreType { n, ty }
+        }
+        3 => {
+            let commands = if depth == 0 {
+                Vec::new(choices.alloc)
+            } else {
+                commands(choices, depth - 1)
+            };
+            Command::Component { n, commands }
+        }
+        4 => {
+            let bytes = bytes(choices);
+            Command::ComponentRaw { n, bytes }
+        }
+        5 => {
+            let instance = InstanceTree::choose(choices);
+            Command::Instance { n, instance }
+        }
+        6 => {
+            let alias = AliasTree::choose(choices);
+            Command::Alias { n, alias }
+        }
+        7 => {
+            let ty = ty(choices, DEPTH);
+            Command::Type { n, ty }
+        }
+        _ => {
+            let canon = CanonTree::choose(choices);
+            Command::Canon { n, canon }
+        }
+    }
+}
+
+/// A command that has no debug name of its caller's: which of the six, from 9 on.
+fn nameless(which: u8, choices: &mut Choices) -> Command {
+    match which {
+        9 => {
+            let function = u32::choose(choices);
+            let args = Vec::choose(choices);
+            let results = u32::choose(choices);
+            Command::Start {
+                function,
+                args,
+                results,
+            }
+        }
+        10 => {
+            let name = NameTree::choose(choices);
+            let ty = ComponentTypeRef::choose(choices);
+            Command::Import { name, ty }
+        }
+        11 => {
+            let name = NameTree::choose(choices);
+            let kind = ComponentExportKind::choose(choices);
+            let index = u32::choose(choices);
+            let ty = Option::choose(choices);
+            Command::Export {
+                name,
+                kind,
+                index,
+                ty,
+            }
+        }
+        12 => Command::AppendNames,
+        13 => {
+            let name = String::choose(choices);
+            let data = bytes(choices);
+            Command::Custom { name, data }
+        }
+        _ => Command::RawCustom {
+            bytes: bytes(choices),
+        },
+    }
+}

@@ -1,0 +1,50 @@
+//! Commands that the bytes on standard input choose, run. `docs/DRIVEN.md` says which bytes choose what. Answers and
+//! component are printed as `wenc` prints them, and the status is 0; where `build` is refused, it is the fault's number.
+#![tactic(auto)]
+
+mod canonicals;
+mod choices;
+mod commands;
+mod core_types;
+mod items;
+mod types;
+
+use choices::Choices;
+use commands::{DEPTH, commands};
+use std::alloc::{AllocError, Global};
+use std::io::Write;
+use std::process::ExitCode;
+use wasm_encoder::{Fault, build};
+use wenc::input::read_all;
+use wenc::print::printed;
+
+/// How many reads the input's end may take.
+const MAX_READS: u32 = 16_777_216;
+
+/// The status where a read or a write failed.
+const TRANSFER_FAILED: u8 = 5;
+
+/// What is printed for the commands that these bytes choose.
+fn run(alloc: Global, bytes: &[u8]) -> Result<Vec<u8>, Fault> {
+    let mut choices = Choices::new(alloc, bytes);
+    let commands = commands(&mut choices, DEPTH);
+    if choices.is_out_of_memory {
+        return Err(Fault::Memory(AllocError));
+    }
+    let built = build(alloc, commands.as_slice())?;
+    Ok(printed(alloc, built.answers.as_slice(), built.bytes.as_slice())?)
+}
+
+fn main(rt: HostRuntime) -> ExitCode {
+    let mut input = rt.stdin();
+    let Ok(bytes) = read_all(rt.alloc(), &mut input, MAX_READS) else {
+        return ExitCode::from(TRANSFER_FAILED);
+    };
+    match run(rt.alloc(), bytes.as_slice()) {
+        Ok(text) => match rt.stdout().write_all(text.as_slice()) {
+            Ok(()) => ExitCode::SUCCESS,
+            Err(_) => ExitCode::from(TRANSFER_FAILED),
+        },
+        Err(fault) => ExitCode::from(fault.number()),
+    }
+}
