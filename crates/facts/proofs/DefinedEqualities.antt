@@ -1,6 +1,6 @@
 -- Derived equality of types of values is true exactly where they are seen as the same.
-use Rattle.std.proofs.Common.{arith, ◌≡◌, refl, ap, Bool, ◌&&◌, ℕ, List, [], ◌∷◌, map, Option, Some, None, String}
-use Rattle.std.proofs.lemmas.Bool.Decides.{Decides-and, Decides-like}
+use Rattle.std.proofs.Common.{arith, ◌≡◌, refl, sym, ◌∙◌, ap, Bool, true, false, true≢false, ◌&&◌, ℕ, nat_eq, List, [], ◌∷◌, map, Option, Some, None, String}
+use Rattle.std.proofs.lemmas.Bool.Decides.{Decides-and, Decides-like, nat_tests}
 use Rattle.std.proofs.lemmas.Grind.{common_steps}
 use Rattle.std.proofs.lemmas.Slice.Eq.{bytes_eq-Decides}
 use Rattle.std.specs.Bool.{Decides}
@@ -15,7 +15,7 @@ use Rattle.wenc_parts.specs.declared.types.ComponentValType.{ComponentValType}
 use Rattle.wenc_parts.specs.declared.types.PrimitiveValType.{PrimitiveValType}
 use Rattle.wenc_parts.specs.contracts.types.ComponentValTypePartialEq.TheImpl.{eq-value as value_eq'}
 use Rattle.wenc_parts.specs.contracts.types.PrimitiveValTypePartialEq.TheImpl.{eq-value as primitive_eq'}
-use Rattle.wenc_types.specs.DefinedTypes.{Named, Case}
+use Rattle.wenc_types.specs.DefinedTypes.{Named, Case, Defined, Primitive, Record, Variant, ListOf, MapOf, FixedLengthList, Tuple, Flags, Enumeration, OptionOf, ResultOf, Own, Borrow, Future, Stream}
 use Rattle.wenc_types.specs.TypeTrees.{named_view, case_view, defined_view}
 use Rattle.wenc_types.specs.declared.defined_tree.CaseTree.{CaseTree}
 use Rattle.wenc_types.specs.declared.defined_tree.DefinedTree.{DefinedTree}
@@ -49,229 +49,59 @@ cases A al d e c k = both _ _ (texts c.name k.name) (options c.ty k.ty) (λ p q.
 
 -- ---- the whole
 
+-- which kind a type is of
+abbrev kind : Defined → ℕ
+kind (Primitive ty) = 0
+kind (Record fields) = 1
+kind (Variant cases) = 2
+kind (ListOf element) = 3
+kind (MapOf key value) = 4
+kind (FixedLengthList element length) = 5
+kind (Tuple elements) = 6
+kind (Flags names) = 7
+kind (Enumeration names) = 8
+kind (OptionOf ty) = 9
+kind (ResultOf ok error) = 10
+kind (Own number) = 11
+kind (Borrow number) = 12
+kind (Future ty) = 13
+kind (Stream ty) = 14
+
+same_kind : (n : ℕ) → nat_eq n n ≡ true
+same_kind n = grind (arith, nat_tests)
+
+-- types of other kinds are others
+differ : (x y : Defined) → nat_eq (kind x) (kind y) ≡ false → Decides false (x ≡ y)
+differ x y e = (λ q. absurd (true≢false (sym q)), λ s. absurd (true≢false (sym (same_kind (kind y)) ∙ rw s at e)))
+
 pub defined_types : (A : RattleType) (al : Ghosts A.Denot) (d e : Dict) (a b : DefinedTree A.Denot) → Decides ((defined_eq' A al d e).it a b) (defined_view a ≡ defined_view b)
 defined_types A al d e (trees.Primitive p) (trees.Primitive p') = Decides-like _ (λ q. cc) (λ q. cc) (primitives p p')
-defined_types A al d e (trees.Primitive p) (trees.Record v') = (λ q. absurd cc, λ q. absurd cc)
-defined_types A al d e (trees.Primitive p) (trees.Variant v') = (λ q. absurd cc, λ q. absurd cc)
-defined_types A al d e (trees.Primitive p) (trees.List t') = (λ q. absurd cc, λ q. absurd cc)
-defined_types A al d e (trees.Primitive p) (trees.Map k' t') = (λ q. absurd cc, λ q. absurd cc)
-defined_types A al d e (trees.Primitive p) (trees.FixedLengthList t' n') = (λ q. absurd cc, λ q. absurd cc)
-defined_types A al d e (trees.Primitive p) (trees.Tuple v') = (λ q. absurd cc, λ q. absurd cc)
-defined_types A al d e (trees.Primitive p) (trees.Flags v') = (λ q. absurd cc, λ q. absurd cc)
-defined_types A al d e (trees.Primitive p) (trees.Enum v') = (λ q. absurd cc, λ q. absurd cc)
-defined_types A al d e (trees.Primitive p) (trees.Option t') = (λ q. absurd cc, λ q. absurd cc)
-defined_types A al d e (trees.Primitive p) (trees.Result o' f') = (λ q. absurd cc, λ q. absurd cc)
-defined_types A al d e (trees.Primitive p) (trees.Own n') = (λ q. absurd cc, λ q. absurd cc)
-defined_types A al d e (trees.Primitive p) (trees.Borrow n') = (λ q. absurd cc, λ q. absurd cc)
-defined_types A al d e (trees.Primitive p) (trees.Future o') = (λ q. absurd cc, λ q. absurd cc)
-defined_types A al d e (trees.Primitive p) (trees.Stream o') = (λ q. absurd cc, λ q. absurd cc)
-defined_types A al d e (trees.Record v) (trees.Primitive p') = (λ q. absurd cc, λ q. absurd cc)
+defined_types A al d e (trees.Primitive p) other = differ _ _ refl
 defined_types A al d e (trees.Record v) (trees.Record v') = Decides-like _ (λ q. cc) (λ q. cc) (lists _ named_view nameds v.items v'.items)
-defined_types A al d e (trees.Record v) (trees.Variant v') = (λ q. absurd cc, λ q. absurd cc)
-defined_types A al d e (trees.Record v) (trees.List t') = (λ q. absurd cc, λ q. absurd cc)
-defined_types A al d e (trees.Record v) (trees.Map k' t') = (λ q. absurd cc, λ q. absurd cc)
-defined_types A al d e (trees.Record v) (trees.FixedLengthList t' n') = (λ q. absurd cc, λ q. absurd cc)
-defined_types A al d e (trees.Record v) (trees.Tuple v') = (λ q. absurd cc, λ q. absurd cc)
-defined_types A al d e (trees.Record v) (trees.Flags v') = (λ q. absurd cc, λ q. absurd cc)
-defined_types A al d e (trees.Record v) (trees.Enum v') = (λ q. absurd cc, λ q. absurd cc)
-defined_types A al d e (trees.Record v) (trees.Option t') = (λ q. absurd cc, λ q. absurd cc)
-defined_types A al d e (trees.Record v) (trees.Result o' f') = (λ q. absurd cc, λ q. absurd cc)
-defined_types A al d e (trees.Record v) (trees.Own n') = (λ q. absurd cc, λ q. absurd cc)
-defined_types A al d e (trees.Record v) (trees.Borrow n') = (λ q. absurd cc, λ q. absurd cc)
-defined_types A al d e (trees.Record v) (trees.Future o') = (λ q. absurd cc, λ q. absurd cc)
-defined_types A al d e (trees.Record v) (trees.Stream o') = (λ q. absurd cc, λ q. absurd cc)
-defined_types A al d e (trees.Variant v) (trees.Primitive p') = (λ q. absurd cc, λ q. absurd cc)
-defined_types A al d e (trees.Variant v) (trees.Record v') = (λ q. absurd cc, λ q. absurd cc)
+defined_types A al d e (trees.Record v) other = differ _ _ refl
 defined_types A al d e (trees.Variant v) (trees.Variant v') = Decides-like _ (λ q. cc) (λ q. cc) (lists (case_eq' A al d e).it case_view (cases A al d e) v.items v'.items)
-defined_types A al d e (trees.Variant v) (trees.List t') = (λ q. absurd cc, λ q. absurd cc)
-defined_types A al d e (trees.Variant v) (trees.Map k' t') = (λ q. absurd cc, λ q. absurd cc)
-defined_types A al d e (trees.Variant v) (trees.FixedLengthList t' n') = (λ q. absurd cc, λ q. absurd cc)
-defined_types A al d e (trees.Variant v) (trees.Tuple v') = (λ q. absurd cc, λ q. absurd cc)
-defined_types A al d e (trees.Variant v) (trees.Flags v') = (λ q. absurd cc, λ q. absurd cc)
-defined_types A al d e (trees.Variant v) (trees.Enum v') = (λ q. absurd cc, λ q. absurd cc)
-defined_types A al d e (trees.Variant v) (trees.Option t') = (λ q. absurd cc, λ q. absurd cc)
-defined_types A al d e (trees.Variant v) (trees.Result o' f') = (λ q. absurd cc, λ q. absurd cc)
-defined_types A al d e (trees.Variant v) (trees.Own n') = (λ q. absurd cc, λ q. absurd cc)
-defined_types A al d e (trees.Variant v) (trees.Borrow n') = (λ q. absurd cc, λ q. absurd cc)
-defined_types A al d e (trees.Variant v) (trees.Future o') = (λ q. absurd cc, λ q. absurd cc)
-defined_types A al d e (trees.Variant v) (trees.Stream o') = (λ q. absurd cc, λ q. absurd cc)
-defined_types A al d e (trees.List t) (trees.Primitive p') = (λ q. absurd cc, λ q. absurd cc)
-defined_types A al d e (trees.List t) (trees.Record v') = (λ q. absurd cc, λ q. absurd cc)
-defined_types A al d e (trees.List t) (trees.Variant v') = (λ q. absurd cc, λ q. absurd cc)
+defined_types A al d e (trees.Variant v) other = differ _ _ refl
 defined_types A al d e (trees.List t) (trees.List t') = Decides-like _ (λ q. cc) (λ q. cc) (values t t')
-defined_types A al d e (trees.List t) (trees.Map k' t') = (λ q. absurd cc, λ q. absurd cc)
-defined_types A al d e (trees.List t) (trees.FixedLengthList t' n') = (λ q. absurd cc, λ q. absurd cc)
-defined_types A al d e (trees.List t) (trees.Tuple v') = (λ q. absurd cc, λ q. absurd cc)
-defined_types A al d e (trees.List t) (trees.Flags v') = (λ q. absurd cc, λ q. absurd cc)
-defined_types A al d e (trees.List t) (trees.Enum v') = (λ q. absurd cc, λ q. absurd cc)
-defined_types A al d e (trees.List t) (trees.Option t') = (λ q. absurd cc, λ q. absurd cc)
-defined_types A al d e (trees.List t) (trees.Result o' f') = (λ q. absurd cc, λ q. absurd cc)
-defined_types A al d e (trees.List t) (trees.Own n') = (λ q. absurd cc, λ q. absurd cc)
-defined_types A al d e (trees.List t) (trees.Borrow n') = (λ q. absurd cc, λ q. absurd cc)
-defined_types A al d e (trees.List t) (trees.Future o') = (λ q. absurd cc, λ q. absurd cc)
-defined_types A al d e (trees.List t) (trees.Stream o') = (λ q. absurd cc, λ q. absurd cc)
-defined_types A al d e (trees.Map k t) (trees.Primitive p') = (λ q. absurd cc, λ q. absurd cc)
-defined_types A al d e (trees.Map k t) (trees.Record v') = (λ q. absurd cc, λ q. absurd cc)
-defined_types A al d e (trees.Map k t) (trees.Variant v') = (λ q. absurd cc, λ q. absurd cc)
-defined_types A al d e (trees.Map k t) (trees.List t') = (λ q. absurd cc, λ q. absurd cc)
+defined_types A al d e (trees.List t) other = differ _ _ refl
 defined_types A al d e (trees.Map k t) (trees.Map k' t') = both _ _ (values k k') (values t t') (λ q r. cc) (λ q. cc) (λ q. cc)
-defined_types A al d e (trees.Map k t) (trees.FixedLengthList t' n') = (λ q. absurd cc, λ q. absurd cc)
-defined_types A al d e (trees.Map k t) (trees.Tuple v') = (λ q. absurd cc, λ q. absurd cc)
-defined_types A al d e (trees.Map k t) (trees.Flags v') = (λ q. absurd cc, λ q. absurd cc)
-defined_types A al d e (trees.Map k t) (trees.Enum v') = (λ q. absurd cc, λ q. absurd cc)
-defined_types A al d e (trees.Map k t) (trees.Option t') = (λ q. absurd cc, λ q. absurd cc)
-defined_types A al d e (trees.Map k t) (trees.Result o' f') = (λ q. absurd cc, λ q. absurd cc)
-defined_types A al d e (trees.Map k t) (trees.Own n') = (λ q. absurd cc, λ q. absurd cc)
-defined_types A al d e (trees.Map k t) (trees.Borrow n') = (λ q. absurd cc, λ q. absurd cc)
-defined_types A al d e (trees.Map k t) (trees.Future o') = (λ q. absurd cc, λ q. absurd cc)
-defined_types A al d e (trees.Map k t) (trees.Stream o') = (λ q. absurd cc, λ q. absurd cc)
-defined_types A al d e (trees.FixedLengthList t n) (trees.Primitive p') = (λ q. absurd cc, λ q. absurd cc)
-defined_types A al d e (trees.FixedLengthList t n) (trees.Record v') = (λ q. absurd cc, λ q. absurd cc)
-defined_types A al d e (trees.FixedLengthList t n) (trees.Variant v') = (λ q. absurd cc, λ q. absurd cc)
-defined_types A al d e (trees.FixedLengthList t n) (trees.List t') = (λ q. absurd cc, λ q. absurd cc)
-defined_types A al d e (trees.FixedLengthList t n) (trees.Map k' t') = (λ q. absurd cc, λ q. absurd cc)
+defined_types A al d e (trees.Map k t) other = differ _ _ refl
 defined_types A al d e (trees.FixedLengthList t n) (trees.FixedLengthList t' n') = both _ _ (values t t') (unsigned_Decides n n') (λ q r. cc) (λ q. cc) (λ q. cc)
-defined_types A al d e (trees.FixedLengthList t n) (trees.Tuple v') = (λ q. absurd cc, λ q. absurd cc)
-defined_types A al d e (trees.FixedLengthList t n) (trees.Flags v') = (λ q. absurd cc, λ q. absurd cc)
-defined_types A al d e (trees.FixedLengthList t n) (trees.Enum v') = (λ q. absurd cc, λ q. absurd cc)
-defined_types A al d e (trees.FixedLengthList t n) (trees.Option t') = (λ q. absurd cc, λ q. absurd cc)
-defined_types A al d e (trees.FixedLengthList t n) (trees.Result o' f') = (λ q. absurd cc, λ q. absurd cc)
-defined_types A al d e (trees.FixedLengthList t n) (trees.Own n') = (λ q. absurd cc, λ q. absurd cc)
-defined_types A al d e (trees.FixedLengthList t n) (trees.Borrow n') = (λ q. absurd cc, λ q. absurd cc)
-defined_types A al d e (trees.FixedLengthList t n) (trees.Future o') = (λ q. absurd cc, λ q. absurd cc)
-defined_types A al d e (trees.FixedLengthList t n) (trees.Stream o') = (λ q. absurd cc, λ q. absurd cc)
-defined_types A al d e (trees.Tuple v) (trees.Primitive p') = (λ q. absurd cc, λ q. absurd cc)
-defined_types A al d e (trees.Tuple v) (trees.Record v') = (λ q. absurd cc, λ q. absurd cc)
-defined_types A al d e (trees.Tuple v) (trees.Variant v') = (λ q. absurd cc, λ q. absurd cc)
-defined_types A al d e (trees.Tuple v) (trees.List t') = (λ q. absurd cc, λ q. absurd cc)
-defined_types A al d e (trees.Tuple v) (trees.Map k' t') = (λ q. absurd cc, λ q. absurd cc)
-defined_types A al d e (trees.Tuple v) (trees.FixedLengthList t' n') = (λ q. absurd cc, λ q. absurd cc)
+defined_types A al d e (trees.FixedLengthList t n) other = differ _ _ refl
 defined_types A al d e (trees.Tuple v) (trees.Tuple v') = Decides-like _ (λ q. cc) (λ q. cc) (same_lists value_eq'.it values v.items v'.items)
-defined_types A al d e (trees.Tuple v) (trees.Flags v') = (λ q. absurd cc, λ q. absurd cc)
-defined_types A al d e (trees.Tuple v) (trees.Enum v') = (λ q. absurd cc, λ q. absurd cc)
-defined_types A al d e (trees.Tuple v) (trees.Option t') = (λ q. absurd cc, λ q. absurd cc)
-defined_types A al d e (trees.Tuple v) (trees.Result o' f') = (λ q. absurd cc, λ q. absurd cc)
-defined_types A al d e (trees.Tuple v) (trees.Own n') = (λ q. absurd cc, λ q. absurd cc)
-defined_types A al d e (trees.Tuple v) (trees.Borrow n') = (λ q. absurd cc, λ q. absurd cc)
-defined_types A al d e (trees.Tuple v) (trees.Future o') = (λ q. absurd cc, λ q. absurd cc)
-defined_types A al d e (trees.Tuple v) (trees.Stream o') = (λ q. absurd cc, λ q. absurd cc)
-defined_types A al d e (trees.Flags v) (trees.Primitive p') = (λ q. absurd cc, λ q. absurd cc)
-defined_types A al d e (trees.Flags v) (trees.Record v') = (λ q. absurd cc, λ q. absurd cc)
-defined_types A al d e (trees.Flags v) (trees.Variant v') = (λ q. absurd cc, λ q. absurd cc)
-defined_types A al d e (trees.Flags v) (trees.List t') = (λ q. absurd cc, λ q. absurd cc)
-defined_types A al d e (trees.Flags v) (trees.Map k' t') = (λ q. absurd cc, λ q. absurd cc)
-defined_types A al d e (trees.Flags v) (trees.FixedLengthList t' n') = (λ q. absurd cc, λ q. absurd cc)
-defined_types A al d e (trees.Flags v) (trees.Tuple v') = (λ q. absurd cc, λ q. absurd cc)
+defined_types A al d e (trees.Tuple v) other = differ _ _ refl
 defined_types A al d e (trees.Flags v) (trees.Flags v') = Decides-like _ (λ q. cc) (λ q. cc) (lists _ string_bytes texts v.items v'.items)
-defined_types A al d e (trees.Flags v) (trees.Enum v') = (λ q. absurd cc, λ q. absurd cc)
-defined_types A al d e (trees.Flags v) (trees.Option t') = (λ q. absurd cc, λ q. absurd cc)
-defined_types A al d e (trees.Flags v) (trees.Result o' f') = (λ q. absurd cc, λ q. absurd cc)
-defined_types A al d e (trees.Flags v) (trees.Own n') = (λ q. absurd cc, λ q. absurd cc)
-defined_types A al d e (trees.Flags v) (trees.Borrow n') = (λ q. absurd cc, λ q. absurd cc)
-defined_types A al d e (trees.Flags v) (trees.Future o') = (λ q. absurd cc, λ q. absurd cc)
-defined_types A al d e (trees.Flags v) (trees.Stream o') = (λ q. absurd cc, λ q. absurd cc)
-defined_types A al d e (trees.Enum v) (trees.Primitive p') = (λ q. absurd cc, λ q. absurd cc)
-defined_types A al d e (trees.Enum v) (trees.Record v') = (λ q. absurd cc, λ q. absurd cc)
-defined_types A al d e (trees.Enum v) (trees.Variant v') = (λ q. absurd cc, λ q. absurd cc)
-defined_types A al d e (trees.Enum v) (trees.List t') = (λ q. absurd cc, λ q. absurd cc)
-defined_types A al d e (trees.Enum v) (trees.Map k' t') = (λ q. absurd cc, λ q. absurd cc)
-defined_types A al d e (trees.Enum v) (trees.FixedLengthList t' n') = (λ q. absurd cc, λ q. absurd cc)
-defined_types A al d e (trees.Enum v) (trees.Tuple v') = (λ q. absurd cc, λ q. absurd cc)
-defined_types A al d e (trees.Enum v) (trees.Flags v') = (λ q. absurd cc, λ q. absurd cc)
+defined_types A al d e (trees.Flags v) other = differ _ _ refl
 defined_types A al d e (trees.Enum v) (trees.Enum v') = Decides-like _ (λ q. cc) (λ q. cc) (lists _ string_bytes texts v.items v'.items)
-defined_types A al d e (trees.Enum v) (trees.Option t') = (λ q. absurd cc, λ q. absurd cc)
-defined_types A al d e (trees.Enum v) (trees.Result o' f') = (λ q. absurd cc, λ q. absurd cc)
-defined_types A al d e (trees.Enum v) (trees.Own n') = (λ q. absurd cc, λ q. absurd cc)
-defined_types A al d e (trees.Enum v) (trees.Borrow n') = (λ q. absurd cc, λ q. absurd cc)
-defined_types A al d e (trees.Enum v) (trees.Future o') = (λ q. absurd cc, λ q. absurd cc)
-defined_types A al d e (trees.Enum v) (trees.Stream o') = (λ q. absurd cc, λ q. absurd cc)
-defined_types A al d e (trees.Option t) (trees.Primitive p') = (λ q. absurd cc, λ q. absurd cc)
-defined_types A al d e (trees.Option t) (trees.Record v') = (λ q. absurd cc, λ q. absurd cc)
-defined_types A al d e (trees.Option t) (trees.Variant v') = (λ q. absurd cc, λ q. absurd cc)
-defined_types A al d e (trees.Option t) (trees.List t') = (λ q. absurd cc, λ q. absurd cc)
-defined_types A al d e (trees.Option t) (trees.Map k' t') = (λ q. absurd cc, λ q. absurd cc)
-defined_types A al d e (trees.Option t) (trees.FixedLengthList t' n') = (λ q. absurd cc, λ q. absurd cc)
-defined_types A al d e (trees.Option t) (trees.Tuple v') = (λ q. absurd cc, λ q. absurd cc)
-defined_types A al d e (trees.Option t) (trees.Flags v') = (λ q. absurd cc, λ q. absurd cc)
-defined_types A al d e (trees.Option t) (trees.Enum v') = (λ q. absurd cc, λ q. absurd cc)
+defined_types A al d e (trees.Enum v) other = differ _ _ refl
 defined_types A al d e (trees.Option t) (trees.Option t') = Decides-like _ (λ q. cc) (λ q. cc) (values t t')
-defined_types A al d e (trees.Option t) (trees.Result o' f') = (λ q. absurd cc, λ q. absurd cc)
-defined_types A al d e (trees.Option t) (trees.Own n') = (λ q. absurd cc, λ q. absurd cc)
-defined_types A al d e (trees.Option t) (trees.Borrow n') = (λ q. absurd cc, λ q. absurd cc)
-defined_types A al d e (trees.Option t) (trees.Future o') = (λ q. absurd cc, λ q. absurd cc)
-defined_types A al d e (trees.Option t) (trees.Stream o') = (λ q. absurd cc, λ q. absurd cc)
-defined_types A al d e (trees.Result o f) (trees.Primitive p') = (λ q. absurd cc, λ q. absurd cc)
-defined_types A al d e (trees.Result o f) (trees.Record v') = (λ q. absurd cc, λ q. absurd cc)
-defined_types A al d e (trees.Result o f) (trees.Variant v') = (λ q. absurd cc, λ q. absurd cc)
-defined_types A al d e (trees.Result o f) (trees.List t') = (λ q. absurd cc, λ q. absurd cc)
-defined_types A al d e (trees.Result o f) (trees.Map k' t') = (λ q. absurd cc, λ q. absurd cc)
-defined_types A al d e (trees.Result o f) (trees.FixedLengthList t' n') = (λ q. absurd cc, λ q. absurd cc)
-defined_types A al d e (trees.Result o f) (trees.Tuple v') = (λ q. absurd cc, λ q. absurd cc)
-defined_types A al d e (trees.Result o f) (trees.Flags v') = (λ q. absurd cc, λ q. absurd cc)
-defined_types A al d e (trees.Result o f) (trees.Enum v') = (λ q. absurd cc, λ q. absurd cc)
-defined_types A al d e (trees.Result o f) (trees.Option t') = (λ q. absurd cc, λ q. absurd cc)
+defined_types A al d e (trees.Option t) other = differ _ _ refl
 defined_types A al d e (trees.Result o f) (trees.Result o' f') = both _ _ (options o o') (options f f') (λ q r. cc) (λ q. cc) (λ q. cc)
-defined_types A al d e (trees.Result o f) (trees.Own n') = (λ q. absurd cc, λ q. absurd cc)
-defined_types A al d e (trees.Result o f) (trees.Borrow n') = (λ q. absurd cc, λ q. absurd cc)
-defined_types A al d e (trees.Result o f) (trees.Future o') = (λ q. absurd cc, λ q. absurd cc)
-defined_types A al d e (trees.Result o f) (trees.Stream o') = (λ q. absurd cc, λ q. absurd cc)
-defined_types A al d e (trees.Own n) (trees.Primitive p') = (λ q. absurd cc, λ q. absurd cc)
-defined_types A al d e (trees.Own n) (trees.Record v') = (λ q. absurd cc, λ q. absurd cc)
-defined_types A al d e (trees.Own n) (trees.Variant v') = (λ q. absurd cc, λ q. absurd cc)
-defined_types A al d e (trees.Own n) (trees.List t') = (λ q. absurd cc, λ q. absurd cc)
-defined_types A al d e (trees.Own n) (trees.Map k' t') = (λ q. absurd cc, λ q. absurd cc)
-defined_types A al d e (trees.Own n) (trees.FixedLengthList t' n') = (λ q. absurd cc, λ q. absurd cc)
-defined_types A al d e (trees.Own n) (trees.Tuple v') = (λ q. absurd cc, λ q. absurd cc)
-defined_types A al d e (trees.Own n) (trees.Flags v') = (λ q. absurd cc, λ q. absurd cc)
-defined_types A al d e (trees.Own n) (trees.Enum v') = (λ q. absurd cc, λ q. absurd cc)
-defined_types A al d e (trees.Own n) (trees.Option t') = (λ q. absurd cc, λ q. absurd cc)
-defined_types A al d e (trees.Own n) (trees.Result o' f') = (λ q. absurd cc, λ q. absurd cc)
+defined_types A al d e (trees.Result o f) other = differ _ _ refl
 defined_types A al d e (trees.Own n) (trees.Own n') = Decides-like _ (λ q. cc) (λ q. cc) (unsigned_Decides n n')
-defined_types A al d e (trees.Own n) (trees.Borrow n') = (λ q. absurd cc, λ q. absurd cc)
-defined_types A al d e (trees.Own n) (trees.Future o') = (λ q. absurd cc, λ q. absurd cc)
-defined_types A al d e (trees.Own n) (trees.Stream o') = (λ q. absurd cc, λ q. absurd cc)
-defined_types A al d e (trees.Borrow n) (trees.Primitive p') = (λ q. absurd cc, λ q. absurd cc)
-defined_types A al d e (trees.Borrow n) (trees.Record v') = (λ q. absurd cc, λ q. absurd cc)
-defined_types A al d e (trees.Borrow n) (trees.Variant v') = (λ q. absurd cc, λ q. absurd cc)
-defined_types A al d e (trees.Borrow n) (trees.List t') = (λ q. absurd cc, λ q. absurd cc)
-defined_types A al d e (trees.Borrow n) (trees.Map k' t') = (λ q. absurd cc, λ q. absurd cc)
-defined_types A al d e (trees.Borrow n) (trees.FixedLengthList t' n') = (λ q. absurd cc, λ q. absurd cc)
-defined_types A al d e (trees.Borrow n) (trees.Tuple v') = (λ q. absurd cc, λ q. absurd cc)
-defined_types A al d e (trees.Borrow n) (trees.Flags v') = (λ q. absurd cc, λ q. absurd cc)
-defined_types A al d e (trees.Borrow n) (trees.Enum v') = (λ q. absurd cc, λ q. absurd cc)
-defined_types A al d e (trees.Borrow n) (trees.Option t') = (λ q. absurd cc, λ q. absurd cc)
-defined_types A al d e (trees.Borrow n) (trees.Result o' f') = (λ q. absurd cc, λ q. absurd cc)
-defined_types A al d e (trees.Borrow n) (trees.Own n') = (λ q. absurd cc, λ q. absurd cc)
+defined_types A al d e (trees.Own n) other = differ _ _ refl
 defined_types A al d e (trees.Borrow n) (trees.Borrow n') = Decides-like _ (λ q. cc) (λ q. cc) (unsigned_Decides n n')
-defined_types A al d e (trees.Borrow n) (trees.Future o') = (λ q. absurd cc, λ q. absurd cc)
-defined_types A al d e (trees.Borrow n) (trees.Stream o') = (λ q. absurd cc, λ q. absurd cc)
-defined_types A al d e (trees.Future o) (trees.Primitive p') = (λ q. absurd cc, λ q. absurd cc)
-defined_types A al d e (trees.Future o) (trees.Record v') = (λ q. absurd cc, λ q. absurd cc)
-defined_types A al d e (trees.Future o) (trees.Variant v') = (λ q. absurd cc, λ q. absurd cc)
-defined_types A al d e (trees.Future o) (trees.List t') = (λ q. absurd cc, λ q. absurd cc)
-defined_types A al d e (trees.Future o) (trees.Map k' t') = (λ q. absurd cc, λ q. absurd cc)
-defined_types A al d e (trees.Future o) (trees.FixedLengthList t' n') = (λ q. absurd cc, λ q. absurd cc)
-defined_types A al d e (trees.Future o) (trees.Tuple v') = (λ q. absurd cc, λ q. absurd cc)
-defined_types A al d e (trees.Future o) (trees.Flags v') = (λ q. absurd cc, λ q. absurd cc)
-defined_types A al d e (trees.Future o) (trees.Enum v') = (λ q. absurd cc, λ q. absurd cc)
-defined_types A al d e (trees.Future o) (trees.Option t') = (λ q. absurd cc, λ q. absurd cc)
-defined_types A al d e (trees.Future o) (trees.Result o' f') = (λ q. absurd cc, λ q. absurd cc)
-defined_types A al d e (trees.Future o) (trees.Own n') = (λ q. absurd cc, λ q. absurd cc)
-defined_types A al d e (trees.Future o) (trees.Borrow n') = (λ q. absurd cc, λ q. absurd cc)
+defined_types A al d e (trees.Borrow n) other = differ _ _ refl
 defined_types A al d e (trees.Future o) (trees.Future o') = Decides-like _ (λ q. cc) (λ q. cc) (options o o')
-defined_types A al d e (trees.Future o) (trees.Stream o') = (λ q. absurd cc, λ q. absurd cc)
-defined_types A al d e (trees.Stream o) (trees.Primitive p') = (λ q. absurd cc, λ q. absurd cc)
-defined_types A al d e (trees.Stream o) (trees.Record v') = (λ q. absurd cc, λ q. absurd cc)
-defined_types A al d e (trees.Stream o) (trees.Variant v') = (λ q. absurd cc, λ q. absurd cc)
-defined_types A al d e (trees.Stream o) (trees.List t') = (λ q. absurd cc, λ q. absurd cc)
-defined_types A al d e (trees.Stream o) (trees.Map k' t') = (λ q. absurd cc, λ q. absurd cc)
-defined_types A al d e (trees.Stream o) (trees.FixedLengthList t' n') = (λ q. absurd cc, λ q. absurd cc)
-defined_types A al d e (trees.Stream o) (trees.Tuple v') = (λ q. absurd cc, λ q. absurd cc)
-defined_types A al d e (trees.Stream o) (trees.Flags v') = (λ q. absurd cc, λ q. absurd cc)
-defined_types A al d e (trees.Stream o) (trees.Enum v') = (λ q. absurd cc, λ q. absurd cc)
-defined_types A al d e (trees.Stream o) (trees.Option t') = (λ q. absurd cc, λ q. absurd cc)
-defined_types A al d e (trees.Stream o) (trees.Result o' f') = (λ q. absurd cc, λ q. absurd cc)
-defined_types A al d e (trees.Stream o) (trees.Own n') = (λ q. absurd cc, λ q. absurd cc)
-defined_types A al d e (trees.Stream o) (trees.Borrow n') = (λ q. absurd cc, λ q. absurd cc)
-defined_types A al d e (trees.Stream o) (trees.Future o') = (λ q. absurd cc, λ q. absurd cc)
+defined_types A al d e (trees.Future o) other = differ _ _ refl
 defined_types A al d e (trees.Stream o) (trees.Stream o') = Decides-like _ (λ q. cc) (λ q. cc) (options o o')
+defined_types A al d e (trees.Stream o) other = differ _ _ refl

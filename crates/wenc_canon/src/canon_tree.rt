@@ -493,5 +493,5 @@ fn with_type<A: Allocator, B: Allocator>(
         (count_cause (length options.now.items)) ⊥ sink.old.items sink.new.items result }
 {
     let lead = Tagged(opcodes::PLAIN, core_func);
-    (Tagged(opcodes::LIFT, &lead), (options.as_slice(), ty)).encode(sink)
+    (Tagged(opcodes::LIFT, &lead), options.as_slice(), ty).encode(sink)
 }
