@@ -1,5 +1,4 @@
-use crate::checks::{component, finished};
-use std::alloc::Global;
+use crate::checks::finished;
 use std::borrow::CowStr;
 use std::test::Fail;
 use wenc_base::{ExportKind, Fault};
@@ -128,23 +127,5 @@ fn an_import_with_options(rt: HostRuntime) -> Result<(), Fail> {
     assert!(rt; import_with_options(&mut builder) == Ok(0));
     let wanted = "0061736d0d0001000a0c010201610200016902000100";
     finished(&rt, rt.alloc(), builder, wanted)?;
-    Ok(())
-}
-
-/// A component that imports a function under a name of 128 letters.
-fn long_import(alloc: Global) -> Result<String, Fault> {
-    let name = "a".repeat(alloc, 128)?;
-    let mut builder = ComponentBuilder::new(alloc)?;
-    import_function(&mut builder, name.as_str())?;
-    component(alloc, builder)
-}
-
-// A section past 127 bytes has a size of two bytes.
-#[test]
-fn a_long_name(rt: HostRuntime) -> Result<(), Fail> {
-    let letters = "61".repeat(rt.alloc(), 128)?;
-    let wanted = format!(in rt.alloc(); "{HEADER}0a860101008001{letters}0100")?;
-    let bytes = long_import(rt.alloc())?;
-    assert_eq!(rt; bytes.as_str(), wanted.as_str());
     Ok(())
 }

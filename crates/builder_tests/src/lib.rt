@@ -10,6 +10,8 @@ mod checks;
 #[cfg(test)]
 mod counts;
 #[cfg(test)]
+mod ends;
+#[cfg(test)]
 mod imports;
 #[cfg(test)]
 mod instances;
@@ -17,8 +19,6 @@ mod instances;
 mod names;
 #[cfg(test)]
 mod nested;
-#[cfg(test)]
-mod options;
 #[cfg(test)]
 mod swept;
 #[cfg(test)]

@@ -1,11 +1,12 @@
 //! Nested components, by the builder that is given up and by the one that is lent.
 
-use crate::checks::{Call, finished, row};
+use crate::checks::{Call, finished, holds, row};
 use std::alloc::Global;
 use std::process::Abort;
 use std::test::Fail;
 use wenc_base::Fault;
 use wenc_builder::ComponentBuilder;
+use wenc_parts::ComponentExportKind;
 
 /// A builder with one function.
 fn cancels(alloc: Global) -> Result<ComponentBuilder, Fault> {
@@ -97,6 +98,46 @@ fn lent_with_one_in_it(rt: HostRuntime) -> Result<(), Fail> {
         "04160061736d0d000100040c0061736d0d00010008020105"
     );
     twice(&rt, rt.alloc(), &component, wanted)?;
+    Ok(())
+}
+
+fn drop_type(builder: &mut ComponentBuilder) -> Result<(), Fault> {
+    builder.type_defined(None)?;
+    Ok(())
+}
+
+fn alias(builder: &mut ComponentBuilder) -> Result<u32, Fault> {
+    builder.alias_export(0, "f", ComponentExportKind::Func)
+}
+
+/// Neither call takes a component that is unfinished.
+fn is_not_taken(rt: &impl Abort, alloc: Global, component: ComponentBuilder) -> Result<(), Fault> {
+    let mut builder = ComponentBuilder::new(alloc)?;
+    assert!(rt; builder.component_ref(None, &component) == Err(Fault::Unfinished));
+    assert!(rt; builder.component(None, component) == Err(Fault::Unfinished));
+    assert!(rt; builder.component_count() == 0);
+    assert!(rt; alias(&mut builder) == Ok(0));
+    holds(rt, alloc, builder, "0606010100000166")
+}
+
+/// Nor does one that is unfinished take any.
+fn takes_none(rt: &impl Abort, alloc: Global, mut builder: ComponentBuilder) -> Result<(), Fault> {
+    let component = ComponentBuilder::new(alloc)?;
+    assert!(rt; builder.component_ref(None, &component) == Err(Fault::Unfinished));
+    assert!(rt; builder.component(None, component) == Err(Fault::Unfinished));
+    Ok(())
+}
+
+fn unfinished(alloc: Global) -> Result<ComponentBuilder, Fault> {
+    let mut builder = ComponentBuilder::new(alloc)?;
+    drop_type(&mut builder)?;
+    Ok(builder)
+}
+
+#[test]
+fn unfinished_builders(rt: HostRuntime) -> Result<(), Fail> {
+    is_not_taken(&rt, rt.alloc(), unfinished(rt.alloc())?)?;
+    takes_none(&rt, rt.alloc(), unfinished(rt.alloc())?)?;
     Ok(())
 }
 

@@ -5,4 +5,5 @@ mod between;
 mod canonicals;
 mod commands;
 mod names;
+mod trees;
 mod types;

@@ -21,6 +21,8 @@ pub fn accepted_text(alloc: Global, script: &[u8]) -> Option<Vec<u8>>
 #[cfg(test)]
 mod expected;
 #[cfg(test)]
+mod lines;
+#[cfg(test)]
 mod memory;
 #[cfg(test)]
 mod pieces;

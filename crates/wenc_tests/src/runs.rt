@@ -8,7 +8,7 @@ use wenc::run;
 
 #[test]
 fn bad_scripts(rt: HostRuntime) {
-    let scripts: [&[u8]; 24] = [
+    let scripts: [&[u8]; 27] = [
         b"import  f func 0",
         b" import f func 0",
         b"import f func 0 ",
@@ -26,6 +26,9 @@ fn bad_scripts(rt: HostRuntime) {
         b"start 1",
         b"start 1 1 x",
         b"start 1 1 ",
+        b"start 4294967296 1",
+        b"start 1 4294967296",
+        b"start 1 1 4294967296",
         b"task.cancel 0",
         b"resource.drop 1 2",
         b"stream.cancel-read 1 2",

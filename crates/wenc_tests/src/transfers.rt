@@ -1,14 +1,18 @@
 //! Reads and writes that fail: nothing follows them.
 
 use crate::streams::{Sink, Source};
+use std::io;
+use std::io::Read;
 use wenc::input::read_all;
 use wenc::output::send;
 use wenc::run;
 
+// Sixteen reads of one byte, and one that finds the end.
 #[test]
 fn a_read_fails(rt: HostRuntime) {
-    for failing in [1, 2] {
+    for failing in 1..18 {
         let mut input = Source::new(b"import f func 0\n");
+        input.step = 1;
         input.failing = failing;
         let mut out = Sink::new(rt.alloc());
         let mut err = Sink::new(rt.alloc());
@@ -28,6 +32,36 @@ fn the_end_may_come_too_late(rt: HostRuntime) {
     input.step = 1;
     assert!(rt; read_all(rt.alloc(), &mut input, 4).is_err());
     assert_eq!(rt; input.calls, 4);
+}
+
+/// Gives the end of a line at each read, for ever.
+#[derive(Drop)]
+struct Endless {
+    calls: usize,
+}
+
+impl Read for Endless {
+    fn read(&mut self, buf: &mut [u8]) -> io::Result<usize> {
+        self.calls = self.calls.saturating_add(1);
+        match buf.first_mut() {
+            Some(first) => {
+                *first = b'\n';
+                Ok(1)
+            }
+            None => Ok(0),
+        }
+    }
+}
+
+#[test]
+fn the_end_never_comes(rt: HostRuntime) {
+    let mut input = Endless { calls: 0 };
+    let mut out = Sink::new(rt.alloc());
+    let mut err = Sink::new(rt.alloc());
+    assert_eq!(rt; run(rt.alloc(), &[], &mut input, &mut out, &mut err), 4);
+    assert_eq!(rt; input.calls, 16777216);
+    assert_eq!(rt; out.calls, 0);
+    assert_eq!(rt; err.calls, 0);
 }
 
 #[test]

@@ -1,6 +1,8 @@
 //! Modules, components, starts and custom sections: each is a section of its own.
 
-use super::between::{Call, NAME, ONE, finishes, started, sweep_section};
+use super::between::{
+    CORE_MODULE, Call, NAME, NAMELESS, Named, ONE, finishes, started, sweep_section,
+};
 use refusing::Refusing;
 use std::alloc::Global;
 use std::test::Fail;
@@ -67,32 +69,45 @@ fn component(alloc: Global) -> Result<ComponentBuilder, Fault> {
 const NESTED: &[u8] =
     b"\x04\x2c\x00asm\x0d\x00\x01\x00\x0a\x22\x01\x00\x1dan-interface-with-a-long-name\x01\x00";
 
+const COMPONENT: Named = Named {
+    sort: &[0x04],
+    name: NAME,
+};
+
 /// What is made of bytes or of numbers, with its section.
-const CALLS: [(Alone<'static>, &[u8]); 6] = [
+const CALLS: [(Alone<'static>, Named, &[u8]); 6] = [
     (
         Alone::CoreModuleRaw,
+        CORE_MODULE,
         b"\x01\x1dan-interface-with-a-long-name",
     ),
-    (Alone::Component, NESTED),
+    (Alone::Component, COMPONENT, NESTED),
     (
         Alone::ComponentRaw,
+        COMPONENT,
         b"\x04\x1dan-interface-with-a-long-name",
     ),
     (
         Alone::Start,
+        NAMELESS,
         b"\x09\x1b\x07\x04\xff\xff\xff\xff\x0f\xff\xff\xff\xff\x0f\xff\xff\xff\xff\x0f\xff\xff\xff\xff\x0f\xff\xff\xff\xff\x0f",
     ),
     (
         Alone::Custom,
+        NAMELESS,
         b"\x00\x22\x1dan-interface-with-a-long-namedata",
     ),
-    (Alone::RawCustom, b"\x00an-interface-with-a-long-name"),
+    (
+        Alone::RawCustom,
+        NAMELESS,
+        b"\x00an-interface-with-a-long-name",
+    ),
 ];
 
 #[test]
 fn made_of_bytes(rt: HostRuntime) -> Result<(), Fail> {
-    for (call, section) in CALLS.as_slice() {
-        sweep_section(&rt, rt.alloc(), ONE, *call, 0, section)?;
+    for (call, named, section) in CALLS.as_slice() {
+        sweep_section(&rt, rt.alloc(), ONE, *call, *named, section)?;
     }
     Ok(())
 }
@@ -102,7 +117,7 @@ fn modules(rt: HostRuntime) -> Result<(), Fail> {
     let module = module(rt.alloc())?;
     let call = Alone::CoreModule(&module);
     let section = b"\x01\x2c\x00asm\x01\x00\x00\x00\x00\x22\x1dan-interface-with-a-long-namedata";
-    sweep_section(&rt, rt.alloc(), ONE, call, 0, section.as_slice())?;
+    sweep_section(&rt, rt.alloc(), ONE, call, CORE_MODULE, section.as_slice())?;
     Ok(())
 }
 
@@ -111,7 +126,7 @@ fn modules(rt: HostRuntime) -> Result<(), Fail> {
 fn lent_components(rt: HostRuntime) -> Result<(), Fail> {
     let component = component(rt.alloc())?;
     let call = Alone::ComponentRef(&component);
-    sweep_section(&rt, rt.alloc(), ONE, call, 0, NESTED)?;
+    sweep_section(&rt, rt.alloc(), ONE, call, COMPONENT, NESTED)?;
     finishes(&rt, component, &NESTED[2..])?;
     Ok(())
 }

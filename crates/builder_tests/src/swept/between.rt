@@ -1,7 +1,7 @@
 //! Each call of the builder stands between two aliases, which share a section where the call is refused.
 
 use refusing::Refusing;
-use std::alloc::{AllocError, Allocator, Global};
+use std::alloc::{Allocator, Global};
 use std::process::Abort;
 use std::test::Fail;
 use sweeping::{LARGE, REFUSED};
@@ -45,10 +45,13 @@ pub struct Start {
     without: &'static [u8],
 }
 
+/// The component that has an alias in front and the alias behind.
+pub const BOTH: &[u8] = b"\x00asm\x0d\x00\x01\x00\x06\x0a\x02\x01\x00\x00\x01\x66\x03\x02\x00\x01";
+
 pub const ONE: Start = Start {
     aliases: 1,
     bytes: b"\x00asm\x0d\x00\x01\x00\x06\x06\x01\x01\x00\x00\x01\x66",
-    without: b"\x00asm\x0d\x00\x01\x00\x06\x0a\x02\x01\x00\x00\x01\x66\x03\x02\x00\x01",
+    without: BOTH,
 };
 
 /// A section behind these has to grow before its first item.
@@ -58,7 +61,7 @@ pub const TWO: Start = Start {
     without: b"\x00asm\x0d\x00\x01\x00\x06\x0f\x03\x01\x00\x00\x01\x66\x01\x00\x00\x01\x66\x03\x02\x00\x01",
 };
 
-/// A call, its answer, and the component in which it is accepted.
+/// A call, its answer, and the component in which it is accepted, with the section of names.
 #[derive(Clone, Copy)]
 struct Case<'a, C> {
     start: Start,
@@ -66,6 +69,33 @@ struct Case<'a, C> {
     answer: u32,
     with: &'a [u8],
 }
+
+/// The name that an accepted call leaves, with the sort of its space. Without a sort there is none.
+#[derive(Clone, Copy)]
+pub struct Named {
+    pub sort: &'static [u8],
+    pub name: &'static str,
+}
+
+pub const NAMELESS: Named = Named {
+    sort: &[],
+    name: "",
+};
+
+pub const FUNC: Named = Named {
+    sort: &[0x01],
+    name: NAME,
+};
+
+pub const CORE_FUNC: Named = Named {
+    sort: &[0x00, 0x00],
+    name: NAME,
+};
+
+pub const CORE_MODULE: Named = Named {
+    sort: &[0x00, 0x11],
+    name: NAME,
+};
 
 fn alias(builder: &mut ComponentBuilder<&Refusing>, alias: Alias<'_>) -> Result<u32, Fault> {
     builder.alias(None, alias)
@@ -130,6 +160,7 @@ fn refuse<C: Call>(
     heap.refuse_none();
     assert!(rt; alias(&mut builder, TYPE) == Ok(0));
     assert!(rt; counts(&builder) == [0, 0, 0, 0, 0, 0, 0, 0, aliases, 0, 0, 0, 1]);
+    builder.append_names()?;
     finishes(rt, builder, case.start.without)?;
     Ok(true)
 }
@@ -152,6 +183,7 @@ fn accept<C: Call>(
     }
     assert!(rt; outcome == Ok(case.answer));
     alias(&mut builder, TYPE)?;
+    builder.append_names()?;
     finishes(rt, builder, case.with)
 }
 
@@ -167,12 +199,59 @@ fn sweep<C: Call>(rt: &impl Abort, alloc: Global, case: &Case<'_, C>) -> Result<
     Ok(false)
 }
 
+/// A number that is one byte.
+fn byte(n: usize) -> u8 {
+    u8::try_from(n).unwrap_or(u8::MAX)
+}
+
+/// The section of one name. It is short: each size is one byte.
+fn push_name(bytes: &mut Vec<u8>, named: Named, index: u32) -> Result<(), Fault> {
+    if named.sort.is_empty() {
+        return Ok(());
+    }
+    let len = byte(named.name.len());
+    let size = byte(named.sort.len()).saturating_add(len).saturating_add(3);
+    bytes.extend_from_slice(&[0x00, size.saturating_add(17), 0x0e])?;
+    bytes.extend_from_slice(b"component-name")?;
+    bytes.extend_from_slice(&[0x01, size])?;
+    bytes.extend_from_slice(named.sort)?;
+    bytes.extend_from_slice(&[0x01, byte(index as usize), len])?;
+    bytes.extend_from_slice(named.name.as_bytes())?;
+    Ok(())
+}
+
 /// The component where a call adds this section.
-fn apart(alloc: Global, start: Start, section: &[u8]) -> Result<Vec<u8>, AllocError> {
+fn apart(alloc: Global, start: Start, section: &[u8]) -> Result<Vec<u8>, Fault> {
     let mut bytes = start.bytes.to_vec(alloc)?;
     bytes.extend_from_slice(section)?;
     bytes.extend_from_slice(BEHIND)?;
     Ok(bytes)
+}
+
+/// Sweeps a call with which the component has these bytes, but for its name.
+fn sweep_with<C: Call>(
+    rt: &impl Abort,
+    alloc: Global,
+    start: Start,
+    call: C,
+    named: Named,
+    mut bytes: Vec<u8>,
+) -> Result<(), Fault> {
+    // The aliases in front are of functions.
+    let answer = if named.sort == FUNC.sort {
+        start.aliases
+    } else {
+        0
+    };
+    push_name(&mut bytes, named, answer)?;
+    let case = Case {
+        start,
+        call,
+        answer,
+        with: bytes.as_slice(),
+    };
+    assert!(rt; sweep(rt, alloc, &case)?);
+    Ok(())
 }
 
 /// Sweeps a call that adds this section.
@@ -181,36 +260,22 @@ pub fn sweep_section<C: Call>(
     alloc: Global,
     start: Start,
     call: C,
-    answer: u32,
+    named: Named,
     section: &[u8],
 ) -> Result<(), Fault> {
-    let with = apart(alloc, start, section)?;
-    let case = Case {
-        start,
-        call,
-        answer,
-        with: with.as_slice(),
-    };
-    assert!(rt; sweep(rt, alloc, &case)?);
-    Ok(())
+    sweep_with(rt, alloc, start, call, named, apart(alloc, start, section)?)
 }
 
-/// Sweeps a call whose item stands in the section of both aliases, with which the component is this.
-fn sweep_joined<C: Call>(
+/// Sweeps the call behind one alias, where the open section has room, and behind two.
+pub fn sweep_both<C: Call>(
     rt: &impl Abort,
     alloc: Global,
     call: C,
-    answer: u32,
-    with: &[u8],
+    named: Named,
+    section: &[u8],
 ) -> Result<(), Fault> {
-    let case = Case {
-        start: ONE,
-        call,
-        answer,
-        with,
-    };
-    assert!(rt; sweep(rt, alloc, &case)?);
-    Ok(())
+    sweep_section(rt, alloc, ONE, call, named, section)?;
+    sweep_section(rt, alloc, TWO, call, named, section)
 }
 
 /// Imports, exports and aliases.
@@ -237,25 +302,23 @@ impl Call for Item {
     }
 }
 
-/// An import and an export, each with its answer and its section.
-const APART: [(Item, u32, &[u8]); 2] = [
+/// An import and an export, each with its section.
+const APART: [(Item, &[u8]); 2] = [
     (
         Item::Import,
-        1,
         b"\x0a\x22\x01\x00\x1dan-interface-with-a-long-name\x01\x00",
     ),
     (
         Item::Export,
-        1,
         b"\x0b\x23\x01\x00\x1dan-interface-with-a-long-name\x01\x00\x00",
     ),
 ];
 
-/// Aliases, each with its answer and the whole component: all stand in one section.
-const JOINED: [(Item, u32, &[u8]); 4] = [
+/// Aliases, each with the whole component: all stand in one section.
+const JOINED: [(Item, Named, &[u8]); 4] = [
     (
         Item::AliasExport,
-        1,
+        FUNC,
         b"\x00asm\x0d\x00\x01\x00\x06\x2b\x03\x01\x00\x00\x01\x66\x01\x00\x00\x1dan-interface-with-a-long-name\x03\x02\x00\x01",
     ),
     (
@@ -264,37 +327,44 @@ const JOINED: [(Item, u32, &[u8]); 4] = [
             kind: ComponentExportKind::Func,
             name: NAME,
         }),
-        1,
+        FUNC,
         b"\x00asm\x0d\x00\x01\x00\x06\x2b\x03\x01\x00\x00\x01\x66\x01\x00\x00\x1dan-interface-with-a-long-name\x03\x02\x00\x01",
     ),
     (
         Item::Alias(Alias::Outer {
-            kind: ComponentOuterAliasKind::Type,
+            kind: ComponentOuterAliasKind::CoreModule,
             count: LARGE,
             index: LARGE,
         }),
-        0,
-        b"\x00asm\x0d\x00\x01\x00\x06\x16\x03\x01\x00\x00\x01\x66\x03\x02\xff\xff\xff\xff\x0f\xff\xff\xff\xff\x0f\x03\x02\x00\x01",
+        CORE_MODULE,
+        b"\x00asm\x0d\x00\x01\x00\x06\x17\x03\x01\x00\x00\x01\x66\x00\x11\x02\xff\xff\xff\xff\x0f\xff\xff\xff\xff\x0f\x03\x02\x00\x01",
     ),
     (
         Item::CoreAliasExport,
-        0,
+        CORE_FUNC,
         b"\x00asm\x0d\x00\x01\x00\x06\x2c\x03\x01\x00\x00\x01\x66\x00\x00\x01\x00\x1dan-interface-with-a-long-name\x03\x02\x00\x01",
     ),
 ];
 
 #[test]
 fn imports_and_exports(rt: HostRuntime) -> Result<(), Fail> {
-    for (call, answer, section) in APART.as_slice() {
-        sweep_section(&rt, rt.alloc(), ONE, *call, *answer, section)?;
+    for (call, section) in APART.as_slice() {
+        sweep_section(&rt, rt.alloc(), ONE, *call, FUNC, section)?;
     }
     Ok(())
 }
 
 #[test]
 fn aliases(rt: HostRuntime) -> Result<(), Fail> {
-    for (call, answer, with) in JOINED.as_slice() {
-        sweep_joined(&rt, rt.alloc(), *call, *answer, with)?;
+    for (call, named, with) in JOINED.as_slice() {
+        sweep_with(
+            &rt,
+            rt.alloc(),
+            ONE,
+            *call,
+            *named,
+            with.to_vec(rt.alloc())?,
+        )?;
     }
     Ok(())
 }

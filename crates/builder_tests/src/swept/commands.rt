@@ -1,59 +1,219 @@
-use refusing::Refusing;
-use std::alloc::{AllocError, Allocator};
-use std::test::Fail;
-use sweeping::{NAME, REFUSED};
-use wasm_encoder::{AliasTree, Command, ComponentExportKind, ComponentTypeRef, NameTree, build};
+//! Commands, with each growth of a whole `build` refused in turn.
 
-fn alias<A: Allocator>(alloc: A, name: &str) -> Result<Command<A>, AllocError> {
-    Ok(Command::Alias {
+use super::between::BOTH;
+use refusing::Refusing;
+use std::alloc::Global;
+use std::process::Abort;
+use sweeping::{NAME, REFUSED};
+use wasm_encoder::{
+    AliasTree, Command, ComponentExportKind, ComponentOuterAliasKind, ComponentTypeRef,
+    ComponentValType, DefinedTree, Fault, NameTree, PrimitiveValType, TypeTree, build,
+};
+
+/// What a command is answered with.
+type Answer = Result<Option<u32>, Fault>;
+
+/// The component of these answers.
+#[derive(Clone, Copy)]
+struct Wanted<'a> {
+    answers: &'a [Answer],
+    bytes: &'a [u8],
+}
+
+/// What commands are to come to where the one at this place is refused, and where none is.
+#[derive(Clone, Copy)]
+struct Case<'a> {
+    place: usize,
+    refused: Wanted<'a>,
+    accepted: Wanted<'a>,
+}
+
+/// What is found where growth number `n` was to be refused.
+#[derive(Clone, Copy, PartialEq, Eq)]
+enum Found {
+    /// It was, and the command at the place was refused.
+    Skipped,
+    /// It was, at another place.
+    Elsewhere,
+    /// There is none.
+    NoRefusal,
+}
+
+fn refuse(
+    rt: &impl Abort,
+    heap: &Refusing,
+    commands: &[Command],
+    case: &Case<'_>,
+    n: u64,
+) -> Found {
+    heap.refuse_nth(n);
+    let outcome = build(heap, commands);
+    let was_refused = heap.was_refused();
+    match outcome {
+        Ok(built) => {
+            let is_skipped = built
+                .answers
+                .get(case.place)
+                .is_some_and(|answer| answer.is_err());
+            let wanted = if was_refused {
+                case.refused
+            } else {
+                case.accepted
+            };
+            if is_skipped || !was_refused {
+                assert!(rt; built.answers.as_slice() == wanted.answers);
+                assert!(rt; built.bytes.as_slice() == wanted.bytes);
+            }
+            if !was_refused {
+                Found::NoRefusal
+            } else if is_skipped {
+                Found::Skipped
+            } else {
+                Found::Elsewhere
+            }
+        }
+        Err(fault) => {
+            assert!(rt; was_refused && fault == REFUSED);
+            Found::Elsewhere
+        }
+    }
+}
+
+/// Whether some growth is that of the command at the place.
+fn sweep(rt: &impl Abort, alloc: Global, commands: &[Command], case: &Case<'_>) -> bool {
+    let heap = Refusing::new(alloc);
+    let mut skipped = false;
+    let mut last = Found::Elsewhere;
+    for n in 1..60u64 {
+        if last != Found::NoRefusal {
+            last = refuse(rt, &heap, commands, case, n);
+            skipped |= last == Found::Skipped;
+        }
+    }
+    assert!(rt; last == Found::NoRefusal);
+    skipped
+}
+
+/// A text; without memory it is empty, so that the component has other bytes. So it is with what else takes memory.
+fn text(alloc: Global, text: &str) -> String {
+    String::from_str(alloc, text).unwrap_or(String::new(alloc))
+}
+
+fn list<T: Drop, E: Drop>(alloc: Global, values: Result<Vec<T>, E>) -> Vec<T> {
+    values.unwrap_or(Vec::new(alloc))
+}
+
+fn function(alloc: Global) -> Command {
+    Command::Alias {
         n: None,
         alias: AliasTree::InstanceExport {
             instance: 0,
             kind: ComponentExportKind::Func,
-            name: String::from_str(alloc, name)?,
+            name: text(alloc, "f"),
         },
-    })
-}
-
-fn import<A: Allocator>(alloc: A) -> Result<Command<A>, AllocError> {
-    Ok(Command::Import {
-        name: NameTree::from(String::from_str(alloc, NAME)?),
-        ty: ComponentTypeRef::Func(0),
-    })
-}
-
-// A command that is refused adds nothing, and those after it run all the same.
-#[test]
-fn builds(rt: HostRuntime) -> Result<(), Fail> {
-    let alloc = rt.alloc();
-    let heap = Refusing::new(alloc);
-    let all = vec![in alloc; alias(alloc, "f")?, import(alloc)?, alias(alloc, "g")?]?;
-    // These hold their texts in the same allocator, which refuses nothing yet.
-    let without = vec![in alloc; alias(&heap, "f")?, alias(&heap, "g")?]?;
-    let wanted = build(alloc, without.as_slice())?;
-    let mut skipped = false;
-    let mut done = false;
-    for n in 1..40u64 {
-        heap.refuse_nth(n);
-        let outcome = build(&heap, all.as_slice());
-        if !heap.was_refused() {
-            done = true;
-            break;
-        }
-        assert!(rt; heap.requests() >= n);
-        match outcome {
-            Err(fault) => assert!(rt; fault == REFUSED),
-            Ok(built) => {
-                let refused = built.answers.iter().filter(|a| a.is_err()).count();
-                assert_eq!(rt; refused, 1);
-                if built.answers.get(1).is_some_and(|a| *a == Err(REFUSED)) {
-                    assert_eq!(rt; built.bytes.as_slice(), wanted.bytes.as_slice());
-                    skipped = true;
-                }
-            }
-        }
     }
-    assert!(rt; done);
-    assert!(rt; skipped);
-    Ok(())
+}
+
+fn outer_type() -> Command {
+    Command::Alias {
+        n: None,
+        alias: AliasTree::Outer {
+            kind: ComponentOuterAliasKind::Type,
+            count: 0,
+            index: 1,
+        },
+    }
+}
+
+fn module(alloc: Global, bytes: &[u8]) -> Command {
+    Command::CoreModule {
+        n: None,
+        bytes: list(alloc, bytes.to_vec(alloc)),
+    }
+}
+
+fn import(alloc: Global) -> Command {
+    Command::Import {
+        name: NameTree::from(text(alloc, NAME)),
+        ty: ComponentTypeRef::Func(0),
+    }
+}
+
+/// Both aliases stand in one section where what is between them is refused.
+const REFUSED_BETWEEN: Wanted<'static> = Wanted {
+    answers: &[Ok(Some(0)), Err(REFUSED), Ok(Some(0))],
+    bytes: BOTH,
+};
+
+const MODULE: Case<'static> = Case {
+    place: 1,
+    refused: REFUSED_BETWEEN,
+    accepted: Wanted {
+        answers: &[Ok(Some(0)), Ok(Some(0)), Ok(Some(0))],
+        bytes: b"\x00asm\x0d\x00\x01\x00\x06\x06\x01\x01\x00\x00\x01f\x01\x01\xaa\x06\x05\x01\x03\x02\x00\x01",
+    },
+};
+
+const LONG_MODULE: Case<'static> = Case {
+    place: 1,
+    refused: REFUSED_BETWEEN,
+    accepted: Wanted {
+        answers: &[Ok(Some(0)), Ok(Some(0)), Ok(Some(0))],
+        bytes: b"\x00asm\x0d\x00\x01\x00\x06\x06\x01\x01\x00\x00\x01f\x01\x49a name that is longer than a first growth, by far: aaaaaaaaaaaaaaaaaaaaaa\x06\x05\x01\x03\x02\x00\x01",
+    },
+};
+
+const IMPORT: Case<'static> = Case {
+    place: 1,
+    refused: REFUSED_BETWEEN,
+    accepted: Wanted {
+        answers: &[Ok(Some(0)), Ok(Some(1)), Ok(Some(0))],
+        bytes: b"\x00asm\x0d\x00\x01\x00\x06\x06\x01\x01\x00\x00\x01f\x0a\x4e\x01\x00\x49a name that is longer than a first growth, by far: aaaaaaaaaaaaaaaaaaaaaa\x01\x00\x06\x05\x01\x03\x02\x00\x01",
+    },
+};
+
+// A command that is refused adds nothing, and those after it run all the same. The short module has room without a
+// growth.
+#[test]
+fn between_aliases(rt: HostRuntime) {
+    let alloc = rt.alloc();
+    let commands = [function(alloc), module(alloc, &[0xaa]), outer_type()];
+    sweep(&rt, alloc, &commands, &MODULE);
+    let commands = [
+        function(alloc),
+        module(alloc, NAME.as_bytes()),
+        outer_type(),
+    ];
+    assert!(rt; sweep(&rt, alloc, &commands, &LONG_MODULE));
+    let commands = [function(alloc), import(alloc), outer_type()];
+    assert!(rt; sweep(&rt, alloc, &commands, &IMPORT));
+}
+
+const BOOL: ComponentValType = ComponentValType::Primitive(PrimitiveValType::Bool);
+
+const RECORD: Case<'static> = Case {
+    place: 0,
+    refused: Wanted {
+        answers: &[Err(REFUSED)],
+        bytes: b"\x00asm\x0d\x00\x01\x00",
+    },
+    accepted: Wanted {
+        answers: &[Ok(Some(0))],
+        bytes: b"\x00asm\x0d\x00\x01\x00\x07\x09\x01\x72\x02\x01\x61\x7f\x01\x62\x7f",
+    },
+};
+
+// Where the opening is refused, so is the command. Where the rest of the type is, so is the whole.
+#[test]
+fn records(rt: HostRuntime) {
+    let alloc = rt.alloc();
+    let fields = list(
+        alloc,
+        vec![in alloc; (text(alloc, "a"), BOOL), (text(alloc, "b"), BOOL)],
+    );
+    let commands = [Command::Type {
+        n: None,
+        ty: TypeTree::Defined(DefinedTree::Record(fields)),
+    }];
+    assert!(rt; sweep(&rt, alloc, &commands, &RECORD));
 }

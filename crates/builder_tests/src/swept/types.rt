@@ -1,14 +1,14 @@
 //! Instances, functions with options, and types: what an iterator gives, and what an encoder writes.
 
-use super::between::{Call, NAME, ONE, TWO, sweep_section};
+use super::between::{CORE_FUNC, Call, FUNC, NAME, Named, finishes, started, sweep_both};
 use refusing::Refusing;
 use std::alloc::Global;
 use std::process::Abort;
 use std::test::Fail;
-use sweeping::LARGE;
+use sweeping::{LARGE, REFUSED};
 use wasm_encoder::{
     CanonicalOption, ComponentBuilder, ComponentExportKind, ComponentType, ComponentValType,
-    ExportKind, Fault, InstanceType, ModuleArg, PrimitiveValType, ValType,
+    ExportKind, Fault, FuncStage, InstanceType, ModuleArg, PrimitiveValType, ValType,
 };
 
 const STRING: ComponentValType = ComponentValType::Primitive(PrimitiveValType::String);
@@ -22,7 +22,6 @@ enum Given {
     Exports,
     LowerFunc,
     LiftFunc,
-    StreamRead,
     TypeResource,
 }
 
@@ -36,7 +35,6 @@ impl Call for Given {
             Given::Exports => exports(builder),
             Given::LowerFunc => builder.lower_func(Some(NAME), LARGE, options),
             Given::LiftFunc => builder.lift_func(Some(NAME), LARGE, LARGE, options),
-            Given::StreamRead => builder.stream_read(LARGE, options),
             Given::TypeResource => builder.type_resource(Some(NAME), ValType::I32, Some(LARGE)),
         }
     }
@@ -71,19 +69,38 @@ enum Written {
     Function,
 }
 
-impl Call for Written {
-    fn make(self, _: Global, builder: &mut ComponentBuilder<&Refusing>) -> Result<u32, Fault> {
-        let outcome = match self {
+impl Written {
+    fn write(self, builder: &mut ComponentBuilder<&Refusing>) -> Result<u32, Fault> {
+        match self {
             Written::CoreType => core_type(builder),
             Written::Type => resource(builder),
             Written::Defined => record(builder),
             Written::Function => function(builder),
-        };
-        if outcome.is_err() {
-            builder.discard_unfinished();
         }
-        outcome
     }
+}
+
+/// `TooMany` says that the builder wasn't left as it has to be.
+impl Call for Written {
+    fn make(self, _: Global, builder: &mut ComponentBuilder<&Refusing>) -> Result<u32, Fault> {
+        let outcome = self.write(builder);
+        if builder.is_finished() {
+            return outcome;
+        }
+        let is_refused = outcome.is_err() && takes_nothing(builder);
+        if is_refused && builder.discard_unfinished() {
+            outcome
+        } else {
+            Err(Fault::TooMany)
+        }
+    }
+}
+
+/// All that follows a refused last call is refused.
+pub fn takes_nothing(builder: &mut ComponentBuilder<&Refusing>) -> bool {
+    builder.task_cancel() == Err(Fault::Unfinished)
+        && builder.append_names() == Err(Fault::Unfinished)
+        && resource(builder) == Err(Fault::Unfinished)
 }
 
 fn core_type(builder: &mut ComponentBuilder<&Refusing>) -> Result<u32, Fault> {
@@ -144,63 +161,80 @@ impl<'a> Call for Whole<'a> {
     }
 }
 
-/// Sweeps the call behind one alias, where the open section has room, and behind two.
-fn sweep_both<C: Call>(
-    rt: &impl Abort,
-    alloc: Global,
-    call: C,
-    answer: u32,
-    section: &[u8],
-) -> Result<(), Fault> {
-    sweep_section(rt, alloc, ONE, call, answer, section)?;
-    sweep_section(rt, alloc, TWO, call, answer, section)
-}
+pub const TYPE: Named = Named {
+    sort: &[0x03],
+    name: NAME,
+};
+
+pub const CORE_TYPE: Named = Named {
+    sort: &[0x00, 0x10],
+    name: NAME,
+};
+
+pub const INSTANCE: Named = Named {
+    sort: &[0x05],
+    name: NAME,
+};
+
+pub const CORE_INSTANCE: Named = Named {
+    sort: &[0x00, 0x12],
+    name: NAME,
+};
 
 /// Each with its section.
-const GIVEN: [(Given, &[u8]); 7] = [
+const GIVEN: [(Given, Named, &[u8]); 6] = [
     (
         Given::CoreInstantiate,
+        CORE_INSTANCE,
         b"\x02\x2c\x01\x00\xff\xff\xff\xff\x0f\x01\x1dan-interface-with-a-long-name\x12\xff\xff\xff\xff\x0f",
     ),
     (
         Given::CoreExports,
+        CORE_INSTANCE,
         b"\x02\x27\x01\x01\x01\x1dan-interface-with-a-long-name\x00\xff\xff\xff\xff\x0f",
     ),
     (
         Given::Instantiate,
+        INSTANCE,
         b"\x05\x2c\x01\x00\xff\xff\xff\xff\x0f\x01\x1dan-interface-with-a-long-name\x01\xff\xff\xff\xff\x0f",
     ),
     (
         Given::Exports,
+        INSTANCE,
         b"\x05\x28\x01\x01\x01\x00\x1dan-interface-with-a-long-name\x01\xff\xff\xff\xff\x0f",
     ),
     (
         Given::LowerFunc,
+        CORE_FUNC,
         b"\x08\x0f\x01\x01\x00\xff\xff\xff\xff\x0f\x01\x03\xff\xff\xff\xff\x0f",
     ),
     (
-        Given::StreamRead,
-        b"\x08\x0e\x01\x0f\xff\xff\xff\xff\x0f\x01\x03\xff\xff\xff\xff\x0f",
-    ),
-    (
         Given::TypeResource,
+        TYPE,
         b"\x07\x09\x01\x3f\x7f\x01\xff\xff\xff\xff\x0f",
     ),
 ];
 
 /// Each with its section.
-const WRITTEN: [(Written, &[u8]); 4] = [
-    (Written::CoreType, b"\x03\x06\x01\x60\x01\x7f\x01\x7f"),
+const WRITTEN: [(Written, Named, &[u8]); 4] = [
+    (
+        Written::CoreType,
+        CORE_TYPE,
+        b"\x03\x06\x01\x60\x01\x7f\x01\x7f",
+    ),
     (
         Written::Type,
+        TYPE,
         b"\x07\x09\x01\x3f\x7f\x01\xff\xff\xff\xff\x0f",
     ),
     (
         Written::Defined,
+        TYPE,
         b"\x07\x22\x01r\x01\x1dan-interface-with-a-long-names",
     ),
     (
         Written::Function,
+        TYPE,
         b"\x07\x24\x01\x40\x01\x1dan-interface-with-a-long-names\x00s",
     ),
 ];
@@ -210,24 +244,17 @@ const LIFTED: &[u8] =
 
 #[test]
 fn calls_with_lists(rt: HostRuntime) -> Result<(), Fail> {
-    for (call, section) in GIVEN.as_slice() {
-        sweep_both(&rt, rt.alloc(), *call, 0, section)?;
+    for (call, named, section) in GIVEN.as_slice() {
+        sweep_both(&rt, rt.alloc(), *call, *named, section)?;
     }
-    Ok(())
-}
-
-// The aliases in front are of functions too.
-#[test]
-fn lifted_functions(rt: HostRuntime) -> Result<(), Fail> {
-    sweep_section(&rt, rt.alloc(), ONE, Given::LiftFunc, 1, LIFTED)?;
-    sweep_section(&rt, rt.alloc(), TWO, Given::LiftFunc, 2, LIFTED)?;
+    sweep_both(&rt, rt.alloc(), Given::LiftFunc, FUNC, LIFTED)?;
     Ok(())
 }
 
 #[test]
 fn types_that_are_written(rt: HostRuntime) -> Result<(), Fail> {
-    for (call, section) in WRITTEN.as_slice() {
-        sweep_both(&rt, rt.alloc(), *call, 0, section)?;
+    for (call, named, section) in WRITTEN.as_slice() {
+        sweep_both(&rt, rt.alloc(), *call, *named, section)?;
     }
     Ok(())
 }
@@ -240,15 +267,98 @@ fn whole_types(rt: HostRuntime) -> Result<(), Fail> {
         &rt,
         rt.alloc(),
         Whole::Instance(&instance),
-        0,
+        TYPE,
         b"\x07\x03\x01\x42\x00",
     )?;
     sweep_both(
         &rt,
         rt.alloc(),
         Whole::Component(&component),
-        0,
+        TYPE,
         b"\x07\x03\x01\x41\x00",
     )?;
+    Ok(())
+}
+
+/// Where growth number `n` is refused behind the opening, the component isn't finished. Whether there is such a growth.
+fn refuse_finish(
+    rt: &impl Abort,
+    heap: &Refusing,
+    aliases: u32,
+    call: Written,
+    n: u64,
+) -> Result<Option<Fault>, Fault> {
+    let mut builder = started(heap, aliases)?;
+    heap.refuse_nth(n);
+    assert!(rt; call.write(&mut builder).is_err() == heap.was_refused());
+    Ok(builder.finish().err())
+}
+
+// A type whose last call is refused leaves no component. With so many aliases in front the room ends at each place.
+#[test]
+fn unfinished_builders(rt: HostRuntime) -> Result<(), Fail> {
+    let heap = Refusing::new(rt.alloc());
+    for (call, _, _) in WRITTEN.as_slice() {
+        let mut unfinished = 0u8;
+        for aliases in 0..14 {
+            for n in 1..8u64 {
+                if refuse_finish(&rt, &heap, aliases, *call, n)? == Some(Fault::Unfinished) {
+                    unfinished = unfinished.saturating_add(1);
+                }
+            }
+        }
+        assert!(rt; unfinished > 0);
+    }
+    Ok(())
+}
+
+/// The type of a function whose parameters are refused where there is no room, and given again. Whether they were.
+fn params_again(
+    rt: &impl Abort,
+    heap: &Refusing,
+    builder: &mut ComponentBuilder<&Refusing>,
+) -> Result<bool, Fault> {
+    match builder.type_function(None) {
+        Ok((_, mut function)) => {
+            heap.refuse_all();
+            match function.params([].into_iter()) {
+                Ok(()) => {
+                    heap.refuse_none();
+                    function.result(None)?;
+                    Ok(false)
+                }
+                Err(fault) => {
+                    heap.refuse_none();
+                    assert!(rt; fault == REFUSED);
+                    assert!(rt; function.stage() == FuncStage::Start);
+                    function.params([].into_iter())?;
+                    function.result(None)?;
+                    Ok(true)
+                }
+            }
+        }
+        Err(fault) => Err(fault),
+    }
+}
+
+/// So many of these types, and their section. Whether the parameters of any were refused.
+fn functions(rt: &impl Abort, heap: &Refusing, alloc: Global, count: u8) -> Result<bool, Fault> {
+    let mut wanted = b"\x00asm\x0d\x00\x01\x00\x07".to_vec(alloc)?;
+    wanted.extend_from_slice(&[count.saturating_mul(4).saturating_add(1), count])?;
+    let mut builder = started(heap, 0)?;
+    let mut was_refused = false;
+    for _ in 0..count {
+        was_refused |= params_again(rt, heap, &mut builder)?;
+        wanted.extend_from_slice(b"\x40\x00\x01\x00")?;
+    }
+    finishes(rt, builder, wanted.as_slice())?;
+    Ok(was_refused)
+}
+
+#[test]
+fn refused_params(rt: HostRuntime) -> Result<(), Fail> {
+    let heap = Refusing::new(rt.alloc());
+    functions(&rt, &heap, rt.alloc(), 1)?;
+    assert!(rt; functions(&rt, &heap, rt.alloc(), 30)?);
     Ok(())
 }

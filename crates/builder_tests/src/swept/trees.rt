@@ -1,0 +1,205 @@
+//! Items that are handed in as trees.
+
+use super::between::{CORE_FUNC, Call, FUNC, NAME, Named, sweep_both};
+use super::types::{CORE_INSTANCE, CORE_TYPE, INSTANCE, TYPE, takes_nothing};
+use refusing::Refusing;
+use std::alloc::Global;
+use std::process::Abort;
+use sweeping::LARGE;
+use wasm_encoder::{
+    CanonTree, CanonicalOption, ComponentBuilder, ComponentExportKind, ComponentValType,
+    CoreInstanceTree, CoreTypeTree, DefinedTree, ExportKind, Fault, InstanceTree, ModuleDecl,
+    NameTree, PrimitiveValType, TypeTree, ValType,
+};
+
+/// An item, by its tree.
+#[derive(Clone, Copy)]
+enum Tree<'a> {
+    CoreInstance(&'a CoreInstanceTree),
+    Instance(&'a InstanceTree),
+    Canon(&'a CanonTree),
+    CoreType(&'a CoreTypeTree),
+    Type(&'a TypeTree),
+}
+
+impl<'a> Tree<'a> {
+    fn add(self, builder: &mut ComponentBuilder<&Refusing>) -> Result<u32, Fault> {
+        match self {
+            Tree::CoreInstance(tree) => builder.core_instance_tree(Some(NAME), tree),
+            Tree::Instance(tree) => builder.instance_tree(Some(NAME), tree),
+            Tree::Canon(tree) => builder.canonical_tree(Some(NAME), tree),
+            Tree::CoreType(tree) => core_type(builder, tree),
+            Tree::Type(tree) => ty(builder, tree),
+        }
+    }
+}
+
+/// A type whose encoder was refused is given up. `TooMany` says that the builder wasn't left as it has to be.
+impl<'a> Call for Tree<'a> {
+    fn make(self, _: Global, builder: &mut ComponentBuilder<&Refusing>) -> Result<u32, Fault> {
+        let outcome = self.add(builder);
+        if builder.is_finished() {
+            return outcome;
+        }
+        let is_refused = outcome.is_err() && takes_nothing(builder);
+        if is_refused && builder.discard_unfinished() {
+            outcome
+        } else {
+            Err(Fault::TooMany)
+        }
+    }
+}
+
+fn core_type(builder: &mut ComponentBuilder<&Refusing>, tree: &CoreTypeTree) -> Result<u32, Fault> {
+    match builder.core_type(Some(NAME)) {
+        Ok((index, encoder)) => {
+            encoder.tree(tree)?;
+            Ok(index)
+        }
+        Err(fault) => Err(fault),
+    }
+}
+
+fn ty(builder: &mut ComponentBuilder<&Refusing>, tree: &TypeTree) -> Result<u32, Fault> {
+    match builder.ty(Some(NAME)) {
+        Ok((index, encoder)) => {
+            encoder.tree(tree)?;
+            Ok(index)
+        }
+        Err(fault) => Err(fault),
+    }
+}
+
+/// A list; without memory it is empty, so that the section has other bytes. So it is with texts.
+fn list<T: Drop, E: Drop>(alloc: Global, values: Result<Vec<T>, E>) -> Vec<T> {
+    values.unwrap_or(Vec::new(alloc))
+}
+
+fn name(alloc: Global) -> String {
+    String::from_str(alloc, NAME).unwrap_or(String::new(alloc))
+}
+
+/// Each with its section.
+fn sweep(rt: &impl Abort, alloc: Global, tree: Tree<'_>, named: Named, section: &[u8]) {
+    assert!(rt; sweep_both(rt, alloc, tree, named, section).is_ok());
+}
+
+#[test]
+fn instances(rt: HostRuntime) {
+    let alloc = rt.alloc();
+    let exports = list(
+        alloc,
+        vec![in alloc; (name(alloc), ExportKind::Func, LARGE)],
+    );
+    sweep(
+        &rt,
+        alloc,
+        Tree::CoreInstance(&CoreInstanceTree::Exports(exports)),
+        CORE_INSTANCE,
+        b"\x02\x27\x01\x01\x01\x1dan-interface-with-a-long-name\x00\xff\xff\xff\xff\x0f",
+    );
+    let exports = list(
+        alloc,
+        vec![in alloc;
+            (
+                NameTree::from(name(alloc)),
+                ComponentExportKind::Func,
+                LARGE
+            ),
+        ],
+    );
+    sweep(
+        &rt,
+        alloc,
+        Tree::Instance(&InstanceTree::Exports(exports)),
+        INSTANCE,
+        b"\x05\x28\x01\x01\x01\x00\x1dan-interface-with-a-long-name\x01\xff\xff\xff\xff\x0f",
+    );
+}
+
+/// The name of a function that the component model provides.
+fn provided(name: &'static str) -> Named {
+    Named {
+        sort: CORE_FUNC.sort,
+        name,
+    }
+}
+
+fn option(alloc: Global) -> Vec<CanonicalOption> {
+    list(alloc, vec![in alloc; CanonicalOption::Memory(LARGE)])
+}
+
+#[test]
+fn functions(rt: HostRuntime) {
+    let alloc = rt.alloc();
+    let lift = CanonTree::Lift {
+        core_func: LARGE,
+        ty: LARGE,
+        options: option(alloc),
+    };
+    sweep(
+        &rt,
+        alloc,
+        Tree::Canon(&lift),
+        FUNC,
+        b"\x08\x14\x01\x00\x00\xff\xff\xff\xff\x0f\x01\x03\xff\xff\xff\xff\x0f\xff\xff\xff\xff\x0f",
+    );
+    let lower = CanonTree::Lower {
+        func: LARGE,
+        options: option(alloc),
+    };
+    sweep(
+        &rt,
+        alloc,
+        Tree::Canon(&lower),
+        CORE_FUNC,
+        b"\x08\x0f\x01\x01\x00\xff\xff\xff\xff\x0f\x01\x03\xff\xff\xff\xff\x0f",
+    );
+    let drop = CanonTree::ResourceDrop(LARGE);
+    sweep(
+        &rt,
+        alloc,
+        Tree::Canon(&drop),
+        provided("resource.drop"),
+        b"\x08\x07\x01\x03\xff\xff\xff\xff\x0f",
+    );
+    let get = CanonTree::ContextGet {
+        ty: ValType::I32,
+        slot: LARGE,
+    };
+    sweep(
+        &rt,
+        alloc,
+        Tree::Canon(&get),
+        provided("context.get 4294967295"),
+        b"\x08\x08\x01\x0a\x7f\xff\xff\xff\xff\x0f",
+    );
+}
+
+const STRING: ComponentValType = ComponentValType::Primitive(PrimitiveValType::String);
+
+#[test]
+fn types(rt: HostRuntime) {
+    let alloc = rt.alloc();
+    let outer = ModuleDecl::Alias {
+        count: LARGE,
+        index: LARGE,
+    };
+    let module = CoreTypeTree::Module(list(alloc, vec![in alloc; outer]));
+    sweep(
+        &rt,
+        alloc,
+        Tree::CoreType(&module),
+        CORE_TYPE,
+        b"\x03\x10\x01\x50\x01\x02\x10\x01\xff\xff\xff\xff\x0f\xff\xff\xff\xff\x0f",
+    );
+    let fields = list(alloc, vec![in alloc; (name(alloc), STRING)]);
+    let record = TypeTree::Defined(DefinedTree::Record(fields));
+    sweep(
+        &rt,
+        alloc,
+        Tree::Type(&record),
+        TYPE,
+        b"\x07\x22\x01r\x01\x1dan-interface-with-a-long-names",
+    );
+}
