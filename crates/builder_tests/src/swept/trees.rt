@@ -1,7 +1,7 @@
 //! Items that are handed in as trees.
 
 use super::between::{CORE_FUNC, Call, FUNC, NAME, Named, sweep_both};
-use super::types::{CORE_INSTANCE, CORE_TYPE, INSTANCE, TYPE, takes_nothing};
+use super::types::{CORE_INSTANCE, CORE_TYPE, INSTANCE, TYPE, with_nothing_left};
 use refusing::Refusing;
 use std::alloc::Global;
 use std::process::Abort;
@@ -34,19 +34,10 @@ impl<'a> Tree<'a> {
     }
 }
 
-/// A type whose encoder was refused is given up. `TooMany` says that the builder wasn't left as it has to be.
 impl<'a> Call for Tree<'a> {
     fn make(self, _: Global, builder: &mut ComponentBuilder<&Refusing>) -> Result<u32, Fault> {
         let outcome = self.add(builder);
-        if builder.is_finished() {
-            return outcome;
-        }
-        let is_refused = outcome.is_err() && takes_nothing(builder);
-        if is_refused && builder.discard_unfinished() {
-            outcome
-        } else {
-            Err(Fault::TooMany)
-        }
+        with_nothing_left(builder, outcome)
     }
 }
 

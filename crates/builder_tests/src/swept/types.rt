@@ -80,24 +80,32 @@ impl Written {
     }
 }
 
-/// `TooMany` says that the builder wasn't left as it has to be.
 impl Call for Written {
     fn make(self, _: Global, builder: &mut ComponentBuilder<&Refusing>) -> Result<u32, Fault> {
         let outcome = self.write(builder);
-        if builder.is_finished() {
-            return outcome;
-        }
-        let is_refused = outcome.is_err() && takes_nothing(builder);
-        if is_refused && builder.discard_unfinished() {
-            outcome
-        } else {
-            Err(Fault::TooMany)
-        }
+        with_nothing_left(builder, outcome)
+    }
+}
+
+/// What a call answered, where its type is finished or is given up. `TooMany` says that the builder wasn't left as it
+/// has to be.
+pub fn with_nothing_left(
+    builder: &mut ComponentBuilder<&Refusing>,
+    outcome: Result<u32, Fault>,
+) -> Result<u32, Fault> {
+    if builder.is_finished() {
+        return outcome;
+    }
+    let is_refused = outcome.is_err() && takes_nothing(builder);
+    if is_refused && builder.discard_unfinished() {
+        outcome
+    } else {
+        Err(Fault::TooMany)
     }
 }
 
 /// All that follows a refused last call is refused.
-pub fn takes_nothing(builder: &mut ComponentBuilder<&Refusing>) -> bool {
+fn takes_nothing(builder: &mut ComponentBuilder<&Refusing>) -> bool {
     builder.task_cancel() == Err(Fault::Unfinished)
         && builder.append_names() == Err(Fault::Unfinished)
         && resource(builder) == Err(Fault::Unfinished)
