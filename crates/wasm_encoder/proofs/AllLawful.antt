@@ -12,7 +12,7 @@ use Rattle.wenc_base.specs.laws.Exports.{export_kind_lawful as core_kind_lawful}
 use Rattle.wenc_base.specs.laws.Forms.{flag_lawful, name_lawful, byte_list_lawful, read_list, list_lawful, option_lawful, counted_lawful}
 use Rattle.wenc_base.specs.laws.Names.{named_lawful}
 use Rattle.wenc_base.specs.laws.Lawful.{form_laws, Lawful, Reader, ◌>>=◌, give, nowhere, choose, then, last}
-use Rattle.wenc_base.specs.laws.Numbers.{read_groups, u32_lawful, u64_lawful, index_lawful, i64_lawful}
+use Rattle.wenc_base.specs.laws.Numbers.{read_u32, u32_lawful, u64_lawful, index_lawful, i64_lawful}
 use Rattle.wenc_base.specs.laws.Sections.{custom_lawful, producer_lawful, producers_field_lawful, producers_section_lawful}
 use Rattle.wenc_base.specs.laws.Types.{abstract_type_lawful, heap_type_lawful, to, reference_lawful, val_type_lawful}
 use Rattle.wenc_canon.specs.laws.Canonicals.{canonical_option_lawful, field_lawful, fields_lawful, canonical_lawful}
@@ -60,7 +60,7 @@ guarded_readable = (_, λ s. last alone (standing_lawful (Single s)))
 
 -- the function, its arguments, how many results
 abbrev read_start_content : Reader Start
-read_start_content = read_groups >>= λ function. read_list read_groups >>= λ arguments. read_groups >>= λ results. give (started function arguments results)
+read_start_content = read_u32 >>= λ function. read_list read_u32 >>= λ arguments. read_u32 >>= λ results. give (started function arguments results)
 
 -- starts without their size have a reader
 start_content_readable : IsReadable start_content

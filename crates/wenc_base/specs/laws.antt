@@ -1,6 +1,7 @@
 -- Why the laws of the forms hold, and what follows of a holder: for proofs, here and in the crates above.
 pub mod Groups
 pub mod Lawful
+pub mod Sound
 pub mod Numbers
 pub mod Words
 pub mod Forms

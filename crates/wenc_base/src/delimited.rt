@@ -68,7 +68,7 @@ impl DelimitedEq for bool {
 
 impl Delimited for u32 {
     ghost use Rattle.wenc_base.specs.Number.{u32 as number};
-    ghost use Rattle.wenc_base.specs.laws.Numbers.{read_groups, u32_lawful};
+    ghost use Rattle.wenc_base.specs.laws.Numbers.{read_u32, u32_lawful};
 
     ghost Seen = { ℕ };
 
@@ -80,7 +80,7 @@ impl Delimited for u32 {
         is_u32(*self);
     }
 
-    ghost readable = { ((λ fuel. read_groups), u32_lawful) };
+    ghost readable = { ((λ fuel. read_u32), u32_lawful) };
 
     ghost text_of = { λ n. refl };
 
@@ -93,7 +93,7 @@ impl DelimitedEq for u32 {
 
 impl Delimited for u64 {
     ghost use Rattle.wenc_base.specs.Number.{u64 as long_number};
-    ghost use Rattle.wenc_base.specs.laws.Numbers.{read_groups, u64_lawful};
+    ghost use Rattle.wenc_base.specs.laws.Numbers.{read_u64, u64_lawful};
 
     ghost Seen = { ℕ };
 
@@ -105,7 +105,7 @@ impl Delimited for u64 {
         let _number = *self;
     }
 
-    ghost readable = { ((λ fuel. read_groups), u64_lawful) };
+    ghost readable = { ((λ fuel. read_u64), u64_lawful) };
 
     ghost text_of = { λ n. refl };
 

@@ -7,14 +7,15 @@ use Rattle.wenc_base.specs.declared.fault.Fault.{Fault}
 use Rattle.wenc_base.specs.Fault.{list_cause}
 use Rattle.wenc_base.specs.Forms.{list, option}
 use Rattle.wenc_base.specs.Number.{u32}
-use Rattle.wenc_base.specs.Piece.{◌⨾◌}
+use Rattle.wenc_base.specs.Piece.{Form, Wide, ◌▸◌, ◌⨾◌}
 use Rattle.wenc_base.specs.Types.{val_type}
 use Rattle.wenc_base.specs.laws.Causes.{no_member, seen_cause}
 use Rattle.wenc_base.specs.laws.Delimited.{count_free, pair_cause_free, first_free, second_free, list_free, list_equal}
-use Rattle.wenc_base.specs.laws.Lawful.{Lawful, Reader, ◌>>=◌, give, nowhere, choose, row, row_byte, then, last}
-use Rattle.wenc_base.specs.laws.Numbers.{read_groups, u32_lawful}
-use Rattle.wenc_base.specs.laws.Forms.{read_flag, flag_lawful, read_list, list_lawful, read_option, option_lawful}
-use Rattle.wenc_base.specs.laws.Types.{val_type_rows, val_type_row, read_val_type, val_type_lawful}
+use Rattle.wenc_base.specs.laws.Lawful.{Lawful, Reader, ◌>>=◌, give, nowhere, choose, row, row_byte, first_of_two, then, last}
+use Rattle.wenc_base.specs.laws.Sound.{Sound, behind, RowsAreSound, both_tables, give_sound, last_sound, then_sound, nowhere_sound, choose_sound}
+use Rattle.wenc_base.specs.laws.Numbers.{read_u32, u32_lawful, u32_sound}
+use Rattle.wenc_base.specs.laws.Forms.{read_flag, flag_lawful, flag_sound, read_list, list_lawful, list_sound, read_option, option_lawful, option_sound}
+use Rattle.wenc_base.specs.laws.Types.{val_type_rows, val_type_row, val_type_rows_sound, read_val_type, val_type_lawful, val_type_sound}
 use Rattle.wenc_base.specs.declared.types.ValType.{ValType}
 use Rattle.wenc_base.specs.declared.types.composite.FuncType.{FuncType}
 use Rattle.wenc_base.specs.declared.types.composite.ArrayType.{ArrayType}
@@ -42,6 +43,9 @@ storage_type_lawful I8 = row_byte _ _ 0x78 (λ fuel rest. refl)
 storage_type_lawful I16 = row_byte _ _ 0x77 (λ fuel rest. refl)
 storage_type_lawful (Val t) = val_type_row Val (λ fuel. small_rows) _ t
 
+pub storage_type_sound : Sound storage_type read_storage_type
+storage_type_sound = choose_sound _ _ (both_tables storage_type (val_type_rows Val) small_rows (val_type_rows_sound storage_type Val (λ t bytes rest r. r)) (give_sound I8 (λ bytes. refl), (give_sound I16 (λ bytes. refl), tt))) nowhere_sound
+
 abbrev field_of : StorageType → Bool → FieldType
 field_of t mutable = record { element_type = t; mutable = mutable }
 
@@ -50,6 +54,9 @@ read_field_type = read_storage_type >>= λ t. read_flag >>= λ mutable. give (fi
 
 pub field_type_lawful : (f : FieldType) → Lawful (field_type f) (λ fuel. read_field_type) f
 field_type_lawful f = then _ (storage_type_lawful f.element_type) (last (field_of f.element_type) (flag_lawful f.mutable))
+
+pub field_type_sound : Sound field_type read_field_type
+field_type_sound = then_sound _ storage_type_sound (λ t. last_sound (field_of t) flag_sound (λ mutable middle rest r bytes p. (middle, p, r)))
 
 -- ---- composite types
 
@@ -67,33 +74,69 @@ composite_row make rows other (Func params results) =
 composite_row make rows other (Array f) = row _ _ 0x5e (last (λ g. make (Array g)) (field_type_lawful f))
 composite_row make rows other (Struct fields) = row _ _ 0x5f (last (λ fs. make (Struct fs)) (list_lawful field_type_lawful fields))
 
+-- each row of a table of composite types
+pub composite_rows_sound : {A : Type 0} (form : Form A) (make : Composite → A) → ((c : Composite) (bytes rest : List ℕ) → (composite_type c).Reads Wide bytes rest → (form (make c)).Reads Wide bytes rest) → RowsAreSound form (composite_rows make)
+composite_rows_sound form make k = (
+  then_sound _ (list_sound val_type_sound) (λ params. last_sound (λ results. make (Func params results)) (list_sound val_type_sound) (λ results middle rest r bytes p. k (Func params results) _ rest (bytes, refl, (middle, p, r)))),
+  (
+    last_sound (λ f. make (Array f)) field_type_sound (λ f bytes rest r. k (Array f) _ rest (bytes, refl, r)),
+    (last_sound (λ fields. make (Struct fields)) (list_sound field_type_sound) (λ fields bytes rest r. k (Struct fields) _ rest (bytes, refl, r)), tt),
+  ),
+)
+
 abbrev pub read_composite : Reader Composite
 read_composite = choose (composite_rows (λ c. c)) nowhere
 
 pub composite_type_lawful : (c : Composite) → Lawful (composite_type c) (λ fuel. read_composite) c
 composite_type_lawful c = composite_row (λ d. d) (λ fuel. []) _ c
 
+pub composite_type_sound : Sound composite_type read_composite
+composite_type_sound = choose_sound _ _ (composite_rows_sound composite_type (λ c. c) (λ c bytes rest r. r)) nowhere_sound
+
 -- ---- sub types
 
 -- what is extended, if anything, and how
 abbrev pub read_extension : {A : Type 0} → (Option ℕ → Composite → A) → Reader A
-read_extension make = read_option read_groups >>= λ supertype. read_composite >>= λ c. give (make supertype c)
+read_extension make = read_option read_u32 >>= λ supertype. read_composite >>= λ c. give (make supertype c)
 
 pub extension_lawful : {A : Type 0} (make : Option ℕ → Composite → A) (supertype : Option ℕ) (c : Composite)
     → Lawful (option u32 supertype ⨾ composite_type c) (λ fuel. read_extension make) (make supertype c)
 extension_lawful make supertype c = then _ (option_lawful u32_lawful supertype) (last (make supertype) (composite_type_lawful c))
 
+-- each of what is extended, behind the byte that says how
+pub extension_sound : {A : Type 0} (form : Form A) (b : ℕ) (make : Option ℕ → Composite → A)
+    → ((supertype : Option ℕ) (c : Composite) (bytes rest : List ℕ) → (b ▸ (option u32 supertype ⨾ composite_type c)).Reads Wide bytes rest → (form (make supertype c)).Reads Wide bytes rest) → Sound (behind b form) (read_extension make)
+extension_sound form b make k = then_sound _ (option_sound u32_sound) (λ supertype. last_sound (make supertype) composite_type_sound (λ c middle rest r bytes p. k supertype c _ rest (bytes, refl, (middle, p, r))))
+
+-- what is extended by a type that can't be extended: it has no long spelling without that
+abbrev pub read_closed : {A : Type 0} → (ℕ → Composite → A) → Reader A
+read_closed make = choose ((0x01, read_u32 >>= λ n. read_composite >>= λ c. give (make n c)) ∷ []) nowhere
+
+closed_lawful : {A : Type 0} (make : ℕ → Composite → A) (n : ℕ) (c : Composite) → Lawful (option u32 (Some n) ⨾ composite_type c) (λ fuel. read_closed make) (make n c)
+closed_lawful make n c = first_of_two (u32 n) (composite_type c) _ _ 0x01 (then _ (u32_lawful n) (last (make n) (composite_type_lawful c)))
+
 abbrev pub sub_of : Bool → Option ℕ → Composite → Sub
 sub_of is_final supertype c = record { is_final = is_final; supertype = supertype; composite = c }
 
 abbrev pub final_rows : {A : Type 0} → (Sub → A) → List (ℕ × Reader A)
-final_rows make = composite_rows (λ c. make (final c)) ++ ((0x4f, read_extension (λ supertype c. make (sub_of true supertype c))) ∷ [])
+final_rows make = composite_rows (λ c. make (final c)) ++ ((0x4f, read_closed (λ n c. make (sub_of true (Some n) c))) ∷ [])
 
 -- a type that can't be extended, where other rows may follow in the table
 pub final_row : {A : Type 0} (make : Sub → A) (rows : ℕ → List (ℕ × Reader A)) (other : ℕ → Reader A) (supertype : Option ℕ) (c : Composite)
     → Lawful (sub_type_of true supertype c) (λ fuel. choose (final_rows make ++ rows fuel) (other fuel)) (make (sub_of true supertype c))
-final_row make rows other None c = composite_row (λ d. make (final d)) (λ fuel. (0x4f, read_extension (λ supertype d. make (sub_of true supertype d))) ∷ rows fuel) other c
-final_row make rows other (Some n) c = row _ _ 0x4f (extension_lawful (λ supertype d. make (sub_of true supertype d)) (Some n) c)
+final_row make rows other None c = composite_row (λ d. make (final d)) (λ fuel. (0x4f, read_closed (λ n d. make (sub_of true (Some n) d))) ∷ rows fuel) other c
+final_row make rows other (Some n) c = row _ _ 0x4f (closed_lawful (λ m d. make (sub_of true (Some m) d)) n c)
+
+-- each row of a table of types that can't be extended
+pub final_rows_sound : {A : Type 0} (form : Form A) (make : Sub → A)
+    → ((supertype : Option ℕ) (c : Composite) (bytes rest : List ℕ) → (sub_type_of true supertype c).Reads Wide bytes rest → (form (make (sub_of true supertype c))).Reads Wide bytes rest) → RowsAreSound form (final_rows make)
+final_rows_sound form make k = both_tables form (composite_rows (λ c. make (final c))) ((0x4f, read_closed (λ n c. make (sub_of true (Some n) c))) ∷ []) (composite_rows_sound form (λ c. make (final c)) (λ c. k None c)) (
+  choose_sound _ _ (
+    then_sound _ u32_sound (λ n. last_sound (λ c. make (sub_of true (Some n) c)) composite_type_sound (λ c middle rest r bytes p. k (Some n) c _ rest (_, refl, (middle, (bytes, refl, p), r)))),
+    tt,
+  ) nowhere_sound,
+  tt,
+)
 
 abbrev pub sub_rows : {A : Type 0} → (Sub → A) → List (ℕ × Reader A)
 sub_rows make = final_rows make ++ ((0x50, read_extension (λ supertype c. make (sub_of false supertype c))) ∷ [])
@@ -108,11 +151,18 @@ sub_row {A} make rows other s = of s.is_final s.supertype s.composite
     of true supertype c = final_row make (λ fuel. (0x50, read_extension (λ t d. make (sub_of false t d))) ∷ rows fuel) other supertype c
     of false supertype c = row _ _ 0x50 (extension_lawful (λ t d. make (sub_of false t d)) supertype c)
 
+-- each row of a table of sub types
+pub sub_rows_sound : {A : Type 0} (form : Form A) (make : Sub → A) → ((s : Sub) (bytes rest : List ℕ) → (sub_type s).Reads Wide bytes rest → (form (make s)).Reads Wide bytes rest) → RowsAreSound form (sub_rows make)
+sub_rows_sound form make k = both_tables form (final_rows make) ((0x50, read_extension (λ supertype c. make (sub_of false supertype c))) ∷ []) (final_rows_sound form make (λ supertype c. k (sub_of true supertype c))) (extension_sound form 0x50 (λ supertype c. make (sub_of false supertype c)) (λ supertype c. k (sub_of false supertype c)), tt)
+
 abbrev pub read_sub_type : Reader Sub
 read_sub_type = choose (sub_rows (λ s. s)) nowhere
 
 pub sub_type_lawful : (s : Sub) → Lawful (sub_type s) (λ fuel. read_sub_type) s
 sub_type_lawful s = sub_row (λ t. t) (λ fuel. []) _ s
+
+pub sub_type_sound : Sound sub_type read_sub_type
+sub_type_sound = choose_sound _ _ (sub_rows_sound sub_type (λ s. s) (λ s bytes rest r. r)) nowhere_sound
 
 -- ---- groups
 
@@ -131,11 +181,21 @@ pub group_row : {A : Type 0} (make : Group → A) (rows : ℕ → List (ℕ × R
 group_row make rows other (Single s) = sub_row (λ t. make (Single t)) (λ fuel. (0x4e, read_types make) ∷ rows fuel) other s
 group_row make rows other (Rec types) = row _ _ 0x4e (types_lawful make types)
 
+pub types_sound : {A : Type 0} (form : Form A) (b : ℕ) (make : Group → A) → ((types : List Sub) (bytes rest : List ℕ) → (b ▸ list sub_type types).Reads Wide bytes rest → (form (make (Rec types))).Reads Wide bytes rest) → Sound (behind b form) (read_types make)
+types_sound form b make k = last_sound (λ types. make (Rec types)) (list_sound sub_type_sound) (λ types bytes rest r. k types _ rest (bytes, refl, r))
+
+-- each row of a table of groups
+pub group_rows_sound : {A : Type 0} (form : Form A) (make : Group → A) → ((g : Group) (bytes rest : List ℕ) → (group g).Reads Wide bytes rest → (form (make g)).Reads Wide bytes rest) → RowsAreSound form (group_rows make)
+group_rows_sound form make k = both_tables form (sub_rows (λ s. make (Single s))) ((0x4e, read_types make) ∷ []) (sub_rows_sound form (λ s. make (Single s)) (λ s. k (Single s))) (types_sound form 0x4e make (λ types. k (Rec types)), tt)
+
 abbrev pub read_group : Reader Group
 read_group = choose (group_rows (λ g. g)) nowhere
 
 pub group_lawful : (g : Group) → Lawful (group g) (λ fuel. read_group) g
 group_lawful g = group_row (λ h. h) (λ fuel. []) _ g
+
+pub group_sound : Sound group read_group
+group_sound = choose_sound _ _ (group_rows_sound group (λ g. g) (λ g bytes rest r. r)) nowhere_sound
 
 -- ---- what can be encoded
 

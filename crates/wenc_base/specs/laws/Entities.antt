@@ -1,11 +1,13 @@
 -- The laws of types of what modules import and export.
-use Rattle.std.proofs.Common.{ℕ, Bool, true, false, List, [], ◌∷◌, Option, Some, None}
+use Rattle.std.proofs.Common.{ℕ, Bool, true, false, List, [], ◌∷◌, ◌++◌, Option, Some, None, refl}
+use Rattle.wenc_base.specs.Piece.{Form, Wide, ◌▸◌, ◌⨾◌}
 use Rattle.wenc_base.specs.Number.{u64}
 use Rattle.wenc_base.specs.Forms.{option}
 use Rattle.wenc_base.specs.laws.Lawful.{Lawful, Reader, ◌>>=◌, give, nowhere, choose, row, then, last}
-use Rattle.wenc_base.specs.laws.Numbers.{read_groups, u32_lawful, u64_lawful}
-use Rattle.wenc_base.specs.laws.Forms.{read_flag, flag_lawful}
-use Rattle.wenc_base.specs.laws.Types.{read_reference, reference_lawful, read_val_type, val_type_lawful}
+use Rattle.wenc_base.specs.laws.Numbers.{read_u32, u32_lawful, u32_sound, read_u64, u64_lawful, u64_sound}
+use Rattle.wenc_base.specs.laws.Sound.{Sound, behind, behind_value, RowsAreSound, both_tables, last_sound, then_sound, nowhere_sound, choose_sound}
+use Rattle.wenc_base.specs.laws.Forms.{read_flag, flag_lawful, flag_sound}
+use Rattle.wenc_base.specs.laws.Types.{read_reference, reference_lawful, reference_sound, read_val_type, val_type_lawful, val_type_sound}
 use Rattle.wenc_base.specs.declared.types.RefType.{RefType}
 use Rattle.wenc_base.specs.declared.tables.TableType.{TableType}
 use Rattle.wenc_base.specs.declared.memories.MemoryType.{MemoryType}
@@ -13,6 +15,7 @@ use Rattle.wenc_base.specs.declared.globals.GlobalType.{GlobalType}
 use Rattle.wenc_base.specs.declared.tags.TagType.{TagType}
 use Rattle.wenc_base.specs.declared.imports.EntityType.{EntityType}
 use Rattle.wenc_base.specs.declared.imports.EntityType.TheVariants.{Function, Table, Memory, Global, Tag}
+use Rattle.wenc_base.specs.Types.{reference}
 use Rattle.wenc_base.specs.Entities.{limits, table_type, memory_type, global_type, tag_type, entity_type}
 
 -- ---- limits
@@ -22,35 +25,68 @@ abbrev pub OfLimits : Type 0 → Type 0
 OfLimits A = Bool → Bool → ℕ → Option ℕ → A
 
 abbrev at_least : {A : Type 0} → (ℕ → Option ℕ → A) → Reader A
-at_least make = read_groups >>= λ n. give (make n None)
+at_least make = read_u64 >>= λ n. give (make n None)
 
 abbrev between : {A : Type 0} → (ℕ → Option ℕ → A) → Reader A
-between make = read_groups >>= λ n. read_groups >>= λ m. give (make n (Some m))
+between make = read_u64 >>= λ n. read_u64 >>= λ m. give (make n (Some m))
+
+-- of what is shared, or isn't; what is made of whether it is of 64 bits, the minimum and the maximum
+abbrev unshared_rows : {A : Type 0} → (Bool → ℕ → Option ℕ → A) → List (ℕ × Reader A)
+unshared_rows make = (0x00, at_least (make false)) ∷ (0x01, between (make false)) ∷ (0x04, at_least (make true)) ∷ (0x05, between (make true)) ∷ []
+
+abbrev shared_rows : {A : Type 0} → (Bool → ℕ → Option ℕ → A) → List (ℕ × Reader A)
+shared_rows make = (0x02, at_least (make false)) ∷ (0x03, between (make false)) ∷ (0x06, at_least (make true)) ∷ (0x07, between (make true)) ∷ []
 
 abbrev pub limit_rows : {A : Type 0} → OfLimits A → List (ℕ × Reader A)
-limit_rows make =
-    (0x00, at_least (make false false)) ∷
-    (0x01, between (make false false)) ∷
-    (0x02, at_least (make true false)) ∷
-    (0x03, between (make true false)) ∷
-    (0x04, at_least (make false true)) ∷
-    (0x05, between (make false true)) ∷
-    (0x06, at_least (make true true)) ∷
-    (0x07, between (make true true)) ∷ []
+limit_rows make = unshared_rows (make false) ++ shared_rows (make true)
+
+abbrev pub read_unshared : {A : Type 0} → (Bool → ℕ → Option ℕ → A) → Reader A
+read_unshared make = choose (unshared_rows make) nowhere
 
 abbrev pub read_limits : {A : Type 0} → OfLimits A → Reader A
 read_limits make = choose (limit_rows make) nowhere
 
+unshared_lawful : {A : Type 0} (make : Bool → ℕ → Option ℕ → A) (rows : List (ℕ × Reader A)) (is_long : Bool) (minimum : ℕ) (maximum : Option ℕ)
+    → Lawful (limits false is_long minimum maximum) (λ fuel. choose (unshared_rows make ++ rows) nowhere) (make is_long minimum maximum)
+unshared_lawful make rows false n None = row _ _ 0x00 (last (λ k. make false k None) (u64_lawful n))
+unshared_lawful make rows false n (Some m) = row _ _ 0x01 (then _ (u64_lawful n) (last (λ k. make false n (Some k)) (u64_lawful m)))
+unshared_lawful make rows true n None = row _ _ 0x04 (last (λ k. make true k None) (u64_lawful n))
+unshared_lawful make rows true n (Some m) = row _ _ 0x05 (then _ (u64_lawful n) (last (λ k. make true n (Some k)) (u64_lawful m)))
+
 pub limits_lawful : {A : Type 0} (make : OfLimits A) (is_shared is_long : Bool) (minimum : ℕ) (maximum : Option ℕ)
     → Lawful (limits is_shared is_long minimum maximum) (λ fuel. read_limits make) (make is_shared is_long minimum maximum)
-limits_lawful make false false n None = row _ _ 0x00 (last (λ k. make false false k None) (u64_lawful n))
-limits_lawful make false false n (Some m) = row _ _ 0x01 (then _ (u64_lawful n) (last (λ k. make false false n (Some k)) (u64_lawful m)))
+limits_lawful make false is_long n m = unshared_lawful (make false) (shared_rows (make true)) is_long n m
 limits_lawful make true false n None = row _ _ 0x02 (last (λ k. make true false k None) (u64_lawful n))
 limits_lawful make true false n (Some m) = row _ _ 0x03 (then _ (u64_lawful n) (last (λ k. make true false n (Some k)) (u64_lawful m)))
-limits_lawful make false true n None = row _ _ 0x04 (last (λ k. make false true k None) (u64_lawful n))
-limits_lawful make false true n (Some m) = row _ _ 0x05 (then _ (u64_lawful n) (last (λ k. make false true n (Some k)) (u64_lawful m)))
 limits_lawful make true true n None = row _ _ 0x06 (last (λ k. make true true k None) (u64_lawful n))
 limits_lawful make true true n (Some m) = row _ _ 0x07 (then _ (u64_lawful n) (last (λ k. make true true n (Some k)) (u64_lawful m)))
+
+-- a minimum alone, and both, behind a byte
+least_sound : {A : Type 0} (form : Form A) (b : ℕ) (make : ℕ → Option ℕ → A) → ((n : ℕ) (bytes rest : List ℕ) → (b ▸ u64 n).Reads Wide bytes rest → (form (make n None)).Reads Wide bytes rest) → Sound (behind b form) (at_least make)
+least_sound form b make k = last_sound (λ n. make n None) u64_sound (λ n bytes rest r. k n _ rest (bytes, refl, r))
+
+between_sound : {A : Type 0} (form : Form A) (b : ℕ) (make : ℕ → Option ℕ → A) → ((n m : ℕ) (bytes rest : List ℕ) → (b ▸ (u64 n ⨾ u64 m)).Reads Wide bytes rest → (form (make n (Some m))).Reads Wide bytes rest) → Sound (behind b form) (between make)
+between_sound form b make k = then_sound _ u64_sound (λ n. last_sound (λ m. make n (Some m)) u64_sound (λ m middle rest r bytes p. k n m _ rest (bytes, refl, (middle, p, r))))
+
+unshared_rows_sound : {A : Type 0} (form : Form A) (make : Bool → ℕ → Option ℕ → A)
+    → ((is_long : Bool) (n : ℕ) (m : Option ℕ) (bytes rest : List ℕ) → (limits false is_long n m).Reads Wide bytes rest → (form (make is_long n m)).Reads Wide bytes rest) → RowsAreSound form (unshared_rows make)
+unshared_rows_sound form make k = (
+  least_sound form 0x00 (make false) (λ n. k false n None),
+  (
+    between_sound form 0x01 (make false) (λ n m. k false n (Some m)),
+    (least_sound form 0x04 (make true) (λ n. k true n None), (between_sound form 0x05 (make true) (λ n m. k true n (Some m)), tt)),
+  ),
+)
+
+shared_rows_sound : {A : Type 0} (form : Form A) (make : Bool → ℕ → Option ℕ → A)
+    → ((is_long : Bool) (n : ℕ) (m : Option ℕ) (bytes rest : List ℕ) → (limits true is_long n m).Reads Wide bytes rest → (form (make is_long n m)).Reads Wide bytes rest) → RowsAreSound form (shared_rows make)
+shared_rows_sound form make k = (
+  least_sound form 0x02 (make false) (λ n. k false n None),
+  (
+    between_sound form 0x03 (make false) (λ n m. k false n (Some m)),
+    (least_sound form 0x06 (make true) (λ n. k true n None), (between_sound form 0x07 (make true) (λ n m. k true n (Some m)), tt)),
+  ),
+)
 
 -- limits whose numbers fit
 pub limits_fit : (is_shared is_long : Bool) (minimum : ℕ) (maximum : Option ℕ) → (u64 minimum).Fits → (option u64 maximum).Fits → (limits is_shared is_long minimum maximum).Fits
@@ -59,14 +95,17 @@ limits_fit is_shared is_long n (Some m) h k = (h, k)
 
 -- ---- what has limits
 
-abbrev table_of : RefType → OfLimits TableType
-table_of r is_shared is_long n m = record { element_type = r; table64 = is_long; minimum = n; maximum = m }
+abbrev table_of : RefType → Bool → ℕ → Option ℕ → TableType
+table_of r is_long n m = record { element_type = r; table64 = is_long; minimum = n; maximum = m }
 
 abbrev pub read_table_type : Reader TableType
-read_table_type = read_reference >>= λ r. read_limits (table_of r)
+read_table_type = read_reference >>= λ r. read_unshared (table_of r)
 
 pub table_type_lawful : (t : TableType) → Lawful (table_type t) (λ fuel. read_table_type) t
-table_type_lawful t = then _ (reference_lawful t.element_type) (limits_lawful (table_of t.element_type) false t.table64 t.minimum t.maximum)
+table_type_lawful t = then _ (reference_lawful t.element_type) (unshared_lawful (table_of t.element_type) [] t.table64 t.minimum t.maximum)
+
+pub table_type_sound : Sound table_type read_table_type
+table_type_sound = then_sound _ reference_sound (λ t. choose_sound _ _ (unshared_rows_sound (behind_value reference t table_type) (table_of t) (λ is_long n m middle rest r bytes p. (middle, p, r))) nowhere_sound)
 
 abbrev memory_of : OfLimits MemoryType
 memory_of is_shared is_long n m = record { minimum = n; maximum = m; memory64 = is_long; shared = is_shared }
@@ -77,6 +116,9 @@ read_memory_type = read_limits memory_of
 pub memory_type_lawful : (m : MemoryType) → Lawful (memory_type m) (λ fuel. read_memory_type) m
 memory_type_lawful m = limits_lawful memory_of m.shared m.memory64 m.minimum m.maximum
 
+pub memory_type_sound : Sound memory_type read_memory_type
+memory_type_sound = choose_sound _ _ (both_tables memory_type (unshared_rows (memory_of false)) (shared_rows (memory_of true)) (unshared_rows_sound memory_type (memory_of false) (λ is_long n m bytes rest r. r)) (shared_rows_sound memory_type (memory_of true) (λ is_long n m bytes rest r. r))) nowhere_sound
+
 -- ---- the others
 
 abbrev pub read_global_type : Reader GlobalType
@@ -85,15 +127,21 @@ read_global_type = read_val_type >>= λ t. read_flag >>= λ mutable. give (recor
 pub global_type_lawful : (g : GlobalType) → Lawful (global_type g) (λ fuel. read_global_type) g
 global_type_lawful g = then _ (val_type_lawful g.val_type) (last _ (flag_lawful g.mutable))
 
+pub global_type_sound : Sound global_type read_global_type
+global_type_sound = then_sound _ val_type_sound (λ t. last_sound _ flag_sound (λ mutable middle rest r bytes p. (middle, p, r)))
+
 abbrev pub read_tag_type : Reader TagType
-read_tag_type = choose ((0x00, read_groups >>= λ n. give (record { func_type_idx = n })) ∷ []) nowhere
+read_tag_type = choose ((0x00, read_u32 >>= λ n. give (record { func_type_idx = n })) ∷ []) nowhere
 
 pub tag_type_lawful : (t : TagType) → Lawful (tag_type t) (λ fuel. read_tag_type) t
 tag_type_lawful t = row _ _ 0x00 (last _ (u32_lawful t.func_type_idx))
 
+pub tag_type_sound : Sound tag_type read_tag_type
+tag_type_sound = choose_sound _ _ (last_sound _ u32_sound (λ n bytes rest r. (bytes, refl, r)), tt) nowhere_sound
+
 abbrev pub read_entity_type : Reader EntityType
 read_entity_type = choose (
-    (0x00, read_groups >>= λ n. give (Function n)) ∷
+    (0x00, read_u32 >>= λ n. give (Function n)) ∷
     (0x01, read_table_type >>= λ t. give (Table t)) ∷
     (0x02, read_memory_type >>= λ m. give (Memory m)) ∷
     (0x03, read_global_type >>= λ g. give (Global g)) ∷
@@ -105,3 +153,15 @@ entity_type_lawful (Table t) = row _ _ 0x01 (last Table (table_type_lawful t))
 entity_type_lawful (Memory m) = row _ _ 0x02 (last Memory (memory_type_lawful m))
 entity_type_lawful (Global g) = row _ _ 0x03 (last Global (global_type_lawful g))
 entity_type_lawful (Tag t) = row _ _ 0x04 (last Tag (tag_type_lawful t))
+
+pub entity_type_sound : Sound entity_type read_entity_type
+entity_type_sound = choose_sound _ _ (
+  last_sound Function u32_sound (λ n bytes rest r. (bytes, refl, r)),
+  (
+    last_sound Table table_type_sound (λ t bytes rest r. (bytes, refl, r)),
+    (
+      last_sound Memory memory_type_sound (λ m bytes rest r. (bytes, refl, r)),
+      (last_sound Global global_type_sound (λ g bytes rest r. (bytes, refl, r)), (last_sound Tag tag_type_sound (λ t bytes rest r. (bytes, refl, r)), tt)),
+    ),
+  ),
+) nowhere_sound

@@ -1,7 +1,8 @@
 -- The law of the kinds of exports.
 use Rattle.std.proofs.Common.{[], ◌∷◌, refl}
-use Rattle.wenc_base.specs.Exports.{export_kind}
+use Rattle.wenc_base.specs.Exports.{export_kind, export_kind_byte}
 use Rattle.wenc_base.specs.laws.Lawful.{Lawful, Reader, give, nowhere, choose, row_byte}
+use Rattle.wenc_base.specs.laws.Sound.{Sound, given_rows, nowhere_sound, choose_sound}
 use Rattle.wenc_base.specs.declared.exports.ExportKind.{ExportKind}
 use Rattle.wenc_base.specs.declared.exports.ExportKind.TheVariants.{Func, Table, Memory, Global, Tag}
 
@@ -14,3 +15,6 @@ export_kind_lawful Table = row_byte _ _ 0x01 (λ fuel rest. refl)
 export_kind_lawful Memory = row_byte _ _ 0x02 (λ fuel rest. refl)
 export_kind_lawful Global = row_byte _ _ 0x03 (λ fuel rest. refl)
 export_kind_lawful Tag = row_byte _ _ 0x04 (λ fuel rest. refl)
+
+pub export_kind_sound : Sound export_kind read_export_kind
+export_kind_sound = choose_sound _ _ (given_rows export_kind export_kind_byte (λ kind. kind) (λ kind rest. refl) (Func ∷ Table ∷ Memory ∷ Global ∷ Tag ∷ [])) nowhere_sound

@@ -1,10 +1,16 @@
 -- The laws of forms made of others.
-use Rattle.std.proofs.Common.{◌≡◌, ℕ, Bool, true, false, List, [], ◌∷◌, ◌++◌, length, take, drop, Option, Some, None, refl, sym, ◌∙◌, append_assoc, arith}
-use Rattle.std.proofs.lemmas.List.{take_at, drop_at}
-use Rattle.wenc_base.specs.Piece.{Whole, Form}
+use Rattle.std.proofs.Common.{◌≡◌, ℕ, ◌≤◌, ◌<◌, ◌^◌, Bool, true, false, true≢false, cond, List, [], ◌∷◌, ◌++◌, length, take, drop, Option, Some, None, refl, sym, ◌∙◌, append_assoc, arith, inl, inr}
+use Rattle.std.specs.Prelude.{nat_lt}
+use Rattle.std.specs.Str.{is_utf8}
+use Rattle.std.proofs.lemmas.Bool.{cases_lt, lt-ltb, le-ltb}
+use Rattle.std.proofs.lemmas.List.{take_at, drop_at, take-append-drop, length-take-le, length-append}
+use Rattle.std.proofs.lemmas.Str.{IsUtf8-from_is_utf8, is_utf8-from_IsUtf8}
+use Rattle.wenc_base.specs.Number.{u32}
+use Rattle.wenc_base.specs.Piece.{Whole, Form, Wide, each, raw}
+use Rattle.wenc_base.specs.laws.Sound.{Then, Sound, ThenAll, SoundWhole, weaken, behind_value, then_sound, last_sound, give_sound, nowhere_sound, choose_sound, times_sound, whole_sound}
 use Rattle.wenc_base.specs.Forms.{flag, list, option, utf8, name, AreBytes, sized, byte_list, counted}
 use Rattle.wenc_base.specs.laws.Lawful.{Lawful, LawfulWhole, Reader, ◌>>=◌, give, nowhere, times, choose, row, row_byte, then, last, done, each_lawful, whole_lawful, raw_lawful}
-use Rattle.wenc_base.specs.laws.Numbers.{read_groups, u32_lawful, groups_are_read}
+use Rattle.wenc_base.specs.laws.Numbers.{read_u32, u32_lawful, u32_sound, groups_are_read}
 
 -- ---- flags
 
@@ -15,6 +21,9 @@ pub flag_lawful : (b : Bool) → Lawful (flag b) (λ fuel. read_flag) b
 flag_lawful false = row_byte _ _ 0 (λ fuel rest. refl)
 flag_lawful true = row_byte _ _ 1 (λ fuel rest. refl)
 
+pub flag_sound : Sound flag read_flag
+flag_sound = choose_sound _ _ (give_sound false (λ bytes. refl), (give_sound true (λ bytes. refl), tt)) nowhere_sound
+
 pub flag_fits : (b : Bool) → (flag b).Fits
 flag_fits false = tt
 flag_fits true = tt
@@ -22,10 +31,16 @@ flag_fits true = tt
 -- ---- lists
 
 abbrev pub read_list : {A : Type 0} → Reader A → Reader (List A)
-read_list read = read_groups >>= times read
+read_list read = read_u32 >>= times read
 
 pub list_lawful : {A : Type 0} {form : Form A} {read : ℕ → Reader A} → ((v : A) → Lawful (form v) read v) → (vs : List A) → Lawful (list form vs) (λ fuel. read_list (read fuel)) vs
 list_lawful laws vs = then _ (u32_lawful (length vs)) (each_lawful laws vs)
+
+pub list_sound : {A : Type 0} {form : Form A} {read : Reader A} → Sound form read → Sound (list form) (read_list read)
+list_sound {form = form} {read = read} s =
+    then_sound _ u32_sound (λ n. record {
+      reads = λ middle. weaken (λ vs rest. (length vs ≡ n) × (each form vs).Reads Wide middle rest) (λ vs rest. (behind_value u32 n (list form) vs).Reads Wide middle rest) (times read n middle) (λ vs rest h. (λ bytes r. (middle, rw h.0 r, h.1))) (times_sound s n middle);
+    })
 
 -- ---- options
 
@@ -36,37 +51,63 @@ pub option_lawful : {A : Type 0} {form : Form A} {read : ℕ → Reader A} → (
 option_lawful laws None = row_byte _ _ 0 (λ fuel rest. refl)
 option_lawful laws (Some v) = row _ _ 1 (last Some (laws v))
 
+pub option_sound : {A : Type 0} {form : Form A} {read : Reader A} → Sound form read → Sound (option form) (read_option read)
+option_sound s = choose_sound _ _ (give_sound None (λ bytes. refl), (last_sound Some s (λ v bytes rest r. (bytes, refl, r)), tt)) nowhere_sound
+
 -- ---- names
 
-abbrev pub read_raw : ℕ → Reader (List ℕ)
-read_raw n bytes = Some (take n bytes, drop n bytes)
+-- so many bytes, which are text
+unfoldable pub text_at : ℕ → Reader (List ℕ)
+text_at n bytes = cond (nat_lt (length bytes) n) None (cond (is_utf8 (take n bytes)) (Some (take n bytes, drop n bytes)) None)
 
-pub utf8_lawful : (bs : List ℕ) → Lawful (utf8 bs) (λ fuel. read_raw (length bs)) bs
+abbrev pub read_text : ℕ → Reader (List ℕ)
+read_text n bytes = text_at n bytes
+
+pub utf8_lawful : (bs : List ℕ) → Lawful (utf8 bs) (λ fuel. read_text (length bs)) bs
+unfolding text_at
 utf8_lawful bs = record {
   text_is_read = λ mode rest h. (h, refl);
   strict_is_text = λ bytes rest r. r.1;
   fits = λ bytes rest r. r.0;
   depth = 0;
-  finds = λ fuel le mode bytes rest r. rw (r.1, take_at bs rest (length bs) refl, drop_at bs rest (length bs) refl) refl;
+  finds = λ fuel le mode bytes rest r. rw (r.1, le-ltb (length (bs ++ rest)) (length bs) (omega (arith, length-append bs rest)), take_at bs rest (length bs) refl, drop_at bs rest (length bs) refl, is_utf8-from_IsUtf8 bs r.0) refl;
 }
 
+text_sound : (n : ℕ) (bytes : List ℕ) → Then (λ t rest. (length t ≡ n) × (utf8 t).Reads Wide bytes rest) (read_text n bytes)
+unfolding text_at
+text_sound n bytes =
+    elim (cases_lt (length bytes) n) [
+      | inl lt ↦ rw (lt-ltb (length bytes) n lt, cond) tt
+      | inr ge ↦ rw (le-ltb (length bytes) n ge, cond) (tested (is_utf8 (take n bytes)) refl ge)
+    ]
+  where
+    tested : (t : Bool) → is_utf8 (take n bytes) ≡ t → n ≤ length bytes → Then (λ t rest. (length t ≡ n) × (utf8 t).Reads Wide bytes rest) (cond t (Some (take n bytes, drop n bytes)) None)
+    tested true e le = (length-take-le n bytes le, (IsUtf8-from_is_utf8 (take n bytes) e, sym (take-append-drop n bytes)))
+    tested false e le = tt
+
 abbrev pub read_name : Reader (List ℕ)
-read_name = read_groups >>= read_raw
+read_name = read_u32 >>= read_text
 
 pub name_lawful : (bs : List ℕ) → Lawful (name bs) (λ fuel. read_name) bs
 name_lawful bs = then _ (u32_lawful (length bs)) (utf8_lawful bs)
 
+pub name_sound : Sound name read_name
+name_sound = then_sound _ u32_sound (λ n. record {
+  reads = λ middle. weaken (λ t rest. (length t ≡ n) × (utf8 t).Reads Wide middle rest) (λ t rest. (behind_value u32 n name t).Reads Wide middle rest) (read_text n middle) (λ t rest h. (λ bytes r. (middle, rw h.0 r, h.1))) (text_sound n middle);
+})
+
 -- ---- with a size
 
-abbrev pub read_sized : {A : Type 0} → (List ℕ → Option A) → Reader A
-read_sized {A} read = read_groups >>= inside
-  where
-    found : List ℕ → Option A → Option (A × List ℕ)
-    found rest None = None
-    found rest (Some v) = Some (v, rest)
+abbrev pub in_front_of : {A : Type 0} → List ℕ → Option A → Option (A × List ℕ)
+in_front_of rest None = None
+in_front_of rest (Some v) = Some (v, rest)
 
-    inside : ℕ → Reader A
-    inside n bytes = found (drop n bytes) (read (take n bytes))
+-- so many bytes, which are all that is read
+abbrev pub read_filling : {A : Type 0} → (List ℕ → Option A) → ℕ → Reader A
+read_filling read n bytes = cond (nat_lt (length bytes) n) None (in_front_of (drop n bytes) (read (take n bytes)))
+
+abbrev pub read_sized : {A : Type 0} → (List ℕ → Option A) → Reader A
+read_sized read = read_u32 >>= read_filling read
 
 pub sized_lawful : {A : Type 0} {w : Whole} {read : ℕ → List ℕ → Option A} {v : A} → LawfulWhole w read v → Lawful (sized w) (λ fuel. read_sized (read fuel)) v
 sized_lawful {w = w} a = record {
@@ -77,16 +118,64 @@ sized_lawful {w = w} a = record {
   fits = λ bytes rest r. (rw (a.strict_is_text r.0 r.2) at ((u32_lawful (length r.0)).fits bytes (r.0 ++ rest) r.1), a.fits r.0 r.2);
   depth = a.depth;
   finds = λ fuel le mode bytes rest r.
-      rw (groups_are_read mode 128 4 (length r.0) bytes (r.0 ++ rest) (omega arith) r.1.1, take_at r.0 rest (length r.0) refl, drop_at r.0 rest (length r.0) refl, a.finds fuel le mode r.0 r.2) refl;
+      rw (groups_are_read mode 128 (2 ^ 32) 4 (length r.0) bytes (r.0 ++ rest) (omega arith) r.1.0 r.1.1, le-ltb (length (r.0 ++ rest)) (length r.0) (omega (arith, length-append r.0 rest)), take_at r.0 rest (length r.0) refl, drop_at r.0 rest (length r.0) refl, a.finds fuel le mode r.0 r.2) refl;
 }
+
+filling_sound : {A : Type 0} (P : A → Type 0) (Q : A → List ℕ → Type 0) (rest : List ℕ) (found : Option A) → ThenAll P found → ((v : A) → P v → Q v rest) → Then Q (in_front_of rest found)
+filling_sound P Q rest None h k = tt
+filling_sound P Q rest (Some v) h k = k v h
+
+pub sized_sound : {A : Type 0} {form : A → Whole} {read : List ℕ → Option A} → SoundWhole form read → Sound (λ v. sized (form v)) (read_sized read)
+sized_sound {A} {form = form} {read = read} s = then_sound _ u32_sound (λ n. record { reads = λ middle. inside n middle })
+  where
+    inside : (n : ℕ) (middle : List ℕ) → Then (λ v rest. (bytes : List ℕ) → (u32 n).Reads Wide bytes middle → (sized (form v)).Reads Wide bytes rest) (read_filling read n middle)
+    inside n middle =
+        elim (cases_lt (length middle) n) [
+          | inl lt ↦ rw (lt-ltb (length middle) n lt, cond) tt
+          | inr ge ↦ rw (le-ltb (length middle) n ge, cond) (filling_sound (λ v. (form v).ReadsAll Wide (take n middle)) (λ v rest. (bytes : List ℕ) → (u32 n).Reads Wide bytes middle → (sized (form v)).Reads Wide bytes rest)
+              (drop n middle) (read (take n middle)) (s.reads (take n middle)) (λ v h. (λ bytes r. (take n middle, rw (length-take-le n middle ge, take-append-drop n middle) r, h))))
+        ]
 
 -- ---- lists of bytes
 
+abbrev pub are_bytes : List ℕ → Bool
+are_bytes [] = true
+are_bytes (b ∷ bytes) = cond (nat_lt b 256) (are_bytes bytes) false
+
+pub bytes_pass : (bytes : List ℕ) → AreBytes bytes → are_bytes bytes ≡ true
+bytes_pass [] h = refl
+bytes_pass (b ∷ bytes) h = rw (lt-ltb b 256 h.0) (bytes_pass bytes h.1)
+
+pub passed_bytes : (bytes : List ℕ) → are_bytes bytes ≡ true → AreBytes bytes
+passed_bytes [] e = tt
+passed_bytes (b ∷ bytes) e =
+    elim (cases_lt b 256) [
+      | inl lt ↦ (lt, passed_bytes bytes (rw (lt-ltb b 256 lt) at e))
+      | inr ge ↦ absurd (true≢false (sym (rw (le-ltb b 256 ge) at e)))
+    ]
+
+-- any bytes
+abbrev pub read_bytes : {A : Type 0} → (List ℕ → A) → List ℕ → Option A
+read_bytes make bytes = cond (are_bytes bytes) (Some (make bytes)) None
+
+pub bytes_lawful : {A : Type 0} (make : List ℕ → A) (bs : List ℕ) → LawfulWhole (raw AreBytes bs) (λ fuel. read_bytes make) (make bs)
+bytes_lawful make bs = raw_lawful AreBytes are_bytes bs make (bytes_pass bs)
+
+pub bytes_sound : {A : Type 0} (P : A → Type 0) (make : List ℕ → A) (bytes : List ℕ) → (AreBytes bytes → P (make bytes)) → ThenAll P (read_bytes make bytes)
+bytes_sound P make bytes k = tested (are_bytes bytes) refl
+  where
+    tested : (t : Bool) → are_bytes bytes ≡ t → ThenAll P (cond t (Some (make bytes)) None)
+    tested true e = k (passed_bytes bytes e)
+    tested false e = tt
+
 abbrev pub read_byte_list : Reader (List ℕ)
-read_byte_list = read_sized Some
+read_byte_list = read_sized (read_bytes (λ bytes. bytes))
 
 pub byte_list_lawful : (bs : List ℕ) → Lawful (byte_list bs) (λ fuel. read_byte_list) bs
-byte_list_lawful bs = sized_lawful (raw_lawful AreBytes bs (λ bytes. bytes))
+byte_list_lawful bs = sized_lawful (bytes_lawful (λ bytes. bytes) bs)
+
+pub byte_list_sound : Sound byte_list read_byte_list
+byte_list_sound = sized_sound (record { reads = λ bytes. bytes_sound (λ bs. (raw AreBytes bs).ReadsAll Wide bytes) (λ bs. bs) bytes (λ h. (h, refl)) })
 
 -- ---- counted sections
 
@@ -95,3 +184,6 @@ read_counted read = read_sized (done (read_list read))
 
 pub counted_lawful : {A : Type 0} {form : Form A} {read : ℕ → Reader A} → ((v : A) → Lawful (form v) read v) → (vs : List A) → Lawful (counted form vs) (λ fuel. read_counted (read fuel)) vs
 counted_lawful laws vs = sized_lawful (whole_lawful (list_lawful laws vs))
+
+pub counted_sound : {A : Type 0} {form : Form A} {read : Reader A} → Sound form read → Sound (counted form) (read_counted read)
+counted_sound s = sized_sound (whole_sound (list_sound s))

@@ -1,5 +1,5 @@
 -- The laws of a piece and of its reader, and what follows from them.
-use Rattle.std.proofs.Common.{◌≡◌, ℕ, zero, suc, ◌+◌, ◌≤◌, ◌≢◌, true, false, eqb, List, [], ◌∷◌, ◌++◌, length, Option, Some, None, refl, sym, ap, ◌∙◌, append_assoc, arith, inl, inr}
+use Rattle.std.proofs.Common.{◌≡◌, ℕ, zero, suc, ◌+◌, ◌≤◌, ◌≢◌, Bool, true, false, cond, eqb, List, [], ◌∷◌, ◌++◌, length, Option, Some, None, refl, sym, ap, ◌∙◌, append_assoc, arith, inl, inr}
 use Rattle.std.proofs.lemmas.List.{append-nil}
 use Rattle.std.proofs.lemmas.Option.{some_pair_parts, same_Some}
 use Rattle.std.proofs.lemmas.Bool.Decides.{nat_tests}
@@ -41,7 +41,7 @@ choose table other (b ∷ bytes) = pick table other b bytes
 
 -- ---- the laws
 
--- A reader takes how deep it may call itself. It finds v wherever the piece is. It may accept more, so it tests nothing that it needn't.
+-- A reader takes how deep it may call itself. It finds v wherever the piece is.
 -- What is read widely may be shorter than the text, so that only what is read strictly is sure to fit.
 pub record Lawful {A : Type 0} (p : Piece) (read : ℕ → Reader A) (v : A) : Type 0 where
   pub text_is_read : (mode : Spelling) (rest : List ℕ) → p.Fits → p.Reads mode (p.text ++ rest) rest
@@ -149,6 +149,32 @@ row_also {p = p} {v = v} table other b c l k = record {
   finds = λ fuel le mode bytes rest r. elim r.1 [ inl e ↦ rw e (l.finds fuel (omega arith) mode r.0 rest r.2) | inr w ↦ rw w.1 (k.finds fuel (omega arith) mode r.0 rest r.2) ];
 }
 
+-- a byte that a row has, then a piece
+pub first_byte : {A : Type 0} {q : Piece} {v : A} (table : ℕ → List (ℕ × Reader A)) (other : ℕ → Reader A) (b : ℕ)
+    → Lawful q (λ fuel. pick (table fuel) (other fuel) b) v → Lawful (byte b ⨾ q) (λ fuel. choose (table fuel) (other fuel)) v
+first_byte table other b l =
+    let r = row table other b l in
+    record {
+      text_is_read = λ mode rest h. r.text_is_read mode rest h.1;
+      strict_is_text = r.strict_is_text;
+      fits = λ bytes rest reads. (tt, r.fits bytes rest reads);
+      depth = r.depth;
+      finds = r.finds;
+    }
+
+-- the same, of a piece that the byte begins
+pub first_of_two : {A : Type 0} (p q : Piece) {v : A} (table : ℕ → List (ℕ × Reader A)) (other : ℕ → Reader A) (b : ℕ)
+    → Lawful (p ⨾ q) (λ fuel. pick (table fuel) (other fuel) b) v → Lawful ((b ▸ p) ⨾ q) (λ fuel. choose (table fuel) (other fuel)) v
+first_of_two p q table other b l =
+    let r = row table other b l in
+    record {
+      text_is_read = λ mode rest h. (let s = r.text_is_read mode rest h in (s.2.0, (s.0, s.1, s.2.1), s.2.2));
+      strict_is_text = λ bytes rest s. r.strict_is_text bytes rest (s.1.0, s.1.1, (s.0, s.1.2, s.2));
+      fits = λ bytes rest s. r.fits bytes rest (s.1.0, s.1.1, (s.0, s.1.2, s.2));
+      depth = r.depth;
+      finds = λ fuel le mode bytes rest s. r.finds fuel le mode bytes rest (s.1.0, s.1.1, (s.0, s.1.2, s.2));
+    }
+
 -- a piece with two spellings, which one reader knows
 pub or_widely_lawful : {A : Type 0} {p q : Piece} {read : ℕ → Reader A} {v : A} → Lawful p read v → Lawful q read v → Lawful (or_widely p q) read v
 or_widely_lawful a b = record {
@@ -240,8 +266,14 @@ deeper {p = p} {read = read} {v = v} a = record {
 
 -- ---- all of the bytes
 
+-- what was found, where no byte is left
+abbrev pub all_read : {A : Type 0} → Option (A × List ℕ) → Option A
+all_read None = None
+all_read (Some (v, [])) = Some v
+all_read (Some (v, b ∷ rest)) = None
+
 abbrev pub done : {A : Type 0} → Reader A → List ℕ → Option A
-done read bytes = go_on (read bytes) (λ v rest. Some v)
+done read bytes = all_read (read bytes)
 
 pub whole_lawful : {A : Type 0} {p : Piece} {read : ℕ → Reader A} {v : A} → Lawful p read v → LawfulWhole (all_of p) (λ fuel. done (read fuel)) v
 whole_lawful {p = p} a = record {
@@ -252,13 +284,15 @@ whole_lawful {p = p} a = record {
   finds = λ fuel le mode bytes r. rw (a.finds fuel le mode bytes [] r) refl;
 }
 
-pub raw_lawful : {A : Type 0} (P : List ℕ → Type 0) (bs : List ℕ) (make : List ℕ → A) → LawfulWhole (raw P bs) (λ fuel bytes. Some (make bytes)) (make bs)
-raw_lawful P bs make = record {
+-- any bytes of which P holds, as is tested
+pub raw_lawful : {A : Type 0} (P : List ℕ → Type 0) (is_so : List ℕ → Bool) (bs : List ℕ) (make : List ℕ → A) → (P bs → is_so bs ≡ true)
+    → LawfulWhole (raw P bs) (λ fuel bytes. cond (is_so bytes) (Some (make bytes)) None) (make bs)
+raw_lawful P is_so bs make test = record {
   text_is_read = λ mode h. (h, refl);
   strict_is_text = λ bytes r. r.1;
   fits = λ bytes r. r.0;
   depth = 0;
-  finds = λ fuel le mode bytes r. ap (λ (t : List ℕ). Some (make t)) r.1;
+  finds = λ fuel le mode bytes r. rw (r.1, test r.0) refl;
 }
 
 pub then_whole : {A B : Type 0} {p : Piece} {q : Whole} {read : ℕ → Reader A} {v : A} (next : ℕ → A → List ℕ → Option B) {w : B} → Lawful p read v → LawfulWhole q (λ fuel. next fuel v) w → LawfulWhole (p ⨾⨾ q) (λ fuel bytes. go_on (read fuel bytes) (next fuel)) w

@@ -4,13 +4,13 @@ use Rattle.wenc_base.specs.Holder.{Held, held_text, Contains}
 use Rattle.wenc_base.specs.Names.{Named, named, named_text, name_map}
 use Rattle.wenc_base.specs.laws.Forms.{read_name, name_lawful, read_list, list_lawful}
 use Rattle.wenc_base.specs.laws.Lawful.{Lawful, Reader, ◌>>=◌, give, then, last}
-use Rattle.wenc_base.specs.laws.Numbers.{read_groups, u32_lawful}
+use Rattle.wenc_base.specs.laws.Numbers.{read_u32, u32_lawful}
 
 abbrev named_so : ℕ → List ℕ → Named
 named_so place name = record { place = place; name = name }
 
 abbrev pub read_named : Reader Named
-read_named = read_groups >>= λ place. read_name >>= λ name. give (named_so place name)
+read_named = read_u32 >>= λ place. read_name >>= λ name. give (named_so place name)
 
 pub named_lawful : (n : Named) → Lawful (named n) (λ fuel. read_named) n
 named_lawful n = then _ (u32_lawful n.place) (last (named_so n.place) (name_lawful n.name))

@@ -1,11 +1,13 @@
 -- The laws of the forms of numbers.
 use Rattle.std.proofs.Common.{◌≡◌, ℕ, ℤ, pos, negsuc, zero, suc, ◌+◌, ◌*◌, ◌/◌, ◌%◌, ◌-◌, ◌^◌, ◌<◌, ◌≤◌, cond, ltb, List, [], ◌∷◌, ◌++◌, map, Option, Some, None, refl, ap, ◌∙◌, arith, inl, inr}
+use Rattle.std.specs.Prelude.{if◌then◌else◌, nat_lt}
 use Rattle.std.proofs.lemmas.Bool.{cases_lt, le-ltb, lt-ltb}
 use Rattle.std.proofs.lemmas.List.{append-nil}
 use Rattle.wenc_base.specs.Piece.{Piece, Spelling, Strict, Wide}
 use Rattle.wenc_base.specs.Number.{groups, MayGoOn, complement, ReadsGroups, last, more, u32, u64, i64, index}
 use Rattle.wenc_base.specs.laws.Groups.{limit, groups_below, groups_from}
 use Rattle.wenc_base.specs.laws.Lawful.{Lawful, Reader, Starts}
+use Rattle.wenc_base.specs.laws.Sound.{Then, Sound}
 
 may_go_on : (mode : Spelling) (top n : ℕ) → top ≤ n → MayGoOn mode top n
 may_go_on Strict top n h = h
@@ -40,22 +42,61 @@ strict_groups top _ n _ rest (more {room = room} {b = b} {high = high} {bytes = 
     let tail : n / 128 ≡ high = omega arith in
     rw (groups_from top room n on, head, tail) (ap (λ (t : List ℕ). b ∷ t) (strict_groups top room high bytes rest r))
 
-with_low : ℕ → Option (ℕ × List ℕ) → Option (ℕ × List ℕ)
-with_low b None = None
-with_low b (Some x) = Some (b - 128 + 128 * x.0, x.1)
+-- a byte from 128 on in front of what was found behind it, where the number is below `bound`
+abbrev pub raised : ℕ → ℕ → Option (ℕ × List ℕ) → Option (ℕ × List ℕ)
+raised bound b None = None
+raised bound b (Some x) = if nat_lt (b - 128 + 128 * x.0) bound then Some (b - 128 + 128 * x.0, x.1) else None
 
--- reads groups up to the last, however many there are
-pub read_groups : Reader ℕ
-read_groups [] = None
-read_groups (b ∷ bytes) = cond (ltb b 128) (Some (b, bytes)) (with_low b (read_groups bytes))
+-- Reads groups up to the last, which is below `top`. At most `room` bytes come before it.
+unfoldable pub read_groups : ℕ → ℕ → ℕ → Reader ℕ
+read_groups top bound room [] = None
+read_groups top bound zero (b ∷ bytes) = if nat_lt b top then Some (b, bytes) else None
+read_groups top bound (suc room) (b ∷ bytes) =
+    if nat_lt b top then Some (b, bytes) else if nat_lt b 128 then None else if nat_lt b 256 then raised bound b (read_groups top bound room bytes) else None
 
 -- it finds the number
-pub groups_are_read : (mode : Spelling) (top room n : ℕ) (bytes rest : List ℕ) → top ≤ 128 → ReadsGroups mode top room n bytes rest → read_groups bytes ≡ Some (n, rest)
-unfolding read_groups with_low
-groups_are_read mode top room n bytes rest small (last lt) = rw (lt-ltb n 128 (omega arith)) refl
-groups_are_read mode top _ n _ rest small (more {room = room} {b = b} {high = high} {bytes = bytes} low byte on sum r) =
+pub groups_are_read : (mode : Spelling) (top bound room n : ℕ) (bytes rest : List ℕ) → top ≤ 128 → n < bound → ReadsGroups mode top room n bytes rest → read_groups top bound room bytes ≡ Some (n, rest)
+unfolding read_groups
+groups_are_read mode top bound zero n bytes rest small below (last lt) = rw (lt-ltb n top lt) refl
+groups_are_read mode top bound (suc room) n bytes rest small below (last lt) = rw (lt-ltb n top lt) refl
+groups_are_read mode top bound _ n _ rest small below (more {room = room} {b = b} {high = high} {bytes = bytes} low byte on sum r) =
     let value : b - 128 + 128 * high ≡ n = omega arith in
-    rw (le-ltb b 128 low, groups_are_read mode top room high bytes rest small r, value) refl
+    rw (le-ltb b top (omega arith), le-ltb b 128 low, lt-ltb b 256 byte, groups_are_read mode top bound room high bytes rest small (omega arith) r, value, lt-ltb n bound below) refl
+
+-- What it finds is read: a number below the bound.
+abbrev Found : ℕ → ℕ → ℕ → List ℕ → ℕ → List ℕ → Type 0
+Found top bound room bytes n rest = (n < bound) × ReadsGroups Wide top room n bytes rest
+
+raised_sound : (top bound room b : ℕ) (bytes : List ℕ) (found : Option (ℕ × List ℕ)) → 128 ≤ b → b < 256 → Then (Found top bound room bytes) found → Then (Found top bound (suc room) (b ∷ bytes)) (raised bound b found)
+raised_sound top bound room b bytes None low high h = tt
+raised_sound top bound room b bytes (Some x) low high h =
+    elim (cases_lt (b - 128 + 128 * x.0) bound) [
+      | inl lt ↦ rw (lt-ltb (b - 128 + 128 * x.0) bound lt, cond) (lt, more {n = b - 128 + 128 * x.0} {b = b} {high = x.0} low high tt (omega arith) h.1)
+      | inr ge ↦ rw (le-ltb (b - 128 + 128 * x.0) bound ge, cond) tt
+    ]
+
+groups_sound : (top bound room : ℕ) (bytes : List ℕ) → top ≤ bound → Then (Found top bound room bytes) (read_groups top bound room bytes)
+unfolding read_groups
+groups_sound top bound zero [] le = tt
+groups_sound top bound (suc room) [] le = tt
+groups_sound top bound zero (b ∷ bytes) le =
+    elim (cases_lt b top) [
+      | inl lt ↦ rw (lt-ltb b top lt, cond) (omega arith, last lt)
+      | inr ge ↦ rw (le-ltb b top ge, cond) tt
+    ]
+groups_sound top bound (suc room) (b ∷ bytes) le =
+    elim (cases_lt b top) [
+      | inl lt ↦ rw (lt-ltb b top lt, cond) (omega arith, last lt)
+      | inr ge ↦
+          elim (cases_lt b 128) [
+            | inl small ↦ rw (le-ltb b top ge, cond, lt-ltb b 128 small, cond) tt
+            | inr low ↦
+                elim (cases_lt b 256) [
+                  | inl high ↦ rw (le-ltb b top ge, cond, le-ltb b 128 low, cond, lt-ltb b 256 high, cond) (raised_sound top bound room b bytes (read_groups top bound room bytes) low high (groups_sound top bound room bytes le))
+                  | inr big ↦ rw (le-ltb b top ge, cond, le-ltb b 128 low, cond, le-ltb b 256 big, cond) tt
+                ]
+          ]
+    ]
 
 -- a number below `bound`, with the text of a larger room
 abbrev number : ℕ → ℕ → ℕ → ℕ → ℕ → Piece
@@ -66,26 +107,44 @@ number top room larger bound n = record {
 }
 
 -- each form of numbers below a bound
-number_lawful : (top room larger bound n : ℕ) → top ≤ 128 → room ≤ larger → bound ≤ limit top room → Lawful (number top room larger bound n) (λ fuel. read_groups) n
+number_lawful : (top room larger bound n : ℕ) → top ≤ 128 → room ≤ larger → bound ≤ limit top room → Lawful (number top room larger bound n) (λ fuel. read_groups top bound room) n
 number_lawful top room larger bound n small le below = record {
   text_is_read = λ mode rest h. (h, rw (same h) (groups_read mode top room n rest (omega arith)));
   strict_is_text = λ bytes rest r. rw (same r.0) (strict_groups top room n bytes rest r.1);
   fits = λ bytes rest r. r.0;
   depth = 0;
-  finds = λ fuel le mode bytes rest r. groups_are_read mode top room n bytes rest small r.1;
+  finds = λ fuel le mode bytes rest r. groups_are_read mode top bound room n bytes rest small r.0 r.1;
 }
   where
     same : n < bound → groups top larger n ≡ groups top room n
     same h = same_in_room top room larger n le (omega arith)
 
-pub u32_lawful : (n : ℕ) → Lawful (u32 n) (λ fuel. read_groups) n
+abbrev pub read_u32 : Reader ℕ
+read_u32 = read_groups 128 (2 ^ 32) 4
+
+pub u32_lawful : (n : ℕ) → Lawful (u32 n) (λ fuel. read_u32) n
 u32_lawful n = number_lawful 128 4 9 (2 ^ 32) n (omega arith) (omega arith) (omega arith)
 
-pub u64_lawful : (n : ℕ) → Lawful (u64 n) (λ fuel. read_groups) n
+pub u32_sound : Sound u32 read_u32
+u32_sound = record { reads = λ bytes. groups_sound 128 (2 ^ 32) 4 bytes (omega arith) }
+
+abbrev pub read_u64 : Reader ℕ
+read_u64 = read_groups 128 (2 ^ 64) 9
+
+pub u64_lawful : (n : ℕ) → Lawful (u64 n) (λ fuel. read_u64) n
 u64_lawful n = number_lawful 128 9 9 (2 ^ 64) n (omega arith) (omega arith) (omega arith)
 
-pub index_lawful : (n : ℕ) → Lawful (index n) (λ fuel. read_groups) n
+pub u64_sound : Sound u64 read_u64
+u64_sound = record { reads = λ bytes. groups_sound 128 (2 ^ 64) 9 bytes (omega arith) }
+
+abbrev pub read_index : Reader ℕ
+read_index = read_groups 64 (2 ^ 32) 4
+
+pub index_lawful : (n : ℕ) → Lawful (index n) (λ fuel. read_index) n
 index_lawful n = number_lawful 64 4 9 (2 ^ 32) n (omega arith) (omega arith) (omega arith)
+
+pub index_sound : Sound index read_index
+index_sound = record { reads = λ bytes. groups_sound 64 (2 ^ 32) 4 bytes (omega arith) }
 
 -- an index begins with a byte below 64 or from 128 on
 pub index_starts : (P : ℕ → Type 0) → ((b : ℕ) → b < 64 → P b) → ((b : ℕ) → 128 ≤ b → P b) → (n : ℕ) → Starts (index n) P

@@ -1,8 +1,10 @@
 -- The laws of custom sections.
-use Rattle.std.proofs.Common.{ℕ, List, Some}
-use Rattle.wenc_base.specs.Forms.{AreBytes}
-use Rattle.wenc_base.specs.laws.Lawful.{Lawful, Reader, ◌>>=◌, give, done, go_on, then, last, then_whole, whole_lawful, raw_lawful}
-use Rattle.wenc_base.specs.laws.Forms.{read_name, name_lawful, read_list, list_lawful, read_sized, sized_lawful}
+use Rattle.std.proofs.Common.{ℕ, List, refl}
+use Rattle.wenc_base.specs.Piece.{Wide, raw, ◌⨾⨾◌}
+use Rattle.wenc_base.specs.Forms.{name, AreBytes}
+use Rattle.wenc_base.specs.laws.Lawful.{Lawful, Reader, ◌>>=◌, give, done, go_on, then, last, then_whole, whole_lawful}
+use Rattle.wenc_base.specs.laws.Forms.{read_name, name_lawful, name_sound, read_list, list_lawful, read_sized, sized_lawful, sized_sound, read_bytes, bytes_lawful, bytes_sound}
+use Rattle.wenc_base.specs.laws.Sound.{Sound, then_whole_sound}
 use Rattle.wenc_base.specs.Custom.{Custom, custom}
 use Rattle.wenc_base.specs.Producers.{Producer, producer, Producers, producers_field, producers_label, producers_section}
 
@@ -10,10 +12,13 @@ abbrev labelled : List ℕ → List ℕ → Custom
 labelled label bytes = record { label = label; bytes = bytes }
 
 abbrev pub read_custom : Reader Custom
-read_custom = read_sized (λ content. go_on (read_name content) (λ label bytes. Some (labelled label bytes)))
+read_custom = read_sized (λ content. go_on (read_name content) (λ label. read_bytes (labelled label)))
 
 pub custom_lawful : (c : Custom) → Lawful (custom c) (λ fuel. read_custom) c
-custom_lawful c = sized_lawful (then_whole _ (name_lawful c.label) (raw_lawful AreBytes c.bytes (labelled c.label)))
+custom_lawful c = sized_lawful (then_whole _ (name_lawful c.label) (bytes_lawful (labelled c.label) c.bytes))
+
+pub custom_sound : Sound custom read_custom
+custom_sound = sized_sound (then_whole_sound (λ c. name c.label ⨾⨾ raw AreBytes c.bytes) (λ label. read_bytes (labelled label)) name_sound (λ label bytes middle r. bytes_sound (λ c. (name c.label ⨾⨾ raw AreBytes c.bytes).ReadsAll Wide bytes) (labelled label) middle (λ h. (middle, r, (h, refl)))))
 
 abbrev versioned : List ℕ → List ℕ → Producer
 versioned tool version = record { tool = tool; version = version }

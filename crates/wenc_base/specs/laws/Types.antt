@@ -1,8 +1,9 @@
 -- The laws of value types of core modules.
-use Rattle.std.proofs.Common.{ℕ, Bool, true, false, List, [], ◌∷◌, ◌++◌, refl, arith}
-use Rattle.wenc_base.specs.Piece.{◌▸◌}
+use Rattle.std.proofs.Common.{ℕ, Bool, true, false, List, [], ◌∷◌, ◌++◌, refl, arith, inl, inr}
+use Rattle.wenc_base.specs.Piece.{Form, Wide, ◌▸◌}
+use Rattle.wenc_base.specs.laws.Sound.{Sound, RowsAreSound, both_tables, given_rows, give_sound, last_sound, nowhere_sound, choose_sound}
 use Rattle.wenc_base.specs.laws.Lawful.{Lawful, Reader, ◌>>=◌, give, nowhere, choose, row, row_byte, or_widely_lawful, past, last}
-use Rattle.wenc_base.specs.laws.Numbers.{read_groups, index_lawful, index_starts}
+use Rattle.wenc_base.specs.laws.Numbers.{read_index, index_lawful, index_sound, index_starts}
 use Rattle.wenc_base.specs.declared.types.ValType.{ValType}
 use Rattle.wenc_base.specs.declared.types.ValType.TheVariants.{I32, I64, F32, F64, V128, Ref}
 use Rattle.wenc_base.specs.declared.types.RefType.{RefType}
@@ -10,7 +11,7 @@ use Rattle.wenc_base.specs.declared.types.HeapType.{HeapType}
 use Rattle.wenc_base.specs.declared.types.HeapType.TheVariants.{Abstract, Concrete}
 use Rattle.wenc_base.specs.declared.types.AbstractHeapType.{AbstractHeapType}
 use Rattle.wenc_base.specs.declared.types.AbstractHeapType.TheVariants.{Func, Extern, Any, None, NoExtern, NoFunc, Eq, Struct, Array, I31, Exn, NoExn}
-use Rattle.wenc_base.specs.Types.{abstract_type, heap_type, nullable, reference_to, reference, val_type}
+use Rattle.wenc_base.specs.Types.{abstract_byte, abstract_type, heap_type, nullable, reference_to, reference, val_type}
 
 abbrev pub abstract_rows : {A : Type 0} → (AbstractHeapType → A) → List (ℕ × Reader A)
 abstract_rows make =
@@ -43,18 +44,31 @@ abstract_row make rows other Struct = row_byte _ _ 0x6b (λ fuel rest. refl)
 abstract_row make rows other Array = row_byte _ _ 0x6a (λ fuel rest. refl)
 abstract_row make rows other Exn = row_byte _ _ 0x69 (λ fuel rest. refl)
 
+abbrev pub abstract_types : List AbstractHeapType
+abstract_types = NoExn ∷ NoFunc ∷ NoExtern ∷ None ∷ Func ∷ Extern ∷ Any ∷ Eq ∷ I31 ∷ Struct ∷ Array ∷ Exn ∷ []
+
+-- each row of a table of abstract types
+abstract_rows_sound : {A : Type 0} (form : Form A) (make : AbstractHeapType → A) → ((t : AbstractHeapType) (rest : List ℕ) → (form (make t)).Reads Wide (abstract_byte t ∷ rest) rest) → RowsAreSound form (abstract_rows make)
+abstract_rows_sound form make k = given_rows form abstract_byte make k abstract_types
+
 abbrev pub read_abstract : Reader AbstractHeapType
 read_abstract = choose (abstract_rows (λ t. t)) nowhere
 
 pub abstract_type_lawful : (t : AbstractHeapType) → Lawful (abstract_type t) (λ fuel. read_abstract) t
 abstract_type_lawful t = abstract_row (λ u. u) (λ fuel. []) _ t
 
+pub abstract_type_sound : Sound abstract_type read_abstract
+abstract_type_sound = choose_sound _ _ (abstract_rows_sound abstract_type (λ t. t) (λ t rest. refl)) nowhere_sound
+
 abbrev pub read_heap_type : Reader HeapType
-read_heap_type = choose (abstract_rows Abstract) (read_groups >>= λ n. give (Concrete n))
+read_heap_type = choose (abstract_rows Abstract) (read_index >>= λ n. give (Concrete n))
 
 pub heap_type_lawful : (h : HeapType) → Lawful (heap_type h) (λ fuel. read_heap_type) h
 heap_type_lawful (Abstract t) = abstract_row Abstract (λ fuel. []) _ t
 heap_type_lawful (Concrete n) = past _ _ (λ fuel. index_starts _ (λ b lt. omega arith) (λ b le. omega arith) n) (last Concrete (index_lawful n))
+
+pub heap_type_sound : Sound heap_type read_heap_type
+heap_type_sound = choose_sound _ _ (abstract_rows_sound heap_type Abstract (λ t rest. refl)) (last_sound Concrete index_sound (λ n bytes rest r. r))
 
 abbrev pub to : Bool → HeapType → RefType
 to nullable heap_type = record { nullable = nullable; heap_type = heap_type }
@@ -83,11 +97,33 @@ module _ {A : Type 0} (make : RefType → A) (rows : ℕ → List (ℕ × Reader
   reference_row true (Abstract Extern) = or_widely_lawful (short Extern) (long (Abstract Extern))
   reference_row true (Abstract t) = or_widely_lawful (long (Abstract t)) (short t)
 
+-- a nullable reference is read in either spelling
+short_nullable : (t : AbstractHeapType) (rest : List ℕ) → (nullable (Abstract t)).Reads Wide (abstract_byte t ∷ rest) rest
+short_nullable Func rest = inl refl
+short_nullable Extern rest = inl refl
+short_nullable t rest = inr (tt, refl)
+
+long_nullable : (h : HeapType) (bytes rest : List ℕ) → (heap_type h).Reads Wide bytes rest → (nullable h).Reads Wide (0x63 ∷ bytes) rest
+long_nullable (Abstract Func) bytes rest r = inr (tt, (bytes, refl, r))
+long_nullable (Abstract Extern) bytes rest r = inr (tt, (bytes, refl, r))
+long_nullable (Abstract t) bytes rest r = inl (bytes, refl, r)
+long_nullable (Concrete n) bytes rest r = (bytes, refl, r)
+
+-- each row of a table of references
+pub reference_rows_sound : {A : Type 0} (form : Form A) (make : RefType → A) → ((r : RefType) (bytes rest : List ℕ) → (reference r).Reads Wide bytes rest → (form (make r)).Reads Wide bytes rest) → RowsAreSound form (reference_rows make)
+reference_rows_sound form make k = both_tables form (abstract_rows (λ t. make (to true (Abstract t)))) (long_rows make) (abstract_rows_sound form (λ t. make (to true (Abstract t))) (λ t rest. k (to true (Abstract t)) _ rest (short_nullable t rest))) (
+  last_sound (λ h. make (to true h)) heap_type_sound (λ h bytes rest r. k (to true h) _ rest (long_nullable h bytes rest r)),
+  (last_sound (λ h. make (to false h)) heap_type_sound (λ h bytes rest r. k (to false h) _ rest (bytes, refl, r)), tt),
+)
+
 abbrev pub read_reference : Reader RefType
 read_reference = choose (reference_rows (λ r. r)) nowhere
 
 pub reference_lawful : (r : RefType) → Lawful (reference r) (λ fuel. read_reference) r
 reference_lawful r = reference_row (λ s. s) (λ fuel. []) _ r.nullable r.heap_type
+
+pub reference_sound : Sound reference read_reference
+reference_sound = choose_sound _ _ (reference_rows_sound reference (λ r. r) (λ r bytes rest h. h)) nowhere_sound
 
 abbrev number_rows : {A : Type 0} → (ValType → A) → List (ℕ × Reader A)
 number_rows make =
@@ -115,6 +151,16 @@ read_val_type = choose (val_type_rows (λ t. t)) nowhere
 
 pub val_type_lawful : (t : ValType) → Lawful (val_type t) (λ fuel. read_val_type) t
 val_type_lawful t = val_type_row (λ u. u) (λ fuel. []) _ t
+
+-- each row of a table of value types
+pub val_type_rows_sound : {A : Type 0} (form : Form A) (make : ValType → A) → ((t : ValType) (bytes rest : List ℕ) → (val_type t).Reads Wide bytes rest → (form (make t)).Reads Wide bytes rest) → RowsAreSound form (val_type_rows make)
+val_type_rows_sound form make k = both_tables form (reference_rows (λ r. make (Ref r))) (number_rows make) (reference_rows_sound form (λ r. make (Ref r)) (λ r. k (Ref r))) (
+  give_sound _ (λ bytes. k I32 _ bytes refl),
+  (give_sound _ (λ bytes. k I64 _ bytes refl), (give_sound _ (λ bytes. k F32 _ bytes refl), (give_sound _ (λ bytes. k F64 _ bytes refl), (give_sound _ (λ bytes. k V128 _ bytes refl), tt)))),
+)
+
+pub val_type_sound : Sound val_type read_val_type
+val_type_sound = choose_sound _ _ (val_type_rows_sound val_type (λ t. t) (λ t bytes rest r. r)) nowhere_sound
 
 -- a reference to what fits
 pub reference_fits : (r : RefType) → (heap_type r.heap_type).Fits → (reference r).Fits

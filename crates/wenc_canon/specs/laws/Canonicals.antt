@@ -2,10 +2,11 @@
 use Rattle.std.proofs.Common.{◌≡◌, ℕ, ◌+◌, List, [], ◌∷◌, map, Option, Ok, refl, ap, arith}
 use Rattle.wenc_base.specs.Holder.{Held}
 use Rattle.wenc_base.specs.laws.Lawful.{Lawful, Reader, ◌>>=◌, give, nowhere, choose, pick, row as in_row, row_byte, nothing_lawful, then, last}
-use Rattle.wenc_base.specs.laws.Numbers.{read_groups, u32_lawful}
-use Rattle.wenc_base.specs.laws.Forms.{read_flag, flag_lawful, read_list, list_lawful}
-use Rattle.wenc_base.specs.laws.Types.{read_val_type, val_type_lawful}
-use Rattle.wenc_parts.specs.laws.Types.{read_result_list, result_list_lawful}
+use Rattle.wenc_base.specs.laws.Sound.{Sound, RowsAreSound, give_sound, last_sound, then_sound, nowhere_sound, choose_sound}
+use Rattle.wenc_base.specs.laws.Numbers.{read_u32, u32_lawful, u32_sound}
+use Rattle.wenc_base.specs.laws.Forms.{read_flag, flag_lawful, flag_sound, read_list, list_lawful, list_sound}
+use Rattle.wenc_base.specs.laws.Types.{read_val_type, val_type_lawful, val_type_sound}
+use Rattle.wenc_parts.specs.laws.Types.{read_result_list, result_list_lawful, result_list_sound}
 use Rattle.wenc_canon.specs.declared.canonicals.CanonicalOption.{CanonicalOption}
 use Rattle.wenc_canon.specs.declared.canonicals.CanonicalOption.TheVariants.{UTF8, UTF16, CompactUTF16, Memory, Realloc, PostReturn, Async, Callback, CoreType as CoreTypeOption, Gc}
 use Rattle.wenc_canon.specs.Canonicals.{canonical_option, Field, Index, Options, Flag, Zero, CoreType, Results, Value, field, Values, fields, Intrinsic, ResourceNew, row, intrinsics, Canonical, Lift, Lower, Provided, canonical, Adds, AddsWithOptions}
@@ -17,12 +18,12 @@ read_option = choose (
     (0x00, give UTF8) ∷
     (0x01, give UTF16) ∷
     (0x02, give CompactUTF16) ∷
-    (0x03, read_groups >>= λ n. give (Memory n)) ∷
-    (0x04, read_groups >>= λ n. give (Realloc n)) ∷
-    (0x05, read_groups >>= λ n. give (PostReturn n)) ∷
+    (0x03, read_u32 >>= λ n. give (Memory n)) ∷
+    (0x04, read_u32 >>= λ n. give (Realloc n)) ∷
+    (0x05, read_u32 >>= λ n. give (PostReturn n)) ∷
     (0x06, give Async) ∷
-    (0x07, read_groups >>= λ n. give (Callback n)) ∷
-    (0x08, read_groups >>= λ n. give (CoreTypeOption n)) ∷
+    (0x07, read_u32 >>= λ n. give (Callback n)) ∷
+    (0x08, read_u32 >>= λ n. give (CoreTypeOption n)) ∷
     (0x09, give Gc) ∷ []) nowhere
 
 pub canonical_option_lawful : (o : CanonicalOption) → Lawful (canonical_option o) (λ fuel. read_option) o
@@ -37,10 +38,34 @@ canonical_option_lawful (Callback n) = in_row _ _ 0x07 (last Callback (u32_lawfu
 canonical_option_lawful (CoreTypeOption n) = in_row _ _ 0x08 (last CoreTypeOption (u32_lawful n))
 canonical_option_lawful Gc = row_byte _ _ 0x09 (λ fuel rest. refl)
 
+pub canonical_option_sound : Sound canonical_option read_option
+canonical_option_sound = choose_sound _ _ (
+  give_sound UTF8 (λ bytes. refl),
+  (
+    give_sound UTF16 (λ bytes. refl),
+    (
+      give_sound CompactUTF16 (λ bytes. refl),
+      (
+        last_sound Memory u32_sound (λ n bytes rest r. (bytes, refl, r)),
+        (
+          last_sound Realloc u32_sound (λ n bytes rest r. (bytes, refl, r)),
+          (
+            last_sound PostReturn u32_sound (λ n bytes rest r. (bytes, refl, r)),
+            (
+              give_sound Async (λ bytes. refl),
+              (last_sound Callback u32_sound (λ n bytes rest r. (bytes, refl, r)), (last_sound CoreTypeOption u32_sound (λ n bytes rest r. (bytes, refl, r)), (give_sound Gc (λ bytes. refl), tt))),
+            ),
+          ),
+        ),
+      ),
+    ),
+  ),
+) nowhere_sound
+
 -- ---- fields
 
 abbrev pub read_field : (f : Field) → Reader (Value f)
-read_field Index = read_groups
+read_field Index = read_u32
 read_field Options = read_list read_option
 read_field Flag = read_flag
 read_field Zero = choose ((0x00, give tt) ∷ []) nowhere
@@ -55,6 +80,14 @@ field_lawful Zero v = row_byte _ _ 0x00 (λ fuel rest. refl)
 field_lawful CoreType t = val_type_lawful t
 field_lawful Results r = result_list_lawful r
 
+pub field_sound : (f : Field) → Sound (field f) (read_field f)
+field_sound Index = u32_sound
+field_sound Options = list_sound canonical_option_sound
+field_sound Flag = flag_sound
+field_sound Zero = choose_sound _ _ (give_sound tt (λ bytes. refl), tt) nowhere_sound
+field_sound CoreType = val_type_sound
+field_sound Results = result_list_sound
+
 abbrev pub read_fields : (fs : List Field) → Reader (Values fs)
 read_fields [] = give tt
 read_fields (f ∷ []) = read_field f
@@ -65,6 +98,11 @@ fields_lawful [] vs = nothing_lawful tt
 fields_lawful (f ∷ []) v = field_lawful f v
 fields_lawful (f ∷ g ∷ fs) vs = then _ (field_lawful f vs.0) (last _ (fields_lawful (g ∷ fs) vs.1))
 
+pub fields_sound : (fs : List Field) → Sound (fields fs) (read_fields fs)
+fields_sound [] = give_sound tt (λ bytes. refl)
+fields_sound (f ∷ []) = field_sound f
+fields_sound (f ∷ g ∷ fs) = then_sound _ (field_sound f) (λ v. last_sound (λ vs. (v, vs)) (fields_sound (g ∷ fs)) (λ vs middle rest r bytes p. (middle, p, r)))
+
 -- ---- canonical functions
 
 abbrev pub read_provided : Intrinsic → ℕ × Reader Canonical
@@ -72,8 +110,8 @@ read_provided i = ((row i).opcode, read_fields (row i).fields >>= λ vs. give (P
 
 abbrev pub rows : List (ℕ × Reader Canonical)
 rows =
-    (0x00, choose ((0x00, read_groups >>= λ f. read_list read_option >>= λ os. read_groups >>= λ t. give (Lift f os t)) ∷ []) nowhere) ∷
-    (0x01, choose ((0x00, read_groups >>= λ f. read_list read_option >>= λ os. give (Lower f os)) ∷ []) nowhere) ∷
+    (0x00, choose ((0x00, read_u32 >>= λ f. read_list read_option >>= λ os. read_u32 >>= λ t. give (Lift f os t)) ∷ []) nowhere) ∷
+    (0x01, choose ((0x00, read_u32 >>= λ f. read_list read_option >>= λ os. give (Lower f os)) ∷ []) nowhere) ∷
     map read_provided intrinsics
 
 abbrev pub read_canonical : Reader Canonical
@@ -88,6 +126,22 @@ pub canonical_lawful : (c : Canonical) → Lawful (canonical c) (λ fuel. read_c
 canonical_lawful (Lift f os t) = in_row _ _ 0x00 (in_row _ _ 0x00 (then _ (u32_lawful f) (then _ (list_lawful canonical_option_lawful os) (last (Lift f os) (u32_lawful t)))))
 canonical_lawful (Lower f os) = in_row _ _ 0x01 (in_row _ _ 0x00 (then _ (u32_lawful f) (last (Lower f) (list_lawful canonical_option_lawful os))))
 canonical_lawful (Provided i vs) = in_row _ _ (row i).opcode (rw (own_row i) (last (Provided i) (fields_lawful (row i).fields vs)))
+
+provided_sound : (is : List Intrinsic) → RowsAreSound canonical (map read_provided is)
+provided_sound [] = tt
+provided_sound (i ∷ is) = (last_sound (Provided i) (fields_sound (row i).fields) (λ vs bytes rest r. (bytes, refl, r)), provided_sound is)
+
+pub canonical_sound : Sound canonical read_canonical
+canonical_sound = choose_sound _ _ (
+  choose_sound _ _ (
+    then_sound _ u32_sound (λ f. then_sound _ (list_sound canonical_option_sound) (λ os. last_sound (Lift f os) u32_sound (λ t behind rest r middle q bytes p. (_, refl, (_, refl, (middle, p, (behind, q, r))))))),
+    tt,
+  ) nowhere_sound,
+  (
+    choose_sound _ _ (then_sound _ u32_sound (λ f. last_sound (Lower f) (list_sound canonical_option_sound) (λ os middle rest r bytes p. (_, refl, (_, refl, (middle, p, r))))), tt) nowhere_sound,
+    provided_sound intrinsics,
+  ),
+) nowhere_sound
 
 -- ---- what follows from an `Ok`
 

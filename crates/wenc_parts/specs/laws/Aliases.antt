@@ -1,11 +1,12 @@
 -- The laws of aliases.
 use Rattle.std.proofs.Common.{ℕ, List, [], ◌∷◌, refl}
-use Rattle.wenc_base.specs.Piece.{Piece, byte, ◌▸◌, ◌⨾◌}
+use Rattle.wenc_base.specs.Piece.{Piece, Form, Wide, byte, ◌▸◌, ◌⨾◌}
+use Rattle.wenc_base.specs.laws.Sound.{Sound, behind, give_sound, last_sound, then_sound, nowhere_sound, choose_sound}
 use Rattle.wenc_base.specs.Number.{u32}
 use Rattle.wenc_base.specs.Forms.{name as name_form}
-use Rattle.wenc_base.specs.laws.Lawful.{Lawful, Reader, ◌>>=◌, give, nowhere, choose, pick, row, row_byte, then, last}
-use Rattle.wenc_base.specs.laws.Numbers.{read_groups, u32_lawful}
-use Rattle.wenc_base.specs.laws.Forms.{read_name, name_lawful}
+use Rattle.wenc_base.specs.laws.Lawful.{Lawful, Reader, ◌>>=◌, give, nowhere, choose, row, row_byte, first_byte, first_of_two, then, last}
+use Rattle.wenc_base.specs.laws.Numbers.{read_u32, u32_lawful, u32_sound}
+use Rattle.wenc_base.specs.laws.Forms.{read_name, name_lawful, name_sound}
 use Rattle.wenc_base.specs.declared.exports.ExportKind.{ExportKind}
 use Rattle.wenc_base.specs.declared.exports.ExportKind.TheVariants as cores
 use Rattle.wenc_parts.specs.declared.exports.ComponentExportKind.{ComponentExportKind}
@@ -14,6 +15,8 @@ use Rattle.wenc_parts.specs.declared.aliases.ComponentOuterAliasKind.{ComponentO
 use Rattle.wenc_parts.specs.declared.aliases.ComponentOuterAliasKind.TheVariants as outers
 use Rattle.wenc_base.specs.Delimited.{NoCause}
 use Rattle.wenc_base.specs.laws.Delimited.{name_free}
+use Rattle.wenc_base.specs.Exports.{export_kind_byte}
+use Rattle.wenc_parts.specs.Exports.{export_kind}
 use Rattle.wenc_parts.specs.laws.Exports.{export_kind_fits}
 use Rattle.wenc_parts.specs.Aliases.{AliasOf, InstanceExport, CoreInstanceExport, Outer, outer_kind, alias, alias_cause}
 
@@ -31,43 +34,23 @@ outer_kind_lawful outers.CoreType = row _ _ 0x00 (row_byte _ _ 0x10 (λ fuel res
 outer_kind_lawful outers.«Type» = row_byte _ _ 0x03 (λ fuel rest. refl)
 outer_kind_lawful outers.Component = row_byte _ _ 0x04 (λ fuel rest. refl)
 
+pub outer_kind_sound : Sound outer_kind read_outer_kind
+outer_kind_sound = choose_sound _ _ (
+  choose_sound _ _ (give_sound outers.CoreModule (λ bytes. (_, refl, refl)), (give_sound outers.CoreType (λ bytes. (_, refl, refl)), tt)) nowhere_sound,
+  (give_sound outers.«Type» (λ bytes. refl), (give_sound outers.Component (λ bytes. refl), tt)),
+) nowhere_sound
+
 -- ---- aliases
-
--- a byte that a row has, then a piece
-first_byte : {A : Type 0} {q : Piece} {v : A} (table : ℕ → List (ℕ × Reader A)) (other : ℕ → Reader A) (b : ℕ)
-    → Lawful q (λ fuel. pick (table fuel) (other fuel) b) v → Lawful (byte b ⨾ q) (λ fuel. choose (table fuel) (other fuel)) v
-first_byte table other b l =
-    let r = row table other b l in
-    record {
-      text_is_read = λ mode rest h. r.text_is_read mode rest h.1;
-      strict_is_text = r.strict_is_text;
-      fits = λ bytes rest reads. (tt, r.fits bytes rest reads);
-      depth = r.depth;
-      finds = r.finds;
-    }
-
--- the same, of a piece that the byte begins
-first_of_two : {A : Type 0} (p q : Piece) {v : A} (table : ℕ → List (ℕ × Reader A)) (other : ℕ → Reader A) (b : ℕ)
-    → Lawful (p ⨾ q) (λ fuel. pick (table fuel) (other fuel) b) v → Lawful ((b ▸ p) ⨾ q) (λ fuel. choose (table fuel) (other fuel)) v
-first_of_two p q table other b l =
-    let r = row table other b l in
-    record {
-      text_is_read = λ mode rest h. (let s = r.text_is_read mode rest h in (s.2.0, (s.0, s.1, s.2.1), s.2.2));
-      strict_is_text = λ bytes rest s. r.strict_is_text bytes rest (s.1.0, s.1.1, (s.0, s.1.2, s.2));
-      fits = λ bytes rest s. r.fits bytes rest (s.1.0, s.1.1, (s.0, s.1.2, s.2));
-      depth = r.depth;
-      finds = λ fuel le mode bytes rest s. r.finds fuel le mode bytes rest (s.1.0, s.1.1, (s.0, s.1.2, s.2));
-    }
 
 -- what stands behind the byte that says which form it is
 abbrev pub read_export : ComponentExportKind → Reader AliasOf
-read_export kind = read_groups >>= λ instance. read_name >>= λ name. give (InstanceExport instance kind name)
+read_export kind = read_u32 >>= λ instance. read_name >>= λ name. give (InstanceExport instance kind name)
 
 abbrev pub read_core_export : ExportKind → Reader AliasOf
-read_core_export kind = choose ((0x01, read_groups >>= λ instance. read_name >>= λ name. give (CoreInstanceExport instance kind name)) ∷ []) nowhere
+read_core_export kind = choose ((0x01, read_u32 >>= λ instance. read_name >>= λ name. give (CoreInstanceExport instance kind name)) ∷ []) nowhere
 
 abbrev pub read_outer : ComponentOuterAliasKind → Reader AliasOf
-read_outer kind = read_groups >>= λ count. read_groups >>= λ number. give (Outer kind count number)
+read_outer kind = read_u32 >>= λ count. read_u32 >>= λ number. give (Outer kind count number)
 
 -- where a sort is both
 abbrev pub read_either : ComponentExportKind → ComponentOuterAliasKind → Reader AliasOf
@@ -116,6 +99,79 @@ alias_lawful (Outer outers.CoreModule c n) = first_of_two (byte 0x11) (0x02 ▸ 
 alias_lawful (Outer outers.CoreType c n) = first_of_two (byte 0x10) (0x02 ▸ u32 c ⨾ u32 n) _ _ 0x00 (first_byte _ _ 0x10 (row _ _ 0x02 (outer_lawful outers.CoreType c n)))
 alias_lawful (Outer outers.«Type» c n) = first_byte _ _ 0x03 (row _ _ 0x02 (outer_lawful outers.«Type» c n))
 alias_lawful (Outer outers.Component c n) = first_byte _ _ 0x04 (row _ _ 0x02 (outer_lawful outers.Component c n))
+
+-- ---- what is found is read
+
+-- what is read of this piece is an alias
+abbrev IsAlias : Piece → Form AliasOf → AliasOf → Type 0
+IsAlias p form a = (bytes rest : List ℕ) → p.Reads Wide bytes rest → (form a).Reads Wide bytes rest
+
+export_sound : {form : Form AliasOf} (kind : ComponentExportKind) → ((i : ℕ) (n : List ℕ) → IsAlias (u32 i ⨾ name_form n) form (InstanceExport i kind n)) → Sound form (read_export kind)
+export_sound kind k = then_sound _ u32_sound (λ i. last_sound (InstanceExport i kind) name_sound (λ n middle rest r bytes p. k i n bytes rest (middle, p, r)))
+
+outer_sound : {form : Form AliasOf} (kind : ComponentOuterAliasKind) → ((c n : ℕ) → IsAlias (u32 c ⨾ u32 n) form (Outer kind c n)) → Sound form (read_outer kind)
+outer_sound kind k = then_sound _ u32_sound (λ c. last_sound (Outer kind c) u32_sound (λ n middle rest r bytes p. k c n bytes rest (middle, p, r)))
+
+core_sound : {form : Form AliasOf} (kind : ExportKind) → ((i : ℕ) (n : List ℕ) → IsAlias (u32 i ⨾ name_form n) (behind 0x01 form) (CoreInstanceExport i kind n)) → Sound form (read_core_export kind)
+core_sound kind k = choose_sound _ _ (then_sound _ u32_sound (λ i. last_sound (CoreInstanceExport i kind) name_sound (λ n middle rest r bytes p. k i n bytes rest (middle, p, r))), tt) nowhere_sound
+
+-- of the core kind with this byte
+core_row : (kind : ExportKind) → Sound (behind (export_kind_byte kind) (behind 0x00 alias)) (read_core_export kind)
+core_row kind = core_sound kind (λ i n bytes rest r. (_, refl, (_, refl, (_, refl, r))))
+
+-- of a sort that is one byte
+only_row : (kind : ComponentExportKind) (b : ℕ) → ((rest : List ℕ) → (export_kind kind).Reads Wide (b ∷ rest) rest) → Sound (behind b alias) (choose ((0x00, read_export kind) ∷ []) nowhere)
+only_row kind b k = choose_sound _ _ (export_sound kind (λ i n bytes rest r. (_, k _, (_, refl, r))), tt) nowhere_sound
+
+either_sound : {form : Form AliasOf} (kind : ComponentExportKind) (outer : ComponentOuterAliasKind) → ((i : ℕ) (n : List ℕ) → IsAlias (0x00 ▸ u32 i ⨾ name_form n) form (InstanceExport i kind n))
+    → ((c n : ℕ) → IsAlias (0x02 ▸ u32 c ⨾ u32 n) form (Outer outer c n)) → Sound form (read_either kind outer)
+either_sound kind outer k l = choose_sound _ _ (export_sound kind (λ i n bytes rest r. k i n _ rest (bytes, refl, r)), (outer_sound outer (λ c n bytes rest r. l c n _ rest (bytes, refl, r)), tt)) nowhere_sound
+
+core_rows_sound : Sound (behind 0x00 alias) (choose (
+    (0x00, read_core_export cores.Func) ∷
+    (0x01, read_core_export cores.Table) ∷
+    (0x02, read_core_export cores.Memory) ∷
+    (0x03, read_core_export cores.Global) ∷
+    (0x04, read_core_export cores.Tag) ∷
+    (0x10, choose ((0x02, read_outer outers.CoreType) ∷ []) nowhere) ∷
+    (0x11, read_either kinds.Module outers.CoreModule) ∷ []) nowhere)
+core_rows_sound = choose_sound _ _ (
+  core_row cores.Func,
+  (
+    core_row cores.Table,
+    (
+      core_row cores.Memory,
+      (
+        core_row cores.Global,
+        (
+          core_row cores.Tag,
+          (
+            choose_sound _ _ (outer_sound outers.CoreType (λ c n bytes rest r. (_, (_, refl, refl), (_, refl, r))), tt) nowhere_sound,
+            (either_sound kinds.Module outers.CoreModule (λ i n bytes rest r. (_, (_, refl, refl), r)) (λ c n bytes rest r. (_, (_, refl, refl), r)), tt),
+          ),
+        ),
+      ),
+    ),
+  ),
+) nowhere_sound
+
+pub alias_sound : Sound alias read_alias
+alias_sound = choose_sound _ _ (
+  core_rows_sound,
+  (
+    only_row kinds.Func 0x01 (λ rest. refl),
+    (
+      only_row kinds.Value 0x02 (λ rest. refl),
+      (
+        either_sound kinds.«Type» outers.«Type» (λ i n bytes rest r. (_, refl, r)) (λ c n bytes rest r. (_, refl, r)),
+        (
+          either_sound kinds.Component outers.Component (λ i n bytes rest r. (_, refl, r)) (λ c n bytes rest r. (_, refl, r)),
+          (only_row kinds.Instance 0x05 (λ rest. refl), tt),
+        ),
+      ),
+    ),
+  ),
+) nowhere_sound
 
 -- ---- what can be encoded
 

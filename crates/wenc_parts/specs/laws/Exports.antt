@@ -1,6 +1,7 @@
 -- The laws of the kinds of exports.
 use Rattle.std.proofs.Common.{[], ◌∷◌, refl}
 use Rattle.wenc_base.specs.laws.Lawful.{Lawful, Reader, give, nowhere, choose, row, row_byte}
+use Rattle.wenc_base.specs.laws.Sound.{Sound, give_sound, nowhere_sound, choose_sound}
 use Rattle.wenc_parts.specs.declared.exports.ComponentExportKind.{ComponentExportKind}
 use Rattle.wenc_parts.specs.declared.exports.ComponentExportKind.TheVariants.{Module, Func, Value, «Type» as TypeKind, Instance, Component}
 use Rattle.wenc_parts.specs.Exports.{export_kind}
@@ -21,6 +22,18 @@ export_kind_lawful Value = row_byte _ _ 0x02 (λ fuel rest. refl)
 export_kind_lawful TypeKind = row_byte _ _ 0x03 (λ fuel rest. refl)
 export_kind_lawful Instance = row_byte _ _ 0x05 (λ fuel rest. refl)
 export_kind_lawful Component = row_byte _ _ 0x04 (λ fuel rest. refl)
+
+pub export_kind_sound : Sound export_kind read_export_kind
+export_kind_sound = choose_sound _ _ (
+  choose_sound _ _ (give_sound Module (λ bytes. (_, refl, refl)), tt) nowhere_sound,
+  (
+    give_sound Func (λ bytes. refl),
+    (
+      give_sound Value (λ bytes. refl),
+      (give_sound TypeKind (λ bytes. refl), (give_sound Instance (λ bytes. refl), (give_sound Component (λ bytes. refl), tt))),
+    ),
+  ),
+) nowhere_sound
 
 pub export_kind_fits : (kind : ComponentExportKind) → (export_kind kind).Fits
 export_kind_fits Module = tt

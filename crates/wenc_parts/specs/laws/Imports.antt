@@ -1,38 +1,44 @@
 -- The laws of type references and of names.
-use Rattle.std.proofs.Common.{◌≡◌, ℕ, ◌<◌, ◌≤◌, ◌^◌, ◌++◌, List, [], ◌∷◌, length, length-append, Option, Some, None, refl, subst, inl, inr, lit≤, arith}
+use Rattle.std.specs.Prelude.{nat_lt}
+use Rattle.std.proofs.Common.{◌≡◌, ℕ, suc, Bool, true, false, true≢false, cond, ◌<◌, ◌≤◌, ◌^◌, ◌++◌, List, [], ◌∷◌, length, length-append, Option, Some, None, refl, sym, ap, subst, inl, inr, lit≤, arith}
 use Rattle.std.specs.List.{AllByRecursion}
 use Rattle.wenc_base.specs.Delimited.{NoCause, FreeFits}
 use Rattle.wenc_base.specs.Fault.{text_cause}
-use Rattle.wenc_base.specs.Forms.{name}
+use Rattle.wenc_base.specs.Forms.{name, list}
 use Rattle.wenc_base.specs.laws.Delimited.{name_free}
 use Rattle.wenc_parts.specs.Exports.{export_kind}
 use Rattle.wenc_base.specs.laws.Lawful.{Lawful, Reader, ◌>>=◌, give, nowhere, choose, row, row_also, row_byte, then, last}
-use Rattle.wenc_base.specs.laws.Numbers.{read_groups, u32_lawful}
-use Rattle.wenc_base.specs.laws.Forms.{read_name, name_lawful, read_list, list_lawful}
+use Rattle.wenc_base.specs.laws.Sound.{Then, Sound, behind, behind_value, goes_on, give_sound, last_sound, then_sound, nowhere_sound, choose_sound}
+use Rattle.wenc_base.specs.Piece.{Form, Wide}
+use Rattle.wenc_base.specs.laws.Numbers.{read_u32, u32_lawful, u32_sound}
+use Rattle.wenc_base.specs.laws.Forms.{read_name, name_lawful, name_sound, read_list, list_lawful, list_sound}
 use Rattle.wenc_parts.specs.declared.imports.TypeBounds.{TypeBounds}
 use Rattle.wenc_parts.specs.declared.imports.TypeBounds.TheVariants.{Eq, SubResource}
 use Rattle.wenc_parts.specs.declared.imports.ComponentTypeRef.{ComponentTypeRef}
 use Rattle.wenc_parts.specs.declared.imports.ComponentTypeRef.TheVariants.{Module, Func, Value, «Type» as TypeRef, Instance, Component}
 use Rattle.wenc_parts.specs.Imports.{type_bounds, type_reference, ExternName, plain_name, NameOption, Implements, VersionSuffix, ExternalId, name_option, present, name_options, name_with, extern_name, kind_of, option_cause, OptionFits, extern_name_cause}
-use Rattle.wenc_parts.specs.laws.Types.{read_value_type, value_type_lawful}
+use Rattle.wenc_parts.specs.laws.Types.{read_value_type, value_type_lawful, value_type_sound}
 
 -- ---- type references
 
 abbrev pub read_type_bounds : Reader TypeBounds
-read_type_bounds = choose ((0x00, read_groups >>= λ n. give (Eq n)) ∷ (0x01, give SubResource) ∷ []) nowhere
+read_type_bounds = choose ((0x00, read_u32 >>= λ n. give (Eq n)) ∷ (0x01, give SubResource) ∷ []) nowhere
 
 pub type_bounds_lawful : (b : TypeBounds) → Lawful (type_bounds b) (λ fuel. read_type_bounds) b
 type_bounds_lawful (Eq n) = row _ _ 0x00 (last Eq (u32_lawful n))
 type_bounds_lawful SubResource = row_byte _ _ 0x01 (λ fuel rest. refl)
 
+pub type_bounds_sound : Sound type_bounds read_type_bounds
+type_bounds_sound = choose_sound _ _ (last_sound Eq u32_sound (λ n bytes rest r. (bytes, refl, r)), (give_sound SubResource (λ bytes. refl), tt)) nowhere_sound
+
 abbrev pub read_type_reference : Reader ComponentTypeRef
 read_type_reference = choose (
-    (0x00, choose ((0x11, read_groups >>= λ n. give (Module n)) ∷ []) nowhere) ∷
-    (0x01, read_groups >>= λ n. give (Func n)) ∷
+    (0x00, choose ((0x11, read_u32 >>= λ n. give (Module n)) ∷ []) nowhere) ∷
+    (0x01, read_u32 >>= λ n. give (Func n)) ∷
     (0x02, read_value_type >>= λ t. give (Value t)) ∷
     (0x03, read_type_bounds >>= λ b. give (TypeRef b)) ∷
-    (0x05, read_groups >>= λ n. give (Instance n)) ∷
-    (0x04, read_groups >>= λ n. give (Component n)) ∷ []) nowhere
+    (0x05, read_u32 >>= λ n. give (Instance n)) ∷
+    (0x04, read_u32 >>= λ n. give (Component n)) ∷ []) nowhere
 
 pub type_reference_lawful : (r : ComponentTypeRef) → Lawful (type_reference r) (λ fuel. read_type_reference) r
 type_reference_lawful (Module n) = row _ _ 0x00 (row _ _ 0x11 (last Module (u32_lawful n)))
@@ -41,6 +47,21 @@ type_reference_lawful (Value t) = row _ _ 0x02 (last Value (value_type_lawful t)
 type_reference_lawful (TypeRef b) = row _ _ 0x03 (last TypeRef (type_bounds_lawful b))
 type_reference_lawful (Instance n) = row _ _ 0x05 (last Instance (u32_lawful n))
 type_reference_lawful (Component n) = row _ _ 0x04 (last Component (u32_lawful n))
+
+pub type_reference_sound : Sound type_reference read_type_reference
+type_reference_sound = choose_sound _ _ (
+  choose_sound _ _ (last_sound Module u32_sound (λ n bytes rest r. (_, refl, (bytes, refl, r))), tt) nowhere_sound,
+  (
+    last_sound Func u32_sound (λ n bytes rest r. (bytes, refl, r)),
+    (
+      last_sound Value value_type_sound (λ t bytes rest r. (bytes, refl, r)),
+      (
+        last_sound TypeRef type_bounds_sound (λ b bytes rest r. (bytes, refl, r)),
+        (last_sound Instance u32_sound (λ n bytes rest r. (bytes, refl, r)), (last_sound Component u32_sound (λ n bytes rest r. (bytes, refl, r)), tt)),
+      ),
+    ),
+  ),
+) nowhere_sound
 
 -- ---- names
 
@@ -54,6 +75,12 @@ pub name_option_lawful : (o : NameOption) → Lawful (name_option o) (λ fuel. r
 name_option_lawful (Implements text) = row _ _ 0x00 (last Implements (name_lawful text))
 name_option_lawful (VersionSuffix text) = row _ _ 0x01 (last VersionSuffix (name_lawful text))
 name_option_lawful (ExternalId text) = row _ _ 0x02 (last ExternalId (name_lawful text))
+
+pub name_option_sound : Sound name_option read_name_option
+name_option_sound = choose_sound _ _ (
+  last_sound Implements name_sound (λ text bytes rest r. (bytes, refl, r)),
+  (last_sound VersionSuffix name_sound (λ text bytes rest r. (bytes, refl, r)), (last_sound ExternalId name_sound (λ text bytes rest r. (bytes, refl, r)), tt)),
+) nowhere_sound
 
 abbrev pub with_option : NameOption → ExternName → ExternName
 with_option (Implements text) n = record { name = n.name; implements = Some text; version_suffix = n.version_suffix; external_id = n.external_id }
@@ -76,20 +103,120 @@ same_name text (Some i) None (Some e) = refl
 same_name text (Some i) (Some v) None = refl
 same_name text (Some i) (Some v) (Some e) = refl
 
+-- what an option begins with
+abbrev pub option_number : NameOption → ℕ
+option_number (Implements text) = 0
+option_number (VersionSuffix text) = 1
+option_number (ExternalId text) = 2
+
+-- options in ascending order of these numbers, from this one on
+abbrev pub ascend_from : ℕ → List NameOption → Bool
+ascend_from least [] = true
+ascend_from least (o ∷ os) = cond (nat_lt (option_number o) least) false (ascend_from (suc (option_number o)) os)
+
+-- some options, in ascending order
+abbrev pub are_options : List NameOption → Bool
+are_options [] = false
+are_options (o ∷ os) = ascend_from 0 (o ∷ os)
+
+abbrev pub given_options : List ℕ → List NameOption → Reader ExternName
+given_options text options bytes = cond (are_options options) (Some (with_options text options, bytes)) None
+
 abbrev pub read_extern_name : Reader ExternName
 read_extern_name = choose (
     (0x00, read_name >>= λ text. give (plain_name text)) ∷
     (0x01, read_name >>= λ text. give (plain_name text)) ∷
-    (0x02, read_name >>= λ text. read_list read_name_option >>= λ options. give (with_options text options)) ∷ []) nowhere
+    (0x02, read_name >>= λ text. read_list read_name_option >>= given_options text) ∷ []) nowhere
 
-name_with_lawful : (text : List ℕ) (options : List NameOption) → Lawful (name_with text options) (λ fuel. read_extern_name) (with_options text options)
-name_with_lawful text [] = row_also _ _ 0x00 0x01 (last plain_name (name_lawful text)) (last plain_name (name_lawful text))
-name_with_lawful text (o ∷ os) = row _ _ 0x02 (then _ (name_lawful text) (last (with_options text) (list_lawful name_option_lawful (o ∷ os))))
+-- the options of a name ascend
+they_ascend : (a b c : Option (List ℕ)) → ascend_from 0 (present Implements a ++ (present VersionSuffix b ++ present ExternalId c)) ≡ true
+they_ascend None None None = refl
+they_ascend None None (Some e) = refl
+they_ascend None (Some v) None = refl
+they_ascend None (Some v) (Some e) = refl
+they_ascend (Some i) None None = refl
+they_ascend (Some i) None (Some e) = refl
+they_ascend (Some i) (Some v) None = refl
+they_ascend (Some i) (Some v) (Some e) = refl
+
+name_with_lawful : (text : List ℕ) (options : List NameOption) → ascend_from 0 options ≡ true → Lawful (name_with text options) (λ fuel. read_extern_name) (with_options text options)
+name_with_lawful text [] e = row_also _ _ 0x00 0x01 (last plain_name (name_lawful text)) (last plain_name (name_lawful text))
+name_with_lawful text (o ∷ os) e =
+    row _ _ 0x02 (then _ (name_lawful text) (given_last (o ∷ os) (λ bytes. rw e refl) (list_lawful name_option_lawful (o ∷ os))))
+  where
+    given_last : (options : List NameOption) → ((bytes : List ℕ) → given_options text options bytes ≡ Some (with_options text options, bytes)) → Lawful (list name_option options) (λ fuel. read_list read_name_option) options
+        → Lawful (list name_option options) (λ fuel. read_list read_name_option >>= given_options text) (with_options text options)
+    given_last options is l = record {
+      text_is_read = l.text_is_read;
+      strict_is_text = l.strict_is_text;
+      fits = l.fits;
+      depth = l.depth;
+      finds = λ fuel le mode bytes rest r. rw (l.finds fuel le mode bytes rest r) (is rest);
+    }
 
 pub extern_name_lawful : (n : ExternName) → Lawful (extern_name n) (λ fuel. read_extern_name) n
 extern_name_lawful n =
     let P : ExternName → Type 0 = λ m. Lawful (extern_name n) (λ fuel. read_extern_name) m in
-    subst P (same_name n.name n.implements n.version_suffix n.external_id) (name_with_lawful n.name (name_options n))
+    subst P (same_name n.name n.implements n.version_suffix n.external_id) (name_with_lawful n.name (name_options n) (they_ascend n.implements n.version_suffix n.external_id))
+
+refused : {P : Type 0} → false ≡ true → P
+refused e = absurd (true≢false (sym e))
+
+-- ascending options are those of a name that has them
+from_three : (os : List NameOption) → ascend_from 3 os ≡ true → os ≡ []
+from_three [] e = refl
+from_three (Implements i ∷ os) e = refused e
+from_three (VersionSuffix v ∷ os) e = refused e
+from_three (ExternalId x ∷ os) e = refused e
+
+from_two : (os : List NameOption) → ascend_from 2 os ≡ true → (c : Option (List ℕ)) × (os ≡ present ExternalId c)
+from_two [] e = (None, refl)
+from_two (Implements i ∷ os) e = refused e
+from_two (VersionSuffix v ∷ os) e = refused e
+from_two (ExternalId x ∷ os) e = (Some x, ap (λ (t : List NameOption). ExternalId x ∷ t) (from_three os e))
+
+from_one : (os : List NameOption) → ascend_from 1 os ≡ true → (b : Option (List ℕ)) × (c : Option (List ℕ)) × (os ≡ present VersionSuffix b ++ present ExternalId c)
+from_one [] e = (None, None, refl)
+from_one (Implements i ∷ os) e = refused e
+from_one (VersionSuffix v ∷ os) e = let r = from_two os e in (Some v, r.0, ap (λ (t : List NameOption). VersionSuffix v ∷ t) r.1)
+from_one (ExternalId x ∷ os) e = (None, Some x, ap (λ (t : List NameOption). ExternalId x ∷ t) (from_three os e))
+
+from_none : (os : List NameOption) → ascend_from 0 os ≡ true → (a : Option (List ℕ)) × (b : Option (List ℕ)) × (c : Option (List ℕ)) × (os ≡ present Implements a ++ (present VersionSuffix b ++ present ExternalId c))
+from_none [] e = (None, None, None, refl)
+from_none (Implements i ∷ os) e = let r = from_one os e in (Some i, r.0, r.1, ap (λ (t : List NameOption). Implements i ∷ t) r.2)
+from_none (VersionSuffix v ∷ os) e = let r = from_two os e in (None, Some v, r.0, ap (λ (t : List NameOption). VersionSuffix v ∷ t) r.1)
+from_none (ExternalId x ∷ os) e = (None, None, Some x, ap (λ (t : List NameOption). ExternalId x ∷ t) (from_three os e))
+
+same_options : (text : List ℕ) (os : List NameOption) → ascend_from 0 os ≡ true → name_options (with_options text os) ≡ os
+same_options text os e = let r = from_none os e in rw r.3 (ap name_options (same_name text r.0 r.1 r.2))
+
+own_name : (text : List ℕ) (os : List NameOption) → (with_options text os).name ≡ text
+own_name text [] = refl
+own_name text (Implements i ∷ os) = own_name text os
+own_name text (VersionSuffix v ∷ os) = own_name text os
+own_name text (ExternalId x ∷ os) = own_name text os
+
+options_sound : (text : List ℕ) (options : List NameOption) (bytes middle rest : List ℕ) → are_options options ≡ true → (name text).Reads Wide bytes middle → (list name_option options).Reads Wide middle rest
+    → (extern_name (with_options text options)).Reads Wide (0x02 ∷ bytes) rest
+options_sound text [] bytes middle rest e p r = refused e
+options_sound text (o ∷ os) bytes middle rest e p r = rw (same_options text (o ∷ os) e, own_name text (o ∷ os)) (bytes, refl, (middle, p, r))
+
+pub extern_name_sound : Sound extern_name read_extern_name
+extern_name_sound = choose_sound _ _ (
+  last_sound plain_name name_sound (λ text bytes rest r. (bytes, inl refl, r)),
+  (
+    last_sound plain_name name_sound (λ text bytes rest r. (bytes, inr (tt, refl), r)),
+    (then_sound _ name_sound (λ text. then_sound _ (list_sound name_option_sound) (λ options. record { reads = λ rest. tested text options rest })), tt),
+  ),
+) nowhere_sound
+  where
+    tested : (text : List ℕ) (options : List NameOption) (rest : List ℕ)
+        → Then (λ n end. (middle : List ℕ) → (list name_option options).Reads Wide middle rest → (bytes : List ℕ) → (name text).Reads Wide bytes middle → (extern_name n).Reads Wide (0x02 ∷ bytes) end) (given_options text options rest)
+    tested text options rest =
+        elim (are_options options) as (λ t. are_options options ≡ t → Then (λ n end. (middle : List ℕ) → (list name_option options).Reads Wide middle rest → (bytes : List ℕ) → (name text).Reads Wide bytes middle → (extern_name n).Reads Wide (0x02 ∷ bytes) end) (cond t (Some (with_options text options, rest)) None)) [
+          | true ↦ λ e. λ middle r bytes p. options_sound text options bytes middle rest e p r
+          | false ↦ λ e. tt
+        ] refl
 
 -- ---- what can be encoded
 

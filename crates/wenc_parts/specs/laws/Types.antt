@@ -1,13 +1,15 @@
 -- The laws of value types.
 use Rattle.std.proofs.Common.{◌≡◌, ap, ℕ, List, [], ◌∷◌, ◌++◌, Option, Some, None, refl, arith}
 use Rattle.wenc_base.specs.laws.Lawful.{Lawful, Reader, ◌>>=◌, give, nowhere, choose, row, row_byte, past, last}
-use Rattle.wenc_base.specs.laws.Numbers.{read_groups, index_lawful, index_starts}
+use Rattle.wenc_base.specs.laws.Numbers.{read_index, index_lawful, index_sound, index_starts}
 use Rattle.wenc_parts.specs.declared.types.PrimitiveValType.{PrimitiveValType}
 use Rattle.wenc_parts.specs.declared.types.PrimitiveValType.TheVariants.{Bool, S8, U8, S16, U16, S32, U32, S64, U64, F32, F64, Char, String, ErrorContext}
 use Rattle.wenc_parts.specs.declared.types.ComponentValType.{ComponentValType}
 use Rattle.wenc_parts.specs.declared.types.ComponentValType.TheVariants.{Primitive, «Type» as TypeIndex}
 use Rattle.wenc_parts.specs.declared.types.ResultList.{ResultList}
-use Rattle.wenc_parts.specs.Types.{primitive, value_type, result_list}
+use Rattle.wenc_base.specs.Piece.{Form, Wide}
+use Rattle.wenc_base.specs.laws.Sound.{Sound, RowsAreSound, given_rows, give_sound, last_sound, nowhere_sound, choose_sound}
+use Rattle.wenc_parts.specs.Types.{primitive_byte, primitive, value_type, result_list}
 
 abbrev pub primitive_rows : {A : Type 0} → (PrimitiveValType → A) → List (ℕ × Reader A)
 primitive_rows make =
@@ -44,18 +46,31 @@ primitive_row make rows other Char = row_byte _ _ 0x74 (λ fuel rest. refl)
 primitive_row make rows other String = row_byte _ _ 0x73 (λ fuel rest. refl)
 primitive_row make rows other ErrorContext = row_byte _ _ 0x64 (λ fuel rest. refl)
 
+abbrev pub primitives : List PrimitiveValType
+primitives = Bool ∷ S8 ∷ U8 ∷ S16 ∷ U16 ∷ S32 ∷ U32 ∷ S64 ∷ U64 ∷ F32 ∷ F64 ∷ Char ∷ String ∷ ErrorContext ∷ []
+
+-- each row of a table of primitive types
+pub primitive_rows_sound : {A : Type 0} (form : Form A) (make : PrimitiveValType → A) → ((p : PrimitiveValType) (rest : List ℕ) → (form (make p)).Reads Wide (primitive_byte p ∷ rest) rest) → RowsAreSound form (primitive_rows make)
+primitive_rows_sound form make k = given_rows form primitive_byte make k primitives
+
 abbrev pub read_primitive : Reader PrimitiveValType
 read_primitive = choose (primitive_rows (λ p. p)) nowhere
 
 pub primitive_lawful : (p : PrimitiveValType) → Lawful (primitive p) (λ fuel. read_primitive) p
 primitive_lawful p = primitive_row (λ q. q) (λ fuel. []) _ p
 
+pub primitive_sound : Sound primitive read_primitive
+primitive_sound = choose_sound _ _ (primitive_rows_sound primitive (λ p. p) (λ p rest. refl)) nowhere_sound
+
 abbrev pub read_value_type : Reader ComponentValType
-read_value_type = choose (primitive_rows Primitive) (read_groups >>= λ n. give (TypeIndex n))
+read_value_type = choose (primitive_rows Primitive) (read_index >>= λ n. give (TypeIndex n))
 
 pub value_type_lawful : (t : ComponentValType) → Lawful (value_type t) (λ fuel. read_value_type) t
 value_type_lawful (Primitive p) = primitive_row Primitive (λ fuel. []) _ p
 value_type_lawful (TypeIndex n) = past _ _ (λ fuel. index_starts _ (λ b lt. omega arith) (λ b le. omega arith) n) (last TypeIndex (index_lawful n))
+
+pub value_type_sound : Sound value_type read_value_type
+value_type_sound = choose_sound _ _ (primitive_rows_sound value_type Primitive (λ p rest. refl)) (last_sound TypeIndex index_sound (λ n bytes rest r. r))
 
 abbrev pub read_result_list : Reader (Option ComponentValType)
 read_result_list = choose ((0x00, read_value_type >>= λ t. give (Some t)) ∷ (0x01, choose ((0x00, give None) ∷ []) nowhere) ∷ []) nowhere
@@ -63,6 +78,12 @@ read_result_list = choose ((0x00, read_value_type >>= λ t. give (Some t)) ∷ (
 pub result_list_lawful : (r : Option ComponentValType) → Lawful (result_list r) (λ fuel. read_result_list) r
 result_list_lawful (Some t) = row _ _ 0x00 (last Some (value_type_lawful t))
 result_list_lawful None = row _ _ 0x01 (row_byte _ _ 0x00 (λ fuel rest. refl))
+
+pub result_list_sound : Sound result_list read_result_list
+result_list_sound = choose_sound _ _ (
+  last_sound Some value_type_sound (λ t bytes rest r. (bytes, refl, r)),
+  (choose_sound _ _ (give_sound None (λ bytes. (_, refl, refl)), tt) nowhere_sound, tt),
+) nowhere_sound
 
 -- result lists with the same type are the same
 pub same_result_list : (a b : ResultList) → a.0 ≡ b.0 → a ≡ b

@@ -1,21 +1,22 @@
 -- The laws of the items of flat sections.
-use Rattle.std.proofs.Common.{ℕ, List, [], ◌∷◌, Option}
+use Rattle.std.proofs.Common.{ℕ, List, [], ◌∷◌, Option, refl}
 use Rattle.wenc_base.specs.laws.Lawful.{Lawful, Reader, ◌>>=◌, give, nowhere, choose, done, row, then, last, whole_lawful}
-use Rattle.wenc_base.specs.laws.Numbers.{read_groups, u32_lawful}
-use Rattle.wenc_base.specs.laws.Forms.{read_name, name_lawful, read_list, list_lawful, read_option, option_lawful, read_sized, sized_lawful}
-use Rattle.wenc_base.specs.laws.Exports.{read_export_kind as read_core_kind, export_kind_lawful as core_kind_lawful}
+use Rattle.wenc_base.specs.laws.Sound.{Sound, last_sound, then_sound, nowhere_sound, choose_sound, whole_sound}
+use Rattle.wenc_base.specs.laws.Numbers.{read_u32, u32_lawful, u32_sound}
+use Rattle.wenc_base.specs.laws.Forms.{read_name, name_lawful, name_sound, read_list, list_lawful, list_sound, read_option, option_lawful, option_sound, read_sized, sized_lawful, sized_sound}
+use Rattle.wenc_base.specs.laws.Exports.{read_export_kind as read_core_kind, export_kind_lawful as core_kind_lawful, export_kind_sound as core_kind_sound}
 use Rattle.wenc_base.specs.declared.exports.ExportKind.{ExportKind}
 use Rattle.wenc_parts.specs.declared.exports.ComponentExportKind.{ComponentExportKind}
 use Rattle.wenc_parts.specs.declared.imports.ComponentTypeRef.{ComponentTypeRef}
 use Rattle.wenc_parts.specs.declared.instances.ModuleArg.{ModuleArg}
 use Rattle.wenc_parts.specs.Imports.{ExternName}
-use Rattle.wenc_parts.specs.laws.Exports.{read_export_kind, export_kind_lawful}
-use Rattle.wenc_parts.specs.laws.Imports.{read_type_reference, type_reference_lawful, read_extern_name, extern_name_lawful}
-use Rattle.wenc_parts.specs.laws.Instances.{read_module_argument, module_argument_lawful}
+use Rattle.wenc_parts.specs.laws.Exports.{read_export_kind, export_kind_lawful, export_kind_sound}
+use Rattle.wenc_parts.specs.laws.Imports.{read_type_reference, type_reference_lawful, type_reference_sound, read_extern_name, extern_name_lawful, extern_name_sound}
+use Rattle.wenc_parts.specs.laws.Instances.{read_module_argument, module_argument_lawful, module_argument_sound}
 use Rattle.wenc_sections.specs.Imports.{Import, import_item}
 use Rattle.wenc_sections.specs.Exports.{Export, export_item}
 use Rattle.wenc_sections.specs.Instances.{Argument, argument, CoreExport, core_export, CoreInstance, CoreInstantiate, CoreExports, core_instance, Given, given, Exported, exported, Instance, Instantiate, Exports, instance}
-use Rattle.wenc_sections.specs.Start.{Start, started, start}
+use Rattle.wenc_sections.specs.Start.{Start, started, start_content, start}
 
 -- ---- imports and exports
 
@@ -28,14 +29,22 @@ read_import = read_extern_name >>= λ name. read_type_reference >>= λ what. giv
 pub import_lawful : (i : Import) → Lawful (import_item i) (λ fuel. read_import) i
 import_lawful i = then _ (extern_name_lawful i.name) (last (imported i.name) (type_reference_lawful i.what))
 
+pub import_sound : Sound import_item read_import
+import_sound = then_sound _ extern_name_sound (λ name. last_sound (imported name) type_reference_sound (λ what middle rest r bytes p. (middle, p, r)))
+
 abbrev ascribed : ExternName → ComponentExportKind → ℕ → Option ComponentTypeRef → Export
 ascribed name kind index what = record { name = name; kind = kind; index = index; what = what }
 
 abbrev pub read_export : Reader Export
-read_export = read_extern_name >>= λ name. read_export_kind >>= λ kind. read_groups >>= λ index. read_option read_type_reference >>= λ what. give (ascribed name kind index what)
+read_export = read_extern_name >>= λ name. read_export_kind >>= λ kind. read_u32 >>= λ index. read_option read_type_reference >>= λ what. give (ascribed name kind index what)
 
 pub export_lawful : (e : Export) → Lawful (export_item e) (λ fuel. read_export) e
 export_lawful e = then _ (extern_name_lawful e.name) (then _ (export_kind_lawful e.kind) (then _ (u32_lawful e.index) (last (ascribed e.name e.kind e.index) (option_lawful type_reference_lawful e.what))))
+
+pub export_sound : Sound export_item read_export
+export_sound =
+    then_sound _ extern_name_sound (λ name. then_sound _ export_kind_sound (λ kind. then_sound _ u32_sound (λ index. last_sound (ascribed name kind index) (option_sound type_reference_sound)
+    (λ what c rest r b q a p bytes o. (a, o, (b, p, (c, q, r)))))))
 
 -- ---- instances of core modules
 
@@ -48,23 +57,35 @@ read_argument = read_name >>= λ name. read_module_argument >>= λ value. give (
 pub argument_lawful : (a : Argument) → Lawful (argument a) (λ fuel. read_argument) a
 argument_lawful a = then _ (name_lawful a.name) (last (passed a.name) (module_argument_lawful a.value))
 
+pub argument_sound : Sound argument read_argument
+argument_sound = then_sound _ name_sound (λ name. last_sound (passed name) module_argument_sound (λ value middle rest r bytes p. (middle, p, r)))
+
 abbrev core_exported : List ℕ → ExportKind → ℕ → CoreExport
 core_exported name kind index = record { name = name; kind = kind; index = index }
 
 abbrev pub read_core_export : Reader CoreExport
-read_core_export = read_name >>= λ name. read_core_kind >>= λ kind. read_groups >>= λ index. give (core_exported name kind index)
+read_core_export = read_name >>= λ name. read_core_kind >>= λ kind. read_u32 >>= λ index. give (core_exported name kind index)
 
 pub core_export_lawful : (e : CoreExport) → Lawful (core_export e) (λ fuel. read_core_export) e
 core_export_lawful e = then _ (name_lawful e.name) (then _ (core_kind_lawful e.kind) (last (core_exported e.name e.kind) (u32_lawful e.index)))
 
+pub core_export_sound : Sound core_export read_core_export
+core_export_sound = then_sound _ name_sound (λ name. then_sound _ core_kind_sound (λ kind. last_sound (core_exported name kind) u32_sound (λ index b rest r a q bytes p. (a, p, (b, q, r)))))
+
 abbrev pub read_core_instance : Reader CoreInstance
 read_core_instance = choose (
-    (0x00, read_groups >>= λ module_index. read_list read_argument >>= λ arguments. give (CoreInstantiate module_index arguments)) ∷
+    (0x00, read_u32 >>= λ module_index. read_list read_argument >>= λ arguments. give (CoreInstantiate module_index arguments)) ∷
     (0x01, read_list read_core_export >>= λ exports. give (CoreExports exports)) ∷ []) nowhere
 
 pub core_instance_lawful : (i : CoreInstance) → Lawful (core_instance i) (λ fuel. read_core_instance) i
 core_instance_lawful (CoreInstantiate module_index arguments) = row _ _ 0x00 (then _ (u32_lawful module_index) (last (CoreInstantiate module_index) (list_lawful argument_lawful arguments)))
 core_instance_lawful (CoreExports exports) = row _ _ 0x01 (last CoreExports (list_lawful core_export_lawful exports))
+
+pub core_instance_sound : Sound core_instance read_core_instance
+core_instance_sound = choose_sound _ _ (
+  then_sound _ u32_sound (λ module_index. last_sound (CoreInstantiate module_index) (list_sound argument_sound) (λ arguments middle rest r bytes p. (bytes, refl, (middle, p, r)))),
+  (last_sound CoreExports (list_sound core_export_sound) (λ exports bytes rest r. (bytes, refl, r)), tt),
+) nowhere_sound
 
 -- ---- instances of components
 
@@ -72,33 +93,49 @@ abbrev named : List ℕ → ComponentExportKind → ℕ → Given
 named name kind index = record { name = name; kind = kind; index = index }
 
 abbrev pub read_given : Reader Given
-read_given = read_name >>= λ name. read_export_kind >>= λ kind. read_groups >>= λ index. give (named name kind index)
+read_given = read_name >>= λ name. read_export_kind >>= λ kind. read_u32 >>= λ index. give (named name kind index)
 
 pub given_lawful : (g : Given) → Lawful (given g) (λ fuel. read_given) g
 given_lawful g = then _ (name_lawful g.name) (then _ (export_kind_lawful g.kind) (last (named g.name g.kind) (u32_lawful g.index)))
+
+pub given_sound : Sound given read_given
+given_sound = then_sound _ name_sound (λ name. then_sound _ export_kind_sound (λ kind. last_sound (named name kind) u32_sound (λ index b rest r a q bytes p. (a, p, (b, q, r)))))
 
 abbrev out : ExternName → ComponentExportKind → ℕ → Exported
 out name kind index = record { name = name; kind = kind; index = index }
 
 abbrev pub read_exported : Reader Exported
-read_exported = read_extern_name >>= λ name. read_export_kind >>= λ kind. read_groups >>= λ index. give (out name kind index)
+read_exported = read_extern_name >>= λ name. read_export_kind >>= λ kind. read_u32 >>= λ index. give (out name kind index)
 
 pub exported_lawful : (e : Exported) → Lawful (exported e) (λ fuel. read_exported) e
 exported_lawful e = then _ (extern_name_lawful e.name) (then _ (export_kind_lawful e.kind) (last (out e.name e.kind) (u32_lawful e.index)))
 
+pub exported_sound : Sound exported read_exported
+exported_sound = then_sound _ extern_name_sound (λ name. then_sound _ export_kind_sound (λ kind. last_sound (out name kind) u32_sound (λ index b rest r a q bytes p. (a, p, (b, q, r)))))
+
 abbrev pub read_instance : Reader Instance
 read_instance = choose (
-    (0x00, read_groups >>= λ component_index. read_list read_given >>= λ arguments. give (Instantiate component_index arguments)) ∷
+    (0x00, read_u32 >>= λ component_index. read_list read_given >>= λ arguments. give (Instantiate component_index arguments)) ∷
     (0x01, read_list read_exported >>= λ exports. give (Exports exports)) ∷ []) nowhere
 
 pub instance_lawful : (i : Instance) → Lawful (instance i) (λ fuel. read_instance) i
 instance_lawful (Instantiate component_index arguments) = row _ _ 0x00 (then _ (u32_lawful component_index) (last (Instantiate component_index) (list_lawful given_lawful arguments)))
 instance_lawful (Exports exports) = row _ _ 0x01 (last Exports (list_lawful exported_lawful exports))
 
+pub instance_sound : Sound instance read_instance
+instance_sound = choose_sound _ _ (
+  then_sound _ u32_sound (λ component_index. last_sound (Instantiate component_index) (list_sound given_sound) (λ arguments middle rest r bytes p. (bytes, refl, (middle, p, r)))),
+  (last_sound Exports (list_sound exported_sound) (λ exports bytes rest r. (bytes, refl, r)), tt),
+) nowhere_sound
+
 -- ---- sections
 
 abbrev pub read_start : Reader Start
-read_start = read_sized (done (read_groups >>= λ function. read_list read_groups >>= λ arguments. read_groups >>= λ results. give (started function arguments results)))
+read_start = read_sized (done (read_u32 >>= λ function. read_list read_u32 >>= λ arguments. read_u32 >>= λ results. give (started function arguments results)))
 
 pub start_lawful : (s : Start) → Lawful (start s) (λ fuel. read_start) s
 start_lawful s = sized_lawful (whole_lawful (then _ (u32_lawful s.function) (then _ (list_lawful u32_lawful s.arguments) (last (started s.function s.arguments) (u32_lawful s.results)))))
+
+pub start_sound : Sound start read_start
+start_sound = sized_sound (whole_sound {form = start_content} (then_sound _ u32_sound (λ function. then_sound _ (list_sound u32_sound) (λ arguments. last_sound (started function arguments) u32_sound
+    (λ results b rest r a q bytes p. (a, p, (b, q, r)))))))

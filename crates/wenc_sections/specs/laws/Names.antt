@@ -3,8 +3,8 @@ use Rattle.std.proofs.Common.{◌≡◌, ℕ, List, [], ◌∷◌, ◌++◌, len
 use Rattle.wenc_base.specs.Forms.{AreBytes}
 use Rattle.wenc_base.specs.Holder.{Held, held_text, Contains}
 use Rattle.wenc_base.specs.Names.{Named, named_text}
-use Rattle.wenc_base.specs.laws.Forms.{read_name, name_lawful, read_sized, sized_lawful}
-use Rattle.wenc_base.specs.laws.Lawful.{Lawful, Reader, ◌>>=◌, give, nowhere, choose, done, go_on, row, row_byte, then, last, then_whole, whole_lawful, raw_lawful}
+use Rattle.wenc_base.specs.laws.Forms.{read_name, name_lawful, read_sized, sized_lawful, read_bytes, bytes_lawful}
+use Rattle.wenc_base.specs.laws.Lawful.{Lawful, Reader, ◌>>=◌, give, nowhere, choose, done, go_on, row, row_byte, then, last, then_whole, whole_lawful}
 use Rattle.wenc_base.specs.laws.Names.{read_name_map, name_map_lawful, held_names}
 use Rattle.wenc_sections.specs.declared.names.Sort.{Sort}
 use Rattle.wenc_sections.specs.declared.names.Sort.TheVariants.{CoreFunc, CoreTable, CoreMemory, CoreGlobal, CoreTag, CoreType, CoreModule, CoreInstance, Func, Value, «Type» as TypeSort, Component, Instance}
@@ -73,7 +73,7 @@ held_subsection sort held names holds = rw (held_names held names holds) refl
 -- ---- the section
 
 abbrev pub read_names_section : Reader (List ℕ)
-read_names_section = read_sized (λ content. go_on (read_name content) (λ label bytes. Some bytes))
+read_names_section = read_sized (λ content. go_on (read_name content) (λ label. read_bytes (λ bytes. bytes)))
 
 pub names_section_lawful : (bytes : List ℕ) → Lawful (names_section bytes) (λ fuel. read_names_section) bytes
-names_section_lawful bytes = sized_lawful (then_whole _ (name_lawful names_label) (raw_lawful AreBytes bytes (λ bytes. bytes)))
+names_section_lawful bytes = sized_lawful (then_whole _ (name_lawful names_label) (bytes_lawful (λ bytes. bytes) bytes))

@@ -3,7 +3,7 @@ use Rattle.std.proofs.Common.{ℕ, zero, suc, Bool, true, false, List, [], ◌�
 use Rattle.std.specs.List.{flat_map}
 use Rattle.wenc_base.specs.laws.Forms.{list_lawful, read_option, option_lawful}
 use Rattle.wenc_base.specs.laws.Lawful.{Lawful, Reader, ◌>>=◌, give, nowhere, choose, row, then, last, deeper, nothing_lawful}
-use Rattle.wenc_base.specs.laws.Numbers.{read_groups, u32_lawful}
+use Rattle.wenc_base.specs.laws.Numbers.{read_u32, u32_lawful}
 use Rattle.wenc_base.specs.laws.Types.{read_val_type, val_type_lawful}
 use Rattle.wenc_parts.specs.laws.Aliases.{read_alias, alias_lawful}
 use Rattle.wenc_parts.specs.laws.Imports.{read_extern_name, extern_name_lawful, read_type_reference, type_reference_lawful}
@@ -42,9 +42,9 @@ component_times read (suc n) = read_component_declaration read >>= λ d. compone
 
 abbrev pub type_rows : Reader TypeOf → List (ℕ × Reader TypeOf)
 type_rows read =
-    (0x41, read_groups >>= λ n. component_times read n >>= λ ds. give (ComponentType ds)) ∷
-    (0x42, read_groups >>= λ n. instance_times read n >>= λ ds. give (InstanceType ds)) ∷
-    (0x3f, read_val_type >>= λ rep. read_option read_groups >>= λ dtor. give (ResourceType rep dtor)) ∷ []
+    (0x41, read_u32 >>= λ n. component_times read n >>= λ ds. give (ComponentType ds)) ∷
+    (0x42, read_u32 >>= λ n. instance_times read n >>= λ ds. give (InstanceType ds)) ∷
+    (0x3f, read_val_type >>= λ rep. read_option read_u32 >>= λ dtor. give (ResourceType rep dtor)) ∷ []
 
 abbrev pub later_rows : Reader TypeOf → List (ℕ × Reader TypeOf)
 later_rows read = function_rows FunctionType ++ type_rows read

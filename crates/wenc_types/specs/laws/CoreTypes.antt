@@ -22,12 +22,14 @@ use Rattle.wenc_base.specs.Holder.{held_text}
 use Rattle.wenc_base.specs.declared.fault.Fault.{Fault}
 use Rattle.wenc_base.specs.declared.imports.EntityType.{EntityType}
 use Rattle.wenc_base.specs.laws.Causes.{seen_cause}
-use Rattle.wenc_base.specs.laws.Composites.{read_extension, extension_lawful, sub_of, final_rows, final_row, read_types, types_lawful, read_group, group_lawful, group_free, same_params, same_results, same_element, same_fields}
+use Rattle.wenc_base.specs.laws.Composites.{read_extension, extension_lawful, extension_sound, sub_of, final_rows, final_row, final_rows_sound, read_types, types_lawful, types_sound, read_closed, read_group, group_lawful, group_sound, group_free, same_params, same_results, same_element, same_fields}
 use Rattle.wenc_base.specs.laws.Delimited.{name_free, pair_cause_free, first_free, second_free, list_text_of, list_free}
-use Rattle.wenc_base.specs.laws.Entities.{read_entity_type, entity_type_lawful}
-use Rattle.wenc_base.specs.laws.Forms.{read_list, list_lawful, read_name, name_lawful}
+use Rattle.wenc_base.specs.laws.Entities.{read_entity_type, entity_type_lawful, entity_type_sound}
+use Rattle.wenc_base.specs.laws.Forms.{read_list, list_lawful, list_sound, read_name, name_lawful, name_sound}
 use Rattle.wenc_base.specs.laws.Lawful.{Lawful, Reader, ◌>>=◌, give, nowhere, choose, row, then, last}
-use Rattle.wenc_base.specs.laws.Numbers.{read_groups, u32_lawful}
+use Rattle.wenc_base.specs.laws.Sound.{Sound, behind, RowsAreSound, both_tables, last_sound, then_sound, nowhere_sound, choose_sound}
+use Rattle.wenc_base.specs.Piece.{Form, Wide, ◌▸◌}
+use Rattle.wenc_base.specs.laws.Numbers.{read_u32, u32_lawful, u32_sound}
 use Rattle.wenc_types.specs.CoreTypes.{ModuleDeclaration, Import, Defined, Outer, Export, module_declaration, module_type, CoreType, Grouped, Module, core_type}
 use Rattle.wenc_types.specs.CoreTypeTrees.{core_type_cause, module_declaration_view, core_type_view}
 use Rattle.wenc_types.specs.ModuleTypes.{declaration_cause, Declared, Declares}
@@ -42,7 +44,7 @@ abbrev pub declaration_rows : {A : Type 0} → (ModuleDeclaration → A) → Lis
 declaration_rows make =
     (0x00, read_name >>= λ from. read_name >>= λ name. read_entity_type >>= λ ty. give (make (Import from name ty))) ∷
     (0x01, read_group >>= λ g. give (make (Defined g))) ∷
-    (0x02, choose ((0x10, choose ((0x01, read_groups >>= λ count. read_groups >>= λ number. give (make (Outer count number))) ∷ []) nowhere) ∷ []) nowhere) ∷
+    (0x02, choose ((0x10, choose ((0x01, read_u32 >>= λ count. read_u32 >>= λ number. give (make (Outer count number))) ∷ []) nowhere) ∷ []) nowhere) ∷
     (0x03, read_name >>= λ name. read_entity_type >>= λ ty. give (make (Export name ty))) ∷ []
 
 -- a declaration, where other rows may follow in the table
@@ -55,11 +57,29 @@ declaration_row make rows other (Outer count number) =
     row _ _ 0x02 (row _ _ 0x10 (row _ _ 0x01 (then _ (u32_lawful count) (last (λ n. make (Outer count n)) (u32_lawful number)))))
 declaration_row make rows other (Export name ty) = row _ _ 0x03 (then _ (name_lawful name) (last (λ t. make (Export name t)) (entity_type_lawful ty)))
 
+pub module_declaration_rows_sound : RowsAreSound module_declaration (declaration_rows (λ d. d))
+module_declaration_rows_sound = (
+  then_sound _ name_sound (λ from. then_sound _ name_sound (λ name. last_sound (Import from name) entity_type_sound (λ ty b rest r a q bytes p. (bytes, refl, (a, p, (b, q, r)))))),
+  (
+    last_sound Defined group_sound (λ g bytes rest r. (bytes, refl, r)),
+    (
+      choose_sound _ _ (
+        choose_sound _ _ (then_sound _ u32_sound (λ count. last_sound (Outer count) u32_sound (λ n middle rest r bytes p. (_, refl, (_, refl, (bytes, refl, (middle, p, r)))))), tt) nowhere_sound,
+        tt,
+      ) nowhere_sound,
+      (then_sound _ name_sound (λ name. last_sound (Export name) entity_type_sound (λ ty middle rest r bytes p. (bytes, refl, (middle, p, r)))), tt),
+    ),
+  ),
+)
+
 abbrev pub read_module_declaration : Reader ModuleDeclaration
 read_module_declaration = choose (declaration_rows (λ d. d)) nowhere
 
 pub module_declaration_lawful : (d : ModuleDeclaration) → Lawful (module_declaration d) (λ fuel. read_module_declaration) d
 module_declaration_lawful d = declaration_row (λ e. e) (λ fuel. []) _ d
+
+pub module_declaration_sound : Sound module_declaration read_module_declaration
+module_declaration_sound = choose_sound _ _ module_declaration_rows_sound nowhere_sound
 
 abbrev pub read_declarations : {A : Type 0} → (List ModuleDeclaration → A) → Reader A
 read_declarations make = read_list read_module_declaration >>= λ ds. give (make ds)
@@ -112,6 +132,19 @@ read_core_type = choose (core_type_rows (λ t. t)) nowhere
 
 pub core_type_lawful : (t : CoreType) → Lawful (core_type t) (λ fuel. read_core_type) t
 core_type_lawful t = core_type_row (λ u. u) (λ fuel. []) _ t
+
+-- ---- what is found is read
+
+open_sound : {A : Type 0} (form : Form A) (make : Sub → A)
+    → ((supertype : Option ℕ) (c : Composite) (bytes rest : List ℕ) → (sub_type_of false supertype c).Reads Wide bytes rest → (form (make (sub_of false supertype c))).Reads Wide (0x00 ∷ bytes) rest) → Sound (behind 0x00 form) (read_open make)
+open_sound form make k = choose_sound _ _ (extension_sound (behind 0x00 form) 0x50 (λ supertype c. make (sub_of false supertype c)) k, tt) nowhere_sound
+
+pub core_type_sound : Sound core_type read_core_type
+core_type_sound = choose_sound _ _ (both_tables core_type (standing_rows Grouped) ((0x50, read_declarations (λ ds. Module ds)) ∷ [])
+    (both_tables core_type (final_rows (λ s. Grouped (Single s))) ((0x4e, read_types Grouped) ∷ (0x00, read_open (λ s. Grouped (Single s))) ∷ []) (final_rows_sound core_type (λ s. Grouped (Single s)) (λ supertype c bytes rest r. r)) (
+      types_sound core_type 0x4e Grouped (λ types bytes rest r. r),
+      (open_sound core_type (λ s. Grouped (Single s)) (λ supertype c bytes rest r. (bytes, refl, r)), tt),
+    )) (last_sound Module (list_sound module_declaration_sound) (λ ds bytes rest r. (bytes, refl, r)), tt)) nowhere_sound
 
 -- ---- what can be encoded
 

@@ -1,10 +1,14 @@
 -- The laws of types of values that components define, and of types of functions.
 use Rattle.std.proofs.Common.{ℕ, Bool, true, false, List, [], ◌∷◌, ◌++◌, Option, refl}
-use Rattle.wenc_base.specs.laws.Forms.{read_list, list_lawful, read_name, name_lawful, read_option, option_lawful}
+use Rattle.wenc_base.specs.laws.Forms.{read_list, list_lawful, list_sound, read_name, name_lawful, name_sound, read_option, option_lawful, option_sound}
 use Rattle.wenc_base.specs.laws.Lawful.{Lawful, Reader, ◌>>=◌, give, nowhere, choose, row, row_byte, then, last}
-use Rattle.wenc_base.specs.laws.Numbers.{read_groups, u32_lawful}
+use Rattle.wenc_base.specs.laws.Sound.{Sound, behind, RowsAreSound, give_sound, last_sound, then_sound, nowhere_sound, choose_sound}
+use Rattle.wenc_base.specs.Forms.{list}
+use Rattle.wenc_base.specs.Piece.{Form, Wide, ◌⨾◌}
+use Rattle.wenc_parts.specs.Types.{result_list}
+use Rattle.wenc_base.specs.laws.Numbers.{read_u32, u32_lawful, u32_sound}
 use Rattle.wenc_parts.specs.declared.types.ComponentValType.{ComponentValType}
-use Rattle.wenc_parts.specs.laws.Types.{primitive_rows, primitive_row, read_value_type, value_type_lawful, read_result_list, result_list_lawful}
+use Rattle.wenc_parts.specs.laws.Types.{primitive_rows, primitive_row, primitive_rows_sound, read_value_type, value_type_lawful, value_type_sound, read_result_list, result_list_lawful, result_list_sound}
 use Rattle.wenc_types.specs.DefinedTypes.{Named, named, Case, case, Defined, Primitive, Record, Variant, ListOf, MapOf, FixedLengthList, Tuple, Flags, Enumeration, OptionOf, ResultOf, Own, Borrow, Future, Stream, defined_type, Function, function_type_of, function_type}
 
 -- ---- parts
@@ -17,6 +21,9 @@ read_named = read_name >>= λ name. read_value_type >>= λ ty. give (to_named na
 
 pub named_lawful : (f : Named) → Lawful (named f) (λ fuel. read_named) f
 named_lawful f = then _ (name_lawful f.name) (last (to_named f.name) (value_type_lawful f.ty))
+
+pub named_sound : Sound named read_named
+named_sound = then_sound _ name_sound (λ name. last_sound (to_named name) value_type_sound (λ ty middle rest r bytes p. (middle, p, r)))
 
 abbrev to_case : List ℕ → Option ComponentValType → Case
 to_case name ty = record { name = name; ty = ty }
@@ -31,6 +38,9 @@ read_case = read_name >>= λ name. read_option read_value_type >>= λ ty. read_e
 pub case_lawful : (c : Case) → Lawful (case c) (λ fuel. read_case) c
 case_lawful c = then _ (name_lawful c.name) (then _ (option_lawful value_type_lawful c.ty) (row_byte _ _ 0x00 (λ fuel rest. refl)))
 
+pub case_sound : Sound case read_case
+case_sound = then_sound _ name_sound (λ name. then_sound _ (option_sound value_type_sound) (λ ty. choose_sound _ _ (give_sound (to_case name ty) (λ rest b q bytes p. (b, p, (_, q, refl))), tt) nowhere_sound))
+
 -- ---- defined types
 
 abbrev pub defined_rows : {A : Type 0} → (Defined → A) → List (ℕ × Reader A)
@@ -43,9 +53,9 @@ defined_rows make =
     (0x6d, read_list read_name >>= λ names. give (make (Enumeration names))) ∷
     (0x6b, read_value_type >>= λ ty. give (make (OptionOf ty))) ∷
     (0x6a, read_option read_value_type >>= λ ok. read_option read_value_type >>= λ error. give (make (ResultOf ok error))) ∷
-    (0x69, read_groups >>= λ number. give (make (Own number))) ∷
-    (0x68, read_groups >>= λ number. give (make (Borrow number))) ∷
-    (0x67, read_value_type >>= λ element. read_groups >>= λ length. give (make (FixedLengthList element length))) ∷
+    (0x69, read_u32 >>= λ number. give (make (Own number))) ∷
+    (0x68, read_u32 >>= λ number. give (make (Borrow number))) ∷
+    (0x67, read_value_type >>= λ element. read_u32 >>= λ length. give (make (FixedLengthList element length))) ∷
     (0x66, read_option read_value_type >>= λ ty. give (make (Stream ty))) ∷
     (0x65, read_option read_value_type >>= λ ty. give (make (Future ty))) ∷
     (0x63, read_value_type >>= λ key. read_value_type >>= λ value. give (make (MapOf key value))) ∷ []
@@ -71,6 +81,49 @@ defined_row make rows other (Stream ty) = row _ _ 0x66 (last (λ t. make (Stream
 defined_row make rows other (Future ty) = row _ _ 0x65 (last (λ t. make (Future t)) (option_lawful value_type_lawful ty))
 defined_row make rows other (MapOf key value) = row _ _ 0x63 (then _ (value_type_lawful key) (last (λ t. make (MapOf key t)) (value_type_lawful value)))
 
+-- each row of a table of defined types
+pub defined_rows_sound : {A : Type 0} (form : Form A) (make : Defined → A) → ((t : Defined) (bytes rest : List ℕ) → (defined_type t).Reads Wide bytes rest → (form (make t)).Reads Wide bytes rest) → RowsAreSound form (defined_rows make)
+defined_rows_sound form make k = (
+  last_sound (λ fields. make (Record fields)) (list_sound named_sound) (λ v bytes rest r. k (Record v) _ rest (bytes, refl, r)),
+  (
+    last_sound (λ cases. make (Variant cases)) (list_sound case_sound) (λ v bytes rest r. k (Variant v) _ rest (bytes, refl, r)),
+    (
+      last_sound (λ t. make (ListOf t)) value_type_sound (λ v bytes rest r. k (ListOf v) _ rest (bytes, refl, r)),
+      (
+        last_sound (λ ts. make (Tuple ts)) (list_sound value_type_sound) (λ v bytes rest r. k (Tuple v) _ rest (bytes, refl, r)),
+        (
+          last_sound (λ ns. make (Flags ns)) (list_sound name_sound) (λ v bytes rest r. k (Flags v) _ rest (bytes, refl, r)),
+          (
+            last_sound (λ ns. make (Enumeration ns)) (list_sound name_sound) (λ v bytes rest r. k (Enumeration v) _ rest (bytes, refl, r)),
+            (
+              last_sound (λ t. make (OptionOf t)) value_type_sound (λ v bytes rest r. k (OptionOf v) _ rest (bytes, refl, r)),
+              (
+                then_sound _ (option_sound value_type_sound) (λ ok. last_sound (λ e. make (ResultOf ok e)) (option_sound value_type_sound) (λ e middle rest r bytes p. k (ResultOf ok e) _ rest (bytes, refl, (middle, p, r)))),
+                (
+                  last_sound (λ n. make (Own n)) u32_sound (λ v bytes rest r. k (Own v) _ rest (bytes, refl, r)),
+                  (
+                    last_sound (λ n. make (Borrow n)) u32_sound (λ v bytes rest r. k (Borrow v) _ rest (bytes, refl, r)),
+                    (
+                      then_sound _ value_type_sound (λ t. last_sound (λ n. make (FixedLengthList t n)) u32_sound (λ n middle rest r bytes p. k (FixedLengthList t n) _ rest (bytes, refl, (middle, p, r)))),
+                      (
+                        last_sound (λ t. make (Stream t)) (option_sound value_type_sound) (λ v bytes rest r. k (Stream v) _ rest (bytes, refl, r)),
+                        (
+                          last_sound (λ t. make (Future t)) (option_sound value_type_sound) (λ v bytes rest r. k (Future v) _ rest (bytes, refl, r)),
+                          (then_sound _ value_type_sound (λ key. last_sound (λ t. make (MapOf key t)) value_type_sound (λ t middle rest r bytes p. k (MapOf key t) _ rest (bytes, refl, (middle, p, r)))), tt),
+                        ),
+                      ),
+                    ),
+                  ),
+                ),
+              ),
+            ),
+          ),
+        ),
+      ),
+    ),
+  ),
+)
+
 abbrev pub read_defined : Reader Defined
 read_defined = choose (primitive_rows Primitive ++ defined_rows (λ t. t)) nowhere
 
@@ -95,6 +148,18 @@ function_row make rows other false params answer =
     row _ _ 0x40 (then _ (list_lawful named_lawful params) (last (λ a. make (to_function false params a)) (result_list_lawful answer)))
 function_row make rows other true params answer =
     row _ _ 0x43 (then _ (list_lawful named_lawful params) (last (λ a. make (to_function true params a)) (result_list_lawful answer)))
+
+signature_sound : {A : Type 0} (form : Form A) (is_async : Bool) (make : Function → A)
+    → ((params : List Named) (answer : Option ComponentValType) (bytes rest : List ℕ) → (list named params ⨾ result_list answer).Reads Wide bytes rest → (form (make (to_function is_async params answer))).Reads Wide bytes rest) → Sound form (read_signature is_async make)
+signature_sound form is_async make k =
+    then_sound _ (list_sound named_sound) (λ params. last_sound (λ answer. make (to_function is_async params answer)) result_list_sound (λ answer middle rest r bytes p. k params answer bytes rest (middle, p, r)))
+
+-- each row of a table of types of functions
+pub function_rows_sound : {A : Type 0} (form : Form A) (make : Function → A) → ((f : Function) (bytes rest : List ℕ) → (function_type f).Reads Wide bytes rest → (form (make f)).Reads Wide bytes rest) → RowsAreSound form (function_rows make)
+function_rows_sound form make k = (
+  signature_sound (behind 0x40 form) false make (λ params answer bytes rest r. k (to_function false params answer) _ rest (bytes, refl, r)),
+  (signature_sound (behind 0x43 form) true make (λ params answer bytes rest r. k (to_function true params answer) _ rest (bytes, refl, r)), tt),
+)
 
 abbrev pub read_function : Reader Function
 read_function = choose (function_rows (λ f. f)) nowhere
