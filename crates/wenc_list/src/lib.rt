@@ -1,0 +1,9 @@
+//! Reads finished components back. So far only what others are made of is read: numbers, texts, lists, options and heap
+//! types.
+#![tactic(auto)]
+
+mod core_types;
+mod decode;
+mod number;
+mod refusal;
+mod text;
