@@ -1,10 +1,10 @@
 //! Custom and raw sections.
 
 use crate::checks::alone;
-use hexed::text;
 use std::alloc::Global;
 use std::process::Abort;
 use std::test::Fail;
+use sweeping::hexed::text;
 use wenc_base::{CustomSection, Fault, RawCustomSection, RawSection};
 
 const CUSTOM: CustomSection<'static> = CustomSection {

@@ -1,10 +1,10 @@
 //! Sections over holders, with bytes that are kept in front.
 
 use crate::checks::are;
-use hexed::text;
 use std::alloc::{AllocError, Global};
 use std::process::Abort;
 use std::test::Fail;
+use sweeping::hexed::text;
 use wenc_base::{Fault, Holder};
 use wenc_parts::{Alias, ComponentOuterAliasKind};
 use wenc_sections::ComponentAliasSection;

@@ -2,10 +2,10 @@
 
 use crate::instances::LONG_CORE;
 use crate::named::Name;
-use hexed::text;
 use std::alloc::{AllocError, Global};
 use std::process::Abort;
 use std::test::Fail;
+use sweeping::hexed::text;
 use sweeping::{LARGE, NAME, sweep_encode};
 use wenc_base::{Delimited, ExportKind, Fault};
 use wenc_parts::{ComponentExportKind, ModuleArg, NameTree};

@@ -1,4 +1,4 @@
-//! Tests of `wenc_sections`: worked sections and components, each request for memory refused in turn, and a proved
+//! Tests of `wenc_types` and `wenc_sections`: worked types, sections and components, each request for memory refused in turn, and a proved
 //! caller.
 #![tactic(auto)]
 
@@ -9,7 +9,11 @@ mod by_hand;
 #[cfg(test)]
 mod checks;
 #[cfg(test)]
+mod component_types;
+#[cfg(test)]
 mod components;
+#[cfg(test)]
+mod core_types;
 #[cfg(test)]
 mod counted;
 #[cfg(test)]

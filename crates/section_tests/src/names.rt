@@ -1,11 +1,11 @@
 //! Sections of names.
 
 use crate::checks::{alone, are};
-use hexed::text;
 use refusing::Refusing;
 use std::alloc::Global;
 use std::process::Abort;
 use std::test::Fail;
+use sweeping::hexed::text;
 use sweeping::members::{Adds, Members, sweep_calls, sweep_clones};
 use sweeping::{LARGE, NAME, TEXT, sweep_encode, sweep_section};
 use wenc_base::{CustomSection, Encode, Fault, NameMap};

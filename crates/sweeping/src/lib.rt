@@ -4,6 +4,7 @@
 //! afterwards. Each function here says whether all this was so.
 #![tactic(auto)]
 
+pub mod hexed;
 pub mod members;
 
 use refusing::Refusing;

@@ -1,0 +1,275 @@
+//! The calls that add a canonical function, as values.
+
+use crate::canon::functions::Functions;
+use refusing::Refusing;
+use sweeping::members::Adds;
+use wenc_base::{Fault, ValType};
+use wenc_canon::{CanonicalFunctionSection, CanonicalOption};
+use wenc_parts::ComponentValType;
+
+fn lift(
+    to: &mut CanonicalFunctionSection<&Refusing>,
+    function: u32,
+    ty: u32,
+    options: &[CanonicalOption],
+) -> Result<(), Fault> {
+    to.lift(function, ty, options.iter().copied())
+}
+
+fn lower(
+    to: &mut CanonicalFunctionSection<&Refusing>,
+    function: u32,
+    options: &[CanonicalOption],
+) -> Result<(), Fault> {
+    to.lower(function, options.iter().copied())
+}
+
+fn task_return(
+    to: &mut CanonicalFunctionSection<&Refusing>,
+    ty: Option<ComponentValType>,
+    options: &[CanonicalOption],
+) -> Result<(), Fault> {
+    to.task_return(ty, options.iter().copied())
+}
+
+fn stream_read(
+    to: &mut CanonicalFunctionSection<&Refusing>,
+    ty: u32,
+    options: &[CanonicalOption],
+) -> Result<(), Fault> {
+    to.stream_read(ty, options.iter().copied())
+}
+
+fn stream_write(
+    to: &mut CanonicalFunctionSection<&Refusing>,
+    ty: u32,
+    options: &[CanonicalOption],
+) -> Result<(), Fault> {
+    to.stream_write(ty, options.iter().copied())
+}
+
+fn future_read(
+    to: &mut CanonicalFunctionSection<&Refusing>,
+    ty: u32,
+    options: &[CanonicalOption],
+) -> Result<(), Fault> {
+    to.future_read(ty, options.iter().copied())
+}
+
+fn future_write(
+    to: &mut CanonicalFunctionSection<&Refusing>,
+    ty: u32,
+    options: &[CanonicalOption],
+) -> Result<(), Fault> {
+    to.future_write(ty, options.iter().copied())
+}
+
+fn error_context_new(
+    to: &mut CanonicalFunctionSection<&Refusing>,
+    options: &[CanonicalOption],
+) -> Result<(), Fault> {
+    to.error_context_new(options.iter().copied())
+}
+
+fn error_context_debug_message(
+    to: &mut CanonicalFunctionSection<&Refusing>,
+    options: &[CanonicalOption],
+) -> Result<(), Fault> {
+    to.error_context_debug_message(options.iter().copied())
+}
+
+/// Functions that are lifted or lowered, and those of resources.
+#[derive(Clone, Copy)]
+pub enum Function<'a> {
+    Lift(u32, u32, &'a [CanonicalOption]),
+    Lower(u32, &'a [CanonicalOption]),
+    ResourceNew(u32),
+    ResourceDrop(u32),
+    ResourceRep(u32),
+}
+
+impl<'a, 'b> Adds<Functions<'a>> for Function<'b> {
+    fn add(&self, to: &mut Functions<'a>) -> Result<(), Fault> {
+        match self {
+            Function::Lift(function, ty, options) => lift(&mut to.0, *function, *ty, options),
+            Function::Lower(function, options) => lower(&mut to.0, *function, options),
+            Function::ResourceNew(ty) => to.0.resource_new(*ty),
+            Function::ResourceDrop(ty) => to.0.resource_drop(*ty),
+            Function::ResourceRep(ty) => to.0.resource_rep(*ty),
+        }
+    }
+}
+
+/// Those of tasks and subtasks.
+#[derive(Clone, Copy)]
+pub enum Task<'a> {
+    BackpressureInc,
+    BackpressureDec,
+    Return(Option<ComponentValType>, &'a [CanonicalOption]),
+    Cancel,
+    ContextGet(ValType, u32),
+    ContextSet(ValType, u32),
+    SubtaskDrop,
+    SubtaskCancel(bool),
+}
+
+impl<'a, 'b> Adds<Functions<'a>> for Task<'b> {
+    fn add(&self, to: &mut Functions<'a>) -> Result<(), Fault> {
+        match self {
+            Task::BackpressureInc => to.0.backpressure_inc(),
+            Task::BackpressureDec => to.0.backpressure_dec(),
+            Task::Return(ty, options) => task_return(&mut to.0, *ty, options),
+            Task::Cancel => to.0.task_cancel(),
+            Task::ContextGet(ty, slot) => to.0.context_get(*ty, *slot),
+            Task::ContextSet(ty, slot) => to.0.context_set(*ty, *slot),
+            Task::SubtaskDrop => to.0.subtask_drop(),
+            Task::SubtaskCancel(waits) => to.0.subtask_cancel(*waits),
+        }
+    }
+}
+
+/// Those of streams.
+#[derive(Clone, Copy)]
+pub enum Stream<'a> {
+    New(u32),
+    Read(u32, &'a [CanonicalOption]),
+    Write(u32, &'a [CanonicalOption]),
+    Forward(u32),
+    CancelRead(u32, bool),
+    CancelWrite(u32, bool),
+    DropReadable(u32),
+    DropWritable(u32),
+}
+
+impl<'a, 'b> Adds<Functions<'a>> for Stream<'b> {
+    fn add(&self, to: &mut Functions<'a>) -> Result<(), Fault> {
+        match self {
+            Stream::New(ty) => to.0.stream_new(*ty),
+            Stream::Read(ty, options) => stream_read(&mut to.0, *ty, options),
+            Stream::Write(ty, options) => stream_write(&mut to.0, *ty, options),
+            Stream::Forward(ty) => to.0.stream_forward(*ty),
+            Stream::CancelRead(ty, waits) => to.0.stream_cancel_read(*ty, *waits),
+            Stream::CancelWrite(ty, waits) => to.0.stream_cancel_write(*ty, *waits),
+            Stream::DropReadable(ty) => to.0.stream_drop_readable(*ty),
+            Stream::DropWritable(ty) => to.0.stream_drop_writable(*ty),
+        }
+    }
+}
+
+/// Those of futures.
+#[derive(Clone, Copy)]
+pub enum Future<'a> {
+    New(u32),
+    Read(u32, &'a [CanonicalOption]),
+    Write(u32, &'a [CanonicalOption]),
+    Forward(u32),
+    CancelRead(u32, bool),
+    CancelWrite(u32, bool),
+    DropReadable(u32),
+    DropWritable(u32),
+}
+
+impl<'a, 'b> Adds<Functions<'a>> for Future<'b> {
+    fn add(&self, to: &mut Functions<'a>) -> Result<(), Fault> {
+        match self {
+            Future::New(ty) => to.0.future_new(*ty),
+            Future::Read(ty, options) => future_read(&mut to.0, *ty, options),
+            Future::Write(ty, options) => future_write(&mut to.0, *ty, options),
+            Future::Forward(ty) => to.0.future_forward(*ty),
+            Future::CancelRead(ty, waits) => to.0.future_cancel_read(*ty, *waits),
+            Future::CancelWrite(ty, waits) => to.0.future_cancel_write(*ty, *waits),
+            Future::DropReadable(ty) => to.0.future_drop_readable(*ty),
+            Future::DropWritable(ty) => to.0.future_drop_writable(*ty),
+        }
+    }
+}
+
+/// Those of error contexts and of waitables.
+#[derive(Clone, Copy)]
+pub enum Waitable<'a> {
+    ErrorContextNew(&'a [CanonicalOption]),
+    ErrorContextDebugMessage(&'a [CanonicalOption]),
+    ErrorContextDrop,
+    SetNew,
+    SetWait(u32),
+    SetPoll(u32),
+    SetDrop,
+    Join,
+}
+
+impl<'a, 'b> Adds<Functions<'a>> for Waitable<'b> {
+    fn add(&self, to: &mut Functions<'a>) -> Result<(), Fault> {
+        match self {
+            Waitable::ErrorContextNew(options) => error_context_new(&mut to.0, options),
+            Waitable::ErrorContextDebugMessage(options) => {
+                error_context_debug_message(&mut to.0, options)
+            }
+            Waitable::ErrorContextDrop => to.0.error_context_drop(),
+            Waitable::SetNew => to.0.waitable_set_new(),
+            Waitable::SetWait(memory) => to.0.waitable_set_wait(*memory),
+            Waitable::SetPoll(memory) => to.0.waitable_set_poll(*memory),
+            Waitable::SetDrop => to.0.waitable_set_drop(),
+            Waitable::Join => to.0.waitable_join(),
+        }
+    }
+}
+
+/// Those of threads.
+#[derive(Clone, Copy)]
+pub enum Thread {
+    SpawnRef(u32),
+    SpawnIndirect(u32, u32),
+    AvailableParallelism,
+    Index,
+    NewIndirect(u32, u32),
+    ResumeLater,
+    Suspend,
+    Yield,
+    SuspendThenResume,
+    YieldThenResume,
+    SuspendThenPromote,
+    YieldThenPromote,
+}
+
+impl<'a> Adds<Functions<'a>> for Thread {
+    fn add(&self, to: &mut Functions<'a>) -> Result<(), Fault> {
+        match self {
+            Thread::SpawnRef(ty) => to.0.thread_spawn_ref(*ty),
+            Thread::SpawnIndirect(ty, table) => to.0.thread_spawn_indirect(*ty, *table),
+            Thread::AvailableParallelism => to.0.thread_available_parallelism(),
+            Thread::Index => to.0.thread_index(),
+            Thread::NewIndirect(ty, table) => to.0.thread_new_indirect(*ty, *table),
+            Thread::ResumeLater => to.0.thread_resume_later(),
+            Thread::Suspend => to.0.thread_suspend(),
+            Thread::Yield => to.0.thread_yield(),
+            Thread::SuspendThenResume => to.0.thread_suspend_then_resume(),
+            Thread::YieldThenResume => to.0.thread_yield_then_resume(),
+            Thread::SuspendThenPromote => to.0.thread_suspend_then_promote(),
+            Thread::YieldThenPromote => to.0.thread_yield_then_promote(),
+        }
+    }
+}
+
+/// Any of these calls.
+#[derive(Clone, Copy)]
+pub enum Call<'a> {
+    Function(Function<'a>),
+    Task(Task<'a>),
+    Stream(Stream<'a>),
+    Future(Future<'a>),
+    Waitable(Waitable<'a>),
+    Thread(Thread),
+}
+
+impl<'a, 'b> Adds<Functions<'a>> for Call<'b> {
+    fn add(&self, to: &mut Functions<'a>) -> Result<(), Fault> {
+        match self {
+            Call::Function(call) => call.add(to),
+            Call::Task(call) => call.add(to),
+            Call::Stream(call) => call.add(to),
+            Call::Future(call) => call.add(to),
+            Call::Waitable(call) => call.add(to),
+            Call::Thread(call) => call.add(to),
+        }
+    }
+}

@@ -1,0 +1,143 @@
+//! Options and slots.
+
+use crate::canon::calls::{Call, Function, Task};
+use crate::canon::rows::row;
+use refusing::Refusing;
+use std::alloc::Global;
+use std::process::Abort;
+use std::test::Fail;
+use sweeping::hexed::text;
+use sweeping::{LARGE, sweep_each};
+use wenc_base::{AbstractHeapType, Fault, HeapType, RefType, ValType};
+use wenc_canon::CanonicalOption;
+
+/// Each option, and its text: alone, and as the option of a row.
+const OPTIONS: &[(CanonicalOption, &str, &str)] = &[
+    (CanonicalOption::UTF8, "ee00", "0100000100"),
+    (CanonicalOption::UTF16, "ee01", "0100000101"),
+    (CanonicalOption::CompactUTF16, "ee02", "0100000102"),
+    (CanonicalOption::Memory(128), "ee038001", "01000001038001"),
+    (CanonicalOption::Realloc(128), "ee048001", "01000001048001"),
+    (
+        CanonicalOption::PostReturn(128),
+        "ee058001",
+        "01000001058001",
+    ),
+    (CanonicalOption::Async, "ee06", "0100000106"),
+    (CanonicalOption::Callback(128), "ee078001", "01000001078001"),
+    (CanonicalOption::CoreType(128), "ee088001", "01000001088001"),
+    (CanonicalOption::Gc, "ee09", "0100000109"),
+];
+
+/// The same with numbers of five bytes.
+const LARGE_OPTIONS: &[CanonicalOption] = &[
+    CanonicalOption::UTF8,
+    CanonicalOption::UTF16,
+    CanonicalOption::CompactUTF16,
+    CanonicalOption::Memory(LARGE),
+    CanonicalOption::Realloc(LARGE),
+    CanonicalOption::PostReturn(LARGE),
+    CanonicalOption::Async,
+    CanonicalOption::Callback(LARGE),
+    CanonicalOption::CoreType(LARGE),
+    CanonicalOption::Gc,
+];
+
+/// The option has this text.
+fn is_text(
+    rt: &impl Abort,
+    alloc: Global,
+    option: &CanonicalOption,
+    wanted: &str,
+) -> Result<(), Fault> {
+    let bytes = text(alloc, option)?;
+    assert!(rt; bytes.as_str() == wanted);
+    Ok(())
+}
+
+/// The row of a function that is lowered with these options.
+fn lowered(
+    rt: &impl Abort,
+    alloc: Global,
+    heap: &Refusing,
+    options: &[CanonicalOption],
+    wanted: &str,
+) -> Result<(), Fault> {
+    let call = Call::Function(Function::Lower(0, options));
+    row(rt, alloc, heap, call, wanted)
+}
+
+#[test]
+fn each_option_is_written(rt: HostRuntime) -> Result<(), Fail> {
+    let heap = Refusing::new(rt.alloc());
+    for (option, alone, wanted) in OPTIONS {
+        is_text(&rt, rt.alloc(), option, alone)?;
+        lowered(&rt, rt.alloc(), &heap, [*option].as_slice(), wanted)?;
+    }
+    Ok(())
+}
+
+#[test]
+fn options_are_swept(rt: HostRuntime) -> Result<(), Fail> {
+    assert!(rt; sweep_each(rt.alloc(), LARGE_OPTIONS)?);
+    Ok(())
+}
+
+const FUNC: HeapType = HeapType::Abstract(AbstractHeapType::Func);
+
+const NULLABLE_FUNC: RefType = RefType {
+    nullable: true,
+    heap_type: FUNC,
+};
+
+const SOME_FUNC: RefType = RefType {
+    nullable: false,
+    heap_type: FUNC,
+};
+
+const NULLABLE_ANY: RefType = RefType {
+    nullable: true,
+    heap_type: HeapType::Abstract(AbstractHeapType::Any),
+};
+
+const NULLABLE_CONCRETE: RefType = RefType {
+    nullable: true,
+    heap_type: HeapType::Concrete(64),
+};
+
+const TYPES: &[(ValType, &str, &str)] = &[
+    (ValType::I64, "0a7e8001", "0b7e8001"),
+    (ValType::F32, "0a7d8001", "0b7d8001"),
+    (ValType::F64, "0a7c8001", "0b7c8001"),
+    (ValType::V128, "0a7b8001", "0b7b8001"),
+    (ValType::Ref(NULLABLE_FUNC), "0a708001", "0b708001"),
+    (ValType::Ref(SOME_FUNC), "0a64708001", "0b64708001"),
+    (ValType::Ref(NULLABLE_ANY), "0a636e8001", "0b636e8001"),
+    (
+        ValType::Ref(NULLABLE_CONCRETE),
+        "0a63c0008001",
+        "0b63c0008001",
+    ),
+];
+
+/// The rows that get and set a slot of this type.
+fn slot(
+    rt: &impl Abort,
+    alloc: Global,
+    heap: &Refusing,
+    ty: ValType,
+    get: &str,
+    set: &str,
+) -> Result<(), Fault> {
+    row(rt, alloc, heap, Call::Task(Task::ContextGet(ty, 128)), get)?;
+    row(rt, alloc, heap, Call::Task(Task::ContextSet(ty, 128)), set)
+}
+
+#[test]
+fn slots_have_core_value_types(rt: HostRuntime) -> Result<(), Fail> {
+    let heap = Refusing::new(rt.alloc());
+    for (ty, get, set) in TYPES {
+        slot(&rt, rt.alloc(), &heap, *ty, get, set)?;
+    }
+    Ok(())
+}

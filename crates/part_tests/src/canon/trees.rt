@@ -1,0 +1,134 @@
+//! The functions that have options, as trees: their texts, and each request for memory refused in turn.
+
+use std::alloc::{AllocError, Global};
+use std::process::Abort;
+use std::test::Fail;
+use sweeping::hexed::text;
+use sweeping::sweep_encode;
+use wenc_base::Fault;
+use wenc_canon::{CanonTree, CanonicalOption};
+use wenc_parts::{ComponentValType, PrimitiveValType};
+
+/// A function that has options, without them.
+#[derive(Clone, Copy)]
+enum WithOptions {
+    Lift(u32, u32),
+    Lower(u32),
+    TaskReturn(Option<ComponentValType>),
+    StreamRead(u32),
+    StreamWrite(u32),
+    FutureRead(u32),
+    FutureWrite(u32),
+    ErrorContextNew,
+    ErrorContextDebugMessage,
+}
+
+impl WithOptions {
+    /// The function with these options.
+    fn tree(self, alloc: Global, options: &[CanonicalOption]) -> Result<CanonTree, AllocError> {
+        let options = options.to_vec(alloc)?;
+        Ok(match self {
+            WithOptions::Lift(core_func, ty) => CanonTree::Lift {
+                core_func,
+                ty,
+                options,
+            },
+            WithOptions::Lower(func) => CanonTree::Lower { func, options },
+            WithOptions::TaskReturn(ty) => CanonTree::TaskReturn { ty, options },
+            WithOptions::StreamRead(ty) => CanonTree::StreamRead { ty, options },
+            WithOptions::StreamWrite(ty) => CanonTree::StreamWrite { ty, options },
+            WithOptions::FutureRead(ty) => CanonTree::FutureRead { ty, options },
+            WithOptions::FutureWrite(ty) => CanonTree::FutureWrite { ty, options },
+            WithOptions::ErrorContextNew => CanonTree::ErrorContextNew(options),
+            WithOptions::ErrorContextDebugMessage => {
+                CanonTree::ErrorContextDebugMessage(options)
+            }
+        })
+    }
+}
+
+const STRING: ComponentValType = ComponentValType::Primitive(PrimitiveValType::String);
+
+/// Each of them, with what stands in front of its options and behind them.
+const FUNCTIONS: &[(WithOptions, &str, &str)] = &[
+    (WithOptions::Lift(128, 200), "00008001", "c801"),
+    (WithOptions::Lower(128), "01008001", ""),
+    (WithOptions::TaskReturn(None), "090100", ""),
+    (WithOptions::TaskReturn(Some(STRING)), "090073", ""),
+    (
+        WithOptions::TaskReturn(Some(ComponentValType::Type(64))),
+        "0900c000",
+        "",
+    ),
+    (WithOptions::StreamRead(128), "0f8001", ""),
+    (WithOptions::StreamWrite(128), "108001", ""),
+    (WithOptions::FutureRead(128), "168001", ""),
+    (WithOptions::FutureWrite(128), "178001", ""),
+    (WithOptions::ErrorContextNew, "1c", ""),
+    (WithOptions::ErrorContextDebugMessage, "1d", ""),
+];
+
+/// Options, with their list.
+const OPTIONS: &[(&[CanonicalOption], &str)] = &[
+    (&[], "00"),
+    (&[CanonicalOption::Gc], "0109"),
+    (
+        &[CanonicalOption::UTF8, CanonicalOption::Memory(0)],
+        "02000300",
+    ),
+    (EACH, "0a0001020380010480010580010607800108800109"),
+];
+
+const EACH: &[CanonicalOption] = &[
+    CanonicalOption::UTF8,
+    CanonicalOption::UTF16,
+    CanonicalOption::CompactUTF16,
+    CanonicalOption::Memory(128),
+    CanonicalOption::Realloc(128),
+    CanonicalOption::PostReturn(128),
+    CanonicalOption::Async,
+    CanonicalOption::Callback(128),
+    CanonicalOption::CoreType(128),
+    CanonicalOption::Gc,
+];
+
+/// What follows these digits, or what is no text of digits.
+fn behind<'a>(text: &'a str, front: &str) -> &'a str {
+    text.strip_prefix(front).unwrap_or("?")
+}
+
+/// The tree has the text of these three, and is swept.
+fn check(
+    rt: &impl Abort,
+    alloc: Global,
+    tree: &CanonTree,
+    wanted: (&str, &str, &str),
+) -> Result<(), Fault> {
+    let bytes = text(alloc, tree)?;
+    let rest = behind(behind(bytes.as_str(), "ee"), wanted.0);
+    assert!(rt; behind(rest, wanted.1) == wanted.2);
+    assert!(rt; sweep_encode(alloc, tree)?);
+    Ok(())
+}
+
+/// The same of the function with these options.
+fn with_options(
+    rt: &impl Abort,
+    alloc: Global,
+    function: WithOptions,
+    options: &[CanonicalOption],
+    wanted: (&str, &str, &str),
+) -> Result<(), Fault> {
+    let tree = function.tree(alloc, options)?;
+    check(rt, alloc, &tree, wanted)
+}
+
+#[test]
+fn trees_with_options(rt: HostRuntime) -> Result<(), Fail> {
+    for (function, front, back) in FUNCTIONS {
+        for (options, list) in OPTIONS {
+            with_options(&rt, rt.alloc(), *function, options, (front, list, back))?;
+        }
+    }
+    Ok(())
+}

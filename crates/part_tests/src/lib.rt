@@ -1,0 +1,12 @@
+//! Tests of `wenc_base`, `wenc_parts` and `wenc_canon`, and a stranger's type for the tests above.
+#![tactic(auto)]
+
+#[cfg(test)]
+mod base;
+#[cfg(test)]
+mod canon;
+pub mod own;
+#[cfg(test)]
+mod parts;
+#[cfg(test)]
+mod swept;

@@ -1,0 +1,63 @@
+ghost use Rattle.std.specs.Prelude.{◌≡◌, ◌++◌, OnOk, refl};
+ghost use Rattle.wenc_base.specs.Forms.{list_text, option_text};
+ghost use Rattle.wenc_base.specs.laws.Delimited.{itself};
+ghost use Rattle.part_tests.specs.Own.{light};
+
+use std::alloc::Allocator;
+use wenc_base::{Delimited, DelimitedEq, Encode, Fault};
+
+/// A type that the crates below don't know, with a byte for each value.
+#[derive(Clone, Copy, Debug, PartialEq, Eq)]
+pub enum Light {
+    Red,
+    Green,
+}
+
+impl Encode for Light {
+    ghost text = { λ l. (light l).text };
+
+    ghost cause = { λ _ _. ⊥ };
+
+    fn encode<A: Allocator>(&self, sink: &mut Vec<u8, A>) -> Result<(), Fault> {
+        let byte = match self {
+            Light::Red => 0x72,
+            Light::Green => 0x67,
+        };
+        sink.push(byte)?;
+        Ok(())
+    }
+}
+
+impl Delimited for Light {
+    ghost use Rattle.part_tests.specs.Own.{read_light, light_lawful};
+    ghost use Rattle.part_tests.specs.declared.own.Light.{Light as Seen'};
+
+    ghost Seen = { Seen' };
+
+    ghost seen = { λ l. l };
+
+    ghost form = { light };
+
+    fn belongs(&self) {}
+
+    ghost readable = { ((λ fuel. read_light), light_lawful) };
+
+    ghost text_of = { λ l. refl };
+
+    ghost free = { λ l h fault cause. cause };
+}
+
+impl DelimitedEq for Light {
+    ghost alike = { itself _ };
+}
+
+/// Appends a list of values, and then one more or none.
+pub fn write_all<T: Delimited + Drop, A: Allocator>(
+    values: &[T],
+    last: Option<T>,
+    sink: &mut Vec<u8, A>,
+) -> Result<(), Fault>
+    ensures { OnOk result (sink.new.items ≡ sink.old.items ++ list_text T.text values.now ++ option_text T.text last) }
+{
+    (values, last).encode(sink)
+}

@@ -1,0 +1,11 @@
+//! Tests of `wenc_parts` and of values of `wenc_base`: worked parts, and a stranger's type.
+
+mod aliases;
+mod equality;
+mod kinds;
+mod names;
+mod own_values;
+mod section_ids;
+mod texts;
+mod types;
+mod values;

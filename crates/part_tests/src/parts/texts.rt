@@ -1,0 +1,24 @@
+use std::alloc::Global;
+use std::process::Abort;
+use sweeping::hexed::text;
+use wenc_base::{Encode, Fault};
+
+/// A text was made, and is this one.
+pub fn is(rt: &impl Abort, given: Result<String, Fault>, wanted: &str) {
+    match given {
+        Ok(given) => assert_eq!(rt; given.as_str(), wanted),
+        Err(_) => assert!(rt; false, "no memory"),
+    }
+}
+
+/// The value appends this.
+pub fn text_is<T: Encode>(rt: &impl Abort, alloc: Global, value: &T, wanted: &str) {
+    is(rt, text(alloc, value), wanted);
+}
+
+/// Each value appends what stands beside it.
+pub fn texts<T: Encode>(rt: &impl Abort, alloc: Global, rows: &[(T, &str)]) {
+    for (value, wanted) in rows {
+        text_is(rt, alloc, value, wanted);
+    }
+}

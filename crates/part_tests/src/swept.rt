@@ -1,0 +1,44 @@
+//! Each request for memory of the calls of `wenc_base` and `wenc_parts` is refused in turn; and tests of the allocator
+//! that refuses.
+
+mod composites;
+mod entities;
+mod extern_names;
+mod holders;
+mod lists;
+mod modules;
+mod names;
+mod parts;
+mod pieces;
+mod producers;
+mod refused;
+mod types;
+mod unfinished;
+mod values;
+
+use std::alloc::Global;
+use std::process::Abort;
+use sweeping::{Appends, sweep, sweep_encode};
+use wenc_base::{Encode, Fault};
+
+/// A sweep found all as it should be.
+pub fn is_well(rt: &impl Abort, outcome: Result<bool, Fault>) {
+    assert!(rt; outcome == Ok(true));
+}
+
+/// The requests of a call are refused in turn.
+pub fn check_call<C: Appends>(rt: &impl Abort, alloc: Global, call: &C) {
+    is_well(rt, sweep(alloc, call));
+}
+
+/// Those of a value's `encode`.
+pub fn check<E: Encode>(rt: &impl Abort, alloc: Global, value: &E) {
+    is_well(rt, sweep_encode(alloc, value));
+}
+
+/// The same of each of these values.
+pub fn check_each<E: Encode>(rt: &impl Abort, alloc: Global, values: &[E]) {
+    for value in values {
+        check(rt, alloc, value);
+    }
+}
