@@ -4,7 +4,7 @@ use refusing::Refusing;
 use std::alloc::Global;
 use std::process::Abort;
 use sweeping::members::{Adds, Members};
-use wenc_base::{Fault, Module, Section};
+use wenc_base::{Encode, Fault, Module, Section};
 use wenc_parts::ComponentSection;
 use wenc_sections::Component;
 
@@ -12,6 +12,46 @@ use wenc_sections::Component;
 pub fn are(rt: &impl Abort, alloc: Global, bytes: &[u8], wanted: &str) -> Result<(), Fault> {
     let text = hex::encode(alloc, bytes)?;
     assert!(rt; text.as_str() == wanted);
+    Ok(())
+}
+
+/// The text begins with this lead, and goes on with what is wanted.
+pub fn is_behind(rt: &impl Abort, text: &str, lead: &str, wanted: &str) {
+    assert!(rt; text.strip_prefix(lead) == Some(wanted));
+}
+
+/// The call was refused since something is unfinished.
+pub fn is_refused(rt: &impl Abort, outcome: Result<(), Fault>) {
+    assert!(rt; outcome == Err(Fault::Unfinished));
+}
+
+/// What it was called for wasn't begun, or wasn't copied, for this reason.
+pub fn is_not_begun(rt: &impl Abort, given: Option<Fault>, wanted: Fault) {
+    assert!(rt; given == Some(wanted));
+}
+
+/// What `encode` answers.
+fn encode(value: &impl Encode, sink: &mut Vec<u8>) -> Result<(), Fault> {
+    value.encode(sink)
+}
+
+/// `encode` is refused, and leaves the sink as it was.
+pub fn is_not_encoded(rt: &impl Abort, alloc: Global, value: &impl Encode) -> Result<(), Fault> {
+    let mut sink = [0x99].to_vec(alloc)?;
+    is_refused(rt, encode(value, &mut sink));
+    assert!(rt; sink.as_slice() == [0x99].as_slice());
+    Ok(())
+}
+
+/// The value's text is this.
+pub fn is_text(
+    rt: &impl Abort,
+    alloc: Global,
+    value: &impl Encode,
+    wanted: &str,
+) -> Result<(), Fault> {
+    let text = sweeping::hexed::text(alloc, value)?;
+    is_behind(rt, text.as_str(), "ee", wanted);
     Ok(())
 }
 
@@ -24,7 +64,7 @@ fn behind(
     wanted: &str,
 ) -> Result<(), Fault> {
     let text = hex::encode(alloc, bytes)?;
-    assert!(rt; text.as_str().strip_prefix(header) == Some(wanted));
+    is_behind(rt, text.as_str(), header, wanted);
     Ok(())
 }
 

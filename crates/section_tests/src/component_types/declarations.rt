@@ -1,7 +1,8 @@
 //! Component types and instance types: their declarations, and what they count.
 
+use crate::checks::is_text;
 use crate::component_types::calls::Call;
-use crate::component_types::checks::{STRING, has_counts, is_section, is_text};
+use crate::component_types::checks::{STRING, has_counts, is_section};
 use crate::component_types::declaring::{Declaration, Kind, declare, import};
 use std::alloc::Global;
 use std::process::Abort;

@@ -1,7 +1,8 @@
 //! Sections of types that are finished.
 
+use crate::checks::{holds, put};
 use crate::component_types::calls::Call;
-use crate::component_types::checks::{STRING, component_text, is_behind, is_section, put};
+use crate::component_types::checks::{STRING, is_section};
 use std::alloc::Global;
 use std::process::Abort;
 use std::test::Fail;
@@ -153,24 +154,12 @@ fn put_import(component: &mut Component, alloc: Global) -> Result<(), Fault> {
     put(component, &imports)
 }
 
-/// The text of a component that has these bytes behind its header.
-fn is_component(
-    rt: &impl Abort,
-    alloc: Global,
-    component: &Component,
-    wanted: &str,
-) -> Result<(), Fault> {
-    let text = component_text(alloc, component)?;
-    is_behind(rt, text.as_str(), "0061736d0d000100", wanted);
-    Ok(())
-}
-
 #[test]
 fn an_imported_function(rt: HostRuntime) -> Result<(), Fail> {
     let mut component = Component::new(rt.alloc())?;
     put_function(&mut component, rt.alloc())?;
     put_import(&mut component, rt.alloc())?;
     let wanted = "070b01400201617301627300730a06010001660100";
-    is_component(&rt, rt.alloc(), &component, wanted)?;
+    holds(&rt, rt.alloc(), &component, wanted)?;
     Ok(())
 }

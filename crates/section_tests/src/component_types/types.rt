@@ -1,7 +1,8 @@
 //! Each call that writes a type of values, a resource or a function, with each thing that can be borrowed.
 
+use crate::checks::is_text;
 use crate::component_types::calls::Call;
-use crate::component_types::checks::{INDEXED, STRING, has_counts, is_section, is_text};
+use crate::component_types::checks::{INDEXED, STRING, has_counts, is_section};
 use crate::component_types::declaring::Kind;
 use std::alloc::Global;
 use std::process::Abort;

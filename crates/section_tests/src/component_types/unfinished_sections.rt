@@ -1,6 +1,7 @@
 //! Sections in which a type is being written, which is given up and done again.
 
-use crate::component_types::checks::{is_not_begun, is_not_encoded, is_refused, is_section, put};
+use crate::checks::{is_not_begun, is_not_encoded, is_refused, put};
+use crate::component_types::checks::is_section;
 use crate::component_types::declaring::Kind;
 use std::alloc::Global;
 use std::process::Abort;
@@ -45,9 +46,9 @@ fn size(component: &Component) -> usize {
 
 /// Nothing is begun in the section.
 fn begins_nothing(rt: &impl Abort, section: &mut ComponentTypeSection) {
-    is_not_begun(rt, no_type(section));
-    is_not_begun(rt, no_function(section));
-    is_not_begun(rt, no_defined_type(section));
+    is_not_begun(rt, no_type(section), Fault::Unfinished);
+    is_not_begun(rt, no_function(section), Fault::Unfinished);
+    is_not_begun(rt, no_defined_type(section), Fault::Unfinished);
 }
 
 /// Nothing is added to the section.

@@ -1,9 +1,8 @@
 //! Component types and instance types in which a type is being written, which is given up and done again.
 
+use crate::checks::{is_not_begun, is_not_encoded, is_refused, is_text};
 use crate::component_types::calls::Call;
-use crate::component_types::checks::{
-    has_counts, is_not_begun, is_not_encoded, is_refused, is_section, is_text,
-};
+use crate::component_types::checks::{has_counts, is_section};
 use crate::component_types::declaring::{Kind, import};
 use crate::component_types::unfinished_sections::is_given_up;
 use std::alloc::Global;
@@ -50,8 +49,8 @@ fn copy<K: Kind>(ty: &Declarations<K>) -> Result<Declarations<K>, Fault> {
 fn declares_nothing<K: Kind>(rt: &impl Abort, ty: &mut Declarations<K>) {
     is_refused(rt, K::alias(ty, OUTER));
     is_refused(rt, K::export(ty, "f", FUNC));
-    is_not_begun(rt, no_type(ty));
-    is_not_begun(rt, no_core_type(ty));
+    is_not_begun(rt, no_type(ty), Fault::Unfinished);
+    is_not_begun(rt, no_core_type(ty), Fault::Unfinished);
 }
 
 /// Nothing is added to the section, which is left as it was. What was lent is left unfinished.

@@ -1,7 +1,8 @@
 //! Each call of an encoder, with each thing that it can borrow, and with guards and without.
 
+use crate::checks::is_behind;
 use crate::core_types::calls::{Call, Lends};
-use crate::core_types::checks::{is_behind, is_section, is_type};
+use crate::core_types::checks::{is_section, is_type};
 use crate::core_types::making::{
     I8, I16, I32, add, add_function, array, func_type, function, pair, structure,
 };

@@ -1,7 +1,7 @@
 //! Sweeps of the calls of a module type, and of the encoder that it lends itself to.
 
+use crate::checks::is_not_begun;
 use crate::core_types::calls::Call;
-use crate::core_types::checks::is_not_begun;
 use crate::core_types::declaring::Declaration;
 use crate::core_types::swept_types::{CALLS, Types};
 use refusing::Refusing;

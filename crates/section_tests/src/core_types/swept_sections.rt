@@ -1,7 +1,8 @@
 //! Sweeps of the calls of a section of core types, and of the encoders that it lends itself to.
 
+use crate::checks::is_not_begun;
 use crate::core_types::calls::Call;
-use crate::core_types::checks::{add_module, is_not_begun};
+use crate::core_types::checks::add_module;
 use crate::core_types::declaring::{Declaration, declare};
 use crate::core_types::swept_types::{CALLS, Types};
 use refusing::Refusing;

@@ -1,8 +1,7 @@
 //! Sections whose last item is being written, and is given up.
 
-use crate::core_types::checks::{
-    add_module, copy, is_not_begun, is_not_encoded, is_refused, is_section, put,
-};
+use crate::checks::{is_not_begun, is_not_encoded, is_refused, put};
+use crate::core_types::checks::{add_module, copy, is_section};
 use crate::core_types::declaring::Declaration;
 use std::alloc::Global;
 use std::process::Abort;

@@ -1,8 +1,7 @@
 //! Module types whose last type is being written, and is given up.
 
-use crate::core_types::checks::{
-    add_module, copy_type, is_not_begun, is_not_encoded, is_refused, is_type,
-};
+use crate::checks::{is_not_begun, is_not_encoded, is_refused};
+use crate::core_types::checks::{add_module, copy_type, is_type};
 use crate::core_types::declaring::Declaration;
 use crate::core_types::unfinished_sections::comes_to_nothing;
 use std::alloc::Global;
