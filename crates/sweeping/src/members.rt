@@ -142,6 +142,35 @@ pub fn sweep_add<'a, M: Members<'a>, C: Adds<M>>(
     Ok(asks)
 }
 
+/// Whether one with this member alone is this.
+fn makes<'a, M: Members<'a>, C: Adds<M>>(
+    alloc: Global,
+    heap: &'a Refusing,
+    call: &C,
+    wanted: &[u8],
+) -> Result<bool, Fault> {
+    heap.refuse_none();
+    let mut members = M::empty(heap)?;
+    call.add(&mut members)?;
+    is_as(alloc, &members, wanted)
+}
+
+/// The same of each of these calls, beside which stands what one with this member alone is.
+pub fn sweep_rows<'a, M: Members<'a>, C: Adds<M>>(
+    alloc: Global,
+    heap: &'a Refusing,
+    rows: &[(C, &[u8])],
+) -> Result<bool, Fault> {
+    for (call, wanted) in rows {
+        let is_well = makes::<M, C>(alloc, heap, call, wanted)?
+            && sweep_add::<M, C>(alloc, heap, call)?;
+        if !is_well {
+            return Ok(false);
+        }
+    }
+    Ok(true)
+}
+
 /// The same of each of these calls.
 pub fn sweep_calls<'a, M: Members<'a>, C: Adds<M>>(
     alloc: Global,
