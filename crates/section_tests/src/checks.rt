@@ -25,11 +25,6 @@ pub fn is_refused(rt: &impl Abort, outcome: Result<(), Fault>) {
     assert!(rt; outcome == Err(Fault::Unfinished));
 }
 
-/// What it was called for wasn't begun, or wasn't copied, for this reason.
-pub fn is_not_begun(rt: &impl Abort, given: Option<Fault>, wanted: Fault) {
-    assert!(rt; given == Some(wanted));
-}
-
 /// What `encode` answers.
 fn encode(value: &impl Encode, sink: &mut Vec<u8>) -> Result<(), Fault> {
     value.encode(sink)

@@ -2,14 +2,10 @@
 //! of the calls that write core types is refused in turn.
 
 mod calls;
-mod checks;
 mod declaring;
 mod encoders;
+mod lending;
 mod making;
 mod module_types;
 mod sections;
-mod swept_module_types;
-mod swept_sections;
-mod swept_types;
-mod unfinished_sections;
-mod unfinished_types;
+mod unfinished;

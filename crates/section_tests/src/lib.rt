@@ -29,6 +29,8 @@ mod instance_trees;
 #[cfg(test)]
 mod instances;
 #[cfg(test)]
+mod lending;
+#[cfg(test)]
 mod named;
 #[cfg(test)]
 mod names;
@@ -40,3 +42,7 @@ mod own;
 mod producers;
 #[cfg(test)]
 mod sweeps;
+#[cfg(test)]
+mod swept_lending;
+#[cfg(test)]
+mod unfinished;

@@ -1,6 +1,7 @@
 //! The last calls of an encoder of types. Each is made by a function of its own, since what a call promises is dear to
 //! the proof of a function that makes several.
 
+use crate::lending::Makes;
 use std::alloc::Allocator;
 use wenc_base::{Fault, Lender, ValType};
 use wenc_parts::{ComponentValType, PrimitiveValType};
@@ -71,10 +72,14 @@ pub enum Call<'t> {
     Stream(Option<ComponentValType>),
 }
 
-impl<'t> Call<'t> {
+impl<'t, L: Lends> Makes<L> for Call<'t> {
+    fn is_lent(&self) -> bool {
+        true
+    }
+
     /// Begins a type, and makes the call.
-    pub fn write<L: Lends>(self, to: &mut L) -> Result<(), Fault> {
-        match self {
+    fn make(&self, to: &mut L) -> Result<(), Fault> {
+        match *self {
             Call::Component(ty) => component(to, ty),
             Call::Instance(ty) => instance(to, ty),
             Call::Resource(rep, dtor) => resource(to, rep, dtor),
@@ -85,7 +90,9 @@ impl<'t> Call<'t> {
             _ => self.write_values(to),
         }
     }
+}
 
+impl<'t> Call<'t> {
     /// The calls for types of values that are of one part.
     fn write_values<L: Lends>(self, to: &mut L) -> Result<(), Fault> {
         match self {

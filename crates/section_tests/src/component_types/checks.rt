@@ -1,6 +1,10 @@
-//! What sections and types are to be.
+//! What the tests of component types share.
 
-use crate::checks::alone;
+use crate::component_types::calls::Call;
+use crate::component_types::declaring::Kind;
+use crate::component_types::lending::Item;
+use crate::swept_lending::{sweep_item, sweep_made};
+use refusing::Refusing;
 use std::alloc::Global;
 use std::process::Abort;
 use wenc_base::Fault;
@@ -13,27 +17,45 @@ pub const STRING: ComponentValType = ComponentValType::Primitive(PrimitiveValTyp
 /// The type with an index that takes two bytes.
 pub const INDEXED: ComponentValType = ComponentValType::Type(64);
 
-/// The section is finished, and has so many items.
-fn has_items(rt: &impl Abort, section: &ComponentTypeSection, count: u32) {
-    assert!(rt; section.is_finished());
-    assert!(rt; section.len() == count);
-    assert!(rt; section.is_empty() == (count == 0));
-}
+/// What is asked of one with a declaration that counts as a type: it isn't empty, and is finished.
+pub const A_TYPE: &[u8] = &[1, 0, 1, 0, 0, 1];
 
-/// The section is finished, has so many items, and these bytes in a component behind its header.
-pub fn is_section(
+/// The call declares a type of this text, and is swept.
+pub fn declares<K: Kind>(
     rt: &impl Abort,
     alloc: Global,
-    section: &ComponentTypeSection,
-    count: u32,
-    wanted: &str,
+    heap: &Refusing,
+    call: Call<'_>,
+    text: &[u8],
 ) -> Result<(), Fault> {
-    has_items(rt, section, count);
-    alone(rt, alloc, section, wanted)
+    let lead = &[K::LEAD, 1, 1];
+    let is_well = sweep_made::<Declarations<K, &Refusing>, Call<'_>>(
+        alloc, heap, call, A_TYPE, lead, text,
+    )?;
+    assert!(rt; is_well);
+    Ok(())
 }
 
-/// The core types, types and instances that a type counts.
-pub fn has_counts<K>(rt: &impl Abort, ty: &Declarations<K>, wanted: [u32; 3]) {
-    let counts = [ty.core_type_count(), ty.type_count(), ty.instance_count()];
-    assert!(rt; counts == wanted);
+/// One call adds this item, which has this text, and is swept.
+pub fn is_item(
+    rt: &impl Abort,
+    alloc: Global,
+    heap: &Refusing,
+    item: Item<'_>,
+    text: &[u8],
+) -> Result<(), Fault> {
+    assert!(rt; sweep_item::<ComponentTypeSection<&Refusing>, Item<'_>>(alloc, heap, item, text)?);
+    Ok(())
+}
+
+/// So does an encoder's call.
+pub fn is_written(
+    rt: &impl Abort,
+    alloc: Global,
+    heap: &Refusing,
+    call: Call<'_>,
+    text: &[u8],
+) -> Result<(), Fault> {
+    assert!(rt; sweep_item::<ComponentTypeSection<&Refusing>, Call<'_>>(alloc, heap, call, text)?);
+    Ok(())
 }

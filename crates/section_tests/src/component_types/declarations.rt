@@ -1,84 +1,300 @@
 //! Component types and instance types: their declarations, and what they count.
 
-use crate::checks::is_text;
+use crate::checks::{alone, counts};
 use crate::component_types::calls::Call;
-use crate::component_types::checks::{STRING, has_counts, is_section};
-use crate::component_types::declaring::{Declaration, Kind, declare, import};
+use crate::component_types::checks::{A_TYPE, STRING};
+use crate::component_types::declaring::{Declaration, Import, Kind, make_each};
+use crate::component_types::lending::Opening;
+use crate::lending::{Lending, Makes, has};
+use crate::swept_lending::{OnHeap, Swept, begun, sweep_made};
+use refusing::Refusing;
 use std::alloc::Global;
 use std::process::Abort;
 use std::test::Fail;
+use sweeping::{LARGE, NAME};
 use wenc_base::{CompositeType, ExportKind, Fault, FuncType, GroupTree, SubType, ValType};
 use wenc_parts::{
     Alias, ComponentExportKind, ComponentOuterAliasKind, ComponentTypeRef, TypeBounds,
 };
 use wenc_sections::ComponentTypeSection;
 use wenc_types::component_type::ComponentTypes;
-use wenc_types::{ComponentType, CoreTypeTree, Declarations, InstanceType};
+use wenc_types::instance_type::InstanceTypes;
+use wenc_types::{ComponentType, CoreTypeTree, Declarations, InstanceType, ModuleType};
 
-/// An alias that counts as an instance.
-const AN_INSTANCE: Alias<'static> = Alias::InstanceExport {
-    instance: 1,
-    kind: ComponentExportKind::Instance,
-    name: "i",
-};
+/// What is asked of one with a declaration that counts as none of these: it isn't empty, and is finished.
+const NOTHING: &[u8] = &[1, 0, 0, 0, 0, 1];
+
+/// The same of one that counts as a core type.
+const A_CORE_TYPE: &[u8] = &[1, 1, 0, 0, 0, 1];
+
+/// The same of one that counts as an instance.
+const AN_INSTANCE: &[u8] = &[1, 0, 0, 1, 0, 1];
+
+/// An option, then aliases that count as a type, an instance, nothing, nothing, a core type, a type, nothing, nothing.
+/// Beside each stand what it counts as, and its text, as upstream gives it.
+const FIRST: [(Declaration<'static>, &[u8], &[u8]); 9] = [
+    (
+        Declaration::Type(Call::Option(STRING)),
+        A_TYPE,
+        b"\x01\x6b\x73",
+    ),
+    (
+        Declaration::Alias(Alias::InstanceExport {
+            instance: 1,
+            kind: ComponentExportKind::Type,
+            name: "t",
+        }),
+        A_TYPE,
+        b"\x02\x03\x00\x01\x01t",
+    ),
+    (
+        Declaration::Alias(Alias::InstanceExport {
+            instance: 2,
+            kind: ComponentExportKind::Instance,
+            name: "i",
+        }),
+        AN_INSTANCE,
+        b"\x02\x05\x00\x02\x01i",
+    ),
+    (
+        Declaration::Alias(Alias::InstanceExport {
+            instance: 3,
+            kind: ComponentExportKind::Func,
+            name: "f",
+        }),
+        NOTHING,
+        b"\x02\x01\x00\x03\x01f",
+    ),
+    (
+        Declaration::Alias(Alias::CoreInstanceExport {
+            instance: 4,
+            kind: ExportKind::Memory,
+            name: "m",
+        }),
+        NOTHING,
+        b"\x02\x00\x02\x01\x04\x01m",
+    ),
+    (
+        Declaration::Alias(CORE_TYPE_ALIAS),
+        A_CORE_TYPE,
+        b"\x02\x00\x10\x02\x01\x00",
+    ),
+    (
+        Declaration::Alias(Alias::Outer {
+            kind: ComponentOuterAliasKind::Type,
+            count: 1,
+            index: 0,
+        }),
+        A_TYPE,
+        b"\x02\x03\x02\x01\x00",
+    ),
+    (
+        Declaration::Alias(Alias::Outer {
+            kind: ComponentOuterAliasKind::CoreModule,
+            count: 1,
+            index: 0,
+        }),
+        NOTHING,
+        b"\x02\x00\x11\x02\x01\x00",
+    ),
+    (
+        Declaration::Alias(Alias::Outer {
+            kind: ComponentOuterAliasKind::Component,
+            count: 1,
+            index: 0,
+        }),
+        NOTHING,
+        b"\x02\x04\x02\x01\x00",
+    ),
+];
 
 /// An alias that counts as a core type.
-const A_CORE_TYPE: Alias<'static> = Alias::Outer {
+const CORE_TYPE_ALIAS: Alias<'static> = Alias::Outer {
     kind: ComponentOuterAliasKind::CoreType,
     count: 1,
     index: 0,
 };
 
-/// An option, then aliases that count as a type, an instance, nothing, nothing, a core type, a type, nothing, nothing.
-const FIRST: [Declaration<'static>; 9] = [
-    Declaration::Type(Call::Option(STRING)),
-    Declaration::Alias(Alias::InstanceExport {
-        instance: 1,
-        kind: ComponentExportKind::Type,
-        name: "t",
-    }),
-    Declaration::Alias(Alias::InstanceExport {
-        instance: 2,
-        kind: ComponentExportKind::Instance,
-        name: "i",
-    }),
-    Declaration::Alias(Alias::InstanceExport {
-        instance: 3,
-        kind: ComponentExportKind::Func,
-        name: "f",
-    }),
-    Declaration::Alias(Alias::CoreInstanceExport {
-        instance: 4,
-        kind: ExportKind::Memory,
-        name: "m",
-    }),
-    Declaration::Alias(A_CORE_TYPE),
-    Declaration::Alias(Alias::Outer {
-        kind: ComponentOuterAliasKind::Type,
-        count: 1,
-        index: 0,
-    }),
-    Declaration::Alias(Alias::Outer {
-        kind: ComponentOuterAliasKind::CoreModule,
-        count: 1,
-        index: 0,
-    }),
-    Declaration::Alias(Alias::Outer {
-        kind: ComponentOuterAliasKind::Component,
-        count: 1,
-        index: 0,
-    }),
+/// Imports of each kind.
+const IMPORTS: [(Import<'static>, &[u8], &[u8]); 7] = [
+    (
+        Import("m", ComponentTypeRef::Module(5)),
+        NOTHING,
+        b"\x03\x00\x01m\x00\x11\x05",
+    ),
+    (
+        Import("f", ComponentTypeRef::Func(6)),
+        NOTHING,
+        b"\x03\x00\x01f\x01\x06",
+    ),
+    (
+        Import("v", ComponentTypeRef::Value(STRING)),
+        NOTHING,
+        b"\x03\x00\x01v\x02\x73",
+    ),
+    (
+        Import("e", ComponentTypeRef::Type(TypeBounds::Eq(7))),
+        A_TYPE,
+        b"\x03\x00\x01e\x03\x00\x07",
+    ),
+    (
+        Import("s", ComponentTypeRef::Type(TypeBounds::SubResource)),
+        A_TYPE,
+        b"\x03\x00\x01s\x03\x01",
+    ),
+    (
+        Import("i", ComponentTypeRef::Instance(8)),
+        AN_INSTANCE,
+        b"\x03\x00\x01i\x05\x08",
+    ),
+    (
+        Import("c", ComponentTypeRef::Component(9)),
+        NOTHING,
+        b"\x03\x00\x01c\x04\x09",
+    ),
 ];
 
-const REFERENCES: [(&str, ComponentTypeRef); 7] = [
-    ("m", ComponentTypeRef::Module(5)),
-    ("f", ComponentTypeRef::Func(6)),
-    ("v", ComponentTypeRef::Value(STRING)),
-    ("e", ComponentTypeRef::Type(TypeBounds::Eq(7))),
-    ("s", ComponentTypeRef::Type(TypeBounds::SubResource)),
-    ("i", ComponentTypeRef::Instance(8)),
-    ("c", ComponentTypeRef::Component(9)),
+/// The same as exports.
+const EXPORTS: [(Declaration<'static>, &[u8], &[u8]); 7] = [
+    (
+        Declaration::Export("m", ComponentTypeRef::Module(5)),
+        NOTHING,
+        b"\x04\x00\x01m\x00\x11\x05",
+    ),
+    (
+        Declaration::Export("f", ComponentTypeRef::Func(6)),
+        NOTHING,
+        b"\x04\x00\x01f\x01\x06",
+    ),
+    (
+        Declaration::Export("v", ComponentTypeRef::Value(STRING)),
+        NOTHING,
+        b"\x04\x00\x01v\x02\x73",
+    ),
+    (
+        Declaration::Export("e", ComponentTypeRef::Type(TypeBounds::Eq(7))),
+        A_TYPE,
+        b"\x04\x00\x01e\x03\x00\x07",
+    ),
+    (
+        Declaration::Export("s", ComponentTypeRef::Type(TypeBounds::SubResource)),
+        A_TYPE,
+        b"\x04\x00\x01s\x03\x01",
+    ),
+    (
+        Declaration::Export("i", ComponentTypeRef::Instance(8)),
+        AN_INSTANCE,
+        b"\x04\x00\x01i\x05\x08",
+    ),
+    (
+        Declaration::Export("c", ComponentTypeRef::Component(9)),
+        NOTHING,
+        b"\x04\x00\x01c\x04\x09",
+    ),
 ];
+
+/// A core type, and what is longer than a first growth.
+const OTHERS: [(Declaration<'static>, &[u8], &[u8]); 3] = [
+    (Declaration::Array, A_CORE_TYPE, b"\x00\x5e\x78\x01"),
+    (
+        Declaration::Alias(Alias::InstanceExport {
+            instance: LARGE,
+            kind: ComponentExportKind::Instance,
+            name: NAME,
+        }),
+        AN_INSTANCE,
+        b"\x02\x05\x00\xff\xff\xff\xff\x0f\
+            \x49a name that is longer than a first growth, by far: aaaaaaaaaaaaaaaaaaaaaa",
+    ),
+    (
+        Declaration::Export(NAME, ComponentTypeRef::Func(LARGE)),
+        NOTHING,
+        b"\x04\x00\
+            \x49a name that is longer than a first growth, by far: aaaaaaaaaaaaaaaaaaaaaa\x01\xff\xff\xff\xff\x0f",
+    ),
+];
+
+const LONG_IMPORT: [(Import<'static>, &[u8], &[u8]); 1] = [(
+    Import(NAME, ComponentTypeRef::Instance(LARGE)),
+    AN_INSTANCE,
+    b"\x03\x00\x49a name that is longer than a first growth, by far: aaaaaaaaaaaaaaaaaaaaaa\x05\xff\xff\xff\xff\x0f",
+)];
+
+/// Sweeps declarations of a type that begins with this byte.
+fn sweep_declarations<'a, L: OnHeap<'a>, C: Makes<L> + Copy>(
+    rt: &impl Abort,
+    alloc: Global,
+    heap: &'a Refusing,
+    byte: u8,
+    rows: &[(C, &[u8], &[u8])],
+) -> Result<(), Fault> {
+    for (call, counted, text) in rows {
+        assert!(rt; sweep_made::<L, C>(alloc, heap, *call, counted, &[byte, 1], text)?);
+    }
+    Ok(())
+}
+
+/// Adds them, and sweeps the text each time.
+fn sweep_texts<K: Kind>(
+    rt: &impl Abort,
+    alloc: Global,
+    ty: &mut Declarations<K>,
+) -> Result<(), Fault> {
+    assert!(rt; ty.sweep_text(alloc)?);
+    for (call, _, _) in OTHERS.as_slice() {
+        call.make(ty)?;
+        assert!(rt; ty.sweep_text(alloc)?);
+    }
+    Ok(())
+}
+
+/// Sweeps what both kinds declare.
+fn sweep_declared<K: Kind>(
+    rt: &impl Abort,
+    alloc: Global,
+    heap: &Refusing,
+    rows: &[(Declaration<'_>, &[u8], &[u8])],
+) -> Result<(), Fault> {
+    sweep_declarations::<Declarations<K, &Refusing>, Declaration<'_>>(
+        rt,
+        alloc,
+        heap,
+        K::LEAD,
+        rows,
+    )
+}
+
+fn sweep_kind<K: Kind>(rt: &impl Abort, alloc: Global, heap: &Refusing) -> Result<(), Fault> {
+    sweep_declared::<K>(rt, alloc, heap, FIRST.as_slice())?;
+    sweep_declared::<K>(rt, alloc, heap, EXPORTS.as_slice())?;
+    sweep_declared::<K>(rt, alloc, heap, OTHERS.as_slice())?;
+    let mut ty: Declarations<K> = Declarations::new(alloc);
+    sweep_texts(rt, alloc, &mut ty)
+}
+
+#[test]
+fn added(rt: HostRuntime) -> Result<(), Fail> {
+    let heap = Refusing::new(rt.alloc());
+    sweep_kind::<ComponentTypes>(&rt, rt.alloc(), &heap)?;
+    sweep_kind::<InstanceTypes>(&rt, rt.alloc(), &heap)?;
+    Ok(())
+}
+
+fn sweep_imports(
+    rt: &impl Abort,
+    alloc: Global,
+    rows: &[(Import<'_>, &[u8], &[u8])],
+) -> Result<(), Fault> {
+    let heap = Refusing::new(alloc);
+    sweep_declarations::<ComponentType<&Refusing>, Import<'_>>(rt, alloc, &heap, 0x41, rows)
+}
+
+#[test]
+fn imports(rt: HostRuntime) -> Result<(), Fail> {
+    sweep_imports(&rt, rt.alloc(), IMPORTS.as_slice())?;
+    sweep_imports(&rt, rt.alloc(), LONG_IMPORT.as_slice())?;
+    Ok(())
+}
 
 /// A type of functions that others may extend.
 fn open_function(ty: FuncType) -> CoreTypeTree {
@@ -95,66 +311,80 @@ fn empty_function(alloc: Global) -> Result<CoreTypeTree, Fault> {
     Ok(open_function(ty))
 }
 
+/// Sweeps it and a module type as core types.
+fn sweep_core_types<'t, K: Kind>(
+    rt: &impl Abort,
+    alloc: Global,
+    function: &'t CoreTypeTree,
+    module: &'t ModuleType,
+) -> Result<(), Fault> {
+    let heap = Refusing::new(alloc);
+    let function = (
+        Declaration::Tree(function),
+        A_CORE_TYPE,
+        b"\x00\x00\x50\x00\x60\x00\x00".as_slice(),
+    );
+    let module = (
+        Declaration::Module(module),
+        A_CORE_TYPE,
+        b"\x00\x50\x00".as_slice(),
+    );
+    sweep_declared::<K>(rt, alloc, &heap, &[function, module])
+}
+
+#[test]
+fn core_types(rt: HostRuntime) -> Result<(), Fail> {
+    let function = empty_function(rt.alloc())?;
+    let module = ModuleType::new(rt.alloc());
+    sweep_core_types::<ComponentTypes>(&rt, rt.alloc(), &function, &module)?;
+    sweep_core_types::<InstanceTypes>(&rt, rt.alloc(), &function, &module)?;
+    Ok(())
+}
+
 /// Declares it as a core type.
 fn begin(ty: &mut ComponentType, alloc: Global) -> Result<(), Fault> {
     let function = empty_function(alloc)?;
-    Declaration::Tree(&function).add_to(ty)
+    Declaration::Tree(&function).make(ty)
 }
 
-/// One call adds this type to a section, which then has these bytes.
-fn is_item<K: Kind>(
+/// Declares each of what a table tells of.
+fn declare(ty: &mut ComponentType, rows: &[(Declaration<'_>, &[u8], &[u8])]) -> Result<(), Fault> {
+    for (declaration, _, _) in rows {
+        declaration.make(ty)?;
+    }
+    Ok(())
+}
+
+/// Declares all imports.
+fn add_imports(ty: &mut ComponentType) -> Result<(), Fault> {
+    for (import, _, _) in IMPORTS.as_slice() {
+        import.make(ty)?;
+    }
+    Ok(())
+}
+
+/// The call adds an item to a section, which then has these bytes.
+fn is_item<C: Makes<ComponentTypeSection>>(
     rt: &impl Abort,
     alloc: Global,
-    ty: &Declarations<K>,
+    call: &C,
     wanted: &str,
 ) -> Result<(), Fault> {
     let mut section = ComponentTypeSection::new(alloc);
-    K::add_to(ty, &mut section)?;
-    is_section(rt, alloc, &section, 1, wanted)
+    call.make(&mut section)?;
+    has(rt, &section, [1, 0, 0, 0]);
+    alone(rt, alloc, &section, wanted)
 }
 
-/// So does an encoder.
-fn is_item_by_an_encoder<K: Kind>(
-    rt: &impl Abort,
-    alloc: Global,
-    ty: &Declarations<K>,
-    wanted: &str,
-) -> Result<(), Fault> {
-    let mut section = ComponentTypeSection::new(alloc);
-    K::call(ty).write(&mut section)?;
-    is_section(rt, alloc, &section, 1, wanted)
-}
-
-/// In a section the type alone has these bytes.
+/// In a section the type alone has these bytes, where one call adds it, and where an encoder does.
 fn in_a_section<K: Kind>(
     rt: &impl Abort,
     alloc: Global,
     ty: &Declarations<K>,
     wanted: &str,
 ) -> Result<(), Fault> {
-    is_item(rt, alloc, ty, wanted)?;
-    is_item_by_an_encoder(rt, alloc, ty, wanted)
-}
-
-/// An option and all aliases.
-fn add_first(ty: &mut ComponentType) -> Result<(), Fault> {
-    declare(ty, FIRST.as_slice())
-}
-
-/// All references as imports.
-fn add_imports(ty: &mut ComponentType) -> Result<(), Fault> {
-    for (name, what) in REFERENCES.as_slice() {
-        import(ty, name, *what)?;
-    }
-    Ok(())
-}
-
-/// The same as exports.
-fn add_exports(ty: &mut ComponentType) -> Result<(), Fault> {
-    for (name, what) in REFERENCES.as_slice() {
-        ComponentTypes::export(ty, name, *what)?;
-    }
-    Ok(())
+    is_item(rt, alloc, &K::item(ty), wanted)?;
+    is_item(rt, alloc, &K::call(ty), wanted)
 }
 
 const FULL: &str =
@@ -168,11 +398,11 @@ const FULL: &str =
 fn component_types(rt: HostRuntime) -> Result<(), Fail> {
     let mut ty = ComponentType::new(rt.alloc());
     begin(&mut ty, rt.alloc())?;
-    add_first(&mut ty)?;
+    declare(&mut ty, FIRST.as_slice())?;
     add_imports(&mut ty)?;
-    has_counts(&rt, &ty, [2, 5, 2]);
-    add_exports(&mut ty)?;
-    has_counts(&rt, &ty, [2, 7, 3]);
+    has(&rt, &ty, [17, 2, 5, 2]);
+    declare(&mut ty, EXPORTS.as_slice())?;
+    has(&rt, &ty, [24, 2, 7, 3]);
     in_a_section(&rt, rt.alloc(), &ty, FULL)?;
     Ok(())
 }
@@ -181,85 +411,26 @@ fn component_types(rt: HostRuntime) -> Result<(), Fail> {
 fn an_imported_resource(rt: HostRuntime) -> Result<(), Fail> {
     let mut ty = ComponentType::new(rt.alloc());
     begin(&mut ty, rt.alloc())?;
-    import(
-        &mut ty,
-        "r",
-        ComponentTypeRef::Type(TypeBounds::SubResource),
-    )?;
-    Declaration::Alias(A_CORE_TYPE).add_to(&mut ty)?;
-    has_counts(&rt, &ty, [2, 1, 0]);
+    Import("r", ComponentTypeRef::Type(TypeBounds::SubResource)).make(&mut ty)?;
+    Declaration::Alias(CORE_TYPE_ALIAS).make(&mut ty)?;
+    has(&rt, &ty, [3, 2, 1, 0]);
     let wanted = "071601410300005000600000030001720301020010020100";
     in_a_section(&rt, rt.alloc(), &ty, wanted)?;
     Ok(())
 }
 
-fn is_whole_and_empty<K: Kind>(ty: &Declarations<K>) -> bool {
-    ty.is_empty() && ty.is_finished()
-}
-
-/// It has no declarations, and in a section these bytes.
-fn is_new<K: Kind>(
-    rt: &impl Abort,
-    alloc: Global,
-    ty: &Declarations<K>,
-    wanted: &str,
-) -> Result<(), Fault> {
-    assert!(rt; is_whole_and_empty(ty));
-    has_counts(rt, ty, [0, 0, 0]);
-    in_a_section(rt, alloc, ty, wanted)
-}
-
-#[test]
-fn an_empty_component_type(rt: HostRuntime) -> Result<(), Fail> {
-    let ty = ComponentType::new(rt.alloc());
-    is_new(&rt, rt.alloc(), &ty, "0703014100")?;
-    Ok(())
-}
-
-#[test]
-fn an_empty_instance_type(rt: HostRuntime) -> Result<(), Fail> {
-    let ty = InstanceType::new(rt.alloc());
-    is_new(&rt, rt.alloc(), &ty, "0703014200")?;
-    Ok(())
-}
-
-/// With these declarations an instance type has these counts, and in a section these bytes.
-fn check(
-    rt: &impl Abort,
-    alloc: Global,
-    declarations: &[Declaration<'_>],
-    counts: [u32; 3],
-    wanted: &str,
-) -> Result<(), Fault> {
-    let mut ty = InstanceType::new(alloc);
-    declare(&mut ty, declarations)?;
-    assert!(rt; count(&ty) == declarations.len());
-    has_counts(rt, &ty, counts);
-    in_a_section(rt, alloc, &ty, wanted)
-}
-
-/// How many declarations there are.
-fn count(ty: &InstanceType) -> usize {
-    ty.len() as usize
-}
-
-const OPTION: [Declaration<'static>; 2] = [
-    Declaration::Type(Call::Option(STRING)),
-    Declaration::Export("t", ComponentTypeRef::Type(TypeBounds::Eq(0))),
-];
-
-#[test]
-fn an_exported_option(rt: HostRuntime) -> Result<(), Fail> {
-    let wanted = "070d014202016b7304000174030000";
-    check(&rt, rt.alloc(), OPTION.as_slice(), [0, 2, 0], wanted)?;
-    Ok(())
-}
+/// An alias that counts as an instance.
+const INSTANCE_ALIAS: Alias<'static> = Alias::InstanceExport {
+    instance: 1,
+    kind: ComponentExportKind::Instance,
+    name: "i",
+};
 
 const SEVEN: [Declaration<'static>; 7] = [
     Declaration::Array,
     Declaration::Type(Call::Resource(ValType::I64, Some(3))),
-    Declaration::Alias(AN_INSTANCE),
-    Declaration::Alias(A_CORE_TYPE),
+    Declaration::Alias(INSTANCE_ALIAS),
+    Declaration::Alias(CORE_TYPE_ALIAS),
     Declaration::Export("f", ComponentTypeRef::Func(6)),
     Declaration::Export("s", ComponentTypeRef::Type(TypeBounds::SubResource)),
     Declaration::Export("i", ComponentTypeRef::Instance(8)),
@@ -268,40 +439,48 @@ const SEVEN: [Declaration<'static>; 7] = [
 /// Upstream gives these counts, and this section.
 #[test]
 fn instance_types(rt: HostRuntime) -> Result<(), Fail> {
+    let mut ty = InstanceType::new(rt.alloc());
+    make_each(&mut ty, SEVEN.as_slice())?;
+    has(&rt, &ty, [7, 2, 2, 2]);
     let wanted =
         "072a014207005e7801013f7e0103020500010169020010020100040001660106040001730301040001690508";
-    check(&rt, rt.alloc(), SEVEN.as_slice(), [2, 2, 2], wanted)?;
+    in_a_section(&rt, rt.alloc(), &ty, wanted)?;
+    Ok(())
+}
+
+/// How types are begun.
+const OPENINGS: [Opening; 4] = [
+    Opening::Type,
+    Opening::Tagged,
+    Opening::CoreType,
+    Opening::Core,
+];
+
+/// Beginnings, and copies, of which this is asked with no, one and two types.
+fn check_begun<K: Kind>(
+    rt: &impl Abort,
+    alloc: Global,
+    none: &str,
+    one: &str,
+    two: &str,
+) -> Result<(), Fault> {
+    let heap = Refusing::new(alloc);
+    counts::<Swept<Declarations<K, &Refusing>>>(rt, alloc, &heap, none, one, two)?;
+    begun::<Declarations<K, &Refusing>, Opening>(rt, alloc, &heap, OPENINGS.as_slice())
+}
+
+#[test]
+fn begun_component_types(rt: HostRuntime) -> Result<(), Fail> {
+    let one = "0100010000014101016900";
+    let two = "0200020000014102016900016900";
+    check_begun::<ComponentTypes>(&rt, rt.alloc(), "0000000001014100", one, two)?;
     Ok(())
 }
 
 #[test]
-fn nested_instance_types(rt: HostRuntime) -> Result<(), Fail> {
-    let inner = InstanceType::new(rt.alloc());
-    let declarations = [Declaration::Type(Call::Instance(&inner))];
-    let wanted = "0706014201014200";
-    check(&rt, rt.alloc(), declarations.as_slice(), [0, 1, 0], wanted)?;
-    Ok(())
-}
-
-fn copy(ty: &ComponentType) -> Result<ComponentType, Fault> {
-    Ok(ty.clone()?)
-}
-
-/// A copy of a component type goes its own way.
-fn copy_goes_its_own_way(rt: &impl Abort, alloc: Global, ty: &ComponentType) -> Result<(), Fault> {
-    let mut copy = copy(ty)?;
-    has_counts(rt, &copy, [0, 1, 0]);
-    import(&mut copy, "i", ComponentTypeRef::Instance(8))?;
-    has_counts(rt, &copy, [0, 1, 1]);
-    is_text(rt, alloc, &copy, "4102016b73030001690508")
-}
-
-#[test]
-fn copies(rt: HostRuntime) -> Result<(), Fail> {
-    let mut ty = ComponentType::new(rt.alloc());
-    Call::Option(STRING).write(&mut ty)?;
-    copy_goes_its_own_way(&rt, rt.alloc(), &ty)?;
-    has_counts(&rt, &ty, [0, 1, 0]);
-    is_text(&rt, rt.alloc(), &ty, "4101016b73")?;
+fn begun_instance_types(rt: HostRuntime) -> Result<(), Fail> {
+    let one = "0100010000014201016900";
+    let two = "0200020000014202016900016900";
+    check_begun::<InstanceTypes>(&rt, rt.alloc(), "0000000001014200", one, two)?;
     Ok(())
 }

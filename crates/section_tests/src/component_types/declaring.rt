@@ -1,10 +1,11 @@
 //! What component types and instance types declare.
 
 use crate::component_types::calls::Call;
+use crate::component_types::lending::Item;
+use crate::lending::Makes;
 use std::alloc::Allocator;
-use wenc_base::{CoreTypeEncoder, Fault, StorageType};
+use wenc_base::{Fault, StorageType};
 use wenc_parts::{Alias, ComponentTypeRef};
-use wenc_sections::ComponentTypeSection;
 use wenc_types::component_type::ComponentTypes;
 use wenc_types::instance_type::InstanceTypes;
 use wenc_types::{
@@ -26,10 +27,7 @@ pub trait Kind: DeclaringKind {
     fn call<'t>(ty: &'t Declarations<Self>) -> Call<'t>;
 
     /// The one call that adds such a type to a section.
-    fn add_to<A: Allocator>(
-        ty: &Declarations<Self>,
-        section: &mut ComponentTypeSection<A>,
-    ) -> Result<(), Fault>;
+    fn item<'t>(ty: &'t Declarations<Self>) -> Item<'t>;
 }
 
 impl Kind for ComponentTypes {
@@ -52,11 +50,8 @@ impl Kind for ComponentTypes {
         Call::Component(ty)
     }
 
-    fn add_to<A: Allocator>(
-        ty: &ComponentType,
-        section: &mut ComponentTypeSection<A>,
-    ) -> Result<(), Fault> {
-        section.component(ty)
+    fn item<'t>(ty: &'t ComponentType) -> Item<'t> {
+        Item::Component(ty)
     }
 }
 
@@ -80,11 +75,8 @@ impl Kind for InstanceTypes {
         Call::Instance(ty)
     }
 
-    fn add_to<A: Allocator>(
-        ty: &InstanceType,
-        section: &mut ComponentTypeSection<A>,
-    ) -> Result<(), Fault> {
-        section.instance(ty)
+    fn item<'t>(ty: &'t InstanceType) -> Item<'t> {
+        Item::Instance(ty)
     }
 }
 
@@ -105,34 +97,34 @@ pub enum Declaration<'t> {
     Export(&'t str, ComponentTypeRef),
 }
 
-impl<'t> Declaration<'t> {
-    /// Declares it.
-    pub fn add_to<K: Kind, A: Allocator>(self, ty: &mut Declarations<K, A>) -> Result<(), Fault> {
+impl<'t, K: Kind, A: Allocator> Makes<Declarations<K, A>> for Declaration<'t> {
+    fn is_lent(&self) -> bool {
         match self {
-            Declaration::Array => array(ty),
-            Declaration::Module(inner) => module(ty, inner),
-            Declaration::Tree(inner) => tree(ty, inner),
-            Declaration::Type(call) => call.write(ty),
-            Declaration::Alias(alias) => K::alias(ty, alias),
-            Declaration::Export(name, what) => K::export(ty, name, what),
+            Declaration::Alias(_) | Declaration::Export(_, _) => false,
+            _ => true,
         }
     }
-}
 
-fn core<K, A: Allocator>(
-    ty: &mut Declarations<K, A>,
-) -> Result<CoreTypeEncoder<'_, Declarations<K, A>>, Fault> {
-    Ok(ty.core_type()?.core())
-}
-
-fn array<K, A: Allocator>(ty: &mut Declarations<K, A>) -> Result<(), Fault> {
-    core(ty)?.array(&StorageType::I8, true)
+    fn make(&self, to: &mut Declarations<K, A>) -> Result<(), Fault> {
+        match *self {
+            Declaration::Array => array(to),
+            Declaration::Module(inner) => module(to, inner),
+            Declaration::Tree(inner) => tree(to, inner),
+            Declaration::Type(call) => call.make(to),
+            Declaration::Alias(alias) => K::alias(to, alias),
+            Declaration::Export(name, what) => K::export(to, name, what),
+        }
+    }
 }
 
 fn core_type<K, A: Allocator>(
     ty: &mut Declarations<K, A>,
 ) -> Result<ComponentCoreTypeEncoder<'_, Declarations<K, A>>, Fault> {
     ty.core_type()
+}
+
+fn array<K, A: Allocator>(ty: &mut Declarations<K, A>) -> Result<(), Fault> {
+    core_type(ty)?.core().array(&StorageType::I8, true)
 }
 
 fn module<K, A: Allocator>(ty: &mut Declarations<K, A>, inner: &ModuleType) -> Result<(), Fault> {
@@ -143,22 +135,24 @@ fn tree<K, A: Allocator>(ty: &mut Declarations<K, A>, inner: &CoreTypeTree) -> R
     core_type(ty)?.tree(inner)
 }
 
-/// Declares each.
-pub fn declare<K: Kind>(
-    ty: &mut Declarations<K>,
-    declarations: &[Declaration<'_>],
-) -> Result<(), Fault> {
-    for declaration in declarations {
-        declaration.add_to(ty)?;
+/// An import, which component types alone declare.
+#[derive(Clone, Copy)]
+pub struct Import<'t>(pub &'t str, pub ComponentTypeRef);
+
+impl<'t, A: Allocator> Makes<ComponentType<A>> for Import<'t> {
+    fn is_lent(&self) -> bool {
+        false
     }
-    Ok(())
+
+    fn make(&self, to: &mut ComponentType<A>) -> Result<(), Fault> {
+        to.import(self.0.into(), self.1)
+    }
 }
 
-/// An import, which component types alone declare.
-pub fn import<A: Allocator>(
-    ty: &mut ComponentType<A>,
-    name: &str,
-    what: ComponentTypeRef,
-) -> Result<(), Fault> {
-    ty.import(name.into(), what)
+/// Makes each of these.
+pub fn make_each<L, C: Makes<L>>(to: &mut L, calls: &[C]) -> Result<(), Fault> {
+    for call in calls {
+        call.make(to)?;
+    }
+    Ok(())
 }

@@ -1,7 +1,8 @@
-//! Types of functions: how far each is written, and sections in which one is being written and given up.
+//! Types of functions: how far each is written.
 
-use crate::component_types::checks::{STRING, is_section};
-use crate::component_types::unfinished_sections::are_given_up;
+use crate::checks::alone;
+use crate::component_types::checks::STRING;
+use crate::lending::has;
 use std::alloc::Global;
 use std::process::Abort;
 use std::test::Fail;
@@ -10,37 +11,31 @@ use wenc_parts::ComponentValType;
 use wenc_sections::ComponentTypeSection;
 use wenc_types::FuncStage;
 
-/// Writes a function that is said to be asynchronous, and answers its stages.
-fn asynchronous(section: &mut ComponentTypeSection) -> Result<[FuncStage; 4], Fault> {
-    let mut function = section.function()?;
-    let begun = function.stage();
-    function.async_(true)?;
-    let tagged = function.stage();
-    function.params([].iter().copied())?;
-    let listed = function.stage();
-    function.result(None)?;
-    Ok([begun, tagged, listed, function.stage()])
-}
-
-/// The same of one of which nothing is said.
-fn plain(
+/// Writes a function, which may be said to be asynchronous, and answers its stages.
+fn stages(
     section: &mut ComponentTypeSection,
+    is_async: bool,
     params: &[(&str, ComponentValType)],
     answer: Option<ComponentValType>,
-) -> Result<[FuncStage; 3], Fault> {
+) -> Result<[FuncStage; 4], Fault> {
     let mut function = section.function()?;
     let begun = function.stage();
+    if is_async {
+        function.async_(true)?;
+    }
+    let tagged = function.stage();
     function.params(params.iter().copied())?;
     let listed = function.stage();
     function.result(answer)?;
-    Ok([begun, listed, function.stage()])
+    Ok([begun, tagged, listed, function.stage()])
 }
 
-fn are(rt: &impl Abort, given: &[FuncStage], wanted: &[FuncStage]) {
-    assert!(rt; given == wanted);
-}
-
-const PLAIN: [FuncStage; 3] = [FuncStage::Start, FuncStage::Params, FuncStage::Done];
+const PLAIN: [FuncStage; 4] = [
+    FuncStage::Start,
+    FuncStage::Start,
+    FuncStage::Params,
+    FuncStage::Done,
+];
 
 const ASYNCHRONOUS: [FuncStage; 4] = [
     FuncStage::Start,
@@ -49,81 +44,44 @@ const ASYNCHRONOUS: [FuncStage; 4] = [
     FuncStage::Done,
 ];
 
-fn check_asynchronous(
+fn are(rt: &impl Abort, given: &[FuncStage], wanted: &[FuncStage]) {
+    assert!(rt; given == wanted);
+}
+
+/// The section has a function alone, and these bytes.
+fn is_function(
     rt: &impl Abort,
     alloc: Global,
-    section: &mut ComponentTypeSection,
+    section: &ComponentTypeSection,
+    wanted: &str,
 ) -> Result<(), Fault> {
-    let stages = asynchronous(section)?;
-    are(rt, stages.as_slice(), ASYNCHRONOUS.as_slice());
-    is_section(rt, alloc, section, 1, "07050143000100")
+    has(rt, section, [1, 0, 0, 0]);
+    alone(rt, alloc, section, wanted)
 }
 
 #[test]
 fn asynchronous_functions(rt: HostRuntime) -> Result<(), Fail> {
     let mut section = ComponentTypeSection::new(rt.alloc());
-    check_asynchronous(&rt, rt.alloc(), &mut section)?;
+    let stages = stages(&mut section, true, &[], None)?;
+    are(&rt, stages.as_slice(), ASYNCHRONOUS.as_slice());
+    is_function(&rt, rt.alloc(), &section, "07050143000100")?;
     Ok(())
-}
-
-fn check_plain(
-    rt: &impl Abort,
-    alloc: Global,
-    section: &mut ComponentTypeSection,
-    params: &[(&str, ComponentValType)],
-    answer: Option<ComponentValType>,
-    wanted: &str,
-) -> Result<(), Fault> {
-    let stages = plain(section, params, answer)?;
-    are(rt, stages.as_slice(), PLAIN.as_slice());
-    is_section(rt, alloc, section, 1, wanted)
 }
 
 #[test]
 fn plain_functions(rt: HostRuntime) -> Result<(), Fail> {
     let mut section = ComponentTypeSection::new(rt.alloc());
-    check_plain(&rt, rt.alloc(), &mut section, &[], None, "07050140000100")?;
+    let stages = stages(&mut section, false, &[], None)?;
+    are(&rt, stages.as_slice(), PLAIN.as_slice());
+    is_function(&rt, rt.alloc(), &section, "07050140000100")?;
     Ok(())
 }
 
-fn begin(section: &mut ComponentTypeSection) -> Result<FuncStage, Fault> {
-    Ok(section.function()?.stage())
-}
-
-fn begin_tagged(section: &mut ComponentTypeSection) -> Result<(), Fault> {
-    section.function()?.async_(true)
-}
-
-fn begin_listed(section: &mut ComponentTypeSection) -> Result<(), Fault> {
-    section.function()?.params([("a", STRING)].iter().copied())
-}
-
-/// Each time the item that was begun is given up.
-fn gives_up_each(
-    rt: &impl Abort,
-    alloc: Global,
-    section: &mut ComponentTypeSection,
-) -> Result<(), Fault> {
-    let stage = begin(section)?;
-    are(rt, &[stage], &[FuncStage::Start]);
-    are_given_up(rt, alloc, section)?;
-    begin_tagged(section)?;
-    are_given_up(rt, alloc, section)?;
-    begin_listed(section)?;
-    are_given_up(rt, alloc, section)
-}
-
 #[test]
-fn unfinished_functions(rt: HostRuntime) -> Result<(), Fail> {
+fn functions_with_parameters(rt: HostRuntime) -> Result<(), Fail> {
     let mut section = ComponentTypeSection::new(rt.alloc());
-    gives_up_each(&rt, rt.alloc(), &mut section)?;
-    check_plain(
-        &rt,
-        rt.alloc(),
-        &mut section,
-        &[("a", STRING)],
-        Some(STRING),
-        "07080140010161730073",
-    )?;
+    let stages = stages(&mut section, false, &[("a", STRING)], Some(STRING))?;
+    are(&rt, stages.as_slice(), PLAIN.as_slice());
+    is_function(&rt, rt.alloc(), &section, "07080140010161730073")?;
     Ok(())
 }

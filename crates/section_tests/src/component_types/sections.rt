@@ -1,27 +1,23 @@
-//! Sections of types that are finished.
+//! Sections of types.
 
-use crate::checks::{holds, put};
+use crate::checks::{alone, counts, holds, put};
 use crate::component_types::calls::Call;
-use crate::component_types::checks::{STRING, is_section};
+use crate::component_types::checks::{STRING, declares, is_item, is_written};
+use crate::component_types::declaring::{Declaration, Kind, make_each};
+use crate::component_types::lending::{Beginning, Item};
+use crate::lending::{Makes, has};
+use crate::swept_lending::{Swept, begun};
+use refusing::Refusing;
 use std::alloc::Global;
 use std::process::Abort;
 use std::test::Fail;
+use sweeping::{LARGE, NAME};
 use wenc_base::{Fault, ValType};
 use wenc_parts::{ComponentTypeRef, ComponentValType, PrimitiveValType};
 use wenc_sections::{Component, ComponentImportSection, ComponentTypeSection};
-use wenc_types::{ComponentType, InstanceType};
-
-/// Adds what these calls end.
-fn fill(section: &mut ComponentTypeSection, calls: &[Call<'_>]) -> Result<(), Fault> {
-    for call in calls {
-        call.write(section)?;
-    }
-    Ok(())
-}
-
-fn add_resource(section: &mut ComponentTypeSection, dtor: Option<u32>) -> Result<(), Fault> {
-    section.resource(ValType::I32, dtor)
-}
+use wenc_types::component_type::ComponentTypes;
+use wenc_types::instance_type::InstanceTypes;
+use wenc_types::{ComponentType, Declarations, InstanceType};
 
 const FOUR: [Call<'static>; 4] = [
     Call::Result(None, Some(STRING)),
@@ -33,26 +29,79 @@ const FOUR: [Call<'static>; 4] = [
 #[test]
 fn types_of_values(rt: HostRuntime) -> Result<(), Fail> {
     let mut section = ComponentTypeSection::new(rt.alloc());
-    fill(&mut section, FOUR.as_slice())?;
-    let wanted = "070e046a000173637379677d80016940";
-    is_section(&rt, rt.alloc(), &section, 4, wanted)?;
+    make_each(&mut section, FOUR.as_slice())?;
+    has(&rt, &section, [4, 0, 0, 0]);
+    alone(
+        &rt,
+        rt.alloc(),
+        &section,
+        "070e046a000173637379677d80016940",
+    )?;
+    Ok(())
+}
+
+/// A whole type makes this, wherever it is added.
+fn check_whole<K: Kind>(
+    rt: &impl Abort,
+    alloc: Global,
+    ty: &Declarations<K>,
+    text: &[u8],
+) -> Result<(), Fault> {
+    let heap = Refusing::new(alloc);
+    is_item(rt, alloc, &heap, K::item(ty), text)?;
+    is_written(rt, alloc, &heap, K::call(ty), text)?;
+    declares::<ComponentTypes>(rt, alloc, &heap, K::call(ty), text)?;
+    declares::<InstanceTypes>(rt, alloc, &heap, K::call(ty), text)
+}
+
+/// Without declarations, and with an export.
+fn check_kind<K: Kind>(
+    rt: &impl Abort,
+    alloc: Global,
+    none: &[u8],
+    one: &[u8],
+) -> Result<(), Fault> {
+    let mut ty: Declarations<K> = Declarations::new(alloc);
+    check_whole(rt, alloc, &ty, none)?;
+    Declaration::Export(NAME, ComponentTypeRef::Func(LARGE)).make(&mut ty)?;
+    check_whole(rt, alloc, &ty, one)
+}
+
+#[test]
+fn whole_component_types(rt: HostRuntime) -> Result<(), Fail> {
+    let one = b"\x41\x01\x04\x00\
+            \x49a name that is longer than a first growth, by far: aaaaaaaaaaaaaaaaaaaaaa\x01\xff\xff\xff\xff\x0f";
+    check_kind::<ComponentTypes>(&rt, rt.alloc(), b"\x41\x00", one)?;
     Ok(())
 }
 
 #[test]
-fn resources(rt: HostRuntime) -> Result<(), Fail> {
-    let mut section = ComponentTypeSection::new(rt.alloc());
-    add_resource(&mut section, None)?;
-    is_section(&rt, rt.alloc(), &section, 1, "0704013f7f00")?;
-    add_resource(&mut section, Some(3))?;
-    is_section(&rt, rt.alloc(), &section, 2, "0708023f7f003f7f0103")?;
+fn whole_instance_types(rt: HostRuntime) -> Result<(), Fail> {
+    let one = b"\x42\x01\x04\x00\
+            \x49a name that is longer than a first growth, by far: aaaaaaaaaaaaaaaaaaaaaa\x01\xff\xff\xff\xff\x0f";
+    check_kind::<InstanceTypes>(&rt, rt.alloc(), b"\x42\x00", one)?;
+    Ok(())
+}
+
+/// An instance type with this one.
+fn around(alloc: Global, inner: &InstanceType) -> Result<InstanceType, Fault> {
+    let mut ty = InstanceType::new(alloc);
+    Call::Instance(inner).make(&mut ty)?;
+    Ok(ty)
+}
+
+#[test]
+fn nested_instance_types(rt: HostRuntime) -> Result<(), Fail> {
+    let inner = InstanceType::new(rt.alloc());
+    let outer = around(rt.alloc(), &inner)?;
+    check_whole(&rt, rt.alloc(), &outer, b"\x42\x01\x01\x42\x00")?;
     Ok(())
 }
 
 /// An instance type with a type of functions.
 fn inner(alloc: Global) -> Result<InstanceType, Fault> {
     let mut ty = InstanceType::new(alloc);
-    Call::Function(None, &[("p", ComponentValType::Type(64))], None).write(&mut ty)?;
+    Call::Function(None, &[("p", ComponentValType::Type(64))], None).make(&mut ty)?;
     Ok(ty)
 }
 
@@ -63,16 +112,16 @@ fn outer(
     empty: &ComponentType,
 ) -> Result<ComponentType, Fault> {
     let mut ty = ComponentType::new(alloc);
-    Call::Instance(inner).write(&mut ty)?;
-    Call::Component(empty).write(&mut ty)?;
+    Call::Instance(inner).make(&mut ty)?;
+    Call::Component(empty).make(&mut ty)?;
     Ok(ty)
 }
 
 /// Two resources, and a handle of one.
 fn add_resources(section: &mut ComponentTypeSection) -> Result<(), Fault> {
-    Call::Resource(ValType::I32, None).write(section)?;
-    Call::Own(0).write(section)?;
-    add_resource(section, Some(3))
+    Call::Resource(ValType::I32, None).make(section)?;
+    Call::Own(0).make(section)?;
+    Item::Resource(Some(3)).make(section)
 }
 
 /// Upstream gives this section of both.
@@ -83,11 +132,12 @@ fn five(
     inner: &InstanceType,
 ) -> Result<(), Fault> {
     let mut section = ComponentTypeSection::new(alloc);
-    Call::Component(outer).write(&mut section)?;
-    Call::Instance(inner).write(&mut section)?;
+    Call::Component(outer).make(&mut section)?;
+    Call::Instance(inner).make(&mut section)?;
     add_resources(&mut section)?;
     let wanted = "07260541020142010140010170c000010001410042010140010170c00001003f7f0069003f7f0103";
-    is_section(rt, alloc, &section, 5, wanted)
+    has(rt, &section, [5, 0, 0, 0]);
+    alone(rt, alloc, &section, wanted)
 }
 
 /// A section of both, where the outer one has an empty one too.
@@ -112,34 +162,10 @@ fn several(rt: HostRuntime) -> Result<(), Fail> {
     Ok(())
 }
 
-fn copy(section: &ComponentTypeSection) -> Result<ComponentTypeSection, Fault> {
-    Ok(section.clone()?)
-}
-
-/// A copy of a section with an option has an item more.
-fn copy_has_one_more(
-    rt: &impl Abort,
-    alloc: Global,
-    section: &ComponentTypeSection,
-) -> Result<(), Fault> {
-    let mut copy = copy(section)?;
-    Call::Own(64).write(&mut copy)?;
-    is_section(rt, alloc, &copy, 2, "0705026b736940")
-}
-
-#[test]
-fn copies(rt: HostRuntime) -> Result<(), Fail> {
-    let mut section = ComponentTypeSection::new(rt.alloc());
-    Call::Option(STRING).write(&mut section)?;
-    copy_has_one_more(&rt, rt.alloc(), &section)?;
-    is_section(&rt, rt.alloc(), &section, 1, "0703016b73")?;
-    Ok(())
-}
-
 /// Puts a type of functions.
 fn put_function(component: &mut Component, alloc: Global) -> Result<(), Fault> {
     let mut types = ComponentTypeSection::new(alloc);
-    Call::Function(None, &[("a", STRING), ("b", STRING)], Some(STRING)).write(&mut types)?;
+    Call::Function(None, &[("a", STRING), ("b", STRING)], Some(STRING)).make(&mut types)?;
     put(component, &types)
 }
 
@@ -161,5 +187,31 @@ fn an_imported_function(rt: HostRuntime) -> Result<(), Fail> {
     put_import(&mut component, rt.alloc())?;
     let wanted = "070b01400201617301627300730a06010001660100";
     holds(&rt, rt.alloc(), &component, wanted)?;
+    Ok(())
+}
+
+/// With no, one and two types.
+fn check_counts(rt: &impl Abort, alloc: Global, heap: &Refusing) -> Result<(), Fault> {
+    let none = "0000000001010100";
+    let one = "01000000000102017f";
+    let two = "02000000000103027f7f";
+    counts::<Swept<ComponentTypeSection<&Refusing>>>(rt, alloc, heap, none, one, two)
+}
+
+/// What takes no memory.
+const BEGINNINGS: [Beginning; 4] = [
+    Beginning::Item,
+    Beginning::Values,
+    Beginning::DefinedType,
+    Beginning::Function,
+];
+
+/// Beginnings, and copies.
+#[test]
+fn begun_ones(rt: HostRuntime) -> Result<(), Fail> {
+    let heap = Refusing::new(rt.alloc());
+    let beginnings = BEGINNINGS.as_slice();
+    check_counts(&rt, rt.alloc(), &heap)?;
+    begun::<ComponentTypeSection<&Refusing>, Beginning>(&rt, rt.alloc(), &heap, beginnings)?;
     Ok(())
 }

@@ -1,6 +1,6 @@
 //! Sweeps of the trees of types.
 
-use crate::component_types::swept_rows::{INDEXED, STRING};
+use crate::component_types::checks::STRING;
 use std::alloc::Global;
 use std::test::Fail;
 use sweeping::{LARGE, NAME, sweep_each, sweep_encode};
@@ -12,6 +12,8 @@ use wenc_parts::{
 use wenc_types::{
     CaseTree, ComponentDecl, CoreTypeTree, DefinedTree, InstanceDecl, ModuleDecl, TypeTree,
 };
+
+const INDEXED: ComponentValType = ComponentValType::Type(LARGE);
 
 fn add(trees: &mut Vec<DefinedTree>, tree: DefinedTree) -> Result<(), Fault> {
     trees.push(tree)?;

@@ -1,12 +1,15 @@
 //! Each call that writes a type of values, a resource or a function, with each thing that can be borrowed.
 
-use crate::checks::is_text;
 use crate::component_types::calls::Call;
-use crate::component_types::checks::{INDEXED, STRING, has_counts, is_section};
+use crate::component_types::checks::{INDEXED, STRING, declares, is_item, is_written};
 use crate::component_types::declaring::Kind;
+use crate::component_types::lending::Item;
+use crate::swept_lending::{last_is_refused, sweep_texts};
+use refusing::Refusing;
 use std::alloc::Global;
 use std::process::Abort;
 use std::test::Fail;
+use sweeping::NAME;
 use wenc_base::{Fault, ValType};
 use wenc_parts::{ComponentValType, PrimitiveValType};
 use wenc_sections::ComponentTypeSection;
@@ -20,87 +23,124 @@ const U8: ComponentValType = ComponentValType::Primitive(PrimitiveValType::U8);
 
 const U32: ComponentValType = ComponentValType::Primitive(PrimitiveValType::U32);
 
-/// The call adds this text to a section.
-fn in_a_section(rt: &impl Abort, alloc: Global, call: Call<'_>, text: &str) -> Result<(), Fault> {
-    let mut section = ComponentTypeSection::new(alloc);
-    call.write(&mut section)?;
-    let size = text.len() / 2 + 1;
-    let wanted = format!(in alloc; "07{size:02x}01{text}")?;
-    is_section(rt, alloc, &section, 1, wanted.as_str())
+/// The call makes this in a section.
+fn in_a_section(
+    rt: &impl Abort,
+    alloc: Global,
+    heap: &Refusing,
+    call: Call<'_>,
+    text: &[u8],
+) -> Result<(), Fault> {
+    is_written(rt, alloc, heap, call, text)?;
+    last_is_refused::<ComponentTypeSection<&Refusing>, Call<'_>>(rt, heap, 8, &call)
 }
 
-/// The call declares a type of this text, behind a lead.
+/// It declares a type of this text.
 fn in_a_type<K: Kind>(
     rt: &impl Abort,
     alloc: Global,
+    heap: &Refusing,
     call: Call<'_>,
-    lead: &str,
-    text: &str,
+    text: &[u8],
 ) -> Result<(), Fault> {
-    let mut ty: Declarations<K> = Declarations::new(alloc);
-    call.write(&mut ty)?;
-    has_counts(rt, &ty, [0, 1, 0]);
-    let wanted = format!(in alloc; "{lead}0101{text}")?;
-    is_text(rt, alloc, &ty, wanted.as_str())
+    declares::<K>(rt, alloc, heap, call, text)?;
+    last_is_refused::<Declarations<K, &Refusing>, Call<'_>>(rt, heap, 5, &call)
 }
 
-fn check(rt: &impl Abort, alloc: Global, rows: &[(Call<'_>, &str)]) -> Result<(), Fault> {
+/// The calls make types of these texts.
+fn check(rt: &impl Abort, alloc: Global, rows: &[(Call<'_>, &[u8])]) -> Result<(), Fault> {
+    let heap = Refusing::new(alloc);
     for (call, text) in rows {
-        in_a_section(rt, alloc, *call, text)?;
-        in_a_type::<ComponentTypes>(rt, alloc, *call, "41", text)?;
-        in_a_type::<InstanceTypes>(rt, alloc, *call, "42", text)?;
+        in_a_section(rt, alloc, &heap, *call, text)?;
+        in_a_type::<ComponentTypes>(rt, alloc, &heap, *call, text)?;
+        in_a_type::<InstanceTypes>(rt, alloc, &heap, *call, text)?;
     }
+    assert!(rt; sweep_texts(alloc, &mut ComponentTypeSection::new(alloc), rows)?);
     Ok(())
 }
 
-const LISTS: [(Call<'static>, &str); 10] = [
-    (Call::Record(&[]), "7200"),
+const LISTS: [(Call<'static>, &[u8]); 14] = [
+    (Call::Record(&[]), b"\x72\x00"),
     (
         Call::Record(&[("a", STRING), ("é", INDEXED)]),
-        "720201617302c3a9c000",
+        b"\x72\x02\x01\x61\x73\x02\xc3\xa9\xc0\x00",
     ),
-    (Call::Variant(&[]), "7100"),
+    (
+        Call::Record(&[("a", STRING), (NAME, INDEXED)]),
+        b"\x72\x02\x01a\x73\x49a name that is longer than a first growth, by far: aaaaaaaaaaaaaaaaaaaaaa\xc0\x00",
+    ),
+    (Call::Variant(&[]), b"\x71\x00"),
     (
         Call::Variant(&[("a", None), ("b", Some(STRING))]),
-        "7102016100000162017300",
+        b"\x71\x02\x01\x61\x00\x00\x01\x62\x01\x73\x00",
     ),
-    (Call::Tuple(&[]), "6f00"),
-    (Call::Tuple(&[STRING, INDEXED, BOOL]), "6f0373c0007f"),
-    (Call::Flags(&[]), "6e00"),
-    (Call::Flags(&["a", "bc"]), "6e020161026263"),
-    (Call::EnumType(&[]), "6d00"),
-    (Call::EnumType(&["a", "bc"]), "6d020161026263"),
+    (
+        Call::Variant(&[("a", None), (NAME, Some(INDEXED))]),
+        b"\x71\x02\x01a\x00\x00\
+            \x49a name that is longer than a first growth, by far: aaaaaaaaaaaaaaaaaaaaaa\x01\xc0\x00\x00",
+    ),
+    (Call::Tuple(&[]), b"\x6f\x00"),
+    (
+        Call::Tuple(&[STRING, INDEXED, BOOL]),
+        b"\x6f\x03\x73\xc0\x00\x7f",
+    ),
+    (Call::Flags(&[]), b"\x6e\x00"),
+    (Call::Flags(&["a", "bc"]), b"\x6e\x02\x01\x61\x02\x62\x63"),
+    (
+        Call::Flags(&["a", NAME]),
+        b"\x6e\x02\x01a\x49a name that is longer than a first growth, by far: aaaaaaaaaaaaaaaaaaaaaa",
+    ),
+    (Call::EnumType(&[]), b"\x6d\x00"),
+    (
+        Call::EnumType(&["a", "bc"]),
+        b"\x6d\x02\x01\x61\x02\x62\x63",
+    ),
+    (
+        Call::EnumType(&["a", NAME]),
+        b"\x6d\x02\x01a\x49a name that is longer than a first growth, by far: aaaaaaaaaaaaaaaaaaaaaa",
+    ),
 ];
 
-const OTHERS: [(Call<'static>, &str); 14] = [
-    (Call::Primitive(PrimitiveValType::Char), "74"),
-    (Call::List(INDEXED), "70c000"),
-    (Call::Map(STRING, U32), "637379"),
-    (Call::FixedLengthList(U8, 128), "677d8001"),
-    (Call::Option(STRING), "6b73"),
-    (Call::Result(None, None), "6a0000"),
-    (Call::Result(None, Some(STRING)), "6a000173"),
-    (Call::Result(Some(INDEXED), None), "6a01c00000"),
-    (Call::Own(64), "6940"),
-    (Call::Borrow(128), "688001"),
-    (Call::Future(None), "6500"),
-    (Call::Future(Some(STRING)), "650173"),
-    (Call::Stream(None), "6600"),
-    (Call::Stream(Some(INDEXED)), "6601c000"),
+const OTHERS: [(Call<'static>, &[u8]); 14] = [
+    (Call::Primitive(PrimitiveValType::Char), b"\x74"),
+    (Call::List(INDEXED), b"\x70\xc0\x00"),
+    (Call::Map(STRING, U32), b"\x63\x73\x79"),
+    (Call::FixedLengthList(U8, 128), b"\x67\x7d\x80\x01"),
+    (Call::Option(STRING), b"\x6b\x73"),
+    (Call::Result(None, None), b"\x6a\x00\x00"),
+    (Call::Result(None, Some(STRING)), b"\x6a\x00\x01\x73"),
+    (Call::Result(Some(INDEXED), None), b"\x6a\x01\xc0\x00\x00"),
+    (Call::Own(64), b"\x69\x40"),
+    (Call::Borrow(128), b"\x68\x80\x01"),
+    (Call::Future(None), b"\x65\x00"),
+    (Call::Future(Some(STRING)), b"\x65\x01\x73"),
+    (Call::Stream(None), b"\x66\x00"),
+    (Call::Stream(Some(INDEXED)), b"\x66\x01\xc0\x00"),
 ];
 
-const RESOURCES_AND_FUNCTIONS: [(Call<'static>, &str); 5] = [
-    (Call::Resource(ValType::I32, None), "3f7f00"),
-    (Call::Resource(ValType::I32, Some(3)), "3f7f0103"),
+const RESOURCES_AND_FUNCTIONS: [(Call<'static>, &[u8]); 6] = [
+    (Call::Resource(ValType::I32, None), b"\x3f\x7f\x00"),
+    (Call::Resource(ValType::I32, Some(3)), b"\x3f\x7f\x01\x03"),
     (
         Call::Function(None, &[("a", STRING), ("b", STRING)], Some(STRING)),
-        "40020161730162730073",
+        b"\x40\x02\x01\x61\x73\x01\x62\x73\x00\x73",
     ),
-    (Call::Function(Some(true), &[], None), "43000100"),
+    (Call::Function(Some(true), &[], None), b"\x43\x00\x01\x00"),
     (
         Call::Function(Some(false), &[("x", INDEXED)], Some(INDEXED)),
-        "40010178c00000c000",
+        b"\x40\x01\x01\x78\xc0\x00\x00\xc0\x00",
     ),
+    (
+        Call::Function(None, &[("a", STRING), (NAME, INDEXED)], Some(INDEXED)),
+        b"\x40\x02\x01a\x73\
+            \x49a name that is longer than a first growth, by far: aaaaaaaaaaaaaaaaaaaaaa\xc0\x00\x00\xc0\x00",
+    ),
+];
+
+/// Resources that one call adds.
+const RESOURCES: [(Item<'static>, &[u8]); 2] = [
+    (Item::Resource(None), b"\x3f\x7f\x00"),
+    (Item::Resource(Some(3)), b"\x3f\x7f\x01\x03"),
 ];
 
 /// Upstream gives these texts, and those of the other tables.
@@ -119,5 +159,14 @@ fn types_of_values(rt: HostRuntime) -> Result<(), Fail> {
 #[test]
 fn resources_and_functions(rt: HostRuntime) -> Result<(), Fail> {
     check(&rt, rt.alloc(), RESOURCES_AND_FUNCTIONS.as_slice())?;
+    Ok(())
+}
+
+#[test]
+fn resources(rt: HostRuntime) -> Result<(), Fail> {
+    let heap = Refusing::new(rt.alloc());
+    for (item, text) in RESOURCES.as_slice() {
+        is_item(&rt, rt.alloc(), &heap, *item, text)?;
+    }
     Ok(())
 }

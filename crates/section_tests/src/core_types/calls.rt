@@ -1,6 +1,7 @@
 //! The last calls of an encoder of core types. Each is made by a function of its own, since what a call promises is dear
 //! to the proof of a function that makes several.
 
+use crate::lending::Makes;
 use std::alloc::Allocator;
 use wenc_base::{
     CoreTypeEncoder, Fault, FieldType, FuncType, GroupTree, Lender, StorageType, SubType, ValType,
@@ -51,10 +52,14 @@ pub enum Call<'t> {
     Group(&'t GroupTree),
 }
 
-impl<'t> Call<'t> {
+impl<'t, L: Lends> Makes<L> for Call<'t> {
+    fn is_lent(&self) -> bool {
+        true
+    }
+
     /// Begins a type, and makes the call.
-    pub fn write<L: Lends>(self, to: &mut L) -> Result<(), Fault> {
-        match self {
+    fn make(&self, to: &mut L) -> Result<(), Fault> {
+        match *self {
             Call::Function(params, results) => function(to, params, results),
             Call::FuncType(ty) => func_type(to, ty),
             Call::Array(ty, mutable) => array(to, &ty, mutable),

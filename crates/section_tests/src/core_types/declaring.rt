@@ -1,6 +1,7 @@
 //! What module types declare.
 
 use crate::core_types::calls::Call;
+use crate::lending::Makes;
 use std::alloc::Allocator;
 use wenc_base::{EntityType, Fault};
 use wenc_types::ModuleType;
@@ -18,14 +19,20 @@ pub enum Declaration<'t> {
     Export(&'t str, EntityType),
 }
 
-impl<'t> Declaration<'t> {
-    /// Declares it.
-    pub fn add_to<A: Allocator>(self, ty: &mut ModuleType<A>) -> Result<(), Fault> {
+impl<'t, A: Allocator> Makes<ModuleType<A>> for Declaration<'t> {
+    fn is_lent(&self) -> bool {
         match self {
-            Declaration::Import(module, name, what) => import(ty, module, name, what),
-            Declaration::Type(call) => call.write(ty),
-            Declaration::Outer(count, index) => outer(ty, count, index),
-            Declaration::Export(name, what) => export(ty, name, what),
+            Declaration::Type(_) => true,
+            _ => false,
+        }
+    }
+
+    fn make(&self, to: &mut ModuleType<A>) -> Result<(), Fault> {
+        match *self {
+            Declaration::Import(module, name, what) => import(to, module, name, what),
+            Declaration::Type(call) => call.make(to),
+            Declaration::Outer(count, index) => outer(to, count, index),
+            Declaration::Export(name, what) => export(to, name, what),
         }
     }
 }
@@ -39,7 +46,8 @@ fn import<A: Allocator>(
     ty.import(module, name, what)
 }
 
-fn outer<A: Allocator>(ty: &mut ModuleType<A>, count: u32, index: u32) -> Result<(), Fault> {
+/// Declares an alias.
+pub fn outer<A: Allocator>(ty: &mut ModuleType<A>, count: u32, index: u32) -> Result<(), Fault> {
     ty.alias_outer_core_type(count, index)
 }
 
@@ -47,10 +55,10 @@ fn export<A: Allocator>(ty: &mut ModuleType<A>, name: &str, what: EntityType) ->
     ty.export(name, what)
 }
 
-/// Declares each.
-pub fn declare(ty: &mut ModuleType, declarations: &[Declaration<'_>]) -> Result<(), Fault> {
-    for declaration in declarations {
-        declaration.add_to(ty)?;
+/// Declares each of what tables tell of.
+pub fn declare(ty: &mut ModuleType, rows: &[(Declaration<'_>, &[u8], &[u8])]) -> Result<(), Fault> {
+    for (declaration, _, _) in rows {
+        declaration.make(ty)?;
     }
     Ok(())
 }

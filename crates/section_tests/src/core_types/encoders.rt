@@ -1,14 +1,19 @@
-//! Each call of an encoder, with each thing that it can borrow, and with guards and without.
+//! Each call of an encoder, with each thing that it can borrow, and with guards and without. All but those into holders
+//! are swept.
 
-use crate::checks::is_behind;
 use crate::core_types::calls::{Call, Lends};
-use crate::core_types::checks::{is_section, is_type};
 use crate::core_types::making::{
-    I8, I16, I32, add, add_function, array, func_type, function, pair, structure,
+    ELEMENT, FIELD, I8, I16, I32, LONG_PARAMS, LONG_RESULTS, add, add_function, array, func_type,
+    function, pair, structure,
 };
+use crate::core_types::module_types::A_TYPE;
+use crate::lending::Makes;
+use crate::swept_lending::{last_is_refused, sweep_item, sweep_made, sweep_texts};
+use refusing::Refusing;
 use std::alloc::Global;
 use std::process::Abort;
 use std::test::Fail;
+use sweeping::LARGE;
 use wenc_base::{CoreTypeEncoder, Fault, GroupTree, Holder, StorageType, SubType, ValType};
 use wenc_sections::CoreTypeSection;
 use wenc_types::ModuleType;
@@ -29,12 +34,19 @@ impl Lends for Held {
     }
 }
 
+fn is_one(holder: &Holder) -> bool {
+    holder.is_finished() && holder.len() == 1
+}
+
+fn bytes(alloc: Global, holder: &Holder) -> Result<Vec<u8>, Fault> {
+    Ok(holder.as_slice().to_vec(alloc)?)
+}
+
 /// The holder has one member, which is finished, with this text.
-fn is_held(rt: &impl Abort, alloc: Global, holder: &Holder, text: &str) -> Result<(), Fault> {
-    assert!(rt; holder.is_finished());
-    assert!(rt; holder.len() == 1);
-    let given = hex::encode(alloc, holder.as_slice())?;
-    is_behind(rt, given.as_str(), "", text);
+fn is_held(rt: &impl Abort, alloc: Global, holder: &Holder, text: &[u8]) -> Result<(), Fault> {
+    assert!(rt; is_one(holder));
+    let given = bytes(alloc, holder)?;
+    assert!(rt; given.as_slice() == text);
     Ok(())
 }
 
@@ -44,29 +56,29 @@ fn in_a_holder(
     alloc: Global,
     guard: bool,
     call: Call<'_>,
-    text: &str,
+    text: &[u8],
 ) -> Result<(), Fault> {
     let holder = Holder::new(alloc);
     let mut held = Held { holder, guard };
-    call.write(&mut held)?;
+    call.make(&mut held)?;
     is_held(rt, alloc, &held.holder, text)
 }
 
-/// The call adds this text to a module type, behind its lead.
-fn in_a_type(rt: &impl Abort, alloc: Global, call: Call<'_>, text: &str) -> Result<(), Fault> {
-    let mut ty = ModuleType::new(alloc);
-    call.write(&mut ty)?;
-    let wanted = format!(in alloc; "500101{text}")?;
-    is_type(rt, alloc, &ty, 1, wanted.as_str())
-}
-
-/// The call adds this text to a section, behind its lead.
-fn in_a_section(rt: &impl Abort, alloc: Global, call: Call<'_>, text: &str) -> Result<(), Fault> {
-    let mut section = CoreTypeSection::new(alloc);
-    call.write(&mut section)?;
-    let size = text.len() / 2 + 1;
-    let wanted = format!(in alloc; "03{size:02x}01{text}")?;
-    is_section(rt, alloc, &section, 1, wanted.as_str())
+/// The call adds this text to a module type, and the guarded one to a section.
+fn is_swept(
+    rt: &impl Abort,
+    alloc: Global,
+    heap: &Refusing,
+    call: Call<'_>,
+    text: &[u8],
+    guarded: &[u8],
+) -> Result<(), Fault> {
+    let lead = &[0x50, 1, 1];
+    assert!(rt;
+        sweep_made::<ModuleType<&Refusing>, Call<'_>>(alloc, heap, call, A_TYPE, lead, text)?
+    );
+    assert!(rt; sweep_item::<CoreTypeSection<&Refusing>, Call<'_>>(alloc, heap, call, guarded)?);
+    Ok(())
 }
 
 /// The call adds this text to what has no guards, and the guarded one to what has.
@@ -74,13 +86,14 @@ fn check(
     rt: &impl Abort,
     alloc: Global,
     call: Call<'_>,
-    text: &str,
-    guarded: &str,
+    text: &[u8],
+    guarded: &[u8],
 ) -> Result<(), Fault> {
     in_a_holder(rt, alloc, false, call, text)?;
     in_a_holder(rt, alloc, true, call, guarded)?;
-    in_a_type(rt, alloc, call, text)?;
-    in_a_section(rt, alloc, call, guarded)
+    let heap = Refusing::new(alloc);
+    is_swept(rt, alloc, &heap, call, text, guarded)?;
+    last_is_refused::<ModuleType<&Refusing>, Call<'_>>(rt, &heap, 3, &call)
 }
 
 /// So do the calls for this subtype, and for the tree of it alone.
@@ -88,8 +101,8 @@ fn check_subtype(
     rt: &impl Abort,
     alloc: Global,
     ty: SubType,
-    text: &str,
-    guarded: &str,
+    text: &[u8],
+    guarded: &[u8],
 ) -> Result<(), Fault> {
     check(rt, alloc, Call::Subtype(&ty), text, guarded)?;
     let tree = GroupTree::Sub(ty);
@@ -101,22 +114,41 @@ fn check_group(
     rt: &impl Abort,
     alloc: Global,
     types: Vec<SubType>,
-    text: &str,
+    text: &[u8],
 ) -> Result<(), Fault> {
     check(rt, alloc, Call::Rec(types.as_slice()), text, text)?;
     let tree = GroupTree::Rec(types);
     check(rt, alloc, Call::Group(&tree), text, text)
 }
 
+/// Functions with all long parameters and results.
+const LONG_FUNCTION: &[u8] = b"\x60\x04\x64\xff\xff\xff\xff\x0f\x7f\x64\xff\xff\xff\xff\x0f\x7e\
+    \x04\x7c\x64\xff\xff\xff\xff\x0f\x7b\x64\xff\xff\xff\xff\x0f";
+
 const PARAMS: [ValType; 2] = [ValType::I32, ValType::I64];
 
-const COMPOSITES: [(Call<'static>, &str); 6] = [
-    (Call::Function(&[], &[]), "600000"),
-    (Call::Function(&PARAMS, &[ValType::F32]), "60027f7e017d"),
-    (Call::Array(StorageType::I16, false), "5e7700"),
-    (Call::Array(StorageType::Val(ValType::I32), true), "5e7f01"),
-    (Call::Struct(&[]), "5f00"),
-    (Call::Struct(&[I8, I32]), "5f0278017f00"),
+const COMPOSITES: [(Call<'static>, &[u8]); 9] = [
+    (Call::Function(&[], &[]), b"\x60\x00\x00"),
+    (
+        Call::Function(&PARAMS, &[ValType::F32]),
+        b"\x60\x02\x7f\x7e\x01\x7d",
+    ),
+    (Call::Function(LONG_PARAMS, LONG_RESULTS), LONG_FUNCTION),
+    (Call::Array(StorageType::I16, false), b"\x5e\x77\x00"),
+    (
+        Call::Array(StorageType::Val(ValType::I32), true),
+        b"\x5e\x7f\x01",
+    ),
+    (
+        Call::Array(ELEMENT, true),
+        b"\x5e\x64\xff\xff\xff\xff\x0f\x01",
+    ),
+    (Call::Struct(&[]), b"\x5f\x00"),
+    (Call::Struct(&[I8, I32]), b"\x5f\x02\x78\x01\x7f\x00"),
+    (
+        Call::Struct(&[FIELD, FIELD]),
+        b"\x5f\x02\x64\xff\xff\xff\xff\x0f\x01\x64\xff\xff\xff\xff\x0f\x01",
+    ),
 ];
 
 fn check_composites(rt: &impl Abort, alloc: Global) -> Result<(), Fault> {
@@ -131,7 +163,7 @@ fn check_func_type(
     alloc: Global,
     params: &[ValType],
     results: &[ValType],
-    text: &str,
+    text: &[u8],
 ) -> Result<(), Fault> {
     let ty = func_type(alloc, params, results)?;
     check(rt, alloc, Call::FuncType(&ty), text, text)
@@ -140,28 +172,62 @@ fn check_func_type(
 #[test]
 fn composites(rt: HostRuntime) -> Result<(), Fail> {
     check_composites(&rt, rt.alloc())?;
-    check_func_type(&rt, rt.alloc(), &[], &[], "600000")?;
-    check_func_type(&rt, rt.alloc(), &PARAMS, &[ValType::F32], "60027f7e017d")?;
+    check_func_type(&rt, rt.alloc(), &[], &[], b"\x60\x00\x00")?;
+    check_func_type(&rt, rt.alloc(), LONG_PARAMS, LONG_RESULTS, LONG_FUNCTION)?;
+    check_func_type(
+        &rt,
+        rt.alloc(),
+        &PARAMS,
+        &[ValType::F32],
+        b"\x60\x02\x7f\x7e\x01\x7d",
+    )?;
     Ok(())
 }
 
 #[test]
 fn functions(rt: HostRuntime) -> Result<(), Fail> {
     let ty = function(rt.alloc(), true, None, &[])?;
-    check_subtype(&rt, rt.alloc(), ty, "600000", "600000")?;
+    check_subtype(&rt, rt.alloc(), ty, b"\x60\x00\x00", b"\x60\x00\x00")?;
     let ty = function(rt.alloc(), false, None, &[])?;
-    check_subtype(&rt, rt.alloc(), ty, "5000600000", "005000600000")?;
+    check_subtype(
+        &rt,
+        rt.alloc(),
+        ty,
+        b"\x50\x00\x60\x00\x00",
+        b"\x00\x50\x00\x60\x00\x00",
+    )?;
     Ok(())
 }
 
 #[test]
 fn arrays_and_structures(rt: HostRuntime) -> Result<(), Fail> {
     let ty = array(true, Some(4), I16);
-    check_subtype(&rt, rt.alloc(), ty, "4f01045e7700", "4f01045e7700")?;
+    check_subtype(
+        &rt,
+        rt.alloc(),
+        ty,
+        b"\x4f\x01\x04\x5e\x77\x00",
+        b"\x4f\x01\x04\x5e\x77\x00",
+    )?;
     let ty = array(false, Some(128), I16);
-    check_subtype(&rt, rt.alloc(), ty, "500180015e7700", "00500180015e7700")?;
+    check_subtype(
+        &rt,
+        rt.alloc(),
+        ty,
+        b"\x50\x01\x80\x01\x5e\x77\x00",
+        b"\x00\x50\x01\x80\x01\x5e\x77\x00",
+    )?;
+    let ty = array(true, Some(LARGE), FIELD);
+    let text = b"\x4f\x01\xff\xff\xff\xff\x0f\x5e\x64\xff\xff\xff\xff\x0f\x01";
+    check_subtype(&rt, rt.alloc(), ty, text, text)?;
     let ty = structure(rt.alloc(), 0)?;
-    check_subtype(&rt, rt.alloc(), ty, "5001005f017801", "005001005f017801")?;
+    check_subtype(
+        &rt,
+        rt.alloc(),
+        ty,
+        b"\x50\x01\x00\x5f\x01\x78\x01",
+        b"\x00\x50\x01\x00\x5f\x01\x78\x01",
+    )?;
     Ok(())
 }
 
@@ -175,10 +241,28 @@ fn open_types(alloc: Global) -> Result<Vec<SubType>, Fault> {
 
 #[test]
 fn groups(rt: HostRuntime) -> Result<(), Fail> {
-    check_group(&rt, rt.alloc(), Vec::new(rt.alloc()), "4e00")?;
+    check_group(&rt, rt.alloc(), Vec::new(rt.alloc()), b"\x4e\x00")?;
     let types = pair(rt.alloc(), true)?;
-    check_group(&rt, rt.alloc(), types, "4e0260000060017f00")?;
+    check_group(
+        &rt,
+        rt.alloc(),
+        types,
+        b"\x4e\x02\x60\x00\x00\x60\x01\x7f\x00",
+    )?;
     let types = open_types(rt.alloc())?;
-    check_group(&rt, rt.alloc(), types, "4e025000600000500180015e7700")?;
+    check_group(
+        &rt,
+        rt.alloc(),
+        types,
+        b"\x4e\x02\x50\x00\x60\x00\x00\x50\x01\x80\x01\x5e\x77\x00",
+    )?;
+    Ok(())
+}
+
+#[test]
+fn texts(rt: HostRuntime) -> Result<(), Fail> {
+    let rows = COMPOSITES.as_slice();
+    assert!(rt; sweep_texts(rt.alloc(), &mut CoreTypeSection::new(rt.alloc()), rows)?);
+    assert!(rt; sweep_texts(rt.alloc(), &mut ModuleType::new(rt.alloc()), rows)?);
     Ok(())
 }

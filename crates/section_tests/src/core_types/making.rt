@@ -1,8 +1,10 @@
 //! Core types of which the tests are made.
 
 use std::alloc::Global;
+use sweeping::LARGE;
 use wenc_base::{
-    ArrayType, CompositeType, Fault, FieldType, FuncType, StorageType, StructType, SubType, ValType,
+    ArrayType, CompositeType, Fault, FieldType, FuncType, HeapType, RefType, StorageType,
+    StructType, SubType, ValType,
 };
 
 pub const I8: FieldType = FieldType {
@@ -19,6 +21,23 @@ pub const I32: FieldType = FieldType {
     element_type: StorageType::Val(ValType::I32),
     mutable: false,
 };
+
+/// Its text has six bytes.
+const REFERENCE: ValType = ValType::Ref(RefType {
+    nullable: false,
+    heap_type: HeapType::Concrete(LARGE),
+});
+
+pub const ELEMENT: StorageType = StorageType::Val(REFERENCE);
+
+pub const FIELD: FieldType = FieldType {
+    element_type: ELEMENT,
+    mutable: true,
+};
+
+pub const LONG_PARAMS: &[ValType] = &[REFERENCE, ValType::I32, REFERENCE, ValType::I64];
+
+pub const LONG_RESULTS: &[ValType] = &[ValType::F64, REFERENCE, ValType::V128, REFERENCE];
 
 /// What functions take and answer.
 pub fn func_type(

@@ -1,12 +1,16 @@
-//! Module types that are finished.
+//! Module types: their declarations.
 
+use crate::checks::{counts, is_text};
 use crate::core_types::calls::Call;
-use crate::core_types::checks::{copy_type, is_type};
 use crate::core_types::declaring::{Declaration, declare};
 use crate::core_types::making::{function, pair};
+use crate::lending::{Begin, Makes, has};
+use crate::swept_lending::{Swept, begun, sweep_made};
+use refusing::Refusing;
 use std::alloc::Global;
 use std::process::Abort;
 use std::test::Fail;
+use sweeping::{LARGE, NAME};
 use wenc_base::{
     AbstractHeapType, EntityType, Fault, GlobalType, HeapType, MemoryType, RefType, StorageType,
     TableType, TagType, ValType,
@@ -42,40 +46,129 @@ const GLOBAL: EntityType = EntityType::Global(GlobalType {
     mutable: true,
 });
 
-/// An entity of each kind, a type and an alias.
-pub const ENTITIES: [Declaration<'static>; 7] = [
-    Declaration::Import("m", "f", EntityType::Function(0)),
-    Declaration::Import("m", "t", TABLE),
-    Declaration::Type(Call::Function(&[ValType::I32], &[ValType::I64])),
-    Declaration::Import("", "", WIDE_MEMORY),
-    Declaration::Outer(128, 4294967295),
-    Declaration::Export("g", GLOBAL),
-    Declaration::Export("e", EntityType::Tag(TagType { func_type_idx: 128 })),
+/// What is asked of one that counts no type: it is as if empty, and is finished.
+const NO_TYPE: &[u8] = &[0, 0, 0, 0, 1, 1];
+
+/// The same of one that counts a type.
+pub const A_TYPE: &[u8] = &[0, 1, 0, 0, 0, 1];
+
+/// Upstream gives these texts. Between a declaration and its text stands whether it counts as a type.
+pub const ENTITIES: [(Declaration<'static>, &[u8], &[u8]); 7] = [
+    (
+        Declaration::Import("m", "f", EntityType::Function(0)),
+        NO_TYPE,
+        b"\x00\x01m\x01f\x00\x00",
+    ),
+    (
+        Declaration::Import("m", "t", TABLE),
+        NO_TYPE,
+        b"\x00\x01m\x01t\x01\x70\x00\x01",
+    ),
+    (
+        Declaration::Type(Call::Function(&[ValType::I32], &[ValType::I64])),
+        A_TYPE,
+        b"\x01\x60\x01\x7f\x01\x7e",
+    ),
+    (
+        Declaration::Import("", "", WIDE_MEMORY),
+        NO_TYPE,
+        b"\x00\x00\x00\x02\x05\x80\x01\x80\x80\x04",
+    ),
+    (
+        Declaration::Outer(128, 4294967295),
+        A_TYPE,
+        b"\x02\x10\x01\x80\x01\xff\xff\xff\xff\x0f",
+    ),
+    (
+        Declaration::Export("g", GLOBAL),
+        NO_TYPE,
+        b"\x03\x01g\x03\x7c\x01",
+    ),
+    (
+        Declaration::Export("e", EntityType::Tag(TagType { func_type_idx: 128 })),
+        NO_TYPE,
+        b"\x03\x01e\x04\x00\x80\x01",
+    ),
 ];
 
-const THREE: [Declaration<'static>; 3] = [
-    Declaration::Import("m", "n", MEMORY),
-    Declaration::Outer(1, 0),
-    Declaration::Export("t", EntityType::Tag(TagType { func_type_idx: 0 })),
+const THREE: [(Declaration<'static>, &[u8], &[u8]); 3] = [
+    (
+        Declaration::Import("m", "n", MEMORY),
+        NO_TYPE,
+        b"\x00\x01m\x01n\x02\x03\x01\x02",
+    ),
+    (Declaration::Outer(1, 0), A_TYPE, b"\x02\x10\x01\x01\x00"),
+    (
+        Declaration::Export("t", EntityType::Tag(TagType { func_type_idx: 0 })),
+        NO_TYPE,
+        b"\x03\x01t\x04\x00\x00",
+    ),
 ];
+
+/// The length of a name is that of `NAME`, 73.
+const LONG: [(Declaration<'static>, &[u8], &[u8]); 2] = [
+    (
+        Declaration::Import(NAME, NAME, EntityType::Function(LARGE)),
+        NO_TYPE,
+        b"\x00\x49a name that is longer than a first growth, by far: aaaaaaaaaaaaaaaaaaaaaa\
+            \x49a name that is longer than a first growth, by far: aaaaaaaaaaaaaaaaaaaaaa\x00\xff\xff\xff\xff\x0f",
+    ),
+    (
+        Declaration::Export(NAME, EntityType::Function(LARGE)),
+        NO_TYPE,
+        b"\x03\x49a name that is longer than a first growth, by far: aaaaaaaaaaaaaaaaaaaaaa\x00\xff\xff\xff\xff\x0f",
+    ),
+];
+
+/// Sweeps a declaration. With it alone a module type counts this, and has this text behind its lead.
+fn sweep_row(
+    alloc: Global,
+    heap: &Refusing,
+    call: Declaration<'_>,
+    counted: &[u8],
+    text: &[u8],
+) -> Result<bool, Fault> {
+    let lead = &[0x50, 1];
+    sweep_made::<ModuleType<&Refusing>, Declaration<'_>>(alloc, heap, call, counted, lead, text)
+}
+
+fn sweep_declarations(
+    rt: &impl Abort,
+    alloc: Global,
+    rows: &[(Declaration<'_>, &[u8], &[u8])],
+) -> Result<(), Fault> {
+    let heap = Refusing::new(alloc);
+    for (call, counted, text) in rows {
+        assert!(rt; sweep_row(alloc, &heap, *call, counted, text)?);
+    }
+    Ok(())
+}
+
+#[test]
+fn added(rt: HostRuntime) -> Result<(), Fail> {
+    sweep_declarations(&rt, rt.alloc(), ENTITIES.as_slice())?;
+    sweep_declarations(&rt, rt.alloc(), THREE.as_slice())?;
+    sweep_declarations(&rt, rt.alloc(), LONG.as_slice())?;
+    Ok(())
+}
 
 /// A module type with these declarations has so many types, and this text.
 fn check(
     rt: &impl Abort,
     alloc: Global,
-    declarations: &[Declaration<'_>],
+    rows: &[(Declaration<'_>, &[u8], &[u8])],
     count: u32,
     wanted: &str,
 ) -> Result<(), Fault> {
     let mut ty = ModuleType::new(alloc);
-    declare(&mut ty, declarations)?;
-    is_type(rt, alloc, &ty, count, wanted)
+    declare(&mut ty, rows)?;
+    has(rt, &ty, [0, count, 0, 0]);
+    is_text(rt, alloc, &ty, wanted)
 }
 
 /// Upstream gives the last.
 #[test]
 fn declarations(rt: HostRuntime) -> Result<(), Fail> {
-    check(&rt, rt.alloc(), &[], 0, "5000")?;
     let text = "500300016d016e020301020210010100030174040000";
     check(&rt, rt.alloc(), THREE.as_slice(), 1, text)?;
     let text = "500700016d0166000000016d0174017000010160017f017e0000000205800180800402\
@@ -87,41 +180,43 @@ fn declarations(rt: HostRuntime) -> Result<(), Fail> {
 /// Adds a subtype that is not final.
 pub fn add_open(ty: &mut ModuleType, alloc: Global) -> Result<(), Fault> {
     let open = function(alloc, false, None, &[])?;
-    Call::Subtype(&open).write(ty)
+    Call::Subtype(&open).make(ty)
 }
 
 /// Adds a group of types.
 fn add_group(ty: &mut ModuleType, alloc: Global) -> Result<(), Fault> {
     let group = pair(alloc, true)?;
-    Call::Rec(group.as_slice()).write(ty)
+    Call::Rec(group.as_slice()).make(ty)
 }
 
 /// Upstream gives these. A group is one type of what is counted.
 #[test]
 fn types(rt: HostRuntime) -> Result<(), Fail> {
     let mut ty = ModuleType::new(rt.alloc());
-    Call::Function(&[ValType::I32], &[]).write(&mut ty)?;
+    Call::Function(&[ValType::I32], &[]).make(&mut ty)?;
     add_open(&mut ty, rt.alloc())?;
-    Declaration::Outer(1, 0).add_to(&mut ty)?;
+    Declaration::Outer(1, 0).make(&mut ty)?;
     add_group(&mut ty, rt.alloc())?;
-    Call::Array(StorageType::I8, true).write(&mut ty)?;
+    Call::Array(StorageType::I8, true).make(&mut ty)?;
+    has(&rt, &ty, [0, 5, 0, 0]);
     let text = "50050160017f000150006000000210010100014e0260000060017f00015e7801";
-    is_type(&rt, rt.alloc(), &ty, 5, text)?;
+    is_text(&rt, rt.alloc(), &ty, text)?;
     Ok(())
 }
 
-/// The copy of a module type with an alias takes a type.
-fn grows(rt: &impl Abort, alloc: Global, copy: &mut ModuleType) -> Result<(), Fault> {
-    is_type(rt, alloc, copy, 1, "50010210010100")?;
-    Call::Function(&[], &[]).write(copy)?;
-    is_type(rt, alloc, copy, 2, "5002021001010001600000")
+/// With no, one and two aliases.
+fn check_counts(rt: &impl Abort, alloc: Global, heap: &Refusing) -> Result<(), Fault> {
+    let none = "0000000001015000";
+    let one = "00010000000150010210010000";
+    let two = "000200000001500202100100000210010000";
+    counts::<Swept<ModuleType<&Refusing>>>(rt, alloc, heap, none, one, two)
 }
 
+/// Beginnings, and copies.
 #[test]
-fn copies(rt: HostRuntime) -> Result<(), Fail> {
-    let mut ty = ModuleType::new(rt.alloc());
-    Declaration::Outer(1, 0).add_to(&mut ty)?;
-    grows(&rt, rt.alloc(), &mut copy_type(&ty)?)?;
-    is_type(&rt, rt.alloc(), &ty, 1, "50010210010100")?;
+fn begun_ones(rt: HostRuntime) -> Result<(), Fail> {
+    let heap = Refusing::new(rt.alloc());
+    check_counts(&rt, rt.alloc(), &heap)?;
+    begun::<ModuleType<&Refusing>, Begin>(&rt, rt.alloc(), &heap, &[Begin])?;
     Ok(())
 }

@@ -1,0 +1,134 @@
+//! Component types, instance types and sections of types in which a type is being written, which is given up and done
+//! again.
+
+use crate::component_types::calls::Call;
+use crate::component_types::declaring::{Declaration, Import, Kind};
+use crate::component_types::lending::{Beginning, Item, Opening};
+use crate::lending::{Makes, is};
+use crate::unfinished::{NO_ITEMS, take_back_each};
+use std::alloc::Global;
+use std::process::Abort;
+use std::test::Fail;
+use wenc_base::Fault;
+use wenc_parts::{Alias, ComponentOuterAliasKind, ComponentTypeRef};
+use wenc_sections::ComponentTypeSection;
+use wenc_types::component_type::ComponentTypes;
+use wenc_types::instance_type::InstanceTypes;
+use wenc_types::{ComponentType, Declarations, InstanceType};
+
+/// What is counted when a type is begun in each way.
+const OPENINGS: [(Opening, [u32; 4]); 4] = [
+    (Opening::Type, [1, 0, 1, 0]),
+    (Opening::Tagged, [1, 0, 1, 0]),
+    (Opening::CoreType, [1, 1, 0, 0]),
+    (Opening::Core, [1, 1, 0, 0]),
+];
+
+const OUTER: Alias<'static> = Alias::Outer {
+    kind: ComponentOuterAliasKind::Type,
+    count: 1,
+    index: 0,
+};
+
+const FUNC: ComponentTypeRef = ComponentTypeRef::Func(0);
+
+/// What nothing is declared by meanwhile.
+const DECLARATIONS: [Declaration<'static>; 3] = [
+    Declaration::Alias(OUTER),
+    Declaration::Export("f", FUNC),
+    Declaration::Array,
+];
+
+const IMPORTS: [Import<'static>; 1] = [Import("f", FUNC)];
+
+/// Afterwards the type is as it was, and takes a declaration.
+fn goes_on<K: Kind>(rt: &impl Abort, alloc: Global, none: &[u8], one: &[u8]) -> Result<(), Fault> {
+    let mut ty: Declarations<K> = Declarations::new(alloc);
+    take_back_each(
+        rt,
+        alloc,
+        &mut ty,
+        OPENINGS.as_slice(),
+        DECLARATIONS.as_slice(),
+    )?;
+    is(rt, alloc, &ty, none)?;
+    Call::Own(64).make(&mut ty)?;
+    is(rt, alloc, &ty, one)
+}
+
+#[test]
+fn component_types(rt: HostRuntime) -> Result<(), Fail> {
+    let none = b"\x00\x00\x00\x00\x01\x01\x41\x00";
+    let one = b"\x01\x00\x01\x00\x00\x01\x41\x01\x01\x69\x40";
+    goes_on::<ComponentTypes>(&rt, rt.alloc(), none, one)?;
+    Ok(())
+}
+
+#[test]
+fn instance_types(rt: HostRuntime) -> Result<(), Fail> {
+    let none = b"\x00\x00\x00\x00\x01\x01\x42\x00";
+    let one = b"\x01\x00\x01\x00\x00\x01\x42\x01\x01\x69\x40";
+    goes_on::<InstanceTypes>(&rt, rt.alloc(), none, one)?;
+    Ok(())
+}
+
+/// Nor do component types declare imports meanwhile.
+#[test]
+fn imports(rt: HostRuntime) -> Result<(), Fail> {
+    let mut ty = ComponentType::new(rt.alloc());
+    take_back_each(
+        &rt,
+        rt.alloc(),
+        &mut ty,
+        OPENINGS.as_slice(),
+        IMPORTS.as_slice(),
+    )?;
+    Ok(())
+}
+
+const BEGINNINGS: [(Beginning, [u32; 4]); 6] = [
+    (Beginning::Item, [1, 0, 0, 0]),
+    (Beginning::Values, [1, 0, 0, 0]),
+    (Beginning::DefinedType, [1, 0, 0, 0]),
+    (Beginning::Function, [1, 0, 0, 0]),
+    (Beginning::Tagged, [1, 0, 0, 0]),
+    (Beginning::Listed, [1, 0, 0, 0]),
+];
+
+/// Each item that was begun is given up. Meanwhile the section takes neither of these types, nor anything else.
+fn gives_up<'t>(
+    rt: &impl Abort,
+    alloc: Global,
+    section: &mut ComponentTypeSection,
+    component: &'t ComponentType,
+    instance: &'t InstanceType,
+) -> Result<(), Fault> {
+    let items = [
+        Item::Component(component),
+        Item::Instance(instance),
+        Item::Resource(None),
+        Item::Begun(Beginning::Function),
+        Item::Begun(Beginning::DefinedType),
+    ];
+    take_back_each(rt, alloc, section, BEGINNINGS.as_slice(), items.as_slice())?;
+    is(rt, alloc, section, NO_ITEMS)
+}
+
+fn gives_up_each(
+    rt: &impl Abort,
+    alloc: Global,
+    section: &mut ComponentTypeSection,
+) -> Result<(), Fault> {
+    let component = ComponentType::new(alloc);
+    gives_up(rt, alloc, section, &component, &InstanceType::new(alloc))
+}
+
+#[test]
+fn sections(rt: HostRuntime) -> Result<(), Fail> {
+    let mut section = ComponentTypeSection::new(rt.alloc());
+    gives_up_each(&rt, rt.alloc(), &mut section)?;
+    Call::Own(64).make(&mut section)?;
+    let wanted = b"\x01\x00\x00\x00\x00\x01\x03\x01\x69\x40";
+    is(&rt, rt.alloc(), &section, wanted)?;
+    Ok(())
+}

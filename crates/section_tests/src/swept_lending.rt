@@ -1,0 +1,324 @@
+//! Sweeps of what lends itself to the encoders of types.
+
+use crate::lending::{Lending, Makes, TypeKind, is, state};
+use refusing::Refusing;
+use std::alloc::Global;
+use std::process::Abort;
+use sweeping::REFUSED;
+use sweeping::members::{Adds, Members, is_as, started, sweep_add, sweep_clones};
+use wenc_base::Fault;
+use wenc_sections::Counted;
+
+/// What has its requests for memory refused.
+pub trait OnHeap<'a>: Lending {
+    fn empty(heap: &'a Refusing) -> Self;
+}
+
+impl<'a, K: TypeKind> OnHeap<'a> for Counted<K, &'a Refusing> {
+    fn empty(heap: &'a Refusing) -> Self {
+        Counted::new(heap)
+    }
+}
+
+/// The same, for sweeps.
+#[derive(Drop)]
+pub struct Swept<L>(pub L);
+
+impl<'a, L: OnHeap<'a>> Members<'a> for Swept<L> {
+    fn empty(heap: &'a Refusing) -> Result<Self, Fault> {
+        Ok(Swept(L::empty(heap)))
+    }
+
+    fn add_short(&mut self) -> Result<(), Fault> {
+        self.0.add_short()
+    }
+
+    fn again(&self) -> Result<Self, Fault> {
+        Ok(Swept(self.0.copy()?))
+    }
+
+    fn state(&self, alloc: Global) -> Result<Vec<u8>, Fault> {
+        state(alloc, &self.0)
+    }
+}
+
+/// Whether a type is being written, so that nothing is added.
+fn is_closed<L: Lending>(to: &mut L) -> bool {
+    !to.is_finished()
+        && to.begin() == Err(Fault::Unfinished)
+        && to.add_short() == Err(Fault::Unfinished)
+}
+
+/// Gives up the type that is being written. `TooMany` says that there was none.
+fn give_up<L: Lending>(to: &mut L) -> Result<(), Fault> {
+    if is_closed(to) && to.give_up() {
+        Ok(())
+    } else {
+        Err(Fault::TooMany)
+    }
+}
+
+/// Gives up what the refused call of an encoder has left. Where the beginning asks for memory, it may have been that.
+fn take_back<L: Lending>(to: &mut L) -> Result<(), Fault> {
+    if L::BEGINNING_ASKS && to.is_finished() {
+        return Ok(());
+    }
+    give_up(to)
+}
+
+/// What makes a member.
+#[derive(Clone, Copy)]
+pub struct Made<C>(pub C);
+
+impl<L: Lending, C: Makes<L>> Adds<Swept<L>> for Made<C> {
+    fn add(&self, to: &mut Swept<L>) -> Result<(), Fault> {
+        let outcome = self.0.make(&mut to.0);
+        if outcome.is_err() && self.0.is_lent() {
+            take_back(&mut to.0)?;
+        }
+        outcome
+    }
+}
+
+/// This is counted, and behind this lead there is this text.
+fn is_made_of(state: &[u8], counted: &[u8], lead: &[u8], text: &[u8]) -> bool {
+    match state.strip_prefix(counted) {
+        Some(rest) => rest.strip_prefix(lead) == Some(text),
+        None => false,
+    }
+}
+
+/// With this call alone, this is all that can be asked.
+fn makes<'a, L: OnHeap<'a>, C: Makes<L>>(
+    alloc: Global,
+    heap: &'a Refusing,
+    call: &Made<C>,
+    counted: &[u8],
+    lead: &[u8],
+    text: &[u8],
+) -> Result<bool, Fault> {
+    let mut members: Swept<L> = started(heap, 0)?;
+    call.add(&mut members)?;
+    let state = members.state(alloc)?;
+    Ok(is_made_of(state.as_slice(), counted, lead, text))
+}
+
+/// Sweeps a call. With it alone, this is all that can be asked: what is counted, and whether it is empty and finished;
+/// then what the text begins with, and what the call makes.
+pub fn sweep_made<'a, L: OnHeap<'a>, C: Makes<L> + Copy>(
+    alloc: Global,
+    heap: &'a Refusing,
+    call: C,
+    counted: &[u8],
+    lead: &[u8],
+    text: &[u8],
+) -> Result<bool, Fault> {
+    let call = Made(call);
+    Ok(
+        makes::<L, C>(alloc, heap, &call, counted, lead, text)?
+            && sweep_add::<Swept<L>, Made<C>>(alloc, heap, &call)?,
+    )
+}
+
+/// One item: the section isn't empty, and is finished.
+const AN_ITEM: &[u8] = &[1, 0, 0, 0, 0, 1];
+
+/// The size of a section with an item of this text, which takes one byte.
+fn size(text: &[u8]) -> u8 {
+    let mut size = 1u8;
+    for _ in text {
+        size = size.wrapping_add(1);
+    }
+    size
+}
+
+/// Sweeps a call that makes an item of this text, behind the section's size and number of items.
+pub fn sweep_item<'a, L: OnHeap<'a>, C: Makes<L> + Copy>(
+    alloc: Global,
+    heap: &'a Refusing,
+    call: C,
+    text: &[u8],
+) -> Result<bool, Fault> {
+    sweep_made::<L, C>(alloc, heap, call, AN_ITEM, &[size(text), 1], text)
+}
+
+/// Sweeps the text each time that a call has added to it.
+pub fn sweep_texts<L: Lending, C: Makes<L>>(
+    alloc: Global,
+    to: &mut L,
+    rows: &[(C, &[u8])],
+) -> Result<bool, Fault> {
+    let mut is_well = to.sweep_text(alloc)?;
+    for (call, _) in rows {
+        call.make(to)?;
+        is_well = is_well && to.sweep_text(alloc)?;
+    }
+    Ok(is_well)
+}
+
+/// The last call is refused.
+fn is_refused<L: Lending, C: Makes<L>>(
+    rt: &impl Abort,
+    heap: &Refusing,
+    to: &mut L,
+    call: &C,
+) -> Result<(), Fault> {
+    heap.refuse_all();
+    assert!(rt; call.make(to) == Err(REFUSED));
+    assert!(rt; heap.requests() == 1);
+    give_up(to)
+}
+
+/// So it is where so many members leave room for the beginning of a type, and no more.
+pub fn last_is_refused<'a, L: OnHeap<'a>, C: Makes<L>>(
+    rt: &impl Abort,
+    heap: &'a Refusing,
+    count: u32,
+    call: &C,
+) -> Result<(), Fault> {
+    let mut members: Swept<L> = started(heap, count)?;
+    is_refused(rt, heap, &mut members.0, call)
+}
+
+/// Nothing is in it, and nothing was asked for.
+fn is_new<L: Lending>(rt: &impl Abort, heap: &Refusing, new: &L) {
+    assert!(rt; new.is_empty() && new.is_finished());
+    assert!(rt; new.counts() == [0; 4]);
+    assert!(rt; heap.requests() == 0);
+}
+
+/// What is new takes no memory, nor does a copy of it, and there is nothing to be given up.
+fn is_made<'a, L: OnHeap<'a>>(rt: &impl Abort, heap: &'a Refusing) -> Result<(), Fault> {
+    heap.refuse_all();
+    let mut new = L::empty(heap);
+    assert!(rt; !new.give_up());
+    is_new(rt, heap, &new);
+    is_new(rt, heap, &new.copy()?);
+    Ok(())
+}
+
+/// A beginning that is refused changes nothing.
+fn is_not_begun<L: Lending, B: Makes<L>>(rt: &impl Abort, heap: &Refusing, to: &mut L, start: &B) {
+    heap.refuse_all();
+    assert!(rt; start.make(to) == Err(REFUSED));
+    assert!(rt; heap.requests() == 1);
+    heap.refuse_all();
+    is_new(rt, heap, to);
+}
+
+/// Each beginning asks for memory, where any does.
+fn begin_nothing<'a, L: OnHeap<'a>, B: Makes<L>>(
+    rt: &impl Abort,
+    heap: &'a Refusing,
+    beginnings: &[B],
+) {
+    let mut to = L::empty(heap);
+    for start in beginnings {
+        if L::BEGINNING_ASKS {
+            is_not_begun(rt, heap, &mut to, start);
+        }
+    }
+}
+
+/// A beginning has the memory that it asks for.
+fn let_begin<L: Lending>(heap: &Refusing) {
+    if L::BEGINNING_ASKS {
+        heap.refuse_none();
+    } else {
+        heap.refuse_all();
+    }
+}
+
+/// A type is begun in each way, and given up without memory.
+fn begin_each<L: Lending, B: Makes<L>>(
+    rt: &impl Abort,
+    heap: &Refusing,
+    to: &mut L,
+    beginnings: &[B],
+) -> Result<(), Fault> {
+    for start in beginnings {
+        let_begin::<L>(heap);
+        start.make(to)?;
+        assert!(rt; L::BEGINNING_ASKS || heap.requests() == 0);
+        heap.refuse_all();
+        give_up(to)?;
+        assert!(rt; heap.requests() == 0);
+    }
+    Ok(())
+}
+
+/// Nothing is lost of so many members.
+fn keeps_members<'a, L: OnHeap<'a>, B: Makes<L>>(
+    rt: &impl Abort,
+    alloc: Global,
+    heap: &'a Refusing,
+    count: u32,
+    beginnings: &[B],
+) -> Result<(), Fault> {
+    let mut members: Swept<L> = started(heap, count)?;
+    let before = members.state(alloc)?;
+    begin_each(rt, heap, &mut members.0, beginnings)?;
+    assert!(rt; is_as(alloc, &members, before.as_slice())?);
+    Ok(())
+}
+
+/// What was begun is given up, and all is as it was before.
+fn is_as_before<L: Lending>(
+    rt: &impl Abort,
+    alloc: Global,
+    of: &mut L,
+    before: &[u8],
+) -> Result<(), Fault> {
+    give_up(of)?;
+    is(rt, alloc, of, before)
+}
+
+/// A copy of what is unfinished asks for memory once.
+fn is_not_copied<L: Lending>(rt: &impl Abort, heap: &Refusing, of: &L) {
+    heap.refuse_nth(1);
+    assert!(rt; of.copy().err() == Some(REFUSED));
+    assert!(rt; heap.requests() == 1);
+}
+
+/// A copy while a type is being written.
+fn is_copied<L: Lending>(
+    rt: &impl Abort,
+    alloc: Global,
+    heap: &Refusing,
+    of: &mut L,
+    before: &[u8],
+) -> Result<(), Fault> {
+    of.begin()?;
+    is_not_copied(rt, heap, of);
+    is_as_before(rt, alloc, &mut of.copy()?, before)?;
+    is_as_before(rt, alloc, of, before)
+}
+
+/// So it is with members before it.
+fn copies<'a, L: OnHeap<'a>>(
+    rt: &impl Abort,
+    alloc: Global,
+    heap: &'a Refusing,
+) -> Result<(), Fault> {
+    let mut members: Swept<L> = started(heap, 3)?;
+    let before = members.state(alloc)?;
+    is_copied(rt, alloc, heap, &mut members.0, before.as_slice())?;
+    assert!(rt; sweep_clones::<Swept<L>>(alloc, heap, false)?);
+    Ok(())
+}
+
+/// New ones, copies, and types that are begun in each of these ways and given up.
+pub fn begun<'a, L: OnHeap<'a>, B: Makes<L>>(
+    rt: &impl Abort,
+    alloc: Global,
+    heap: &'a Refusing,
+    beginnings: &[B],
+) -> Result<(), Fault> {
+    is_made::<L>(rt, heap)?;
+    copies::<L>(rt, alloc, heap)?;
+    begin_nothing::<L, B>(rt, heap, beginnings);
+    for count in 0..9u32 {
+        keeps_members::<L, B>(rt, alloc, heap, count, beginnings)?;
+    }
+    Ok(())
+}
