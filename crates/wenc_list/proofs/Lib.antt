@@ -1,3 +1,5 @@
-pub mod Texts
 pub mod Loop
+pub mod Rows
+pub mod SubTypes
 pub mod Tables
+pub mod Texts

@@ -1,2 +1,4 @@
+pub mod CoreTypes
+pub mod Entities
 pub mod Gives
 pub mod Tables

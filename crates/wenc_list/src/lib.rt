@@ -2,8 +2,10 @@
 //! types.
 #![tactic(auto)]
 
+mod composites;
 mod core_types;
 mod decode;
+mod entities;
 mod number;
 mod refusal;
 mod text;
