@@ -1,4 +1,6 @@
+pub mod Aliases
 pub mod CoreTypes
 pub mod Entities
 pub mod Gives
 pub mod Tables
+pub mod Types

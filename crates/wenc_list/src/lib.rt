@@ -1,11 +1,16 @@
-//! Reads finished components back. So far only what others are made of is read: numbers, texts, lists, options and heap
-//! types.
+//! Reads finished components back. So far only what others are made of is read: numbers, texts, lists, options, core types,
+//! and what sections of components name and refer to.
 #![tactic(auto)]
 
+mod aliases;
 mod composites;
 mod core_types;
 mod decode;
 mod entities;
+mod exports;
+mod imports;
+mod instances;
 mod number;
 mod refusal;
 mod text;
+mod types;
