@@ -1,4 +1,5 @@
 pub mod Loop
+pub mod Options
 pub mod Rows
 pub mod SubTypes
 pub mod Tables

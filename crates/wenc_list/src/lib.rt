@@ -10,6 +10,7 @@ mod entities;
 mod exports;
 mod imports;
 mod instances;
+mod names;
 mod number;
 mod refusal;
 mod text;
