@@ -64,3 +64,8 @@ wraps make rows made more h b [] rest first e = absurd cc
 wraps make rows made more h b (c ∷ bytes) rest first e =
     let same = some_pair_parts c b bytes rest first in
     rw (same.0, same.1) (picks make rows made more h b rest e)
+
+-- what is found by a table alone
+pub found_alone : {A : Type 0} (some : Option (A × List ℕ)) → go_on some (λ v. give v) ≡ some
+found_alone None = refl
+found_alone (Some x) = refl

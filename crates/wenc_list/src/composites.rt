@@ -1,7 +1,7 @@
 //! The types that modules define, alone and in groups.
-ghost use Rattle.std.specs.Prelude.{Some, true};
+ghost use Rattle.std.specs.Prelude.{Some, false, true};
 ghost use Rattle.wenc_base.specs.Composites.{composite_view, sub_view, group_view};
-ghost use Rattle.wenc_base.specs.laws.Composites.{read_composite, read_sub_type, read_group, read_closed, sub_of};
+ghost use Rattle.wenc_base.specs.laws.Composites.{read_composite, read_sub_type, read_group, read_closed, read_extension, sub_of};
 ghost use Rattle.wenc_list.specs.Gives.{Gives};
 
 use crate::decode::Decode;
@@ -100,16 +100,7 @@ impl<A: Allocator + Copy> Decode<A> for SubType<A> {
     #[tactic(auto, unfolding(wenc_base::specs::laws::Lawful::choose))]
     fn decode<'a>(alloc: A, bytes: &'a [u8]) -> Result<(SubType<A>, &'a [u8]), Refusal> {
         match byte(bytes)? {
-            (0x50, rest) => {
-                let (supertype_idx, rest) = Option::decode(alloc, rest)?;
-                let (composite_type, rest) = CompositeType::decode(alloc, rest)?;
-                let ty = SubType {
-                    is_final: false,
-                    supertype_idx,
-                    composite_type,
-                };
-                Ok((ty, rest))
-            }
+            (0x50, rest) => open(alloc, rest),
             (0x4f, rest) => closed(alloc, rest),
             _ => {
                 let (composite_type, rest) = CompositeType::decode(alloc, bytes)?;
@@ -122,6 +113,24 @@ impl<A: Allocator + Copy> Decode<A> for SubType<A> {
             }
         }
     }
+}
+
+/// A type that can be extended.
+pub(crate) fn open<A: Allocator + Copy>(
+    alloc: A,
+    bytes: &[u8],
+) -> Result<(SubType<A>, &[u8]), Refusal>
+    ensures { Gives (λ x. (sub_view x.0, x.1.now)) result
+        (read_extension (λ n c. sub_of false n c) bytes.now) }
+{
+    let (supertype_idx, rest) = Option::decode(alloc, bytes)?;
+    let (composite_type, rest) = CompositeType::decode(alloc, rest)?;
+    let ty = SubType {
+        is_final: false,
+        supertype_idx,
+        composite_type,
+    };
+    Ok((ty, rest))
 }
 
 /// A type that extends another and can't be extended.

@@ -4,6 +4,7 @@
 
 mod aliases;
 mod composites;
+mod core_type_tree;
 mod core_types;
 mod decode;
 mod entities;
