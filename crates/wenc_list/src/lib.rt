@@ -1,5 +1,5 @@
-//! Reads finished components back. So far only what others are made of is read: numbers, texts, lists, options, core types,
-//! and what sections of components name and refer to.
+//! Reads finished components back. So far only what sections are made of is read: numbers, texts, lists, options, core types
+//! and module types, and what components name and refer to.
 #![tactic(auto)]
 
 mod aliases;
