@@ -1,58 +1,74 @@
 //! What a builder's component is to be.
 
-use std::alloc::Global;
+use std::alloc::{Allocator, Global};
 use std::process::Abort;
-use wenc_base::Fault;
-use wenc_builder::ComponentBuilder;
+use wasm_encoder::{ComponentBuilder, Fault};
 
-/// The builder's bytes in hexadecimal.
-pub fn component(alloc: Global, builder: ComponentBuilder) -> Result<String, Fault> {
-    let bytes = builder.finish()?;
-    Ok(hex::encode(alloc, bytes.as_slice())?)
-}
+/// The bytes in front of the first section.
+pub const HEADER: &[u8] = b"\x00asm\x0d\x00\x01\x00";
 
-/// The builder's component has these bytes.
-pub fn finished(
-    rt: &impl Abort,
-    alloc: Global,
-    builder: ComponentBuilder,
-    wanted: &str,
-) -> Result<(), Fault> {
-    let bytes = component(alloc, builder)?;
-    assert_eq!(rt; bytes.as_str(), wanted);
-    Ok(())
-}
-
-/// Behind its header, the builder's component has these bytes.
-pub fn holds(
-    rt: &impl Abort,
-    alloc: Global,
-    builder: ComponentBuilder,
-    wanted: &str,
-) -> Result<(), Fault> {
-    let bytes = component(alloc, builder)?;
-    assert_eq!(rt;
-        bytes.as_str().strip_prefix("0061736d0d000100"),
-        Some(wanted)
-    );
-    Ok(())
-}
-
-/// A call that adds an item.
+/// A call that adds an item. What it is given is made with `alloc`, which refuses nothing.
 pub trait Call: Copy {
-    fn make(self, alloc: Global, builder: &mut ComponentBuilder) -> Result<u32, Fault>;
+    fn make<A: Allocator + Copy>(
+        self,
+        alloc: Global,
+        builder: &mut ComponentBuilder<A>,
+    ) -> Result<u32, Fault>;
 }
+
+/// The component has these bytes.
+pub fn finishes<A: Allocator>(
+    rt: &impl Abort,
+    builder: ComponentBuilder<A>,
+    wanted: &[u8],
+) -> Result<(), Fault> {
+    let bytes = builder.finish()?;
+    assert!(rt; bytes.as_slice() == wanted);
+    Ok(())
+}
+
+/// How many items there are of each kind.
+pub fn counts<A: Allocator>(builder: &ComponentBuilder<A>) -> [u32; 13] {
+    [
+        builder.core_module_count(),
+        builder.core_func_count(),
+        builder.core_type_count(),
+        builder.core_memory_count(),
+        builder.core_table_count(),
+        builder.core_instance_count(),
+        builder.core_tag_count(),
+        builder.core_global_count(),
+        builder.func_count(),
+        builder.instance_count(),
+        builder.value_count(),
+        builder.component_count(),
+        builder.type_count(),
+    ]
+}
+
+/// Calls with their answers, and the component that they make, behind its header.
+pub type Row<'a, C> = (&'a [(C, Result<u32, Fault>)], &'a [u8]);
 
 /// A builder that makes these calls answers so, and then has these bytes behind its header.
 pub fn row<C: Call>(
     rt: &impl Abort,
     alloc: Global,
     calls: &[(C, Result<u32, Fault>)],
-    wanted: &str,
+    wanted: &[u8],
 ) -> Result<(), Fault> {
     let mut builder = ComponentBuilder::new(alloc)?;
     for (call, answer) in calls {
         assert!(rt; call.make(alloc, &mut builder) == *answer);
     }
-    holds(rt, alloc, builder, wanted)
+    let bytes = builder.finish()?;
+    assert!(rt; bytes.as_slice().strip_prefix(HEADER) == Some(wanted));
+    Ok(())
+}
+
+/// The same of each row.
+pub fn rows<C: Call>(rt: &impl Abort, alloc: Global, rows: &[Row<'_, C>]) -> Result<(), Fault> {
+    for (calls, wanted) in rows {
+        row(rt, alloc, calls, wanted)?;
+    }
+    Ok(())
 }

@@ -1,135 +1,442 @@
-use std::alloc::{AllocError, Global};
+//! Each command: worked components that `build` makes of commands.
+
+use crate::checks::HEADER;
+use crate::heap::{alias, export_alias, list, module, name, outer_type, text};
+use std::alloc::Global;
 use std::process::Abort;
-use std::test::Fail;
 use wasm_encoder::{
-    AliasTree, Command, ComponentExportKind, ComponentOuterAliasKind, ComponentTypeRef,
-    ComponentValType, ExportKind, NameTree, TypeBounds, build,
+    AliasTree, CanonTree, CanonicalOption, CaseTree, Command, ComponentDecl, ComponentExportKind,
+    ComponentOuterAliasKind, ComponentTypeRef, ComponentValType, CompositeType, CoreInstanceTree,
+    CoreTypeTree, DefinedTree, ExportKind, Fault, FuncType, GroupTree, InstanceDecl, InstanceTree,
+    ModuleArg, ModuleDecl, NameTree, PrimitiveValType, StructType, SubType, TypeBounds, TypeTree,
+    ValType, build,
 };
 
-/// The commands are answered with these numbers, and give these bytes.
-fn builds(
-    rt: &impl Abort,
-    alloc: Global,
-    commands: &[Command],
-    wanted: &[u32],
-    bytes: &str,
-) -> Result<(), Fail> {
-    let built = build(alloc, commands)?;
-    let mut answers = built.answers.iter();
-    for index in wanted {
-        let answer = answers.next().ok_or("an answer is missing")?;
-        assert_eq!(rt; *answer, Ok(Some(*index)));
+/// What a command is to answer: an index, none, or a fault.
+type Wanted = Result<Option<u32>, Fault>;
+
+const STRING: ComponentValType = ComponentValType::Primitive(PrimitiveValType::String);
+
+const BYTE: ComponentTypeRef = ComponentTypeRef::Value(ComponentValType::Primitive(
+    PrimitiveValType::U8,
+));
+
+/// The commands are answered so, and give these bytes behind the header.
+fn builds<R: Abort + AllocGlobal>(rt: &R, commands: &[Command], wanted: &[Wanted], bytes: &[u8]) {
+    match build(rt.alloc(), commands) {
+        Ok(built) => {
+            assert!(rt; built.answers.as_slice() == wanted);
+            assert!(rt; built.bytes.as_slice().strip_prefix(HEADER) == Some(bytes));
+        }
+        Err(fault) => panic!(rt; "{fault}"),
     }
-    assert!(rt; answers.next().is_none());
-    let text = hex::encode(alloc, built.bytes.as_slice())?;
-    assert_eq!(rt; text.as_str(), bytes);
-    Ok(())
 }
 
-fn name(alloc: Global, text: &str) -> Result<NameTree, AllocError> {
-    Ok(NameTree::from(String::from_str(alloc, text)?))
+/// One command gets index 0.
+fn builds_one<R: Abort + AllocGlobal>(rt: &R, command: Command, bytes: &[u8]) {
+    builds(rt, &[command], &[Ok(Some(0))], bytes);
 }
 
-fn import(alloc: Global, text: &str, ty: ComponentTypeRef) -> Result<Command, AllocError> {
-    let name = name(alloc, text)?;
-    Ok(Command::Import { name, ty })
+fn canon(canon: CanonTree) -> Command {
+    Command::Canon { n: None, canon }
 }
 
-/// Exports the first item of this kind.
-fn export(alloc: Global, text: &str, kind: ComponentExportKind) -> Result<Command, AllocError> {
-    Ok(Command::Export {
-        name: name(alloc, text)?,
-        kind,
-        index: 0,
-        ty: None,
-    })
+fn start(alloc: Global, args: &[u32], results: u32) -> Command {
+    Command::Start {
+        function: 7,
+        args: list(alloc, args.to_vec(alloc)),
+        results,
+    }
 }
 
-/// Under this debug name the item that an instance exports under the same name.
-fn named_alias(
-    alloc: Global,
-    text: &str,
-    instance: u32,
-    kind: ComponentExportKind,
-) -> Result<Command, AllocError> {
-    Ok(Command::Alias {
-        n: Some(String::from_str(alloc, text)?),
-        alias: AliasTree::InstanceExport {
-            instance,
-            kind,
-            name: String::from_str(alloc, text)?,
-        },
-    })
+/// Imports a value of a byte.
+fn import(alloc: Global) -> Command {
+    Command::Import {
+        name: name(alloc, "v"),
+        ty: BYTE,
+    }
 }
 
-/// The item of the first instance that has this name.
-fn alias(alloc: Global, text: &str, kind: ComponentExportKind) -> Result<Command, AllocError> {
-    Ok(Command::Alias {
-        n: None,
-        alias: AliasTree::InstanceExport {
-            instance: 0,
-            kind,
-            name: String::from_str(alloc, text)?,
-        },
-    })
+fn core_type(ty: CoreTypeTree) -> Command {
+    Command::CoreType { n: None, ty }
+}
+
+fn ty(ty: TypeTree) -> Command {
+    Command::Type { n: None, ty }
 }
 
 #[test]
-fn no_command(rt: HostRuntime) -> Result<(), Fail> {
-    builds(&rt, rt.alloc(), &[], &[], "0061736d0d000100")
-}
-
-#[test]
-fn each_command(rt: HostRuntime) -> Result<(), Fail> {
+fn modules_part_neighbours(rt: HostRuntime) {
     let alloc = rt.alloc();
-    let value = ComponentTypeRef::Value(ComponentValType::Type(64));
-    let ty = ComponentTypeRef::Type(TypeBounds::Eq(3));
-    let commands = vec![in alloc;
-        import(alloc, "a", value)?,
-        import(alloc, "b", ty)?,
-        named_alias(alloc, "m", 5, ComponentExportKind::Module)?,
-        export(alloc, "c", ComponentExportKind::Module)?,
-        alias(alloc, "v", ComponentExportKind::Value)?,
-    ]?;
+    let commands = [
+        canon(CanonTree::ResourceNew(1)),
+        module(rt.alloc(), &[]),
+        canon(CanonTree::ResourceRep(1)),
+    ];
+    let wanted = [Ok(Some(0)), Ok(Some(0)), Ok(Some(1))];
+    let bytes = b"\x08\x03\x01\x02\x01\x01\x00\x08\x03\x01\x04\x01";
+    builds(&rt, &commands, &wanted, bytes);
+}
+
+// The size has two bytes.
+#[test]
+fn a_long_module(rt: HostRuntime) {
+    let commands = [module(rt.alloc(), &[0; 128])];
+    match build(rt.alloc(), &commands) {
+        Ok(built) => {
+            assert!(rt; built.bytes.len() == 139);
+            assert!(rt; built.bytes.as_slice().get(8..12) == Some([1, 128, 1, 0].as_slice()));
+        }
+        Err(fault) => panic!(rt; "{fault}"),
+    }
+}
+
+#[test]
+fn starts(rt: HostRuntime) {
+    let commands = [
+        start(rt.alloc(), &[], 4294967295),
+        import(rt.alloc()),
+        start(rt.alloc(), &[], 0),
+    ];
+    let wanted = [Ok(Some(0)), Err(Fault::TooMany), Ok(Some(4294967295))];
+    let bytes = b"\x09\x07\x07\x00\xff\xff\xff\xff\x0f\x09\x03\x07\x00\x00";
+    builds(&rt, &commands, &wanted, bytes);
+    let commands = [start(rt.alloc(), &[1, 0], 1)];
     builds(
         &rt,
+        &commands,
+        &[Ok(Some(0))],
+        b"\x09\x05\x07\x02\x01\x00\x01",
+    );
+}
+
+#[test]
+fn functions(rt: HostRuntime) {
+    let alloc = rt.alloc();
+    let options = list(
         alloc,
-        commands.as_slice(),
-        &[0, 0, 0, 1, 1],
-        "0061736d0d0001000a0d0200016102c00000016203000306070100110005016d0b0801000163001100000606010200000176",
-    )
+        vec![in alloc; CanonicalOption::Memory(0), CanonicalOption::Async],
+    );
+    let lift = CanonTree::Lift {
+        core_func: 1,
+        ty: 2,
+        options,
+    };
+    builds_one(
+        &rt,
+        canon(lift),
+        b"\x08\x09\x01\x00\x00\x01\x02\x03\x00\x06\x02",
+    );
+    let cancel = canon(CanonTree::SubtaskCancel(true));
+    builds_one(&rt, cancel, b"\x08\x03\x01\x06\x01");
+}
+
+/// A type of functions without results.
+fn function(alloc: Global, is_final: bool, params: &[ValType]) -> SubType {
+    let composite_type = match FuncType::new(alloc, params.iter().copied(), [].into_iter()) {
+        Ok(function) => CompositeType::Func(function),
+        Err(_) => CompositeType::Struct(StructType {
+            fields: Vec::new(alloc),
+        }),
+    };
+    SubType {
+        is_final,
+        supertype_idx: None,
+        composite_type,
+    }
 }
 
 #[test]
-fn an_alias_of_an_export(rt: HostRuntime) -> Result<(), Fail> {
+fn core_types(rt: HostRuntime) {
     let alloc = rt.alloc();
-    let commands = vec![in alloc; alias(alloc, "f", ComponentExportKind::Func)?]?;
-    let bytes = "0061736d0d0001000606010100000166";
-    builds(&rt, alloc, commands.as_slice(), &[0], bytes)
+    let open = CoreTypeTree::Group(GroupTree::Sub(function(rt.alloc(), false, &[])));
+    builds_one(
+        &rt,
+        core_type(open),
+        b"\x03\x07\x01\x00\x50\x00\x60\x00\x00",
+    );
+    let open = ModuleDecl::Type(GroupTree::Sub(function(rt.alloc(), false, &[])));
+    let module = CoreTypeTree::Module(list(alloc, vec![in alloc; open]));
+    builds_one(
+        &rt,
+        core_type(module),
+        b"\x03\x09\x01\x50\x01\x01\x50\x00\x60\x00\x00",
+    );
+    let pair = list(
+        alloc,
+        vec![in alloc;
+            function(rt.alloc(), true, &[]),
+            function(rt.alloc(), true, &[ValType::I32]),
+        ],
+    );
+    let group = CoreTypeTree::Group(GroupTree::Rec(pair));
+    builds_one(
+        &rt,
+        core_type(group),
+        b"\x03\x0a\x01\x4e\x02\x60\x00\x00\x60\x01\x7f\x00",
+    );
 }
 
 #[test]
-fn an_alias_of_a_core_export(rt: HostRuntime) -> Result<(), Fail> {
+fn types(rt: HostRuntime) {
     let alloc = rt.alloc();
-    let alias = AliasTree::CoreInstanceExport {
+    let cases = list(
+        alloc,
+        vec![in alloc;
+            CaseTree {
+                name: text(rt.alloc(), "a"),
+                ty: None
+            },
+            CaseTree {
+                name: text(rt.alloc(), "b"),
+                ty: Some(STRING)
+            },
+        ],
+    );
+    let variant = TypeTree::Defined(DefinedTree::Variant(cases));
+    builds_one(
+        &rt,
+        ty(variant),
+        b"\x07\x0c\x01\x71\x02\x01\x61\x00\x00\x01\x62\x01\x73\x00",
+    );
+    let function = TypeTree::Func {
+        is_async: true,
+        params: Vec::new(alloc),
+        result: None,
+    };
+    builds_one(&rt, ty(function), b"\x07\x05\x01\x43\x00\x01\x00");
+    let component = TypeTree::Component(Vec::<ComponentDecl>::new(alloc));
+    builds_one(&rt, ty(component), b"\x07\x03\x01\x41\x00");
+}
+
+#[test]
+fn instance_types(rt: HostRuntime) {
+    let alloc = rt.alloc();
+    let export = InstanceDecl::Export {
+        name: name(rt.alloc(), "t"),
+        ty: ComponentTypeRef::Type(TypeBounds::Eq(0)),
+    };
+    let option = InstanceDecl::Type(TypeTree::Defined(DefinedTree::Option(STRING)));
+    let instance = TypeTree::Instance(list(alloc, vec![in alloc; option, export]));
+    builds_one(
+        &rt,
+        ty(instance),
+        b"\x07\x0d\x01\x42\x02\x01\x6b\x73\x04\x00\x01\x74\x03\x00\x00",
+    );
+}
+
+#[test]
+fn core_instances(rt: HostRuntime) {
+    let alloc = rt.alloc();
+    let exports = list(
+        alloc,
+        vec![in alloc; (text(rt.alloc(), "foo"), ExportKind::Func, 0)],
+    );
+    let args = list(
+        alloc,
+        vec![in alloc; (text(rt.alloc(), "foo"), ModuleArg::Instance(0))],
+    );
+    let given = CoreInstanceTree::Instantiate { module: 1, args };
+    let commands = [
+        Command::CoreInstance {
+            n: None,
+            instance: CoreInstanceTree::Exports(exports),
+        },
+        Command::CoreInstance {
+            n: None,
+            instance: given,
+        },
+    ];
+    let bytes = b"\x02\x12\x02\x01\x01\x03foo\x00\x00\x00\x01\x01\x03foo\x12\x00";
+    builds(&rt, &commands, &[Ok(Some(0)), Ok(Some(1))], bytes);
+}
+
+#[test]
+fn instances(rt: HostRuntime) {
+    let alloc = rt.alloc();
+    let exports = list(
+        alloc,
+        vec![in alloc; (name(rt.alloc(), "foo"), ComponentExportKind::Func, 0)],
+    );
+    let args = list(
+        alloc,
+        vec![in alloc; (text(rt.alloc(), "foo"), ComponentExportKind::Instance, 0)],
+    );
+    let given = InstanceTree::Instantiate { component: 1, args };
+    let commands = [
+        Command::Instance {
+            n: None,
+            instance: InstanceTree::Exports(exports),
+        },
+        Command::Instance {
+            n: None,
+            instance: given,
+        },
+    ];
+    let bytes = b"\x05\x13\x02\x01\x01\x00\x03foo\x01\x00\x00\x01\x01\x03foo\x05\x00";
+    builds(&rt, &commands, &[Ok(Some(0)), Ok(Some(1))], bytes);
+}
+
+/// A component made by commands, and the same by its bytes.
+#[test]
+fn components(rt: HostRuntime) {
+    let alloc = rt.alloc();
+    let commands = list(alloc, vec![in alloc; canon(CanonTree::TaskCancel)]);
+    let bytes = b"\x04\x0c\x00asm\x0d\x00\x01\x00\x08\x02\x01\x05";
+    builds_one(&rt, Command::Component { n: None, commands }, bytes);
+    let inner = b"\x00asm\x0d\x00\x01\x00\x08\x02\x01\x05".to_vec(alloc);
+    let raw = Command::ComponentRaw {
+        n: None,
+        bytes: list(alloc, inner),
+    };
+    builds_one(&rt, raw, bytes);
+}
+
+/// What is refused inside refuses the whole component.
+#[test]
+fn refused_inside(rt: HostRuntime) {
+    let alloc = rt.alloc();
+    let inner = list(
+        alloc,
+        vec![in alloc; start(rt.alloc(), &[], 4294967295), import(rt.alloc())],
+    );
+    let commands = [Command::Component {
+        n: None,
+        commands: inner,
+    }];
+    builds(&rt, &commands, &[Err(Fault::TooMany)], b"");
+}
+
+/// The command, then the names so far.
+fn builds_named<R: Abort + AllocGlobal>(rt: &R, command: Command, bytes: &[u8]) {
+    let wanted = [Ok(Some(0)), Ok(None)];
+    builds(rt, &[command, Command::AppendNames], &wanted, bytes);
+}
+
+#[test]
+fn names(rt: HostRuntime) {
+    builds_named(
+        &rt,
+        import(rt.alloc()),
+        b"\x0a\x06\x01\x00\x01\x76\x02\x7d\x00\x16\x0ecomponent-name\x01\x05\x02\x01\x00\x01\x76",
+    );
+    let drop = Command::Canon {
+        n: Some(text(rt.alloc(), "q")),
+        canon: CanonTree::ResourceDrop(0),
+    };
+    builds_named(
+        &rt,
+        drop,
+        b"\x08\x03\x01\x03\x00\x00\x23\x0ecomponent-name\x01\x12\x00\x00\x01\x00\x0dresource.drop",
+    );
+    let promote = canon(CanonTree::ThreadYieldThenPromote);
+    builds_named(
+        &rt,
+        promote,
+        b"\x08\x03\x01\x2d\x00\x00\x2f\x0ecomponent-name\x01\x1e\x00\x00\x01\x00\x19thread.yield-then-promote",
+    );
+    builds(&rt, &[Command::AppendNames], &[Ok(None)], b"");
+}
+
+#[test]
+fn custom_sections(rt: HostRuntime) {
+    let alloc = rt.alloc();
+    let custom = Command::Custom {
+        name: text(rt.alloc(), "x"),
+        data: Vec::new(alloc),
+    };
+    builds(&rt, &[custom], &[Ok(None)], b"\x00\x02\x01\x78");
+    let bytes = list(alloc, [2, 1, 0x78].to_vec(alloc));
+    builds(
+        &rt,
+        &[Command::RawCustom { bytes }],
+        &[Ok(None)],
+        b"\x00\x02\x01\x78",
+    );
+}
+
+#[test]
+fn a_module_between_aliases(rt: HostRuntime) {
+    let commands = [
+        export_alias(rt.alloc(), ComponentExportKind::Func, "f"),
+        module(rt.alloc(), &[0xaa]),
+        outer_type(),
+    ];
+    let wanted = [Ok(Some(0)), Ok(Some(0)), Ok(Some(0))];
+    let bytes = b"\x06\x06\x01\x01\x00\x00\x01\x66\x01\x01\xaa\x06\x05\x01\x03\x02\x00\x01";
+    builds(&rt, &commands, &wanted, bytes);
+}
+
+#[test]
+fn aliases(rt: HostRuntime) {
+    let core = AliasTree::CoreInstanceExport {
         instance: 0,
         kind: ExportKind::Tag,
-        name: String::from_str(alloc, "t")?,
+        name: text(rt.alloc(), "t"),
     };
-    let commands = vec![in alloc; Command::Alias { n: None, alias }]?;
-    let bytes = "0061736d0d000100060701000401000174";
-    builds(&rt, alloc, commands.as_slice(), &[0], bytes)
-}
-
-#[test]
-fn an_outer_alias(rt: HostRuntime) -> Result<(), Fail> {
-    let alloc = rt.alloc();
-    let alias = AliasTree::Outer {
+    builds_one(&rt, alias(core), b"\x06\x07\x01\x00\x04\x01\x00\x01\x74");
+    let outer = AliasTree::Outer {
         kind: ComponentOuterAliasKind::CoreType,
         count: 1,
         index: 2,
     };
-    let commands = vec![in alloc; Command::Alias { n: None, alias }]?;
-    let bytes = "0061736d0d0001000606010010020102";
-    builds(&rt, alloc, commands.as_slice(), &[0], bytes)
+    builds_one(&rt, alias(outer), b"\x06\x06\x01\x00\x10\x02\x01\x02");
+}
+
+#[test]
+fn no_command(rt: HostRuntime) {
+    builds(&rt, &[], &[], b"");
+}
+
+/// Imports what has this type.
+fn import_of(alloc: Global, text: &str, ty: ComponentTypeRef) -> Command {
+    Command::Import {
+        name: name(alloc, text),
+        ty,
+    }
+}
+
+/// Under its own name as debug name, the module that instance 5 exports.
+fn named_alias(alloc: Global) -> Command {
+    Command::Alias {
+        n: Some(text(alloc, "m")),
+        alias: AliasTree::InstanceExport {
+            instance: 5,
+            kind: ComponentExportKind::Module,
+            name: text(alloc, "m"),
+        },
+    }
+}
+
+/// Exports the first module.
+fn export(alloc: Global) -> Command {
+    Command::Export {
+        name: name(alloc, "c"),
+        kind: ComponentExportKind::Module,
+        index: 0,
+        ty: None,
+    }
+}
+
+#[test]
+fn imports_and_exports(rt: HostRuntime) {
+    let alloc = rt.alloc();
+    let value = ComponentTypeRef::Value(ComponentValType::Type(64));
+    let commands = [
+        import_of(alloc, "a", value),
+        import_of(alloc, "b", ComponentTypeRef::Type(TypeBounds::Eq(3))),
+        named_alias(alloc),
+        export(alloc),
+        export_alias(alloc, ComponentExportKind::Value, "v"),
+    ];
+    let wanted = [
+        Ok(Some(0)),
+        Ok(Some(0)),
+        Ok(Some(0)),
+        Ok(Some(1)),
+        Ok(Some(1)),
+    ];
+    let bytes =
+        b"\x0a\x0d\x02\x00\x01\x61\x02\xc0\x00\x00\x01\x62\x03\x00\x03\x06\x07\x01\x00\x11\x00\x05\x01\x6d\x0b\x08\x01\x00\x01\x63\x00\x11\x00\x00\x06\x06\x01\x02\x00\x00\x01\x76";
+    builds(&rt, &commands, &wanted, bytes);
 }

@@ -1,6 +1,5 @@
-//! The ends: long names, types deep inside one another, and a builder that is full and unfinished.
+//! The ends: long names and modules, and types deep inside one another.
 
-use crate::checks::{component, holds};
 use std::alloc::Global;
 use std::process::Abort;
 use std::test::Fail;
@@ -95,11 +94,11 @@ fn nested(alloc: Global, depth: u32) -> Result<InstanceType, Fault> {
 }
 
 /// A component with such a type.
-fn nested_type(alloc: Global, depth: u32) -> Result<String, Fault> {
+fn nested_type(alloc: Global, depth: u32) -> Result<Vec<u8>, Fault> {
     let ty = nested(alloc, depth)?;
     let mut builder = ComponentBuilder::new(alloc)?;
     builder.type_instance(None, &ty)?;
-    component(alloc, builder)
+    builder.finish()
 }
 
 /// The same type as a tree.
@@ -112,48 +111,36 @@ fn nested_tree(alloc: Global, depth: u32) -> Result<TypeTree, Fault> {
 }
 
 /// A component with that, by a command.
-fn built_type(alloc: Global, depth: u32) -> Result<String, Fault> {
+fn built_type(alloc: Global, depth: u32) -> Result<Vec<u8>, Fault> {
     let ty = nested_tree(alloc, depth)?;
     let commands = [Command::Type { n: None, ty }];
-    let built = build(alloc, &commands)?;
-    Ok(hex::encode(alloc, built.bytes.as_slice())?)
+    Ok(build(alloc, &commands)?.bytes)
+}
+
+/// The component with so many types around one without declarations.
+fn wanted_type(alloc: Global, depth: u32, front: &[u8]) -> Result<Vec<u8>, Fault> {
+    let mut bytes = front.to_vec(alloc)?;
+    for _ in 1..depth {
+        bytes.extend_from_slice(b"\x42\x01\x01")?;
+    }
+    bytes.extend_from_slice(b"\x42\x00")?;
+    Ok(bytes)
 }
 
 /// Both are this section.
-fn is_nested(rt: &impl Abort, alloc: Global, depth: u32, front: &str) -> Result<(), Fault> {
-    let layers = "420101".repeat(alloc, depth.saturating_sub(1) as usize)?;
-    let wanted = format!(in alloc; "0061736d0d000100{front}{layers}4200")?;
-    assert!(rt; nested_type(alloc, depth)?.as_str() == wanted.as_str());
-    assert!(rt; built_type(alloc, depth)?.as_str() == wanted.as_str());
+fn is_nested(rt: &impl Abort, alloc: Global, depth: u32, front: &[u8]) -> Result<(), Fault> {
+    let wanted = wanted_type(alloc, depth, front)?;
+    assert!(rt; nested_type(alloc, depth)?.as_slice() == wanted.as_slice());
+    assert!(rt; built_type(alloc, depth)?.as_slice() == wanted.as_slice());
     Ok(())
 }
 
 // An encoder has no limit of depth.
 #[test]
 fn nested_types(rt: HostRuntime) -> Result<(), Fail> {
-    is_nested(&rt, rt.alloc(), 100, "07ac0201")?;
-    is_nested(&rt, rt.alloc(), 101, "07af0201")?;
-    Ok(())
-}
-
-fn start(builder: &mut ComponentBuilder, alloc: Global, results: u32) -> Result<u32, Fault> {
-    builder.start(0, Vec::new(alloc), results)
-}
-
-fn drop_type(builder: &mut ComponentBuilder) -> Result<(), Fault> {
-    builder.type_defined(None)?;
-    Ok(())
-}
-
-// What is unfinished is said before anything else is.
-#[test]
-fn full_and_unfinished(rt: HostRuntime) -> Result<(), Fail> {
-    let mut builder = ComponentBuilder::new(rt.alloc())?;
-    assert!(rt; start(&mut builder, rt.alloc(), 4294967295) == Ok(0));
-    assert!(rt; start(&mut builder, rt.alloc(), 1) == Err(Fault::TooMany));
-    drop_type(&mut builder)?;
-    assert!(rt; start(&mut builder, rt.alloc(), 1) == Err(Fault::Unfinished));
-    assert!(rt; builder.discard_unfinished());
-    holds(&rt, rt.alloc(), builder, "09070000ffffffff0f")?;
+    let front = b"\x00asm\x0d\x00\x01\x00\x07\xac\x02\x01".as_slice();
+    is_nested(&rt, rt.alloc(), 100, front)?;
+    let front = b"\x00asm\x0d\x00\x01\x00\x07\xaf\x02\x01".as_slice();
+    is_nested(&rt, rt.alloc(), 101, front)?;
     Ok(())
 }

@@ -26,13 +26,11 @@ pub fn passed_on<A: Allocator + Copy>(alloc: A) -> Result<Vec<u8, A>, Fault>
 }
 
 #[cfg(test)]
-mod all_commands;
-#[cfg(test)]
 mod alone;
 #[cfg(test)]
 mod callers;
 #[cfg(test)]
-mod canonicals;
+mod calls;
 #[cfg(test)]
 mod checks;
 #[cfg(test)]
@@ -41,12 +39,14 @@ mod commands;
 mod counts;
 #[cfg(test)]
 mod ends;
+#[cfg(test)]
+mod heap;
 pub mod importing;
 #[cfg(test)]
 mod imports;
-#[cfg(test)]
-mod instances;
 pub mod lights;
+#[cfg(test)]
+mod lists;
 #[cfg(test)]
 mod names;
 #[cfg(test)]
@@ -56,3 +56,5 @@ mod swept;
 #[cfg(test)]
 mod types;
 pub mod wrapping;
+#[cfg(test)]
+mod written;

@@ -1,137 +1,77 @@
 //! Debug names, and the section that they make.
 
-use crate::checks::{finished, holds};
+use crate::calls::Item;
+use crate::checks::{Row, rows};
+use crate::imports::{FUNCTION, OUTER_TYPE};
 use std::test::Fail;
-use wenc_base::Fault;
-use wenc_builder::ComponentBuilder;
-use wenc_parts::{
-    Alias, ComponentExportKind, ComponentOuterAliasKind, ComponentTypeRef, ComponentValType,
-    PrimitiveValType,
+use wasm_encoder::{
+    ComponentExportKind, ComponentTypeRef, ComponentValType, Fault, PrimitiveValType,
 };
 
-const U8: ComponentValType = ComponentValType::Primitive(PrimitiveValType::U8);
+const U8: ComponentTypeRef = ComponentTypeRef::Value(ComponentValType::Primitive(
+    PrimitiveValType::U8,
+));
 
-fn import(builder: &mut ComponentBuilder, name: &str, ty: ComponentTypeRef) -> Result<u32, Fault> {
-    builder.import(name.into(), ty)
-}
-
-fn alias_export(
-    builder: &mut ComponentBuilder,
-    name: &str,
-    kind: ComponentExportKind,
-) -> Result<u32, Fault> {
-    builder.alias_export(0, name, kind)
-}
-
-#[test]
-fn of_a_value(rt: HostRuntime) -> Result<(), Fail> {
-    let mut builder = ComponentBuilder::new(rt.alloc())?;
-    assert!(rt; import(&mut builder, "v", ComponentTypeRef::Value(U8)) == Ok(0));
-    assert!(rt; builder.append_names() == Ok(()));
-    let wanted = "0a0601000176027d00160e636f6d706f6e656e742d6e616d6501050201000176";
-    holds(&rt, rt.alloc(), builder, wanted)?;
-    Ok(())
-}
-
-// A second section has the same names.
-#[test]
-fn of_an_intrinsic_twice(rt: HostRuntime) -> Result<(), Fail> {
-    let mut builder = ComponentBuilder::new(rt.alloc())?;
-    assert!(rt; builder.resource_drop(0) == Ok(0));
-    assert!(rt; builder.append_names() == Ok(()));
-    assert!(rt; builder.append_names() == Ok(()));
-    let wanted = concat!(
-        "0803010300",
-        "00230e636f6d706f6e656e742d6e616d650112000001000d7265736f757263652e64726f70",
-        "00230e636f6d706f6e656e742d6e616d650112000001000d7265736f757263652e64726f70"
-    );
-    holds(&rt, rt.alloc(), builder, wanted)?;
-    Ok(())
-}
-
-#[test]
-fn of_a_promoted_thread(rt: HostRuntime) -> Result<(), Fail> {
-    let mut builder = ComponentBuilder::new(rt.alloc())?;
-    assert!(rt; builder.thread_yield_then_promote() == Ok(0));
-    assert!(rt; builder.append_names() == Ok(()));
-    let wanted = concat!(
-        "0803012d00",
-        "002f0e636f6d706f6e656e742d6e616d65011e00000100197468726561642e7969656c642d7468656e2d70726f6d6f7465"
-    );
-    holds(&rt, rt.alloc(), builder, wanted)?;
-    Ok(())
-}
-
-// Instances come in front of functions, though their export was aliased first.
-#[test]
-fn of_two_sorts(rt: HostRuntime) -> Result<(), Fail> {
-    let mut builder = ComponentBuilder::new(rt.alloc())?;
-    assert!(rt; alias_export(&mut builder, "i", ComponentExportKind::Instance) == Ok(0));
-    assert!(rt; import(&mut builder, "f", ComponentTypeRef::Func(0)) == Ok(0));
-    assert!(rt; builder.append_names() == Ok(()));
-    let wanted = concat!(
-        "0606010500000169",
-        "0a06010001660100",
-        "001d0e636f6d706f6e656e742d6e616d650105050100016901050101000166"
-    );
-    holds(&rt, rt.alloc(), builder, wanted)?;
-    Ok(())
-}
-
-fn first(builder: &mut ComponentBuilder) -> Result<u32, Fault> {
-    let alias = Alias::InstanceExport {
-        instance: 0,
-        kind: ComponentExportKind::Func,
-        name: "f",
-    };
-    builder.alias(None, alias)
-}
-
-fn second(builder: &mut ComponentBuilder) -> Result<u32, Fault> {
-    let alias = Alias::Outer {
-        kind: ComponentOuterAliasKind::Type,
-        count: 0,
-        index: 1,
-    };
-    builder.alias(None, alias)
-}
-
-// Without names the open section stays open.
-#[test]
-fn none_between_two_aliases(rt: HostRuntime) -> Result<(), Fail> {
-    let mut builder = ComponentBuilder::new(rt.alloc())?;
-    assert!(rt; first(&mut builder) == Ok(0));
-    assert!(rt; builder.append_names() == Ok(()));
-    assert!(rt; second(&mut builder) == Ok(0));
-    holds(&rt, rt.alloc(), builder, "060a02010000016603020001")?;
-    Ok(())
-}
+/// A second section has the same names.
+const ROWS: &[Row<'static, Item<'static>>] = &[
+    (
+        &[(Item::Import("v", U8), Ok(0)), (Item::AppendNames, Ok(0))],
+        b"\x0a\x06\x01\x00\x01\x76\x02\x7d\x00\x16\x0ecomponent-name\x01\x05\x02\x01\x00\x01\x76",
+    ),
+    (
+        &[
+            (Item::ResourceDrop(0), Ok(0)),
+            (Item::AppendNames, Ok(0)),
+            (Item::AppendNames, Ok(0)),
+        ],
+        b"\x08\x03\x01\x03\x00\x00\x23\x0ecomponent-name\x01\x12\x00\x00\x01\x00\x0dresource.drop\x00\x23\x0ecomponent-name\x01\x12\x00\x00\x01\x00\x0dresource.drop",
+    ),
+    (
+        &[
+            (Item::ThreadYieldThenPromote, Ok(0)),
+            (Item::AppendNames, Ok(0)),
+        ],
+        b"\x08\x03\x01\x2d\x00\x00\x2f\x0ecomponent-name\x01\x1e\x00\x00\x01\x00\x19thread.yield-then-promote",
+    ),
+    // Instances come in front of functions, though their export was aliased first.
+    (
+        &[
+            (
+                Item::AliasExport(0, "i", ComponentExportKind::Instance),
+                Ok(0),
+            ),
+            (Item::Import("f", ComponentTypeRef::Func(0)), Ok(0)),
+            (Item::AppendNames, Ok(0)),
+        ],
+        b"\x06\x06\x01\x05\x00\x00\x01\x69\x0a\x06\x01\x00\x01\x66\x01\x00\x00\x1d\x0ecomponent-name\x01\x05\x05\x01\x00\x01\x69\x01\x05\x01\x01\x00\x01\x66",
+    ),
+    // Without names the open section stays open.
+    (
+        &[
+            (FUNCTION, Ok(0)),
+            (Item::AppendNames, Ok(0)),
+            (OUTER_TYPE, Ok(0)),
+        ],
+        b"\x06\x0a\x02\x01\x00\x00\x01\x66\x03\x02\x00\x01",
+    ),
+    (&[(Item::AppendNames, Ok(0))], b""),
+    // The greatest index that an item may have.
+    (
+        &[
+            (Item::Start(0, &[], 4294967294), Ok(0)),
+            (
+                Item::AliasExport(0, "v", ComponentExportKind::Value),
+                Ok(4294967294),
+            ),
+            (Item::Import("w", U8), Err(Fault::TooMany)),
+            (Item::AppendNames, Ok(0)),
+        ],
+        b"\x09\x07\x00\x00\xfe\xff\xff\xff\x0f\x06\x06\x01\x02\x00\x00\x01\x76\x00\x1a\x0ecomponent-name\x01\x09\x02\x01\xfe\xff\xff\xff\x0f\x01\x76",
+    ),
+];
 
 #[test]
-fn none_at_all(rt: HostRuntime) -> Result<(), Fail> {
-    let mut builder = ComponentBuilder::new(rt.alloc())?;
-    assert!(rt; builder.append_names() == Ok(()));
-    finished(&rt, rt.alloc(), builder, "0061736d0d000100")?;
-    Ok(())
-}
-
-fn start(builder: &mut ComponentBuilder, alloc: std::alloc::Global) -> Result<u32, Fault> {
-    builder.start(0, Vec::new(alloc), 4294967294)
-}
-
-// The greatest index that an item may have.
-#[test]
-fn of_the_last_value(rt: HostRuntime) -> Result<(), Fail> {
-    let mut builder = ComponentBuilder::new(rt.alloc())?;
-    assert!(rt; start(&mut builder, rt.alloc()) == Ok(0));
-    assert!(rt; alias_export(&mut builder, "v", ComponentExportKind::Value) == Ok(4294967294));
-    assert!(rt; import(&mut builder, "w", ComponentTypeRef::Value(U8)) == Err(Fault::TooMany));
-    assert!(rt; builder.append_names() == Ok(()));
-    let wanted = concat!(
-        "09070000feffffff0f",
-        "0606010200000176",
-        "001a0e636f6d706f6e656e742d6e616d6501090201feffffff0f0176"
-    );
-    holds(&rt, rt.alloc(), builder, wanted)?;
+fn names(rt: HostRuntime) -> Result<(), Fail> {
+    rows(&rt, rt.alloc(), ROWS)?;
     Ok(())
 }

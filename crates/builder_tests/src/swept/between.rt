@@ -1,7 +1,10 @@
 //! Each call of the builder stands between two aliases, which share a section where the call is refused.
 
+use crate::calls::{Item, NAME};
+use crate::checks::{Call, counts, finishes};
+use crate::imports::{FUNCTION, OUTER_TYPE};
 use refusing::Refusing;
-use std::alloc::{Allocator, Global};
+use std::alloc::Global;
 use std::process::Abort;
 use std::test::Fail;
 use sweeping::{LARGE, REFUSED};
@@ -10,32 +13,10 @@ use wasm_encoder::{
     ExportKind, Fault,
 };
 
-/// It has more bytes than there is room for without a growth.
-pub const NAME: &str = "an-interface-with-a-long-name";
-
-/// A call that adds an item. What it is given is made with `alloc`, which refuses nothing.
-pub trait Call: Copy {
-    fn make(self, alloc: Global, builder: &mut ComponentBuilder<&Refusing>) -> Result<u32, Fault>;
-}
-
-/// The alias in front of a call.
-const FUNCTION: Alias<'static> = Alias::InstanceExport {
-    instance: 0,
-    kind: ComponentExportKind::Func,
-    name: "f",
-};
-
-/// The alias behind it.
-const TYPE: Alias<'static> = Alias::Outer {
-    kind: ComponentOuterAliasKind::Type,
-    count: 0,
-    index: 1,
-};
-
-/// A section of the alias behind.
+/// A section of `OUTER_TYPE`, the alias behind a call.
 const BEHIND: &[u8] = b"\x06\x05\x01\x03\x02\x00\x01";
 
-/// How often there is an alias in front of a call.
+/// How often there is the alias `FUNCTION` in front of a call.
 #[derive(Clone, Copy)]
 pub struct Start {
     aliases: u32,
@@ -61,11 +42,10 @@ pub const TWO: Start = Start {
     without: b"\x00asm\x0d\x00\x01\x00\x06\x0f\x03\x01\x00\x00\x01\x66\x01\x00\x00\x01\x66\x03\x02\x00\x01",
 };
 
-/// A call, its answer, and the component in which it is accepted, with the section of names.
+/// What stands in front of a call, its answer, and the component in which it is accepted, with the section of names.
 #[derive(Clone, Copy)]
-struct Case<'a, C> {
+struct Case<'a> {
     start: Start,
-    call: C,
     answer: u32,
     with: &'a [u8],
 }
@@ -97,47 +77,18 @@ pub const CORE_MODULE: Named = Named {
     name: NAME,
 };
 
-fn alias(builder: &mut ComponentBuilder<&Refusing>, alias: Alias<'_>) -> Result<u32, Fault> {
-    builder.alias(None, alias)
-}
-
 /// A builder that has so many aliases.
-pub fn started(heap: &Refusing, aliases: u32) -> Result<ComponentBuilder<&Refusing>, Fault> {
+pub fn started(
+    alloc: Global,
+    heap: &Refusing,
+    aliases: u32,
+) -> Result<ComponentBuilder<&Refusing>, Fault> {
     heap.refuse_none();
     let mut builder = ComponentBuilder::new(heap)?;
     for _ in 0..aliases {
-        alias(&mut builder, FUNCTION)?;
+        FUNCTION.make(alloc, &mut builder)?;
     }
     Ok(builder)
-}
-
-fn counts(builder: &ComponentBuilder<&Refusing>) -> [u32; 13] {
-    [
-        builder.core_module_count(),
-        builder.core_func_count(),
-        builder.core_type_count(),
-        builder.core_memory_count(),
-        builder.core_table_count(),
-        builder.core_instance_count(),
-        builder.core_tag_count(),
-        builder.core_global_count(),
-        builder.func_count(),
-        builder.instance_count(),
-        builder.value_count(),
-        builder.component_count(),
-        builder.type_count(),
-    ]
-}
-
-/// The component has these bytes.
-pub fn finishes<A: Allocator>(
-    rt: &impl Abort,
-    builder: ComponentBuilder<A>,
-    wanted: &[u8],
-) -> Result<(), Fault> {
-    let bytes = builder.finish()?;
-    assert_eq!(rt; bytes.as_slice(), wanted);
-    Ok(())
 }
 
 /// Where growth number `n` of a call is refused, it leaves nothing behind. Whether there is such a growth.
@@ -145,22 +96,23 @@ fn refuse<C: Call>(
     rt: &impl Abort,
     alloc: Global,
     heap: &Refusing,
-    case: &Case<'_, C>,
+    call: C,
+    case: Case<'_>,
     n: u64,
 ) -> Result<bool, Fault> {
     let aliases = case.start.aliases;
-    let mut builder = started(heap, aliases)?;
+    let mut builder = started(alloc, heap, aliases)?;
     heap.refuse_nth(n);
-    let outcome = case.call.make(alloc, &mut builder);
+    let outcome = call.make(alloc, &mut builder);
     if !heap.was_refused() {
         return Ok(false);
     }
     assert!(rt; outcome == Err(REFUSED));
     assert!(rt; heap.requests() == n);
     heap.refuse_none();
-    assert!(rt; alias(&mut builder, TYPE) == Ok(0));
+    assert!(rt; OUTER_TYPE.make(alloc, &mut builder) == Ok(0));
     assert!(rt; counts(&builder) == [0, 0, 0, 0, 0, 0, 0, 0, aliases, 0, 0, 0, 1]);
-    builder.append_names()?;
+    Item::AppendNames.make(alloc, &mut builder)?;
     finishes(rt, builder, case.start.without)?;
     Ok(true)
 }
@@ -170,29 +122,30 @@ fn accept<C: Call>(
     rt: &impl Abort,
     alloc: Global,
     heap: &Refusing,
-    case: &Case<'_, C>,
+    call: C,
+    case: Case<'_>,
     n: u64,
 ) -> Result<(), Fault> {
-    let mut builder = started(heap, case.start.aliases)?;
+    let mut builder = started(alloc, heap, case.start.aliases)?;
     heap.refuse_nth(n);
-    let mut outcome = case.call.make(alloc, &mut builder);
+    let mut outcome = call.make(alloc, &mut builder);
     let was_refused = heap.was_refused();
     heap.refuse_none();
     if was_refused {
-        outcome = case.call.make(alloc, &mut builder);
+        outcome = call.make(alloc, &mut builder);
     }
     assert!(rt; outcome == Ok(case.answer));
-    alias(&mut builder, TYPE)?;
-    builder.append_names()?;
+    OUTER_TYPE.make(alloc, &mut builder)?;
+    Item::AppendNames.make(alloc, &mut builder)?;
     finishes(rt, builder, case.with)
 }
 
 /// Has the growths of a call refused in turn, of which there is at least one.
-fn sweep<C: Call>(rt: &impl Abort, alloc: Global, case: &Case<'_, C>) -> Result<bool, Fault> {
+fn sweep<C: Call>(rt: &impl Abort, alloc: Global, call: C, case: Case<'_>) -> Result<bool, Fault> {
     let heap = Refusing::new(alloc);
     for n in 1..20u64 {
-        accept(rt, alloc, &heap, case, n)?;
-        if !refuse(rt, alloc, &heap, case, n)? {
+        accept(rt, alloc, &heap, call, case, n)?;
+        if !refuse(rt, alloc, &heap, call, case, n)? {
             return Ok(n > 1);
         }
     }
@@ -246,11 +199,10 @@ fn sweep_with<C: Call>(
     push_name(&mut bytes, named, answer)?;
     let case = Case {
         start,
-        call,
         answer,
         with: bytes.as_slice(),
     };
-    assert!(rt; sweep(rt, alloc, &case)?);
+    assert!(rt; sweep(rt, alloc, call, case)?);
     Ok(())
 }
 
@@ -278,69 +230,51 @@ pub fn sweep_both<C: Call>(
     sweep_section(rt, alloc, TWO, call, named, section)
 }
 
-/// Imports, exports and aliases.
-#[derive(Clone, Copy)]
-enum Item {
-    Import,
-    Export,
-    AliasExport,
-    Alias(Alias<'static>),
-    CoreAliasExport,
-}
-
-impl Call for Item {
-    fn make(self, _: Global, builder: &mut ComponentBuilder<&Refusing>) -> Result<u32, Fault> {
-        match self {
-            Item::Import => builder.import(NAME.into(), ComponentTypeRef::Func(0)),
-            Item::Export => builder.export(NAME.into(), ComponentExportKind::Func, 0, None),
-            Item::AliasExport => builder.alias_export(0, NAME, ComponentExportKind::Func),
-            Item::Alias(alias) => builder.alias(Some(NAME), alias),
-            Item::CoreAliasExport => {
-                builder.core_alias_export(Some(NAME), 0, NAME, ExportKind::Func)
-            }
-        }
-    }
-}
-
 /// An import and an export, each with its section.
-const APART: [(Item, &[u8]); 2] = [
+const APART: [(Item<'static>, &[u8]); 2] = [
     (
-        Item::Import,
+        Item::Import(NAME, ComponentTypeRef::Func(0)),
         b"\x0a\x22\x01\x00\x1dan-interface-with-a-long-name\x01\x00",
     ),
     (
-        Item::Export,
+        Item::Export(NAME, None),
         b"\x0b\x23\x01\x00\x1dan-interface-with-a-long-name\x01\x00\x00",
     ),
 ];
 
 /// Aliases, each with the whole component: all stand in one section.
-const JOINED: [(Item, Named, &[u8]); 4] = [
+const JOINED: [(Item<'static>, Named, &[u8]); 4] = [
     (
-        Item::AliasExport,
+        Item::AliasExport(0, NAME, ComponentExportKind::Func),
         FUNC,
         b"\x00asm\x0d\x00\x01\x00\x06\x2b\x03\x01\x00\x00\x01\x66\x01\x00\x00\x1dan-interface-with-a-long-name\x03\x02\x00\x01",
     ),
     (
-        Item::Alias(Alias::InstanceExport {
-            instance: 0,
-            kind: ComponentExportKind::Func,
-            name: NAME,
-        }),
+        Item::Alias(
+            Some(NAME),
+            Alias::InstanceExport {
+                instance: 0,
+                kind: ComponentExportKind::Func,
+                name: NAME,
+            },
+        ),
         FUNC,
         b"\x00asm\x0d\x00\x01\x00\x06\x2b\x03\x01\x00\x00\x01\x66\x01\x00\x00\x1dan-interface-with-a-long-name\x03\x02\x00\x01",
     ),
     (
-        Item::Alias(Alias::Outer {
-            kind: ComponentOuterAliasKind::CoreModule,
-            count: LARGE,
-            index: LARGE,
-        }),
+        Item::Alias(
+            Some(NAME),
+            Alias::Outer {
+                kind: ComponentOuterAliasKind::CoreModule,
+                count: LARGE,
+                index: LARGE,
+            },
+        ),
         CORE_MODULE,
         b"\x00asm\x0d\x00\x01\x00\x06\x17\x03\x01\x00\x00\x01\x66\x00\x11\x02\xff\xff\xff\xff\x0f\xff\xff\xff\xff\x0f\x03\x02\x00\x01",
     ),
     (
-        Item::CoreAliasExport,
+        Item::CoreAlias(Some(NAME), NAME, ExportKind::Func),
         CORE_FUNC,
         b"\x00asm\x0d\x00\x01\x00\x06\x2c\x03\x01\x00\x00\x01\x66\x00\x00\x01\x00\x1dan-interface-with-a-long-name\x03\x02\x00\x01",
     ),
@@ -392,7 +326,7 @@ fn new_builder(rt: HostRuntime) -> Result<(), Fail> {
 #[test]
 fn finish(rt: HostRuntime) -> Result<(), Fail> {
     let heap = Refusing::new(rt.alloc());
-    let builder = started(&heap, 1)?;
+    let builder = started(rt.alloc(), &heap, 1)?;
     heap.refuse_all();
     finishes(&rt, builder, ONE.bytes)?;
     assert_eq!(rt; heap.requests(), 0);

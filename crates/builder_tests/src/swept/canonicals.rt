@@ -1,8 +1,8 @@
 //! Functions that the component model provides.
 
-use super::between::{Call, Named, sweep_both};
-use refusing::Refusing;
-use std::alloc::Global;
+use super::between::{Named, sweep_both};
+use crate::checks::Call;
+use std::alloc::{Allocator, Global};
 use std::process::Abort;
 use std::test::Fail;
 use wasm_encoder::{
@@ -32,7 +32,11 @@ enum Plain {
 }
 
 impl Call for Plain {
-    fn make(self, _: Global, builder: &mut ComponentBuilder<&Refusing>) -> Result<u32, Fault> {
+    fn make<A: Allocator + Copy>(
+        self,
+        _: Global,
+        builder: &mut ComponentBuilder<A>,
+    ) -> Result<u32, Fault> {
         match self {
             Plain::ThreadAvailableParallelism => builder.thread_available_parallelism(),
             Plain::BackpressureInc => builder.backpressure_inc(),
@@ -75,7 +79,11 @@ enum Indexed {
 }
 
 impl Call for Indexed {
-    fn make(self, _: Global, builder: &mut ComponentBuilder<&Refusing>) -> Result<u32, Fault> {
+    fn make<A: Allocator + Copy>(
+        self,
+        _: Global,
+        builder: &mut ComponentBuilder<A>,
+    ) -> Result<u32, Fault> {
         match self {
             Indexed::ResourceNew(index) => builder.resource_new(index),
             Indexed::ResourceDrop(index) => builder.resource_drop(index),
@@ -110,7 +118,11 @@ enum Other {
 }
 
 impl Call for Other {
-    fn make(self, _: Global, builder: &mut ComponentBuilder<&Refusing>) -> Result<u32, Fault> {
+    fn make<A: Allocator + Copy>(
+        self,
+        _: Global,
+        builder: &mut ComponentBuilder<A>,
+    ) -> Result<u32, Fault> {
         match self {
             Other::ThreadSpawnIndirect(ty, table) => builder.thread_spawn_indirect(ty, table),
             Other::SubtaskCancel(async_) => builder.subtask_cancel(async_),
@@ -138,7 +150,11 @@ enum WithOptions {
 }
 
 impl Call for WithOptions {
-    fn make(self, _: Global, builder: &mut ComponentBuilder<&Refusing>) -> Result<u32, Fault> {
+    fn make<A: Allocator + Copy>(
+        self,
+        _: Global,
+        builder: &mut ComponentBuilder<A>,
+    ) -> Result<u32, Fault> {
         let options = [CanonicalOption::UTF8, CanonicalOption::Memory(0)].into_iter();
         match self {
             WithOptions::TaskReturn(ty) => builder.task_return(ty, options),

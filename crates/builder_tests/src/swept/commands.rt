@@ -1,13 +1,14 @@
 //! Commands, with each growth of a whole `build` refused in turn.
 
 use super::between::BOTH;
+use crate::heap::{export_alias, list, module, name, outer_type, text};
 use refusing::Refusing;
 use std::alloc::Global;
 use std::process::Abort;
 use sweeping::{NAME, REFUSED};
 use wasm_encoder::{
-    AliasTree, Command, ComponentExportKind, ComponentOuterAliasKind, ComponentTypeRef,
-    ComponentValType, DefinedTree, Fault, NameTree, PrimitiveValType, TypeTree, build,
+    Command, ComponentExportKind, ComponentTypeRef, ComponentValType, DefinedTree, Fault,
+    PrimitiveValType, TypeTree, build,
 };
 
 /// What a command is answered with.
@@ -51,26 +52,18 @@ fn refuse(
     let was_refused = heap.was_refused();
     match outcome {
         Ok(built) => {
-            let is_skipped = built
-                .answers
-                .get(case.place)
-                .is_some_and(|answer| answer.is_err());
-            let wanted = if was_refused {
-                case.refused
+            let is_skipped = matches!(built.answers.get(case.place), Some(Err(_)));
+            if was_refused && !is_skipped {
+                return Found::Elsewhere;
+            }
+            let (found, wanted) = if was_refused {
+                (Found::Skipped, case.refused)
             } else {
-                case.accepted
+                (Found::NoRefusal, case.accepted)
             };
-            if is_skipped || !was_refused {
-                assert!(rt; built.answers.as_slice() == wanted.answers);
-                assert!(rt; built.bytes.as_slice() == wanted.bytes);
-            }
-            if !was_refused {
-                Found::NoRefusal
-            } else if is_skipped {
-                Found::Skipped
-            } else {
-                Found::Elsewhere
-            }
+            assert!(rt; built.answers.as_slice() == wanted.answers);
+            assert!(rt; built.bytes.as_slice() == wanted.bytes);
+            found
         }
         Err(fault) => {
             assert!(rt; was_refused && fault == REFUSED);
@@ -94,47 +87,9 @@ fn sweep(rt: &impl Abort, alloc: Global, commands: &[Command], case: &Case<'_>) 
     skipped
 }
 
-/// A text; without memory it is empty, so that the component has other bytes. So it is with what else takes memory.
-fn text(alloc: Global, text: &str) -> String {
-    String::from_str(alloc, text).unwrap_or(String::new(alloc))
-}
-
-fn list<T: Drop, E: Drop>(alloc: Global, values: Result<Vec<T>, E>) -> Vec<T> {
-    values.unwrap_or(Vec::new(alloc))
-}
-
-fn function(alloc: Global) -> Command {
-    Command::Alias {
-        n: None,
-        alias: AliasTree::InstanceExport {
-            instance: 0,
-            kind: ComponentExportKind::Func,
-            name: text(alloc, "f"),
-        },
-    }
-}
-
-fn outer_type() -> Command {
-    Command::Alias {
-        n: None,
-        alias: AliasTree::Outer {
-            kind: ComponentOuterAliasKind::Type,
-            count: 0,
-            index: 1,
-        },
-    }
-}
-
-fn module(alloc: Global, bytes: &[u8]) -> Command {
-    Command::CoreModule {
-        n: None,
-        bytes: list(alloc, bytes.to_vec(alloc)),
-    }
-}
-
 fn import(alloc: Global) -> Command {
     Command::Import {
-        name: NameTree::from(text(alloc, NAME)),
+        name: name(alloc, NAME),
         ty: ComponentTypeRef::Func(0),
     }
 }
@@ -177,15 +132,23 @@ const IMPORT: Case<'static> = Case {
 #[test]
 fn between_aliases(rt: HostRuntime) {
     let alloc = rt.alloc();
-    let commands = [function(alloc), module(alloc, &[0xaa]), outer_type()];
+    let commands = [
+        export_alias(alloc, ComponentExportKind::Func, "f"),
+        module(alloc, &[0xaa]),
+        outer_type(),
+    ];
     sweep(&rt, alloc, &commands, &MODULE);
     let commands = [
-        function(alloc),
+        export_alias(alloc, ComponentExportKind::Func, "f"),
         module(alloc, NAME.as_bytes()),
         outer_type(),
     ];
     assert!(rt; sweep(&rt, alloc, &commands, &LONG_MODULE));
-    let commands = [function(alloc), import(alloc), outer_type()];
+    let commands = [
+        export_alias(alloc, ComponentExportKind::Func, "f"),
+        import(alloc),
+        outer_type(),
+    ];
     assert!(rt; sweep(&rt, alloc, &commands, &IMPORT));
 }
 

@@ -1,11 +1,14 @@
 //! The section of debug names.
 
-use super::between::{finishes, started};
+use super::between::started;
+use crate::calls::Item;
+use crate::checks::{Call, finishes};
 use refusing::Refusing;
+use std::alloc::Global;
 use std::process::Abort;
 use std::test::Fail;
 use sweeping::REFUSED;
-use wasm_encoder::{ComponentBuilder, Fault};
+use wasm_encoder::Fault;
 
 /// A component with one function, `resource.drop`.
 const WITHOUT: &[u8] = b"\x00asm\x0d\x00\x01\x00\x08\x03\x01\x03\x00";
@@ -14,26 +17,21 @@ const WITHOUT: &[u8] = b"\x00asm\x0d\x00\x01\x00\x08\x03\x01\x03\x00";
 const WITH: &[u8] =
     b"\x00asm\x0d\x00\x01\x00\x08\x03\x01\x03\x00\x00\x23\x0ecomponent-name\x01\x12\x00\x00\x01\x00\x0dresource.drop";
 
-fn named(heap: &Refusing) -> Result<ComponentBuilder<&Refusing>, Fault> {
-    let mut builder = started(heap, 0)?;
-    builder.resource_drop(0)?;
-    Ok(builder)
-}
-
-/// Where growth number `n` is refused, no section is added, and the next call adds it. Whether there is such a growth.
-fn refuse(rt: &impl Abort, heap: &Refusing, n: u64) -> Result<bool, Fault> {
-    let mut builder = named(heap)?;
+/// Where growth number `n` is refused, no section is added. Whether there is such a growth.
+fn refuse(rt: &impl Abort, alloc: Global, heap: &Refusing, n: u64) -> Result<bool, Fault> {
+    let mut builder = started(alloc, heap, 0)?;
+    Item::ResourceDrop(0).make(alloc, &mut builder)?;
     heap.refuse_nth(n);
-    let outcome = builder.append_names();
-    if !heap.was_refused() {
-        assert!(rt; outcome == Ok(()));
-        finishes(rt, builder, WITH)?;
-        return Ok(false);
-    }
-    assert!(rt; outcome == Err(REFUSED));
-    heap.refuse_none();
-    finishes(rt, builder, WITHOUT)?;
-    Ok(true)
+    let outcome = Item::AppendNames.make(alloc, &mut builder);
+    let was_refused = heap.was_refused();
+    let (answer, wanted) = if was_refused {
+        (Err(REFUSED), WITHOUT)
+    } else {
+        (Ok(0), WITH)
+    };
+    assert!(rt; outcome == answer);
+    finishes(rt, builder, wanted)?;
+    Ok(was_refused)
 }
 
 #[test]
@@ -41,7 +39,7 @@ fn of_a_function(rt: HostRuntime) -> Result<(), Fail> {
     let heap = Refusing::new(rt.alloc());
     let mut had_growths = false;
     for n in 1..20u64 {
-        if !refuse(&rt, &heap, n)? {
+        if !refuse(&rt, rt.alloc(), &heap, n)? {
             had_growths = n > 1;
             break;
         }
@@ -54,9 +52,9 @@ fn of_a_function(rt: HostRuntime) -> Result<(), Fail> {
 #[test]
 fn none(rt: HostRuntime) -> Result<(), Fail> {
     let heap = Refusing::new(rt.alloc());
-    let mut builder = started(&heap, 0)?;
+    let mut builder = started(rt.alloc(), &heap, 0)?;
     heap.refuse_all();
-    assert!(rt; builder.append_names() == Ok(()));
+    assert!(rt; Item::AppendNames.make(rt.alloc(), &mut builder) == Ok(0));
     finishes(&rt, builder, b"\x00asm\x0d\x00\x01\x00")?;
     assert_eq!(rt; heap.requests(), 0);
     Ok(())

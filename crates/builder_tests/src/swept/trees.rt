@@ -1,15 +1,17 @@
 //! Items that are handed in as trees.
 
-use super::between::{CORE_FUNC, Call, FUNC, NAME, Named, sweep_both};
-use super::types::{CORE_INSTANCE, CORE_TYPE, INSTANCE, TYPE, with_nothing_left};
-use refusing::Refusing;
-use std::alloc::Global;
+use super::between::{CORE_FUNC, FUNC, Named, sweep_both};
+use super::types::{CORE_INSTANCE, CORE_TYPE, INSTANCE, Swept, TYPE};
+use crate::calls::NAME;
+use crate::checks::Call;
+use crate::heap::{list, name, text};
+use crate::written::{AnyType, CoreType, STRING, Typed};
+use std::alloc::{Allocator, Global};
 use std::process::Abort;
 use sweeping::LARGE;
 use wasm_encoder::{
-    CanonTree, CanonicalOption, ComponentBuilder, ComponentExportKind, ComponentValType,
-    CoreInstanceTree, CoreTypeTree, DefinedTree, ExportKind, Fault, InstanceTree, ModuleDecl,
-    NameTree, PrimitiveValType, TypeTree, ValType,
+    CanonTree, CanonicalOption, ComponentBuilder, ComponentExportKind, CoreInstanceTree,
+    CoreTypeTree, DefinedTree, ExportKind, Fault, InstanceTree, ModuleDecl, TypeTree, ValType,
 };
 
 /// An item, by its tree.
@@ -18,61 +20,25 @@ enum Tree<'a> {
     CoreInstance(&'a CoreInstanceTree),
     Instance(&'a InstanceTree),
     Canon(&'a CanonTree),
-    CoreType(&'a CoreTypeTree),
-    Type(&'a TypeTree),
 }
 
-impl<'a> Tree<'a> {
-    fn add(self, builder: &mut ComponentBuilder<&Refusing>) -> Result<u32, Fault> {
+impl<'a> Call for Tree<'a> {
+    fn make<A: Allocator + Copy>(
+        self,
+        _: Global,
+        builder: &mut ComponentBuilder<A>,
+    ) -> Result<u32, Fault> {
         match self {
             Tree::CoreInstance(tree) => builder.core_instance_tree(Some(NAME), tree),
             Tree::Instance(tree) => builder.instance_tree(Some(NAME), tree),
             Tree::Canon(tree) => builder.canonical_tree(Some(NAME), tree),
-            Tree::CoreType(tree) => core_type(builder, tree),
-            Tree::Type(tree) => ty(builder, tree),
         }
     }
-}
-
-impl<'a> Call for Tree<'a> {
-    fn make(self, _: Global, builder: &mut ComponentBuilder<&Refusing>) -> Result<u32, Fault> {
-        let outcome = self.add(builder);
-        with_nothing_left(builder, outcome)
-    }
-}
-
-fn core_type(builder: &mut ComponentBuilder<&Refusing>, tree: &CoreTypeTree) -> Result<u32, Fault> {
-    match builder.core_type(Some(NAME)) {
-        Ok((index, encoder)) => {
-            encoder.tree(tree)?;
-            Ok(index)
-        }
-        Err(fault) => Err(fault),
-    }
-}
-
-fn ty(builder: &mut ComponentBuilder<&Refusing>, tree: &TypeTree) -> Result<u32, Fault> {
-    match builder.ty(Some(NAME)) {
-        Ok((index, encoder)) => {
-            encoder.tree(tree)?;
-            Ok(index)
-        }
-        Err(fault) => Err(fault),
-    }
-}
-
-/// A list; without memory it is empty, so that the section has other bytes. So it is with texts.
-fn list<T: Drop, E: Drop>(alloc: Global, values: Result<Vec<T>, E>) -> Vec<T> {
-    values.unwrap_or(Vec::new(alloc))
-}
-
-fn name(alloc: Global) -> String {
-    String::from_str(alloc, NAME).unwrap_or(String::new(alloc))
 }
 
 /// Each with its section.
-fn sweep(rt: &impl Abort, alloc: Global, tree: Tree<'_>, named: Named, section: &[u8]) {
-    assert!(rt; sweep_both(rt, alloc, tree, named, section).is_ok());
+fn sweep<C: Call>(rt: &impl Abort, alloc: Global, call: C, named: Named, section: &[u8]) {
+    assert!(rt; sweep_both(rt, alloc, call, named, section) == Ok(()));
 }
 
 #[test]
@@ -80,7 +46,7 @@ fn instances(rt: HostRuntime) {
     let alloc = rt.alloc();
     let exports = list(
         alloc,
-        vec![in alloc; (name(alloc), ExportKind::Func, LARGE)],
+        vec![in alloc; (text(alloc, NAME), ExportKind::Func, LARGE)],
     );
     sweep(
         &rt,
@@ -91,13 +57,7 @@ fn instances(rt: HostRuntime) {
     );
     let exports = list(
         alloc,
-        vec![in alloc;
-            (
-                NameTree::from(name(alloc)),
-                ComponentExportKind::Func,
-                LARGE
-            ),
-        ],
+        vec![in alloc; (name(alloc, NAME), ComponentExportKind::Func, LARGE)],
     );
     sweep(
         &rt,
@@ -167,8 +127,6 @@ fn functions(rt: HostRuntime) {
     );
 }
 
-const STRING: ComponentValType = ComponentValType::Primitive(PrimitiveValType::String);
-
 #[test]
 fn types(rt: HostRuntime) {
     let alloc = rt.alloc();
@@ -180,16 +138,16 @@ fn types(rt: HostRuntime) {
     sweep(
         &rt,
         alloc,
-        Tree::CoreType(&module),
+        Swept(Typed::Core(CoreType::Tree(&module))),
         CORE_TYPE,
         b"\x03\x10\x01\x50\x01\x02\x10\x01\xff\xff\xff\xff\x0f\xff\xff\xff\xff\x0f",
     );
-    let fields = list(alloc, vec![in alloc; (name(alloc), STRING)]);
+    let fields = list(alloc, vec![in alloc; (text(alloc, NAME), STRING)]);
     let record = TypeTree::Defined(DefinedTree::Record(fields));
     sweep(
         &rt,
         alloc,
-        Tree::Type(&record),
+        Swept(Typed::Any(AnyType::Tree(&record))),
         TYPE,
         b"\x07\x22\x01r\x01\x1dan-interface-with-a-long-names",
     );

@@ -1,0 +1,190 @@
+//! Types, as values: those that an encoder writes, and those that are handed in. Their debug name is `NAME`.
+
+use crate::calls::NAME;
+use crate::checks::Call;
+use std::alloc::{Allocator, Global};
+use wasm_encoder::{
+    ComponentBuilder, ComponentType, ComponentValType, CoreTypeTree, Fault, InstanceType,
+    ModuleType, PrimitiveValType, SubType, TypeTree, ValType,
+};
+
+pub const STRING: ComponentValType = ComponentValType::Primitive(PrimitiveValType::String);
+
+/// A call that adds a type. Of what is dropped the type is left unfinished.
+#[derive(Clone, Copy)]
+pub enum Typed<'a> {
+    Core(CoreType<'a>),
+    Any(AnyType<'a>),
+    Record,
+    Variant,
+    Function(&'a [(&'a str, ComponentValType)], Option<ComponentValType>),
+    AsyncFunction,
+    DroppedCoreType,
+    /// With the encoder that it gives for all but modules.
+    DroppedCore,
+    DroppedType,
+    DroppedDefined,
+    DroppedFunction,
+    /// Once it is said whether it is asynchronous.
+    DroppedTag,
+    /// Once it has its parameters.
+    DroppedParams,
+    Instance(&'a InstanceType),
+    Component(&'a ComponentType),
+    Resource(u32),
+}
+
+/// What the encoder of a core type writes.
+#[derive(Clone, Copy)]
+pub enum CoreType<'a> {
+    Function,
+    Subtype(&'a SubType),
+    Module(&'a ModuleType),
+    Tree(&'a CoreTypeTree),
+}
+
+/// What the encoder of a type writes.
+#[derive(Clone, Copy)]
+pub enum AnyType<'a> {
+    Resource(u32),
+    Component(&'a ComponentType),
+    Tree(&'a TypeTree),
+}
+
+impl<'a> Call for Typed<'a> {
+    fn make<A: Allocator + Copy>(
+        self,
+        _: Global,
+        builder: &mut ComponentBuilder<A>,
+    ) -> Result<u32, Fault> {
+        match self {
+            Typed::Core(ty) => add_core(builder, ty),
+            Typed::Any(ty) => add_any(builder, ty),
+            Typed::Record => add_record(builder),
+            Typed::Variant => add_variant(builder),
+            Typed::Function(params, answer) => add_function(builder, params, answer),
+            Typed::AsyncFunction => add_async_function(builder),
+            Typed::DroppedCoreType => Ok(builder.core_type(Some(NAME))?.0),
+            Typed::DroppedCore => drop_core(builder),
+            Typed::DroppedType => Ok(builder.ty(Some(NAME))?.0),
+            Typed::DroppedDefined => Ok(builder.type_defined(Some(NAME))?.0),
+            Typed::DroppedFunction => Ok(builder.type_function(Some(NAME))?.0),
+            Typed::DroppedTag => drop_tag(builder),
+            Typed::DroppedParams => drop_params(builder),
+            Typed::Instance(ty) => builder.type_instance(Some(NAME), ty),
+            Typed::Component(ty) => builder.type_component(Some(NAME), ty),
+            Typed::Resource(drop) => builder.type_resource(Some(NAME), ValType::I32, Some(drop)),
+        }
+    }
+}
+
+fn add_core<A: Allocator>(
+    builder: &mut ComponentBuilder<A>,
+    ty: CoreType<'_>,
+) -> Result<u32, Fault> {
+    match builder.core_type(Some(NAME)) {
+        Ok((index, encoder)) => {
+            let one = [ValType::I32];
+            match ty {
+                CoreType::Function => encoder.core().function(one.into_iter(), one.into_iter())?,
+                CoreType::Subtype(ty) => encoder.core().subtype(ty)?,
+                CoreType::Module(ty) => encoder.module(ty)?,
+                CoreType::Tree(tree) => encoder.tree(tree)?,
+            }
+            Ok(index)
+        }
+        Err(fault) => Err(fault),
+    }
+}
+
+fn drop_core<A: Allocator>(builder: &mut ComponentBuilder<A>) -> Result<u32, Fault> {
+    match builder.core_type(Some(NAME)) {
+        Ok((index, encoder)) => {
+            encoder.core();
+            Ok(index)
+        }
+        Err(fault) => Err(fault),
+    }
+}
+
+fn add_any<A: Allocator>(builder: &mut ComponentBuilder<A>, ty: AnyType<'_>) -> Result<u32, Fault> {
+    match builder.ty(Some(NAME)) {
+        Ok((index, encoder)) => {
+            match ty {
+                AnyType::Resource(drop) => encoder.resource(ValType::I32, Some(drop))?,
+                AnyType::Component(ty) => encoder.component(ty)?,
+                AnyType::Tree(tree) => encoder.tree(tree)?,
+            }
+            Ok(index)
+        }
+        Err(fault) => Err(fault),
+    }
+}
+
+fn add_record<A: Allocator>(builder: &mut ComponentBuilder<A>) -> Result<u32, Fault> {
+    match builder.type_defined(Some(NAME)) {
+        Ok((index, encoder)) => {
+            encoder.record([(NAME, STRING)].into_iter())?;
+            Ok(index)
+        }
+        Err(fault) => Err(fault),
+    }
+}
+
+fn add_variant<A: Allocator>(builder: &mut ComponentBuilder<A>) -> Result<u32, Fault> {
+    match builder.type_defined(Some(NAME)) {
+        Ok((index, encoder)) => {
+            encoder.variant([("a", None), ("b", Some(STRING))].into_iter())?;
+            Ok(index)
+        }
+        Err(fault) => Err(fault),
+    }
+}
+
+fn add_function<A: Allocator>(
+    builder: &mut ComponentBuilder<A>,
+    params: &[(&str, ComponentValType)],
+    answer: Option<ComponentValType>,
+) -> Result<u32, Fault> {
+    match builder.type_function(Some(NAME)) {
+        Ok((index, mut encoder)) => {
+            encoder.params(params.iter().copied())?;
+            encoder.result(answer)?;
+            Ok(index)
+        }
+        Err(fault) => Err(fault),
+    }
+}
+
+/// Without parameters and a result.
+fn add_async_function<A: Allocator>(builder: &mut ComponentBuilder<A>) -> Result<u32, Fault> {
+    match builder.type_function(Some(NAME)) {
+        Ok((index, mut encoder)) => {
+            encoder.async_(true)?;
+            encoder.params([].into_iter())?;
+            encoder.result(None)?;
+            Ok(index)
+        }
+        Err(fault) => Err(fault),
+    }
+}
+
+fn drop_tag<A: Allocator>(builder: &mut ComponentBuilder<A>) -> Result<u32, Fault> {
+    match builder.type_function(Some(NAME)) {
+        Ok((index, mut encoder)) => {
+            encoder.async_(false)?;
+            Ok(index)
+        }
+        Err(fault) => Err(fault),
+    }
+}
+
+fn drop_params<A: Allocator>(builder: &mut ComponentBuilder<A>) -> Result<u32, Fault> {
+    match builder.type_function(Some(NAME)) {
+        Ok((index, mut encoder)) => {
+            encoder.params([("p", STRING)].into_iter())?;
+            Ok(index)
+        }
+        Err(fault) => Err(fault),
+    }
+}
