@@ -1,5 +1,5 @@
 -- What a table of values that are a byte each finds.
-use Rattle.std.proofs.Common.{◌≡◌, ℕ, true, false, eqb, List, [], ◌∷◌, ◌++◌, map, Option, Some, None, refl, inl, inr, ◌⊎◌, ap, ◌∙◌, sym}
+use Rattle.std.proofs.Common.{◌≡◌, ℕ, true, false, eqb, List, [], ◌∷◌, ◌++◌, map, Some, None, refl, inl, inr, ◌⊎◌, ap}
 use Rattle.std.proofs.lemmas.Option.{same_Some, some_pair_parts}
 use Rattle.wenc_base.specs.laws.Lawful.{Reader, ◌>>=◌, give, pick, choose}
 use Rattle.wenc_list.specs.Gives.{Fails, read_byte}
@@ -7,7 +7,7 @@ use Rattle.wenc_list.specs.declared.refusal.Refusal.{Refusal}
 use Rattle.wenc_list.specs.declared.refusal.Refusal.TheVariants as refusals
 use Rattle.wenc_list.specs.Tables.{find}
 
-tested : (b c : ℕ) → (eqb b c ≡ true) ⊎ (eqb b c ≡ false)
+pub tested : (b c : ℕ) → (eqb b c ≡ true) ⊎ (eqb b c ≡ false)
 tested b c = elim (eqb b c) as (λ t. (eqb b c ≡ t) → (eqb b c ≡ true) ⊎ (eqb b c ≡ false)) [ true ↦ λ e. inl e | false ↦ λ e. inr e ] refl
 
 -- a value that is in the table is read
@@ -74,3 +74,19 @@ pub fails_last : {A B : Type 0} (make : A → B) (e : Refusal) (read : Reader A)
 fails_last make refusals.Memory read bytes h = tt
 fails_last make refusals.Malformed read bytes h = rw h refl
 fails_last make refusals.TooDeep read bytes h = absurd h
+
+-- what stands behind a first byte, by the row of that byte
+pub at_first : {A : Type 0} (table : List (ℕ × Reader A)) (other : Reader A) (b first : ℕ) (bytes rest : List ℕ) → read_byte bytes ≡ Some (first, rest) → first ≡ b → choose table other bytes ≡ pick table other b rest
+unfolding choose
+at_first table other b first [] rest e d = absurd cc
+at_first table other b first (c ∷ bytes) rest e d =
+    let same = some_pair_parts c first bytes rest e in
+    rw (same.0, same.1, d) refl
+
+-- what is made of what is read
+pub made_of : {A B : Type 0} (make : A → B) (read : Reader A) (v : A) (bytes rest : List ℕ) → read bytes ≡ Some (v, rest) → (read >>= λ w. give (make w)) bytes ≡ Some (make v, rest)
+made_of make read v bytes rest e = rw e refl
+
+pub made_of_both : {A B C : Type 0} (make : A → B → C) (read : Reader A) (other : Reader B) (v : A) (w : B) (bytes middle rest : List ℕ) → read bytes ≡ Some (v, middle) → other middle ≡ Some (w, rest)
+    → (read >>= λ x. other >>= λ y. give (make x y)) bytes ≡ Some (make v w, rest)
+made_of_both make read other v w bytes middle rest e d = rw (e, d) refl

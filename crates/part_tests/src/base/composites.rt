@@ -45,6 +45,10 @@ fn function(alloc: Global, params: &[ValType], results: &[ValType]) -> Result<Fu
     FuncType::new(alloc, params.iter().copied(), results.iter().copied())
 }
 
+fn of_lists(alloc: Global, params: &[ValType], results: &[ValType]) -> Result<FuncType, Fault> {
+    Ok(FuncType::from_lists(params.to_vec(alloc)?, results.to_vec(alloc)?))
+}
+
 // As one of the composite types.
 fn composite(
     alloc: Global,
@@ -80,6 +84,7 @@ fn functions(rt: HostRuntime) {
     let alloc = rt.alloc();
     check_made(&rt, alloc, function(alloc, PARAMS, RESULTS), FUNCTION);
     check_made(&rt, alloc, function(alloc, &[], &[]), EMPTY);
+    check_made(&rt, alloc, of_lists(alloc, PARAMS, RESULTS), FUNCTION);
     check_made(&rt, alloc, composite(alloc, PARAMS, RESULTS), FUNCTION);
     check_made(&rt, alloc, composite(alloc, &[], &[]), EMPTY);
 }

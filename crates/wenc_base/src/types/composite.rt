@@ -44,6 +44,13 @@ impl<A: Allocator> FuncType<A> {
         Ok(FuncType { params, results })
     }
 
+    /// The same of lists that there are. It takes no memory.
+    pub fn from_lists(params: Vec<ValType, A>, results: Vec<ValType, A>) -> Self
+        ensures { (params_of result ≡ params.items) × (results_of result ≡ results.items) }
+    {
+        FuncType { params, results }
+    }
+
     /// The types of the parameters, in their order.
     pub fn params(&self) -> &[ValType]
         ensures { result.now ≡ params_of self.now }
