@@ -14,13 +14,13 @@ use Rattle.wenc_builder.specs.Entry.{Entry, items}
 use Rattle.wenc_builder.specs.Holds.{Holds, open_of}
 use Rattle.wenc_builder.specs.Item.{Item, item}
 use Rattle.wenc_builder.specs.Names.{names_entry}
-use Rattle.wenc_builder.specs.Sections.{Section, Run, Alone, runs, item_of, section_piece, sections, preamble, Reading, whole}
+use Rattle.wenc_builder.specs.Sections.{Section, Run, Alone, members, runs, item_of, section_piece, sections, preamble, Reading, whole}
 use Rattle.wenc_builder.specs.laws.Fits.{SectionsFit, HasRoom, sections_fit_more}
 use Rattle.wasm_encoder.specs.Belongs.{Belongs, AddsWhatBelongs, TextsAreBytes}
 use Rattle.wasm_encoder.specs.Cause.{one_or_none, added, added_cause, cause}
 use Rattle.wasm_encoder.specs.Command.{CommandTree, Component, AppendNames}
 use Rattle.wasm_encoder.specs.Ran.{entries_after, RanFrom, Ran}
-use Rattle.wasm_encoder.specs.Raw.{HasNoRaw, members, IsEncodable}
+use Rattle.wasm_encoder.specs.Raw.{HasNoRaw, IsEncodable}
 use Rattle.wasm_encoder.proofs.Belonging.{all_front, all_behind, all_both, bytes_behind}
 use Rattle.wasm_encoder.proofs.Run.{RanAll}
 use Rattle.wasm_encoder.proofs.Reading.{runs_members, of_items, of_bytes}

@@ -9,13 +9,13 @@ use Rattle.wenc_base.specs.laws.Forms.{read_byte_list, byte_list_lawful, read_co
 use Rattle.wenc_base.specs.laws.Lawful.{Lawful, LawfulWhole, Reader, go_on, ◌>>=◌, give, nowhere, pick, choose, row, row_byte, IsPast, Starts, past, last, only_where_lawful, then_whole, made, last_whole, to_end, at_end, before_end, deeper_whole, whole_once}
 use Rattle.wenc_base.specs.laws.Sections.{read_custom, custom_lawful}
 use Rattle.wenc_builder.specs.Item.{Item, ModuleItem, CoreInstanceItem, CoreTypeItem, ComponentItem, InstanceItem, AliasItem, TypeItem, CanonItem, StartItem, ImportItem, ExportItem, CustomItem, RawItem, collected, item}
-use Rattle.wenc_builder.specs.Sections.{Section, Run, Alone, joined, runs, collects, item_of, section_piece, sections, component, preamble, Reading, whole}
+use Rattle.wenc_builder.specs.Sections.{Section, Run, Alone, members, joined, runs, collects, item_of, section_piece, sections, component, preamble, Reading, whole}
 use Rattle.wenc_canon.specs.laws.Canonicals.{read_canonical, canonical_lawful}
 use Rattle.wenc_parts.specs.laws.Aliases.{read_alias, alias_lawful}
 use Rattle.wenc_sections.specs.laws.Items.{read_import, import_lawful, read_export, export_lawful, read_core_instance, core_instance_lawful, read_instance, instance_lawful, read_start, start_lawful}
 use Rattle.wenc_types.specs.laws.ComponentTypes.{read_type, type_lawful}
 use Rattle.wenc_types.specs.laws.CoreTypes.{read_core_type, core_type_lawful}
-use Rattle.wasm_encoder.specs.Raw.{IsNoRaw, HasNoRaw, members, SectionsHaveNoRaw, AreEncodable, IsEncodable}
+use Rattle.wasm_encoder.specs.Raw.{IsNoRaw, HasNoRaw, SectionsHaveNoRaw, AreEncodable, IsEncodable}
 
 -- what is never allowed is lawful
 vacuous : {A : Type 0} {P : Type 0} {p : Piece} {read : ℕ → Reader A} {v : A} → (P → ⊥) → Lawful (only_where P p) read v

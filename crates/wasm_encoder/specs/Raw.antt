@@ -1,8 +1,8 @@
 -- Raw items, whose bytes are their caller's, so that they aren't read; and what can be encoded.
 use Rattle.std.specs.List.{AllByRecursion}
-use Rattle.std.specs.Prelude.{List, [], ◌∷◌}
+use Rattle.std.specs.Prelude.{List}
 use Rattle.wenc_builder.specs.Item.{Item, RawItem}
-use Rattle.wenc_builder.specs.Sections.{Section, Run, Alone, runs, component}
+use Rattle.wenc_builder.specs.Sections.{Section, members, runs, component}
 
 -- the item is not a raw one
 abbrev pub IsNoRaw : Item → Type 0
@@ -12,11 +12,6 @@ IsNoRaw other = Unit {0}
 -- no item of the list is raw
 abbrev pub HasNoRaw : List Item → Type 0
 HasNoRaw = AllByRecursion IsNoRaw
-
--- the items of a section
-abbrev pub members : Section → List Item
-members (Run id xs) = xs
-members (Alone x) = x ∷ []
 
 -- no item of the sections is raw
 abbrev pub SectionsHaveNoRaw : List Section → Type 0

@@ -1,6 +1,6 @@
 //! Laws over the definitions: what the numbers' texts are, in words; that every form, and a whole component, is read as
 //! it is written, and in one way only; that a section's text is that of what it contains. A call of these does nothing.
-ghost use Rattle.std.specs.Prelude.{◌≡◌, ◌↔◌, ◌+◌, ℕ, ℤ, ◌^◌, ◌<◌, ◌++◌, ◌∷◌, [], List, FitsSigned, true, Ok};
+ghost use Rattle.std.specs.Prelude.{◌≡◌, ◌↔◌, ◌+◌, ℕ, ℤ, ◌^◌, ◌<◌, ◌++◌, ◌∷◌, [], List, Option, Result, FitsSigned, true, Ok};
 ghost use Rattle.std.specs.Int.{w64};
 ghost use Rattle.wenc_base.specs.Composites.{Group, group};
 ghost use Rattle.wenc_base.specs.Delimited.{NoCause};
@@ -12,6 +12,8 @@ ghost use Rattle.wenc_base.specs.Number.{u32 as number};
 ghost use Rattle.wenc_base.specs.Openings.{opened_with, lengthened, closed, given_up};
 ghost use Rattle.wenc_base.specs.Piece.{Spelling, Strict, Wide};
 ghost use Rattle.wenc_base.specs.Producers.{Producers, field_text, producers_section, producers_text};
+ghost use Rattle.wenc_base.specs.declared.fault.Fault.{Fault};
+ghost use Rattle.wenc_builder.specs.Entry.{Entry, items as items_of};
 ghost use Rattle.wenc_builder.specs.Item.{Item};
 ghost use Rattle.wenc_builder.specs.Sections.{Section, runs, component, Reading, whole};
 ghost use Rattle.wenc_canon.specs.Canonicals.{Intrinsic, row, Values, Canonical, canonical, canonical_text, Adds};
@@ -28,6 +30,8 @@ ghost use Rattle.wenc_types.specs.ModuleTypes.{Declared, Declares, begun, writte
 ghost use Rattle.wenc_types.specs.declared.counts.Sort.TheVariants as sorts;
 ghost use Rattle.wenc_types.specs.declared.counts.Sort.{Sort};
 ghost use Rattle.wasm_encoder.specs.AllForms.{FormName, value_of, form_of};
+ghost use Rattle.wasm_encoder.specs.Command.{CommandTree};
+ghost use Rattle.wasm_encoder.specs.Ran.{Ran};
 ghost use Rattle.wasm_encoder.specs.Raw.{HasNoRaw, SectionsHaveNoRaw, AreEncodable, IsEncodable};
 
 use wenc_base::{Delimited, DelimitedEq};
@@ -116,6 +120,15 @@ pub fn one_reading()
 pub fn one_list()
     ensures { (xs ys : List Item) → HasNoRaw xs → HasNoRaw ys → IsEncodable xs → IsEncodable ys
         → whole xs ≡ whole ys → xs ≡ ys }
+{}
+
+/// Where commands ran, and led to items that can be encoded and are not raw, the bytes of the component are read widely as
+/// the runs of these items, and as nothing else. So a lister that reads widely gives those.
+pub fn listed()
+    ensures { (commands : List CommandTree) (answers : List (Result (Option ℕ) Fault))
+        (es : List Entry) → Ran commands answers es → HasNoRaw (items_of es)
+        → IsEncodable (items_of es) → (ss : List Section)
+        → (Reading Wide (whole (items_of es)) ss ↔ (ss ≡ runs (items_of es))) }
 {}
 
 /// The text of a section that contains some items is their size, their number and the items. That of a module type, a

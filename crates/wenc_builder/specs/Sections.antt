@@ -13,6 +13,11 @@ pub data Section : Type 0 where
   Run : (id : ℕ) (items : List Item) → Section
   Alone : (item : Item) → Section
 
+-- the items of a section
+abbrev pub members : Section → List Item
+members (Run id xs) = xs
+members (Alone x) = x ∷ []
+
 -- an item put in front of sections
 abbrev pub joined : Option ℕ → Item → List Section → List Section
 joined None x ss = Alone x ∷ ss

@@ -39,7 +39,7 @@ mod types;
 use buffer::Buffer;
 use kind::Kind;
 use nested::Nested;
-use space::Space;
+pub use space::Space;
 use spaces::Spaces;
 use std::alloc::{Allocator, Global};
 use std::convert::AsSlice;

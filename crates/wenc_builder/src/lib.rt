@@ -4,4 +4,4 @@
 
 mod builder;
 
-pub use builder::ComponentBuilder;
+pub use builder::{ComponentBuilder, Space};

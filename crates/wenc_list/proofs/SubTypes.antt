@@ -1,5 +1,5 @@
 -- The tables of composite types and of sub types, and what is made of what they find.
-use Rattle.std.proofs.Common.{ℕ, false, true, List, [], ◌∷◌, ◌++◌, Option, Some, refl}
+use Rattle.std.proofs.Common.{ℕ, false, true, [], ◌∷◌, Option, Some, refl}
 use Rattle.wenc_base.specs.Composites.{Composite, Func, Array, Struct, Sub, final}
 use Rattle.wenc_base.specs.laws.Forms.{read_list, read_option}
 use Rattle.wenc_base.specs.laws.Numbers.{read_u32}

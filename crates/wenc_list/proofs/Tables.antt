@@ -90,3 +90,7 @@ made_of make read v bytes rest e = rw e refl
 pub made_of_both : {A B C : Type 0} (make : A → B → C) (read : Reader A) (other : Reader B) (v : A) (w : B) (bytes middle rest : List ℕ) → read bytes ≡ Some (v, middle) → other middle ≡ Some (w, rest)
     → (read >>= λ x. other >>= λ y. give (make x y)) bytes ≡ Some (make v w, rest)
 made_of_both make read other v w bytes middle rest e d = rw (e, d) refl
+
+pub made_of_three : {A B C D : Type 0} (make : A → B → C → D) (read : Reader A) (other : Reader B) (third : Reader C) (v : A) (w : B) (x : C) (bytes middle behind rest : List ℕ) → read bytes ≡ Some (v, middle) → other middle ≡ Some (w, behind) → third behind ≡ Some (x, rest)
+    → (read >>= λ a. other >>= λ b. third >>= λ c. give (make a b c)) bytes ≡ Some (make v w x, rest)
+made_of_three make read other third v w x bytes middle behind rest e d f = rw (e, d, f) refl

@@ -1,5 +1,5 @@
 -- How the options of a name are read, one after the other.
-use Rattle.std.specs.Prelude.{ℕ, List, Option, Some, None, cond}
+use Rattle.std.specs.Prelude.{ℕ, List, Some, None, cond}
 use Rattle.std.specs.String.{string_bytes}
 use Rattle.wenc_base.specs.laws.Lawful.{Reader, ◌>>=◌, times}
 use Rattle.wenc_parts.specs.Imports.{ExternName, NameOption, Implements, VersionSuffix, ExternalId}

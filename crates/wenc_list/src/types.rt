@@ -1,4 +1,4 @@
-//! Value types of components.
+//! Value types of components, and what functions answer.
 ghost use Rattle.std.specs.Prelude.{◌≡◌};
 ghost use Rattle.wenc_parts.specs.Types.{primitive_byte};
 ghost use Rattle.wenc_list.specs.Tables.{find};
@@ -8,7 +8,7 @@ use crate::decode::Decode;
 use crate::number::{byte, index_of};
 use crate::refusal::Refusal;
 use std::alloc::Allocator;
-use wenc_parts::{ComponentValType, PrimitiveValType};
+use wenc_parts::{ComponentValType, PrimitiveValType, ResultList};
 
 /// The primitive type that is this byte.
 pub(crate) fn primitive_of(byte: u8) -> Option<PrimitiveValType>
@@ -52,6 +52,33 @@ impl<A: Allocator + Copy> Decode<A> for ComponentValType {
                 let (index, rest) = index_of(bytes)?;
                 Ok((ComponentValType::Type(index), rest))
             }
+        }
+    }
+}
+
+impl<A: Allocator + Copy> Decode<A> for ResultList {
+    ghost use Rattle.std.specs.Prelude.{Option as OptionOf};
+    ghost use Rattle.wenc_parts.specs.declared.types.ComponentValType.{ComponentValType as ValueType};
+    ghost use Rattle.wenc_parts.specs.laws.Types.{read_result_list};
+
+    ghost Value = { OptionOf ValueType };
+
+    ghost view = { λ r. r.0 };
+
+    ghost read = { read_result_list };
+
+    #[tactic(auto, unfolding(wenc_base::specs::laws::Lawful::choose))]
+    fn decode<'a>(alloc: A, bytes: &'a [u8]) -> Result<(ResultList, &'a [u8]), Refusal> {
+        match byte(bytes)? {
+            (0x00, rest) => {
+                let (ty, rest) = ComponentValType::decode(alloc, rest)?;
+                Ok((ResultList(Some(ty)), rest))
+            }
+            (0x01, rest) => match byte(rest)? {
+                (0x00, rest) => Ok((ResultList(None), rest)),
+                _ => Err(Refusal::Malformed),
+            },
+            _ => Err(Refusal::Malformed),
         }
     }
 }

@@ -1,21 +1,34 @@
 use wenc_base::ExportKind;
 use wenc_parts::{Alias, ComponentExportKind, ComponentOuterAliasKind};
 
-/// An index space.
+/// An index space: what is defined in it is counted from 0 on (component model, explainer, "Index Spaces").
 #[derive(Clone, Copy, Debug, PartialEq, Eq)]
 pub enum Space {
+    /// Core modules.
     CoreModules,
+    /// Core functions.
     CoreFuncs,
+    /// Core types.
     CoreTypes,
+    /// Core memories.
     CoreMemories,
+    /// Core tables.
     CoreTables,
+    /// Instances of core modules.
     CoreInstances,
+    /// Core tags.
     CoreTags,
+    /// Core globals.
     CoreGlobals,
+    /// Functions of components.
     Funcs,
+    /// Instances of components.
     Instances,
+    /// Values.
     Values,
+    /// Components.
     Components,
+    /// Types of components.
     Types,
 }
 
@@ -35,7 +48,7 @@ impl Space {
         }
     }
 
-    /// The place of this space among all, in the order in which a builder tells their counts.
+    /// The place of this space among all, from 0 to 12, in the order in which a builder tells their counts.
     pub fn number(self) -> usize
         ensures is { result ≡ space_number self }
         ensures within { space_number self < 13 }

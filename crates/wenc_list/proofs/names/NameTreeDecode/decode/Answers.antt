@@ -1,8 +1,5 @@
-use Rattle.std.proofs.Common.{rules, ◌∙◌, refl}
+use Rattle.std.proofs.Common.{rules}
 use Rattle.std.specs.String.{string_bytes}
-use Rattle.wenc_base.specs.laws.Forms.{read_list, read_name}
-use Rattle.wenc_base.specs.laws.Lawful.{◌>>=◌, times}
-use Rattle.wenc_parts.specs.laws.Imports.{read_name_option, given_options}
 use Rattle.wenc_list.proofs.Options.{some_given}
 use Rattle.wenc_list.proofs.Tables.{at_first}
 use Rattle.wenc_list.proofs.names.NameTreeDecode.decode.Goals as goal

@@ -1,0 +1,29 @@
+use Rattle.std.proofs.Common.{◌≡◌, ◌++◌, ◌∷◌, [], map}
+use Rattle.std.proofs.lemmas.Result.{err_from_is_err_and}
+use Rattle.std.proofs.lemmas.List.{map_push}
+use Rattle.wenc_list.specs.Contents.{read_item}
+use Rattle.wenc_list.specs.Items.{item_view}
+use Rattle.wenc_list.specs.Outcomes.{repeat}
+use Rattle.wenc_list.proofs.DeepLoop.{at_start, goes_on, stops, is_done}
+use Rattle.wenc_list.proofs.sections.members.Goals as goal
+
+pub returns-in_err-item : goal.returns-in_err-item
+returns-in_err-item g c =
+    let read = read_item 100 c.args.id in
+    let p = err_from_is_err_and c.from_residual.result c.from_residual.ensures.1 in
+    rw (p.1, p.2) (stops c.in_err-item.field-0.0 read (map item_view c.loop.items.items) c.args.count c.loop.counter c.loop.rest.now (repeat read c.args.count c.args.bytes.now) c.loop-test.true c.in_err-item.ensures c.loop.invariant)
+
+pub loop-preserved : goal.loop-preserved
+loop-preserved g c =
+    let read = read_item 100 c.args.id in
+    let v = c.in_ok-item.item in
+    let e : map item_view c.push.new.self.items ≡ map item_view c.loop.items.items ++ item_view v ∷ [] = rw c.in_ok-push.ensures.items (map_push item_view c.loop.items.items v) in
+    rw e (goes_on read (map item_view c.loop.items.items) c.args.count c.loop.counter c.loop.rest.now (item_view v) c.in_ok-item.after.now (repeat read c.args.count c.args.bytes.now) c.loop-test.true c.in_ok-item.ensures c.loop.invariant)
+
+pub returns : goal.returns
+returns g c =
+    let read = read_item 100 c.args.id in
+    is_done read (map item_view c.loop.items.items) c.args.count c.loop.counter c.loop.rest.now (repeat read c.args.count c.args.bytes.now) c.loop-test.false c.loop.invariant
+
+pub loop-init : goal.loop-init
+loop-init g c = rw c.new-items.ensures.items (at_start (read_item 100 c.args.id) c.args.count c.args.bytes.now)

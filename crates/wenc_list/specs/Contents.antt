@@ -1,0 +1,99 @@
+-- Readers of sections and of what is in them.
+use Rattle.std.specs.Prelude.{ℕ, List, [], ◌∷◌, length, take, drop, Option, Some, None, Result, Ok, Err, nat_eq, nat_lt, if◌then◌else◌}
+use Rattle.wenc_base.specs.Custom.{Custom}
+use Rattle.wenc_base.specs.laws.Forms.{read_name, read_list, read_bytes}
+use Rattle.wenc_base.specs.laws.Lawful.{Reader, go_on, ◌>>=◌, give, done}
+use Rattle.wenc_base.specs.laws.Numbers.{read_u32}
+use Rattle.wenc_builder.specs.Item.{Item, ModuleItem, CoreInstanceItem, CoreTypeItem, ComponentItem, InstanceItem, AliasItem, TypeItem, CanonItem, StartItem, ImportItem, ExportItem, CustomItem}
+use Rattle.wenc_canon.specs.laws.Canonicals.{read_canonical}
+use Rattle.wenc_parts.specs.laws.Aliases.{read_alias}
+use Rattle.wenc_sections.specs.Start.{Start, started}
+use Rattle.wenc_sections.specs.laws.Items.{read_import, read_export, read_core_instance, read_instance}
+use Rattle.wenc_types.specs.laws.CoreTypes.{read_core_type}
+use Rattle.wenc_list.specs.Outcomes.{Flaw, Bad, DeepReader, flat, ◌>>>◌, yield, refuse, repeat, filled}
+use Rattle.wenc_list.specs.TypeTrees.{read_type}
+use Rattle.wenc_list.specs.declared.fault.ListFault.{ListFault}
+use Rattle.wenc_list.specs.declared.fault.ListFault.TheVariants as faults
+use Rattle.wenc_list.specs.declared.refusal.Refusal.{Refusal}
+use Rattle.wenc_list.specs.declared.refusal.Refusal.TheVariants as refusals
+
+-- ---- items
+
+abbrev pub read_import_item : Reader Item
+read_import_item = read_import >>= λ i. give (ImportItem i)
+
+abbrev pub read_export_item : Reader Item
+read_export_item = read_export >>= λ e. give (ExportItem e)
+
+-- each kind's reader, by the id of the section that collects it
+abbrev pub item_rows : ℕ → List (ℕ × DeepReader Item)
+item_rows depth =
+    (2, flat (read_core_instance >>= λ i. give (CoreInstanceItem i))) ∷
+    (3, flat (read_core_type >>= λ t. give (CoreTypeItem t))) ∷
+    (5, flat (read_instance >>= λ i. give (InstanceItem i))) ∷
+    (6, flat (read_alias >>= λ to. give (AliasItem to))) ∷
+    (7, read_type depth >>> λ t. yield (TypeItem t)) ∷
+    (8, flat (read_canonical >>= λ f. give (CanonItem f))) ∷
+    (10, flat read_import_item) ∷
+    (11, flat read_export_item) ∷ []
+
+abbrev pub row_of : {A : Type 0} → List (ℕ × DeepReader A) → ℕ → DeepReader A
+row_of [] id = refuse
+row_of (row ∷ table) id = if nat_eq id row.0 then row.1 else row_of table id
+
+abbrev pub read_item : ℕ → ℕ → DeepReader Item
+read_item depth id = row_of (item_rows depth) id
+
+-- ---- what fills a section
+
+abbrev pub labelled : List ℕ → List ℕ → Custom
+labelled label bytes = record { label = label; bytes = bytes }
+
+-- a name, and the data that belong to it
+abbrev pub read_custom_content : List ℕ → Option Custom
+read_custom_content content = go_on (read_name content) (λ label. read_bytes (labelled label))
+
+abbrev pub read_start_content : List ℕ → Option Start
+read_start_content = done (read_u32 >>= λ function. read_list read_u32 >>= λ arguments. read_u32 >>= λ results. give (started function arguments results))
+
+abbrev pub read_raw : List ℕ → Option (List ℕ)
+read_raw = read_bytes (λ bytes. bytes)
+
+-- a count, and so many items
+abbrev pub read_items : ℕ → ℕ → List ℕ → Result (List Item) Flaw
+read_items depth id content = filled ((flat read_u32 >>> repeat (read_item depth id)) content)
+
+-- the items of what fills a section, made of what was read
+abbrev pub single : {A : Type 0} → (A → Item) → Option A → Result (List Item) Flaw
+single make None = Err Bad
+single make (Some v) = Ok (make v ∷ [])
+
+-- the items of a section with this id
+abbrev pub read_content : ℕ → ℕ → List ℕ → Result (List Item) Flaw
+read_content depth id content =
+    if nat_eq id 0 then single CustomItem (read_custom_content content)
+    else if nat_eq id 1 then single ModuleItem (read_raw content)
+    else if nat_eq id 4 then single ComponentItem (read_raw content)
+    else if nat_eq id 9 then single StartItem (read_start_content content)
+    else read_items depth id content
+
+-- ---- sections
+
+-- the id, at most 11, and the content of the section that begins here
+abbrev pub read_frame : Reader (ℕ × List ℕ)
+read_frame [] = None
+read_frame (id ∷ bytes) = if nat_lt 11 id then None else go_on (read_u32 bytes) (λ size rest. if nat_lt (length rest) size then None else Some ((id, take size rest), drop size rest))
+
+-- ---- faults
+
+-- why no section is framed
+abbrev pub fault_of_frame : Refusal → ℕ → ListFault
+fault_of_frame refusals.Memory place = faults.Memory
+fault_of_frame refusals.Malformed place = faults.BadSection place
+fault_of_frame refusals.TooDeep place = faults.BadSection place
+
+-- why the content of a section with this id isn't read
+abbrev pub fault_of_content : Refusal → ℕ → ℕ → ListFault
+fault_of_content refusals.Memory id place = faults.Memory
+fault_of_content refusals.Malformed id place = if nat_eq id 0 then faults.BadSection place else faults.BadItem place
+fault_of_content refusals.TooDeep id place = faults.TooDeep place

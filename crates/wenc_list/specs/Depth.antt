@@ -1,0 +1,28 @@
+-- Where types of components and of instances stand too deep in one another.
+use Rattle.std.specs.Prelude.{◌≡◌, ◌⊎◌, ℕ, zero, suc, ◌<◌, List, ◌∷◌, length}
+use Rattle.wenc_base.specs.Number.{u32}
+use Rattle.wenc_base.specs.Piece.{Form, Wide, each}
+use Rattle.wenc_types.specs.ComponentTypes.{instance_declaration, component_declaration}
+
+-- a count, fewer whole values than that, and then bytes of which P holds
+pub record Front {A : Type 0} (form : Form A) (P : List ℕ → Type 0) (bytes : List ℕ) : Type 0 where
+  pub count : ℕ
+  pub middle : List ℕ
+  pub counted : (u32 count).Reads Wide bytes middle
+  pub before : List A
+  pub left : List ℕ
+  pub read : (each form before).Reads Wide middle left
+  pub fewer : length before < count
+  pub next : P left
+
+-- this byte, and then bytes of which P holds
+abbrev pub Behind : ℕ → (List ℕ → Type 0) → List ℕ → Type 0
+Behind b P bytes = (rest : List ℕ) × (bytes ≡ b ∷ rest) × P rest
+
+-- A type of a component or of an instance opens here, and then so many more inside one another, each before anything
+-- that is no declaration.
+abbrev pub Enters : ℕ → List ℕ → Type 0
+Enters zero bytes = Behind 0x41 (λ rest. Unit {0}) bytes ⊎ Behind 0x42 (λ rest. Unit {0}) bytes
+Enters (suc more) bytes =
+    Behind 0x41 (Front component_declaration (Behind 0x01 (Enters more))) bytes
+    ⊎ Behind 0x42 (Front instance_declaration (Behind 0x01 (Enters more))) bytes

@@ -1,0 +1,41 @@
+-- The code's items and sections as pure ones.
+use Rattle.std.specs.Prelude.{ℕ, List, [], ◌∷◌, map, if◌then◌else◌}
+use Rattle.std.specs.String.{string_bytes}
+use Rattle.wenc_builder.specs.Item.{Item, ModuleItem, CoreInstanceItem, CoreTypeItem, ComponentItem, InstanceItem, AliasItem, TypeItem, CanonItem, StartItem, ImportItem, ExportItem, CustomItem}
+use Rattle.wenc_builder.specs.Sections.{Section, Run, Alone, collects}
+use Rattle.wenc_canon.specs.CanonTrees.{canon_view}
+use Rattle.wenc_parts.specs.Aliases.{alias_tree_view}
+use Rattle.wenc_parts.specs.Imports.{name_tree_view}
+use Rattle.wenc_sections.specs.InstanceTrees.{core_instance_tree_view, instance_tree_view}
+use Rattle.wenc_types.specs.CoreTypeTrees.{core_type_view}
+use Rattle.wenc_types.specs.TypeTrees.{type_view}
+use Rattle.wenc_list.specs.declared.item.ItemTree.{ItemTree}
+use Rattle.wenc_list.specs.declared.item.ItemTree.TheVariants as trees
+use Rattle.wenc_list.specs.declared.listing.ListedSection.{ListedSection}
+
+abbrev pub item_view : {A : Type 0} → ItemTree A → Item
+item_view (trees.Module bytes) = ModuleItem bytes.items
+item_view (trees.CoreInstance instance) = CoreInstanceItem (core_instance_tree_view instance)
+item_view (trees.CoreType ty) = CoreTypeItem (core_type_view ty)
+item_view (trees.Component bytes) = ComponentItem bytes.items
+item_view (trees.Instance instance) = InstanceItem (instance_tree_view instance)
+item_view (trees.Alias alias) = AliasItem (alias_tree_view alias)
+item_view (trees.«Type» ty) = TypeItem (type_view ty)
+item_view (trees.Canon canon) = CanonItem (canon_view canon)
+item_view (trees.Start function args results) = StartItem (record { function = function; arguments = args.items; results = results })
+item_view (trees.Import name ty) = ImportItem (record { name = name_tree_view name; what = ty })
+item_view (trees.Export name kind index ty) = ExportItem (record { name = name_tree_view name; kind = kind; index = index; what = ty })
+item_view (trees.Custom name bytes) = CustomItem (record { label = string_bytes name; bytes = bytes.items })
+
+-- an item that is a section of its own
+abbrev pub alone : ℕ → List Item → Section
+alone id [] = Run id []
+alone id (x ∷ []) = Alone x
+alone id (x ∷ y ∷ xs) = Run id (x ∷ y ∷ xs)
+
+-- the section with this id and these items
+abbrev pub section_of : ℕ → List Item → Section
+section_of id xs = if collects id then Run id xs else alone id xs
+
+abbrev pub section_view : {A : Type 0} → ListedSection A → Section
+section_view s = section_of s.id (map item_view s.items.items)

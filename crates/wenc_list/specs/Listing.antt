@@ -1,0 +1,122 @@
+-- What is listed of a component, and what stands against that (component model, binary format, "Component Definitions").
+use Rattle.std.specs.List.{AllByRecursion, flat_map}
+use Rattle.std.specs.Prelude.{◌≡◌, ℕ, zero, suc, ◌+◌, ◌^◌, ◌<◌, ◌≤◌, List, [], ◌∷◌, ◌++◌, length, map}
+use Rattle.wenc_base.specs.Forms.{name}
+use Rattle.wenc_base.specs.Number.{u32}
+use Rattle.wenc_base.specs.Piece.{Wide, each}
+use Rattle.wenc_builder.specs.Item.{Item, TypeItem}
+use Rattle.wenc_builder.specs.Sections.{Section, members, item_of, section_piece, preamble}
+use Rattle.wenc_builder.specs.Space.{place}
+use Rattle.wenc_types.specs.ComponentTypes.{depth}
+use Rattle.wenc_list.specs.declared.fault.ListFault.{ListFault}
+use Rattle.wenc_list.specs.declared.fault.ListFault.TheVariants as faults
+use Rattle.wenc_list.specs.declared.listing.ListedSection.{ListedSection}
+use Rattle.wenc_list.specs.Depth.{Front, Enters}
+use Rattle.wenc_list.specs.Items.{item_view, section_view}
+
+-- ---- how deep types nest
+
+-- no deeper than this
+abbrev pub HasDepth : ℕ → Item → Type 0
+HasDepth limit (TypeItem ty) = depth ty ≤ limit
+HasDepth limit other = Unit {0}
+
+abbrev pub AreWithin : ℕ → List Section → Type 0
+AreWithin limit = AllByRecursion (λ s. AllByRecursion (HasDepth limit) (members s))
+
+-- ---- sections
+
+-- A section with this id and this content begins here, and the rest follows.
+pub record IsFramed (bytes : List ℕ) (id : ℕ) (content rest : List ℕ) : Type 0 where
+  pub middle : List ℕ
+  pub begins : bytes ≡ id ∷ middle
+  pub known : id ≤ 11
+  pub sized : (u32 (length content)).Reads Wide middle (content ++ rest)
+
+-- the content begins with a name, where it is that of a custom section
+abbrev pub IsLabelled : ℕ → List ℕ → Type 0
+IsLabelled zero content = (label bytes : List ℕ) × (name label).Reads Wide content bytes
+IsLabelled (suc id) content = Unit {0}
+
+-- no section begins here: an unknown id, no size, fewer bytes than that, or a custom section without a name
+abbrev pub IsBadSection : List ℕ → Type 0
+IsBadSection bytes = (id : ℕ) (content rest : List ℕ) → IsFramed bytes id content rest → IsLabelled id content → ⊥
+
+-- a section begins here, whose content isn't that of any section
+pub record IsBadItem (bytes : List ℕ) : Type 0 where
+  pub id : ℕ
+  pub content : List ℕ
+  pub rest : List ℕ
+  pub framed : IsFramed bytes id content rest
+  pub labelled : IsLabelled id content
+  pub never : (s : Section) (after : List ℕ) → (section_piece s).Reads Wide bytes after → ⊥
+
+-- a section of types begins here, in which a front reaches a type at depth 101
+pub record IsTooDeep (bytes : List ℕ) : Type 0 where
+  pub content : List ℕ
+  pub rest : List ℕ
+  pub framed : IsFramed bytes 7 content rest
+  pub reached : Front (item_of 7) (Enters 100) content
+
+-- ---- what is listed
+
+-- Each section is read where it is placed, of so many bytes in all, one behind the other up to the rest.
+abbrev pub AreFrom : {A : Type 0} → ℕ → List (ListedSection A) → List ℕ → List ℕ → Type 0
+AreFrom all [] bytes rest = bytes ≡ rest
+AreFrom all (s ∷ ss) bytes rest = (middle : List ℕ) × (section_piece (section_view s)).Reads Wide bytes middle × (all ≡ s.place + length bytes) × AreFrom all ss middle rest
+
+-- how many places in space k the items of these sections take
+abbrev pub count_in : ℕ → List Section → ℕ
+count_in k ss = place (flat_map members ss) k
+
+-- No section's items take 2^64 places.
+abbrev pub AreSmall : {A : Type 0} → List (ListedSection A) → Type 0
+AreSmall [] = Unit {0}
+AreSmall (s ∷ ss) = ((k : ℕ) → place (map item_view s.items.items) k < 2 ^ 64) × AreSmall ss
+
+-- so it is of all of a component, behind its header
+abbrev pub ArePlaced : {A : Type 0} → List ℕ → List (ListedSection A) → Type 0
+ArePlaced bytes ss = (behind : List ℕ) × preamble.Reads Wide bytes behind × AreFrom (length bytes) ss behind []
+
+-- ---- what stands against it
+
+-- no section is read here within depth 100
+abbrev pub IsNoneWithin : List ℕ → Type 0
+IsNoneWithin bytes = (s : Section) (rest : List ℕ) → (section_piece s).Reads Wide bytes rest → AreWithin 100 (s ∷ []) → ⊥
+
+-- Sections are read within depth 100, of so many bytes in all, up to this place; the next one isn't, and P holds of
+-- the bytes from there on.
+pub record Stops (all : ℕ) (bytes : List ℕ) (place : ℕ) (P : List ℕ → Type 0) : Type 0 where
+  pub before : List Section
+  pub left : List ℕ
+  pub read : (each section_piece before).Reads Wide bytes left
+  pub within : AreWithin 100 before
+  pub is_place : all ≡ place + length left
+  pub some_left : 0 < length left
+  pub none_within : IsNoneWithin left
+  pub cause : P left
+
+-- the fault has its cause, behind the header
+abbrev pub IsFaultBehind : ℕ → List ℕ → ListFault → Type 0
+IsFaultBehind all bytes faults.Memory = Unit {0}
+IsFaultBehind all bytes (faults.NotAComponent place) = ⊥
+IsFaultBehind all bytes (faults.BadSection place) = Stops all bytes place IsBadSection
+IsFaultBehind all bytes (faults.BadItem place) = Stops all bytes place IsBadItem
+IsFaultBehind all bytes (faults.TooDeep place) = Stops all bytes place IsTooDeep
+
+abbrev pub HasNoHeader : List ℕ → Type 0
+HasNoHeader bytes = (rest : List ℕ) → preamble.Reads Wide bytes rest → ⊥
+
+-- the fault has its cause
+abbrev pub IsFaultOf : List ℕ → ListFault → Type 0
+IsFaultOf bytes faults.Memory = Unit {0}
+IsFaultOf bytes (faults.NotAComponent place) = (place ≡ 0) × HasNoHeader bytes
+IsFaultOf bytes fault = (behind : List ℕ) × preamble.Reads Wide bytes behind × IsFaultBehind (length bytes) behind fault
+
+-- the fault has its cause in the section that begins here
+abbrev pub IsFaultHere : ℕ → List ℕ → ListFault → Type 0
+IsFaultHere here bytes faults.Memory = Unit {0}
+IsFaultHere here bytes (faults.NotAComponent place) = ⊥
+IsFaultHere here bytes (faults.BadSection place) = (place ≡ here) × IsNoneWithin bytes × IsBadSection bytes
+IsFaultHere here bytes (faults.BadItem place) = (place ≡ here) × IsNoneWithin bytes × IsBadItem bytes
+IsFaultHere here bytes (faults.TooDeep place) = (place ≡ here) × IsNoneWithin bytes × IsTooDeep bytes

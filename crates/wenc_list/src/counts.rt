@@ -1,0 +1,56 @@
+//! How many places items take in each index space.
+ghost use Rattle.std.specs.Prelude.{◌≡◌, ℕ, ◌+◌, ◌<◌, ◌^◌, map, length, slice_index};
+ghost use Rattle.wenc_builder.specs.Space.{space_number, some_in, number_in, defined_in, place};
+ghost use Rattle.wenc_list.specs.Items.{item_view, section_view};
+ghost use Rattle.wenc_list.specs.Listing.{AreSmall, count_in};
+
+use crate::item::ItemTree;
+use crate::listing::ListedSection;
+use std::alloc::Allocator;
+use wenc_builder::Space;
+
+/// Counts so many places more in a space.
+fn add(counts: &mut [u128; 13], space: Space, number: u32)
+    requires { slice_index counts.old (space_number space) + number < 2 ^ 128 }
+    ensures { (k : ℕ)
+        → slice_index counts.new k ≡ slice_index counts.old k + number_in k (some_in space number) }
+{
+    counts[space.number()] += u128::from(number);
+}
+
+/// Counts the places that an item takes.
+fn add_item<A: Allocator>(counts: &mut [u128; 13], item: &ItemTree<A>)
+    requires { (k : ℕ)
+        → slice_index counts.old k + defined_in k (item_view item.now) < 2 ^ 128 }
+    ensures { (k : ℕ)
+        → slice_index counts.new k ≡ slice_index counts.old k + defined_in k (item_view item.now) }
+{
+    match item.places() {
+        Some((space, number)) => add(counts, space, number),
+        None => {}
+    }
+}
+
+/// Counts the places that the items take.
+fn count<A: Allocator>(counts: &mut [u128; 13], items: &[ItemTree<A>])
+    requires { (k : ℕ) → slice_index counts.old k + place (map item_view items.now) k < 2 ^ 128 }
+    ensures { (k : ℕ)
+        → slice_index counts.new k ≡ slice_index counts.old k + place (map item_view items.now) k }
+{
+    for item in items {
+        add_item(counts, item);
+    }
+}
+
+/// The places that the items of the sections take in each space.
+pub(crate) fn counts_of<A: Allocator>(sections: &[ListedSection<A>]) -> [u128; 13]
+    requires few { length sections.now < 2 ^ 64 }
+    requires small { AreSmall sections.now }
+    ensures { (k : ℕ) → slice_index result k ≡ count_in k (map section_view sections.now) }
+{
+    let mut counts = [0; 13];
+    for section in sections {
+        count(&mut counts, &section.items);
+    }
+    counts
+}

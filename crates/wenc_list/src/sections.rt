@@ -1,0 +1,220 @@
+//! Sections, and what is in them.
+ghost use Rattle.std.specs.Prelude.{◌≡◌, ◌∷◌, [], map, IfOk, IfErr};
+ghost use Rattle.std.specs.String.{string_bytes};
+ghost use Rattle.wenc_base.specs.Forms.{AreBytes};
+ghost use Rattle.wenc_list.specs.Contents.{labelled, read_custom_content, read_start_content, read_raw, read_import_item, read_export_item};
+ghost use Rattle.wenc_list.specs.Contents.{read_item, read_items, read_content, read_frame};
+ghost use Rattle.wenc_list.specs.Gives.{Gives, GivesAll};
+ghost use Rattle.wenc_list.specs.Items.{item_view};
+ghost use Rattle.wenc_list.specs.Outcomes.{Yields, repeat};
+ghost use Rattle.wenc_list.specs.declared.refusal.Refusal.TheVariants.{Memory};
+ghost use Rattle.wenc_sections.specs.Start.{started};
+
+use crate::decode::Decode;
+use crate::item::ItemTree;
+use crate::number::{byte, u32_of};
+use crate::refusal::Refusal;
+use crate::text::name_of;
+use crate::type_tree::type_of;
+use std::alloc::Allocator;
+use wenc_canon::CanonTree;
+use wenc_parts::{AliasTree, ComponentExportKind, ComponentTypeRef, NameTree};
+use wenc_sections::{CoreInstanceTree, InstanceTree};
+use wenc_types::CoreTypeTree;
+
+/// How many types of components and instances may stand in one another.
+pub(crate) const DEPTH: u32 = 100;
+
+/// A list of bytes has only bytes. The call does nothing.
+pub(crate) fn are_bytes(bytes: &[u8])
+    ensures { AreBytes bytes.now }
+{}
+
+/// The bytes as they are.
+fn copied<A: Allocator>(alloc: A, bytes: &[u8]) -> Result<Vec<u8, A>, Refusal>
+    ensures { GivesAll (λ v. v.items) result (read_raw bytes.now) }
+{
+    are_bytes(bytes);
+    Ok(Vec::from_slice(alloc, bytes)?)
+}
+
+/// What fills a custom section.
+fn custom<A: Allocator + Copy>(alloc: A, content: &[u8]) -> Result<(String<A>, Vec<u8, A>), Refusal>
+    ensures { GivesAll (λ x. labelled (string_bytes x.0) x.1.items) result
+        (read_custom_content content.now) }
+{
+    let (name, rest) = name_of(alloc, content)?;
+    let data = copied(alloc, rest)?;
+    Ok((name, data))
+}
+
+/// What fills the section of a start.
+fn start<A: Allocator + Copy>(alloc: A, content: &[u8]) -> Result<(u32, Vec<u32, A>, u32), Refusal>
+    ensures { GivesAll (λ x. started x.0 x.1.items x.2) result (read_start_content content.now) }
+{
+    let (function, rest) = u32_of(content)?;
+    let (args, rest) = Vec::decode(alloc, rest)?;
+    let (results, rest) = u32_of(rest)?;
+    if rest.is_empty() {
+        Ok((function, args, results))
+    } else {
+        Err(Refusal::Malformed)
+    }
+}
+
+/// An import.
+fn import<A: Allocator + Copy>(alloc: A, bytes: &[u8]) -> Result<(ItemTree<A>, &[u8]), Refusal>
+    ensures { Gives (λ x. (item_view x.0, x.1.now)) result (read_import_item bytes.now) }
+{
+    let (name, rest) = NameTree::decode(alloc, bytes)?;
+    let (ty, rest) = ComponentTypeRef::decode(alloc, rest)?;
+    Ok((ItemTree::Import { name, ty }, rest))
+}
+
+/// An export.
+fn export<A: Allocator + Copy>(alloc: A, bytes: &[u8]) -> Result<(ItemTree<A>, &[u8]), Refusal>
+    ensures { Gives (λ x. (item_view x.0, x.1.now)) result (read_export_item bytes.now) }
+{
+    let (name, rest) = NameTree::decode(alloc, bytes)?;
+    let (kind, rest) = ComponentExportKind::decode(alloc, rest)?;
+    let (index, rest) = u32::decode(alloc, rest)?;
+    let (ty, rest) = Option::decode(alloc, rest)?;
+    let item = ItemTree::Export {
+        name,
+        kind,
+        index,
+        ty,
+    };
+    Ok((item, rest))
+}
+
+/// An item of the section with this id.
+fn item<A: Allocator + Copy>(
+    alloc: A,
+    id: u8,
+    bytes: &[u8],
+) -> Result<(ItemTree<A>, &[u8]), Refusal>
+    ensures { Yields (λ x. (item_view x.0, x.1.now)) result (read_item 100 id bytes.now) }
+{
+    match id {
+        2 => {
+            let (instance, rest) = CoreInstanceTree::decode(alloc, bytes)?;
+            Ok((ItemTree::CoreInstance(instance), rest))
+        }
+        3 => {
+            let (ty, rest) = CoreTypeTree::decode(alloc, bytes)?;
+            Ok((ItemTree::CoreType(ty), rest))
+        }
+        5 => {
+            let (instance, rest) = InstanceTree::decode(alloc, bytes)?;
+            Ok((ItemTree::Instance(instance), rest))
+        }
+        6 => {
+            let (alias, rest) = AliasTree::decode(alloc, bytes)?;
+            Ok((ItemTree::Alias(alias), rest))
+        }
+        7 => {
+            let (ty, rest) = type_of(alloc, DEPTH, bytes)?;
+            Ok((ItemTree::Type(ty), rest))
+        }
+        8 => {
+            let (canon, rest) = CanonTree::decode(alloc, bytes)?;
+            Ok((ItemTree::Canon(canon), rest))
+        }
+        10 => import(alloc, bytes),
+        11 => export(alloc, bytes),
+        _ => Err(Refusal::Malformed),
+    }
+}
+
+/// A count, and so many items, up to the end.
+fn items<A: Allocator + Copy>(
+    alloc: A,
+    id: u8,
+    content: &[u8],
+) -> Result<Vec<ItemTree<A>, A>, Refusal>
+    ensures { Yields (λ v. map item_view v.items) result (read_items 100 id content.now) }
+{
+    let (count, rest) = u32_of(content)?;
+    let (items, rest) = members(alloc, id, count, rest)?;
+    if rest.is_empty() {
+        Ok(items)
+    } else {
+        Err(Refusal::Malformed)
+    }
+}
+
+/// So many items.
+fn members<A: Allocator + Copy>(
+    alloc: A,
+    id: u8,
+    count: u32,
+    bytes: &[u8],
+) -> Result<(Vec<ItemTree<A>, A>, &[u8]), Refusal>
+    ensures { Yields (λ x. (map item_view x.0.items, x.1.now)) result
+        (repeat (read_item 100 id) count bytes.now) }
+{
+    let mut items = Vec::new(alloc);
+    let mut rest = bytes;
+    for _ in 0..count {
+        let (item, after) = item(alloc, id, rest)?;
+        items.push(item)?;
+        rest = after;
+    }
+    Ok((items, rest))
+}
+
+/// One item alone.
+fn single<A: Allocator>(alloc: A, item: ItemTree<A>) -> Result<Vec<ItemTree<A>, A>, Refusal>
+    ensures ok { IfOk result (λ v. v.items ≡ item ∷ []) }
+    ensures refused { IfErr result (λ e. e ≡ Memory) }
+{
+    let mut items = Vec::new(alloc);
+    items.push(item)?;
+    Ok(items)
+}
+
+/// The items that fill a section with this id.
+pub(crate) fn content<A: Allocator + Copy>(
+    alloc: A,
+    id: u8,
+    content: &[u8],
+) -> Result<Vec<ItemTree<A>, A>, Refusal>
+    ensures { Yields (λ v. map item_view v.items) result (read_content 100 id content.now) }
+{
+    match id {
+        0 => {
+            let (name, data) = custom(alloc, content)?;
+            single(alloc, ItemTree::Custom { name, data })
+        }
+        1 => single(alloc, ItemTree::Module(copied(alloc, content)?)),
+        4 => single(alloc, ItemTree::Component(copied(alloc, content)?)),
+        9 => {
+            let (function, args, results) = start(alloc, content)?;
+            let item = ItemTree::Start {
+                function,
+                args,
+                results,
+            };
+            single(alloc, item)
+        }
+        _ => items(alloc, id, content),
+    }
+}
+
+/// The id, at most 11, and the content of the section that begins here, and what is behind it.
+pub(crate) fn frame(bytes: &[u8]) -> Result<((u8, &[u8]), &[u8]), Refusal>
+    ensures { Gives (λ x. ((x.0.0, x.0.1.now), x.1.now)) result (read_frame bytes.now) }
+{
+    let (id, rest) = byte(bytes)?;
+    if id > 11 {
+        return Err(Refusal::Malformed);
+    }
+    let (size, rest) = u32_of(rest)?;
+    let size = size as usize;
+    if rest.len() < size {
+        return Err(Refusal::Malformed);
+    }
+    let (content, rest) = rest.split_at(size);
+    Ok(((id, content), rest))
+}
