@@ -7,6 +7,7 @@ pub mod canonicals;
 pub mod components;
 pub mod encoders;
 pub mod equality;
+pub mod listed;
 pub mod numbers;
 pub mod parts;
 pub mod types;
