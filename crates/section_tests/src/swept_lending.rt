@@ -88,7 +88,7 @@ fn is_made_of(state: &[u8], counted: &[u8], lead: &[u8], text: &[u8]) -> bool {
     }
 }
 
-/// With this call alone, this is all that can be asked.
+/// With this call alone, this is all that can be asked. The text is swept.
 fn makes<'a, L: OnHeap<'a>, C: Makes<L>>(
     alloc: Global,
     heap: &'a Refusing,
@@ -100,11 +100,12 @@ fn makes<'a, L: OnHeap<'a>, C: Makes<L>>(
     let mut members: Swept<L> = started(heap, 0)?;
     call.add(&mut members)?;
     let state = members.state(alloc)?;
-    Ok(is_made_of(state.as_slice(), counted, lead, text))
+    let is_well = is_made_of(state.as_slice(), counted, lead, text);
+    Ok(is_well && members.0.sweep_text(alloc)?)
 }
 
-/// Sweeps a call. With it alone, this is all that can be asked: what is counted, and whether it is empty and finished;
-/// then what the text begins with, and what the call makes.
+/// Sweeps a call, and the text that it makes. With it alone, this is all that can be asked: what is counted, and whether
+/// it is empty and finished; then what the text begins with, and what the call makes.
 pub fn sweep_made<'a, L: OnHeap<'a>, C: Makes<L> + Copy>(
     alloc: Global,
     heap: &'a Refusing,

@@ -7,6 +7,7 @@ use crate::swept_lending::{sweep_item, sweep_made};
 use refusing::Refusing;
 use std::alloc::Global;
 use std::process::Abort;
+use sweeping::LARGE;
 use wenc_base::Fault;
 use wenc_parts::{ComponentValType, PrimitiveValType};
 use wenc_sections::ComponentTypeSection;
@@ -16,6 +17,9 @@ pub const STRING: ComponentValType = ComponentValType::Primitive(PrimitiveValTyp
 
 /// The type with an index that takes two bytes.
 pub const INDEXED: ComponentValType = ComponentValType::Type(64);
+
+/// The type with the greatest index.
+pub const LAST: ComponentValType = ComponentValType::Type(LARGE);
 
 /// What is asked of one with a declaration that counts as a type: it isn't empty, and is finished.
 pub const A_TYPE: &[u8] = &[1, 0, 1, 0, 0, 1];

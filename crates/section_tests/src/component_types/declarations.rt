@@ -2,7 +2,7 @@
 
 use crate::checks::{alone, counts};
 use crate::component_types::calls::Call;
-use crate::component_types::checks::{A_TYPE, STRING};
+use crate::component_types::checks::{A_TYPE, LAST, STRING};
 use crate::component_types::declaring::{Declaration, Import, Kind, make_each};
 use crate::component_types::lending::Opening;
 use crate::lending::{Lending, Makes, has};
@@ -193,8 +193,8 @@ const EXPORTS: [(Declaration<'static>, &[u8], &[u8]); 7] = [
     ),
 ];
 
-/// A core type, and what is longer than a first growth.
-const OTHERS: [(Declaration<'static>, &[u8], &[u8]); 3] = [
+/// A core type, what is longer than a first growth, and what has the greatest indices.
+const OTHERS: [(Declaration<'static>, &[u8], &[u8]); 6] = [
     (Declaration::Array, A_CORE_TYPE, b"\x00\x5e\x78\x01"),
     (
         Declaration::Alias(Alias::InstanceExport {
@@ -211,6 +211,26 @@ const OTHERS: [(Declaration<'static>, &[u8], &[u8]); 3] = [
         NOTHING,
         b"\x04\x00\
             \x49a name that is longer than a first growth, by far: aaaaaaaaaaaaaaaaaaaaaa\x01\xff\xff\xff\xff\x0f",
+    ),
+    (
+        Declaration::Export(NAME, ComponentTypeRef::Type(TypeBounds::Eq(LARGE))),
+        A_TYPE,
+        b"\x04\x00\
+            \x49a name that is longer than a first growth, by far: aaaaaaaaaaaaaaaaaaaaaa\x03\x00\xff\xff\xff\xff\x0f",
+    ),
+    (
+        Declaration::Export("a", ComponentTypeRef::Value(LAST)),
+        NOTHING,
+        b"\x04\x00\x01a\x02\xff\xff\xff\xff\x0f",
+    ),
+    (
+        Declaration::Alias(Alias::Outer {
+            kind: ComponentOuterAliasKind::CoreType,
+            count: LARGE,
+            index: LARGE,
+        }),
+        A_CORE_TYPE,
+        b"\x02\x00\x10\x02\xff\xff\xff\xff\x0f\xff\xff\xff\xff\x0f",
     ),
 ];
 
@@ -436,15 +456,33 @@ const SEVEN: [Declaration<'static>; 7] = [
     Declaration::Export("i", ComponentTypeRef::Instance(8)),
 ];
 
-/// Upstream gives these counts, and this section.
+const OPTION: [Declaration<'static>; 2] = [
+    Declaration::Type(Call::Option(STRING)),
+    Declaration::Export("t", ComponentTypeRef::Type(TypeBounds::Eq(0))),
+];
+
+/// With these declarations an instance type has these counts, and in a section these bytes.
+fn check_instance_type(
+    rt: &impl Abort,
+    alloc: Global,
+    declarations: &[Declaration<'_>],
+    counts: [u32; 4],
+    wanted: &str,
+) -> Result<(), Fault> {
+    let mut ty = InstanceType::new(alloc);
+    make_each(&mut ty, declarations)?;
+    has(rt, &ty, counts);
+    in_a_section(rt, alloc, &ty, wanted)
+}
+
+/// Upstream gives these counts, and these sections.
 #[test]
 fn instance_types(rt: HostRuntime) -> Result<(), Fail> {
-    let mut ty = InstanceType::new(rt.alloc());
-    make_each(&mut ty, SEVEN.as_slice())?;
-    has(&rt, &ty, [7, 2, 2, 2]);
     let wanted =
         "072a014207005e7801013f7e0103020500010169020010020100040001660106040001730301040001690508";
-    in_a_section(&rt, rt.alloc(), &ty, wanted)?;
+    check_instance_type(&rt, rt.alloc(), SEVEN.as_slice(), [7, 2, 2, 2], wanted)?;
+    let wanted = "070d014202016b7304000174030000";
+    check_instance_type(&rt, rt.alloc(), OPTION.as_slice(), [2, 0, 2, 0], wanted)?;
     Ok(())
 }
 

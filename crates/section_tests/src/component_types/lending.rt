@@ -220,10 +220,30 @@ impl<K: Kind, A: Allocator + Clone> Makes<Declarations<K, A>> for Opening {
     }
 }
 
-/// What is refused meanwhile.
-const BEGINNINGS: [Beginning; 2] = [Beginning::Function, Beginning::DefinedType];
+/// What a section with an unfinished item refuses, these types among it.
+pub fn items<'t>(component: &'t ComponentType, instance: &'t InstanceType) -> [Item<'t>; 5] {
+    [
+        Item::Component(component),
+        Item::Instance(instance),
+        Item::Resource(None),
+        Item::Begun(Beginning::Function),
+        Item::Begun(Beginning::DefinedType),
+    ]
+}
 
-/// One call leaves the section as it was. An encoder leaves its item unfinished, which comes to nothing.
+/// A refused call has left an item unfinished in the section, which comes to nothing.
+fn takes_nothing(
+    rt: &impl Abort,
+    alloc: Global,
+    section: &mut ComponentTypeSection,
+    component: &ComponentType,
+    instance: &InstanceType,
+) -> Result<(), Fault> {
+    let items = items(component, instance);
+    comes_to_nothing(rt, alloc, section, items.as_slice())
+}
+
+/// One call leaves the section as it was. An encoder leaves its item unfinished.
 fn is_not_item<K: Kind>(
     rt: &impl Abort,
     alloc: Global,
@@ -233,8 +253,8 @@ fn is_not_item<K: Kind>(
     is_refused(rt, K::item(ty).make(section));
     is(rt, alloc, section, NO_ITEMS)?;
     is_refused(rt, K::call(ty).make(section));
-    is_refused(rt, resource(section, None));
-    comes_to_nothing(rt, alloc, section, BEGINNINGS.as_slice())
+    let component = ComponentType::new(alloc);
+    takes_nothing(rt, alloc, section, &component, &InstanceType::new(alloc))
 }
 
 impl<K: Kind> Taken for Declarations<K> {

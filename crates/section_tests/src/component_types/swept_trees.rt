@@ -1,6 +1,6 @@
 //! Sweeps of the trees of types.
 
-use crate::component_types::checks::STRING;
+use crate::component_types::checks::{LAST, STRING};
 use std::alloc::Global;
 use std::test::Fail;
 use sweeping::{LARGE, NAME, sweep_each, sweep_encode};
@@ -13,8 +13,6 @@ use wenc_types::{
     CaseTree, ComponentDecl, CoreTypeTree, DefinedTree, InstanceDecl, ModuleDecl, TypeTree,
 };
 
-const INDEXED: ComponentValType = ComponentValType::Type(LARGE);
-
 fn add(trees: &mut Vec<DefinedTree>, tree: DefinedTree) -> Result<(), Fault> {
     trees.push(tree)?;
     Ok(())
@@ -23,26 +21,26 @@ fn add(trees: &mut Vec<DefinedTree>, tree: DefinedTree) -> Result<(), Fault> {
 /// Adds types of values of one part.
 fn add_short(trees: &mut Vec<DefinedTree>) -> Result<(), Fault> {
     add(trees, DefinedTree::Primitive(PrimitiveValType::String))?;
-    add(trees, DefinedTree::List(INDEXED))?;
-    add(trees, DefinedTree::Option(INDEXED))?;
+    add(trees, DefinedTree::List(LAST))?;
+    add(trees, DefinedTree::Option(LAST))?;
     add(trees, DefinedTree::Own(LARGE))?;
     add(trees, DefinedTree::Borrow(LARGE))?;
-    add(trees, DefinedTree::Future(Some(INDEXED)))?;
-    add(trees, DefinedTree::Stream(Some(INDEXED)))
+    add(trees, DefinedTree::Future(Some(LAST)))?;
+    add(trees, DefinedTree::Stream(Some(LAST)))
 }
 
 const MAP: DefinedTree = DefinedTree::Map {
     key: STRING,
-    value: INDEXED,
+    value: LAST,
 };
 
 const FIXED: DefinedTree = DefinedTree::FixedLengthList {
-    element: INDEXED,
+    element: LAST,
     length: LARGE,
 };
 
 const RESULT: DefinedTree = DefinedTree::Result {
-    ok: Some(INDEXED),
+    ok: Some(LAST),
     err: Some(STRING),
 };
 
@@ -53,14 +51,14 @@ fn name(alloc: Global) -> Result<String, Fault> {
 /// A field or parameter of a long name.
 fn named(alloc: Global) -> Result<Vec<(String, ComponentValType)>, Fault> {
     let mut fields = Vec::new(alloc);
-    fields.push((name(alloc)?, INDEXED))?;
+    fields.push((name(alloc)?, LAST))?;
     Ok(fields)
 }
 
 fn cases(alloc: Global) -> Result<Vec<CaseTree>, Fault> {
     let mut cases = Vec::new(alloc);
     let name = name(alloc)?;
-    let ty = Some(INDEXED);
+    let ty = Some(LAST);
     cases.push(CaseTree { name, ty })?;
     Ok(cases)
 }
@@ -78,7 +76,7 @@ fn add_long(trees: &mut Vec<DefinedTree>, alloc: Global) -> Result<(), Fault> {
     add(trees, RESULT)?;
     add(trees, DefinedTree::Record(named(alloc)?))?;
     add(trees, DefinedTree::Variant(cases(alloc)?))?;
-    add(trees, DefinedTree::Tuple([STRING, INDEXED].to_vec(alloc)?))?;
+    add(trees, DefinedTree::Tuple([STRING, LAST].to_vec(alloc)?))?;
     add(trees, DefinedTree::Flags(names(alloc)?))?;
     add(trees, DefinedTree::Enum(names(alloc)?))
 }
@@ -111,7 +109,7 @@ fn function(alloc: Global) -> Result<TypeTree, Fault> {
     Ok(TypeTree::Func {
         is_async: true,
         params: named(alloc)?,
-        result: Some(INDEXED),
+        result: Some(LAST),
     })
 }
 

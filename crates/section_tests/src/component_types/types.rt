@@ -1,7 +1,7 @@
 //! Each call that writes a type of values, a resource or a function, with each thing that can be borrowed.
 
 use crate::component_types::calls::Call;
-use crate::component_types::checks::{INDEXED, STRING, declares, is_item, is_written};
+use crate::component_types::checks::{INDEXED, LAST, STRING, declares, is_item, is_written};
 use crate::component_types::declaring::Kind;
 use crate::component_types::lending::Item;
 use crate::swept_lending::{last_is_refused, sweep_texts};
@@ -9,7 +9,7 @@ use refusing::Refusing;
 use std::alloc::Global;
 use std::process::Abort;
 use std::test::Fail;
-use sweeping::NAME;
+use sweeping::{LARGE, NAME};
 use wenc_base::{Fault, ValType};
 use wenc_parts::{ComponentValType, PrimitiveValType};
 use wenc_sections::ComponentTypeSection;
@@ -59,15 +59,15 @@ fn check(rt: &impl Abort, alloc: Global, rows: &[(Call<'_>, &[u8])]) -> Result<(
     Ok(())
 }
 
-const LISTS: [(Call<'static>, &[u8]); 14] = [
+const LISTS: [(Call<'static>, &[u8]); 15] = [
     (Call::Record(&[]), b"\x72\x00"),
     (
         Call::Record(&[("a", STRING), ("é", INDEXED)]),
         b"\x72\x02\x01\x61\x73\x02\xc3\xa9\xc0\x00",
     ),
     (
-        Call::Record(&[("a", STRING), (NAME, INDEXED)]),
-        b"\x72\x02\x01a\x73\x49a name that is longer than a first growth, by far: aaaaaaaaaaaaaaaaaaaaaa\xc0\x00",
+        Call::Record(&[("a", STRING), (NAME, LAST)]),
+        b"\x72\x02\x01a\x73\x49a name that is longer than a first growth, by far: aaaaaaaaaaaaaaaaaaaaaa\xff\xff\xff\xff\x0f",
     ),
     (Call::Variant(&[]), b"\x71\x00"),
     (
@@ -75,14 +75,18 @@ const LISTS: [(Call<'static>, &[u8]); 14] = [
         b"\x71\x02\x01\x61\x00\x00\x01\x62\x01\x73\x00",
     ),
     (
-        Call::Variant(&[("a", None), (NAME, Some(INDEXED))]),
+        Call::Variant(&[("a", None), (NAME, Some(LAST))]),
         b"\x71\x02\x01a\x00\x00\
-            \x49a name that is longer than a first growth, by far: aaaaaaaaaaaaaaaaaaaaaa\x01\xc0\x00\x00",
+            \x49a name that is longer than a first growth, by far: aaaaaaaaaaaaaaaaaaaaaa\x01\xff\xff\xff\xff\x0f\x00",
     ),
     (Call::Tuple(&[]), b"\x6f\x00"),
     (
         Call::Tuple(&[STRING, INDEXED, BOOL]),
         b"\x6f\x03\x73\xc0\x00\x7f",
+    ),
+    (
+        Call::Tuple(&[STRING, LAST]),
+        b"\x6f\x02\x73\xff\xff\xff\xff\x0f",
     ),
     (Call::Flags(&[]), b"\x6e\x00"),
     (Call::Flags(&["a", "bc"]), b"\x6e\x02\x01\x61\x02\x62\x63"),
@@ -101,7 +105,7 @@ const LISTS: [(Call<'static>, &[u8]); 14] = [
     ),
 ];
 
-const OTHERS: [(Call<'static>, &[u8]); 14] = [
+const OTHERS: [(Call<'static>, &[u8]); 23] = [
     (Call::Primitive(PrimitiveValType::Char), b"\x74"),
     (Call::List(INDEXED), b"\x70\xc0\x00"),
     (Call::Map(STRING, U32), b"\x63\x73\x79"),
@@ -116,11 +120,30 @@ const OTHERS: [(Call<'static>, &[u8]); 14] = [
     (Call::Future(Some(STRING)), b"\x65\x01\x73"),
     (Call::Stream(None), b"\x66\x00"),
     (Call::Stream(Some(INDEXED)), b"\x66\x01\xc0\x00"),
+    (Call::List(LAST), b"\x70\xff\xff\xff\xff\x0f"),
+    (Call::Map(STRING, LAST), b"\x63\x73\xff\xff\xff\xff\x0f"),
+    (
+        Call::FixedLengthList(LAST, LARGE),
+        b"\x67\xff\xff\xff\xff\x0f\xff\xff\xff\xff\x0f",
+    ),
+    (Call::Option(LAST), b"\x6b\xff\xff\xff\xff\x0f"),
+    (
+        Call::Result(Some(STRING), Some(LAST)),
+        b"\x6a\x01\x73\x01\xff\xff\xff\xff\x0f",
+    ),
+    (Call::Own(LARGE), b"\x69\xff\xff\xff\xff\x0f"),
+    (Call::Borrow(LARGE), b"\x68\xff\xff\xff\xff\x0f"),
+    (Call::Future(Some(LAST)), b"\x65\x01\xff\xff\xff\xff\x0f"),
+    (Call::Stream(Some(LAST)), b"\x66\x01\xff\xff\xff\xff\x0f"),
 ];
 
-const RESOURCES_AND_FUNCTIONS: [(Call<'static>, &[u8]); 6] = [
+const RESOURCES_AND_FUNCTIONS: [(Call<'static>, &[u8]); 8] = [
     (Call::Resource(ValType::I32, None), b"\x3f\x7f\x00"),
     (Call::Resource(ValType::I32, Some(3)), b"\x3f\x7f\x01\x03"),
+    (
+        Call::Resource(ValType::I32, Some(LARGE)),
+        b"\x3f\x7f\x01\xff\xff\xff\xff\x0f",
+    ),
     (
         Call::Function(None, &[("a", STRING), ("b", STRING)], Some(STRING)),
         b"\x40\x02\x01\x61\x73\x01\x62\x73\x00\x73",
@@ -131,16 +154,25 @@ const RESOURCES_AND_FUNCTIONS: [(Call<'static>, &[u8]); 6] = [
         b"\x40\x01\x01\x78\xc0\x00\x00\xc0\x00",
     ),
     (
-        Call::Function(None, &[("a", STRING), (NAME, INDEXED)], Some(INDEXED)),
+        Call::Function(None, &[("a", STRING), (NAME, LAST)], Some(LAST)),
         b"\x40\x02\x01a\x73\
-            \x49a name that is longer than a first growth, by far: aaaaaaaaaaaaaaaaaaaaaa\xc0\x00\x00\xc0\x00",
+            \x49a name that is longer than a first growth, by far: aaaaaaaaaaaaaaaaaaaaaa\xff\xff\xff\xff\x0f\x00\xff\xff\xff\xff\x0f",
+    ),
+    (
+        Call::Function(Some(true), &[("a", STRING), (NAME, LAST)], None),
+        b"\x43\x02\x01a\x73\
+            \x49a name that is longer than a first growth, by far: aaaaaaaaaaaaaaaaaaaaaa\xff\xff\xff\xff\x0f\x01\x00",
     ),
 ];
 
 /// Resources that one call adds.
-const RESOURCES: [(Item<'static>, &[u8]); 2] = [
+const RESOURCES: [(Item<'static>, &[u8]); 3] = [
     (Item::Resource(None), b"\x3f\x7f\x00"),
     (Item::Resource(Some(3)), b"\x3f\x7f\x01\x03"),
+    (
+        Item::Resource(Some(LARGE)),
+        b"\x3f\x7f\x01\xff\xff\xff\xff\x0f",
+    ),
 ];
 
 /// Upstream gives these texts, and those of the other tables.

@@ -3,7 +3,7 @@
 
 use crate::component_types::calls::Call;
 use crate::component_types::declaring::{Declaration, Import, Kind};
-use crate::component_types::lending::{Beginning, Item, Opening};
+use crate::component_types::lending::{Beginning, Opening, items};
 use crate::lending::{Makes, is};
 use crate::unfinished::{NO_ITEMS, take_back_each};
 use std::alloc::Global;
@@ -103,13 +103,7 @@ fn gives_up<'t>(
     component: &'t ComponentType,
     instance: &'t InstanceType,
 ) -> Result<(), Fault> {
-    let items = [
-        Item::Component(component),
-        Item::Instance(instance),
-        Item::Resource(None),
-        Item::Begun(Beginning::Function),
-        Item::Begun(Beginning::DefinedType),
-    ];
+    let items = items(component, instance);
     take_back_each(rt, alloc, section, BEGINNINGS.as_slice(), items.as_slice())?;
     is(rt, alloc, section, NO_ITEMS)
 }
@@ -123,11 +117,16 @@ fn gives_up_each(
     gives_up(rt, alloc, section, &component, &InstanceType::new(alloc))
 }
 
+/// Adds a handle by the call for types of values.
+fn add_own(section: &mut ComponentTypeSection) -> Result<(), Fault> {
+    section.defined_type()?.own(64)
+}
+
 #[test]
 fn sections(rt: HostRuntime) -> Result<(), Fail> {
     let mut section = ComponentTypeSection::new(rt.alloc());
     gives_up_each(&rt, rt.alloc(), &mut section)?;
-    Call::Own(64).make(&mut section)?;
+    add_own(&mut section)?;
     let wanted = b"\x01\x00\x00\x00\x00\x01\x03\x01\x69\x40";
     is(&rt, rt.alloc(), &section, wanted)?;
     Ok(())

@@ -4,7 +4,7 @@
 use crate::core_types::calls::{Call, Lends};
 use crate::core_types::making::{
     ELEMENT, FIELD, I8, I16, I32, LONG_PARAMS, LONG_RESULTS, add, add_function, array, func_type,
-    function, pair, structure,
+    function, long_function, pair, structure,
 };
 use crate::core_types::module_types::A_TYPE;
 use crate::lending::Makes;
@@ -125,6 +125,17 @@ fn check_group(
 const LONG_FUNCTION: &[u8] = b"\x60\x04\x64\xff\xff\xff\xff\x0f\x7f\x64\xff\xff\xff\xff\x0f\x7e\
     \x04\x7c\x64\xff\xff\xff\xff\x0f\x7b\x64\xff\xff\xff\xff\x0f";
 
+/// A type of such functions that is not final, behind its guard.
+const LONG_SUBTYPE: &[u8] =
+    b"\x00\x50\x01\xff\xff\xff\xff\x0f\x60\x04\x64\xff\xff\xff\xff\x0f\x7f\x64\xff\xff\xff\xff\x0f\x7e\
+    \x04\x7c\x64\xff\xff\xff\xff\x0f\x7b\x64\xff\xff\xff\xff\x0f";
+
+/// That type and one of arrays, as a group.
+const LONG_GROUP: &[u8] =
+    b"\x4e\x02\x50\x01\xff\xff\xff\xff\x0f\x60\x04\x64\xff\xff\xff\xff\x0f\x7f\x64\xff\xff\xff\xff\x0f\x7e\
+    \x04\x7c\x64\xff\xff\xff\xff\x0f\x7b\x64\xff\xff\xff\xff\x0f\
+    \x4f\x01\xff\xff\xff\xff\x0f\x5e\x64\xff\xff\xff\xff\x0f\x01";
+
 const PARAMS: [ValType; 2] = [ValType::I32, ValType::I64];
 
 const COMPOSITES: [(Call<'static>, &[u8]); 9] = [
@@ -196,6 +207,8 @@ fn functions(rt: HostRuntime) -> Result<(), Fail> {
         b"\x50\x00\x60\x00\x00",
         b"\x00\x50\x00\x60\x00\x00",
     )?;
+    let ty = long_function(rt.alloc())?;
+    check_subtype(&rt, rt.alloc(), ty, &LONG_SUBTYPE[1..], LONG_SUBTYPE)?;
     Ok(())
 }
 
@@ -239,6 +252,14 @@ fn open_types(alloc: Global) -> Result<Vec<SubType>, Fault> {
     Ok(types)
 }
 
+/// A type of functions and one of arrays, which are long.
+fn long_types(alloc: Global) -> Result<Vec<SubType>, Fault> {
+    let mut types = Vec::new(alloc);
+    add(&mut types, long_function(alloc)?)?;
+    add(&mut types, array(true, Some(LARGE), FIELD))?;
+    Ok(types)
+}
+
 #[test]
 fn groups(rt: HostRuntime) -> Result<(), Fail> {
     check_group(&rt, rt.alloc(), Vec::new(rt.alloc()), b"\x4e\x00")?;
@@ -256,6 +277,8 @@ fn groups(rt: HostRuntime) -> Result<(), Fail> {
         types,
         b"\x4e\x02\x50\x00\x60\x00\x00\x50\x01\x80\x01\x5e\x77\x00",
     )?;
+    let types = long_types(rt.alloc())?;
+    check_group(&rt, rt.alloc(), types, LONG_GROUP)?;
     Ok(())
 }
 

@@ -63,6 +63,16 @@ pub fn function(
     })
 }
 
+/// A type of functions that is not final, with long lists.
+pub fn long_function(alloc: Global) -> Result<SubType, Fault> {
+    let ty = func_type(alloc, LONG_PARAMS, LONG_RESULTS)?;
+    Ok(SubType {
+        is_final: false,
+        supertype_idx: Some(LARGE),
+        composite_type: CompositeType::Func(ty),
+    })
+}
+
 /// A type of arrays.
 pub fn array(is_final: bool, supertype_idx: Option<u32>, element: FieldType) -> SubType {
     SubType {

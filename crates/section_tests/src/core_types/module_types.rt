@@ -31,6 +31,17 @@ const WIDE_MEMORY: EntityType = EntityType::Memory(MemoryType {
     shared: false,
 });
 
+const WIDEST_MEMORY: EntityType = EntityType::Memory(MemoryType {
+    minimum: 18446744073709551615,
+    maximum: Some(18446744073709551615),
+    memory64: true,
+    shared: true,
+});
+
+const LAST_TAG: EntityType = EntityType::Tag(TagType {
+    func_type_idx: LARGE,
+});
+
 const TABLE: EntityType = EntityType::Table(TableType {
     element_type: RefType {
         nullable: true,
@@ -106,7 +117,7 @@ const THREE: [(Declaration<'static>, &[u8], &[u8]); 3] = [
 ];
 
 /// The length of a name is that of `NAME`, 73.
-const LONG: [(Declaration<'static>, &[u8], &[u8]); 2] = [
+const LONG: [(Declaration<'static>, &[u8], &[u8]); 7] = [
     (
         Declaration::Import(NAME, NAME, EntityType::Function(LARGE)),
         NO_TYPE,
@@ -117,6 +128,33 @@ const LONG: [(Declaration<'static>, &[u8], &[u8]); 2] = [
         Declaration::Export(NAME, EntityType::Function(LARGE)),
         NO_TYPE,
         b"\x03\x49a name that is longer than a first growth, by far: aaaaaaaaaaaaaaaaaaaaaa\x00\xff\xff\xff\xff\x0f",
+    ),
+    (
+        Declaration::Import(NAME, NAME, WIDEST_MEMORY),
+        NO_TYPE,
+        b"\x00\x49a name that is longer than a first growth, by far: aaaaaaaaaaaaaaaaaaaaaa\
+            \x49a name that is longer than a first growth, by far: aaaaaaaaaaaaaaaaaaaaaa\x02\x07\xff\xff\xff\xff\xff\xff\xff\xff\xff\x01\xff\xff\xff\xff\xff\xff\xff\xff\xff\x01",
+    ),
+    (
+        Declaration::Export(NAME, WIDEST_MEMORY),
+        NO_TYPE,
+        b"\x03\x49a name that is longer than a first growth, by far: aaaaaaaaaaaaaaaaaaaaaa\x02\x07\xff\xff\xff\xff\xff\xff\xff\xff\xff\x01\xff\xff\xff\xff\xff\xff\xff\xff\xff\x01",
+    ),
+    (
+        Declaration::Import(NAME, NAME, LAST_TAG),
+        NO_TYPE,
+        b"\x00\x49a name that is longer than a first growth, by far: aaaaaaaaaaaaaaaaaaaaaa\
+            \x49a name that is longer than a first growth, by far: aaaaaaaaaaaaaaaaaaaaaa\x04\x00\xff\xff\xff\xff\x0f",
+    ),
+    (
+        Declaration::Export(NAME, LAST_TAG),
+        NO_TYPE,
+        b"\x03\x49a name that is longer than a first growth, by far: aaaaaaaaaaaaaaaaaaaaaa\x04\x00\xff\xff\xff\xff\x0f",
+    ),
+    (
+        Declaration::Outer(LARGE, LARGE),
+        A_TYPE,
+        b"\x02\x10\x01\xff\xff\xff\xff\x0f\xff\xff\xff\xff\x0f",
     ),
 ];
 

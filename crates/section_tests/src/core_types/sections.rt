@@ -6,7 +6,7 @@ use crate::core_types::declaring::{Declaration, declare};
 use crate::core_types::lending::{Beginning, Module};
 use crate::core_types::making::{I8, I32, function, pair};
 use crate::core_types::module_types::{ENTITIES, add_open};
-use crate::lending::{Lending, Makes, has};
+use crate::lending::{Makes, has};
 use crate::swept_lending::{Swept, begun, sweep_item};
 use refusing::Refusing;
 use std::alloc::Global;
@@ -25,27 +25,17 @@ fn sweep_module(rt: &impl Abort, alloc: Global, ty: &ModuleType, text: &[u8]) ->
     Ok(())
 }
 
-/// The text of a section of this module type is swept.
-fn sweep_text(rt: &impl Abort, alloc: Global, ty: &ModuleType) -> Result<(), Fault> {
-    let mut section = CoreTypeSection::new(alloc);
-    Module(ty).make(&mut section)?;
-    assert!(rt; section.sweep_text(alloc)?);
-    Ok(())
-}
-
 /// One without declarations, one with a type, and one with an export besides.
 #[test]
 fn types_of_modules(rt: HostRuntime) -> Result<(), Fail> {
     let mut ty = ModuleType::new(rt.alloc());
     sweep_module(&rt, rt.alloc(), &ty, b"\x50\x00")?;
-    sweep_text(&rt, rt.alloc(), &ty)?;
     add_open(&mut ty, rt.alloc())?;
     sweep_module(&rt, rt.alloc(), &ty, b"\x50\x01\x01\x50\x00\x60\x00\x00")?;
     Declaration::Export(NAME, EntityType::Function(LARGE)).make(&mut ty)?;
     let text = b"\x50\x02\x01\x50\x00\x60\x00\x00\x03\
             \x49a name that is longer than a first growth, by far: aaaaaaaaaaaaaaaaaaaaaa\x00\xff\xff\xff\xff\x0f";
     sweep_module(&rt, rt.alloc(), &ty, text)?;
-    sweep_text(&rt, rt.alloc(), &ty)?;
     Ok(())
 }
 
