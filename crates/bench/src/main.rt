@@ -1,12 +1,16 @@
 //! How long the builder takes for the calls that upstream's bench makes: `bench N` by rounds, `bench N grouped` call by
-//! call. It prints how many bytes came and their hash, and on standard error how many nanoseconds it took.
+//! call. It prints how many bytes came and their hash, and on standard error how many nanoseconds it took. With the word
+//! `list` in front, as `bench list N`, these bytes are then listed: it prints how many sections and items there are too,
+//! and how many nanoseconds the listing took.
 #![tactic(auto)]
 
 mod calls;
 mod hash;
+mod listed;
 
 use calls::{Names, build};
 use hash::fnv1a;
+use listed::Listed;
 use std::io::Write;
 use std::process::ExitCode;
 use std::rt::Env;
@@ -19,6 +23,7 @@ const ROUNDS: u32 = 1000;
 /// What a run is asked for.
 #[derive(Clone, Copy)]
 struct Plan {
+    lists: bool,
     rounds: u32,
     grouped: bool,
 }
@@ -29,13 +34,19 @@ struct Outcome {
     bytes: usize,
     hash: u64,
     nanoseconds: u128,
+    listed: Option<Listed>,
 }
 
 /// The plan that the arguments say, or nothing where they say none.
 fn asked<R: Env + AllocGlobal>(rt: &R) -> Option<Plan> {
     let mut args = env::args(rt).ok()?;
     let _program = args.next();
-    let rounds = match args.next() {
+    let mut first = args.next();
+    let lists = first.as_ref().is_some_and(|word| word.as_str() == "list");
+    if lists {
+        first = args.next();
+    }
+    let rounds = match first {
         None => ROUNDS,
         Some(text) => text.as_str().parse::<u32>().ok()?,
     };
@@ -48,19 +59,29 @@ fn asked<R: Env + AllocGlobal>(rt: &R) -> Option<Plan> {
             true
         }
     };
-    Some(Plan { rounds, grouped })
+    Some(Plan {
+        lists,
+        rounds,
+        grouped,
+    })
 }
 
-/// Builds what the plan says, on the clock.
+/// Builds what the plan says, on the clock, and lists it where the plan says so.
 fn timed<R: Clock + AllocGlobal>(rt: &R, plan: Plan) -> Option<Outcome> {
     let names = Names::new(rt.alloc(), plan.rounds).ok()?;
     let start = Instant::now(rt).ok()?;
     let bytes = build(rt.alloc(), &names, plan.grouped).ok()?;
     let nanoseconds = start.elapsed(rt).ok()?.as_nanos();
+    let listed = if plan.lists {
+        Some(Listed::timed(rt, bytes.as_slice())?)
+    } else {
+        None
+    };
     Some(Outcome {
         bytes: bytes.len(),
         hash: fnv1a(bytes.as_slice()),
         nanoseconds,
+        listed,
     })
 }
 
@@ -79,7 +100,11 @@ fn print<R: AllocGlobal, O: Write, E: Write>(
     let Ok(time) = format!(in rt.alloc(); "nanoseconds {}\n", outcome.nanoseconds) else {
         return Ok(());
     };
-    err.write_all(time.as_bytes())
+    err.write_all(time.as_bytes())?;
+    match &outcome.listed {
+        Some(listed) => listed.print(rt, out, err),
+        None => Ok(()),
+    }
 }
 
 fn main(rt: HostRuntime) -> ExitCode {

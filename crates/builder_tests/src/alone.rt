@@ -2,6 +2,7 @@
 
 use crate::calls::{Item, Lent};
 use crate::checks::{Row, row, rows};
+use crate::imports::{FUNCTION, OUTER_TYPE};
 use std::test::Fail;
 use wasm_encoder::{
     ComponentExportKind, ComponentTypeRef, ComponentValType, CustomSection, Fault, Module,
@@ -32,6 +33,14 @@ const ROWS: &[Row<'static, Item<'static>>] = &[
             (Item::ResourceRep(1), Ok(1)),
         ],
         b"\x08\x03\x01\x02\x01\x01\x00\x08\x03\x01\x04\x01",
+    ),
+    (
+        &[
+            (FUNCTION, Ok(0)),
+            (Item::RawModule(b"\xaa"), Ok(0)),
+            (OUTER_TYPE, Ok(0)),
+        ],
+        b"\x06\x06\x01\x01\x00\x00\x01\x66\x01\x01\xaa\x06\x05\x01\x03\x02\x00\x01",
     ),
     (
         &[(Item::RawModule(&[0; 128]), Ok(0))],

@@ -11,8 +11,7 @@ use wasm_encoder::{
 /// It has more bytes than there is room for without a growth.
 pub const NAME: &str = "an-interface-with-a-long-name";
 
-/// A call that adds an item or a section, or that stands between such calls. What takes a debug name has `NAME`, where
-/// no other is said.
+/// A call that adds an item or a section, or that stands between such calls.
 #[derive(Clone, Copy)]
 pub enum Item<'a> {
     Import(&'a str, ComponentTypeRef),
@@ -21,26 +20,19 @@ pub enum Item<'a> {
     Export(&'a str, Option<ComponentTypeRef>),
     /// Of the instance with this index.
     AliasExport(u32, &'a str, ComponentExportKind),
-    /// A debug name, and the alias.
-    Alias(Option<&'a str>, Alias<'a>),
-    /// A debug name, and what the first core instance exports.
-    CoreAlias(Option<&'a str>, &'a str, ExportKind),
+    Alias(Alias<'a>),
+    /// Of the first core instance.
+    CoreAlias(&'a str, ExportKind),
     TaskCancel,
     ThreadYieldThenPromote,
     ResourceNew(u32),
     ResourceDrop(u32),
     ResourceRep(u32),
     RawModule(&'a [u8]),
-    /// The builder of a component that imports a function.
-    Component,
-    /// The builder of a component that has one in it, without a debug name.
-    TwoComponents,
-    /// The builder of one that is unfinished.
-    UnfinishedComponent,
-    /// Lends the builder of a component that imports a function.
-    LentComponent,
-    /// Lends the builder of one that is unfinished.
-    LentUnfinished,
+    /// Gives up the builder.
+    Component(Inner),
+    /// Lends the builder.
+    LentComponent(Inner),
     RawComponent(&'a [u8]),
     /// A function, its arguments, and how many results it has.
     Start(u32, &'a [u32], u32),
@@ -57,6 +49,7 @@ impl<'a> Call for Item<'a> {
     fn make<A: Allocator + Copy>(
         self,
         alloc: Global,
+        debug_name: Option<&str>,
         builder: &mut ComponentBuilder<A>,
     ) -> Result<u32, Fault> {
         match self {
@@ -64,27 +57,22 @@ impl<'a> Call for Item<'a> {
             Item::ImportWithOptions => import_with_options(builder),
             Item::Export(name, ty) => builder.export(name.into(), ComponentExportKind::Func, 0, ty),
             Item::AliasExport(instance, name, kind) => builder.alias_export(instance, name, kind),
-            Item::Alias(debug_name, alias) => builder.alias(debug_name, alias),
-            Item::CoreAlias(debug_name, name, kind) => {
-                builder.core_alias_export(debug_name, 0, name, kind)
-            }
+            Item::Alias(alias) => builder.alias(debug_name, alias),
+            Item::CoreAlias(name, kind) => builder.core_alias_export(debug_name, 0, name, kind),
             Item::TaskCancel => builder.task_cancel(),
             Item::ThreadYieldThenPromote => builder.thread_yield_then_promote(),
             Item::ResourceNew(ty) => builder.resource_new(ty),
             Item::ResourceDrop(ty) => builder.resource_drop(ty),
             Item::ResourceRep(ty) => builder.resource_rep(ty),
-            Item::RawModule(bytes) => builder.core_module_raw(Some(NAME), bytes),
-            Item::Component => builder.component(Some(NAME), importing(alloc)?),
-            Item::TwoComponents => builder.component(None, cancels_inside(alloc)?),
-            Item::UnfinishedComponent => builder.component(Some(NAME), unfinished(alloc)?),
-            Item::LentComponent => lend(builder, importing(alloc)?),
-            Item::LentUnfinished => lend(builder, unfinished(alloc)?),
-            Item::RawComponent(bytes) => builder.component_raw(Some(NAME), bytes),
+            Item::RawModule(bytes) => builder.core_module_raw(debug_name, bytes),
+            Item::Component(inner) => builder.component(debug_name, inner.builder(alloc)?),
+            Item::LentComponent(inner) => lend(builder, debug_name, inner.builder(alloc)?),
+            Item::RawComponent(bytes) => builder.component_raw(debug_name, bytes),
             Item::Start(function, args, results) => start(alloc, builder, function, args, results),
             Item::Custom(section) => placeless(builder.custom_section(&section)),
             Item::RawCustom(bytes) => placeless(builder.raw_custom_section(bytes)),
             Item::AppendNames => placeless(builder.append_names()),
-            Item::BeginType => begin_type(builder),
+            Item::BeginType => begin_type(builder, debug_name),
             Item::GiveUp => Ok(u32::from(builder.discard_unfinished())),
         }
     }
@@ -102,12 +90,13 @@ impl<'a> Call for Lent<'a> {
     fn make<A: Allocator + Copy>(
         self,
         alloc: Global,
+        debug_name: Option<&str>,
         builder: &mut ComponentBuilder<A>,
     ) -> Result<u32, Fault> {
         match self {
-            Lent::Module(module) => builder.core_module(Some(NAME), module),
-            Lent::Component(component) => builder.component_ref(Some(NAME), component),
-            Lent::Item(item) => item.make(alloc, builder),
+            Lent::Module(module) => builder.core_module(debug_name, module),
+            Lent::Component(component) => builder.component_ref(debug_name, component),
+            Lent::Item(item) => item.make(alloc, debug_name, builder),
         }
     }
 }
@@ -139,8 +128,35 @@ fn start<A: Allocator>(
     builder.start(function, args, results)
 }
 
-fn begin_type<A: Allocator>(builder: &mut ComponentBuilder<A>) -> Result<u32, Fault> {
-    Ok(builder.type_defined(None)?.0)
+fn begin_type<A: Allocator>(
+    builder: &mut ComponentBuilder<A>,
+    debug_name: Option<&str>,
+) -> Result<u32, Fault> {
+    Ok(builder.type_defined(debug_name)?.0)
+}
+
+/// What the builder of a component has that is nested in another.
+#[derive(Clone, Copy)]
+pub enum Inner {
+    /// An import of a function.
+    Importing,
+    /// The function `task.cancel`.
+    Cancels,
+    /// A component with that function.
+    CancelsInside,
+    /// A type of which nothing is written.
+    Unfinished,
+}
+
+impl Inner {
+    fn builder(self, alloc: Global) -> Result<ComponentBuilder, Fault> {
+        match self {
+            Inner::Importing => importing(alloc),
+            Inner::Cancels => cancels(alloc),
+            Inner::CancelsInside => cancels_inside(alloc),
+            Inner::Unfinished => unfinished(alloc),
+        }
+    }
 }
 
 /// A component that imports a function.
@@ -166,19 +182,20 @@ pub fn cancels_inside(alloc: Global) -> Result<ComponentBuilder, Fault> {
 
 fn lend<A: Allocator>(
     builder: &mut ComponentBuilder<A>,
+    debug_name: Option<&str>,
     component: ComponentBuilder,
 ) -> Result<u32, Fault> {
-    builder.component_ref(Some(NAME), &component)
+    builder.component_ref(debug_name, &component)
 }
 
 /// A builder with a type of which nothing is written.
 pub fn unfinished(alloc: Global) -> Result<ComponentBuilder, Fault> {
     let mut builder = ComponentBuilder::new(alloc)?;
-    begin_type(&mut builder)?;
+    begin_type(&mut builder, None)?;
     Ok(builder)
 }
 
-/// A call that takes lists. Its debug name is `NAME`.
+/// A call that takes lists.
 #[derive(Clone, Copy)]
 pub enum Listed<'a> {
     /// A module, and its only argument.
@@ -200,32 +217,32 @@ impl<'a> Call for Listed<'a> {
     fn make<A: Allocator + Copy>(
         self,
         _: Global,
+        debug_name: Option<&str>,
         builder: &mut ComponentBuilder<A>,
     ) -> Result<u32, Fault> {
-        let name = Some(NAME);
         match self {
             Listed::CoreInstantiate(module, arg, index) => {
                 builder.core_instantiate(
-                    name,
+                    debug_name,
                     module,
                     [(arg, ModuleArg::Instance(index))].into_iter(),
                 )
             }
             Listed::CoreExports(export, index) => {
                 builder.core_instantiate_exports(
-                    name,
+                    debug_name,
                     [(export, ExportKind::Func, index)].into_iter(),
                 )
             }
             Listed::Instantiate(component, arg, kind, index) => {
-                builder.instantiate(name, component, [(arg, kind, index)].into_iter())
+                builder.instantiate(debug_name, component, [(arg, kind, index)].into_iter())
             }
-            Listed::Exports(export, index) => exports(builder, export, index),
+            Listed::Exports(export, index) => exports(builder, debug_name, export, index),
             Listed::Lower(function, options) => {
-                builder.lower_func(name, function, options.iter().copied())
+                builder.lower_func(debug_name, function, options.iter().copied())
             }
             Listed::Lift(function, ty, options) => {
-                builder.lift_func(name, function, ty, options.iter().copied())
+                builder.lift_func(debug_name, function, ty, options.iter().copied())
             }
             Listed::TaskCancel => builder.task_cancel(),
         }
@@ -234,9 +251,10 @@ impl<'a> Call for Listed<'a> {
 
 fn exports<A: Allocator>(
     builder: &mut ComponentBuilder<A>,
+    debug_name: Option<&str>,
     name: &str,
     index: u32,
 ) -> Result<u32, Fault> {
     let exports = [(name.into(), ComponentExportKind::Func, index)].into_iter();
-    builder.instantiate_exports(Some(NAME), exports)
+    builder.instantiate_exports(debug_name, exports)
 }

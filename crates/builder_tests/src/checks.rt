@@ -1,5 +1,6 @@
 //! What a builder's component is to be.
 
+use crate::calls::NAME;
 use std::alloc::{Allocator, Global};
 use std::process::Abort;
 use wasm_encoder::{ComponentBuilder, Fault};
@@ -7,11 +8,13 @@ use wasm_encoder::{ComponentBuilder, Fault};
 /// The bytes in front of the first section.
 pub const HEADER: &[u8] = b"\x00asm\x0d\x00\x01\x00";
 
-/// A call that adds an item. What it is given is made with `alloc`, which refuses nothing.
+/// A call that adds an item, under this debug name where it takes one. What else it is given is made with `alloc`, which
+/// refuses nothing.
 pub trait Call: Copy {
     fn make<A: Allocator + Copy>(
         self,
         alloc: Global,
+        debug_name: Option<&str>,
         builder: &mut ComponentBuilder<A>,
     ) -> Result<u32, Fault>;
 }
@@ -49,20 +52,32 @@ pub fn counts<A: Allocator>(builder: &ComponentBuilder<A>) -> [u32; 13] {
 /// Calls with their answers, and the component that they make, behind its header.
 pub type Row<'a, C> = (&'a [(C, Result<u32, Fault>)], &'a [u8]);
 
-/// A builder that makes these calls answers so, and then has these bytes behind its header.
+/// A builder that makes these calls under this debug name answers so, and then has these bytes behind its header.
+pub fn row_named<C: Call>(
+    rt: &impl Abort,
+    alloc: Global,
+    debug_name: Option<&str>,
+    calls: &[(C, Result<u32, Fault>)],
+    wanted: &[u8],
+) -> Result<(), Fault> {
+    let mut builder = ComponentBuilder::new(alloc)?;
+    for (call, answer) in calls {
+        assert!(rt; call.make(alloc, debug_name, &mut builder) == *answer);
+    }
+    let bytes = builder.finish()?;
+    assert!(rt; bytes.as_slice().strip_prefix(HEADER) == Some(wanted));
+    Ok(())
+}
+
+/// So it is without a debug name, and with one, which isn't written.
 pub fn row<C: Call>(
     rt: &impl Abort,
     alloc: Global,
     calls: &[(C, Result<u32, Fault>)],
     wanted: &[u8],
 ) -> Result<(), Fault> {
-    let mut builder = ComponentBuilder::new(alloc)?;
-    for (call, answer) in calls {
-        assert!(rt; call.make(alloc, &mut builder) == *answer);
-    }
-    let bytes = builder.finish()?;
-    assert!(rt; bytes.as_slice().strip_prefix(HEADER) == Some(wanted));
-    Ok(())
+    row_named(rt, alloc, None, calls, wanted)?;
+    row_named(rt, alloc, Some(NAME), calls, wanted)
 }
 
 /// The same of each row.

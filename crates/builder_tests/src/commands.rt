@@ -375,6 +375,8 @@ fn aliases(rt: HostRuntime) {
         name: text(rt.alloc(), "t"),
     };
     builds_one(&rt, alias(core), b"\x06\x07\x01\x00\x04\x01\x00\x01\x74");
+    let function = export_alias(rt.alloc(), ComponentExportKind::Func, "f");
+    builds_one(&rt, function, b"\x06\x06\x01\x01\x00\x00\x01\x66");
     let outer = AliasTree::Outer {
         kind: ComponentOuterAliasKind::CoreType,
         count: 1,

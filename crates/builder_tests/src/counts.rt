@@ -57,7 +57,7 @@ fn raises<C: Call>(
     wanted: [u32; 13],
 ) -> Result<(), Fault> {
     let mut builder = ComponentBuilder::new(alloc)?;
-    assert!(rt; call.make(alloc, &mut builder) == Ok(0));
+    assert!(rt; call.make(alloc, None, &mut builder) == Ok(0));
     assert!(rt; counts(&builder) == wanted);
     Ok(())
 }
@@ -70,18 +70,20 @@ fn counts_of_aliases(rt: HostRuntime) -> Result<(), Fail> {
             count: 1,
             index: 2,
         };
-        raises(&rt, rt.alloc(), Item::Alias(None, alias), *wanted)?;
+        raises(&rt, rt.alloc(), Item::Alias(alias), *wanted)?;
     }
     for (kind, wanted) in CORE.as_slice() {
-        raises(&rt, rt.alloc(), Item::CoreAlias(None, "x", *kind), *wanted)?;
+        raises(&rt, rt.alloc(), Item::CoreAlias("x", *kind), *wanted)?;
     }
     Ok(())
 }
 
 #[test]
-fn count_of_core_instances(rt: HostRuntime) -> Result<(), Fail> {
+fn counts_of_instances(rt: HostRuntime) -> Result<(), Fail> {
     let wanted = [0, 0, 0, 0, 0, 1, 0, 0, 0, 0, 0, 0, 0];
     raises(&rt, rt.alloc(), Listed::CoreExports("foo", 0), wanted)?;
+    let wanted = [0, 0, 0, 0, 0, 0, 0, 0, 0, 1, 0, 0, 0];
+    raises(&rt, rt.alloc(), Listed::Exports("foo", 0), wanted)?;
     Ok(())
 }
 
@@ -94,7 +96,7 @@ fn import_often(
     times: u32,
 ) {
     for index in 0..times {
-        assert!(rt; Item::Import("a", ty).make(alloc, builder) == Ok(index));
+        assert!(rt; Item::Import("a", ty).make(alloc, None, builder) == Ok(index));
     }
 }
 

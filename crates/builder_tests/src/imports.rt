@@ -8,26 +8,20 @@ use wasm_encoder::{
 };
 
 /// The function that the first instance has.
-pub const FUNCTION: Item<'static> = Item::Alias(
-    None,
-    Alias::InstanceExport {
-        instance: 0,
-        kind: ComponentExportKind::Func,
-        name: "f",
-    },
-);
+pub const FUNCTION: Item<'static> = Item::Alias(Alias::InstanceExport {
+    instance: 0,
+    kind: ComponentExportKind::Func,
+    name: "f",
+});
 
 /// A type of the component that this one stands in.
-pub const OUTER_TYPE: Item<'static> = Item::Alias(
-    None,
-    Alias::Outer {
-        kind: ComponentOuterAliasKind::Type,
-        count: 0,
-        index: 1,
-    },
-);
+pub const OUTER_TYPE: Item<'static> = Item::Alias(Alias::Outer {
+    kind: ComponentOuterAliasKind::Type,
+    count: 0,
+    index: 1,
+});
 
-/// Neighbours of one kind share a section. A debug name isn't written.
+/// Neighbours of one kind share a section.
 const ROWS: &[Row<'static, Item<'static>>] = &[
     (&[], b""),
     (
@@ -56,14 +50,7 @@ const ROWS: &[Row<'static, Item<'static>>] = &[
         b"\x06\x0a\x02\x01\x00\x00\x01\x66\x03\x02\x00\x01",
     ),
     (
-        &[(Item::CoreAlias(None, "m", ExportKind::Memory), Ok(0))],
-        b"\x06\x07\x01\x00\x02\x01\x00\x01\x6d",
-    ),
-    (
-        &[(
-            Item::CoreAlias(Some("memory"), "m", ExportKind::Memory),
-            Ok(0),
-        )],
+        &[(Item::CoreAlias("m", ExportKind::Memory), Ok(0))],
         b"\x06\x07\x01\x00\x02\x01\x00\x01\x6d",
     ),
     (

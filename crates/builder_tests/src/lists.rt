@@ -27,6 +27,10 @@ const ROWS: &[Row<'static, Listed<'static>>] = &[
         b"\x05\x13\x02\x01\x01\x00\x03foo\x01\x00\x00\x01\x01\x03foo\x05\x00",
     ),
     (
+        &[(Listed::Lift(1, 2, OPTIONS), Ok(0))],
+        b"\x08\x09\x01\x00\x00\x01\x02\x03\x00\x06\x02",
+    ),
+    (
         &[
             (Listed::TaskCancel, Ok(0)),
             (Listed::Lift(1, 2, OPTIONS), Ok(0)),

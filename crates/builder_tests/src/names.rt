@@ -1,7 +1,7 @@
 //! Debug names, and the section that they make.
 
 use crate::calls::Item;
-use crate::checks::{Row, rows};
+use crate::checks::{Row, row_named};
 use crate::imports::{FUNCTION, OUTER_TYPE};
 use std::test::Fail;
 use wasm_encoder::{
@@ -72,6 +72,8 @@ const ROWS: &[Row<'static, Item<'static>>] = &[
 
 #[test]
 fn names(rt: HostRuntime) -> Result<(), Fail> {
-    rows(&rt, rt.alloc(), ROWS)?;
+    for (calls, wanted) in ROWS {
+        row_named(&rt, rt.alloc(), None, calls, wanted)?;
+    }
     Ok(())
 }

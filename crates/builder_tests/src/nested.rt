@@ -1,6 +1,6 @@
 //! Nested components, by the builder that is given up and by the one that is lent.
 
-use crate::calls::{Item, Lent, cancels, cancels_inside};
+use crate::calls::{Inner, Item, Lent, cancels, cancels_inside};
 use crate::checks::{Row, finishes, row, rows};
 use crate::imports::FUNCTION;
 use std::alloc::Global;
@@ -9,16 +9,34 @@ use std::test::Fail;
 use wasm_encoder::{ComponentBuilder, Fault};
 
 const ROWS: &[Row<'static, Item<'static>>] = &[
+    (
+        &[(Item::Component(Inner::Cancels), Ok(0))],
+        b"\x04\x0c\x00asm\x0d\x00\x01\x00\x08\x02\x01\x05",
+    ),
     // A component with one in it is a nested one too.
     (
-        &[(Item::TwoComponents, Ok(0))],
+        &[(Item::Component(Inner::CancelsInside), Ok(0))],
         b"\x04\x16\x00asm\x0d\x00\x01\x00\x04\x0c\x00asm\x0d\x00\x01\x00\x08\x02\x01\x05",
     ),
     // Neither call takes a component that is unfinished.
     (
         &[
-            (Item::LentUnfinished, Err(Fault::Unfinished)),
-            (Item::UnfinishedComponent, Err(Fault::Unfinished)),
+            (
+                Item::LentComponent(Inner::Unfinished),
+                Err(Fault::Unfinished),
+            ),
+            (Item::Component(Inner::Unfinished), Err(Fault::Unfinished)),
+            (FUNCTION, Ok(0)),
+        ],
+        b"\x06\x06\x01\x01\x00\x00\x01\x66",
+    ),
+    (
+        &[
+            (
+                Item::LentComponent(Inner::Unfinished),
+                Err(Fault::Unfinished),
+            ),
+            (Item::Component(Inner::Unfinished), Err(Fault::Unfinished)),
             (Item::RawComponent(b""), Ok(0)),
             (FUNCTION, Ok(0)),
         ],
@@ -29,8 +47,11 @@ const ROWS: &[Row<'static, Item<'static>>] = &[
         &[
             (Item::TaskCancel, Ok(0)),
             (Item::BeginType, Ok(0)),
-            (Item::LentComponent, Err(Fault::Unfinished)),
-            (Item::Component, Err(Fault::Unfinished)),
+            (
+                Item::LentComponent(Inner::Importing),
+                Err(Fault::Unfinished),
+            ),
+            (Item::Component(Inner::Importing), Err(Fault::Unfinished)),
             (Item::GiveUp, Ok(1)),
             (Item::GiveUp, Ok(0)),
         ],

@@ -1,14 +1,15 @@
 //! Types, by the calls that answer an encoder and by those that take a whole type.
 
-use crate::calls::unfinished;
+use crate::calls::{NAME, unfinished};
 use crate::checks::{Call, finishes, row};
+use crate::imports::FUNCTION;
 use crate::written::{AnyType, CoreType, STRING, Typed};
 use std::alloc::Global;
 use std::process::Abort;
 use std::test::Fail;
 use wasm_encoder::{
-    ComponentBuilder, ComponentExportKind, ComponentType, ComponentTypeRef, CompositeType, Fault,
-    FuncType, InstanceType, ModuleType, SubType, TypeBounds,
+    ComponentBuilder, ComponentType, ComponentTypeRef, CompositeType, Fault, FuncType,
+    InstanceType, ModuleType, SubType, TypeBounds,
 };
 
 #[test]
@@ -107,10 +108,10 @@ fn leave_unfinished(ty: &mut ComponentType) -> Result<(), Fault> {
 /// Neither call takes this type; by the one with an encoder the builder is left unfinished.
 fn refused(rt: &impl Abort, alloc: Global, ty: &ComponentType) -> Result<(), Fault> {
     let mut builder = ComponentBuilder::new(alloc)?;
-    assert!(rt; Typed::Component(ty).make(alloc, &mut builder) == Err(Fault::Unfinished));
+    assert!(rt; Typed::Component(ty).make(alloc, None, &mut builder) == Err(Fault::Unfinished));
     assert!(rt; builder.type_count() == 0);
     let encoded = Typed::Any(AnyType::Component(ty));
-    assert!(rt; encoded.make(alloc, &mut builder) == Err(Fault::Unfinished));
+    assert!(rt; encoded.make(alloc, None, &mut builder) == Err(Fault::Unfinished));
     assert!(rt; builder.type_count() == 1);
     assert!(rt; builder.finish().err() == Some(Fault::Unfinished));
     Ok(())
@@ -124,15 +125,12 @@ fn unfinished_types(rt: HostRuntime) -> Result<(), Fail> {
     Ok(())
 }
 
-fn alias(builder: &mut ComponentBuilder) -> Result<u32, Fault> {
-    builder.alias_export(0, "f", ComponentExportKind::Func)
-}
-
 fn counts(builder: &ComponentBuilder) -> (u32, u32) {
     (builder.core_type_count(), builder.type_count())
 }
 
-/// Behind an alias the encoder is dropped; then it is given up, and another alias is a neighbour of the first.
+/// Behind an alias the encoder is dropped; then it is given up, with its name, and another alias is a neighbour of the
+/// first.
 fn given_up(
     rt: &impl Abort,
     alloc: Global,
@@ -140,15 +138,16 @@ fn given_up(
     types: (u32, u32),
 ) -> Result<(), Fault> {
     let mut builder = ComponentBuilder::new(alloc)?;
-    assert!(rt; alias(&mut builder) == Ok(0));
-    assert!(rt; call.make(alloc, &mut builder) == Ok(0));
+    assert!(rt; FUNCTION.make(alloc, None, &mut builder) == Ok(0));
+    assert!(rt; call.make(alloc, Some(NAME), &mut builder) == Ok(0));
     assert!(rt; counts(&builder) == types);
     assert!(rt; !builder.is_finished());
-    assert!(rt; alias(&mut builder) == Err(Fault::Unfinished));
+    assert!(rt; FUNCTION.make(alloc, None, &mut builder) == Err(Fault::Unfinished));
     assert!(rt; builder.append_names() == Err(Fault::Unfinished));
     assert!(rt; builder.discard_unfinished());
     assert!(rt; counts(&builder) == (0, 0));
-    assert!(rt; alias(&mut builder) == Ok(1));
+    assert!(rt; FUNCTION.make(alloc, None, &mut builder) == Ok(1));
+    assert!(rt; builder.append_names() == Ok(()));
     let wanted = b"\x00asm\x0d\x00\x01\x00\x06\x0b\x02\x01\x00\x00\x01\x66\x01\x00\x00\x01\x66";
     finishes(rt, builder, wanted)
 }

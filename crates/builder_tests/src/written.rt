@@ -1,4 +1,4 @@
-//! Types, as values: those that an encoder writes, and those that are handed in. Their debug name is `NAME`.
+//! Types, as values: those that an encoder writes, and those that are handed in.
 
 use crate::calls::NAME;
 use crate::checks::Call;
@@ -55,34 +55,36 @@ impl<'a> Call for Typed<'a> {
     fn make<A: Allocator + Copy>(
         self,
         _: Global,
+        debug_name: Option<&str>,
         builder: &mut ComponentBuilder<A>,
     ) -> Result<u32, Fault> {
         match self {
-            Typed::Core(ty) => add_core(builder, ty),
-            Typed::Any(ty) => add_any(builder, ty),
-            Typed::Record => add_record(builder),
-            Typed::Variant => add_variant(builder),
-            Typed::Function(params, answer) => add_function(builder, params, answer),
-            Typed::AsyncFunction => add_async_function(builder),
-            Typed::DroppedCoreType => Ok(builder.core_type(Some(NAME))?.0),
-            Typed::DroppedCore => drop_core(builder),
-            Typed::DroppedType => Ok(builder.ty(Some(NAME))?.0),
-            Typed::DroppedDefined => Ok(builder.type_defined(Some(NAME))?.0),
-            Typed::DroppedFunction => Ok(builder.type_function(Some(NAME))?.0),
-            Typed::DroppedTag => drop_tag(builder),
-            Typed::DroppedParams => drop_params(builder),
-            Typed::Instance(ty) => builder.type_instance(Some(NAME), ty),
-            Typed::Component(ty) => builder.type_component(Some(NAME), ty),
-            Typed::Resource(drop) => builder.type_resource(Some(NAME), ValType::I32, Some(drop)),
+            Typed::Core(ty) => add_core(builder, debug_name, ty),
+            Typed::Any(ty) => add_any(builder, debug_name, ty),
+            Typed::Record => add_record(builder, debug_name),
+            Typed::Variant => add_variant(builder, debug_name),
+            Typed::Function(params, answer) => add_function(builder, debug_name, params, answer),
+            Typed::AsyncFunction => add_async_function(builder, debug_name),
+            Typed::DroppedCoreType => Ok(builder.core_type(debug_name)?.0),
+            Typed::DroppedCore => drop_core(builder, debug_name),
+            Typed::DroppedType => Ok(builder.ty(debug_name)?.0),
+            Typed::DroppedDefined => Ok(builder.type_defined(debug_name)?.0),
+            Typed::DroppedFunction => Ok(builder.type_function(debug_name)?.0),
+            Typed::DroppedTag => drop_tag(builder, debug_name),
+            Typed::DroppedParams => drop_params(builder, debug_name),
+            Typed::Instance(ty) => builder.type_instance(debug_name, ty),
+            Typed::Component(ty) => builder.type_component(debug_name, ty),
+            Typed::Resource(drop) => builder.type_resource(debug_name, ValType::I32, Some(drop)),
         }
     }
 }
 
 fn add_core<A: Allocator>(
     builder: &mut ComponentBuilder<A>,
+    debug_name: Option<&str>,
     ty: CoreType<'_>,
 ) -> Result<u32, Fault> {
-    match builder.core_type(Some(NAME)) {
+    match builder.core_type(debug_name) {
         Ok((index, encoder)) => {
             let one = [ValType::I32];
             match ty {
@@ -97,8 +99,11 @@ fn add_core<A: Allocator>(
     }
 }
 
-fn drop_core<A: Allocator>(builder: &mut ComponentBuilder<A>) -> Result<u32, Fault> {
-    match builder.core_type(Some(NAME)) {
+fn drop_core<A: Allocator>(
+    builder: &mut ComponentBuilder<A>,
+    debug_name: Option<&str>,
+) -> Result<u32, Fault> {
+    match builder.core_type(debug_name) {
         Ok((index, encoder)) => {
             encoder.core();
             Ok(index)
@@ -107,8 +112,12 @@ fn drop_core<A: Allocator>(builder: &mut ComponentBuilder<A>) -> Result<u32, Fau
     }
 }
 
-fn add_any<A: Allocator>(builder: &mut ComponentBuilder<A>, ty: AnyType<'_>) -> Result<u32, Fault> {
-    match builder.ty(Some(NAME)) {
+fn add_any<A: Allocator>(
+    builder: &mut ComponentBuilder<A>,
+    debug_name: Option<&str>,
+    ty: AnyType<'_>,
+) -> Result<u32, Fault> {
+    match builder.ty(debug_name) {
         Ok((index, encoder)) => {
             match ty {
                 AnyType::Resource(drop) => encoder.resource(ValType::I32, Some(drop))?,
@@ -121,8 +130,11 @@ fn add_any<A: Allocator>(builder: &mut ComponentBuilder<A>, ty: AnyType<'_>) -> 
     }
 }
 
-fn add_record<A: Allocator>(builder: &mut ComponentBuilder<A>) -> Result<u32, Fault> {
-    match builder.type_defined(Some(NAME)) {
+fn add_record<A: Allocator>(
+    builder: &mut ComponentBuilder<A>,
+    debug_name: Option<&str>,
+) -> Result<u32, Fault> {
+    match builder.type_defined(debug_name) {
         Ok((index, encoder)) => {
             encoder.record([(NAME, STRING)].into_iter())?;
             Ok(index)
@@ -131,8 +143,11 @@ fn add_record<A: Allocator>(builder: &mut ComponentBuilder<A>) -> Result<u32, Fa
     }
 }
 
-fn add_variant<A: Allocator>(builder: &mut ComponentBuilder<A>) -> Result<u32, Fault> {
-    match builder.type_defined(Some(NAME)) {
+fn add_variant<A: Allocator>(
+    builder: &mut ComponentBuilder<A>,
+    debug_name: Option<&str>,
+) -> Result<u32, Fault> {
+    match builder.type_defined(debug_name) {
         Ok((index, encoder)) => {
             encoder.variant([("a", None), ("b", Some(STRING))].into_iter())?;
             Ok(index)
@@ -143,10 +158,11 @@ fn add_variant<A: Allocator>(builder: &mut ComponentBuilder<A>) -> Result<u32, F
 
 fn add_function<A: Allocator>(
     builder: &mut ComponentBuilder<A>,
+    debug_name: Option<&str>,
     params: &[(&str, ComponentValType)],
     answer: Option<ComponentValType>,
 ) -> Result<u32, Fault> {
-    match builder.type_function(Some(NAME)) {
+    match builder.type_function(debug_name) {
         Ok((index, mut encoder)) => {
             encoder.params(params.iter().copied())?;
             encoder.result(answer)?;
@@ -157,8 +173,11 @@ fn add_function<A: Allocator>(
 }
 
 /// Without parameters and a result.
-fn add_async_function<A: Allocator>(builder: &mut ComponentBuilder<A>) -> Result<u32, Fault> {
-    match builder.type_function(Some(NAME)) {
+fn add_async_function<A: Allocator>(
+    builder: &mut ComponentBuilder<A>,
+    debug_name: Option<&str>,
+) -> Result<u32, Fault> {
+    match builder.type_function(debug_name) {
         Ok((index, mut encoder)) => {
             encoder.async_(true)?;
             encoder.params([].into_iter())?;
@@ -169,8 +188,11 @@ fn add_async_function<A: Allocator>(builder: &mut ComponentBuilder<A>) -> Result
     }
 }
 
-fn drop_tag<A: Allocator>(builder: &mut ComponentBuilder<A>) -> Result<u32, Fault> {
-    match builder.type_function(Some(NAME)) {
+fn drop_tag<A: Allocator>(
+    builder: &mut ComponentBuilder<A>,
+    debug_name: Option<&str>,
+) -> Result<u32, Fault> {
+    match builder.type_function(debug_name) {
         Ok((index, mut encoder)) => {
             encoder.async_(false)?;
             Ok(index)
@@ -179,8 +201,11 @@ fn drop_tag<A: Allocator>(builder: &mut ComponentBuilder<A>) -> Result<u32, Faul
     }
 }
 
-fn drop_params<A: Allocator>(builder: &mut ComponentBuilder<A>) -> Result<u32, Fault> {
-    match builder.type_function(Some(NAME)) {
+fn drop_params<A: Allocator>(
+    builder: &mut ComponentBuilder<A>,
+    debug_name: Option<&str>,
+) -> Result<u32, Fault> {
+    match builder.type_function(debug_name) {
         Ok((index, mut encoder)) => {
             encoder.params([("p", STRING)].into_iter())?;
             Ok(index)

@@ -12,7 +12,7 @@ use Rattle.wenc.specs.Script.{script}
 use Rattle.wenc.specs.Run.{Prints, Ends, AppendsFront, Says, fault_report, no_memory, line_report}
 use Rattle.wenc.specs.Steps.{Translation, IsWhole, Reads, NotTranslated, Reported}
 
-keeps_same : (a : Option (List ℕ)) → Keeps a a
+pub keeps_same : (a : Option (List ℕ)) → Keeps a a
 keeps_same None = tt
 keeps_same (Some x) = refl
 
@@ -25,7 +25,7 @@ whole_known (Some xs) (Some ys) text all h l =
     let same : xs ≡ all = cc in
     (sym (append-nil text) ∙ ap (λ (t : List ℕ). text ++ t) (sym none) ∙ sym h.consumed ∙ same, ap Some none)
 
-appended_known : (before after : Option (List ℕ)) (old bytes : List ℕ) → Appends before after bytes → before ≡ Some old → after ≡ Some (old ++ bytes)
+pub appended_known : (before after : Option (List ℕ)) (old bytes : List ℕ) → Appends before after bytes → before ≡ Some old → after ≡ Some (old ++ bytes)
 appended_known None after old bytes h b = absurd cc
 appended_known (Some x) None old bytes h b = absurd h
 appended_known (Some x) (Some y) old bytes h b = let same : x ≡ old = cc in rw (h, same) refl

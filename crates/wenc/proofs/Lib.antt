@@ -4,4 +4,6 @@ pub mod Commands
 pub mod Lines
 pub mod Sent
 pub mod Ended
+pub mod ListArgs
+pub mod ListEnded
 pub mod Untyped

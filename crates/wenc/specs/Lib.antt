@@ -7,3 +7,6 @@ pub mod Parsed
 pub mod Printed
 pub mod Run
 pub mod Steps
+pub mod Listed
+pub mod ListRun
+pub mod ListSteps

@@ -1,5 +1,5 @@
 -- Scripts: what each line of a text says.
-use Rattle.std.specs.Prelude.{ℕ, ◌+◌, ◌==◌, if◌then◌else◌, List, [], ◌∷◌, Bool, true, false, Option, Some, None, option_map, Result, Ok, Err, codes}
+use Rattle.std.specs.Prelude.{ℕ, ◌+◌, if◌then◌else◌, List, [], ◌∷◌, Bool, true, false, Option, Some, None, option_map, Result, Ok, Err, codes}
 use Rattle.std.specs.Str.{is_utf8, bytes_eq}
 use Rattle.wenc_parts.specs.declared.exports.ComponentExportKind.{ComponentExportKind}
 use Rattle.wenc_parts.specs.Imports.{plain_name}

@@ -4,6 +4,9 @@ use crate::failure::Failure;
 use std::alloc::Allocator;
 use std::io::Read;
 
+/// How many reads an input's end may take.
+pub const MAX_READS: u32 = 16_777_216;
+
 const CHUNK_SIZE: usize = 8192;
 
 /// Reads an input to its end. It fails at the first read that fails, and where none of `max_reads`

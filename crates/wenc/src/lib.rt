@@ -1,5 +1,5 @@
 //! The program `wenc`, but for its `main`: `run` reads a script of commands, and prints their
-//! answers and the component that they build.
+//! answers and the component that they build; or it lists a component's sections.
 #![tactic(auto)]
 
 pub mod failure;
@@ -7,11 +7,14 @@ pub mod input;
 pub mod intrinsic;
 pub mod kind;
 pub mod line;
+pub mod list;
 pub mod number;
 pub mod output;
 pub mod print;
 pub mod program;
 pub mod script;
+pub mod status;
+pub mod unlisted;
 pub mod words;
 
 pub use program::run;

@@ -1,8 +1,9 @@
 ghost use Rattle.std.specs.Prelude.{OnOk};
 ghost use Rattle.std.specs.Io.KnownBytes.{Appends};
-ghost use Rattle.wenc.specs.Run.{AppendsFront};
+ghost use Rattle.wenc.specs.Run.{AppendsFront, Says};
 
 use crate::failure::Failure;
+use crate::status::TRANSFER_FAILED;
 use std::io::Write;
 
 /// Writes a text and flushes. The first call that fails, or takes nothing, is the last.
@@ -21,4 +22,14 @@ pub fn send<W: Write>(writer: &mut W, text: &[u8]) -> Result<(), Failure>
         rest = &rest[count..];
     }
     writer.flush().map_err(|_| Failure::Transfer)
+}
+
+/// Writes a text, and answers the status, or that a write failed.
+pub fn write_with_status<W: Write>(writer: &mut W, text: &[u8], status: u8) -> u8
+    ensures { Says result status text.now (W.contents writer.old) (W.contents writer.new) }
+{
+    match send(writer, text) {
+        Ok(()) => status,
+        Err(_) => TRANSFER_FAILED,
+    }
 }

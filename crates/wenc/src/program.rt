@@ -1,31 +1,21 @@
-ghost use Rattle.std.specs.Prelude.{◌≡◌, ◌≢◌, ◌⊎◌, [], All, Any, IsOk, IsErr};
+ghost use Rattle.std.specs.Prelude.{◌≡◌, ◌≢◌, ◌⊎◌, ◌↔◌, [], All, Any, IsOk, IsErr, IsTrue};
 ghost use Rattle.std.specs.Bool.{OnTrue, OnFalse};
+ghost use Rattle.std.specs.declared.alloc.Global.{Global};
+ghost use Rattle.wenc.specs.Listed.{IsList};
+ghost use Rattle.wenc.specs.ListRun.{EndsListing};
 ghost use Rattle.wenc.specs.Run.{Ends, Says, usage, fault_report};
 ghost use Rattle.wenc.specs.Steps.{IsStatusOf, Translates, Reads, Reported};
 
 use crate::failure::Failure;
-use crate::input::read_all;
-use crate::output::send;
+use crate::input::{MAX_READS, read_all};
+use crate::list::run_list;
+use crate::output::write_with_status;
 use crate::print::printed;
 use crate::script::parse;
+use crate::status::{DONE, MALFORMED, REFUSED, TRANSFER_FAILED};
 use std::alloc::{Allocator, Global};
 use std::io::{Read, Write};
 use wasm_encoder::{Fault, build};
-
-/// The exit status where every command was accepted.
-const ACCEPTED: u8 = 0;
-
-/// The exit status where there are arguments, or a bad line.
-const MALFORMED: u8 = 1;
-
-/// The exit status where a command was refused, or there was no memory.
-const REFUSED: u8 = 2;
-
-/// The exit status where a read or a write failed.
-const TRANSFER_FAILED: u8 = 4;
-
-/// How many reads an input's end may take.
-const MAX_READS: u32 = 16_777_216;
 
 /// What is printed for a script.
 #[derive(Drop)]
@@ -48,11 +38,7 @@ fn has_refusal(answers: &[Result<Option<u32>, Fault>]) -> bool
 fn status_of(answers: &[Result<Option<u32>, Fault>]) -> u8
     ensures { IsStatusOf result answers.now }
 {
-    if has_refusal(answers) {
-        REFUSED
-    } else {
-        ACCEPTED
-    }
+    if has_refusal(answers) { REFUSED } else { DONE }
 }
 
 /// Runs the commands of a script, whose names are allocated by `names`.
@@ -84,16 +70,6 @@ fn read_and_translate<A: Allocator + Copy, R: Read>(
     translate(alloc, names, text.as_slice())
 }
 
-/// Writes a text, and answers the status, or that a write failed.
-fn write_with_status<W: Write>(writer: &mut W, text: &[u8], status: u8) -> u8
-    ensures { Says result status text.now (W.contents writer.old) (W.contents writer.new) }
-{
-    match send(writer, text) {
-        Ok(()) => status,
-        Err(_) => TRANSFER_FAILED,
-    }
-}
-
 /// Reports a fault, and answers the status.
 fn report_fault<E: Write>(err: &mut E, fault: Fault) -> u8
     ensures { Says result 2 (fault_report fault) (E.contents err.old) (E.contents err.new) }
@@ -118,6 +94,34 @@ pub fn report<A: Allocator, E: Write>(alloc: A, err: &mut E, failure: Failure) -
     }
 }
 
+/// Whether the arguments are the one word `list`.
+fn is_list(args: &[String]) -> bool
+    ensures { IsTrue result ↔ IsList args.now }
+{
+    match args {
+        [word] => word.as_str() == "list",
+        _ => false,
+    }
+}
+
+/// Runs the script that the input is, and answers the status.
+fn run_script<A: Allocator + Copy, R: Read, O: Write, E: Write>(
+    alloc: A,
+    names: Global,
+    input: &mut R,
+    out: &mut O,
+    err: &mut E,
+) -> u8
+    ensures ends { Ends result (R.remaining input.old) (R.remaining input.new)
+        (O.contents out.old) (O.contents out.new) (E.contents err.old) (E.contents err.new) }
+    ensures status { (result ≡ 0) ⊎ (result ≡ 1) ⊎ (result ≡ 2) ⊎ (result ≡ 4) }
+{
+    match read_and_translate(alloc, names, input) {
+        Ok(printout) => write_with_status(out, printout.text.as_slice(), printout.status),
+        Err(failure) => report(alloc, err, failure),
+    }
+}
+
 /// Runs the program: with these arguments, without the program's name, on this input. The answer is
 /// the exit status.
 pub fn run<R: Read, O: Write, E: Write>(
@@ -127,20 +131,30 @@ pub fn run<R: Read, O: Write, E: Write>(
     out: &mut O,
     err: &mut E,
 ) -> u8
-    // With arguments only the usage is printed.
-    ensures usage { args.now ≢ [] → Says result 1 usage (E.contents err.old) (E.contents err.new) }
-    ensures input_kept { args.now ≢ [] → input.new ≡ input.old }
-    ensures output_kept { args.now ≢ [] → out.new ≡ out.old }
+    // With other arguments only the usage is printed.
+    ensures usage { args.now ≢ [] → ¬ IsList args.now
+        → Says result 1 usage (E.contents err.old) (E.contents err.new) }
+    ensures input_kept { args.now ≢ [] → ¬ IsList args.now → input.new ≡ input.old }
+    ensures output_kept { args.now ≢ [] → ¬ IsList args.now → out.new ≡ out.old }
 
     ensures ends { args.now ≡ [] → Ends result (R.remaining input.old) (R.remaining input.new)
         (O.contents out.old) (O.contents out.new) (E.contents err.old) (E.contents err.new) }
-    ensures status { (result ≡ 0) ⊎ (result ≡ 1) ⊎ (result ≡ 2) ⊎ (result ≡ 4) }
+
+    // With `list` a component's sections and counts are printed, or why there are none.
+    ensures lists { IsList args.now
+        → EndsListing Global result (R.remaining input.old) (R.remaining input.new)
+        (O.contents out.old) (O.contents out.new) (E.contents err.old) (E.contents err.new) }
+    ensures unlisted { IsList args.now → (result ≡ 1) ⊎ (result ≡ 3) → out.new ≡ out.old }
+    ensures only_list { result ≡ 3 → IsList args.now }
+
+    ensures status { (result ≡ 0) ⊎ (result ≡ 1) ⊎ (result ≡ 2) ⊎ (result ≡ 3) ⊎ (result ≡ 4) }
 {
     run_with_allocators(alloc, alloc, args, input, out, err)
 }
 
 /// `run` with two allocators: the names of the commands are allocated by `names`, and all else by
 /// `alloc`.
+#[tactic(auto, using(crate::proofs::ListArgs::list_is_one))]
 pub fn run_with_allocators<A: Allocator + Copy, R: Read, O: Write, E: Write>(
     alloc: A,
     names: Global,
@@ -149,19 +163,27 @@ pub fn run_with_allocators<A: Allocator + Copy, R: Read, O: Write, E: Write>(
     out: &mut O,
     err: &mut E,
 ) -> u8
-    ensures usage { args.now ≢ [] → Says result 1 usage (E.contents err.old) (E.contents err.new) }
-    ensures input_kept { args.now ≢ [] → input.new ≡ input.old }
-    ensures output_kept { args.now ≢ [] → out.new ≡ out.old }
+    ensures usage { args.now ≢ [] → ¬ IsList args.now
+        → Says result 1 usage (E.contents err.old) (E.contents err.new) }
+    ensures input_kept { args.now ≢ [] → ¬ IsList args.now → input.new ≡ input.old }
+    ensures output_kept { args.now ≢ [] → ¬ IsList args.now → out.new ≡ out.old }
 
     ensures ends { args.now ≡ [] → Ends result (R.remaining input.old) (R.remaining input.new)
         (O.contents out.old) (O.contents out.new) (E.contents err.old) (E.contents err.new) }
-    ensures status { (result ≡ 0) ⊎ (result ≡ 1) ⊎ (result ≡ 2) ⊎ (result ≡ 4) }
+
+    ensures lists { IsList args.now
+        → EndsListing A result (R.remaining input.old) (R.remaining input.new)
+        (O.contents out.old) (O.contents out.new) (E.contents err.old) (E.contents err.new) }
+    ensures unlisted { IsList args.now → (result ≡ 1) ⊎ (result ≡ 3) → out.new ≡ out.old }
+    ensures only_list { result ≡ 3 → IsList args.now }
+
+    ensures status { (result ≡ 0) ⊎ (result ≡ 1) ⊎ (result ≡ 2) ⊎ (result ≡ 3) ⊎ (result ≡ 4) }
 {
-    if !args.is_empty() {
-        return report(alloc, err, Failure::Arguments);
+    if args.is_empty() {
+        return run_script(alloc, names, input, out, err);
     }
-    match read_and_translate(alloc, names, input) {
-        Ok(printout) => write_with_status(out, printout.text.as_slice(), printout.status),
-        Err(failure) => report(alloc, err, failure),
+    if is_list(args) {
+        return run_list(alloc, input, out, err);
     }
+    report(alloc, err, Failure::Arguments)
 }

@@ -23,6 +23,8 @@ mod expected;
 #[cfg(test)]
 mod lines;
 #[cfg(test)]
+mod listing;
+#[cfg(test)]
 mod memory;
 #[cfg(test)]
 mod pieces;

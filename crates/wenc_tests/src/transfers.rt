@@ -3,6 +3,8 @@
 use crate::streams::{Sink, Source};
 use std::io;
 use std::io::Read;
+use std::process::Abort;
+use std::test::Fail;
 use wenc::input::read_all;
 use wenc::output::send;
 use wenc::run;
@@ -53,15 +55,26 @@ impl Read for Endless {
     }
 }
 
-#[test]
-fn the_end_never_comes(rt: HostRuntime) {
+/// With these arguments an input without an end fails at the last read that it may take.
+fn never_ends<R: Abort + AllocGlobal>(rt: &R, args: &[String]) {
     let mut input = Endless { calls: 0 };
     let mut out = Sink::new(rt.alloc());
     let mut err = Sink::new(rt.alloc());
-    assert_eq!(rt; run(rt.alloc(), &[], &mut input, &mut out, &mut err), 4);
+    assert_eq!(rt; run(rt.alloc(), args, &mut input, &mut out, &mut err), 4);
     assert_eq!(rt; input.calls, 16777216);
     assert_eq!(rt; out.calls, 0);
     assert_eq!(rt; err.calls, 0);
+}
+
+#[test]
+fn the_end_never_comes(rt: HostRuntime) {
+    never_ends(&rt, &[]);
+}
+
+#[test]
+fn the_end_of_a_listing_never_comes(rt: HostRuntime) -> Result<(), Fail> {
+    never_ends(&rt, &[String::from_str(rt.alloc(), "list")?]);
+    Ok(())
 }
 
 #[test]
@@ -98,4 +111,57 @@ fn a_write_of_the_bytes_fails(rt: HostRuntime) {
         assert_eq!(rt; out.calls, failing);
         assert_eq!(rt; err.calls, 0);
     }
+}
+
+// Sixteen reads of one byte, and one that finds the end.
+#[test]
+fn a_read_of_a_listing_fails(rt: HostRuntime) -> Result<(), Fail> {
+    let args = [String::from_str(rt.alloc(), "list")?];
+    for failing in 1..18 {
+        let mut input = Source::new(b"0061736d0d000100");
+        input.step = 1;
+        input.failing = failing;
+        let mut out = Sink::new(rt.alloc());
+        let mut err = Sink::new(rt.alloc());
+        let answer = run(rt.alloc(), &args, &mut input, &mut out, &mut err);
+        assert_eq!(rt; answer, 4);
+        assert_eq!(rt; input.calls, failing);
+        assert_eq!(rt; out.calls, 0);
+        assert_eq!(rt; err.calls, 0);
+    }
+    Ok(())
+}
+
+// Thirteen counts of one digit with the spaces and the end of the line, and a flush.
+#[test]
+fn a_write_of_a_listing_fails(rt: HostRuntime) -> Result<(), Fail> {
+    let args = [String::from_str(rt.alloc(), "list")?];
+    for failing in 1..28 {
+        let mut input = Source::new(b"0061736d0d000100");
+        let mut out = Sink::failing_at(rt.alloc(), failing);
+        let mut err = Sink::new(rt.alloc());
+        let answer = run(rt.alloc(), &args, &mut input, &mut out, &mut err);
+        assert_eq!(rt; answer, 4);
+        assert_eq!(rt; out.calls, failing);
+        assert_eq!(rt; err.calls, 0);
+    }
+    Ok(())
+}
+
+// A text, and how many calls its report takes: its bytes, and a flush.
+#[test]
+fn a_report_of_a_listing_fails(rt: HostRuntime) -> Result<(), Fail> {
+    let args = [String::from_str(rt.alloc(), "list")?];
+    for (text, calls) in [(b"".as_slice(), 20), (b"x".as_slice(), 8)] {
+        for failing in 1..calls + 1 {
+            let mut input = Source::new(text);
+            let mut out = Sink::new(rt.alloc());
+            let mut err = Sink::failing_at(rt.alloc(), failing);
+            let answer = run(rt.alloc(), &args, &mut input, &mut out, &mut err);
+            assert_eq!(rt; answer, 4);
+            assert_eq!(rt; err.calls, failing);
+            assert_eq!(rt; out.calls, 0);
+        }
+    }
+    Ok(())
 }

@@ -1,7 +1,7 @@
 //! Modules, components, starts and custom sections: each is a section of its own.
 
 use super::between::{CORE_MODULE, NAMELESS, Named, ONE, started, sweep_section};
-use crate::calls::{Item, Lent, NAME, importing};
+use crate::calls::{Inner, Item, Lent, NAME, importing};
 use crate::checks::{Call, finishes};
 use refusing::Refusing;
 use std::alloc::Global;
@@ -40,7 +40,7 @@ const CALLS: [(Item<'static>, Named, &[u8]); 6] = [
         CORE_MODULE,
         b"\x01\x1dan-interface-with-a-long-name",
     ),
-    (Item::Component, COMPONENT, NESTED),
+    (Item::Component(Inner::Importing), COMPONENT, NESTED),
     (
         Item::RawComponent(BYTES),
         COMPONENT,
@@ -97,7 +97,7 @@ fn nest_without_memory(
 ) -> Result<u32, Fault> {
     let mut builder = started(alloc, heap, 1)?;
     heap.refuse_all();
-    Lent::Component(component).make(alloc, &mut builder)
+    Lent::Component(component).make(alloc, None, &mut builder)
 }
 
 // It can be added to after a refusal.
@@ -107,7 +107,7 @@ fn lent_components_go_on(rt: HostRuntime) -> Result<(), Fail> {
     let mut component = importing(rt.alloc())?;
     assert!(rt; nest_without_memory(rt.alloc(), &heap, &component) == Err(REFUSED));
     let again = Item::Import(NAME, ComponentTypeRef::Func(0));
-    assert!(rt; again.make(rt.alloc(), &mut component) == Ok(1));
+    assert!(rt; again.make(rt.alloc(), None, &mut component) == Ok(1));
     finishes(
         &rt,
         component,

@@ -86,7 +86,7 @@ pub fn started(
     heap.refuse_none();
     let mut builder = ComponentBuilder::new(heap)?;
     for _ in 0..aliases {
-        FUNCTION.make(alloc, &mut builder)?;
+        FUNCTION.make(alloc, None, &mut builder)?;
     }
     Ok(builder)
 }
@@ -103,16 +103,16 @@ fn refuse<C: Call>(
     let aliases = case.start.aliases;
     let mut builder = started(alloc, heap, aliases)?;
     heap.refuse_nth(n);
-    let outcome = call.make(alloc, &mut builder);
+    let outcome = call.make(alloc, Some(NAME), &mut builder);
     if !heap.was_refused() {
         return Ok(false);
     }
     assert!(rt; outcome == Err(REFUSED));
     assert!(rt; heap.requests() == n);
     heap.refuse_none();
-    assert!(rt; OUTER_TYPE.make(alloc, &mut builder) == Ok(0));
+    assert!(rt; OUTER_TYPE.make(alloc, None, &mut builder) == Ok(0));
     assert!(rt; counts(&builder) == [0, 0, 0, 0, 0, 0, 0, 0, aliases, 0, 0, 0, 1]);
-    Item::AppendNames.make(alloc, &mut builder)?;
+    Item::AppendNames.make(alloc, None, &mut builder)?;
     finishes(rt, builder, case.start.without)?;
     Ok(true)
 }
@@ -128,15 +128,15 @@ fn accept<C: Call>(
 ) -> Result<(), Fault> {
     let mut builder = started(alloc, heap, case.start.aliases)?;
     heap.refuse_nth(n);
-    let mut outcome = call.make(alloc, &mut builder);
+    let mut outcome = call.make(alloc, Some(NAME), &mut builder);
     let was_refused = heap.was_refused();
     heap.refuse_none();
     if was_refused {
-        outcome = call.make(alloc, &mut builder);
+        outcome = call.make(alloc, Some(NAME), &mut builder);
     }
     assert!(rt; outcome == Ok(case.answer));
-    OUTER_TYPE.make(alloc, &mut builder)?;
-    Item::AppendNames.make(alloc, &mut builder)?;
+    OUTER_TYPE.make(alloc, None, &mut builder)?;
+    Item::AppendNames.make(alloc, None, &mut builder)?;
     finishes(rt, builder, case.with)
 }
 
@@ -250,31 +250,25 @@ const JOINED: [(Item<'static>, Named, &[u8]); 4] = [
         b"\x00asm\x0d\x00\x01\x00\x06\x2b\x03\x01\x00\x00\x01\x66\x01\x00\x00\x1dan-interface-with-a-long-name\x03\x02\x00\x01",
     ),
     (
-        Item::Alias(
-            Some(NAME),
-            Alias::InstanceExport {
-                instance: 0,
-                kind: ComponentExportKind::Func,
-                name: NAME,
-            },
-        ),
+        Item::Alias(Alias::InstanceExport {
+            instance: 0,
+            kind: ComponentExportKind::Func,
+            name: NAME,
+        }),
         FUNC,
         b"\x00asm\x0d\x00\x01\x00\x06\x2b\x03\x01\x00\x00\x01\x66\x01\x00\x00\x1dan-interface-with-a-long-name\x03\x02\x00\x01",
     ),
     (
-        Item::Alias(
-            Some(NAME),
-            Alias::Outer {
-                kind: ComponentOuterAliasKind::CoreModule,
-                count: LARGE,
-                index: LARGE,
-            },
-        ),
+        Item::Alias(Alias::Outer {
+            kind: ComponentOuterAliasKind::CoreModule,
+            count: LARGE,
+            index: LARGE,
+        }),
         CORE_MODULE,
         b"\x00asm\x0d\x00\x01\x00\x06\x17\x03\x01\x00\x00\x01\x66\x00\x11\x02\xff\xff\xff\xff\x0f\xff\xff\xff\xff\x0f\x03\x02\x00\x01",
     ),
     (
-        Item::CoreAlias(Some(NAME), NAME, ExportKind::Func),
+        Item::CoreAlias(NAME, ExportKind::Func),
         CORE_FUNC,
         b"\x00asm\x0d\x00\x01\x00\x06\x2c\x03\x01\x00\x00\x01\x66\x00\x00\x01\x00\x1dan-interface-with-a-long-name\x03\x02\x00\x01",
     ),

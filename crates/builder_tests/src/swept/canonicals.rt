@@ -35,6 +35,7 @@ impl Call for Plain {
     fn make<A: Allocator + Copy>(
         self,
         _: Global,
+        _: Option<&str>,
         builder: &mut ComponentBuilder<A>,
     ) -> Result<u32, Fault> {
         match self {
@@ -82,6 +83,7 @@ impl Call for Indexed {
     fn make<A: Allocator + Copy>(
         self,
         _: Global,
+        _: Option<&str>,
         builder: &mut ComponentBuilder<A>,
     ) -> Result<u32, Fault> {
         match self {
@@ -121,6 +123,7 @@ impl Call for Other {
     fn make<A: Allocator + Copy>(
         self,
         _: Global,
+        _: Option<&str>,
         builder: &mut ComponentBuilder<A>,
     ) -> Result<u32, Fault> {
         match self {
@@ -153,6 +156,7 @@ impl Call for WithOptions {
     fn make<A: Allocator + Copy>(
         self,
         _: Global,
+        _: Option<&str>,
         builder: &mut ComponentBuilder<A>,
     ) -> Result<u32, Fault> {
         let options = [CanonicalOption::UTF8, CanonicalOption::Memory(0)].into_iter();

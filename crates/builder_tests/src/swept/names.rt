@@ -20,9 +20,9 @@ const WITH: &[u8] =
 /// Where growth number `n` is refused, no section is added. Whether there is such a growth.
 fn refuse(rt: &impl Abort, alloc: Global, heap: &Refusing, n: u64) -> Result<bool, Fault> {
     let mut builder = started(alloc, heap, 0)?;
-    Item::ResourceDrop(0).make(alloc, &mut builder)?;
+    Item::ResourceDrop(0).make(alloc, None, &mut builder)?;
     heap.refuse_nth(n);
-    let outcome = Item::AppendNames.make(alloc, &mut builder);
+    let outcome = Item::AppendNames.make(alloc, None, &mut builder);
     let was_refused = heap.was_refused();
     let (answer, wanted) = if was_refused {
         (Err(REFUSED), WITHOUT)
@@ -54,7 +54,7 @@ fn none(rt: HostRuntime) -> Result<(), Fail> {
     let heap = Refusing::new(rt.alloc());
     let mut builder = started(rt.alloc(), &heap, 0)?;
     heap.refuse_all();
-    assert!(rt; Item::AppendNames.make(rt.alloc(), &mut builder) == Ok(0));
+    assert!(rt; Item::AppendNames.make(rt.alloc(), None, &mut builder) == Ok(0));
     finishes(&rt, builder, b"\x00asm\x0d\x00\x01\x00")?;
     assert_eq!(rt; heap.requests(), 0);
     Ok(())

@@ -26,12 +26,13 @@ impl<'a> Call for Tree<'a> {
     fn make<A: Allocator + Copy>(
         self,
         _: Global,
+        debug_name: Option<&str>,
         builder: &mut ComponentBuilder<A>,
     ) -> Result<u32, Fault> {
         match self {
-            Tree::CoreInstance(tree) => builder.core_instance_tree(Some(NAME), tree),
-            Tree::Instance(tree) => builder.instance_tree(Some(NAME), tree),
-            Tree::Canon(tree) => builder.canonical_tree(Some(NAME), tree),
+            Tree::CoreInstance(tree) => builder.core_instance_tree(debug_name, tree),
+            Tree::Instance(tree) => builder.instance_tree(debug_name, tree),
+            Tree::Canon(tree) => builder.canonical_tree(debug_name, tree),
         }
     }
 }

@@ -22,9 +22,10 @@ impl<'a> Call for Swept<'a> {
     fn make<A: Allocator + Copy>(
         self,
         alloc: Global,
+        debug_name: Option<&str>,
         builder: &mut ComponentBuilder<A>,
     ) -> Result<u32, Fault> {
-        let outcome = self.0.make(alloc, builder);
+        let outcome = self.0.make(alloc, debug_name, builder);
         with_nothing_left(alloc, builder, outcome)
     }
 }
@@ -49,9 +50,9 @@ fn with_nothing_left<A: Allocator + Copy>(
 
 /// All that follows a refused last call is refused.
 fn takes_nothing<A: Allocator + Copy>(alloc: Global, builder: &mut ComponentBuilder<A>) -> bool {
-    Item::TaskCancel.make(alloc, builder) == Err(Fault::Unfinished)
-        && Item::AppendNames.make(alloc, builder) == Err(Fault::Unfinished)
-        && RESOURCE.make(alloc, builder) == Err(Fault::Unfinished)
+    Item::TaskCancel.make(alloc, None, builder) == Err(Fault::Unfinished)
+        && Item::AppendNames.make(alloc, None, builder) == Err(Fault::Unfinished)
+        && RESOURCE.make(alloc, None, builder) == Err(Fault::Unfinished)
 }
 
 const RESOURCE: Typed<'static> = Typed::Any(AnyType::Resource(LARGE));
@@ -186,7 +187,7 @@ fn refuse_finish(
 ) -> Result<Option<Fault>, Fault> {
     let mut builder = started(alloc, heap, aliases)?;
     heap.refuse_nth(n);
-    assert!(rt; ty.make(alloc, &mut builder).is_err() == heap.was_refused());
+    assert!(rt; ty.make(alloc, Some(NAME), &mut builder).is_err() == heap.was_refused());
     Ok(builder.finish().err())
 }
 

@@ -1,0 +1,53 @@
+use std::io;
+use std::io::Write;
+use std::time::{Clock, Instant};
+use wenc_list::{Listing, list};
+
+/// What a listing found.
+#[derive(Clone, Copy)]
+pub struct Listed {
+    sections: usize,
+    items: usize,
+    nanoseconds: u128,
+}
+
+/// How many items the sections have.
+fn items(listing: &Listing) -> usize {
+    let mut items = 0usize;
+    for section in &listing.sections {
+        items = items.saturating_add(section.items.len());
+    }
+    items
+}
+
+impl Listed {
+    /// Lists the component, on the clock.
+    pub fn timed<R: Clock + AllocGlobal>(rt: &R, bytes: &[u8]) -> Option<Listed> {
+        let start = Instant::now(rt).ok()?;
+        let listing = list(rt.alloc(), bytes).ok()?;
+        let nanoseconds = start.elapsed(rt).ok()?.as_nanos();
+        Some(Listed {
+            sections: listing.sections.len(),
+            items: items(&listing),
+            nanoseconds,
+        })
+    }
+
+    /// Prints it, the time apart.
+    pub fn print<R: AllocGlobal, O: Write, E: Write>(
+        &self,
+        rt: &R,
+        out: &mut O,
+        err: &mut E,
+    ) -> io::Result<()> {
+        let Ok(found) = format!(in rt.alloc(); "sections {}\nitems {}\n", self.sections, self.items)
+        else {
+            return Ok(());
+        };
+        out.write_all(found.as_bytes())?;
+        let Ok(time) = format!(in rt.alloc(); "listing nanoseconds {}\n", self.nanoseconds) else {
+            return Ok(());
+        };
+        err.write_all(time.as_bytes())
+    }
+}

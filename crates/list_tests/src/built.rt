@@ -1,0 +1,77 @@
+//! What `build` makes of the commands of scripts.
+
+use crate::checks::read_again;
+use std::process::Abort;
+use std::test::Fail;
+use wasm_encoder::{Built, Command, Fault, build};
+use wenc::script::parse;
+use wenc_builder::Space;
+use wenc_list::list;
+
+mod edges;
+mod long;
+mod long_words;
+mod short;
+mod words;
+
+/// The space in which the command's item takes places, and how many; of the commands that a script has.
+fn places(command: &Command) -> Option<(Space, u32)> {
+    match command {
+        Command::CoreModule { .. } => Some((Space::CoreModules, 1)),
+        Command::Alias { alias, .. } => Some((Space::of_alias(&alias.as_alias()), 1)),
+        Command::Canon { .. } => Some((Space::CoreFuncs, 1)),
+        Command::Start { results, .. } => Some((Space::Values, *results)),
+        Command::Import { ty, .. } => Some((Space::from(ty.kind()), 1)),
+        Command::Export { kind, .. } => Some((Space::from(*kind), 1)),
+        _ => None,
+    }
+}
+
+/// How many places are taken in each space, by the last answer there.
+fn counts(commands: &[Command], answers: &[Result<Option<u32>, Fault>]) -> [u128; 13] {
+    let mut counts = [0; 13];
+    for (command, answer) in commands.iter().zip(answers) {
+        if let (Some((space, number)), Ok(Some(index))) = (places(command), answer) {
+            counts[space.number()] = u128::from(*index) + u128::from(number);
+        }
+    }
+    counts
+}
+
+/// The component is listed with those counts, and encoded again it is the same.
+fn is_listed<R: Abort + AllocGlobal>(
+    rt: &R,
+    commands: &[Command],
+    built: &Built,
+) -> Result<(), Fail> {
+    let listing = list(rt.alloc(), built.bytes.as_slice())?;
+    assert!(rt; listing.counts == counts(commands, built.answers.as_slice()));
+    let again = read_again(rt.alloc(), built.bytes.as_slice())?;
+    assert!(rt; again.as_slice() == built.bytes.as_slice());
+    Ok(())
+}
+
+fn each_is_listed<R: Abort + AllocGlobal>(rt: &R, scripts: &[&[u8]]) -> Result<(), Fail> {
+    for script in scripts {
+        let commands = parse(rt.alloc(), rt.alloc(), script)?;
+        let built = build(rt.alloc(), commands.as_slice())?;
+        is_listed(rt, commands.as_slice(), &built)?;
+    }
+    Ok(())
+}
+
+#[test]
+fn scripts(rt: HostRuntime) -> Result<(), Fail> {
+    each_is_listed(&rt, &[b"thread.spawn-indirect 1 2"])?;
+    each_is_listed(&rt, edges::SCRIPTS)?;
+    each_is_listed(&rt, short::SCRIPTS)?;
+    each_is_listed(&rt, words::SCRIPTS)?;
+    Ok(())
+}
+
+#[test]
+fn long_scripts(rt: HostRuntime) -> Result<(), Fail> {
+    each_is_listed(&rt, long::SCRIPTS)?;
+    each_is_listed(&rt, long_words::SCRIPTS)?;
+    Ok(())
+}

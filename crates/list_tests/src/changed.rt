@@ -1,0 +1,151 @@
+//! Components that are cut, or have a byte changed: no such bytes are too bad to be answered, and what is listed of them
+//! can be encoded and listed again.
+
+use crate::checks::{component, encoded, read_again};
+use crate::rows::{EACH_KIND, ROWS, Row};
+use std::alloc::{AllocError, Global};
+use std::process::Abort;
+use std::test::Fail;
+use wenc_list::{ListFault, Listing, list};
+
+/// Where the section begins that has the byte at this place; 0 of the header.
+fn begin_of(listing: &Listing, at: usize) -> usize {
+    let mut begin = 0;
+    for section in &listing.sections {
+        if section.place <= at {
+            begin = section.place;
+        }
+    }
+    begin
+}
+
+/// Both have sections of the same ids with as many items, which take the same places.
+fn are_alike(one: &Listing, other: &Listing) -> bool {
+    let mut alike = one.counts == other.counts && one.sections.len() == other.sections.len();
+    for (section, same) in one.sections.iter().zip(other.sections.as_slice()) {
+        alike &= section.id == same.id && section.items.len() == same.items.len();
+    }
+    alike
+}
+
+/// Encoded and listed again it is the same, and so are its bytes.
+fn is_stable(rt: &impl Abort, alloc: Global, listing: &Listing) -> Result<(), Fail> {
+    let bytes = encoded(alloc, listing)?;
+    let again = list(alloc, bytes.as_slice())?;
+    assert!(rt; are_alike(listing, &again));
+    assert!(rt; encoded(alloc, &again)?.as_slice() == bytes.as_slice());
+    Ok(())
+}
+
+/// A fault of a component whose first change stands in the section at this place.
+fn is_from(fault: ListFault, begin: usize) -> bool {
+    match fault {
+        ListFault::Memory => false,
+        ListFault::NotAComponent { place } => begin == 0 && place == 0,
+        ListFault::BadSection { place }
+        | ListFault::BadItem { place }
+        | ListFault::TooDeep { place } => begin > 0 && place >= begin,
+    }
+}
+
+/// The bytes are those of a component whose section at this place was changed.
+fn is_answered(rt: &impl Abort, alloc: Global, bytes: &[u8], begin: usize) -> Result<(), Fail> {
+    match list(alloc, bytes) {
+        Ok(listing) => is_stable(rt, alloc, &listing),
+        Err(fault) => {
+            assert!(rt; is_from(fault, begin));
+            Ok(())
+        }
+    }
+}
+
+/// The same bytes with this one at this place.
+fn changed(alloc: Global, bytes: &[u8], at: usize, value: u8) -> Result<Vec<u8>, AllocError> {
+    let mut changed = bytes.to_vec(alloc)?;
+    if let Some(byte) = changed.get_mut(at) {
+        *byte = value;
+    }
+    Ok(changed)
+}
+
+/// Whether a byte is made that one: any other where `all` says so, else those with one bit turned, those beside it, and
+/// the ends.
+fn is_tried(all: bool, old: u8, value: u8) -> bool {
+    all || matches!(old ^ value, 1 | 2 | 4 | 8 | 16 | 32 | 64 | 128)
+        || value == old.wrapping_add(1)
+        || value == old.wrapping_sub(1)
+        || matches!(value, 0 | 255)
+}
+
+/// The byte at this place is made other ones.
+fn change(
+    rt: &impl Abort,
+    alloc: Global,
+    bytes: &[u8],
+    at: usize,
+    begin: usize,
+    all: bool,
+) -> Result<(), Fail> {
+    for value in 0..=255u8 {
+        if bytes.get(at).is_some_and(|old| is_tried(all, *old, value)) {
+            let changed = changed(alloc, bytes, at, value)?;
+            is_answered(rt, alloc, changed.as_slice(), begin)?;
+        }
+    }
+    Ok(())
+}
+
+fn change_each(rt: &impl Abort, alloc: Global, row: &Row<'_>, all: bool) -> Result<(), Fail> {
+    let bytes = component(alloc, row.sections)?;
+    let listing = list(alloc, bytes.as_slice())?;
+    for at in 0..bytes.len() {
+        change(rt, alloc, bytes.as_slice(), at, begin_of(&listing, at), all)?;
+    }
+    Ok(())
+}
+
+#[test]
+fn each_byte(rt: HostRuntime) -> Result<(), Fail> {
+    for row in ROWS {
+        change_each(&rt, rt.alloc(), row, false)?;
+    }
+    Ok(())
+}
+
+#[test]
+fn each_byte_made_each_other(rt: HostRuntime) -> Result<(), Fail> {
+    change_each(&rt, rt.alloc(), &EACH_KIND, true)?;
+    Ok(())
+}
+
+/// A front of a component is listed where a section begins behind it, and is else refused at the section that is cut,
+/// which begins at this place.
+fn is_cut(rt: &impl Abort, alloc: Global, front: &[u8], begin: usize) -> Result<(), Fail> {
+    if front.len() < 8 {
+        let fault = list(alloc, front).err();
+        assert!(rt; fault == Some(ListFault::NotAComponent { place: 0 }));
+    } else if front.len() == begin {
+        assert!(rt; read_again(alloc, front)?.as_slice() == front);
+    } else {
+        let fault = list(alloc, front).err();
+        assert!(rt; fault == Some(ListFault::BadSection { place: begin }));
+    }
+    Ok(())
+}
+
+fn cut_each(rt: &impl Abort, alloc: Global, row: &Row<'_>) -> Result<(), Fail> {
+    let bytes = component(alloc, row.sections)?;
+    let listing = list(alloc, bytes.as_slice())?;
+    for end in 0..bytes.len() {
+        is_cut(rt, alloc, &bytes[..end], begin_of(&listing, end))?;
+    }
+    Ok(())
+}
+
+#[test]
+fn each_front(rt: HostRuntime) -> Result<(), Fail> {
+    for row in ROWS {
+        cut_each(&rt, rt.alloc(), row)?;
+    }
+    Ok(())
+}
