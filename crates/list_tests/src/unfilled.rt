@@ -2,11 +2,13 @@
 
 use crate::checks::component;
 use refusing::Refusing;
+use std::alloc::Global;
+use std::process::Abort;
 use std::test::Fail;
 use wenc_list::{ListFault, list};
 
-const SECTIONS: &[&str] = &[
-    // Items of a section.
+/// How many items a section has.
+const OF_ITEMS: &[&str] = &[
     "0205ffffffff0f",
     "0305ffffffff0f",
     "0505ffffffff0f",
@@ -15,6 +17,10 @@ const SECTIONS: &[&str] = &[
     "0805ffffffff0f",
     "0a05ffffffff0f",
     "0b05ffffffff0f",
+];
+
+/// How many members there are in an item, and how many bytes in a name.
+const IN_AN_ITEM: &[&str] = &[
     // Arguments and exports of instances.
     "0208010000ffffffff0f",
     "02070101ffffffff0f",
@@ -36,32 +42,50 @@ const SECTIONS: &[&str] = &[
     "07070143ffffffff0f",
     "07070141ffffffff0f",
     "07070142ffffffff0f",
-    // Options, and arguments of a start.
+    // Options.
     "080901000000ffffffff0f",
     "080901010000ffffffff0f",
     "0808010f00ffffffff0f",
     "0807011cffffffff0f",
-    "090600ffffffff0f",
     // Bytes of a name.
     "0a070100ffffffff0f",
     "0b070102ffffffff0f",
     "060901010000ffffffff0f",
-    "0708016d01ffffffff0f",
-    "030901500100ffffffff0f",
 ];
 
-#[test]
-fn great_counts(rt: HostRuntime) -> Result<(), Fail> {
-    let heap = Refusing::new(rt.alloc());
-    heap.refuse_all();
-    for sections in SECTIONS {
-        let bytes = component(rt.alloc(), sections)?;
-        let fault = list(&heap, bytes.as_slice()).err();
+/// Bytes of a name in an item's one member.
+const IN_A_MEMBER: &[&str] = &["0708016d01ffffffff0f", "030901500100ffffffff0f"];
+
+/// The arguments of a start.
+const OF_ARGUMENTS: &[&str] = &["090600ffffffff0f"];
+
+/// Nothing fits the count, and no memory is asked for from this request on.
+fn ask_for_nothing(
+    rt: &impl Abort,
+    alloc: Global,
+    heap: &Refusing,
+    rows: &[&str],
+    request: u64,
+) -> Result<(), Fail> {
+    for sections in rows {
+        let bytes = component(alloc, sections)?;
+        heap.refuse_nth(request);
+        let fault = list(heap, bytes.as_slice()).err();
         assert!(rt;
             fault == Some(ListFault::BadItem { place: 8 }),
             "{sections}"
         );
+        assert!(rt; !heap.was_refused(), "{sections}");
     }
-    assert!(rt; heap.requests() == 0);
     Ok(())
+}
+
+#[test]
+fn great_counts(rt: HostRuntime) -> Result<(), Fail> {
+    let heap = Refusing::new(rt.alloc());
+    ask_for_nothing(&rt, rt.alloc(), &heap, OF_ITEMS, 1)?;
+    ask_for_nothing(&rt, rt.alloc(), &heap, OF_ARGUMENTS, 1)?;
+    // The first request is for the section's one item, the second for the item's one member.
+    ask_for_nothing(&rt, rt.alloc(), &heap, IN_AN_ITEM, 2)?;
+    ask_for_nothing(&rt, rt.alloc(), &heap, IN_A_MEMBER, 3)
 }

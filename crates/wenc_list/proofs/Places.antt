@@ -110,4 +110,4 @@ pub are_small : {A : Type 0} (all : ℕ) (ss : List (ListedSection A)) (bytes re
 are_small all [] bytes rest f = tt
 are_small all (s ∷ ss) bytes rest f =
     let framed = section_framed (section_view s) bytes f.0 f.1 in
-    ((λ k. rw (section_members s) at (filled_few framed.id k (members (section_view s)) framed.content framed.fills)), are_small all ss f.0 rest f.3)
+    ((λ k. rw (section_members s) at (filled_few framed.id k (members (section_view s)) framed.content framed.fills)), are_small all ss f.0 rest f.4)

@@ -1,10 +1,10 @@
--- What stands behind the opcodes that lift and lower, and a byte that has one value.
-use Rattle.std.specs.Prelude.{[], ◌∷◌}
+-- What stands behind the opcodes that lift and lower, a byte that has one value, and the table of opcodes in parts.
+use Rattle.std.specs.Prelude.{ℕ, List, [], ◌∷◌, drop}
 use Rattle.wenc_base.specs.laws.Forms.{read_list}
 use Rattle.wenc_base.specs.laws.Lawful.{Reader, ◌>>=◌, give, nowhere, choose}
 use Rattle.wenc_base.specs.laws.Numbers.{read_u32}
 use Rattle.wenc_canon.specs.Canonicals.{Canonical, Lift, Lower, Zero}
-use Rattle.wenc_canon.specs.laws.Canonicals.{read_option, read_field}
+use Rattle.wenc_canon.specs.laws.Canonicals.{read_option, read_field, rows}
 
 abbrev pub read_zero : Reader (Unit {0})
 read_zero = read_field Zero
@@ -14,3 +14,19 @@ read_lifted = choose ((0x00, read_u32 >>= λ f. read_list read_option >>= λ os.
 
 abbrev pub read_lowered : Reader Canonical
 read_lowered = choose ((0x00, read_u32 >>= λ f. read_list read_option >>= λ os. give (Lower f os)) ∷ []) nowhere
+
+-- the table behind the rows of functions, resources and tasks
+abbrev pub stream_rows : List (ℕ × Reader Canonical)
+stream_rows = drop 12 rows
+
+-- behind those of streams
+abbrev pub future_rows : List (ℕ × Reader Canonical)
+future_rows = drop 19 rows
+
+-- behind those of futures
+abbrev pub error_context_rows : List (ℕ × Reader Canonical)
+error_context_rows = drop 26 rows
+
+-- behind those of error contexts, sets of waitables and backpressure
+abbrev pub thread_rows : List (ℕ × Reader Canonical)
+thread_rows = drop 36 rows

@@ -60,10 +60,15 @@ pub record IsTooDeep (bytes : List ℕ) : Type 0 where
 
 -- ---- what is listed
 
--- Each section is read where it is placed, of so many bytes in all, one behind the other up to the rest.
+-- this byte comes first
+abbrev pub Begins : ℕ → List ℕ → Type 0
+Begins byte bytes = (rest : List ℕ) × (bytes ≡ byte ∷ rest)
+
+-- Each section is read where it is placed, where its id is the first byte, of so many bytes in all, one behind the
+-- other up to the rest.
 abbrev pub AreFrom : {A : Type 0} → ℕ → List (ListedSection A) → List ℕ → List ℕ → Type 0
 AreFrom all [] bytes rest = bytes ≡ rest
-AreFrom all (s ∷ ss) bytes rest = (middle : List ℕ) × (section_piece (section_view s)).Reads Wide bytes middle × (all ≡ s.place + length bytes) × AreFrom all ss middle rest
+AreFrom all (s ∷ ss) bytes rest = (middle : List ℕ) × (section_piece (section_view s)).Reads Wide bytes middle × (all ≡ s.place + length bytes) × Begins s.id bytes × AreFrom all ss middle rest
 
 -- how many places in space k the items of these sections take
 abbrev pub count_in : ℕ → List Section → ℕ

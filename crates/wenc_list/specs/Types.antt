@@ -1,5 +1,5 @@
 -- The primitive types, in the order of their table, and what stands behind the first byte of a type.
-use Rattle.std.specs.Prelude.{ℕ, Bool, List, [], ◌∷◌}
+use Rattle.std.specs.Prelude.{ℕ, Bool, List, [], ◌∷◌, drop}
 use Rattle.wenc_base.specs.laws.Forms.{read_list, read_option}
 use Rattle.wenc_base.specs.laws.Lawful.{Reader, ◌>>=◌, give, nowhere, pick}
 use Rattle.wenc_base.specs.laws.Numbers.{read_u32}
@@ -17,6 +17,10 @@ primitive_types = BoolType ∷ S8 ∷ U8 ∷ S16 ∷ U16 ∷ S32 ∷ U32 ∷ S64
 -- a type of values that is no primitive one, behind this byte
 abbrev pub read_defined_row : ℕ → Reader Defined
 read_defined_row first = pick (defined_rows (λ t. t)) nowhere first
+
+-- the table of first bytes from the row of handles on
+abbrev pub handle_rows : List (ℕ × Reader Defined)
+handle_rows = drop 8 (defined_rows (λ t. t))
 
 -- the parameters of a function, and what it answers
 abbrev pub read_function_type : Bool → Reader TypeOf

@@ -1,4 +1,4 @@
-ghost use Rattle.std.specs.Prelude.{List, map};
+ghost use Rattle.std.specs.Prelude.{◌≤◌, List, length, map};
 ghost use Rattle.wenc_base.specs.laws.Lawful.{Reader, times};
 ghost use Rattle.wenc_list.specs.Gives.{Gives};
 
@@ -72,6 +72,14 @@ impl<A: Allocator + Copy> Decode<A> for String<A> {
     }
 }
 
+/// The room for so many values of these bytes: that of all where each can have a byte, else none.
+pub(crate) fn room_for(count: u32, bytes: &[u8]) -> usize
+    ensures { result ≤ length bytes.now }
+{
+    let count = count as usize;
+    if count <= bytes.len() { count } else { 0 }
+}
+
 /// So many values, one after the other.
 fn members<'a, A: Allocator + Copy, T: Decode<A>>(
     alloc: A,
@@ -80,7 +88,7 @@ fn members<'a, A: Allocator + Copy, T: Decode<A>>(
 ) -> Result<(Vec<T, A>, &'a [u8]), Refusal>
     ensures { Gives (λ x. (map T.view x.0.items, x.1.now)) result (times T.read count bytes.now) }
 {
-    let mut values = Vec::new(alloc);
+    let mut values = Vec::with_capacity(alloc, room_for(count, bytes))?;
     let mut rest = bytes;
     for _ in 0..count {
         let (value, after) = T::decode(alloc, rest)?;

@@ -1,6 +1,7 @@
 //! Types of values that components define.
+ghost use Rattle.wenc_base.specs.laws.Lawful.{pick, nowhere};
 ghost use Rattle.wenc_list.specs.Gives.{Gives};
-ghost use Rattle.wenc_list.specs.Types.{read_defined_row};
+ghost use Rattle.wenc_list.specs.Types.{read_defined_row, handle_rows};
 ghost use Rattle.wenc_types.specs.TypeTrees.{defined_view};
 
 use crate::decode::Decode;
@@ -97,6 +98,20 @@ fn defined<A: Allocator + Copy>(
             let (err, rest) = Option::decode(alloc, rest)?;
             Ok((DefinedTree::Result { ok, err }, rest))
         }
+        _ => of_handle(alloc, first, bytes),
+    }
+}
+
+/// The same from the row of handles on.
+fn of_handle<A: Allocator + Copy>(
+    alloc: A,
+    first: u8,
+    bytes: &[u8],
+) -> Result<(DefinedTree<A>, &[u8]), Refusal>
+    ensures { Gives (λ x. (defined_view x.0, x.1.now)) result
+        (pick handle_rows nowhere first bytes.now) }
+{
+    match first {
         0x69 => {
             let (ty, rest) = u32::decode(alloc, bytes)?;
             Ok((DefinedTree::Own(ty), rest))

@@ -3,7 +3,7 @@ ghost use Rattle.std.specs.Prelude.{◌≡◌, ◌<◌, ◌≤◌, ◌^◌, ℕ,
 ghost use Rattle.wenc_base.specs.Piece.{Wide};
 ghost use Rattle.wenc_builder.specs.Sections.{Section, section_piece, preamble, Reading};
 ghost use Rattle.wenc_list.specs.Items.{section_view};
-ghost use Rattle.wenc_list.specs.Listing.{AreWithin, AreFrom, ArePlaced, count_in, IsFaultOf, HasNoHeader, IsFaultHere, IsFaultBehind};
+ghost use Rattle.wenc_list.specs.Listing.{AreWithin, AreFrom, ArePlaced, count_in, IsFaultOf, HasNoHeader, IsFaultHere, IsFaultBehind, Begins};
 ghost use Rattle.wenc_list.specs.Contents.{fault_of_frame, fault_of_content};
 ghost use Rattle.wenc_list.specs.declared.fault.ListFault.TheVariants.{Memory, NotAComponent};
 
@@ -79,6 +79,7 @@ fn section<A: Allocator + Copy>(
     ensures read { IfOk result (λ x. (section_piece (section_view x.0)).Reads Wide bytes.now x.1.now) }
     ensures within { IfOk result (λ x. AreWithin 100 (section_view x.0 ∷ [])) }
     ensures placed { IfOk result (λ x. x.0.place ≡ place) }
+    ensures begins { IfOk result (λ x. Begins x.0.id bytes.now) }
     ensures fault { IfErr result (IsFaultHere place bytes.now) }
 {
     match frame(bytes) {
@@ -135,7 +136,7 @@ pub fn list<A: Allocator + Copy>(alloc: A, bytes: &[u8]) -> Result<Listing<A>, L
     ensures reading { IfOk result (λ l. Reading Wide bytes.now (map section_view l.sections.items)) }
     // No type in it is deeper than 100.
     ensures within { IfOk result (λ l. AreWithin 100 (map section_view l.sections.items)) }
-    // Each section is read where it is placed.
+    // Each section is read where it is placed, and its id is the byte there.
     ensures placed { IfOk result (λ l. ArePlaced bytes.now l.sections.items) }
     // The counts are the sums of what the items define.
     ensures counted { IfOk result (λ l. (k : ℕ)

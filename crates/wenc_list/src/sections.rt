@@ -10,7 +10,7 @@ ghost use Rattle.wenc_list.specs.Outcomes.{Yields, repeat};
 ghost use Rattle.wenc_list.specs.declared.refusal.Refusal.TheVariants.{Memory};
 ghost use Rattle.wenc_sections.specs.Start.{started};
 
-use crate::decode::Decode;
+use crate::decode::{Decode, room_for};
 use crate::item::ItemTree;
 use crate::number::{byte, u32_of};
 use crate::refusal::Refusal;
@@ -154,7 +154,7 @@ fn members<A: Allocator + Copy>(
     ensures { Yields (λ x. (map item_view x.0.items, x.1.now)) result
         (repeat (read_item 100 id) count bytes.now) }
 {
-    let mut items = Vec::new(alloc);
+    let mut items = Vec::with_capacity(alloc, room_for(count, bytes))?;
     let mut rest = bytes;
     for _ in 0..count {
         let (item, after) = item(alloc, id, rest)?;
@@ -169,7 +169,7 @@ fn single<A: Allocator>(alloc: A, item: ItemTree<A>) -> Result<Vec<ItemTree<A>, 
     ensures ok { IfOk result (λ v. v.items ≡ item ∷ []) }
     ensures refused { IfErr result (λ e. e ≡ Memory) }
 {
-    let mut items = Vec::new(alloc);
+    let mut items = Vec::with_capacity(alloc, 1)?;
     items.push(item)?;
     Ok(items)
 }

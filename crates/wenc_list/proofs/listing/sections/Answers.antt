@@ -22,7 +22,7 @@ loop-rest-preserved g c =
     let less = section_shorter (section_view s) c.loop-rest.rest.now c.in_ok-section.after.now c.in_ok-section.ensures.read in
     let views : map section_view c.push.new.self.items ≡ map section_view before ++ section_view s ∷ [] = rw c.in_ok-push.ensures.items (map_push section_view before s) in
     record {
-      read = rw c.in_ok-push.ensures.items (from_more c.args.all before s c.args.bytes.now c.loop-rest.rest.now c.in_ok-section.after.now c.loop-rest.invariant.read c.in_ok-section.ensures.read (omega (arith, c.in_ok-section.ensures.placed, c.loop-rest.invariant.shorter)));
+      read = rw c.in_ok-push.ensures.items (from_more c.args.all before s c.args.bytes.now c.loop-rest.rest.now c.in_ok-section.after.now c.loop-rest.invariant.read c.in_ok-section.ensures.read (omega (arith, c.in_ok-section.ensures.placed, c.loop-rest.invariant.shorter)) c.in_ok-section.ensures.begins);
       within = rw views (within_more (map section_view before) (section_view s) c.loop-rest.invariant.within c.in_ok-section.ensures.within);
       shorter = omega (arith, less, c.loop-rest.invariant.shorter);
     }

@@ -10,7 +10,7 @@ use Rattle.wenc_list.proofs.sections.members.Goals as goal
 pub returns-in_err-item : goal.returns-in_err-item
 returns-in_err-item g c =
     let read = read_item 100 c.args.id in
-    let p = err_from_is_err_and c.from_residual.result c.from_residual.ensures.1 in
+    let p = err_from_is_err_and c.from_residual-in_err-item.result c.from_residual-in_err-item.ensures.1 in
     rw (p.1, p.2) (stops c.in_err-item.field-0.0 read (map item_view c.loop.items.items) c.args.count c.loop.counter c.loop.rest.now (repeat read c.args.count c.args.bytes.now) c.loop-test.true c.in_err-item.ensures c.loop.invariant)
 
 pub loop-preserved : goal.loop-preserved
@@ -26,4 +26,4 @@ returns g c =
     is_done read (map item_view c.loop.items.items) c.args.count c.loop.counter c.loop.rest.now (repeat read c.args.count c.args.bytes.now) c.loop-test.false c.loop.invariant
 
 pub loop-init : goal.loop-init
-loop-init g c = rw c.new-items.ensures.items (at_start (read_item 100 c.args.id) c.args.count c.args.bytes.now)
+loop-init g c = rw c.in_ok-items.ensures.items (at_start (read_item 100 c.args.id) c.args.count c.args.bytes.now)
