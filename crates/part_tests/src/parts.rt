@@ -3,9 +3,9 @@
 mod aliases;
 mod equality;
 mod kinds;
-mod names;
+pub mod names;
 mod own_values;
 mod section_ids;
-mod texts;
+pub mod texts;
 mod types;
 mod values;

@@ -26,6 +26,13 @@ pub fn is_well(rt: &impl Abort, outcome: Result<bool, Fault>) {
     assert!(rt; outcome == Ok(true));
 }
 
+/// The bytes of a value.
+pub fn bytes<T: Encode>(alloc: Global, value: &T) -> Result<Vec<u8>, Fault> {
+    let mut bytes = Vec::new(alloc);
+    value.encode(&mut bytes)?;
+    Ok(bytes)
+}
+
 /// The requests of a call are refused in turn.
 pub fn check_call<C: Appends>(rt: &impl Abort, alloc: Global, call: &C) {
     is_well(rt, sweep(alloc, call));
@@ -34,6 +41,11 @@ pub fn check_call<C: Appends>(rt: &impl Abort, alloc: Global, call: &C) {
 /// Those of a value's `encode`.
 pub fn check<E: Encode>(rt: &impl Abort, alloc: Global, value: &E) {
     is_well(rt, sweep_encode(alloc, value));
+}
+
+/// Those of a value that the caller has no more use for.
+pub fn check_made<T: Encode + Drop>(rt: &impl Abort, alloc: Global, value: T) {
+    check(rt, alloc, &value);
 }
 
 /// The same of each of these values.

@@ -53,11 +53,15 @@ fn long_groups(room: u8, bytes: &[u8]) -> Result<(u64, &[u8]), Refusal>
     }
 }
 
-/// A number of 32 bits.
+/// A number of 32 bits. Most are of one byte.
+#[tactic(auto, unfolding(wenc_base::specs::laws::Numbers::read_groups))]
 pub(crate) fn u32_of(bytes: &[u8]) -> Result<(u32, &[u8]), Refusal>
     ensures { Gives (λ x. (x.0, x.1.now)) result (read_u32 bytes.now) }
 {
-    short_groups(128, 4, bytes)
+    match bytes {
+        [first, rest @ ..] if *first < 128 => Ok((u32::from(*first), rest)),
+        _ => short_groups(128, 4, bytes),
+    }
 }
 
 /// A number of 64 bits.

@@ -1,10 +1,10 @@
 use crate::base::values::{check, check_all};
 use std::alloc::Global;
 use std::process::Abort;
-use std::test::Fail;
+use sweeping::ok;
 use wenc_base::{
-    AbstractHeapType, ArrayType, CompositeType, Encode, Fault, FieldType, FuncType, GroupTree,
-    HeapType, RefType, StorageType, StructType, SubType, ValType,
+    AbstractHeapType, ArrayType, CompositeType, Encode, FieldType, FuncType, GroupTree, HeapType,
+    RefType, StorageType, StructType, SubType, ValType,
 };
 
 const I8: FieldType = FieldType {
@@ -41,21 +41,25 @@ fn fields(rt: HostRuntime) {
     check_all(&rt, rt.alloc(), FIELDS);
 }
 
-fn function(alloc: Global, params: &[ValType], results: &[ValType]) -> Result<FuncType, Fault> {
-    FuncType::new(alloc, params.iter().copied(), results.iter().copied())
+fn function(rt: &impl Abort, alloc: Global, params: &[ValType], results: &[ValType]) -> FuncType {
+    ok(
+        rt,
+        FuncType::new(alloc, params.iter().copied(), results.iter().copied()),
+    )
 }
 
-fn of_lists(alloc: Global, params: &[ValType], results: &[ValType]) -> Result<FuncType, Fault> {
-    Ok(FuncType::from_lists(params.to_vec(alloc)?, results.to_vec(alloc)?))
+fn of_lists(rt: &impl Abort, alloc: Global, params: &[ValType], results: &[ValType]) -> FuncType {
+    FuncType::from_lists(ok(rt, params.to_vec(alloc)), ok(rt, results.to_vec(alloc)))
 }
 
 // As one of the composite types.
 fn composite(
+    rt: &impl Abort,
     alloc: Global,
     params: &[ValType],
     results: &[ValType],
-) -> Result<CompositeType, Fault> {
-    Ok(CompositeType::Func(function(alloc, params, results)?))
+) -> CompositeType {
+    CompositeType::Func(function(rt, alloc, params, results))
 }
 
 const PARAMS: &[ValType] = &[ValType::I32, ValType::I64];
@@ -66,35 +70,30 @@ const FUNCTION: &[u8] = &[0x60, 0x02, 0x7f, 0x7e, 0x01, 0x7d];
 
 const EMPTY: &[u8] = &[0x60, 0x00, 0x00];
 
-// It is made, and written as these bytes.
-fn check_made<T: Encode + Drop>(
-    rt: &impl Abort,
-    alloc: Global,
-    made: Result<T, Fault>,
-    bytes: &[u8],
-) {
-    match made {
-        Ok(value) => check(rt, alloc, &value, bytes),
-        Err(_) => assert!(rt; false, "no memory"),
-    }
+// A value that the caller has no more use for is written as these bytes.
+fn check_made<T: Encode + Drop>(rt: &impl Abort, alloc: Global, value: T, bytes: &[u8]) {
+    check(rt, alloc, &value, bytes);
 }
 
 #[test]
 fn functions(rt: HostRuntime) {
     let alloc = rt.alloc();
-    check_made(&rt, alloc, function(alloc, PARAMS, RESULTS), FUNCTION);
-    check_made(&rt, alloc, function(alloc, &[], &[]), EMPTY);
-    check_made(&rt, alloc, of_lists(alloc, PARAMS, RESULTS), FUNCTION);
-    check_made(&rt, alloc, composite(alloc, PARAMS, RESULTS), FUNCTION);
-    check_made(&rt, alloc, composite(alloc, &[], &[]), EMPTY);
+    check_made(&rt, alloc, function(&rt, alloc, PARAMS, RESULTS), FUNCTION);
+    check_made(&rt, alloc, function(&rt, alloc, &[], &[]), EMPTY);
+    check_made(&rt, alloc, of_lists(&rt, alloc, PARAMS, RESULTS), FUNCTION);
 }
 
 #[test]
-fn types_of_functions(rt: HostRuntime) -> Result<(), Fail> {
-    let ty = function(rt.alloc(), PARAMS, RESULTS)?;
-    assert!(rt; ty.params() == PARAMS);
-    assert!(rt; ty.results() == RESULTS);
-    Ok(())
+fn composite_functions(rt: HostRuntime) {
+    let alloc = rt.alloc();
+    check_made(&rt, alloc, composite(&rt, alloc, PARAMS, RESULTS), FUNCTION);
+    check_made(&rt, alloc, composite(&rt, alloc, &[], &[]), EMPTY);
+}
+
+#[test]
+fn types_of_functions(rt: HostRuntime) {
+    let ty = function(&rt, rt.alloc(), PARAMS, RESULTS);
+    assert!(rt; ty.params() == PARAMS && ty.results() == RESULTS);
 }
 
 const ARRAY: ArrayType = ArrayType(I8);
@@ -108,15 +107,15 @@ fn arrays(rt: HostRuntime) {
     check(&rt, rt.alloc(), &array, bytes);
 }
 
-fn structure(alloc: Global, fields: &[FieldType]) -> Result<StructType, Fault> {
-    Ok(StructType {
-        fields: fields.to_vec(alloc)?,
-    })
+fn structure(rt: &impl Abort, alloc: Global, fields: &[FieldType]) -> StructType {
+    StructType {
+        fields: ok(rt, fields.to_vec(alloc)),
+    }
 }
 
 // As one of the composite types.
-fn composite_structure(alloc: Global, fields: &[FieldType]) -> Result<CompositeType, Fault> {
-    Ok(CompositeType::Struct(structure(alloc, fields)?))
+fn composite_structure(rt: &impl Abort, alloc: Global, fields: &[FieldType]) -> CompositeType {
+    CompositeType::Struct(structure(rt, alloc, fields))
 }
 
 const STRUCTURE: &[u8] = &[0x5f, 0x02, 0x78, 0x01, 0x7f, 0x00];
@@ -126,11 +125,11 @@ const TWO_FIELDS: &[FieldType] = &[I8, I32];
 #[test]
 fn structures(rt: HostRuntime) {
     let alloc = rt.alloc();
-    check_made(&rt, alloc, structure(alloc, TWO_FIELDS), STRUCTURE);
-    check_made(&rt, alloc, structure(alloc, &[]), &[0x5f, 0x00]);
-    let composite = composite_structure(alloc, TWO_FIELDS);
+    check_made(&rt, alloc, structure(&rt, alloc, TWO_FIELDS), STRUCTURE);
+    check_made(&rt, alloc, structure(&rt, alloc, &[]), &[0x5f, 0x00]);
+    let composite = composite_structure(&rt, alloc, TWO_FIELDS);
     check_made(&rt, alloc, composite, STRUCTURE);
-    let none = composite_structure(alloc, &[]);
+    let none = composite_structure(&rt, alloc, &[]);
     check_made(&rt, alloc, none, &[0x5f, 0x00]);
 }
 
@@ -144,13 +143,13 @@ fn sub_type(is_final: bool, supertype_idx: Option<u32>, composite_type: Composit
 
 // A function that extends no other type.
 fn sub_function(
+    rt: &impl Abort,
     alloc: Global,
     is_final: bool,
     params: &[ValType],
     results: &[ValType],
-) -> Result<SubType, Fault> {
-    let ty = composite(alloc, params, results)?;
-    Ok(sub_type(is_final, None, ty))
+) -> SubType {
+    sub_type(is_final, None, composite(rt, alloc, params, results))
 }
 
 // One of that array extends the type with this index.
@@ -160,79 +159,86 @@ fn sub_array(is_final: bool, supertype_idx: u32) -> SubType {
 }
 
 // By itself, and behind a reference.
-fn check_sub(rt: &impl Abort, alloc: Global, ty: &SubType, bytes: &[u8]) {
-    check(rt, alloc, ty, bytes);
+fn check_sub(rt: &impl Abort, alloc: Global, ty: SubType, bytes: &[u8]) {
     check(rt, alloc, &ty, bytes);
+    check(rt, alloc, &&ty, bytes);
 }
 
 const OPEN: &[u8] = &[0x50, 0x00, 0x60, 0x00, 0x00];
 
 #[test]
-fn sub_types(rt: HostRuntime) -> Result<(), Fail> {
-    let plain = sub_function(rt.alloc(), true, &[], &[])?;
-    check_sub(&rt, rt.alloc(), &plain, EMPTY);
-    let open = sub_function(rt.alloc(), false, &[], &[])?;
-    check_sub(&rt, rt.alloc(), &open, OPEN);
-    Ok(())
+fn sub_types(rt: HostRuntime) {
+    let alloc = rt.alloc();
+    check_sub(&rt, alloc, sub_function(&rt, alloc, true, &[], &[]), EMPTY);
+    check_sub(&rt, alloc, sub_function(&rt, alloc, false, &[], &[]), OPEN);
 }
+
+const FINAL_ARRAY: &[u8] = &[0x4f, 0x01, 0x04, 0x5e, 0x77, 0x00];
+
+const OPEN_ARRAY: &[u8] = &[0x50, 0x01, 0x80, 0x01, 0x5e, 0x77, 0x00];
 
 #[test]
 fn sub_types_of_others(rt: HostRuntime) {
-    let bytes = [0x4f, 0x01, 0x04, 0x5e, 0x77, 0x00].as_slice();
-    check_sub(&rt, rt.alloc(), &sub_array(true, 4), bytes);
-    let bytes = [0x50, 0x01, 0x80, 0x01, 0x5e, 0x77, 0x00].as_slice();
-    check_sub(&rt, rt.alloc(), &sub_array(false, 128), bytes);
+    let alloc = rt.alloc();
+    check_sub(&rt, alloc, sub_array(true, 4), FINAL_ARRAY);
+    check_sub(&rt, alloc, sub_array(false, 128), OPEN_ARRAY);
 }
 
 const NUMBER: &[ValType] = &[ValType::I32];
 
-fn pair(alloc: Global) -> Result<GroupTree, Fault> {
-    let first = sub_function(alloc, true, &[], &[])?;
-    let second = sub_function(alloc, true, NUMBER, &[])?;
-    Ok(GroupTree::Rec(vec![in alloc; first, second]?))
+fn add(rt: &impl Abort, types: &mut Vec<SubType>, ty: SubType) {
+    ok(rt, types.push(ty));
+}
+
+fn pair(rt: &impl Abort, alloc: Global) -> GroupTree {
+    let mut types = Vec::new(alloc);
+    add(rt, &mut types, sub_function(rt, alloc, true, &[], &[]));
+    add(rt, &mut types, sub_function(rt, alloc, true, NUMBER, &[]));
+    GroupTree::Rec(types)
 }
 
 fn group_of_one(ty: SubType) -> GroupTree {
     GroupTree::Sub(ty)
 }
 
-fn open_group(alloc: Global) -> Result<GroupTree, Fault> {
-    Ok(group_of_one(sub_function(alloc, false, &[], &[])?))
+fn open_group(rt: &impl Abort, alloc: Global) -> GroupTree {
+    group_of_one(sub_function(rt, alloc, false, &[], &[]))
 }
 
 fn no_types(alloc: Global) -> GroupTree {
     GroupTree::Rec(Vec::new(alloc))
 }
 
+const PAIR: &[u8] = &[0x4e, 0x02, 0x60, 0x00, 0x00, 0x60, 0x01, 0x7f, 0x00];
+
 #[test]
 fn groups(rt: HostRuntime) {
     let alloc = rt.alloc();
-    let bytes = [0x4e, 0x02, 0x60, 0x00, 0x00, 0x60, 0x01, 0x7f, 0x00];
-    check_made(&rt, alloc, pair(alloc), bytes.as_slice());
-    check(&rt, alloc, &no_types(alloc), &[0x4e, 0x00]);
-    check_made(&rt, alloc, open_group(alloc), OPEN);
+    check_made(&rt, alloc, pair(&rt, alloc), PAIR);
+    check_made(&rt, alloc, no_types(alloc), &[0x4e, 0x00]);
+    check_made(&rt, alloc, open_group(&rt, alloc), OPEN);
 }
 
 // A function of a number, the same once more, and one that gives a number.
 #[test]
-fn composites_are_compared(rt: HostRuntime) -> Result<(), Fail> {
-    let one = composite(rt.alloc(), NUMBER, &[])?;
-    let same = composite(rt.alloc(), NUMBER, &[])?;
-    let turned = composite(rt.alloc(), &[], NUMBER)?;
+fn composites_are_compared(rt: HostRuntime) {
+    let alloc = rt.alloc();
+    let one = composite(&rt, alloc, NUMBER, &[]);
+    let same = composite(&rt, alloc, NUMBER, &[]);
+    let turned = composite(&rt, alloc, &[], NUMBER);
     assert!(rt; one == same);
     assert!(rt; one != turned);
     assert!(rt; one != CompositeType::Array(ARRAY));
-    Ok(())
 }
 
 // Likewise.
 #[test]
-fn sub_types_are_compared(rt: HostRuntime) -> Result<(), Fail> {
-    let one = sub_function(rt.alloc(), true, NUMBER, &[])?;
-    let same = sub_function(rt.alloc(), true, NUMBER, &[])?;
-    let turned = sub_function(rt.alloc(), true, &[], NUMBER)?;
+fn sub_types_are_compared(rt: HostRuntime) {
+    let alloc = rt.alloc();
+    let one = sub_function(&rt, alloc, true, NUMBER, &[]);
+    let same = sub_function(&rt, alloc, true, NUMBER, &[]);
+    let turned = sub_function(&rt, alloc, true, &[], NUMBER);
     assert!(rt; one == same);
     assert!(rt; one != turned);
     assert!(rt; group_of_one(one) == group_of_one(same));
-    Ok(())
 }

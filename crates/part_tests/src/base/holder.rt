@@ -3,7 +3,7 @@ use crate::base::openings::with_a_member;
 use crate::base::values::{LARGE, OPEN, agree, answers, behind, check};
 use std::alloc::Global;
 use std::process::Abort;
-use std::test::Fail;
+use sweeping::ok;
 use wenc_base::{Fault, Holder, Verbatim, section_size};
 
 // What the holder's section adds to a sink.
@@ -79,13 +79,13 @@ fn members(rt: HostRuntime) {
     let alloc = rt.alloc();
     let mut holder = Holder::new(alloc);
     check_holder(&rt, alloc, &holder, 0, &[], &[0x01, 0x00]);
-    answers(&rt, add(&mut holder, &[0xaa, 0xbb]), Ok(()));
+    ok(&rt, add(&mut holder, &[0xaa, 0xbb]));
     let one = [0x03, 0x01, 0xaa, 0xbb].as_slice();
     check_holder(&rt, alloc, &holder, 1, &[0xaa, 0xbb], one);
-    answers(&rt, add_encoded(&mut holder, &("f", 128u32)), Ok(()));
+    ok(&rt, add_encoded(&mut holder, &("f", 128u32)));
     let two = [0x07, 0x02, 0xaa, 0xbb, 0x01, 0x66, 0x80, 0x01].as_slice();
     check_holder(&rt, alloc, &holder, 2, TWO, two);
-    answers(&rt, add_listed(&mut holder, &true, &[1, 128], &"g"), Ok(()));
+    ok(&rt, add_listed(&mut holder, &true, &[1, 128], &"g"));
     check_holder(&rt, alloc, &holder, 3, THREE, THREE_COUNTED);
 }
 
@@ -94,56 +94,54 @@ fn members(rt: HostRuntime) {
 fn empty_members(rt: HostRuntime) {
     let alloc = rt.alloc();
     let mut holder = Holder::new(alloc);
-    answers(&rt, add(&mut holder, &[]), Ok(()));
-    answers(&rt, add_encoded(&mut holder, &()), Ok(()));
+    ok(&rt, add(&mut holder, &[]));
+    ok(&rt, add_encoded(&mut holder, &()));
     check_holder(&rt, alloc, &holder, 2, &[], &[0x01, 0x02]);
-    answers(&rt, add_listed(&mut holder, &(), &[], &()), Ok(()));
+    ok(&rt, add_listed(&mut holder, &(), &[], &()));
     check_holder(&rt, alloc, &holder, 3, &[0x00], &[0x02, 0x03, 0x00]);
 }
 
 // The section of so many members of a byte.
-fn long_section(alloc: Global, count: u32) -> Result<Vec<u8>, Fault> {
+fn long_section(rt: &impl Abort, alloc: Global, count: u32) -> Vec<u8> {
     let mut holder = Holder::new(alloc);
     for _ in 0..count {
-        add(&mut holder, &[0x2a])?;
+        ok(rt, add(&mut holder, &[0x2a]));
     }
     let mut sink = Vec::new(alloc);
-    encode_section(&holder, &mut sink)?;
-    Ok(sink)
+    ok(rt, encode_section(&holder, &mut sink));
+    sink
 }
 
 // With 128 members the count has two bytes, and with 126 bytes behind it so has the size.
 #[test]
-fn long_sections(rt: HostRuntime) -> Result<(), Fail> {
-    let sink = long_section(rt.alloc(), 128)?;
+fn long_sections(rt: HostRuntime) {
+    let sink = long_section(&rt, rt.alloc(), 128);
     assert!(rt; sink.len() == 132);
     let start = [0x82, 0x01, 0x80, 0x01, 0x2a];
     assert!(rt; sink.as_slice().starts_with(start.as_slice()));
-    Ok(())
 }
 
 #[test]
-fn clones(rt: HostRuntime) -> Result<(), Fail> {
+fn clones(rt: HostRuntime) {
     let alloc = rt.alloc();
-    let mut holder = with_a_member(alloc)?;
-    let mut other = copy(&holder)?;
+    let mut holder = with_a_member(&rt, alloc);
+    let mut other = ok(&rt, copy(&holder));
     check_holder(&rt, alloc, &other, 1, &[0xaa], &[0x02, 0x01, 0xaa]);
-    answers(&rt, add(&mut holder, &[0xbb]), Ok(()));
+    ok(&rt, add(&mut holder, &[0xbb]));
     check_holder(&rt, alloc, &other, 1, &[0xaa], &[0x02, 0x01, 0xaa]);
-    answers(&rt, add(&mut other, &[0xcc]), Ok(()));
-    answers(&rt, add(&mut other, &[0xdd]), Ok(()));
+    ok(&rt, add(&mut other, &[0xcc]));
+    ok(&rt, add(&mut other, &[0xdd]));
     let two = [0x03, 0x02, 0xaa, 0xbb].as_slice();
     check_holder(&rt, alloc, &holder, 2, &[0xaa, 0xbb], two);
     let three = [0x04, 0x03, 0xaa, 0xcc, 0xdd].as_slice();
     check_holder(&rt, alloc, &other, 3, &[0xaa, 0xcc, 0xdd], three);
-    Ok(())
 }
 
 // Each of these has a part that is refused, some behind parts that were written.
 #[test]
-fn refused_members(rt: HostRuntime) -> Result<(), Fail> {
+fn refused_members(rt: HostRuntime) {
     let alloc = rt.alloc();
-    let mut h = with_a_member(alloc)?;
+    let mut h = with_a_member(&rt, alloc);
     let (many, open) = (Err(Fault::TooMany), Err(Fault::Unfinished));
     answers(&rt, add_encoded(&mut h, &LARGE), many);
     answers(&rt, add_encoded(&mut h, &(1u32, LARGE)), many);
@@ -155,10 +153,9 @@ fn refused_members(rt: HostRuntime) -> Result<(), Fail> {
     answers(&rt, add_listed(&mut h, &OPEN, &[LARGE], &LARGE), open);
     answers(&rt, add_listed(&mut h, &1u32, &[LARGE], &OPEN), many);
     check_holder(&rt, alloc, &h, 1, &[0xaa], &[0x02, 0x01, 0xaa]);
-    answers(&rt, add(&mut h, &[0xbb]), Ok(()));
+    ok(&rt, add(&mut h, &[0xbb]));
     let two = [0x03, 0x02, 0xaa, 0xbb].as_slice();
     check_holder(&rt, alloc, &h, 2, &[0xaa, 0xbb], two);
-    Ok(())
 }
 
 #[test]

@@ -1,7 +1,7 @@
 use crate::base::values::check;
 use std::alloc::Global;
 use std::process::Abort;
-use std::test::Fail;
+use sweeping::ok;
 use wenc_base::{Fault, NameMap, encoding_size};
 
 fn append(names: &mut NameMap, idx: u32, name: &str) -> Result<(), Fault> {
@@ -23,20 +23,20 @@ fn cut_back(names: &mut NameMap, len: u32, bytes: usize) -> bool {
 }
 
 // In an order that isn't that of the indices.
-fn two_names(alloc: Global) -> Result<NameMap, Fault> {
+fn two_names(rt: &impl Abort, alloc: Global) -> NameMap {
     let mut names = NameMap::new(alloc);
-    append(&mut names, 5, "a")?;
-    append(&mut names, 1, "b")?;
-    Ok(names)
+    ok(rt, append(&mut names, 5, "a"));
+    ok(rt, append(&mut names, 1, "b"));
+    names
 }
 
 // So many empty names.
-fn empty_names(alloc: Global, count: u32) -> Result<NameMap, Fault> {
+fn empty_names(rt: &impl Abort, alloc: Global, count: u32) -> NameMap {
     let mut names = NameMap::new(alloc);
     for idx in 0..count {
-        append(&mut names, idx, "")?;
+        ok(rt, append(&mut names, idx, ""));
     }
-    Ok(names)
+    names
 }
 
 const TWO_NAMES: &[u8] = &[0x02, 0x05, 0x01, 0x61, 0x01, 0x01, 0x62];
@@ -57,50 +57,46 @@ fn no_names(rt: HostRuntime) {
 }
 
 #[test]
-fn long_index_and_no_text(rt: HostRuntime) -> Result<(), Fail> {
+fn long_index_and_no_text(rt: HostRuntime) {
     let mut names = NameMap::new(rt.alloc());
-    append(&mut names, 4294967295, "")?;
+    ok(&rt, append(&mut names, 4294967295, ""));
     let text = [0x01, 0xff, 0xff, 0xff, 0xff, 0x0f, 0x00].as_slice();
     check_names(&rt, rt.alloc(), &names, 1, text);
-    Ok(())
 }
 
 // The text of 128 has two bytes.
 #[test]
-fn many_names(rt: HostRuntime) -> Result<(), Fail> {
-    let mut names = empty_names(rt.alloc(), 127)?;
+fn many_names(rt: HostRuntime) {
+    let mut names = empty_names(&rt, rt.alloc(), 127);
     assert!(rt; has(&names, 127, 255));
-    append(&mut names, 127, "")?;
+    ok(&rt, append(&mut names, 127, ""));
     assert!(rt; has(&names, 128, 258));
-    Ok(())
 }
 
 #[test]
-fn cut_back_names(rt: HostRuntime) -> Result<(), Fail> {
+fn cut_back_names(rt: HostRuntime) {
     let alloc = rt.alloc();
-    let mut names = two_names(alloc)?;
+    let mut names = two_names(&rt, alloc);
     check_names(&rt, alloc, &names, 2, TWO_NAMES);
     assert!(rt; cut_back(&mut names, 1, 3));
     check_names(&rt, alloc, &names, 1, &[0x01, 0x05, 0x01, 0x61]);
-    append(&mut names, 1, "b")?;
+    ok(&rt, append(&mut names, 1, "b"));
     check_names(&rt, alloc, &names, 2, TWO_NAMES);
     assert!(rt; cut_back(&mut names, 2, 6));
     check_names(&rt, alloc, &names, 2, TWO_NAMES);
     assert!(rt; cut_back(&mut names, 0, 0));
     check_names(&rt, alloc, &names, 0, &[0x00]);
-    Ok(())
 }
 
 // A copy has more names, and what it was copied from hasn't.
 #[test]
-fn copied_names(rt: HostRuntime) -> Result<(), Fail> {
+fn copied_names(rt: HostRuntime) {
     let alloc = rt.alloc();
-    let names = two_names(alloc)?;
-    let mut copied = copy(&names)?;
+    let names = two_names(&rt, alloc);
+    let mut copied = ok(&rt, copy(&names));
     check_names(&rt, alloc, &copied, 2, TWO_NAMES);
-    append(&mut copied, 0, "")?;
+    ok(&rt, append(&mut copied, 0, ""));
     let text = [0x03, 0x05, 0x01, 0x61, 0x01, 0x01, 0x62, 0x00, 0x00].as_slice();
     check_names(&rt, alloc, &copied, 3, text);
     check_names(&rt, alloc, &names, 2, TWO_NAMES);
-    Ok(())
 }

@@ -9,6 +9,7 @@ use crate::base::values::{
 use std::alloc::Global;
 use std::process::Abort;
 use std::test::Fail;
+use sweeping::ok;
 use wenc_base::{Fault, Holder};
 
 // What comes of the holder's section, and what the sink has then.
@@ -56,51 +57,47 @@ pub fn over_four_bytes(alloc: Global) -> Result<Holder, Fail>
     Ok(Holder::over([0xaa, 0xbb, 0x03, 0x00].to_vec(alloc)?, 2, 1))
 }
 
-pub fn with_a_member(alloc: Global) -> Result<Holder, Fail> {
+pub fn with_a_member(rt: &impl Abort, alloc: Global) -> Holder {
     let mut holder = Holder::new(alloc);
-    holder.add(&[0xaa])?;
-    Ok(holder)
+    ok(rt, add(&mut holder, &[0xaa]));
+    holder
 }
 
 #[test]
-fn over_bytes(rt: HostRuntime) -> Result<(), Fail> {
-    let holder = over_four_bytes(rt.alloc())?;
+fn over_bytes(rt: HostRuntime) {
+    let holder = ok(&rt, over_four_bytes(rt.alloc()));
     let section = [0x03, 0x01, 0x03, 0x00].as_slice();
     check_holder(&rt, rt.alloc(), &holder, 1, &[0x03, 0x00], section);
     check_parts(&rt, holder, &[0xaa, 0xbb, 0x03, 0x00], (2, 1, true));
-    Ok(())
 }
 
 #[test]
-fn more_over_bytes(rt: HostRuntime) -> Result<(), Fail> {
-    let mut holder = over_four_bytes(rt.alloc())?;
-    answers(&rt, add(&mut holder, &[0x2a]), Ok(()));
+fn more_over_bytes(rt: HostRuntime) {
+    let mut holder = ok(&rt, over_four_bytes(rt.alloc()));
+    ok(&rt, add(&mut holder, &[0x2a]));
     let section = [0x04, 0x02, 0x03, 0x00, 0x2a].as_slice();
     check_holder(&rt, rt.alloc(), &holder, 2, &[0x03, 0x00, 0x2a], section);
     check_parts(&rt, holder, &[0xaa, 0xbb, 0x03, 0x00, 0x2a], (2, 2, true));
-    Ok(())
 }
 
 #[test]
-fn parts_of_an_unfinished_holder(rt: HostRuntime) -> Result<(), Fail> {
-    let mut holder = over_four_bytes(rt.alloc())?;
-    answers(&rt, open(&mut holder, &[0x01]), Ok(()));
+fn parts_of_an_unfinished_holder(rt: HostRuntime) {
+    let mut holder = ok(&rt, over_four_bytes(rt.alloc()));
+    ok(&rt, open(&mut holder, &[0x01]));
     check_unfinished(&rt, rt.alloc(), &holder, 2, &[0x03, 0x00, 0x01], true);
     check_parts(&rt, holder, &[0xaa, 0xbb, 0x03, 0x00, 0x01], (2, 2, false));
-    Ok(())
 }
 
 #[test]
-fn piece_by_piece(rt: HostRuntime) -> Result<(), Fail> {
+fn piece_by_piece(rt: HostRuntime) {
     let alloc = rt.alloc();
-    let mut holder = with_a_member(alloc)?;
-    answers(&rt, open(&mut holder, &[1, 2]), Ok(()));
+    let mut holder = with_a_member(&rt, alloc);
+    ok(&rt, open(&mut holder, &[1, 2]));
     check_unfinished(&rt, alloc, &holder, 2, &[0xaa, 1, 2], true);
-    answers(&rt, append(&mut holder, &[3]), Ok(()));
+    ok(&rt, append(&mut holder, &[3]));
     check_unfinished(&rt, alloc, &holder, 2, &[0xaa, 1, 2, 3], false);
-    answers(&rt, append_encoded(&mut holder, &"f"), Ok(()));
+    ok(&rt, append_encoded(&mut holder, &"f"));
     check_unfinished(&rt, alloc, &holder, 2, &[0xaa, 1, 2, 3, 1, 0x66], false);
-    Ok(())
 }
 
 const CLOSED: &[u8] = &[0x07, 0x02, 0xaa, 1, 2, 1, 0x66, 4];
@@ -108,29 +105,28 @@ const CLOSED: &[u8] = &[0x07, 0x02, 0xaa, 1, 2, 1, 0x66, 4];
 const THEN_ADDED: &[u8] = &[0x08, 0x03, 0xaa, 1, 2, 1, 0x66, 4, 5];
 
 #[test]
-fn closed(rt: HostRuntime) -> Result<(), Fail> {
+fn closed(rt: HostRuntime) {
     let alloc = rt.alloc();
-    let mut holder = with_a_member(alloc)?;
-    answers(&rt, open(&mut holder, &[1, 2]), Ok(()));
-    answers(&rt, append_encoded(&mut holder, &"f"), Ok(()));
-    answers(&rt, close(&mut holder, &[4]), Ok(()));
+    let mut holder = with_a_member(&rt, alloc);
+    ok(&rt, open(&mut holder, &[1, 2]));
+    ok(&rt, append_encoded(&mut holder, &"f"));
+    ok(&rt, close(&mut holder, &[4]));
     assert!(rt; !holder.is_opened());
     check_holder(&rt, alloc, &holder, 2, &[0xaa, 1, 2, 1, 0x66, 4], CLOSED);
-    answers(&rt, add(&mut holder, &[5]), Ok(()));
+    ok(&rt, add(&mut holder, &[5]));
     let body = [0xaa, 1, 2, 1, 0x66, 4, 5].as_slice();
     check_holder(&rt, alloc, &holder, 3, body, THEN_ADDED);
-    Ok(())
 }
 
 #[test]
 fn empty_pieces(rt: HostRuntime) {
     let alloc = rt.alloc();
     let mut holder = Holder::new(alloc);
-    answers(&rt, open(&mut holder, &[]), Ok(()));
+    ok(&rt, open(&mut holder, &[]));
     check_unfinished(&rt, alloc, &holder, 1, &[], true);
-    answers(&rt, append(&mut holder, &[]), Ok(()));
+    ok(&rt, append(&mut holder, &[]));
     check_unfinished(&rt, alloc, &holder, 1, &[], true);
-    answers(&rt, close(&mut holder, &[]), Ok(()));
+    ok(&rt, close(&mut holder, &[]));
     check_holder(&rt, alloc, &holder, 1, &[], &[0x01, 0x01]);
 }
 
@@ -146,13 +142,12 @@ fn check_one(rt: &impl Abort, alloc: Global, holder: &Holder) {
 }
 
 #[test]
-fn the_lead_alone(rt: HostRuntime) -> Result<(), Fail> {
-    let mut holder = with_a_member(rt.alloc())?;
-    answers(&rt, open(&mut holder, &[1, 2]), Ok(()));
+fn the_lead_alone(rt: HostRuntime) {
+    let mut holder = with_a_member(&rt, rt.alloc());
+    ok(&rt, open(&mut holder, &[1, 2]));
     holder.finish_member();
     assert!(rt; !holder.is_opened());
     check_two(&rt, rt.alloc(), &holder);
-    Ok(())
 }
 
 const UNFINISHED: Result<(), Fault> = Err(Fault::Unfinished);
@@ -160,93 +155,89 @@ const UNFINISHED: Result<(), Fault> = Err(Fault::Unfinished);
 const MANY: Result<(), Fault> = Err(Fault::TooMany);
 
 #[test]
-fn refused_while_unfinished(rt: HostRuntime) -> Result<(), Fail> {
-    let mut holder = with_a_member(rt.alloc())?;
-    answers(&rt, open(&mut holder, &[1]), Ok(()));
+fn refused_while_unfinished(rt: HostRuntime) {
+    let mut holder = with_a_member(&rt, rt.alloc());
+    ok(&rt, open(&mut holder, &[1]));
     answers(&rt, add(&mut holder, &[9]), UNFINISHED);
     answers(&rt, add_encoded(&mut holder, &9u32), UNFINISHED);
     answers(&rt, add_encoded(&mut holder, &LARGE), UNFINISHED);
     answers(&rt, add_listed(&mut holder, &1u32, &[2], &()), UNFINISHED);
     check_unfinished(&rt, rt.alloc(), &holder, 2, &[0xaa, 1], true);
-    Ok(())
 }
 
 #[test]
-fn opened_once(rt: HostRuntime) -> Result<(), Fail> {
-    let mut holder = with_a_member(rt.alloc())?;
-    answers(&rt, open(&mut holder, &[1]), Ok(()));
-    answers(&rt, append(&mut holder, &[2]), Ok(()));
+fn opened_once(rt: HostRuntime) {
+    let alloc = rt.alloc();
+    let mut holder = with_a_member(&rt, alloc);
+    ok(&rt, open(&mut holder, &[1]));
+    ok(&rt, append(&mut holder, &[2]));
     answers(&rt, open(&mut holder, &[9]), UNFINISHED);
     answers(&rt, open(&mut holder, &[]), UNFINISHED);
-    check_unfinished(&rt, rt.alloc(), &holder, 2, &[0xaa, 1, 2], false);
+    check_unfinished(&rt, alloc, &holder, 2, &[0xaa, 1, 2], false);
     holder.finish_member();
-    check_two(&rt, rt.alloc(), &holder);
-    Ok(())
+    check_two(&rt, alloc, &holder);
 }
 
 #[test]
-fn unfinished_clones(rt: HostRuntime) -> Result<(), Fail> {
+fn unfinished_clones(rt: HostRuntime) {
     let alloc = rt.alloc();
-    let mut holder = with_a_member(alloc)?;
-    answers(&rt, open(&mut holder, &[1]), Ok(()));
-    let opened = copy(&holder)?;
-    answers(&rt, append(&mut holder, &[2]), Ok(()));
-    let mut begun = copy(&holder)?;
+    let mut holder = with_a_member(&rt, alloc);
+    ok(&rt, open(&mut holder, &[1]));
+    let opened = ok(&rt, copy(&holder));
+    ok(&rt, append(&mut holder, &[2]));
+    let mut begun = ok(&rt, copy(&holder));
     check_unfinished(&rt, alloc, &opened, 2, &[0xaa, 1], true);
     check_unfinished(&rt, alloc, &begun, 2, &[0xaa, 1, 2], false);
     assert!(rt; begun.discard_unfinished());
     check_one(&rt, alloc, &begun);
     check_unfinished(&rt, alloc, &holder, 2, &[0xaa, 1, 2], false);
-    Ok(())
 }
 
 #[test]
-fn discarded(rt: HostRuntime) -> Result<(), Fail> {
+fn discarded(rt: HostRuntime) {
     let alloc = rt.alloc();
-    let mut holder = with_a_member(alloc)?;
-    answers(&rt, open(&mut holder, &[1, 2]), Ok(()));
+    let mut holder = with_a_member(&rt, alloc);
+    ok(&rt, open(&mut holder, &[1, 2]));
     assert!(rt; holder.discard_unfinished());
     check_one(&rt, alloc, &holder);
     assert!(rt; !holder.discard_unfinished());
     check_one(&rt, alloc, &holder);
-    answers(&rt, add(&mut holder, &[0xbb]), Ok(()));
+    ok(&rt, add(&mut holder, &[0xbb]));
     let section = [0x03, 0x02, 0xaa, 0xbb].as_slice();
     check_holder(&rt, alloc, &holder, 2, &[0xaa, 0xbb], section);
-    Ok(())
 }
 
 #[test]
-fn discarded_behind_the_lead(rt: HostRuntime) -> Result<(), Fail> {
-    let mut holder = over_four_bytes(rt.alloc())?;
-    answers(&rt, open(&mut holder, &[1]), Ok(()));
-    answers(&rt, append(&mut holder, &[2, 3]), Ok(()));
+fn discarded_behind_the_lead(rt: HostRuntime) {
+    let mut holder = ok(&rt, over_four_bytes(rt.alloc()));
+    ok(&rt, open(&mut holder, &[1]));
+    ok(&rt, append(&mut holder, &[2, 3]));
     assert!(rt; holder.discard_unfinished());
     let section = [0x03, 0x01, 0x03, 0x00].as_slice();
     check_holder(&rt, rt.alloc(), &holder, 1, &[0x03, 0x00], section);
     assert!(rt; !holder.discard_unfinished());
     check_parts(&rt, holder, &[0xaa, 0xbb, 0x03, 0x00], (2, 1, true));
-    Ok(())
 }
 
 // The second of these has a part that was written when the other was refused.
 #[test]
-fn refused_pieces(rt: HostRuntime) -> Result<(), Fail> {
-    let mut holder = with_a_member(rt.alloc())?;
-    answers(&rt, open(&mut holder, &[1]), Ok(()));
+fn refused_pieces(rt: HostRuntime) {
+    let alloc = rt.alloc();
+    let mut holder = with_a_member(&rt, alloc);
+    ok(&rt, open(&mut holder, &[1]));
     answers(&rt, append_encoded(&mut holder, &LARGE), MANY);
-    check_unfinished(&rt, rt.alloc(), &holder, 2, &[0xaa, 1], true);
+    check_unfinished(&rt, alloc, &holder, 2, &[0xaa, 1], true);
     answers(&rt, append_encoded(&mut holder, &("f", LARGE)), MANY);
-    check_unfinished(&rt, rt.alloc(), &holder, 2, &[0xaa, 1], true);
-    Ok(())
+    check_unfinished(&rt, alloc, &holder, 2, &[0xaa, 1], true);
 }
 
 #[test]
-fn unfinished_pieces(rt: HostRuntime) -> Result<(), Fail> {
-    let mut holder = with_a_member(rt.alloc())?;
-    answers(&rt, open(&mut holder, &[1]), Ok(()));
+fn unfinished_pieces(rt: HostRuntime) {
+    let alloc = rt.alloc();
+    let mut holder = with_a_member(&rt, alloc);
+    ok(&rt, open(&mut holder, &[1]));
     answers(&rt, append_encoded(&mut holder, &OPEN), UNFINISHED);
-    check_unfinished(&rt, rt.alloc(), &holder, 2, &[0xaa, 1], true);
-    answers(&rt, close(&mut holder, &[2]), Ok(()));
-    check_two(&rt, rt.alloc(), &holder);
-    Ok(())
+    check_unfinished(&rt, alloc, &holder, 2, &[0xaa, 1], true);
+    ok(&rt, close(&mut holder, &[2]));
+    check_two(&rt, alloc, &holder);
 }

@@ -5,7 +5,7 @@ ghost use Rattle.wenc_base.specs.declared.fault.Fault.TheVariants.{Unfinished};
 
 use std::alloc::{AllocError, Allocator, Global};
 use std::process::Abort;
-use std::test::Fail;
+use sweeping::ok;
 use wenc_base::{
     CustomSection, Encode, ExportKind, Fault, Section, Short, Tagged, encode_list, encoding_size,
     extend_in_room,
@@ -40,10 +40,7 @@ pub fn answers(rt: &impl Abort, given: Result<(), Fault>, wanted: Result<(), Fau
 
 // What was appended, and what was to be.
 pub fn agree(rt: &impl Abort, given: Result<Vec<u8>, Fault>, wanted: Result<Vec<u8>, Fault>) {
-    match (given, wanted) {
-        (Ok(given), Ok(wanted)) => are(rt, given.as_slice(), wanted.as_slice()),
-        _ => assert!(rt; false, "no memory"),
-    }
+    are(rt, ok(rt, given).as_slice(), ok(rt, wanted).as_slice());
 }
 
 // Each value is written behind a byte that the sink has.
@@ -127,10 +124,9 @@ fn joined(alloc: Global) -> Result<Vec<u8>, Fault> {
 }
 
 #[test]
-fn texts_in_one_sink(rt: HostRuntime) -> Result<(), Fail> {
-    let sink = joined(rt.alloc())?;
+fn texts_in_one_sink(rt: HostRuntime) {
+    let sink = ok(&rt, joined(rt.alloc()));
     are(&rt, sink.as_slice(), &[0x01, 0x66, 0x00, 0x01, 0xaa]);
-    Ok(())
 }
 
 const KINDS: &[(ExportKind, &[u8])] = &[
@@ -183,26 +179,22 @@ fn of_iterators(alloc: Global) -> Result<Vec<u8>, Fault> {
     Ok(sink)
 }
 
+const TWO_LISTS: &[u8] = &[0x99, 0x03, 0x01, 0x80, 0x01, 0x03, 0x00];
+
 #[test]
-fn lists_from_iterators(rt: HostRuntime) -> Result<(), Fail> {
-    let sink = of_iterators(rt.alloc())?;
-    are(
-        &rt,
-        sink.as_slice(),
-        &[0x99, 0x03, 0x01, 0x80, 0x01, 0x03, 0x00],
-    );
-    Ok(())
+fn lists_from_iterators(rt: HostRuntime) {
+    let sink = ok(&rt, of_iterators(rt.alloc()));
+    are(&rt, sink.as_slice(), TWO_LISTS);
 }
 
 // The second of these is refused, behind the text of the first.
 #[test]
-fn refused_lists(rt: HostRuntime) -> Result<(), Fail> {
-    let mut sink = behind(rt.alloc(), &[])?;
+fn refused_lists(rt: HostRuntime) {
+    let mut sink = ok(&rt, behind(rt.alloc(), &[]));
     let values: &[usize] = &[1, LARGE];
     answers(&rt, encode(&values, &mut sink), Err(Fault::TooMany));
     answers(&rt, encode_copied(values, &mut sink), Err(Fault::TooMany));
     are(&rt, sink.as_slice(), &[0x99]);
-    Ok(())
 }
 
 // An item that was begun, and perhaps not ended.
@@ -237,13 +229,9 @@ fn outcome<T: Encode>(alloc: Global, value: &T) -> Result<Outcome, Fault> {
 
 // It was refused, and the sink stays as it was.
 pub fn check_refusal(rt: &impl Abort, outcome: Result<Outcome, Fault>, fault: Fault) {
-    match outcome {
-        Ok((given, sink)) => {
-            answers(rt, given, Err(fault));
-            are(rt, sink.as_slice(), &[0x99]);
-        }
-        Err(_) => assert!(rt; false, "no memory"),
-    }
+    let (given, sink) = ok(rt, outcome);
+    answers(rt, given, Err(fault));
+    are(rt, sink.as_slice(), &[0x99]);
 }
 
 // It is refused.
@@ -322,15 +310,21 @@ fn printed(alloc: Global, fault: Fault) -> Result<String, Fault> {
     Ok(format!(in alloc; "{fault}")?)
 }
 
+// Its number, and what is printed of it.
+fn check_fault(rt: &impl Abort, alloc: Global, fault: Fault, number: u8, text: &str) {
+    assert!(rt; fault.number() == number);
+    assert!(rt; ok(rt, printed(alloc, fault)).as_str() == text);
+}
+
 #[test]
-fn faults(rt: HostRuntime) -> Result<(), Fail> {
+fn faults(rt: HostRuntime) {
     assert!(rt; Fault::from(AllocError) == Fault::Memory(AllocError));
     for (fault, number, text) in FAULTS {
-        assert!(rt; fault.number() == *number);
-        assert!(rt; printed(rt.alloc(), *fault)?.as_str() == *text);
+        check_fault(&rt, rt.alloc(), *fault, *number, text);
     }
-    Ok(())
 }
+
+const THREE_VALUES: &[u8] = &[0x2a, 0x80, 0x01, 0xbf, 0x7f];
 
 // A byte, and two numbers.
 #[tactic(auto, unfolding(wenc_base::specs::Number::groups))]
@@ -349,11 +343,10 @@ fn extended(alloc: Global) -> Result<Vec<u8>, Fault> {
 }
 
 #[test]
-fn without_memory(rt: HostRuntime) -> Result<(), Fail> {
-    are(&rt, short().as_slice(), &[0x2a, 0x80, 0x01, 0xbf, 0x7f]);
-    let sink = extended(rt.alloc())?;
-    are(&rt, sink.as_slice(), &[0x2a, 0x80, 0x01, 0xbf, 0x7f]);
-    Ok(())
+fn without_memory(rt: HostRuntime) {
+    are(&rt, short().as_slice(), THREE_VALUES);
+    let sink = ok(&rt, extended(rt.alloc()));
+    are(&rt, sink.as_slice(), THREE_VALUES);
 }
 
 fn append_section(section: &CustomSection, sink: &mut Vec<u8>) -> Result<(), Fault> {
@@ -362,13 +355,12 @@ fn append_section(section: &CustomSection, sink: &mut Vec<u8>) -> Result<(), Fau
 
 // A section of a core module: its id, its size, its name, no data.
 #[test]
-fn core_section(rt: HostRuntime) -> Result<(), Fail> {
-    let mut sink = behind(rt.alloc(), &[])?;
+fn core_section(rt: HostRuntime) {
+    let mut sink = ok(&rt, behind(rt.alloc(), &[]));
     let section = CustomSection {
         name: "x",
         data: &[],
     };
-    append_section(&section, &mut sink)?;
+    ok(&rt, append_section(&section, &mut sink));
     are(&rt, sink.as_slice(), &[0x99, 0x00, 0x02, 0x01, 0x78]);
-    Ok(())
 }

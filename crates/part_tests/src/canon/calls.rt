@@ -90,12 +90,13 @@ pub enum Function<'a> {
 
 impl<'a, 'b> Adds<Functions<'a>> for Function<'b> {
     fn add(&self, to: &mut Functions<'a>) -> Result<(), Fault> {
+        let functions = &mut to.0;
         match self {
-            Function::Lift(function, ty, options) => lift(&mut to.0, *function, *ty, options),
-            Function::Lower(function, options) => lower(&mut to.0, *function, options),
-            Function::ResourceNew(ty) => to.0.resource_new(*ty),
-            Function::ResourceDrop(ty) => to.0.resource_drop(*ty),
-            Function::ResourceRep(ty) => to.0.resource_rep(*ty),
+            Function::Lift(function, ty, options) => lift(functions, *function, *ty, options),
+            Function::Lower(function, options) => lower(functions, *function, options),
+            Function::ResourceNew(ty) => functions.resource_new(*ty),
+            Function::ResourceDrop(ty) => functions.resource_drop(*ty),
+            Function::ResourceRep(ty) => functions.resource_rep(*ty),
         }
     }
 }
@@ -115,15 +116,16 @@ pub enum Task<'a> {
 
 impl<'a, 'b> Adds<Functions<'a>> for Task<'b> {
     fn add(&self, to: &mut Functions<'a>) -> Result<(), Fault> {
+        let functions = &mut to.0;
         match self {
-            Task::BackpressureInc => to.0.backpressure_inc(),
-            Task::BackpressureDec => to.0.backpressure_dec(),
-            Task::Return(ty, options) => task_return(&mut to.0, *ty, options),
-            Task::Cancel => to.0.task_cancel(),
-            Task::ContextGet(ty, slot) => to.0.context_get(*ty, *slot),
-            Task::ContextSet(ty, slot) => to.0.context_set(*ty, *slot),
-            Task::SubtaskDrop => to.0.subtask_drop(),
-            Task::SubtaskCancel(waits) => to.0.subtask_cancel(*waits),
+            Task::BackpressureInc => functions.backpressure_inc(),
+            Task::BackpressureDec => functions.backpressure_dec(),
+            Task::Return(ty, options) => task_return(functions, *ty, options),
+            Task::Cancel => functions.task_cancel(),
+            Task::ContextGet(ty, slot) => functions.context_get(*ty, *slot),
+            Task::ContextSet(ty, slot) => functions.context_set(*ty, *slot),
+            Task::SubtaskDrop => functions.subtask_drop(),
+            Task::SubtaskCancel(waits) => functions.subtask_cancel(*waits),
         }
     }
 }
@@ -143,15 +145,16 @@ pub enum Stream<'a> {
 
 impl<'a, 'b> Adds<Functions<'a>> for Stream<'b> {
     fn add(&self, to: &mut Functions<'a>) -> Result<(), Fault> {
+        let functions = &mut to.0;
         match self {
-            Stream::New(ty) => to.0.stream_new(*ty),
-            Stream::Read(ty, options) => stream_read(&mut to.0, *ty, options),
-            Stream::Write(ty, options) => stream_write(&mut to.0, *ty, options),
-            Stream::Forward(ty) => to.0.stream_forward(*ty),
-            Stream::CancelRead(ty, waits) => to.0.stream_cancel_read(*ty, *waits),
-            Stream::CancelWrite(ty, waits) => to.0.stream_cancel_write(*ty, *waits),
-            Stream::DropReadable(ty) => to.0.stream_drop_readable(*ty),
-            Stream::DropWritable(ty) => to.0.stream_drop_writable(*ty),
+            Stream::New(ty) => functions.stream_new(*ty),
+            Stream::Read(ty, options) => stream_read(functions, *ty, options),
+            Stream::Write(ty, options) => stream_write(functions, *ty, options),
+            Stream::Forward(ty) => functions.stream_forward(*ty),
+            Stream::CancelRead(ty, waits) => functions.stream_cancel_read(*ty, *waits),
+            Stream::CancelWrite(ty, waits) => functions.stream_cancel_write(*ty, *waits),
+            Stream::DropReadable(ty) => functions.stream_drop_readable(*ty),
+            Stream::DropWritable(ty) => functions.stream_drop_writable(*ty),
         }
     }
 }
@@ -171,15 +174,16 @@ pub enum Future<'a> {
 
 impl<'a, 'b> Adds<Functions<'a>> for Future<'b> {
     fn add(&self, to: &mut Functions<'a>) -> Result<(), Fault> {
+        let functions = &mut to.0;
         match self {
-            Future::New(ty) => to.0.future_new(*ty),
-            Future::Read(ty, options) => future_read(&mut to.0, *ty, options),
-            Future::Write(ty, options) => future_write(&mut to.0, *ty, options),
-            Future::Forward(ty) => to.0.future_forward(*ty),
-            Future::CancelRead(ty, waits) => to.0.future_cancel_read(*ty, *waits),
-            Future::CancelWrite(ty, waits) => to.0.future_cancel_write(*ty, *waits),
-            Future::DropReadable(ty) => to.0.future_drop_readable(*ty),
-            Future::DropWritable(ty) => to.0.future_drop_writable(*ty),
+            Future::New(ty) => functions.future_new(*ty),
+            Future::Read(ty, options) => future_read(functions, *ty, options),
+            Future::Write(ty, options) => future_write(functions, *ty, options),
+            Future::Forward(ty) => functions.future_forward(*ty),
+            Future::CancelRead(ty, waits) => functions.future_cancel_read(*ty, *waits),
+            Future::CancelWrite(ty, waits) => functions.future_cancel_write(*ty, *waits),
+            Future::DropReadable(ty) => functions.future_drop_readable(*ty),
+            Future::DropWritable(ty) => functions.future_drop_writable(*ty),
         }
     }
 }
@@ -199,17 +203,18 @@ pub enum Waitable<'a> {
 
 impl<'a, 'b> Adds<Functions<'a>> for Waitable<'b> {
     fn add(&self, to: &mut Functions<'a>) -> Result<(), Fault> {
+        let functions = &mut to.0;
         match self {
-            Waitable::ErrorContextNew(options) => error_context_new(&mut to.0, options),
+            Waitable::ErrorContextNew(options) => error_context_new(functions, options),
             Waitable::ErrorContextDebugMessage(options) => {
-                error_context_debug_message(&mut to.0, options)
+                error_context_debug_message(functions, options)
             }
-            Waitable::ErrorContextDrop => to.0.error_context_drop(),
-            Waitable::SetNew => to.0.waitable_set_new(),
-            Waitable::SetWait(memory) => to.0.waitable_set_wait(*memory),
-            Waitable::SetPoll(memory) => to.0.waitable_set_poll(*memory),
-            Waitable::SetDrop => to.0.waitable_set_drop(),
-            Waitable::Join => to.0.waitable_join(),
+            Waitable::ErrorContextDrop => functions.error_context_drop(),
+            Waitable::SetNew => functions.waitable_set_new(),
+            Waitable::SetWait(memory) => functions.waitable_set_wait(*memory),
+            Waitable::SetPoll(memory) => functions.waitable_set_poll(*memory),
+            Waitable::SetDrop => functions.waitable_set_drop(),
+            Waitable::Join => functions.waitable_join(),
         }
     }
 }
@@ -233,19 +238,20 @@ pub enum Thread {
 
 impl<'a> Adds<Functions<'a>> for Thread {
     fn add(&self, to: &mut Functions<'a>) -> Result<(), Fault> {
+        let functions = &mut to.0;
         match self {
-            Thread::SpawnRef(ty) => to.0.thread_spawn_ref(*ty),
-            Thread::SpawnIndirect(ty, table) => to.0.thread_spawn_indirect(*ty, *table),
-            Thread::AvailableParallelism => to.0.thread_available_parallelism(),
-            Thread::Index => to.0.thread_index(),
-            Thread::NewIndirect(ty, table) => to.0.thread_new_indirect(*ty, *table),
-            Thread::ResumeLater => to.0.thread_resume_later(),
-            Thread::Suspend => to.0.thread_suspend(),
-            Thread::Yield => to.0.thread_yield(),
-            Thread::SuspendThenResume => to.0.thread_suspend_then_resume(),
-            Thread::YieldThenResume => to.0.thread_yield_then_resume(),
-            Thread::SuspendThenPromote => to.0.thread_suspend_then_promote(),
-            Thread::YieldThenPromote => to.0.thread_yield_then_promote(),
+            Thread::SpawnRef(ty) => functions.thread_spawn_ref(*ty),
+            Thread::SpawnIndirect(ty, table) => functions.thread_spawn_indirect(*ty, *table),
+            Thread::AvailableParallelism => functions.thread_available_parallelism(),
+            Thread::Index => functions.thread_index(),
+            Thread::NewIndirect(ty, table) => functions.thread_new_indirect(*ty, *table),
+            Thread::ResumeLater => functions.thread_resume_later(),
+            Thread::Suspend => functions.thread_suspend(),
+            Thread::Yield => functions.thread_yield(),
+            Thread::SuspendThenResume => functions.thread_suspend_then_resume(),
+            Thread::YieldThenResume => functions.thread_yield_then_resume(),
+            Thread::SuspendThenPromote => functions.thread_suspend_then_promote(),
+            Thread::YieldThenPromote => functions.thread_yield_then_promote(),
         }
     }
 }

@@ -2,13 +2,13 @@
 
 use crate::canon::calls::{Call, Function, Task};
 use crate::canon::rows::row;
+use crate::parts::texts::text_is;
+use crate::swept::check_each;
 use refusing::Refusing;
 use std::alloc::Global;
 use std::process::Abort;
-use std::test::Fail;
-use sweeping::hexed::text;
-use sweeping::{LARGE, sweep_each};
-use wenc_base::{AbstractHeapType, Fault, HeapType, RefType, ValType};
+use sweeping::LARGE;
+use wenc_base::{AbstractHeapType, HeapType, RefType, ValType};
 use wenc_canon::CanonicalOption;
 
 /// Each option, and its text: alone, and as the option of a row.
@@ -43,18 +43,6 @@ const LARGE_OPTIONS: &[CanonicalOption] = &[
     CanonicalOption::Gc,
 ];
 
-/// The option has this text.
-fn is_text(
-    rt: &impl Abort,
-    alloc: Global,
-    option: &CanonicalOption,
-    wanted: &str,
-) -> Result<(), Fault> {
-    let bytes = text(alloc, option)?;
-    assert!(rt; bytes.as_str() == wanted);
-    Ok(())
-}
-
 /// The row of a function that is lowered with these options.
 fn lowered(
     rt: &impl Abort,
@@ -62,25 +50,24 @@ fn lowered(
     heap: &Refusing,
     options: &[CanonicalOption],
     wanted: &str,
-) -> Result<(), Fault> {
+) {
     let call = Call::Function(Function::Lower(0, options));
-    row(rt, alloc, heap, call, wanted)
+    row(rt, alloc, heap, call, wanted);
 }
 
 #[test]
-fn each_option_is_written(rt: HostRuntime) -> Result<(), Fail> {
-    let heap = Refusing::new(rt.alloc());
+fn each_option_is_written(rt: HostRuntime) {
+    let alloc = rt.alloc();
+    let heap = Refusing::new(alloc);
     for (option, alone, wanted) in OPTIONS {
-        is_text(&rt, rt.alloc(), option, alone)?;
-        lowered(&rt, rt.alloc(), &heap, [*option].as_slice(), wanted)?;
+        text_is(&rt, alloc, option, alone);
+        lowered(&rt, alloc, &heap, [*option].as_slice(), wanted);
     }
-    Ok(())
 }
 
 #[test]
-fn options_are_swept(rt: HostRuntime) -> Result<(), Fail> {
-    assert!(rt; sweep_each(rt.alloc(), LARGE_OPTIONS)?);
-    Ok(())
+fn options_are_swept(rt: HostRuntime) {
+    check_each(&rt, rt.alloc(), LARGE_OPTIONS);
 }
 
 const FUNC: HeapType = HeapType::Abstract(AbstractHeapType::Func);
@@ -121,23 +108,15 @@ const TYPES: &[(ValType, &str, &str)] = &[
 ];
 
 /// The rows that get and set a slot of this type.
-fn slot(
-    rt: &impl Abort,
-    alloc: Global,
-    heap: &Refusing,
-    ty: ValType,
-    get: &str,
-    set: &str,
-) -> Result<(), Fault> {
-    row(rt, alloc, heap, Call::Task(Task::ContextGet(ty, 128)), get)?;
-    row(rt, alloc, heap, Call::Task(Task::ContextSet(ty, 128)), set)
+fn slot(rt: &impl Abort, alloc: Global, heap: &Refusing, ty: ValType, get: &str, set: &str) {
+    row(rt, alloc, heap, Call::Task(Task::ContextGet(ty, 128)), get);
+    row(rt, alloc, heap, Call::Task(Task::ContextSet(ty, 128)), set);
 }
 
 #[test]
-fn slots_have_core_value_types(rt: HostRuntime) -> Result<(), Fail> {
+fn slots_have_core_value_types(rt: HostRuntime) {
     let heap = Refusing::new(rt.alloc());
     for (ty, get, set) in TYPES {
-        slot(&rt, rt.alloc(), &heap, *ty, get, set)?;
+        slot(&rt, rt.alloc(), &heap, *ty, get, set);
     }
-    Ok(())
 }

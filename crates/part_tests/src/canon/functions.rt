@@ -1,10 +1,10 @@
 //! Sections of canonical functions whose requests for memory can be refused.
 
+use crate::swept::is_well;
 use refusing::Refusing;
 use std::alloc::Global;
-use std::test::Fail;
 use sweeping::members::{Members, sweep_clones};
-use sweeping::{LARGE, sweep_section};
+use sweeping::{LARGE, ok, sweep_section};
 use wenc_base::{Encode, Fault};
 use wenc_canon::{CanonicalFunctionSection, CanonicalOption};
 use wenc_parts::ComponentSection;
@@ -42,10 +42,9 @@ impl<'a> Members<'a> for Functions<'a> {
 }
 
 #[test]
-fn clones(rt: HostRuntime) -> Result<(), Fail> {
+fn clones(rt: HostRuntime) {
     let heap = Refusing::new(rt.alloc());
-    assert!(rt; sweep_clones::<Functions>(rt.alloc(), &heap, false)?);
-    Ok(())
+    is_well(&rt, sweep_clones::<Functions>(rt.alloc(), &heap, false));
 }
 
 /// Adds a function with numbers of five bytes.
@@ -55,11 +54,10 @@ fn add_long(section: &mut CanonicalFunctionSection) -> Result<(), Fault> {
 
 // With none, with one and with two functions.
 #[test]
-fn sections(rt: HostRuntime) -> Result<(), Fail> {
+fn sections(rt: HostRuntime) {
     let mut section = CanonicalFunctionSection::new(rt.alloc());
     for _ in 0..3 {
-        assert!(rt; sweep_section(rt.alloc(), &section)?);
-        add_long(&mut section)?;
+        is_well(&rt, sweep_section(rt.alloc(), &section));
+        ok(&rt, add_long(&mut section));
     }
-    Ok(())
 }

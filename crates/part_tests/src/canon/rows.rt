@@ -2,14 +2,14 @@
 
 use crate::canon::calls::{Call, Function, Future, Stream, Task, Thread, Waitable};
 use crate::canon::functions::{Functions, LONG};
+use crate::swept::is_well;
 use refusing::Refusing;
 use std::alloc::Global;
 use std::process::Abort;
-use std::test::Fail;
-use sweeping::LARGE;
 use sweeping::hexed::text;
 use sweeping::members::{Adds, Members, sweep_calls};
-use wenc_base::{Fault, ValType};
+use sweeping::{LARGE, ok};
+use wenc_base::ValType;
 use wenc_canon::CanonicalOption;
 use wenc_parts::{ComponentValType, PrimitiveValType};
 
@@ -24,52 +24,33 @@ const WAITS: &[CanonicalOption] = &[CanonicalOption::UTF8, CanonicalOption::Asyn
 const GC: &[CanonicalOption] = &[CanonicalOption::Gc];
 
 /// The section that a call begins.
-fn begun<'a>(heap: &'a Refusing, call: Call<'_>) -> Result<Functions<'a>, Fault> {
-    let mut functions = Functions::empty(heap)?;
-    call.add(&mut functions)?;
-    Ok(functions)
+fn begun<'a>(rt: &impl Abort, heap: &'a Refusing, call: &Call<'_>) -> Functions<'a> {
+    let mut functions = ok(rt, Functions::empty(heap));
+    ok(rt, call.add(&mut functions));
+    functions
 }
 
 /// The section has one row, and these bytes behind its size and this number.
-fn is_row(
-    rt: &impl Abort,
-    alloc: Global,
-    functions: &Functions<'_>,
-    wanted: &str,
-) -> Result<(), Fault> {
+fn is_row(rt: &impl Abort, alloc: Global, functions: &Functions<'_>, wanted: &str) {
     assert!(rt; functions.0.len() == 1);
-    let bytes = text(alloc, &functions.0)?;
-    let bytes = bytes.as_str();
-    assert!(rt; bytes.get(4..6) == Some("01"));
-    assert!(rt; bytes.get(6..) == Some(wanted));
-    Ok(())
+    let bytes = ok(rt, text(alloc, &functions.0));
+    let behind_its_size = bytes.as_str().get(4..).unwrap_or("");
+    assert!(rt; behind_its_size.strip_prefix("01") == Some(wanted));
 }
 
 /// The section that a call begins has these bytes behind its size and its number of rows, which is 1.
-pub fn row(
-    rt: &impl Abort,
-    alloc: Global,
-    heap: &Refusing,
-    call: Call<'_>,
-    wanted: &str,
-) -> Result<(), Fault> {
-    let functions = begun(heap, call)?;
-    is_row(rt, alloc, &functions, wanted)
+pub fn row(rt: &impl Abort, alloc: Global, heap: &Refusing, call: Call<'_>, wanted: &str) {
+    let functions = begun(rt, heap, &call);
+    is_row(rt, alloc, &functions, wanted);
 }
 
 /// Each of these calls adds its row, and each of those is swept.
-fn check(
-    rt: &impl Abort,
-    alloc: Global,
-    rows: &[(Call<'_>, &str)],
-    swept: &[Call<'_>],
-) -> Result<(), Fault> {
+fn check(rt: &impl Abort, alloc: Global, rows: &[(Call<'_>, &str)], swept: &[Call<'_>]) {
     let heap = Refusing::new(alloc);
     for (call, wanted) in rows {
-        row(rt, alloc, &heap, *call, wanted)?;
+        row(rt, alloc, &heap, *call, wanted);
     }
-    assert!(rt; sweep_calls::<Functions, Call>(alloc, &heap, swept)?);
-    Ok(())
+    is_well(rt, sweep_calls::<Functions, Call>(alloc, &heap, swept));
 }
 
 const FUNCTIONS: &[(Call<'static>, &str)] = &[
@@ -95,9 +76,8 @@ const LONG_FUNCTIONS: &[Call<'static>] = &[
 ];
 
 #[test]
-fn functions_and_resources(rt: HostRuntime) -> Result<(), Fail> {
-    check(&rt, rt.alloc(), FUNCTIONS, LONG_FUNCTIONS)?;
-    Ok(())
+fn functions_and_resources(rt: HostRuntime) {
+    check(&rt, rt.alloc(), FUNCTIONS, LONG_FUNCTIONS);
 }
 
 const TASKS: &[(Call<'static>, &str)] = &[
@@ -124,9 +104,8 @@ const LONG_TASKS: &[Call<'static>] = &[
 ];
 
 #[test]
-fn tasks(rt: HostRuntime) -> Result<(), Fail> {
-    check(&rt, rt.alloc(), TASKS, LONG_TASKS)?;
-    Ok(())
+fn tasks(rt: HostRuntime) {
+    check(&rt, rt.alloc(), TASKS, LONG_TASKS);
 }
 
 const STREAMS: &[(Call<'static>, &str)] = &[
@@ -152,9 +131,8 @@ const LONG_STREAMS: &[Call<'static>] = &[
 ];
 
 #[test]
-fn streams(rt: HostRuntime) -> Result<(), Fail> {
-    check(&rt, rt.alloc(), STREAMS, LONG_STREAMS)?;
-    Ok(())
+fn streams(rt: HostRuntime) {
+    check(&rt, rt.alloc(), STREAMS, LONG_STREAMS);
 }
 
 const FUTURES: &[(Call<'static>, &str)] = &[
@@ -180,9 +158,8 @@ const LONG_FUTURES: &[Call<'static>] = &[
 ];
 
 #[test]
-fn futures(rt: HostRuntime) -> Result<(), Fail> {
-    check(&rt, rt.alloc(), FUTURES, LONG_FUTURES)?;
-    Ok(())
+fn futures(rt: HostRuntime) {
+    check(&rt, rt.alloc(), FUTURES, LONG_FUTURES);
 }
 
 const WAITABLES: &[(Call<'static>, &str)] = &[
@@ -212,9 +189,8 @@ const LONG_WAITABLES: &[Call<'static>] = &[
 ];
 
 #[test]
-fn errors_and_waitables(rt: HostRuntime) -> Result<(), Fail> {
-    check(&rt, rt.alloc(), WAITABLES, LONG_WAITABLES)?;
-    Ok(())
+fn errors_and_waitables(rt: HostRuntime) {
+    check(&rt, rt.alloc(), WAITABLES, LONG_WAITABLES);
 }
 
 const THREADS: &[(Call<'static>, &str)] = &[
@@ -248,7 +224,6 @@ const LONG_THREADS: &[Call<'static>] = &[
 ];
 
 #[test]
-fn threads(rt: HostRuntime) -> Result<(), Fail> {
-    check(&rt, rt.alloc(), THREADS, LONG_THREADS)?;
-    Ok(())
+fn threads(rt: HostRuntime) {
+    check(&rt, rt.alloc(), THREADS, LONG_THREADS);
 }

@@ -2,46 +2,34 @@
 
 use crate::canon::calls::{Call, Function, Task, Thread};
 use crate::canon::functions::Functions;
+use crate::parts::texts::text_is;
 use refusing::Refusing;
 use std::alloc::{AllocError, Global};
 use std::process::Abort;
-use std::test::Fail;
-use sweeping::hexed::text;
 use sweeping::members::{Adds, Members};
+use sweeping::ok;
 use wenc_base::{Fault, Holder, ValType};
 use wenc_canon::{CanonicalFunctionSection, CanonicalOption};
 
 /// These are the bytes, in hexadecimal.
-fn are(rt: &impl Abort, alloc: Global, bytes: &[u8], wanted: &str) -> Result<(), Fault> {
-    let text = hex::encode(alloc, bytes)?;
+fn are(rt: &impl Abort, alloc: Global, bytes: &[u8], wanted: &str) {
+    let text = ok(rt, hex::encode(alloc, bytes));
     assert!(rt; text.as_str() == wanted);
-    Ok(())
 }
 
 /// How many rows the section has, whether it has none, and its bytes.
-fn is(
-    rt: &impl Abort,
-    alloc: Global,
-    functions: &Functions<'_>,
-    wanted: &str,
-) -> Result<(), Fault> {
-    let state = functions.state(alloc)?;
-    are(rt, alloc, state.as_slice(), wanted)
+fn is(rt: &impl Abort, alloc: Global, functions: &Functions<'_>, wanted: &str) {
+    let state = ok(rt, functions.state(alloc));
+    are(rt, alloc, state.as_slice(), wanted);
 }
 
 /// With these rows it is this.
-fn is_with(
-    rt: &impl Abort,
-    alloc: Global,
-    heap: &Refusing,
-    calls: &[Call<'_>],
-    wanted: &str,
-) -> Result<(), Fault> {
-    let mut functions = Functions::empty(heap)?;
+fn is_with(rt: &impl Abort, alloc: Global, heap: &Refusing, calls: &[Call<'_>], wanted: &str) {
+    let mut functions = ok(rt, Functions::empty(heap));
     for call in calls {
-        call.add(&mut functions)?;
+        ok(rt, call.add(&mut functions));
     }
-    is(rt, alloc, &functions, wanted)
+    is(rt, alloc, &functions, wanted);
 }
 
 const SECTIONS: &[(&[Call<'static>], &str)] = &[
@@ -62,12 +50,23 @@ const SECTIONS: &[(&[Call<'static>], &str)] = &[
 ];
 
 #[test]
-fn rows_stand_in_their_order(rt: HostRuntime) -> Result<(), Fail> {
+fn rows_stand_in_their_order(rt: HostRuntime) {
     let heap = Refusing::new(rt.alloc());
     for (calls, wanted) in SECTIONS {
-        is_with(&rt, rt.alloc(), &heap, calls, wanted)?;
+        is_with(&rt, rt.alloc(), &heap, calls, wanted);
     }
-    Ok(())
+}
+
+/// With this row too it is this.
+fn grows(
+    rt: &impl Abort,
+    alloc: Global,
+    functions: &mut Functions<'_>,
+    row: Task<'_>,
+    wanted: &str,
+) {
+    ok(rt, row.add(functions));
+    is(rt, alloc, functions, wanted);
 }
 
 /// A section with one row, and its copy, which both go their own way.
@@ -76,38 +75,35 @@ fn both_go_their_own_way(
     alloc: Global,
     source: &mut Functions<'_>,
     copy: &mut Functions<'_>,
-) -> Result<(), Fault> {
-    is(rt, alloc, copy, "01000803010201")?;
-    Task::Cancel.add(copy)?;
-    is(rt, alloc, copy, "0200080402020105")?;
-    is(rt, alloc, source, "01000803010201")?;
-    Task::SubtaskDrop.add(source)?;
-    is(rt, alloc, source, "020008040202010d")?;
-    is(rt, alloc, copy, "0200080402020105")
+) {
+    is(rt, alloc, copy, ONE_RESOURCE);
+    grows(rt, alloc, copy, Task::Cancel, AND_A_CANCEL);
+    is(rt, alloc, source, ONE_RESOURCE);
+    grows(rt, alloc, source, Task::SubtaskDrop, "020008040202010d");
+    is(rt, alloc, copy, AND_A_CANCEL);
 }
 
-fn one_resource<'a>(heap: &'a Refusing) -> Result<Functions<'a>, Fault> {
-    let mut functions = Functions::empty(heap)?;
-    Function::ResourceNew(1).add(&mut functions)?;
-    Ok(functions)
+const ONE_RESOURCE: &str = "01000803010201";
+
+const AND_A_CANCEL: &str = "0200080402020105";
+
+fn one_resource<'a>(rt: &impl Abort, heap: &'a Refusing) -> Functions<'a> {
+    let mut functions = ok(rt, Functions::empty(heap));
+    ok(rt, Function::ResourceNew(1).add(&mut functions));
+    functions
 }
 
 /// A copy of this section, and it, go their own way.
-fn copy_goes_its_own_way(
-    rt: &impl Abort,
-    alloc: Global,
-    source: &mut Functions<'_>,
-) -> Result<(), Fault> {
-    let mut copy = source.again()?;
-    both_go_their_own_way(rt, alloc, source, &mut copy)
+fn copy_goes_its_own_way(rt: &impl Abort, alloc: Global, source: &mut Functions<'_>) {
+    let mut copy = ok(rt, source.again());
+    both_go_their_own_way(rt, alloc, source, &mut copy);
 }
 
 #[test]
-fn clones_go_their_own_way(rt: HostRuntime) -> Result<(), Fail> {
+fn clones_go_their_own_way(rt: HostRuntime) {
     let heap = Refusing::new(rt.alloc());
-    let mut source = one_resource(&heap)?;
-    copy_goes_its_own_way(&rt, rt.alloc(), &mut source)?;
-    Ok(())
+    let mut source = one_resource(&rt, &heap);
+    copy_goes_its_own_way(&rt, rt.alloc(), &mut source);
 }
 
 /// A section behind two bytes that are kept, with a function.
@@ -121,18 +117,6 @@ fn resource_drop(section: &mut CanonicalFunctionSection) -> Result<(), Fault> {
     section.resource_drop(0)
 }
 
-/// The section has this text.
-fn has_text(
-    rt: &impl Abort,
-    alloc: Global,
-    section: &CanonicalFunctionSection,
-    wanted: &str,
-) -> Result<(), Fault> {
-    let bytes = text(alloc, section)?;
-    assert!(rt; bytes.as_str() == wanted);
-    Ok(())
-}
-
 /// What the section's holder is made of: all bytes, how many of them are kept, its number of rows, and whether it is
 /// finished.
 fn parts(section: CanonicalFunctionSection) -> (Vec<u8>, usize, u32, bool) {
@@ -140,23 +124,18 @@ fn parts(section: CanonicalFunctionSection) -> (Vec<u8>, usize, u32, bool) {
 }
 
 /// The holder is finished, with two rows and these bytes, of which two are kept.
-fn gives_back(
-    rt: &impl Abort,
-    alloc: Global,
-    section: CanonicalFunctionSection,
-    wanted: &str,
-) -> Result<(), Fault> {
+fn gives_back(rt: &impl Abort, alloc: Global, section: CanonicalFunctionSection, wanted: &str) {
     let (bytes, kept, count, is_finished) = parts(section);
     assert!(rt; kept == 2 && count == 2 && is_finished);
-    are(rt, alloc, bytes.as_slice(), wanted)
+    are(rt, alloc, bytes.as_slice(), wanted);
 }
 
 #[test]
-fn behind_bytes_that_are_kept(rt: HostRuntime) -> Result<(), Fail> {
-    let mut section = over(rt.alloc())?;
-    has_text(&rt, rt.alloc(), &section, "ee020105")?;
-    resource_drop(&mut section)?;
-    has_text(&rt, rt.alloc(), &section, "ee0402050300")?;
-    gives_back(&rt, rt.alloc(), section, "aabb050300")?;
-    Ok(())
+fn behind_bytes_that_are_kept(rt: HostRuntime) {
+    let alloc = rt.alloc();
+    let mut section = ok(&rt, over(alloc));
+    text_is(&rt, alloc, &section, "ee020105");
+    ok(&rt, resource_drop(&mut section));
+    text_is(&rt, alloc, &section, "ee0402050300");
+    gives_back(&rt, alloc, section, "aabb050300");
 }

@@ -1,11 +1,10 @@
 //! The functions that have options, as trees: their texts, and each request for memory refused in turn.
 
-use std::alloc::{AllocError, Global};
+use crate::swept;
+use std::alloc::Global;
 use std::process::Abort;
-use std::test::Fail;
 use sweeping::hexed::text;
-use sweeping::sweep_encode;
-use wenc_base::Fault;
+use sweeping::ok;
 use wenc_canon::{CanonTree, CanonicalOption};
 use wenc_parts::{ComponentValType, PrimitiveValType};
 
@@ -25,9 +24,9 @@ enum WithOptions {
 
 impl WithOptions {
     /// The function with these options.
-    fn tree(self, alloc: Global, options: &[CanonicalOption]) -> Result<CanonTree, AllocError> {
-        let options = options.to_vec(alloc)?;
-        Ok(match self {
+    fn tree(self, rt: &impl Abort, alloc: Global, options: &[CanonicalOption]) -> CanonTree {
+        let options = ok(rt, options.to_vec(alloc));
+        match self {
             WithOptions::Lift(core_func, ty) => CanonTree::Lift {
                 core_func,
                 ty,
@@ -43,7 +42,7 @@ impl WithOptions {
             WithOptions::ErrorContextDebugMessage => {
                 CanonTree::ErrorContextDebugMessage(options)
             }
-        })
+        }
     }
 }
 
@@ -98,17 +97,11 @@ fn behind<'a>(text: &'a str, front: &str) -> &'a str {
 }
 
 /// The tree has the text of these three, and is swept.
-fn check(
-    rt: &impl Abort,
-    alloc: Global,
-    tree: &CanonTree,
-    wanted: (&str, &str, &str),
-) -> Result<(), Fault> {
-    let bytes = text(alloc, tree)?;
+fn check(rt: &impl Abort, alloc: Global, tree: &CanonTree, wanted: (&str, &str, &str)) {
+    let bytes = ok(rt, text(alloc, tree));
     let rest = behind(behind(bytes.as_str(), "ee"), wanted.0);
     assert!(rt; behind(rest, wanted.1) == wanted.2);
-    assert!(rt; sweep_encode(alloc, tree)?);
-    Ok(())
+    swept::check(rt, alloc, tree);
 }
 
 /// The same of the function with these options.
@@ -118,17 +111,16 @@ fn with_options(
     function: WithOptions,
     options: &[CanonicalOption],
     wanted: (&str, &str, &str),
-) -> Result<(), Fault> {
-    let tree = function.tree(alloc, options)?;
-    check(rt, alloc, &tree, wanted)
+) {
+    let tree = function.tree(rt, alloc, options);
+    check(rt, alloc, &tree, wanted);
 }
 
 #[test]
-fn trees_with_options(rt: HostRuntime) -> Result<(), Fail> {
+fn trees_with_options(rt: HostRuntime) {
     for (function, front, back) in FUNCTIONS {
         for (options, list) in OPTIONS {
-            with_options(&rt, rt.alloc(), *function, options, (front, list, back))?;
+            with_options(&rt, rt.alloc(), *function, options, (front, list, back));
         }
     }
-    Ok(())
 }

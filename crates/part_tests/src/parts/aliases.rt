@@ -1,6 +1,7 @@
 use crate::parts::texts::{text_is, texts};
-use std::alloc::{AllocError, Allocator};
-use std::test::Fail;
+use std::alloc::{AllocError, Allocator, Global};
+use std::process::Abort;
+use sweeping::ok;
 use wenc_base::ExportKind;
 use wenc_parts::{Alias, AliasTree, ComponentExportKind, ComponentOuterAliasKind};
 
@@ -91,13 +92,18 @@ fn outer_tree(kind: ComponentOuterAliasKind, count: u32, index: u32) -> AliasTre
     AliasTree::Outer { kind, count, index }
 }
 
+/// The tree's alias appends this.
+fn tree_is<A: Allocator>(rt: &impl Abort, alloc: Global, tree: AliasTree<A>, wanted: &str) {
+    text_is(rt, alloc, &tree.as_alias(), wanted);
+}
+
 #[test]
 fn outer(rt: HostRuntime) {
     for (kind, count, index, wanted) in OUTER {
         let alias = outer_alias(*kind, *count, *index);
         text_is(&rt, rt.alloc(), &alias, wanted);
         let tree = outer_tree(*kind, *count, *index);
-        text_is(&rt, rt.alloc(), &tree.as_alias(), wanted);
+        tree_is(&rt, rt.alloc(), tree, wanted);
     }
 }
 
@@ -118,11 +124,10 @@ fn tree_of_core_export<A: Allocator>(alloc: A) -> Result<AliasTree<A>, AllocErro
 }
 
 #[test]
-fn trees_of_exports(rt: HostRuntime) -> Result<(), Fail> {
+fn trees_of_exports(rt: HostRuntime) {
     let alloc = rt.alloc();
-    let tree = tree_of_export(alloc)?;
-    text_is(&rt, alloc, &tree.as_alias(), "ee0100000166");
-    let core_tree = tree_of_core_export(&alloc)?;
-    text_is(&rt, alloc, &core_tree.as_alias(), "ee000401000174");
-    Ok(())
+    let tree = ok(&rt, tree_of_export(alloc));
+    tree_is(&rt, alloc, tree, "ee0100000166");
+    let core_tree = ok(&rt, tree_of_core_export(&alloc));
+    tree_is(&rt, alloc, core_tree, "ee000401000174");
 }

@@ -1,9 +1,8 @@
-use crate::parts::texts::{is, text_is};
-use std::alloc::{AllocError, Allocator, Global};
+use crate::parts::texts::text_is;
+use std::alloc::{Allocator, Global};
 use std::borrow::CowStr;
 use std::process::Abort;
-use std::test::Fail;
-use sweeping::hexed::text;
+use sweeping::ok;
 use wenc_base::Fault;
 use wenc_parts::{ComponentExternName, NameTree};
 
@@ -52,30 +51,25 @@ fn lent_names(rt: HostRuntime) {
     }
 }
 
-fn string<A: Allocator>(alloc: A, text: Option<&str>) -> Result<Option<String<A>>, AllocError> {
+fn string<A: Allocator>(rt: &impl Abort, alloc: A, text: Option<&str>) -> Option<String<A>> {
     match text {
-        None => Ok(None),
-        Some(text) => Ok(Some(String::from_str(alloc, text)?)),
+        None => None,
+        Some(text) => Some(ok(rt, String::from_str(alloc, text))),
     }
 }
 
 fn tree<A: Allocator + Copy>(
+    rt: &impl Abort,
     alloc: A,
     name: &str,
     options: Options<'_>,
-) -> Result<NameTree<A>, AllocError> {
-    Ok(NameTree {
-        name: String::from_str(alloc, name)?,
-        implements: string(alloc, options.0)?,
-        version_suffix: string(alloc, options.1)?,
-        external_id: string(alloc, options.2)?,
-    })
-}
-
-// In an allocator that isn't the sink's.
-fn tree_text(alloc: Global, name: &str, options: Options<'_>) -> Result<String, Fault> {
-    let tree = tree(&alloc, name, options)?;
-    text(alloc, &tree.as_name())
+) -> NameTree<A> {
+    NameTree {
+        name: ok(rt, String::from_str(alloc, name)),
+        implements: string(rt, alloc, options.0),
+        version_suffix: string(rt, alloc, options.1),
+        external_id: string(rt, alloc, options.2),
+    }
 }
 
 fn owned<'a>(text: Option<String>) -> Option<CowStr<'a>> {
@@ -94,62 +88,68 @@ fn kept<'a>(tree: NameTree) -> ComponentExternName<'a> {
     }
 }
 
-fn kept_text(alloc: Global, name: &str, options: Options<'_>) -> Result<String, Fault> {
-    text(alloc, &kept(tree(alloc, name, options)?))
-}
-
+// In an allocator that isn't the sink's.
 #[test]
 fn trees(rt: HostRuntime) {
+    let alloc = rt.alloc();
     for (name, options, wanted) in ROWS {
-        is(&rt, tree_text(rt.alloc(), name, *options), wanted);
+        let tree = tree(&rt, &alloc, name, *options);
+        text_is(&rt, alloc, &tree.as_name(), wanted);
     }
 }
 
 #[test]
 fn kept_names(rt: HostRuntime) {
     for (name, options, wanted) in ROWS {
-        is(&rt, kept_text(rt.alloc(), name, *options), wanted);
+        let kept = kept(tree(&rt, rt.alloc(), name, *options));
+        text_is(&rt, rt.alloc(), &kept, wanted);
     }
 }
 
-/// No option is there, and it is written as the name alone.
-fn check_plain(rt: &impl Abort, alloc: Global, name: &ComponentExternName) {
-    assert!(rt; name.implements.is_none());
-    assert!(rt; name.version_suffix.is_none());
-    assert!(rt; name.external_id.is_none());
-    text_is(rt, alloc, name, "ee000166");
+fn has_no_options(name: &ComponentExternName) -> bool {
+    name.implements.is_none() && name.version_suffix.is_none() && name.external_id.is_none()
 }
 
-fn plain_tree(alloc: Global) -> Result<NameTree, AllocError> {
-    Ok(NameTree::from(String::from_str(alloc, "f")?))
+/// No option is there, and it is written as the name alone.
+fn check_plain(rt: &impl Abort, alloc: Global, name: ComponentExternName) {
+    assert!(rt; has_no_options(&name));
+    text_is(rt, alloc, &name, "ee000166");
+}
+
+fn plain_text(rt: &impl Abort, alloc: Global) -> String {
+    ok(rt, String::from_str(alloc, "f"))
 }
 
 #[test]
-fn made_of_text(rt: HostRuntime) -> Result<(), Fail> {
+fn made_of_text(rt: HostRuntime) {
     let alloc = rt.alloc();
-    check_plain(&rt, alloc, &ComponentExternName::from("f"));
-    let string = String::from_str(alloc, "f")?;
-    check_plain(&rt, alloc, &ComponentExternName::from(&string));
-    check_plain(&rt, alloc, &ComponentExternName::from(string));
-    let tree = plain_tree(alloc)?;
-    check_plain(&rt, alloc, &tree.as_name());
-    Ok(())
+    check_plain(&rt, alloc, ComponentExternName::from("f"));
+    let string = plain_text(&rt, alloc);
+    check_plain(&rt, alloc, ComponentExternName::from(&string));
+    check_plain(&rt, alloc, ComponentExternName::from(string));
+    let tree = NameTree::from(plain_text(&rt, alloc));
+    check_plain(&rt, alloc, tree.as_name());
 }
 
-fn with_two_options<'a>(alloc: Global) -> Result<ComponentExternName<'a>, AllocError> {
-    Ok(ComponentExternName {
+fn with_two_options<'a>(rt: &impl Abort, alloc: Global) -> ComponentExternName<'a> {
+    let implements = ok(rt, String::from_str(alloc, "i"));
+    ComponentExternName {
         name: CowStr::Borrowed("a"),
-        implements: Some(CowStr::Owned(String::from_str(alloc, "i")?)),
+        implements: Some(CowStr::Owned(implements)),
         version_suffix: None,
         external_id: Some(CowStr::Borrowed("")),
-    })
+    }
 }
 
 fn copy<'a>(name: &ComponentExternName<'a>) -> Result<ComponentExternName<'a>, Fault> {
     name.clone()
 }
 
-fn are_same(one: &ComponentExternName, other: &ComponentExternName) -> bool {
+/// The names are the same, with their options.
+pub fn are_same<A: Allocator>(
+    one: &ComponentExternName<'_, A>,
+    other: &ComponentExternName<'_, A>,
+) -> bool {
     one.name.as_str() == other.name.as_str()
         && one.implements == other.implements
         && one.version_suffix == other.version_suffix
@@ -157,13 +157,12 @@ fn are_same(one: &ComponentExternName, other: &ComponentExternName) -> bool {
 }
 
 #[test]
-fn cloned(rt: HostRuntime) -> Result<(), Fail> {
-    let name = with_two_options(rt.alloc())?;
-    let other = copy(&name)?;
+fn cloned(rt: HostRuntime) {
+    let name = with_two_options(&rt, rt.alloc());
+    let other = ok(&rt, copy(&name));
     assert!(rt; other.name.as_str() == "a");
     assert!(rt; other.version_suffix.is_none());
     assert!(rt; are_same(&other, &name));
     drop(name);
     text_is(&rt, rt.alloc(), &other, "ee020161020001690200");
-    Ok(())
 }

@@ -1,7 +1,6 @@
 use crate::own::{Light, write_all};
-use crate::parts::texts::texts;
+use crate::parts::texts::{is, texts};
 use std::alloc::Global;
-use std::test::Fail;
 use wenc_base::Fault;
 
 const ALONE: &[(Light, &str)] = &[(Light::Red, "ee72"), (Light::Green, "ee67")];
@@ -30,8 +29,6 @@ fn written(alloc: Global) -> Result<String, Fault> {
 }
 
 #[test]
-fn generic(rt: HostRuntime) -> Result<(), Fail> {
-    let bytes = written(rt.alloc())?;
-    assert!(rt; bytes.as_str() == "ee02726701720000");
-    Ok(())
+fn generic(rt: HostRuntime) {
+    is(&rt, written(rt.alloc()), "ee02726701720000");
 }

@@ -1,8 +1,7 @@
 ghost use Rattle.std.specs.Prelude.{◌∷◌, []};
 
-use crate::parts::texts::texts;
+use crate::parts::texts::{is, texts};
 use std::alloc::{Allocator, Global};
-use std::test::Fail;
 use wenc_base::{Encode, Fault};
 use wenc_parts::{ComponentSection, ComponentSectionId};
 
@@ -77,8 +76,6 @@ fn own_section(alloc: Global) -> Result<String, Fault> {
 }
 
 #[test]
-fn section_of_ones_own(rt: HostRuntime) -> Result<(), Fail> {
-    let bytes = own_section(rt.alloc())?;
-    assert!(rt; bytes.as_str() == "ee632a");
-    Ok(())
+fn section_of_ones_own(rt: HostRuntime) {
+    is(&rt, own_section(rt.alloc()), "ee632a");
 }

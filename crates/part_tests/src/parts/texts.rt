@@ -1,14 +1,12 @@
 use std::alloc::Global;
 use std::process::Abort;
 use sweeping::hexed::text;
+use sweeping::ok;
 use wenc_base::{Encode, Fault};
 
 /// A text was made, and is this one.
 pub fn is(rt: &impl Abort, given: Result<String, Fault>, wanted: &str) {
-    match given {
-        Ok(given) => assert_eq!(rt; given.as_str(), wanted),
-        Err(_) => assert!(rt; false, "no memory"),
-    }
+    assert_eq!(rt; ok(rt, given).as_str(), wanted);
 }
 
 /// The value appends this.

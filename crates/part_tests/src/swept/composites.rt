@@ -1,8 +1,8 @@
-use crate::swept::{check, check_each};
+use crate::swept::{check, check_each, check_made};
 use refusing::Refusing;
 use std::alloc::{Allocator, Global};
-use std::test::Fail;
-use sweeping::{LARGE, REFUSED};
+use std::process::Abort;
+use sweeping::{LARGE, REFUSED, ok};
 use wenc_base::{
     ArrayType, CompositeType, Fault, FieldType, FuncType, GroupTree, HeapType, RefType,
     StorageType, StructType, SubType, ValType,
@@ -28,6 +28,8 @@ const FIELD: FieldType = FieldType {
     mutable: true,
 };
 
+const FIELDS: &[FieldType] = &[FIELD, FIELD, FIELD, FIELD];
+
 fn function<A: Allocator + Copy>(
     alloc: A,
     params: &[ValType],
@@ -36,18 +38,18 @@ fn function<A: Allocator + Copy>(
     FuncType::new(alloc, params.iter().copied(), results.iter().copied())
 }
 
-fn structure(alloc: Global) -> Result<StructType, Fault> {
-    Ok(StructType {
-        fields: [FIELD, FIELD, FIELD, FIELD].to_vec(alloc)?,
-    })
+fn structure(rt: &impl Abort, alloc: Global) -> StructType {
+    StructType {
+        fields: ok(rt, FIELDS.to_vec(alloc)),
+    }
 }
 
-fn composite_function(alloc: Global) -> Result<CompositeType, Fault> {
-    Ok(CompositeType::Func(function(alloc, PARAMS, RESULTS)?))
+fn composite_function(rt: &impl Abort, alloc: Global) -> CompositeType {
+    CompositeType::Func(ok(rt, function(alloc, PARAMS, RESULTS)))
 }
 
-fn composite_structure(alloc: Global) -> Result<CompositeType, Fault> {
-    Ok(CompositeType::Struct(structure(alloc)?))
+fn composite_structure(rt: &impl Abort, alloc: Global) -> CompositeType {
+    CompositeType::Struct(structure(rt, alloc))
 }
 
 /// In the short spelling, and in each of the long ones.
@@ -58,21 +60,24 @@ const SUB_TYPES: &[(bool, Option<u32>)] = &[
     (false, Some(LARGE)),
 ];
 
-fn sub_type(alloc: Global, is_final: bool, supertype_idx: Option<u32>) -> Result<SubType, Fault> {
-    let composite_type = composite_function(alloc)?;
-    Ok(SubType {
-        is_final,
-        supertype_idx,
-        composite_type,
-    })
+fn sub_type(rt: &impl Abort, alloc: Global, row: &(bool, Option<u32>)) -> SubType {
+    SubType {
+        is_final: row.0,
+        supertype_idx: row.1,
+        composite_type: composite_function(rt, alloc),
+    }
 }
 
-fn each_sub_type(alloc: Global) -> Result<Vec<SubType>, Fault> {
+fn add_sub_type(rt: &impl Abort, types: &mut Vec<SubType>, ty: SubType) {
+    ok(rt, types.push(ty));
+}
+
+fn each_sub_type(rt: &impl Abort, alloc: Global) -> Vec<SubType> {
     let mut types = Vec::new(alloc);
-    for (is_final, supertype_idx) in SUB_TYPES {
-        types.push(sub_type(alloc, *is_final, *supertype_idx)?)?;
+    for row in SUB_TYPES {
+        add_sub_type(rt, &mut types, sub_type(rt, alloc, row));
     }
-    Ok(types)
+    types
 }
 
 const STORAGES: &[StorageType] = &[
@@ -88,48 +93,40 @@ fn fields(rt: HostRuntime) {
 }
 
 #[test]
-fn parts_of_composites(rt: HostRuntime) -> Result<(), Fail> {
-    check(&rt, rt.alloc(), &ArrayType(FIELD));
-    check(&rt, rt.alloc(), &function(rt.alloc(), PARAMS, RESULTS)?);
-    check(&rt, rt.alloc(), &structure(rt.alloc())?);
-    Ok(())
+fn parts_of_composites(rt: HostRuntime) {
+    let alloc = rt.alloc();
+    check(&rt, alloc, &ArrayType(FIELD));
+    check_made(&rt, alloc, ok(&rt, function(alloc, PARAMS, RESULTS)));
+    check_made(&rt, alloc, structure(&rt, alloc));
 }
 
 #[test]
-fn composite_types(rt: HostRuntime) -> Result<(), Fail> {
+fn composite_types(rt: HostRuntime) {
+    let alloc = rt.alloc();
     let array: CompositeType = CompositeType::Array(ArrayType(FIELD));
-    check(&rt, rt.alloc(), &array);
-    check(&rt, rt.alloc(), &composite_function(rt.alloc())?);
-    check(&rt, rt.alloc(), &composite_structure(rt.alloc())?);
-    Ok(())
+    check_made(&rt, alloc, array);
+    check_made(&rt, alloc, composite_function(&rt, alloc));
+    check_made(&rt, alloc, composite_structure(&rt, alloc));
 }
 
 // By themselves, and behind a reference.
 #[test]
-fn sub_types(rt: HostRuntime) -> Result<(), Fail> {
-    let types = each_sub_type(rt.alloc())?;
+fn sub_types(rt: HostRuntime) {
+    let alloc = rt.alloc();
+    let types = each_sub_type(&rt, alloc);
     for ty in types.as_slice() {
-        check(&rt, rt.alloc(), ty);
-        check(&rt, rt.alloc(), &ty);
+        check(&rt, alloc, ty);
+        check(&rt, alloc, &ty);
     }
-    Ok(())
-}
-
-fn group_of_one(alloc: Global, row: &(bool, Option<u32>)) -> Result<GroupTree, Fault> {
-    Ok(GroupTree::Sub(sub_type(alloc, row.0, row.1)?))
-}
-
-fn group(alloc: Global) -> Result<GroupTree, Fault> {
-    Ok(GroupTree::Rec(each_sub_type(alloc)?))
 }
 
 #[test]
-fn groups(rt: HostRuntime) -> Result<(), Fail> {
-    check(&rt, rt.alloc(), &group(rt.alloc())?);
+fn groups(rt: HostRuntime) {
+    let alloc = rt.alloc();
+    check_made(&rt, alloc, GroupTree::Rec(each_sub_type(&rt, alloc)));
     for row in SUB_TYPES {
-        check(&rt, rt.alloc(), &group_of_one(rt.alloc(), row)?);
+        check_made(&rt, alloc, GroupTree::Sub(sub_type(&rt, alloc, row)));
     }
-    Ok(())
 }
 
 /// It has these types, or it was refused for the memory that was.

@@ -59,10 +59,11 @@ const MEMORIES: &[MemoryType] = &[MEMORY, BOUNDED_MEMORY];
 
 #[test]
 fn parts_of_entities(rt: HostRuntime) {
-    check_each(&rt, rt.alloc(), TABLES);
-    check_each(&rt, rt.alloc(), MEMORIES);
-    check(&rt, rt.alloc(), &GLOBAL);
-    check(&rt, rt.alloc(), &TAG);
+    let alloc = rt.alloc();
+    check_each(&rt, alloc, TABLES);
+    check_each(&rt, alloc, MEMORIES);
+    check(&rt, alloc, &GLOBAL);
+    check(&rt, alloc, &TAG);
 }
 
 const ENTITIES: &[EntityType] = &[

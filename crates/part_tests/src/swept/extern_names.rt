@@ -1,8 +1,10 @@
+use crate::parts::names::are_same;
+use crate::swept::check_made;
 use refusing::Refusing;
 use std::alloc::AllocError;
 use std::borrow::CowStr;
-use std::test::Fail;
-use sweeping::{NAME, REFUSED, sweep_each, sweep_encode};
+use std::process::Abort;
+use sweeping::{NAME, REFUSED, ok};
 use wenc_parts::ComponentExternName;
 
 /// A name with each option.
@@ -16,26 +18,26 @@ fn named<'a>(name: &'a str) -> ComponentExternName<'a> {
 }
 
 #[test]
-fn names(rt: HostRuntime) -> Result<(), Fail> {
-    assert!(rt; sweep_encode(rt.alloc(), &ComponentExternName::from(NAME))?);
-    let optioned = [named(NAME), named("n")];
-    assert!(rt; sweep_each(rt.alloc(), optioned.as_slice())?);
-    Ok(())
+fn names(rt: HostRuntime) {
+    let alloc = rt.alloc();
+    check_made(&rt, alloc, ComponentExternName::from(NAME));
+    check_made(&rt, alloc, named(NAME));
+    check_made(&rt, alloc, named("n"));
 }
 
 type Kept<'a> = ComponentExternName<'a, &'a Refusing>;
 
-fn owned<'a>(heap: &'a Refusing) -> Result<CowStr<'a, &'a Refusing>, AllocError> {
-    Ok(CowStr::Owned(String::from_str(heap, NAME)?))
+fn owned<'a>(rt: &impl Abort, heap: &'a Refusing) -> CowStr<'a, &'a Refusing> {
+    CowStr::Owned(ok(rt, String::from_str(heap, NAME)))
 }
 
-fn owned_name<'a>(heap: &'a Refusing) -> Result<Kept<'a>, AllocError> {
-    Ok(ComponentExternName {
-        name: owned(heap)?,
-        implements: Some(owned(heap)?),
-        version_suffix: Some(owned(heap)?),
-        external_id: Some(owned(heap)?),
-    })
+fn owned_name<'a>(rt: &impl Abort, heap: &'a Refusing) -> Kept<'a> {
+    ComponentExternName {
+        name: owned(rt, heap),
+        implements: Some(owned(rt, heap)),
+        version_suffix: Some(owned(rt, heap)),
+        external_id: Some(owned(rt, heap)),
+    }
 }
 
 /// Whether a copy's request number `n` is refused and leaves the name as it was.
@@ -45,27 +47,31 @@ fn is_refused<'a>(heap: &'a Refusing, name: &Kept<'a>, n: u64) -> bool {
     outcome.err() == Some(REFUSED) && heap.requests() == n && name.name.as_str() == NAME
 }
 
+/// Each request of a copy is refused.
+fn refuse_each<'a>(rt: &impl Abort, heap: &'a Refusing, name: &Kept<'a>) {
+    for n in 1..5u64 {
+        assert!(rt; is_refused(heap, name, n), "{n}");
+    }
+}
+
 // A copy takes memory for each text that is owned.
 #[test]
-fn refused_copies(rt: HostRuntime) -> Result<(), Fail> {
+fn refused_copies(rt: HostRuntime) {
     let heap = Refusing::new(rt.alloc());
-    let name = owned_name(&heap)?;
-    for n in 1..5u64 {
-        assert!(rt; is_refused(&heap, &name, n), "{n}");
-    }
-    Ok(())
+    refuse_each(&rt, &heap, &owned_name(&rt, &heap));
+}
+
+/// A copy makes four requests, and is the same.
+fn is_copied<'a>(rt: &impl Abort, heap: &'a Refusing, name: &Kept<'a>) {
+    heap.refuse_nth(5);
+    let copy = ok(rt, name.clone());
+    assert!(rt; heap.requests() == 4);
+    assert!(rt; copy.name.as_str() == NAME);
+    assert!(rt; are_same(&copy, name));
 }
 
 #[test]
-fn copies(rt: HostRuntime) -> Result<(), Fail> {
+fn copies(rt: HostRuntime) {
     let heap = Refusing::new(rt.alloc());
-    let name = owned_name(&heap)?;
-    heap.refuse_nth(5);
-    let copy = name.clone()?;
-    assert_eq!(rt; heap.requests(), 4);
-    assert_eq!(rt; copy.name.as_str(), NAME);
-    assert!(rt; copy.implements == name.implements);
-    assert!(rt; copy.version_suffix == name.version_suffix);
-    assert!(rt; copy.external_id == name.external_id);
-    Ok(())
+    is_copied(&rt, &heap, &owned_name(&rt, &heap));
 }

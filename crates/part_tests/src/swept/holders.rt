@@ -1,9 +1,8 @@
 use crate::swept::{check, check_call, is_well};
 use refusing::Refusing;
 use std::alloc::{Allocator, Global};
-use std::test::Fail;
 use sweeping::members::{Adds, Members, sweep_calls, sweep_clones};
-use sweeping::{Appends, LARGE, TEXT};
+use sweeping::{Appends, LARGE, TEXT, ok};
 use wenc_base::{Encode, Fault, Holder, Verbatim};
 
 /// A holder of whole members.
@@ -66,7 +65,7 @@ fn add_listed(holder: &mut Swept) -> Result<(), Fault> {
     holder.add_listed(&LARGE, LISTED.iter().copied(), &TEXT)
 }
 
-fn open(holder: &mut Swept) -> Result<(), Fault> {
+pub fn open(holder: &mut Swept) -> Result<(), Fault> {
     holder.open(TEXT)
 }
 
@@ -95,20 +94,14 @@ const MEMBERS: &[Member] = &[
     Member::KeptInFront,
 ];
 
-fn sweep_members(alloc: Global) -> Result<bool, Fault> {
-    let heap = Refusing::new(alloc);
-    sweep_calls::<Whole, Member>(alloc, &heap, MEMBERS)
-}
-
-fn sweep_copies(alloc: Global) -> Result<bool, Fault> {
-    let heap = Refusing::new(alloc);
-    sweep_clones::<Whole>(alloc, &heap, false)
-}
-
 #[test]
 fn added_and_copied_members(rt: HostRuntime) {
-    is_well(&rt, sweep_members(rt.alloc()));
-    is_well(&rt, sweep_copies(rt.alloc()));
+    let heap = Refusing::new(rt.alloc());
+    is_well(
+        &rt,
+        sweep_calls::<Whole, Member>(rt.alloc(), &heap, MEMBERS),
+    );
+    is_well(&rt, sweep_clones::<Whole>(rt.alloc(), &heap, false));
 }
 
 /// A holder's section.
@@ -127,12 +120,12 @@ fn add(holder: &mut Holder) -> Result<(), Fault> {
 
 // With none, with one and with two members.
 #[test]
-fn sections(rt: HostRuntime) -> Result<(), Fail> {
-    let mut holder = Holder::new(rt.alloc());
+fn sections(rt: HostRuntime) {
+    let alloc = rt.alloc();
+    let mut holder = Holder::new(alloc);
     for _ in 0..3 {
-        check_call(&rt, rt.alloc(), &Counted(&holder));
-        check(&rt, rt.alloc(), &holder);
-        add(&mut holder)?;
+        check_call(&rt, alloc, &Counted(&holder));
+        check(&rt, alloc, &holder);
+        ok(&rt, add(&mut holder));
     }
-    Ok(())
 }

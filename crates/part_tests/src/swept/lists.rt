@@ -19,9 +19,10 @@ fn lists(rt: HostRuntime) {
 
 #[test]
 fn lists_in_others(rt: HostRuntime) {
-    check(&rt, rt.alloc(), &(NUMBERS, TEXTS));
-    check(&rt, rt.alloc(), &(TEXTS, NUMBERS));
-    check(&rt, rt.alloc(), &TWICE);
+    let alloc = rt.alloc();
+    check(&rt, alloc, &(NUMBERS, TEXTS));
+    check(&rt, alloc, &(TEXTS, NUMBERS));
+    check(&rt, alloc, &TWICE);
 }
 
 #[derive(Clone, Copy)]

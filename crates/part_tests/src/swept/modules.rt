@@ -1,7 +1,7 @@
 ghost use Rattle.wenc_base.specs.Fault.{text_cause};
 ghost use Rattle.wenc_base.specs.Forms.{name};
 
-use crate::swept::{check_call, is_well};
+use crate::swept::{bytes, check_call, is_well};
 use refusing::Refusing;
 use std::alloc::{Allocator, Global};
 use sweeping::members::{Adds, Members, sweep_calls, sweep_clones, sweep_new};
@@ -34,13 +34,14 @@ const DATA: &[&[u8]] = &[&[], TEXT];
 
 #[test]
 fn raw_sections(rt: HostRuntime) {
+    let alloc = rt.alloc();
     for data in DATA {
         let custom = RawCustomSection(data);
-        is_well(&rt, sweep_section(rt.alloc(), &custom));
-        check_call(&rt, rt.alloc(), &InModule(&custom));
+        is_well(&rt, sweep_section(alloc, &custom));
+        check_call(&rt, alloc, &InModule(&custom));
         let raw = RawSection { id: 12, data };
-        is_well(&rt, sweep_section(rt.alloc(), &raw));
-        check_call(&rt, rt.alloc(), &InModule(&raw));
+        is_well(&rt, sweep_section(alloc, &raw));
+        check_call(&rt, alloc, &InModule(&raw));
     }
 }
 
@@ -84,9 +85,7 @@ impl<'a> Members<'a> for Sections<'a> {
     }
 
     fn state(&self, alloc: Global) -> Result<Vec<u8>, Fault> {
-        let mut state = Vec::new(alloc);
-        self.0.as_slice().encode(&mut state)?;
-        Ok(state)
+        bytes(alloc, &self.0.as_slice())
     }
 }
 
@@ -96,26 +95,13 @@ impl<'a, 'b> Adds<Sections<'a>> for Own<'b> {
     }
 }
 
-fn sweep_new_modules(alloc: Global) -> Result<bool, Fault> {
-    let heap = Refusing::new(alloc);
-    sweep_new::<Sections>(alloc, &heap)
-}
-
 const OWN: &[Own<'static>] = &[Own(""), Own(NAME)];
-
-fn sweep_sections(alloc: Global) -> Result<bool, Fault> {
-    let heap = Refusing::new(alloc);
-    sweep_calls::<Sections, Own>(alloc, &heap, OWN)
-}
-
-fn sweep_copies(alloc: Global) -> Result<bool, Fault> {
-    let heap = Refusing::new(alloc);
-    sweep_clones::<Sections>(alloc, &heap, true)
-}
 
 #[test]
 fn modules(rt: HostRuntime) {
-    is_well(&rt, sweep_new_modules(rt.alloc()));
-    is_well(&rt, sweep_sections(rt.alloc()));
-    is_well(&rt, sweep_copies(rt.alloc()));
+    let alloc = rt.alloc();
+    let heap = Refusing::new(alloc);
+    is_well(&rt, sweep_new::<Sections>(alloc, &heap));
+    is_well(&rt, sweep_calls::<Sections, Own>(alloc, &heap, OWN));
+    is_well(&rt, sweep_clones::<Sections>(alloc, &heap, true));
 }

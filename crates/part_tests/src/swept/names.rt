@@ -1,10 +1,9 @@
-use crate::swept::{check, is_well};
+use crate::swept::{bytes, check, is_well};
 use refusing::Refusing;
 use std::alloc::Global;
-use std::test::Fail;
 use sweeping::members::{Adds, Members, sweep_calls, sweep_clones};
-use sweeping::{LARGE, NAME};
-use wenc_base::{Encode, Fault, NameMap};
+use sweeping::{LARGE, NAME, ok};
+use wenc_base::{Fault, Lent, NameMap};
 
 /// Names of items.
 #[derive(Drop)]
@@ -24,10 +23,8 @@ impl<'a> Members<'a> for Names<'a> {
     }
 
     fn state(&self, alloc: Global) -> Result<Vec<u8>, Fault> {
-        let mut state = Vec::new(alloc);
-        (self.0.size(), (self.0.len(), self.0.is_empty())).encode(&mut state)?;
-        self.0.encode(&mut state)?;
-        Ok(state)
+        let counts = (self.0.size(), (self.0.len(), self.0.is_empty()));
+        bytes(alloc, &(counts, Lent(&self.0)))
     }
 }
 
@@ -43,20 +40,11 @@ impl<'a, 'b> Adds<Names<'a>> for Named<'b> {
 
 const NAMED: &[Named<'static>] = &[Named(0, ""), Named(LARGE, ""), Named(7, NAME)];
 
-fn sweep_names(alloc: Global) -> Result<bool, Fault> {
-    let heap = Refusing::new(alloc);
-    sweep_calls::<Names, Named>(alloc, &heap, NAMED)
-}
-
-fn sweep_copies(alloc: Global) -> Result<bool, Fault> {
-    let heap = Refusing::new(alloc);
-    sweep_clones::<Names>(alloc, &heap, false)
-}
-
 #[test]
 fn added_and_copied_names(rt: HostRuntime) {
-    is_well(&rt, sweep_names(rt.alloc()));
-    is_well(&rt, sweep_copies(rt.alloc()));
+    let heap = Refusing::new(rt.alloc());
+    is_well(&rt, sweep_calls::<Names, Named>(rt.alloc(), &heap, NAMED));
+    is_well(&rt, sweep_clones::<Names>(rt.alloc(), &heap, false));
 }
 
 fn append(names: &mut NameMap, name: &str) -> Result<(), Fault> {
@@ -66,11 +54,10 @@ fn append(names: &mut NameMap, name: &str) -> Result<(), Fault> {
 const NAMES: &[&str] = &["", NAME, "a"];
 
 #[test]
-fn encoded_names(rt: HostRuntime) -> Result<(), Fail> {
+fn encoded_names(rt: HostRuntime) {
     let mut names = NameMap::new(rt.alloc());
     for name in NAMES {
         check(&rt, rt.alloc(), &names);
-        append(&mut names, name)?;
+        ok(&rt, append(&mut names, name));
     }
-    Ok(())
 }

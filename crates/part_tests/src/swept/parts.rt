@@ -1,72 +1,76 @@
 ghost use Rattle.wenc_base.specs.Fault.{text_cause};
 ghost use Rattle.wenc_base.specs.Forms.{name};
 
+use crate::swept::{check, check_each, is_well};
 use std::alloc::Allocator;
-use std::test::Fail;
-use sweeping::{LARGE, NAME, sweep_each, sweep_encode, sweep_section};
+use sweeping::{LARGE, NAME, sweep_section};
 use wenc_base::{Encode, ExportKind, Fault};
 use wenc_parts::{
     Alias, ComponentExportKind, ComponentOuterAliasKind, ComponentSection, ComponentSectionId,
     ComponentTypeRef, ComponentValType, ModuleArg, PrimitiveValType, ResultList, TypeBounds,
 };
 
-#[test]
-fn types(rt: HostRuntime) -> Result<(), Fail> {
-    let indexed = ComponentValType::Type(64);
-    assert!(rt; sweep_encode(rt.alloc(), &PrimitiveValType::String)?);
-    assert!(rt; sweep_encode(rt.alloc(), &indexed)?);
-    let results = [ResultList(None), ResultList(Some(indexed))];
-    assert!(rt; sweep_each(rt.alloc(), results.as_slice())?);
-    let bounds = [TypeBounds::Eq(128), TypeBounds::SubResource];
-    assert!(rt; sweep_each(rt.alloc(), bounds.as_slice())?);
-    Ok(())
-}
+const INDEXED: ComponentValType = ComponentValType::Type(64);
+
+const RESULTS: &[ResultList] = &[ResultList(None), ResultList(Some(INDEXED))];
+
+const BOUNDS: &[TypeBounds] = &[TypeBounds::Eq(128), TypeBounds::SubResource];
 
 #[test]
-fn references(rt: HostRuntime) -> Result<(), Fail> {
-    let references = [
-        ComponentTypeRef::Module(128),
-        ComponentTypeRef::Value(ComponentValType::Type(64)),
-        ComponentTypeRef::Type(TypeBounds::Eq(1)),
-    ];
-    assert!(rt; sweep_each(rt.alloc(), references.as_slice())?);
-    Ok(())
+fn types(rt: HostRuntime) {
+    let alloc = rt.alloc();
+    check(&rt, alloc, &PrimitiveValType::String);
+    check(&rt, alloc, &INDEXED);
+    check_each(&rt, alloc, RESULTS);
+    check_each(&rt, alloc, BOUNDS);
 }
 
-#[test]
-fn kinds(rt: HostRuntime) -> Result<(), Fail> {
-    assert!(rt; sweep_encode(rt.alloc(), &ComponentExportKind::Module)?);
-    assert!(rt; sweep_encode(rt.alloc(), &ComponentSectionId::Export)?);
-    assert!(rt; sweep_encode(rt.alloc(), &ModuleArg::Instance(128))?);
-    let kinds = [
-        ComponentOuterAliasKind::CoreModule,
-        ComponentOuterAliasKind::Type,
-    ];
-    assert!(rt; sweep_each(rt.alloc(), kinds.as_slice())?);
-    Ok(())
-}
+const REFERENCES: &[ComponentTypeRef] = &[
+    ComponentTypeRef::Module(128),
+    ComponentTypeRef::Value(INDEXED),
+    ComponentTypeRef::Type(TypeBounds::Eq(1)),
+];
 
 #[test]
-fn aliases(rt: HostRuntime) -> Result<(), Fail> {
-    let aliases = [
-        Alias::InstanceExport {
-            instance: 128,
-            kind: ComponentExportKind::Module,
-            name: NAME,
-        },
-        Alias::CoreInstanceExport {
-            instance: 128,
-            kind: ExportKind::Tag,
-            name: NAME,
-        },
-        Alias::Outer {
-            kind: ComponentOuterAliasKind::CoreType,
-            count: LARGE,
-            index: LARGE,
-        },
-    ];
-    assert!(rt; sweep_each(rt.alloc(), aliases.as_slice())?);
-    Ok(())
+fn references(rt: HostRuntime) {
+    check_each(&rt, rt.alloc(), REFERENCES);
+}
+
+const OUTER_KINDS: &[ComponentOuterAliasKind] = &[
+    ComponentOuterAliasKind::CoreModule,
+    ComponentOuterAliasKind::Type,
+];
+
+#[test]
+fn kinds(rt: HostRuntime) {
+    let alloc = rt.alloc();
+    check(&rt, alloc, &ComponentExportKind::Module);
+    check(&rt, alloc, &ComponentSectionId::Export);
+    check(&rt, alloc, &ModuleArg::Instance(128));
+    check_each(&rt, alloc, OUTER_KINDS);
+}
+
+const ALIASES: &[Alias] = &[
+    Alias::InstanceExport {
+        instance: 128,
+        kind: ComponentExportKind::Module,
+        name: NAME,
+    },
+    Alias::CoreInstanceExport {
+        instance: 128,
+        kind: ExportKind::Tag,
+        name: NAME,
+    },
+    Alias::Outer {
+        kind: ComponentOuterAliasKind::CoreType,
+        count: LARGE,
+        index: LARGE,
+    },
+];
+
+#[test]
+fn aliases(rt: HostRuntime) {
+    check_each(&rt, rt.alloc(), ALIASES);
 }
 
 /// A section of one's own, with this text in it.
@@ -92,8 +96,7 @@ impl<'a> ComponentSection for Own<'a> {
 }
 
 #[test]
-fn own_section(rt: HostRuntime) -> Result<(), Fail> {
-    assert!(rt; sweep_section(rt.alloc(), &Own(""))?);
-    assert!(rt; sweep_section(rt.alloc(), &Own(NAME))?);
-    Ok(())
+fn own_section(rt: HostRuntime) {
+    is_well(&rt, sweep_section(rt.alloc(), &Own("")));
+    is_well(&rt, sweep_section(rt.alloc(), &Own(NAME)));
 }

@@ -1,9 +1,10 @@
-use crate::swept::holders::{Whole, seen};
+use crate::swept::holders::{Whole, open, seen};
 use crate::swept::is_well;
 use refusing::Refusing;
 use std::alloc::Global;
+use std::process::Abort;
 use sweeping::members::{Adds, Members, started, sweep_calls, sweep_clones};
-use sweeping::{LARGE, TEXT};
+use sweeping::{LARGE, TEXT, ok};
 use wenc_base::{Fault, Holder};
 
 /// A holder in which a member is being written, which at first has no bytes.
@@ -90,51 +91,51 @@ impl<'a> Adds<Opened<'a>> for Piece {
 
 const PIECES: &[Piece] = &[Piece::Text, Piece::Encoded, Piece::Listed, Piece::Last];
 
-fn sweep_pieces(alloc: Global) -> Result<bool, Fault> {
-    let heap = Refusing::new(alloc);
-    sweep_calls::<Opened, Piece>(alloc, &heap, PIECES)
-}
-
-fn sweep_copies(alloc: Global) -> Result<bool, Fault> {
-    let heap = Refusing::new(alloc);
-    sweep_clones::<Opened>(alloc, &heap, false)
-}
-
 #[test]
 fn pieces_and_copies(rt: HostRuntime) {
-    is_well(&rt, sweep_pieces(rt.alloc()));
-    is_well(&rt, sweep_copies(rt.alloc()));
+    let heap = Refusing::new(rt.alloc());
+    is_well(&rt, sweep_calls::<Opened, Piece>(rt.alloc(), &heap, PIECES));
+    is_well(&rt, sweep_clones::<Opened>(rt.alloc(), &heap, false));
 }
 
 // Eight bytes fill the first growth, so that one byte more would take memory.
-fn empty_lead(alloc: Global, count: u32) -> Result<bool, Fault> {
-    let heap = Refusing::new(alloc);
-    let Whole(mut holder) = started(&heap, count)?;
-    heap.refuse_all();
-    holder.open(&[])?;
+fn empty_lead(rt: &impl Abort, holder: &mut Swept, count: u32) {
+    ok(rt, holder.open(&[]));
     let was_opened = holder.is_opened();
     holder.finish_member();
     let is_ended = holder.is_finished() && u64::from(holder.len()) == u64::from(count) + 1;
-    Ok(was_opened && is_ended && heap.requests() == 0)
+    assert!(rt; was_opened && is_ended);
 }
 
-fn giving_up(alloc: Global, count: u32) -> Result<bool, Fault> {
+fn check_empty_lead(rt: &impl Abort, alloc: Global, count: u32) {
     let heap = Refusing::new(alloc);
-    let Whole(mut holder) = started(&heap, count)?;
-    let before = seen(alloc, &holder)?;
-    holder.open(TEXT)?;
-    append_text(&mut holder)?;
+    let mut members: Whole = ok(rt, started(&heap, count));
     heap.refuse_all();
-    let was_given_up = holder.discard_unfinished() && heap.requests() == 0;
-    let after = seen(alloc, &holder)?;
-    Ok(was_given_up && after.as_slice() == before.as_slice())
+    empty_lead(rt, &mut members.0, count);
+    assert!(rt; heap.requests() == 0);
+}
+
+fn begin(rt: &impl Abort, holder: &mut Swept) {
+    ok(rt, open(holder));
+    ok(rt, append_text(holder));
+}
+
+fn giving_up(rt: &impl Abort, alloc: Global, count: u32) {
+    let heap = Refusing::new(alloc);
+    let mut members: Whole = ok(rt, started(&heap, count));
+    let before = ok(rt, members.state(alloc));
+    begin(rt, &mut members.0);
+    heap.refuse_all();
+    assert!(rt; members.0.discard_unfinished() && heap.requests() == 0);
+    let after = ok(rt, members.state(alloc));
+    assert!(rt; after.as_slice() == before.as_slice());
 }
 
 #[test]
 fn no_memory_is_taken(rt: HostRuntime) {
     let alloc = rt.alloc();
-    is_well(&rt, empty_lead(alloc, 0));
-    is_well(&rt, empty_lead(alloc, 8));
-    is_well(&rt, giving_up(alloc, 0));
-    is_well(&rt, giving_up(alloc, 8));
+    check_empty_lead(&rt, alloc, 0);
+    check_empty_lead(&rt, alloc, 8);
+    giving_up(&rt, alloc, 0);
+    giving_up(&rt, alloc, 8);
 }

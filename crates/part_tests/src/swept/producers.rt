@@ -1,11 +1,11 @@
 use crate::swept::modules::InModule;
-use crate::swept::{check, check_call, is_well};
+use crate::swept::{bytes, check, check_call, is_well};
 use refusing::Refusing;
 use std::alloc::Global;
-use std::test::Fail;
+use std::process::Abort;
 use sweeping::members::{Adds, Members, sweep_add, sweep_calls, sweep_clones};
-use sweeping::{NAME, sweep_section};
-use wenc_base::{Encode, Fault, ProducersField, ProducersSection};
+use sweeping::{NAME, ok, sweep_section};
+use wenc_base::{Fault, Lent, ProducersField, ProducersSection};
 
 /// A field of tools.
 #[derive(Drop)]
@@ -25,9 +25,7 @@ impl<'a> Members<'a> for Tools<'a> {
     }
 
     fn state(&self, alloc: Global) -> Result<Vec<u8>, Fault> {
-        let mut state = Vec::new(alloc);
-        self.0.encode(&mut state)?;
-        Ok(state)
+        bytes(alloc, &self.0)
     }
 }
 
@@ -43,20 +41,11 @@ impl<'a, 'b> Adds<Tools<'a>> for Tool<'b> {
 
 const TOOLS: &[Tool<'static>] = &[Tool("", ""), Tool("a", NAME), Tool(NAME, "1")];
 
-fn sweep_tools(alloc: Global) -> Result<bool, Fault> {
-    let heap = Refusing::new(alloc);
-    sweep_calls::<Tools, Tool>(alloc, &heap, TOOLS)
-}
-
-fn sweep_copied_tools(alloc: Global) -> Result<bool, Fault> {
-    let heap = Refusing::new(alloc);
-    sweep_clones::<Tools>(alloc, &heap, false)
-}
-
 #[test]
 fn added_and_copied_tools(rt: HostRuntime) {
-    is_well(&rt, sweep_tools(rt.alloc()));
-    is_well(&rt, sweep_copied_tools(rt.alloc()));
+    let heap = Refusing::new(rt.alloc());
+    is_well(&rt, sweep_calls::<Tools, Tool>(rt.alloc(), &heap, TOOLS));
+    is_well(&rt, sweep_clones::<Tools>(rt.alloc(), &heap, false));
 }
 
 fn add_tool(field: &mut ProducersField, name: &str, version: &str) -> Result<(), Fault> {
@@ -66,13 +55,12 @@ fn add_tool(field: &mut ProducersField, name: &str, version: &str) -> Result<(),
 const VERSIONS: &[(&str, &str)] = &[("a", "1"), (NAME, NAME), ("", "")];
 
 #[test]
-fn encoded_tools(rt: HostRuntime) -> Result<(), Fail> {
+fn encoded_tools(rt: HostRuntime) {
     let mut field = ProducersField::new(rt.alloc());
     for (name, version) in VERSIONS {
         check(&rt, rt.alloc(), &field);
-        add_tool(&mut field, name, version)?;
+        ok(&rt, add_tool(&mut field, name, version));
     }
-    Ok(())
 }
 
 /// A section, and a field without tools.
@@ -101,10 +89,7 @@ impl<'a> Members<'a> for Fields<'a> {
     }
 
     fn state(&self, alloc: Global) -> Result<Vec<u8>, Fault> {
-        let mut state = Vec::new(alloc);
-        self.section.encode(&mut state)?;
-        self.none.encode(&mut state)?;
-        Ok(state)
+        bytes(alloc, &(Lent(&self.section), Lent(&self.none)))
     }
 }
 
@@ -118,11 +103,11 @@ impl<'a, 'b> Adds<Fields<'a>> for Field<'b> {
     }
 }
 
-fn some_tools(alloc: Global) -> Result<ProducersField, Fault> {
+fn some_tools(rt: &impl Abort, alloc: Global) -> ProducersField {
     let mut field = ProducersField::new(alloc);
-    add_tool(&mut field, "a", "1")?;
-    add_tool(&mut field, NAME, NAME)?;
-    Ok(field)
+    ok(rt, add_tool(&mut field, "a", "1"));
+    ok(rt, add_tool(&mut field, NAME, NAME));
+    field
 }
 
 fn sweep_field(alloc: Global, name: &str, field: &ProducersField) -> Result<bool, Fault> {
@@ -136,15 +121,14 @@ fn sweep_copied_fields(alloc: Global) -> Result<bool, Fault> {
 }
 
 #[test]
-fn added_and_copied_fields(rt: HostRuntime) -> Result<(), Fail> {
+fn added_and_copied_fields(rt: HostRuntime) {
     let alloc = rt.alloc();
-    let some = some_tools(alloc)?;
+    let some = some_tools(&rt, alloc);
     let none = ProducersField::new(alloc);
     is_well(&rt, sweep_field(alloc, "", &none));
     is_well(&rt, sweep_field(alloc, NAME, &none));
     is_well(&rt, sweep_field(alloc, "a", &some));
     is_well(&rt, sweep_copied_fields(alloc));
-    Ok(())
 }
 
 fn add_field(
@@ -159,13 +143,13 @@ const NAMES: &[&str] = &["", NAME, "a"];
 
 // In a component, and in a core module.
 #[test]
-fn sections(rt: HostRuntime) -> Result<(), Fail> {
-    let some = some_tools(rt.alloc())?;
-    let mut section = ProducersSection::new(rt.alloc());
+fn sections(rt: HostRuntime) {
+    let alloc = rt.alloc();
+    let some = some_tools(&rt, alloc);
+    let mut section = ProducersSection::new(alloc);
     for name in NAMES {
-        is_well(&rt, sweep_section(rt.alloc(), &section));
-        check_call(&rt, rt.alloc(), &InModule(&section));
-        add_field(&mut section, name, &some)?;
+        is_well(&rt, sweep_section(alloc, &section));
+        check_call(&rt, alloc, &InModule(&section));
+        ok(&rt, add_field(&mut section, name, &some));
     }
-    Ok(())
 }

@@ -4,7 +4,7 @@ use refusing::Refusing;
 use std::alloc::{AllocError, Allocator, Global};
 use std::mem;
 use std::process::Abort;
-use std::test::Fail;
+use sweeping::ok;
 
 fn fill<A: Allocator>(v: &mut Vec<u8, A>, n: u8) -> Result<(), AllocError> {
     for i in 0..n {
@@ -20,13 +20,12 @@ fn requests_after(
     v: &mut Vec<u8, &Refusing>,
     n: u8,
     requests: u64,
-) -> Result<(), AllocError> {
-    fill(v, n)?;
+) {
+    ok(rt, fill(v, n));
     assert!(rt; heap.requests() == requests);
-    Ok(())
 }
 
-const GROWTHS: [(u8, u64); 8] = [
+const GROWTHS: &[(u8, u64)] = &[
     (8, 1),
     (1, 2),
     (7, 2),
@@ -39,17 +38,16 @@ const GROWTHS: [(u8, u64); 8] = [
 
 // A growth is one request: a `Vec<u8>` grows to 8, 16, 32, 64 and 128 bytes.
 #[test]
-fn counts_each_growth_once(rt: HostRuntime) -> Result<(), Fail> {
+fn counts_each_growth_once(rt: HostRuntime) {
     let heap = Refusing::new(rt.alloc());
     let mut v: Vec<u8, &Refusing> = Vec::new(&heap);
     assert!(rt; heap.requests() == 0);
     for (n, requests) in GROWTHS {
-        requests_after(&rt, &heap, &mut v, n, requests)?;
+        requests_after(&rt, &heap, &mut v, *n, *requests);
     }
     assert!(rt; v.len() == 65 && !heap.was_refused());
     v.shrink_to_fit();
     assert!(rt; heap.requests() == 6);
-    Ok(())
 }
 
 /// The bytes that a refused run left, then those of one that wasn't.
@@ -64,45 +62,53 @@ fn is_filled_twice(v: &[u8], len: usize) -> bool {
 }
 
 /// The growth with this number is refused, once, where so many bytes are there.
-fn refuses_growth(rt: &impl Abort, alloc: Global, n: u64, len: usize) -> Result<(), AllocError> {
+fn refuses_growth(rt: &impl Abort, alloc: Global, n: u64, len: usize) {
     let heap = Refusing::new(alloc);
     let mut v: Vec<u8, &Refusing> = Vec::new(&heap);
     heap.refuse_nth(n);
     assert!(rt; fill(&mut v, 100).is_err());
     assert!(rt; heap.was_refused() && heap.requests() == n);
     assert!(rt; v.len() == len);
-    fill(&mut v, 100)?;
+    ok(rt, fill(&mut v, 100));
     assert!(rt; is_filled_twice(v.as_slice(), len));
-    Ok(())
 }
 
+const LENGTHS: &[(u64, usize)] = &[(1, 0), (2, 8), (3, 16), (4, 32)];
+
 #[test]
-fn refuses_the_nth_growth(rt: HostRuntime) -> Result<(), Fail> {
-    for (n, len) in [(1, 0), (2, 8), (3, 16), (4, 32)] {
-        refuses_growth(&rt, rt.alloc(), n, len)?;
+fn refuses_the_nth_growth(rt: HostRuntime) {
+    for (n, len) in LENGTHS {
+        refuses_growth(&rt, rt.alloc(), *n, *len);
     }
-    Ok(())
 }
 
-#[test]
-fn frees_what_it_gave_while_it_refuses(rt: HostRuntime) -> Result<(), Fail> {
-    let heap = Refusing::new(rt.alloc());
-    let mut v: Vec<u8, &Refusing> = Vec::new(&heap);
-    fill(&mut v, 8)?;
-    heap.refuse_all();
-    assert!(rt; v.push(8).is_err());
-    assert!(rt; v.push(8).is_err());
+/// A full vector is refused more room, and takes what it has room for.
+fn takes_what_fits(rt: &impl Abort, heap: &Refusing, v: &mut Vec<u8, &Refusing>) {
+    assert!(rt; v.push(8).is_err() && v.push(8).is_err());
     assert!(rt; heap.requests() == 2);
     v.truncate(4);
     assert!(rt; v.pop() == Some(3));
-    v.push(9)?;
+    ok(rt, v.push(9));
+}
+
+/// These are the bytes.
+fn are(rt: &impl Abort, v: &Vec<u8, &Refusing>, wanted: &[u8]) {
+    assert!(rt; v.as_slice() == wanted);
+}
+
+#[test]
+fn frees_what_it_gave_while_it_refuses(rt: HostRuntime) {
+    let heap = Refusing::new(rt.alloc());
+    let mut v: Vec<u8, &Refusing> = Vec::new(&heap);
+    ok(&rt, fill(&mut v, 8));
+    heap.refuse_all();
+    takes_what_fits(&rt, &heap, &mut v);
     let had = mem::replace(&mut v, Vec::new(&heap));
-    assert!(rt; had.as_slice() == [0, 1, 2, 9].as_slice());
+    are(&rt, &had, &[0, 1, 2, 9]);
     assert!(rt; v.is_empty() && v.push(1).is_err());
     drop(had);
     heap.refuse_none();
     assert!(rt; !heap.was_refused());
-    v.push(1)?;
-    assert!(rt; v.as_slice() == [1].as_slice());
-    Ok(())
+    ok(&rt, v.push(1));
+    are(&rt, &v, &[1]);
 }

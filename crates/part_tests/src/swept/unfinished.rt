@@ -6,7 +6,7 @@ ghost use Rattle.wenc_base.specs.declared.fault.Fault.TheVariants.{Unfinished};
 use refusing::Refusing;
 use std::alloc::Allocator;
 use std::process::Abort;
-use std::test::Fail;
+use sweeping::ok;
 use wenc_base::{Encode, Fault, Tagged};
 use wenc_parts::ComponentSection;
 
@@ -34,43 +34,56 @@ impl ComponentSection for Begun {
     }
 }
 
-fn are_unfinished(rt: &impl Abort, heap: &Refusing) -> Result<(), Fault> {
+/// The value is refused for this.
+fn is_refused<T: Encode, A: Allocator>(
+    rt: &impl Abort,
+    sink: &mut Vec<u8, A>,
+    value: &T,
+    wanted: Fault,
+) {
+    assert!(rt; value.encode(sink) == Err(wanted));
+}
+
+fn are_unfinished(rt: &impl Abort, heap: &Refusing) {
     let mut sink = Vec::new(heap);
-    assert!(rt; Begun.encode(&mut sink) == Err(Fault::Unfinished));
-    assert!(rt; Tagged(7, &Begun).encode(&mut sink) == Err(Fault::Unfinished));
-    assert!(rt; Some(Begun).encode(&mut sink) == Err(Fault::Unfinished));
-    assert!(rt; (Begun, 1u32).encode(&mut sink) == Err(Fault::Unfinished));
+    is_refused(rt, &mut sink, &Begun, Fault::Unfinished);
+    is_refused(rt, &mut sink, &Tagged(7, &Begun), Fault::Unfinished);
+    is_refused(rt, &mut sink, &Some(Begun), Fault::Unfinished);
+    is_refused(rt, &mut sink, &(Begun, 1u32), Fault::Unfinished);
     assert!(rt; Begun.append_to_component(&mut sink) == Err(Fault::Unfinished));
     assert!(rt; sink.is_empty());
-    Ok(())
 }
 
 #[test]
-fn before_the_byte_in_front(rt: HostRuntime) -> Result<(), Fail> {
+fn before_the_byte_in_front(rt: HostRuntime) {
     let heap = Refusing::new(rt.alloc());
-    are_unfinished(&rt, &heap)?;
+    are_unfinished(&rt, &heap);
     heap.refuse_all();
-    are_unfinished(&rt, &heap)?;
-    Ok(())
+    are_unfinished(&rt, &heap);
 }
 
-#[test]
-fn of_members_the_first_refusal(rt: HostRuntime) -> Result<(), Fail> {
-    let mut sink = [0xee].to_vec(rt.alloc())?;
-    assert!(rt; (4294967296usize, Begun).encode(&mut sink) == Err(Fault::TooMany));
-    assert!(rt; (Begun, 4294967296usize).encode(&mut sink) == Err(Fault::Unfinished));
-    assert!(rt; [1usize, 4294967296, 2].as_slice().encode(&mut sink) == Err(Fault::TooMany));
-    assert!(rt; sink.as_slice() == [0xee].as_slice());
-    Ok(())
-}
+// More than a count can be.
+const LARGE: usize = 4294967296;
+
+const THREE: &[usize] = &[1, LARGE, 2];
 
 #[test]
-fn of_members_in_a_list_the_first_refusal(rt: HostRuntime) -> Result<(), Fail> {
-    let mut sink = [0xee].to_vec(rt.alloc())?;
-    let begun = [(1usize, Some(Begun)), (4294967296, None)];
-    assert!(rt; begun.as_slice().encode(&mut sink) == Err(Fault::Unfinished));
-    let late = [(4294967296usize, Some(Begun)), (1, None)];
-    assert!(rt; late.as_slice().encode(&mut sink) == Err(Fault::TooMany));
+fn of_members_the_first_refusal(rt: HostRuntime) {
+    let mut sink = ok(&rt, [0xee].to_vec(rt.alloc()));
+    is_refused(&rt, &mut sink, &(LARGE, Begun), Fault::TooMany);
+    is_refused(&rt, &mut sink, &(Begun, LARGE), Fault::Unfinished);
+    is_refused(&rt, &mut sink, &THREE, Fault::TooMany);
     assert!(rt; sink.as_slice() == [0xee].as_slice());
-    Ok(())
+}
+
+const BEGUN: &[(usize, Option<Begun>)] = &[(1, Some(Begun)), (LARGE, None)];
+
+const LATE: &[(usize, Option<Begun>)] = &[(LARGE, Some(Begun)), (1, None)];
+
+#[test]
+fn of_members_in_a_list_the_first_refusal(rt: HostRuntime) {
+    let mut sink = ok(&rt, [0xee].to_vec(rt.alloc()));
+    is_refused(&rt, &mut sink, &BEGUN, Fault::Unfinished);
+    is_refused(&rt, &mut sink, &LATE, Fault::TooMany);
+    assert!(rt; sink.as_slice() == [0xee].as_slice());
 }
