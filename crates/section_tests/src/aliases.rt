@@ -1,12 +1,11 @@
 //! Sections of aliases.
 
 use crate::checks::{counts, row};
-use crate::counted::{Items, Short, sweep_sections};
+use crate::counted::{Items, Short, sweep_all};
 use refusing::Refusing;
 use std::alloc::Global;
 use std::process::Abort;
-use std::test::Fail;
-use sweeping::members::{Adds, sweep_calls, sweep_clones};
+use sweeping::members::Adds;
 use sweeping::{LARGE, NAME};
 use wenc_base::{ExportKind, Fault};
 use wenc_parts::{Alias, ComponentExportKind, ComponentOuterAliasKind};
@@ -57,20 +56,16 @@ impl Short for Aliases {
 const TWO: &[Alias<'static>] = &[FUNCTION_OF_AN_INSTANCE, OUTER_TYPE];
 
 /// The sections have these bytes, and are swept.
-fn check(rt: &impl Abort, alloc: Global, heap: &Refusing) -> Result<(), Fault> {
+fn check(rt: &impl Abort, alloc: Global, heap: &Refusing) {
     let one = "01000606010100000166";
     let two = "0200060b0201000001660100000166";
-    counts::<Items<Aliases>>(rt, alloc, heap, "0001060100", one, two)?;
-    row::<Items<Aliases>, Alias>(rt, alloc, heap, TWO, "0200060a02010000016603020001")?;
-    assert!(rt; sweep_sections::<Aliases, Alias>(alloc, heap, LONG)?);
-    assert!(rt; sweep_calls::<Items<Aliases>, Alias>(alloc, heap, LONG)?);
-    assert!(rt; sweep_clones::<Items<Aliases>>(alloc, heap, false)?);
-    Ok(())
+    counts::<Items<Aliases>>(rt, alloc, heap, "0001060100", one, two);
+    row::<Items<Aliases>, Alias>(rt, alloc, heap, TWO, "0200060a02010000016603020001");
+    sweep_all::<Items<Aliases>, Alias>(rt, alloc, heap, LONG);
 }
 
 #[test]
-fn aliases(rt: HostRuntime) -> Result<(), Fail> {
+fn aliases(rt: HostRuntime) {
     let heap = Refusing::new(rt.alloc());
-    check(&rt, rt.alloc(), &heap)?;
-    Ok(())
+    check(&rt, rt.alloc(), &heap);
 }

@@ -5,7 +5,7 @@ use crate::checks::{are, holds, module_holds, put, put_in};
 use crate::own::{Large, Own};
 use std::alloc::Global;
 use std::process::Abort;
-use std::test::Fail;
+use sweeping::ok;
 use wenc_base::{Fault, Module, RawCustomSection, Section};
 use wenc_parts::ComponentSection;
 use wenc_sections::{Component, ComponentAliasSection};
@@ -23,49 +23,29 @@ fn headers(rt: HostRuntime) {
 }
 
 /// Finished, the component has these bytes.
-fn finishes(
-    rt: &impl Abort,
-    alloc: Global,
-    component: Component,
-    wanted: &str,
-) -> Result<(), Fault> {
+fn finishes(rt: &impl Abort, alloc: Global, component: Component, wanted: &str) {
     let bytes = component.finish();
-    are(rt, alloc, bytes.as_slice(), wanted)
+    are(rt, alloc, bytes.as_slice(), wanted);
 }
 
 /// Finished, the module has these bytes.
-fn module_finishes(
-    rt: &impl Abort,
-    alloc: Global,
-    module: Module,
-    wanted: &str,
-) -> Result<(), Fault> {
+fn module_finishes(rt: &impl Abort, alloc: Global, module: Module, wanted: &str) {
     let bytes = module.finish();
-    are(rt, alloc, bytes.as_slice(), wanted)
+    are(rt, alloc, bytes.as_slice(), wanted);
 }
 
 /// The component has these bytes behind its header, and a section that is refused leaves nothing.
-fn refuses(
-    rt: &impl Abort,
-    alloc: Global,
-    component: &mut Component,
-    wanted: &str,
-) -> Result<(), Fault> {
-    holds(rt, alloc, component, wanted)?;
+fn refuses(rt: &impl Abort, alloc: Global, component: &mut Component, wanted: &str) {
+    holds(rt, alloc, component, wanted);
     assert!(rt; put(component, &Large) == Err(Fault::TooLarge));
-    holds(rt, alloc, component, wanted)
+    holds(rt, alloc, component, wanted);
 }
 
 /// The same of a module.
-fn module_refuses(
-    rt: &impl Abort,
-    alloc: Global,
-    module: &mut Module,
-    wanted: &str,
-) -> Result<(), Fault> {
-    module_holds(rt, alloc, module, wanted)?;
+fn module_refuses(rt: &impl Abort, alloc: Global, module: &mut Module, wanted: &str) {
+    module_holds(rt, alloc, module, wanted);
     assert!(rt; put_in(module, &Large) == Err(Fault::TooLarge));
-    module_holds(rt, alloc, module, wanted)
+    module_holds(rt, alloc, module, wanted);
 }
 
 /// With this section the component has these bytes.
@@ -75,9 +55,9 @@ fn takes(
     component: &mut Component,
     section: &impl ComponentSection,
     wanted: &str,
-) -> Result<(), Fault> {
-    put(component, section)?;
-    refuses(rt, alloc, component, wanted)
+) {
+    ok(rt, put(component, section));
+    refuses(rt, alloc, component, wanted);
 }
 
 /// With this section the module has these bytes.
@@ -87,9 +67,9 @@ fn module_takes(
     module: &mut Module,
     section: &impl Section,
     wanted: &str,
-) -> Result<(), Fault> {
-    put_in(module, section)?;
-    module_refuses(rt, alloc, module, wanted)
+) {
+    ok(rt, put_in(module, section));
+    module_refuses(rt, alloc, module, wanted);
 }
 
 /// A copy of a component with one section of its own goes its own way.
@@ -98,29 +78,25 @@ fn copy_goes_its_own_way(
     alloc: Global,
     component: &Component,
     none: &ComponentAliasSection,
-) -> Result<(), Fault> {
-    let mut copy = component.clone()?;
-    holds(rt, alloc, &copy, "632a")?;
-    takes(rt, alloc, &mut copy, none, "632a060100")?;
-    holds(rt, alloc, component, "632a")
+) {
+    let mut copy = ok(rt, component.clone());
+    holds(rt, alloc, &copy, "632a");
+    takes(rt, alloc, &mut copy, none, "632a060100");
+    holds(rt, alloc, component, "632a");
 }
 
 /// The component takes a second section of the same kind.
-fn takes_own_again(rt: &impl Abort, alloc: Global, component: &Component) -> Result<(), Fault> {
-    let mut copy = component.clone()?;
-    takes(rt, alloc, &mut copy, &Own, "632a632a")
+fn takes_own_again(rt: &impl Abort, alloc: Global, component: &Component) {
+    let mut copy = ok(rt, component.clone());
+    takes(rt, alloc, &mut copy, &Own, "632a632a");
 }
 
 /// A copy of a module with one section of its own goes its own way.
-fn module_copy_goes_its_own_way(
-    rt: &impl Abort,
-    alloc: Global,
-    module: &Module,
-) -> Result<(), Fault> {
-    let mut copy = module.clone()?;
-    module_holds(rt, alloc, &copy, "622a")?;
-    module_takes(rt, alloc, &mut copy, &RAW, "622a00aa")?;
-    module_holds(rt, alloc, module, "622a")
+fn module_copy_goes_its_own_way(rt: &impl Abort, alloc: Global, module: &Module) {
+    let mut copy = ok(rt, module.clone());
+    module_holds(rt, alloc, &copy, "622a");
+    module_takes(rt, alloc, &mut copy, &RAW, "622a00aa");
+    module_holds(rt, alloc, module, "622a");
 }
 
 /// The component takes these sections in their order.
@@ -129,64 +105,59 @@ fn takes_each(
     alloc: Global,
     component: &mut Component,
     none: &ComponentAliasSection,
-) -> Result<(), Fault> {
-    refuses(rt, alloc, component, "")?;
-    takes(rt, alloc, component, &Own, "632a")?;
-    copy_goes_its_own_way(rt, alloc, component, none)?;
-    takes_own_again(rt, alloc, component)?;
-    takes(rt, alloc, component, none, "632a060100")?;
-    takes(rt, alloc, component, &RAW, "632a06010000aa")?;
-    takes(rt, alloc, component, &Own, "632a06010000aa632a")
+) {
+    refuses(rt, alloc, component, "");
+    takes(rt, alloc, component, &Own, "632a");
+    copy_goes_its_own_way(rt, alloc, component, none);
+    takes_own_again(rt, alloc, component);
+    takes(rt, alloc, component, none, "632a060100");
+    takes(rt, alloc, component, &RAW, "632a06010000aa");
+    takes(rt, alloc, component, &Own, "632a06010000aa632a");
 }
 
 #[test]
-fn sections_stand_in_their_order(rt: HostRuntime) -> Result<(), Fail> {
+fn sections_stand_in_their_order(rt: HostRuntime) {
     let none: ComponentAliasSection = ComponentAliasSection::new(rt.alloc());
-    let mut component = Component::new(rt.alloc())?;
-    takes_each(&rt, rt.alloc(), &mut component, &none)?;
+    let mut component = ok(&rt, Component::new(rt.alloc()));
+    takes_each(&rt, rt.alloc(), &mut component, &none);
     let wanted = "0061736d0d000100632a06010000aa632a";
-    finishes(&rt, rt.alloc(), component, wanted)?;
-    Ok(())
+    finishes(&rt, rt.alloc(), component, wanted);
 }
 
 /// The module takes its own section, a copy of it another, and it that of its own again.
-fn module_takes_own(rt: &impl Abort, alloc: Global, module: &mut Module) -> Result<(), Fault> {
-    module_refuses(rt, alloc, module, "")?;
-    module_takes(rt, alloc, module, &Own, "622a")?;
-    module_copy_goes_its_own_way(rt, alloc, module)?;
-    module_takes(rt, alloc, module, &Own, "622a622a")
+fn module_takes_own(rt: &impl Abort, alloc: Global, module: &mut Module) {
+    module_refuses(rt, alloc, module, "");
+    module_takes(rt, alloc, module, &Own, "622a");
+    module_copy_goes_its_own_way(rt, alloc, module);
+    module_takes(rt, alloc, module, &Own, "622a622a");
 }
 
 #[test]
-fn copies_of_modules_go_their_own_way(rt: HostRuntime) -> Result<(), Fail> {
-    let mut module = Module::new(rt.alloc())?;
-    module_takes_own(&rt, rt.alloc(), &mut module)?;
-    Ok(())
+fn copies_of_modules_go_their_own_way(rt: HostRuntime) {
+    let mut module = ok(&rt, Module::new(rt.alloc()));
+    module_takes_own(&rt, rt.alloc(), &mut module);
 }
 
 #[test]
-fn sections_of_modules_stand_in_their_order(rt: HostRuntime) -> Result<(), Fail> {
-    let mut module = Module::new(rt.alloc())?;
-    put_in(&mut module, &RAW)?;
-    module_takes(&rt, rt.alloc(), &mut module, &Own, "00aa622a")?;
+fn sections_of_modules_stand_in_their_order(rt: HostRuntime) {
+    let mut module = ok(&rt, Module::new(rt.alloc()));
+    ok(&rt, put_in(&mut module, &RAW));
+    module_takes(&rt, rt.alloc(), &mut module, &Own, "00aa622a");
     let wanted = "0061736d0100000000aa622a";
-    module_finishes(&rt, rt.alloc(), module, wanted)?;
-    Ok(())
+    module_finishes(&rt, rt.alloc(), module, wanted);
 }
 
 #[test]
-fn without_sections(rt: HostRuntime) -> Result<(), Fail> {
-    let component = Component::new(rt.alloc())?;
-    finishes(&rt, rt.alloc(), component, "0061736d0d000100")?;
-    let module = Module::new(rt.alloc())?;
-    module_finishes(&rt, rt.alloc(), module, "0061736d01000000")?;
-    Ok(())
+fn without_sections(rt: HostRuntime) {
+    let component = ok(&rt, Component::new(rt.alloc()));
+    finishes(&rt, rt.alloc(), component, "0061736d0d000100");
+    let module = ok(&rt, Module::new(rt.alloc()));
+    module_finishes(&rt, rt.alloc(), module, "0061736d01000000");
 }
 
 #[test]
-fn written_by_hand(rt: HostRuntime) -> Result<(), Fail> {
-    let bytes = by_hand(rt.alloc())?;
+fn written_by_hand(rt: HostRuntime) {
+    let bytes = ok(&rt, by_hand(rt.alloc()));
     let wanted = "0061736d0d0001000a0601000169050006060101000001660b0701000167010000";
-    are(&rt, rt.alloc(), bytes.as_slice(), wanted)?;
-    Ok(())
+    are(&rt, rt.alloc(), bytes.as_slice(), wanted);
 }

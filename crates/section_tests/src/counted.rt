@@ -1,9 +1,11 @@
 //! Sections of items whose requests for memory can be refused.
 
+use crate::checks::is_well;
 use refusing::Refusing;
 use std::alloc::Global;
-use sweeping::members::{Adds, Members};
-use sweeping::sweep_section;
+use std::process::Abort;
+use sweeping::members::{Adds, Members, sweep_calls, sweep_clones};
+use sweeping::{ok, sweep_section};
 use wenc_base::{Encode, Fault};
 use wenc_parts::ComponentSection;
 use wenc_sections::Counted;
@@ -18,6 +20,15 @@ pub trait Short: CountedKind + Sized {
 #[derive(Drop)]
 pub struct Items<'a, K>(pub Counted<K, &'a Refusing>);
 
+/// Appends how many items it has, whether it has none, and its bytes behind its id.
+fn append_state<K: Short>(
+    section: &Counted<K, &Refusing>,
+    state: &mut Vec<u8>,
+) -> Result<(), Fault> {
+    (section.len(), section.is_empty()).encode(state)?;
+    section.append_to_component(state)
+}
+
 impl<'a, K: Short> Members<'a> for Items<'a, K> {
     fn empty(heap: &'a Refusing) -> Result<Self, Fault> {
         Ok(Items(Counted::new(heap)))
@@ -31,26 +42,48 @@ impl<'a, K: Short> Members<'a> for Items<'a, K> {
         Ok(Items(self.0.clone()?))
     }
 
-    /// How many items it has, whether it has none, and its bytes behind its id.
     fn state(&self, alloc: Global) -> Result<Vec<u8>, Fault> {
         let mut state = Vec::new(alloc);
-        (self.0.len(), self.0.is_empty()).encode(&mut state)?;
-        self.0.append_to_component(&mut state)?;
+        append_state(&self.0, &mut state)?;
         Ok(state)
     }
 }
 
+/// Members of which a section is made.
+pub trait Sections<'a>: Members<'a> {
+    /// Has the requests of the section refused in turn.
+    fn sweep(&self, alloc: Global) -> Result<bool, Fault>;
+}
+
+impl<'a, K: Short> Sections<'a> for Items<'a, K> {
+    fn sweep(&self, alloc: Global) -> Result<bool, Fault> {
+        sweep_section(alloc, &self.0)
+    }
+}
+
 /// Sweeps the section with none of these items, with the first, and so on.
-pub fn sweep_sections<'a, K: Short, C: Adds<Items<'a, K>>>(
+pub fn sweep_sections<'a, M: Sections<'a>, C: Adds<M>>(
+    rt: &impl Abort,
     alloc: Global,
     heap: &'a Refusing,
     calls: &[C],
-) -> Result<bool, Fault> {
-    let mut items = Items::empty(heap)?;
-    let mut is_well = sweep_section(alloc, &items.0)?;
+) {
+    let mut members = ok(rt, M::empty(heap));
+    is_well(rt, members.sweep(alloc));
     for call in calls {
-        call.add(&mut items)?;
-        is_well = is_well && sweep_section(alloc, &items.0)?;
+        ok(rt, call.add(&mut members));
+        is_well(rt, members.sweep(alloc));
     }
-    Ok(is_well)
+}
+
+/// Sweeps the sections with these items, the calls that add them, and copies.
+pub fn sweep_all<'a, M: Sections<'a>, C: Adds<M>>(
+    rt: &impl Abort,
+    alloc: Global,
+    heap: &'a Refusing,
+    calls: &[C],
+) {
+    sweep_sections::<M, C>(rt, alloc, heap, calls);
+    is_well(rt, sweep_calls::<M, C>(alloc, heap, calls));
+    is_well(rt, sweep_clones::<M>(alloc, heap, false));
 }

@@ -1,13 +1,12 @@
 //! Sections of exports.
 
 use crate::checks::{counts, row};
-use crate::counted::{Items, Short, sweep_sections};
+use crate::counted::{Items, Short, sweep_all};
 use crate::named::Name;
 use refusing::Refusing;
 use std::alloc::Global;
 use std::process::Abort;
-use std::test::Fail;
-use sweeping::members::{Adds, sweep_calls, sweep_clones};
+use sweeping::members::Adds;
 use sweeping::{LARGE, NAME};
 use wenc_base::Fault;
 use wenc_parts::{ComponentExportKind, ComponentTypeRef};
@@ -49,21 +48,17 @@ const LONG: &[Export<'static>] = &[
 ];
 
 /// The sections have these bytes, and are swept.
-fn check(rt: &impl Abort, alloc: Global, heap: &Refusing) -> Result<(), Fault> {
+fn check(rt: &impl Abort, alloc: Global, heap: &Refusing) {
     let one = "01000b0701000167010000";
     let two = "02000b0d02000167010000000167010000";
-    counts::<Items<Exports>>(rt, alloc, heap, "00010b0100", one, two)?;
-    row::<Items<Exports>, Export>(rt, alloc, heap, FOO, "01000b09010003666f6f010000")?;
-    row::<Items<Exports>, Export>(rt, alloc, heap, TYPED, "01000b09010001610101010102")?;
-    assert!(rt; sweep_sections::<Exports, Export>(alloc, heap, LONG)?);
-    assert!(rt; sweep_calls::<Items<Exports>, Export>(alloc, heap, LONG)?);
-    assert!(rt; sweep_clones::<Items<Exports>>(alloc, heap, false)?);
-    Ok(())
+    counts::<Items<Exports>>(rt, alloc, heap, "00010b0100", one, two);
+    row::<Items<Exports>, Export>(rt, alloc, heap, FOO, "01000b09010003666f6f010000");
+    row::<Items<Exports>, Export>(rt, alloc, heap, TYPED, "01000b09010001610101010102");
+    sweep_all::<Items<Exports>, Export>(rt, alloc, heap, LONG);
 }
 
 #[test]
-fn exports(rt: HostRuntime) -> Result<(), Fail> {
+fn exports(rt: HostRuntime) {
     let heap = Refusing::new(rt.alloc());
-    check(&rt, rt.alloc(), &heap)?;
-    Ok(())
+    check(&rt, rt.alloc(), &heap);
 }

@@ -1,10 +1,9 @@
 //! Sections over holders, with bytes that are kept in front.
 
-use crate::checks::are;
+use crate::checks::{are, is_text, yes};
 use std::alloc::{AllocError, Global};
 use std::process::Abort;
-use std::test::Fail;
-use sweeping::hexed::text;
+use sweeping::ok;
 use wenc_base::{Fault, Holder};
 use wenc_parts::{Alias, ComponentOuterAliasKind};
 use wenc_sections::ComponentAliasSection;
@@ -17,15 +16,15 @@ fn over(alloc: Global) -> Result<Holder, AllocError> {
     Ok(Holder::over(BYTES.to_vec(alloc)?, 2, 1))
 }
 
-fn section(alloc: Global) -> Result<ComponentAliasSection, AllocError> {
-    Ok(ComponentAliasSection::from_holder(over(alloc)?))
+fn section(rt: &impl Abort, alloc: Global) -> ComponentAliasSection {
+    ComponentAliasSection::from_holder(ok(rt, over(alloc)))
 }
 
 /// A section in which an alias is being written.
-fn unfinished(alloc: Global) -> Result<ComponentAliasSection, Fault> {
-    let mut holder = over(alloc)?;
-    holder.open(&[0x03])?;
-    Ok(ComponentAliasSection::from_holder(holder))
+fn unfinished(rt: &impl Abort, alloc: Global) -> ComponentAliasSection {
+    let mut holder = ok(rt, over(alloc));
+    ok(rt, holder.open(&[0x03]));
+    ComponentAliasSection::from_holder(holder)
 }
 
 fn outer_type(section: &mut ComponentAliasSection) -> Result<(), Fault> {
@@ -34,18 +33,6 @@ fn outer_type(section: &mut ComponentAliasSection) -> Result<(), Fault> {
         count: 0,
         index: 1,
     })
-}
-
-/// The section has this text, in which no byte is that is kept.
-fn is_text(
-    rt: &impl Abort,
-    alloc: Global,
-    section: &ComponentAliasSection,
-    wanted: &str,
-) -> Result<(), Fault> {
-    let bytes = text(alloc, section)?;
-    assert!(rt; bytes.as_str() == wanted);
-    Ok(())
 }
 
 /// What the section's holder is made of: all bytes, how many of them are kept, its number of items, and whether it is
@@ -62,34 +49,35 @@ fn gives_back(
     wanted: &str,
     wanted_count: u32,
     is_whole: bool,
-) -> Result<(), Fault> {
+) {
     let (bytes, kept, count, is_finished) = parts(section);
-    assert!(rt; kept == 2 && count == wanted_count && is_finished == is_whole);
-    are(rt, alloc, bytes.as_slice(), wanted)
+    yes(
+        rt,
+        kept == 2 && count == wanted_count && is_finished == is_whole,
+    );
+    are(rt, alloc, bytes.as_slice(), wanted);
 }
 
+/// In the section's text no byte is that is kept.
 #[test]
-fn one_more(rt: HostRuntime) -> Result<(), Fail> {
-    let mut section = section(rt.alloc())?;
-    is_text(&rt, rt.alloc(), &section, "ee06010100000166")?;
-    outer_type(&mut section)?;
-    is_text(&rt, rt.alloc(), &section, "ee0a02010000016603020001")?;
+fn one_more(rt: HostRuntime) {
+    let mut section = section(&rt, rt.alloc());
+    is_text(&rt, rt.alloc(), &section, "06010100000166");
+    ok(&rt, outer_type(&mut section));
+    is_text(&rt, rt.alloc(), &section, "0a02010000016603020001");
     let wanted = "aabb010000016603020001";
-    gives_back(&rt, rt.alloc(), section, wanted, 2, true)?;
-    Ok(())
+    gives_back(&rt, rt.alloc(), section, wanted, 2, true);
 }
 
 #[test]
-fn given_back(rt: HostRuntime) -> Result<(), Fail> {
-    let section = section(rt.alloc())?;
-    gives_back(&rt, rt.alloc(), section, "aabb0100000166", 1, true)?;
-    Ok(())
+fn given_back(rt: HostRuntime) {
+    let section = section(&rt, rt.alloc());
+    gives_back(&rt, rt.alloc(), section, "aabb0100000166", 1, true);
 }
 
 #[test]
-fn being_written(rt: HostRuntime) -> Result<(), Fail> {
-    let mut section = unfinished(rt.alloc())?;
+fn being_written(rt: HostRuntime) {
+    let mut section = unfinished(&rt, rt.alloc());
     assert!(rt; outer_type(&mut section) == Err(Fault::Unfinished));
-    gives_back(&rt, rt.alloc(), section, "aabb010000016603", 2, false)?;
-    Ok(())
+    gives_back(&rt, rt.alloc(), section, "aabb010000016603", 2, false);
 }

@@ -1,13 +1,12 @@
 //! Sections of imports.
 
 use crate::checks::{counts, row};
-use crate::counted::{Items, Short, sweep_sections};
+use crate::counted::{Items, Short, sweep_all};
 use crate::named::Name;
 use refusing::Refusing;
 use std::alloc::Global;
 use std::process::Abort;
-use std::test::Fail;
-use sweeping::members::{Adds, sweep_calls, sweep_clones};
+use sweeping::members::Adds;
 use sweeping::{LARGE, NAME};
 use wenc_base::Fault;
 use wenc_parts::{ComponentTypeRef, TypeBounds};
@@ -44,20 +43,16 @@ const LONG: &[Import<'static>] = &[
 ];
 
 /// The sections have these bytes, and are swept.
-fn check(rt: &impl Abort, alloc: Global, heap: &Refusing) -> Result<(), Fault> {
+fn check(rt: &impl Abort, alloc: Global, heap: &Refusing) {
     let one = "01000a06010001660100";
     let two = "02000a0b0200016601000001660100";
-    counts::<Items<Imports>>(rt, alloc, heap, "00010a0100", one, two)?;
-    row::<Items<Imports>, Import>(rt, alloc, heap, OPTIONED, "01000a0a01020161010001690301")?;
-    assert!(rt; sweep_sections::<Imports, Import>(alloc, heap, LONG)?);
-    assert!(rt; sweep_calls::<Items<Imports>, Import>(alloc, heap, LONG)?);
-    assert!(rt; sweep_clones::<Items<Imports>>(alloc, heap, false)?);
-    Ok(())
+    counts::<Items<Imports>>(rt, alloc, heap, "00010a0100", one, two);
+    row::<Items<Imports>, Import>(rt, alloc, heap, OPTIONED, "01000a0a01020161010001690301");
+    sweep_all::<Items<Imports>, Import>(rt, alloc, heap, LONG);
 }
 
 #[test]
-fn imports(rt: HostRuntime) -> Result<(), Fail> {
+fn imports(rt: HostRuntime) {
     let heap = Refusing::new(rt.alloc());
-    check(&rt, rt.alloc(), &heap)?;
-    Ok(())
+    check(&rt, rt.alloc(), &heap);
 }

@@ -1,13 +1,12 @@
 //! Trees of instances: their bytes, and each request for memory refused in turn.
 
+use crate::checks::{is_text, is_well};
 use crate::instances::LONG_CORE;
 use crate::named::Name;
-use std::alloc::{AllocError, Global};
+use std::alloc::Global;
 use std::process::Abort;
-use std::test::Fail;
-use sweeping::hexed::text;
-use sweeping::{LARGE, NAME, sweep_encode};
-use wenc_base::{Delimited, ExportKind, Fault};
+use sweeping::{LARGE, NAME, ok, sweep_encode};
+use wenc_base::{Delimited, ExportKind};
 use wenc_parts::{ComponentExportKind, ModuleArg, NameTree};
 use wenc_sections::{CoreInstanceTree, InstanceTree};
 
@@ -19,36 +18,40 @@ pub enum Core<'a> {
 }
 
 fn module_args(
+    rt: &impl Abort,
     alloc: Global,
     rows: &[(&str, ModuleArg)],
-) -> Result<Vec<(String, ModuleArg)>, AllocError> {
+) -> Vec<(String, ModuleArg)> {
     let mut args = Vec::new(alloc);
     for (name, arg) in rows {
-        args.push((String::from_str(alloc, name)?, *arg))?;
+        let name = ok(rt, String::from_str(alloc, name));
+        ok(rt, args.push((name, *arg)));
     }
-    Ok(args)
+    args
 }
 
 fn core_exports(
+    rt: &impl Abort,
     alloc: Global,
     rows: &[(&str, ExportKind, u32)],
-) -> Result<Vec<(String, ExportKind, u32)>, AllocError> {
+) -> Vec<(String, ExportKind, u32)> {
     let mut exports = Vec::new(alloc);
     for (name, kind, index) in rows {
-        exports.push((String::from_str(alloc, name)?, *kind, *index))?;
+        let name = ok(rt, String::from_str(alloc, name));
+        ok(rt, exports.push((name, *kind, *index)));
     }
-    Ok(exports)
+    exports
 }
 
 impl<'a> Core<'a> {
-    fn tree(self, alloc: Global) -> Result<CoreInstanceTree, AllocError> {
-        Ok(match self {
+    fn tree(self, rt: &impl Abort, alloc: Global) -> CoreInstanceTree {
+        match self {
             Core::Instantiate(module, args) => CoreInstanceTree::Instantiate {
                 module,
-                args: module_args(alloc, args)?,
+                args: module_args(rt, alloc, args),
             },
-            Core::Exports(exports) => CoreInstanceTree::Exports(core_exports(alloc, exports)?),
-        })
+            Core::Exports(exports) => CoreInstanceTree::Exports(core_exports(rt, alloc, exports)),
+        }
     }
 }
 
@@ -60,65 +63,56 @@ enum Component<'a> {
 }
 
 fn given(
+    rt: &impl Abort,
     alloc: Global,
     rows: &[(&str, ComponentExportKind, u32)],
-) -> Result<Vec<(String, ComponentExportKind, u32)>, AllocError> {
+) -> Vec<(String, ComponentExportKind, u32)> {
     let mut args = Vec::new(alloc);
     for (name, kind, index) in rows {
-        args.push((String::from_str(alloc, name)?, *kind, *index))?;
+        let name = ok(rt, String::from_str(alloc, name));
+        ok(rt, args.push((name, *kind, *index)));
     }
-    Ok(args)
+    args
 }
 
 fn exports(
+    rt: &impl Abort,
     alloc: Global,
     rows: &[(Name<'_>, ComponentExportKind, u32)],
-) -> Result<Vec<(NameTree, ComponentExportKind, u32)>, AllocError> {
+) -> Vec<(NameTree, ComponentExportKind, u32)> {
     let mut exports = Vec::new(alloc);
     for (name, kind, index) in rows {
-        exports.push((name.tree(alloc)?, *kind, *index))?;
+        ok(rt, exports.push((name.tree(rt, alloc), *kind, *index)));
     }
-    Ok(exports)
+    exports
 }
 
 impl<'a> Component<'a> {
-    fn tree(self, alloc: Global) -> Result<InstanceTree, AllocError> {
-        Ok(match self {
+    fn tree(self, rt: &impl Abort, alloc: Global) -> InstanceTree {
+        match self {
             Component::Instantiate(component, args) => InstanceTree::Instantiate {
                 component,
-                args: given(alloc, args)?,
+                args: given(rt, alloc, args),
             },
-            Component::Exports(rows) => InstanceTree::Exports(exports(alloc, rows)?),
-        })
+            Component::Exports(rows) => InstanceTree::Exports(exports(rt, alloc, rows)),
+        }
     }
 }
 
 /// The tree has this text.
-fn is_text(
-    rt: &impl Abort,
-    alloc: Global,
-    tree: &impl Delimited,
-    wanted: &str,
-) -> Result<(), Fault> {
+fn is_tree(rt: &impl Abort, alloc: Global, tree: &impl Delimited, wanted: &str) {
     tree.belongs();
-    let bytes = text(alloc, tree)?;
-    assert!(rt; bytes.as_str().strip_prefix("ee") == Some(wanted));
-    Ok(())
+    is_text(rt, alloc, tree, wanted);
 }
 
 /// The instance has this text.
-fn is_core(rt: &impl Abort, alloc: Global, row: Core<'_>, wanted: &str) -> Result<(), Fault> {
-    is_text(rt, alloc, &row.tree(alloc)?, wanted)
+fn is_core(rt: &impl Abort, alloc: Global, row: Core<'_>, wanted: &str) {
+    is_tree(rt, alloc, &row.tree(rt, alloc), wanted);
 }
 
 /// The instance has this text.
-fn is_component(
-    rt: &impl Abort,
-    alloc: Global,
-    row: Component<'_>,
-    wanted: &str,
-) -> Result<(), Fault> {
-    is_text(rt, alloc, &row.tree(alloc)?, wanted)
+fn is_component(rt: &impl Abort, alloc: Global, row: Component<'_>, wanted: &str) {
+    is_tree(rt, alloc, &row.tree(rt, alloc), wanted);
 }
 
 const CORE_ROWS: &[(Core<'static>, &str)] = &[
@@ -149,19 +143,18 @@ const CORE_ROWS: &[(Core<'static>, &str)] = &[
 ];
 
 /// Sweeps the instance.
-fn sweep_core(alloc: Global, row: Core<'_>) -> Result<bool, Fault> {
-    sweep_encode(alloc, &row.tree(alloc)?)
+fn sweep_core(rt: &impl Abort, alloc: Global, row: Core<'_>) {
+    is_well(rt, sweep_encode(alloc, &row.tree(rt, alloc)));
 }
 
 #[test]
-fn core_instances(rt: HostRuntime) -> Result<(), Fail> {
+fn core_instances(rt: HostRuntime) {
     for (row, wanted) in CORE_ROWS {
-        is_core(&rt, rt.alloc(), *row, wanted)?;
+        is_core(&rt, rt.alloc(), *row, wanted);
     }
     for row in LONG_CORE {
-        assert!(rt; sweep_core(rt.alloc(), *row)?);
+        sweep_core(&rt, rt.alloc(), *row);
     }
-    Ok(())
 }
 
 const COMPONENT_ROWS: &[(Component<'static>, &str)] = &[
@@ -207,17 +200,16 @@ const LONG: &[Component<'static>] = &[
 ];
 
 /// Sweeps the instance.
-fn sweep(alloc: Global, row: Component<'_>) -> Result<bool, Fault> {
-    sweep_encode(alloc, &row.tree(alloc)?)
+fn sweep(rt: &impl Abort, alloc: Global, row: Component<'_>) {
+    is_well(rt, sweep_encode(alloc, &row.tree(rt, alloc)));
 }
 
 #[test]
-fn instances(rt: HostRuntime) -> Result<(), Fail> {
+fn instances(rt: HostRuntime) {
     for (row, wanted) in COMPONENT_ROWS {
-        is_component(&rt, rt.alloc(), *row, wanted)?;
+        is_component(&rt, rt.alloc(), *row, wanted);
     }
     for row in LONG {
-        assert!(rt; sweep(rt.alloc(), *row)?);
+        sweep(&rt, rt.alloc(), *row);
     }
-    Ok(())
 }

@@ -1,14 +1,13 @@
 //! Sections of instances.
 
 use crate::checks::{counts, row};
-use crate::counted::{Items, Short, sweep_sections};
+use crate::counted::{Items, Short, sweep_all};
 use crate::instance_trees::Core;
 use crate::named::Name;
 use refusing::Refusing;
 use std::alloc::Global;
 use std::process::Abort;
-use std::test::Fail;
-use sweeping::members::{Adds, sweep_calls, sweep_clones};
+use sweeping::members::Adds;
 use sweeping::{LARGE, NAME};
 use wenc_base::{ExportKind, Fault};
 use wenc_parts::{ComponentExportKind, ModuleArg};
@@ -67,28 +66,24 @@ pub const LONG_CORE: &[Core<'static>] = &[
 ];
 
 /// The sections have these bytes, and are swept.
-fn check_core(rt: &impl Abort, alloc: Global, heap: &Refusing) -> Result<(), Fault> {
+fn check_core(rt: &impl Abort, alloc: Global, heap: &Refusing) {
     let one = "0100020401000300";
     let two = "0200020702000300000300";
-    counts::<Items<CoreInstances>>(rt, alloc, heap, "0001020100", one, two)?;
+    counts::<Items<CoreInstances>>(rt, alloc, heap, "0001020100", one, two);
     row::<Items<CoreInstances>, Core>(
         rt,
         alloc,
         heap,
         CORE,
         "0200021202010103666f6f000000010103666f6f1200",
-    )?;
-    assert!(rt; sweep_sections::<CoreInstances, Core>(alloc, heap, LONG_CORE)?);
-    assert!(rt; sweep_calls::<Items<CoreInstances>, Core>(alloc, heap, LONG_CORE)?);
-    assert!(rt; sweep_clones::<Items<CoreInstances>>(alloc, heap, false)?);
-    Ok(())
+    );
+    sweep_all::<Items<CoreInstances>, Core>(rt, alloc, heap, LONG_CORE);
 }
 
 #[test]
-fn core_instances(rt: HostRuntime) -> Result<(), Fail> {
+fn core_instances(rt: HostRuntime) {
     let heap = Refusing::new(rt.alloc());
-    check_core(&rt, rt.alloc(), &heap)?;
-    Ok(())
+    check_core(&rt, rt.alloc(), &heap);
 }
 
 /// A call that adds an instance.
@@ -163,26 +158,22 @@ const LONG_CALLS: &[Call<'static>] = &[
 ];
 
 /// The sections have these bytes, and are swept.
-fn check(rt: &impl Abort, alloc: Global, heap: &Refusing) -> Result<(), Fault> {
+fn check(rt: &impl Abort, alloc: Global, heap: &Refusing) {
     let one = "0100050401000300";
     let two = "0200050702000300000300";
-    counts::<Items<Instances>>(rt, alloc, heap, "0001050100", one, two)?;
+    counts::<Items<Instances>>(rt, alloc, heap, "0001050100", one, two);
     row::<Items<Instances>, Call>(
         rt,
         alloc,
         heap,
         CALLS,
         "020005130201010003666f6f010000010103666f6f0500",
-    )?;
-    assert!(rt; sweep_sections::<Instances, Call>(alloc, heap, LONG_CALLS)?);
-    assert!(rt; sweep_calls::<Items<Instances>, Call>(alloc, heap, LONG_CALLS)?);
-    assert!(rt; sweep_clones::<Items<Instances>>(alloc, heap, false)?);
-    Ok(())
+    );
+    sweep_all::<Items<Instances>, Call>(rt, alloc, heap, LONG_CALLS);
 }
 
 #[test]
-fn instances(rt: HostRuntime) -> Result<(), Fail> {
+fn instances(rt: HostRuntime) {
     let heap = Refusing::new(rt.alloc());
-    check(&rt, rt.alloc(), &heap)?;
-    Ok(())
+    check(&rt, rt.alloc(), &heap);
 }

@@ -1,8 +1,9 @@
 //! What lends itself to the encoders of types: sections of types, and types with declarations.
 
+use crate::checks::yes;
 use std::alloc::{Allocator, Global};
 use std::process::Abort;
-use sweeping::sweep_section;
+use sweeping::{ok, sweep_section};
 use wenc_base::{Encode, Fault};
 use wenc_sections::{Counted, LentKind};
 
@@ -69,26 +70,29 @@ fn append_each(counts: &[u32], state: &mut Vec<u8>) -> Result<(), Fault> {
     Ok(())
 }
 
+fn append_state<L: Lending>(of: &L, state: &mut Vec<u8>) -> Result<(), Fault> {
+    append_each(of.counts().as_slice(), state)?;
+    append(&(of.is_empty(), of.is_finished()), state)?;
+    append(of, state)
+}
+
 /// All that can be asked of it, in bytes: what it counts, whether it is empty and finished, and its text.
 pub fn state<L: Lending>(alloc: Global, of: &L) -> Result<Vec<u8>, Fault> {
     let mut state = Vec::new(alloc);
-    append_each(of.counts().as_slice(), &mut state)?;
-    append(&(of.is_empty(), of.is_finished()), &mut state)?;
-    append(of, &mut state)?;
+    append_state(of, &mut state)?;
     Ok(state)
 }
 
 /// This is all that can be asked of it.
-pub fn is<L: Lending>(rt: &impl Abort, alloc: Global, of: &L, wanted: &[u8]) -> Result<(), Fault> {
-    let given = state(alloc, of)?;
-    assert!(rt; given.as_slice() == wanted);
-    Ok(())
+pub fn is<L: Lending>(rt: &impl Abort, alloc: Global, of: &L, wanted: &[u8]) {
+    let given = ok(rt, state(alloc, of));
+    yes(rt, given.as_slice() == wanted);
 }
 
 /// It counts this, and nothing is being written.
 pub fn has<L: Lending>(rt: &impl Abort, of: &L, counts: [u32; 4]) {
-    assert!(rt; of.counts() == counts);
-    assert!(rt; of.is_finished() && !of.is_empty());
+    yes(rt, of.counts() == counts);
+    yes(rt, of.is_finished() && !of.is_empty());
 }
 
 /// A kind of section that has types.

@@ -1,7 +1,9 @@
 //! Names, in tables.
 
-use std::alloc::{AllocError, Global};
+use std::alloc::Global;
 use std::borrow::CowStr;
+use std::process::Abort;
+use sweeping::ok;
 use wenc_parts::{ComponentExternName, NameTree};
 
 /// A name, with its options.
@@ -36,25 +38,30 @@ fn each<'a>(name: &'a str) -> ComponentExternName<'a> {
     }
 }
 
-fn owned(alloc: Global, text: &str) -> Result<Option<String>, AllocError> {
-    Ok(Some(String::from_str(alloc, text)?))
+fn owned(rt: &impl Abort, alloc: Global, text: &str) -> String {
+    ok(rt, String::from_str(alloc, text))
 }
 
-fn plain_tree(alloc: Global, name: &str) -> Result<NameTree, AllocError> {
-    Ok(NameTree::from(String::from_str(alloc, name)?))
+fn plain_tree(rt: &impl Abort, alloc: Global, name: &str) -> NameTree {
+    NameTree::from(owned(rt, alloc, name))
 }
 
-fn implementing_tree(alloc: Global, name: &str, interface: &str) -> Result<NameTree, AllocError> {
-    let mut tree = plain_tree(alloc, name)?;
-    tree.implements = owned(alloc, interface)?;
-    Ok(tree)
+fn implementing_tree(rt: &impl Abort, alloc: Global, name: &str, interface: &str) -> NameTree {
+    NameTree {
+        name: owned(rt, alloc, name),
+        implements: Some(owned(rt, alloc, interface)),
+        version_suffix: None,
+        external_id: None,
+    }
 }
 
-fn each_tree(alloc: Global, name: &str) -> Result<NameTree, AllocError> {
-    let mut tree = implementing_tree(alloc, name, name)?;
-    tree.version_suffix = owned(alloc, name)?;
-    tree.external_id = owned(alloc, name)?;
-    Ok(tree)
+fn each_tree(rt: &impl Abort, alloc: Global, name: &str) -> NameTree {
+    NameTree {
+        name: owned(rt, alloc, name),
+        implements: Some(owned(rt, alloc, name)),
+        version_suffix: Some(owned(rt, alloc, name)),
+        external_id: Some(owned(rt, alloc, name)),
+    }
 }
 
 impl<'a> Name<'a> {
@@ -66,11 +73,11 @@ impl<'a> Name<'a> {
         }
     }
 
-    pub fn tree(self, alloc: Global) -> Result<NameTree, AllocError> {
+    pub fn tree(self, rt: &impl Abort, alloc: Global) -> NameTree {
         match self {
-            Name::Plain(name) => plain_tree(alloc, name),
-            Name::Implements(name, interface) => implementing_tree(alloc, name, interface),
-            Name::Each(name) => each_tree(alloc, name),
+            Name::Plain(name) => plain_tree(rt, alloc, name),
+            Name::Implements(name, interface) => implementing_tree(rt, alloc, name, interface),
+            Name::Each(name) => each_tree(rt, alloc, name),
         }
     }
 }

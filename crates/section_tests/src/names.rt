@@ -1,13 +1,12 @@
 //! Sections of names.
 
-use crate::checks::{alone, are};
+use crate::checks::{alone, are, is_text, is_well};
+use crate::counted::{Sections, sweep_sections};
 use refusing::Refusing;
 use std::alloc::Global;
 use std::process::Abort;
-use std::test::Fail;
-use sweeping::hexed::text;
 use sweeping::members::{Adds, Members, sweep_calls, sweep_clones};
-use sweeping::{LARGE, NAME, TEXT, sweep_encode, sweep_section};
+use sweeping::{LARGE, NAME, TEXT, ok, sweep_encode, sweep_section};
 use wenc_base::{CustomSection, Encode, Fault, NameMap};
 use wenc_parts::ComponentSection;
 use wenc_sections::{ComponentNameSection, NamesOf, Sort};
@@ -34,6 +33,12 @@ impl<'a> Members<'a> for Names<'a> {
         self.0.is_empty().encode(&mut state)?;
         self.0.encode(&mut state)?;
         Ok(state)
+    }
+}
+
+impl<'a> Sections<'a> for Names<'a> {
+    fn sweep(&self, alloc: Global) -> Result<bool, Fault> {
+        sweep_section(alloc, &self.0)
     }
 }
 
@@ -107,16 +112,16 @@ const SORTS: &[(Sort, &str)] = &[
     (Sort::Instance, "01050501000174"),
 ];
 
-fn map(alloc: Global, index: u32, name: &str) -> Result<NameMap, Fault> {
+fn map(rt: &impl Abort, alloc: Global, index: u32, name: &str) -> NameMap {
     let mut names = NameMap::new(alloc);
-    names.append(index, name)?;
-    Ok(names)
+    ok(rt, names.append(index, name));
+    names
 }
 
-fn long_names(alloc: Global) -> Result<NameMap, Fault> {
-    let mut names = map(alloc, LARGE, NAME)?;
-    names.append(0, NAME)?;
-    Ok(names)
+fn long_names(rt: &impl Abort, alloc: Global) -> NameMap {
+    let mut names = map(rt, alloc, LARGE, NAME);
+    ok(rt, names.append(0, NAME));
+    names
 }
 
 /// The section as a custom one.
@@ -125,18 +130,18 @@ fn custom<'b>(names: &'b Names<'_>) -> CustomSection<'b> {
 }
 
 /// The bytes behind the section's name are these.
-fn has_data(rt: &impl Abort, alloc: Global, names: &Names<'_>, wanted: &str) -> Result<(), Fault> {
+fn has_data(rt: &impl Abort, alloc: Global, names: &Names<'_>, wanted: &str) {
     assert!(rt; names.0.is_empty() == wanted.is_empty());
-    are(rt, alloc, custom(names).data, wanted)
+    are(rt, alloc, custom(names).data, wanted);
 }
 
 /// A section of these subsections.
-fn made<'a>(heap: &'a Refusing, subsections: &[Subsection<'_>]) -> Result<Names<'a>, Fault> {
-    let mut names = Names::empty(heap)?;
+fn made<'a>(rt: &impl Abort, heap: &'a Refusing, subsections: &[Subsection<'_>]) -> Names<'a> {
+    let mut names = ok(rt, Names::empty(heap));
     for subsection in subsections {
-        subsection.add(&mut names)?;
+        ok(rt, subsection.add(&mut names));
     }
-    Ok(names)
+    names
 }
 
 /// Behind the section's name stand the bytes of these subsections.
@@ -146,57 +151,38 @@ fn made_has_data(
     heap: &Refusing,
     subsections: &[Subsection<'_>],
     wanted: &str,
-) -> Result<(), Fault> {
-    let section = made(heap, subsections)?;
-    has_data(rt, alloc, &section, wanted)
-}
-
-/// A subsection by itself.
-fn check_subsection(
-    rt: &impl Abort,
-    alloc: Global,
-    sort: Sort,
-    names: &NameMap,
-    wanted: &str,
-) -> Result<(), Fault> {
-    let text = text(alloc, &NamesOf(sort, names))?;
-    assert!(rt; text.as_str().strip_prefix("ee") == Some(wanted));
-    Ok(())
+) {
+    let section = made(rt, heap, subsections);
+    has_data(rt, alloc, &section, wanted);
 }
 
 /// A subsection in a section, and by itself.
-fn check_sort(
-    rt: &impl Abort,
-    alloc: Global,
-    heap: &Refusing,
-    sort: Sort,
-    wanted: &str,
-) -> Result<(), Fault> {
-    let names = map(alloc, 0, "t")?;
+fn check_sort(rt: &impl Abort, alloc: Global, heap: &Refusing, sort: Sort, wanted: &str) {
+    let names = map(rt, alloc, 0, "t");
     let subsections = [Subsection::Items(sort, &names)];
-    made_has_data(rt, alloc, heap, subsections.as_slice(), wanted)?;
-    check_subsection(rt, alloc, sort, &names, wanted)
+    made_has_data(rt, alloc, heap, subsections.as_slice(), wanted);
+    is_text(rt, alloc, &NamesOf(sort, &names), wanted);
 }
 
 /// Sweeps the call of this sort, and its subsection by itself.
-fn sweep_sort(alloc: Global, sort: Sort, names: &NameMap) -> Result<bool, Fault> {
+fn sweep_sort(rt: &impl Abort, alloc: Global, sort: Sort, names: &NameMap) {
     let heap = Refusing::new(alloc);
     let items = [Subsection::Items(sort, names)];
-    Ok(
-        sweep_calls::<Names, Subsection>(alloc, &heap, items.as_slice())?
-            && sweep_encode(alloc, &NamesOf(sort, names))?,
-    )
+    is_well(
+        rt,
+        sweep_calls::<Names, Subsection>(alloc, &heap, items.as_slice()),
+    );
+    is_well(rt, sweep_encode(alloc, &NamesOf(sort, names)));
 }
 
 #[test]
-fn sorts(rt: HostRuntime) -> Result<(), Fail> {
+fn sorts(rt: HostRuntime) {
     let heap = Refusing::new(rt.alloc());
-    let long = long_names(rt.alloc())?;
+    let long = long_names(&rt, rt.alloc());
     for (sort, wanted) in SORTS {
-        check_sort(&rt, rt.alloc(), &heap, *sort, wanted)?;
-        assert!(rt; sweep_sort(rt.alloc(), *sort, &long)?);
+        check_sort(&rt, rt.alloc(), &heap, *sort, wanted);
+        sweep_sort(&rt, rt.alloc(), *sort, &long);
     }
-    Ok(())
 }
 
 /// The bytes of the section, behind its id.
@@ -206,15 +192,14 @@ fn made_is(
     heap: &Refusing,
     subsections: &[Subsection<'_>],
     wanted: &str,
-) -> Result<(), Fault> {
-    let section = made(heap, subsections)?;
-    alone(rt, alloc, &section.0, wanted)
+) {
+    let section = made(rt, heap, subsections);
+    alone(rt, alloc, &section.0, wanted);
 }
 
-fn has_name(rt: &impl Abort, heap: &Refusing) -> Result<(), Fault> {
-    let section = Names::empty(heap)?;
+fn has_name(rt: &impl Abort, heap: &Refusing) {
+    let section = ok(rt, Names::empty(heap));
     assert!(rt; custom(&section).name == "component-name");
-    Ok(())
 }
 
 const NO_NAMES: &str = "000f0e636f6d706f6e656e742d6e616d65";
@@ -222,97 +207,92 @@ const NO_NAMES: &str = "000f0e636f6d706f6e656e742d6e616d65";
 const NO_NAME: &str = "00120e636f6d706f6e656e742d6e616d65000100";
 
 #[test]
-fn without_names(rt: HostRuntime) -> Result<(), Fail> {
+fn without_names(rt: HostRuntime) {
     let heap = Refusing::new(rt.alloc());
-    has_name(&rt, &heap)?;
-    made_has_data(&rt, rt.alloc(), &heap, &[], "")?;
-    made_is(&rt, rt.alloc(), &heap, &[], NO_NAMES)?;
+    has_name(&rt, &heap);
+    made_has_data(&rt, rt.alloc(), &heap, &[], "");
+    made_is(&rt, rt.alloc(), &heap, &[], NO_NAMES);
     let empty = [Subsection::Component("")];
-    made_is(&rt, rt.alloc(), &heap, empty.as_slice(), NO_NAME)?;
-    Ok(())
+    made_is(&rt, rt.alloc(), &heap, empty.as_slice(), NO_NAME);
 }
 
 /// Three kinds of subsections, behind the id of the section.
 const THREE_KINDS: &str = "001e0e636f6d706f6e656e742d6e616d650002016301060010010001740901aa";
 
 /// A copy has a subsection more, and what it was copied from hasn't.
-fn copy_names_more(rt: &impl Abort, alloc: Global, section: &Names<'_>) -> Result<(), Fault> {
-    let mut copied = section.again()?;
-    alone(rt, alloc, &copied.0, THREE_KINDS)?;
-    Subsection::Raw(255, &[]).add(&mut copied)?;
-    has_data(rt, alloc, &copied, "0002016301060010010001740901aaff00")?;
-    alone(rt, alloc, &section.0, THREE_KINDS)
+fn copy_names_more(rt: &impl Abort, alloc: Global, section: &Names<'_>) {
+    let mut copied = ok(rt, section.again());
+    alone(rt, alloc, &copied.0, THREE_KINDS);
+    ok(rt, Subsection::Raw(255, &[]).add(&mut copied));
+    has_data(rt, alloc, &copied, "0002016301060010010001740901aaff00");
+    alone(rt, alloc, &section.0, THREE_KINDS);
 }
 
 /// Three kinds of subsections, and a copy of them.
-fn three_kinds(
-    rt: &impl Abort,
-    alloc: Global,
-    heap: &Refusing,
-    names: &NameMap,
-) -> Result<(), Fault> {
+fn three_kinds(rt: &impl Abort, alloc: Global, heap: &Refusing, names: &NameMap) {
     let kinds = [
         Subsection::Component("c"),
         Subsection::Items(Sort::CoreType, names),
         Subsection::Raw(9, &[0xaa]),
     ];
-    let section = made(heap, kinds.as_slice())?;
-    alone(rt, alloc, &section.0, THREE_KINDS)?;
-    copy_names_more(rt, alloc, &section)
+    let section = made(rt, heap, kinds.as_slice());
+    alone(rt, alloc, &section.0, THREE_KINDS);
+    copy_names_more(rt, alloc, &section);
 }
 
 #[test]
-fn kinds_of_subsections(rt: HostRuntime) -> Result<(), Fail> {
+fn kinds_of_subsections(rt: HostRuntime) {
     let heap = Refusing::new(rt.alloc());
-    let names = map(rt.alloc(), 0, "t")?;
-    three_kinds(&rt, rt.alloc(), &heap, &names)?;
-    Ok(())
+    let names = map(&rt, rt.alloc(), 0, "t");
+    three_kinds(&rt, rt.alloc(), &heap, &names);
 }
 
 // Ids of names under `raw` too, and a size of two bytes.
-fn raw(rt: &impl Abort, alloc: Global, heap: &Refusing) -> Result<(), Fault> {
+fn raw(rt: &impl Abort, alloc: Global, heap: &Refusing) {
     let subsections = [Subsection::Raw(0, &[]), Subsection::Raw(1, &[0x07])];
-    let mut section = made(heap, subsections.as_slice())?;
-    has_data(rt, alloc, &section, "0000010107")?;
-    Subsection::Raw(2, [0x00; 128].as_slice()).add(&mut section)?;
+    let mut section = made(rt, heap, subsections.as_slice());
+    has_data(rt, alloc, &section, "0000010107");
+    ok(
+        rt,
+        Subsection::Raw(2, [0x00; 128].as_slice()).add(&mut section),
+    );
     assert!(rt; custom(&section).data.len() == 136);
-    Ok(())
 }
 
 #[test]
-fn raw_subsections(rt: HostRuntime) -> Result<(), Fail> {
+fn raw_subsections(rt: HostRuntime) {
     let heap = Refusing::new(rt.alloc());
-    raw(&rt, rt.alloc(), &heap)?;
-    Ok(())
+    raw(&rt, rt.alloc(), &heap);
 }
 
 /// Sweeps the calls of other subsections.
-fn sweep_others(alloc: Global, heap: &Refusing) -> Result<bool, Fault> {
+fn sweep_others(rt: &impl Abort, alloc: Global, heap: &Refusing) {
     let others = [
         Subsection::Component(""),
         Subsection::Component(NAME),
         Subsection::Raw(9, &[]),
         Subsection::Raw(9, TEXT),
     ];
-    sweep_calls::<Names, Subsection>(alloc, heap, others.as_slice())
+    is_well(
+        rt,
+        sweep_calls::<Names, Subsection>(alloc, heap, others.as_slice()),
+    );
 }
 
-/// Sweeps the section with no subsection, with one and with two.
-fn sweep_sections(alloc: Global, heap: &Refusing) -> Result<bool, Fault> {
-    let mut section = Names::empty(heap)?;
-    let mut is_well = true;
-    for name in ["", NAME, "a"].as_slice() {
-        is_well = is_well && sweep_section(alloc, &section.0)?;
-        Subsection::Component(name).add(&mut section)?;
-    }
-    Ok(is_well)
+/// Sweeps the section with no subsection, with one and so on.
+fn sweep_each(rt: &impl Abort, alloc: Global, heap: &Refusing) {
+    let names = [
+        Subsection::Component(""),
+        Subsection::Component(NAME),
+        Subsection::Component("a"),
+    ];
+    sweep_sections::<Names, Subsection>(rt, alloc, heap, names.as_slice());
 }
 
 #[test]
-fn sections_are_swept(rt: HostRuntime) -> Result<(), Fail> {
+fn sections_are_swept(rt: HostRuntime) {
     let heap = Refusing::new(rt.alloc());
-    assert!(rt; sweep_sections(rt.alloc(), &heap)?);
-    assert!(rt; sweep_others(rt.alloc(), &heap)?);
-    assert!(rt; sweep_clones::<Names>(rt.alloc(), &heap, false)?);
-    Ok(())
+    sweep_each(&rt, rt.alloc(), &heap);
+    sweep_others(&rt, rt.alloc(), &heap);
+    is_well(&rt, sweep_clones::<Names>(rt.alloc(), &heap, false));
 }

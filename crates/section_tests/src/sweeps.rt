@@ -3,9 +3,9 @@
 ghost use Rattle.wenc_base.specs.Fault.{text_cause};
 ghost use Rattle.wenc_base.specs.Forms.{name};
 
+use crate::checks::is_well;
 use refusing::Refusing;
 use std::alloc::{Allocator, Global};
-use std::test::Fail;
 use sweeping::NAME;
 use sweeping::members::{Adds, Members, sweep_calls, sweep_clones, sweep_new};
 use wenc_base::{Encode, Fault, RawCustomSection};
@@ -64,12 +64,15 @@ impl<'a, 'b> Adds<Sections<'a>> for OwnText<'b> {
     }
 }
 
+const TEXTS: &[OwnText<'static>] = &[OwnText(""), OwnText(NAME)];
+
 #[test]
-fn components_are_swept(rt: HostRuntime) -> Result<(), Fail> {
+fn components_are_swept(rt: HostRuntime) {
     let heap = Refusing::new(rt.alloc());
-    let sections = [OwnText(""), OwnText(NAME)];
-    assert!(rt; sweep_new::<Sections>(rt.alloc(), &heap)?);
-    assert!(rt; sweep_calls::<Sections, OwnText>(rt.alloc(), &heap, sections.as_slice())?);
-    assert!(rt; sweep_clones::<Sections>(rt.alloc(), &heap, true)?);
-    Ok(())
+    is_well(&rt, sweep_new::<Sections>(rt.alloc(), &heap));
+    is_well(
+        &rt,
+        sweep_calls::<Sections, OwnText>(rt.alloc(), &heap, TEXTS),
+    );
+    is_well(&rt, sweep_clones::<Sections>(rt.alloc(), &heap, true));
 }

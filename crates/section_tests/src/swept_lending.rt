@@ -1,11 +1,12 @@
 //! Sweeps of what lends itself to the encoders of types.
 
+use crate::checks::{counts, is_well, yes};
 use crate::lending::{Lending, Makes, TypeKind, is, state};
 use refusing::Refusing;
 use std::alloc::Global;
 use std::process::Abort;
-use sweeping::REFUSED;
 use sweeping::members::{Adds, Members, is_as, started, sweep_add, sweep_clones};
+use sweeping::{REFUSED, ok};
 use wenc_base::Fault;
 use wenc_sections::Counted;
 
@@ -90,35 +91,35 @@ fn is_made_of(state: &[u8], counted: &[u8], lead: &[u8], text: &[u8]) -> bool {
 
 /// With this call alone, this is all that can be asked. The text is swept.
 fn makes<'a, L: OnHeap<'a>, C: Makes<L>>(
+    rt: &impl Abort,
     alloc: Global,
     heap: &'a Refusing,
     call: &Made<C>,
     counted: &[u8],
     lead: &[u8],
     text: &[u8],
-) -> Result<bool, Fault> {
-    let mut members: Swept<L> = started(heap, 0)?;
-    call.add(&mut members)?;
-    let state = members.state(alloc)?;
-    let is_well = is_made_of(state.as_slice(), counted, lead, text);
-    Ok(is_well && members.0.sweep_text(alloc)?)
+) {
+    let mut members: Swept<L> = ok(rt, started(heap, 0));
+    ok(rt, call.add(&mut members));
+    let state = ok(rt, members.state(alloc));
+    yes(rt, is_made_of(state.as_slice(), counted, lead, text));
+    is_well(rt, members.0.sweep_text(alloc));
 }
 
 /// Sweeps a call, and the text that it makes. With it alone, this is all that can be asked: what is counted, and whether
 /// it is empty and finished; then what the text begins with, and what the call makes.
 pub fn sweep_made<'a, L: OnHeap<'a>, C: Makes<L> + Copy>(
+    rt: &impl Abort,
     alloc: Global,
     heap: &'a Refusing,
     call: C,
     counted: &[u8],
     lead: &[u8],
     text: &[u8],
-) -> Result<bool, Fault> {
+) {
     let call = Made(call);
-    Ok(
-        makes::<L, C>(alloc, heap, &call, counted, lead, text)?
-            && sweep_add::<Swept<L>, Made<C>>(alloc, heap, &call)?,
-    )
+    makes::<L, C>(rt, alloc, heap, &call, counted, lead, text);
+    is_well(rt, sweep_add::<Swept<L>, Made<C>>(alloc, heap, &call));
 }
 
 /// One item: the section isn't empty, and is finished.
@@ -135,39 +136,35 @@ fn size(text: &[u8]) -> u8 {
 
 /// Sweeps a call that makes an item of this text, behind the section's size and number of items.
 pub fn sweep_item<'a, L: OnHeap<'a>, C: Makes<L> + Copy>(
+    rt: &impl Abort,
     alloc: Global,
     heap: &'a Refusing,
     call: C,
     text: &[u8],
-) -> Result<bool, Fault> {
-    sweep_made::<L, C>(alloc, heap, call, AN_ITEM, &[size(text), 1], text)
+) {
+    sweep_made::<L, C>(rt, alloc, heap, call, AN_ITEM, &[size(text), 1], text);
 }
 
 /// Sweeps the text each time that a call has added to it.
 pub fn sweep_texts<L: Lending, C: Makes<L>>(
+    rt: &impl Abort,
     alloc: Global,
     to: &mut L,
     rows: &[(C, &[u8])],
-) -> Result<bool, Fault> {
-    let mut is_well = to.sweep_text(alloc)?;
+) {
+    is_well(rt, to.sweep_text(alloc));
     for (call, _) in rows {
-        call.make(to)?;
-        is_well = is_well && to.sweep_text(alloc)?;
+        ok(rt, call.make(to));
+        is_well(rt, to.sweep_text(alloc));
     }
-    Ok(is_well)
 }
 
 /// The last call is refused.
-fn is_refused<L: Lending, C: Makes<L>>(
-    rt: &impl Abort,
-    heap: &Refusing,
-    to: &mut L,
-    call: &C,
-) -> Result<(), Fault> {
+fn is_refused<L: Lending, C: Makes<L>>(rt: &impl Abort, heap: &Refusing, to: &mut L, call: &C) {
     heap.refuse_all();
-    assert!(rt; call.make(to) == Err(REFUSED));
-    assert!(rt; heap.requests() == 1);
-    give_up(to)
+    yes(rt, call.make(to) == Err(REFUSED));
+    yes(rt, heap.requests() == 1);
+    ok(rt, give_up(to));
 }
 
 /// So it is where so many members leave room for the beginning of a type, and no more.
@@ -176,33 +173,32 @@ pub fn last_is_refused<'a, L: OnHeap<'a>, C: Makes<L>>(
     heap: &'a Refusing,
     count: u32,
     call: &C,
-) -> Result<(), Fault> {
-    let mut members: Swept<L> = started(heap, count)?;
-    is_refused(rt, heap, &mut members.0, call)
+) {
+    let mut members: Swept<L> = ok(rt, started(heap, count));
+    is_refused(rt, heap, &mut members.0, call);
 }
 
 /// Nothing is in it, and nothing was asked for.
 fn is_new<L: Lending>(rt: &impl Abort, heap: &Refusing, new: &L) {
-    assert!(rt; new.is_empty() && new.is_finished());
-    assert!(rt; new.counts() == [0; 4]);
-    assert!(rt; heap.requests() == 0);
+    yes(rt, new.is_empty() && new.is_finished());
+    yes(rt, new.counts() == [0; 4]);
+    yes(rt, heap.requests() == 0);
 }
 
 /// What is new takes no memory, nor does a copy of it, and there is nothing to be given up.
-fn is_made<'a, L: OnHeap<'a>>(rt: &impl Abort, heap: &'a Refusing) -> Result<(), Fault> {
+fn is_made<'a, L: OnHeap<'a>>(rt: &impl Abort, heap: &'a Refusing) {
     heap.refuse_all();
     let mut new = L::empty(heap);
-    assert!(rt; !new.give_up());
+    yes(rt, !new.give_up());
     is_new(rt, heap, &new);
-    is_new(rt, heap, &new.copy()?);
-    Ok(())
+    is_new(rt, heap, &ok(rt, new.copy()));
 }
 
 /// A beginning that is refused changes nothing.
 fn is_not_begun<L: Lending, B: Makes<L>>(rt: &impl Abort, heap: &Refusing, to: &mut L, start: &B) {
     heap.refuse_all();
-    assert!(rt; start.make(to) == Err(REFUSED));
-    assert!(rt; heap.requests() == 1);
+    yes(rt, start.make(to) == Err(REFUSED));
+    yes(rt, heap.requests() == 1);
     heap.refuse_all();
     is_new(rt, heap, to);
 }
@@ -236,16 +232,15 @@ fn begin_each<L: Lending, B: Makes<L>>(
     heap: &Refusing,
     to: &mut L,
     beginnings: &[B],
-) -> Result<(), Fault> {
+) {
     for start in beginnings {
         let_begin::<L>(heap);
-        start.make(to)?;
-        assert!(rt; L::BEGINNING_ASKS || heap.requests() == 0);
+        ok(rt, start.make(to));
+        yes(rt, L::BEGINNING_ASKS || heap.requests() == 0);
         heap.refuse_all();
-        give_up(to)?;
-        assert!(rt; heap.requests() == 0);
+        ok(rt, give_up(to));
+        yes(rt, heap.requests() == 0);
     }
-    Ok(())
 }
 
 /// Nothing is lost of so many members.
@@ -255,30 +250,24 @@ fn keeps_members<'a, L: OnHeap<'a>, B: Makes<L>>(
     heap: &'a Refusing,
     count: u32,
     beginnings: &[B],
-) -> Result<(), Fault> {
-    let mut members: Swept<L> = started(heap, count)?;
-    let before = members.state(alloc)?;
-    begin_each(rt, heap, &mut members.0, beginnings)?;
-    assert!(rt; is_as(alloc, &members, before.as_slice())?);
-    Ok(())
+) {
+    let mut members: Swept<L> = ok(rt, started(heap, count));
+    let before = ok(rt, members.state(alloc));
+    begin_each(rt, heap, &mut members.0, beginnings);
+    is_well(rt, is_as(alloc, &members, before.as_slice()));
 }
 
 /// What was begun is given up, and all is as it was before.
-fn is_as_before<L: Lending>(
-    rt: &impl Abort,
-    alloc: Global,
-    of: &mut L,
-    before: &[u8],
-) -> Result<(), Fault> {
-    give_up(of)?;
-    is(rt, alloc, of, before)
+fn is_as_before<L: Lending>(rt: &impl Abort, alloc: Global, of: &mut L, before: &[u8]) {
+    ok(rt, give_up(of));
+    is(rt, alloc, of, before);
 }
 
 /// A copy of what is unfinished asks for memory once.
 fn is_not_copied<L: Lending>(rt: &impl Abort, heap: &Refusing, of: &L) {
     heap.refuse_nth(1);
-    assert!(rt; of.copy().err() == Some(REFUSED));
-    assert!(rt; heap.requests() == 1);
+    yes(rt, of.copy().err() == Some(REFUSED));
+    yes(rt, heap.requests() == 1);
 }
 
 /// A copy while a type is being written.
@@ -288,38 +277,36 @@ fn is_copied<L: Lending>(
     heap: &Refusing,
     of: &mut L,
     before: &[u8],
-) -> Result<(), Fault> {
-    of.begin()?;
+) {
+    ok(rt, of.begin());
     is_not_copied(rt, heap, of);
-    is_as_before(rt, alloc, &mut of.copy()?, before)?;
-    is_as_before(rt, alloc, of, before)
+    is_as_before(rt, alloc, &mut ok(rt, of.copy()), before);
+    is_as_before(rt, alloc, of, before);
 }
 
 /// So it is with members before it.
-fn copies<'a, L: OnHeap<'a>>(
-    rt: &impl Abort,
-    alloc: Global,
-    heap: &'a Refusing,
-) -> Result<(), Fault> {
-    let mut members: Swept<L> = started(heap, 3)?;
-    let before = members.state(alloc)?;
-    is_copied(rt, alloc, heap, &mut members.0, before.as_slice())?;
-    assert!(rt; sweep_clones::<Swept<L>>(alloc, heap, false)?);
-    Ok(())
+fn copies<'a, L: OnHeap<'a>>(rt: &impl Abort, alloc: Global, heap: &'a Refusing) {
+    let mut members: Swept<L> = ok(rt, started(heap, 3));
+    let before = ok(rt, members.state(alloc));
+    is_copied(rt, alloc, heap, &mut members.0, before.as_slice());
+    is_well(rt, sweep_clones::<Swept<L>>(alloc, heap, false));
 }
 
-/// New ones, copies, and types that are begun in each of these ways and given up.
+/// What is asked of one with no, one and two members. Then new ones, copies, and types that are begun in each of these
+/// ways and given up.
 pub fn begun<'a, L: OnHeap<'a>, B: Makes<L>>(
     rt: &impl Abort,
     alloc: Global,
     heap: &'a Refusing,
+    states: &[&str; 3],
     beginnings: &[B],
-) -> Result<(), Fault> {
-    is_made::<L>(rt, heap)?;
-    copies::<L>(rt, alloc, heap)?;
+) {
+    let [none, one, two] = states;
+    counts::<Swept<L>>(rt, alloc, heap, none, one, two);
+    is_made::<L>(rt, heap);
+    copies::<L>(rt, alloc, heap);
     begin_nothing::<L, B>(rt, heap, beginnings);
     for count in 0..9u32 {
-        keeps_members::<L, B>(rt, alloc, heap, count, beginnings)?;
+        keeps_members::<L, B>(rt, alloc, heap, count, beginnings);
     }
-    Ok(())
 }

@@ -1,17 +1,17 @@
 //! What lends itself to the encoders of types, while a type is being written, which is given up.
 
-use crate::checks::{is_not_encoded, is_refused, put};
+use crate::checks::{is_not_encoded, is_refused, put, yes};
 use crate::lending::{Lending, Makes, TypeKind, is, state};
 use std::alloc::Global;
 use std::process::Abort;
-use wenc_base::Fault;
+use sweeping::ok;
 use wenc_parts::ComponentSection;
 use wenc_sections::{Component, Counted};
 
 /// What something else can be made of, unless it is unfinished.
 pub trait Taken: Lending {
     /// Nothing is made of it.
-    fn is_not_taken(&self, rt: &impl Abort, alloc: Global) -> Result<(), Fault>;
+    fn is_not_taken(&self, rt: &impl Abort, alloc: Global);
 }
 
 fn size(component: &Component) -> usize {
@@ -19,49 +19,34 @@ fn size(component: &Component) -> usize {
 }
 
 /// Nothing of the section comes into a component.
-fn is_not_put(
-    rt: &impl Abort,
-    alloc: Global,
-    section: &impl ComponentSection,
-) -> Result<(), Fault> {
-    let mut component = Component::new(alloc)?;
+fn is_not_put(rt: &impl Abort, alloc: Global, section: &impl ComponentSection) {
+    let mut component = ok(rt, Component::new(alloc));
     is_refused(rt, put(&mut component, section));
-    assert!(rt; size(&component) == 8);
-    Ok(())
+    yes(rt, size(&component) == 8);
 }
 
 impl<K: TypeKind> Taken for Counted<K> {
-    fn is_not_taken(&self, rt: &impl Abort, alloc: Global) -> Result<(), Fault> {
-        is_not_put(rt, alloc, self)
+    fn is_not_taken(&self, rt: &impl Abort, alloc: Global) {
+        is_not_put(rt, alloc, self);
     }
 }
 
 /// A type is being written. Nothing is made of what it is in, and each of these calls is refused.
-fn is_unfinished<L: Taken, C: Makes<L>>(
-    rt: &impl Abort,
-    alloc: Global,
-    of: &mut L,
-    refused: &[C],
-) -> Result<(), Fault> {
-    assert!(rt; !of.is_finished());
-    is_not_encoded(rt, alloc, of)?;
+fn is_unfinished<L: Taken, C: Makes<L>>(rt: &impl Abort, alloc: Global, of: &mut L, refused: &[C]) {
+    yes(rt, !of.is_finished());
+    is_not_encoded(rt, alloc, of);
     is_refused(rt, of.begin());
     for call in refused {
         is_refused(rt, call.make(of));
     }
-    of.is_not_taken(rt, alloc)
+    of.is_not_taken(rt, alloc);
 }
 
 /// The type that is being written is given up, once.
-fn gives_up<L: Lending>(
-    rt: &impl Abort,
-    alloc: Global,
-    of: &mut L,
-    before: &[u8],
-) -> Result<(), Fault> {
-    assert!(rt; of.give_up());
-    assert!(rt; !of.give_up());
-    is(rt, alloc, of, before)
+fn gives_up<L: Lending>(rt: &impl Abort, alloc: Global, of: &mut L, before: &[u8]) {
+    yes(rt, of.give_up());
+    yes(rt, !of.give_up());
+    is(rt, alloc, of, before);
 }
 
 /// The type that is being written is given up, and all is as it was before.
@@ -71,9 +56,9 @@ pub fn takes_back<L: Taken, C: Makes<L>>(
     of: &mut L,
     refused: &[C],
     before: &[u8],
-) -> Result<(), Fault> {
-    is_unfinished(rt, alloc, of, refused)?;
-    gives_up(rt, alloc, of, before)
+) {
+    is_unfinished(rt, alloc, of, refused);
+    gives_up(rt, alloc, of, before);
 }
 
 /// What can be asked of a section without items.
@@ -85,9 +70,9 @@ pub fn comes_to_nothing<K: TypeKind, C: Makes<Counted<K>>>(
     alloc: Global,
     section: &mut Counted<K>,
     refused: &[C],
-) -> Result<(), Fault> {
-    assert!(rt; section.len() == 1);
-    takes_back(rt, alloc, section, refused, NO_ITEMS)
+) {
+    yes(rt, section.len() == 1);
+    takes_back(rt, alloc, section, refused, NO_ITEMS);
 }
 
 fn counts_as_many<L: Lending>(copy: &L, of: &L) -> bool {
@@ -101,10 +86,10 @@ fn copy_takes_back<L: Taken, C: Makes<L>>(
     of: &L,
     refused: &[C],
     before: &[u8],
-) -> Result<(), Fault> {
-    let mut copy = of.copy()?;
-    assert!(rt; counts_as_many(&copy, of));
-    takes_back(rt, alloc, &mut copy, refused, before)
+) {
+    let mut copy = ok(rt, of.copy());
+    yes(rt, counts_as_many(&copy, of));
+    takes_back(rt, alloc, &mut copy, refused, before);
 }
 
 fn both_take_back<L: Taken, C: Makes<L>>(
@@ -113,24 +98,26 @@ fn both_take_back<L: Taken, C: Makes<L>>(
     of: &mut L,
     refused: &[C],
     before: &[u8],
-) -> Result<(), Fault> {
-    copy_takes_back(rt, alloc, of, refused, before)?;
-    takes_back(rt, alloc, of, refused, before)
+) {
+    copy_takes_back(rt, alloc, of, refused, before);
+    takes_back(rt, alloc, of, refused, before);
 }
 
-/// A type is begun in each of these ways, with what is counted then, and given up. Meanwhile no other is begun.
+/// A type is begun in each of these ways, with what is counted then, and given up. Meanwhile no other is begun. This is
+/// all that can be asked afterwards.
 pub fn take_back_each<L: Taken, B: Makes<L>, C: Makes<L>>(
     rt: &impl Abort,
     alloc: Global,
     of: &mut L,
     beginnings: &[(B, [u32; 4])],
     refused: &[C],
-) -> Result<(), Fault> {
-    let before = state(alloc, of)?;
+    wanted: &[u8],
+) {
+    let before = ok(rt, state(alloc, of));
     for (start, counts) in beginnings {
-        start.make(of)?;
-        assert!(rt; of.counts() == *counts);
-        both_take_back(rt, alloc, of, refused, before.as_slice())?;
+        ok(rt, start.make(of));
+        yes(rt, of.counts() == *counts);
+        both_take_back(rt, alloc, of, refused, before.as_slice());
     }
-    Ok(())
+    is(rt, alloc, of, wanted);
 }

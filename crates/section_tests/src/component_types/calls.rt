@@ -18,7 +18,9 @@ pub trait Lends {
     fn encoder(&mut self) -> Result<ComponentTypeEncoder<'_, Self::Lent>, Fault>;
 
     /// Begins a type of values.
-    fn values(&mut self) -> Result<ComponentDefinedTypeEncoder<'_, Self::Lent>, Fault>;
+    fn values(&mut self) -> Result<ComponentDefinedTypeEncoder<'_, Self::Lent>, Fault> {
+        Ok(self.encoder()?.defined_type())
+    }
 }
 
 impl<K, A: Allocator> Lends for Declarations<K, A> {
@@ -26,10 +28,6 @@ impl<K, A: Allocator> Lends for Declarations<K, A> {
 
     fn encoder(&mut self) -> Result<ComponentTypeEncoder<'_, Declarations<K, A>>, Fault> {
         self.ty()
-    }
-
-    fn values(&mut self) -> Result<ComponentDefinedTypeEncoder<'_, Declarations<K, A>>, Fault> {
-        Ok(self.ty()?.defined_type())
     }
 }
 
@@ -39,19 +37,32 @@ impl<A: Allocator> Lends for ComponentTypeSection<A> {
     fn encoder(&mut self) -> Result<ComponentTypeEncoder<'_, ComponentTypeSection<A>>, Fault> {
         self.ty()
     }
+}
 
-    fn values(
-        &mut self,
-    ) -> Result<ComponentDefinedTypeEncoder<'_, ComponentTypeSection<A>>, Fault> {
-        Ok(self.ty()?.defined_type())
+/// A call that ends a type with a component type or an instance type.
+#[derive(Clone, Copy)]
+pub enum Whole<'t> {
+    Component(&'t ComponentType),
+    Instance(&'t InstanceType),
+}
+
+impl<'t, L: Lends> Makes<L> for Whole<'t> {
+    fn is_lent(&self) -> bool {
+        true
+    }
+
+    /// Begins a type, and makes the call.
+    fn make(&self, to: &mut L) -> Result<(), Fault> {
+        match *self {
+            Whole::Component(ty) => component(to, ty),
+            Whole::Instance(ty) => instance(to, ty),
+        }
     }
 }
 
-/// A call that ends a type: a component type, an instance type, a resource, a function, or a type of values.
+/// A call that ends a type with a resource, a function, or a type of values. Tables can be made of these.
 #[derive(Clone, Copy)]
 pub enum Call<'t> {
-    Component(&'t ComponentType),
-    Instance(&'t InstanceType),
     Resource(ValType, Option<u32>),
     /// A function: whether it is said to be asynchronous or not, its parameters, and what it answers.
     Function(Option<bool>, &'t [(&'t str, ComponentValType)], Option<ComponentValType>),
@@ -80,8 +91,6 @@ impl<'t, L: Lends> Makes<L> for Call<'t> {
     /// Begins a type, and makes the call.
     fn make(&self, to: &mut L) -> Result<(), Fault> {
         match *self {
-            Call::Component(ty) => component(to, ty),
-            Call::Instance(ty) => instance(to, ty),
             Call::Resource(rep, dtor) => resource(to, rep, dtor),
             Call::Function(None, params, answer) => function(to, params, answer),
             Call::Function(Some(is_async), params, answer) => {

@@ -1,17 +1,14 @@
 //! What the tests of component types share.
 
-use crate::component_types::calls::Call;
-use crate::component_types::declaring::Kind;
 use crate::component_types::lending::Item;
-use crate::swept_lending::{sweep_item, sweep_made};
+use crate::lending::Makes;
+use crate::swept_lending::{OnHeap, sweep_item, sweep_made};
 use refusing::Refusing;
 use std::alloc::Global;
 use std::process::Abort;
 use sweeping::LARGE;
-use wenc_base::Fault;
 use wenc_parts::{ComponentValType, PrimitiveValType};
 use wenc_sections::ComponentTypeSection;
-use wenc_types::Declarations;
 
 pub const STRING: ComponentValType = ComponentValType::Primitive(PrimitiveValType::String);
 
@@ -24,42 +21,19 @@ pub const LAST: ComponentValType = ComponentValType::Type(LARGE);
 /// What is asked of one with a declaration that counts as a type: it isn't empty, and is finished.
 pub const A_TYPE: &[u8] = &[1, 0, 1, 0, 0, 1];
 
-/// The call declares a type of this text, and is swept.
-pub fn declares<K: Kind>(
+/// The call declares a type of this text, and is swept. The type that it is declared in begins with this byte.
+pub fn declares<'a, L: OnHeap<'a>, C: Makes<L> + Copy>(
     rt: &impl Abort,
     alloc: Global,
-    heap: &Refusing,
-    call: Call<'_>,
+    heap: &'a Refusing,
+    byte: u8,
+    call: C,
     text: &[u8],
-) -> Result<(), Fault> {
-    let lead = &[K::LEAD, 1, 1];
-    let is_well = sweep_made::<Declarations<K, &Refusing>, Call<'_>>(
-        alloc, heap, call, A_TYPE, lead, text,
-    )?;
-    assert!(rt; is_well);
-    Ok(())
+) {
+    sweep_made::<L, C>(rt, alloc, heap, call, A_TYPE, &[byte, 1, 1], text);
 }
 
 /// One call adds this item, which has this text, and is swept.
-pub fn is_item(
-    rt: &impl Abort,
-    alloc: Global,
-    heap: &Refusing,
-    item: Item<'_>,
-    text: &[u8],
-) -> Result<(), Fault> {
-    assert!(rt; sweep_item::<ComponentTypeSection<&Refusing>, Item<'_>>(alloc, heap, item, text)?);
-    Ok(())
-}
-
-/// So does an encoder's call.
-pub fn is_written(
-    rt: &impl Abort,
-    alloc: Global,
-    heap: &Refusing,
-    call: Call<'_>,
-    text: &[u8],
-) -> Result<(), Fault> {
-    assert!(rt; sweep_item::<ComponentTypeSection<&Refusing>, Call<'_>>(alloc, heap, call, text)?);
-    Ok(())
+pub fn is_item(rt: &impl Abort, alloc: Global, heap: &Refusing, item: Item<'_>, text: &[u8]) {
+    sweep_item::<ComponentTypeSection<&Refusing>, Item<'_>>(rt, alloc, heap, item, text);
 }

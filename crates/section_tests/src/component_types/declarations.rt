@@ -1,18 +1,17 @@
 //! Component types and instance types: their declarations, and what they count.
 
-use crate::checks::{alone, counts};
+use crate::checks::{alone, is_well};
 use crate::component_types::calls::Call;
 use crate::component_types::checks::{A_TYPE, LAST, STRING};
-use crate::component_types::declaring::{Declaration, Import, Kind, make_each};
+use crate::component_types::declaring::{CoreType, Declaration, Import, Kind, make_each};
 use crate::component_types::lending::Opening;
 use crate::lending::{Lending, Makes, has};
-use crate::swept_lending::{OnHeap, Swept, begun, sweep_made};
+use crate::swept_lending::{OnHeap, begun, sweep_made};
 use refusing::Refusing;
 use std::alloc::Global;
 use std::process::Abort;
-use std::test::Fail;
-use sweeping::{LARGE, NAME};
-use wenc_base::{CompositeType, ExportKind, Fault, FuncType, GroupTree, SubType, ValType};
+use sweeping::{LARGE, NAME, ok};
+use wenc_base::{CompositeType, ExportKind, FuncType, GroupTree, SubType, ValType};
 use wenc_parts::{
     Alias, ComponentExportKind, ComponentOuterAliasKind, ComponentTypeRef, TypeBounds,
 };
@@ -32,7 +31,7 @@ const AN_INSTANCE: &[u8] = &[1, 0, 0, 1, 0, 1];
 
 /// An option, then aliases that count as a type, an instance, nothing, nothing, a core type, a type, nothing, nothing.
 /// Beside each stand what it counts as, and its text, as upstream gives it.
-const FIRST: [(Declaration<'static>, &[u8], &[u8]); 9] = [
+const FIRST: &[(Declaration<'static>, &[u8], &[u8])] = &[
     (
         Declaration::Type(Call::Option(STRING)),
         A_TYPE,
@@ -116,7 +115,7 @@ const CORE_TYPE_ALIAS: Alias<'static> = Alias::Outer {
 };
 
 /// Imports of each kind.
-const IMPORTS: [(Import<'static>, &[u8], &[u8]); 7] = [
+const IMPORTS: &[(Import<'static>, &[u8], &[u8])] = &[
     (
         Import("m", ComponentTypeRef::Module(5)),
         NOTHING,
@@ -155,7 +154,7 @@ const IMPORTS: [(Import<'static>, &[u8], &[u8]); 7] = [
 ];
 
 /// The same as exports.
-const EXPORTS: [(Declaration<'static>, &[u8], &[u8]); 7] = [
+const EXPORTS: &[(Declaration<'static>, &[u8], &[u8])] = &[
     (
         Declaration::Export("m", ComponentTypeRef::Module(5)),
         NOTHING,
@@ -194,7 +193,7 @@ const EXPORTS: [(Declaration<'static>, &[u8], &[u8]); 7] = [
 ];
 
 /// A core type, what is longer than a first growth, and what has the greatest indices.
-const OTHERS: [(Declaration<'static>, &[u8], &[u8]); 6] = [
+const OTHERS: &[(Declaration<'static>, &[u8], &[u8])] = &[
     (Declaration::Array, A_CORE_TYPE, b"\x00\x5e\x78\x01"),
     (
         Declaration::Alias(Alias::InstanceExport {
@@ -234,7 +233,7 @@ const OTHERS: [(Declaration<'static>, &[u8], &[u8]); 6] = [
     ),
 ];
 
-const LONG_IMPORT: [(Import<'static>, &[u8], &[u8]); 1] = [(
+const LONG_IMPORT: &[(Import<'static>, &[u8], &[u8])] = &[(
     Import(NAME, ComponentTypeRef::Instance(LARGE)),
     AN_INSTANCE,
     b"\x03\x00\x49a name that is longer than a first growth, by far: aaaaaaaaaaaaaaaaaaaaaa\x05\xff\xff\xff\xff\x0f",
@@ -247,25 +246,19 @@ fn sweep_declarations<'a, L: OnHeap<'a>, C: Makes<L> + Copy>(
     heap: &'a Refusing,
     byte: u8,
     rows: &[(C, &[u8], &[u8])],
-) -> Result<(), Fault> {
+) {
     for (call, counted, text) in rows {
-        assert!(rt; sweep_made::<L, C>(alloc, heap, *call, counted, &[byte, 1], text)?);
+        sweep_made::<L, C>(rt, alloc, heap, *call, counted, &[byte, 1], text);
     }
-    Ok(())
 }
 
 /// Adds them, and sweeps the text each time.
-fn sweep_texts<K: Kind>(
-    rt: &impl Abort,
-    alloc: Global,
-    ty: &mut Declarations<K>,
-) -> Result<(), Fault> {
-    assert!(rt; ty.sweep_text(alloc)?);
-    for (call, _, _) in OTHERS.as_slice() {
-        call.make(ty)?;
-        assert!(rt; ty.sweep_text(alloc)?);
+fn sweep_texts<K: Kind>(rt: &impl Abort, alloc: Global, ty: &mut Declarations<K>) {
+    is_well(rt, ty.sweep_text(alloc));
+    for (call, _, _) in OTHERS {
+        ok(rt, call.make(ty));
+        is_well(rt, ty.sweep_text(alloc));
     }
-    Ok(())
 }
 
 /// Sweeps what both kinds declare.
@@ -274,46 +267,35 @@ fn sweep_declared<K: Kind>(
     alloc: Global,
     heap: &Refusing,
     rows: &[(Declaration<'_>, &[u8], &[u8])],
-) -> Result<(), Fault> {
-    sweep_declarations::<Declarations<K, &Refusing>, Declaration<'_>>(
-        rt,
-        alloc,
-        heap,
-        K::LEAD,
-        rows,
-    )
+) {
+    let byte = K::LEAD;
+    sweep_declarations::<Declarations<K, &Refusing>, Declaration<'_>>(rt, alloc, heap, byte, rows);
 }
 
-fn sweep_kind<K: Kind>(rt: &impl Abort, alloc: Global, heap: &Refusing) -> Result<(), Fault> {
-    sweep_declared::<K>(rt, alloc, heap, FIRST.as_slice())?;
-    sweep_declared::<K>(rt, alloc, heap, EXPORTS.as_slice())?;
-    sweep_declared::<K>(rt, alloc, heap, OTHERS.as_slice())?;
+fn sweep_kind<K: Kind>(rt: &impl Abort, alloc: Global, heap: &Refusing) {
+    sweep_declared::<K>(rt, alloc, heap, FIRST);
+    sweep_declared::<K>(rt, alloc, heap, EXPORTS);
+    sweep_declared::<K>(rt, alloc, heap, OTHERS);
     let mut ty: Declarations<K> = Declarations::new(alloc);
-    sweep_texts(rt, alloc, &mut ty)
+    sweep_texts(rt, alloc, &mut ty);
 }
 
 #[test]
-fn added(rt: HostRuntime) -> Result<(), Fail> {
+fn added(rt: HostRuntime) {
     let heap = Refusing::new(rt.alloc());
-    sweep_kind::<ComponentTypes>(&rt, rt.alloc(), &heap)?;
-    sweep_kind::<InstanceTypes>(&rt, rt.alloc(), &heap)?;
-    Ok(())
+    sweep_kind::<ComponentTypes>(&rt, rt.alloc(), &heap);
+    sweep_kind::<InstanceTypes>(&rt, rt.alloc(), &heap);
 }
 
-fn sweep_imports(
-    rt: &impl Abort,
-    alloc: Global,
-    rows: &[(Import<'_>, &[u8], &[u8])],
-) -> Result<(), Fault> {
+fn sweep_imports(rt: &impl Abort, alloc: Global, rows: &[(Import<'_>, &[u8], &[u8])]) {
     let heap = Refusing::new(alloc);
-    sweep_declarations::<ComponentType<&Refusing>, Import<'_>>(rt, alloc, &heap, 0x41, rows)
+    sweep_declarations::<ComponentType<&Refusing>, Import<'_>>(rt, alloc, &heap, 0x41, rows);
 }
 
 #[test]
-fn imports(rt: HostRuntime) -> Result<(), Fail> {
-    sweep_imports(&rt, rt.alloc(), IMPORTS.as_slice())?;
-    sweep_imports(&rt, rt.alloc(), LONG_IMPORT.as_slice())?;
-    Ok(())
+fn imports(rt: HostRuntime) {
+    sweep_imports(&rt, rt.alloc(), IMPORTS);
+    sweep_imports(&rt, rt.alloc(), LONG_IMPORT);
 }
 
 /// A type of functions that others may extend.
@@ -326,9 +308,9 @@ fn open_function(ty: FuncType) -> CoreTypeTree {
 }
 
 /// One without parameters and results.
-fn empty_function(alloc: Global) -> Result<CoreTypeTree, Fault> {
-    let ty = FuncType::new(alloc, [].iter().copied(), [].iter().copied())?;
-    Ok(open_function(ty))
+fn empty_function(rt: &impl Abort, alloc: Global) -> CoreTypeTree {
+    let ty = FuncType::new(alloc, [].iter().copied(), [].iter().copied());
+    open_function(ok(rt, ty))
 }
 
 /// Sweeps it and a module type as core types.
@@ -337,74 +319,59 @@ fn sweep_core_types<'t, K: Kind>(
     alloc: Global,
     function: &'t CoreTypeTree,
     module: &'t ModuleType,
-) -> Result<(), Fault> {
+) {
     let heap = Refusing::new(alloc);
     let function = (
-        Declaration::Tree(function),
+        CoreType::Tree(function),
         A_CORE_TYPE,
         b"\x00\x00\x50\x00\x60\x00\x00".as_slice(),
     );
     let module = (
-        Declaration::Module(module),
+        CoreType::Module(module),
         A_CORE_TYPE,
         b"\x00\x50\x00".as_slice(),
     );
-    sweep_declared::<K>(rt, alloc, &heap, &[function, module])
+    let rows = &[function, module];
+    sweep_declarations::<Declarations<K, &Refusing>, CoreType<'_>>(rt, alloc, &heap, K::LEAD, rows);
 }
 
 #[test]
-fn core_types(rt: HostRuntime) -> Result<(), Fail> {
-    let function = empty_function(rt.alloc())?;
+fn core_types(rt: HostRuntime) {
+    let function = empty_function(&rt, rt.alloc());
     let module = ModuleType::new(rt.alloc());
-    sweep_core_types::<ComponentTypes>(&rt, rt.alloc(), &function, &module)?;
-    sweep_core_types::<InstanceTypes>(&rt, rt.alloc(), &function, &module)?;
-    Ok(())
+    sweep_core_types::<ComponentTypes>(&rt, rt.alloc(), &function, &module);
+    sweep_core_types::<InstanceTypes>(&rt, rt.alloc(), &function, &module);
 }
 
 /// Declares it as a core type.
-fn begin(ty: &mut ComponentType, alloc: Global) -> Result<(), Fault> {
-    let function = empty_function(alloc)?;
-    Declaration::Tree(&function).make(ty)
+fn begin(rt: &impl Abort, ty: &mut ComponentType, alloc: Global) {
+    let function = empty_function(rt, alloc);
+    ok(rt, CoreType::Tree(&function).make(ty));
 }
 
 /// Declares each of what a table tells of.
-fn declare(ty: &mut ComponentType, rows: &[(Declaration<'_>, &[u8], &[u8])]) -> Result<(), Fault> {
+fn declare<C: Makes<ComponentType>>(
+    rt: &impl Abort,
+    ty: &mut ComponentType,
+    rows: &[(C, &[u8], &[u8])],
+) {
     for (declaration, _, _) in rows {
-        declaration.make(ty)?;
+        ok(rt, declaration.make(ty));
     }
-    Ok(())
-}
-
-/// Declares all imports.
-fn add_imports(ty: &mut ComponentType) -> Result<(), Fault> {
-    for (import, _, _) in IMPORTS.as_slice() {
-        import.make(ty)?;
-    }
-    Ok(())
 }
 
 /// The call adds an item to a section, which then has these bytes.
-fn is_item<C: Makes<ComponentTypeSection>>(
-    rt: &impl Abort,
-    alloc: Global,
-    call: &C,
-    wanted: &str,
-) -> Result<(), Fault> {
+fn is_item<C: Makes<ComponentTypeSection>>(rt: &impl Abort, alloc: Global, call: &C, wanted: &str) {
     let mut section = ComponentTypeSection::new(alloc);
-    call.make(&mut section)?;
+    ok(rt, call.make(&mut section));
     has(rt, &section, [1, 0, 0, 0]);
-    alone(rt, alloc, &section, wanted)
+    alone(rt, alloc, &section, wanted);
 }
 
 /// In a section the type alone has these bytes, where one call adds it, and where an encoder does.
-fn in_a_section<K: Kind>(
-    rt: &impl Abort,
-    alloc: Global,
-    ty: &Declarations<K>,
-    wanted: &str,
-) -> Result<(), Fault> {
-    is_item(rt, alloc, &K::item(ty), wanted)?;
-    is_item(rt, alloc, &K::call(ty), wanted)
+fn in_a_section<K: Kind>(rt: &impl Abort, alloc: Global, ty: &Declarations<K>, wanted: &str) {
+    is_item(rt, alloc, &K::item(ty), wanted);
+    is_item(rt, alloc, &K::call(ty), wanted);
 }
 
 const FULL: &str =
@@ -415,28 +382,29 @@ const FULL: &str =
 
 /// Upstream gives these counts, and this section.
 #[test]
-fn component_types(rt: HostRuntime) -> Result<(), Fail> {
+fn component_types(rt: HostRuntime) {
     let mut ty = ComponentType::new(rt.alloc());
-    begin(&mut ty, rt.alloc())?;
-    declare(&mut ty, FIRST.as_slice())?;
-    add_imports(&mut ty)?;
+    begin(&rt, &mut ty, rt.alloc());
+    declare(&rt, &mut ty, FIRST);
+    declare(&rt, &mut ty, IMPORTS);
     has(&rt, &ty, [17, 2, 5, 2]);
-    declare(&mut ty, EXPORTS.as_slice())?;
+    declare(&rt, &mut ty, EXPORTS);
     has(&rt, &ty, [24, 2, 7, 3]);
-    in_a_section(&rt, rt.alloc(), &ty, FULL)?;
-    Ok(())
+    in_a_section(&rt, rt.alloc(), &ty, FULL);
 }
 
 #[test]
-fn an_imported_resource(rt: HostRuntime) -> Result<(), Fail> {
+fn an_imported_resource(rt: HostRuntime) {
     let mut ty = ComponentType::new(rt.alloc());
-    begin(&mut ty, rt.alloc())?;
-    Import("r", ComponentTypeRef::Type(TypeBounds::SubResource)).make(&mut ty)?;
-    Declaration::Alias(CORE_TYPE_ALIAS).make(&mut ty)?;
+    begin(&rt, &mut ty, rt.alloc());
+    ok(
+        &rt,
+        Import("r", ComponentTypeRef::Type(TypeBounds::SubResource)).make(&mut ty),
+    );
+    ok(&rt, Declaration::Alias(CORE_TYPE_ALIAS).make(&mut ty));
     has(&rt, &ty, [3, 2, 1, 0]);
     let wanted = "071601410300005000600000030001720301020010020100";
-    in_a_section(&rt, rt.alloc(), &ty, wanted)?;
-    Ok(())
+    in_a_section(&rt, rt.alloc(), &ty, wanted);
 }
 
 /// An alias that counts as an instance.
@@ -446,7 +414,7 @@ const INSTANCE_ALIAS: Alias<'static> = Alias::InstanceExport {
     name: "i",
 };
 
-const SEVEN: [Declaration<'static>; 7] = [
+const SEVEN: &[Declaration<'static>] = &[
     Declaration::Array,
     Declaration::Type(Call::Resource(ValType::I64, Some(3))),
     Declaration::Alias(INSTANCE_ALIAS),
@@ -456,7 +424,7 @@ const SEVEN: [Declaration<'static>; 7] = [
     Declaration::Export("i", ComponentTypeRef::Instance(8)),
 ];
 
-const OPTION: [Declaration<'static>; 2] = [
+const OPTION: &[Declaration<'static>] = &[
     Declaration::Type(Call::Option(STRING)),
     Declaration::Export("t", ComponentTypeRef::Type(TypeBounds::Eq(0))),
 ];
@@ -468,26 +436,25 @@ fn check_instance_type(
     declarations: &[Declaration<'_>],
     counts: [u32; 4],
     wanted: &str,
-) -> Result<(), Fault> {
+) {
     let mut ty = InstanceType::new(alloc);
-    make_each(&mut ty, declarations)?;
+    make_each(rt, &mut ty, declarations);
     has(rt, &ty, counts);
-    in_a_section(rt, alloc, &ty, wanted)
+    in_a_section(rt, alloc, &ty, wanted);
 }
 
 /// Upstream gives these counts, and these sections.
 #[test]
-fn instance_types(rt: HostRuntime) -> Result<(), Fail> {
+fn instance_types(rt: HostRuntime) {
     let wanted =
         "072a014207005e7801013f7e0103020500010169020010020100040001660106040001730301040001690508";
-    check_instance_type(&rt, rt.alloc(), SEVEN.as_slice(), [7, 2, 2, 2], wanted)?;
+    check_instance_type(&rt, rt.alloc(), SEVEN, [7, 2, 2, 2], wanted);
     let wanted = "070d014202016b7304000174030000";
-    check_instance_type(&rt, rt.alloc(), OPTION.as_slice(), [2, 0, 2, 0], wanted)?;
-    Ok(())
+    check_instance_type(&rt, rt.alloc(), OPTION, [2, 0, 2, 0], wanted);
 }
 
 /// How types are begun.
-const OPENINGS: [Opening; 4] = [
+const OPENINGS: &[Opening] = &[
     Opening::Type,
     Opening::Tagged,
     Opening::CoreType,
@@ -495,30 +462,27 @@ const OPENINGS: [Opening; 4] = [
 ];
 
 /// Beginnings, and copies, of which this is asked with no, one and two types.
-fn check_begun<K: Kind>(
-    rt: &impl Abort,
-    alloc: Global,
-    none: &str,
-    one: &str,
-    two: &str,
-) -> Result<(), Fault> {
+fn check_begun<K: Kind>(rt: &impl Abort, alloc: Global, states: &[&str; 3]) {
     let heap = Refusing::new(alloc);
-    counts::<Swept<Declarations<K, &Refusing>>>(rt, alloc, &heap, none, one, two)?;
-    begun::<Declarations<K, &Refusing>, Opening>(rt, alloc, &heap, OPENINGS.as_slice())
+    begun::<Declarations<K, &Refusing>, Opening>(rt, alloc, &heap, states, OPENINGS);
 }
 
 #[test]
-fn begun_component_types(rt: HostRuntime) -> Result<(), Fail> {
-    let one = "0100010000014101016900";
-    let two = "0200020000014102016900016900";
-    check_begun::<ComponentTypes>(&rt, rt.alloc(), "0000000001014100", one, two)?;
-    Ok(())
+fn begun_component_types(rt: HostRuntime) {
+    let states = &[
+        "0000000001014100",
+        "0100010000014101016900",
+        "0200020000014102016900016900",
+    ];
+    check_begun::<ComponentTypes>(&rt, rt.alloc(), states);
 }
 
 #[test]
-fn begun_instance_types(rt: HostRuntime) -> Result<(), Fail> {
-    let one = "0100010000014201016900";
-    let two = "0200020000014202016900016900";
-    check_begun::<InstanceTypes>(&rt, rt.alloc(), "0000000001014200", one, two)?;
-    Ok(())
+fn begun_instance_types(rt: HostRuntime) {
+    let states = &[
+        "0000000001014200",
+        "0100010000014201016900",
+        "0200020000014202016900016900",
+    ];
+    check_begun::<InstanceTypes>(&rt, rt.alloc(), states);
 }

@@ -1,9 +1,11 @@
 //! What component types and instance types declare.
 
-use crate::component_types::calls::Call;
+use crate::component_types::calls::{Call, Whole};
 use crate::component_types::lending::Item;
 use crate::lending::Makes;
 use std::alloc::Allocator;
+use std::process::Abort;
+use sweeping::ok;
 use wenc_base::{Fault, StorageType};
 use wenc_parts::{Alias, ComponentTypeRef};
 use wenc_types::component_type::ComponentTypes;
@@ -24,7 +26,7 @@ pub trait Kind: DeclaringKind {
     ) -> Result<(), Fault>;
 
     /// The call that ends a type with such a type.
-    fn call<'t>(ty: &'t Declarations<Self>) -> Call<'t>;
+    fn call<'t>(ty: &'t Declarations<Self>) -> Whole<'t>;
 
     /// The one call that adds such a type to a section.
     fn item<'t>(ty: &'t Declarations<Self>) -> Item<'t>;
@@ -46,8 +48,8 @@ impl Kind for ComponentTypes {
         ty.export(name.into(), what)
     }
 
-    fn call<'t>(ty: &'t ComponentType) -> Call<'t> {
-        Call::Component(ty)
+    fn call<'t>(ty: &'t ComponentType) -> Whole<'t> {
+        Whole::Component(ty)
     }
 
     fn item<'t>(ty: &'t ComponentType) -> Item<'t> {
@@ -71,8 +73,8 @@ impl Kind for InstanceTypes {
         ty.export(name.into(), what)
     }
 
-    fn call<'t>(ty: &'t InstanceType) -> Call<'t> {
-        Call::Instance(ty)
+    fn call<'t>(ty: &'t InstanceType) -> Whole<'t> {
+        Whole::Instance(ty)
     }
 
     fn item<'t>(ty: &'t InstanceType) -> Item<'t> {
@@ -80,15 +82,11 @@ impl Kind for InstanceTypes {
     }
 }
 
-/// A declaration that one call, or an encoder, adds. Both kinds have these.
+/// A declaration that one call, or an encoder, adds. Both kinds have these, and tables can be made of them.
 #[derive(Clone, Copy)]
 pub enum Declaration<'t> {
     /// A core type: an array of mutable 8-bit integers.
     Array,
-    /// A core type: this module type.
-    Module(&'t ModuleType),
-    /// A core type: the one of this tree.
-    Tree(&'t CoreTypeTree),
     /// A type that this call ends.
     Type(Call<'t>),
     /// An alias.
@@ -108,8 +106,6 @@ impl<'t, K: Kind, A: Allocator> Makes<Declarations<K, A>> for Declaration<'t> {
     fn make(&self, to: &mut Declarations<K, A>) -> Result<(), Fault> {
         match *self {
             Declaration::Array => array(to),
-            Declaration::Module(inner) => module(to, inner),
-            Declaration::Tree(inner) => tree(to, inner),
             Declaration::Type(call) => call.make(to),
             Declaration::Alias(alias) => K::alias(to, alias),
             Declaration::Export(name, what) => K::export(to, name, what),
@@ -117,7 +113,8 @@ impl<'t, K: Kind, A: Allocator> Makes<Declarations<K, A>> for Declaration<'t> {
     }
 }
 
-fn core_type<K, A: Allocator>(
+/// Begins a core type.
+pub fn core_type<K, A: Allocator>(
     ty: &mut Declarations<K, A>,
 ) -> Result<ComponentCoreTypeEncoder<'_, Declarations<K, A>>, Fault> {
     ty.core_type()
@@ -135,6 +132,26 @@ fn tree<K, A: Allocator>(ty: &mut Declarations<K, A>, inner: &CoreTypeTree) -> R
     core_type(ty)?.tree(inner)
 }
 
+/// The declaration of a core type that is made already.
+#[derive(Clone, Copy)]
+pub enum CoreType<'t> {
+    Module(&'t ModuleType),
+    Tree(&'t CoreTypeTree),
+}
+
+impl<'t, K: Kind, A: Allocator> Makes<Declarations<K, A>> for CoreType<'t> {
+    fn is_lent(&self) -> bool {
+        true
+    }
+
+    fn make(&self, to: &mut Declarations<K, A>) -> Result<(), Fault> {
+        match *self {
+            CoreType::Module(inner) => module(to, inner),
+            CoreType::Tree(inner) => tree(to, inner),
+        }
+    }
+}
+
 /// An import, which component types alone declare.
 #[derive(Clone, Copy)]
 pub struct Import<'t>(pub &'t str, pub ComponentTypeRef);
@@ -150,9 +167,8 @@ impl<'t, A: Allocator> Makes<ComponentType<A>> for Import<'t> {
 }
 
 /// Makes each of these.
-pub fn make_each<L, C: Makes<L>>(to: &mut L, calls: &[C]) -> Result<(), Fault> {
+pub fn make_each<L, C: Makes<L>>(rt: &impl Abort, to: &mut L, calls: &[C]) {
     for call in calls {
-        call.make(to)?;
+        ok(rt, call.make(to));
     }
-    Ok(())
 }

@@ -5,39 +5,44 @@ use crate::component_types::checks::STRING;
 use crate::lending::has;
 use std::alloc::Global;
 use std::process::Abort;
-use std::test::Fail;
+use sweeping::ok;
 use wenc_base::Fault;
 use wenc_parts::ComponentValType;
 use wenc_sections::ComponentTypeSection;
 use wenc_types::FuncStage;
 
-/// Writes a function, which may be said to be asynchronous, and answers its stages.
-fn stages(
-    section: &mut ComponentTypeSection,
+/// A function, which may be said to be asynchronous, the stages in which it is written, and a section of it alone.
+#[derive(Clone, Copy)]
+struct Row<'a> {
     is_async: bool,
-    params: &[(&str, ComponentValType)],
+    params: &'a [(&'a str, ComponentValType)],
     answer: Option<ComponentValType>,
-) -> Result<[FuncStage; 4], Fault> {
+    stages: &'a [FuncStage],
+    bytes: &'a str,
+}
+
+/// Writes the function, and answers its stages.
+fn stages(section: &mut ComponentTypeSection, row: &Row<'_>) -> Result<[FuncStage; 4], Fault> {
     let mut function = section.function()?;
     let begun = function.stage();
-    if is_async {
+    if row.is_async {
         function.async_(true)?;
     }
     let tagged = function.stage();
-    function.params(params.iter().copied())?;
+    function.params(row.params.iter().copied())?;
     let listed = function.stage();
-    function.result(answer)?;
+    function.result(row.answer)?;
     Ok([begun, tagged, listed, function.stage()])
 }
 
-const PLAIN: [FuncStage; 4] = [
+const PLAIN: &[FuncStage] = &[
     FuncStage::Start,
     FuncStage::Start,
     FuncStage::Params,
     FuncStage::Done,
 ];
 
-const ASYNCHRONOUS: [FuncStage; 4] = [
+const ASYNCHRONOUS: &[FuncStage] = &[
     FuncStage::Start,
     FuncStage::Tagged,
     FuncStage::Params,
@@ -49,39 +54,50 @@ fn are(rt: &impl Abort, given: &[FuncStage], wanted: &[FuncStage]) {
 }
 
 /// The section has a function alone, and these bytes.
-fn is_function(
-    rt: &impl Abort,
-    alloc: Global,
-    section: &ComponentTypeSection,
-    wanted: &str,
-) -> Result<(), Fault> {
+fn is_function(rt: &impl Abort, alloc: Global, section: &ComponentTypeSection, wanted: &str) {
     has(rt, section, [1, 0, 0, 0]);
-    alone(rt, alloc, section, wanted)
+    alone(rt, alloc, section, wanted);
+}
+
+fn check(rt: &impl Abort, alloc: Global, row: &Row<'_>) {
+    let mut section = ComponentTypeSection::new(alloc);
+    let stages = ok(rt, stages(&mut section, row));
+    are(rt, stages.as_slice(), row.stages);
+    is_function(rt, alloc, &section, row.bytes);
 }
 
 #[test]
-fn asynchronous_functions(rt: HostRuntime) -> Result<(), Fail> {
-    let mut section = ComponentTypeSection::new(rt.alloc());
-    let stages = stages(&mut section, true, &[], None)?;
-    are(&rt, stages.as_slice(), ASYNCHRONOUS.as_slice());
-    is_function(&rt, rt.alloc(), &section, "07050143000100")?;
-    Ok(())
+fn asynchronous_functions(rt: HostRuntime) {
+    let row = Row {
+        is_async: true,
+        params: &[],
+        answer: None,
+        stages: ASYNCHRONOUS,
+        bytes: "07050143000100",
+    };
+    check(&rt, rt.alloc(), &row);
 }
 
 #[test]
-fn plain_functions(rt: HostRuntime) -> Result<(), Fail> {
-    let mut section = ComponentTypeSection::new(rt.alloc());
-    let stages = stages(&mut section, false, &[], None)?;
-    are(&rt, stages.as_slice(), PLAIN.as_slice());
-    is_function(&rt, rt.alloc(), &section, "07050140000100")?;
-    Ok(())
+fn plain_functions(rt: HostRuntime) {
+    let row = Row {
+        is_async: false,
+        params: &[],
+        answer: None,
+        stages: PLAIN,
+        bytes: "07050140000100",
+    };
+    check(&rt, rt.alloc(), &row);
 }
 
 #[test]
-fn functions_with_parameters(rt: HostRuntime) -> Result<(), Fail> {
-    let mut section = ComponentTypeSection::new(rt.alloc());
-    let stages = stages(&mut section, false, &[("a", STRING)], Some(STRING))?;
-    are(&rt, stages.as_slice(), PLAIN.as_slice());
-    is_function(&rt, rt.alloc(), &section, "07080140010161730073")?;
-    Ok(())
+fn functions_with_parameters(rt: HostRuntime) {
+    let row = Row {
+        is_async: false,
+        params: &[("a", STRING)],
+        answer: Some(STRING),
+        stages: PLAIN,
+        bytes: "07080140010161730073",
+    };
+    check(&rt, rt.alloc(), &row);
 }

@@ -1,9 +1,9 @@
 //! What lends itself to the encoders of types: component types, instance types, and sections of types.
 
 use crate::checks::is_refused;
-use crate::component_types::calls::Call;
+use crate::component_types::calls::{Call, Lends};
 use crate::component_types::checks::STRING;
-use crate::component_types::declaring::Kind;
+use crate::component_types::declaring::{Kind, core_type};
 use crate::lending::{Lending, Makes, TypeKind, is};
 use crate::swept_lending::OnHeap;
 use crate::unfinished::{NO_ITEMS, Taken, comes_to_nothing};
@@ -24,7 +24,7 @@ impl TypeKind for ComponentTypes {
     }
 
     fn begin<A: Allocator>(section: &mut Counted<ComponentTypes, A>) -> Result<(), Fault> {
-        section.ty()?;
+        section.encoder()?;
         Ok(())
     }
 }
@@ -91,7 +91,7 @@ pub enum Beginning {
 }
 
 fn begin_values<A: Allocator>(section: &mut ComponentTypeSection<A>) -> Result<(), Fault> {
-    section.ty()?.defined_type();
+    section.values()?;
     Ok(())
 }
 
@@ -139,7 +139,7 @@ impl<K: Kind, A: Allocator + Clone> Lending for Declarations<K, A> {
     }
 
     fn begin(&mut self) -> Result<(), Fault> {
-        self.ty()?;
+        self.encoder()?;
         Ok(())
     }
 
@@ -192,16 +192,16 @@ pub enum Opening {
 }
 
 fn open_tagged<K: Kind, A: Allocator>(ty: &mut Declarations<K, A>) -> Result<(), Fault> {
-    ty.ty()?.function().async_(true)
+    ty.encoder()?.function().async_(true)
 }
 
 fn open_core_type<K: Kind, A: Allocator>(ty: &mut Declarations<K, A>) -> Result<(), Fault> {
-    ty.core_type()?;
+    core_type(ty)?;
     Ok(())
 }
 
 fn open_core<K: Kind, A: Allocator>(ty: &mut Declarations<K, A>) -> Result<(), Fault> {
-    ty.core_type()?.core();
+    core_type(ty)?.core();
     Ok(())
 }
 
@@ -238,9 +238,9 @@ fn takes_nothing(
     section: &mut ComponentTypeSection,
     component: &ComponentType,
     instance: &InstanceType,
-) -> Result<(), Fault> {
+) {
     let items = items(component, instance);
-    comes_to_nothing(rt, alloc, section, items.as_slice())
+    comes_to_nothing(rt, alloc, section, items.as_slice());
 }
 
 /// One call leaves the section as it was. An encoder leaves its item unfinished.
@@ -249,16 +249,16 @@ fn is_not_item<K: Kind>(
     alloc: Global,
     ty: &Declarations<K>,
     section: &mut ComponentTypeSection,
-) -> Result<(), Fault> {
+) {
     is_refused(rt, K::item(ty).make(section));
-    is(rt, alloc, section, NO_ITEMS)?;
+    is(rt, alloc, section, NO_ITEMS);
     is_refused(rt, K::call(ty).make(section));
     let component = ComponentType::new(alloc);
-    takes_nothing(rt, alloc, section, &component, &InstanceType::new(alloc))
+    takes_nothing(rt, alloc, section, &component, &InstanceType::new(alloc));
 }
 
 impl<K: Kind> Taken for Declarations<K> {
-    fn is_not_taken(&self, rt: &impl Abort, alloc: Global) -> Result<(), Fault> {
-        is_not_item(rt, alloc, self, &mut ComponentTypeSection::new(alloc))
+    fn is_not_taken(&self, rt: &impl Abort, alloc: Global) {
+        is_not_item(rt, alloc, self, &mut ComponentTypeSection::new(alloc));
     }
 }

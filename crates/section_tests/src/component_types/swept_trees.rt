@@ -1,10 +1,11 @@
 //! Sweeps of the trees of types.
 
+use crate::checks::is_well;
 use crate::component_types::checks::{LAST, STRING};
 use std::alloc::Global;
-use std::test::Fail;
-use sweeping::{LARGE, NAME, sweep_each, sweep_encode};
-use wenc_base::{Fault, ValType};
+use std::process::Abort;
+use sweeping::{LARGE, NAME, ok, sweep_each, sweep_encode};
+use wenc_base::ValType;
 use wenc_parts::{
     AliasTree, ComponentOuterAliasKind, ComponentTypeRef, ComponentValType, NameTree,
     PrimitiveValType,
@@ -13,20 +14,19 @@ use wenc_types::{
     CaseTree, ComponentDecl, CoreTypeTree, DefinedTree, InstanceDecl, ModuleDecl, TypeTree,
 };
 
-fn add(trees: &mut Vec<DefinedTree>, tree: DefinedTree) -> Result<(), Fault> {
-    trees.push(tree)?;
-    Ok(())
+fn add(rt: &impl Abort, trees: &mut Vec<DefinedTree>, tree: DefinedTree) {
+    ok(rt, trees.push(tree));
 }
 
 /// Adds types of values of one part.
-fn add_short(trees: &mut Vec<DefinedTree>) -> Result<(), Fault> {
-    add(trees, DefinedTree::Primitive(PrimitiveValType::String))?;
-    add(trees, DefinedTree::List(LAST))?;
-    add(trees, DefinedTree::Option(LAST))?;
-    add(trees, DefinedTree::Own(LARGE))?;
-    add(trees, DefinedTree::Borrow(LARGE))?;
-    add(trees, DefinedTree::Future(Some(LAST)))?;
-    add(trees, DefinedTree::Stream(Some(LAST)))
+fn add_short(rt: &impl Abort, trees: &mut Vec<DefinedTree>) {
+    add(rt, trees, DefinedTree::Primitive(PrimitiveValType::String));
+    add(rt, trees, DefinedTree::List(LAST));
+    add(rt, trees, DefinedTree::Option(LAST));
+    add(rt, trees, DefinedTree::Own(LARGE));
+    add(rt, trees, DefinedTree::Borrow(LARGE));
+    add(rt, trees, DefinedTree::Future(Some(LAST)));
+    add(rt, trees, DefinedTree::Stream(Some(LAST)));
 }
 
 const MAP: DefinedTree = DefinedTree::Map {
@@ -44,95 +44,98 @@ const RESULT: DefinedTree = DefinedTree::Result {
     err: Some(STRING),
 };
 
-fn name(alloc: Global) -> Result<String, Fault> {
-    Ok(String::from_str(alloc, NAME)?)
+fn name(rt: &impl Abort, alloc: Global) -> String {
+    ok(rt, String::from_str(alloc, NAME))
 }
 
 /// A field or parameter of a long name.
-fn named(alloc: Global) -> Result<Vec<(String, ComponentValType)>, Fault> {
+fn named(rt: &impl Abort, alloc: Global) -> Vec<(String, ComponentValType)> {
     let mut fields = Vec::new(alloc);
-    fields.push((name(alloc)?, LAST))?;
-    Ok(fields)
+    ok(rt, fields.push((name(rt, alloc), LAST)));
+    fields
 }
 
-fn cases(alloc: Global) -> Result<Vec<CaseTree>, Fault> {
+fn cases(rt: &impl Abort, alloc: Global) -> Vec<CaseTree> {
     let mut cases = Vec::new(alloc);
-    let name = name(alloc)?;
+    let name = name(rt, alloc);
     let ty = Some(LAST);
-    cases.push(CaseTree { name, ty })?;
-    Ok(cases)
+    ok(rt, cases.push(CaseTree { name, ty }));
+    cases
 }
 
-fn names(alloc: Global) -> Result<Vec<String>, Fault> {
+fn tuple(rt: &impl Abort, alloc: Global) -> Vec<ComponentValType> {
+    ok(rt, [STRING, LAST].to_vec(alloc))
+}
+
+fn names(rt: &impl Abort, alloc: Global) -> Vec<String> {
     let mut names = Vec::new(alloc);
-    names.push(name(alloc)?)?;
-    Ok(names)
+    ok(rt, names.push(name(rt, alloc)));
+    names
 }
 
 /// Adds types of values of several parts.
-fn add_long(trees: &mut Vec<DefinedTree>, alloc: Global) -> Result<(), Fault> {
-    add(trees, MAP)?;
-    add(trees, FIXED)?;
-    add(trees, RESULT)?;
-    add(trees, DefinedTree::Record(named(alloc)?))?;
-    add(trees, DefinedTree::Variant(cases(alloc)?))?;
-    add(trees, DefinedTree::Tuple([STRING, LAST].to_vec(alloc)?))?;
-    add(trees, DefinedTree::Flags(names(alloc)?))?;
-    add(trees, DefinedTree::Enum(names(alloc)?))
+fn add_long(rt: &impl Abort, trees: &mut Vec<DefinedTree>, alloc: Global) {
+    add(rt, trees, MAP);
+    add(rt, trees, FIXED);
+    add(rt, trees, RESULT);
+    add(rt, trees, DefinedTree::Record(named(rt, alloc)));
+    add(rt, trees, DefinedTree::Variant(cases(rt, alloc)));
+    add(rt, trees, DefinedTree::Tuple(tuple(rt, alloc)));
+    add(rt, trees, DefinedTree::Flags(names(rt, alloc)));
+    add(rt, trees, DefinedTree::Enum(names(rt, alloc)));
 }
 
 /// Types of values of each kind.
-fn values(alloc: Global) -> Result<Vec<DefinedTree>, Fault> {
+fn values(rt: &impl Abort, alloc: Global) -> Vec<DefinedTree> {
     let mut trees = Vec::new(alloc);
-    add_short(&mut trees)?;
-    add_long(&mut trees, alloc)?;
-    Ok(trees)
+    add_short(rt, &mut trees);
+    add_long(rt, &mut trees, alloc);
+    trees
 }
 
-fn core_type(alloc: Global) -> Result<CoreTypeTree, Fault> {
+fn core_type(rt: &impl Abort, alloc: Global) -> CoreTypeTree {
     let mut decls = Vec::new(alloc);
-    decls.push(ModuleDecl::Alias {
+    let alias = ModuleDecl::Alias {
         count: LARGE,
         index: LARGE,
-    })?;
-    Ok(CoreTypeTree::Module(decls))
+    };
+    ok(rt, decls.push(alias));
+    CoreTypeTree::Module(decls)
 }
 
-fn export(alloc: Global) -> Result<InstanceDecl, Fault> {
-    Ok(InstanceDecl::Export {
-        name: NameTree::from(name(alloc)?),
+fn export(rt: &impl Abort, alloc: Global) -> InstanceDecl {
+    InstanceDecl::Export {
+        name: NameTree::from(name(rt, alloc)),
         ty: ComponentTypeRef::Func(LARGE),
-    })
+    }
 }
 
-fn function(alloc: Global) -> Result<TypeTree, Fault> {
-    Ok(TypeTree::Func {
+fn function(rt: &impl Abort, alloc: Global) -> TypeTree {
+    TypeTree::Func {
         is_async: true,
-        params: named(alloc)?,
+        params: named(rt, alloc),
         result: Some(LAST),
-    })
+    }
 }
 
-fn declare(decls: &mut Vec<InstanceDecl>, decl: InstanceDecl) -> Result<(), Fault> {
-    decls.push(decl)?;
-    Ok(())
+fn declare(rt: &impl Abort, decls: &mut Vec<InstanceDecl>, decl: InstanceDecl) {
+    ok(rt, decls.push(decl));
 }
 
 /// Declares all types of values.
-fn declare_values(decls: &mut Vec<InstanceDecl>, alloc: Global) -> Result<(), Fault> {
-    for tree in values(alloc)? {
-        declare(decls, InstanceDecl::Type(TypeTree::Defined(tree)))?;
+fn declare_values(rt: &impl Abort, decls: &mut Vec<InstanceDecl>, alloc: Global) {
+    for tree in values(rt, alloc) {
+        declare(rt, decls, InstanceDecl::Type(TypeTree::Defined(tree)));
     }
-    Ok(())
 }
 
 /// An instance type that declares all types of values, and other things.
-fn instance(alloc: Global) -> Result<Vec<InstanceDecl>, Fault> {
+fn instance(rt: &impl Abort, alloc: Global) -> Vec<InstanceDecl> {
     let mut decls = Vec::new(alloc);
-    declare_values(&mut decls, alloc)?;
-    declare(&mut decls, InstanceDecl::Type(function(alloc)?))?;
-    declare(&mut decls, export(alloc)?)?;
-    Ok(decls)
+    declare_values(rt, &mut decls, alloc);
+    declare(rt, &mut decls, InstanceDecl::Type(function(rt, alloc)));
+    declare(rt, &mut decls, export(rt, alloc));
+    decls
 }
 
 const RESOURCE: TypeTree = TypeTree::Resource {
@@ -146,45 +149,41 @@ const ALIAS: AliasTree = AliasTree::Outer {
     index: LARGE,
 };
 
-fn declare_too(decls: &mut Vec<ComponentDecl>, decl: InstanceDecl) -> Result<(), Fault> {
-    decls.push(ComponentDecl::Decl(decl))?;
-    Ok(())
+fn declare_too(rt: &impl Abort, decls: &mut Vec<ComponentDecl>, decl: InstanceDecl) {
+    ok(rt, decls.push(ComponentDecl::Decl(decl)));
 }
 
 /// Declares all but an import.
-fn declare_most(decls: &mut Vec<ComponentDecl>, alloc: Global) -> Result<(), Fault> {
-    declare_too(decls, InstanceDecl::CoreType(core_type(alloc)?))?;
-    let instance = TypeTree::Instance(instance(alloc)?);
-    declare_too(decls, InstanceDecl::Type(instance))?;
-    declare_too(decls, InstanceDecl::Type(RESOURCE))?;
-    declare_too(decls, InstanceDecl::Alias(ALIAS))
+fn declare_most(rt: &impl Abort, decls: &mut Vec<ComponentDecl>, alloc: Global) {
+    declare_too(rt, decls, InstanceDecl::CoreType(core_type(rt, alloc)));
+    let instance = TypeTree::Instance(instance(rt, alloc));
+    declare_too(rt, decls, InstanceDecl::Type(instance));
+    declare_too(rt, decls, InstanceDecl::Type(RESOURCE));
+    declare_too(rt, decls, InstanceDecl::Alias(ALIAS));
 }
 
-fn declare_import(decls: &mut Vec<ComponentDecl>, alloc: Global) -> Result<(), Fault> {
-    let name = NameTree::from(name(alloc)?);
+fn declare_import(rt: &impl Abort, decls: &mut Vec<ComponentDecl>, alloc: Global) {
+    let name = NameTree::from(name(rt, alloc));
     let ty = ComponentTypeRef::Func(LARGE);
-    decls.push(ComponentDecl::Import { name, ty })?;
-    Ok(())
+    ok(rt, decls.push(ComponentDecl::Import { name, ty }));
 }
 
 /// A component type that has each kind of declaration and of type in it.
-fn component(alloc: Global) -> Result<TypeTree, Fault> {
+fn component(rt: &impl Abort, alloc: Global) -> TypeTree {
     let mut decls = Vec::new(alloc);
-    declare_import(&mut decls, alloc)?;
-    declare_most(&mut decls, alloc)?;
-    Ok(TypeTree::Component(decls))
+    declare_import(rt, &mut decls, alloc);
+    declare_most(rt, &mut decls, alloc);
+    TypeTree::Component(decls)
 }
 
 #[test]
-fn types_of_values(rt: HostRuntime) -> Result<(), Fail> {
-    let trees = values(rt.alloc())?;
-    assert!(rt; sweep_each(rt.alloc(), trees.as_slice())?);
-    Ok(())
+fn types_of_values(rt: HostRuntime) {
+    let trees = values(&rt, rt.alloc());
+    is_well(&rt, sweep_each(rt.alloc(), trees.as_slice()));
 }
 
 #[test]
-fn types(rt: HostRuntime) -> Result<(), Fail> {
-    let tree = component(rt.alloc())?;
-    assert!(rt; sweep_encode(rt.alloc(), &tree)?);
-    Ok(())
+fn types(rt: HostRuntime) {
+    let tree = component(&rt, rt.alloc());
+    is_well(&rt, sweep_encode(rt.alloc(), &tree));
 }

@@ -1,21 +1,17 @@
 //! Each call that writes a type of values, a resource or a function, with each thing that can be borrowed.
 
-use crate::component_types::calls::Call;
-use crate::component_types::checks::{INDEXED, LAST, STRING, declares, is_item, is_written};
-use crate::component_types::declaring::Kind;
+use crate::component_types::calls::{Call, Lends};
+use crate::component_types::checks::{INDEXED, LAST, STRING, declares, is_item};
 use crate::component_types::lending::Item;
-use crate::swept_lending::{last_is_refused, sweep_texts};
+use crate::swept_lending::{OnHeap, last_is_refused, sweep_item, sweep_texts};
 use refusing::Refusing;
 use std::alloc::Global;
 use std::process::Abort;
-use std::test::Fail;
 use sweeping::{LARGE, NAME};
-use wenc_base::{Fault, ValType};
+use wenc_base::ValType;
 use wenc_parts::{ComponentValType, PrimitiveValType};
 use wenc_sections::ComponentTypeSection;
-use wenc_types::Declarations;
-use wenc_types::component_type::ComponentTypes;
-use wenc_types::instance_type::InstanceTypes;
+use wenc_types::{ComponentType, InstanceType};
 
 const BOOL: ComponentValType = ComponentValType::Primitive(PrimitiveValType::Bool);
 
@@ -23,43 +19,48 @@ const U8: ComponentValType = ComponentValType::Primitive(PrimitiveValType::U8);
 
 const U32: ComponentValType = ComponentValType::Primitive(PrimitiveValType::U32);
 
-/// The call makes this in a section.
-fn in_a_section(
+/// The call makes an item of this text.
+fn in_a_section<'a, L: OnHeap<'a> + Lends>(
     rt: &impl Abort,
     alloc: Global,
-    heap: &Refusing,
+    heap: &'a Refusing,
     call: Call<'_>,
     text: &[u8],
-) -> Result<(), Fault> {
-    is_written(rt, alloc, heap, call, text)?;
-    last_is_refused::<ComponentTypeSection<&Refusing>, Call<'_>>(rt, heap, 8, &call)
+) {
+    sweep_item::<L, Call<'_>>(rt, alloc, heap, call, text);
+    last_is_refused::<L, Call<'_>>(rt, heap, 8, &call);
 }
 
-/// It declares a type of this text.
-fn in_a_type<K: Kind>(
+/// It declares a type of this text, in one that begins with this byte.
+fn in_a_type<'a, L: OnHeap<'a> + Lends>(
     rt: &impl Abort,
     alloc: Global,
-    heap: &Refusing,
+    heap: &'a Refusing,
+    byte: u8,
     call: Call<'_>,
     text: &[u8],
-) -> Result<(), Fault> {
-    declares::<K>(rt, alloc, heap, call, text)?;
-    last_is_refused::<Declarations<K, &Refusing>, Call<'_>>(rt, heap, 5, &call)
+) {
+    declares::<L, Call<'_>>(rt, alloc, heap, byte, call, text);
+    last_is_refused::<L, Call<'_>>(rt, heap, 5, &call);
+}
+
+/// So it does in each of both kinds.
+fn in_types(rt: &impl Abort, alloc: Global, heap: &Refusing, call: Call<'_>, text: &[u8]) {
+    in_a_type::<ComponentType<&Refusing>>(rt, alloc, heap, 0x41, call, text);
+    in_a_type::<InstanceType<&Refusing>>(rt, alloc, heap, 0x42, call, text);
 }
 
 /// The calls make types of these texts.
-fn check(rt: &impl Abort, alloc: Global, rows: &[(Call<'_>, &[u8])]) -> Result<(), Fault> {
+fn check(rt: &impl Abort, alloc: Global, rows: &[(Call<'_>, &[u8])]) {
     let heap = Refusing::new(alloc);
     for (call, text) in rows {
-        in_a_section(rt, alloc, &heap, *call, text)?;
-        in_a_type::<ComponentTypes>(rt, alloc, &heap, *call, text)?;
-        in_a_type::<InstanceTypes>(rt, alloc, &heap, *call, text)?;
+        in_a_section::<ComponentTypeSection<&Refusing>>(rt, alloc, &heap, *call, text);
+        in_types(rt, alloc, &heap, *call, text);
     }
-    assert!(rt; sweep_texts(alloc, &mut ComponentTypeSection::new(alloc), rows)?);
-    Ok(())
+    sweep_texts(rt, alloc, &mut ComponentTypeSection::new(alloc), rows);
 }
 
-const LISTS: [(Call<'static>, &[u8]); 15] = [
+const LISTS: &[(Call<'static>, &[u8])] = &[
     (Call::Record(&[]), b"\x72\x00"),
     (
         Call::Record(&[("a", STRING), ("é", INDEXED)]),
@@ -105,7 +106,7 @@ const LISTS: [(Call<'static>, &[u8]); 15] = [
     ),
 ];
 
-const OTHERS: [(Call<'static>, &[u8]); 23] = [
+const OTHERS: &[(Call<'static>, &[u8])] = &[
     (Call::Primitive(PrimitiveValType::Char), b"\x74"),
     (Call::List(INDEXED), b"\x70\xc0\x00"),
     (Call::Map(STRING, U32), b"\x63\x73\x79"),
@@ -137,7 +138,7 @@ const OTHERS: [(Call<'static>, &[u8]); 23] = [
     (Call::Stream(Some(LAST)), b"\x66\x01\xff\xff\xff\xff\x0f"),
 ];
 
-const RESOURCES_AND_FUNCTIONS: [(Call<'static>, &[u8]); 8] = [
+const RESOURCES_AND_FUNCTIONS: &[(Call<'static>, &[u8])] = &[
     (Call::Resource(ValType::I32, None), b"\x3f\x7f\x00"),
     (Call::Resource(ValType::I32, Some(3)), b"\x3f\x7f\x01\x03"),
     (
@@ -165,40 +166,33 @@ const RESOURCES_AND_FUNCTIONS: [(Call<'static>, &[u8]); 8] = [
     ),
 ];
 
-/// Resources that one call adds.
-const RESOURCES: [(Item<'static>, &[u8]); 3] = [
-    (Item::Resource(None), b"\x3f\x7f\x00"),
-    (Item::Resource(Some(3)), b"\x3f\x7f\x01\x03"),
-    (
-        Item::Resource(Some(LARGE)),
-        b"\x3f\x7f\x01\xff\xff\xff\xff\x0f",
-    ),
+/// Resources that one call adds, by their destructors.
+const RESOURCES: &[(Option<u32>, &[u8])] = &[
+    (None, b"\x3f\x7f\x00"),
+    (Some(3), b"\x3f\x7f\x01\x03"),
+    (Some(LARGE), b"\x3f\x7f\x01\xff\xff\xff\xff\x0f"),
 ];
 
 /// Upstream gives these texts, and those of the other tables.
 #[test]
-fn lists_of_values(rt: HostRuntime) -> Result<(), Fail> {
-    check(&rt, rt.alloc(), LISTS.as_slice())?;
-    Ok(())
+fn lists_of_values(rt: HostRuntime) {
+    check(&rt, rt.alloc(), LISTS);
 }
 
 #[test]
-fn types_of_values(rt: HostRuntime) -> Result<(), Fail> {
-    check(&rt, rt.alloc(), OTHERS.as_slice())?;
-    Ok(())
+fn types_of_values(rt: HostRuntime) {
+    check(&rt, rt.alloc(), OTHERS);
 }
 
 #[test]
-fn resources_and_functions(rt: HostRuntime) -> Result<(), Fail> {
-    check(&rt, rt.alloc(), RESOURCES_AND_FUNCTIONS.as_slice())?;
-    Ok(())
+fn resources_and_functions(rt: HostRuntime) {
+    check(&rt, rt.alloc(), RESOURCES_AND_FUNCTIONS);
 }
 
 #[test]
-fn resources(rt: HostRuntime) -> Result<(), Fail> {
+fn resources(rt: HostRuntime) {
     let heap = Refusing::new(rt.alloc());
-    for (item, text) in RESOURCES.as_slice() {
-        is_item(&rt, rt.alloc(), &heap, *item, text)?;
+    for (dtor, text) in RESOURCES {
+        is_item(&rt, rt.alloc(), &heap, Item::Resource(*dtor), text);
     }
-    Ok(())
 }

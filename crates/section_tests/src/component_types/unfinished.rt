@@ -8,7 +8,7 @@ use crate::lending::{Makes, is};
 use crate::unfinished::{NO_ITEMS, take_back_each};
 use std::alloc::Global;
 use std::process::Abort;
-use std::test::Fail;
+use sweeping::ok;
 use wenc_base::Fault;
 use wenc_parts::{Alias, ComponentOuterAliasKind, ComponentTypeRef};
 use wenc_sections::ComponentTypeSection;
@@ -17,7 +17,7 @@ use wenc_types::instance_type::InstanceTypes;
 use wenc_types::{ComponentType, Declarations, InstanceType};
 
 /// What is counted when a type is begun in each way.
-const OPENINGS: [(Opening, [u32; 4]); 4] = [
+const OPENINGS: &[(Opening, [u32; 4])] = &[
     (Opening::Type, [1, 0, 1, 0]),
     (Opening::Tagged, [1, 0, 1, 0]),
     (Opening::CoreType, [1, 1, 0, 0]),
@@ -33,60 +33,45 @@ const OUTER: Alias<'static> = Alias::Outer {
 const FUNC: ComponentTypeRef = ComponentTypeRef::Func(0);
 
 /// What nothing is declared by meanwhile.
-const DECLARATIONS: [Declaration<'static>; 3] = [
+const DECLARATIONS: &[Declaration<'static>] = &[
     Declaration::Alias(OUTER),
     Declaration::Export("f", FUNC),
     Declaration::Array,
 ];
 
-const IMPORTS: [Import<'static>; 1] = [Import("f", FUNC)];
+const IMPORTS: &[Import<'static>] = &[Import("f", FUNC)];
 
 /// Afterwards the type is as it was, and takes a declaration.
-fn goes_on<K: Kind>(rt: &impl Abort, alloc: Global, none: &[u8], one: &[u8]) -> Result<(), Fault> {
+fn goes_on<K: Kind>(rt: &impl Abort, alloc: Global, none: &[u8], one: &[u8]) {
     let mut ty: Declarations<K> = Declarations::new(alloc);
-    take_back_each(
-        rt,
-        alloc,
-        &mut ty,
-        OPENINGS.as_slice(),
-        DECLARATIONS.as_slice(),
-    )?;
-    is(rt, alloc, &ty, none)?;
-    Call::Own(64).make(&mut ty)?;
-    is(rt, alloc, &ty, one)
+    take_back_each(rt, alloc, &mut ty, OPENINGS, DECLARATIONS, none);
+    ok(rt, Call::Own(64).make(&mut ty));
+    is(rt, alloc, &ty, one);
 }
 
 #[test]
-fn component_types(rt: HostRuntime) -> Result<(), Fail> {
+fn component_types(rt: HostRuntime) {
     let none = b"\x00\x00\x00\x00\x01\x01\x41\x00";
     let one = b"\x01\x00\x01\x00\x00\x01\x41\x01\x01\x69\x40";
-    goes_on::<ComponentTypes>(&rt, rt.alloc(), none, one)?;
-    Ok(())
+    goes_on::<ComponentTypes>(&rt, rt.alloc(), none, one);
 }
 
 #[test]
-fn instance_types(rt: HostRuntime) -> Result<(), Fail> {
+fn instance_types(rt: HostRuntime) {
     let none = b"\x00\x00\x00\x00\x01\x01\x42\x00";
     let one = b"\x01\x00\x01\x00\x00\x01\x42\x01\x01\x69\x40";
-    goes_on::<InstanceTypes>(&rt, rt.alloc(), none, one)?;
-    Ok(())
+    goes_on::<InstanceTypes>(&rt, rt.alloc(), none, one);
 }
 
 /// Nor do component types declare imports meanwhile.
 #[test]
-fn imports(rt: HostRuntime) -> Result<(), Fail> {
+fn imports(rt: HostRuntime) {
     let mut ty = ComponentType::new(rt.alloc());
-    take_back_each(
-        &rt,
-        rt.alloc(),
-        &mut ty,
-        OPENINGS.as_slice(),
-        IMPORTS.as_slice(),
-    )?;
-    Ok(())
+    let none = b"\x00\x00\x00\x00\x01\x01\x41\x00";
+    take_back_each(&rt, rt.alloc(), &mut ty, OPENINGS, IMPORTS, none);
 }
 
-const BEGINNINGS: [(Beginning, [u32; 4]); 6] = [
+const BEGINNINGS: &[(Beginning, [u32; 4])] = &[
     (Beginning::Item, [1, 0, 0, 0]),
     (Beginning::Values, [1, 0, 0, 0]),
     (Beginning::DefinedType, [1, 0, 0, 0]),
@@ -102,19 +87,10 @@ fn gives_up<'t>(
     section: &mut ComponentTypeSection,
     component: &'t ComponentType,
     instance: &'t InstanceType,
-) -> Result<(), Fault> {
+) {
     let items = items(component, instance);
-    take_back_each(rt, alloc, section, BEGINNINGS.as_slice(), items.as_slice())?;
-    is(rt, alloc, section, NO_ITEMS)
-}
-
-fn gives_up_each(
-    rt: &impl Abort,
-    alloc: Global,
-    section: &mut ComponentTypeSection,
-) -> Result<(), Fault> {
-    let component = ComponentType::new(alloc);
-    gives_up(rt, alloc, section, &component, &InstanceType::new(alloc))
+    let refused = items.as_slice();
+    take_back_each(rt, alloc, section, BEGINNINGS, refused, NO_ITEMS);
 }
 
 /// Adds a handle by the call for types of values.
@@ -123,11 +99,12 @@ fn add_own(section: &mut ComponentTypeSection) -> Result<(), Fault> {
 }
 
 #[test]
-fn sections(rt: HostRuntime) -> Result<(), Fail> {
+fn sections(rt: HostRuntime) {
     let mut section = ComponentTypeSection::new(rt.alloc());
-    gives_up_each(&rt, rt.alloc(), &mut section)?;
-    add_own(&mut section)?;
+    let component = ComponentType::new(rt.alloc());
+    let instance = InstanceType::new(rt.alloc());
+    gives_up(&rt, rt.alloc(), &mut section, &component, &instance);
+    ok(&rt, add_own(&mut section));
     let wanted = b"\x01\x00\x00\x00\x00\x01\x03\x01\x69\x40";
-    is(&rt, rt.alloc(), &section, wanted)?;
-    Ok(())
+    is(&rt, rt.alloc(), &section, wanted);
 }

@@ -33,17 +33,38 @@ impl<A: Allocator> Lends for CoreTypeSection<A> {
     }
 }
 
-/// A last call of an encoder of core types.
+/// A last call of an encoder of core types, for a function, an array or a structure. Tables can be made of these.
 #[derive(Clone, Copy)]
-pub enum Call<'t> {
+pub enum Composite<'t> {
     /// A function with these parameters and results.
     Function(&'t [ValType], &'t [ValType]),
-    /// A function of this type.
-    FuncType(&'t FuncType),
     /// An array of these elements, which can be changed or not.
     Array(StorageType, bool),
     /// A structure with these fields.
     Struct(&'t [FieldType]),
+}
+
+impl<'t, L: Lends> Makes<L> for Composite<'t> {
+    fn is_lent(&self) -> bool {
+        true
+    }
+
+    /// Begins a type, and makes the call.
+    fn make(&self, to: &mut L) -> Result<(), Fault> {
+        match *self {
+            Composite::Function(params, results) => function(to, params, results),
+            Composite::Array(ty, mutable) => array(to, &ty, mutable),
+            Composite::Struct(fields) => structure(to, fields),
+        }
+    }
+}
+
+/// A last call of an encoder of core types.
+#[derive(Clone, Copy)]
+pub enum Call<'t> {
+    Composite(Composite<'t>),
+    /// A function of this type.
+    FuncType(&'t FuncType),
     /// This type.
     Subtype(&'t SubType),
     /// Types that may refer to each other.
@@ -60,10 +81,8 @@ impl<'t, L: Lends> Makes<L> for Call<'t> {
     /// Begins a type, and makes the call.
     fn make(&self, to: &mut L) -> Result<(), Fault> {
         match *self {
-            Call::Function(params, results) => function(to, params, results),
+            Call::Composite(call) => call.make(to),
             Call::FuncType(ty) => func_type(to, ty),
-            Call::Array(ty, mutable) => array(to, &ty, mutable),
-            Call::Struct(fields) => structure(to, fields),
             Call::Subtype(ty) => subtype(to, ty),
             Call::Rec(types) => rec(to, types),
             Call::Group(ty) => group(to, ty),

@@ -1,8 +1,10 @@
 //! What module types declare.
 
-use crate::core_types::calls::Call;
+use crate::core_types::calls::Composite;
 use crate::lending::Makes;
 use std::alloc::Allocator;
+use std::process::Abort;
+use sweeping::ok;
 use wenc_base::{EntityType, Fault};
 use wenc_types::ModuleType;
 
@@ -12,7 +14,7 @@ pub enum Declaration<'t> {
     /// An import.
     Import(&'t str, &'t str, EntityType),
     /// A type that this call ends.
-    Type(Call<'t>),
+    Type(Composite<'t>),
     /// An alias.
     Outer(u32, u32),
     /// An export.
@@ -56,9 +58,8 @@ fn export<A: Allocator>(ty: &mut ModuleType<A>, name: &str, what: EntityType) ->
 }
 
 /// Declares each of what tables tell of.
-pub fn declare(ty: &mut ModuleType, rows: &[(Declaration<'_>, &[u8], &[u8])]) -> Result<(), Fault> {
+pub fn declare(rt: &impl Abort, ty: &mut ModuleType, rows: &[(Declaration<'_>, &[u8], &[u8])]) {
     for (declaration, _, _) in rows {
-        declaration.make(ty)?;
+        ok(rt, declaration.make(ty));
     }
-    Ok(())
 }

@@ -1,7 +1,7 @@
 //! What lends itself to the encoder of core types: module types, and sections of core types.
 
 use crate::checks::is_refused;
-use crate::core_types::calls::Call;
+use crate::core_types::calls::{Composite, Lends};
 use crate::core_types::declaring::outer;
 use crate::lending::{Lending, Makes, TypeKind};
 use crate::swept_lending::OnHeap;
@@ -18,7 +18,7 @@ use wenc_types::ModuleType;
 /// Its short items are arrays of three bytes.
 impl TypeKind for CoreTypes {
     fn add_short<A: Allocator>(section: &mut Counted<CoreTypes, A>) -> Result<(), Fault> {
-        Call::Array(StorageType::I8, false).make(section)
+        Composite::Array(StorageType::I8, false).make(section)
     }
 
     fn begin<A: Allocator>(section: &mut Counted<CoreTypes, A>) -> Result<(), Fault> {
@@ -36,7 +36,7 @@ pub enum Beginning {
 }
 
 fn begin_core<A: Allocator>(section: &mut CoreTypeSection<A>) -> Result<(), Fault> {
-    section.ty()?.core();
+    section.encoder()?;
     Ok(())
 }
 
@@ -76,7 +76,7 @@ impl<A: Allocator + Clone> Lending for ModuleType<A> {
     }
 
     fn begin(&mut self) -> Result<(), Fault> {
-        self.ty()?;
+        self.encoder()?;
         Ok(())
     }
 
@@ -113,9 +113,9 @@ impl<'a> OnHeap<'a> for ModuleType<&'a Refusing> {
 
 /// The item is left unfinished, and comes to nothing.
 impl Taken for ModuleType {
-    fn is_not_taken(&self, rt: &impl Abort, alloc: Global) -> Result<(), Fault> {
+    fn is_not_taken(&self, rt: &impl Abort, alloc: Global) {
         let mut section = CoreTypeSection::new(alloc);
         is_refused(rt, Module(self).make(&mut section));
-        comes_to_nothing(rt, alloc, &mut section, &[Module(self)])
+        comes_to_nothing(rt, alloc, &mut section, &[Module(self)]);
     }
 }

@@ -1,7 +1,8 @@
 //! Core types of which the tests are made.
 
 use std::alloc::Global;
-use sweeping::LARGE;
+use std::process::Abort;
+use sweeping::{LARGE, ok};
 use wenc_base::{
     ArrayType, CompositeType, Fault, FieldType, FuncType, HeapType, RefType, StorageType,
     StructType, SubType, ValType,
@@ -50,27 +51,28 @@ pub fn func_type(
 
 /// A type of functions.
 pub fn function(
+    rt: &impl Abort,
     alloc: Global,
     is_final: bool,
     supertype_idx: Option<u32>,
     params: &[ValType],
-) -> Result<SubType, Fault> {
-    let ty = func_type(alloc, params, &[])?;
-    Ok(SubType {
+) -> SubType {
+    let ty = ok(rt, func_type(alloc, params, &[]));
+    SubType {
         is_final,
         supertype_idx,
         composite_type: CompositeType::Func(ty),
-    })
+    }
 }
 
 /// A type of functions that is not final, with long lists.
-pub fn long_function(alloc: Global) -> Result<SubType, Fault> {
-    let ty = func_type(alloc, LONG_PARAMS, LONG_RESULTS)?;
-    Ok(SubType {
+pub fn long_function(rt: &impl Abort, alloc: Global) -> SubType {
+    let ty = ok(rt, func_type(alloc, LONG_PARAMS, LONG_RESULTS));
+    SubType {
         is_final: false,
         supertype_idx: Some(LARGE),
         composite_type: CompositeType::Func(ty),
-    })
+    }
 }
 
 /// A type of arrays.
@@ -83,40 +85,35 @@ pub fn array(is_final: bool, supertype_idx: Option<u32>, element: FieldType) -> 
 }
 
 /// A type of structures of one field.
-pub fn structure(alloc: Global, supertype: u32) -> Result<SubType, Fault> {
-    let fields = [I8].to_vec(alloc)?;
-    Ok(SubType {
+pub fn structure(rt: &impl Abort, alloc: Global, supertype: u32) -> SubType {
+    let fields = ok(rt, [I8].to_vec(alloc));
+    SubType {
         is_final: false,
         supertype_idx: Some(supertype),
         composite_type: CompositeType::Struct(StructType { fields }),
-    })
+    }
 }
 
 /// Adds a type.
-pub fn add(types: &mut Vec<SubType>, ty: SubType) -> Result<(), Fault> {
-    types.push(ty)?;
-    Ok(())
+pub fn add(rt: &impl Abort, types: &mut Vec<SubType>, ty: SubType) {
+    ok(rt, types.push(ty));
 }
 
 /// Adds a type of functions.
 pub fn add_function(
+    rt: &impl Abort,
     types: &mut Vec<SubType>,
     alloc: Global,
     is_final: bool,
     params: &[ValType],
-) -> Result<(), Fault> {
-    add(types, function(alloc, is_final, None, params)?)
+) {
+    add(rt, types, function(rt, alloc, is_final, None, params));
 }
 
-/// Adds a final type of functions with no parameters, and one with a parameter.
-pub fn add_pair(types: &mut Vec<SubType>, alloc: Global, is_final: bool) -> Result<(), Fault> {
-    add_function(types, alloc, true, &[])?;
-    add_function(types, alloc, is_final, &[ValType::I32])
-}
-
-/// These types alone.
-pub fn pair(alloc: Global, is_final: bool) -> Result<Vec<SubType>, Fault> {
+/// A final type of functions with no parameters, and one with a parameter.
+pub fn pair(rt: &impl Abort, alloc: Global, is_final: bool) -> Vec<SubType> {
     let mut types = Vec::new(alloc);
-    add_pair(&mut types, alloc, is_final)?;
-    Ok(types)
+    add_function(rt, &mut types, alloc, true, &[]);
+    add_function(rt, &mut types, alloc, is_final, &[ValType::I32]);
+    types
 }

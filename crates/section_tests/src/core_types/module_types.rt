@@ -1,18 +1,17 @@
 //! Module types: their declarations.
 
-use crate::checks::{counts, is_text};
-use crate::core_types::calls::Call;
+use crate::checks::is_text;
+use crate::core_types::calls::{Call, Composite, Lends};
 use crate::core_types::declaring::{Declaration, declare};
 use crate::core_types::making::{function, pair};
 use crate::lending::{Begin, Makes, has};
-use crate::swept_lending::{Swept, begun, sweep_made};
+use crate::swept_lending::{begun, sweep_made};
 use refusing::Refusing;
 use std::alloc::Global;
 use std::process::Abort;
-use std::test::Fail;
-use sweeping::{LARGE, NAME};
+use sweeping::{LARGE, NAME, ok};
 use wenc_base::{
-    AbstractHeapType, EntityType, Fault, GlobalType, HeapType, MemoryType, RefType, StorageType,
+    AbstractHeapType, EntityType, GlobalType, HeapType, MemoryType, RefType, StorageType,
     TableType, TagType, ValType,
 };
 use wenc_types::ModuleType;
@@ -64,7 +63,7 @@ const NO_TYPE: &[u8] = &[0, 0, 0, 0, 1, 1];
 pub const A_TYPE: &[u8] = &[0, 1, 0, 0, 0, 1];
 
 /// Upstream gives these texts. Between a declaration and its text stands whether it counts as a type.
-pub const ENTITIES: [(Declaration<'static>, &[u8], &[u8]); 7] = [
+pub const ENTITIES: &[(Declaration<'static>, &[u8], &[u8])] = &[
     (
         Declaration::Import("m", "f", EntityType::Function(0)),
         NO_TYPE,
@@ -76,7 +75,7 @@ pub const ENTITIES: [(Declaration<'static>, &[u8], &[u8]); 7] = [
         b"\x00\x01m\x01t\x01\x70\x00\x01",
     ),
     (
-        Declaration::Type(Call::Function(&[ValType::I32], &[ValType::I64])),
+        Declaration::Type(Composite::Function(&[ValType::I32], &[ValType::I64])),
         A_TYPE,
         b"\x01\x60\x01\x7f\x01\x7e",
     ),
@@ -102,7 +101,7 @@ pub const ENTITIES: [(Declaration<'static>, &[u8], &[u8]); 7] = [
     ),
 ];
 
-const THREE: [(Declaration<'static>, &[u8], &[u8]); 3] = [
+const THREE: &[(Declaration<'static>, &[u8], &[u8])] = &[
     (
         Declaration::Import("m", "n", MEMORY),
         NO_TYPE,
@@ -117,7 +116,7 @@ const THREE: [(Declaration<'static>, &[u8], &[u8]); 3] = [
 ];
 
 /// The length of a name is that of `NAME`, 73.
-const LONG: [(Declaration<'static>, &[u8], &[u8]); 7] = [
+const LONG: &[(Declaration<'static>, &[u8], &[u8])] = &[
     (
         Declaration::Import(NAME, NAME, EntityType::Function(LARGE)),
         NO_TYPE,
@@ -160,34 +159,31 @@ const LONG: [(Declaration<'static>, &[u8], &[u8]); 7] = [
 
 /// Sweeps a declaration. With it alone a module type counts this, and has this text behind its lead.
 fn sweep_row(
+    rt: &impl Abort,
     alloc: Global,
     heap: &Refusing,
     call: Declaration<'_>,
     counted: &[u8],
     text: &[u8],
-) -> Result<bool, Fault> {
+) {
     let lead = &[0x50, 1];
-    sweep_made::<ModuleType<&Refusing>, Declaration<'_>>(alloc, heap, call, counted, lead, text)
+    sweep_made::<ModuleType<&Refusing>, Declaration<'_>>(
+        rt, alloc, heap, call, counted, lead, text,
+    );
 }
 
-fn sweep_declarations(
-    rt: &impl Abort,
-    alloc: Global,
-    rows: &[(Declaration<'_>, &[u8], &[u8])],
-) -> Result<(), Fault> {
+fn sweep_declarations(rt: &impl Abort, alloc: Global, rows: &[(Declaration<'_>, &[u8], &[u8])]) {
     let heap = Refusing::new(alloc);
     for (call, counted, text) in rows {
-        assert!(rt; sweep_row(alloc, &heap, *call, counted, text)?);
+        sweep_row(rt, alloc, &heap, *call, counted, text);
     }
-    Ok(())
 }
 
 #[test]
-fn added(rt: HostRuntime) -> Result<(), Fail> {
-    sweep_declarations(&rt, rt.alloc(), ENTITIES.as_slice())?;
-    sweep_declarations(&rt, rt.alloc(), THREE.as_slice())?;
-    sweep_declarations(&rt, rt.alloc(), LONG.as_slice())?;
-    Ok(())
+fn added(rt: HostRuntime) {
+    sweep_declarations(&rt, rt.alloc(), ENTITIES);
+    sweep_declarations(&rt, rt.alloc(), THREE);
+    sweep_declarations(&rt, rt.alloc(), LONG);
 }
 
 /// A module type with these declarations has so many types, and this text.
@@ -197,64 +193,64 @@ fn check(
     rows: &[(Declaration<'_>, &[u8], &[u8])],
     count: u32,
     wanted: &str,
-) -> Result<(), Fault> {
+) {
     let mut ty = ModuleType::new(alloc);
-    declare(&mut ty, rows)?;
+    declare(rt, &mut ty, rows);
     has(rt, &ty, [0, count, 0, 0]);
-    is_text(rt, alloc, &ty, wanted)
+    is_text(rt, alloc, &ty, wanted);
 }
 
 /// Upstream gives the last.
 #[test]
-fn declarations(rt: HostRuntime) -> Result<(), Fail> {
+fn declarations(rt: HostRuntime) {
     let text = "500300016d016e020301020210010100030174040000";
-    check(&rt, rt.alloc(), THREE.as_slice(), 1, text)?;
+    check(&rt, rt.alloc(), THREE, 1, text);
     let text = "500700016d0166000000016d0174017000010160017f017e0000000205800180800402\
          10018001ffffffff0f030167037c0103016504008001";
-    check(&rt, rt.alloc(), ENTITIES.as_slice(), 2, text)?;
-    Ok(())
+    check(&rt, rt.alloc(), ENTITIES, 2, text);
 }
 
 /// Adds a subtype that is not final.
-pub fn add_open(ty: &mut ModuleType, alloc: Global) -> Result<(), Fault> {
-    let open = function(alloc, false, None, &[])?;
-    Call::Subtype(&open).make(ty)
+pub fn add_open(rt: &impl Abort, to: &mut impl Lends, alloc: Global) {
+    let open = function(rt, alloc, false, None, &[]);
+    ok(rt, Call::Subtype(&open).make(to));
 }
 
-/// Adds a group of types.
-fn add_group(ty: &mut ModuleType, alloc: Global) -> Result<(), Fault> {
-    let group = pair(alloc, true)?;
-    Call::Rec(group.as_slice()).make(ty)
+/// Adds a group of two types, of which the second is final or not.
+pub fn add_group(rt: &impl Abort, to: &mut impl Lends, alloc: Global, is_final: bool) {
+    let group = pair(rt, alloc, is_final);
+    ok(rt, Call::Rec(group.as_slice()).make(to));
+}
+
+/// Adds types by an encoder's calls, and an alias.
+fn add_types(rt: &impl Abort, ty: &mut ModuleType, alloc: Global) {
+    ok(rt, Composite::Function(&[ValType::I32], &[]).make(ty));
+    add_open(rt, ty, alloc);
+    ok(rt, Declaration::Outer(1, 0).make(ty));
+    add_group(rt, ty, alloc, true);
+    ok(rt, Composite::Array(StorageType::I8, true).make(ty));
 }
 
 /// Upstream gives these. A group is one type of what is counted.
 #[test]
-fn types(rt: HostRuntime) -> Result<(), Fail> {
+fn types(rt: HostRuntime) {
     let mut ty = ModuleType::new(rt.alloc());
-    Call::Function(&[ValType::I32], &[]).make(&mut ty)?;
-    add_open(&mut ty, rt.alloc())?;
-    Declaration::Outer(1, 0).make(&mut ty)?;
-    add_group(&mut ty, rt.alloc())?;
-    Call::Array(StorageType::I8, true).make(&mut ty)?;
+    add_types(&rt, &mut ty, rt.alloc());
     has(&rt, &ty, [0, 5, 0, 0]);
     let text = "50050160017f000150006000000210010100014e0260000060017f00015e7801";
-    is_text(&rt, rt.alloc(), &ty, text)?;
-    Ok(())
+    is_text(&rt, rt.alloc(), &ty, text);
 }
 
-/// With no, one and two aliases.
-fn check_counts(rt: &impl Abort, alloc: Global, heap: &Refusing) -> Result<(), Fault> {
-    let none = "0000000001015000";
-    let one = "00010000000150010210010000";
-    let two = "000200000001500202100100000210010000";
-    counts::<Swept<ModuleType<&Refusing>>>(rt, alloc, heap, none, one, two)
-}
+/// What is asked of one with no, one and two aliases.
+const ALIASES: &[&str; 3] = &[
+    "0000000001015000",
+    "00010000000150010210010000",
+    "000200000001500202100100000210010000",
+];
 
 /// Beginnings, and copies.
 #[test]
-fn begun_ones(rt: HostRuntime) -> Result<(), Fail> {
+fn begun_ones(rt: HostRuntime) {
     let heap = Refusing::new(rt.alloc());
-    check_counts(&rt, rt.alloc(), &heap)?;
-    begun::<ModuleType<&Refusing>, Begin>(&rt, rt.alloc(), &heap, &[Begin])?;
-    Ok(())
+    begun::<ModuleType<&Refusing>, Begin>(&rt, rt.alloc(), &heap, ALIASES, &[Begin]);
 }
