@@ -1,6 +1,7 @@
 //! Calls of the builder, as values: tables of them say how a component is made.
 
 use crate::checks::Call;
+use crate::written::dropped;
 use std::alloc::{Allocator, Global};
 use std::borrow::CowStr;
 use wasm_encoder::{
@@ -65,14 +66,14 @@ impl<'a> Call for Item<'a> {
             Item::ResourceDrop(ty) => builder.resource_drop(ty),
             Item::ResourceRep(ty) => builder.resource_rep(ty),
             Item::RawModule(bytes) => builder.core_module_raw(debug_name, bytes),
-            Item::Component(inner) => builder.component(debug_name, inner.builder(alloc)?),
-            Item::LentComponent(inner) => lend(builder, debug_name, inner.builder(alloc)?),
+            Item::Component(inner) => nest(alloc, builder, debug_name, inner),
+            Item::LentComponent(inner) => lend(alloc, builder, debug_name, inner),
             Item::RawComponent(bytes) => builder.component_raw(debug_name, bytes),
             Item::Start(function, args, results) => start(alloc, builder, function, args, results),
             Item::Custom(section) => placeless(builder.custom_section(&section)),
             Item::RawCustom(bytes) => placeless(builder.raw_custom_section(bytes)),
             Item::AppendNames => placeless(builder.append_names()),
-            Item::BeginType => begin_type(builder, debug_name),
+            Item::BeginType => dropped(builder.type_defined(debug_name)),
             Item::GiveUp => Ok(u32::from(builder.discard_unfinished())),
         }
     }
@@ -128,13 +129,6 @@ fn start<A: Allocator>(
     builder.start(function, args, results)
 }
 
-fn begin_type<A: Allocator>(
-    builder: &mut ComponentBuilder<A>,
-    debug_name: Option<&str>,
-) -> Result<u32, Fault> {
-    Ok(builder.type_defined(debug_name)?.0)
-}
-
 /// What the builder of a component has that is nested in another.
 #[derive(Clone, Copy)]
 pub enum Inner {
@@ -149,50 +143,46 @@ pub enum Inner {
 }
 
 impl Inner {
-    fn builder(self, alloc: Global) -> Result<ComponentBuilder, Fault> {
+    /// A builder that has it.
+    pub fn builder(self, alloc: Global) -> Result<ComponentBuilder, Fault> {
+        let mut builder = ComponentBuilder::new(alloc)?;
+        self.add(alloc, &mut builder)?;
+        Ok(builder)
+    }
+
+    fn add(self, alloc: Global, builder: &mut ComponentBuilder) -> Result<u32, Fault> {
         match self {
-            Inner::Importing => importing(alloc),
-            Inner::Cancels => cancels(alloc),
-            Inner::CancelsInside => cancels_inside(alloc),
-            Inner::Unfinished => unfinished(alloc),
+            Inner::Importing => builder.import(NAME.into(), ComponentTypeRef::Func(0)),
+            Inner::Cancels => builder.task_cancel(),
+            Inner::CancelsInside => builder.component(None, cancels(alloc)?),
+            Inner::Unfinished => dropped(builder.type_defined(None)),
         }
     }
 }
 
-/// A component that imports a function.
-pub fn importing(alloc: Global) -> Result<ComponentBuilder, Fault> {
-    let mut builder = ComponentBuilder::new(alloc)?;
-    builder.import(NAME.into(), ComponentTypeRef::Func(0))?;
-    Ok(builder)
-}
-
 /// A component with the function `task.cancel`.
-pub fn cancels(alloc: Global) -> Result<ComponentBuilder, Fault> {
+fn cancels(alloc: Global) -> Result<ComponentBuilder, Fault> {
     let mut builder = ComponentBuilder::new(alloc)?;
     builder.task_cancel()?;
     Ok(builder)
 }
 
-/// A component with that one in it.
-pub fn cancels_inside(alloc: Global) -> Result<ComponentBuilder, Fault> {
-    let mut builder = ComponentBuilder::new(alloc)?;
-    builder.component(None, cancels(alloc)?)?;
-    Ok(builder)
+fn nest<A: Allocator>(
+    alloc: Global,
+    builder: &mut ComponentBuilder<A>,
+    debug_name: Option<&str>,
+    inner: Inner,
+) -> Result<u32, Fault> {
+    builder.component(debug_name, inner.builder(alloc)?)
 }
 
 fn lend<A: Allocator>(
+    alloc: Global,
     builder: &mut ComponentBuilder<A>,
     debug_name: Option<&str>,
-    component: ComponentBuilder,
+    inner: Inner,
 ) -> Result<u32, Fault> {
-    builder.component_ref(debug_name, &component)
-}
-
-/// A builder with a type of which nothing is written.
-pub fn unfinished(alloc: Global) -> Result<ComponentBuilder, Fault> {
-    let mut builder = ComponentBuilder::new(alloc)?;
-    begin_type(&mut builder, None)?;
-    Ok(builder)
+    builder.component_ref(debug_name, &inner.builder(alloc)?)
 }
 
 /// A call that takes lists.

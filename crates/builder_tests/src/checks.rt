@@ -3,6 +3,7 @@
 use crate::calls::NAME;
 use std::alloc::{Allocator, Global};
 use std::process::Abort;
+use sweeping::ok;
 use wasm_encoder::{ComponentBuilder, Fault};
 
 /// The bytes in front of the first section.
@@ -20,14 +21,9 @@ pub trait Call: Copy {
 }
 
 /// The component has these bytes.
-pub fn finishes<A: Allocator>(
-    rt: &impl Abort,
-    builder: ComponentBuilder<A>,
-    wanted: &[u8],
-) -> Result<(), Fault> {
-    let bytes = builder.finish()?;
+pub fn finishes<A: Allocator>(rt: &impl Abort, builder: ComponentBuilder<A>, wanted: &[u8]) {
+    let bytes = ok(rt, builder.finish());
     assert!(rt; bytes.as_slice() == wanted);
-    Ok(())
 }
 
 /// How many items there are of each kind.
@@ -49,41 +45,48 @@ pub fn counts<A: Allocator>(builder: &ComponentBuilder<A>) -> [u32; 13] {
     ]
 }
 
+/// A call, and its answer.
+pub type Answer<C> = (C, Result<u32, Fault>);
+
+/// The builder answers these calls so, under this debug name.
+pub fn answers<C: Call, A: Allocator + Copy>(
+    rt: &impl Abort,
+    alloc: Global,
+    debug_name: Option<&str>,
+    builder: &mut ComponentBuilder<A>,
+    calls: &[Answer<C>],
+) {
+    for (call, answer) in calls {
+        assert!(rt; call.make(alloc, debug_name, builder) == *answer);
+    }
+}
+
 /// Calls with their answers, and the component that they make, behind its header.
-pub type Row<'a, C> = (&'a [(C, Result<u32, Fault>)], &'a [u8]);
+pub type Row<'a, C> = (&'a [Answer<C>], &'a [u8]);
 
 /// A builder that makes these calls under this debug name answers so, and then has these bytes behind its header.
 pub fn row_named<C: Call>(
     rt: &impl Abort,
     alloc: Global,
     debug_name: Option<&str>,
-    calls: &[(C, Result<u32, Fault>)],
+    calls: &[Answer<C>],
     wanted: &[u8],
-) -> Result<(), Fault> {
-    let mut builder = ComponentBuilder::new(alloc)?;
-    for (call, answer) in calls {
-        assert!(rt; call.make(alloc, debug_name, &mut builder) == *answer);
-    }
-    let bytes = builder.finish()?;
+) {
+    let mut builder = ok(rt, ComponentBuilder::new(alloc));
+    answers(rt, alloc, debug_name, &mut builder, calls);
+    let bytes = ok(rt, builder.finish());
     assert!(rt; bytes.as_slice().strip_prefix(HEADER) == Some(wanted));
-    Ok(())
 }
 
 /// So it is without a debug name, and with one, which isn't written.
-pub fn row<C: Call>(
-    rt: &impl Abort,
-    alloc: Global,
-    calls: &[(C, Result<u32, Fault>)],
-    wanted: &[u8],
-) -> Result<(), Fault> {
-    row_named(rt, alloc, None, calls, wanted)?;
-    row_named(rt, alloc, Some(NAME), calls, wanted)
+pub fn row<C: Call>(rt: &impl Abort, alloc: Global, calls: &[Answer<C>], wanted: &[u8]) {
+    row_named(rt, alloc, None, calls, wanted);
+    row_named(rt, alloc, Some(NAME), calls, wanted);
 }
 
 /// The same of each row.
-pub fn rows<C: Call>(rt: &impl Abort, alloc: Global, rows: &[Row<'_, C>]) -> Result<(), Fault> {
+pub fn rows<C: Call>(rt: &impl Abort, alloc: Global, rows: &[Row<'_, C>]) {
     for (calls, wanted) in rows {
-        row(rt, alloc, calls, wanted)?;
+        row(rt, alloc, calls, wanted);
     }
-    Ok(())
 }

@@ -4,12 +4,13 @@ use crate::checks::HEADER;
 use crate::heap::{alias, export_alias, list, module, name, outer_type, text};
 use std::alloc::Global;
 use std::process::Abort;
+use sweeping::ok;
 use wasm_encoder::{
     AliasTree, CanonTree, CanonicalOption, CaseTree, Command, ComponentDecl, ComponentExportKind,
     ComponentOuterAliasKind, ComponentTypeRef, ComponentValType, CompositeType, CoreInstanceTree,
     CoreTypeTree, DefinedTree, ExportKind, Fault, FuncType, GroupTree, InstanceDecl, InstanceTree,
-    ModuleArg, ModuleDecl, NameTree, PrimitiveValType, StructType, SubType, TypeBounds, TypeTree,
-    ValType, build,
+    ModuleArg, ModuleDecl, PrimitiveValType, StructType, SubType, TypeBounds, TypeTree, ValType,
+    build,
 };
 
 /// What a command is to answer: an index, none, or a fault.
@@ -23,13 +24,9 @@ const BYTE: ComponentTypeRef = ComponentTypeRef::Value(ComponentValType::Primiti
 
 /// The commands are answered so, and give these bytes behind the header.
 fn builds<R: Abort + AllocGlobal>(rt: &R, commands: &[Command], wanted: &[Wanted], bytes: &[u8]) {
-    match build(rt.alloc(), commands) {
-        Ok(built) => {
-            assert!(rt; built.answers.as_slice() == wanted);
-            assert!(rt; built.bytes.as_slice().strip_prefix(HEADER) == Some(bytes));
-        }
-        Err(fault) => panic!(rt; "{fault}"),
-    }
+    let built = ok(rt, build(rt.alloc(), commands));
+    assert!(rt; built.answers.as_slice() == wanted);
+    assert!(rt; built.bytes.as_slice().strip_prefix(HEADER) == Some(bytes));
 }
 
 /// One command gets index 0.
@@ -67,7 +64,6 @@ fn ty(ty: TypeTree) -> Command {
 
 #[test]
 fn modules_part_neighbours(rt: HostRuntime) {
-    let alloc = rt.alloc();
     let commands = [
         canon(CanonTree::ResourceNew(1)),
         module(rt.alloc(), &[]),
@@ -82,13 +78,9 @@ fn modules_part_neighbours(rt: HostRuntime) {
 #[test]
 fn a_long_module(rt: HostRuntime) {
     let commands = [module(rt.alloc(), &[0; 128])];
-    match build(rt.alloc(), &commands) {
-        Ok(built) => {
-            assert!(rt; built.bytes.len() == 139);
-            assert!(rt; built.bytes.as_slice().get(8..12) == Some([1, 128, 1, 0].as_slice()));
-        }
-        Err(fault) => panic!(rt; "{fault}"),
-    }
+    let built = ok(&rt, build(rt.alloc(), &commands));
+    assert!(rt; built.bytes.len() == 139);
+    assert!(rt; built.bytes.as_slice().get(8..12) == Some([1, 128, 1, 0].as_slice()));
 }
 
 #[test]
@@ -110,21 +102,23 @@ fn starts(rt: HostRuntime) {
     );
 }
 
-#[test]
-fn functions(rt: HostRuntime) {
-    let alloc = rt.alloc();
-    let options = list(
-        alloc,
-        vec![in alloc; CanonicalOption::Memory(0), CanonicalOption::Async],
-    );
-    let lift = CanonTree::Lift {
+/// Lifts a function.
+fn lift(alloc: Global) -> Command {
+    canon(CanonTree::Lift {
         core_func: 1,
         ty: 2,
-        options,
-    };
+        options: list(
+            alloc,
+            vec![in alloc; CanonicalOption::Memory(0), CanonicalOption::Async],
+        ),
+    })
+}
+
+#[test]
+fn functions(rt: HostRuntime) {
     builds_one(
         &rt,
-        canon(lift),
+        lift(rt.alloc()),
         b"\x08\x09\x01\x00\x00\x01\x02\x03\x00\x06\x02",
     );
     let cancel = canon(CanonTree::SubtaskCancel(true));
@@ -146,163 +140,193 @@ fn function(alloc: Global, is_final: bool, params: &[ValType]) -> SubType {
     }
 }
 
+/// A type of functions that may have subtypes.
+fn open_type(alloc: Global) -> GroupTree {
+    GroupTree::Sub(function(alloc, false, &[]))
+}
+
+/// A module type with that type alone.
+fn module_type(alloc: Global) -> CoreTypeTree {
+    let open = ModuleDecl::Type(open_type(alloc));
+    CoreTypeTree::Module(list(alloc, vec![in alloc; open]))
+}
+
+/// Two types in one group.
+fn pair(alloc: Global) -> GroupTree {
+    let none = function(alloc, true, &[]);
+    let one = function(alloc, true, &[ValType::I32]);
+    GroupTree::Rec(list(alloc, vec![in alloc; none, one]))
+}
+
 #[test]
 fn core_types(rt: HostRuntime) {
-    let alloc = rt.alloc();
-    let open = CoreTypeTree::Group(GroupTree::Sub(function(rt.alloc(), false, &[])));
     builds_one(
         &rt,
-        core_type(open),
+        core_type(CoreTypeTree::Group(open_type(rt.alloc()))),
         b"\x03\x07\x01\x00\x50\x00\x60\x00\x00",
     );
-    let open = ModuleDecl::Type(GroupTree::Sub(function(rt.alloc(), false, &[])));
-    let module = CoreTypeTree::Module(list(alloc, vec![in alloc; open]));
     builds_one(
         &rt,
-        core_type(module),
+        core_type(module_type(rt.alloc())),
         b"\x03\x09\x01\x50\x01\x01\x50\x00\x60\x00\x00",
     );
-    let pair = list(
-        alloc,
-        vec![in alloc;
-            function(rt.alloc(), true, &[]),
-            function(rt.alloc(), true, &[ValType::I32]),
-        ],
-    );
-    let group = CoreTypeTree::Group(GroupTree::Rec(pair));
     builds_one(
         &rt,
-        core_type(group),
+        core_type(CoreTypeTree::Group(pair(rt.alloc()))),
         b"\x03\x0a\x01\x4e\x02\x60\x00\x00\x60\x01\x7f\x00",
     );
 }
 
-#[test]
-fn types(rt: HostRuntime) {
-    let alloc = rt.alloc();
-    let cases = list(
-        alloc,
-        vec![in alloc;
-            CaseTree {
-                name: text(rt.alloc(), "a"),
-                ty: None
-            },
-            CaseTree {
-                name: text(rt.alloc(), "b"),
-                ty: Some(STRING)
-            },
-        ],
-    );
-    let variant = TypeTree::Defined(DefinedTree::Variant(cases));
-    builds_one(
-        &rt,
-        ty(variant),
-        b"\x07\x0c\x01\x71\x02\x01\x61\x00\x00\x01\x62\x01\x73\x00",
-    );
-    let function = TypeTree::Func {
+fn case(alloc: Global, name: &str, ty: Option<ComponentValType>) -> CaseTree {
+    CaseTree {
+        name: text(alloc, name),
+        ty,
+    }
+}
+
+/// A variant of two cases.
+fn variant(alloc: Global) -> TypeTree {
+    let none = case(alloc, "a", None);
+    let string = case(alloc, "b", Some(STRING));
+    TypeTree::Defined(DefinedTree::Variant(list(alloc, vec![in alloc; none, string])))
+}
+
+/// The type of asynchronous functions without parameters and a result.
+fn async_function(alloc: Global) -> TypeTree {
+    TypeTree::Func {
         is_async: true,
         params: Vec::new(alloc),
         result: None,
-    };
-    builds_one(&rt, ty(function), b"\x07\x05\x01\x43\x00\x01\x00");
-    let component = TypeTree::Component(Vec::<ComponentDecl>::new(alloc));
+    }
+}
+
+#[test]
+fn types(rt: HostRuntime) {
+    builds_one(
+        &rt,
+        ty(variant(rt.alloc())),
+        b"\x07\x0c\x01\x71\x02\x01\x61\x00\x00\x01\x62\x01\x73\x00",
+    );
+    builds_one(
+        &rt,
+        ty(async_function(rt.alloc())),
+        b"\x07\x05\x01\x43\x00\x01\x00",
+    );
+    let component = TypeTree::Component(Vec::<ComponentDecl>::new(rt.alloc()));
     builds_one(&rt, ty(component), b"\x07\x03\x01\x41\x00");
+}
+
+/// An instance type with an option, and an export of that.
+fn instance_type(alloc: Global) -> TypeTree {
+    let option = InstanceDecl::Type(TypeTree::Defined(DefinedTree::Option(STRING)));
+    let export = InstanceDecl::Export {
+        name: name(alloc, "t"),
+        ty: ComponentTypeRef::Type(TypeBounds::Eq(0)),
+    };
+    TypeTree::Instance(list(alloc, vec![in alloc; option, export]))
 }
 
 #[test]
 fn instance_types(rt: HostRuntime) {
-    let alloc = rt.alloc();
-    let export = InstanceDecl::Export {
-        name: name(rt.alloc(), "t"),
-        ty: ComponentTypeRef::Type(TypeBounds::Eq(0)),
-    };
-    let option = InstanceDecl::Type(TypeTree::Defined(DefinedTree::Option(STRING)));
-    let instance = TypeTree::Instance(list(alloc, vec![in alloc; option, export]));
     builds_one(
         &rt,
-        ty(instance),
+        ty(instance_type(rt.alloc())),
         b"\x07\x0d\x01\x42\x02\x01\x6b\x73\x04\x00\x01\x74\x03\x00\x00",
     );
 }
 
+/// A core instance of a function.
+fn core_exports(alloc: Global) -> Command {
+    let exports = vec![in alloc; (text(alloc, "foo"), ExportKind::Func, 0)];
+    Command::CoreInstance {
+        n: None,
+        instance: CoreInstanceTree::Exports(list(alloc, exports)),
+    }
+}
+
+/// An instance of a module, which is given the first instance.
+fn core_instance(alloc: Global) -> Command {
+    let args = vec![in alloc; (text(alloc, "foo"), ModuleArg::Instance(0))];
+    Command::CoreInstance {
+        n: None,
+        instance: CoreInstanceTree::Instantiate {
+            module: 1,
+            args: list(alloc, args),
+        },
+    }
+}
+
 #[test]
 fn core_instances(rt: HostRuntime) {
-    let alloc = rt.alloc();
-    let exports = list(
-        alloc,
-        vec![in alloc; (text(rt.alloc(), "foo"), ExportKind::Func, 0)],
-    );
-    let args = list(
-        alloc,
-        vec![in alloc; (text(rt.alloc(), "foo"), ModuleArg::Instance(0))],
-    );
-    let given = CoreInstanceTree::Instantiate { module: 1, args };
-    let commands = [
-        Command::CoreInstance {
-            n: None,
-            instance: CoreInstanceTree::Exports(exports),
-        },
-        Command::CoreInstance {
-            n: None,
-            instance: given,
-        },
-    ];
+    let commands = [core_exports(rt.alloc()), core_instance(rt.alloc())];
     let bytes = b"\x02\x12\x02\x01\x01\x03foo\x00\x00\x00\x01\x01\x03foo\x12\x00";
     builds(&rt, &commands, &[Ok(Some(0)), Ok(Some(1))], bytes);
 }
 
+/// An instance of a function.
+fn exports(alloc: Global) -> Command {
+    let exports = vec![in alloc; (name(alloc, "foo"), ComponentExportKind::Func, 0)];
+    Command::Instance {
+        n: None,
+        instance: InstanceTree::Exports(list(alloc, exports)),
+    }
+}
+
+/// An instance of a component, which is given the first instance.
+fn instance(alloc: Global) -> Command {
+    let args = vec![in alloc; (text(alloc, "foo"), ComponentExportKind::Instance, 0)];
+    Command::Instance {
+        n: None,
+        instance: InstanceTree::Instantiate {
+            component: 1,
+            args: list(alloc, args),
+        },
+    }
+}
+
 #[test]
 fn instances(rt: HostRuntime) {
-    let alloc = rt.alloc();
-    let exports = list(
-        alloc,
-        vec![in alloc; (name(rt.alloc(), "foo"), ComponentExportKind::Func, 0)],
-    );
-    let args = list(
-        alloc,
-        vec![in alloc; (text(rt.alloc(), "foo"), ComponentExportKind::Instance, 0)],
-    );
-    let given = InstanceTree::Instantiate { component: 1, args };
-    let commands = [
-        Command::Instance {
-            n: None,
-            instance: InstanceTree::Exports(exports),
-        },
-        Command::Instance {
-            n: None,
-            instance: given,
-        },
-    ];
+    let commands = [exports(rt.alloc()), instance(rt.alloc())];
     let bytes = b"\x05\x13\x02\x01\x01\x00\x03foo\x01\x00\x00\x01\x01\x03foo\x05\x00";
     builds(&rt, &commands, &[Ok(Some(0)), Ok(Some(1))], bytes);
 }
 
-/// A component made by commands, and the same by its bytes.
-#[test]
-fn components(rt: HostRuntime) {
-    let alloc = rt.alloc();
-    let commands = list(alloc, vec![in alloc; canon(CanonTree::TaskCancel)]);
-    let bytes = b"\x04\x0c\x00asm\x0d\x00\x01\x00\x08\x02\x01\x05";
-    builds_one(&rt, Command::Component { n: None, commands }, bytes);
+/// A component made by commands.
+fn component(alloc: Global) -> Command {
+    Command::Component {
+        n: None,
+        commands: list(alloc, vec![in alloc; canon(CanonTree::TaskCancel)]),
+    }
+}
+
+/// The same by its bytes.
+fn raw_component(alloc: Global) -> Command {
     let inner = b"\x00asm\x0d\x00\x01\x00\x08\x02\x01\x05".to_vec(alloc);
-    let raw = Command::ComponentRaw {
+    Command::ComponentRaw {
         n: None,
         bytes: list(alloc, inner),
-    };
-    builds_one(&rt, raw, bytes);
+    }
+}
+
+#[test]
+fn components(rt: HostRuntime) {
+    let bytes = b"\x04\x0c\x00asm\x0d\x00\x01\x00\x08\x02\x01\x05";
+    builds_one(&rt, component(rt.alloc()), bytes);
+    builds_one(&rt, raw_component(rt.alloc()), bytes);
+}
+
+/// Values that are too many, by a start and an import.
+fn too_many(alloc: Global) -> Vec<Command> {
+    let start = start(alloc, &[], 4294967295);
+    list(alloc, vec![in alloc; start, import(alloc)])
 }
 
 /// What is refused inside refuses the whole component.
 #[test]
 fn refused_inside(rt: HostRuntime) {
-    let alloc = rt.alloc();
-    let inner = list(
-        alloc,
-        vec![in alloc; start(rt.alloc(), &[], 4294967295), import(rt.alloc())],
-    );
     let commands = [Command::Component {
         n: None,
-        commands: inner,
+        commands: too_many(rt.alloc()),
     }];
     builds(&rt, &commands, &[Err(Fault::TooMany)], b"");
 }
@@ -313,6 +337,14 @@ fn builds_named<R: Abort + AllocGlobal>(rt: &R, command: Command, bytes: &[u8]) 
     builds(rt, &[command, Command::AppendNames], &wanted, bytes);
 }
 
+/// A function that has its own name in place of its debug name.
+fn named_drop(alloc: Global) -> Command {
+    Command::Canon {
+        n: Some(text(alloc, "q")),
+        canon: CanonTree::ResourceDrop(0),
+    }
+}
+
 #[test]
 fn names(rt: HostRuntime) {
     builds_named(
@@ -320,39 +352,39 @@ fn names(rt: HostRuntime) {
         import(rt.alloc()),
         b"\x0a\x06\x01\x00\x01\x76\x02\x7d\x00\x16\x0ecomponent-name\x01\x05\x02\x01\x00\x01\x76",
     );
-    let drop = Command::Canon {
-        n: Some(text(rt.alloc(), "q")),
-        canon: CanonTree::ResourceDrop(0),
-    };
     builds_named(
         &rt,
-        drop,
+        named_drop(rt.alloc()),
         b"\x08\x03\x01\x03\x00\x00\x23\x0ecomponent-name\x01\x12\x00\x00\x01\x00\x0dresource.drop",
     );
-    let promote = canon(CanonTree::ThreadYieldThenPromote);
     builds_named(
         &rt,
-        promote,
+        canon(CanonTree::ThreadYieldThenPromote),
         b"\x08\x03\x01\x2d\x00\x00\x2f\x0ecomponent-name\x01\x1e\x00\x00\x01\x00\x19thread.yield-then-promote",
     );
     builds(&rt, &[Command::AppendNames], &[Ok(None)], b"");
 }
 
+/// A custom section without data.
+fn custom(alloc: Global) -> Command {
+    Command::Custom {
+        name: text(alloc, "x"),
+        data: Vec::new(alloc),
+    }
+}
+
+/// The same by its bytes.
+fn raw_custom(alloc: Global) -> Command {
+    Command::RawCustom {
+        bytes: list(alloc, [2, 1, 0x78].to_vec(alloc)),
+    }
+}
+
 #[test]
 fn custom_sections(rt: HostRuntime) {
-    let alloc = rt.alloc();
-    let custom = Command::Custom {
-        name: text(rt.alloc(), "x"),
-        data: Vec::new(alloc),
-    };
-    builds(&rt, &[custom], &[Ok(None)], b"\x00\x02\x01\x78");
-    let bytes = list(alloc, [2, 1, 0x78].to_vec(alloc));
-    builds(
-        &rt,
-        &[Command::RawCustom { bytes }],
-        &[Ok(None)],
-        b"\x00\x02\x01\x78",
-    );
+    let bytes = b"\x00\x02\x01\x78".as_slice();
+    builds(&rt, &[custom(rt.alloc())], &[Ok(None)], bytes);
+    builds(&rt, &[raw_custom(rt.alloc())], &[Ok(None)], bytes);
 }
 
 #[test]
@@ -367,14 +399,22 @@ fn a_module_between_aliases(rt: HostRuntime) {
     builds(&rt, &commands, &wanted, bytes);
 }
 
-#[test]
-fn aliases(rt: HostRuntime) {
-    let core = AliasTree::CoreInstanceExport {
+/// A tag that the first core instance exports.
+fn core_alias(alloc: Global) -> Command {
+    alias(AliasTree::CoreInstanceExport {
         instance: 0,
         kind: ExportKind::Tag,
-        name: text(rt.alloc(), "t"),
-    };
-    builds_one(&rt, alias(core), b"\x06\x07\x01\x00\x04\x01\x00\x01\x74");
+        name: text(alloc, "t"),
+    })
+}
+
+#[test]
+fn aliases(rt: HostRuntime) {
+    builds_one(
+        &rt,
+        core_alias(rt.alloc()),
+        b"\x06\x07\x01\x00\x04\x01\x00\x01\x74",
+    );
     let function = export_alias(rt.alloc(), ComponentExportKind::Func, "f");
     builds_one(&rt, function, b"\x06\x06\x01\x01\x00\x00\x01\x66");
     let outer = AliasTree::Outer {

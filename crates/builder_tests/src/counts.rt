@@ -4,14 +4,14 @@ use crate::calls::{Item, Listed};
 use crate::checks::{Call, counts};
 use std::alloc::Global;
 use std::process::Abort;
-use std::test::Fail;
+use sweeping::ok;
 use wasm_encoder::{
     Alias, ComponentBuilder, ComponentOuterAliasKind, ComponentTypeRef, ComponentValType,
-    ExportKind, Fault, TypeBounds,
+    ExportKind, TypeBounds,
 };
 
 /// Which counts an outer alias of each kind raises.
-const OUTER: [(ComponentOuterAliasKind, [u32; 13]); 4] = [
+const OUTER: &[(ComponentOuterAliasKind, [u32; 13])] = &[
     (
         ComponentOuterAliasKind::CoreModule,
         [1, 0, 0, 0, 0, 0, 0, 0, 0, 0, 0, 0, 0],
@@ -31,7 +31,7 @@ const OUTER: [(ComponentOuterAliasKind, [u32; 13]); 4] = [
 ];
 
 /// Which counts an alias of an export of a core instance raises.
-const CORE: [(ExportKind, [u32; 13]); 5] = [
+const CORE: &[(ExportKind, [u32; 13])] = &[
     (ExportKind::Func, [0, 1, 0, 0, 0, 0, 0, 0, 0, 0, 0, 0, 0]),
     (ExportKind::Memory, [0, 0, 0, 1, 0, 0, 0, 0, 0, 0, 0, 0, 0]),
     (ExportKind::Table, [0, 0, 0, 0, 1, 0, 0, 0, 0, 0, 0, 0, 0]),
@@ -40,7 +40,7 @@ const CORE: [(ExportKind, [u32; 13]); 5] = [
 ];
 
 /// How often each kind is imported.
-const IMPORTS: [(ComponentTypeRef, u32); 6] = [
+const IMPORTS: &[(ComponentTypeRef, u32)] = &[
     (ComponentTypeRef::Module(0), 1),
     (ComponentTypeRef::Func(0), 2),
     (ComponentTypeRef::Value(ComponentValType::Type(0)), 3),
@@ -50,41 +50,33 @@ const IMPORTS: [(ComponentTypeRef, u32); 6] = [
 ];
 
 /// One call raises these counts.
-fn raises<C: Call>(
-    rt: &impl Abort,
-    alloc: Global,
-    call: C,
-    wanted: [u32; 13],
-) -> Result<(), Fault> {
-    let mut builder = ComponentBuilder::new(alloc)?;
+fn raises<C: Call>(rt: &impl Abort, alloc: Global, call: C, wanted: [u32; 13]) {
+    let mut builder = ok(rt, ComponentBuilder::new(alloc));
     assert!(rt; call.make(alloc, None, &mut builder) == Ok(0));
     assert!(rt; counts(&builder) == wanted);
-    Ok(())
 }
 
 #[test]
-fn counts_of_aliases(rt: HostRuntime) -> Result<(), Fail> {
-    for (kind, wanted) in OUTER.as_slice() {
+fn counts_of_aliases(rt: HostRuntime) {
+    for (kind, wanted) in OUTER {
         let alias = Alias::Outer {
             kind: *kind,
             count: 1,
             index: 2,
         };
-        raises(&rt, rt.alloc(), Item::Alias(alias), *wanted)?;
+        raises(&rt, rt.alloc(), Item::Alias(alias), *wanted);
     }
-    for (kind, wanted) in CORE.as_slice() {
-        raises(&rt, rt.alloc(), Item::CoreAlias("x", *kind), *wanted)?;
+    for (kind, wanted) in CORE {
+        raises(&rt, rt.alloc(), Item::CoreAlias("x", *kind), *wanted);
     }
-    Ok(())
 }
 
 #[test]
-fn counts_of_instances(rt: HostRuntime) -> Result<(), Fail> {
+fn counts_of_instances(rt: HostRuntime) {
     let wanted = [0, 0, 0, 0, 0, 1, 0, 0, 0, 0, 0, 0, 0];
-    raises(&rt, rt.alloc(), Listed::CoreExports("foo", 0), wanted)?;
+    raises(&rt, rt.alloc(), Listed::CoreExports("foo", 0), wanted);
     let wanted = [0, 0, 0, 0, 0, 0, 0, 0, 0, 1, 0, 0, 0];
-    raises(&rt, rt.alloc(), Listed::Exports("foo", 0), wanted)?;
-    Ok(())
+    raises(&rt, rt.alloc(), Listed::Exports("foo", 0), wanted);
 }
 
 /// Imports what has this type so often.
@@ -102,11 +94,10 @@ fn import_often(
 
 // The spaces that no import defines in stay empty.
 #[test]
-fn counts_of_imports(rt: HostRuntime) -> Result<(), Fail> {
-    let mut builder = ComponentBuilder::new(rt.alloc())?;
-    for (ty, times) in IMPORTS.as_slice() {
+fn counts_of_imports(rt: HostRuntime) {
+    let mut builder = ok(&rt, ComponentBuilder::new(rt.alloc()));
+    for (ty, times) in IMPORTS {
         import_often(&rt, rt.alloc(), &mut builder, *ty, *times);
     }
     assert!(rt; counts(&builder) == [1, 0, 0, 0, 0, 0, 0, 0, 2, 5, 3, 6, 4]);
-    Ok(())
 }

@@ -2,7 +2,6 @@
 
 use crate::calls::Item;
 use crate::checks::{Row, rows};
-use std::test::Fail;
 use wasm_encoder::{
     Alias, ComponentExportKind, ComponentOuterAliasKind, ComponentTypeRef, ExportKind,
 };
@@ -60,7 +59,6 @@ const ROWS: &[Row<'static, Item<'static>>] = &[
 ];
 
 #[test]
-fn imports(rt: HostRuntime) -> Result<(), Fail> {
-    rows(&rt, rt.alloc(), ROWS)?;
-    Ok(())
+fn imports(rt: HostRuntime) {
+    rows(&rt, rt.alloc(), ROWS);
 }

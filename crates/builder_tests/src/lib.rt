@@ -55,6 +55,7 @@ mod nested;
 mod swept;
 #[cfg(test)]
 mod types;
-pub mod wrapping;
+#[cfg(test)]
+mod wrapping;
 #[cfg(test)]
 mod written;

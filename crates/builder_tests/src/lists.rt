@@ -2,7 +2,6 @@
 
 use crate::calls::{Item, Listed};
 use crate::checks::{Row, rows};
-use std::test::Fail;
 use wasm_encoder::{CanonicalOption, ComponentExportKind};
 
 const OPTIONS: &[CanonicalOption] = &[CanonicalOption::Memory(0), CanonicalOption::Async];
@@ -40,9 +39,8 @@ const ROWS: &[Row<'static, Listed<'static>>] = &[
 ];
 
 #[test]
-fn lists(rt: HostRuntime) -> Result<(), Fail> {
-    rows(&rt, rt.alloc(), ROWS)?;
-    Ok(())
+fn lists(rt: HostRuntime) {
+    rows(&rt, rt.alloc(), ROWS);
 }
 
 const PROVIDED: &[Row<'static, Item<'static>>] = &[(
@@ -51,7 +49,6 @@ const PROVIDED: &[Row<'static, Item<'static>>] = &[(
 )];
 
 #[test]
-fn provided_functions(rt: HostRuntime) -> Result<(), Fail> {
-    rows(&rt, rt.alloc(), PROVIDED)?;
-    Ok(())
+fn provided_functions(rt: HostRuntime) {
+    rows(&rt, rt.alloc(), PROVIDED);
 }

@@ -3,7 +3,6 @@
 use crate::calls::Item;
 use crate::checks::{Row, row_named};
 use crate::imports::{FUNCTION, OUTER_TYPE};
-use std::test::Fail;
 use wasm_encoder::{
     ComponentExportKind, ComponentTypeRef, ComponentValType, Fault, PrimitiveValType,
 };
@@ -71,9 +70,8 @@ const ROWS: &[Row<'static, Item<'static>>] = &[
 ];
 
 #[test]
-fn names(rt: HostRuntime) -> Result<(), Fail> {
+fn names(rt: HostRuntime) {
     for (calls, wanted) in ROWS {
-        row_named(&rt, rt.alloc(), None, calls, wanted)?;
+        row_named(&rt, rt.alloc(), None, calls, wanted);
     }
-    Ok(())
 }

@@ -1,11 +1,11 @@
 //! Nested components, by the builder that is given up and by the one that is lent.
 
-use crate::calls::{Inner, Item, Lent, cancels, cancels_inside};
+use crate::calls::{Inner, Item, Lent};
 use crate::checks::{Row, finishes, row, rows};
 use crate::imports::FUNCTION;
 use std::alloc::Global;
 use std::process::Abort;
-use std::test::Fail;
+use sweeping::ok;
 use wasm_encoder::{ComponentBuilder, Fault};
 
 const ROWS: &[Row<'static, Item<'static>>] = &[
@@ -60,9 +60,8 @@ const ROWS: &[Row<'static, Item<'static>>] = &[
 ];
 
 #[test]
-fn given_up_or_lent(rt: HostRuntime) -> Result<(), Fail> {
-    rows(&rt, rt.alloc(), ROWS)?;
-    Ok(())
+fn given_up_or_lent(rt: HostRuntime) {
+    rows(&rt, rt.alloc(), ROWS);
 }
 
 /// A lent component stands twice in another, and stays as it was.
@@ -72,40 +71,39 @@ fn lent_twice(
     component: ComponentBuilder,
     twice: &[u8],
     alone: &[u8],
-) -> Result<(), Fault> {
+) {
     let calls = [
         (Lent::Component(&component), Ok(0)),
         (Lent::Component(&component), Ok(1)),
     ];
-    row(rt, alloc, calls.as_slice(), twice)?;
-    finishes(rt, component, alone)
+    row(rt, alloc, calls.as_slice(), twice);
+    finishes(rt, component, alone);
 }
 
 // With a section open, or without one.
 #[test]
-fn lent(rt: HostRuntime) -> Result<(), Fail> {
+fn lent(rt: HostRuntime) {
     let alone = b"\x00asm\x0d\x00\x01\x00\x08\x02\x01\x05".as_slice();
     let twice =
         b"\x04\x0c\x00asm\x0d\x00\x01\x00\x08\x02\x01\x05\x04\x0c\x00asm\x0d\x00\x01\x00\x08\x02\x01\x05".as_slice();
-    lent_twice(&rt, rt.alloc(), cancels(rt.alloc())?, twice, alone)?;
-    Ok(())
+    let component = ok(&rt, Inner::Cancels.builder(rt.alloc()));
+    lent_twice(&rt, rt.alloc(), component, twice, alone);
 }
 
 #[test]
-fn lent_without_items(rt: HostRuntime) -> Result<(), Fail> {
+fn lent_without_items(rt: HostRuntime) {
     let alone = b"\x00asm\x0d\x00\x01\x00".as_slice();
     let twice = b"\x04\x08\x00asm\x0d\x00\x01\x00\x04\x08\x00asm\x0d\x00\x01\x00".as_slice();
-    let component = ComponentBuilder::new(rt.alloc())?;
-    lent_twice(&rt, rt.alloc(), component, twice, alone)?;
-    Ok(())
+    let component = ok(&rt, ComponentBuilder::new(rt.alloc()));
+    lent_twice(&rt, rt.alloc(), component, twice, alone);
 }
 
 #[test]
-fn lent_with_one_in_it(rt: HostRuntime) -> Result<(), Fail> {
+fn lent_with_one_in_it(rt: HostRuntime) {
     let alone =
         b"\x00asm\x0d\x00\x01\x00\x04\x0c\x00asm\x0d\x00\x01\x00\x08\x02\x01\x05".as_slice();
     let twice =
         b"\x04\x16\x00asm\x0d\x00\x01\x00\x04\x0c\x00asm\x0d\x00\x01\x00\x08\x02\x01\x05\x04\x16\x00asm\x0d\x00\x01\x00\x04\x0c\x00asm\x0d\x00\x01\x00\x08\x02\x01\x05".as_slice();
-    lent_twice(&rt, rt.alloc(), cancels_inside(rt.alloc())?, twice, alone)?;
-    Ok(())
+    let component = ok(&rt, Inner::CancelsInside.builder(rt.alloc()));
+    lent_twice(&rt, rt.alloc(), component, twice, alone);
 }

@@ -65,11 +65,11 @@ impl<'a> Call for Typed<'a> {
             Typed::Variant => add_variant(builder, debug_name),
             Typed::Function(params, answer) => add_function(builder, debug_name, params, answer),
             Typed::AsyncFunction => add_async_function(builder, debug_name),
-            Typed::DroppedCoreType => Ok(builder.core_type(debug_name)?.0),
+            Typed::DroppedCoreType => dropped(builder.core_type(debug_name)),
             Typed::DroppedCore => drop_core(builder, debug_name),
-            Typed::DroppedType => Ok(builder.ty(debug_name)?.0),
-            Typed::DroppedDefined => Ok(builder.type_defined(debug_name)?.0),
-            Typed::DroppedFunction => Ok(builder.type_function(debug_name)?.0),
+            Typed::DroppedType => dropped(builder.ty(debug_name)),
+            Typed::DroppedDefined => dropped(builder.type_defined(debug_name)),
+            Typed::DroppedFunction => dropped(builder.type_function(debug_name)),
             Typed::DroppedTag => drop_tag(builder, debug_name),
             Typed::DroppedParams => drop_params(builder, debug_name),
             Typed::Instance(ty) => builder.type_instance(debug_name, ty),
@@ -77,6 +77,17 @@ impl<'a> Call for Typed<'a> {
             Typed::Resource(drop) => builder.type_resource(debug_name, ValType::I32, Some(drop)),
         }
     }
+}
+
+/// The index of a type, where what was to be written is taken.
+fn written(index: u32, outcome: Result<(), Fault>) -> Result<u32, Fault> {
+    outcome?;
+    Ok(index)
+}
+
+/// The index in front of an encoder, which is dropped.
+pub fn dropped<E: Drop>(outcome: Result<(u32, E), Fault>) -> Result<u32, Fault> {
+    Ok(outcome?.0)
 }
 
 fn add_core<A: Allocator>(
@@ -87,13 +98,13 @@ fn add_core<A: Allocator>(
     match builder.core_type(debug_name) {
         Ok((index, encoder)) => {
             let one = [ValType::I32];
-            match ty {
-                CoreType::Function => encoder.core().function(one.into_iter(), one.into_iter())?,
-                CoreType::Subtype(ty) => encoder.core().subtype(ty)?,
-                CoreType::Module(ty) => encoder.module(ty)?,
-                CoreType::Tree(tree) => encoder.tree(tree)?,
-            }
-            Ok(index)
+            let outcome = match ty {
+                CoreType::Function => encoder.core().function(one.into_iter(), one.into_iter()),
+                CoreType::Subtype(ty) => encoder.core().subtype(ty),
+                CoreType::Module(ty) => encoder.module(ty),
+                CoreType::Tree(tree) => encoder.tree(tree),
+            };
+            written(index, outcome)
         }
         Err(fault) => Err(fault),
     }
@@ -119,12 +130,12 @@ fn add_any<A: Allocator>(
 ) -> Result<u32, Fault> {
     match builder.ty(debug_name) {
         Ok((index, encoder)) => {
-            match ty {
-                AnyType::Resource(drop) => encoder.resource(ValType::I32, Some(drop))?,
-                AnyType::Component(ty) => encoder.component(ty)?,
-                AnyType::Tree(tree) => encoder.tree(tree)?,
-            }
-            Ok(index)
+            let outcome = match ty {
+                AnyType::Resource(drop) => encoder.resource(ValType::I32, Some(drop)),
+                AnyType::Component(ty) => encoder.component(ty),
+                AnyType::Tree(tree) => encoder.tree(tree),
+            };
+            written(index, outcome)
         }
         Err(fault) => Err(fault),
     }
@@ -135,10 +146,7 @@ fn add_record<A: Allocator>(
     debug_name: Option<&str>,
 ) -> Result<u32, Fault> {
     match builder.type_defined(debug_name) {
-        Ok((index, encoder)) => {
-            encoder.record([(NAME, STRING)].into_iter())?;
-            Ok(index)
-        }
+        Ok((index, encoder)) => written(index, encoder.record([(NAME, STRING)].into_iter())),
         Err(fault) => Err(fault),
     }
 }
@@ -149,8 +157,8 @@ fn add_variant<A: Allocator>(
 ) -> Result<u32, Fault> {
     match builder.type_defined(debug_name) {
         Ok((index, encoder)) => {
-            encoder.variant([("a", None), ("b", Some(STRING))].into_iter())?;
-            Ok(index)
+            let cases = [("a", None), ("b", Some(STRING))];
+            written(index, encoder.variant(cases.into_iter()))
         }
         Err(fault) => Err(fault),
     }
@@ -165,8 +173,7 @@ fn add_function<A: Allocator>(
     match builder.type_function(debug_name) {
         Ok((index, mut encoder)) => {
             encoder.params(params.iter().copied())?;
-            encoder.result(answer)?;
-            Ok(index)
+            written(index, encoder.result(answer))
         }
         Err(fault) => Err(fault),
     }
@@ -181,8 +188,7 @@ fn add_async_function<A: Allocator>(
         Ok((index, mut encoder)) => {
             encoder.async_(true)?;
             encoder.params([].into_iter())?;
-            encoder.result(None)?;
-            Ok(index)
+            written(index, encoder.result(None))
         }
         Err(fault) => Err(fault),
     }
@@ -193,10 +199,7 @@ fn drop_tag<A: Allocator>(
     debug_name: Option<&str>,
 ) -> Result<u32, Fault> {
     match builder.type_function(debug_name) {
-        Ok((index, mut encoder)) => {
-            encoder.async_(false)?;
-            Ok(index)
-        }
+        Ok((index, mut encoder)) => written(index, encoder.async_(false)),
         Err(fault) => Err(fault),
     }
 }
@@ -206,10 +209,7 @@ fn drop_params<A: Allocator>(
     debug_name: Option<&str>,
 ) -> Result<u32, Fault> {
     match builder.type_function(debug_name) {
-        Ok((index, mut encoder)) => {
-            encoder.params([("p", STRING)].into_iter())?;
-            Ok(index)
-        }
+        Ok((index, mut encoder)) => { written(index, encoder.params([("p", STRING)].into_iter())) }
         Err(fault) => Err(fault),
     }
 }

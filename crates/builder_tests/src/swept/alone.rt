@@ -1,13 +1,13 @@
 //! Modules, components, starts and custom sections: each is a section of its own.
 
 use super::between::{CORE_MODULE, NAMELESS, Named, ONE, started, sweep_section};
-use crate::calls::{Inner, Item, Lent, NAME, importing};
+use crate::calls::{Inner, Item, Lent, NAME};
 use crate::checks::{Call, finishes};
 use refusing::Refusing;
 use std::alloc::Global;
-use std::test::Fail;
-use sweeping::{LARGE, REFUSED};
-use wasm_encoder::{ComponentBuilder, ComponentTypeRef, CustomSection, Fault, Module};
+use std::process::Abort;
+use sweeping::{LARGE, REFUSED, ok};
+use wasm_encoder::{ComponentBuilder, ComponentTypeRef, CustomSection, Module};
 
 const CUSTOM: CustomSection<'static> = CustomSection {
     name: NAME,
@@ -15,10 +15,10 @@ const CUSTOM: CustomSection<'static> = CustomSection {
 };
 
 /// A module with a custom section.
-fn module(alloc: Global) -> Result<Module, Fault> {
-    let mut module = Module::new(alloc)?;
-    module.section(&CUSTOM)?;
-    Ok(module)
+fn module(rt: &impl Abort, alloc: Global) -> Module {
+    let mut module = ok(rt, Module::new(alloc));
+    ok(rt, module.section(&CUSTOM));
+    module
 }
 
 /// The bytes of that name.
@@ -34,7 +34,7 @@ const COMPONENT: Named = Named {
 };
 
 /// What is made of bytes or of numbers, with its section.
-const CALLS: [(Item<'static>, Named, &[u8]); 6] = [
+const CALLS: &[(Item<'static>, Named, &[u8])] = &[
     (
         Item::RawModule(BYTES),
         CORE_MODULE,
@@ -64,54 +64,47 @@ const CALLS: [(Item<'static>, Named, &[u8]); 6] = [
 ];
 
 #[test]
-fn made_of_bytes(rt: HostRuntime) -> Result<(), Fail> {
-    for (call, named, section) in CALLS.as_slice() {
-        sweep_section(&rt, rt.alloc(), ONE, *call, *named, section)?;
+fn made_of_bytes(rt: HostRuntime) {
+    for (call, named, section) in CALLS {
+        sweep_section(&rt, rt.alloc(), ONE, *call, *named, section);
     }
-    Ok(())
 }
 
 #[test]
-fn modules(rt: HostRuntime) -> Result<(), Fail> {
-    let module = module(rt.alloc())?;
+fn modules(rt: HostRuntime) {
+    let module = module(&rt, rt.alloc());
     let call = Lent::Module(&module);
     let section = b"\x01\x2c\x00asm\x01\x00\x00\x00\x00\x22\x1dan-interface-with-a-long-namedata";
-    sweep_section(&rt, rt.alloc(), ONE, call, CORE_MODULE, section.as_slice())?;
-    Ok(())
+    sweep_section(&rt, rt.alloc(), ONE, call, CORE_MODULE, section.as_slice());
 }
 
 // What is lent stays as it was.
 #[test]
-fn lent_components(rt: HostRuntime) -> Result<(), Fail> {
-    let component = importing(rt.alloc())?;
+fn lent_components(rt: HostRuntime) {
+    let component = ok(&rt, Inner::Importing.builder(rt.alloc()));
     let call = Lent::Component(&component);
-    sweep_section(&rt, rt.alloc(), ONE, call, COMPONENT, NESTED)?;
-    finishes(&rt, component, &NESTED[2..])?;
-    Ok(())
+    sweep_section(&rt, rt.alloc(), ONE, call, COMPONENT, NESTED);
+    finishes(&rt, component, &NESTED[2..]);
 }
 
-fn nest_without_memory(
-    alloc: Global,
-    heap: &Refusing,
-    component: &ComponentBuilder,
-) -> Result<u32, Fault> {
-    let mut builder = started(alloc, heap, 1)?;
+/// Without memory it isn't nested.
+fn nest_without_memory(rt: &impl Abort, alloc: Global, component: &ComponentBuilder) {
+    let heap = Refusing::new(alloc);
+    let mut builder = started(rt, alloc, &heap, 1);
     heap.refuse_all();
-    Lent::Component(component).make(alloc, None, &mut builder)
+    let outcome = Lent::Component(component).make(alloc, None, &mut builder);
+    assert!(rt; outcome == Err(REFUSED));
 }
 
 // It can be added to after a refusal.
 #[test]
-fn lent_components_go_on(rt: HostRuntime) -> Result<(), Fail> {
-    let heap = Refusing::new(rt.alloc());
-    let mut component = importing(rt.alloc())?;
-    assert!(rt; nest_without_memory(rt.alloc(), &heap, &component) == Err(REFUSED));
-    let again = Item::Import(NAME, ComponentTypeRef::Func(0));
-    assert!(rt; again.make(rt.alloc(), None, &mut component) == Ok(1));
+fn lent_components_go_on(rt: HostRuntime) {
+    let mut component = ok(&rt, Inner::Importing.builder(rt.alloc()));
+    nest_without_memory(&rt, rt.alloc(), &component);
+    assert!(rt; component.import(NAME.into(), ComponentTypeRef::Func(0)) == Ok(1));
     finishes(
         &rt,
         component,
         b"\x00asm\x0d\x00\x01\x00\x0a\x43\x02\x00\x1dan-interface-with-a-long-name\x01\x00\x00\x1dan-interface-with-a-long-name\x01\x00",
-    )?;
-    Ok(())
+    );
 }

@@ -6,11 +6,10 @@ use crate::imports::{FUNCTION, OUTER_TYPE};
 use refusing::Refusing;
 use std::alloc::Global;
 use std::process::Abort;
-use std::test::Fail;
-use sweeping::{LARGE, REFUSED};
+use sweeping::{LARGE, REFUSED, ok};
 use wasm_encoder::{
     Alias, ComponentBuilder, ComponentExportKind, ComponentOuterAliasKind, ComponentTypeRef,
-    ExportKind, Fault,
+    ExportKind,
 };
 
 /// A section of `OUTER_TYPE`, the alias behind a call.
@@ -78,17 +77,41 @@ pub const CORE_MODULE: Named = Named {
 };
 
 /// A builder that has so many aliases.
-pub fn started(
+pub fn started<'a>(
+    rt: &impl Abort,
     alloc: Global,
-    heap: &Refusing,
+    heap: &'a Refusing,
     aliases: u32,
-) -> Result<ComponentBuilder<&Refusing>, Fault> {
+) -> ComponentBuilder<&'a Refusing> {
     heap.refuse_none();
-    let mut builder = ComponentBuilder::new(heap)?;
+    let mut builder = ok(rt, ComponentBuilder::new(heap));
     for _ in 0..aliases {
-        FUNCTION.make(alloc, None, &mut builder)?;
+        ok(rt, FUNCTION.make(alloc, None, &mut builder));
     }
-    Ok(builder)
+    builder
+}
+
+/// With its names the component has these bytes.
+fn finishes_named(
+    rt: &impl Abort,
+    alloc: Global,
+    mut builder: ComponentBuilder<&Refusing>,
+    wanted: &[u8],
+) {
+    ok(rt, Item::AppendNames.make(alloc, None, &mut builder));
+    finishes(rt, builder, wanted);
+}
+
+/// A refused call has left nothing behind: the alias behind it is a neighbour of those in front.
+fn has_nothing_left(
+    rt: &impl Abort,
+    alloc: Global,
+    mut builder: ComponentBuilder<&Refusing>,
+    start: Start,
+) {
+    assert!(rt; OUTER_TYPE.make(alloc, None, &mut builder) == Ok(0));
+    assert!(rt; counts(&builder) == [0, 0, 0, 0, 0, 0, 0, 0, start.aliases, 0, 0, 0, 1]);
+    finishes_named(rt, alloc, builder, start.without);
 }
 
 /// Where growth number `n` of a call is refused, it leaves nothing behind. Whether there is such a growth.
@@ -97,24 +120,19 @@ fn refuse<C: Call>(
     alloc: Global,
     heap: &Refusing,
     call: C,
-    case: Case<'_>,
+    start: Start,
     n: u64,
-) -> Result<bool, Fault> {
-    let aliases = case.start.aliases;
-    let mut builder = started(alloc, heap, aliases)?;
+) -> bool {
+    let mut builder = started(rt, alloc, heap, start.aliases);
     heap.refuse_nth(n);
     let outcome = call.make(alloc, Some(NAME), &mut builder);
-    if !heap.was_refused() {
-        return Ok(false);
+    let was_refused = heap.was_refused();
+    if was_refused {
+        assert!(rt; outcome == Err(REFUSED) && heap.requests() == n);
+        heap.refuse_none();
+        has_nothing_left(rt, alloc, builder, start);
     }
-    assert!(rt; outcome == Err(REFUSED));
-    assert!(rt; heap.requests() == n);
-    heap.refuse_none();
-    assert!(rt; OUTER_TYPE.make(alloc, None, &mut builder) == Ok(0));
-    assert!(rt; counts(&builder) == [0, 0, 0, 0, 0, 0, 0, 0, aliases, 0, 0, 0, 1]);
-    Item::AppendNames.make(alloc, None, &mut builder)?;
-    finishes(rt, builder, case.start.without)?;
-    Ok(true)
+    was_refused
 }
 
 /// The call is accepted, once more where its growth number `n` is refused.
@@ -125,8 +143,8 @@ fn accept<C: Call>(
     call: C,
     case: Case<'_>,
     n: u64,
-) -> Result<(), Fault> {
-    let mut builder = started(alloc, heap, case.start.aliases)?;
+) {
+    let mut builder = started(rt, alloc, heap, case.start.aliases);
     heap.refuse_nth(n);
     let mut outcome = call.make(alloc, Some(NAME), &mut builder);
     let was_refused = heap.was_refused();
@@ -135,21 +153,20 @@ fn accept<C: Call>(
         outcome = call.make(alloc, Some(NAME), &mut builder);
     }
     assert!(rt; outcome == Ok(case.answer));
-    OUTER_TYPE.make(alloc, None, &mut builder)?;
-    Item::AppendNames.make(alloc, None, &mut builder)?;
-    finishes(rt, builder, case.with)
+    ok(rt, OUTER_TYPE.make(alloc, None, &mut builder));
+    finishes_named(rt, alloc, builder, case.with);
 }
 
 /// Has the growths of a call refused in turn, of which there is at least one.
-fn sweep<C: Call>(rt: &impl Abort, alloc: Global, call: C, case: Case<'_>) -> Result<bool, Fault> {
+fn sweep<C: Call>(rt: &impl Abort, alloc: Global, call: C, case: Case<'_>) -> bool {
     let heap = Refusing::new(alloc);
     for n in 1..20u64 {
-        accept(rt, alloc, &heap, call, case, n)?;
-        if !refuse(rt, alloc, &heap, call, case, n)? {
-            return Ok(n > 1);
+        accept(rt, alloc, &heap, call, case, n);
+        if !refuse(rt, alloc, &heap, call, case.start, n) {
+            return n > 1;
         }
     }
-    Ok(false)
+    false
 }
 
 /// A number that is one byte.
@@ -157,28 +174,32 @@ fn byte(n: usize) -> u8 {
     u8::try_from(n).unwrap_or(u8::MAX)
 }
 
+/// Adds these bytes.
+pub fn push(rt: &impl Abort, bytes: &mut Vec<u8>, more: &[u8]) {
+    ok(rt, bytes.extend_from_slice(more));
+}
+
 /// The section of one name. It is short: each size is one byte.
-fn push_name(bytes: &mut Vec<u8>, named: Named, index: u32) -> Result<(), Fault> {
+fn push_name(rt: &impl Abort, bytes: &mut Vec<u8>, named: Named, index: u32) {
     if named.sort.is_empty() {
-        return Ok(());
+        return;
     }
     let len = byte(named.name.len());
     let size = byte(named.sort.len()).saturating_add(len).saturating_add(3);
-    bytes.extend_from_slice(&[0x00, size.saturating_add(17), 0x0e])?;
-    bytes.extend_from_slice(b"component-name")?;
-    bytes.extend_from_slice(&[0x01, size])?;
-    bytes.extend_from_slice(named.sort)?;
-    bytes.extend_from_slice(&[0x01, byte(index as usize), len])?;
-    bytes.extend_from_slice(named.name.as_bytes())?;
-    Ok(())
+    push(rt, bytes, &[0x00, size.saturating_add(17), 0x0e]);
+    push(rt, bytes, b"component-name");
+    push(rt, bytes, &[0x01, size]);
+    push(rt, bytes, named.sort);
+    push(rt, bytes, &[0x01, byte(index as usize), len]);
+    push(rt, bytes, named.name.as_bytes());
 }
 
 /// The component where a call adds this section.
-fn apart(alloc: Global, start: Start, section: &[u8]) -> Result<Vec<u8>, Fault> {
-    let mut bytes = start.bytes.to_vec(alloc)?;
-    bytes.extend_from_slice(section)?;
-    bytes.extend_from_slice(BEHIND)?;
-    Ok(bytes)
+fn apart(rt: &impl Abort, alloc: Global, start: Start, section: &[u8]) -> Vec<u8> {
+    let mut bytes = ok(rt, start.bytes.to_vec(alloc));
+    push(rt, &mut bytes, section);
+    push(rt, &mut bytes, BEHIND);
+    bytes
 }
 
 /// Sweeps a call with which the component has these bytes, but for its name.
@@ -189,21 +210,20 @@ fn sweep_with<C: Call>(
     call: C,
     named: Named,
     mut bytes: Vec<u8>,
-) -> Result<(), Fault> {
+) {
     // The aliases in front are of functions.
     let answer = if named.sort == FUNC.sort {
         start.aliases
     } else {
         0
     };
-    push_name(&mut bytes, named, answer)?;
+    push_name(rt, &mut bytes, named, answer);
     let case = Case {
         start,
         answer,
         with: bytes.as_slice(),
     };
-    assert!(rt; sweep(rt, alloc, call, case)?);
-    Ok(())
+    assert!(rt; sweep(rt, alloc, call, case));
 }
 
 /// Sweeps a call that adds this section.
@@ -214,24 +234,19 @@ pub fn sweep_section<C: Call>(
     call: C,
     named: Named,
     section: &[u8],
-) -> Result<(), Fault> {
-    sweep_with(rt, alloc, start, call, named, apart(alloc, start, section)?)
+) {
+    let bytes = apart(rt, alloc, start, section);
+    sweep_with(rt, alloc, start, call, named, bytes);
 }
 
 /// Sweeps the call behind one alias, where the open section has room, and behind two.
-pub fn sweep_both<C: Call>(
-    rt: &impl Abort,
-    alloc: Global,
-    call: C,
-    named: Named,
-    section: &[u8],
-) -> Result<(), Fault> {
-    sweep_section(rt, alloc, ONE, call, named, section)?;
-    sweep_section(rt, alloc, TWO, call, named, section)
+pub fn sweep_both<C: Call>(rt: &impl Abort, alloc: Global, call: C, named: Named, section: &[u8]) {
+    sweep_section(rt, alloc, ONE, call, named, section);
+    sweep_section(rt, alloc, TWO, call, named, section);
 }
 
 /// An import and an export, each with its section.
-const APART: [(Item<'static>, &[u8]); 2] = [
+const APART: &[(Item<'static>, &[u8])] = &[
     (
         Item::Import(NAME, ComponentTypeRef::Func(0)),
         b"\x0a\x22\x01\x00\x1dan-interface-with-a-long-name\x01\x00",
@@ -243,7 +258,7 @@ const APART: [(Item<'static>, &[u8]); 2] = [
 ];
 
 /// Aliases, each with the whole component: all stand in one section.
-const JOINED: [(Item<'static>, Named, &[u8]); 4] = [
+const JOINED: &[(Item<'static>, Named, &[u8])] = &[
     (
         Item::AliasExport(0, NAME, ComponentExportKind::Func),
         FUNC,
@@ -275,54 +290,52 @@ const JOINED: [(Item<'static>, Named, &[u8]); 4] = [
 ];
 
 #[test]
-fn imports_and_exports(rt: HostRuntime) -> Result<(), Fail> {
-    for (call, section) in APART.as_slice() {
-        sweep_section(&rt, rt.alloc(), ONE, *call, FUNC, section)?;
+fn imports_and_exports(rt: HostRuntime) {
+    for (call, section) in APART {
+        sweep_section(&rt, rt.alloc(), ONE, *call, FUNC, section);
     }
-    Ok(())
 }
 
 #[test]
-fn aliases(rt: HostRuntime) -> Result<(), Fail> {
-    for (call, named, with) in JOINED.as_slice() {
-        sweep_with(
-            &rt,
-            rt.alloc(),
-            ONE,
-            *call,
-            *named,
-            with.to_vec(rt.alloc())?,
-        )?;
+fn aliases(rt: HostRuntime) {
+    for (call, named, with) in JOINED {
+        let bytes = ok(&rt, with.to_vec(rt.alloc()));
+        sweep_with(&rt, rt.alloc(), ONE, *call, *named, bytes);
     }
-    Ok(())
+}
+
+/// Where growth number `n` of a new builder is refused, there is none. Whether there is such a growth.
+fn refuse_new(rt: &impl Abort, heap: &Refusing, n: u64) -> bool {
+    heap.refuse_nth(n);
+    let fault = ComponentBuilder::new(heap).err();
+    let was_refused = heap.was_refused();
+    if was_refused {
+        assert!(rt; fault == Some(REFUSED) && heap.requests() == n);
+    } else {
+        assert!(rt; fault.is_none());
+    }
+    was_refused
 }
 
 #[test]
-fn new_builder(rt: HostRuntime) -> Result<(), Fail> {
+fn new_builder(rt: HostRuntime) {
     let heap = Refusing::new(rt.alloc());
     let mut done = false;
     for n in 1..20u64 {
-        heap.refuse_nth(n);
-        let outcome = ComponentBuilder::new(&heap);
-        if !heap.was_refused() {
-            assert!(rt; outcome.is_ok());
+        if !refuse_new(&rt, &heap, n) {
             done = true;
             break;
         }
-        assert!(rt; outcome.err() == Some(REFUSED));
-        assert_eq!(rt; heap.requests(), n);
     }
     assert!(rt; done);
-    Ok(())
 }
 
 // `finish` takes no memory.
 #[test]
-fn finish(rt: HostRuntime) -> Result<(), Fail> {
+fn finish(rt: HostRuntime) {
     let heap = Refusing::new(rt.alloc());
-    let builder = started(rt.alloc(), &heap, 1)?;
+    let builder = started(&rt, rt.alloc(), &heap, 1);
     heap.refuse_all();
-    finishes(&rt, builder, ONE.bytes)?;
-    assert_eq!(rt; heap.requests(), 0);
-    Ok(())
+    finishes(&rt, builder, ONE.bytes);
+    assert!(rt; heap.requests() == 0);
 }

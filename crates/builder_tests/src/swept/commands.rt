@@ -100,7 +100,7 @@ const REFUSED_BETWEEN: Wanted<'static> = Wanted {
     bytes: BOTH,
 };
 
-const MODULE: Case<'static> = Case {
+const MODULE: &Case<'static> = &Case {
     place: 1,
     refused: REFUSED_BETWEEN,
     accepted: Wanted {
@@ -109,7 +109,7 @@ const MODULE: Case<'static> = Case {
     },
 };
 
-const LONG_MODULE: Case<'static> = Case {
+const LONG_MODULE: &Case<'static> = &Case {
     place: 1,
     refused: REFUSED_BETWEEN,
     accepted: Wanted {
@@ -118,7 +118,7 @@ const LONG_MODULE: Case<'static> = Case {
     },
 };
 
-const IMPORT: Case<'static> = Case {
+const IMPORT: &Case<'static> = &Case {
     place: 1,
     refused: REFUSED_BETWEEN,
     accepted: Wanted {
@@ -127,34 +127,28 @@ const IMPORT: Case<'static> = Case {
     },
 };
 
+/// The command between two aliases.
+fn between(alloc: Global, command: Command) -> [Command; 3] {
+    let function = export_alias(alloc, ComponentExportKind::Func, "f");
+    [function, command, outer_type()]
+}
+
 // A command that is refused adds nothing, and those after it run all the same. The short module has room without a
 // growth.
 #[test]
 fn between_aliases(rt: HostRuntime) {
     let alloc = rt.alloc();
-    let commands = [
-        export_alias(alloc, ComponentExportKind::Func, "f"),
-        module(alloc, &[0xaa]),
-        outer_type(),
-    ];
-    sweep(&rt, alloc, &commands, &MODULE);
-    let commands = [
-        export_alias(alloc, ComponentExportKind::Func, "f"),
-        module(alloc, NAME.as_bytes()),
-        outer_type(),
-    ];
-    assert!(rt; sweep(&rt, alloc, &commands, &LONG_MODULE));
-    let commands = [
-        export_alias(alloc, ComponentExportKind::Func, "f"),
-        import(alloc),
-        outer_type(),
-    ];
-    assert!(rt; sweep(&rt, alloc, &commands, &IMPORT));
+    let commands = between(alloc, module(alloc, &[0xaa]));
+    sweep(&rt, alloc, &commands, MODULE);
+    let commands = between(alloc, module(alloc, NAME.as_bytes()));
+    assert!(rt; sweep(&rt, alloc, &commands, LONG_MODULE));
+    let commands = between(alloc, import(alloc));
+    assert!(rt; sweep(&rt, alloc, &commands, IMPORT));
 }
 
 const BOOL: ComponentValType = ComponentValType::Primitive(PrimitiveValType::Bool);
 
-const RECORD: Case<'static> = Case {
+const RECORD: &Case<'static> = &Case {
     place: 0,
     refused: Wanted {
         answers: &[Err(REFUSED)],
@@ -166,17 +160,18 @@ const RECORD: Case<'static> = Case {
     },
 };
 
+/// A record of two fields.
+fn record(alloc: Global) -> TypeTree {
+    let fields = vec![in alloc; (text(alloc, "a"), BOOL), (text(alloc, "b"), BOOL)];
+    TypeTree::Defined(DefinedTree::Record(list(alloc, fields)))
+}
+
 // Where the opening is refused, so is the command. Where the rest of the type is, so is the whole.
 #[test]
 fn records(rt: HostRuntime) {
-    let alloc = rt.alloc();
-    let fields = list(
-        alloc,
-        vec![in alloc; (text(alloc, "a"), BOOL), (text(alloc, "b"), BOOL)],
-    );
     let commands = [Command::Type {
         n: None,
-        ty: TypeTree::Defined(DefinedTree::Record(fields)),
+        ty: record(rt.alloc()),
     }];
-    assert!(rt; sweep(&rt, alloc, &commands, &RECORD));
+    assert!(rt; sweep(&rt, rt.alloc(), &commands, RECORD));
 }

@@ -6,9 +6,7 @@ use crate::checks::{Call, finishes};
 use refusing::Refusing;
 use std::alloc::Global;
 use std::process::Abort;
-use std::test::Fail;
-use sweeping::REFUSED;
-use wasm_encoder::Fault;
+use sweeping::{REFUSED, ok};
 
 /// A component with one function, `resource.drop`.
 const WITHOUT: &[u8] = b"\x00asm\x0d\x00\x01\x00\x08\x03\x01\x03\x00";
@@ -18,9 +16,9 @@ const WITH: &[u8] =
     b"\x00asm\x0d\x00\x01\x00\x08\x03\x01\x03\x00\x00\x23\x0ecomponent-name\x01\x12\x00\x00\x01\x00\x0dresource.drop";
 
 /// Where growth number `n` is refused, no section is added. Whether there is such a growth.
-fn refuse(rt: &impl Abort, alloc: Global, heap: &Refusing, n: u64) -> Result<bool, Fault> {
-    let mut builder = started(alloc, heap, 0)?;
-    Item::ResourceDrop(0).make(alloc, None, &mut builder)?;
+fn refuse(rt: &impl Abort, alloc: Global, heap: &Refusing, n: u64) -> bool {
+    let mut builder = started(rt, alloc, heap, 0);
+    ok(rt, Item::ResourceDrop(0).make(alloc, None, &mut builder));
     heap.refuse_nth(n);
     let outcome = Item::AppendNames.make(alloc, None, &mut builder);
     let was_refused = heap.was_refused();
@@ -30,32 +28,31 @@ fn refuse(rt: &impl Abort, alloc: Global, heap: &Refusing, n: u64) -> Result<boo
         (Ok(0), WITH)
     };
     assert!(rt; outcome == answer);
-    finishes(rt, builder, wanted)?;
-    Ok(was_refused)
+    finishes(rt, builder, wanted);
+    was_refused
 }
 
 #[test]
-fn of_a_function(rt: HostRuntime) -> Result<(), Fail> {
+fn of_a_function(rt: HostRuntime) {
     let heap = Refusing::new(rt.alloc());
     let mut had_growths = false;
     for n in 1..20u64 {
-        if !refuse(&rt, rt.alloc(), &heap, n)? {
+        if !refuse(&rt, rt.alloc(), &heap, n) {
             had_growths = n > 1;
             break;
         }
     }
     assert!(rt; had_growths);
-    Ok(())
 }
 
 // Without names it takes no memory.
 #[test]
-fn none(rt: HostRuntime) -> Result<(), Fail> {
+fn none(rt: HostRuntime) {
     let heap = Refusing::new(rt.alloc());
-    let mut builder = started(rt.alloc(), &heap, 0)?;
+    let mut builder = started(&rt, rt.alloc(), &heap, 0);
     heap.refuse_all();
-    assert!(rt; Item::AppendNames.make(rt.alloc(), None, &mut builder) == Ok(0));
-    finishes(&rt, builder, b"\x00asm\x0d\x00\x01\x00")?;
-    assert_eq!(rt; heap.requests(), 0);
-    Ok(())
+    let outcome = Item::AppendNames.make(rt.alloc(), None, &mut builder);
+    assert!(rt; outcome == Ok(0));
+    finishes(&rt, builder, b"\x00asm\x0d\x00\x01\x00");
+    assert!(rt; heap.requests() == 0);
 }

@@ -37,33 +37,31 @@ impl<'a> Call for Tree<'a> {
     }
 }
 
-/// Each with its section.
-fn sweep<C: Call>(rt: &impl Abort, alloc: Global, call: C, named: Named, section: &[u8]) {
-    assert!(rt; sweep_both(rt, alloc, call, named, section) == Ok(()));
+/// A core instance of an item.
+fn core_exports(alloc: Global) -> CoreInstanceTree {
+    let exports = vec![in alloc; (text(alloc, NAME), ExportKind::Func, LARGE)];
+    CoreInstanceTree::Exports(list(alloc, exports))
+}
+
+/// An instance of an item.
+fn exports(alloc: Global) -> InstanceTree {
+    let exports = vec![in alloc; (name(alloc, NAME), ComponentExportKind::Func, LARGE)];
+    InstanceTree::Exports(list(alloc, exports))
 }
 
 #[test]
 fn instances(rt: HostRuntime) {
-    let alloc = rt.alloc();
-    let exports = list(
-        alloc,
-        vec![in alloc; (text(alloc, NAME), ExportKind::Func, LARGE)],
-    );
-    sweep(
+    sweep_both(
         &rt,
-        alloc,
-        Tree::CoreInstance(&CoreInstanceTree::Exports(exports)),
+        rt.alloc(),
+        Tree::CoreInstance(&core_exports(rt.alloc())),
         CORE_INSTANCE,
         b"\x02\x27\x01\x01\x01\x1dan-interface-with-a-long-name\x00\xff\xff\xff\xff\x0f",
     );
-    let exports = list(
-        alloc,
-        vec![in alloc; (name(alloc, NAME), ComponentExportKind::Func, LARGE)],
-    );
-    sweep(
+    sweep_both(
         &rt,
-        alloc,
-        Tree::Instance(&InstanceTree::Exports(exports)),
+        rt.alloc(),
+        Tree::Instance(&exports(rt.alloc())),
         INSTANCE,
         b"\x05\x28\x01\x01\x01\x00\x1dan-interface-with-a-long-name\x01\xff\xff\xff\xff\x0f",
     );
@@ -81,6 +79,11 @@ fn option(alloc: Global) -> Vec<CanonicalOption> {
     list(alloc, vec![in alloc; CanonicalOption::Memory(LARGE)])
 }
 
+/// A function, with its section.
+fn sweep_canon(rt: &impl Abort, alloc: Global, tree: CanonTree, named: Named, section: &[u8]) {
+    sweep_both(rt, alloc, Tree::Canon(&tree), named, section);
+}
+
 #[test]
 fn functions(rt: HostRuntime) {
     let alloc = rt.alloc();
@@ -89,29 +92,23 @@ fn functions(rt: HostRuntime) {
         ty: LARGE,
         options: option(alloc),
     };
-    sweep(
-        &rt,
-        alloc,
-        Tree::Canon(&lift),
-        FUNC,
-        b"\x08\x14\x01\x00\x00\xff\xff\xff\xff\x0f\x01\x03\xff\xff\xff\xff\x0f\xff\xff\xff\xff\x0f",
-    );
+    let section =
+        b"\x08\x14\x01\x00\x00\xff\xff\xff\xff\x0f\x01\x03\xff\xff\xff\xff\x0f\xff\xff\xff\xff\x0f";
+    sweep_canon(&rt, alloc, lift, FUNC, section);
     let lower = CanonTree::Lower {
         func: LARGE,
         options: option(alloc),
     };
-    sweep(
+    let section = b"\x08\x0f\x01\x01\x00\xff\xff\xff\xff\x0f\x01\x03\xff\xff\xff\xff\x0f";
+    sweep_canon(&rt, alloc, lower, CORE_FUNC, section);
+}
+
+#[test]
+fn provided_functions(rt: HostRuntime) {
+    sweep_canon(
         &rt,
-        alloc,
-        Tree::Canon(&lower),
-        CORE_FUNC,
-        b"\x08\x0f\x01\x01\x00\xff\xff\xff\xff\x0f\x01\x03\xff\xff\xff\xff\x0f",
-    );
-    let drop = CanonTree::ResourceDrop(LARGE);
-    sweep(
-        &rt,
-        alloc,
-        Tree::Canon(&drop),
+        rt.alloc(),
+        CanonTree::ResourceDrop(LARGE),
         provided("resource.drop"),
         b"\x08\x07\x01\x03\xff\xff\xff\xff\x0f",
     );
@@ -119,37 +116,53 @@ fn functions(rt: HostRuntime) {
         ty: ValType::I32,
         slot: LARGE,
     };
-    sweep(
+    sweep_canon(
         &rt,
-        alloc,
-        Tree::Canon(&get),
+        rt.alloc(),
+        get,
         provided("context.get 4294967295"),
         b"\x08\x08\x01\x0a\x7f\xff\xff\xff\xff\x0f",
     );
 }
 
-#[test]
-fn types(rt: HostRuntime) {
-    let alloc = rt.alloc();
+/// A module type with an alias.
+fn module_type(alloc: Global) -> CoreTypeTree {
     let outer = ModuleDecl::Alias {
         count: LARGE,
         index: LARGE,
     };
-    let module = CoreTypeTree::Module(list(alloc, vec![in alloc; outer]));
-    sweep(
+    CoreTypeTree::Module(list(alloc, vec![in alloc; outer]))
+}
+
+fn record(alloc: Global) -> TypeTree {
+    let fields = vec![in alloc; (text(alloc, NAME), STRING)];
+    TypeTree::Defined(DefinedTree::Record(list(alloc, fields)))
+}
+
+/// A core type, with its section.
+fn sweep_core_type(rt: &impl Abort, alloc: Global, tree: CoreTypeTree, section: &[u8]) {
+    let call = Swept(Typed::Core(CoreType::Tree(&tree)));
+    sweep_both(rt, alloc, call, CORE_TYPE, section);
+}
+
+/// A type, with its section.
+fn sweep_type(rt: &impl Abort, alloc: Global, tree: TypeTree, section: &[u8]) {
+    let call = Swept(Typed::Any(AnyType::Tree(&tree)));
+    sweep_both(rt, alloc, call, TYPE, section);
+}
+
+#[test]
+fn types(rt: HostRuntime) {
+    sweep_core_type(
         &rt,
-        alloc,
-        Swept(Typed::Core(CoreType::Tree(&module))),
-        CORE_TYPE,
+        rt.alloc(),
+        module_type(rt.alloc()),
         b"\x03\x10\x01\x50\x01\x02\x10\x01\xff\xff\xff\xff\x0f\xff\xff\xff\xff\x0f",
     );
-    let fields = list(alloc, vec![in alloc; (text(alloc, NAME), STRING)]);
-    let record = TypeTree::Defined(DefinedTree::Record(fields));
-    sweep(
+    sweep_type(
         &rt,
-        alloc,
-        Swept(Typed::Any(AnyType::Tree(&record))),
-        TYPE,
+        rt.alloc(),
+        record(rt.alloc()),
         b"\x07\x22\x01r\x01\x1dan-interface-with-a-long-names",
     );
 }

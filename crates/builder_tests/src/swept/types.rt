@@ -1,14 +1,13 @@
 //! Instances, functions with options, and types: what an iterator gives, and what an encoder writes.
 
-use super::between::{CORE_FUNC, FUNC, Named, started, sweep_both};
+use super::between::{CORE_FUNC, FUNC, Named, push, started, sweep_both};
 use crate::calls::{Item, Listed, NAME};
 use crate::checks::{Call, finishes};
 use crate::written::{AnyType, CoreType, STRING, Typed};
 use refusing::Refusing;
 use std::alloc::{Allocator, Global};
 use std::process::Abort;
-use std::test::Fail;
-use sweeping::{LARGE, REFUSED};
+use sweeping::{LARGE, REFUSED, ok};
 use wasm_encoder::{
     CanonicalOption, ComponentBuilder, ComponentExportKind, ComponentType, Fault, FuncStage,
     InstanceType,
@@ -80,7 +79,7 @@ pub const CORE_INSTANCE: Named = Named {
 const OPTIONS: &[CanonicalOption] = &[CanonicalOption::Memory(LARGE)];
 
 /// Each with its section.
-const LISTED: [(Listed<'static>, Named, &[u8]); 6] = [
+const LISTED: &[(Listed<'static>, Named, &[u8])] = &[
     (
         Listed::CoreInstantiate(LARGE, NAME, LARGE),
         CORE_INSTANCE,
@@ -114,66 +113,80 @@ const LISTED: [(Listed<'static>, Named, &[u8]); 6] = [
 ];
 
 /// Each with its section.
-const WRITTEN: [(Typed<'static>, Named, &[u8]); 4] = [
-    (
-        Typed::Core(CoreType::Function),
-        CORE_TYPE,
-        b"\x03\x06\x01\x60\x01\x7f\x01\x7f",
-    ),
-    (
-        RESOURCE,
-        TYPE,
-        b"\x07\x09\x01\x3f\x7f\x01\xff\xff\xff\xff\x0f",
-    ),
-    (
-        Typed::Record,
-        TYPE,
-        b"\x07\x22\x01r\x01\x1dan-interface-with-a-long-names",
-    ),
-    (
-        Typed::Function(&[(NAME, STRING)], Some(STRING)),
-        TYPE,
-        b"\x07\x24\x01\x40\x01\x1dan-interface-with-a-long-names\x00s",
-    ),
-];
-
-#[test]
-fn calls_with_lists(rt: HostRuntime) -> Result<(), Fail> {
-    for (call, named, section) in LISTED.as_slice() {
-        sweep_both(&rt, rt.alloc(), *call, *named, section)?;
-    }
-    Ok(())
+fn written() -> [(Typed<'static>, Named, &'static [u8]); 4] {
+    [
+        (
+            Typed::Core(CoreType::Function),
+            CORE_TYPE,
+            b"\x03\x06\x01\x60\x01\x7f\x01\x7f",
+        ),
+        (
+            RESOURCE,
+            TYPE,
+            b"\x07\x09\x01\x3f\x7f\x01\xff\xff\xff\xff\x0f",
+        ),
+        (
+            Typed::Record,
+            TYPE,
+            b"\x07\x22\x01r\x01\x1dan-interface-with-a-long-names",
+        ),
+        (
+            Typed::Function(&[(NAME, STRING)], Some(STRING)),
+            TYPE,
+            b"\x07\x24\x01\x40\x01\x1dan-interface-with-a-long-names\x00s",
+        ),
+    ]
 }
 
 #[test]
-fn types_that_are_written(rt: HostRuntime) -> Result<(), Fail> {
-    for (ty, named, section) in WRITTEN.as_slice() {
-        sweep_both(&rt, rt.alloc(), Swept(*ty), *named, section)?;
+fn calls_with_lists(rt: HostRuntime) {
+    for (call, named, section) in LISTED {
+        sweep_both(&rt, rt.alloc(), *call, *named, section);
     }
-    Ok(())
 }
 
 #[test]
-fn instance_types(rt: HostRuntime) -> Result<(), Fail> {
+fn types_that_are_written(rt: HostRuntime) {
+    for (ty, named, section) in written().as_slice() {
+        sweep_both(&rt, rt.alloc(), Swept(*ty), *named, section);
+    }
+}
+
+/// Sweeps a call that adds a type, with this section.
+fn sweep_type(rt: &impl Abort, alloc: Global, ty: Typed<'_>, section: &[u8]) {
+    sweep_both(rt, alloc, ty, TYPE, section);
+}
+
+#[test]
+fn instance_types(rt: HostRuntime) {
     let ty = InstanceType::new(rt.alloc());
-    let section = b"\x07\x03\x01\x42\x00".as_slice();
-    sweep_both(&rt, rt.alloc(), Typed::Instance(&ty), TYPE, section)?;
-    Ok(())
+    sweep_type(
+        &rt,
+        rt.alloc(),
+        Typed::Instance(&ty),
+        b"\x07\x03\x01\x42\x00",
+    );
 }
 
 #[test]
-fn component_types(rt: HostRuntime) -> Result<(), Fail> {
+fn component_types(rt: HostRuntime) {
     let ty = ComponentType::new(rt.alloc());
-    let section = b"\x07\x03\x01\x41\x00".as_slice();
-    sweep_both(&rt, rt.alloc(), Typed::Component(&ty), TYPE, section)?;
-    Ok(())
+    sweep_type(
+        &rt,
+        rt.alloc(),
+        Typed::Component(&ty),
+        b"\x07\x03\x01\x41\x00",
+    );
 }
 
 #[test]
-fn resource_types(rt: HostRuntime) -> Result<(), Fail> {
-    let section = b"\x07\x09\x01\x3f\x7f\x01\xff\xff\xff\xff\x0f".as_slice();
-    sweep_both(&rt, rt.alloc(), Typed::Resource(LARGE), TYPE, section)?;
-    Ok(())
+fn resource_types(rt: HostRuntime) {
+    sweep_type(
+        &rt,
+        rt.alloc(),
+        Typed::Resource(LARGE),
+        b"\x07\x09\x01\x3f\x7f\x01\xff\xff\xff\xff\x0f",
+    );
 }
 
 /// Where growth number `n` is refused behind the opening, the component isn't finished. Whether there is such a growth.
@@ -184,31 +197,32 @@ fn refuse_finish(
     aliases: u32,
     ty: Typed<'_>,
     n: u64,
-) -> Result<Option<Fault>, Fault> {
-    let mut builder = started(alloc, heap, aliases)?;
+) -> bool {
+    let mut builder = started(rt, alloc, heap, aliases);
     heap.refuse_nth(n);
-    assert!(rt; ty.make(alloc, Some(NAME), &mut builder).is_err() == heap.was_refused());
-    Ok(builder.finish().err())
+    let outcome = ty.make(alloc, Some(NAME), &mut builder);
+    assert!(rt; outcome.is_err() == heap.was_refused());
+    builder.finish().err() == Some(Fault::Unfinished)
 }
 
-// A type whose last call is refused leaves no component. With so many aliases in front the room ends at each place.
-#[test]
-fn unfinished_builders(rt: HostRuntime) -> Result<(), Fail> {
-    let heap = Refusing::new(rt.alloc());
-    for (ty, _, _) in WRITTEN.as_slice() {
-        let mut unfinished = 0u8;
-        for aliases in 0..14 {
-            for n in 1..8u64 {
-                if refuse_finish(&rt, rt.alloc(), &heap, aliases, *ty, n)?
-                    == Some(Fault::Unfinished)
-                {
-                    unfinished = unfinished.saturating_add(1);
-                }
-            }
+/// With up to 13 aliases in front the room ends at each place. Whether it ends somewhere behind the opening.
+fn is_left_unfinished(rt: &impl Abort, alloc: Global, ty: Typed<'_>) -> bool {
+    let heap = Refusing::new(alloc);
+    let mut is_left = false;
+    for aliases in 0..14 {
+        for n in 1..8u64 {
+            is_left |= refuse_finish(rt, alloc, &heap, aliases, ty, n);
         }
-        assert!(rt; unfinished > 0);
     }
-    Ok(())
+    is_left
+}
+
+// A type whose last call is refused leaves no component.
+#[test]
+fn unfinished_builders(rt: HostRuntime) {
+    for (ty, _, _) in written().as_slice() {
+        assert!(rt; is_left_unfinished(&rt, rt.alloc(), *ty));
+    }
 }
 
 /// The type of a function whose parameters are refused where there is no room, and given again. Whether they were.
@@ -240,24 +254,35 @@ fn params_again(
     }
 }
 
+/// A component with so many of these types.
+fn wanted_functions(rt: &impl Abort, alloc: Global, count: u8) -> Vec<u8> {
+    let mut wanted = ok(rt, b"\x00asm\x0d\x00\x01\x00\x07".to_vec(alloc));
+    push(
+        rt,
+        &mut wanted,
+        &[count.saturating_mul(4).saturating_add(1), count],
+    );
+    for _ in 0..count {
+        push(rt, &mut wanted, b"\x40\x00\x01\x00");
+    }
+    wanted
+}
+
 /// So many of these types, and their section. Whether the parameters of any were refused.
-fn functions(rt: &impl Abort, heap: &Refusing, alloc: Global, count: u8) -> Result<bool, Fault> {
-    let mut wanted = b"\x00asm\x0d\x00\x01\x00\x07".to_vec(alloc)?;
-    wanted.extend_from_slice(&[count.saturating_mul(4).saturating_add(1), count])?;
-    let mut builder = started(alloc, heap, 0)?;
+fn functions(rt: &impl Abort, alloc: Global, count: u8) -> bool {
+    let heap = Refusing::new(alloc);
+    let mut builder = started(rt, alloc, &heap, 0);
     let mut was_refused = false;
     for _ in 0..count {
-        was_refused |= params_again(rt, heap, &mut builder)?;
-        wanted.extend_from_slice(b"\x40\x00\x01\x00")?;
+        was_refused |= ok(rt, params_again(rt, &heap, &mut builder));
     }
-    finishes(rt, builder, wanted.as_slice())?;
-    Ok(was_refused)
+    let wanted = wanted_functions(rt, alloc, count);
+    finishes(rt, builder, wanted.as_slice());
+    was_refused
 }
 
 #[test]
-fn refused_params(rt: HostRuntime) -> Result<(), Fail> {
-    let heap = Refusing::new(rt.alloc());
-    functions(&rt, &heap, rt.alloc(), 1)?;
-    assert!(rt; functions(&rt, &heap, rt.alloc(), 30)?);
-    Ok(())
+fn refused_params(rt: HostRuntime) {
+    functions(&rt, rt.alloc(), 1);
+    assert!(rt; functions(&rt, rt.alloc(), 30));
 }
