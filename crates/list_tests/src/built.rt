@@ -1,14 +1,16 @@
 //! What `build` makes of the commands of scripts.
 
+use crate::built::items::{are_of, items};
 use crate::checks::read_again;
 use std::process::Abort;
-use std::test::Fail;
+use sweeping::ok;
 use wasm_encoder::{Built, Command, Fault, build};
 use wenc::script::parse;
 use wenc_builder::Space;
 use wenc_list::list;
 
 mod edges;
+mod items;
 mod long;
 mod long_words;
 mod short;
@@ -38,40 +40,36 @@ fn counts(commands: &[Command], answers: &[Result<Option<u32>, Fault>]) -> [u128
     counts
 }
 
-/// The component is listed with those counts, and encoded again it is the same.
-fn is_listed<R: Abort + AllocGlobal>(
-    rt: &R,
-    commands: &[Command],
-    built: &Built,
-) -> Result<(), Fail> {
-    let listing = list(rt.alloc(), built.bytes.as_slice())?;
-    assert!(rt; listing.counts == counts(commands, built.answers.as_slice()));
-    let again = read_again(rt.alloc(), built.bytes.as_slice())?;
+/// The component is listed with those counts and with the items of the accepted commands, and encoded again it is the
+/// same.
+fn is_listed<R: Abort + AllocGlobal>(rt: &R, commands: &[Command], built: &Built) {
+    let listing = ok(rt, list(rt.alloc(), built.bytes.as_slice()));
+    let answers = built.answers.as_slice();
+    assert!(rt; listing.counts == counts(commands, answers));
+    let found = items(rt, rt.alloc(), &listing);
+    assert!(rt; are_of(found.as_slice(), commands, answers));
+    let again = read_again(rt, rt.alloc(), built.bytes.as_slice());
     assert!(rt; again.as_slice() == built.bytes.as_slice());
-    Ok(())
 }
 
-fn each_is_listed<R: Abort + AllocGlobal>(rt: &R, scripts: &[&[u8]]) -> Result<(), Fail> {
+fn each_is_listed<R: Abort + AllocGlobal>(rt: &R, scripts: &[&[u8]]) {
     for script in scripts {
-        let commands = parse(rt.alloc(), rt.alloc(), script)?;
-        let built = build(rt.alloc(), commands.as_slice())?;
-        is_listed(rt, commands.as_slice(), &built)?;
+        let commands = ok(rt, parse(rt.alloc(), rt.alloc(), script));
+        let built = ok(rt, build(rt.alloc(), commands.as_slice()));
+        is_listed(rt, commands.as_slice(), &built);
     }
-    Ok(())
 }
 
 #[test]
-fn scripts(rt: HostRuntime) -> Result<(), Fail> {
-    each_is_listed(&rt, &[b"thread.spawn-indirect 1 2"])?;
-    each_is_listed(&rt, edges::SCRIPTS)?;
-    each_is_listed(&rt, short::SCRIPTS)?;
-    each_is_listed(&rt, words::SCRIPTS)?;
-    Ok(())
+fn scripts(rt: HostRuntime) {
+    each_is_listed(&rt, &[b"thread.spawn-indirect 1 2"]);
+    each_is_listed(&rt, edges::SCRIPTS);
+    each_is_listed(&rt, short::SCRIPTS);
+    each_is_listed(&rt, words::SCRIPTS);
 }
 
 #[test]
-fn long_scripts(rt: HostRuntime) -> Result<(), Fail> {
-    each_is_listed(&rt, long::SCRIPTS)?;
-    each_is_listed(&rt, long_words::SCRIPTS)?;
-    Ok(())
+fn long_scripts(rt: HostRuntime) {
+    each_is_listed(&rt, long::SCRIPTS);
+    each_is_listed(&rt, long_words::SCRIPTS);
 }

@@ -5,7 +5,7 @@ use crate::checks::{component, encoded, read_again};
 use crate::rows::{EACH_KIND, ROWS, Row};
 use std::alloc::{AllocError, Global};
 use std::process::Abort;
-use std::test::Fail;
+use sweeping::ok;
 use wenc_list::{ListFault, Listing, list};
 
 /// Where the section begins that has the byte at this place; 0 of the header.
@@ -29,12 +29,11 @@ fn are_alike(one: &Listing, other: &Listing) -> bool {
 }
 
 /// Encoded and listed again it is the same, and so are its bytes.
-fn is_stable(rt: &impl Abort, alloc: Global, listing: &Listing) -> Result<(), Fail> {
-    let bytes = encoded(alloc, listing)?;
-    let again = list(alloc, bytes.as_slice())?;
+fn is_stable(rt: &impl Abort, alloc: Global, listing: &Listing) {
+    let bytes = encoded(rt, alloc, listing);
+    let again = ok(rt, list(alloc, bytes.as_slice()));
     assert!(rt; are_alike(listing, &again));
-    assert!(rt; encoded(alloc, &again)?.as_slice() == bytes.as_slice());
-    Ok(())
+    assert!(rt; encoded(rt, alloc, &again).as_slice() == bytes.as_slice());
 }
 
 /// A fault of a component whose first change stands in the section at this place.
@@ -49,13 +48,10 @@ fn is_from(fault: ListFault, begin: usize) -> bool {
 }
 
 /// The bytes are those of a component whose section at this place was changed.
-fn is_answered(rt: &impl Abort, alloc: Global, bytes: &[u8], begin: usize) -> Result<(), Fail> {
+fn is_answered(rt: &impl Abort, alloc: Global, bytes: &[u8], begin: usize) {
     match list(alloc, bytes) {
         Ok(listing) => is_stable(rt, alloc, &listing),
-        Err(fault) => {
-            assert!(rt; is_from(fault, begin));
-            Ok(())
-        }
+        Err(fault) => assert!(rt; is_from(fault, begin)),
     }
 }
 
@@ -78,74 +74,60 @@ fn is_tried(all: bool, old: u8, value: u8) -> bool {
 }
 
 /// The byte at this place is made other ones.
-fn change(
-    rt: &impl Abort,
-    alloc: Global,
-    bytes: &[u8],
-    at: usize,
-    begin: usize,
-    all: bool,
-) -> Result<(), Fail> {
+fn change(rt: &impl Abort, alloc: Global, bytes: &[u8], at: usize, begin: usize, all: bool) {
     for value in 0..=255u8 {
         if bytes.get(at).is_some_and(|old| is_tried(all, *old, value)) {
-            let changed = changed(alloc, bytes, at, value)?;
-            is_answered(rt, alloc, changed.as_slice(), begin)?;
+            let changed = ok(rt, changed(alloc, bytes, at, value));
+            is_answered(rt, alloc, changed.as_slice(), begin);
         }
     }
-    Ok(())
 }
 
-fn change_each(rt: &impl Abort, alloc: Global, row: &Row<'_>, all: bool) -> Result<(), Fail> {
-    let bytes = component(alloc, row.sections)?;
-    let listing = list(alloc, bytes.as_slice())?;
+fn change_each(rt: &impl Abort, alloc: Global, row: &Row<'_>, all: bool) {
+    let bytes = component(rt, alloc, row.sections);
+    let listing = ok(rt, list(alloc, bytes.as_slice()));
     for at in 0..bytes.len() {
-        change(rt, alloc, bytes.as_slice(), at, begin_of(&listing, at), all)?;
+        change(rt, alloc, bytes.as_slice(), at, begin_of(&listing, at), all);
     }
-    Ok(())
 }
 
 #[test]
-fn each_byte(rt: HostRuntime) -> Result<(), Fail> {
+fn each_byte(rt: HostRuntime) {
     for row in ROWS {
-        change_each(&rt, rt.alloc(), row, false)?;
+        change_each(&rt, rt.alloc(), row, false);
     }
-    Ok(())
 }
 
 #[test]
-fn each_byte_made_each_other(rt: HostRuntime) -> Result<(), Fail> {
-    change_each(&rt, rt.alloc(), &EACH_KIND, true)?;
-    Ok(())
+fn each_byte_made_each_other(rt: HostRuntime) {
+    change_each(&rt, rt.alloc(), &EACH_KIND, true);
 }
 
 /// A front of a component is listed where a section begins behind it, and is else refused at the section that is cut,
 /// which begins at this place.
-fn is_cut(rt: &impl Abort, alloc: Global, front: &[u8], begin: usize) -> Result<(), Fail> {
+fn is_cut(rt: &impl Abort, alloc: Global, front: &[u8], begin: usize) {
     if front.len() < 8 {
         let fault = list(alloc, front).err();
         assert!(rt; fault == Some(ListFault::NotAComponent { place: 0 }));
     } else if front.len() == begin {
-        assert!(rt; read_again(alloc, front)?.as_slice() == front);
+        assert!(rt; read_again(rt, alloc, front).as_slice() == front);
     } else {
         let fault = list(alloc, front).err();
         assert!(rt; fault == Some(ListFault::BadSection { place: begin }));
     }
-    Ok(())
 }
 
-fn cut_each(rt: &impl Abort, alloc: Global, row: &Row<'_>) -> Result<(), Fail> {
-    let bytes = component(alloc, row.sections)?;
-    let listing = list(alloc, bytes.as_slice())?;
+fn cut_each(rt: &impl Abort, alloc: Global, row: &Row<'_>) {
+    let bytes = component(rt, alloc, row.sections);
+    let listing = ok(rt, list(alloc, bytes.as_slice()));
     for end in 0..bytes.len() {
-        is_cut(rt, alloc, &bytes[..end], begin_of(&listing, end))?;
+        is_cut(rt, alloc, &bytes[..end], begin_of(&listing, end));
     }
-    Ok(())
 }
 
 #[test]
-fn each_front(rt: HostRuntime) -> Result<(), Fail> {
+fn each_front(rt: HostRuntime) {
     for row in ROWS {
-        cut_each(&rt, rt.alloc(), row)?;
+        cut_each(&rt, rt.alloc(), row);
     }
-    Ok(())
 }

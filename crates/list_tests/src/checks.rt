@@ -1,8 +1,8 @@
 //! A component by its sections in hexadecimal, and what was listed as bytes again.
 
-use hex::FromHexError;
 use std::alloc::{Allocator, Global};
-use std::test::Fail;
+use std::process::Abort;
+use sweeping::ok;
 use wasm_encoder::{Encode, Fault, Verbatim};
 use wenc_list::{ItemTree, ListedSection, Listing, list};
 
@@ -10,9 +10,9 @@ use wenc_list::{ItemTree, ListedSection, Listing, list};
 const HEADER: &[u8] = b"\x00asm\x0d\x00\x01\x00";
 
 /// The component with these sections, which are given in hexadecimal.
-pub fn component(alloc: Global, sections: &str) -> Result<Vec<u8>, FromHexError> {
-    let text = format!(in alloc; "0061736d0d000100{sections}")?;
-    hex::decode(alloc, text.as_str())
+pub fn component(rt: &impl Abort, alloc: Global, sections: &str) -> Vec<u8> {
+    let text = ok(rt, format!(in alloc; "0061736d0d000100{sections}"));
+    ok(rt, hex::decode(alloc, text.as_str()))
 }
 
 /// Appends an item, as it stands in its section.
@@ -44,38 +44,38 @@ fn encode_item<A: Allocator>(item: &ItemTree<A>, sink: &mut Vec<u8>) -> Result<(
 }
 
 /// Appends what is inside a section: its items, behind their number where there may be several.
-fn encode_items<A: Allocator>(section: &ListedSection<A>, sink: &mut Vec<u8>) -> Result<(), Fault> {
+fn encode_items<A: Allocator>(rt: &impl Abort, section: &ListedSection<A>, sink: &mut Vec<u8>) {
     if !matches!(section.id, 0 | 1 | 4 | 9) {
-        section.items.len().encode(sink)?;
+        ok(rt, section.items.len().encode(sink));
     }
     for item in &section.items {
-        encode_item(item, sink)?;
+        ok(rt, encode_item(item, sink));
     }
-    Ok(())
 }
 
 fn encode_section<A: Allocator>(
+    rt: &impl Abort,
     alloc: Global,
     section: &ListedSection<A>,
     sink: &mut Vec<u8>,
-) -> Result<(), Fault> {
+) {
     let mut content = Vec::new(alloc);
-    encode_items(section, &mut content)?;
-    sink.push(section.id)?;
-    content.as_slice().encode(sink)
+    encode_items(rt, section, &mut content);
+    ok(rt, sink.push(section.id));
+    ok(rt, content.as_slice().encode(sink));
 }
 
 /// The component that has what was listed.
-pub fn encoded<A: Allocator>(alloc: Global, listing: &Listing<A>) -> Result<Vec<u8>, Fault> {
-    let mut bytes = HEADER.to_vec(alloc)?;
+pub fn encoded<A: Allocator>(rt: &impl Abort, alloc: Global, listing: &Listing<A>) -> Vec<u8> {
+    let mut bytes = ok(rt, HEADER.to_vec(alloc));
     for section in &listing.sections {
-        encode_section(alloc, section, &mut bytes)?;
+        encode_section(rt, alloc, section, &mut bytes);
     }
-    Ok(bytes)
+    bytes
 }
 
 /// The component that has what is listed of these bytes.
-pub fn read_again(alloc: Global, bytes: &[u8]) -> Result<Vec<u8>, Fail> {
-    let listing = list(alloc, bytes)?;
-    Ok(encoded(alloc, &listing)?)
+pub fn read_again(rt: &impl Abort, alloc: Global, bytes: &[u8]) -> Vec<u8> {
+    let listing = ok(rt, list(alloc, bytes));
+    encoded(rt, alloc, &listing)
 }

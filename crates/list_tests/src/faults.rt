@@ -3,7 +3,7 @@
 use crate::checks::component;
 use std::alloc::Global;
 use std::process::Abort;
-use std::test::Fail;
+use sweeping::ok;
 use wenc_list::{ListFault, list};
 
 /// Sections whose content is not what their id and size say.
@@ -171,24 +171,18 @@ const FIRST: &[(&str, ListFault)] = &[
     ("010001000109", ListFault::BadSection { place: 12 }),
 ];
 
-fn is_refused(
-    rt: &impl Abort,
-    alloc: Global,
-    sections: &str,
-    wanted: ListFault,
-) -> Result<(), Fail> {
-    let bytes = component(alloc, sections)?;
+fn is_refused(rt: &impl Abort, alloc: Global, sections: &str, wanted: ListFault) {
+    let bytes = component(rt, alloc, sections);
     assert!(rt;
         list(alloc, bytes.as_slice()).err() == Some(wanted),
         "{sections}"
     );
-    Ok(())
 }
 
 #[test]
-fn what_is_not_read(rt: HostRuntime) -> Result<(), Fail> {
+fn what_is_not_read(rt: HostRuntime) {
     for sections in BAD_ITEMS {
-        is_refused(&rt, rt.alloc(), sections, ListFault::BadItem { place: 8 })?;
+        is_refused(&rt, rt.alloc(), sections, ListFault::BadItem { place: 8 });
     }
     for sections in BAD_SECTIONS {
         is_refused(
@@ -196,16 +190,15 @@ fn what_is_not_read(rt: HostRuntime) -> Result<(), Fail> {
             rt.alloc(),
             sections,
             ListFault::BadSection { place: 8 },
-        )?;
+        );
     }
     for (sections, fault) in FIRST {
-        is_refused(&rt, rt.alloc(), sections, *fault)?;
+        is_refused(&rt, rt.alloc(), sections, *fault);
     }
-    Ok(())
 }
 
 /// Bytes that do not begin as a component does. The third ones begin a core module.
-const NO_COMPONENTS: [&[u8]; 5] = [
+const NO_COMPONENTS: &[&[u8]] = &[
     b"",
     b"\x00asm\x0d\x00\x01",
     b"\x00asm\x01\x00\x00\x00",
@@ -221,7 +214,7 @@ fn other_headers(rt: HostRuntime) {
     }
 }
 
-const TEXTS: [(ListFault, &str); 5] = [
+const TEXTS: &[(ListFault, &str)] = &[
     (ListFault::Memory, "Memory"),
     (ListFault::NotAComponent { place: 0 }, "NotAComponent at 0"),
     (ListFault::BadSection { place: 16 }, "BadSection at 16"),
@@ -233,10 +226,9 @@ const TEXTS: [(ListFault, &str); 5] = [
 ];
 
 #[test]
-fn texts_of_faults(rt: HostRuntime) -> Result<(), Fail> {
+fn texts_of_faults(rt: HostRuntime) {
     for (fault, wanted) in TEXTS {
-        let text = format!(in rt.alloc(); "{fault}")?;
-        assert!(rt; text.as_str() == wanted);
+        let text = ok(&rt, format!(in rt.alloc(); "{fault}"));
+        assert!(rt; text.as_str() == *wanted);
     }
-    Ok(())
 }

@@ -5,51 +5,42 @@ use crate::rows::ROWS;
 use refusing::Refusing;
 use std::alloc::Global;
 use std::process::Abort;
-use std::test::Fail;
-use wasm_encoder::Fault;
 use wenc_list::{ListFault, list};
 
 /// Where the request with this number comes it is refused, and so is `list`, at once; else all is listed. Whether it
 /// comes.
-fn refuse(
-    rt: &impl Abort,
-    alloc: Global,
-    heap: &Refusing,
-    bytes: &[u8],
-    n: u64,
-) -> Result<bool, Fault> {
+fn refuse(rt: &impl Abort, alloc: Global, heap: &Refusing, bytes: &[u8], n: u64) -> bool {
     heap.refuse_nth(n);
     match list(heap, bytes) {
         Ok(listing) => {
             assert!(rt; !heap.was_refused());
-            let again = encoded(alloc, &listing)?;
+            let again = encoded(rt, alloc, &listing);
             assert!(rt; again.as_slice() == bytes);
-            Ok(false)
+            false
         }
         Err(fault) => {
             assert!(rt; fault == ListFault::Memory && heap.was_refused());
             assert!(rt; heap.requests() == n);
-            Ok(true)
+            true
         }
     }
 }
 
 /// Each request is refused in turn, until none is left.
-fn sweep(rt: &impl Abort, alloc: Global, bytes: &[u8]) -> Result<(), Fault> {
+fn sweep(rt: &impl Abort, alloc: Global, bytes: &[u8]) {
     let heap = Refusing::new(alloc);
     for n in 1..1000u64 {
-        if !refuse(rt, alloc, &heap, bytes, n)? {
-            return Ok(());
+        if !refuse(rt, alloc, &heap, bytes, n) {
+            return;
         }
     }
     panic!(rt; "there is no end")
 }
 
 #[test]
-fn each_request(rt: HostRuntime) -> Result<(), Fail> {
+fn each_request(rt: HostRuntime) {
     for row in ROWS {
-        let bytes = component(rt.alloc(), row.sections)?;
-        sweep(&rt, rt.alloc(), bytes.as_slice())?;
+        let bytes = component(&rt, rt.alloc(), row.sections);
+        sweep(&rt, rt.alloc(), bytes.as_slice());
     }
-    Ok(())
 }

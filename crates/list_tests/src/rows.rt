@@ -2,7 +2,7 @@
 
 use crate::checks::{component, encoded};
 use std::process::Abort;
-use std::test::Fail;
+use sweeping::ok;
 use wenc_list::{ItemTree, Listing, list};
 
 /// What a listing is to be. The bytes are those that an encoder writes.
@@ -242,13 +242,12 @@ pub fn is_listed(rt: &impl Abort, listing: &Listing, row: &Row<'_>) {
 }
 
 #[test]
-fn worked_components(rt: HostRuntime) -> Result<(), Fail> {
+fn worked_components(rt: HostRuntime) {
     for row in ROWS {
-        let bytes = component(rt.alloc(), row.sections)?;
-        let listing = list(rt.alloc(), bytes.as_slice())?;
+        let bytes = component(&rt, rt.alloc(), row.sections);
+        let listing = ok(&rt, list(rt.alloc(), bytes.as_slice()));
         is_listed(&rt, &listing, row);
-        let again = encoded(rt.alloc(), &listing)?;
+        let again = encoded(&rt, rt.alloc(), &listing);
         assert!(rt; again.as_slice() == bytes.as_slice(), "{}", row.sections);
     }
-    Ok(())
 }

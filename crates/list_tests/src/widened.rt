@@ -4,7 +4,7 @@ use crate::checks::{component, read_again};
 use crate::rows::{Row, is_listed};
 use std::alloc::Global;
 use std::process::Abort;
-use std::test::Fail;
+use sweeping::ok;
 use wenc_list::list;
 
 /// Sections, and the same as an encoder writes them.
@@ -59,20 +59,18 @@ const ROWS: &[(&str, &str)] = &[
     ),
 ];
 
-fn is_read_as(rt: &impl Abort, alloc: Global, wide: &str, strict: &str) -> Result<(), Fail> {
-    let bytes = component(alloc, wide)?;
-    let wanted = component(alloc, strict)?;
-    let again = read_again(alloc, bytes.as_slice())?;
+fn is_read_as(rt: &impl Abort, alloc: Global, wide: &str, strict: &str) {
+    let bytes = component(rt, alloc, wide);
+    let wanted = component(rt, alloc, strict);
+    let again = read_again(rt, alloc, bytes.as_slice());
     assert!(rt; again.as_slice() == wanted.as_slice(), "{wide}");
-    Ok(())
 }
 
 #[test]
-fn other_spellings(rt: HostRuntime) -> Result<(), Fail> {
+fn other_spellings(rt: HostRuntime) {
     for (wide, strict) in ROWS {
-        is_read_as(&rt, rt.alloc(), wide, strict)?;
+        is_read_as(&rt, rt.alloc(), wide, strict);
     }
-    Ok(())
 }
 
 /// The section behind one that is padded has its place.
@@ -83,8 +81,8 @@ const PADDED: Row<'static> = Row {
 };
 
 #[test]
-fn padded_sections(rt: HostRuntime) -> Result<(), Fail> {
-    let bytes = component(rt.alloc(), PADDED.sections)?;
-    is_listed(&rt, &list(rt.alloc(), bytes.as_slice())?, &PADDED);
-    Ok(())
+fn padded_sections(rt: HostRuntime) {
+    let bytes = component(&rt, rt.alloc(), PADDED.sections);
+    let listing = ok(&rt, list(rt.alloc(), bytes.as_slice()));
+    is_listed(&rt, &listing, &PADDED);
 }

@@ -18,13 +18,8 @@ mod values;
 
 use std::alloc::Global;
 use std::process::Abort;
-use sweeping::{Appends, sweep, sweep_encode};
+use sweeping::{Appends, is_well, sweep, sweep_encode};
 use wenc_base::{Encode, Fault};
-
-/// A sweep found all as it should be.
-pub fn is_well(rt: &impl Abort, outcome: Result<bool, Fault>) {
-    assert!(rt; outcome == Ok(true));
-}
 
 /// The bytes of a value.
 pub fn bytes<T: Encode>(alloc: Global, value: &T) -> Result<Vec<u8>, Fault> {

@@ -14,11 +14,6 @@ pub fn yes(rt: &impl Abort, is_so: bool) {
     assert!(rt; is_so);
 }
 
-/// The sweep found all as it should be.
-pub fn is_well(rt: &impl Abort, swept: Result<bool, Fault>) {
-    yes(rt, ok(rt, swept));
-}
-
 /// These are the bytes, in hexadecimal.
 pub fn are(rt: &impl Abort, alloc: Global, bytes: &[u8], wanted: &str) {
     let text = ok(rt, hex::encode(alloc, bytes));

@@ -1,11 +1,10 @@
 //! Sections of items whose requests for memory can be refused.
 
-use crate::checks::is_well;
 use refusing::Refusing;
 use std::alloc::Global;
 use std::process::Abort;
 use sweeping::members::{Adds, Members, sweep_calls, sweep_clones};
-use sweeping::{ok, sweep_section};
+use sweeping::{is_well, ok, sweep_section};
 use wenc_base::{Encode, Fault};
 use wenc_parts::ComponentSection;
 use wenc_sections::Counted;

@@ -1,11 +1,11 @@
 //! Trees of instances: their bytes, and each request for memory refused in turn.
 
-use crate::checks::{is_text, is_well};
+use crate::checks::is_text;
 use crate::instances::LONG_CORE;
 use crate::named::Name;
 use std::alloc::Global;
 use std::process::Abort;
-use sweeping::{LARGE, NAME, ok, sweep_encode};
+use sweeping::{LARGE, NAME, is_well, ok, sweep_encode};
 use wenc_base::{Delimited, ExportKind};
 use wenc_parts::{ComponentExportKind, ModuleArg, NameTree};
 use wenc_sections::{CoreInstanceTree, InstanceTree};

@@ -1,12 +1,12 @@
 //! Sweeps of what lends itself to the encoders of types.
 
-use crate::checks::{counts, is_well, yes};
+use crate::checks::{counts, yes};
 use crate::lending::{Lending, Makes, TypeKind, is, state};
 use refusing::Refusing;
 use std::alloc::Global;
 use std::process::Abort;
 use sweeping::members::{Adds, Members, is_as, started, sweep_add, sweep_clones};
-use sweeping::{REFUSED, ok};
+use sweeping::{REFUSED, is_well, ok};
 use wenc_base::Fault;
 use wenc_sections::Counted;
 

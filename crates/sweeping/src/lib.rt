@@ -38,6 +38,11 @@ pub fn ok<T, E>(rt: &impl Abort, outcome: Result<T, E>) -> T {
     }
 }
 
+/// The sweep found all as it should be.
+pub fn is_well(rt: &impl Abort, swept: Result<bool, Fault>) {
+    assert!(rt; ok(rt, swept));
+}
+
 /// A call that appends to a sink.
 pub trait Appends {
     fn append<A: Allocator>(&self, sink: &mut Vec<u8, A>) -> Result<(), Fault>;

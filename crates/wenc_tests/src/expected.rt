@@ -1,6 +1,6 @@
 use crate::streams::{Sink, Source};
-use std::alloc::AllocError;
 use std::process::Abort;
+use sweeping::ok;
 use wenc::run;
 
 /// Runs the program with arguments on an input, and compares what comes out.
@@ -46,8 +46,7 @@ pub fn expect_listing<R: Abort + AllocGlobal>(
     status: u8,
     out_text: &[u8],
     err_text: &[u8],
-) -> Result<(), AllocError> {
-    let args = [String::from_str(rt.alloc(), "list")?];
+) {
+    let args = [ok(rt, String::from_str(rt.alloc(), "list"))];
     expect_run(rt, "a listing", &args, text, status, out_text, err_text);
-    Ok(())
 }

@@ -2,12 +2,11 @@
 
 use crate::accepted_text;
 use crate::expected::expect;
-use std::alloc::AllocError;
 use std::process::Abort;
-use std::test::Fail;
+use sweeping::ok;
 
 /// One line of each word but `start`, which takes any number of arguments. The numbers 9 and 8 are indices, 1 is a flag.
-const LINES: [&str; 43] = [
+const LINES: &[&str] = &[
     "import f func 9",
     "export f func 9",
     "alias-export 9 func f",
@@ -54,36 +53,34 @@ const LINES: [&str; 43] = [
 ];
 
 /// What a number is replaced by, with the space in front: it is past its range.
-const OTHERS: [(&str, &str); 3] = [(" 9", " 4294967296"), (" 8", " 4294967296"), (" 1", " 2")];
+const OTHERS: &[(&str, &str)] = &[(" 9", " 4294967296"), (" 8", " 4294967296"), (" 1", " 2")];
 
 fn is_bad<R: Abort + AllocGlobal>(rt: &R, line: &str) {
     expect(rt, line, line.as_bytes(), 1, b"", b"line 1\n");
 }
 
 /// The line is good, and none of those made of it is.
-fn check<R: Abort + AllocGlobal>(rt: &R, line: &str) -> Result<(), AllocError> {
+fn check<R: Abort + AllocGlobal>(rt: &R, line: &str) {
     assert!(rt;
         accepted_text(rt.alloc(), line.as_bytes()).is_some(),
         "{line}"
     );
-    let longer = format!(in rt.alloc(); "{line} 9")?;
+    let longer = ok(rt, format!(in rt.alloc(); "{line} 9"));
     is_bad(rt, longer.as_str());
     if let Some((shorter, _)) = line.rsplit_once(' ') {
         is_bad(rt, shorter);
     }
     for (number, other) in OTHERS {
-        let changed = line.replace(rt.alloc(), number, other)?;
+        let changed = ok(rt, line.replace(rt.alloc(), number, other));
         if changed.as_str() != line {
             is_bad(rt, changed.as_str());
         }
     }
-    Ok(())
 }
 
 #[test]
-fn each_word(rt: HostRuntime) -> Result<(), Fail> {
+fn each_word(rt: HostRuntime) {
     for line in LINES {
-        check(&rt, line)?;
+        check(&rt, line);
     }
-    Ok(())
 }

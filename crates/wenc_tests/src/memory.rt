@@ -4,7 +4,7 @@ use crate::streams::{Sink, Source};
 use refusing::Refusing;
 use std::alloc::{AllocError, Global};
 use std::process::Abort;
-use std::test::Fail;
+use sweeping::ok;
 use wasm_encoder::Fault;
 use wenc::failure::Failure;
 use wenc::program::{report, run_with_allocators};
@@ -128,8 +128,8 @@ fn a_report_of_a_fault_takes_no_memory(rt: HostRuntime) {
 }
 
 /// Each growth of a listing of this text is refused, and then none: that is the outcome. At least so many were.
-fn swept<R: Abort + AllocGlobal>(rt: &R, text: &[u8], least: u8) -> Result<Outcome, AllocError> {
-    let args = [String::from_str(rt.alloc(), "list")?];
+fn swept<R: Abort + AllocGlobal>(rt: &R, text: &[u8], least: u8) -> Outcome {
+    let args = [ok(rt, String::from_str(rt.alloc(), "list"))];
     let heap = Refusing::new(rt.alloc());
     let mut faults = 0u8;
     for n in 1..200u64 {
@@ -137,7 +137,7 @@ fn swept<R: Abort + AllocGlobal>(rt: &R, text: &[u8], least: u8) -> Result<Outco
         let outcome = run_args(&heap, rt.alloc(), &args, text);
         if !heap.was_refused() {
             assert!(rt; faults >= least);
-            return Ok(outcome);
+            return outcome;
         }
         assert!(rt; outcome.is_unlisted(), "growth {n}");
         faults = faults.saturating_add(1);
@@ -146,27 +146,25 @@ fn swept<R: Abort + AllocGlobal>(rt: &R, text: &[u8], least: u8) -> Result<Outco
 }
 
 #[test]
-fn each_growth_of_a_listing_is_refused(rt: HostRuntime) -> Result<(), Fail> {
+fn each_growth_of_a_listing_is_refused(rt: HostRuntime) {
     // The text, its bytes, the sections, and for each its items and a name; and what is printed.
     let text = b"0061736d0d0001000a060100016601000b0701000167010000";
     let printed = b"10 1\n11 1\n0 0 0 0 0 0 0 0 2 0 0 0 0\n";
-    assert!(rt; swept(&rt, text, 8)?.is_printed(0, printed));
+    assert!(rt; swept(&rt, text, 8).is_printed(0, printed));
     // The text, its bytes and the report.
-    let outcome = swept(&rt, b"0061736d0d000100060501", 3)?;
+    let outcome = swept(&rt, b"0061736d0d000100060501", 3);
     assert!(rt; outcome.is_reported(3, b"BadSection at 8\n"));
     // The text. The report of a bad one takes no memory.
-    let outcome = swept(&rt, b"0", 1)?;
+    let outcome = swept(&rt, b"0", 1);
     assert!(rt; outcome.is_reported(1, b"line 1\n"));
-    Ok(())
 }
 
 #[test]
-fn nothing_is_listed_without_memory(rt: HostRuntime) -> Result<(), Fail> {
-    let args = [String::from_str(rt.alloc(), "list")?];
+fn nothing_is_listed_without_memory(rt: HostRuntime) {
+    let args = [ok(&rt, String::from_str(rt.alloc(), "list"))];
     let heap = Refusing::new(rt.alloc());
     heap.refuse_all();
     let outcome = run_args(&heap, rt.alloc(), &args, b"0061736d0d000100");
     assert!(rt; outcome.is_unlisted());
     assert_eq!(rt; heap.requests(), 1);
-    Ok(())
 }

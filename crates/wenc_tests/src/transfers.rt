@@ -4,24 +4,50 @@ use crate::streams::{Sink, Source};
 use std::io;
 use std::io::Read;
 use std::process::Abort;
-use std::test::Fail;
+use sweeping::ok;
 use wenc::input::read_all;
 use wenc::output::send;
 use wenc::run;
+
+/// The run ends at the read that fails.
+fn ends_at_read<R: Abort + AllocGlobal>(rt: &R, args: &[String], text: &[u8], failing: usize) {
+    let mut input = Source::new(text);
+    input.step = 1;
+    input.failing = failing;
+    let mut out = Sink::new(rt.alloc());
+    let mut err = Sink::new(rt.alloc());
+    let answer = run(rt.alloc(), args, &mut input, &mut out, &mut err);
+    assert_eq!(rt; answer, 4);
+    assert_eq!(rt; input.calls, failing);
+    assert_eq!(rt; out.calls, 0);
+    assert_eq!(rt; err.calls, 0);
+}
+
+/// The run ends at the call of its output that fails.
+fn ends_at_write<R: Abort + AllocGlobal>(rt: &R, args: &[String], text: &[u8], failing: usize) {
+    let mut out = Sink::failing_at(rt.alloc(), failing);
+    let mut err = Sink::new(rt.alloc());
+    let answer = run(rt.alloc(), args, &mut Source::new(text), &mut out, &mut err);
+    assert_eq!(rt; answer, 4);
+    assert_eq!(rt; out.calls, failing);
+    assert_eq!(rt; err.calls, 0);
+}
+
+/// The run ends at the call of its standard error that fails.
+fn ends_at_report<R: Abort + AllocGlobal>(rt: &R, args: &[String], text: &[u8], failing: usize) {
+    let mut out = Sink::new(rt.alloc());
+    let mut err = Sink::failing_at(rt.alloc(), failing);
+    let answer = run(rt.alloc(), args, &mut Source::new(text), &mut out, &mut err);
+    assert_eq!(rt; answer, 4);
+    assert_eq!(rt; err.calls, failing);
+    assert_eq!(rt; out.calls, 0);
+}
 
 // Sixteen reads of one byte, and one that finds the end.
 #[test]
 fn a_read_fails(rt: HostRuntime) {
     for failing in 1..18 {
-        let mut input = Source::new(b"import f func 0\n");
-        input.step = 1;
-        input.failing = failing;
-        let mut out = Sink::new(rt.alloc());
-        let mut err = Sink::new(rt.alloc());
-        assert_eq!(rt; run(rt.alloc(), &[], &mut input, &mut out, &mut err), 4);
-        assert_eq!(rt; input.calls, failing);
-        assert_eq!(rt; out.calls, 0);
-        assert_eq!(rt; err.calls, 0);
+        ends_at_read(&rt, &[], b"import f func 0\n", failing);
     }
 }
 
@@ -72,9 +98,8 @@ fn the_end_never_comes(rt: HostRuntime) {
 }
 
 #[test]
-fn the_end_of_a_listing_never_comes(rt: HostRuntime) -> Result<(), Fail> {
-    never_ends(&rt, &[String::from_str(rt.alloc(), "list")?]);
-    Ok(())
+fn the_end_of_a_listing_never_comes(rt: HostRuntime) {
+    never_ends(&rt, &[ok(&rt, String::from_str(rt.alloc(), "list"))]);
 }
 
 #[test]
@@ -91,12 +116,7 @@ fn a_write_fails(rt: HostRuntime) {
     assert_eq!(rt; sink.calls, 1);
     // "line 1" takes seven writes and a flush.
     for failing in 1..9 {
-        let mut out = Sink::new(rt.alloc());
-        let mut err = Sink::failing_at(rt.alloc(), failing);
-        let answer = run(rt.alloc(), &[], &mut Source::new(b"x"), &mut out, &mut err);
-        assert_eq!(rt; answer, 4);
-        assert_eq!(rt; err.calls, failing);
-        assert_eq!(rt; out.calls, 0);
+        ends_at_report(&rt, &[], b"x", failing);
     }
 }
 
@@ -104,64 +124,37 @@ fn a_write_fails(rt: HostRuntime) {
 fn a_write_of_the_bytes_fails(rt: HostRuntime) {
     // Sixteen digits, the end of the line, and a flush.
     for failing in 1..19 {
-        let mut out = Sink::failing_at(rt.alloc(), failing);
-        let mut err = Sink::new(rt.alloc());
-        let answer = run(rt.alloc(), &[], &mut Source::new(b""), &mut out, &mut err);
-        assert_eq!(rt; answer, 4);
-        assert_eq!(rt; out.calls, failing);
-        assert_eq!(rt; err.calls, 0);
+        ends_at_write(&rt, &[], b"", failing);
     }
 }
 
 // Sixteen reads of one byte, and one that finds the end.
 #[test]
-fn a_read_of_a_listing_fails(rt: HostRuntime) -> Result<(), Fail> {
-    let args = [String::from_str(rt.alloc(), "list")?];
+fn a_read_of_a_listing_fails(rt: HostRuntime) {
+    let args = [ok(&rt, String::from_str(rt.alloc(), "list"))];
     for failing in 1..18 {
-        let mut input = Source::new(b"0061736d0d000100");
-        input.step = 1;
-        input.failing = failing;
-        let mut out = Sink::new(rt.alloc());
-        let mut err = Sink::new(rt.alloc());
-        let answer = run(rt.alloc(), &args, &mut input, &mut out, &mut err);
-        assert_eq!(rt; answer, 4);
-        assert_eq!(rt; input.calls, failing);
-        assert_eq!(rt; out.calls, 0);
-        assert_eq!(rt; err.calls, 0);
+        ends_at_read(&rt, &args, b"0061736d0d000100", failing);
     }
-    Ok(())
 }
 
 // Thirteen counts of one digit with the spaces and the end of the line, and a flush.
 #[test]
-fn a_write_of_a_listing_fails(rt: HostRuntime) -> Result<(), Fail> {
-    let args = [String::from_str(rt.alloc(), "list")?];
+fn a_write_of_a_listing_fails(rt: HostRuntime) {
+    let args = [ok(&rt, String::from_str(rt.alloc(), "list"))];
     for failing in 1..28 {
-        let mut input = Source::new(b"0061736d0d000100");
-        let mut out = Sink::failing_at(rt.alloc(), failing);
-        let mut err = Sink::new(rt.alloc());
-        let answer = run(rt.alloc(), &args, &mut input, &mut out, &mut err);
-        assert_eq!(rt; answer, 4);
-        assert_eq!(rt; out.calls, failing);
-        assert_eq!(rt; err.calls, 0);
+        ends_at_write(&rt, &args, b"0061736d0d000100", failing);
     }
-    Ok(())
 }
 
-// A text, and how many calls its report takes: its bytes, and a flush.
+/// A text, and how many calls its report takes: its bytes, and a flush.
+const REPORTS: &[(&[u8], usize)] = &[(b"", 20), (b"x", 8)];
+
 #[test]
-fn a_report_of_a_listing_fails(rt: HostRuntime) -> Result<(), Fail> {
-    let args = [String::from_str(rt.alloc(), "list")?];
-    for (text, calls) in [(b"".as_slice(), 20), (b"x".as_slice(), 8)] {
-        for failing in 1..calls + 1 {
-            let mut input = Source::new(text);
-            let mut out = Sink::new(rt.alloc());
-            let mut err = Sink::failing_at(rt.alloc(), failing);
-            let answer = run(rt.alloc(), &args, &mut input, &mut out, &mut err);
-            assert_eq!(rt; answer, 4);
-            assert_eq!(rt; err.calls, failing);
-            assert_eq!(rt; out.calls, 0);
+fn a_report_of_a_listing_fails(rt: HostRuntime) {
+    let args = [ok(&rt, String::from_str(rt.alloc(), "list"))];
+    for (text, calls) in REPORTS {
+        for failing in 1..*calls + 1 {
+            ends_at_report(&rt, &args, text, failing);
         }
     }
-    Ok(())
 }

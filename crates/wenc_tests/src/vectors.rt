@@ -36,26 +36,26 @@ fn replay<R: Abort + AllocGlobal>(rt: &R, vectors: &[Vector]) {
 
 #[test]
 fn bad_scripts_are_refused(rt: HostRuntime) {
-    replay(&rt, &bad::VECTORS);
+    replay(&rt, bad::VECTORS);
 }
 
 #[test]
 fn scripts_at_limits_are_built(rt: HostRuntime) {
-    replay(&rt, &edges::VECTORS);
+    replay(&rt, edges::VECTORS);
 }
 
 #[test]
 fn short_scripts_are_built(rt: HostRuntime) {
-    replay(&rt, &short::VECTORS);
+    replay(&rt, short::VECTORS);
 }
 
 #[test]
 fn long_scripts_are_built(rt: HostRuntime) {
-    replay(&rt, &long::VECTORS);
+    replay(&rt, long::VECTORS);
 }
 
 #[test]
 fn scripts_of_all_words_are_built(rt: HostRuntime) {
-    replay(&rt, &words::VECTORS);
-    replay(&rt, &long_words::VECTORS);
+    replay(&rt, words::VECTORS);
+    replay(&rt, long_words::VECTORS);
 }

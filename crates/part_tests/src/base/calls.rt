@@ -23,6 +23,10 @@ pub fn copy(holder: &Holder) -> Result<Holder, Fault> {
     Ok(holder.clone()?)
 }
 
+pub fn discard(holder: &mut Holder) -> bool {
+    holder.discard_unfinished()
+}
+
 pub fn open(holder: &mut Holder, lead: &[u8]) -> Result<(), Fault> {
     holder.open(lead)
 }

@@ -1,7 +1,9 @@
 ghost use Rattle.std.specs.Prelude.{◌≡◌, ◌∷◌, [], IfOk};
 ghost use Rattle.wenc_base.specs.Holder.{holding};
 
-use crate::base::calls::{add, add_encoded, add_listed, append, append_encoded, close, copy, open};
+use crate::base::calls::{
+    add, add_encoded, add_listed, append, append_encoded, close, copy, discard, open,
+};
 use crate::base::holder::{check_holder, encode_section, has};
 use crate::base::values::{
     LARGE, OPEN, Outcome, answers, are, behind, check_refusal, check_refused,
@@ -188,7 +190,7 @@ fn unfinished_clones(rt: HostRuntime) {
     let mut begun = ok(&rt, copy(&holder));
     check_unfinished(&rt, alloc, &opened, 2, &[0xaa, 1], true);
     check_unfinished(&rt, alloc, &begun, 2, &[0xaa, 1, 2], false);
-    assert!(rt; begun.discard_unfinished());
+    assert!(rt; discard(&mut begun));
     check_one(&rt, alloc, &begun);
     check_unfinished(&rt, alloc, &holder, 2, &[0xaa, 1, 2], false);
 }
@@ -198,9 +200,9 @@ fn discarded(rt: HostRuntime) {
     let alloc = rt.alloc();
     let mut holder = with_a_member(&rt, alloc);
     ok(&rt, open(&mut holder, &[1, 2]));
-    assert!(rt; holder.discard_unfinished());
+    assert!(rt; discard(&mut holder));
     check_one(&rt, alloc, &holder);
-    assert!(rt; !holder.discard_unfinished());
+    assert!(rt; !discard(&mut holder));
     check_one(&rt, alloc, &holder);
     ok(&rt, add(&mut holder, &[0xbb]));
     let section = [0x03, 0x02, 0xaa, 0xbb].as_slice();
@@ -212,10 +214,10 @@ fn discarded_behind_the_lead(rt: HostRuntime) {
     let mut holder = ok(&rt, over_four_bytes(rt.alloc()));
     ok(&rt, open(&mut holder, &[1]));
     ok(&rt, append(&mut holder, &[2, 3]));
-    assert!(rt; holder.discard_unfinished());
+    assert!(rt; discard(&mut holder));
     let section = [0x03, 0x01, 0x03, 0x00].as_slice();
     check_holder(&rt, rt.alloc(), &holder, 1, &[0x03, 0x00], section);
-    assert!(rt; !holder.discard_unfinished());
+    assert!(rt; !discard(&mut holder));
     check_parts(&rt, holder, &[0xaa, 0xbb, 0x03, 0x00], (2, 1, true));
 }
 

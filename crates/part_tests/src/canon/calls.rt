@@ -1,14 +1,14 @@
 //! The calls that add a canonical function, as values.
 
 use crate::canon::functions::Functions;
-use refusing::Refusing;
+use std::alloc::Allocator;
 use sweeping::members::Adds;
 use wenc_base::{Fault, ValType};
 use wenc_canon::{CanonicalFunctionSection, CanonicalOption};
 use wenc_parts::ComponentValType;
 
-fn lift(
-    to: &mut CanonicalFunctionSection<&Refusing>,
+fn lift<A: Allocator>(
+    to: &mut CanonicalFunctionSection<A>,
     function: u32,
     ty: u32,
     options: &[CanonicalOption],
@@ -16,63 +16,63 @@ fn lift(
     to.lift(function, ty, options.iter().copied())
 }
 
-fn lower(
-    to: &mut CanonicalFunctionSection<&Refusing>,
+fn lower<A: Allocator>(
+    to: &mut CanonicalFunctionSection<A>,
     function: u32,
     options: &[CanonicalOption],
 ) -> Result<(), Fault> {
     to.lower(function, options.iter().copied())
 }
 
-fn task_return(
-    to: &mut CanonicalFunctionSection<&Refusing>,
+fn task_return<A: Allocator>(
+    to: &mut CanonicalFunctionSection<A>,
     ty: Option<ComponentValType>,
     options: &[CanonicalOption],
 ) -> Result<(), Fault> {
     to.task_return(ty, options.iter().copied())
 }
 
-fn stream_read(
-    to: &mut CanonicalFunctionSection<&Refusing>,
+fn stream_read<A: Allocator>(
+    to: &mut CanonicalFunctionSection<A>,
     ty: u32,
     options: &[CanonicalOption],
 ) -> Result<(), Fault> {
     to.stream_read(ty, options.iter().copied())
 }
 
-fn stream_write(
-    to: &mut CanonicalFunctionSection<&Refusing>,
+fn stream_write<A: Allocator>(
+    to: &mut CanonicalFunctionSection<A>,
     ty: u32,
     options: &[CanonicalOption],
 ) -> Result<(), Fault> {
     to.stream_write(ty, options.iter().copied())
 }
 
-fn future_read(
-    to: &mut CanonicalFunctionSection<&Refusing>,
+fn future_read<A: Allocator>(
+    to: &mut CanonicalFunctionSection<A>,
     ty: u32,
     options: &[CanonicalOption],
 ) -> Result<(), Fault> {
     to.future_read(ty, options.iter().copied())
 }
 
-fn future_write(
-    to: &mut CanonicalFunctionSection<&Refusing>,
+fn future_write<A: Allocator>(
+    to: &mut CanonicalFunctionSection<A>,
     ty: u32,
     options: &[CanonicalOption],
 ) -> Result<(), Fault> {
     to.future_write(ty, options.iter().copied())
 }
 
-fn error_context_new(
-    to: &mut CanonicalFunctionSection<&Refusing>,
+fn error_context_new<A: Allocator>(
+    to: &mut CanonicalFunctionSection<A>,
     options: &[CanonicalOption],
 ) -> Result<(), Fault> {
     to.error_context_new(options.iter().copied())
 }
 
-fn error_context_debug_message(
-    to: &mut CanonicalFunctionSection<&Refusing>,
+fn error_context_debug_message<A: Allocator>(
+    to: &mut CanonicalFunctionSection<A>,
     options: &[CanonicalOption],
 ) -> Result<(), Fault> {
     to.error_context_debug_message(options.iter().copied())

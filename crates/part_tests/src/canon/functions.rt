@@ -1,10 +1,9 @@
 //! Sections of canonical functions whose requests for memory can be refused.
 
-use crate::swept::is_well;
 use refusing::Refusing;
 use std::alloc::Global;
 use sweeping::members::{Members, sweep_clones};
-use sweeping::{LARGE, ok, sweep_section};
+use sweeping::{LARGE, is_well, ok, sweep_section};
 use wenc_base::{Encode, Fault};
 use wenc_canon::{CanonicalFunctionSection, CanonicalOption};
 use wenc_parts::ComponentSection;

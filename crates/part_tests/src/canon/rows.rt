@@ -2,13 +2,12 @@
 
 use crate::canon::calls::{Call, Function, Future, Stream, Task, Thread, Waitable};
 use crate::canon::functions::{Functions, LONG};
-use crate::swept::is_well;
 use refusing::Refusing;
 use std::alloc::Global;
 use std::process::Abort;
 use sweeping::hexed::text;
 use sweeping::members::{Adds, Members, sweep_calls};
-use sweeping::{LARGE, ok};
+use sweeping::{LARGE, is_well, ok};
 use wenc_base::ValType;
 use wenc_canon::CanonicalOption;
 use wenc_parts::{ComponentValType, PrimitiveValType};

@@ -88,13 +88,17 @@ fn kept<'a>(tree: NameTree) -> ComponentExternName<'a> {
     }
 }
 
+/// The tree's name appends this.
+fn tree_is<A: Allocator>(rt: &impl Abort, alloc: Global, tree: NameTree<A>, wanted: &str) {
+    text_is(rt, alloc, &tree.as_name(), wanted);
+}
+
 // In an allocator that isn't the sink's.
 #[test]
 fn trees(rt: HostRuntime) {
     let alloc = rt.alloc();
     for (name, options, wanted) in ROWS {
-        let tree = tree(&rt, &alloc, name, *options);
-        text_is(&rt, alloc, &tree.as_name(), wanted);
+        tree_is(&rt, alloc, tree(&rt, &alloc, name, *options), wanted);
     }
 }
 
@@ -141,7 +145,10 @@ fn with_two_options<'a>(rt: &impl Abort, alloc: Global) -> ComponentExternName<'
     }
 }
 
-fn copy<'a>(name: &ComponentExternName<'a>) -> Result<ComponentExternName<'a>, Fault> {
+/// The call by itself: what a test does with the answer then rests on nothing that the call promises.
+pub fn copy<'a, A: Allocator + Clone>(
+    name: &ComponentExternName<'a, A>,
+) -> Result<ComponentExternName<'a, A>, Fault> {
     name.clone()
 }
 

@@ -1,8 +1,8 @@
-use crate::swept::{check, check_call, is_well};
+use crate::swept::{check, check_call};
 use refusing::Refusing;
 use std::alloc::{Allocator, Global};
 use sweeping::members::{Adds, Members, sweep_calls, sweep_clones};
-use sweeping::{Appends, LARGE, TEXT, ok};
+use sweeping::{Appends, LARGE, TEXT, is_well, ok};
 use wenc_base::{Encode, Fault, Holder, Verbatim};
 
 /// A holder of whole members.
@@ -49,27 +49,25 @@ enum Member {
     KeptInFront,
 }
 
-type Swept<'a> = Holder<&'a Refusing>;
-
-fn add_text(holder: &mut Swept) -> Result<(), Fault> {
+fn add_text<A: Allocator>(holder: &mut Holder<A>) -> Result<(), Fault> {
     holder.add(TEXT)
 }
 
-fn add_encoded(holder: &mut Swept) -> Result<(), Fault> {
+fn add_encoded<A: Allocator>(holder: &mut Holder<A>) -> Result<(), Fault> {
     holder.add_encoded(&(LARGE, TEXT))
 }
 
 const LISTED: &[u32] = &[7, LARGE, 8];
 
-fn add_listed(holder: &mut Swept) -> Result<(), Fault> {
+fn add_listed<A: Allocator>(holder: &mut Holder<A>) -> Result<(), Fault> {
     holder.add_listed(&LARGE, LISTED.iter().copied(), &TEXT)
 }
 
-pub fn open(holder: &mut Swept) -> Result<(), Fault> {
+pub fn open<A: Allocator>(holder: &mut Holder<A>) -> Result<(), Fault> {
     holder.open(TEXT)
 }
 
-fn keep_in_front(holder: &mut Swept) -> Result<(), Fault> {
+fn keep_in_front<A: Allocator>(holder: &mut Holder<A>) -> Result<(), Fault> {
     holder.keep_all(&Verbatim(TEXT))?;
     Ok(())
 }

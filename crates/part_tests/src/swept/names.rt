@@ -1,8 +1,8 @@
-use crate::swept::{bytes, check, is_well};
+use crate::swept::{bytes, check};
 use refusing::Refusing;
 use std::alloc::Global;
 use sweeping::members::{Adds, Members, sweep_calls, sweep_clones};
-use sweeping::{LARGE, NAME, ok};
+use sweeping::{LARGE, NAME, is_well, ok};
 use wenc_base::{Fault, Lent, NameMap};
 
 /// Names of items.

@@ -1,10 +1,9 @@
 use crate::swept::holders::{Whole, open, seen};
-use crate::swept::is_well;
 use refusing::Refusing;
-use std::alloc::Global;
+use std::alloc::{Allocator, Global};
 use std::process::Abort;
 use sweeping::members::{Adds, Members, started, sweep_calls, sweep_clones};
-use sweeping::{LARGE, TEXT, ok};
+use sweeping::{LARGE, TEXT, is_well, ok};
 use wenc_base::{Fault, Holder};
 
 /// A holder in which a member is being written, which at first has no bytes.
@@ -44,18 +43,16 @@ enum Piece {
     Last,
 }
 
-type Swept<'a> = Holder<&'a Refusing>;
-
 // Each of these calls asks for a holder that is unfinished.
 
-fn append_text(holder: &mut Swept) -> Result<(), Fault> {
+fn append_text<A: Allocator>(holder: &mut Holder<A>) -> Result<(), Fault> {
     if holder.is_finished() {
         return Err(Fault::TooLarge);
     }
     holder.append(TEXT)
 }
 
-fn append_encoded(holder: &mut Swept) -> Result<(), Fault> {
+fn append_encoded<A: Allocator>(holder: &mut Holder<A>) -> Result<(), Fault> {
     if holder.is_finished() {
         return Err(Fault::TooLarge);
     }
@@ -64,14 +61,14 @@ fn append_encoded(holder: &mut Swept) -> Result<(), Fault> {
 
 const LISTED: &[u32] = &[LARGE, LARGE];
 
-fn append_listed(holder: &mut Swept) -> Result<(), Fault> {
+fn append_listed<A: Allocator>(holder: &mut Holder<A>) -> Result<(), Fault> {
     if holder.is_finished() {
         return Err(Fault::TooLarge);
     }
     holder.append_listed(TEXT, LISTED.iter().copied())
 }
 
-fn close(holder: &mut Swept) -> Result<(), Fault> {
+fn close<A: Allocator>(holder: &mut Holder<A>) -> Result<(), Fault> {
     if holder.is_finished() {
         return Err(Fault::TooLarge);
     }
@@ -99,7 +96,7 @@ fn pieces_and_copies(rt: HostRuntime) {
 }
 
 // Eight bytes fill the first growth, so that one byte more would take memory.
-fn empty_lead(rt: &impl Abort, holder: &mut Swept, count: u32) {
+fn empty_lead<A: Allocator>(rt: &impl Abort, holder: &mut Holder<A>, count: u32) {
     ok(rt, holder.open(&[]));
     let was_opened = holder.is_opened();
     holder.finish_member();
@@ -115,7 +112,7 @@ fn check_empty_lead(rt: &impl Abort, alloc: Global, count: u32) {
     assert!(rt; heap.requests() == 0);
 }
 
-fn begin(rt: &impl Abort, holder: &mut Swept) {
+fn begin<A: Allocator>(rt: &impl Abort, holder: &mut Holder<A>) {
     ok(rt, open(holder));
     ok(rt, append_text(holder));
 }

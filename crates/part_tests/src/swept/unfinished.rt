@@ -34,6 +34,10 @@ impl ComponentSection for Begun {
     }
 }
 
+fn encode<T: Encode, A: Allocator>(value: &T, sink: &mut Vec<u8, A>) -> Result<(), Fault> {
+    value.encode(sink)
+}
+
 /// The value is refused for this.
 fn is_refused<T: Encode, A: Allocator>(
     rt: &impl Abort,
@@ -41,7 +45,7 @@ fn is_refused<T: Encode, A: Allocator>(
     value: &T,
     wanted: Fault,
 ) {
-    assert!(rt; value.encode(sink) == Err(wanted));
+    assert!(rt; encode(value, sink) == Err(wanted));
 }
 
 fn are_unfinished(rt: &impl Abort, heap: &Refusing) {

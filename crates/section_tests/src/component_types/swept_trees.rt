@@ -1,10 +1,9 @@
 //! Sweeps of the trees of types.
 
-use crate::checks::is_well;
 use crate::component_types::checks::{LAST, STRING};
 use std::alloc::Global;
 use std::process::Abort;
-use sweeping::{LARGE, NAME, ok, sweep_each, sweep_encode};
+use sweeping::{LARGE, NAME, is_well, ok, sweep_each, sweep_encode};
 use wenc_base::ValType;
 use wenc_parts::{
     AliasTree, ComponentOuterAliasKind, ComponentTypeRef, ComponentValType, NameTree,

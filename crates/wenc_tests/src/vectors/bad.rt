@@ -2,7 +2,7 @@
 
 use super::Vector;
 
-pub const VECTORS: [Vector; 28] = [
+pub const VECTORS: &[Vector] = &[
     Vector {
         name: "bad-01",
         script: b"import f func",

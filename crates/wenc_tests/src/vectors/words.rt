@@ -2,7 +2,7 @@
 
 use super::Vector;
 
-pub const VECTORS: [Vector; 17] = [
+pub const VECTORS: &[Vector] = &[
     Vector {
         name: "all 01",
         script: b"append-names\n",
