@@ -1,9 +1,9 @@
 //! Modules, components, starts and custom sections: each is a section of its own, and parts its neighbours.
 
+use crate::accepted::ok;
 use crate::calls::{Item, Lent};
 use crate::checks::{Row, row, rows};
 use crate::imports::{FUNCTION, OUTER_TYPE};
-use sweeping::ok;
 use wasm_encoder::{
     ComponentExportKind, ComponentTypeRef, ComponentValType, CustomSection, Fault, Module,
     PrimitiveValType,

@@ -1,9 +1,9 @@
+use crate::accepted::ok;
 use crate::importing::importing;
 use crate::passed_on;
 use crate::wrapping::wrapped;
 use std::alloc::Global;
 use std::process::Abort;
-use sweeping::ok;
 use wasm_encoder::Fault;
 
 const PASSED_ON: &str = "0061736d0d0001000a060100016601000b0701000167010000";

@@ -1,9 +1,9 @@
 //! What a builder's component is to be.
 
+use crate::accepted::ok;
 use crate::calls::NAME;
 use std::alloc::{Allocator, Global};
 use std::process::Abort;
-use sweeping::ok;
 use wasm_encoder::{ComponentBuilder, Fault};
 
 /// The bytes in front of the first section.

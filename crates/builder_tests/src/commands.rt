@@ -1,10 +1,10 @@
 //! Each command: worked components that `build` makes of commands.
 
+use crate::accepted::ok;
 use crate::checks::HEADER;
 use crate::heap::{alias, export_alias, list, module, name, outer_type, text};
 use std::alloc::Global;
 use std::process::Abort;
-use sweeping::ok;
 use wasm_encoder::{
     AliasTree, CanonTree, CanonicalOption, CaseTree, Command, ComponentDecl, ComponentExportKind,
     ComponentOuterAliasKind, ComponentTypeRef, ComponentValType, CompositeType, CoreInstanceTree,

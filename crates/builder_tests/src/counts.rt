@@ -1,10 +1,10 @@
 //! Every kind of item has its own space, and its own count.
 
+use crate::accepted::ok;
 use crate::calls::{Item, Listed};
 use crate::checks::{Call, counts};
 use std::alloc::Global;
 use std::process::Abort;
-use sweeping::ok;
 use wasm_encoder::{
     Alias, ComponentBuilder, ComponentOuterAliasKind, ComponentTypeRef, ComponentValType,
     ExportKind, TypeBounds,

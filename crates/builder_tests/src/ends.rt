@@ -1,8 +1,8 @@
 //! The ends: long names and modules, and types deep inside one another.
 
+use crate::accepted::ok;
 use std::alloc::Global;
 use std::process::Abort;
-use sweeping::ok;
 use wasm_encoder::{Command, InstanceDecl, TypeTree, build};
 use wenc_builder::ComponentBuilder;
 use wenc_parts::ComponentTypeRef;

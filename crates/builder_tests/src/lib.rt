@@ -26,6 +26,8 @@ pub fn passed_on<A: Allocator + Copy>(alloc: A) -> Result<Vec<u8, A>, Fault>
 }
 
 #[cfg(test)]
+mod accepted;
+#[cfg(test)]
 mod alone;
 #[cfg(test)]
 mod callers;

@@ -1,11 +1,11 @@
 //! Nested components, by the builder that is given up and by the one that is lent.
 
+use crate::accepted::ok;
 use crate::calls::{Inner, Item, Lent};
 use crate::checks::{Row, finishes, row, rows};
 use crate::imports::FUNCTION;
 use std::alloc::Global;
 use std::process::Abort;
-use sweeping::ok;
 use wasm_encoder::{ComponentBuilder, Fault};
 
 const ROWS: &[Row<'static, Item<'static>>] = &[

@@ -1,12 +1,12 @@
 //! Types, by the calls that answer an encoder and by those that take a whole type.
 
+use crate::accepted::ok;
 use crate::calls::{Inner, Item, NAME};
 use crate::checks::{Answer, answers, finishes, row};
 use crate::imports::FUNCTION;
 use crate::written::{AnyType, CoreType, STRING, Typed};
 use std::alloc::Global;
 use std::process::Abort;
-use sweeping::ok;
 use wasm_encoder::{
     ComponentBuilder, ComponentType, ComponentTypeRef, CompositeType, Fault, FuncType,
     InstanceType, ModuleType, SubType, TypeBounds,

@@ -1,9 +1,9 @@
 //! What `build` makes of the commands of scripts.
 
+use crate::accepted::ok;
 use crate::built::items::{are_of, items};
 use crate::checks::read_again;
 use std::process::Abort;
-use sweeping::ok;
 use wasm_encoder::{Built, Command, Fault, build};
 use wenc::script::parse;
 use wenc_builder::Space;

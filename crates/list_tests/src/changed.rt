@@ -1,11 +1,11 @@
 //! Components that are cut, or have a byte changed: no such bytes are too bad to be answered, and what is listed of them
 //! can be encoded and listed again.
 
+use crate::accepted::ok;
 use crate::checks::{component, encoded, read_again};
 use crate::rows::{EACH_KIND, ROWS, Row};
 use std::alloc::{AllocError, Global};
 use std::process::Abort;
-use sweeping::ok;
 use wenc_list::{ListFault, Listing, list};
 
 /// Where the section begins that has the byte at this place; 0 of the header.

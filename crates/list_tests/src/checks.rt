@@ -1,8 +1,8 @@
 //! A component by its sections in hexadecimal, and what was listed as bytes again.
 
+use crate::accepted::ok;
 use std::alloc::{Allocator, Global};
 use std::process::Abort;
-use sweeping::ok;
 use wasm_encoder::{Encode, Fault, Verbatim};
 use wenc_list::{ItemTree, ListedSection, Listing, list};
 

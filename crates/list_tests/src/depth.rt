@@ -1,9 +1,9 @@
 //! Types of components and instances inside one another.
 
+use crate::accepted::ok;
 use crate::checks::{component, read_again};
 use std::alloc::Global;
 use std::process::Abort;
-use sweeping::ok;
 use wenc_list::{ListFault, list};
 
 /// The front of a section with one type, what stands around another type, how often, and the innermost ones.

@@ -1,9 +1,9 @@
 //! Bytes that are not read, each with its fault.
 
+use crate::accepted::ok;
 use crate::checks::component;
 use std::alloc::Global;
 use std::process::Abort;
-use sweeping::ok;
 use wenc_list::{ListFault, list};
 
 /// Sections whose content is not what their id and size say.

@@ -1,8 +1,8 @@
 //! Worked components, with what is listed of them.
 
+use crate::accepted::ok;
 use crate::checks::{component, encoded};
 use std::process::Abort;
-use sweeping::ok;
 use wenc_list::{ItemTree, Listing, list};
 
 /// What a listing is to be. The bytes are those that an encoder writes.

@@ -1,10 +1,10 @@
 //! Spellings that an encoder does not write, and that are read all the same.
 
+use crate::accepted::ok;
 use crate::checks::{component, read_again};
 use crate::rows::{Row, is_listed};
 use std::alloc::Global;
 use std::process::Abort;
-use sweeping::ok;
 use wenc_list::list;
 
 /// Sections, and the same as an encoder writes them.

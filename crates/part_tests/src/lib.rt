@@ -2,6 +2,8 @@
 #![tactic(auto)]
 
 #[cfg(test)]
+mod accepted;
+#[cfg(test)]
 mod base;
 #[cfg(test)]
 mod canon;

@@ -16,9 +16,10 @@ mod types;
 mod unfinished;
 mod values;
 
+use crate::accepted::is_well;
 use std::alloc::Global;
 use std::process::Abort;
-use sweeping::{Appends, is_well, sweep, sweep_encode};
+use sweeping::{Appends, sweep, sweep_encode};
 use wenc_base::{Encode, Fault};
 
 /// The bytes of a value.

@@ -1,10 +1,10 @@
 //! What the tests compare.
 
+use crate::accepted::ok;
 use refusing::Refusing;
 use std::alloc::Global;
 use std::process::Abort;
 use sweeping::members::{Adds, Members};
-use sweeping::ok;
 use wenc_base::{Encode, Fault, Module, Section};
 use wenc_parts::ComponentSection;
 use wenc_sections::Component;

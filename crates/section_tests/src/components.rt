@@ -1,11 +1,11 @@
 //! Components and modules, section by section.
 
+use crate::accepted::ok;
 use crate::by_hand::by_hand;
 use crate::checks::{are, holds, module_holds, put, put_in};
 use crate::own::{Large, Own};
 use std::alloc::Global;
 use std::process::Abort;
-use sweeping::ok;
 use wenc_base::{Fault, Module, RawCustomSection, Section};
 use wenc_parts::ComponentSection;
 use wenc_sections::{Component, ComponentAliasSection};

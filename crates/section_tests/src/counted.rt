@@ -1,10 +1,11 @@
 //! Sections of items whose requests for memory can be refused.
 
+use crate::accepted::{is_well, ok};
 use refusing::Refusing;
 use std::alloc::Global;
 use std::process::Abort;
 use sweeping::members::{Adds, Members, sweep_calls, sweep_clones};
-use sweeping::{is_well, ok, sweep_section};
+use sweeping::sweep_section;
 use wenc_base::{Encode, Fault};
 use wenc_parts::ComponentSection;
 use wenc_sections::Counted;

@@ -1,9 +1,9 @@
 //! Sections over holders, with bytes that are kept in front.
 
+use crate::accepted::ok;
 use crate::checks::{are, is_text, yes};
 use std::alloc::{AllocError, Global};
 use std::process::Abort;
-use sweeping::ok;
 use wenc_base::{Fault, Holder};
 use wenc_parts::{Alias, ComponentOuterAliasKind};
 use wenc_sections::ComponentAliasSection;

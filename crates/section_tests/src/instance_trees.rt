@@ -1,11 +1,12 @@
 //! Trees of instances: their bytes, and each request for memory refused in turn.
 
+use crate::accepted::{is_well, ok};
 use crate::checks::is_text;
 use crate::instances::LONG_CORE;
 use crate::named::Name;
 use std::alloc::Global;
 use std::process::Abort;
-use sweeping::{LARGE, NAME, is_well, ok, sweep_encode};
+use sweeping::{LARGE, NAME, sweep_encode};
 use wenc_base::{Delimited, ExportKind};
 use wenc_parts::{ComponentExportKind, ModuleArg, NameTree};
 use wenc_sections::{CoreInstanceTree, InstanceTree};

@@ -1,9 +1,10 @@
 //! What lends itself to the encoders of types: sections of types, and types with declarations.
 
+use crate::accepted::ok;
 use crate::checks::yes;
 use std::alloc::{Allocator, Global};
 use std::process::Abort;
-use sweeping::{ok, sweep_section};
+use sweeping::sweep_section;
 use wenc_base::{Encode, Fault};
 use wenc_sections::{Counted, LentKind};
 

@@ -1,9 +1,9 @@
 //! Names, in tables.
 
+use crate::accepted::ok;
 use std::alloc::Global;
 use std::borrow::CowStr;
 use std::process::Abort;
-use sweeping::ok;
 use wenc_parts::{ComponentExternName, NameTree};
 
 /// A name, with its options.

@@ -1,12 +1,13 @@
 //! Sections of names.
 
+use crate::accepted::{is_well, ok};
 use crate::checks::{alone, are, is_text};
 use crate::counted::{Sections, sweep_sections};
 use refusing::Refusing;
 use std::alloc::Global;
 use std::process::Abort;
 use sweeping::members::{Adds, Members, sweep_calls, sweep_clones};
-use sweeping::{LARGE, NAME, TEXT, is_well, ok, sweep_encode, sweep_section};
+use sweeping::{LARGE, NAME, TEXT, sweep_encode, sweep_section};
 use wenc_base::{CustomSection, Encode, Fault, NameMap};
 use wenc_parts::ComponentSection;
 use wenc_sections::{ComponentNameSection, NamesOf, Sort};

@@ -1,10 +1,11 @@
 //! Nested modules and components, and starts.
 
+use crate::accepted::{is_well, ok};
 use crate::checks::{alone, put, put_in};
 use crate::own::Own;
 use std::alloc::Global;
 use std::process::Abort;
-use sweeping::{LARGE, TEXT, is_well, ok, sweep_section};
+use sweeping::{LARGE, TEXT, sweep_section};
 use wenc_base::{CustomSection, Fault, Module, RawCustomSection};
 use wenc_sections::{Component, ComponentStartSection, ModuleSection, NestedComponentSection};
 

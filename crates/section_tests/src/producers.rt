@@ -1,9 +1,9 @@
 //! Sections of producers.
 
+use crate::accepted::ok;
 use crate::checks::{alone, module_holds, put_in};
 use std::alloc::Global;
 use std::process::Abort;
-use sweeping::ok;
 use wenc_base::{Module, ProducersField, ProducersSection};
 
 /// The bytes of a section that says that "sdk" was "a" of version "1".

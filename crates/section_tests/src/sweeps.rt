@@ -3,10 +3,11 @@
 ghost use Rattle.wenc_base.specs.Fault.{text_cause};
 ghost use Rattle.wenc_base.specs.Forms.{name};
 
+use crate::accepted::is_well;
 use refusing::Refusing;
 use std::alloc::{Allocator, Global};
+use sweeping::NAME;
 use sweeping::members::{Adds, Members, sweep_calls, sweep_clones, sweep_new};
-use sweeping::{NAME, is_well};
 use wenc_base::{Encode, Fault, RawCustomSection};
 use wenc_parts::ComponentSection;
 use wenc_sections::Component;

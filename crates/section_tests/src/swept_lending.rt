@@ -1,12 +1,13 @@
 //! Sweeps of what lends itself to the encoders of types.
 
+use crate::accepted::{is_well, ok};
 use crate::checks::{counts, yes};
 use crate::lending::{Lending, Makes, TypeKind, is, state};
 use refusing::Refusing;
 use std::alloc::Global;
 use std::process::Abort;
+use sweeping::REFUSED;
 use sweeping::members::{Adds, Members, is_as, started, sweep_add, sweep_clones};
-use sweeping::{REFUSED, is_well, ok};
 use wenc_base::Fault;
 use wenc_sections::Counted;
 

@@ -1,10 +1,10 @@
 //! What lends itself to the encoders of types, while a type is being written, which is given up.
 
+use crate::accepted::ok;
 use crate::checks::{is_not_encoded, is_refused, put, yes};
 use crate::lending::{Lending, Makes, TypeKind, is, state};
 use std::alloc::Global;
 use std::process::Abort;
-use sweeping::ok;
 use wenc_parts::ComponentSection;
 use wenc_sections::{Component, Counted};
 

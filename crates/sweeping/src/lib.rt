@@ -9,7 +9,6 @@ pub mod members;
 
 use refusing::Refusing;
 use std::alloc::{AllocError, Allocator, Global};
-use std::process::Abort;
 use wenc_base::{Encode, Fault};
 use wenc_parts::ComponentSection;
 
@@ -28,20 +27,6 @@ pub const TEXT: &[u8] = &[
 ];
 
 const START: [u8; 3] = [1, 2, 3];
-
-/// What a call gives that is to be accepted. A test takes this in place of `?`, since each early return drops all that
-/// is alive, which is dear to its proof.
-pub fn ok<T, E>(rt: &impl Abort, outcome: Result<T, E>) -> T {
-    match outcome {
-        Ok(value) => value,
-        Err(_) => panic!(rt; "it is refused"),
-    }
-}
-
-/// The sweep found all as it should be.
-pub fn is_well(rt: &impl Abort, swept: Result<bool, Fault>) {
-    assert!(rt; ok(rt, swept));
-}
 
 /// A call that appends to a sink.
 pub trait Appends {

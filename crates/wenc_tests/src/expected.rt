@@ -1,6 +1,6 @@
+use crate::accepted::ok;
 use crate::streams::{Sink, Source};
 use std::process::Abort;
-use sweeping::ok;
 use wenc::run;
 
 /// Runs the program with arguments on an input, and compares what comes out.

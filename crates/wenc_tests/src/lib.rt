@@ -19,6 +19,8 @@ pub fn accepted_text(alloc: Global, script: &[u8]) -> Option<Vec<u8>>
 }
 
 #[cfg(test)]
+mod accepted;
+#[cfg(test)]
 mod expected;
 #[cfg(test)]
 mod lines;

@@ -1,9 +1,9 @@
 //! The use `list`: what is printed of components, and of texts that say none.
 
+use crate::accepted::ok;
 use crate::expected::{expect_listing, expect_run};
 use std::alloc::Global;
 use std::process::Abort;
-use sweeping::ok;
 
 /// A component, behind its header, and what is printed of it.
 const LISTED: &[(&str, &[u8])] = &[

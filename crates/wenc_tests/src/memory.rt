@@ -1,10 +1,10 @@
 //! Runs that want memory.
 
+use crate::accepted::ok;
 use crate::streams::{Sink, Source};
 use refusing::Refusing;
 use std::alloc::{AllocError, Global};
 use std::process::Abort;
-use sweeping::ok;
 use wasm_encoder::Fault;
 use wenc::failure::Failure;
 use wenc::program::{report, run_with_allocators};

@@ -1,7 +1,7 @@
 //! The pieces of a run, each on its happy path.
 
+use crate::accepted::ok;
 use std::process::Abort;
-use sweeping::ok;
 use wasm_encoder::{AliasTree, Command, ComponentExportKind, Fault};
 use wenc::kind::kind;
 use wenc::number::number;

@@ -1,10 +1,10 @@
 //! Reads and writes that fail: nothing follows them.
 
+use crate::accepted::ok;
 use crate::streams::{Sink, Source};
 use std::io;
 use std::io::Read;
 use std::process::Abort;
-use sweeping::ok;
 use wenc::input::read_all;
 use wenc::output::send;
 use wenc::run;

@@ -1,12 +1,13 @@
 //! Modules, components, starts and custom sections: each is a section of its own.
 
 use super::between::{CORE_MODULE, NAMELESS, Named, ONE, started, sweep_section};
+use crate::accepted::ok;
 use crate::calls::{Inner, Item, Lent, NAME};
 use crate::checks::{Call, finishes};
 use refusing::Refusing;
 use std::alloc::Global;
 use std::process::Abort;
-use sweeping::{LARGE, REFUSED, ok};
+use sweeping::{LARGE, REFUSED};
 use wasm_encoder::{ComponentBuilder, ComponentTypeRef, CustomSection, Module};
 
 const CUSTOM: CustomSection<'static> = CustomSection {

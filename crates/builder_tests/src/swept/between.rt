@@ -1,12 +1,13 @@
 //! Each call of the builder stands between two aliases, which share a section where the call is refused.
 
+use crate::accepted::ok;
 use crate::calls::{Item, NAME};
 use crate::checks::{Call, counts, finishes};
 use crate::imports::{FUNCTION, OUTER_TYPE};
 use refusing::Refusing;
 use std::alloc::Global;
 use std::process::Abort;
-use sweeping::{LARGE, REFUSED, ok};
+use sweeping::{LARGE, REFUSED};
 use wasm_encoder::{
     Alias, ComponentBuilder, ComponentExportKind, ComponentOuterAliasKind, ComponentTypeRef,
     ExportKind,

@@ -1,12 +1,13 @@
 //! The section of debug names.
 
 use super::between::started;
+use crate::accepted::ok;
 use crate::calls::Item;
 use crate::checks::{Call, finishes};
 use refusing::Refusing;
 use std::alloc::Global;
 use std::process::Abort;
-use sweeping::{REFUSED, ok};
+use sweeping::REFUSED;
 
 /// A component with one function, `resource.drop`.
 const WITHOUT: &[u8] = b"\x00asm\x0d\x00\x01\x00\x08\x03\x01\x03\x00";

@@ -1,13 +1,14 @@
 //! Instances, functions with options, and types: what an iterator gives, and what an encoder writes.
 
 use super::between::{CORE_FUNC, FUNC, Named, push, started, sweep_both};
+use crate::accepted::ok;
 use crate::calls::{Item, Listed, NAME};
 use crate::checks::{Call, finishes};
 use crate::written::{AnyType, CoreType, STRING, Typed};
 use refusing::Refusing;
 use std::alloc::{Allocator, Global};
 use std::process::Abort;
-use sweeping::{LARGE, REFUSED, ok};
+use sweeping::{LARGE, REFUSED};
 use wasm_encoder::{
     CanonicalOption, ComponentBuilder, ComponentExportKind, ComponentType, Fault, FuncStage,
     InstanceType,

@@ -1,8 +1,8 @@
 //! Whether the items of a listing are those that commands added.
 
+use crate::accepted::ok;
 use std::alloc::Global;
 use std::process::Abort;
-use sweeping::ok;
 use wasm_encoder::{
     Alias, AliasTree, CanonTree, Command, ComponentExportKind, ComponentTypeRef, Fault, NameTree,
 };

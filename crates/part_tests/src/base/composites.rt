@@ -1,7 +1,7 @@
+use crate::accepted::ok;
 use crate::base::values::{check, check_all};
 use std::alloc::Global;
 use std::process::Abort;
-use sweeping::ok;
 use wenc_base::{
     AbstractHeapType, ArrayType, CompositeType, Encode, FieldType, FuncType, GroupTree, HeapType,
     RefType, StorageType, StructType, SubType, ValType,

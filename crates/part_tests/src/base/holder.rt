@@ -1,9 +1,9 @@
+use crate::accepted::ok;
 use crate::base::calls::{add, add_encoded, add_listed, copy};
 use crate::base::openings::with_a_member;
 use crate::base::values::{LARGE, OPEN, agree, answers, behind, check};
 use std::alloc::Global;
 use std::process::Abort;
-use sweeping::ok;
 use wenc_base::{Fault, Holder, Verbatim, section_size};
 
 // What the holder's section adds to a sink.

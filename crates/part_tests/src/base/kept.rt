@@ -1,9 +1,9 @@
+use crate::accepted::ok;
 use crate::base::calls::{add, keep_all, open};
 use crate::base::holder::check_holder;
 use crate::base::openings::{check_parts, over_four_bytes};
 use crate::base::values::are;
 use std::test::Fail;
-use sweeping::ok;
 use wenc_base::{Fault, Verbatim};
 
 // What a section has that is over four bytes.

@@ -1,8 +1,8 @@
+use crate::accepted::ok;
 use crate::base::calls::{append_list, append_listed, append_value, end_with, end_with_list, open};
 use crate::base::holder::check_holder;
 use crate::base::openings::check_unfinished;
 use crate::base::values::{LARGE, answers};
-use sweeping::ok;
 use wenc_base::{Fault, Holder, Lender};
 
 const BODY: &[u8] = &[1, 0x66, 0x60, 2, 1, 0x80, 1, 2, 3, 1, 1, 0x67, 1];

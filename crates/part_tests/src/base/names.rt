@@ -1,7 +1,7 @@
+use crate::accepted::ok;
 use crate::base::values::check;
 use std::alloc::Global;
 use std::process::Abort;
-use sweeping::ok;
 use wenc_base::{Fault, NameMap, encoding_size};
 
 fn append(names: &mut NameMap, idx: u32, name: &str) -> Result<(), Fault> {

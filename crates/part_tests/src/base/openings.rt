@@ -1,6 +1,7 @@
 ghost use Rattle.std.specs.Prelude.{◌≡◌, ◌∷◌, [], IfOk};
 ghost use Rattle.wenc_base.specs.Holder.{holding};
 
+use crate::accepted::ok;
 use crate::base::calls::{
     add, add_encoded, add_listed, append, append_encoded, close, copy, discard, open,
 };
@@ -11,7 +12,6 @@ use crate::base::values::{
 use std::alloc::Global;
 use std::process::Abort;
 use std::test::Fail;
-use sweeping::ok;
 use wenc_base::{Fault, Holder};
 
 // What comes of the holder's section, and what the sink has then.

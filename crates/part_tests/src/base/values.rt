@@ -3,9 +3,9 @@ ghost use Rattle.wenc_base.specs.Forms.{list_text};
 ghost use Rattle.wenc_base.specs.Number.{unsigned_text};
 ghost use Rattle.wenc_base.specs.declared.fault.Fault.TheVariants.{Unfinished};
 
+use crate::accepted::ok;
 use std::alloc::{AllocError, Allocator, Global};
 use std::process::Abort;
-use sweeping::ok;
 use wenc_base::{
     CustomSection, Encode, ExportKind, Fault, Section, Short, Tagged, encode_list, encoding_size,
     extend_in_room,

@@ -1,9 +1,10 @@
 //! Sections of canonical functions whose requests for memory can be refused.
 
+use crate::accepted::{is_well, ok};
 use refusing::Refusing;
 use std::alloc::Global;
 use sweeping::members::{Members, sweep_clones};
-use sweeping::{LARGE, is_well, ok, sweep_section};
+use sweeping::{LARGE, sweep_section};
 use wenc_base::{Encode, Fault};
 use wenc_canon::{CanonicalFunctionSection, CanonicalOption};
 use wenc_parts::ComponentSection;

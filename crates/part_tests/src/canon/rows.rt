@@ -1,13 +1,14 @@
 //! Each call: the row that it adds, and each of its requests for memory refused in turn.
 
+use crate::accepted::{is_well, ok};
 use crate::canon::calls::{Call, Function, Future, Stream, Task, Thread, Waitable};
 use crate::canon::functions::{Functions, LONG};
 use refusing::Refusing;
 use std::alloc::Global;
 use std::process::Abort;
+use sweeping::LARGE;
 use sweeping::hexed::text;
 use sweeping::members::{Adds, Members, sweep_calls};
-use sweeping::{LARGE, is_well, ok};
 use wenc_base::ValType;
 use wenc_canon::CanonicalOption;
 use wenc_parts::{ComponentValType, PrimitiveValType};

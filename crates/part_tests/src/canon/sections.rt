@@ -1,5 +1,6 @@
 //! Whole sections.
 
+use crate::accepted::ok;
 use crate::canon::calls::{Call, Function, Task, Thread};
 use crate::canon::functions::Functions;
 use crate::parts::texts::text_is;
@@ -7,7 +8,6 @@ use refusing::Refusing;
 use std::alloc::{AllocError, Global};
 use std::process::Abort;
 use sweeping::members::{Adds, Members};
-use sweeping::ok;
 use wenc_base::{Fault, Holder, ValType};
 use wenc_canon::{CanonicalFunctionSection, CanonicalOption};
 

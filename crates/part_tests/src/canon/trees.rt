@@ -1,10 +1,10 @@
 //! The functions that have options, as trees: their texts, and each request for memory refused in turn.
 
+use crate::accepted::ok;
 use crate::swept;
 use std::alloc::Global;
 use std::process::Abort;
 use sweeping::hexed::text;
-use sweeping::ok;
 use wenc_canon::{CanonTree, CanonicalOption};
 use wenc_parts::{ComponentValType, PrimitiveValType};
 

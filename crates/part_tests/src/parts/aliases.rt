@@ -1,7 +1,7 @@
+use crate::accepted::ok;
 use crate::parts::texts::{text_is, texts};
 use std::alloc::{AllocError, Allocator, Global};
 use std::process::Abort;
-use sweeping::ok;
 use wenc_base::ExportKind;
 use wenc_parts::{Alias, AliasTree, ComponentExportKind, ComponentOuterAliasKind};
 

@@ -1,8 +1,8 @@
+use crate::accepted::ok;
 use crate::parts::texts::text_is;
 use std::alloc::{Allocator, Global};
 use std::borrow::CowStr;
 use std::process::Abort;
-use sweeping::ok;
 use wenc_base::Fault;
 use wenc_parts::{ComponentExternName, NameTree};
 

@@ -1,7 +1,7 @@
+use crate::accepted::ok;
 use std::alloc::Global;
 use std::process::Abort;
 use sweeping::hexed::text;
-use sweeping::ok;
 use wenc_base::{Encode, Fault};
 
 /// A text was made, and is this one.

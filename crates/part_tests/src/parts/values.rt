@@ -1,8 +1,8 @@
+use crate::accepted::ok;
 use crate::parts::texts::text_is;
 use std::alloc::Global;
 use std::process::Abort;
 use sweeping::hexed::text;
-use sweeping::ok;
 use wenc_base::{Fault, Holder, Lent, ProducersField, WithSize};
 
 #[test]

@@ -1,8 +1,9 @@
+use crate::accepted::ok;
 use crate::swept::{check, check_each, check_made};
 use refusing::Refusing;
 use std::alloc::{Allocator, Global};
 use std::process::Abort;
-use sweeping::{LARGE, REFUSED, ok};
+use sweeping::{LARGE, REFUSED};
 use wenc_base::{
     ArrayType, CompositeType, Fault, FieldType, FuncType, GroupTree, HeapType, RefType,
     StorageType, StructType, SubType, ValType,

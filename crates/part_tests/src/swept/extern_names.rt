@@ -1,9 +1,10 @@
+use crate::accepted::ok;
 use crate::parts::names::{are_same, copy};
 use crate::swept::check_made;
 use refusing::Refusing;
 use std::borrow::CowStr;
 use std::process::Abort;
-use sweeping::{NAME, REFUSED, ok};
+use sweeping::{NAME, REFUSED};
 use wenc_parts::ComponentExternName;
 
 /// A name with each option.

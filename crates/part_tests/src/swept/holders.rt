@@ -1,8 +1,9 @@
+use crate::accepted::{is_well, ok};
 use crate::swept::{check, check_call};
 use refusing::Refusing;
 use std::alloc::{Allocator, Global};
 use sweeping::members::{Adds, Members, sweep_calls, sweep_clones};
-use sweeping::{Appends, LARGE, TEXT, is_well, ok};
+use sweeping::{Appends, LARGE, TEXT};
 use wenc_base::{Encode, Fault, Holder, Verbatim};
 
 /// A holder of whole members.

@@ -1,11 +1,12 @@
 ghost use Rattle.wenc_base.specs.Fault.{text_cause};
 ghost use Rattle.wenc_base.specs.Forms.{name};
 
+use crate::accepted::is_well;
 use crate::swept::{bytes, check_call};
 use refusing::Refusing;
 use std::alloc::{Allocator, Global};
 use sweeping::members::{Adds, Members, sweep_calls, sweep_clones, sweep_new};
-use sweeping::{Appends, NAME, TEXT, is_well, sweep_section};
+use sweeping::{Appends, NAME, TEXT, sweep_section};
 use wenc_base::{CustomSection, Encode, Fault, Module, RawCustomSection, RawSection, Section};
 
 /// A section of a core module, behind its id.

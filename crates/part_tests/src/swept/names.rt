@@ -1,8 +1,9 @@
+use crate::accepted::{is_well, ok};
 use crate::swept::{bytes, check};
 use refusing::Refusing;
 use std::alloc::Global;
 use sweeping::members::{Adds, Members, sweep_calls, sweep_clones};
-use sweeping::{LARGE, NAME, is_well, ok};
+use sweeping::{LARGE, NAME};
 use wenc_base::{Fault, Lent, NameMap};
 
 /// Names of items.

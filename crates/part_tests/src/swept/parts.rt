@@ -1,9 +1,10 @@
 ghost use Rattle.wenc_base.specs.Fault.{text_cause};
 ghost use Rattle.wenc_base.specs.Forms.{name};
 
+use crate::accepted::is_well;
 use crate::swept::{check, check_each};
 use std::alloc::Allocator;
-use sweeping::{LARGE, NAME, is_well, sweep_section};
+use sweeping::{LARGE, NAME, sweep_section};
 use wenc_base::{Encode, ExportKind, Fault};
 use wenc_parts::{
     Alias, ComponentExportKind, ComponentOuterAliasKind, ComponentSection, ComponentSectionId,

@@ -1,9 +1,10 @@
+use crate::accepted::{is_well, ok};
 use crate::swept::holders::{Whole, open, seen};
 use refusing::Refusing;
 use std::alloc::{Allocator, Global};
 use std::process::Abort;
 use sweeping::members::{Adds, Members, started, sweep_calls, sweep_clones};
-use sweeping::{LARGE, TEXT, is_well, ok};
+use sweeping::{LARGE, TEXT};
 use wenc_base::{Fault, Holder};
 
 /// A holder in which a member is being written, which at first has no bytes.

@@ -1,10 +1,11 @@
+use crate::accepted::{is_well, ok};
 use crate::swept::modules::InModule;
 use crate::swept::{bytes, check, check_call};
 use refusing::Refusing;
 use std::alloc::Global;
 use std::process::Abort;
 use sweeping::members::{Adds, Members, sweep_add, sweep_calls, sweep_clones};
-use sweeping::{NAME, is_well, ok, sweep_section};
+use sweeping::{NAME, sweep_section};
 use wenc_base::{Fault, Lent, ProducersField, ProducersSection};
 
 /// A field of tools.

@@ -1,10 +1,10 @@
 //! The allocator that refuses, by itself.
 
+use crate::accepted::ok;
 use refusing::Refusing;
 use std::alloc::{AllocError, Allocator, Global};
 use std::mem;
 use std::process::Abort;
-use sweeping::ok;
 
 fn fill<A: Allocator>(v: &mut Vec<u8, A>, n: u8) -> Result<(), AllocError> {
     for i in 0..n {

@@ -3,10 +3,10 @@
 ghost use Rattle.std.specs.Prelude.{◌≡◌, [], ⊤};
 ghost use Rattle.wenc_base.specs.declared.fault.Fault.TheVariants.{Unfinished};
 
+use crate::accepted::ok;
 use refusing::Refusing;
 use std::alloc::Allocator;
 use std::process::Abort;
-use sweeping::ok;
 use wenc_base::{Encode, Fault, Tagged};
 use wenc_parts::ComponentSection;
 

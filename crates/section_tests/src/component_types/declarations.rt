@@ -1,5 +1,6 @@
 //! Component types and instance types: their declarations, and what they count.
 
+use crate::accepted::{is_well, ok};
 use crate::checks::alone;
 use crate::component_types::calls::Call;
 use crate::component_types::checks::{A_TYPE, LAST, STRING};
@@ -10,7 +11,7 @@ use crate::swept_lending::{OnHeap, begun, sweep_made};
 use refusing::Refusing;
 use std::alloc::Global;
 use std::process::Abort;
-use sweeping::{LARGE, NAME, is_well, ok};
+use sweeping::{LARGE, NAME};
 use wenc_base::{CompositeType, ExportKind, FuncType, GroupTree, SubType, ValType};
 use wenc_parts::{
     Alias, ComponentExportKind, ComponentOuterAliasKind, ComponentTypeRef, TypeBounds,

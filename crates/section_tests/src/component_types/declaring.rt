@@ -1,11 +1,11 @@
 //! What component types and instance types declare.
 
+use crate::accepted::ok;
 use crate::component_types::calls::{Call, Whole};
 use crate::component_types::lending::Item;
 use crate::lending::Makes;
 use std::alloc::Allocator;
 use std::process::Abort;
-use sweeping::ok;
 use wenc_base::{Fault, StorageType};
 use wenc_parts::{Alias, ComponentTypeRef};
 use wenc_types::component_type::ComponentTypes;

@@ -1,11 +1,11 @@
 //! Types of functions: how far each is written.
 
+use crate::accepted::ok;
 use crate::checks::alone;
 use crate::component_types::checks::STRING;
 use crate::lending::has;
 use std::alloc::Global;
 use std::process::Abort;
-use sweeping::ok;
 use wenc_base::Fault;
 use wenc_parts::ComponentValType;
 use wenc_sections::ComponentTypeSection;

@@ -1,5 +1,6 @@
 //! Sections of types.
 
+use crate::accepted::ok;
 use crate::checks::{alone, holds, put};
 use crate::component_types::calls::{Call, Lends, Whole};
 use crate::component_types::checks::{STRING, declares, is_item};
@@ -10,7 +11,7 @@ use crate::swept_lending::{begun, sweep_item};
 use refusing::Refusing;
 use std::alloc::Global;
 use std::process::Abort;
-use sweeping::{LARGE, NAME, ok};
+use sweeping::{LARGE, NAME};
 use wenc_base::{Fault, ValType};
 use wenc_parts::{ComponentTypeRef, ComponentValType, PrimitiveValType};
 use wenc_sections::{Component, ComponentImportSection, ComponentTypeSection};

@@ -1,9 +1,10 @@
 //! Sweeps of the trees of types.
 
+use crate::accepted::{is_well, ok};
 use crate::component_types::checks::{LAST, STRING};
 use std::alloc::Global;
 use std::process::Abort;
-use sweeping::{LARGE, NAME, is_well, ok, sweep_each, sweep_encode};
+use sweeping::{LARGE, NAME, sweep_each, sweep_encode};
 use wenc_base::ValType;
 use wenc_parts::{
     AliasTree, ComponentOuterAliasKind, ComponentTypeRef, ComponentValType, NameTree,

@@ -1,6 +1,7 @@
 //! Component types, instance types and sections of types in which a type is being written, which is given up and done
 //! again.
 
+use crate::accepted::ok;
 use crate::component_types::calls::Call;
 use crate::component_types::declaring::{Declaration, Import, Kind};
 use crate::component_types::lending::{Beginning, Opening, items};
@@ -8,7 +9,6 @@ use crate::lending::{Makes, is};
 use crate::unfinished::{NO_ITEMS, take_back_each};
 use std::alloc::Global;
 use std::process::Abort;
-use sweeping::ok;
 use wenc_base::Fault;
 use wenc_parts::{Alias, ComponentOuterAliasKind, ComponentTypeRef};
 use wenc_sections::ComponentTypeSection;

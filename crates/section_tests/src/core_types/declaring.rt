@@ -1,10 +1,10 @@
 //! What module types declare.
 
+use crate::accepted::ok;
 use crate::core_types::calls::Composite;
 use crate::lending::Makes;
 use std::alloc::Allocator;
 use std::process::Abort;
-use sweeping::ok;
 use wenc_base::{EntityType, Fault};
 use wenc_types::ModuleType;
 

@@ -1,6 +1,7 @@
 //! Each call of an encoder, with each thing that it can borrow, and with guards and without. All but those into holders
 //! are swept.
 
+use crate::accepted::ok;
 use crate::checks::yes;
 use crate::core_types::calls::{Call, Composite, Lends};
 use crate::core_types::making::{
@@ -13,7 +14,7 @@ use crate::swept_lending::{last_is_refused, sweep_item, sweep_made, sweep_texts}
 use refusing::Refusing;
 use std::alloc::Global;
 use std::process::Abort;
-use sweeping::{LARGE, ok};
+use sweeping::LARGE;
 use wenc_base::{CoreTypeEncoder, Fault, GroupTree, Holder, StorageType, SubType, ValType};
 use wenc_sections::CoreTypeSection;
 use wenc_types::ModuleType;

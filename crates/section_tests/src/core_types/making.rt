@@ -1,8 +1,9 @@
 //! Core types of which the tests are made.
 
+use crate::accepted::ok;
 use std::alloc::Global;
 use std::process::Abort;
-use sweeping::{LARGE, ok};
+use sweeping::LARGE;
 use wenc_base::{
     ArrayType, CompositeType, Fault, FieldType, FuncType, HeapType, RefType, StorageType,
     StructType, SubType, ValType,

@@ -1,5 +1,6 @@
 //! Module types: their declarations.
 
+use crate::accepted::ok;
 use crate::checks::is_text;
 use crate::core_types::calls::{Call, Composite, Lends};
 use crate::core_types::declaring::{Declaration, declare};
@@ -9,7 +10,7 @@ use crate::swept_lending::{begun, sweep_made};
 use refusing::Refusing;
 use std::alloc::Global;
 use std::process::Abort;
-use sweeping::{LARGE, NAME, ok};
+use sweeping::{LARGE, NAME};
 use wenc_base::{
     AbstractHeapType, EntityType, GlobalType, HeapType, MemoryType, RefType, StorageType,
     TableType, TagType, ValType,

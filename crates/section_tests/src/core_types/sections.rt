@@ -1,5 +1,6 @@
 //! Sections of core types.
 
+use crate::accepted::ok;
 use crate::checks::alone;
 use crate::core_types::calls::Composite;
 use crate::core_types::declaring::{Declaration, declare};
@@ -11,7 +12,7 @@ use crate::swept_lending::{begun, sweep_item};
 use refusing::Refusing;
 use std::alloc::Global;
 use std::process::Abort;
-use sweeping::{LARGE, NAME, ok};
+use sweeping::{LARGE, NAME};
 use wenc_base::{EntityType, StorageType, ValType};
 use wenc_sections::CoreTypeSection;
 use wenc_types::ModuleType;

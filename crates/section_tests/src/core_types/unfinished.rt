@@ -1,5 +1,6 @@
 //! Module types and sections of core types whose last type is being written, and is given up.
 
+use crate::accepted::ok;
 use crate::core_types::calls::Composite;
 use crate::core_types::declaring::Declaration;
 use crate::core_types::lending::{Beginning, Module};
@@ -7,7 +8,6 @@ use crate::lending::{Begin, Makes};
 use crate::unfinished::{NO_ITEMS, take_back_each};
 use std::alloc::Global;
 use std::process::Abort;
-use sweeping::ok;
 use wenc_base::EntityType;
 use wenc_sections::CoreTypeSection;
 use wenc_types::ModuleType;
