@@ -10,4 +10,5 @@ pub mod equality;
 pub mod listed;
 pub mod numbers;
 pub mod parts;
+pub mod read;
 pub mod types;

@@ -1,13 +1,3 @@
-pub mod DeepLaws
-pub mod DeepLoop
-pub mod Levels
 pub mod Listed
-pub mod Loop
-pub mod Options
 pub mod Places
-pub mod Rows
 pub mod SectionLaws
-pub mod SubTypes
-pub mod Tables
-pub mod Texts
-pub mod TypeLaws

@@ -6,16 +6,16 @@ use Rattle.wenc_base.specs.laws.Lawful.{Reader, go_on, ◌>>=◌, give, done}
 use Rattle.wenc_base.specs.laws.Numbers.{read_u32}
 use Rattle.wenc_builder.specs.Item.{Item, ModuleItem, CoreInstanceItem, CoreTypeItem, ComponentItem, InstanceItem, AliasItem, TypeItem, CanonItem, StartItem, ImportItem, ExportItem, CustomItem}
 use Rattle.wenc_canon.specs.laws.Canonicals.{read_canonical}
+use Rattle.wenc_decode.specs.Outcomes.{Flaw, Bad, DeepReader, flat, ◌>>>◌, yield, refuse, repeat, filled}
+use Rattle.wenc_decode.specs.TypeTrees.{read_type}
 use Rattle.wenc_parts.specs.laws.Aliases.{read_alias}
+use Rattle.wenc_read.specs.declared.refusal.Refusal.{Refusal}
+use Rattle.wenc_read.specs.declared.refusal.Refusal.TheVariants as refusals
 use Rattle.wenc_sections.specs.Start.{Start, started}
 use Rattle.wenc_sections.specs.laws.Items.{read_import, read_export, read_core_instance, read_instance}
 use Rattle.wenc_types.specs.laws.CoreTypes.{read_core_type}
-use Rattle.wenc_list.specs.Outcomes.{Flaw, Bad, DeepReader, flat, ◌>>>◌, yield, refuse, repeat, filled}
-use Rattle.wenc_list.specs.TypeTrees.{read_type}
 use Rattle.wenc_list.specs.declared.fault.ListFault.{ListFault}
 use Rattle.wenc_list.specs.declared.fault.ListFault.TheVariants as faults
-use Rattle.wenc_list.specs.declared.refusal.Refusal.{Refusal}
-use Rattle.wenc_list.specs.declared.refusal.Refusal.TheVariants as refusals
 
 -- ---- items
 

@@ -1,14 +1,3 @@
-pub mod Aliases
-pub mod Canonicals
 pub mod Contents
-pub mod CoreTypes
-pub mod Depth
-pub mod Entities
-pub mod Gives
 pub mod Items
 pub mod Listing
-pub mod Names
-pub mod Outcomes
-pub mod Tables
-pub mod TypeTrees
-pub mod Types

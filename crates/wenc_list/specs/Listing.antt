@@ -7,11 +7,11 @@ use Rattle.wenc_base.specs.Piece.{Wide, each}
 use Rattle.wenc_builder.specs.Item.{Item, TypeItem}
 use Rattle.wenc_builder.specs.Sections.{Section, members, item_of, section_piece, preamble}
 use Rattle.wenc_builder.specs.Space.{place}
+use Rattle.wenc_decode.specs.Depth.{Front, Enters}
 use Rattle.wenc_types.specs.ComponentTypes.{depth}
 use Rattle.wenc_list.specs.declared.fault.ListFault.{ListFault}
 use Rattle.wenc_list.specs.declared.fault.ListFault.TheVariants as faults
 use Rattle.wenc_list.specs.declared.listing.ListedSection.{ListedSection}
-use Rattle.wenc_list.specs.Depth.{Front, Enters}
 use Rattle.wenc_list.specs.Items.{item_view, section_view}
 
 -- ---- how deep types nest

@@ -10,9 +10,9 @@ ghost use Rattle.wenc_list.specs.declared.fault.ListFault.TheVariants.{Memory, N
 use crate::counts::counts_of;
 use crate::fault::ListFault;
 use crate::item::ItemTree;
-use crate::refusal::Refusal;
 use crate::sections::{are_bytes, content, frame};
 use std::alloc::{Allocator, Global};
+use wenc_read::Refusal;
 use wenc_sections::Component;
 
 /// A section that was read (component model, binary format, "Component Definitions").

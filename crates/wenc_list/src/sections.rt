@@ -2,23 +2,20 @@
 ghost use Rattle.std.specs.Prelude.{◌≡◌, ◌∷◌, [], map, IfOk, IfErr};
 ghost use Rattle.std.specs.String.{string_bytes};
 ghost use Rattle.wenc_base.specs.Forms.{AreBytes};
+ghost use Rattle.wenc_decode.specs.Outcomes.{Yields, repeat};
 ghost use Rattle.wenc_list.specs.Contents.{labelled, read_custom_content, read_start_content, read_raw, read_import_item, read_export_item};
 ghost use Rattle.wenc_list.specs.Contents.{read_item, read_items, read_content, read_frame};
-ghost use Rattle.wenc_list.specs.Gives.{Gives, GivesAll};
 ghost use Rattle.wenc_list.specs.Items.{item_view};
-ghost use Rattle.wenc_list.specs.Outcomes.{Yields, repeat};
-ghost use Rattle.wenc_list.specs.declared.refusal.Refusal.TheVariants.{Memory};
+ghost use Rattle.wenc_read.specs.Gives.{Gives, GivesAll};
+ghost use Rattle.wenc_read.specs.declared.refusal.Refusal.TheVariants.{Memory};
 ghost use Rattle.wenc_sections.specs.Start.{started};
 
-use crate::decode::{Decode, room_for};
 use crate::item::ItemTree;
-use crate::number::{byte, u32_of};
-use crate::refusal::Refusal;
-use crate::text::name_of;
-use crate::type_tree::type_of;
 use std::alloc::Allocator;
 use wenc_canon::CanonTree;
+use wenc_decode::{Decode, room_for, type_of};
 use wenc_parts::{AliasTree, ComponentExportKind, ComponentTypeRef, NameTree};
+use wenc_read::{Refusal, byte, name_of, u32_of};
 use wenc_sections::{CoreInstanceTree, InstanceTree};
 use wenc_types::CoreTypeTree;
 

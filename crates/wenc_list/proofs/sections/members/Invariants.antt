@@ -1,8 +1,8 @@
 use Rattle.std.proofs.Common.{◌≡◌, ◌-◌, map}
+use Rattle.wenc_decode.specs.Outcomes.{repeat}
+use Rattle.wenc_decode.specs.laws.Repeats.{with_front}
 use Rattle.wenc_list.specs.Contents.{read_item}
 use Rattle.wenc_list.specs.Items.{item_view}
-use Rattle.wenc_list.specs.Outcomes.{repeat}
-use Rattle.wenc_list.proofs.DeepLoop.{with_front}
 use Rattle.wenc_list.proofs.sections.members.Given as goal
 
 abbrev pub invariant-loop : goal.invariant-loop

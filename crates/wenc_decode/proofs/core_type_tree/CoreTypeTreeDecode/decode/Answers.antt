@@ -1,0 +1,21 @@
+use Rattle.std.proofs.Common.{rules, ◌∙◌, sym, [], ◌∷◌, false, refl}
+use Rattle.wenc_base.specs.Composites.{Single}
+use Rattle.wenc_base.specs.laws.Composites.{final_rows, read_extension, read_types, sub_of}
+use Rattle.wenc_base.specs.laws.Forms.{read_list}
+use Rattle.wenc_base.specs.laws.Lawful.{choose, nowhere}
+use Rattle.wenc_read.specs.laws.Tables.{at_first}
+use Rattle.wenc_types.specs.CoreTypes.{Grouped, Module}
+use Rattle.wenc_types.specs.laws.CoreTypes.{read_declarations, read_module_declaration, read_open}
+use Rattle.wenc_decode.proofs.Rows.{found_alone, wraps}
+use Rattle.wenc_decode.proofs.SubTypes.{finals_follow}
+use Rattle.wenc_decode.proofs.Tables.{made_of}
+use Rattle.wenc_decode.proofs.core_type_tree.CoreTypeTreeDecode.decode.Goals as goal
+
+pub returns-in_ok-decls-in-80-default : goal.returns-in_ok-decls-in-80-default
+returns-in_ok-decls-in-80-default g c = at_first _ _ 0x50 _ _ _ c.in_ok-rest.ensures (search rules) ∙ made_of Module (read_list read_module_declaration) _ _ _ c.in_ok-decls-in-80-default.ensures
+
+pub returns-in_ok-ty-in_default : goal.returns-in_ok-ty-in_default
+returns-in_ok-ty-in_default g c =
+    let alone = wraps (λ s. s) (final_rows (λ s. s)) (final_rows (λ s. s)) ((0x50, read_extension (λ n d. sub_of false n d)) ∷ []) (finals_follow (λ s. s) (λ s. s)) _ _ _ c.in_ok-rest.ensures (search rules) in
+    wraps (λ s. Grouped (Single s)) (final_rows (λ s. s)) (final_rows (λ s. Grouped (Single s))) ((0x4e, read_types Grouped) ∷ (0x00, read_open (λ s. Grouped (Single s))) ∷ (0x50, read_declarations Module) ∷ []) (finals_follow (λ s. Grouped (Single s)) (λ s. s)) _ _ _ c.in_ok-rest.ensures (search rules)
+    ∙ rw (sym (found_alone (choose (final_rows (λ s. s)) nowhere c.args.bytes.now)) ∙ sym alone ∙ c.in_ok-ty-in_default.ensures) refl

@@ -1,0 +1,21 @@
+use Rattle.std.proofs.Common.{sym, ◌∙◌, ◌++◌}
+use Rattle.std.proofs.lemmas.Result.{err_from_is_err_and}
+use Rattle.wenc_base.specs.laws.Lawful.{nowhere}
+use Rattle.wenc_parts.specs.Types.{primitive_byte}
+use Rattle.wenc_parts.specs.laws.Types.{primitive_rows}
+use Rattle.wenc_types.specs.DefinedTypes.{Primitive}
+use Rattle.wenc_types.specs.laws.DefinedTypes.{defined_rows}
+use Rattle.wenc_decode.specs.Types.{primitive_types}
+use Rattle.wenc_decode.proofs.Tables.{begins, goes_past, fails_first}
+use Rattle.wenc_decode.proofs.defined_types.DefinedTreeDecode.decode.Goals as goal
+
+pub returns-in_err-first : goal.returns-in_err-first
+returns-in_err-first g c =
+    let p = err_from_is_err_and c.from_residual.result c.from_residual.ensures.1 in
+    rw (p.1, p.2) (fails_first c.in_err-first.field-0.0 (primitive_rows Primitive ++ defined_rows (λ t. t)) nowhere c.args.bytes.now c.in_err-first.ensures)
+
+pub returns-in-Some : goal.returns-in-Some
+returns-in-Some g c = begins primitive_byte Primitive primitive_types (defined_rows (λ t. t)) nowhere _ _ _ _ c.in_ok-first.ensures (sym c.primitive_of.ensures ∙ c.in-Some.is)
+
+pub returns-in-None : goal.returns-in-None
+returns-in-None g c = rw (goes_past primitive_byte Primitive primitive_types (defined_rows (λ t. t)) nowhere _ _ _ c.in_ok-first.ensures (sym c.primitive_of.ensures ∙ c.in-None.is)) c.defined.ensures

@@ -1,0 +1,10 @@
+pub mod Aliases
+pub mod Canonicals
+pub mod CoreTypes
+pub mod Depth
+pub mod Entities
+pub mod Outcomes
+pub mod Tables
+pub mod TypeTrees
+pub mod Types
+pub mod laws

@@ -1,0 +1,157 @@
+//! Aliases. Each begins with a sort, which may be an instance's export or an outer item.
+ghost use Rattle.wenc_decode.specs.Aliases.{read_exported, read_core_alias};
+ghost use Rattle.wenc_parts.specs.Aliases.{alias_tree_view};
+ghost use Rattle.wenc_parts.specs.laws.Aliases.{read_alias, read_export, read_core_export, read_outer, read_either};
+ghost use Rattle.wenc_read.specs.Gives.{Gives};
+
+use crate::decode::Decode;
+use std::alloc::Allocator;
+use wenc_base::ExportKind;
+use wenc_parts::{AliasTree, ComponentExportKind, ComponentOuterAliasKind};
+use wenc_read::{Refusal, byte};
+
+/// An export of an instance.
+fn export<A: Allocator + Copy>(
+    alloc: A,
+    kind: ComponentExportKind,
+    bytes: &[u8],
+) -> Result<(AliasTree<A>, &[u8]), Refusal>
+    ensures { Gives (λ x. (alias_tree_view x.0, x.1.now)) result (read_export kind bytes.now) }
+{
+    let (instance, rest) = u32::decode(alloc, bytes)?;
+    let (name, rest) = String::decode(alloc, rest)?;
+    let alias = AliasTree::InstanceExport {
+        instance,
+        kind,
+        name,
+    };
+    Ok((alias, rest))
+}
+
+/// An outer item.
+fn outer<A: Allocator + Copy>(
+    alloc: A,
+    kind: ComponentOuterAliasKind,
+    bytes: &[u8],
+) -> Result<(AliasTree<A>, &[u8]), Refusal>
+    ensures { Gives (λ x. (alias_tree_view x.0, x.1.now)) result (read_outer kind bytes.now) }
+{
+    let (count, rest) = u32::decode(alloc, bytes)?;
+    let (index, rest) = u32::decode(alloc, rest)?;
+    Ok((AliasTree::Outer { kind, count, index }, rest))
+}
+
+/// An export of a core instance.
+#[tactic(auto, unfolding(wenc_base::specs::laws::Lawful::choose))]
+fn core_export<A: Allocator + Copy>(
+    alloc: A,
+    kind: ExportKind,
+    bytes: &[u8],
+) -> Result<(AliasTree<A>, &[u8]), Refusal>
+    ensures { Gives (λ x. (alias_tree_view x.0, x.1.now)) result (read_core_export kind bytes.now) }
+{
+    match byte(bytes)? {
+        (0x01, rest) => {
+            let (instance, rest) = u32::decode(alloc, rest)?;
+            let (name, rest) = String::decode(alloc, rest)?;
+            let alias = AliasTree::CoreInstanceExport {
+                instance,
+                kind,
+                name,
+            };
+            Ok((alias, rest))
+        }
+        _ => Err(Refusal::Malformed),
+    }
+}
+
+/// An export of an instance, of a kind that is no outer item's.
+#[tactic(auto, unfolding(wenc_base::specs::laws::Lawful::choose))]
+fn export_alone<A: Allocator + Copy>(
+    alloc: A,
+    kind: ComponentExportKind,
+    bytes: &[u8],
+) -> Result<(AliasTree<A>, &[u8]), Refusal>
+    ensures { Gives (λ x. (alias_tree_view x.0, x.1.now)) result (read_exported kind bytes.now) }
+{
+    match byte(bytes)? {
+        (0x00, rest) => export(alloc, kind, rest),
+        _ => Err(Refusal::Malformed),
+    }
+}
+
+/// Either, by the byte behind the sort.
+#[tactic(auto, unfolding(wenc_base::specs::laws::Lawful::choose))]
+fn either<A: Allocator + Copy>(
+    alloc: A,
+    kind: ComponentExportKind,
+    outer_kind: ComponentOuterAliasKind,
+    bytes: &[u8],
+) -> Result<(AliasTree<A>, &[u8]), Refusal>
+    ensures { Gives (λ x. (alias_tree_view x.0, x.1.now)) result
+        (read_either kind outer_kind bytes.now) }
+{
+    match byte(bytes)? {
+        (0x00, rest) => export(alloc, kind, rest),
+        (0x02, rest) => outer(alloc, outer_kind, rest),
+        _ => Err(Refusal::Malformed),
+    }
+}
+
+/// What is of a core sort, behind the sort's first byte.
+#[tactic(auto, unfolding(wenc_base::specs::laws::Lawful::choose))]
+fn core<A: Allocator + Copy>(alloc: A, bytes: &[u8]) -> Result<(AliasTree<A>, &[u8]), Refusal>
+    ensures { Gives (λ x. (alias_tree_view x.0, x.1.now)) result (read_core_alias bytes.now) }
+{
+    match byte(bytes)? {
+        (0x00, rest) => core_export(alloc, ExportKind::Func, rest),
+        (0x01, rest) => core_export(alloc, ExportKind::Table, rest),
+        (0x02, rest) => core_export(alloc, ExportKind::Memory, rest),
+        (0x03, rest) => core_export(alloc, ExportKind::Global, rest),
+        (0x04, rest) => core_export(alloc, ExportKind::Tag, rest),
+        (0x10, rest) => match byte(rest)? {
+            (0x02, rest) => outer(alloc, ComponentOuterAliasKind::CoreType, rest),
+            _ => Err(Refusal::Malformed),
+        },
+        (0x11, rest) => either(
+            alloc,
+            ComponentExportKind::Module,
+            ComponentOuterAliasKind::CoreModule,
+            rest,
+        ),
+        _ => Err(Refusal::Malformed),
+    }
+}
+
+impl<A: Allocator + Copy> Decode<A> for AliasTree<A> {
+    ghost use Rattle.wenc_parts.specs.Aliases.{AliasOf};
+
+    ghost Value = { AliasOf };
+
+    ghost view = { alias_tree_view };
+
+    ghost read = { read_alias };
+
+    #[tactic(auto, unfolding(wenc_base::specs::laws::Lawful::choose))]
+    fn decode<'a>(alloc: A, bytes: &'a [u8]) -> Result<(AliasTree<A>, &'a [u8]), Refusal> {
+        match byte(bytes)? {
+            (0x00, rest) => core(alloc, rest),
+            (0x01, rest) => export_alone(alloc, ComponentExportKind::Func, rest),
+            (0x02, rest) => export_alone(alloc, ComponentExportKind::Value, rest),
+            (0x03, rest) => either(
+                alloc,
+                ComponentExportKind::Type,
+                ComponentOuterAliasKind::Type,
+                rest,
+            ),
+            (0x04, rest) => either(
+                alloc,
+                ComponentExportKind::Component,
+                ComponentOuterAliasKind::Component,
+                rest,
+            ),
+            (0x05, rest) => export_alone(alloc, ComponentExportKind::Instance, rest),
+            _ => Err(Refusal::Malformed),
+        }
+    }
+}

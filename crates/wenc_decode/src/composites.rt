@@ -1,0 +1,177 @@
+//! The types that modules define, alone and in groups.
+ghost use Rattle.std.specs.Prelude.{Some, false, true};
+ghost use Rattle.wenc_base.specs.Composites.{composite_view, sub_view, group_view};
+ghost use Rattle.wenc_base.specs.laws.Composites.{read_composite, read_sub_type, read_group, read_closed, read_extension, sub_of};
+ghost use Rattle.wenc_read.specs.Gives.{Gives};
+
+use crate::decode::Decode;
+use std::alloc::Allocator;
+use wenc_base::{
+    ArrayType, CompositeType, FieldType, FuncType, GroupTree, StorageType, StructType, SubType,
+    ValType,
+};
+use wenc_read::{Refusal, byte};
+
+impl<A: Allocator + Copy> Decode<A> for StorageType {
+    ghost use Rattle.wenc_base.specs.declared.types.storage.StorageType.{StorageType as Value'};
+    ghost use Rattle.wenc_base.specs.laws.Composites.{read_storage_type};
+
+    ghost Value = { Value' };
+
+    ghost view = { λ t. t };
+
+    ghost read = { read_storage_type };
+
+    #[tactic(auto, unfolding(wenc_base::specs::laws::Lawful::choose))]
+    fn decode<'a>(alloc: A, bytes: &'a [u8]) -> Result<(StorageType, &'a [u8]), Refusal> {
+        match byte(bytes)? {
+            (0x78, rest) => Ok((StorageType::I8, rest)),
+            (0x77, rest) => Ok((StorageType::I16, rest)),
+            _ => {
+                let (ty, rest) = ValType::decode(alloc, bytes)?;
+                Ok((StorageType::Val(ty), rest))
+            }
+        }
+    }
+}
+
+impl<A: Allocator + Copy> Decode<A> for FieldType {
+    ghost use Rattle.wenc_base.specs.declared.types.storage.FieldType.{FieldType as Value'};
+    ghost use Rattle.wenc_base.specs.laws.Composites.{read_field_type};
+
+    ghost Value = { Value' };
+
+    ghost view = { λ f. f };
+
+    ghost read = { read_field_type };
+
+    fn decode<'a>(alloc: A, bytes: &'a [u8]) -> Result<(FieldType, &'a [u8]), Refusal> {
+        let (element_type, rest) = StorageType::decode(alloc, bytes)?;
+        let (mutable, rest) = bool::decode(alloc, rest)?;
+        let field = FieldType {
+            element_type,
+            mutable,
+        };
+        Ok((field, rest))
+    }
+}
+
+impl<A: Allocator + Copy> Decode<A> for CompositeType<A> {
+    ghost use Rattle.wenc_base.specs.Composites.{Composite};
+
+    ghost Value = { Composite };
+
+    ghost view = { composite_view };
+
+    ghost read = { read_composite };
+
+    #[tactic(auto, unfolding(wenc_base::specs::laws::Lawful::choose))]
+    fn decode<'a>(alloc: A, bytes: &'a [u8]) -> Result<(CompositeType<A>, &'a [u8]), Refusal> {
+        match byte(bytes)? {
+            (0x60, rest) => {
+                let (params, rest) = Vec::decode(alloc, rest)?;
+                let (results, rest) = Vec::decode(alloc, rest)?;
+                let ty = FuncType::from_lists(params, results);
+                Ok((CompositeType::Func(ty), rest))
+            }
+            (0x5e, rest) => {
+                let (element, rest) = FieldType::decode(alloc, rest)?;
+                Ok((CompositeType::Array(ArrayType(element)), rest))
+            }
+            (0x5f, rest) => {
+                let (fields, rest) = Vec::decode(alloc, rest)?;
+                Ok((CompositeType::Struct(StructType { fields }), rest))
+            }
+            _ => Err(Refusal::Malformed),
+        }
+    }
+}
+
+impl<A: Allocator + Copy> Decode<A> for SubType<A> {
+    ghost use Rattle.wenc_base.specs.Composites.{Sub};
+
+    ghost Value = { Sub };
+
+    ghost view = { sub_view };
+
+    ghost read = { read_sub_type };
+
+    #[tactic(auto, unfolding(wenc_base::specs::laws::Lawful::choose))]
+    fn decode<'a>(alloc: A, bytes: &'a [u8]) -> Result<(SubType<A>, &'a [u8]), Refusal> {
+        match byte(bytes)? {
+            (0x50, rest) => open(alloc, rest),
+            (0x4f, rest) => closed(alloc, rest),
+            _ => {
+                let (composite_type, rest) = CompositeType::decode(alloc, bytes)?;
+                let ty = SubType {
+                    is_final: true,
+                    supertype_idx: None,
+                    composite_type,
+                };
+                Ok((ty, rest))
+            }
+        }
+    }
+}
+
+/// A type that can be extended.
+pub(crate) fn open<A: Allocator + Copy>(
+    alloc: A,
+    bytes: &[u8],
+) -> Result<(SubType<A>, &[u8]), Refusal>
+    ensures { Gives (λ x. (sub_view x.0, x.1.now)) result
+        (read_extension (λ n c. sub_of false n c) bytes.now) }
+{
+    let (supertype_idx, rest) = Option::decode(alloc, bytes)?;
+    let (composite_type, rest) = CompositeType::decode(alloc, rest)?;
+    let ty = SubType {
+        is_final: false,
+        supertype_idx,
+        composite_type,
+    };
+    Ok((ty, rest))
+}
+
+/// A type that extends another and can't be extended.
+#[tactic(auto, unfolding(wenc_base::specs::laws::Lawful::choose))]
+fn closed<A: Allocator + Copy>(alloc: A, bytes: &[u8]) -> Result<(SubType<A>, &[u8]), Refusal>
+    ensures { Gives (λ x. (sub_view x.0, x.1.now)) result (read_closed (λ n c. sub_of true (Some n) c) bytes.now) }
+{
+    match byte(bytes)? {
+        (0x01, rest) => {
+            let (supertype, rest) = u32::decode(alloc, rest)?;
+            let (composite_type, rest) = CompositeType::decode(alloc, rest)?;
+            let ty = SubType {
+                is_final: true,
+                supertype_idx: Some(supertype),
+                composite_type,
+            };
+            Ok((ty, rest))
+        }
+        _ => Err(Refusal::Malformed),
+    }
+}
+
+impl<A: Allocator + Copy> Decode<A> for GroupTree<A> {
+    ghost use Rattle.wenc_base.specs.Composites.{Group};
+
+    ghost Value = { Group };
+
+    ghost view = { group_view };
+
+    ghost read = { read_group };
+
+    #[tactic(auto, unfolding(wenc_base::specs::laws::Lawful::choose))]
+    fn decode<'a>(alloc: A, bytes: &'a [u8]) -> Result<(GroupTree<A>, &'a [u8]), Refusal> {
+        match byte(bytes)? {
+            (0x4e, rest) => {
+                let (types, rest) = Vec::decode(alloc, rest)?;
+                Ok((GroupTree::Rec(types), rest))
+            }
+            _ => {
+                let (ty, rest) = SubType::decode(alloc, bytes)?;
+                Ok((GroupTree::Sub(ty), rest))
+            }
+        }
+    }
+}

@@ -1,0 +1,111 @@
+//! Core types in a component: groups with guards, and module types.
+ghost use Rattle.wenc_decode.specs.CoreTypes.{read_outer_type, read_guarded};
+ghost use Rattle.wenc_read.specs.Gives.{Gives};
+ghost use Rattle.wenc_types.specs.CoreTypeTrees.{module_declaration_view, core_type_view};
+
+use crate::composites::open;
+use crate::decode::Decode;
+use std::alloc::Allocator;
+use wenc_base::{EntityType, GroupTree, SubType};
+use wenc_read::{Refusal, byte};
+use wenc_types::{CoreTypeTree, ModuleDecl};
+
+/// An alias of a type of a component around, behind its first byte.
+#[tactic(auto, unfolding(wenc_base::specs::laws::Lawful::choose))]
+fn outer_type<A: Allocator + Copy>(
+    alloc: A,
+    bytes: &[u8],
+) -> Result<(ModuleDecl<A>, &[u8]), Refusal>
+    ensures { Gives (λ x. (module_declaration_view x.0, x.1.now)) result
+        (read_outer_type bytes.now) }
+{
+    match byte(bytes)? {
+        (0x10, rest) => match byte(rest)? {
+            (0x01, rest) => {
+                let (count, rest) = u32::decode(alloc, rest)?;
+                let (index, rest) = u32::decode(alloc, rest)?;
+                Ok((ModuleDecl::Alias { count, index }, rest))
+            }
+            _ => Err(Refusal::Malformed),
+        },
+        _ => Err(Refusal::Malformed),
+    }
+}
+
+impl<A: Allocator + Copy> Decode<A> for ModuleDecl<A> {
+    ghost use Rattle.wenc_types.specs.CoreTypes.{ModuleDeclaration};
+    ghost use Rattle.wenc_types.specs.laws.CoreTypes.{read_module_declaration};
+
+    ghost Value = { ModuleDeclaration };
+
+    ghost view = { module_declaration_view };
+
+    ghost read = { read_module_declaration };
+
+    #[tactic(auto, unfolding(wenc_base::specs::laws::Lawful::choose))]
+    fn decode<'a>(alloc: A, bytes: &'a [u8]) -> Result<(ModuleDecl<A>, &'a [u8]), Refusal> {
+        match byte(bytes)? {
+            (0x00, rest) => {
+                let (module, rest) = String::decode(alloc, rest)?;
+                let (name, rest) = String::decode(alloc, rest)?;
+                let (ty, rest) = EntityType::decode(alloc, rest)?;
+                Ok((ModuleDecl::Import { module, name, ty }, rest))
+            }
+            (0x01, rest) => {
+                let (ty, rest) = GroupTree::decode(alloc, rest)?;
+                Ok((ModuleDecl::Type(ty), rest))
+            }
+            (0x02, rest) => outer_type(alloc, rest),
+            (0x03, rest) => {
+                let (name, rest) = String::decode(alloc, rest)?;
+                let (ty, rest) = EntityType::decode(alloc, rest)?;
+                Ok((ModuleDecl::Export { name, ty }, rest))
+            }
+            _ => Err(Refusal::Malformed),
+        }
+    }
+}
+
+/// A type that can be extended, behind its guard.
+#[tactic(auto, unfolding(wenc_base::specs::laws::Lawful::choose))]
+fn guarded<A: Allocator + Copy>(alloc: A, bytes: &[u8]) -> Result<(CoreTypeTree<A>, &[u8]), Refusal>
+    ensures { Gives (λ x. (core_type_view x.0, x.1.now)) result (read_guarded bytes.now) }
+{
+    match byte(bytes)? {
+        (0x50, rest) => {
+            let (ty, rest) = open(alloc, rest)?;
+            Ok((CoreTypeTree::Group(GroupTree::Sub(ty)), rest))
+        }
+        _ => Err(Refusal::Malformed),
+    }
+}
+
+impl<A: Allocator + Copy> Decode<A> for CoreTypeTree<A> {
+    ghost use Rattle.wenc_types.specs.CoreTypes.{CoreType};
+    ghost use Rattle.wenc_types.specs.laws.CoreTypes.{read_core_type};
+
+    ghost Value = { CoreType };
+
+    ghost view = { core_type_view };
+
+    ghost read = { read_core_type };
+
+    #[tactic(auto, unfolding(wenc_base::specs::laws::Lawful::choose))]
+    fn decode<'a>(alloc: A, bytes: &'a [u8]) -> Result<(CoreTypeTree<A>, &'a [u8]), Refusal> {
+        match byte(bytes)? {
+            (0x50, rest) => {
+                let (decls, rest) = Vec::decode(alloc, rest)?;
+                Ok((CoreTypeTree::Module(decls), rest))
+            }
+            (0x4e, rest) => {
+                let (types, rest) = Vec::decode(alloc, rest)?;
+                Ok((CoreTypeTree::Group(GroupTree::Rec(types)), rest))
+            }
+            (0x00, rest) => guarded(alloc, rest),
+            _ => {
+                let (ty, rest) = SubType::decode(alloc, bytes)?;
+                Ok((CoreTypeTree::Group(GroupTree::Sub(ty)), rest))
+            }
+        }
+    }
+}

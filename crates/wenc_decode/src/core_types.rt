@@ -1,0 +1,125 @@
+//! Value types of core modules.
+ghost use Rattle.std.specs.Prelude.{◌≡◌};
+ghost use Rattle.wenc_base.specs.Types.{abstract_byte};
+ghost use Rattle.wenc_base.specs.laws.Types.{abstract_types, to as reference_to};
+ghost use Rattle.wenc_decode.specs.CoreTypes.{read_referred};
+ghost use Rattle.wenc_decode.specs.Tables.{find};
+ghost use Rattle.wenc_read.specs.Gives.{Gives};
+
+use crate::decode::Decode;
+use std::alloc::Allocator;
+use wenc_base::{AbstractHeapType, HeapType, RefType, ValType};
+use wenc_read::{Refusal, byte, index_of};
+
+/// The abstract heap type that is this byte.
+fn abstract_of(byte: u8) -> Option<AbstractHeapType>
+    ensures { result ≡ find abstract_byte abstract_types byte }
+{
+    match byte {
+        0x74 => Some(AbstractHeapType::NoExn),
+        0x73 => Some(AbstractHeapType::NoFunc),
+        0x72 => Some(AbstractHeapType::NoExtern),
+        0x71 => Some(AbstractHeapType::None),
+        0x70 => Some(AbstractHeapType::Func),
+        0x6f => Some(AbstractHeapType::Extern),
+        0x6e => Some(AbstractHeapType::Any),
+        0x6d => Some(AbstractHeapType::Eq),
+        0x6c => Some(AbstractHeapType::I31),
+        0x6b => Some(AbstractHeapType::Struct),
+        0x6a => Some(AbstractHeapType::Array),
+        0x69 => Some(AbstractHeapType::Exn),
+        _ => None,
+    }
+}
+
+impl<A: Allocator + Copy> Decode<A> for HeapType {
+    ghost use Rattle.wenc_base.specs.declared.types.HeapType.{HeapType as Value'};
+    ghost use Rattle.wenc_base.specs.laws.Types.{read_heap_type};
+
+    ghost Value = { Value' };
+
+    ghost view = { λ h. h };
+
+    ghost read = { read_heap_type };
+
+    fn decode<'a>(_alloc: A, bytes: &'a [u8]) -> Result<(HeapType, &'a [u8]), Refusal> {
+        let (first, rest) = byte(bytes)?;
+        match abstract_of(first) {
+            Some(ty) => Ok((HeapType::Abstract(ty), rest)),
+            None => {
+                let (index, rest) = index_of(bytes)?;
+                Ok((HeapType::Concrete(index), rest))
+            }
+        }
+    }
+}
+
+impl<A: Allocator + Copy> Decode<A> for RefType {
+    ghost use Rattle.wenc_base.specs.declared.types.RefType.{RefType as Value'};
+    ghost use Rattle.wenc_base.specs.laws.Types.{read_reference};
+
+    ghost Value = { Value' };
+
+    ghost view = { λ r. r };
+
+    ghost read = { read_reference };
+
+    #[tactic(auto, unfolding(wenc_base::specs::laws::Lawful::choose))]
+    fn decode<'a>(alloc: A, bytes: &'a [u8]) -> Result<(RefType, &'a [u8]), Refusal> {
+        match byte(bytes)? {
+            (0x63, rest) => reference(alloc, true, rest),
+            (0x64, rest) => reference(alloc, false, rest),
+            (first, rest) => match abstract_of(first) {
+                Some(ty) => Ok((to(true, HeapType::Abstract(ty)), rest)),
+                None => Err(Refusal::Malformed),
+            },
+        }
+    }
+}
+
+fn to(nullable: bool, heap_type: HeapType) -> RefType
+    ensures { result ≡ reference_to nullable heap_type }
+{
+    RefType {
+        nullable,
+        heap_type,
+    }
+}
+
+/// A reference to the heap type that follows.
+fn reference<A: Allocator + Copy>(
+    alloc: A,
+    nullable: bool,
+    bytes: &[u8],
+) -> Result<(RefType, &[u8]), Refusal>
+    ensures { Gives (λ x. (x.0, x.1.now)) result (read_referred nullable bytes.now) }
+{
+    let (heap_type, rest) = HeapType::decode(alloc, bytes)?;
+    Ok((to(nullable, heap_type), rest))
+}
+
+impl<A: Allocator + Copy> Decode<A> for ValType {
+    ghost use Rattle.wenc_base.specs.declared.types.ValType.{ValType as Value'};
+    ghost use Rattle.wenc_base.specs.laws.Types.{read_val_type};
+
+    ghost Value = { Value' };
+
+    ghost view = { λ t. t };
+
+    ghost read = { read_val_type };
+
+    #[tactic(auto, unfolding(wenc_base::specs::laws::Lawful::choose))]
+    fn decode<'a>(alloc: A, bytes: &'a [u8]) -> Result<(ValType, &'a [u8]), Refusal> {
+        match byte(bytes)? {
+            (0x7f, rest) => Ok((ValType::I32, rest)),
+            (0x7e, rest) => Ok((ValType::I64, rest)),
+            (0x7d, rest) => Ok((ValType::F32, rest)),
+            (0x7c, rest) => Ok((ValType::F64, rest)),
+            (0x7b, rest) => Ok((ValType::V128, rest)),
+            _ => {
+                let (ty, rest) = RefType::decode(alloc, bytes)?;
+                Ok((ValType::Ref(ty), rest))
+            }
+        }
+    }
+}

@@ -1,0 +1,132 @@
+ghost use Rattle.std.specs.Prelude.{◌≤◌, List, length, map};
+ghost use Rattle.wenc_base.specs.laws.Lawful.{Reader, times};
+ghost use Rattle.wenc_read.specs.Gives.{Gives};
+
+use std::alloc::Allocator;
+use wenc_read::{Refusal, byte, flag_of, name_of, u32_of};
+
+/// A value that is read from the front of bytes. What it allocates is in `A`.
+pub trait Decode<A: Allocator + Copy>: Drop {
+    /// What a contract sees of a value.
+    ghost Value: { Type 0 };
+
+    ghost view: { Self → Value };
+
+    /// What finds the value.
+    ghost read: { Reader Value };
+
+    fn decode<'a>(alloc: A, bytes: &'a [u8]) -> Result<(Self, &'a [u8]), Refusal>
+        ensures { Gives (λ x. (view x.0, x.1.now)) result (read bytes.now) };
+}
+
+impl<A: Allocator + Copy> Decode<A> for u32 {
+    ghost use Rattle.wenc_base.specs.laws.Numbers.{read_u32};
+    ghost use Rattle.std.specs.Prelude.{ℕ};
+
+    ghost Value = { ℕ };
+
+    ghost view = { λ n. n };
+
+    ghost read = { read_u32 };
+
+    fn decode<'a>(_alloc: A, bytes: &'a [u8]) -> Result<(u32, &'a [u8]), Refusal> {
+        u32_of(bytes)
+    }
+}
+
+impl<A: Allocator + Copy> Decode<A> for bool {
+    ghost use Rattle.std.specs.Prelude.{Bool};
+    ghost use Rattle.wenc_base.specs.laws.Forms.{read_flag};
+
+    ghost Value = { Bool };
+
+    ghost view = { λ b. b };
+
+    ghost read = { read_flag };
+
+    fn decode<'a>(_alloc: A, bytes: &'a [u8]) -> Result<(bool, &'a [u8]), Refusal> {
+        flag_of(bytes)
+    }
+}
+
+impl<A: Allocator + Copy> Decode<A> for String<A> {
+    ghost use Rattle.std.specs.Prelude.{ℕ};
+    ghost use Rattle.std.specs.String.{string_bytes};
+    ghost use Rattle.wenc_base.specs.laws.Forms.{read_name};
+
+    ghost Value = { List ℕ };
+
+    ghost view = { string_bytes };
+
+    ghost read = { read_name };
+
+    fn decode<'a>(alloc: A, bytes: &'a [u8]) -> Result<(String<A>, &'a [u8]), Refusal> {
+        name_of(alloc, bytes)
+    }
+}
+
+/// The room for so many values of these bytes: that of all where each can have a byte, else none.
+pub fn room_for(count: u32, bytes: &[u8]) -> usize
+    ensures { result ≤ length bytes.now }
+{
+    let count = count as usize;
+    if count <= bytes.len() { count } else { 0 }
+}
+
+/// So many values, one after the other.
+fn members<'a, A: Allocator + Copy, T: Decode<A>>(
+    alloc: A,
+    count: u32,
+    bytes: &'a [u8],
+) -> Result<(Vec<T, A>, &'a [u8]), Refusal>
+    ensures { Gives (λ x. (map T.view x.0.items, x.1.now)) result (times T.read count bytes.now) }
+{
+    let mut values = Vec::with_capacity(alloc, room_for(count, bytes))?;
+    let mut rest = bytes;
+    for _ in 0..count {
+        let (value, after) = T::decode(alloc, rest)?;
+        values.push(value)?;
+        rest = after;
+    }
+    Ok((values, rest))
+}
+
+/// How many, then so many values.
+impl<A: Allocator + Copy, T: Decode<A>> Decode<A> for Vec<T, A> {
+    ghost use Rattle.wenc_base.specs.laws.Forms.{read_list};
+
+    ghost Value = { List T.Value };
+
+    ghost view = { λ x. map T.view x.items };
+
+    ghost read = { read_list T.read };
+
+    fn decode<'a>(alloc: A, bytes: &'a [u8]) -> Result<(Vec<T, A>, &'a [u8]), Refusal> {
+        let (count, rest) = u32_of(bytes)?;
+        members(alloc, count, rest)
+    }
+}
+
+/// A byte `00`, or a byte `01` and a value.
+impl<A: Allocator + Copy, T: Decode<A>> Decode<A> for Option<T> {
+    ghost use Rattle.std.specs.Prelude.{Option as OptionOf, option_map};
+    ghost use Rattle.wenc_base.specs.laws.Forms.{read_option};
+
+    ghost Value = { OptionOf T.Value };
+
+    ghost view = { option_map T.view };
+
+    ghost read = { read_option T.read };
+
+    #[tactic(auto, unfolding(wenc_base::specs::laws::Lawful::choose))]
+    fn decode<'a>(alloc: A, bytes: &'a [u8]) -> Result<(Option<T>, &'a [u8]), Refusal> {
+        match byte(bytes)? {
+            (0x00, rest) => Ok((None, rest)),
+            (0x01, rest) => {
+                let (value, rest) = T::decode(alloc, rest)?;
+                Ok((Some(value), rest))
+            }
+            _ => Err(Refusal::Malformed),
+        }
+    }
+}

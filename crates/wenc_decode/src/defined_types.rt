@@ -1,0 +1,161 @@
+//! Types of values that components define.
+ghost use Rattle.wenc_base.specs.laws.Lawful.{pick, nowhere};
+ghost use Rattle.wenc_decode.specs.Types.{read_defined_row, handle_rows};
+ghost use Rattle.wenc_read.specs.Gives.{Gives};
+ghost use Rattle.wenc_types.specs.TypeTrees.{defined_view};
+
+use crate::decode::Decode;
+use crate::types::primitive_of;
+use std::alloc::Allocator;
+use wenc_parts::ComponentValType;
+use wenc_read::{Refusal, byte};
+use wenc_types::{CaseTree, DefinedTree};
+
+/// A field or a parameter.
+impl<A: Allocator + Copy> Decode<A> for (String<A>, ComponentValType) {
+    ghost use Rattle.wenc_types.specs.DefinedTypes.{Named};
+    ghost use Rattle.wenc_types.specs.TypeTrees.{named_view};
+    ghost use Rattle.wenc_types.specs.laws.DefinedTypes.{read_named};
+
+    ghost Value = { Named };
+
+    ghost view = { named_view };
+
+    ghost read = { read_named };
+
+    fn decode<'a>(
+        alloc: A,
+        bytes: &'a [u8],
+    ) -> Result<((String<A>, ComponentValType), &'a [u8]), Refusal> {
+        let (name, rest) = String::decode(alloc, bytes)?;
+        let (ty, rest) = ComponentValType::decode(alloc, rest)?;
+        Ok(((name, ty), rest))
+    }
+}
+
+impl<A: Allocator + Copy> Decode<A> for CaseTree<A> {
+    ghost use Rattle.wenc_types.specs.DefinedTypes.{Case};
+    ghost use Rattle.wenc_types.specs.TypeTrees.{case_view};
+    ghost use Rattle.wenc_types.specs.laws.DefinedTypes.{read_case};
+
+    ghost Value = { Case };
+
+    ghost view = { case_view };
+
+    ghost read = { read_case };
+
+    #[tactic(auto, unfolding(wenc_base::specs::laws::Lawful::choose))]
+    fn decode<'a>(alloc: A, bytes: &'a [u8]) -> Result<(CaseTree<A>, &'a [u8]), Refusal> {
+        let (name, rest) = String::decode(alloc, bytes)?;
+        let (ty, rest) = Option::decode(alloc, rest)?;
+        match byte(rest)? {
+            (0x00, rest) => Ok((CaseTree { name, ty }, rest)),
+            _ => Err(Refusal::Malformed),
+        }
+    }
+}
+
+/// A type of values that is no primitive one, behind its first byte.
+fn defined<A: Allocator + Copy>(
+    alloc: A,
+    first: u8,
+    bytes: &[u8],
+) -> Result<(DefinedTree<A>, &[u8]), Refusal>
+    ensures { Gives (λ x. (defined_view x.0, x.1.now)) result (read_defined_row first bytes.now) }
+{
+    match first {
+        0x72 => {
+            let (fields, rest) = Vec::decode(alloc, bytes)?;
+            Ok((DefinedTree::Record(fields), rest))
+        }
+        0x71 => {
+            let (cases, rest) = Vec::decode(alloc, bytes)?;
+            Ok((DefinedTree::Variant(cases), rest))
+        }
+        0x70 => {
+            let (element, rest) = ComponentValType::decode(alloc, bytes)?;
+            Ok((DefinedTree::List(element), rest))
+        }
+        0x6f => {
+            let (elements, rest) = Vec::decode(alloc, bytes)?;
+            Ok((DefinedTree::Tuple(elements), rest))
+        }
+        0x6e => {
+            let (names, rest) = Vec::decode(alloc, bytes)?;
+            Ok((DefinedTree::Flags(names), rest))
+        }
+        0x6d => {
+            let (names, rest) = Vec::decode(alloc, bytes)?;
+            Ok((DefinedTree::Enum(names), rest))
+        }
+        0x6b => {
+            let (ty, rest) = ComponentValType::decode(alloc, bytes)?;
+            Ok((DefinedTree::Option(ty), rest))
+        }
+        0x6a => {
+            let (ok, rest) = Option::decode(alloc, bytes)?;
+            let (err, rest) = Option::decode(alloc, rest)?;
+            Ok((DefinedTree::Result { ok, err }, rest))
+        }
+        _ => of_handle(alloc, first, bytes),
+    }
+}
+
+/// The same from the row of handles on.
+fn of_handle<A: Allocator + Copy>(
+    alloc: A,
+    first: u8,
+    bytes: &[u8],
+) -> Result<(DefinedTree<A>, &[u8]), Refusal>
+    ensures { Gives (λ x. (defined_view x.0, x.1.now)) result
+        (pick handle_rows nowhere first bytes.now) }
+{
+    match first {
+        0x69 => {
+            let (ty, rest) = u32::decode(alloc, bytes)?;
+            Ok((DefinedTree::Own(ty), rest))
+        }
+        0x68 => {
+            let (ty, rest) = u32::decode(alloc, bytes)?;
+            Ok((DefinedTree::Borrow(ty), rest))
+        }
+        0x67 => {
+            let (element, rest) = ComponentValType::decode(alloc, bytes)?;
+            let (length, rest) = u32::decode(alloc, rest)?;
+            Ok((DefinedTree::FixedLengthList { element, length }, rest))
+        }
+        0x66 => {
+            let (ty, rest) = Option::decode(alloc, bytes)?;
+            Ok((DefinedTree::Stream(ty), rest))
+        }
+        0x65 => {
+            let (ty, rest) = Option::decode(alloc, bytes)?;
+            Ok((DefinedTree::Future(ty), rest))
+        }
+        0x63 => {
+            let (key, rest) = ComponentValType::decode(alloc, bytes)?;
+            let (value, rest) = ComponentValType::decode(alloc, rest)?;
+            Ok((DefinedTree::Map { key, value }, rest))
+        }
+        _ => Err(Refusal::Malformed),
+    }
+}
+
+impl<A: Allocator + Copy> Decode<A> for DefinedTree<A> {
+    ghost use Rattle.wenc_types.specs.DefinedTypes.{Defined};
+    ghost use Rattle.wenc_types.specs.laws.DefinedTypes.{read_defined};
+
+    ghost Value = { Defined };
+
+    ghost view = { defined_view };
+
+    ghost read = { read_defined };
+
+    fn decode<'a>(alloc: A, bytes: &'a [u8]) -> Result<(DefinedTree<A>, &'a [u8]), Refusal> {
+        let (first, rest) = byte(bytes)?;
+        match primitive_of(first) {
+            Some(ty) => Ok((DefinedTree::Primitive(ty), rest)),
+            None => defined(alloc, first, rest),
+        }
+    }
+}

@@ -1,0 +1,212 @@
+//! What modules import and export.
+ghost use Rattle.wenc_decode.specs.Entities.{read_maximum, read_bounds, memory_so, table_so};
+ghost use Rattle.wenc_read.specs.Gives.{Gives};
+
+use crate::decode::Decode;
+use std::alloc::Allocator;
+use wenc_base::{
+    EntityType, ExportKind, GlobalType, MemoryType, RefType, TableType, TagType, ValType,
+};
+use wenc_read::{Refusal, byte, u64_of};
+
+/// The maximum, where there is one.
+fn maximum(has_maximum: bool, bytes: &[u8]) -> Result<(Option<u64>, &[u8]), Refusal>
+    ensures { Gives (λ x. (x.0, x.1.now)) result (read_maximum has_maximum bytes.now) }
+{
+    if !has_maximum {
+        return Ok((None, bytes));
+    }
+    let (maximum, rest) = u64_of(bytes)?;
+    Ok((Some(maximum), rest))
+}
+
+/// A memory, behind the byte of its limits.
+fn memory(
+    shared: bool,
+    memory64: bool,
+    has_maximum: bool,
+    bytes: &[u8],
+) -> Result<(MemoryType, &[u8]), Refusal>
+    ensures { Gives (λ x. (x.0, x.1.now)) result
+        (read_bounds has_maximum (memory_so shared memory64) bytes.now) }
+{
+    let (minimum, rest) = u64_of(bytes)?;
+    let (maximum, rest) = maximum(has_maximum, rest)?;
+    let ty = MemoryType {
+        minimum,
+        maximum,
+        memory64,
+        shared,
+    };
+    Ok((ty, rest))
+}
+
+impl<A: Allocator + Copy> Decode<A> for MemoryType {
+    ghost use Rattle.wenc_base.specs.declared.memories.MemoryType.{MemoryType as Value'};
+    ghost use Rattle.wenc_base.specs.laws.Entities.{read_memory_type};
+
+    ghost Value = { Value' };
+
+    ghost view = { λ m. m };
+
+    ghost read = { read_memory_type };
+
+    #[tactic(auto, unfolding(wenc_base::specs::laws::Lawful::choose))]
+    fn decode<'a>(_alloc: A, bytes: &'a [u8]) -> Result<(MemoryType, &'a [u8]), Refusal> {
+        match byte(bytes)? {
+            (0x00, rest) => memory(false, false, false, rest),
+            (0x01, rest) => memory(false, false, true, rest),
+            (0x02, rest) => memory(true, false, false, rest),
+            (0x03, rest) => memory(true, false, true, rest),
+            (0x04, rest) => memory(false, true, false, rest),
+            (0x05, rest) => memory(false, true, true, rest),
+            (0x06, rest) => memory(true, true, false, rest),
+            (0x07, rest) => memory(true, true, true, rest),
+            _ => Err(Refusal::Malformed),
+        }
+    }
+}
+
+/// A table of such elements, behind the byte of its limits.
+fn table(
+    element_type: RefType,
+    table64: bool,
+    has_maximum: bool,
+    bytes: &[u8],
+) -> Result<(TableType, &[u8]), Refusal>
+    ensures { Gives (λ x. (x.0, x.1.now)) result
+        (read_bounds has_maximum (table_so element_type table64) bytes.now) }
+{
+    let (minimum, rest) = u64_of(bytes)?;
+    let (maximum, rest) = maximum(has_maximum, rest)?;
+    let ty = TableType {
+        element_type,
+        table64,
+        minimum,
+        maximum,
+    };
+    Ok((ty, rest))
+}
+
+impl<A: Allocator + Copy> Decode<A> for TableType {
+    ghost use Rattle.wenc_base.specs.declared.tables.TableType.{TableType as Value'};
+    ghost use Rattle.wenc_base.specs.laws.Entities.{read_table_type};
+
+    ghost Value = { Value' };
+
+    ghost view = { λ t. t };
+
+    ghost read = { read_table_type };
+
+    #[tactic(auto, unfolding(wenc_base::specs::laws::Lawful::choose))]
+    fn decode<'a>(alloc: A, bytes: &'a [u8]) -> Result<(TableType, &'a [u8]), Refusal> {
+        let (element_type, rest) = RefType::decode(alloc, bytes)?;
+        match byte(rest)? {
+            (0x00, rest) => table(element_type, false, false, rest),
+            (0x01, rest) => table(element_type, false, true, rest),
+            (0x04, rest) => table(element_type, true, false, rest),
+            (0x05, rest) => table(element_type, true, true, rest),
+            _ => Err(Refusal::Malformed),
+        }
+    }
+}
+
+impl<A: Allocator + Copy> Decode<A> for GlobalType {
+    ghost use Rattle.wenc_base.specs.declared.globals.GlobalType.{GlobalType as Value'};
+    ghost use Rattle.wenc_base.specs.laws.Entities.{read_global_type};
+
+    ghost Value = { Value' };
+
+    ghost view = { λ g. g };
+
+    ghost read = { read_global_type };
+
+    fn decode<'a>(alloc: A, bytes: &'a [u8]) -> Result<(GlobalType, &'a [u8]), Refusal> {
+        let (val_type, rest) = ValType::decode(alloc, bytes)?;
+        let (mutable, rest) = bool::decode(alloc, rest)?;
+        Ok((GlobalType { val_type, mutable }, rest))
+    }
+}
+
+impl<A: Allocator + Copy> Decode<A> for TagType {
+    ghost use Rattle.wenc_base.specs.declared.tags.TagType.{TagType as Value'};
+    ghost use Rattle.wenc_base.specs.laws.Entities.{read_tag_type};
+
+    ghost Value = { Value' };
+
+    ghost view = { λ t. t };
+
+    ghost read = { read_tag_type };
+
+    #[tactic(auto, unfolding(wenc_base::specs::laws::Lawful::choose))]
+    fn decode<'a>(alloc: A, bytes: &'a [u8]) -> Result<(TagType, &'a [u8]), Refusal> {
+        match byte(bytes)? {
+            (0x00, rest) => {
+                let (func_type_idx, rest) = u32::decode(alloc, rest)?;
+                Ok((TagType { func_type_idx }, rest))
+            }
+            _ => Err(Refusal::Malformed),
+        }
+    }
+}
+
+impl<A: Allocator + Copy> Decode<A> for EntityType {
+    ghost use Rattle.wenc_base.specs.declared.imports.EntityType.{EntityType as Value'};
+    ghost use Rattle.wenc_base.specs.laws.Entities.{read_entity_type};
+
+    ghost Value = { Value' };
+
+    ghost view = { λ e. e };
+
+    ghost read = { read_entity_type };
+
+    #[tactic(auto, unfolding(wenc_base::specs::laws::Lawful::choose))]
+    fn decode<'a>(alloc: A, bytes: &'a [u8]) -> Result<(EntityType, &'a [u8]), Refusal> {
+        match byte(bytes)? {
+            (0x00, rest) => {
+                let (ty, rest) = u32::decode(alloc, rest)?;
+                Ok((EntityType::Function(ty), rest))
+            }
+            (0x01, rest) => {
+                let (ty, rest) = TableType::decode(alloc, rest)?;
+                Ok((EntityType::Table(ty), rest))
+            }
+            (0x02, rest) => {
+                let (ty, rest) = MemoryType::decode(alloc, rest)?;
+                Ok((EntityType::Memory(ty), rest))
+            }
+            (0x03, rest) => {
+                let (ty, rest) = GlobalType::decode(alloc, rest)?;
+                Ok((EntityType::Global(ty), rest))
+            }
+            (0x04, rest) => {
+                let (ty, rest) = TagType::decode(alloc, rest)?;
+                Ok((EntityType::Tag(ty), rest))
+            }
+            _ => Err(Refusal::Malformed),
+        }
+    }
+}
+
+impl<A: Allocator + Copy> Decode<A> for ExportKind {
+    ghost use Rattle.wenc_base.specs.declared.exports.ExportKind.{ExportKind as Value'};
+    ghost use Rattle.wenc_base.specs.laws.Exports.{read_export_kind};
+
+    ghost Value = { Value' };
+
+    ghost view = { λ k. k };
+
+    ghost read = { read_export_kind };
+
+    #[tactic(auto, unfolding(wenc_base::specs::laws::Lawful::choose))]
+    fn decode<'a>(_alloc: A, bytes: &'a [u8]) -> Result<(ExportKind, &'a [u8]), Refusal> {
+        match byte(bytes)? {
+            (0x00, rest) => Ok((ExportKind::Func, rest)),
+            (0x01, rest) => Ok((ExportKind::Table, rest)),
+            (0x02, rest) => Ok((ExportKind::Memory, rest)),
+            (0x03, rest) => Ok((ExportKind::Global, rest)),
+            (0x04, rest) => Ok((ExportKind::Tag, rest)),
+            _ => Err(Refusal::Malformed),
+        }
+    }
+}

@@ -1,0 +1,32 @@
+//! Kinds of items.
+use crate::decode::Decode;
+use std::alloc::Allocator;
+use wenc_parts::ComponentExportKind;
+use wenc_read::{Refusal, byte};
+
+impl<A: Allocator + Copy> Decode<A> for ComponentExportKind {
+    ghost use Rattle.wenc_parts.specs.declared.exports.ComponentExportKind.{ComponentExportKind as Value'};
+    ghost use Rattle.wenc_parts.specs.laws.Exports.{read_export_kind};
+
+    ghost Value = { Value' };
+
+    ghost view = { λ k. k };
+
+    ghost read = { read_export_kind };
+
+    #[tactic(auto, unfolding(wenc_base::specs::laws::Lawful::choose))]
+    fn decode<'a>(_alloc: A, bytes: &'a [u8]) -> Result<(ComponentExportKind, &'a [u8]), Refusal> {
+        match byte(bytes)? {
+            (0x00, rest) => match byte(rest)? {
+                (0x11, rest) => Ok((ComponentExportKind::Module, rest)),
+                _ => Err(Refusal::Malformed),
+            },
+            (0x01, rest) => Ok((ComponentExportKind::Func, rest)),
+            (0x02, rest) => Ok((ComponentExportKind::Value, rest)),
+            (0x03, rest) => Ok((ComponentExportKind::Type, rest)),
+            (0x05, rest) => Ok((ComponentExportKind::Instance, rest)),
+            (0x04, rest) => Ok((ComponentExportKind::Component, rest)),
+            _ => Err(Refusal::Malformed),
+        }
+    }
+}

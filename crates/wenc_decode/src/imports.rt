@@ -1,0 +1,73 @@
+//! References to types.
+use crate::decode::Decode;
+use std::alloc::Allocator;
+use wenc_parts::{ComponentTypeRef, ComponentValType, TypeBounds};
+use wenc_read::{Refusal, byte};
+
+impl<A: Allocator + Copy> Decode<A> for TypeBounds {
+    ghost use Rattle.wenc_parts.specs.declared.imports.TypeBounds.{TypeBounds as Value'};
+    ghost use Rattle.wenc_parts.specs.laws.Imports.{read_type_bounds};
+
+    ghost Value = { Value' };
+
+    ghost view = { λ b. b };
+
+    ghost read = { read_type_bounds };
+
+    #[tactic(auto, unfolding(wenc_base::specs::laws::Lawful::choose))]
+    fn decode<'a>(alloc: A, bytes: &'a [u8]) -> Result<(TypeBounds, &'a [u8]), Refusal> {
+        match byte(bytes)? {
+            (0x00, rest) => {
+                let (index, rest) = u32::decode(alloc, rest)?;
+                Ok((TypeBounds::Eq(index), rest))
+            }
+            (0x01, rest) => Ok((TypeBounds::SubResource, rest)),
+            _ => Err(Refusal::Malformed),
+        }
+    }
+}
+
+impl<A: Allocator + Copy> Decode<A> for ComponentTypeRef {
+    ghost use Rattle.wenc_parts.specs.declared.imports.ComponentTypeRef.{ComponentTypeRef as Value'};
+    ghost use Rattle.wenc_parts.specs.laws.Imports.{read_type_reference};
+
+    ghost Value = { Value' };
+
+    ghost view = { λ r. r };
+
+    ghost read = { read_type_reference };
+
+    #[tactic(auto, unfolding(wenc_base::specs::laws::Lawful::choose))]
+    fn decode<'a>(alloc: A, bytes: &'a [u8]) -> Result<(ComponentTypeRef, &'a [u8]), Refusal> {
+        match byte(bytes)? {
+            (0x00, rest) => match byte(rest)? {
+                (0x11, rest) => {
+                    let (index, rest) = u32::decode(alloc, rest)?;
+                    Ok((ComponentTypeRef::Module(index), rest))
+                }
+                _ => Err(Refusal::Malformed),
+            },
+            (0x01, rest) => {
+                let (index, rest) = u32::decode(alloc, rest)?;
+                Ok((ComponentTypeRef::Func(index), rest))
+            }
+            (0x02, rest) => {
+                let (ty, rest) = ComponentValType::decode(alloc, rest)?;
+                Ok((ComponentTypeRef::Value(ty), rest))
+            }
+            (0x03, rest) => {
+                let (bounds, rest) = TypeBounds::decode(alloc, rest)?;
+                Ok((ComponentTypeRef::Type(bounds), rest))
+            }
+            (0x05, rest) => {
+                let (index, rest) = u32::decode(alloc, rest)?;
+                Ok((ComponentTypeRef::Instance(index), rest))
+            }
+            (0x04, rest) => {
+                let (index, rest) = u32::decode(alloc, rest)?;
+                Ok((ComponentTypeRef::Component(index), rest))
+            }
+            _ => Err(Refusal::Malformed),
+        }
+    }
+}

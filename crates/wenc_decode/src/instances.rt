@@ -1,0 +1,176 @@
+//! Instances of core modules and of components, by arguments or by exports.
+use crate::decode::Decode;
+use std::alloc::Allocator;
+use wenc_base::ExportKind;
+use wenc_parts::{ComponentExportKind, ModuleArg, NameTree};
+use wenc_read::{Refusal, byte};
+use wenc_sections::{CoreInstanceTree, InstanceTree};
+
+impl<A: Allocator + Copy> Decode<A> for ModuleArg {
+    ghost use Rattle.wenc_parts.specs.declared.instances.ModuleArg.{ModuleArg as Value'};
+    ghost use Rattle.wenc_parts.specs.laws.Instances.{read_module_argument};
+
+    ghost Value = { Value' };
+
+    ghost view = { λ a. a };
+
+    ghost read = { read_module_argument };
+
+    #[tactic(auto, unfolding(wenc_base::specs::laws::Lawful::choose))]
+    fn decode<'a>(alloc: A, bytes: &'a [u8]) -> Result<(ModuleArg, &'a [u8]), Refusal> {
+        match byte(bytes)? {
+            (0x12, rest) => {
+                let (instance, rest) = u32::decode(alloc, rest)?;
+                Ok((ModuleArg::Instance(instance), rest))
+            }
+            _ => Err(Refusal::Malformed),
+        }
+    }
+}
+
+/// What a module is given under a name.
+impl<A: Allocator + Copy> Decode<A> for (String<A>, ModuleArg) {
+    ghost use Rattle.wenc_sections.specs.InstanceTrees.{argument_tree_view};
+    ghost use Rattle.wenc_sections.specs.Instances.{Argument};
+    ghost use Rattle.wenc_sections.specs.laws.Items.{read_argument};
+
+    ghost Value = { Argument };
+
+    ghost view = { argument_tree_view };
+
+    ghost read = { read_argument };
+
+    fn decode<'a>(
+        alloc: A,
+        bytes: &'a [u8],
+    ) -> Result<((String<A>, ModuleArg), &'a [u8]), Refusal> {
+        let (name, rest) = String::decode(alloc, bytes)?;
+        let (value, rest) = ModuleArg::decode(alloc, rest)?;
+        Ok(((name, value), rest))
+    }
+}
+
+/// A core item that is exported under a name.
+impl<A: Allocator + Copy> Decode<A> for (String<A>, ExportKind, u32) {
+    ghost use Rattle.wenc_sections.specs.InstanceTrees.{core_export_tree_view};
+    ghost use Rattle.wenc_sections.specs.Instances.{CoreExport};
+    ghost use Rattle.wenc_sections.specs.laws.Items.{read_core_export};
+
+    ghost Value = { CoreExport };
+
+    ghost view = { core_export_tree_view };
+
+    ghost read = { read_core_export };
+
+    fn decode<'a>(
+        alloc: A,
+        bytes: &'a [u8],
+    ) -> Result<((String<A>, ExportKind, u32), &'a [u8]), Refusal> {
+        let (name, rest) = String::decode(alloc, bytes)?;
+        let (kind, rest) = ExportKind::decode(alloc, rest)?;
+        let (index, rest) = u32::decode(alloc, rest)?;
+        Ok(((name, kind, index), rest))
+    }
+}
+
+impl<A: Allocator + Copy> Decode<A> for CoreInstanceTree<A> {
+    ghost use Rattle.wenc_sections.specs.InstanceTrees.{core_instance_tree_view};
+    ghost use Rattle.wenc_sections.specs.Instances.{CoreInstance};
+    ghost use Rattle.wenc_sections.specs.laws.Items.{read_core_instance};
+
+    ghost Value = { CoreInstance };
+
+    ghost view = { core_instance_tree_view };
+
+    ghost read = { read_core_instance };
+
+    #[tactic(auto, unfolding(wenc_base::specs::laws::Lawful::choose))]
+    fn decode<'a>(alloc: A, bytes: &'a [u8]) -> Result<(CoreInstanceTree<A>, &'a [u8]), Refusal> {
+        match byte(bytes)? {
+            (0x00, rest) => {
+                let (module, rest) = u32::decode(alloc, rest)?;
+                let (args, rest) = Vec::decode(alloc, rest)?;
+                Ok((CoreInstanceTree::Instantiate { module, args }, rest))
+            }
+            (0x01, rest) => {
+                let (exports, rest) = Vec::decode(alloc, rest)?;
+                Ok((CoreInstanceTree::Exports(exports), rest))
+            }
+            _ => Err(Refusal::Malformed),
+        }
+    }
+}
+
+/// What a component is given under a name.
+impl<A: Allocator + Copy> Decode<A> for (String<A>, ComponentExportKind, u32) {
+    ghost use Rattle.wenc_sections.specs.InstanceTrees.{given_tree_view};
+    ghost use Rattle.wenc_sections.specs.Instances.{Given};
+    ghost use Rattle.wenc_sections.specs.laws.Items.{read_given};
+
+    ghost Value = { Given };
+
+    ghost view = { given_tree_view };
+
+    ghost read = { read_given };
+
+    fn decode<'a>(
+        alloc: A,
+        bytes: &'a [u8],
+    ) -> Result<((String<A>, ComponentExportKind, u32), &'a [u8]), Refusal> {
+        let (name, rest) = String::decode(alloc, bytes)?;
+        let (kind, rest) = ComponentExportKind::decode(alloc, rest)?;
+        let (index, rest) = u32::decode(alloc, rest)?;
+        Ok(((name, kind, index), rest))
+    }
+}
+
+/// An item that is exported under a name.
+impl<A: Allocator + Copy> Decode<A> for (NameTree<A>, ComponentExportKind, u32) {
+    ghost use Rattle.wenc_sections.specs.InstanceTrees.{exported_tree_view};
+    ghost use Rattle.wenc_sections.specs.Instances.{Exported};
+    ghost use Rattle.wenc_sections.specs.laws.Items.{read_exported};
+
+    ghost Value = { Exported };
+
+    ghost view = { exported_tree_view };
+
+    ghost read = { read_exported };
+
+    fn decode<'a>(
+        alloc: A,
+        bytes: &'a [u8],
+    ) -> Result<((NameTree<A>, ComponentExportKind, u32), &'a [u8]), Refusal> {
+        let (name, rest) = NameTree::decode(alloc, bytes)?;
+        let (kind, rest) = ComponentExportKind::decode(alloc, rest)?;
+        let (index, rest) = u32::decode(alloc, rest)?;
+        Ok(((name, kind, index), rest))
+    }
+}
+
+impl<A: Allocator + Copy> Decode<A> for InstanceTree<A> {
+    ghost use Rattle.wenc_sections.specs.InstanceTrees.{instance_tree_view};
+    ghost use Rattle.wenc_sections.specs.Instances.{Instance};
+    ghost use Rattle.wenc_sections.specs.laws.Items.{read_instance};
+
+    ghost Value = { Instance };
+
+    ghost view = { instance_tree_view };
+
+    ghost read = { read_instance };
+
+    #[tactic(auto, unfolding(wenc_base::specs::laws::Lawful::choose))]
+    fn decode<'a>(alloc: A, bytes: &'a [u8]) -> Result<(InstanceTree<A>, &'a [u8]), Refusal> {
+        match byte(bytes)? {
+            (0x00, rest) => {
+                let (component, rest) = u32::decode(alloc, rest)?;
+                let (args, rest) = Vec::decode(alloc, rest)?;
+                Ok((InstanceTree::Instantiate { component, args }, rest))
+            }
+            (0x01, rest) => {
+                let (exports, rest) = Vec::decode(alloc, rest)?;
+                Ok((InstanceTree::Exports(exports), rest))
+            }
+            _ => Err(Refusal::Malformed),
+        }
+    }
+}

@@ -1,0 +1,20 @@
+//! Names of imports and exports.
+use crate::decode::Decode;
+use std::alloc::Allocator;
+use wenc_parts::NameTree;
+use wenc_read::{Refusal, extern_name_of};
+
+impl<A: Allocator + Copy> Decode<A> for NameTree<A> {
+    ghost use Rattle.wenc_parts.specs.Imports.{ExternName, name_tree_view};
+    ghost use Rattle.wenc_parts.specs.laws.Imports.{read_extern_name};
+
+    ghost Value = { ExternName };
+
+    ghost view = { name_tree_view };
+
+    ghost read = { read_extern_name };
+
+    fn decode<'a>(alloc: A, bytes: &'a [u8]) -> Result<(NameTree<A>, &'a [u8]), Refusal> {
+        extern_name_of(alloc, bytes)
+    }
+}

@@ -1,0 +1,221 @@
+//! Types that components define. Those of components and instances nest, down to a depth.
+ghost use Rattle.std.specs.Prelude.{map};
+ghost use Rattle.wenc_decode.specs.Outcomes.{Yields, repeat};
+ghost use Rattle.wenc_decode.specs.TypeTrees.{read_imported, read_exported, read_component_declaration, read_instance_declaration};
+ghost use Rattle.wenc_decode.specs.TypeTrees.{read_type, read_component_type, read_instance_type};
+ghost use Rattle.wenc_decode.specs.Types.{read_function_type, read_resource_type};
+ghost use Rattle.wenc_read.specs.Gives.{Gives};
+ghost use Rattle.wenc_types.specs.TypeTrees.{type_view, instance_declaration_view, component_declaration_view};
+
+use crate::decode::Decode;
+use std::alloc::Allocator;
+use wenc_base::ValType;
+use wenc_parts::{AliasTree, ComponentTypeRef, NameTree, ResultList};
+use wenc_read::{Refusal, byte, u32_of};
+use wenc_types::{ComponentDecl, CoreTypeTree, DefinedTree, InstanceDecl, TypeTree};
+
+/// The type of a function, behind its first byte.
+fn function_type<A: Allocator + Copy>(
+    alloc: A,
+    is_async: bool,
+    bytes: &[u8],
+) -> Result<(TypeTree<A>, &[u8]), Refusal>
+    ensures { Gives (λ x. (type_view x.0, x.1.now)) result (read_function_type is_async bytes.now) }
+{
+    let (params, rest) = Vec::decode(alloc, bytes)?;
+    let (answer, rest) = ResultList::decode(alloc, rest)?;
+    let ty = TypeTree::Func {
+        is_async,
+        params,
+        result: answer.0,
+    };
+    Ok((ty, rest))
+}
+
+/// The type of a resource, behind its first byte.
+fn resource_type<A: Allocator + Copy>(
+    alloc: A,
+    bytes: &[u8],
+) -> Result<(TypeTree<A>, &[u8]), Refusal>
+    ensures { Gives (λ x. (type_view x.0, x.1.now)) result (read_resource_type bytes.now) }
+{
+    let (rep, rest) = ValType::decode(alloc, bytes)?;
+    let (dtor, rest) = Option::decode(alloc, rest)?;
+    Ok((TypeTree::Resource { rep, dtor }, rest))
+}
+
+/// A type in which types of components and instances open at most `depth_left` times inside one another.
+#[cycle(types)]
+#[tactic(auto, using(crate::specs::laws::Levels::one_level), unfolding(crate::specs::Outcomes::select))]
+pub fn type_of<A: Allocator + Copy>(
+    alloc: A,
+    depth_left: u32,
+    bytes: &[u8],
+) -> Result<(TypeTree<A>, &[u8]), Refusal>
+    ensures { Yields (λ x. (type_view x.0, x.1.now)) result (read_type depth_left bytes.now) }
+{
+    match byte(bytes)? {
+        (0x41, rest) => component_type(alloc, depth_left, rest),
+        (0x42, rest) => instance_type(alloc, depth_left, rest),
+        (0x40, rest) => function_type(alloc, false, rest),
+        (0x43, rest) => function_type(alloc, true, rest),
+        (0x3f, rest) => resource_type(alloc, rest),
+        _ => {
+            let (ty, rest) = DefinedTree::decode(alloc, bytes)?;
+            Ok((TypeTree::Defined(ty), rest))
+        }
+    }
+}
+
+/// The type of a component, behind its first byte.
+#[cycle(types)]
+fn component_type<A: Allocator + Copy>(
+    alloc: A,
+    depth_left: u32,
+    bytes: &[u8],
+) -> Result<(TypeTree<A>, &[u8]), Refusal>
+    ensures { Yields (λ x. (type_view x.0, x.1.now)) result
+        (read_component_type depth_left bytes.now) }
+{
+    if depth_left == 0 {
+        return Err(Refusal::TooDeep);
+    }
+    let (count, rest) = u32_of(bytes)?;
+    let (decls, rest) = component_decls(alloc, depth_left - 1, count, rest)?;
+    Ok((TypeTree::Component(decls), rest))
+}
+
+/// The type of an instance, behind its first byte.
+#[cycle(types)]
+fn instance_type<A: Allocator + Copy>(
+    alloc: A,
+    depth_left: u32,
+    bytes: &[u8],
+) -> Result<(TypeTree<A>, &[u8]), Refusal>
+    ensures { Yields (λ x. (type_view x.0, x.1.now)) result
+        (read_instance_type depth_left bytes.now) }
+{
+    if depth_left == 0 {
+        return Err(Refusal::TooDeep);
+    }
+    let (count, rest) = u32_of(bytes)?;
+    let (decls, rest) = instance_decls(alloc, depth_left - 1, count, rest)?;
+    Ok((TypeTree::Instance(decls), rest))
+}
+
+/// So many declarations of a component type.
+#[cycle(types)]
+fn component_decls<A: Allocator + Copy>(
+    alloc: A,
+    depth_left: u32,
+    count: u32,
+    bytes: &[u8],
+) -> Result<(Vec<ComponentDecl<A>, A>, &[u8]), Refusal>
+    ensures { Yields (λ x. (map component_declaration_view x.0.items, x.1.now)) result
+        (repeat (read_component_declaration (read_type depth_left)) count bytes.now) }
+{
+    let mut decls = Vec::new(alloc);
+    let mut rest = bytes;
+    for _ in 0..count {
+        let (decl, after) = component_decl(alloc, depth_left, rest)?;
+        decls.push(decl)?;
+        rest = after;
+    }
+    Ok((decls, rest))
+}
+
+/// So many declarations of an instance type.
+#[cycle(types)]
+fn instance_decls<A: Allocator + Copy>(
+    alloc: A,
+    depth_left: u32,
+    count: u32,
+    bytes: &[u8],
+) -> Result<(Vec<InstanceDecl<A>, A>, &[u8]), Refusal>
+    ensures { Yields (λ x. (map instance_declaration_view x.0.items, x.1.now)) result
+        (repeat (read_instance_declaration (read_type depth_left)) count bytes.now) }
+{
+    let mut decls = Vec::new(alloc);
+    let mut rest = bytes;
+    for _ in 0..count {
+        let (decl, after) = instance_decl(alloc, depth_left, rest)?;
+        decls.push(decl)?;
+        rest = after;
+    }
+    Ok((decls, rest))
+}
+
+/// What a component type declares.
+#[cycle(types)]
+#[tactic(auto, unfolding(crate::specs::Outcomes::select))]
+fn component_decl<A: Allocator + Copy>(
+    alloc: A,
+    depth_left: u32,
+    bytes: &[u8],
+) -> Result<(ComponentDecl<A>, &[u8]), Refusal>
+    ensures { Yields (λ x. (component_declaration_view x.0, x.1.now)) result
+        (read_component_declaration (read_type depth_left) bytes.now) }
+{
+    match byte(bytes)? {
+        (0x03, rest) => imported(alloc, rest),
+        _ => {
+            let (decl, rest) = instance_decl(alloc, depth_left, bytes)?;
+            Ok((ComponentDecl::Decl(decl), rest))
+        }
+    }
+}
+
+/// What an instance type declares.
+#[cycle(types)]
+#[tactic(auto, unfolding(crate::specs::Outcomes::select))]
+fn instance_decl<A: Allocator + Copy>(
+    alloc: A,
+    depth_left: u32,
+    bytes: &[u8],
+) -> Result<(InstanceDecl<A>, &[u8]), Refusal>
+    ensures { Yields (λ x. (instance_declaration_view x.0, x.1.now)) result
+        (read_instance_declaration (read_type depth_left) bytes.now) }
+{
+    match byte(bytes)? {
+        (0x00, rest) => {
+            let (ty, rest) = CoreTypeTree::decode(alloc, rest)?;
+            Ok((InstanceDecl::CoreType(ty), rest))
+        }
+        (0x01, rest) => {
+            let (ty, rest) = type_of(alloc, depth_left, rest)?;
+            Ok((InstanceDecl::Type(ty), rest))
+        }
+        (0x02, rest) => {
+            let (alias, rest) = AliasTree::decode(alloc, rest)?;
+            Ok((InstanceDecl::Alias(alias), rest))
+        }
+        (0x04, rest) => exported(alloc, rest),
+        _ => Err(Refusal::Malformed),
+    }
+}
+
+/// An import, behind its first byte.
+fn imported<A: Allocator + Copy>(
+    alloc: A,
+    bytes: &[u8],
+) -> Result<(ComponentDecl<A>, &[u8]), Refusal>
+    ensures { Gives (λ x. (component_declaration_view x.0, x.1.now)) result
+        (read_imported bytes.now) }
+{
+    let (name, rest) = NameTree::decode(alloc, bytes)?;
+    let (ty, rest) = ComponentTypeRef::decode(alloc, rest)?;
+    Ok((ComponentDecl::Import { name, ty }, rest))
+}
+
+/// An export, behind its first byte.
+fn exported<A: Allocator + Copy>(
+    alloc: A,
+    bytes: &[u8],
+) -> Result<(InstanceDecl<A>, &[u8]), Refusal>
+    ensures { Gives (λ x. (instance_declaration_view x.0, x.1.now)) result
+        (read_exported bytes.now) }
+{
+    let (name, rest) = NameTree::decode(alloc, bytes)?;
+    let (ty, rest) = ComponentTypeRef::decode(alloc, rest)?;
+    Ok((InstanceDecl::Export { name, ty }, rest))
+}

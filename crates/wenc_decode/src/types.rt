@@ -1,0 +1,83 @@
+//! Value types of components, and what functions answer.
+ghost use Rattle.std.specs.Prelude.{◌≡◌};
+ghost use Rattle.wenc_decode.specs.Tables.{find};
+ghost use Rattle.wenc_decode.specs.Types.{primitive_types};
+ghost use Rattle.wenc_parts.specs.Types.{primitive_byte};
+
+use crate::decode::Decode;
+use std::alloc::Allocator;
+use wenc_parts::{ComponentValType, PrimitiveValType, ResultList};
+use wenc_read::{Refusal, byte, index_of};
+
+/// The primitive type that is this byte.
+pub(crate) fn primitive_of(byte: u8) -> Option<PrimitiveValType>
+    ensures { result ≡ find primitive_byte primitive_types byte }
+{
+    match byte {
+        0x7f => Some(PrimitiveValType::Bool),
+        0x7e => Some(PrimitiveValType::S8),
+        0x7d => Some(PrimitiveValType::U8),
+        0x7c => Some(PrimitiveValType::S16),
+        0x7b => Some(PrimitiveValType::U16),
+        0x7a => Some(PrimitiveValType::S32),
+        0x79 => Some(PrimitiveValType::U32),
+        0x78 => Some(PrimitiveValType::S64),
+        0x77 => Some(PrimitiveValType::U64),
+        0x76 => Some(PrimitiveValType::F32),
+        0x75 => Some(PrimitiveValType::F64),
+        0x74 => Some(PrimitiveValType::Char),
+        0x73 => Some(PrimitiveValType::String),
+        0x64 => Some(PrimitiveValType::ErrorContext),
+        _ => None,
+    }
+}
+
+impl<A: Allocator + Copy> Decode<A> for ComponentValType {
+    ghost use Rattle.wenc_parts.specs.declared.types.ComponentValType.{ComponentValType as Value'};
+    ghost use Rattle.wenc_parts.specs.laws.Types.{read_value_type};
+
+    ghost Value = { Value' };
+
+    ghost view = { λ t. t };
+
+    ghost read = { read_value_type };
+
+    #[tactic(auto, unfolding(wenc_base::specs::laws::Lawful::choose))]
+    fn decode<'a>(_alloc: A, bytes: &'a [u8]) -> Result<(ComponentValType, &'a [u8]), Refusal> {
+        let (first, rest) = byte(bytes)?;
+        match primitive_of(first) {
+            Some(ty) => Ok((ComponentValType::Primitive(ty), rest)),
+            None => {
+                let (index, rest) = index_of(bytes)?;
+                Ok((ComponentValType::Type(index), rest))
+            }
+        }
+    }
+}
+
+impl<A: Allocator + Copy> Decode<A> for ResultList {
+    ghost use Rattle.std.specs.Prelude.{Option as OptionOf};
+    ghost use Rattle.wenc_parts.specs.declared.types.ComponentValType.{ComponentValType as ValueType};
+    ghost use Rattle.wenc_parts.specs.laws.Types.{read_result_list};
+
+    ghost Value = { OptionOf ValueType };
+
+    ghost view = { λ r. r.0 };
+
+    ghost read = { read_result_list };
+
+    #[tactic(auto, unfolding(wenc_base::specs::laws::Lawful::choose))]
+    fn decode<'a>(alloc: A, bytes: &'a [u8]) -> Result<(ResultList, &'a [u8]), Refusal> {
+        match byte(bytes)? {
+            (0x00, rest) => {
+                let (ty, rest) = ComponentValType::decode(alloc, rest)?;
+                Ok((ResultList(Some(ty)), rest))
+            }
+            (0x01, rest) => match byte(rest)? {
+                (0x00, rest) => Ok((ResultList(None), rest)),
+                _ => Err(Refusal::Malformed),
+            },
+            _ => Err(Refusal::Malformed),
+        }
+    }
+}

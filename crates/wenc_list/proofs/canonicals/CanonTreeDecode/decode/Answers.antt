@@ -1,8 +1,0 @@
-use Rattle.std.proofs.Common.{refl}
-use Rattle.wenc_base.specs.laws.Lawful.{nowhere}
-use Rattle.wenc_canon.specs.laws.Canonicals.{rows}
-use Rattle.wenc_list.proofs.Tables.{at_first}
-use Rattle.wenc_list.proofs.canonicals.CanonTreeDecode.decode.Goals as goal
-
-pub returns : goal.returns
-returns g c = rw (at_first rows nowhere c.in_ok-opcode.opcode c.in_ok-opcode.opcode c.args.bytes.now c.in_ok-opcode.rest.now c.in_ok-opcode.ensures refl) c.function.ensures

@@ -1,4 +1,0 @@
-use Rattle.wenc_list.proofs.number.+long_groups.Given as goal
-
-abbrev pub decreases-long_groups : goal.decreases-long_groups
-decreases-long_groups l = l.room

@@ -1,4 +1,0 @@
-use Rattle.wenc_list.proofs.number.+short_groups.Given as goal
-
-abbrev pub decreases-short_groups : goal.decreases-short_groups
-decreases-short_groups l = l.room

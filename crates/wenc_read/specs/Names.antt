@@ -1,0 +1,21 @@
+-- How the options of a name are read, one after the other.
+use Rattle.std.specs.Prelude.{ℕ, List, Some, None, cond}
+use Rattle.std.specs.String.{string_bytes}
+use Rattle.wenc_base.specs.laws.Lawful.{Reader, ◌>>=◌, times}
+use Rattle.wenc_parts.specs.Imports.{ExternName, NameOption, Implements, VersionSuffix, ExternalId}
+use Rattle.wenc_parts.specs.laws.Imports.{read_name_option, with_options, ascend_from}
+use Rattle.wenc_read.specs.declared.names.OptionTree.{OptionTree}
+use Rattle.wenc_read.specs.declared.names.OptionTree.TheVariants as options
+
+abbrev pub option_view : {A : Type 0} → OptionTree A → NameOption
+option_view (options.Implements text) = Implements (string_bytes text)
+option_view (options.VersionSuffix text) = VersionSuffix (string_bytes text)
+option_view (options.ExternalId text) = ExternalId (string_bytes text)
+
+-- where they ascend from this number on
+abbrev pub ascending : List ℕ → ℕ → List NameOption → Reader ExternName
+ascending text least options bytes = cond (ascend_from least options) (Some (with_options text options, bytes)) None
+
+-- so many options of a name
+abbrev pub read_options : List ℕ → ℕ → ℕ → Reader ExternName
+read_options text least count = times read_name_option count >>= ascending text least

@@ -1,0 +1,2 @@
+-- What follows of the readers: for proofs, here and in the crates above.
+pub mod Tables

@@ -1,0 +1,126 @@
+//! Names of imports and exports, with their options.
+ghost use Rattle.std.specs.Prelude.{◌≡◌, ◌≤◌};
+ghost use Rattle.std.specs.String.{string_bytes};
+ghost use Rattle.wenc_parts.specs.Imports.{name_tree_view};
+ghost use Rattle.wenc_parts.specs.laws.Imports.{option_number, with_option, read_name_option, read_extern_name};
+ghost use Rattle.wenc_read.specs.Gives.{Gives};
+ghost use Rattle.wenc_read.specs.Names.{option_view, read_options};
+
+use crate::number::{byte, u32_of};
+use crate::refusal::Refusal;
+use crate::text::name_of;
+use std::alloc::Allocator;
+use wenc_parts::NameTree;
+
+/// An option of a name.
+#[derive(Drop)]
+enum OptionTree<A: Allocator> {
+    Implements(String<A>),
+    VersionSuffix(String<A>),
+    ExternalId(String<A>),
+}
+
+impl<A: Allocator> OptionTree<A> {
+    /// The byte that it begins with.
+    fn number(&self) -> u8
+        ensures { result ≡ option_number (option_view self.now) }
+    {
+        match self {
+            OptionTree::Implements(_) => 0,
+            OptionTree::VersionSuffix(_) => 1,
+            OptionTree::ExternalId(_) => 2,
+        }
+    }
+
+    /// The name with this option.
+    fn put(self, name: NameTree<A>) -> NameTree<A>
+        ensures { name_tree_view result ≡ with_option (option_view self) (name_tree_view name) }
+    {
+        match self {
+            OptionTree::Implements(text) => NameTree {
+                implements: Some(text),
+                ..name
+            },
+            OptionTree::VersionSuffix(text) => NameTree {
+                version_suffix: Some(text),
+                ..name
+            },
+            OptionTree::ExternalId(text) => NameTree {
+                external_id: Some(text),
+                ..name
+            },
+        }
+    }
+}
+
+/// An option of a name.
+#[tactic(auto, unfolding(wenc_base::specs::laws::Lawful::choose))]
+fn option_of<A: Allocator>(alloc: A, bytes: &[u8]) -> Result<(OptionTree<A>, &[u8]), Refusal>
+    ensures { Gives (λ x. (option_view x.0, x.1.now)) result (read_name_option bytes.now) }
+{
+    match byte(bytes)? {
+        (0x00, rest) => {
+            let (text, rest) = name_of(alloc, rest)?;
+            Ok((OptionTree::Implements(text), rest))
+        }
+        (0x01, rest) => {
+            let (text, rest) = name_of(alloc, rest)?;
+            Ok((OptionTree::VersionSuffix(text), rest))
+        }
+        (0x02, rest) => {
+            let (text, rest) = name_of(alloc, rest)?;
+            Ok((OptionTree::ExternalId(text), rest))
+        }
+        _ => Err(Refusal::Malformed),
+    }
+}
+
+/// A name with so many options, whose first bytes ascend from `least` on: so there are three of them at most, however many
+/// the bytes say.
+fn with_options<A: Allocator + Copy>(
+    alloc: A,
+    name: String<A>,
+    least: u8,
+    count: u32,
+    bytes: &[u8],
+) -> Result<(NameTree<A>, &[u8]), Refusal>
+    requires { least ≤ 3 }
+    ensures { Gives (λ x. (name_tree_view x.0, x.1.now)) result
+        (read_options (string_bytes name) least count bytes.now) }
+{
+    if count == 0 {
+        return Ok((name.into(), bytes));
+    }
+    let (option, rest) = option_of(alloc, bytes)?;
+    let number = option.number();
+    if number < least {
+        return Err(Refusal::Malformed);
+    }
+    let (name, rest) = with_options(alloc, name, number + 1, count - 1, rest)?;
+    Ok((option.put(name), rest))
+}
+
+/// The name of an import or an export, with its options (component model, binary format, "Import and Export Definitions"). It
+/// is refused where there is none, or where its options don't stand in the order of their numbers, each at most once.
+#[tactic(auto, unfolding(wenc_base::specs::laws::Lawful::choose))]
+pub fn extern_name_of<A: Allocator + Copy>(
+    alloc: A,
+    bytes: &[u8],
+) -> Result<(NameTree<A>, &[u8]), Refusal>
+    ensures { Gives (λ x. (name_tree_view x.0, x.1.now)) result (read_extern_name bytes.now) }
+{
+    match byte(bytes)? {
+        (0x00 | 0x01, rest) => {
+            let (name, rest) = name_of(alloc, rest)?;
+            Ok((name.into(), rest))
+        }
+        (0x02, rest) => {
+            let (name, rest) = name_of(alloc, rest)?;
+            match u32_of(rest)? {
+                (0, _) => Err(Refusal::Malformed),
+                (count, rest) => with_options(alloc, name, 0, count, rest),
+            }
+        }
+        _ => Err(Refusal::Malformed),
+    }
+}

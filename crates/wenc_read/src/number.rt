@@ -1,0 +1,82 @@
+//! Numbers.
+ghost use Rattle.std.specs.Prelude.{◌^◌, ◌≤◌};
+ghost use Rattle.wenc_base.specs.laws.Numbers.{read_groups, read_u32, read_u64, read_index};
+ghost use Rattle.wenc_read.specs.Gives.{Gives, read_byte};
+
+use crate::refusal::Refusal;
+
+/// The first byte. It is refused where there is none.
+pub fn byte(bytes: &[u8]) -> Result<(u8, &[u8]), Refusal>
+    ensures { Gives (λ x. (x.0, x.1.now)) result (read_byte bytes.now) }
+{
+    match bytes {
+        [] => Err(Refusal::Malformed),
+        [first, rest @ ..] => Ok((*first, rest)),
+    }
+}
+
+/// A number of 32 bits, whose last byte is below `top`. At most `room` bytes come before that.
+#[tactic(auto, unfolding(wenc_base::specs::laws::Numbers::read_groups))]
+fn short_groups(top: u8, room: u8, bytes: &[u8]) -> Result<(u32, &[u8]), Refusal>
+    requires { top ≤ 128 }
+    ensures { Gives (λ x. (x.0, x.1.now)) result (read_groups top (2 ^ 32) room bytes.now) }
+{
+    let (first, rest) = byte(bytes)?;
+    if first < top {
+        return Ok((u32::from(first), rest));
+    }
+    if room == 0 || first < 128 {
+        return Err(Refusal::Malformed);
+    }
+    let (high, rest) = short_groups(top, room - 1, rest)?;
+    match u32::try_from(u64::from(first) - 128 + 128 * u64::from(high)) {
+        Ok(n) => Ok((n, rest)),
+        Err(_) => Err(Refusal::Malformed),
+    }
+}
+
+/// The same of 64 bits.
+#[tactic(auto, unfolding(wenc_base::specs::laws::Numbers::read_groups))]
+fn long_groups(room: u8, bytes: &[u8]) -> Result<(u64, &[u8]), Refusal>
+    ensures { Gives (λ x. (x.0, x.1.now)) result (read_groups 128 (2 ^ 64) room bytes.now) }
+{
+    let (first, rest) = byte(bytes)?;
+    if first < 128 {
+        return Ok((u64::from(first), rest));
+    }
+    if room == 0 {
+        return Err(Refusal::Malformed);
+    }
+    let (high, rest) = long_groups(room - 1, rest)?;
+    match u64::try_from(u128::from(first) - 128 + 128 * u128::from(high)) {
+        Ok(n) => Ok((n, rest)),
+        Err(_) => Err(Refusal::Malformed),
+    }
+}
+
+/// A number of 32 bits (WebAssembly 3.0, binary format, "Integers"). It is refused where none is spelled in at most 5 bytes.
+/// Most are of one byte.
+#[tactic(auto, unfolding(wenc_base::specs::laws::Numbers::read_groups))]
+pub fn u32_of(bytes: &[u8]) -> Result<(u32, &[u8]), Refusal>
+    ensures { Gives (λ x. (x.0, x.1.now)) result (read_u32 bytes.now) }
+{
+    match bytes {
+        [first, rest @ ..] if *first < 128 => Ok((u32::from(*first), rest)),
+        _ => short_groups(128, 4, bytes),
+    }
+}
+
+/// A number of 64 bits (WebAssembly 3.0, binary format, "Integers"). It is refused where none is spelled in at most 10 bytes.
+pub fn u64_of(bytes: &[u8]) -> Result<(u64, &[u8]), Refusal>
+    ensures { Gives (λ x. (x.0, x.1.now)) result (read_u64 bytes.now) }
+{
+    long_groups(9, bytes)
+}
+
+/// An index that is written as a signed number of 33 bits (WebAssembly 3.0, binary format, "Heap Types"), from 0 to
+/// 4294967295. It is refused where none is spelled in at most 5 bytes.
+pub fn index_of(bytes: &[u8]) -> Result<(u32, &[u8]), Refusal>
+    ensures { Gives (λ x. (x.0, x.1.now)) result (read_index bytes.now) }
+{
+    short_groups(64, 4, bytes)
+}
