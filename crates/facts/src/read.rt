@@ -1,7 +1,7 @@
 //! What is read from the front of bytes.
-ghost use Rattle.std.specs.Prelude.{IfOk};
+ghost use Rattle.std.specs.Prelude.{[], ◌∷◌, IfOk};
 ghost use Rattle.wenc_base.specs.Piece.{Wide};
-ghost use Rattle.wenc_base.specs.laws.Lawful.{◌>>=◌, give};
+ghost use Rattle.wenc_base.specs.laws.Lawful.{times};
 ghost use Rattle.wenc_base.specs.laws.Numbers.{read_u32};
 ghost use Rattle.wenc_parts.specs.Aliases.{alias, alias_tree_view};
 ghost use Rattle.wenc_read.specs.Gives.{Gives};
@@ -13,8 +13,7 @@ use wenc_read::{Refusal, u32_of};
 
 /// Two numbers, one behind the other, and what is behind them.
 pub fn two_numbers(bytes: &[u8]) -> Result<((u32, u32), &[u8]), Refusal>
-    ensures { Gives (λ x. ((x.0.0, x.0.1), x.1.now)) result
-        ((read_u32 >>= λ m. read_u32 >>= λ n. give (m, n)) bytes.now) }
+    ensures { Gives (λ x. (x.0.0 ∷ x.0.1 ∷ [], x.1.now)) result (times read_u32 2 bytes.now) }
 {
     let (first, rest) = u32_of(bytes)?;
     let (second, rest) = u32_of(rest)?;
