@@ -1,18 +1,18 @@
 -- How many places items take.
-use Rattle.std.proofs.Common.{◌≡◌, ℕ, zero, suc, ◌+◌, ◌<◌, ◌≤◌, ◌^◌, cond, List, [], ◌∷◌, ◌++◌, length, map, take, drop, get_or, set, eqb, Option, Some, None, refl, sym, ap, ◌∙◌, inl, inr, arith, get_or-set_other, get_or-set_same}
+use Rattle.std.proofs.Common.{◌≡◌, ℕ, ◌+◌, ◌<◌, ◌≤◌, ◌^◌, cond, List, [], ◌∷◌, ◌++◌, length, map, take, drop, get_or, set, eqb, Option, Some, None, refl, sym, ap, ◌∙◌, inl, inr, arith, get_or-set_other, get_or-set_same}
 use Rattle.std.proofs.lemmas.Bool.Decides.{eqb_tells}
 use Rattle.std.proofs.lemmas.List.{take_more, take-append-drop, map-append}
 use Rattle.std.specs.List.{flat_map}
 use Rattle.std.specs.Prelude.{option_map}
 use Rattle.wenc_base.specs.Piece.{Wide, each}
 use Rattle.wenc_builder.specs.Item.{Item, ModuleItem, CoreInstanceItem, CoreTypeItem, ComponentItem, InstanceItem, AliasItem, TypeItem, CanonItem, StartItem, ImportItem, ExportItem, CustomItem, RawItem, collected}
-use Rattle.wenc_builder.specs.Sections.{Section, members, item_of}
+use Rattle.wenc_builder.specs.Sections.{Section, members, item_of, section_piece}
 use Rattle.wenc_builder.specs.Space.{Defined, defined_as, space_number, kind_space, alias_space, canonical_space, some_in, number_in, defined_in, place}
 use Rattle.wenc_builder.specs.declared.builder.space.Space.{Space}
 use Rattle.wenc_builder.specs.declared.builder.space.Space.TheVariants.{CoreModules, CoreTypes, CoreInstances, Instances, Values, Components, Types}
 use Rattle.wenc_parts.specs.Imports.{kind_of}
 use Rattle.wenc_list.specs.Items.{item_view, section_view}
-use Rattle.wenc_list.specs.Listing.{AreFrom, AreSmall, count_in}
+use Rattle.wenc_list.specs.Listing.{count_in}
 use Rattle.wenc_list.specs.declared.item.ItemTree.{ItemTree}
 use Rattle.wenc_list.specs.declared.listing.ListedSection.{ListedSection}
 use Rattle.wenc_list.proofs.SectionLaws.{Fills, AloneIn, section_framed, members_of}
@@ -61,15 +61,8 @@ module _ {A : Type 0} where
   section_members s = members_of s.id (map item_view s.items.items)
 
   -- one section more
-  pub count_more : (ss : List (ListedSection A)) (i : ℕ) (s : ListedSection A) (k : ℕ) → i < length ss → s ≡ get_or ss i s → count_in k (map section_view (take (i + 1) ss)) ≡ count_in k (map section_view (take i ss)) + place (map item_view s.items.items) k
-  count_more ss i s k lt e =
-      let parts : take (i + 1) ss ≡ take i ss ++ s ∷ [] = take_more ss i s lt ∙ ap (λ (t : ListedSection A). take i ss ++ t ∷ []) (sym e) in
-      rw (parts, map-append section_view (take i ss) (s ∷ [])) (count-append (map section_view (take i ss)) (section_view s) k ∙ ap (λ (xs : List Item). count_in k (map section_view (take i ss)) + place xs k) (section_members s))
-
-  pub small_at : (ss : List (ListedSection A)) (i : ℕ) (d : ListedSection A) (k : ℕ) → i < length ss → AreSmall ss → place (map item_view (get_or ss i d).items.items) k < 2 ^ 64
-  small_at [] i d k lt h = absurd (omega arith)
-  small_at (s ∷ ss) zero d k lt h = h.0 k
-  small_at (s ∷ ss) (suc i) d k lt h = small_at ss i d k (omega arith) h.1
+  pub count_more : (ss : List (ListedSection A)) (s : ListedSection A) (k : ℕ) → count_in k (map section_view (ss ++ s ∷ [])) ≡ count_in k (map section_view ss) + place (map item_view s.items.items) k
+  count_more ss s k = rw (map-append section_view ss (s ∷ [])) (count-append (map section_view ss) (section_view s) k ∙ ap (λ (xs : List Item). count_in k (map section_view ss) + place xs k) (section_members s))
 
 -- ---- what is read takes few places
 
@@ -106,8 +99,7 @@ filled_few : (id k : ℕ) (xs : List Item) (content : List ℕ) → Fills id xs 
 filled_few id k xs content (inl h) = omega (arith, each_few id k xs h.1.0 [] h.1.2, h.1.1.0)
 filled_few id k xs content (inr h) = rw h.1 (omega (arith, alone_few id k h.0 content h.2))
 
-pub are_small : {A : Type 0} (all : ℕ) (ss : List (ListedSection A)) (bytes rest : List ℕ) → AreFrom all ss bytes rest → AreSmall ss
-are_small all [] bytes rest f = tt
-are_small all (s ∷ ss) bytes rest f =
-    let framed = section_framed (section_view s) bytes f.0 f.1 in
-    ((λ k. rw (section_members s) at (filled_few framed.id k (members (section_view s)) framed.content framed.fills)), are_small all ss f.0 rest f.4)
+pub are_few : {A : Type 0} (s : ListedSection A) (bytes rest : List ℕ) → (section_piece (section_view s)).Reads Wide bytes rest → (k : ℕ) → place (map item_view s.items.items) k < 2 ^ 64
+are_few s bytes rest r k =
+    let framed = section_framed (section_view s) bytes rest r in
+    rw (section_members s) at (filled_few framed.id k (members (section_view s)) framed.content framed.fills)

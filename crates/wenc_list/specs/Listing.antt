@@ -1,6 +1,6 @@
 -- What is listed of a component, and what stands against that (component model, binary format, "Component Definitions").
 use Rattle.std.specs.List.{AllByRecursion, flat_map}
-use Rattle.std.specs.Prelude.{◌≡◌, ℕ, zero, suc, ◌+◌, ◌^◌, ◌<◌, ◌≤◌, List, [], ◌∷◌, ◌++◌, length, map}
+use Rattle.std.specs.Prelude.{◌≡◌, ℕ, zero, suc, ◌+◌, ◌<◌, ◌≤◌, List, [], ◌∷◌, ◌++◌, length}
 use Rattle.wenc_base.specs.Forms.{name}
 use Rattle.wenc_base.specs.Number.{u32}
 use Rattle.wenc_base.specs.Piece.{Wide, each}
@@ -12,7 +12,7 @@ use Rattle.wenc_types.specs.ComponentTypes.{depth}
 use Rattle.wenc_list.specs.declared.fault.ListFault.{ListFault}
 use Rattle.wenc_list.specs.declared.fault.ListFault.TheVariants as faults
 use Rattle.wenc_list.specs.declared.listing.ListedSection.{ListedSection}
-use Rattle.wenc_list.specs.Items.{item_view, section_view}
+use Rattle.wenc_list.specs.Items.{section_view}
 
 -- ---- how deep types nest
 
@@ -73,11 +73,6 @@ AreFrom all (s ∷ ss) bytes rest = (middle : List ℕ) × (section_piece (secti
 -- how many places in space k the items of these sections take
 abbrev pub count_in : ℕ → List Section → ℕ
 count_in k ss = place (flat_map members ss) k
-
--- No section's items take 2^64 places.
-abbrev pub AreSmall : {A : Type 0} → List (ListedSection A) → Type 0
-AreSmall [] = Unit {0}
-AreSmall (s ∷ ss) = ((k : ℕ) → place (map item_view s.items.items) k < 2 ^ 64) × AreSmall ss
 
 -- so it is of all of a component, behind its header
 abbrev pub ArePlaced : {A : Type 0} → List ℕ → List (ListedSection A) → Type 0

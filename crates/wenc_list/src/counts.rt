@@ -1,11 +1,9 @@
 //! How many places items take in each index space.
-ghost use Rattle.std.specs.Prelude.{◌≡◌, ℕ, ◌+◌, ◌<◌, ◌^◌, map, length, slice_index};
+ghost use Rattle.std.specs.Prelude.{◌≡◌, ℕ, ◌+◌, ◌<◌, ◌^◌, map, slice_index};
 ghost use Rattle.wenc_builder.specs.Space.{space_number, some_in, number_in, defined_in, place};
-ghost use Rattle.wenc_list.specs.Items.{item_view, section_view};
-ghost use Rattle.wenc_list.specs.Listing.{AreSmall, count_in};
+ghost use Rattle.wenc_list.specs.Items.{item_view};
 
 use crate::item::ItemTree;
-use crate::listing::ListedSection;
 use std::alloc::Allocator;
 use wenc_builder::Space;
 
@@ -32,7 +30,7 @@ fn add_item<A: Allocator>(counts: &mut [u128; 13], item: &ItemTree<A>)
 }
 
 /// Counts the places that the items take.
-fn count<A: Allocator>(counts: &mut [u128; 13], items: &[ItemTree<A>])
+pub(crate) fn count<A: Allocator>(counts: &mut [u128; 13], items: &[ItemTree<A>])
     requires { (k : ℕ) → slice_index counts.old k + place (map item_view items.now) k < 2 ^ 128 }
     ensures { (k : ℕ)
         → slice_index counts.new k ≡ slice_index counts.old k + place (map item_view items.now) k }
@@ -40,17 +38,4 @@ fn count<A: Allocator>(counts: &mut [u128; 13], items: &[ItemTree<A>])
     for item in items {
         add_item(counts, item);
     }
-}
-
-/// The places that the items of the sections take in each space.
-pub(crate) fn counts_of<A: Allocator>(sections: &[ListedSection<A>]) -> [u128; 13]
-    requires few { length sections.now < 2 ^ 64 }
-    requires small { AreSmall sections.now }
-    ensures { (k : ℕ) → slice_index result k ≡ count_in k (map section_view sections.now) }
-{
-    let mut counts = [0; 13];
-    for section in sections {
-        count(&mut counts, &section.items);
-    }
-    counts
 }

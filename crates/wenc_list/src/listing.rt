@@ -1,5 +1,5 @@
 //! A whole component: its header, and its sections up to the end.
-ghost use Rattle.std.specs.Prelude.{◌≡◌, ◌<◌, ◌≤◌, ◌^◌, ℕ, List, [], ◌∷◌, map, length, slice_index, IfOk, IfErr, Err, MatchResult};
+ghost use Rattle.std.specs.Prelude.{◌≡◌, ◌≤◌, ℕ, List, [], ◌∷◌, map, length, slice_index, IfOk, IfErr, Err, MatchResult};
 ghost use Rattle.wenc_base.specs.Piece.{Wide};
 ghost use Rattle.wenc_builder.specs.Sections.{Section, section_piece, preamble, Reading};
 ghost use Rattle.wenc_list.specs.Items.{section_view};
@@ -7,7 +7,7 @@ ghost use Rattle.wenc_list.specs.Listing.{AreWithin, AreFrom, ArePlaced, count_i
 ghost use Rattle.wenc_list.specs.Contents.{fault_of_frame, fault_of_content};
 ghost use Rattle.wenc_list.specs.declared.fault.ListFault.TheVariants.{Memory, NotAComponent};
 
-use crate::counts::counts_of;
+use crate::counts::count;
 use crate::fault::ListFault;
 use crate::item::ItemTree;
 use crate::sections::{are_bytes, content, frame};
@@ -94,26 +94,29 @@ fn section<A: Allocator + Copy>(
     }
 }
 
-/// The sections up to the end, behind the front of so many bytes.
+/// The sections up to the end, behind the front of so many bytes, and how many places their items take.
 fn sections<A: Allocator + Copy>(
     alloc: A,
     all: usize,
     bytes: &[u8],
-) -> Result<Vec<ListedSection<A>, A>, ListFault>
+) -> Result<(Vec<ListedSection<A>, A>, [u128; 13]), ListFault>
     requires { length bytes.now ≤ all }
-    ensures listed { IfOk result (λ v. AreFrom all v.items bytes.now []) }
-    ensures within { IfOk result (λ v. AreWithin 100 (map section_view v.items)) }
-    ensures few { IfOk result (λ v. length v.items < 2 ^ 64) }
+    ensures listed { IfOk result (λ x. AreFrom all x.0.items bytes.now []) }
+    ensures within { IfOk result (λ x. AreWithin 100 (map section_view x.0.items)) }
+    ensures counted { IfOk result (λ x. (k : ℕ)
+        → slice_index x.1 k ≡ count_in k (map section_view x.0.items)) }
     ensures fault { IfErr result (IsFaultBehind all bytes.now) }
 {
     let mut sections = Vec::new(alloc);
+    let mut counts = [0; 13];
     let mut rest = bytes;
     while !rest.is_empty() {
         let (section, after) = section(alloc, all - rest.len(), rest)?;
+        count(&mut counts, &section.items);
         sections.push(section)?;
         rest = after;
     }
-    Ok(sections)
+    Ok((sections, counts))
 }
 
 /// The sections of a component with their items, each at its place, and how many places the items take. Modules and nested
@@ -150,7 +153,6 @@ pub fn list<A: Allocator + Copy>(alloc: A, bytes: &[u8]) -> Result<Listing<A>, L
     ensures no_header { HasNoHeader bytes.now → result ≡ Err (NotAComponent 0) }
 {
     let behind = behind_header(bytes)?;
-    let sections = sections(alloc, bytes.len(), behind)?;
-    let counts = counts_of(&sections);
+    let (sections, counts) = sections(alloc, bytes.len(), behind)?;
     Ok(Listing { sections, counts })
 }

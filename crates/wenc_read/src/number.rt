@@ -1,5 +1,5 @@
 //! Numbers.
-ghost use Rattle.std.specs.Prelude.{◌^◌, ◌≤◌};
+ghost use Rattle.std.specs.Prelude.{◌≡◌, ◌^◌, ◌≤◌, ◌<◌, ◌+◌, ◌-◌, ◌*◌};
 ghost use Rattle.wenc_base.specs.laws.Numbers.{read_groups, read_u32, read_u64, read_index};
 ghost use Rattle.wenc_read.specs.Gives.{Gives, read_byte};
 
@@ -54,16 +54,39 @@ fn long_groups(room: u8, bytes: &[u8]) -> Result<(u64, &[u8]), Refusal>
     }
 }
 
-/// A number of 32 bits (WebAssembly 3.0, binary format, "Integers"). It is refused where none is spelled in at most 5 bytes.
-/// Most are of one byte.
+/// The number of a first byte, which isn't the last one, and of those behind it.
+fn joined(low: u8, high: u32) -> u32
+    requires low { 128 ≤ low }
+    requires high { high < 2 ^ 25 }
+    ensures { result ≡ low - 128 + 128 * high }
+{
+    u32::from(low) - 128 + 128 * high
+}
+
+/// A number of 32 bits in at most 5 bytes, whose last byte is below `top`. Most have three at most.
 #[tactic(auto, unfolding(wenc_base::specs::laws::Numbers::read_groups))]
+fn short_number(top: u8, bytes: &[u8]) -> Result<(u32, &[u8]), Refusal>
+    requires { top ≤ 128 }
+    ensures { Gives (λ x. (x.0, x.1.now)) result (read_groups top (2 ^ 32) 4 bytes.now) }
+{
+    match bytes {
+        [first, rest @ ..] if *first < top => Ok((u32::from(*first), rest)),
+        [first, second, rest @ ..] if *first >= 128 && *second < top => {
+            Ok((joined(*first, u32::from(*second)), rest))
+        }
+        [first, second, third, rest @ ..] if *first >= 128 && *second >= 128 && *third < top => {
+            let high = joined(*second, u32::from(*third));
+            Ok((joined(*first, high), rest))
+        }
+        _ => short_groups(top, 4, bytes),
+    }
+}
+
+/// A number of 32 bits (WebAssembly 3.0, binary format, "Integers"). It is refused where none is spelled in at most 5 bytes.
 pub fn u32_of(bytes: &[u8]) -> Result<(u32, &[u8]), Refusal>
     ensures { Gives (λ x. (x.0, x.1.now)) result (read_u32 bytes.now) }
 {
-    match bytes {
-        [first, rest @ ..] if *first < 128 => Ok((u32::from(*first), rest)),
-        _ => short_groups(128, 4, bytes),
-    }
+    short_number(128, bytes)
 }
 
 /// A number of 64 bits (WebAssembly 3.0, binary format, "Integers"). It is refused where none is spelled in at most 10 bytes.
@@ -78,5 +101,5 @@ pub fn u64_of(bytes: &[u8]) -> Result<(u64, &[u8]), Refusal>
 pub fn index_of(bytes: &[u8]) -> Result<(u32, &[u8]), Refusal>
     ensures { Gives (λ x. (x.0, x.1.now)) result (read_index bytes.now) }
 {
-    short_groups(64, 4, bytes)
+    short_number(64, bytes)
 }

@@ -1,8 +1,7 @@
-use Rattle.std.proofs.Common.{[], length, map}
+use Rattle.std.proofs.Common.{length, map}
 use Rattle.std.proofs.lemmas.Result.{err_from_is_err_and}
 use Rattle.wenc_list.specs.Items.{section_view}
 use Rattle.wenc_list.proofs.Listed.{from_all, only_memory, same_sections, same_behind}
-use Rattle.wenc_list.proofs.Places.{are_small}
 use Rattle.wenc_list.proofs.listing.list.Goals as goal
 
 pub returns-in_err-behind-clause-listed : goal.returns-in_err-behind-clause-listed
@@ -17,17 +16,8 @@ returns-in_err-sections-clause-listed g c ss r w =
 pub returns-in_err-sections-clause-no_header : goal.returns-in_err-sections-clause-no_header
 returns-in_err-sections-clause-no_header g c h = absurd (h c.in_ok-behind.behind.now c.in_ok-behind.ensures)
 
-pub counts_of-counts-requires : goal.counts_of-counts-requires
-counts_of-counts-requires g c = record {
-  few = rw c.deref.ensures.value c.in_ok-sections.ensures.few;
-  small = rw c.deref.ensures.value (are_small (length c.args.bytes.now) c.in_ok-sections.sections.items c.in_ok-behind.behind.now [] c.in_ok-sections.ensures.listed);
-}
-
 pub returns-clause-reading : goal.returns-clause-reading
 returns-clause-reading g c = (c.in_ok-behind.behind.now, c.in_ok-behind.ensures, from_all (length c.args.bytes.now) c.in_ok-sections.sections.items c.in_ok-behind.behind.now c.in_ok-sections.ensures.listed)
-
-pub returns-clause-counted : goal.returns-clause-counted
-returns-clause-counted g c k = rw c.deref.ensures.value at (c.counts_of-counts.ensures k)
 
 pub returns-clause-listed : goal.returns-clause-listed
 returns-clause-listed g c ss r w =

@@ -1,8 +1,9 @@
-use Rattle.std.proofs.Common.{◌≡◌, ◌≢◌, ◌-◌, ◌++◌, ◌∷◌, [], length, map, true≢false, sym, ◌∙◌, arith}
+use Rattle.std.proofs.Common.{◌≡◌, ◌≢◌, ◌-◌, ◌+◌, ◌++◌, ◌∷◌, [], length, map, true≢false, sym, ◌∙◌, arith, length-append}
 use Rattle.std.proofs.lemmas.List.{map_push}
 use Rattle.std.proofs.lemmas.Result.{err_from_is_err_and}
 use Rattle.wenc_list.specs.Items.{section_view}
 use Rattle.wenc_list.proofs.Listed.{section_shorter, from_few, from_more, from_each, within_more, stops_here}
+use Rattle.wenc_list.proofs.Places.{count_more, are_few}
 use Rattle.wenc_list.proofs.listing.sections.Goals as goal
 
 pub returns-in_err-section-clause-fault : goal.returns-in_err-section-clause-fault
@@ -15,17 +16,26 @@ returns-in_err-section-clause-fault g c =
 pub loop-rest-smaller : goal.loop-rest-smaller
 loop-rest-smaller g c = section_shorter (section_view c.in_ok-section.section) c.loop-rest.rest.now c.in_ok-section.after.now c.in_ok-section.ensures.read
 
+pub count-requires : goal.count-requires
+count-requires g c k =
+    let before = c.loop-rest.sections.items in
+    let few = are_few c.in_ok-section.section c.loop-rest.rest.now c.in_ok-section.after.now c.in_ok-section.ensures.read k in
+    let some = from_few c.args.all before c.args.bytes.now c.loop-rest.rest.now c.loop-rest.invariant.read in
+    rw c.deref.ensures.value (omega (arith, few, some, c.loop-rest.invariant.few k, c.requires, c.ranges.all.fits))
+
 pub loop-rest-preserved : goal.loop-rest-preserved
 loop-rest-preserved g c =
     let s = c.in_ok-section.section in
     let before = c.loop-rest.sections.items in
     let less = section_shorter (section_view s) c.loop-rest.rest.now c.in_ok-section.after.now c.in_ok-section.ensures.read in
     let views : map section_view c.push.new.self.items ≡ map section_view before ++ section_view s ∷ [] = rw c.in_ok-push.ensures.items (map_push section_view before s) in
+    let longer : length c.push.new.self.items ≡ length before + 1 = rw c.in_ok-push.ensures.items (length-append before (s ∷ [])) in
     record {
       read = rw c.in_ok-push.ensures.items (from_more c.args.all before s c.args.bytes.now c.loop-rest.rest.now c.in_ok-section.after.now c.loop-rest.invariant.read c.in_ok-section.ensures.read (omega (arith, c.in_ok-section.ensures.placed, c.loop-rest.invariant.shorter)) c.in_ok-section.ensures.begins);
       within = rw views (within_more (map section_view before) (section_view s) c.loop-rest.invariant.within c.in_ok-section.ensures.within);
       shorter = omega (arith, less, c.loop-rest.invariant.shorter);
+      counted = λ k. rw c.in_ok-push.ensures.items (omega (arith, rw c.deref.ensures.value at (c.count.ensures k), c.loop-rest.invariant.counted k, count_more before s k));
+      few = λ k.
+          (let few = are_few s c.loop-rest.rest.now c.in_ok-section.after.now c.in_ok-section.ensures.read k in
+          omega (arith, rw c.deref.ensures.value at (c.count.ensures k), c.loop-rest.invariant.few k, few, longer));
     }
-
-pub returns-clause-few : goal.returns-clause-few
-returns-clause-few g c = omega (arith, from_few c.args.all c.loop-rest.sections.items c.args.bytes.now c.loop-rest.rest.now c.loop-rest.invariant.read, c.requires, c.ranges.all.fits)
