@@ -60,6 +60,7 @@ fn start<A: Allocator + Copy>(alloc: A, content: &[u8]) -> Result<(u32, Vec<u32,
 }
 
 /// An import.
+#[inline(always)]
 fn import<A: Allocator + Copy>(alloc: A, bytes: &[u8]) -> Result<(ItemTree<A>, &[u8]), Refusal>
     ensures { Gives (λ x. (item_view x.0, x.1.now)) result (read_import_item bytes.now) }
 {
@@ -69,6 +70,7 @@ fn import<A: Allocator + Copy>(alloc: A, bytes: &[u8]) -> Result<(ItemTree<A>, &
 }
 
 /// An export.
+#[inline(always)]
 fn export<A: Allocator + Copy>(alloc: A, bytes: &[u8]) -> Result<(ItemTree<A>, &[u8]), Refusal>
     ensures { Gives (λ x. (item_view x.0, x.1.now)) result (read_export_item bytes.now) }
 {
@@ -86,6 +88,7 @@ fn export<A: Allocator + Copy>(alloc: A, bytes: &[u8]) -> Result<(ItemTree<A>, &
 }
 
 /// An item of the section with this id.
+#[inline(always)]
 fn item<A: Allocator + Copy>(
     alloc: A,
     id: u8,

@@ -103,6 +103,7 @@ fn with_options<A: Allocator + Copy>(
 /// The name of an import or an export, with its options (component model, binary format, "Import and Export Definitions"). It
 /// is refused where there is none, or where its options don't stand in the order of their numbers, each at most once.
 #[tactic(auto, unfolding(wenc_base::specs::laws::Lawful::choose))]
+#[inline(always)]
 pub fn extern_name_of<A: Allocator + Copy>(
     alloc: A,
     bytes: &[u8],

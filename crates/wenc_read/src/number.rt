@@ -6,6 +6,7 @@ ghost use Rattle.wenc_read.specs.Gives.{Gives, read_byte};
 use crate::refusal::Refusal;
 
 /// The first byte. It is refused where there is none.
+#[inline(always)]
 pub fn byte(bytes: &[u8]) -> Result<(u8, &[u8]), Refusal>
     ensures { Gives (λ x. (x.0, x.1.now)) result (read_byte bytes.now) }
 {
@@ -83,6 +84,7 @@ fn short_number(top: u8, bytes: &[u8]) -> Result<(u32, &[u8]), Refusal>
 }
 
 /// A number of 32 bits (WebAssembly 3.0, binary format, "Integers"). It is refused where none is spelled in at most 5 bytes.
+#[inline(always)]
 pub fn u32_of(bytes: &[u8]) -> Result<(u32, &[u8]), Refusal>
     ensures { Gives (λ x. (x.0, x.1.now)) result (read_u32 bytes.now) }
 {
