@@ -19,6 +19,24 @@ use Rattle.wenc_list.specs.declared.fault.ListFault.TheVariants as faults
 
 -- ---- items
 
+abbrev pub read_core_instance_item : Reader Item
+read_core_instance_item = read_core_instance >>= λ i. give (CoreInstanceItem i)
+
+abbrev pub read_core_type_item : Reader Item
+read_core_type_item = read_core_type >>= λ t. give (CoreTypeItem t)
+
+abbrev pub read_instance_item : Reader Item
+read_instance_item = read_instance >>= λ i. give (InstanceItem i)
+
+abbrev pub read_alias_item : Reader Item
+read_alias_item = read_alias >>= λ to. give (AliasItem to)
+
+abbrev pub read_type_item : ℕ → DeepReader Item
+read_type_item depth = read_type depth >>> λ t. yield (TypeItem t)
+
+abbrev pub read_canonical_item : Reader Item
+read_canonical_item = read_canonical >>= λ f. give (CanonItem f)
+
 abbrev pub read_import_item : Reader Item
 read_import_item = read_import >>= λ i. give (ImportItem i)
 
@@ -28,12 +46,12 @@ read_export_item = read_export >>= λ e. give (ExportItem e)
 -- each kind's reader, by the id of the section that collects it
 abbrev pub item_rows : ℕ → List (ℕ × DeepReader Item)
 item_rows depth =
-    (2, flat (read_core_instance >>= λ i. give (CoreInstanceItem i))) ∷
-    (3, flat (read_core_type >>= λ t. give (CoreTypeItem t))) ∷
-    (5, flat (read_instance >>= λ i. give (InstanceItem i))) ∷
-    (6, flat (read_alias >>= λ to. give (AliasItem to))) ∷
-    (7, read_type depth >>> λ t. yield (TypeItem t)) ∷
-    (8, flat (read_canonical >>= λ f. give (CanonItem f))) ∷
+    (2, flat read_core_instance_item) ∷
+    (3, flat read_core_type_item) ∷
+    (5, flat read_instance_item) ∷
+    (6, flat read_alias_item) ∷
+    (7, read_type_item depth) ∷
+    (8, flat read_canonical_item) ∷
     (10, flat read_import_item) ∷
     (11, flat read_export_item) ∷ []
 

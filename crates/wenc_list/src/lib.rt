@@ -8,6 +8,7 @@ mod counts;
 mod fault;
 mod item;
 mod listing;
+mod members;
 mod sections;
 
 pub use fault::ListFault;

@@ -2,25 +2,19 @@
 ghost use Rattle.std.specs.Prelude.{◌≡◌, ◌∷◌, [], map, IfOk, IfErr};
 ghost use Rattle.std.specs.String.{string_bytes};
 ghost use Rattle.wenc_base.specs.Forms.{AreBytes};
-ghost use Rattle.wenc_decode.specs.Outcomes.{Yields, repeat};
-ghost use Rattle.wenc_list.specs.Contents.{labelled, read_custom_content, read_start_content, read_raw, read_import_item, read_export_item};
-ghost use Rattle.wenc_list.specs.Contents.{read_item, read_items, read_content, read_frame};
+ghost use Rattle.wenc_decode.specs.Outcomes.{Yields};
+ghost use Rattle.wenc_list.specs.Contents.{labelled, read_custom_content, read_start_content, read_raw};
+ghost use Rattle.wenc_list.specs.Contents.{read_items, read_content, read_frame};
 ghost use Rattle.wenc_list.specs.Items.{item_view};
 ghost use Rattle.wenc_read.specs.Gives.{Gives, GivesAll};
 ghost use Rattle.wenc_read.specs.declared.refusal.Refusal.TheVariants.{Memory};
 ghost use Rattle.wenc_sections.specs.Start.{started};
 
 use crate::item::ItemTree;
+use crate::members::collected;
 use std::alloc::Allocator;
-use wenc_canon::CanonTree;
-use wenc_decode::{Decode, room_for, type_of};
-use wenc_parts::{AliasTree, ComponentExportKind, ComponentTypeRef, NameTree};
+use wenc_decode::Decode;
 use wenc_read::{Refusal, byte, name_of, u32_of};
-use wenc_sections::{CoreInstanceTree, InstanceTree};
-use wenc_types::CoreTypeTree;
-
-/// How many types of components and instances may stand in one another.
-pub(crate) const DEPTH: u32 = 100;
 
 /// A list of bytes has only bytes. The call does nothing.
 pub(crate) fn are_bytes(bytes: &[u8])
@@ -59,74 +53,6 @@ fn start<A: Allocator + Copy>(alloc: A, content: &[u8]) -> Result<(u32, Vec<u32,
     }
 }
 
-/// An import.
-#[inline(always)]
-fn import<A: Allocator + Copy>(alloc: A, bytes: &[u8]) -> Result<(ItemTree<A>, &[u8]), Refusal>
-    ensures { Gives (λ x. (item_view x.0, x.1.now)) result (read_import_item bytes.now) }
-{
-    let (name, rest) = NameTree::decode(alloc, bytes)?;
-    let (ty, rest) = ComponentTypeRef::decode(alloc, rest)?;
-    Ok((ItemTree::Import { name, ty }, rest))
-}
-
-/// An export.
-#[inline(always)]
-fn export<A: Allocator + Copy>(alloc: A, bytes: &[u8]) -> Result<(ItemTree<A>, &[u8]), Refusal>
-    ensures { Gives (λ x. (item_view x.0, x.1.now)) result (read_export_item bytes.now) }
-{
-    let (name, rest) = NameTree::decode(alloc, bytes)?;
-    let (kind, rest) = ComponentExportKind::decode(alloc, rest)?;
-    let (index, rest) = u32::decode(alloc, rest)?;
-    let (ty, rest) = Option::decode(alloc, rest)?;
-    let item = ItemTree::Export {
-        name,
-        kind,
-        index,
-        ty,
-    };
-    Ok((item, rest))
-}
-
-/// An item of the section with this id.
-#[inline(always)]
-fn item<A: Allocator + Copy>(
-    alloc: A,
-    id: u8,
-    bytes: &[u8],
-) -> Result<(ItemTree<A>, &[u8]), Refusal>
-    ensures { Yields (λ x. (item_view x.0, x.1.now)) result (read_item 100 id bytes.now) }
-{
-    match id {
-        2 => {
-            let (instance, rest) = CoreInstanceTree::decode(alloc, bytes)?;
-            Ok((ItemTree::CoreInstance(instance), rest))
-        }
-        3 => {
-            let (ty, rest) = CoreTypeTree::decode(alloc, bytes)?;
-            Ok((ItemTree::CoreType(ty), rest))
-        }
-        5 => {
-            let (instance, rest) = InstanceTree::decode(alloc, bytes)?;
-            Ok((ItemTree::Instance(instance), rest))
-        }
-        6 => {
-            let (alias, rest) = AliasTree::decode(alloc, bytes)?;
-            Ok((ItemTree::Alias(alias), rest))
-        }
-        7 => {
-            let (ty, rest) = type_of(alloc, DEPTH, bytes)?;
-            Ok((ItemTree::Type(ty), rest))
-        }
-        8 => {
-            let (canon, rest) = CanonTree::decode(alloc, bytes)?;
-            Ok((ItemTree::Canon(canon), rest))
-        }
-        10 => import(alloc, bytes),
-        11 => export(alloc, bytes),
-        _ => Err(Refusal::Malformed),
-    }
-}
-
 /// A count, and so many items, up to the end.
 fn items<A: Allocator + Copy>(
     alloc: A,
@@ -136,32 +62,12 @@ fn items<A: Allocator + Copy>(
     ensures { Yields (λ v. map item_view v.items) result (read_items 100 id content.now) }
 {
     let (count, rest) = u32_of(content)?;
-    let (items, rest) = members(alloc, id, count, rest)?;
+    let (items, rest) = collected(alloc, id, count, rest)?;
     if rest.is_empty() {
         Ok(items)
     } else {
         Err(Refusal::Malformed)
     }
-}
-
-/// So many items.
-fn members<A: Allocator + Copy>(
-    alloc: A,
-    id: u8,
-    count: u32,
-    bytes: &[u8],
-) -> Result<(Vec<ItemTree<A>, A>, &[u8]), Refusal>
-    ensures { Yields (λ x. (map item_view x.0.items, x.1.now)) result
-        (repeat (read_item 100 id) count bytes.now) }
-{
-    let mut items = Vec::with_capacity(alloc, room_for(count, bytes))?;
-    let mut rest = bytes;
-    for _ in 0..count {
-        let (item, after) = item(alloc, id, rest)?;
-        items.push(item)?;
-        rest = after;
-    }
-    Ok((items, rest))
 }
 
 /// One item alone.

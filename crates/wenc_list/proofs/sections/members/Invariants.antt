@@ -1,9 +1,0 @@
-use Rattle.std.proofs.Common.{◌≡◌, ◌-◌, map}
-use Rattle.wenc_decode.specs.Outcomes.{repeat}
-use Rattle.wenc_decode.specs.laws.Repeats.{with_front}
-use Rattle.wenc_list.specs.Contents.{read_item}
-use Rattle.wenc_list.specs.Items.{item_view}
-use Rattle.wenc_list.proofs.sections.members.Given as goal
-
-abbrev pub invariant-loop : goal.invariant-loop
-invariant-loop g l = with_front (map item_view l.items.items) (repeat (read_item 100 l.id) (l.count - l.counter) l.rest) ≡ repeat (read_item 100 l.id) l.count l.bytes
