@@ -44,7 +44,9 @@ fn resource_type<A: Allocator + Copy>(
     Ok((TypeTree::Resource { rep, dtor }, rest))
 }
 
-/// A type in which types of components and instances open at most `depth_left` times inside one another.
+/// A type (component model, binary format, "Type Definitions") in which types of components and instances open at most
+/// `depth_left` times inside one another, and what is behind it. It is refused where none is spelled, as too deep where more
+/// of them open, and for want of memory.
 #[cycle(types)]
 #[tactic(auto, using(crate::specs::laws::Levels::one_level), unfolding(crate::specs::Outcomes::select))]
 pub fn type_of<A: Allocator + Copy>(
