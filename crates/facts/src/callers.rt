@@ -1,10 +1,17 @@
 //! The callers that the pages CALLING.md show.
-ghost use Rattle.std.specs.Prelude.{◌≡◌, ◌++◌, IfOk};
-ghost use Rattle.wenc_parts.specs.Imports.{extern_name, extern_name_view, type_reference};
+ghost use Rattle.std.specs.Prelude.{◌≡◌, ◌++◌, ◌∷◌, [], IfOk, IfSome, None, codes};
+ghost use Rattle.wenc.specs.Run.{PrintsAccepted};
+ghost use Rattle.wenc_builder.specs.Entry.{import_entry, export_entry, items};
+ghost use Rattle.wenc_builder.specs.Sections.{whole};
+ghost use Rattle.wenc_parts.specs.declared.exports.ComponentExportKind.{ComponentExportKind};
+ghost use Rattle.wenc_parts.specs.declared.imports.ComponentTypeRef.{ComponentTypeRef};
+ghost use Rattle.wenc_parts.specs.Imports.{extern_name, extern_name_view, plain_name, type_reference};
 
-use std::alloc::Allocator;
+use std::alloc::{Allocator, Global};
+use wenc::run;
 use wenc_base::{Encode, Fault};
-use wenc_parts::{ComponentExternName, ComponentTypeRef};
+use wenc_builder::ComponentBuilder;
+use wenc_parts::{ComponentExportKind, ComponentExternName, ComponentTypeRef};
 
 /// The bytes of a value, in a vector of their own.
 pub fn encoded<T: Encode, A: Allocator>(alloc: A, value: &T) -> Result<Vec<u8, A>, Fault>
@@ -27,4 +34,28 @@ pub fn import_bytes<A: Allocator>(
     let mut bytes = Vec::new(alloc);
     (name, ty).encode(&mut bytes)?;
     Ok(bytes)
+}
+
+/// A component that imports a function and exports it again. What it is follows from the contracts of the
+/// builder's calls alone.
+pub fn passed_on<A: Allocator + Copy>(alloc: A) -> Result<Vec<u8, A>, Fault>
+    ensures { IfOk result (λ bytes. bytes.items ≡ whole (items (
+        import_entry (plain_name (codes "f")) (ComponentTypeRef.Func 0)
+        ∷ export_entry (plain_name (codes "g")) ComponentExportKind.Func 0 None ∷ []))) }
+{
+    let mut builder = ComponentBuilder::new(alloc)?;
+    let index = builder.import("f".into(), ComponentTypeRef::Func(0))?;
+    builder.export("g".into(), ComponentExportKind::Func, index, None)?;
+    builder.finish()
+}
+
+/// What is printed for a script, if no command is refused.
+pub fn accepted_text(alloc: Global, script: &[u8]) -> Option<Vec<u8>>
+    ensures { IfSome result (λ text. PrintsAccepted script.now [] text.items) }
+{
+    let mut input = script;
+    let mut out = Vec::new(alloc);
+    let mut err = Vec::new(alloc);
+    let status = run(alloc, &[], &mut input, &mut out, &mut err);
+    if status == 0 { Some(out) } else { None }
 }

@@ -7,6 +7,8 @@ pub mod canonicals;
 pub mod components;
 pub mod encoders;
 pub mod equality;
+pub mod importing;
+pub mod lights;
 pub mod listed;
 pub mod numbers;
 pub mod parts;

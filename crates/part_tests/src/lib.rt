@@ -7,7 +7,6 @@ mod accepted;
 mod base;
 #[cfg(test)]
 mod canon;
-pub mod own;
 #[cfg(test)]
 mod parts;
 #[cfg(test)]

@@ -6,6 +6,7 @@
 
 pub mod hexed;
 pub mod members;
+pub mod own;
 
 use refusing::Refusing;
 use std::alloc::{AllocError, Allocator, Global};

@@ -1,5 +1,5 @@
 //! The trait `Decode`, and what every form is made of: numbers, flags, texts, lists and options.
-ghost use Rattle.std.specs.Prelude.{◌≤◌, List, length, map};
+ghost use Rattle.std.specs.Prelude.{◌≡◌, ◌≤◌, ◌<◌, List, length, map};
 ghost use Rattle.wenc_base.specs.laws.Lawful.{Reader, times};
 ghost use Rattle.wenc_read.specs.Gives.{Gives};
 
@@ -37,6 +37,7 @@ impl<A: Allocator + Copy> Decode<A> for u32 {
 
     ghost read = { read_u32 };
 
+    #[inline(always)]
     fn decode<'a>(_alloc: A, bytes: &'a [u8]) -> Result<(u32, &'a [u8]), Refusal> {
         u32_of(bytes)
     }
@@ -68,6 +69,7 @@ impl<A: Allocator + Copy> Decode<A> for String<A> {
 
     ghost read = { read_name };
 
+    #[inline(always)]
     fn decode<'a>(alloc: A, bytes: &'a [u8]) -> Result<(String<A>, &'a [u8]), Refusal> {
         name_of(alloc, bytes)
     }
@@ -76,7 +78,8 @@ impl<A: Allocator + Copy> Decode<A> for String<A> {
 /// The room for so many values of these bytes: that of all, from 0 to 4294967295, where each can have a byte, else none. It is
 /// never more than there are bytes.
 pub fn room_for(count: u32, bytes: &[u8]) -> usize
-    ensures { result ≤ length bytes.now }
+    ensures fits { count ≤ length bytes.now → result ≡ count }
+    ensures unmet { length bytes.now < count → result ≡ 0 }
 {
     let count = count as usize;
     if count <= bytes.len() { count } else { 0 }

@@ -23,6 +23,7 @@ impl<A: Allocator + Copy> Decode<A> for (String<A>, ComponentValType) {
 
     ghost read = { read_named };
 
+    #[inline(always)]
     fn decode<'a>(
         alloc: A,
         bytes: &'a [u8],

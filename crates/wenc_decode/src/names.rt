@@ -14,6 +14,7 @@ impl<A: Allocator + Copy> Decode<A> for NameTree<A> {
 
     ghost read = { read_extern_name };
 
+    #[inline(always)]
     fn decode<'a>(alloc: A, bytes: &'a [u8]) -> Result<(NameTree<A>, &'a [u8]), Refusal> {
         extern_name_of(alloc, bytes)
     }

@@ -126,7 +126,7 @@ fn sections<A: Allocator + Copy>(
 /// have 64 bits), indices among the types of values that are padded, a nullable abstract reference as its heap type's byte,
 /// `func` and `extern` in the long form of such a reference, and a name of an import or export that begins with `01`.
 ///
-/// It is refused for want of memory, or as `ListFault` says. No memory is asked for that the bytes can't fill.
+/// It is refused for want of memory, or as `ListFault` says. A count that the bytes can't fill reserves nothing.
 ///
 /// ```
 /// let listing = list(alloc, &component)?;

@@ -1,8 +1,8 @@
 //! Each word of a script with one word too many, one too few, a number past its range, and a flag that is none.
 
 use crate::accepted::ok;
-use crate::accepted_text;
 use crate::expected::expect;
+use facts::callers::accepted_text;
 use std::process::Abort;
 
 /// One line of each word but `start`, which takes any number of arguments. The numbers 9 and 8 are indices, 1 is a flag.

@@ -1,9 +1,9 @@
 //! Whole runs.
 
 use crate::accepted::ok;
-use crate::accepted_text;
 use crate::expected::expect;
 use crate::streams::{Sink, Source};
+use facts::callers::accepted_text;
 use wenc::run;
 
 const BAD: &[&[u8]] = &[

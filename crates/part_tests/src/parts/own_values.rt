@@ -1,6 +1,6 @@
-use crate::own::{Light, write_all};
 use crate::parts::texts::{is, texts};
 use std::alloc::Global;
+use sweeping::own::{Light, write_all};
 use wenc_base::Fault;
 
 const ALONE: &[(Light, &str)] = &[(Light::Red, "ee72"), (Light::Green, "ee67")];

@@ -5,9 +5,9 @@ ghost use Rattle.std.specs.Option.{option_eq};
 ghost use Rattle.wenc_base.specs.Delimited.{NoCause};
 ghost use Rattle.wenc_base.specs.Fault.{list_cause};
 ghost use Rattle.wenc_base.specs.Forms.{list_text, option_text};
-ghost use Rattle.part_tests.specs.Own.{light};
+ghost use Rattle.sweeping.specs.Own.{light};
 
-use part_tests::own::Light;
+use sweeping::own::Light;
 use wasm_encoder::laws::texts_tell_equals;
 
 /// The text of a list of lights, and of what follows it, tells the lights, and what follows.

@@ -1,7 +1,7 @@
 ghost use Rattle.std.specs.Prelude.{◌≡◌, ◌++◌, OnOk, refl};
 ghost use Rattle.wenc_base.specs.Forms.{list_text, option_text};
 ghost use Rattle.wenc_base.specs.laws.Delimited.{itself};
-ghost use Rattle.part_tests.specs.Own.{light};
+ghost use Rattle.sweeping.specs.Own.{light};
 
 use std::alloc::Allocator;
 use wenc_base::{Delimited, DelimitedEq, Encode, Fault};
@@ -29,8 +29,8 @@ impl Encode for Light {
 }
 
 impl Delimited for Light {
-    ghost use Rattle.part_tests.specs.Own.{read_light, light_lawful};
-    ghost use Rattle.part_tests.specs.declared.own.Light.{Light as Seen'};
+    ghost use Rattle.sweeping.specs.Own.{read_light, light_lawful};
+    ghost use Rattle.sweeping.specs.declared.own.Light.{Light as Seen'};
 
     ghost Seen = { Seen' };
 

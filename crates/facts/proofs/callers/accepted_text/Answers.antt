@@ -1,6 +1,6 @@
 use Rattle.std.proofs.Common.{Some, [], ap, refl}
 use Rattle.std.proofs.lemmas.Option.{same_Some}
-use Rattle.wenc_tests.proofs.accepted_text.Goals as goal
+use Rattle.facts.proofs.callers.accepted_text.Goals as goal
 
 pub returns-then-status-eq0 : goal.returns-then-status-eq0
 returns-then-status-eq0 c =

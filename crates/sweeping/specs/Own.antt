@@ -2,8 +2,8 @@
 use Rattle.std.proofs.Common.{[], ◌∷◌, refl}
 use Rattle.wenc_base.specs.Piece.{Form, byte}
 use Rattle.wenc_base.specs.laws.Lawful.{Lawful, Reader, give, nowhere, choose, row_byte}
-use Rattle.part_tests.specs.declared.own.Light.{Light}
-use Rattle.part_tests.specs.declared.own.Light.TheVariants.{Red, Green}
+use Rattle.sweeping.specs.declared.own.Light.{Light}
+use Rattle.sweeping.specs.declared.own.Light.TheVariants.{Red, Green}
 
 abbrev pub light : Form Light
 light Red = byte 0x72

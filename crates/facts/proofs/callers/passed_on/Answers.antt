@@ -6,7 +6,7 @@ use Rattle.wenc_parts.specs.Imports.{ExternName, plain_name}
 use Rattle.wenc_builder.specs.Item.{Item}
 use Rattle.wenc_builder.specs.Entry.{import_entry, export_entry, items}
 use Rattle.wenc_builder.specs.Sections.{whole}
-use Rattle.builder_tests.proofs.passed_on.Goals as goal
+use Rattle.facts.proofs.callers.passed_on.Goals as goal
 
 abbrev both : ExternName → ExternName → ℕ → List Item
 both f h i = items (import_entry f (refs.Func 0) ∷ export_entry h kinds.Func i None ∷ [])
