@@ -1,4 +1,4 @@
-//! Tests of the crate `wenc`, by its public calls.
+//! Tests of the crates `wenc` and `wenc_list`, by their public calls.
 #![tactic(auto)]
 
 #[cfg(test)]
@@ -9,6 +9,8 @@ mod callers;
 mod expected;
 #[cfg(test)]
 mod lines;
+#[cfg(test)]
+mod lister;
 #[cfg(test)]
 mod listing;
 #[cfg(test)]

@@ -5,11 +5,11 @@ use crate::expected::expect;
 use std::process::Abort;
 
 mod bad;
-mod edges;
-mod long;
-mod long_words;
-mod short;
-mod words;
+pub mod edges;
+pub mod long;
+pub mod long_words;
+pub mod short;
+pub mod words;
 
 /// A script, and the status, the standard output and the standard error of its run.
 #[derive(Clone, Copy)]

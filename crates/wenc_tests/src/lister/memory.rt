@@ -1,7 +1,7 @@
 //! Each request of `list` for memory, refused in turn.
 
-use crate::checks::{component, encoded};
-use crate::rows::ROWS;
+use super::checks::{component, encoded};
+use super::rows::ROWS;
 use refusing::Refusing;
 use std::alloc::Global;
 use std::process::Abort;

@@ -1,7 +1,7 @@
 //! Worked components, with what is listed of them.
 
+use super::checks::{component, encoded};
 use crate::accepted::ok;
-use crate::checks::{component, encoded};
 use std::process::Abort;
 use wenc_list::{ItemTree, Listing, list};
 

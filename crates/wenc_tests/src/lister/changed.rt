@@ -1,9 +1,9 @@
 //! Components that are cut, or have a byte changed: no such bytes are too bad to be answered, and what is listed of them
 //! can be encoded and listed again.
 
+use super::checks::{component, encoded, read_again};
+use super::rows::{EACH_KIND, ROWS, Row};
 use crate::accepted::ok;
-use crate::checks::{component, encoded, read_again};
-use crate::rows::{EACH_KIND, ROWS, Row};
 use std::alloc::{AllocError, Global};
 use std::process::Abort;
 use wenc_list::{ListFault, Listing, list};

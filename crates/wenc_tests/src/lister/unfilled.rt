@@ -1,6 +1,6 @@
 //! Counts of 4294967295 in front of nothing: no memory is asked for.
 
-use crate::checks::component;
+use super::checks::component;
 use refusing::Refusing;
 use std::alloc::Global;
 use std::process::Abort;

@@ -1,7 +1,7 @@
 //! Bytes that are not read, each with its fault.
 
+use super::checks::component;
 use crate::accepted::ok;
-use crate::checks::component;
 use std::alloc::Global;
 use std::process::Abort;
 use wenc_list::{ListFault, list};

@@ -1,7 +1,7 @@
 //! Types of components and instances inside one another.
 
+use super::checks::{component, read_again};
 use crate::accepted::ok;
-use crate::checks::{component, read_again};
 use std::alloc::Global;
 use std::process::Abort;
 use wenc_list::{ListFault, list};

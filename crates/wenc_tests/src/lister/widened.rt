@@ -1,8 +1,8 @@
 //! Spellings that an encoder does not write, and that are read all the same.
 
+use super::checks::{component, read_again};
+use super::rows::{Row, is_listed};
 use crate::accepted::ok;
-use crate::checks::{component, read_again};
-use crate::rows::{Row, is_listed};
 use std::alloc::Global;
 use std::process::Abort;
 use wenc_list::list;

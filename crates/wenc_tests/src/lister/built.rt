@@ -1,20 +1,14 @@
 //! What `build` makes of the commands of scripts.
 
+use super::checks::read_again;
+use super::items::{are_of, items};
 use crate::accepted::ok;
-use crate::built::items::{are_of, items};
-use crate::checks::read_again;
+use crate::vectors::{Vector, edges, long, long_words, short, words};
 use std::process::Abort;
 use wasm_encoder::{Built, Command, Fault, build};
 use wenc::script::parse;
 use wenc_builder::Space;
 use wenc_list::list;
-
-mod edges;
-mod items;
-mod long;
-mod long_words;
-mod short;
-mod words;
 
 /// The space in which the command's item takes places, and how many; of the commands that a script has.
 fn places(command: &Command) -> Option<(Space, u32)> {
@@ -52,24 +46,28 @@ fn is_listed<R: Abort + AllocGlobal>(rt: &R, commands: &[Command], built: &Built
     assert!(rt; again.as_slice() == built.bytes.as_slice());
 }
 
-fn each_is_listed<R: Abort + AllocGlobal>(rt: &R, scripts: &[&[u8]]) {
-    for script in scripts {
-        let commands = ok(rt, parse(rt.alloc(), rt.alloc(), script));
-        let built = ok(rt, build(rt.alloc(), commands.as_slice()));
-        is_listed(rt, commands.as_slice(), &built);
+fn is_built_and_listed<R: Abort + AllocGlobal>(rt: &R, script: &[u8]) {
+    let commands = ok(rt, parse(rt.alloc(), rt.alloc(), script));
+    let built = ok(rt, build(rt.alloc(), commands.as_slice()));
+    is_listed(rt, commands.as_slice(), &built);
+}
+
+fn each_is_listed<R: Abort + AllocGlobal>(rt: &R, vectors: &[Vector]) {
+    for vector in vectors {
+        is_built_and_listed(rt, vector.script);
     }
 }
 
 #[test]
 fn scripts(rt: HostRuntime) {
-    each_is_listed(&rt, &[b"thread.spawn-indirect 1 2"]);
-    each_is_listed(&rt, edges::SCRIPTS);
-    each_is_listed(&rt, short::SCRIPTS);
-    each_is_listed(&rt, words::SCRIPTS);
+    is_built_and_listed(&rt, b"thread.spawn-indirect 1 2");
+    each_is_listed(&rt, edges::VECTORS);
+    each_is_listed(&rt, short::VECTORS);
+    each_is_listed(&rt, words::VECTORS);
 }
 
 #[test]
 fn long_scripts(rt: HostRuntime) {
-    each_is_listed(&rt, long::SCRIPTS);
-    each_is_listed(&rt, long_words::SCRIPTS);
+    each_is_listed(&rt, long::VECTORS);
+    each_is_listed(&rt, long_words::VECTORS);
 }
