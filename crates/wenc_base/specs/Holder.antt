@@ -1,7 +1,7 @@
 -- What counted sections and types keep: how many members, and their texts.
 use Rattle.std.specs.Prelude.{◌≡◌, ℕ, ◌+◌, ◌<◌, ◌≤◌, ◌^◌, ◌⊎◌, Bool, true, false, is_none, List, [], ◌∷◌, ◌++◌, length, take, drop, Option, Some, None, Result, Err, OnOk, OnErr, IfErr}
 use Rattle.std.specs.Iterator.Runs.{SomeRun, WholeRun}
-use Rattle.std.specs.List.{flat_map}
+use Rattle.std.specs.List.{flat_map, AllByRecursion}
 use Rattle.wenc_base.specs.Number.{unsigned_text, number_size}
 use Rattle.wenc_base.specs.Fault.{IsWarranted, first_of, drawn_cause}
 use Rattle.wenc_base.specs.Forms.{list_text}
@@ -67,6 +67,12 @@ pub record Contains {A : Type 0} (text : A → List ℕ) (h : Held) (members : L
 -- the bytes as they are
 abbrev pub as_they_are : List ℕ → List ℕ
 as_they_are bytes = bytes
+
+-- It has some members, each of which is such a text.
+pub record ContainsSome (IsMember : List ℕ → Type 0) (h : Held) : Type 0 where
+  pub members : List (List ℕ)
+  pub contained : Contains as_they_are h members
+  pub each : AllByRecursion IsMember members
 
 -- how many bytes stand behind a section's size: those of the count, and those of the members
 abbrev pub content_size : ℕ → ℕ → ℕ

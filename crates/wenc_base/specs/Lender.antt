@@ -24,6 +24,10 @@ pub record ExtendsListed {T S B : Type 0} (steps : S → Option B → S → Type
   pub err : OnErr outcome (new ≡ old)
   pub warranted : IfErr outcome (λ fault. SomeRun steps values (λ run. IsWarranted (either (cause run.items) (refuses (text run.items))) fault))
 
+-- With this text more, what is being written is a whole member.
+abbrev pub MakesWhole : {T : Type 0} → (T → Type 0) → (T → List ℕ → T) → T → List ℕ → Type 0
+MakesWhole is_whole written lender text = ∥ is_whole (written lender text) ∥₁
+
 -- A last call adds this text to the member and ends it, or is refused for a cause and changes nothing.
 abbrev pub Ends : {T : Type 0} → (T → List ℕ → T) → (T → T) → (T → List ℕ → Fault → Type 0) → T → T → Result (Unit {0}) Fault → (Fault → Type 0) → List ℕ → Type 0
 Ends written ended refuses old new outcome cause text = Extends old new (ended (written old text)) outcome (either cause (refuses old text))

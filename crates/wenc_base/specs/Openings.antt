@@ -1,7 +1,7 @@
 -- A member that is written piece by piece into a holder: its opening, what is added to it, and its end.
-use Rattle.std.specs.Prelude.{◌≡◌, ◌==◌, Bool, ℕ, ◌+◌, ◌-◌, ◌≤◌, ◌^◌, false, ◌++◌, List, length, take, Option, Some, None, Result, Err, OnOk, OnErr, IfErr}
+use Rattle.std.specs.Prelude.{◌≡◌, ◌==◌, Bool, ℕ, ◌+◌, ◌-◌, ◌≤◌, ◌^◌, false, [], ◌++◌, List, length, take, drop, Option, Some, None, Result, Err, OnOk, OnErr, IfErr}
 use Rattle.wenc_base.specs.Fault.{IsWarranted}
-use Rattle.wenc_base.specs.Holder.{Held, is_finished, holding, content_size, AddCause}
+use Rattle.wenc_base.specs.Holder.{Held, is_finished, holding, content_size, AddCause, ContainsSome}
 use Rattle.wenc_base.specs.Lender.{either, Extends}
 use Rattle.wenc_base.specs.declared.fault.Fault.{Fault}
 use Rattle.wenc_base.specs.declared.fault.Fault.TheVariants.{TooLarge, Unfinished}
@@ -39,6 +39,24 @@ is_opened_at body (Some o) = length body == o.lead_end
 
 abbrev pub is_opened : Held → Bool
 is_opened h = is_opened_at h.body h.opening
+
+-- what is written of that member, its lead with it
+abbrev pub member_text_at : List ℕ → Option Opening → List ℕ
+member_text_at body None = []
+member_text_at body (Some o) = drop o.member_start body
+
+abbrev pub member_text : Held → List ℕ
+member_text h = member_text_at h.body h.opening
+
+-- a member that is being written is one of so many, and begins within so many bytes
+abbrev pub OpeningIsIn : Option Opening → ℕ → ℕ → Type 0
+OpeningIsIn None count size = Unit {0}
+OpeningIsIn (Some o) count size = (o.member_start ≤ size) × (1 ≤ count)
+
+-- Each member is such a text, but for one that is being written.
+pub record KeepsMembers (IsMember : List ℕ → Type 0) (h : Held) : Type 0 where
+  pub settled : ∥ ContainsSome IsMember (given_up h) ∥₁
+  pub opening : OpeningIsIn h.opening h.count (length h.body)
 
 -- A call opens a member with this lead, or is refused for a cause and changes nothing.
 pub record OpensMember (old new : Held) (outcome : Result (Unit {0}) Fault) (lead : List ℕ) : Type 0 where

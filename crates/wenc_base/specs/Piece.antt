@@ -134,3 +134,10 @@ p ⨾⨾ w = record {
   text = p.text ++ w.text;
   ReadsAll = λ mode bytes. (middle : List ℕ) × p.Reads mode bytes middle × w.ReadsAll mode middle;
 }
+
+-- ---- texts
+
+-- These bytes are the text of a value.
+pub record IsTextOf {A : Type 0} (form : Form A) (bytes : List ℕ) : Type 0 where
+  pub value : A
+  pub is : bytes ≡ (form value).text

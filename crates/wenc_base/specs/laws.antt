@@ -13,5 +13,6 @@ pub mod Entities
 pub mod Sections
 pub mod Causes
 pub mod Holders
+pub mod Members
 pub mod Names
 pub mod Lenders

@@ -3,7 +3,7 @@ ghost use Rattle.std.specs.Iterator.{IsFinite};
 ghost use Rattle.std.specs.Prelude.{◌≡◌, ℕ, List, ◌++◌, Bool, true, false};
 ghost use Rattle.wenc_base.specs.Fault.{drawn_cause};
 ghost use Rattle.wenc_base.specs.Forms.{list_text};
-ghost use Rattle.wenc_base.specs.Lender.{either, Extends, ExtendsListed, Ends, EndsListed};
+ghost use Rattle.wenc_base.specs.Lender.{either, Extends, ExtendsListed, Ends, EndsListed, MakesWhole};
 ghost use Rattle.wenc_base.specs.declared.fault.Fault.{Fault as FaultSpec};
 ghost use Rattle.wenc_base.specs.declared.fault.Fault.TheVariants.{Unfinished};
 
@@ -12,7 +12,8 @@ use crate::fault::Fault;
 use crate::holder::Holder;
 use std::alloc::Allocator;
 
-/// A value that has a member which is being written, and lends itself to the encoder that writes it.
+/// A value that has a member which is being written, and lends itself to the encoder that writes it. Only a whole
+/// member can be ended: whoever ends it shows that what was written is one of the kind that was opened.
 pub trait Lender {
     /// No member is being written.
     ghost finished: { Self → Bool };
@@ -22,6 +23,9 @@ pub trait Lender {
 
     /// The value with more bytes of the member.
     ghost written: { Self → List ℕ → Self };
+
+    /// What was written since the opening is a whole member of the kind that was opened.
+    ghost is_whole: { Self → Type 0 };
 
     /// The value with the member ended.
     ghost ended: { Self → Self };
@@ -59,13 +63,15 @@ pub trait Lender {
         ensures { ExtendsListed I.next_gives values self.old self.new result (written self.old)
             (refuses self.old) (drawn_cause T.cause) (λ vs. lead.now ++ list_text T.text vs) };
 
-    /// The member is whole. It takes no memory.
+    /// Ends the member, which is whole. It takes no memory.
     fn end_member(&mut self)
+        requires { ∥ is_whole self.old ∥₁ }
         ensures { self.new ≡ ended self.old };
 
-    /// Adds the text of a value to the member, which is whole then. A refused call changes nothing.
+    /// Adds the text of a value to the member, which is whole then, and ends it. A refused call changes nothing.
     fn end_with<E: Encode>(&mut self, value: &E) -> Result<(), Fault>
-        requires { finished self.old ≡ false }
+        requires unfinished { finished self.old ≡ false }
+        requires whole { MakesWhole is_whole written self.old (E.text value.now) }
         ensures ended { Ends written Self.ended refuses self.old self.new result
             (E.cause value.now) (E.text value.now) }
         ensures unfinished_value { E.unfinished value.now → result ≡ Err Unfinished }
@@ -75,7 +81,7 @@ pub trait Lender {
         Ok(())
     }
 
-    /// Adds these bytes to the member, then the values as a list, and it is whole then. A refused call changes
+    /// Adds these bytes to the member, then the values as a list; it is whole then, and ended. A refused call changes
     /// nothing.
     fn end_with_list<T: Encode + Drop, I: Iterator<Item = T> + Drop>(
         &mut self,
@@ -83,6 +89,8 @@ pub trait Lender {
         values: I,
     ) -> Result<(), Fault>
         requires unfinished { finished self.old ≡ false }
+        requires whole { (vs : List T)
+            → MakesWhole is_whole written self.old (lead.now ++ list_text T.text vs) }
         requires can { I.can_next values }
         requires ends { IsFinite (I.remaining values) }
         ensures { EndsListed written Self.ended refuses I.next_gives values self.old self.new
@@ -104,6 +112,9 @@ impl<A: Allocator> Lender for Holder<A> {
     ghost opened = { is_opened };
 
     ghost written = { lengthened };
+
+    // Its members are any bytes.
+    ghost is_whole = { λ _. Unit {0} };
 
     ghost ended = { closed };
 

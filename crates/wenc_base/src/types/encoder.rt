@@ -1,9 +1,9 @@
 ghost use Rattle.std.specs.Iterator.{IsFinite};
 ghost use Rattle.std.specs.Prelude.{◌≡◌, ◌∷◌, true, false, map};
-ghost use Rattle.wenc_base.specs.Composites.{Single, Rec, Struct, Array, composite_type, composite_cause, function_view, sub_cause, sub_view, group, group_cause, group_view, standing};
+ghost use Rattle.wenc_base.specs.Composites.{Group, Single, Rec, Struct, Array, composite_type, composite_cause, function_view, sub_cause, sub_view, group, group_cause, group_view, standing};
 ghost use Rattle.wenc_base.specs.Fault.{drawn_cause};
 ghost use Rattle.wenc_base.specs.Forms.{list};
-ghost use Rattle.wenc_base.specs.Lender.{Ends, EndsListed, EndsLists};
+ghost use Rattle.wenc_base.specs.Lender.{Ends, EndsListed, EndsLists, MakesWhole};
 ghost use Rattle.wenc_base.specs.Types.{val_type};
 
 use super::guard::Guarded;
@@ -30,13 +30,17 @@ pub struct CoreTypeEncoder<'a, L: Lender> {
     lender: &'a mut L,
     guard: bool,
     ghost unfinished: { L.finished lender.now ≡ false },
+    ghost whole: { (g : Group)
+        → MakesWhole L.is_whole L.written lender.now (standing guard g).text },
 }
 
 impl<'a, L: Lender> CoreTypeEncoder<'a, L> {
-    /// An encoder of the member that the lender has just opened. With `guard` a type that isn't final has a byte `00`
-    /// before it, as it has in a component.
+    /// An encoder of the member that the lender has just opened, of which each core type is a whole one. With `guard` a
+    /// type that isn't final has a byte `00` before it, as it has in a component.
     pub fn new(lender: &'a mut L, guard: bool) -> Self
-        requires { L.opened lender.old ≡ true }
+        requires opened { L.opened lender.old ≡ true }
+        requires whole { (g : Group)
+            → MakesWhole L.is_whole L.written lender.old (standing guard g).text }
         ensures same_reference { result.lender.ghost_name ≡ lender.entry.ghost_name }
         ensures now { result.lender.now ≡ lender.old }
         ensures guard { result.guard ≡ guard }

@@ -1,0 +1,166 @@
+-- What a holder whose members are texts of one kind stays through all calls.
+use Rattle.std.proofs.Common.{◌≡◌, ℕ, ◌+◌, ◌-◌, ◌≤◌, Bool, true, false, is_none, Option, Some, None, append_assoc, List, [], ◌∷◌, ◌++◌, length, take, drop, refl, sym, ap, ◌∙◌, arith, length-append, subst}
+use Rattle.std.proofs.Math.Logic.{∥∥₁_map, ∥∥₁_map₂}
+use Rattle.std.proofs.Math.Seq.{drop-append_seam}
+use Rattle.std.proofs.lemmas.List.{take_at, take-append-drop, take-append-le}
+use Rattle.std.specs.List.{flat_map, AllByRecursion}
+use Rattle.wenc_base.specs.Piece.{Form, IsTextOf}
+use Rattle.wenc_base.specs.Holder.{Held, is_finished, with_member, holding, as_they_are, Contains, ContainsSome}
+use Rattle.wenc_base.specs.Openings.{opened_with, lengthened, closed, given_up, member_text, OpeningIsIn, KeepsMembers}
+use Rattle.wenc_base.specs.laws.Holders.{contains_next}
+use Rattle.wenc_base.specs.declared.holder.openings.Opening.{Opening}
+
+-- ---- what is given up
+
+abbrev held_as : List ℕ → ℕ → List ℕ → Option Opening → Held
+held_as kept count body o = record { kept = kept; count = count; body = body; opening = o }
+
+-- a member that is being written is within its holder
+abbrev pub IsWithin : Held → Type 0
+IsWithin h = OpeningIsIn h.opening h.count (length h.body)
+
+pub finished_back : (h : Held) → is_finished h ≡ true → given_up h ≡ h
+finished_back h finished = at h.opening finished
+  where
+    at : (o : Option Opening) → is_none o ≡ true → given_up (held_as h.kept h.count h.body o) ≡ held_as h.kept h.count h.body o
+    at None e = refl
+    at (Some o) e = cc
+
+pub back_twice : (h : Held) → given_up (given_up h) ≡ given_up h
+back_twice h = at h.opening
+  where
+    at : (o : Option Opening) → given_up (given_up (held_as h.kept h.count h.body o)) ≡ given_up (held_as h.kept h.count h.body o)
+    at None = refl
+    at (Some o) = refl
+
+pub opened_back : (h : Held) (lead : List ℕ) → is_finished h ≡ true → given_up (opened_with h lead) ≡ h
+opened_back h lead finished =
+    let counts : h.count + 1 - 1 ≡ h.count = omega arith in
+    rw (counts, take_at h.body lead (length h.body) refl) (at h.opening finished)
+  where
+    at : (o : Option Opening) → is_none o ≡ true → holding h.kept h.count h.body ≡ held_as h.kept h.count h.body o
+    at None e = refl
+    at (Some o) e = cc
+
+pub lengthened_back : (h : Held) (text : List ℕ) → is_finished h ≡ false → IsWithin h → given_up (lengthened h text) ≡ given_up h
+lengthened_back h text unfinished within = at h.opening unfinished within
+  where
+    at : (o : Option Opening) → is_none o ≡ false → OpeningIsIn o h.count (length h.body) → given_up (held_as h.kept h.count (h.body ++ text) o) ≡ given_up (held_as h.kept h.count h.body o)
+    at None e w = cc
+    at (Some o) e w = let starts = w.0 in rw (take-append-le o.member_start h.body text starts) refl
+
+-- what is ended is one member more
+pub closed_as_more : (h : Held) → is_finished h ≡ false → IsWithin h → with_member (given_up h) (member_text h) ≡ closed h
+closed_as_more h unfinished within = at h.opening unfinished within
+  where
+    at : (o : Option Opening) → is_none o ≡ false → OpeningIsIn o h.count (length h.body)
+        → with_member (given_up (held_as h.kept h.count h.body o)) (member_text (held_as h.kept h.count h.body o)) ≡ holding h.kept h.count h.body
+    at None e w = cc
+    at (Some o) e w =
+        let counts : h.count - 1 + 1 ≡ h.count = omega (arith, w.1) in
+        rw (counts, take-append-drop o.member_start h.body) refl
+
+-- what was written since a member was opened, its lead with it
+pub written_text : (h : Held) (lead text : List ℕ) → member_text (lengthened (opened_with h lead) text) ≡ lead ++ text
+written_text h lead text = rw (append_assoc h.body lead text) (drop-append_seam h.body (lead ++ text))
+
+-- ---- where a member that is being written stands
+
+pub within_finished : (h : Held) → is_finished h ≡ true → IsWithin h
+within_finished h finished = at h.opening finished
+  where
+    at : (o : Option Opening) → is_none o ≡ true → OpeningIsIn o h.count (length h.body)
+    at None e = tt
+    at (Some o) e = cc
+
+pub within_opened : (h : Held) (lead : List ℕ) → IsWithin (opened_with h lead)
+within_opened h lead = (omega (arith, length-append h.body lead), omega arith)
+
+pub within_lengthened : (h : Held) (text : List ℕ) → IsWithin h → IsWithin (lengthened h text)
+within_lengthened h text within = at h.opening within
+  where
+    at : (o : Option Opening) → OpeningIsIn o h.count (length h.body) → OpeningIsIn o h.count (length (h.body ++ text))
+    at None w = tt
+    at (Some o) w = (omega (arith, w.0, length-append h.body text), w.1)
+
+pub within_back : (h : Held) → IsWithin (given_up h)
+within_back h = at h.opening
+  where
+    at : (o : Option Opening) → IsWithin (given_up (held_as h.kept h.count h.body o))
+    at None = tt
+    at (Some o) = tt
+
+-- ---- members of one kind
+
+-- one more, of which it holds too
+pub all_more : {A : Type 0} (P : A → Type 0) (xs : List A) (x : A) → AllByRecursion P xs → P x → AllByRecursion P (xs ++ x ∷ [])
+all_more P [] x all one = (one, tt)
+all_more P (y ∷ ys) x all one = (all.0, all_more P ys x all.1 one)
+
+module _ (P : List ℕ → Type 0) where
+  pub keeps_none : (kept : List ℕ) → KeepsMembers P (holding kept 0 [])
+  keeps_none kept = record {
+    settled = ∣ record { members = []; contained = record { finished = refl; count = refl; body = refl }; each = tt } ∣₁;
+    opening = tt;
+  }
+
+  some_more : (h : Held) (text : List ℕ) → ContainsSome P h → P text → ContainsSome P (with_member h text)
+  some_more h text s one = record {
+    members = s.members ++ text ∷ [];
+    contained = contains_next as_they_are h (with_member h text) text s.members refl s.contained;
+    each = all_more P s.members text s.each one;
+  }
+
+  -- what is finished contains some
+  pub contains_some : (h : Held) → is_finished h ≡ true → KeepsMembers P h → ∥ ContainsSome P h ∥₁
+  contains_some h finished k = subst (λ (s : Held). ∥ ContainsSome P s ∥₁) (finished_back h finished) k.settled
+
+  -- and what contains some keeps them
+  pub keeps_some : (h : Held) → is_finished h ≡ true → ∥ ContainsSome P h ∥₁ → KeepsMembers P h
+  keeps_some h finished s = record { settled = subst (λ (s : Held). ∥ ContainsSome P s ∥₁) (sym (finished_back h finished)) s; opening = within_finished h finished }
+
+  -- a member is added
+  pub keeps_more : (h : Held) (text : List ℕ) → is_finished h ≡ true → ∥ P text ∥₁ → KeepsMembers P h → KeepsMembers P (with_member h text)
+  keeps_more h text finished one k = keeps_some (with_member h text) finished (∥∥₁_map₂ (contains_some h finished k) one (λ s p. some_more h text s p))
+
+  -- one is opened
+  pub keeps_opened : (h : Held) (lead : List ℕ) → is_finished h ≡ true → KeepsMembers P h → KeepsMembers P (opened_with h lead)
+  keeps_opened h lead finished k = record {
+    settled = subst (λ (s : Held). ∥ ContainsSome P s ∥₁) (sym (opened_back h lead finished)) (contains_some h finished k);
+    opening = within_opened h lead;
+  }
+
+  -- more is written of it
+  pub keeps_lengthened : (h : Held) (text : List ℕ) → is_finished h ≡ false → KeepsMembers P h → KeepsMembers P (lengthened h text)
+  keeps_lengthened h text unfinished k = record {
+    settled = subst (λ (s : Held). ∥ ContainsSome P s ∥₁) (sym (lengthened_back h text unfinished k.opening)) k.settled;
+    opening = within_lengthened h text k.opening;
+  }
+
+  -- it is ended, as such a text
+  pub keeps_closed : (h : Held) → is_finished h ≡ false → ∥ P (member_text h) ∥₁ → KeepsMembers P h → KeepsMembers P (closed h)
+  keeps_closed h unfinished whole k =
+      let more : ∥ ContainsSome P (with_member (given_up h) (member_text h)) ∥₁ = ∥∥₁_map₂ k.settled whole (λ s p. some_more (given_up h) (member_text h) s p) in
+      keeps_some (closed h) refl (subst (λ (s : Held). ∥ ContainsSome P s ∥₁) (closed_as_more h unfinished k.opening) more)
+
+  -- or it is given up
+  pub keeps_given_up : (h : Held) → KeepsMembers P h → KeepsMembers P (given_up h)
+  keeps_given_up h k = record {
+    settled = subst (λ (s : Held). ∥ ContainsSome P s ∥₁) (sym (back_twice h)) k.settled;
+    opening = within_back h;
+  }
+
+-- ---- members that are texts of a form are values of it
+
+values_of : {A : Type 0} (form : Form A) (members : List (List ℕ)) → AllByRecursion (IsTextOf form) members
+    → (xs : List A) × (length xs ≡ length members) × (flat_map as_they_are members ≡ flat_map (λ x. (form x).text) xs)
+values_of form [] each = ([], refl, refl)
+values_of form (m ∷ ms) each =
+    let more = values_of form ms each.1 in
+    let one = each.0 in
+    (one.value ∷ more.0, omega (arith, more.1), rw (one.is, more.2) refl)
+
+pub contains_values : {A : Type 0} (form : Form A) (h : Held) → ContainsSome (IsTextOf form) h → (xs : List A) × Contains (λ x. (form x).text) h xs
+contains_values form h s =
+    let all = values_of form s.members s.each in
+    (all.0, record { finished = s.contained.finished; count = all.1 ∙ s.contained.count; body = s.contained.body ∙ all.2 })
