@@ -1,11 +1,11 @@
 -- What the encoder of core types writes is a whole member of its lender.
-use Rattle.std.proofs.Common.{◌≡◌, ℕ, Bool, true, false, List, ◌∷◌, ◌++◌, map, ap, ◌∙◌, sym, subst}
+use Rattle.std.proofs.Common.{◌≡◌, ℕ, Bool, true, false, List, [], ◌∷◌, ◌++◌, map}
 use Rattle.wenc_base.specs.Composites.{Composite, Func, composite_type, final, Sub, sub_type, Group, Single, Rec, standing}
 use Rattle.wenc_base.specs.Forms.{list, list_text}
 use Rattle.wenc_base.specs.Lender.{MakesWhole}
 use Rattle.wenc_base.specs.Types.{val_type}
 use Rattle.wenc_base.specs.declared.types.ValType.{ValType}
-use Rattle.wenc_base.specs.laws.Holders.{list_text_map}
+use Rattle.wenc_base.specs.laws.Lenders.{listed_ends}
 
 module _ {T : Type 0} (is_whole : T → Type 0) (written : T → List ℕ → T) where
   -- a final type without supertype, with guards or without
@@ -26,5 +26,5 @@ module _ {T : Type 0} (is_whole : T → Type 0) (written : T → List ℕ → T)
   -- types that refer to each other
   pub group_ends : {A : Type 0} (view : A → Sub) (x : T) (guard : Bool) → ((g : Group) → MakesWhole is_whole written x (standing guard g).text)
       → (types : List A) → MakesWhole is_whole written x (0x4e ∷ list_text (λ s. (sub_type (view s)).text) types)
-  group_ends view x true whole types = rw (list_text_map (λ s. (sub_type s).text) view types) (whole (Rec (map view types)))
-  group_ends view x false whole types = rw (list_text_map (λ s. (sub_type s).text) view types) (whole (Rec (map view types)))
+  group_ends view x true whole types = listed_ends is_whole written x (0x4e ∷ []) (λ s. (sub_type s).text) view types (whole (Rec (map view types)))
+  group_ends view x false whole types = listed_ends is_whole written x (0x4e ∷ []) (λ s. (sub_type s).text) view types (whole (Rec (map view types)))

@@ -137,7 +137,7 @@ p ⨾⨾ w = record {
 
 -- ---- texts
 
--- These bytes are the text of a value.
-pub record IsTextOf {A : Type 0} (form : Form A) (bytes : List ℕ) : Type 0 where
+-- These bytes have this form: they are the text of a value.
+pub record HasForm {A : Type 0} (form : Form A) (bytes : List ℕ) : Type 0 where
   pub value : A
   pub is : bytes ≡ (form value).text

@@ -1,7 +1,8 @@
 -- Component types and instance types: their declarations, one by one, and what is counted of them.
-use Rattle.std.specs.Prelude.{◌≡◌, ℕ, ◌+◌, ◌-◌, ◌≤◌, List, [], ◌∷◌, ◌++◌, Option, Some, None, Result, OnOk, OnErr, true}
+use Rattle.std.specs.List.{AllByRecursion}
+use Rattle.std.specs.Prelude.{◌≡◌, ℕ, ◌+◌, ◌-◌, ◌≤◌, List, [], ◌∷◌, ◌++◌, length, Option, Some, None, Result, OnOk, OnErr, true}
 use Rattle.wenc_base.specs.Holder.{Held, no_members, is_finished, Contains, AddsMember}
-use Rattle.wenc_base.specs.Openings.{opened_with, lengthened, closed, given_up}
+use Rattle.wenc_base.specs.Openings.{opened_with, lengthened, closed, given_up, OpeningIsIn}
 use Rattle.wenc_base.specs.declared.fault.Fault.{Fault}
 use Rattle.wenc_base.specs.declared.holder.openings.Opening.{Opening}
 use Rattle.wenc_parts.specs.Aliases.{AliasOf, InstanceExport, CoreInstanceExport, Outer}
@@ -94,6 +95,18 @@ InstanceDeclares = Declares instance_text instance_sort
 abbrev pub ComponentDeclares : Declaring → List ComponentDeclaration → Type 0
 ComponentDeclares = Declares component_text component_sort
 
+-- These bytes are the text of a declaration that counts as this.
+pub record IsDeclaration {D : Type 0} (text : D → List ℕ) (sort : D → Option Sort) (bytes : List ℕ) (counts_as : Option Sort) : Type 0 where
+  pub declaration : D
+  pub text_is : bytes ≡ text declaration
+  pub sort_is : counts_as ≡ sort declaration
+
+-- It has some declarations, each of which has such a text and counts as such a sort.
+pub record DeclaresSome (IsSuch : List ℕ → Option Sort → Type 0) (t : Declaring) : Type 0 where
+  pub declarations : List (List ℕ × Option Sort)
+  pub declared : Declares (λ d. d.0) (λ d. d.1) t declarations
+  pub each : AllByRecursion (λ d. IsSuch d.0 d.1) declarations
+
 -- A call adds this declaration, or is refused for a cause and changes nothing.
 pub record AddsDeclaration {D : Type 0} (text : D → List ℕ) (sort : D → Option Sort) (old new : Declaring) (outcome : Result (Unit {0}) Fault) (cause : Fault → Type 0) (d : D) : Type 0 where
   pub added : AddsMember text old.held new.held outcome cause d
@@ -158,3 +171,10 @@ OpenedIsIn (Some o) sort n = HasOne sort n
 
 abbrev pub total : Counts → ℕ
 total n = n.core_types + n.types + n.instances
+
+-- It has declarations, each of which is such a one, but for a type that is being written.
+pub record IsDeclaring (IsSuch : List ℕ → Option Sort → Type 0) (t : Declaring) : Type 0 where
+  pub enough : total t.counts ≤ t.held.count
+  pub counted : OpenedIsIn t.held.opening t.begun t.counts
+  pub opening : OpeningIsIn t.held.opening t.held.count (length t.held.body)
+  pub settled : ∥ DeclaresSome IsSuch (taken_back t) ∥₁

@@ -1,5 +1,10 @@
 -- How far the type of a function is written (component model, binary format, "Type Definitions").
-use Rattle.std.specs.Prelude.{ℕ, Bool, true, false, not, List, [], ◌∷◌}
+use Rattle.std.specs.Prelude.{ℕ, Bool, true, false, not, List, [], ◌∷◌, Option}
+use Rattle.wenc_base.specs.Forms.{list}
+use Rattle.wenc_base.specs.Piece.{Form, ◌⨾◌, HasForm}
+use Rattle.wenc_parts.specs.Types.{result_list}
+use Rattle.wenc_parts.specs.declared.types.ComponentValType.{ComponentValType}
+use Rattle.wenc_types.specs.DefinedTypes.{Named, named, function_type}
 use Rattle.wenc_types.specs.declared.func_type.FuncStage.{FuncStage}
 use Rattle.wenc_types.specs.declared.func_type.FuncStage.TheVariants.{Start, Tagged, Params, Done}
 
@@ -28,3 +33,14 @@ goes_on Start finished = not finished
 goes_on Tagged finished = not finished
 goes_on Params finished = not finished
 goes_on Done finished = true
+
+-- parameters, then what the function answers
+abbrev pub params_and_answer : Form (List Named × Option ComponentValType)
+params_and_answer p = list named p.0 ⨾ result_list p.1
+
+-- from this stage on, these bytes make the type whole
+abbrev pub Remains : FuncStage → List ℕ → Type 0
+Remains Start bytes = HasForm function_type bytes
+Remains Tagged bytes = HasForm params_and_answer bytes
+Remains Params bytes = HasForm result_list bytes
+Remains Done bytes = ⊥

@@ -1,9 +1,9 @@
 -- Module types: their declarations, one by one.
-use Rattle.std.specs.Prelude.{◌≡◌, ℕ, ◌+◌, ◌-◌, ◌≤◌, List, [], ◌∷◌, ◌++◌, Option, Some, None, Result, OnOk, OnErr}
-use Rattle.wenc_base.specs.Composites.{group_cause}
+use Rattle.std.specs.Prelude.{◌≡◌, ℕ, ◌+◌, ◌-◌, ◌≤◌, List, [], ◌∷◌, ◌++◌, length, Option, Some, None, Result, OnOk, OnErr}
+use Rattle.wenc_base.specs.Composites.{Group, group_cause}
 use Rattle.wenc_base.specs.Fault.{text_cause, first_of}
 use Rattle.wenc_base.specs.Holder.{Held, no_members, Contains, AddsMember}
-use Rattle.wenc_base.specs.Openings.{opened_with, lengthened, closed, given_up}
+use Rattle.wenc_base.specs.Openings.{opened_with, lengthened, closed, given_up, member_text, OpeningIsIn}
 use Rattle.wenc_base.specs.declared.fault.Fault.{Fault}
 use Rattle.wenc_base.specs.declared.holder.openings.Opening.{Opening}
 use Rattle.wenc_types.specs.CoreTypes.{ModuleDeclaration, Import, Defined, Outer, Export, module_declaration}
@@ -74,7 +74,21 @@ types_before (Some o) n = n - 1
 abbrev pub taken_back : Declared → Declared
 taken_back t = record { held = given_up t.held; types = types_before t.held.opening t.types }
 
+-- What is being written is a whole declaration of a type.
+pub record IsWhole (t : Declared) : Type 0 where
+  pub ty : Group
+  pub is : member_text t.held ≡ declaration_text (Defined ty)
+
+-- ---- what is always so
+
 -- what is being written is a type
 abbrev pub OpenedIsIn : Option Opening → ℕ → Type 0
 OpenedIsIn None n = Unit {0}
 OpenedIsIn (Some o) n = 1 ≤ n
+
+-- It has some declarations, but for a type that is being written.
+pub record IsDeclaring (t : Declared) : Type 0 where
+  pub enough : t.types ≤ t.held.count
+  pub counted : OpenedIsIn t.held.opening t.types
+  pub opening : OpeningIsIn t.held.opening t.held.count (length t.held.body)
+  pub settled : ∥ ((ds : List ModuleDeclaration) × Declares (taken_back t) ds) ∥₁

@@ -13,9 +13,21 @@ use wenc_parts::{Alias, ComponentExternName, ComponentTypeRef};
 pub struct ComponentTypes;
 
 impl DeclaringKind for ComponentTypes {
+    ghost use Rattle.std.proofs.Common.{refl};
+    ghost use Rattle.wenc_types.specs.ComponentTypes.{Declared, CoreTyped, Typed};
+    ghost use Rattle.wenc_types.specs.Declarations.{IsDeclaration, component_text, component_sort};
+
     ghost LEAD = { 0x41 };
 
     const LEAD: u8 = 0x41;
+
+    ghost is_declaration = { IsDeclaration component_text component_sort };
+
+    ghost has_core_types = { λ t. record {
+        declaration = Declared (CoreTyped t); text_is = refl; sort_is = refl } };
+
+    ghost has_types = { λ t. record {
+        declaration = Declared (Typed t); text_is = refl; sort_is = refl } };
 }
 
 /// The type of a component: what it imports and exports, and the types that these have (component model, binary format,

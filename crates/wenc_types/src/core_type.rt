@@ -1,9 +1,10 @@
-ghost use Rattle.std.specs.Prelude.{◌≡◌, ◌∷◌, true, false};
+ghost use Rattle.std.specs.Prelude.{◌≡◌, ◌∷◌, List, true, false, Err};
 ghost use Rattle.wenc_base.specs.Holder.{is_finished, held_text, EncodeCause};
-ghost use Rattle.wenc_base.specs.Lender.{Ends};
+ghost use Rattle.wenc_base.specs.Lender.{Ends, MakesWhole};
 ghost use Rattle.wenc_base.specs.declared.fault.Fault.TheVariants.{Unfinished};
-ghost use Rattle.wenc_types.specs.CoreTypes.{core_type};
+ghost use Rattle.wenc_types.specs.CoreTypes.{CoreType, ModuleDeclaration, Module, core_type, core_type_text};
 ghost use Rattle.wenc_types.specs.CoreTypeTrees.{core_type_cause, core_type_view};
+ghost use Rattle.wenc_types.specs.ModuleTypes.{Declares};
 
 use crate::core_type_tree::CoreTypeTree;
 use crate::module_type::ModuleType;
@@ -23,12 +24,16 @@ use wenc_base::{CoreTypeEncoder, Fault, Lender};
 pub struct ComponentCoreTypeEncoder<'a, L: Lender> {
     lender: &'a mut L,
     ghost opened: { L.opened lender.now ≡ true },
+    ghost whole: { (t : CoreType)
+        → MakesWhole L.is_whole L.written lender.now (core_type_text t) },
 }
 
 impl<'a, L: Lender> ComponentCoreTypeEncoder<'a, L> {
-    /// An encoder of the member that the lender has just opened.
+    /// An encoder of the member that the lender has just opened, of which each core type of a component is a whole one.
     pub fn new(lender: &'a mut L) -> Self
-        requires { L.opened lender.old ≡ true }
+        requires opened { L.opened lender.old ≡ true }
+        requires whole { (t : CoreType)
+            → MakesWhole L.is_whole L.written lender.old (core_type_text t) }
         ensures same_reference { result.lender.ghost_name ≡ lender.entry.ghost_name }
         ensures now { result.lender.now ≡ lender.old }
     {
@@ -41,8 +46,14 @@ impl<'a, L: Lender> ComponentCoreTypeEncoder<'a, L> {
         ensures ended { Ends L.written L.ended L.refuses
             self.entry.lender.now self.exit.0.now result
             (EncodeCause ty.now.held) (0x50 ∷ held_text ty.now.held) }
+        ensures declared { (ds : List ModuleDeclaration) → Declares ty.now ds
+            → Ends L.written L.ended L.refuses self.entry.lender.now self.exit.0.now result
+            (EncodeCause ty.now.held) (core_type_text (Module ds)) }
         ensures unfinished { is_finished ty.now.held ≡ false → result ≡ Err Unfinished }
     {
+        if !ty.is_finished() {
+            return Err(Fault::Unfinished);
+        }
         self.lender.end_with(ty)
     }
 

@@ -1,11 +1,14 @@
 ghost use Rattle.std.specs.Borrow.{sem, RestsIfErr};
-ghost use Rattle.std.specs.Prelude.{◌≡◌, ◌==◌, ◌∷◌, ℕ, [], OnOk, OnErr, IfOk, IfErr, true, false};
+ghost use Rattle.std.specs.Prelude.{◌≡◌, ◌==◌, ◌∷◌, ℕ, [], List, Option as Optional, Some, OnOk, OnErr, IfOk, IfErr, true, false};
 ghost use Rattle.wenc_base.specs.Fault.{IsMemory, IsWarranted};
 ghost use Rattle.wenc_base.specs.Holder.{is_finished, as_they_are, held_text, EncodeCause, AddCause, AddsMember};
 ghost use Rattle.wenc_base.specs.Lender.{Lends, GivesUp};
 ghost use Rattle.wenc_base.specs.declared.fault.Fault.TheVariants.{Unfinished};
 ghost use Rattle.wenc_base.specs.declared.fault.Fault.{Fault as FaultSpec};
-ghost use Rattle.wenc_types.specs.Declarations.{counted, no_declarations, lead_of, begun, taken_back, Settled};
+ghost use Rattle.wenc_types.specs.ComponentTypes.{TypeOf, type_text};
+ghost use Rattle.wenc_types.specs.CoreTypes.{CoreType, core_type_text};
+ghost use Rattle.wenc_types.specs.Declarations.{counted, no_declarations, lead_of, begun, taken_back, Settled, DeclaresSome};
+ghost use Rattle.wenc_types.specs.declared.counts.Sort.{Sort as SortSpec};
 ghost use Rattle.wenc_types.specs.declared.counts.Sort.TheVariants as sorts;
 
 use crate::core_type::ComponentCoreTypeEncoder;
@@ -23,6 +26,16 @@ pub trait DeclaringKind {
 
     /// The same, which the code writes.
     const LEAD: u8;
+
+    /// These bytes are the text of a declaration of such a type, which counts as this.
+    ghost is_declaration: { List ℕ → Optional SortSpec → Type 0 };
+
+    /// Such a type may declare each core type.
+    ghost has_core_types: { (t : CoreType)
+        → is_declaration (0x00 ∷ core_type_text t) (Some sorts.CoreType) };
+
+    /// And each type.
+    ghost has_types: { (t : TypeOf) → is_declaration (0x01 ∷ type_text t) (Some sorts.«Type») };
 }
 
 /// The type of a component or of an instance, by its declarations. Each kind has a name of its own for it:
@@ -39,7 +52,7 @@ pub trait DeclaringKind {
 /// let copy = ty.clone()?;
 /// ```
 #[derive(Drop)]
-pub struct Declarations<K, A: Allocator = Global> {
+pub struct Declarations<K: DeclaringKind, A: Allocator = Global> {
     held: Holder<A>,
     counts: Counts,
     /// What is being written counts as this.
@@ -47,19 +60,19 @@ pub struct Declarations<K, A: Allocator = Global> {
     kind: PhantomData<K>,
 }
 
-impl<K, A: Allocator> Model for Declarations<K, A> {
+impl<K: DeclaringKind, A: Allocator> Model for Declarations<K, A> {
     ghost use Rattle.std.specs.Prelude.{◌≤◌};
-    ghost use Rattle.wenc_types.specs.Declarations.{Declaring, OpenedIsIn, total};
+    ghost use Rattle.wenc_types.specs.Declarations.{Declaring, IsDeclaring};
 
     ghost Value = { Declaring };
 
     ghost view = { λ t. record { held = t.held; counts = t.counts; begun = t.begun } };
 
-    ghost invariant = { λ t. (total t.counts ≤ t.held.count)
-        × OpenedIsIn t.held.opening t.begun t.counts };
+    ghost invariant = { λ t. IsDeclaring K.is_declaration
+        (record { held = t.held; counts = t.counts; begun = t.begun }) };
 }
 
-impl<K, A: Allocator> Declarations<K, A> {
+impl<K: DeclaringKind, A: Allocator> Declarations<K, A> {
     ghost use Rattle.wenc_types.specs.contracts.declarations.Declarations.{the_row};
 
     /// No declarations. It takes no memory.
@@ -80,6 +93,7 @@ impl<K, A: Allocator> Declarations<K, A> {
         declaration: &E,
         sort: Option<Sort>,
     ) -> Result<(), Fault>
+        requires { K.is_declaration (E.text declaration.now) sort }
         ensures added { AddsMember as_they_are self.old.held self.new.held result
             (E.cause declaration.now) (E.text declaration.now) }
         ensures counts { OnOk result (self.new.counts ≡ counted sort self.old.counts) }
@@ -114,7 +128,8 @@ impl<K, A: Allocator> Declarations<K, A> {
     /// Begins a core type, which is written by the encoder that is answered. It is refused where there would be too
     /// many declarations (`TooMany`), or too many bytes in them (`TooLarge`).
     pub fn core_type(&mut self) -> Result<ComponentCoreTypeEncoder<'_, Declarations<K, A>>, Fault>
-        ensures* refused { sem 𝓛 (RestsIfErr (the_row K.row A.row A.Allocator) self.entry
+        ensures* refused { sem 𝓛 (RestsIfErr (the_row K.row A.row K.DeclaringKind A.Allocator)
+            self.entry
             (λ e. e.lender.ghost_name) result (λ n. n ≡ self.old)) }
         ensures same_reference { IfOk result (λ e. e.lender.ghost_name ≡ self.entry.ghost_name) }
         ensures lent { Lends (λ e. e.lender.now) (begun sorts.CoreType self.old)
@@ -128,7 +143,8 @@ impl<K, A: Allocator> Declarations<K, A> {
 
     /// Begins a type, which is written by the encoder that is answered. It is refused as `core_type` is.
     pub fn ty(&mut self) -> Result<ComponentTypeEncoder<'_, Declarations<K, A>>, Fault>
-        ensures* refused { sem 𝓛 (RestsIfErr (the_row K.row A.row A.Allocator) self.entry
+        ensures* refused { sem 𝓛 (RestsIfErr (the_row K.row A.row K.DeclaringKind A.Allocator)
+            self.entry
             (λ e. e.lender.ghost_name) result (λ n. n ≡ self.old)) }
         ensures same_reference { IfOk result (λ e. e.lender.ghost_name ≡ self.entry.ghost_name) }
         ensures lent { Lends (λ e. e.lender.now) (begun sorts.«Type» self.old)
@@ -177,10 +193,12 @@ impl<K, A: Allocator> Declarations<K, A> {
         self.counts.instances
     }
 
-    /// Whether no type is being written.
+    /// Whether no type is being written. Then it has some declarations, whoever made which calls.
     pub fn is_finished(&self) -> bool
         ensures finished { result ≡ is_finished self.now.held }
         ensures settled { is_finished self.now.held ≡ true → Settled self.now }
+        ensures declares { is_finished self.now.held ≡ true
+            → ∥ DeclaresSome K.is_declaration self.now ∥₁ }
     {
         self.held.is_finished()
     }
@@ -227,8 +245,8 @@ impl<K: DeclaringKind, A: Allocator> Encode for Declarations<K, A> {
     }
 }
 
-impl<K, A: Allocator> Lender for Declarations<K, A> {
-    ghost use Rattle.wenc_base.specs.Openings.{no_room, is_opened};
+impl<K: DeclaringKind, A: Allocator> Lender for Declarations<K, A> {
+    ghost use Rattle.wenc_base.specs.Openings.{no_room, is_opened, member_text};
     ghost use Rattle.wenc_base.specs.laws.Holders.{opened_is_unfinished};
     ghost use Rattle.wenc_types.specs.Declarations.{written, ended};
     ghost use Rattle.wenc_types.specs.laws.Declarations.{written_twice};
@@ -238,6 +256,8 @@ impl<K, A: Allocator> Lender for Declarations<K, A> {
     ghost opened = { λ t. is_opened t.held };
 
     ghost written = { written };
+
+    ghost is_whole = { λ t. K.is_declaration (member_text t.held) t.begun };
 
     ghost ended = { ended };
 

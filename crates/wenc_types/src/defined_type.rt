@@ -1,8 +1,8 @@
 ghost use Rattle.std.specs.Iterator.{IsFinite};
 ghost use Rattle.std.specs.Prelude.{◌≡◌, true, false, map};
 ghost use Rattle.wenc_base.specs.Fault.{drawn_cause, text_cause};
-ghost use Rattle.wenc_base.specs.Lender.{Ends, EndsListed};
-ghost use Rattle.wenc_types.specs.DefinedTypes.{Primitive, Record, Variant, ListOf, MapOf, FixedLengthList, Tuple, Flags, Enumeration, OptionOf, ResultOf, Own, Borrow, Future, Stream, defined_cause, defined_type, named_cause, lent_named, case_cause, lent_case};
+ghost use Rattle.wenc_base.specs.Lender.{Ends, EndsListed, MakesWhole};
+ghost use Rattle.wenc_types.specs.DefinedTypes.{Defined, Primitive, Record, Variant, ListOf, MapOf, FixedLengthList, Tuple, Flags, Enumeration, OptionOf, ResultOf, Own, Borrow, Future, Stream, defined_cause, defined_type, named_cause, lent_named, case_cause, lent_case};
 ghost use Rattle.wenc_types.specs.TypeTrees.{defined_view};
 
 use crate::defined_tree::DefinedTree;
@@ -26,12 +26,16 @@ use wenc_parts::{ComponentValType, PrimitiveValType};
 pub struct ComponentDefinedTypeEncoder<'a, L: Lender> {
     lender: &'a mut L,
     ghost unfinished: { L.finished lender.now ≡ false },
+    ghost whole: { (t : Defined)
+        → MakesWhole L.is_whole L.written lender.now (defined_type t).text },
 }
 
 impl<'a, L: Lender> ComponentDefinedTypeEncoder<'a, L> {
-    /// An encoder of the member that the lender has just opened.
+    /// An encoder of the member that the lender has just opened, of which each type of values is a whole one.
     pub fn new(lender: &'a mut L) -> Self
-        requires { L.opened lender.old ≡ true }
+        requires opened { L.opened lender.old ≡ true }
+        requires whole { (t : Defined)
+            → MakesWhole L.is_whole L.written lender.old (defined_type t).text }
         ensures same_reference { result.lender.ghost_name ≡ lender.entry.ghost_name }
         ensures now { result.lender.now ≡ lender.old }
     {

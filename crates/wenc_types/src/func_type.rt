@@ -1,11 +1,11 @@
 ghost use Rattle.std.specs.Iterator.{IsFinite};
-ghost use Rattle.std.specs.Prelude.{◌≡◌, ◌∷◌, ◌++◌, [], true, false, map, OnOk, OnErr};
+ghost use Rattle.std.specs.Prelude.{◌≡◌, ◌∷◌, ◌++◌, [], ℕ, List, true, false, map, OnOk, OnErr};
 ghost use Rattle.wenc_base.specs.Fault.{drawn_cause};
 ghost use Rattle.wenc_base.specs.Forms.{list};
-ghost use Rattle.wenc_base.specs.Lender.{either, Extends, ExtendsListed};
+ghost use Rattle.wenc_base.specs.Lender.{either, Extends, ExtendsListed, MakesWhole};
 ghost use Rattle.wenc_parts.specs.Types.{result_list};
-ghost use Rattle.wenc_types.specs.DefinedTypes.{named, named_cause, lent_named};
-ghost use Rattle.wenc_types.specs.FuncStages.{async_byte, BeforeParams, lead_from, goes_on};
+ghost use Rattle.wenc_types.specs.DefinedTypes.{Function, function_type, named, named_cause, lent_named};
+ghost use Rattle.wenc_types.specs.FuncStages.{async_byte, BeforeParams, lead_from, goes_on, Remains};
 ghost use Rattle.wenc_types.specs.declared.func_type.FuncStage.TheVariants as stages;
 
 use wenc_base::{Fault, Lender, Verbatim};
@@ -54,12 +54,16 @@ pub struct ComponentFuncTypeEncoder<'a, L: Lender> {
     lender: &'a mut L,
     stage: FuncStage,
     ghost going_on: { goes_on stage (L.finished lender.now) ≡ true },
+    ghost whole: { (text : List ℕ) → Remains stage text
+        → MakesWhole L.is_whole L.written lender.now text },
 }
 
 impl<'a, L: Lender> ComponentFuncTypeEncoder<'a, L> {
-    /// An encoder of the member that the lender has just opened.
+    /// An encoder of the member that the lender has just opened, of which each type of functions is a whole one.
     pub fn new(lender: &'a mut L) -> Self
-        requires { L.opened lender.old ≡ true }
+        requires opened { L.opened lender.old ≡ true }
+        requires whole { (f : Function)
+            → MakesWhole L.is_whole L.written lender.old (function_type f).text }
         ensures same_reference { result.lender.ghost_name ≡ lender.entry.ghost_name }
         ensures now { result.lender.now ≡ lender.old }
         ensures stage { result.stage ≡ stages.Start }

@@ -13,9 +13,21 @@ use wenc_parts::{Alias, ComponentExternName, ComponentTypeRef};
 pub struct InstanceTypes;
 
 impl DeclaringKind for InstanceTypes {
+    ghost use Rattle.std.proofs.Common.{refl};
+    ghost use Rattle.wenc_types.specs.ComponentTypes.{CoreTyped, Typed};
+    ghost use Rattle.wenc_types.specs.Declarations.{IsDeclaration, instance_text, instance_sort};
+
     ghost LEAD = { 0x42 };
 
     const LEAD: u8 = 0x42;
+
+    ghost is_declaration = { IsDeclaration instance_text instance_sort };
+
+    ghost has_core_types = { λ t. record {
+        declaration = CoreTyped t; text_is = refl; sort_is = refl } };
+
+    ghost has_types = { λ t. record {
+        declaration = Typed t; text_is = refl; sort_is = refl } };
 }
 
 /// The type of an instance: what it exports, and the types that these have (component model, binary format, "Type

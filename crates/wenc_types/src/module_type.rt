@@ -1,12 +1,12 @@
 ghost use Rattle.std.specs.Borrow.{sem, RestsIfErr};
-ghost use Rattle.std.specs.Prelude.{◌≡◌, ◌∷◌, [], false, OnOk, OnErr, IfOk, IfErr};
+ghost use Rattle.std.specs.Prelude.{◌≡◌, ◌∷◌, [], List, true, false, OnOk, OnErr, IfOk, IfErr};
 ghost use Rattle.wenc_base.specs.Fault.{IsMemory, IsWarranted};
 ghost use Rattle.wenc_base.specs.Holder.{is_finished, AddCause};
 ghost use Rattle.wenc_base.specs.Lender.{Lends, GivesUp};
 ghost use Rattle.wenc_base.specs.declared.fault.Fault.TheVariants.{Unfinished};
 ghost use Rattle.wenc_base.specs.declared.fault.Fault.{Fault as FaultSpec};
-ghost use Rattle.wenc_types.specs.CoreTypes.{Import, Outer, Export};
-ghost use Rattle.wenc_types.specs.ModuleTypes.{no_declarations, begun, taken_back, AddsDeclaration};
+ghost use Rattle.wenc_types.specs.CoreTypes.{ModuleDeclaration, Import, Outer, Export};
+ghost use Rattle.wenc_types.specs.ModuleTypes.{no_declarations, begun, taken_back, AddsDeclaration, Declares};
 
 use std::alloc::{Allocator, Global};
 use std::marker::Model;
@@ -30,15 +30,13 @@ pub struct ModuleType<A: Allocator = Global> {
 }
 
 impl<A: Allocator> Model for ModuleType<A> {
-    ghost use Rattle.std.specs.Prelude.{◌≤◌};
-    ghost use Rattle.wenc_types.specs.ModuleTypes.{Declared, OpenedIsIn};
+    ghost use Rattle.wenc_types.specs.ModuleTypes.{Declared, IsDeclaring};
 
     ghost Value = { Declared };
 
     ghost view = { λ t. record { held = t.declarations; types = t.types } };
 
-    ghost invariant = { λ t. (t.types ≤ t.declarations.count)
-        × OpenedIsIn t.declarations.opening t.types };
+    ghost invariant = { λ t. IsDeclaring (record { held = t.declarations; types = t.types }) };
 }
 
 impl<A: Allocator> ModuleType<A> {
@@ -90,9 +88,11 @@ impl<A: Allocator> ModuleType<A> {
         self.types
     }
 
-    /// Whether no type is being written.
+    /// Whether no type is being written. Then it has some declarations, whoever made which calls.
     pub fn is_finished(&self) -> bool
-        ensures { result ≡ is_finished self.now.held }
+        ensures finished { result ≡ is_finished self.now.held }
+        ensures declares { is_finished self.now.held ≡ true
+            → ∥ ((ds : List ModuleDeclaration) × Declares self.now ds) ∥₁ }
     {
         self.declarations.is_finished()
     }
@@ -173,7 +173,7 @@ impl<A: Allocator> Encode for ModuleType<A> {
 impl<A: Allocator> Lender for ModuleType<A> {
     ghost use Rattle.wenc_base.specs.Openings.{no_room, is_opened};
     ghost use Rattle.wenc_base.specs.laws.Holders.{opened_is_unfinished};
-    ghost use Rattle.wenc_types.specs.ModuleTypes.{written, ended};
+    ghost use Rattle.wenc_types.specs.ModuleTypes.{written, IsWhole, ended};
     ghost use Rattle.wenc_types.specs.laws.ModuleTypes.{written_twice};
 
     ghost finished = { λ t. is_finished t.held };
@@ -181,6 +181,8 @@ impl<A: Allocator> Lender for ModuleType<A> {
     ghost opened = { λ t. is_opened t.held };
 
     ghost written = { written };
+
+    ghost is_whole = { IsWhole };
 
     ghost ended = { ended };
 

@@ -1,8 +1,9 @@
-ghost use Rattle.std.specs.Prelude.{◌≡◌, ◌∷◌, true, false};
+ghost use Rattle.std.specs.Prelude.{◌≡◌, ◌∷◌, List, true, false, Err};
 ghost use Rattle.wenc_base.specs.Holder.{is_finished, held_text, EncodeCause};
-ghost use Rattle.wenc_base.specs.Lender.{Ends};
+ghost use Rattle.wenc_base.specs.Lender.{Ends, MakesWhole};
 ghost use Rattle.wenc_base.specs.declared.fault.Fault.TheVariants.{Unfinished};
-ghost use Rattle.wenc_types.specs.ComponentTypes.{ResourceType, type_text};
+ghost use Rattle.wenc_types.specs.ComponentTypes.{TypeOf, InstanceDeclaration, ComponentDeclaration, ComponentType as ComponentTypeSpec, InstanceType as InstanceTypeSpec, ResourceType, components_of, instances_of, type_text};
+ghost use Rattle.wenc_types.specs.Declarations.{ComponentDeclares, InstanceDeclares};
 ghost use Rattle.wenc_types.specs.TypeTrees.{type_cause, type_view};
 ghost use Rattle.wenc_types.specs.declared.func_type.FuncStage.TheVariants as stages;
 
@@ -27,12 +28,15 @@ use wenc_base::{Fault, Lender, Tagged, ValType};
 pub struct ComponentTypeEncoder<'a, L: Lender> {
     lender: &'a mut L,
     ghost opened: { L.opened lender.now ≡ true },
+    ghost whole: { (t : TypeOf) → MakesWhole L.is_whole L.written lender.now (type_text t) },
 }
 
 impl<'a, L: Lender> ComponentTypeEncoder<'a, L> {
-    /// An encoder of the member that the lender has just opened.
+    /// An encoder of the member that the lender has just opened, of which each type is a whole one.
     pub fn new(lender: &'a mut L) -> Self
-        requires { L.opened lender.old ≡ true }
+        requires opened { L.opened lender.old ≡ true }
+        requires whole { (t : TypeOf)
+            → MakesWhole L.is_whole L.written lender.old (type_text t) }
         ensures same_reference { result.lender.ghost_name ≡ lender.entry.ghost_name }
         ensures now { result.lender.now ≡ lender.old }
     {
@@ -45,8 +49,14 @@ impl<'a, L: Lender> ComponentTypeEncoder<'a, L> {
         ensures ended { Ends L.written L.ended L.refuses
             self.entry.lender.now self.exit.0.now result
             (EncodeCause ty.now.held) (0x41 ∷ held_text ty.now.held) }
+        ensures declared { (ds : List ComponentDeclaration) → ComponentDeclares ty.now ds
+            → Ends L.written L.ended L.refuses self.entry.lender.now self.exit.0.now result
+            (EncodeCause ty.now.held) (type_text (ComponentTypeSpec (components_of ds))) }
         ensures unfinished { is_finished ty.now.held ≡ false → result ≡ Err Unfinished }
     {
+        if !ty.is_finished() {
+            return Err(Fault::Unfinished);
+        }
         self.lender.end_with(ty)
     }
 
@@ -55,8 +65,14 @@ impl<'a, L: Lender> ComponentTypeEncoder<'a, L> {
         ensures ended { Ends L.written L.ended L.refuses
             self.entry.lender.now self.exit.0.now result
             (EncodeCause ty.now.held) (0x42 ∷ held_text ty.now.held) }
+        ensures declared { (ds : List InstanceDeclaration) → InstanceDeclares ty.now ds
+            → Ends L.written L.ended L.refuses self.entry.lender.now self.exit.0.now result
+            (EncodeCause ty.now.held) (type_text (InstanceTypeSpec (instances_of ds))) }
         ensures unfinished { is_finished ty.now.held ≡ false → result ≡ Err Unfinished }
     {
+        if !ty.is_finished() {
+            return Err(Fault::Unfinished);
+        }
         self.lender.end_with(ty)
     }
 

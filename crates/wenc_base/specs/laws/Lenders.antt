@@ -1,10 +1,10 @@
 -- What lenders that keep a holder, or another lender, owe: that what is done to it is done to them.
-use Rattle.std.proofs.Common.{◌≡◌, ℕ, List, ◌++◌, map, Option, Result, Ok, Err, OnOk, IfErr, inl, inr, ap, ◌∙◌}
+use Rattle.std.proofs.Common.{◌≡◌, ℕ, List, ◌++◌, map, Option, Result, Ok, Err, OnOk, IfErr, inl, inr, ap, sym, subst, ◌∙◌}
 use Rattle.std.proofs.iter.runs.Made.{seen}
 use Rattle.std.specs.Iterator.Runs.{SomeRun, WholeRun, EachRunFrom}
 use Rattle.wenc_base.specs.Fault.{IsWarranted, drawn_cause}
 use Rattle.wenc_base.specs.Forms.{list_text}
-use Rattle.wenc_base.specs.Lender.{either, Extends, ExtendsListed}
+use Rattle.wenc_base.specs.Lender.{either, Extends, ExtendsListed, MakesWhole}
 use Rattle.wenc_base.specs.laws.Causes.{still_warranted, SameCause}
 use Rattle.wenc_base.specs.laws.Holders.{drawn_as, list_text_map}
 use Rattle.wenc_base.specs.declared.fault.Fault.{Fault}
@@ -73,3 +73,9 @@ made_of steps values making made old new (Err f) next refuses cause text make ru
       let q = runs p (seen p.len) a.warranted.1 in
       (q.0, q.1, rw q.2.1 at a.warranted.2);
 }
+
+-- a list makes a member whole, where what its values stand for does
+pub listed_ends : {T A B : Type 0} (is_whole : T → Type 0) (written : T → List ℕ → T) (x : T) (lead : List ℕ) (text : B → List ℕ) (view : A → B) (vs : List A)
+    → MakesWhole is_whole written x (lead ++ list_text text (map view vs)) → MakesWhole is_whole written x (lead ++ list_text (λ v. text (view v)) vs)
+listed_ends is_whole written x lead text view vs whole =
+    subst (λ (t : List ℕ). MakesWhole is_whole written x (lead ++ t)) (sym (list_text_map text view vs)) whole

@@ -1,13 +1,17 @@
 -- What a holder whose members are texts of one kind stays through all calls.
-use Rattle.std.proofs.Common.{◌≡◌, ℕ, ◌+◌, ◌-◌, ◌≤◌, Bool, true, false, is_none, Option, Some, None, append_assoc, List, [], ◌∷◌, ◌++◌, length, take, drop, refl, sym, ap, ◌∙◌, arith, length-append, subst}
+use Rattle.std.proofs.Common.{◌≡◌, ℕ, ◌+◌, ◌-◌, ◌≤◌, Bool, true, false, is_none, Option, Some, None, Result, Ok, Err, ◌⊎◌, inl, inr, ◌↔◌, append_assoc, List, [], ◌∷◌, ◌++◌, length, take, drop, refl, sym, ap, ◌∙◌, arith, length-append, subst}
 use Rattle.std.proofs.Math.Logic.{∥∥₁_map, ∥∥₁_map₂}
 use Rattle.std.proofs.Math.Seq.{drop-append_seam}
 use Rattle.std.proofs.lemmas.List.{take_at, take-append-drop, take-append-le}
 use Rattle.std.specs.List.{flat_map, AllByRecursion}
-use Rattle.wenc_base.specs.Piece.{Form, IsTextOf}
+use Rattle.std.specs.Prelude.{IsTrue}
+use Rattle.wenc_base.specs.Piece.{Form, HasForm}
 use Rattle.wenc_base.specs.Holder.{Held, is_finished, with_member, holding, as_they_are, Contains, ContainsSome}
+use Rattle.wenc_base.specs.Lender.{Extends, ExtendsListed}
 use Rattle.wenc_base.specs.Openings.{opened_with, lengthened, closed, given_up, member_text, OpeningIsIn, KeepsMembers}
 use Rattle.wenc_base.specs.laws.Holders.{contains_next}
+use Rattle.wenc_base.specs.declared.fault.Fault.{Fault}
+use Rattle.wenc_base.specs.declared.fault.Fault.TheVariants.{Unfinished}
 use Rattle.wenc_base.specs.declared.holder.openings.Opening.{Opening}
 
 -- ---- what is given up
@@ -33,14 +37,17 @@ back_twice h = at h.opening
     at None = refl
     at (Some o) = refl
 
-pub opened_back : (h : Held) (lead : List ℕ) → is_finished h ≡ true → given_up (opened_with h lead) ≡ h
-opened_back h lead finished =
-    let counts : h.count + 1 - 1 ≡ h.count = omega arith in
-    rw (counts, take_at h.body lead (length h.body) refl) (at h.opening finished)
+pub closed_as_it_is : (h : Held) → is_finished h ≡ true → closed h ≡ h
+closed_as_it_is h finished = at h.opening finished
   where
     at : (o : Option Opening) → is_none o ≡ true → holding h.kept h.count h.body ≡ held_as h.kept h.count h.body o
     at None e = refl
     at (Some o) e = cc
+
+pub opened_back : (h : Held) (lead : List ℕ) → is_finished h ≡ true → given_up (opened_with h lead) ≡ h
+opened_back h lead finished =
+    let counts : h.count + 1 - 1 ≡ h.count = omega arith in
+    rw (counts, take_at h.body lead (length h.body) refl) (closed_as_it_is h finished)
 
 pub lengthened_back : (h : Held) (text : List ℕ) → is_finished h ≡ false → IsWithin h → given_up (lengthened h text) ≡ given_up h
 lengthened_back h text unfinished within = at h.opening unfinished within
@@ -63,6 +70,35 @@ closed_as_more h unfinished within = at h.opening unfinished within
 -- what was written since a member was opened, its lead with it
 pub written_text : (h : Held) (lead text : List ℕ) → member_text (lengthened (opened_with h lead) text) ≡ lead ++ text
 written_text h lead text = rw (append_assoc h.body lead text) (drop-append_seam h.body (lead ++ text))
+
+-- a call that is refused while one is being written wasn't made then
+pub was_finished : {T : Type 0} (h : Held) (x : T) → (is_finished h ≡ false → Ok x ≡ Err Unfinished) → is_finished h ≡ true
+was_finished h x refused = at (is_finished h) refused
+  where
+    at : (b : Bool) → (b ≡ false → Ok x ≡ Err Unfinished) → b ≡ true
+    at true r = refl
+    at false r = let e = r refl in cc
+
+-- what is added to a member makes it longer, or is refused
+abbrev pub IsLonger : Held → Held → Type 0
+IsLonger old new = (new ≡ old) ⊎ ((text : List ℕ) × (new ≡ lengthened old text))
+
+pub extended : (old new : Held) (outcome : Result (Unit {0}) Fault) (text : List ℕ) (cause : Fault → Type 0) → Extends old new (lengthened old text) outcome cause → IsLonger old new
+extended old new (Ok u) text cause e = inr (text, e.ok)
+extended old new (Err f) text cause e = inl e.err
+
+pub extended_list : {S B : Type 0} (steps : S → Option B → S → Type 0) (values : S) (old new : Held) (outcome : Result (Unit {0}) Fault) (refuses : List ℕ → Fault → Type 0)
+    (cause : List B → Fault → Type 0) (text : List B → List ℕ) → ExtendsListed steps values old new outcome (lengthened old) refuses cause text → IsLonger old new
+extended_list steps values old new (Ok u) refuses cause text e = inr (text e.ok.0.items, e.ok.3.0)
+extended_list steps values old new (Err f) refuses cause text e = inl e.err
+
+-- a holder that gave up nothing was finished
+pub told_finished : (h : Held) (was : Bool) → (IsTrue was ↔ (is_finished h ≡ false)) → was ≡ false → is_finished h ≡ true
+told_finished h was told nothing = at (is_finished h) told.1
+  where
+    at : (b : Bool) → (b ≡ false → IsTrue was) → b ≡ true
+    at true t = refl
+    at false t = let yes : IsTrue was = t refl in let e : was ≡ true = yes in cc
 
 -- ---- where a member that is being written stands
 
@@ -137,11 +173,20 @@ module _ (P : List ℕ → Type 0) where
     opening = within_lengthened h text k.opening;
   }
 
+  -- or the same of a call that may be refused
+  pub keeps_longer : (old new : Held) → is_finished old ≡ false → IsLonger old new → KeepsMembers P old → KeepsMembers P new
+  keeps_longer old new unfinished (inl same) k = rw same k
+  keeps_longer old new unfinished (inr more) k = rw more.1 (keeps_lengthened old more.0 unfinished k)
+
   -- it is ended, as such a text
-  pub keeps_closed : (h : Held) → is_finished h ≡ false → ∥ P (member_text h) ∥₁ → KeepsMembers P h → KeepsMembers P (closed h)
-  keeps_closed h unfinished whole k =
-      let more : ∥ ContainsSome P (with_member (given_up h) (member_text h)) ∥₁ = ∥∥₁_map₂ k.settled whole (λ s p. some_more (given_up h) (member_text h) s p) in
-      keeps_some (closed h) refl (subst (λ (s : Held). ∥ ContainsSome P s ∥₁) (closed_as_more h unfinished k.opening) more)
+  pub keeps_closed : (h : Held) → ∥ P (member_text h) ∥₁ → KeepsMembers P h → KeepsMembers P (closed h)
+  keeps_closed h whole k = at (is_finished h) refl
+    where
+      at : (b : Bool) → is_finished h ≡ b → KeepsMembers P (closed h)
+      at true finished = subst (KeepsMembers P) (sym (closed_as_it_is h finished)) k
+      at false unfinished =
+          let more : ∥ ContainsSome P (with_member (given_up h) (member_text h)) ∥₁ = ∥∥₁_map₂ k.settled whole (λ s p. some_more (given_up h) (member_text h) s p) in
+          keeps_some (closed h) refl (subst (λ (s : Held). ∥ ContainsSome P s ∥₁) (closed_as_more h unfinished k.opening) more)
 
   -- or it is given up
   pub keeps_given_up : (h : Held) → KeepsMembers P h → KeepsMembers P (given_up h)
@@ -152,7 +197,7 @@ module _ (P : List ℕ → Type 0) where
 
 -- ---- members that are texts of a form are values of it
 
-values_of : {A : Type 0} (form : Form A) (members : List (List ℕ)) → AllByRecursion (IsTextOf form) members
+values_of : {A : Type 0} (form : Form A) (members : List (List ℕ)) → AllByRecursion (HasForm form) members
     → (xs : List A) × (length xs ≡ length members) × (flat_map as_they_are members ≡ flat_map (λ x. (form x).text) xs)
 values_of form [] each = ([], refl, refl)
 values_of form (m ∷ ms) each =
@@ -160,7 +205,7 @@ values_of form (m ∷ ms) each =
     let one = each.0 in
     (one.value ∷ more.0, omega (arith, more.1), rw (one.is, more.2) refl)
 
-pub contains_values : {A : Type 0} (form : Form A) (h : Held) → ContainsSome (IsTextOf form) h → (xs : List A) × Contains (λ x. (form x).text) h xs
+pub contains_values : {A : Type 0} (form : Form A) (h : Held) → ContainsSome (HasForm form) h → (xs : List A) × Contains (λ x. (form x).text) h xs
 contains_values form h s =
     let all = values_of form s.members s.each in
     (all.0, record { finished = s.contained.finished; count = all.1 ∙ s.contained.count; body = s.contained.body ∙ all.2 })

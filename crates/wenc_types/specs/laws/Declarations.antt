@@ -68,7 +68,7 @@ declares_ended text_of sort t s d ds text e is h = record {
   counts = rw h.counts (sym (counts_next sort ds d ∙ ap (λ (o : Option Sort). counted o (counts_of sort ds)) is));
 }
 
-back_again : (s : Sort) (n : Counts) → uncounted (Some s) (counted (Some s) n) ≡ n
+pub back_again : (s : Sort) (n : Counts) → uncounted (Some s) (counted (Some s) n) ≡ n
 back_again CoreType n = let e : n.core_types + 1 - 1 ≡ n.core_types = omega arith in rw e refl
 back_again TypeSort n = let e : n.types + 1 - 1 ≡ n.types = omega arith in rw e refl
 back_again Instance n = let e : n.instances + 1 - 1 ≡ n.instances = omega arith in rw e refl

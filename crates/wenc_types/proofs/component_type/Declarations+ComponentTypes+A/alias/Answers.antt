@@ -1,3 +1,4 @@
+use Rattle.std.proofs.Common.{refl}
 use Rattle.wenc_base.specs.laws.Causes.{same_cause}
 use Rattle.wenc_parts.specs.Aliases.{alias_view, alias_cause}
 use Rattle.wenc_types.specs.ComponentTypes.{Aliased, Declared}
@@ -10,3 +11,6 @@ returns g c =
     let alias = alias_view c.args.alias in
     took component_text component_sort c.args.self.now c.add.new.self c.add.result (alias_cause alias) (alias_cause alias) (Declared (Aliased alias)) same_cause c.add.ensures.added
     (rw c.sort_of_alias-sort.ensures at c.add.ensures.counts) c.add.ensures.begun c.add.ensures.err
+
+pub add-requires : goal.add-requires
+add-requires g c = record { declaration = Declared (Aliased (alias_view c.args.alias)); text_is = refl; sort_is = c.sort_of_alias-sort.ensures }

@@ -1,3 +1,4 @@
+use Rattle.std.proofs.Common.{refl}
 use Rattle.wenc_base.specs.Fault.{first_of}
 use Rattle.wenc_base.specs.laws.Causes.{never, alone}
 use Rattle.wenc_parts.specs.Imports.{extern_name_view, extern_name_cause}
@@ -12,3 +13,6 @@ returns g c =
     let cause = extern_name_cause name in
     took component_text component_sort c.args.self.now c.add.new.self c.add.result (first_of cause never) cause (Imported name c.args.ty) (alone cause never (λ fault h. h)) c.add.ensures.added
     (rw (c.sort_of_kind.ensures, c.kind.ensures.is) at c.add.ensures.counts) c.add.ensures.begun c.add.ensures.err
+
+pub add-requires : goal.add-requires
+add-requires g c = record { declaration = Imported (extern_name_view c.args.name) c.args.ty; text_is = refl; sort_is = rw (c.sort_of_kind.ensures, c.kind.ensures.is) refl }

@@ -1,13 +1,13 @@
-use Rattle.std.proofs.Common.{◌∷◌, ℕ, List, Option, map, subst, ap, sym, ◌∙◌, rules}
+use Rattle.std.proofs.Common.{◌∷◌, [], ℕ, List, Option, map, subst, ap, sym, ◌∙◌, rules}
 use Rattle.std.specs.Borrow.{Bor}
 use Rattle.wenc_base.specs.Forms.{list_text}
 use Rattle.wenc_base.specs.laws.Causes.{SameCause, same_cause, drawn_seen}
 use Rattle.wenc_base.specs.laws.Holders.{list_text_map}
-use Rattle.wenc_base.specs.laws.Lenders.{extends_as, made_of}
+use Rattle.wenc_base.specs.laws.Lenders.{extends_as, made_of, listed_ends}
 use Rattle.wenc_base.specs.Fault.{drawn_cause}
 use Rattle.wenc_base.specs.declared.fault.Fault.{Fault}
 use Rattle.wenc_parts.specs.declared.types.ComponentValType.{ComponentValType}
-use Rattle.wenc_types.specs.DefinedTypes.{case, case_cause, lent_case}
+use Rattle.wenc_types.specs.DefinedTypes.{Variant, case, case_cause, lent_case}
 use Rattle.wenc_types.specs.declared.defined_type.Case.{Case}
 use Rattle.wenc_types.proofs.defined_type.ComponentDefinedTypeEncoder.variant.Goals as goal
 
@@ -34,3 +34,7 @@ returns g c =
     (drawn_cause made_cause) (λ cs. 0x71 ∷ list_text made_text cs) made
     (λ p t e. let q = c.map.ensures.runs p t e in (q.0, q.1, (q.2.0, q.2.3 made (search rules))))
     c.end_with_list.ensures)
+
+pub end_with_list-requires-clause-whole : goal.end_with_list-requires-clause-whole
+end_with_list-requires-clause-whole g c vs =
+    listed_ends g.L.Lender.is_whole g.L.Lender.written c.args.self.lender.now (0x71 ∷ []) (λ x. (case x).text) (λ c. record { name = c.name.now; ty = c.ty }) vs (c.args.self.whole (Variant (map (λ c. record { name = c.name.now; ty = c.ty }) vs)))

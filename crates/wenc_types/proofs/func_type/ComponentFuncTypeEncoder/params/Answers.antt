@@ -1,3 +1,6 @@
+use Rattle.wenc_types.specs.laws.FuncStages.{params_go_on}
+use Rattle.wenc_types.specs.DefinedTypes.{lent_named}
+use Rattle.std.proofs.Common.{rules, map}
 use Rattle.wenc_types.proofs.func_type.ComponentFuncTypeEncoder.params.Goals as goal
 
 pub returns-in-Ok-clause-appended : goal.returns-in-Ok-clause-appended
@@ -5,3 +8,11 @@ returns-in-Ok-clause-appended g c = rw (← c.lead.ensures) c.in-Ok.ensures
 
 pub returns-in-Err-clause-appended : goal.returns-in-Err-clause-appended
 returns-in-Err-clause-appended g c = rw (← c.lead.ensures) c.in-Err.ensures
+
+pub invariant_of-self : goal.invariant_of-self
+invariant_of-self g c =
+    let added = (rw (c.lead.ensures) at c.in-Ok.ensures.ok) in
+    record {
+      going_on = search rules;
+      whole = params_go_on g.L.Lender.is_whole g.L.Lender.written g.L.Lender.joins c.args.self.now.lender.now c.append_named.new.lender c.args.self.now.stage (map lent_named added.0.items) c.requires.stage added.3.0 c.args.self.now.whole;
+    }

@@ -1,3 +1,5 @@
+use Rattle.wenc_base.specs.laws.Members.{extended}
+use Rattle.wenc_types.specs.laws.ModuleDeclaring.{declaring_longer}
 use Rattle.wenc_base.specs.Holder.{Held}
 use Rattle.wenc_base.specs.Lender.{either}
 use Rattle.wenc_base.specs.Openings.{lengthened, no_room}
@@ -11,3 +13,8 @@ returns-clause-appended g c =
     let text = g.E.Encode.text c.args.value.now in
     rw (← c.self.view_is) (carried (λ (h : Held). let t : Declared = record { held = h; types = c.self.inside.types } in t) held c.append_encoded.new.self (lengthened held text) c.append_encoded.result
     (either (g.E.Encode.cause c.args.value.now) (no_room held text)) c.append_encoded.ensures.lengthened)
+
+pub invariant_of-self : goal.invariant_of-self
+invariant_of-self g c =
+    declaring_longer (record { held = c.self.inside.declarations; types = c.self.inside.types }) c.append_encoded.new.self (rw (← c.self.view_is) at c.requires)
+    (extended _ _ _ _ _ c.append_encoded.ensures.lengthened) c.self.invariant

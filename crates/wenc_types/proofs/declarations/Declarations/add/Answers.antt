@@ -1,0 +1,11 @@
+use Rattle.wenc_base.specs.laws.Members.{was_finished}
+use Rattle.wenc_types.specs.laws.Declaring.{declaring_added}
+use Rattle.wenc_types.proofs.declarations.Declarations.add.Goals as goal
+
+pub invariant_of-self-2 : goal.invariant_of-self-2
+invariant_of-self-2 g c =
+    let t = c.self.inside in
+    let added = c.in_ok-add_encoded.ensures.added in
+    rw (added.ok.state, c.counted-self-inside.ensures)
+    (declaring_added g.K.DeclaringKind.is_declaration (record { held = t.held; counts = t.counts; begun = t.begun }) (g.E.Encode.text c.args.declaration.now) c.args.sort
+    (was_finished t.held _ added.unfinished_first) c.requires c.self.invariant)

@@ -1,0 +1,8 @@
+use Rattle.wenc_base.specs.laws.Forms.{option_is}
+use Rattle.wenc_parts.specs.Types.{value_type}
+use Rattle.wenc_types.specs.DefinedTypes.{ResultOf}
+use Rattle.wenc_types.proofs.defined_type.ComponentDefinedTypeEncoder.result.Goals as goal
+
+pub end_with-requires-clause-whole : goal.end_with-requires-clause-whole
+end_with-requires-clause-whole g c =
+    rw (option_is value_type c.args.ok, option_is value_type c.args.err) (c.args.self.whole (ResultOf c.args.ok c.args.err))

@@ -1,0 +1,210 @@
+-- What component types and instance types stay through all calls.
+use Rattle.std.proofs.Common.{◌≡◌, ℕ, ◌+◌, ◌-◌, ◌≤◌, Bool, true, false, is_none, List, [], ◌∷◌, ◌++◌, Option, Some, None, refl, ap, sym, ◌∙◌, subst, arith, length}
+use Rattle.std.proofs.Math.Logic.{∥∥₁_map₂, ∥∥₁_elim, ∥∥₁_prop}
+use Rattle.std.specs.List.{flat_map, AllByRecursion}
+use Rattle.wenc_base.specs.Holder.{Held, is_finished, with_member, held_text, Contains}
+use Rattle.wenc_base.specs.Lender.{MakesWhole}
+use Rattle.wenc_base.specs.Openings.{opened_with, lengthened, closed, given_up, member_text, OpeningIsIn}
+use Rattle.wenc_base.specs.laws.Holders.{contains_next}
+use Rattle.wenc_base.specs.laws.Members.{all_more, finished_back, back_twice, opened_back, lengthened_back, closed_as_it_is, closed_as_more, within_finished, within_opened, within_lengthened, within_back}
+use Rattle.wenc_base.specs.declared.holder.openings.Opening.{Opening}
+use Rattle.wenc_types.specs.ComponentTypes.{TypeOf, ComponentType, InstanceType, components_of, instances_of, type_text}
+use Rattle.wenc_types.specs.Declarations.{component_text, component_sort, instance_text, instance_sort, Declaring, no_declarations, no_counts, Settled, Declares, IsDeclaration, DeclaresSome, IsDeclaring, HasOne, OpenedIsIn, total, counted, uncounted, counts_of, lead_of, begun, written, ended, taken_back}
+use Rattle.wenc_types.specs.laws.Declarations.{counts_next, back_again, component_type_text, instance_type_text}
+use Rattle.wenc_types.specs.declared.counts.Counts.{Counts}
+use Rattle.wenc_types.specs.declared.counts.Sort.{Sort}
+use Rattle.wenc_types.specs.declared.counts.Sort.TheVariants.{CoreType, «Type» as TypeSort, Instance}
+
+-- ---- counts
+
+-- one more of a sort makes one more at most
+total_counted : (sort : Option Sort) (n : Counts) → total (counted sort n) ≤ total n + 1
+total_counted None n = omega arith
+total_counted (Some CoreType) n = omega arith
+total_counted (Some TypeSort) n = omega arith
+total_counted (Some Instance) n = omega arith
+
+total_uncounted : (sort : Option Sort) (n : Counts) → HasOne sort n → total (uncounted sort n) + 1 ≤ total n
+total_uncounted None n one = absurd one
+total_uncounted (Some CoreType) n one = omega arith
+total_uncounted (Some TypeSort) n one = omega arith
+total_uncounted (Some Instance) n one = omega arith
+
+has_one : (sort : Sort) (n : Counts) → HasOne (Some sort) (counted (Some sort) n)
+has_one CoreType n = omega arith
+has_one TypeSort n = omega arith
+has_one Instance n = omega arith
+
+counted_uncounted : (sort : Option Sort) (n : Counts) → HasOne sort n → counted sort (uncounted sort n) ≡ n
+counted_uncounted None n one = absurd one
+counted_uncounted (Some CoreType) n one = let e : n.core_types - 1 + 1 ≡ n.core_types = omega arith in rw e refl
+counted_uncounted (Some TypeSort) n one = let e : n.types - 1 + 1 ≡ n.types = omega arith in rw e refl
+counted_uncounted (Some Instance) n one = let e : n.instances - 1 + 1 ≡ n.instances = omega arith in rw e refl
+
+-- what is being written is one of the sorts
+one_at : (o : Option Opening) (sort : Option Sort) (n : Counts) → is_none o ≡ false → OpenedIsIn o sort n → HasOne sort n
+one_at None sort n e c = cc
+one_at (Some o) sort n e c = c
+
+none_at : (o : Option Opening) (sort : Option Sort) (n : Counts) → is_none o ≡ true → OpenedIsIn o sort n → sort ≡ None
+none_at None sort n e c = c
+none_at (Some o) sort n e c = cc
+
+still_none : (o : Option Opening) (sort : Option Sort) (n m : Counts) → is_none o ≡ true → sort ≡ None → OpenedIsIn o sort m
+still_none None sort n m e s = s
+still_none (Some o) sort n m e s = cc
+
+counted_back : (o : Option Opening) (h : Held) (m : Counts) → OpenedIsIn (given_up (record { kept = h.kept; count = h.count; body = h.body; opening = o })).opening None m
+counted_back None h m = refl
+counted_back (Some o) h m = refl
+
+enough_back : (o : Option Opening) (h : Held) (sort : Option Sort) (n : Counts) → OpenedIsIn o sort n → total n ≤ h.count
+    → total (uncounted sort n) ≤ (given_up (record { kept = h.kept; count = h.count; body = h.body; opening = o })).count
+enough_back None h sort n c e = rw c e
+enough_back (Some o) h sort n c e = omega (arith, total_uncounted sort n c)
+
+-- ---- declarations
+
+module _ (P : List ℕ → Option Sort → Type 0) where
+  abbrev Some' : Declaring → Type 0
+  Some' t = ∥ DeclaresSome P t ∥₁
+
+  some_more : (t : Declaring) (text : List ℕ) (sort : Option Sort) → DeclaresSome P t → P text sort
+      → DeclaresSome P (record { held = with_member t.held text; counts = counted sort t.counts; begun = t.begun })
+  some_more t text sort s one = record {
+    declarations = s.declarations ++ (text, sort) ∷ [];
+    declared = record {
+      contained = contains_next (λ (d : List ℕ × Option Sort). d.0) t.held (with_member t.held text) (text, sort) s.declarations refl s.declared.contained;
+      counts = ap (counted sort) s.declared.counts ∙ sym (counts_next (λ (d : List ℕ × Option Sort). d.1) s.declarations (text, sort));
+    };
+    each = all_more (λ (d : List ℕ × Option Sort). P d.0 d.1) s.declarations (text, sort) s.each one;
+  }
+
+  pub settled : (t : Declaring) → is_finished t.held ≡ true → IsDeclaring P t → Settled t
+  settled t finished d = record { finished = finished; none_begun = none_at t.held.opening t.begun t.counts finished d.counted }
+
+  settled_back : (t : Declaring) → Settled t → taken_back t ≡ t
+  settled_back t s = rw (finished_back t.held s.finished, s.none_begun) refl
+
+  -- what is finished declares some
+  pub declares_some : (t : Declaring) → is_finished t.held ≡ true → IsDeclaring P t → ∥ DeclaresSome P t ∥₁
+  declares_some t finished d = subst Some' (settled_back t (settled t finished d)) d.settled
+
+  pub declaring_none : IsDeclaring P no_declarations
+  declaring_none = record {
+    enough = omega arith;
+    counted = refl;
+    opening = tt;
+    settled = ∣ record {
+      declarations = [];
+      declared = record { contained = record { finished = refl; count = refl; body = refl }; counts = refl };
+      each = tt;
+    } ∣₁;
+  }
+
+  -- a declaration is added
+  pub declaring_added : (t : Declaring) (text : List ℕ) (sort : Option Sort) → is_finished t.held ≡ true → P text sort → IsDeclaring P t
+      → IsDeclaring P (record { held = with_member t.held text; counts = counted sort t.counts; begun = t.begun })
+  declaring_added t text sort finished one d =
+      let none = settled t finished d in
+      let next : Declaring = record { held = with_member t.held text; counts = counted sort t.counts; begun = t.begun } in
+      let some : ∥ DeclaresSome P next ∥₁ = ∥∥₁_map₂ (declares_some t finished d) ∣ one ∣₁ (λ s p. some_more t text sort s p) in
+      record {
+        enough = omega (arith, d.enough, total_counted sort t.counts);
+        counted = still_none t.held.opening t.begun t.counts (counted sort t.counts) finished none.none_begun;
+        opening = within_finished (with_member t.held text) finished;
+        settled = subst Some' (sym (settled_back next (record { finished = finished; none_begun = none.none_begun }))) some;
+      }
+
+  -- a type is begun
+  pub declaring_begun : (t : Declaring) (sort : Sort) → is_finished t.held ≡ true → IsDeclaring P t → IsDeclaring P (begun sort t)
+  declaring_begun t sort finished d =
+      let none = settled t finished d in
+      let back : taken_back (begun sort t) ≡ t = rw (opened_back t.held (lead_of sort) finished, back_again sort t.counts, ← none.none_begun) refl in
+      record {
+        enough = omega (arith, d.enough, total_counted (Some sort) t.counts);
+        counted = has_one sort t.counts;
+        opening = within_opened t.held (lead_of sort);
+        settled = subst Some' (sym back) (declares_some t finished d);
+      }
+
+  -- more of it is written
+  pub declaring_written : (t : Declaring) (text : List ℕ) → is_finished t.held ≡ false → IsDeclaring P t → IsDeclaring P (written t text)
+  declaring_written t text unfinished d = record {
+    enough = d.enough;
+    counted = d.counted;
+    opening = within_lengthened t.held text d.opening;
+    settled =
+        let back : taken_back (written t text) ≡ taken_back t = rw (lengthened_back t.held text unfinished d.opening) refl in
+        subst Some' (sym back) d.settled;
+  }
+
+  -- it is ended, as a declaration
+  pub declaring_ended : (t : Declaring) → ∥ P (member_text t.held) t.begun ∥₁ → IsDeclaring P t → IsDeclaring P (ended t)
+  declaring_ended t whole d = at (is_finished t.held) refl
+    where
+      at : (b : Bool) → is_finished t.held ≡ b → IsDeclaring P (ended t)
+      at true finished =
+          let none = settled t finished d in
+          let same : ended t ≡ t = rw (closed_as_it_is t.held finished, ← none.none_begun) refl in
+          subst (IsDeclaring P) (sym same) d
+      at false unfinished =
+          let back : Declaring = taken_back t in
+          let more : ∥ DeclaresSome P (record { held = with_member back.held (member_text t.held); counts = counted t.begun back.counts; begun = None }) ∥₁ =
+              ∥∥₁_map₂ d.settled whole (λ s p. some_more back (member_text t.held) t.begun s p) in
+          let one : HasOne t.begun t.counts = one_at t.held.opening t.begun t.counts unfinished d.counted in
+          record {
+            enough = d.enough;
+            counted = refl;
+            opening = tt;
+            settled = rw (closed_as_more t.held unfinished d.opening, counted_uncounted t.begun t.counts one) at more;
+          }
+
+  -- or it is given up
+  pub declaring_taken_back : (t : Declaring) → IsDeclaring P t → IsDeclaring P (taken_back t)
+  declaring_taken_back t d = record {
+    enough = enough_back t.held.opening t.held t.begun t.counts d.counted d.enough;
+    counted = counted_back t.held.opening t.held (uncounted t.begun t.counts);
+    opening = within_back t.held;
+    settled =
+        let again : taken_back (taken_back t) ≡ taken_back t = rw (back_twice t.held) refl in
+        subst Some' (sym again) d.settled;
+  }
+
+-- ---- declarations that are values
+
+values_of : {D : Type 0} (text : D → List ℕ) (sort : D → Option Sort) (ms : List (List ℕ × Option Sort)) → AllByRecursion (λ m. IsDeclaration text sort m.0 m.1) ms
+    → (ds : List D) × (length ds ≡ length ms) × (flat_map (λ m. m.0) ms ≡ flat_map text ds) × (counts_of (λ m. m.1) ms ≡ counts_of sort ds)
+values_of text sort [] each = ([], refl, refl, refl)
+values_of text sort (m ∷ ms) each =
+    let more = values_of text sort ms each.1 in
+    let one = each.0 in
+    (one.declaration ∷ more.0, omega (arith, more.1), rw (one.text_is, more.2) refl, rw (one.sort_is, more.3) refl)
+
+pub declares_values : {D : Type 0} (text : D → List ℕ) (sort : D → Option Sort) (t : Declaring) → DeclaresSome (IsDeclaration text sort) t → (ds : List D) × Declares text sort t ds
+declares_values text sort t s =
+    let all = values_of text sort s.declarations s.each in
+    (
+      all.0,
+      record {
+        contained = record {
+          finished = s.declared.contained.finished;
+          count = all.1 ∙ s.declared.contained.count;
+          body = s.declared.contained.body ∙ all.2;
+        };
+        counts = s.declared.counts ∙ all.3;
+      },
+    )
+
+-- ---- types that are written by an encoder
+
+module _ {T : Type 0} (is_whole : T → Type 0) (written : T → List ℕ → T) (x : T) (whole : (t : TypeOf) → MakesWhole is_whole written x (type_text t)) (t : Declaring) where
+  pub component_ends : ∥ DeclaresSome (IsDeclaration component_text component_sort) t ∥₁ → MakesWhole is_whole written x (0x41 ∷ held_text t.held)
+  component_ends some = ∥∥₁_elim some ∥∥₁_prop (λ s.
+      let all = declares_values component_text component_sort t s in
+      rw (component_type_text t all.0 all.1) (whole (ComponentType (components_of all.0))))
+
+  pub instance_ends : ∥ DeclaresSome (IsDeclaration instance_text instance_sort) t ∥₁ → MakesWhole is_whole written x (0x42 ∷ held_text t.held)
+  instance_ends some = ∥∥₁_elim some ∥∥₁_prop (λ s.
+      let all = declares_values instance_text instance_sort t s in
+      rw (instance_type_text t all.0 all.1) (whole (InstanceType (instances_of all.0))))
