@@ -54,7 +54,7 @@ OpeningIsIn None count size = Unit {0}
 OpeningIsIn (Some o) count size = (o.member_start ≤ size) × (1 ≤ count)
 
 -- Each member is such a text, but for one that is being written.
-pub record KeepsMembers (IsMember : List ℕ → Type 0) (h : Held) : Type 0 where
+pub record HasMembers (IsMember : List ℕ → Type 0) (h : Held) : Type 0 where
   pub settled : ∥ ContainsSome IsMember (given_up h) ∥₁
   pub opening : OpeningIsIn h.opening h.count (length h.body)
 

@@ -1,6 +1,5 @@
 ghost use Rattle.wenc_base.specs.Holder.{AddsMember};
 ghost use Rattle.wenc_parts.specs.Aliases.{alias_view, alias_cause, alias_text};
-ghost use Rattle.wenc_parts.specs.declared.component.ComponentSectionId.{ComponentSectionId};
 
 use crate::counted::{Counted, CountedKind};
 use std::alloc::{Allocator, Global};
@@ -11,9 +10,15 @@ use wenc_parts::{Alias, ComponentSectionId};
 pub struct Aliases;
 
 impl CountedKind for Aliases {
+    ghost use Rattle.wenc_base.specs.Piece.{HasForm};
+    ghost use Rattle.wenc_parts.specs.declared.component.ComponentSectionId.{ComponentSectionId};
+    ghost use Rattle.wenc_parts.specs.Aliases.{alias};
+
     ghost ID = { ComponentSectionId.Alias };
 
     const ID: ComponentSectionId = ComponentSectionId::Alias;
+
+    ghost is_item = { HasForm alias };
 }
 
 /// The section of aliases (component model, binary format, "Alias Definitions").

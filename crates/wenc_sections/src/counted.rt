@@ -1,6 +1,8 @@
-ghost use Rattle.std.specs.Prelude.{◌≡◌, ◌==◌, false, IfOk, IfErr};
+ghost use Rattle.std.specs.Prelude.{◌≡◌, ◌==◌, ℕ, List, false, OnOk, IfOk, IfErr};
+ghost use Rattle.wenc_base.specs.Encode.{Appends};
 ghost use Rattle.wenc_base.specs.Fault.{IsMemory};
-ghost use Rattle.wenc_base.specs.Holder.{no_members, is_finished, section_text, EncodeCause};
+ghost use Rattle.wenc_base.specs.Holder.{no_members, is_finished, section_text, ContainsSome, EncodeCause};
+ghost use Rattle.wenc_base.specs.Openings.{HasMembers};
 ghost use Rattle.wenc_parts.specs.SectionIds.{section_number};
 ghost use Rattle.wenc_parts.specs.declared.component.ComponentSectionId.{ComponentSectionId};
 
@@ -19,6 +21,9 @@ pub trait CountedKind {
 
     /// The same, which the code writes.
     const ID: ComponentSectionId;
+
+    /// These bytes are the text of an item of such a section.
+    ghost is_item: { List ℕ → Type 0 };
 }
 
 /// A section of items of one kind: how many there are, and their texts. A call that is refused leaves it as it was.
@@ -31,21 +36,25 @@ pub trait CountedKind {
 /// component.section(&aliases)?;
 /// ```
 #[derive(Drop)]
-pub struct Counted<K, A: Allocator = Global> {
+pub struct Counted<K: CountedKind, A: Allocator = Global> {
     /// The calls that add an item are those of its kind, in other modules.
     pub(crate) items: Holder<A>,
     kind: PhantomData<K>,
 }
 
-impl<K, A: Allocator> Model for Counted<K, A> {
+impl<K: CountedKind, A: Allocator> Model for Counted<K, A> {
     ghost use Rattle.wenc_base.specs.Holder.{Held};
 
     ghost Value = { Held };
 
     ghost view = { λ s. s.items };
+
+    ghost use Rattle.wenc_base.specs.Openings.{HasMembers};
+
+    ghost invariant = { λ s. HasMembers K.is_item s.items };
 }
 
-impl<K, A: Allocator> Counted<K, A> {
+impl<K: CountedKind, A: Allocator> Counted<K, A> {
     /// No items. It takes no memory.
     pub fn new(alloc: A) -> Self
         ensures { result ≡ no_members }
@@ -56,7 +65,7 @@ impl<K, A: Allocator> Counted<K, A> {
         }
     }
 
-    /// The section whose items are the members of this holder. It takes no memory.
+    /// The section whose items are the members of this holder, which are texts of such items. It takes no memory.
     ///
     /// So a section may be written behind bytes that are kept: `Holder::over` begins it there, the calls that add leave
     /// these bytes where they are, and `encode` writes the section alone. `into_holder` and `Holder::into_parts` give
@@ -68,6 +77,7 @@ impl<K, A: Allocator> Counted<K, A> {
     /// let (bytes, kept, count, _) = aliases.into_holder().into_parts();
     /// ```
     pub fn from_holder(items: Holder<A>) -> Self
+        requires { HasMembers K.is_item items }
         ensures { result ≡ items }
     {
         Counted {
@@ -78,7 +88,8 @@ impl<K, A: Allocator> Counted<K, A> {
 
     /// The holder of the items, with the bytes that it keeps in front of them. It takes no memory.
     pub fn into_holder(self) -> Holder<A>
-        ensures { result ≡ self }
+        ensures same { result ≡ self }
+        ensures items { HasMembers K.is_item result }
     {
         let Counted { items, kind: _ } = self;
         items
@@ -113,15 +124,19 @@ impl<K, A: Allocator> Counted<K, A> {
     }
 }
 
-/// A finished section is refused for want of memory alone.
-impl<K, A: Allocator> Encode for Counted<K, A> {
+/// A finished section is refused for want of memory alone. What is written has some items, whoever made which calls.
+impl<K: CountedKind, A: Allocator> Encode for Counted<K, A> {
     ghost text = { λ s. section_text s };
 
     ghost cause = { λ s. EncodeCause s };
 
     ghost unfinished = { λ s. is_finished s ≡ false };
 
-    fn encode<B: Allocator>(&self, sink: &mut Vec<u8, B>) -> Result<(), Fault> {
+    fn encode<B: Allocator>(&self, sink: &mut Vec<u8, B>) -> Result<(), Fault>
+        ensures appended { Appends (section_text self.now) (EncodeCause self.now)
+            (is_finished self.now ≡ false) sink.old.items sink.new.items result }
+        ensures items { OnOk result (∥ ContainsSome K.is_item self.now ∥₁) }
+    {
         self.items.encode_section(sink)
     }
 }

@@ -1,7 +1,6 @@
 ghost use Rattle.wenc_base.specs.Holder.{AddsMember};
 ghost use Rattle.wenc_parts.specs.Imports.{extern_name_view, extern_name_cause};
 ghost use Rattle.wenc_sections.specs.Exports.{export_text};
-ghost use Rattle.wenc_parts.specs.declared.component.ComponentSectionId.{ComponentSectionId};
 
 use crate::counted::{Counted, CountedKind};
 use std::alloc::{Allocator, Global};
@@ -12,9 +11,15 @@ use wenc_parts::{ComponentExportKind, ComponentExternName, ComponentSectionId, C
 pub struct Exports;
 
 impl CountedKind for Exports {
+    ghost use Rattle.wenc_base.specs.Piece.{HasForm};
+    ghost use Rattle.wenc_parts.specs.declared.component.ComponentSectionId.{ComponentSectionId};
+    ghost use Rattle.wenc_sections.specs.Exports.{export_item};
+
     ghost ID = { ComponentSectionId.Export };
 
     const ID: ComponentSectionId = ComponentSectionId::Export;
+
+    ghost is_item = { HasForm export_item };
 }
 
 /// The section of exports (component model, binary format, "Import and Export Definitions").

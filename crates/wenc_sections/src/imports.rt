@@ -1,7 +1,6 @@
 ghost use Rattle.wenc_base.specs.Holder.{AddsMember};
 ghost use Rattle.wenc_parts.specs.Imports.{extern_name_view, extern_name_cause};
 ghost use Rattle.wenc_sections.specs.Imports.{import_text};
-ghost use Rattle.wenc_parts.specs.declared.component.ComponentSectionId.{ComponentSectionId};
 
 use crate::counted::{Counted, CountedKind};
 use std::alloc::{Allocator, Global};
@@ -12,9 +11,15 @@ use wenc_parts::{ComponentExternName, ComponentSectionId, ComponentTypeRef};
 pub struct Imports;
 
 impl CountedKind for Imports {
+    ghost use Rattle.wenc_base.specs.Piece.{HasForm};
+    ghost use Rattle.wenc_parts.specs.declared.component.ComponentSectionId.{ComponentSectionId};
+    ghost use Rattle.wenc_sections.specs.Imports.{import_item};
+
     ghost ID = { ComponentSectionId.Import };
 
     const ID: ComponentSectionId = ComponentSectionId::Import;
+
+    ghost is_item = { HasForm import_item };
 }
 
 /// The section of imports (component model, binary format, "Import and Export Definitions").

@@ -6,7 +6,6 @@ ghost use Rattle.wenc_parts.specs.Imports.{extern_name_view, extern_name_cause};
 ghost use Rattle.wenc_sections.specs.Instances.{CoreInstantiate, CoreExports, core_instance_text};
 ghost use Rattle.wenc_sections.specs.Instances.{argument_view, core_export_view};
 ghost use Rattle.wenc_sections.specs.Instances.{Instantiate, Exports, instance_text, given_view, exported_view};
-ghost use Rattle.wenc_parts.specs.declared.component.ComponentSectionId.{ComponentSectionId};
 
 use crate::counted::{Counted, CountedKind};
 use std::alloc::{Allocator, Global};
@@ -29,9 +28,15 @@ pub const EXPORTS: u8 = 0x01;
 pub struct CoreInstances;
 
 impl CountedKind for CoreInstances {
+    ghost use Rattle.wenc_base.specs.Piece.{HasForm};
+    ghost use Rattle.wenc_parts.specs.declared.component.ComponentSectionId.{ComponentSectionId};
+    ghost use Rattle.wenc_sections.specs.Instances.{core_instance};
+
     ghost ID = { ComponentSectionId.CoreInstance };
 
     const ID: ComponentSectionId = ComponentSectionId::CoreInstance;
+
+    ghost is_item = { HasForm core_instance };
 }
 
 /// The section of core instances (component model, binary format, "Core Instance Definitions").
@@ -83,9 +88,15 @@ impl<A: Allocator> Counted<CoreInstances, A> {
 pub struct Instances;
 
 impl CountedKind for Instances {
+    ghost use Rattle.wenc_base.specs.Piece.{HasForm};
+    ghost use Rattle.wenc_parts.specs.declared.component.ComponentSectionId.{ComponentSectionId};
+    ghost use Rattle.wenc_sections.specs.Instances.{instance};
+
     ghost ID = { ComponentSectionId.Instance };
 
     const ID: ComponentSectionId = ComponentSectionId::Instance;
+
+    ghost is_item = { HasForm instance };
 }
 
 /// The section of component instances (component model, binary format, "Instance Definitions").

@@ -1,11 +1,11 @@
 ghost use Rattle.std.specs.Borrow.{sem, RestsIfErr};
-ghost use Rattle.std.specs.Prelude.{◌≡◌, ◌∷◌, [], false, IfOk, IfErr};
+ghost use Rattle.std.specs.Prelude.{◌≡◌, ◌∷◌, [], List, false, IfOk, IfErr, Err};
 ghost use Rattle.wenc_base.specs.Holder.{is_finished, as_they_are, held_text, AddCause, AddsMember, EncodeCause};
 ghost use Rattle.wenc_base.specs.Lender.{Lends};
 ghost use Rattle.wenc_base.specs.Openings.{opened_with, OpensMember};
 ghost use Rattle.wenc_base.specs.declared.fault.Fault.TheVariants.{Unfinished};
-ghost use Rattle.wenc_parts.specs.declared.component.ComponentSectionId.{ComponentSectionId};
-ghost use Rattle.wenc_types.specs.ComponentTypes.{ResourceType, type_text};
+ghost use Rattle.wenc_types.specs.ComponentTypes.{InstanceDeclaration, ComponentDeclaration, ComponentType as ComponentTypeSpec, InstanceType as InstanceTypeSpec, ResourceType, components_of, instances_of, type_text};
+ghost use Rattle.wenc_types.specs.Declarations.{ComponentDeclares, InstanceDeclares};
 ghost use Rattle.wenc_types.specs.declared.func_type.FuncStage.TheVariants as stages;
 
 use crate::counted::{Counted, CountedKind, LentKind};
@@ -21,9 +21,15 @@ use wenc_types::{
 pub struct CoreTypes;
 
 impl CountedKind for CoreTypes {
+    ghost use Rattle.wenc_base.specs.Piece.{HasForm};
+    ghost use Rattle.wenc_parts.specs.declared.component.ComponentSectionId.{ComponentSectionId};
+    ghost use Rattle.wenc_types.specs.CoreTypes.{core_type};
+
     ghost ID = { ComponentSectionId.CoreType };
 
     const ID: ComponentSectionId = ComponentSectionId::CoreType;
+
+    ghost is_item = { HasForm core_type };
 }
 
 impl LentKind for CoreTypes {}
@@ -46,7 +52,7 @@ impl<A: Allocator> Counted<CoreTypes, A> {
     /// there would be too many types (`TooMany`), or too many bytes with those of their number (`TooLarge`), or where
     /// one is being written (`Unfinished`).
     pub fn ty(&mut self) -> Result<ComponentCoreTypeEncoder<'_, CoreTypeSection<A>>, Fault>
-        ensures* refused { sem 𝓛 (RestsIfErr (the_row kind A.row A.Allocator) self.entry
+        ensures* refused { sem 𝓛 (RestsIfErr (the_row kind A.row K A.Allocator) self.entry
             (λ e. e.lender.ghost_name) result (λ n. n ≡ self.old)) }
         ensures same_reference { IfOk result (λ e. e.lender.ghost_name ≡ self.entry.ghost_name) }
         ensures lent { Lends (λ e. e.lender.now) (opened_with self.old [])
@@ -62,9 +68,15 @@ impl<A: Allocator> Counted<CoreTypes, A> {
 pub struct ComponentTypes;
 
 impl CountedKind for ComponentTypes {
+    ghost use Rattle.wenc_base.specs.Piece.{HasForm};
+    ghost use Rattle.wenc_parts.specs.declared.component.ComponentSectionId.{ComponentSectionId};
+    ghost use Rattle.wenc_types.specs.ComponentTypes.{type_of};
+
     ghost ID = { ComponentSectionId.«Type» };
 
     const ID: ComponentSectionId = ComponentSectionId::Type;
+
+    ghost is_item = { HasForm type_of };
 }
 
 impl LentKind for ComponentTypes {}
@@ -88,7 +100,7 @@ impl<A: Allocator> Counted<ComponentTypes, A> {
     /// would be too many types (`TooMany`), or too many bytes with those of their number (`TooLarge`), or where one is
     /// being written (`Unfinished`).
     pub fn ty(&mut self) -> Result<ComponentTypeEncoder<'_, ComponentTypeSection<A>>, Fault>
-        ensures* refused { sem 𝓛 (RestsIfErr (the_row kind A.row A.Allocator) self.entry
+        ensures* refused { sem 𝓛 (RestsIfErr (the_row kind A.row K A.Allocator) self.entry
             (λ e. e.lender.ghost_name) result (λ n. n ≡ self.old)) }
         ensures same_reference { IfOk result (λ e. e.lender.ghost_name ≡ self.entry.ghost_name) }
         ensures lent { Lends (λ e. e.lender.now) (opened_with self.old [])
@@ -103,7 +115,7 @@ impl<A: Allocator> Counted<ComponentTypes, A> {
     pub fn function(
         &mut self,
     ) -> Result<ComponentFuncTypeEncoder<'_, ComponentTypeSection<A>>, Fault>
-        ensures* refused { sem 𝓛 (RestsIfErr (the_row kind A.row A.Allocator) self.entry
+        ensures* refused { sem 𝓛 (RestsIfErr (the_row kind A.row K A.Allocator) self.entry
             (λ e. e.lender.ghost_name) result (λ n. n ≡ self.old)) }
         ensures same_reference { IfOk result (λ e. e.lender.ghost_name ≡ self.entry.ghost_name) }
         ensures lent { Lends (λ e. e.lender.now) (opened_with self.old [])
@@ -119,7 +131,7 @@ impl<A: Allocator> Counted<ComponentTypes, A> {
     pub fn defined_type(
         &mut self,
     ) -> Result<ComponentDefinedTypeEncoder<'_, ComponentTypeSection<A>>, Fault>
-        ensures* refused { sem 𝓛 (RestsIfErr (the_row kind A.row A.Allocator) self.entry
+        ensures* refused { sem 𝓛 (RestsIfErr (the_row kind A.row K A.Allocator) self.entry
             (λ e. e.lender.ghost_name) result (λ n. n ≡ self.old)) }
         ensures same_reference { IfOk result (λ e. e.lender.ghost_name ≡ self.entry.ghost_name) }
         ensures lent { Lends (λ e. e.lender.now) (opened_with self.old [])
@@ -135,8 +147,14 @@ impl<A: Allocator> Counted<ComponentTypes, A> {
     pub fn component<B: Allocator>(&mut self, ty: &ComponentType<B>) -> Result<(), Fault>
         ensures added { AddsMember as_they_are self.old self.new result
             (EncodeCause ty.now.held) (0x41 ∷ held_text ty.now.held) }
+        ensures declared { (ds : List ComponentDeclaration) → ComponentDeclares ty.now ds
+            → AddsMember type_text self.old self.new result (EncodeCause ty.now.held)
+            (ComponentTypeSpec (components_of ds)) }
         ensures unfinished { is_finished ty.now.held ≡ false → result ≡ Err Unfinished }
     {
+        if !ty.is_finished() {
+            return Err(Fault::Unfinished);
+        }
         self.items.add_encoded(ty)
     }
 
@@ -144,8 +162,14 @@ impl<A: Allocator> Counted<ComponentTypes, A> {
     pub fn instance<B: Allocator>(&mut self, ty: &InstanceType<B>) -> Result<(), Fault>
         ensures added { AddsMember as_they_are self.old self.new result
             (EncodeCause ty.now.held) (0x42 ∷ held_text ty.now.held) }
+        ensures declared { (ds : List InstanceDeclaration) → InstanceDeclares ty.now ds
+            → AddsMember type_text self.old self.new result (EncodeCause ty.now.held)
+            (InstanceTypeSpec (instances_of ds)) }
         ensures unfinished { is_finished ty.now.held ≡ false → result ≡ Err Unfinished }
     {
+        if !ty.is_finished() {
+            return Err(Fault::Unfinished);
+        }
         self.items.add_encoded(ty)
     }
 

@@ -1,14 +1,14 @@
 -- What a holder whose members are texts of one kind stays through all calls.
 use Rattle.std.proofs.Common.{◌≡◌, ℕ, ◌+◌, ◌-◌, ◌≤◌, Bool, true, false, is_none, Option, Some, None, Result, Ok, Err, ◌⊎◌, inl, inr, ◌↔◌, append_assoc, List, [], ◌∷◌, ◌++◌, length, take, drop, refl, sym, ap, ◌∙◌, arith, length-append, subst}
-use Rattle.std.proofs.Math.Logic.{∥∥₁_map, ∥∥₁_map₂}
+use Rattle.std.proofs.Math.Logic.{∥∥₁_map, ∥∥₁_map₂, ∥∥₁_elim, ∥∥₁_prop}
 use Rattle.std.proofs.Math.Seq.{drop-append_seam}
 use Rattle.std.proofs.lemmas.List.{take_at, take-append-drop, take-append-le}
 use Rattle.std.specs.List.{flat_map, AllByRecursion}
 use Rattle.std.specs.Prelude.{IsTrue}
 use Rattle.wenc_base.specs.Piece.{Form, HasForm}
-use Rattle.wenc_base.specs.Holder.{Held, is_finished, with_member, holding, as_they_are, Contains, ContainsSome}
-use Rattle.wenc_base.specs.Lender.{Extends, ExtendsListed}
-use Rattle.wenc_base.specs.Openings.{opened_with, lengthened, closed, given_up, member_text, OpeningIsIn, KeepsMembers}
+use Rattle.wenc_base.specs.Holder.{Held, is_finished, with_member, holding, as_they_are, Contains, ContainsSome, AddsMember, AddsListed}
+use Rattle.wenc_base.specs.Lender.{Extends, ExtendsListed, MakesWhole}
+use Rattle.wenc_base.specs.Openings.{opened_with, lengthened, closed, given_up, member_text, OpeningIsIn, HasMembers}
 use Rattle.wenc_base.specs.laws.Holders.{contains_next}
 use Rattle.wenc_base.specs.declared.fault.Fault.{Fault}
 use Rattle.wenc_base.specs.declared.fault.Fault.TheVariants.{Unfinished}
@@ -134,7 +134,7 @@ all_more P [] x all one = (one, tt)
 all_more P (y ∷ ys) x all one = (all.0, all_more P ys x all.1 one)
 
 module _ (P : List ℕ → Type 0) where
-  pub keeps_none : (kept : List ℕ) → KeepsMembers P (holding kept 0 [])
+  pub keeps_none : (kept : List ℕ) → HasMembers P (holding kept 0 [])
   keeps_none kept = record {
     settled = ∣ record { members = []; contained = record { finished = refl; count = refl; body = refl }; each = tt } ∣₁;
     opening = tt;
@@ -148,54 +148,95 @@ module _ (P : List ℕ → Type 0) where
   }
 
   -- what is finished contains some
-  pub contains_some : (h : Held) → is_finished h ≡ true → KeepsMembers P h → ∥ ContainsSome P h ∥₁
+  pub contains_some : (h : Held) → is_finished h ≡ true → HasMembers P h → ∥ ContainsSome P h ∥₁
   contains_some h finished k = subst (λ (s : Held). ∥ ContainsSome P s ∥₁) (finished_back h finished) k.settled
 
   -- and what contains some keeps them
-  pub keeps_some : (h : Held) → is_finished h ≡ true → ∥ ContainsSome P h ∥₁ → KeepsMembers P h
+  pub keeps_some : (h : Held) → is_finished h ≡ true → ∥ ContainsSome P h ∥₁ → HasMembers P h
   keeps_some h finished s = record { settled = subst (λ (s : Held). ∥ ContainsSome P s ∥₁) (sym (finished_back h finished)) s; opening = within_finished h finished }
 
   -- a member is added
-  pub keeps_more : (h : Held) (text : List ℕ) → is_finished h ≡ true → ∥ P text ∥₁ → KeepsMembers P h → KeepsMembers P (with_member h text)
+  pub keeps_more : (h : Held) (text : List ℕ) → is_finished h ≡ true → ∥ P text ∥₁ → HasMembers P h → HasMembers P (with_member h text)
   keeps_more h text finished one k = keeps_some (with_member h text) finished (∥∥₁_map₂ (contains_some h finished k) one (λ s p. some_more h text s p))
 
+  -- or the same of a call that may be refused
+  pub keeps_took : {A : Type 0} (text : A → List ℕ) (old new : Held) (outcome : Result (Unit {0}) Fault) (cause : Fault → Type 0) (member : A) → ∥ P (text member) ∥₁
+      → AddsMember text old new outcome cause member → HasMembers P old → HasMembers P new
+  keeps_took text old new (Ok u) cause member one a k = rw a.ok.state (keeps_more old (text member) (was_finished old u a.unfinished_first) one k)
+  keeps_took text old new (Err f) cause member one a k = rw a.err k
+
+  pub keeps_list : {S A B : Type 0} (steps : S → Option B → S → Type 0) (values : S) (text : A → List ℕ) (old new : Held) (outcome : Result (Unit {0}) Fault)
+      (cause : List B → Fault → Type 0) (member : List B → A) → ((vs : List B) → ∥ P (text (member vs)) ∥₁)
+      → AddsListed steps values text old new outcome cause member → HasMembers P old → HasMembers P new
+  keeps_list steps values text old new (Ok u) cause member each a k =
+      rw a.ok.3.state (keeps_more old (text (member a.ok.0.items)) (was_finished old u a.unfinished_first) (each a.ok.0.items) k)
+  keeps_list steps values text old new (Err f) cause member each a k = rw a.err k
+
   -- one is opened
-  pub keeps_opened : (h : Held) (lead : List ℕ) → is_finished h ≡ true → KeepsMembers P h → KeepsMembers P (opened_with h lead)
+  pub keeps_opened : (h : Held) (lead : List ℕ) → is_finished h ≡ true → HasMembers P h → HasMembers P (opened_with h lead)
   keeps_opened h lead finished k = record {
     settled = subst (λ (s : Held). ∥ ContainsSome P s ∥₁) (sym (opened_back h lead finished)) (contains_some h finished k);
     opening = within_opened h lead;
   }
 
   -- more is written of it
-  pub keeps_lengthened : (h : Held) (text : List ℕ) → is_finished h ≡ false → KeepsMembers P h → KeepsMembers P (lengthened h text)
+  pub keeps_lengthened : (h : Held) (text : List ℕ) → is_finished h ≡ false → HasMembers P h → HasMembers P (lengthened h text)
   keeps_lengthened h text unfinished k = record {
     settled = subst (λ (s : Held). ∥ ContainsSome P s ∥₁) (sym (lengthened_back h text unfinished k.opening)) k.settled;
     opening = within_lengthened h text k.opening;
   }
 
   -- or the same of a call that may be refused
-  pub keeps_longer : (old new : Held) → is_finished old ≡ false → IsLonger old new → KeepsMembers P old → KeepsMembers P new
+  pub keeps_longer : (old new : Held) → is_finished old ≡ false → IsLonger old new → HasMembers P old → HasMembers P new
   keeps_longer old new unfinished (inl same) k = rw same k
   keeps_longer old new unfinished (inr more) k = rw more.1 (keeps_lengthened old more.0 unfinished k)
 
   -- it is ended, as such a text
-  pub keeps_closed : (h : Held) → ∥ P (member_text h) ∥₁ → KeepsMembers P h → KeepsMembers P (closed h)
+  pub keeps_closed : (h : Held) → ∥ P (member_text h) ∥₁ → HasMembers P h → HasMembers P (closed h)
   keeps_closed h whole k = at (is_finished h) refl
     where
-      at : (b : Bool) → is_finished h ≡ b → KeepsMembers P (closed h)
-      at true finished = subst (KeepsMembers P) (sym (closed_as_it_is h finished)) k
+      at : (b : Bool) → is_finished h ≡ b → HasMembers P (closed h)
+      at true finished = subst (HasMembers P) (sym (closed_as_it_is h finished)) k
       at false unfinished =
           let more : ∥ ContainsSome P (with_member (given_up h) (member_text h)) ∥₁ = ∥∥₁_map₂ k.settled whole (λ s p. some_more (given_up h) (member_text h) s p) in
           keeps_some (closed h) refl (subst (λ (s : Held). ∥ ContainsSome P s ∥₁) (closed_as_more h unfinished k.opening) more)
 
   -- or it is given up
-  pub keeps_given_up : (h : Held) → KeepsMembers P h → KeepsMembers P (given_up h)
+  pub keeps_given_up : (h : Held) → HasMembers P h → HasMembers P (given_up h)
   keeps_given_up h k = record {
     settled = subst (λ (s : Held). ∥ ContainsSome P s ∥₁) (sym (back_twice h)) k.settled;
     opening = within_back h;
   }
 
--- ---- members that are texts of a form are values of it
+-- ---- members that are texts of a form
+
+module _ {A : Type 0} (form : Form A) where
+  pub has_form : (v : A) → ∥ HasForm form (form v).text ∥₁
+  has_form v = ∣ record { value = v; is = refl } ∣₁
+
+  -- a call that adds a value of the form
+  pub keeps_added : (old new : Held) (outcome : Result (Unit {0}) Fault) (cause : Fault → Type 0) (member : A)
+      → AddsMember (λ m. (form m).text) old new outcome cause member → HasMembers (HasForm form) old → HasMembers (HasForm form) new
+  keeps_added old new outcome cause member = keeps_took (HasForm form) (λ m. (form m).text) old new outcome cause member (has_form member)
+
+  pub keeps_listed : {S B : Type 0} (steps : S → Option B → S → Type 0) (values : S) (old new : Held) (outcome : Result (Unit {0}) Fault)
+      (cause : List B → Fault → Type 0) (member : List B → A)
+      → AddsListed steps values (λ m. (form m).text) old new outcome cause member → HasMembers (HasForm form) old → HasMembers (HasForm form) new
+  keeps_listed steps values old new outcome cause member =
+      keeps_list (HasForm form) steps values (λ m. (form m).text) old new outcome cause member (λ vs. has_form (member vs))
+
+  -- a value makes whole what was opened without a lead
+  pub opened_whole : (h lender : Held) → lender ≡ opened_with h [] → (v : A) → ∥ HasForm form (member_text (lengthened lender (form v).text)) ∥₁
+  opened_whole h lender e v =
+      let text : List ℕ = (form v).text in
+      rw (e, written_text h [] text) (has_form v)
+
+  -- bytes that have the form make a member whole, where each value does
+  pub form_ends : {T : Type 0} (is_whole : T → Type 0) (written : T → List ℕ → T) (x : T) → ((v : A) → MakesWhole is_whole written x (form v).text)
+      → (bytes : List ℕ) → ∥ HasForm form bytes ∥₁ → MakesWhole is_whole written x bytes
+  form_ends is_whole written x whole bytes some = ∥∥₁_elim some ∥∥₁_prop (λ f. rw f.is (whole f.value))
+
+-- members that are texts of a form are values of it
 
 values_of : {A : Type 0} (form : Form A) (members : List (List ℕ)) → AllByRecursion (HasForm form) members
     → (xs : List A) × (length xs ≡ length members) × (flat_map as_they_are members ≡ flat_map (λ x. (form x).text) xs)

@@ -1,5 +1,5 @@
-ghost use Rattle.std.specs.Prelude.{◌≡◌};
-ghost use Rattle.wenc_base.specs.Holder.{is_finished};
+ghost use Rattle.std.specs.Prelude.{◌≡◌, true};
+ghost use Rattle.wenc_base.specs.Holder.{is_finished, ContainsSome};
 ghost use Rattle.wenc_base.specs.Lender.{GivesUp};
 ghost use Rattle.wenc_base.specs.Openings.{given_up};
 
@@ -13,9 +13,10 @@ pub trait LentKind: CountedKind {}
 /// From the call that begins an item on, until its encoder has ended it, the section is unfinished, and what grows or
 /// encodes it is refused with `Unfinished`.
 impl<K: LentKind, A: Allocator> Counted<K, A> {
-    /// Whether no item is being written.
+    /// Whether no item is being written. Then it has some items, whoever made which calls.
     pub fn is_finished(&self) -> bool
-        ensures { result ≡ is_finished self.now }
+        ensures finished { result ≡ is_finished self.now }
+        ensures items { is_finished self.now ≡ true → ∥ ContainsSome K.is_item self.now ∥₁ }
     {
         self.items.is_finished()
     }
@@ -30,7 +31,7 @@ impl<K: LentKind, A: Allocator> Counted<K, A> {
 }
 
 impl<K: LentKind, A: Allocator> Lender for Counted<K, A> {
-    ghost use Rattle.wenc_base.specs.Openings.{lengthened, closed, no_room, is_opened};
+    ghost use Rattle.wenc_base.specs.Openings.{lengthened, member_text, closed, no_room, is_opened};
     ghost use Rattle.wenc_base.specs.laws.Holders.{opened_is_unfinished, lengthened_twice};
 
     ghost finished = { is_finished };
@@ -38,6 +39,8 @@ impl<K: LentKind, A: Allocator> Lender for Counted<K, A> {
     ghost opened = { is_opened };
 
     ghost written = { lengthened };
+
+    ghost is_whole = { λ s. K.is_item (member_text s) };
 
     ghost ended = { closed };
 

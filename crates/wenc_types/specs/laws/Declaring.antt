@@ -1,14 +1,14 @@
 -- What component types and instance types stay through all calls.
 use Rattle.std.proofs.Common.{◌≡◌, ℕ, ◌+◌, ◌-◌, ◌≤◌, Bool, true, false, is_none, List, [], ◌∷◌, ◌++◌, Option, Some, None, refl, ap, sym, ◌∙◌, subst, arith, length}
-use Rattle.std.proofs.Math.Logic.{∥∥₁_map₂, ∥∥₁_elim, ∥∥₁_prop}
+use Rattle.std.proofs.Math.Logic.{∥∥₁_map, ∥∥₁_map₂}
 use Rattle.std.specs.List.{flat_map, AllByRecursion}
 use Rattle.wenc_base.specs.Holder.{Held, is_finished, with_member, held_text, Contains}
-use Rattle.wenc_base.specs.Lender.{MakesWhole}
+use Rattle.wenc_base.specs.Piece.{HasForm}
 use Rattle.wenc_base.specs.Openings.{opened_with, lengthened, closed, given_up, member_text, OpeningIsIn}
 use Rattle.wenc_base.specs.laws.Holders.{contains_next}
 use Rattle.wenc_base.specs.laws.Members.{all_more, finished_back, back_twice, opened_back, lengthened_back, closed_as_it_is, closed_as_more, within_finished, within_opened, within_lengthened, within_back}
 use Rattle.wenc_base.specs.declared.holder.openings.Opening.{Opening}
-use Rattle.wenc_types.specs.ComponentTypes.{TypeOf, ComponentType, InstanceType, components_of, instances_of, type_text}
+use Rattle.wenc_types.specs.ComponentTypes.{ComponentType, InstanceType, components_of, instances_of, type_of}
 use Rattle.wenc_types.specs.Declarations.{component_text, component_sort, instance_text, instance_sort, Declaring, no_declarations, no_counts, Settled, Declares, IsDeclaration, DeclaresSome, IsDeclaring, HasOne, OpenedIsIn, total, counted, uncounted, counts_of, lead_of, begun, written, ended, taken_back}
 use Rattle.wenc_types.specs.laws.Declarations.{counts_next, back_again, component_type_text, instance_type_text}
 use Rattle.wenc_types.specs.declared.counts.Counts.{Counts}
@@ -196,15 +196,14 @@ declares_values text sort t s =
       },
     )
 
--- ---- types that are written by an encoder
+-- ---- the texts of what is finished
 
-module _ {T : Type 0} (is_whole : T → Type 0) (written : T → List ℕ → T) (x : T) (whole : (t : TypeOf) → MakesWhole is_whole written x (type_text t)) (t : Declaring) where
-  pub component_ends : ∥ DeclaresSome (IsDeclaration component_text component_sort) t ∥₁ → MakesWhole is_whole written x (0x41 ∷ held_text t.held)
-  component_ends some = ∥∥₁_elim some ∥∥₁_prop (λ s.
-      let all = declares_values component_text component_sort t s in
-      rw (component_type_text t all.0 all.1) (whole (ComponentType (components_of all.0))))
+pub component_has_form : (t : Declaring) → ∥ DeclaresSome (IsDeclaration component_text component_sort) t ∥₁ → ∥ HasForm type_of (0x41 ∷ held_text t.held) ∥₁
+component_has_form t some = ∥∥₁_map some (λ s.
+    let all = declares_values component_text component_sort t s in
+    record { value = ComponentType (components_of all.0); is = component_type_text t all.0 all.1 })
 
-  pub instance_ends : ∥ DeclaresSome (IsDeclaration instance_text instance_sort) t ∥₁ → MakesWhole is_whole written x (0x42 ∷ held_text t.held)
-  instance_ends some = ∥∥₁_elim some ∥∥₁_prop (λ s.
-      let all = declares_values instance_text instance_sort t s in
-      rw (instance_type_text t all.0 all.1) (whole (InstanceType (instances_of all.0))))
+pub instance_has_form : (t : Declaring) → ∥ DeclaresSome (IsDeclaration instance_text instance_sort) t ∥₁ → ∥ HasForm type_of (0x42 ∷ held_text t.held) ∥₁
+instance_has_form t some = ∥∥₁_map some (λ s.
+    let all = declares_values instance_text instance_sort t s in
+    record { value = InstanceType (instances_of all.0); is = instance_type_text t all.0 all.1 })

@@ -1,16 +1,16 @@
 -- What module types stay through all calls.
 use Rattle.std.proofs.Common.{◌≡◌, ◌↔◌, ℕ, ◌+◌, ◌-◌, ◌≤◌, Bool, true, false, is_none, List, [], ◌∷◌, ◌++◌, Option, Some, None, Result, Ok, Err, inl, inr, refl, ap, sym, ◌∙◌, subst, arith, length}
-use Rattle.std.proofs.Math.Logic.{∥∥₁_map, ∥∥₁_map₂, ∥∥₁_elim, ∥∥₁_prop}
+use Rattle.std.proofs.Math.Logic.{∥∥₁_map, ∥∥₁_map₂}
 use Rattle.std.specs.Prelude.{IsTrue}
 use Rattle.wenc_base.specs.Composites.{Group, group}
 use Rattle.wenc_base.specs.declared.fault.Fault.{Fault}
 use Rattle.wenc_base.specs.Holder.{Held, is_finished, with_member, held_text, as_they_are, Contains, AddsMember}
-use Rattle.wenc_base.specs.Lender.{MakesWhole}
+use Rattle.wenc_base.specs.Piece.{HasForm}
 use Rattle.wenc_base.specs.Openings.{opened_with, lengthened, closed, given_up, member_text, OpeningIsIn}
 use Rattle.wenc_base.specs.laws.Holders.{contains_next}
 use Rattle.wenc_base.specs.laws.Members.{was_finished, told_finished, IsLonger, finished_back, back_twice, opened_back, lengthened_back, closed_as_it_is, closed_as_more, within_finished, within_opened, within_lengthened, within_back}
 use Rattle.wenc_base.specs.declared.holder.openings.Opening.{Opening}
-use Rattle.wenc_types.specs.CoreTypes.{ModuleDeclaration, Defined, CoreType, Module, core_type_text}
+use Rattle.wenc_types.specs.CoreTypes.{ModuleDeclaration, Defined, Module, core_type}
 use Rattle.wenc_types.specs.ModuleTypes.{Declared, no_declarations, declaration_text, types_of, type_count, Declares, IsWhole, OpenedIsIn, IsDeclaring, types_before, begun, written, ended, taken_back}
 use Rattle.wenc_types.specs.laws.CoreTypes.{module_type_of}
 use Rattle.wenc_types.specs.laws.ModuleTypes.{type_count_next}
@@ -163,8 +163,7 @@ pub declaring_told_none : (t : Declared) (was : Bool) → (IsTrue was ↔ (is_fi
     → IsDeclaring (record { held = given_up t.held; types = t.types })
 declaring_told_none t was told nothing k = rw (finished_back t.held (told_finished t.held was told nothing)) k
 
--- ---- a type that is written by an encoder
+-- ---- the text of what is finished
 
-pub module_ends : {T : Type 0} (is_whole : T → Type 0) (written : T → List ℕ → T) (x : T) → ((t : CoreType) → MakesWhole is_whole written x (core_type_text t))
-    → (t : Declared) → ∥ ((ds : List ModuleDeclaration) × Declares t ds) ∥₁ → MakesWhole is_whole written x (0x50 ∷ held_text t.held)
-module_ends is_whole written x whole t some = ∥∥₁_elim some ∥∥₁_prop (λ s. rw (module_type_of t s.0 s.1) (whole (Module s.0)))
+pub module_has_form : (t : Declared) → ∥ ((ds : List ModuleDeclaration) × Declares t ds) ∥₁ → ∥ HasForm core_type (0x50 ∷ held_text t.held) ∥₁
+module_has_form t some = ∥∥₁_map some (λ s. record { value = Module s.0; is = module_type_of t s.0 s.1 })

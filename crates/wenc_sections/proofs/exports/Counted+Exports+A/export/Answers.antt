@@ -3,7 +3,7 @@ use Rattle.wenc_base.specs.laws.Causes.{alone}
 use Rattle.wenc_base.specs.laws.Holders.{adds_as}
 use Rattle.wenc_parts.specs.Imports.{extern_name_view, extern_name_cause, type_reference}
 use Rattle.wenc_sections.specs.Exports.{export_text}
-use Rattle.wenc_sections.proofs.Exported.{option_is}
+use Rattle.wenc_base.specs.laws.Forms.{option_is}
 use Rattle.wenc_sections.proofs.exports.Counted+Exports+A.export.Goals as goal
 
 pub returns : goal.returns

@@ -1,8 +1,11 @@
-use Rattle.std.proofs.Common.{sym, ◌∙◌}
-use Rattle.wenc_types.specs.laws.ModuleDeclaring.{module_ends}
+use Rattle.std.proofs.Common.{◌∷◌, sym, ◌∙◌}
+use Rattle.wenc_base.specs.Holder.{held_text}
+use Rattle.wenc_base.specs.laws.Members.{form_ends}
+use Rattle.wenc_types.specs.CoreTypes.{core_type}
+use Rattle.wenc_types.specs.laws.ModuleDeclaring.{module_has_form}
 use Rattle.wenc_types.proofs.core_type.ComponentCoreTypeEncoder.module.Goals as goal
 
 pub end_with-requires-clause-whole : goal.end_with-requires-clause-whole
 end_with-requires-clause-whole g c =
-    module_ends g.L.Lender.is_whole g.L.Lender.written c.args.self.lender.now c.args.self.whole c.args.ty.now
-    (c.is_finished.ensures.declares (sym c.is_finished.ensures.finished ∙ c.if-not-is_finished.false))
+    form_ends core_type g.L.Lender.is_whole g.L.Lender.written c.args.self.lender.now c.args.self.whole (0x50 ∷ held_text c.args.ty.now.held)
+    (module_has_form c.args.ty.now (c.is_finished.ensures.declares (sym c.is_finished.ensures.finished ∙ c.if-not-is_finished.false)))
