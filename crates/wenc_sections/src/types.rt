@@ -52,7 +52,8 @@ impl<A: Allocator> Counted<CoreTypes, A> {
     /// there would be too many types (`TooMany`), or too many bytes with those of their number (`TooLarge`), or where
     /// one is being written (`Unfinished`).
     pub fn ty(&mut self) -> Result<ComponentCoreTypeEncoder<'_, CoreTypeSection<A>>, Fault>
-        ensures* refused { sem 𝓛 (RestsIfErr (the_row kind A.row K A.Allocator) self.entry
+        ensures* refused { sem 𝓛 (RestsIfErr (the_row kind A.row
+            ⟦<CoreTypes as CountedKind>⟧ A.Allocator) self.entry
             (λ e. e.lender.ghost_name) result (λ n. n ≡ self.old)) }
         ensures same_reference { IfOk result (λ e. e.lender.ghost_name ≡ self.entry.ghost_name) }
         ensures lent { Lends (λ e. e.lender.now) (opened_with self.old [])
@@ -100,7 +101,8 @@ impl<A: Allocator> Counted<ComponentTypes, A> {
     /// would be too many types (`TooMany`), or too many bytes with those of their number (`TooLarge`), or where one is
     /// being written (`Unfinished`).
     pub fn ty(&mut self) -> Result<ComponentTypeEncoder<'_, ComponentTypeSection<A>>, Fault>
-        ensures* refused { sem 𝓛 (RestsIfErr (the_row kind A.row K A.Allocator) self.entry
+        ensures* refused { sem 𝓛 (RestsIfErr (the_row kind A.row
+            ⟦<ComponentTypes as CountedKind>⟧ A.Allocator) self.entry
             (λ e. e.lender.ghost_name) result (λ n. n ≡ self.old)) }
         ensures same_reference { IfOk result (λ e. e.lender.ghost_name ≡ self.entry.ghost_name) }
         ensures lent { Lends (λ e. e.lender.now) (opened_with self.old [])
@@ -115,7 +117,8 @@ impl<A: Allocator> Counted<ComponentTypes, A> {
     pub fn function(
         &mut self,
     ) -> Result<ComponentFuncTypeEncoder<'_, ComponentTypeSection<A>>, Fault>
-        ensures* refused { sem 𝓛 (RestsIfErr (the_row kind A.row K A.Allocator) self.entry
+        ensures* refused { sem 𝓛 (RestsIfErr (the_row kind A.row
+            ⟦<ComponentTypes as CountedKind>⟧ A.Allocator) self.entry
             (λ e. e.lender.ghost_name) result (λ n. n ≡ self.old)) }
         ensures same_reference { IfOk result (λ e. e.lender.ghost_name ≡ self.entry.ghost_name) }
         ensures lent { Lends (λ e. e.lender.now) (opened_with self.old [])
@@ -131,7 +134,8 @@ impl<A: Allocator> Counted<ComponentTypes, A> {
     pub fn defined_type(
         &mut self,
     ) -> Result<ComponentDefinedTypeEncoder<'_, ComponentTypeSection<A>>, Fault>
-        ensures* refused { sem 𝓛 (RestsIfErr (the_row kind A.row K A.Allocator) self.entry
+        ensures* refused { sem 𝓛 (RestsIfErr (the_row kind A.row
+            ⟦<ComponentTypes as CountedKind>⟧ A.Allocator) self.entry
             (λ e. e.lender.ghost_name) result (λ n. n ≡ self.old)) }
         ensures same_reference { IfOk result (λ e. e.lender.ghost_name ≡ self.entry.ghost_name) }
         ensures lent { Lends (λ e. e.lender.now) (opened_with self.old [])

@@ -1,15 +1,16 @@
 -- What a holder whose members are texts of one kind stays through all calls.
-use Rattle.std.proofs.Common.{◌≡◌, ℕ, ◌+◌, ◌-◌, ◌≤◌, Bool, true, false, is_none, Option, Some, None, Result, Ok, Err, ◌⊎◌, inl, inr, ◌↔◌, append_assoc, List, [], ◌∷◌, ◌++◌, length, take, drop, refl, sym, ap, ◌∙◌, arith, length-append, subst}
+use Rattle.std.proofs.Common.{◌≡◌, ℕ, ◌+◌, ◌-◌, ◌≤◌, Bool, true, false, is_none, Option, Some, None, Result, Ok, Err, ◌⊎◌, inl, inr, ◌↔◌, append_assoc, List, [], ◌∷◌, ◌++◌, length, map, take, drop, refl, sym, ap, ◌∙◌, arith, length-append, subst}
 use Rattle.std.proofs.Math.Logic.{∥∥₁_map, ∥∥₁_map₂, ∥∥₁_elim, ∥∥₁_prop}
 use Rattle.std.proofs.Math.Seq.{drop-append_seam}
-use Rattle.std.proofs.lemmas.List.{take_at, take-append-drop, take-append-le}
+use Rattle.std.proofs.lemmas.List.{append-nil, take_at, take-append-drop, take-append-le}
 use Rattle.std.specs.List.{flat_map, AllByRecursion}
 use Rattle.std.specs.Prelude.{IsTrue}
 use Rattle.wenc_base.specs.Piece.{Form, HasForm}
-use Rattle.wenc_base.specs.Holder.{Held, is_finished, with_member, holding, as_they_are, Contains, ContainsSome, AddsMember, AddsListed}
+use Rattle.wenc_base.specs.Forms.{list_text}
+use Rattle.wenc_base.specs.Holder.{Held, is_finished, with_member, holding, as_they_are, Contains, ContainsSome, AddsMember, AddsListed, listed_text}
 use Rattle.wenc_base.specs.Lender.{Extends, ExtendsListed, MakesWhole}
 use Rattle.wenc_base.specs.Openings.{opened_with, lengthened, closed, given_up, member_text, OpeningIsIn, HasMembers}
-use Rattle.wenc_base.specs.laws.Holders.{contains_next}
+use Rattle.wenc_base.specs.laws.Holders.{contains_next, list_text_map}
 use Rattle.wenc_base.specs.declared.fault.Fault.{Fault}
 use Rattle.wenc_base.specs.declared.fault.Fault.TheVariants.{Unfinished}
 use Rattle.wenc_base.specs.declared.holder.openings.Opening.{Opening}
@@ -224,6 +225,15 @@ module _ {A : Type 0} (form : Form A) where
       → AddsListed steps values (λ m. (form m).text) old new outcome cause member → HasMembers (HasForm form) old → HasMembers (HasForm form) new
   keeps_listed steps values old new outcome cause member =
       keeps_list (HasForm form) steps values (λ m. (form m).text) old new outcome cause member (λ vs. has_form (member vs))
+
+  -- a list behind its lead, by what its values stand for
+  pub listed_has_form : {B C : Type 0} (value_text : C → List ℕ) (view : B → C) (lead : List ℕ) (member : List C → A)
+      → ((cs : List C) → lead ++ list_text value_text cs ≡ (form (member cs)).text)
+      → (vs : List B) → ∥ HasForm form (listed_text lead (λ v. value_text (view v)) [] vs) ∥₁
+  listed_has_form value_text view lead member e vs = ∣ record {
+    value = member (map view vs);
+    is = ap (λ (t : List ℕ). lead ++ t) (append-nil (list_text (λ v. value_text (view v)) vs) ∙ list_text_map value_text view vs) ∙ e (map view vs);
+  } ∣₁
 
   -- a value makes whole what was opened without a lead
   pub opened_whole : (h lender : Held) → lender ≡ opened_with h [] → (v : A) → ∥ HasForm form (member_text (lengthened lender (form v).text)) ∥₁

@@ -1,3 +1,7 @@
+use Rattle.wenc_base.specs.Holder.{as_they_are}
+use Rattle.wenc_base.specs.Piece.{HasForm}
+use Rattle.wenc_base.specs.laws.Members.{keeps_list, listed_has_form}
+use Rattle.wenc_sections.specs.Instances.{core_instance}
 use Rattle.std.proofs.Common.{◌∷◌, refl}
 use Rattle.wenc_base.specs.laws.Causes.{alone}
 use Rattle.wenc_base.specs.laws.Holders.{adds_list}
@@ -10,3 +14,8 @@ pub returns : goal.returns
 returns g c =
     rw (← c.self.view_is) (adds_list g.I.Iterator.next_gives c.args.args core_instance_text _ _ _ (λ v. (argument v).text) argument_view _ (λ v. text_cause v.0.now) (0x00 ∷ (u32 c.args.module_index).text)
     (CoreInstantiate c.args.module_index) (λ cs. refl) (λ v. alone (text_cause v.0.now) _ (λ fault h. h)) c.add_listed.ensures.added)
+
+pub invariant_of-self : goal.invariant_of-self
+invariant_of-self g c =
+    keeps_list (HasForm core_instance) g.I.Iterator.next_gives c.args.args as_they_are c.self.inside.items c.add_listed.new.self c.add_listed.result _ _
+    (listed_has_form core_instance (λ v. (argument v).text) argument_view (0x00 ∷ (u32 c.args.module_index).text) (CoreInstantiate c.args.module_index) (λ cs. refl)) c.add_listed.ensures.added c.self.invariant
