@@ -3,6 +3,8 @@ pub mod Mapped
 pub mod Laid
 pub mod Undone
 pub mod Viewed
+pub mod Standing
+pub mod Texts
 pub mod Taken
 pub mod Alone
 pub mod Entered

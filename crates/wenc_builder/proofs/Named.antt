@@ -28,7 +28,9 @@ use Rattle.wenc_builder.specs.Names.{named_sorts, by_sort, named_entry, AddsName
 use Rattle.wenc_builder.specs.Space.{space_number}
 use Rattle.wenc_builder.specs.declared.builder.space.Space.{Space}
 use Rattle.wenc_builder.specs.laws.Step.{space_within}
+use Rattle.wenc_builder.specs.Item.{CustomItem}
 use Rattle.wenc_builder.specs.Layout.{Buffered, buffer_with}
+use Rattle.wenc_builder.specs.Lent.{IsItemText}
 use Rattle.wenc_builder.specs.Spaces.{Spaced}
 use Rattle.wenc_builder.specs.View.{Agree, builder_view}
 use Rattle.wenc_builder.proofs.Alone.{stood_nowhere}
@@ -220,6 +222,14 @@ module _ {N : Type 0} (b : Buffered) (s : Spaced) (old : State) (seen : N → So
   -- the section, as it is written
   abbrev written : List ℕ
   written = 0x00 ∷ (unsigned_text (length ((name_form names_label).text ++ flat_map (λ n. space_names (seen n)) ns)) ++ ((name_form names_label).text ++ flat_map (λ n. space_names (seen n)) ns))
+
+  pub written_text : ∥ IsItemText None None written ∥₁
+  written_text = ∣ record {
+    value = CustomItem (record { label = names_label; bytes = flat_map (λ n. space_names (seen n)) ns });
+    collects = refl;
+    takes = refl;
+    is = refl;
+  } ∣₁
 
   abbrev written_cause : Fault → Type 0
   written_cause = first_of (first_of (text_cause names_label) (member_cause (λ n. space_names_cause (seen n)) ns)) (text_cause ((name_form names_label).text ++ flat_map (λ n. space_names (seen n)) ns))

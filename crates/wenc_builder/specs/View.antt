@@ -1,6 +1,7 @@
 -- A builder's state, by those of its buffer and its spaces.
 use Rattle.std.specs.Prelude.{Option, Some, None}
 use Rattle.wenc_builder.specs.Builder.{Begun, State}
+use Rattle.wenc_builder.specs.Holds.{HoldsSome}
 use Rattle.wenc_builder.specs.Layout.{Writing, Buffered}
 use Rattle.wenc_builder.specs.Spaces.{Taking, Spaced}
 
@@ -21,3 +22,8 @@ builder_view b s = record {
   settled = record { sections = b.settled; spaces = s.settled };
   begun = begun_of b.writing s.taking;
 }
+
+-- A builder is written to in both or in none, and holds some entries.
+pub record IsBuilder (b : Buffered) (s : Spaced) : Type 0 where
+  pub agree : Agree b.writing s.taking
+  pub holds : HoldsSome (builder_view b s)

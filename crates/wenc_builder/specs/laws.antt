@@ -3,6 +3,7 @@ pub mod Step
 pub mod Never
 pub mod Caused
 pub mod Answered
+pub mod Held
 pub mod Lent
 pub mod Typed
 pub mod Fits

@@ -1,4 +1,4 @@
-ghost use Rattle.std.specs.Prelude.{◌≡◌, ◌↔◌, ◌∷◌, [], List, IfOk, IfErr, OnErr, IsOk, IsTrue, Some, None, Err, false};
+ghost use Rattle.std.specs.Prelude.{◌≡◌, ◌↔◌, ◌∷◌, [], List, IfOk, IfErr, OnErr, IsOk, IsTrue, Some, None, Err, true, false};
 ghost use Rattle.std.specs.Iterator.{IsFinite};
 ghost use Rattle.std.specs.Option.{option_copied};
 ghost use Rattle.wenc_base.specs.Fault.{IsMemory, IsWarranted};
@@ -16,8 +16,10 @@ ghost use Rattle.wenc_builder.specs.Entry.{import_entry, export_entry, alias_ent
 ghost use Rattle.wenc_builder.specs.Builder.{builder_is_finished, count_in, begun_with, ended, builder_given_up};
 ghost use Rattle.wenc_builder.specs.Holds.{Holds};
 ghost use Rattle.wenc_builder.specs.Enters.{Enters, EntersPlaceless, Takes, TakesAlone, TakesNoPlace, AppendsListed, TakesListed};
-ghost use Rattle.wenc_builder.specs.Space.{defined_as, canonical_space};
-ghost use Rattle.wenc_builder.specs.Layout.{draft_of};
+ghost use Rattle.wenc_builder.specs.Space.{defined_as, some_in, canonical_space};
+ghost use Rattle.wenc_builder.specs.Lent.{IsItemText, is_whole};
+ghost use Rattle.wenc_canon.specs.declared.canonicals.CanonicalOption.{CanonicalOption as CanonicalOptionSpec};
+ghost use Rattle.wenc_builder.specs.Layout.{draft_of, kind_id};
 ghost use Rattle.wenc_builder.specs.Names.{AddsNames};
 ghost use Rattle.wenc_builder.specs.Naming.{slot_name};
 
@@ -75,13 +77,13 @@ pub struct ComponentBuilder<A: Allocator = Global> {
 
 impl<A: Allocator> Model for ComponentBuilder<A> {
     ghost use Rattle.wenc_builder.specs.Builder.{State};
-    ghost use Rattle.wenc_builder.specs.View.{Agree, builder_view};
+    ghost use Rattle.wenc_builder.specs.View.{IsBuilder, builder_view};
 
     ghost Value = { State };
 
     ghost view = { λ b. builder_view b.buffer b.spaces };
 
-    ghost invariant = { λ b. Agree b.buffer.writing b.spaces.taking };
+    ghost invariant = { λ b. IsBuilder b.buffer b.spaces };
 }
 
 impl<A: Allocator> ComponentBuilder<A> {
@@ -212,7 +214,8 @@ impl<A: Allocator> ComponentBuilder<A> {
 
     /// Ends the item that is being written. It takes no memory.
     fn end(&mut self)
-        requires { builder_is_finished self.old ≡ false }
+        requires unfinished { builder_is_finished self.old ≡ false }
+        requires whole { ∥ is_whole self.old ∥₁ }
         ensures { self.new ≡ ended self.old }
     {
         self.buffer.end();
@@ -236,6 +239,7 @@ impl<A: Allocator> ComponentBuilder<A> {
         name: Option<&str>,
         item: &E,
     ) -> Result<u32, Fault>
+        requires { ∥ IsItemText (Some (kind_id kind)) (some_in space 1) (E.text item.now) ∥₁ }
         ensures { Takes self.old self.new (ended (begun_with self.old
             (draft_of kind space (option_copied name.entry) (E.text item.now))))
             result (draft_of kind space (option_copied name.entry) (E.text item.now))
@@ -293,6 +297,8 @@ impl<A: Allocator> ComponentBuilder<A> {
     ) -> Result<u32, Fault>
         requires can { I.can_next values }
         requires ends { IsFinite (I.remaining values) }
+        requires whole { (vs : List T) → ∥ IsItemText (Some (kind_id kind)) (some_in space 1)
+            (listed_text (E.text lead.now) T.text (F.text tail.now) vs) ∥₁ }
         ensures { TakesListed I.next_gives values self.old self.new result
             (draft_of kind space (option_copied name.entry))
             (listed_cause (E.cause lead.now) T.cause (F.cause tail.now))
@@ -323,6 +329,7 @@ impl<A: Allocator> ComponentBuilder<A> {
         name: Option<&str>,
         section: &E,
     ) -> Result<u32, Fault>
+        requires { ∥ IsItemText None (some_in space number) (E.text section.now) ∥₁ }
         ensures { TakesAlone self.old self.new result (defined_as space number)
             (option_copied name.entry) (E.text section.now) (E.cause section.now) }
     {
@@ -346,6 +353,7 @@ impl<A: Allocator> ComponentBuilder<A> {
 
     /// Adds what stands alone and has no place.
     fn place_nowhere<E: Encode>(&mut self, section: &E) -> Result<(), Fault>
+        requires { ∥ IsItemText None None (E.text section.now) ∥₁ }
         ensures { TakesNoPlace self.old self.new result (E.text section.now) (E.cause section.now) }
     {
         if !self.buffer.is_finished() {
@@ -365,6 +373,9 @@ impl<A: Allocator> ComponentBuilder<A> {
     ) -> Result<u32, Fault>
         requires can { I.can_next options }
         requires ends { IsFinite (I.remaining options) }
+        requires whole { (os : List CanonicalOptionSpec)
+            → ∥ IsItemText (Some (kind_id Kind.CanonicalFunction)) (some_in Space.CoreFuncs 1)
+            (listed_text (opcode ∷ E.text fields.now) (λ o. (canonical_option o).text) [] os) ∥₁ }
         ensures { TakesListed I.next_gives options self.old self.new result
             (draft_of Kind.CanonicalFunction Space.CoreFuncs (option_copied name.entry))
             (listed_cause (E.cause fields.now) (λ _. never) never)
@@ -635,9 +646,11 @@ impl<A: Allocator> ComponentBuilder<A> {
         self.place_nowhere(&Tagged(ComponentSectionId::CoreCustom.into(), &raw))
     }
 
-    /// Whether no item is being written.
+    /// Whether no item is being written. Then the builder holds some entries, whoever made which calls.
     pub fn is_finished(&self) -> bool
-        ensures { result ≡ builder_is_finished self.now }
+        ensures finished { result ≡ builder_is_finished self.now }
+        ensures holds { builder_is_finished self.now ≡ true
+            → ∥ ((es : List Entry) × Holds self.now es) ∥₁ }
     {
         self.buffer.is_finished()
     }
@@ -654,10 +667,13 @@ impl<A: Allocator> ComponentBuilder<A> {
         true
     }
 
-    /// All bytes of the component. It takes no memory, and is refused only while an item is unfinished.
+    /// All bytes of the component. It takes no memory, and is refused only while an item is unfinished. They are the
+    /// whole of the items of some entries, whoever made which calls.
     pub fn finish(self) -> Result<Vec<u8, A>, Fault>
         ensures held { (es : List Entry) → Holds self es
             → IfOk result (λ v. v.items ≡ whole (items es)) }
+        ensures some { IfOk result (λ v.
+            ∥ ((es : List Entry) × Holds self es × (v.items ≡ whole (items es))) ∥₁) }
         ensures ok { IsOk result ↔ IsTrue (builder_is_finished self) }
         ensures fault { IfErr result (λ fault. fault ≡ Fault.Unfinished) }
     {
@@ -673,7 +689,7 @@ impl<A: Allocator> ComponentBuilder<A> {
 /// finishes the builder is refused with `Unfinished`; `discard_unfinished` gives the item up.
 impl<A: Allocator> Lender for ComponentBuilder<A> {
     ghost use Rattle.wenc_builder.specs.Builder.{builder_is_finished, appended, ended};
-    ghost use Rattle.wenc_builder.specs.Lent.{is_bare_in, no_room};
+    ghost use Rattle.wenc_builder.specs.Lent.{is_bare_in, is_whole, no_room};
     ghost use Rattle.wenc_builder.specs.laws.Lent.{bare_is_begun, still_begun, appended_twice};
 
     ghost finished = { builder_is_finished };
@@ -681,6 +697,8 @@ impl<A: Allocator> Lender for ComponentBuilder<A> {
     ghost opened = { is_bare_in };
 
     ghost written = { appended };
+
+    ghost is_whole = { is_whole };
 
     ghost ended = { ended };
 
@@ -705,8 +723,6 @@ impl<A: Allocator> Lender for ComponentBuilder<A> {
     }
 
     fn end_member(&mut self) {
-        if !self.is_finished() {
-            self.end();
-        }
+        self.end();
     }
 }

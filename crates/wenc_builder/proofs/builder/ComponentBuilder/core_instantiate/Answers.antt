@@ -1,3 +1,4 @@
+use Rattle.wenc_builder.proofs.Texts.{members_text}
 use Rattle.std.proofs.Common.{refl, ◌∷◌}
 use Rattle.std.specs.Option.{option_copied}
 use Rattle.wenc_base.specs.Number.{u32}
@@ -18,3 +19,7 @@ returns g c =
     members_enter g.I.Iterator.next_gives c.args.args c.args.self.now c.add_listed.new.self c.add_listed.result (λ cs. CoreInstanceItem (CoreInstantiate c.args.module_index cs)) (kind_id kinds.CoreInstance) (space_number spaces.CoreInstances) (option_copied c.args.debug_name)
     (0x00 ∷ (u32 c.args.module_index).text) (λ v. (argument v).text) argument_view _ argument_cause (λ cs. refl) (λ cs. refl) (λ cs. refl) (λ cs. itself _)
     (λ v. alone (text_cause v.0.now) _ (λ fault h. h)) c.add_listed.ensures
+
+pub add_listed-requires-clause-whole : goal.add_listed-requires-clause-whole
+add_listed-requires-clause-whole g c =
+    members_text (λ cs. CoreInstanceItem (CoreInstantiate c.args.module_index cs)) (kind_id kinds.CoreInstance) (space_number spaces.CoreInstances) (0x00 ∷ (u32 c.args.module_index).text) (λ v. (argument v).text) argument_view (λ cs. refl) (λ cs. refl) (λ cs. refl)

@@ -1,3 +1,4 @@
+use Rattle.wenc_builder.proofs.Texts.{members_text}
 use Rattle.std.proofs.Common.{refl, ◌∷◌, [], inl, inr}
 use Rattle.std.specs.Option.{option_copied}
 use Rattle.wenc_base.specs.Fault.{text_cause}
@@ -17,3 +18,7 @@ returns g c =
     members_enter g.I.Iterator.next_gives c.args.exports c.args.self.now c.add_listed.new.self c.add_listed.result (λ cs. CoreInstanceItem (CoreExports cs)) (kind_id kinds.CoreInstance) (space_number spaces.CoreInstances) (option_copied c.args.debug_name)
     (0x01 ∷ []) (λ v. (core_export v).text) core_export_view _ core_export_cause (λ cs. refl) (λ cs. refl) (λ cs. refl) (λ cs. itself _)
     (λ v. alone (text_cause v.0.now) _ (λ fault h. elim h [ inl none ↦ none | inr p ↦ p.1 ])) c.add_listed.ensures
+
+pub add_listed-requires-clause-whole : goal.add_listed-requires-clause-whole
+add_listed-requires-clause-whole g c =
+    members_text (λ cs. CoreInstanceItem (CoreExports cs)) (kind_id kinds.CoreInstance) (space_number spaces.CoreInstances) (0x01 ∷ []) (λ v. (core_export v).text) core_export_view (λ cs. refl) (λ cs. refl) (λ cs. refl)

@@ -1,3 +1,5 @@
+use Rattle.wenc_builder.proofs.Texts.{item_text}
+use Rattle.wenc_builder.specs.Item.{InstanceItem}
 use Rattle.std.proofs.Common.{refl}
 use Rattle.std.specs.Option.{option_copied}
 use Rattle.wenc_sections.specs.InstanceTrees.{instance_tree_view}
@@ -6,3 +8,6 @@ use Rattle.wenc_builder.proofs.builder.ComponentBuilder.instance_tree.Goals as g
 
 pub returns : goal.returns
 returns g c = instance_enters c.args.self.now c.add.new.self c.add.result (instance_tree_view c.args.instance.now) (option_copied c.args.debug_name) _ refl c.add.ensures
+
+pub add-requires : goal.add-requires
+add-requires g c = item_text (InstanceItem (instance_tree_view c.args.instance.now))

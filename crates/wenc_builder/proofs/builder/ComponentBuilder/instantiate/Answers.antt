@@ -1,3 +1,4 @@
+use Rattle.wenc_builder.proofs.Texts.{members_text}
 use Rattle.std.proofs.Common.{refl, ◌∷◌, inl, inr}
 use Rattle.std.specs.Option.{option_copied}
 use Rattle.wenc_base.specs.Number.{u32}
@@ -18,3 +19,7 @@ returns g c =
     members_enter g.I.Iterator.next_gives c.args.args c.args.self.now c.add_listed.new.self c.add_listed.result (λ cs. InstanceItem (Instantiate c.args.component_index cs)) (kind_id kinds.Instance) (space_number spaces.Instances) (option_copied c.args.debug_name)
     (0x00 ∷ (u32 c.args.component_index).text) (λ v. (given v).text) given_view _ given_cause (λ cs. refl) (λ cs. refl) (λ cs. refl) (λ cs. itself _)
     (λ v. alone (text_cause v.0.now) _ (λ fault h. elim h [ inl none ↦ none | inr p ↦ p.1 ])) c.add_listed.ensures
+
+pub add_listed-requires-clause-whole : goal.add_listed-requires-clause-whole
+add_listed-requires-clause-whole g c =
+    members_text (λ cs. InstanceItem (Instantiate c.args.component_index cs)) (kind_id kinds.Instance) (space_number spaces.Instances) (0x00 ∷ (u32 c.args.component_index).text) (λ v. (given v).text) given_view (λ cs. refl) (λ cs. refl) (λ cs. refl)

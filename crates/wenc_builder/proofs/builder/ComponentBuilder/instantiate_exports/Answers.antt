@@ -1,3 +1,4 @@
+use Rattle.wenc_builder.proofs.Texts.{members_text}
 use Rattle.std.proofs.Common.{refl, ◌∷◌, [], inl, inr}
 use Rattle.std.specs.Option.{option_copied}
 use Rattle.wenc_parts.specs.Imports.{extern_name_view, extern_name_cause}
@@ -17,3 +18,7 @@ returns g c =
     members_enter g.I.Iterator.next_gives c.args.exports c.args.self.now c.add_listed.new.self c.add_listed.result (λ cs. InstanceItem (Exports cs)) (kind_id kinds.Instance) (space_number spaces.Instances) (option_copied c.args.debug_name)
     (0x01 ∷ []) (λ v. (exported v).text) exported_view _ exported_cause (λ cs. refl) (λ cs. refl) (λ cs. refl) (λ cs. itself _)
     (λ v. alone (extern_name_cause (extern_name_view v.0)) _ (λ fault h. elim h [ inl none ↦ none | inr p ↦ p.1 ])) c.add_listed.ensures
+
+pub add_listed-requires-clause-whole : goal.add_listed-requires-clause-whole
+add_listed-requires-clause-whole g c =
+    members_text (λ cs. InstanceItem (Exports cs)) (kind_id kinds.Instance) (space_number spaces.Instances) (0x01 ∷ []) (λ v. (exported v).text) exported_view (λ cs. refl) (λ cs. refl) (λ cs. refl)

@@ -1,3 +1,4 @@
+use Rattle.wenc_builder.proofs.Texts.{last_options_text}
 use Rattle.std.proofs.Common.{refl, ◌∷◌}
 use Rattle.std.specs.Option.{option_copied}
 use Rattle.wenc_base.specs.Number.{u32}
@@ -12,3 +13,6 @@ pub returns : goal.returns
 returns g c =
     last_options_enter g.I.Iterator.next_gives c.args.options c.args.self.now c.add_with_options.new.self c.add_with_options.result (λ os. Lower c.args.func_index os) spaces.CoreFuncs (option_copied c.args.debug_name)
     0x01 (0x00 ∷ (u32 c.args.func_index).text) never (λ os. refl) (λ os. refl) (λ os. itself _) (λ fault none. none) c.add_with_options.ensures
+
+pub add_with_options-requires-clause-whole : goal.add_with_options-requires-clause-whole
+add_with_options-requires-clause-whole g c = last_options_text (λ os. Lower c.args.func_index os) spaces.CoreFuncs 0x01 (0x00 ∷ (u32 c.args.func_index).text) (λ os. refl) (λ os. refl)

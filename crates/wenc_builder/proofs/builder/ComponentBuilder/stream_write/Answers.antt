@@ -1,3 +1,4 @@
+use Rattle.wenc_builder.proofs.Texts.{last_options_text}
 use Rattle.std.proofs.Common.{refl, Some}
 use Rattle.wenc_base.specs.Number.{u32}
 use Rattle.wenc_base.specs.laws.Causes.{never}
@@ -11,3 +12,6 @@ pub returns : goal.returns
 returns g c =
     last_options_enter g.I.Iterator.next_gives c.args.options c.args.self.now c.add_with_options.new.self c.add_with_options.result (λ os. Provided StreamWrite (c.args.ty, os)) spaces.CoreFuncs (Some _)
     0x10 (u32 c.args.ty).text never (λ os. refl) (λ os. refl) (λ os. itself _) (λ fault none. none) c.add_with_options.ensures
+
+pub add_with_options-requires-clause-whole : goal.add_with_options-requires-clause-whole
+add_with_options-requires-clause-whole g c = last_options_text (λ os. Provided StreamWrite (c.args.ty, os)) spaces.CoreFuncs 0x10 (u32 c.args.ty).text (λ os. refl) (λ os. refl)

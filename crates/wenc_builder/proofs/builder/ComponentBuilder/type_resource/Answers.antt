@@ -1,3 +1,5 @@
+use Rattle.wenc_builder.proofs.Texts.{item_text}
+use Rattle.wenc_builder.specs.Item.{TypeItem}
 use Rattle.std.proofs.Common.{Global, refl, subst}
 use Rattle.std.specs.Option.{option_copied}
 use Rattle.wenc_types.specs.ComponentTypes.{TypeOf, type_text}
@@ -15,3 +17,6 @@ returns g c =
     let P : TypeOf → Type 0 = λ ty. Enters c.args.self.now c.add.new.self c.add.result (type_entry (option_copied c.args.debug_name) ty) in
     subst P (view_resource Global c.args.rep c.args.dtor)
     (type_enters c.args.self.now c.add.new.self c.add.result t (option_copied c.args.debug_name) (type_text t) (type_cause t) refl (λ fault own. own) c.add.ensures)
+
+pub add-requires : goal.add-requires
+add-requires g c = item_text (TypeItem (type_view {A = Global} (trees.Resource c.args.rep c.args.dtor)))

@@ -1,0 +1,82 @@
+-- A builder stays one: its buffer and its spaces agree, and it holds some entries.
+use Rattle.std.proofs.Common.{◌≡◌, ℕ, List, false, true, is_none, Option, Some, None, Result, Ok, Err, OnOk, OnErr, [], refl, sym, subst, ◌∙◌}
+use Rattle.wenc_base.specs.Lender.{Extends, ExtendsListed}
+use Rattle.wenc_base.specs.declared.fault.Fault.{Fault}
+use Rattle.wenc_builder.specs.Builder.{State}
+use Rattle.wenc_builder.specs.Holds.{HoldsSome}
+use Rattle.wenc_builder.specs.Layout.{Buffered, buffer_begun, buffer_appended, section_appended, buffer_ended, buffer_given_up, buffer_with, NoRoom, AppendCause}
+use Rattle.wenc_builder.specs.Lent.{IsItemText, is_whole}
+use Rattle.wenc_builder.specs.Space.{Defined}
+use Rattle.wenc_builder.specs.Spaces.{Spaced, spaces_begun, spaces_ended, spaces_given_up}
+use Rattle.wenc_builder.specs.View.{Agree, builder_view, IsBuilder}
+use Rattle.wenc_builder.specs.laws.Held.{some_begun, some_appended, some_ended, some_given_up, some_alone}
+use Rattle.wenc_builder.proofs.Viewed.{appended_is, still_agree, ended_is, not_taking}
+
+writing_none : (b : Buffered) → is_none b.writing ≡ true → b.writing ≡ None
+writing_none b e = at b.writing e
+  where
+    at : {A : Type 0} (o : Option A) → is_none o ≡ true → o ≡ None
+    at None f = refl
+    at (Some w) f = cc
+
+module _ (b : Buffered) (s : Spaced) (i : IsBuilder b s) where
+  -- ---- more of an item
+
+  longer_stands : (text : List ℕ) → IsBuilder (buffer_appended b text) s
+  longer_stands text = record {
+    agree = still_agree b s text i.agree;
+    holds = subst HoldsSome (sym (appended_is b s text i.agree)) (some_appended (builder_view b s) text i.holds);
+  }
+
+  pub value_stands : (new : Buffered) (outcome : Result (Unit {0}) Fault) (text : List ℕ) (cause : Fault → Type 0) → Extends b new (buffer_appended b text) outcome cause → IsBuilder new s
+  value_stands new (Ok u) text cause a = rw a.ok (longer_stands text)
+  value_stands new (Err f) text cause a = rw a.err i
+
+  pub list_stands : {S B : Type 0} (steps : S → Option B → S → Type 0) (values : S) (new : Buffered) (outcome : Result (Unit {0}) Fault) (refuses : List ℕ → Fault → Type 0)
+      (cause : List B → Fault → Type 0) (text : List B → List ℕ) → ExtendsListed steps values b new outcome (buffer_appended b) refuses cause text → IsBuilder new s
+  list_stands steps values new (Ok u) refuses cause text a = rw a.ok.3.0 (longer_stands (text a.ok.0.items))
+  list_stands steps values new (Err f) refuses cause text a = rw a.err i
+
+  -- ---- its end
+
+  pub ended_stands : ∥ is_whole (builder_view b s) ∥₁ → IsBuilder (buffer_ended b) (spaces_ended s)
+  ended_stands whole = record { agree = tt; holds = subst HoldsSome (sym (ended_is b s i.agree)) (some_ended (builder_view b s) whole i.holds) }
+
+  pub given_up_stands : IsBuilder (buffer_given_up b) (spaces_given_up s)
+  given_up_stands = record { agree = tt; holds = some_given_up (builder_view b s) i.holds }
+
+  -- ---- where nothing is being written
+
+  module _ (finished : is_none b.writing ≡ true) where
+    not_taken : s.taking ≡ None
+    not_taken = not_taking b.writing s.taking i.agree (writing_none b finished)
+
+    -- a place that was given up at once
+    pub placed_back : (space number : ℕ) (name : Option (List ℕ)) → IsBuilder b (spaces_given_up (spaces_begun s space number name))
+    placed_back space number name =
+        let same : spaces_given_up (spaces_begun s space number name) ≡ s = rw (← not_taken) refl in
+        subst (IsBuilder b) (sym same) i
+
+    pub begun_stands : (id space : ℕ) (name : Option (List ℕ)) → IsBuilder (buffer_begun b id) (spaces_begun s space 1 name)
+    begun_stands id space name = record {
+      agree = tt;
+      holds = some_begun (builder_view b s) (record { id = id; space = space; name = name; text = [] }) i.holds;
+    }
+
+    pub alone_stands : (space number : ℕ) (name : Option (List ℕ)) (text : List ℕ) → ∥ IsItemText None (Some (record { space = space; number = number })) text ∥₁
+        → IsBuilder (buffer_with b text) (spaces_ended (spaces_begun s space number name))
+    alone_stands space number name text whole = record {
+      agree = tt;
+      holds = some_alone (builder_view b s) (Some (record { space = space; number = number })) name text whole i.holds;
+    }
+
+    pub placeless_stands : (text : List ℕ) → ∥ IsItemText None None text ∥₁ → IsBuilder (buffer_with b text) s
+    placeless_stands text whole = record {
+      agree = rw not_taken tt;
+      holds = some_alone (builder_view b s) None None text whole i.holds;
+    }
+
+    pub placeless_outcome : (new : Buffered) (outcome : Result (Unit {0}) Fault) (text : List ℕ) → ∥ IsItemText None None text ∥₁
+        → OnOk outcome (new ≡ buffer_with b text) → OnErr outcome (new ≡ b) → IsBuilder new s
+    placeless_outcome new (Ok u) text whole ok err = rw ok (placeless_stands text whole)
+    placeless_outcome new (Err f) text whole ok err = rw err i
