@@ -1,0 +1,7 @@
+use Rattle.wenc_types.specs.ComponentTypes.{FunctionType}
+use Rattle.wenc_builder.specs.Item.{TypeItem}
+use Rattle.wenc_builder.proofs.Texts.{item_text}
+use Rattle.wenc_builder.proofs.builder.ComponentBuilder.type_function.Goals as goal
+
+pub new-requires-clause-whole : goal.new-requires-clause-whole
+new-requires-clause-whole g c t = rw c.in_ok-index.ensures.ok (item_text (TypeItem (FunctionType t)))
