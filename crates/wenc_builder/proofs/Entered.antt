@@ -34,7 +34,7 @@ use Rattle.wenc_builder.specs.Entry.{Entry, entry, items, module_entry, componen
 use Rattle.wenc_builder.specs.Builder.{sections_text, Content, with_entry, with_alone, State, builder_is_finished, step, settled_in, content_of, namespace_at, Draft, draft, draft_place, begun_with, ended}
 use Rattle.wenc_builder.specs.Holds.{Holds}
 use Rattle.wenc_builder.specs.Cause.{CallCause, EnterCause}
-use Rattle.wenc_builder.specs.Enters.{EntersWith, Enters, EntersPlaceless, TakesWith, Takes, TakesAlone, TakesNoPlace}
+use Rattle.wenc_builder.specs.Enters.{IsCountAt, EntersWith, Enters, EntersPlaceless, TakesWith, Takes, TakesAlone, TakesNoPlace}
 use Rattle.wenc_builder.specs.Layout.{kind_id, draft_of, Buffered, NestCause}
 use Rattle.wenc_builder.specs.laws.Caused.{long_is_large, adding_never_unfinished}
 use Rattle.wenc_builder.specs.laws.Never.{never_unfinished}
@@ -112,12 +112,13 @@ only_unfinished old x (inr c) = c.1
 
 -- ---- its call
 
-pub enters : {R : Type 0} (old new next : State) (result : Result R Fault) (x : Entry) (after : Content) (places : Option Defined) (cause : Fault → Type 0) (Told : R → Type 0) (Tells : List Entry → R → Type 0)
-    → IsEntry old x after places → ((fault : Fault) → cause fault → item_cause x.item fault) → OnOk result (NoCause (item_cause x.item)) → next ≡ settled_in after → ((es : List Entry) → Holds old es → (r : R) → Told r → Tells es r)
-    → TakesWith old new next result after places cause Told → EntersWith old new result x Tells
-enters {R} old new next result x after places cause Told Tells w leads none done tells t = record {
+pub enters : {R : Type 0} (old new next : State) (result : Result R Fault) (x : Entry) (after : Content) (places : Option Defined) (cause : Fault → Type 0) (Told : R → Type 0) (Tells : List Entry → R → Type 0) (Counts : Option Defined → R → Type 0)
+    → IsEntry old x after places → ((fault : Fault) → cause fault → item_cause x.item fault) → OnOk result (NoCause (item_cause x.item)) → next ≡ settled_in after → ((es : List Entry) → Holds old es → (r : R) → Told r → Tells es r) → ((r : R) → Told r → Counts places r)
+    → TakesWith old new next result after places cause Told → EntersWith old new result x Tells Counts
+enters {R} old new next result x after places cause Told Tells Counts w leads none done tells counts t = record {
   held = held result t.ok t.told;
   state = state result t.ok;
+  counted = counted result t.told;
   free = free result none t.free;
   err = t.err;
   warranted = warranted result t.warranted;
@@ -134,6 +135,10 @@ enters {R} old new next result x after places cause Told Tells w leads none done
     state : (r : Result R Fault) → OnOk r (new ≡ next) → OnOk r (new ≡ step old x)
     state (Ok a) e = is_step e
     state (Err fault) e = tt
+
+    counted : (r : Result R Fault) → IfOk r Told → IfOk r (Counts (defines x.item))
+    counted (Ok a) f = subst (λ (o : Option Defined). Counts o a) (sym w.defined) (counts a f)
+    counted (Err fault) f = tt
 
     free : (r : Result R Fault) → OnOk r (NoCause (item_cause x.item)) → OnOk r ((fault : Fault) → CallCause old cause after places fault → ⊥) → OnOk r ((fault : Fault) → EnterCause old x fault → ⊥)
     free (Ok a) own f = λ fault c. f fault (from_entry old x after places cause w own fault c)
@@ -162,22 +167,22 @@ place_told old x d e es h i f = rw e (holds_index old es d.space i h (places_wit
 
 pub draft_enters : (old new : State) (result : Result ℕ Fault) (x : Entry) (d : Draft) (cause : Fault → Type 0) → IsDraftOf x d cause → Takes old new (ended (begun_with old d)) result d cause → Enters old new result x
 draft_enters old new result x d cause w t =
-    enters old new (ended (begun_with old d)) result x (content_of (begun_with old d)) (Some (draft_place d)) cause _ _ (draft_is old x d w.section w.defined w.named w.bytes) w.leads.0
-    (none_own old new (ended (begun_with old d)) result (content_of (begun_with old d)) (Some (draft_place d)) cause (item_cause x.item) _ w.leads.1 t) refl (place_told old x (draft_place d) w.defined) t
+    enters old new (ended (begun_with old d)) result x (content_of (begun_with old d)) (Some (draft_place d)) cause _ _ (IsCountAt old) (draft_is old x d w.section w.defined w.named w.bytes) w.leads.0
+    (none_own old new (ended (begun_with old d)) result (content_of (begun_with old d)) (Some (draft_place d)) cause (item_cause x.item) _ w.leads.1 t) refl (place_told old x (draft_place d) w.defined) (λ i f. f) t
 
 pub alone_enters : (old new : State) (result : Result ℕ Fault) (x : Entry) (d : Defined) (name : Option (List ℕ)) (text : List ℕ) (cause : Fault → Type 0) → IsAloneOf x (Some d) name text cause
     → TakesAlone old new result d name text cause → Enters old new result x
 alone_enters old new result x d name text cause w t =
     let after = with_alone old.settled (Some d) name text in
-    enters old new (settled_in after) result x after (Some d) cause _ _ (alone_is old x (Some d) name text cause w) w.leads.0
-    (none_own old new (settled_in after) result after (Some d) cause (item_cause x.item) _ w.leads.1 t) refl (place_told old x d w.defined) t
+    enters old new (settled_in after) result x after (Some d) cause _ _ (IsCountAt old) (alone_is old x (Some d) name text cause w) w.leads.0
+    (none_own old new (settled_in after) result after (Some d) cause (item_cause x.item) _ w.leads.1 t) refl (place_told old x d w.defined) (λ i f. f) t
 
 pub placeless_enters : (old new : State) (result : Result (Unit {0}) Fault) (x : Entry) (text : List ℕ) (cause : Fault → Type 0) → IsAloneOf x None None text cause
     → TakesNoPlace old new result text cause → EntersPlaceless old new result x
 placeless_enters old new result x text cause w t =
     let after = with_alone old.settled None None text in
-    enters old new (settled_in after) result x after None cause _ _ (alone_is old x None None text cause w) w.leads.0
-    (none_own old new (settled_in after) result after None cause (item_cause x.item) _ w.leads.1 t) refl (λ es h r u. tt) t
+    enters old new (settled_in after) result x after None cause _ _ (λ places r. Unit {0}) (alone_is old x None None text cause w) w.leads.0
+    (none_own old new (settled_in after) result after None cause (item_cause x.item) _ w.leads.1 t) refl (λ es h r u. tt) (λ r u. tt) t
 
 -- ---- each call
 
@@ -228,7 +233,7 @@ finished_free h e fault own = let unfinished = own.1 in cc
 pub type_enters : (old new : State) (result : Result ℕ Fault) (t : TypeOf) (name : Option (List ℕ)) (text : List ℕ) (cause : Fault → Type 0) → text ≡ type_text t → ((fault : Fault) → cause fault → type_cause t fault)
     → Takes old new (ended (begun_with old (draft_of kinds.«Type» spaces.Types name text))) result (draft_of kinds.«Type» spaces.Types name text) cause → Enters old new result (type_entry name t)
 type_enters old new result t name text cause e own k =
-    enters old new (ended (begun_with old d)) result (type_entry name t) (content_of (begun_with old d)) (Some (draft_place d)) cause _ _ (draft_is old (type_entry name t) d refl refl refl (sym e)) own (none result k.free) refl (place_told old (type_entry name t) (draft_place d) refl) k
+    enters old new (ended (begun_with old d)) result (type_entry name t) (content_of (begun_with old d)) (Some (draft_place d)) cause _ _ (IsCountAt old) (draft_is old (type_entry name t) d refl refl refl (sym e)) own (none result k.free) refl (place_told old (type_entry name t) (draft_place d) refl) (λ i f. f) k
   where
     d : Draft
     d = draft_of kinds.«Type» spaces.Types name text
@@ -351,10 +356,12 @@ nested_enters old new result b bytes text name e none t taken = alone_enters old
 
 -- ---- refused before anything else
 
-pub unfinished_enters : (old : State) (x : Entry) → builder_is_finished old ≡ false → Enters old old (Err Unfinished) x
+pub unfinished_enters : {R : Type 0} {Tells : List Entry → R → Type 0} {Counts : Option Defined → R → Type 0} (old : State) (x : Entry) → builder_is_finished old ≡ false
+    → EntersWith old old (Err Unfinished) x Tells Counts
 unfinished_enters old x e = record {
   held = λ es h. tt;
   state = tt;
+  counted = tt;
   free = tt;
   err = refl;
   warranted = inr (refl, e);
@@ -365,6 +372,7 @@ pub memory_enters : (old : State) (x : Entry) (a : _) → builder_is_finished ol
 memory_enters old x a e = record {
   held = λ es h. tt;
   state = tt;
+  counted = tt;
   free = tt;
   err = refl;
   warranted = tt;

@@ -24,7 +24,7 @@ use Rattle.wenc_builder.specs.Builder.{namespace_at, with_alone, State, builder_
 use Rattle.wenc_builder.specs.Cause.{CallCause}
 use Rattle.wenc_builder.specs.Enters.{EntersPlaceless, TakesNoPlace}
 use Rattle.wenc_builder.specs.Holds.{Holds}
-use Rattle.wenc_builder.specs.Names.{named_sorts, by_sort, named_entry, AddsNames, names_held, space_names, space_names_cause, all_names, all_names_cause, none_named}
+use Rattle.wenc_builder.specs.Names.{named_sorts, by_sort, named_entry, AddsNames, names_held, space_names, space_names_cause, all_names, all_names_cause, none_named, kept_names}
 use Rattle.wenc_builder.specs.Space.{space_number}
 use Rattle.wenc_builder.specs.declared.builder.space.Space.{Space}
 use Rattle.wenc_builder.specs.laws.Step.{space_within}
@@ -34,7 +34,7 @@ use Rattle.wenc_builder.specs.Lent.{IsItemText}
 use Rattle.wenc_builder.specs.Spaces.{Spaced}
 use Rattle.wenc_builder.specs.View.{Agree, builder_view}
 use Rattle.wenc_builder.proofs.Alone.{stood_nowhere}
-use Rattle.wenc_builder.proofs.Entered.{Leads, leads, through, placeless_enters}
+use Rattle.wenc_builder.proofs.Entered.{Leads, leads, through, placeless_enters, unfinished_enters}
 use Rattle.wenc_builder.proofs.Listed.{members_seen}
 use Rattle.wenc_builder.proofs.Viewed.{finished_is}
 
@@ -140,17 +140,18 @@ section_leads ps = (there, back)
     back : NoCause (section_cause ps) → NoCause (custom_cause (names_custom (all_names ps)))
     back none fault c = let k = custom_is (names_custom (all_names ps)) fault c in none TooLarge (inr ((λ f own. none f (inl own)), k.1))
 
-pub adds_names : (old new : State) (result : Result (Unit {0}) Fault) (ps : List (Sort × Held)) (text : List ℕ) (cause : Fault → Type 0) → ps ≡ by_sort (λ k. names_held (namespace_at old.settled.spaces k)) → none_named ps ≡ false
+pub adds_names : (old new : State) (result : Result (Unit {0}) Fault) (ps : List (Sort × Held)) (text : List ℕ) (cause : Fault → Type 0) → ps ≡ kept_names old → none_named ps ≡ false
     → text ≡ 0x00 ∷ (unsigned_text (length (body_of ps)) ++ body_of ps) → Leads cause (section_cause ps) → TakesNoPlace old new result text cause → AddsNames old new result
 adds_names old new result ps text cause is some written own t = record {
   held = λ es h. at (name_subsections (by_sort (names es))) (ap all_names (is ∙ kept_is old es h) ∙ texts (by_sort (names es)));
+  none = λ none f. let other = subst (λ (qs : List (Sort × Held)). none_named qs ≡ true) (sym is) none in cc;
+  some = λ n. subst (λ (qs : List (Sort × Held)). EntersPlaceless old new result (custom_entry names_label (all_names qs))) is (as_kept (all_names ps) refl);
   err = t.err;
   unfinished = (t.unfinished_first, only result t.warranted);
 }
   where
-    at : (ss : List Subsection) → all_names ps ≡ subsections_text ss → MatchOption (named_entry ss) ((result ≡ Ok tt) × (new ≡ old)) (λ x. EntersPlaceless old new result x)
-    at [] e = absurd (some_text ps some e)
-    at (s ∷ ss) e = placeless_enters old new result (custom_entry names_label (subsections_text (s ∷ ss))) text cause
+    as_kept : (bytes : List ℕ) → all_names ps ≡ bytes → EntersPlaceless old new result (custom_entry names_label bytes)
+    as_kept bytes e = placeless_enters old new result (custom_entry names_label bytes) text cause
         (record {
           alone = refl;
           defined = refl;
@@ -158,6 +159,10 @@ adds_names old new result ps text cause is some written own t = record {
           bytes = rw (written, e) refl;
           leads = subst (λ (bytes : List ℕ). Leads cause (custom_cause (names_custom bytes))) e (through _ _ _ own (section_leads ps));
         }) t
+
+    at : (ss : List Subsection) → all_names ps ≡ subsections_text ss → MatchOption (named_entry ss) ((result ≡ Ok tt) × (new ≡ old)) (λ x. EntersPlaceless old new result x)
+    at [] e = absurd (some_text ps some e)
+    at (s ∷ ss) e = as_kept (subsections_text (s ∷ ss)) e
 
     only : (r : Result (Unit {0}) Fault) → IfErr r (IsWarranted (CallCause old cause (with_alone old.settled None None text) None)) → r ≡ Err Unfinished → builder_is_finished old ≡ false
     only (Ok u) w e = cc
@@ -169,9 +174,11 @@ adds_names old new result ps text cause is some written own t = record {
     only (Err Unfinished) (inl (inr (inr c))) e = absurd c
     only (Err Unfinished) (inr c) e = c.1
 
-pub nothing_named : (old : State) (ps : List (Sort × Held)) → ps ≡ by_sort (λ k. names_held (namespace_at old.settled.spaces k)) → none_named ps ≡ true → builder_is_finished old ≡ true → AddsNames old old (Ok tt)
+pub nothing_named : (old : State) (ps : List (Sort × Held)) → ps ≡ kept_names old → none_named ps ≡ true → builder_is_finished old ≡ true → AddsNames old old (Ok tt)
 nothing_named old ps is none finished = record {
   held = λ es h. rw (none_text (by_sort (names es)) (rw (is ∙ kept_is old es h) at none)) (refl, refl);
+  none = λ n f. (refl, refl);
+  some = λ named. let other = subst (λ (qs : List (Sort × Held)). none_named qs ≡ false) (sym is) named in cc;
   err = tt;
   unfinished = (λ f. cc, λ e. cc);
 }
@@ -179,6 +186,8 @@ nothing_named old ps is none finished = record {
 pub names_unfinished : (old : State) → builder_is_finished old ≡ false → AddsNames old old (Err Unfinished)
 names_unfinished old f = record {
   held = λ es h. let none = h.finished in absurd (never old.begun none f);
+  none = λ n e. cc;
+  some = λ n. unfinished_enters old (custom_entry names_label (all_names (kept_names old))) f;
   err = refl;
   unfinished = (λ u. refl, λ e. f);
 }

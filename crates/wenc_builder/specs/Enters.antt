@@ -5,30 +5,39 @@ use Rattle.wenc_base.specs.Fault.{IsWarranted}
 use Rattle.wenc_base.specs.Lender.{either}
 use Rattle.wenc_base.specs.declared.fault.Fault.{Fault}
 use Rattle.wenc_base.specs.declared.fault.Fault.TheVariants.{Unfinished}
-use Rattle.wenc_builder.specs.Space.{Defined, IsPlaceOf, place}
+use Rattle.wenc_builder.specs.Space.{Defined, defines, IsPlaceOf, place}
 use Rattle.wenc_builder.specs.Entry.{Entry, items}
 use Rattle.wenc_builder.specs.Builder.{Content, State, step, settled_in, with_alone, builder_is_finished, namespace_at, Draft, draft_place, begun_with, content_of, appended, ended}
 use Rattle.wenc_builder.specs.Holds.{Holds}
 use Rattle.wenc_builder.specs.Cause.{CallCause, EnterCause}
 use Rattle.wenc_builder.specs.Lent.{no_room}
 
--- A call adds this entry to every list that was held, where nothing stands against it, and says this of its answer;
--- or it is refused for a cause and changes nothing. While an item is being written, and only then, it is `Unfinished`.
-pub record EntersWith {R : Type 0} (old new : State) (result : Result R Fault) (x : Entry) (Told : List Entry → R → Type 0) : Type 0 where
+-- This is the number of items in the space of these places.
+abbrev pub IsCountAt : State → Option Defined → ℕ → Type 0
+IsCountAt s None i = ⊥
+IsCountAt s (Some d) i = i ≡ (namespace_at s.settled.spaces d.space).count
+
+-- A call adds this entry to every list that was held, where nothing stands against it, and says this of its answer,
+-- by such a list and by the state; or it is refused for a cause and changes nothing. While an item is being written,
+-- and only then, it is `Unfinished`.
+pub record EntersWith {R : Type 0} (old new : State) (result : Result R Fault) (x : Entry)
+    (Told : List Entry → R → Type 0) (Counted : Option Defined → R → Type 0) : Type 0 where
   pub held : (es : List Entry) → Holds old es → IfOk result (λ r. Holds new (es ++ x ∷ []) × Told es r)
   pub state : OnOk result (new ≡ step old x)
+  pub counted : IfOk result (Counted (defines x.item))
   pub free : OnOk result ((fault : Fault) → EnterCause old x fault → ⊥)
   pub err : OnErr result (new ≡ old)
   pub warranted : IfErr result (IsWarranted (EnterCause old x))
   pub unfinished : (builder_is_finished old ≡ false) ↔ (result ≡ Err Unfinished)
 
--- The same, where the answer is the entry's place.
+-- The same, where the answer is the entry's place: the number of items that its space had.
 abbrev pub Enters : State → State → Result ℕ Fault → Entry → Type 0
-Enters old new result x = EntersWith old new result x (λ es i. IsPlaceOf (items es) x.item i)
+Enters old new result x =
+    EntersWith old new result x (λ es i. IsPlaceOf (items es) x.item i) (IsCountAt old)
 
 -- The same, where the entry has no place.
 abbrev pub EntersPlaceless : State → State → Result (Unit {0}) Fault → Entry → Type 0
-EntersPlaceless old new result x = EntersWith old new result x (λ es r. Unit {0})
+EntersPlaceless old new result x = EntersWith old new result x (λ es r. Unit {0}) (λ places r. Unit {0})
 
 -- The same of a call whose entry is made of the values that an iterator gives: of all of them, or of those that came
 -- before it was refused.
@@ -61,6 +70,10 @@ TakesPlaces old new next result after d cause = TakesWith old new next result af
 -- The same of the place of a draft.
 abbrev pub Takes : State → State → State → Result ℕ Fault → Draft → (Fault → Type 0) → Type 0
 Takes old new next result d cause = TakesPlaces old new next result (content_of (begun_with old d)) (draft_place d) cause
+
+-- The same of an item that is written and ended too.
+abbrev pub TakesDraft : State → State → Result ℕ Fault → Draft → (Fault → Type 0) → Type 0
+TakesDraft old new result d cause = Takes old new (ended (begun_with old d)) result d cause
 
 -- The same of what stands alone.
 abbrev pub TakesAlone : State → State → Result ℕ Fault → Defined → Option (List ℕ) → List ℕ → (Fault → Type 0) → Type 0

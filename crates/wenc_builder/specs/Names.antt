@@ -10,7 +10,7 @@ use Rattle.wenc_sections.specs.Names.{Subsection, RawNames, subsection, subsecti
 use Rattle.wenc_sections.specs.declared.names.Sort.{Sort}
 use Rattle.wenc_sections.specs.declared.names.Sort.TheVariants as sorts
 use Rattle.wenc_builder.specs.Entry.{Entry, custom_entry, names}
-use Rattle.wenc_builder.specs.Builder.{Namespace, State, builder_is_finished}
+use Rattle.wenc_builder.specs.Builder.{Namespace, namespace_at, State, builder_is_finished}
 use Rattle.wenc_builder.specs.Enters.{EntersPlaceless}
 use Rattle.wenc_builder.specs.Holds.{Holds}
 use Rattle.wenc_builder.specs.Space.{space_number}
@@ -47,12 +47,6 @@ named_entry (s ∷ ss) = Some (custom_entry names_label (subsections_text (s ∷
 abbrev pub names_entry : List Entry → Option Entry
 names_entry es = named_entry (name_subsections (by_sort (names es)))
 
--- A call adds that entry to every list that was held or, where there is none, changes nothing and is never refused.
-pub record AddsNames (old new : State) (result : Result (Unit {0}) Fault) : Type 0 where
-  pub held : (es : List Entry) → Holds old es → MatchOption (names_entry es) ((result ≡ Ok tt) × (new ≡ old)) (λ x. EntersPlaceless old new result x)
-  pub err : OnErr result (new ≡ old)
-  pub unfinished : (builder_is_finished old ≡ false) ↔ (result ≡ Err Unfinished)
-
 -- ---- as they are kept
 
 -- the names in a space
@@ -77,3 +71,19 @@ all_names_cause ps = member_cause space_names_cause ps
 abbrev pub none_named : List (Sort × Held) → Bool
 none_named [] = true
 none_named (p ∷ ps) = if nat_eq p.1.count 0 then none_named ps else false
+
+abbrev pub kept_names : State → List (Sort × Held)
+kept_names s = by_sort (λ k. names_held (namespace_at s.settled.spaces k))
+
+-- ---- the call
+
+-- It adds that entry to every list that was held or, where there is none, changes nothing and is never refused. By the
+-- names that are kept it is the same, whatever was held.
+pub record AddsNames (old new : State) (result : Result (Unit {0}) Fault) : Type 0 where
+  pub held : (es : List Entry) → Holds old es
+      → MatchOption (names_entry es) ((result ≡ Ok tt) × (new ≡ old)) (λ x. EntersPlaceless old new result x)
+  pub none : none_named (kept_names old) ≡ true → builder_is_finished old ≡ true → (result ≡ Ok tt) × (new ≡ old)
+  pub some : none_named (kept_names old) ≡ false
+      → EntersPlaceless old new result (custom_entry names_label (all_names (kept_names old)))
+  pub err : OnErr result (new ≡ old)
+  pub unfinished : (builder_is_finished old ≡ false) ↔ (result ≡ Err Unfinished)

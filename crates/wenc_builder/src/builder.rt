@@ -13,9 +13,9 @@ ghost use Rattle.wenc_canon.specs.CanonTrees.{canon_view};
 ghost use Rattle.wenc_builder.specs.Sections.{whole};
 ghost use Rattle.wenc_builder.specs.Entry.{Entry, items, module_entry, component_entry, canonical_entry, start_entry, custom_entry, raw_entry};
 ghost use Rattle.wenc_builder.specs.Entry.{import_entry, export_entry, alias_entry, alias_export_entry, core_alias_export_entry};
-ghost use Rattle.wenc_builder.specs.Builder.{builder_is_finished, count_in, begun_with, ended, builder_given_up};
+ghost use Rattle.wenc_builder.specs.Builder.{builder_is_finished, sections_text, count_in, begun_with, ended, builder_given_up};
 ghost use Rattle.wenc_builder.specs.Holds.{Holds};
-ghost use Rattle.wenc_builder.specs.Enters.{Enters, EntersPlaceless, Takes, TakesAlone, TakesNoPlace, AppendsListed, TakesListed};
+ghost use Rattle.wenc_builder.specs.Enters.{Enters, EntersPlaceless, Takes, TakesDraft, TakesAlone, TakesNoPlace, AppendsListed, TakesListed};
 ghost use Rattle.wenc_builder.specs.Space.{defined_as, some_in, canonical_space};
 ghost use Rattle.wenc_builder.specs.Lent.{IsItemText, is_whole};
 ghost use Rattle.wenc_canon.specs.declared.canonicals.CanonicalOption.{CanonicalOption as CanonicalOptionSpec};
@@ -240,9 +240,8 @@ impl<A: Allocator> ComponentBuilder<A> {
         item: &E,
     ) -> Result<u32, Fault>
         requires { ∥ IsItemText (Some (kind_id kind)) (some_in space 1) (E.text item.now) ∥₁ }
-        ensures { Takes self.old self.new (ended (begun_with self.old
-            (draft_of kind space (option_copied name.entry) (E.text item.now))))
-            result (draft_of kind space (option_copied name.entry) (E.text item.now))
+        ensures { TakesDraft self.old self.new result
+            (draft_of kind space (option_copied name.entry) (E.text item.now))
             (E.cause item.now) }
     {
         let index = match self.begin(kind, space, name) {
@@ -565,6 +564,9 @@ impl<A: Allocator> ComponentBuilder<A> {
     ) -> Result<u32, Fault>
         ensures entered { (es : List Entry) → Holds component es → Enters self.old self.new result
             (component_entry (option_copied debug_name.entry) (whole (items es))) }
+        ensures bytes { builder_is_finished component ≡ true → Enters self.old self.new result
+            (component_entry (option_copied debug_name.entry)
+            (sections_text component.settled.sections)) }
         ensures unfinished { builder_is_finished component ≡ false → result ≡ Err Unfinished }
         ensures err { OnErr result (self.new ≡ self.old) }
     {
@@ -582,6 +584,10 @@ impl<A: Allocator> ComponentBuilder<A> {
         ensures entered { (es : List Entry) → Holds component.now es
             → Enters self.old self.new result
             (component_entry (option_copied debug_name.entry) (whole (items es))) }
+        ensures bytes { builder_is_finished component.now ≡ true
+            → Enters self.old self.new result
+            (component_entry (option_copied debug_name.entry)
+            (sections_text component.now.settled.sections)) }
         ensures unfinished { builder_is_finished component.now ≡ false
             → result ≡ Err Unfinished }
         ensures err { OnErr result (self.new ≡ self.old) }

@@ -12,7 +12,7 @@ use Rattle.wenc_builder.specs.Entry.{Entry, items}
 use Rattle.wenc_builder.specs.Builder.{OpenSection, Namespace, namespace_at, with_entry, State}
 use Rattle.wenc_builder.specs.Holds.{open_of, namespace_of, Holds}
 use Rattle.wenc_builder.specs.Cause.{SectionCause, SpaceCause, PlaceCause, AddingCause, EnterCause, EntryCause}
-use Rattle.wenc_builder.specs.Enters.{EntersWith, Enters}
+use Rattle.wenc_builder.specs.Enters.{IsCountAt, EntersWith, Enters}
 use Rattle.wenc_builder.specs.laws.Caused.{adding_never_unfinished}
 use Rattle.wenc_builder.specs.laws.Never.{never_unfinished}
 use Rattle.wenc_builder.specs.laws.Step.{holds_step, places_within}
@@ -58,10 +58,10 @@ entry_never_unfinished es x c =
     let after = es ++ x ∷ [] in
     adding_never_unfinished (item_cause x.item) (namespace_of after) (defines x.item) (open_of (runs (items after))) (never_unfinished x.item) c
 
-pub answered_with : {R : Type 0} (old new : State) (result : Result R Fault) (x : Entry) (Told : List Entry → R → Type 0) (es : List Entry) → EntersWith old new result x Told → Holds old es
+pub answered_with : {R : Type 0} (old new : State) (result : Result R Fault) (x : Entry) (Told : List Entry → R → Type 0) (Counted : Option Defined → R → Type 0) (es : List Entry) → EntersWith old new result x Told Counted → Holds old es
     → MatchResult result (λ r. Holds new (es ++ x ∷ []) × Told es r × ((fault : Fault) → EntryCause es x fault → ⊥)) (λ fault. Holds new es × IsWarranted (EntryCause es x) fault)
-answered_with old new (Ok r) x Told es e h = ((e.held es h).0, (e.held es h).1, λ fault c. e.free fault (from_entry old es x h fault c))
-answered_with old new (Err fault) x Told es e h = (rw e.err h, still_warranted _ _ (to_entry old es x h) fault e.warranted)
+answered_with old new (Ok r) x Told Counted es e h = ((e.held es h).0, (e.held es h).1, λ fault c. e.free fault (from_entry old es x h fault c))
+answered_with old new (Err fault) x Told Counted es e h = (rw e.err h, still_warranted _ _ (to_entry old es x h) fault e.warranted)
 
 place_is : (xs : List Item) (d : Option Defined) (i : ℕ) → IsPlaceAt xs d i → Some i ≡ place_at xs d
 place_is xs None i p = absurd p
@@ -71,6 +71,6 @@ place_is xs (Some d) i p = ap (λ (n : ℕ). Some n) p
 pub answered : (old new : State) (result : Result ℕ Fault) (x : Entry) (es : List Entry) → Enters old new result x → Holds old es
     → MatchResult result (λ i. Holds new (es ++ x ∷ []) × (Some i ≡ place_of (items es) x.item) × ((fault : Fault) → EntryCause es x fault → ⊥)) (λ fault. Holds new es × IsWarranted (EntryCause es x) fault)
 answered old new (Ok i) x es e h =
-    let a = answered_with old new (Ok i) x (λ es i. IsPlaceOf (items es) x.item i) es e h in
+    let a = answered_with old new (Ok i) x (λ es i. IsPlaceOf (items es) x.item i) (IsCountAt old) es e h in
     (a.0, place_is (items es) (defines x.item) i a.1, a.2)
-answered old new (Err fault) x es e h = answered_with old new (Err fault) x (λ es i. IsPlaceOf (items es) x.item i) es e h
+answered old new (Err fault) x es e h = answered_with old new (Err fault) x (λ es i. IsPlaceOf (items es) x.item i) (IsCountAt old) es e h

@@ -1,9 +1,9 @@
 ghost use Rattle.std.specs.Borrow.{sem, RestsIfErr};
 ghost use Rattle.std.specs.Option.{option_copied};
-ghost use Rattle.std.specs.Prelude.{◌≡◌, [], List, false, Err, IfOk, OnErr};
-ghost use Rattle.wenc_base.specs.Holder.{is_finished};
+ghost use Rattle.std.specs.Prelude.{◌≡◌, ◌∷◌, [], List, false, Err, IfOk, OnErr};
+ghost use Rattle.wenc_base.specs.Holder.{is_finished, held_text, EncodeCause};
 ghost use Rattle.wenc_base.specs.declared.fault.Fault.TheVariants.{Unfinished};
-ghost use Rattle.wenc_builder.specs.Enters.{Begins, Enters};
+ghost use Rattle.wenc_builder.specs.Enters.{Begins, Enters, TakesDraft};
 ghost use Rattle.wenc_builder.specs.Entry.{type_entry};
 ghost use Rattle.wenc_builder.specs.Layout.{draft_of};
 ghost use Rattle.wenc_types.specs.ComponentTypes.{InstanceDeclaration, ComponentDeclaration, InstanceType, ComponentType as ComponentTypeSpec, ResourceType, instances_of, components_of};
@@ -70,6 +70,9 @@ impl<A: Allocator> ComponentBuilder<A> {
         ensures entered { (ds : List InstanceDeclaration) → InstanceDeclares ty.now ds
             → Enters self.old self.new result
             (type_entry (option_copied debug_name.entry) (InstanceType (instances_of ds))) }
+        ensures taken { TakesDraft self.old self.new result
+            (draft_of Kind.«Type» Space.Types (option_copied debug_name.entry)
+            (0x42 ∷ held_text ty.now.held)) (EncodeCause ty.now.held) }
         ensures unfinished { is_finished ty.now.held ≡ false → result ≡ Err Unfinished }
         ensures err { OnErr result (self.new ≡ self.old) }
     {
@@ -88,6 +91,9 @@ impl<A: Allocator> ComponentBuilder<A> {
         ensures entered { (ds : List ComponentDeclaration) → ComponentDeclares ty.now ds
             → Enters self.old self.new result
             (type_entry (option_copied debug_name.entry) (ComponentTypeSpec (components_of ds))) }
+        ensures taken { TakesDraft self.old self.new result
+            (draft_of Kind.«Type» Space.Types (option_copied debug_name.entry)
+            (0x41 ∷ held_text ty.now.held)) (EncodeCause ty.now.held) }
         ensures unfinished { is_finished ty.now.held ≡ false → result ≡ Err Unfinished }
         ensures err { OnErr result (self.new ≡ self.old) }
     {

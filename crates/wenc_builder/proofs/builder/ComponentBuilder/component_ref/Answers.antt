@@ -18,3 +18,10 @@ returns-clause-entered g c es h =
 
 pub stand_alone-requires : goal.stand_alone-requires
 stand_alone-requires g c = rw c.into.ensures (item_text (ComponentItem (sections_text c.component.inside.buffer.settled)))
+
+pub returns-clause-bytes : goal.returns-clause-bytes
+returns-clause-bytes g c finished =
+    let n = c.component in
+    rw (← n.view_is)
+    (nested_enters c.args.self.now c.stand_alone.new.self c.stand_alone.result n.inside.buffer (sections_text n.inside.buffer.settled) _ (option_copied c.args.debug_name) refl
+    (finished_is n.inside.buffer n.inside.spaces c.args.component.now n.invariant.agree n.view_is ∙ sym c.if-not-is_finished.ensures.finished) (rw c.into.ensures refl) c.stand_alone.ensures)
