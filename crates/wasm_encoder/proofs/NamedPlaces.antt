@@ -1,5 +1,5 @@
 -- The places in a list of names.
-use Rattle.std.proofs.Common.{◌≡◌, ℕ, zero, suc, ◌+◌, ◌<◌, ◌≤◌, cond, List, [], ◌∷◌, ◌++◌, map, length, slice_index, Option, Some, None, Result, Ok, Err, refl, sym, subst, ◌⊎◌, inl, inr, arith}
+use Rattle.std.proofs.Common.{◌≡◌, ℕ, zero, suc, ◌+◌, ◌<◌, ◌≤◌, List, [], ◌∷◌, ◌++◌, map, Option, Some, None, Result, Ok, Err, refl, subst, ◌⊎◌, inl, inr, arith}
 use Rattle.std.proofs.lemmas.Bool.Decides.{eqb_tells}
 use Rattle.std.proofs.lemmas.Option.{same_Some}
 use Rattle.std.specs.List.{AllByRecursion}
@@ -8,14 +8,14 @@ use Rattle.wenc_base.specs.Names.{Named}
 use Rattle.wenc_base.specs.declared.fault.Fault.{Fault}
 use Rattle.wenc_builder.specs.Entry.{Entry, items, named_in, names_from, names}
 use Rattle.wenc_builder.specs.Item.{Item, StartItem, CustomItem, RawItem}
-use Rattle.wenc_builder.specs.Names.{names_entry, named_entry}
+use Rattle.wenc_builder.specs.Names.{named_entry}
 use Rattle.wenc_builder.specs.Space.{Defined, defines, number_in, defined_in, place}
 use Rattle.wenc_sections.specs.Names.{Subsection}
 use Rattle.wenc_sections.specs.Start.{Start}
 use Rattle.wasm_encoder.specs.Cause.{one_or_none, added}
 use Rattle.wasm_encoder.specs.Command.{CommandTree, Start as StartCommand, AppendNames}
 use Rattle.wasm_encoder.specs.Nameless.{StartIsNameless}
-use Rattle.wasm_encoder.specs.Ran.{entries_after, RanFrom, Ran}
+use Rattle.wasm_encoder.specs.Ran.{RanFrom, Ran}
 use Rattle.wasm_encoder.proofs.Belonging.{all_both}
 
 -- ---- numbers that ascend
