@@ -1,5 +1,8 @@
 pub mod DefinedEqualities
 pub mod Equalities
 pub mod Functions
+pub mod ListedRuns
+pub mod NeverUnfinished
 pub mod Options
+pub mod PlacedRuns
 pub mod Written

@@ -2,6 +2,7 @@
 ghost use Rattle.std.specs.Prelude.{◌≡◌, ◌↔◌, IsTrue, nat_lt};
 ghost use Rattle.std.specs.Ordering.{nat_cmp};
 ghost use Rattle.wenc_base.specs.Composites.{function_view, structure_view, composite_view, sub_view, group_view};
+ghost use Rattle.wenc_canon.specs.CanonTrees.{canon_view};
 ghost use Rattle.wenc_parts.specs.SectionIds.{section_number};
 ghost use Rattle.wenc_types.specs.CoreTypeTrees.{core_type_view, module_declaration_view};
 ghost use Rattle.wenc_types.specs.TypeTrees.{case_view, defined_view};
@@ -13,7 +14,7 @@ use wenc_base::{
     GlobalType, GroupTree, HeapType, MemoryType, RefType, StorageType, StructType, SubType,
     TableType, TagType, ValType,
 };
-use wenc_canon::CanonicalOption;
+use wenc_canon::{CanonTree, CanonicalOption};
 use wenc_parts::{
     ComponentExportKind, ComponentOuterAliasKind, ComponentSectionId, ComponentTypeRef,
     ComponentValType, ModuleArg, PrimitiveValType, ResultList, TypeBounds,
@@ -225,6 +226,12 @@ pub fn result_lists(one: ResultList, other: ResultList) -> bool
 
 pub fn canonical_options(one: CanonicalOption, other: CanonicalOption) -> bool
     ensures { IsTrue result ↔ (one ≡ other) }
+{
+    one == other
+}
+
+pub fn canonical_functions<A: Allocator>(one: &CanonTree<A>, other: &CanonTree<A>) -> bool
+    ensures { IsTrue result ↔ (canon_view one.now ≡ canon_view other.now) }
 {
     one == other
 }

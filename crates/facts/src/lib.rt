@@ -1,4 +1,5 @@
-//! Facts that are proved: worked texts and components on literals, that derived equality goes by value, and callers.
+//! Facts that are proved: worked texts and components on literals, that derived equality goes by value and hashes by
+//! equality, what runs of commands tell, and callers.
 #![tactic(auto)]
 
 pub mod built;
@@ -7,10 +8,12 @@ pub mod canonicals;
 pub mod components;
 pub mod encoders;
 pub mod equality;
+pub mod hashes;
 pub mod importing;
 pub mod lights;
 pub mod listed;
 pub mod numbers;
 pub mod parts;
 pub mod read;
+pub mod runs;
 pub mod types;

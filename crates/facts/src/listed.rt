@@ -1,30 +1,37 @@
 //! What was built is listed.
-ghost use Rattle.std.specs.Prelude.{◌≡◌, List, IfSome, map};
+ghost use Rattle.std.specs.Prelude.{◌≡◌, ◌⊎◌, ℕ, List, IfSome, MatchResult, map};
 ghost use Rattle.wasm_encoder.specs.Command.{command_view};
 ghost use Rattle.wasm_encoder.specs.Ran.{Ran};
 ghost use Rattle.wasm_encoder.specs.Raw.{HasNoRaw};
 ghost use Rattle.wenc_builder.specs.Entry.{Entry, items as items_of};
 ghost use Rattle.wenc_builder.specs.Sections.{runs};
 ghost use Rattle.wenc_list.specs.Items.{section_view};
+ghost use Rattle.wenc_list.specs.Listing.{AreWithin};
+ghost use Rattle.wenc_list.specs.declared.fault.ListFault.TheVariants.{Memory, TooDeep};
 
 use std::alloc::Allocator;
 use wasm_encoder::{Built, Command, build};
-use wenc_list::{Listing, list};
+use wenc_list::laws::faults_of_what_is_read;
+use wenc_list::{ListFault, Listing, list};
 
-/// Builds a component, and lists it: its sections are the runs of the accepted commands' items.
+/// Builds a component, and lists it. Without a raw item its sections are the runs of the accepted commands' items, or
+/// memory is wanting, or a type in them is deeper than 100, and the fault is that.
 pub fn built_and_listed<A: Allocator + Copy>(
     alloc: A,
     commands: &[Command<A>],
-) -> Option<(Built<A>, Listing<A>)>
+) -> Option<(Built<A>, Result<Listing<A>, ListFault>)>
     ensures { IfSome result (λ x. (es : List Entry)
         → Ran (map command_view commands.now) x.0.answers.items es → HasNoRaw (items_of es)
-        → map section_view x.1.sections.items ≡ runs (items_of es)) }
+        → MatchResult x.1 (λ listing. map section_view listing.sections.items ≡ runs (items_of es))
+        (λ fault. (fault ≡ Memory) ⊎ ((place : ℕ) × (fault ≡ TooDeep place)
+        × (AreWithin 100 (runs (items_of es)) → ⊥)))) }
 {
+    faults_of_what_is_read();
     match build(alloc, commands) {
-        Ok(built) => match list(alloc, built.bytes.as_slice()) {
-            Ok(listing) => Some((built, listing)),
-            Err(_) => None,
-        },
+        Ok(built) => {
+            let listed = list(alloc, built.bytes.as_slice());
+            Some((built, listed))
+        }
         Err(_) => None,
     }
 }

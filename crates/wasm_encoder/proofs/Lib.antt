@@ -6,3 +6,7 @@ pub mod AllLawful
 pub mod Reading
 pub mod Belonging
 pub mod Headline
+pub mod Neighbours
+pub mod CountedOnce
+pub mod NamedPlaces
+pub mod NestedRuns

@@ -5,3 +5,4 @@ pub mod Steps
 pub mod Raw
 pub mod Belongs
 pub mod AllForms
+pub mod Nameless

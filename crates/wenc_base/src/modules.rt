@@ -8,9 +8,6 @@ use crate::section::Section;
 use std::alloc::{Allocator, Global};
 use std::marker::Model;
 
-/// The magic and the version.
-const HEADER: [u8; 8] = [0x00, 0x61, 0x73, 0x6d, 0x01, 0x00, 0x00, 0x00];
-
 /// The bytes of a core module: its header, and the sections that were appended (WebAssembly 3.0, binary
 /// format, "Modules"). Nothing checks their order.
 ///
@@ -32,17 +29,19 @@ impl<A: Allocator> Model for Module<A> {
     ghost view = { λ m. m.bytes.items };
 }
 
-impl<A: Allocator> Module<A> {
+impl Module {
     /// What each module begins with (WebAssembly 3.0, binary format, "Modules").
-    pub const HEADER: [u8; 8] = HEADER;
+    pub const HEADER: [u8; 8] = [0x00, 0x61, 0x73, 0x6d, 0x01, 0x00, 0x00, 0x00];
+}
 
+impl<A: Allocator> Module<A> {
     /// A module without sections. It is refused for want of memory alone.
     pub fn new(alloc: A) -> Result<Self, Fault>
         ensures ok { IfOk result (λ m. m ≡ module_preamble.text) }
         ensures refused { IfErr result IsMemory }
     {
         let mut bytes = Vec::new(alloc);
-        bytes.extend_from_slice(&HEADER)?;
+        bytes.extend_from_slice(&<Module>::HEADER)?;
         Ok(Module { bytes })
     }
 

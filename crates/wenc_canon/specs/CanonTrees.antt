@@ -1,5 +1,4 @@
 -- Trees of canonical functions: what they are as pure data.
-use Rattle.std.specs.Prelude.{ℕ}
 use Rattle.wenc_canon.specs.declared.canon_tree.CanonTree.{CanonTree}
 use Rattle.wenc_canon.specs.declared.canon_tree.CanonTree.TheVariants as trees
 use Rattle.wenc_canon.specs.Canonicals.{ResourceNew, ResourceDrop, ResourceRep, TaskCancel, SubtaskCancel, TaskReturn, ContextGet, ContextSet, ThreadYield, SubtaskDrop, StreamNew, StreamRead, StreamWrite, StreamCancelRead, StreamCancelWrite, StreamDropReadable, StreamDropWritable, FutureNew, FutureRead, FutureWrite, FutureCancelRead, FutureCancelWrite, FutureDropReadable, FutureDropWritable, ErrorContextNew, ErrorContextDebugMessage, ErrorContextDrop, WaitableSetNew, WaitableSetWait, WaitableSetPoll, WaitableSetDrop, WaitableJoin, BackpressureInc, BackpressureDec, ThreadIndex, ThreadNewIndirect, ThreadResumeLater, ThreadSuspend, ThreadSuspendThenResume, ThreadYieldThenResume, ThreadSuspendThenPromote, ThreadYieldThenPromote, StreamForward, FutureForward, ThreadSpawnRef, ThreadSpawnIndirect, ThreadAvailableParallelism, Canonical, Lift, Lower, Provided}

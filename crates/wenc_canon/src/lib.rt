@@ -6,6 +6,7 @@
 
 pub mod canon_tree;
 pub mod canonicals;
+pub mod equality;
 pub mod opcodes;
 
 pub use canon_tree::CanonTree;

@@ -1,3 +1,4 @@
 pub mod Listed
 pub mod Places
 pub mod SectionLaws
+pub mod Faults

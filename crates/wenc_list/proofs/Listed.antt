@@ -214,15 +214,15 @@ same_rest s t bytes rest after r q =
 nothing_read : (s : Section) (rest : List ℕ) → (section_piece s).Reads Wide [] rest → ⊥
 nothing_read s rest r = absurd (omega (arith, section_shorter s [] rest r))
 
--- where sections are read to the end, they go on wherever some of them were read
-goes_past : (before ss : List Section) (bytes left : List ℕ) → (each section_piece before).Reads Wide bytes left → (sections ss).ReadsAll Wide bytes → AreWithin 100 ss → 0 < length left → (s : Section) × (rest : List ℕ) × (section_piece s).Reads Wide left rest × AreWithin 100 (s ∷ [])
-goes_past [] [] bytes left b a w some = absurd (omega (arith, ap length b, ap length a))
-goes_past [] (s ∷ ss) bytes left b a w some = (s, a.0, rw b at a.1, (w.0, tt))
-goes_past (t ∷ ts) [] bytes left b a w some = absurd (nothing_read t b.0 (rw a at b.1))
-goes_past (t ∷ ts) (s ∷ ss) bytes left b a w some = goes_past ts ss b.0 left b.2 (rw (same_rest s t bytes a.0 b.0 a.1 b.1) at a.2) w.1 some
+-- where sections are read to the end, of each of which P holds, one more follows wherever some of them were read
+pub goes_past : (P : Section → Type 0) (before ss : List Section) (bytes left : List ℕ) → (each section_piece before).Reads Wide bytes left → (sections ss).ReadsAll Wide bytes → AllByRecursion P ss → 0 < length left → (s : Section) × (rest : List ℕ) × (section_piece s).Reads Wide left rest × P s
+goes_past P [] [] bytes left b a w some = absurd (omega (arith, ap length b, ap length a))
+goes_past P [] (s ∷ ss) bytes left b a w some = (s, a.0, rw b at a.1, w.0)
+goes_past P (t ∷ ts) [] bytes left b a w some = absurd (nothing_read t b.0 (rw a at b.1))
+goes_past P (t ∷ ts) (s ∷ ss) bytes left b a w some = goes_past P ts ss b.0 left b.2 (rw (same_rest s t bytes a.0 b.0 a.1 b.1) at a.2) w.1 some
 
 stopped : (all : ℕ) (bytes : List ℕ) (place : ℕ) (P : List ℕ → Type 0) → Stops all bytes place P → (ss : List Section) → (sections ss).ReadsAll Wide bytes → AreWithin 100 ss → ⊥
-stopped all bytes place P f ss r w = let next = goes_past f.before ss bytes f.left f.read r w f.some_left in f.none_within next.0 next.1 next.2 next.3
+stopped all bytes place P f ss r w = let next = goes_past (λ s. AllByRecursion (HasDepth 100) (members s)) f.before ss bytes f.left f.read r w f.some_left in f.none_within next.0 next.1 next.2 (next.3, tt)
 
 -- where all is read within the depth, only memory can be wanting
 pub only_memory : (all : ℕ) (bytes : List ℕ) (fault : ListFault) → IsFaultBehind all bytes fault → (ss : List Section) → (sections ss).ReadsAll Wide bytes → AreWithin 100 ss → fault ≡ faults.Memory

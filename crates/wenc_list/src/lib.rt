@@ -7,6 +7,7 @@
 mod counts;
 mod fault;
 mod item;
+pub mod laws;
 mod listing;
 mod members;
 mod sections;

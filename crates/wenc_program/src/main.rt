@@ -1,31 +1,41 @@
 //! The program `wenc`: it runs the crate `wenc` on its arguments and the system's streams.
 #![tactic(auto)]
 
-ghost use Rattle.std.specs.Prelude.{IsOkUnless};
+ghost use Rattle.std.specs.Prelude.{◌≡◌, ◌⊎◌, IfErr, alloc_error};
+ghost use Rattle.wenc.specs.declared.failure.Failure.TheVariants.{Arguments, Fault as FaultFailure};
+ghost use Rattle.wenc_base.specs.declared.fault.Fault.TheVariants.{Memory};
 
+use std::alloc::AllocError;
 use std::env;
 use std::env::FillError;
+use std::io::ErrorKind;
 use std::process::ExitCode;
 use std::rt::Env;
 use wenc::failure::Failure;
 use wenc::program::report;
 use wenc::run;
 
-/// The arguments without the program's name. It fails where there are some that can't be told: they
-/// aren't text, or there is no memory for them.
+/// The arguments without the program's name. It fails where there are some that can't be told: there is no memory for
+/// them, or they aren't text.
 fn arguments<R: Env + AllocGlobal>(rt: &R) -> Result<Vec<String>, Failure>
-    ensures { IsOkUnless result Failure.Arguments }
+    ensures { IfErr result (λ e. (e ≡ Arguments) ⊎ (e ≡ FaultFailure (Memory alloc_error))) }
 {
     if let Err(FillError::NotPresent) = rt.arg(1, &mut []) {
         return Ok(Vec::new(rt.alloc()));
     }
-    let Ok(mut args) = env::args(rt) else {
-        return Err(Failure::Arguments);
+    let mut args = match env::args(rt) {
+        Ok(args) => args,
+        Err(error) => {
+            return Err(match error.kind() {
+                ErrorKind::OutOfMemory => Failure::from(AllocError),
+                _ => Failure::Arguments,
+            });
+        }
     };
     let _program = args.next();
     match args.collect(rt.alloc()) {
         Ok(args) => Ok(args),
-        Err(_) => Err(Failure::Arguments),
+        Err(_) => Err(Failure::from(AllocError)),
     }
 }
 

@@ -8,9 +8,6 @@ use std::marker::Model;
 use wenc_base::Fault;
 use wenc_parts::ComponentSection;
 
-/// The magic, a version and a layer.
-const HEADER: [u8; 8] = [0x00, 0x61, 0x73, 0x6d, 0x0d, 0x00, 0x01, 0x00];
-
 /// The bytes of a component: its header, and the sections that were appended, in any order (component model,
 /// binary format, "Component Definitions").
 ///
@@ -35,17 +32,19 @@ impl<A: Allocator> Model for Component<A> {
     ghost view = { λ c. c.bytes.items };
 }
 
-impl<A: Allocator> Component<A> {
+impl Component {
     /// What each component begins with (component model, binary format, `preamble`).
-    pub const HEADER: [u8; 8] = HEADER;
+    pub const HEADER: [u8; 8] = [0x00, 0x61, 0x73, 0x6d, 0x0d, 0x00, 0x01, 0x00];
+}
 
+impl<A: Allocator> Component<A> {
     /// A component without sections. It is refused for want of memory alone.
     pub fn new(alloc: A) -> Result<Self, Fault>
         ensures ok { IfOk result (λ c. c ≡ preamble.text) }
         ensures refused { IfErr result IsMemory }
     {
         let mut bytes = Vec::new(alloc);
-        bytes.extend_from_slice(&HEADER)?;
+        bytes.extend_from_slice(&<Component>::HEADER)?;
         Ok(Component { bytes })
     }
 

@@ -1,5 +1,5 @@
 -- A canonical function has no cause exactly where its piece fits.
-use Rattle.std.proofs.Common.{ℕ, List, [], ◌∷◌, length, map}
+use Rattle.std.proofs.Common.{List, [], ◌∷◌, length, map}
 use Rattle.std.proofs.lemmas.List.{map-id}
 use Rattle.wenc_base.specs.Delimited.{NoCause, FreeFits}
 use Rattle.wenc_base.specs.Fault.{count_cause, list_cause}

@@ -1,0 +1,52 @@
+//! What runs of commands tell, from the contract of `build` alone.
+ghost use Rattle.facts.specs.Placed.{IsPlacedAt};
+ghost use Rattle.std.specs.Prelude.{◌≡◌, ◌↔◌, ◌++◌, ◌∷◌, ℕ, List, map, length, IfSome, IfOk, IfErr, Ok, Some, Option as Optional, Result as Outcome};
+ghost use Rattle.wasm_encoder.specs.Command.{CommandTree, command_view};
+ghost use Rattle.wasm_encoder.specs.Ran.{Ran};
+ghost use Rattle.wasm_encoder.specs.Raw.{HasNoRaw};
+ghost use Rattle.wenc_base.specs.declared.fault.Fault.TheVariants.{Unfinished};
+ghost use Rattle.wenc_base.specs.declared.fault.Fault.{Fault as FaultSpec};
+ghost use Rattle.wenc_builder.specs.Entry.{Entry, items as items_of};
+
+use std::alloc::Allocator;
+use wasm_encoder::{Built, Command, build};
+use wenc_base::Fault;
+
+/// Two runs: where none of the items that they led to is raw, the bytes are equal exactly where the items are.
+pub fn two_runs<A: Allocator + Copy, B: Allocator, C: Allocator>(
+    alloc: A,
+    one: &[Command<B>],
+    other: &[Command<C>],
+) -> Option<(Built<A>, Built<A>)>
+    ensures { IfSome result (λ x. (es : List Entry) (fs : List Entry)
+        → Ran (map command_view one.now) x.0.answers.items es
+        → Ran (map command_view other.now) x.1.answers.items fs
+        → HasNoRaw (items_of es) → HasNoRaw (items_of fs)
+        → (x.0.bytes.items ≡ x.1.bytes.items) ↔ (items_of es ≡ items_of fs)) }
+{
+    match build(alloc, one) {
+        Ok(first) => match build(alloc, other) {
+            Ok(second) => Some((first, second)),
+            Err(_) => None,
+        },
+        Err(_) => None,
+    }
+}
+
+/// A run: every answered index is its item's place. Where there is none, it isn't for something unfinished.
+pub fn placed_run<A: Allocator + Copy, B: Allocator>(
+    alloc: A,
+    commands: &[Command<B>],
+) -> Result<Built<A>, Fault>
+    ensures places { IfOk result (λ b. (es : List Entry)
+        → Ran (map command_view commands.now) b.answers.items es
+        → (front : List CommandTree) (c : CommandTree) (behind : List CommandTree)
+        (so_far : List (Outcome (Optional ℕ) FaultSpec)) (i : ℕ)
+        (later : List (Outcome (Optional ℕ) FaultSpec))
+        → map command_view commands.now ≡ front ++ c ∷ behind
+        → b.answers.items ≡ so_far ++ Ok (Some i) ∷ later
+        → length front ≡ length so_far → IsPlacedAt c es i) }
+    ensures never_unfinished { IfErr result (λ fault. fault ≡ Unfinished → ⊥) }
+{
+    build(alloc, commands)
+}

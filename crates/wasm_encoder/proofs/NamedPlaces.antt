@@ -1,0 +1,124 @@
+-- The places in a list of names.
+use Rattle.std.proofs.Common.{◌≡◌, ℕ, zero, suc, ◌+◌, ◌<◌, ◌≤◌, List, [], ◌∷◌, ◌++◌, map, Option, Some, None, Result, Ok, Err, refl, subst, ◌⊎◌, inl, inr, arith}
+use Rattle.std.proofs.lemmas.Bool.Decides.{eqb_tells}
+use Rattle.std.proofs.lemmas.Option.{same_Some}
+use Rattle.std.specs.List.{AllByRecursion}
+use Rattle.std.specs.List.Sorted.{IsStrictlyIncreasing}
+use Rattle.wenc_base.specs.Names.{Named}
+use Rattle.wenc_base.specs.declared.fault.Fault.{Fault}
+use Rattle.wenc_builder.specs.Entry.{Entry, items, named_in, names_from, names}
+use Rattle.wenc_builder.specs.Item.{Item, StartItem, CustomItem, RawItem}
+use Rattle.wenc_builder.specs.Names.{named_entry}
+use Rattle.wenc_builder.specs.Space.{Defined, defines, number_in, defined_in, place}
+use Rattle.wenc_sections.specs.Names.{Subsection}
+use Rattle.wenc_sections.specs.Start.{Start}
+use Rattle.wasm_encoder.specs.Cause.{one_or_none, added}
+use Rattle.wasm_encoder.specs.Command.{CommandTree, Start as StartCommand, AppendNames}
+use Rattle.wasm_encoder.specs.Nameless.{StartIsNameless}
+use Rattle.wasm_encoder.specs.Ran.{RanFrom, Ran}
+use Rattle.wasm_encoder.proofs.Belonging.{all_both}
+
+-- ---- numbers that ascend
+
+-- they ascend, and none is below this
+abbrev AscendFrom : ℕ → List ℕ → Type 0
+AscendFrom n [] = Unit {0}
+AscendFrom n (x ∷ xs) = (n ≤ x) × AscendFrom (x + 1) xs
+
+from_less : (n m : ℕ) (xs : List ℕ) → m ≤ n → AscendFrom n xs → AscendFrom m xs
+from_less n m [] le h = tt
+from_less n m (x ∷ xs) le h = (omega (arith, h.0), h.1)
+
+increasing : (n : ℕ) (xs : List ℕ) → AscendFrom n xs → IsStrictlyIncreasing xs
+increasing n [] h k lt = absurd (omega (arith, lt))
+increasing n (x ∷ []) h k lt = absurd (omega (arith, lt))
+increasing n (x ∷ y ∷ ys) h zero lt = omega (arith, h.1.0)
+increasing n (x ∷ y ∷ ys) h (suc k) lt =
+    let next : suc k + 1 ≡ suc (k + 1) = omega arith in
+    rw next (increasing (x + 1) (y ∷ ys) h.1 k (omega (arith, lt)))
+
+-- ---- what an entry names
+
+-- what is named takes a place
+abbrev TakesNamed : Option Defined → Option (List ℕ) → Type 0
+TakesNamed o name = (d : Defined) → o ≡ Some d → (name ≡ None) ⊎ (0 < d.number)
+
+item_takes : (x : Item) (name : Option (List ℕ)) → ((s : Start) → x ≡ StartItem s → name ≡ None) → TakesNamed (defines x) name
+item_takes (StartItem s) name nameless d e = inl (nameless s refl)
+item_takes (CustomItem c) name nameless d e = absurd cc
+item_takes (RawItem bytes) name nameless d e = absurd cc
+item_takes other name nameless d e = inr (subst (λ (d : Defined). 0 < d.number) (same_Some _ d e) (omega arith))
+
+abbrev places : List Named → List ℕ
+places ns = map (λ n. n.place) ns
+
+ascends_more : (k n : ℕ) (o : Option Defined) (name : Option (List ℕ)) (rest : List Named) → TakesNamed o name → AscendFrom (n + number_in k o) (places rest) → AscendFrom n (places (named_in k o n name ++ rest))
+ascends_more k n None name rest takes h = from_less (n + 0) n (places rest) (omega arith) h
+ascends_more k n (Some d) None rest takes h =
+    elim (eqb_tells d.space k) [
+      | inl t ↦ let g = rw t.0 at h in rw t.0 (from_less (n + d.number) n (places rest) (omega arith) g)
+      | inr t ↦ let g = rw t.0 at h in rw t.0 (from_less (n + 0) n (places rest) (omega arith) g)
+    ]
+ascends_more k n (Some d) (Some name) rest takes h =
+    elim (eqb_tells d.space k) [
+      | inl t ↦ let g = rw t.0 at h in rw t.0 (omega arith, from_less (n + d.number) (n + 1) (places rest) (omega (arith, taken (takes d refl))) g)
+      | inr t ↦ let g = rw t.0 at h in rw t.0 (from_less (n + 0) n (places rest) (omega arith) g)
+    ]
+  where
+    taken : ((Some name ≡ None) ⊎ (0 < d.number)) → 0 < d.number
+    taken (inl e) = absurd cc
+    taken (inr lt) = lt
+
+ascend : (k n : ℕ) (es : List Entry) → AllByRecursion StartIsNameless es → AscendFrom n (places (names_from k n es))
+ascend k n [] h = tt
+ascend k n (e ∷ es) h = ascends_more k n (defines e.item) e.name (names_from k (n + defined_in k e.item) es) (item_takes e.item e.name h.0) (ascend k (n + defined_in k e.item) es h.1)
+
+pub ascending : (es : List Entry) (k : ℕ) → AllByRecursion StartIsNameless es → IsStrictlyIncreasing (places (names es k))
+ascending es k h = increasing 0 (places (names es k)) (ascend k 0 es h)
+
+-- ---- and they are below the count
+
+abbrev AreBelow : ℕ → List Named → Type 0
+AreBelow bound = AllByRecursion (λ n. n.place < bound)
+
+below_more : (k n bound : ℕ) (o : Option Defined) (name : Option (List ℕ)) (rest : List Named) → TakesNamed o name → n + number_in k o ≤ bound → AreBelow bound rest → AreBelow bound (named_in k o n name ++ rest)
+below_more k n bound None name rest takes le h = h
+below_more k n bound (Some d) None rest takes le h = elim (eqb_tells d.space k) [ inl t ↦ rw t.0 h | inr t ↦ rw t.0 h ]
+below_more k n bound (Some d) (Some name) rest takes le h =
+    elim (eqb_tells d.space k) [
+      | inl t ↦ let l = rw t.0 at le in rw t.0 (omega (arith, taken (takes d refl), l), h)
+      | inr t ↦ rw t.0 h
+    ]
+  where
+    taken : ((Some name ≡ None) ⊎ (0 < d.number)) → 0 < d.number
+    taken (inl e) = absurd cc
+    taken (inr lt) = lt
+
+below_from : (k n bound : ℕ) (es : List Entry) → n + place (items es) k ≤ bound → AllByRecursion StartIsNameless es → AreBelow bound (names_from k n es)
+below_from k n bound [] le h = tt
+below_from k n bound (e ∷ es) le h =
+    below_more k n bound (defines e.item) e.name (names_from k (n + defined_in k e.item) es) (item_takes e.item e.name h.0) (omega (arith, le)) (below_from k (n + defined_in k e.item) bound es (omega (arith, le)) h.1)
+
+pub below : (es : List Entry) (k : ℕ) → AllByRecursion StartIsNameless es → AreBelow (place (items es) k) (names es k)
+below es k h = below_from k 0 (place (items es) k) es (omega arith) h
+
+-- ---- what commands lead to
+
+names_nameless : (ss : List Subsection) → AllByRecursion StartIsNameless (one_or_none (named_entry ss))
+names_nameless [] = tt
+names_nameless (s ∷ ss) = ((λ start e. refl), tt)
+
+added_nameless : (es : List Entry) (c : CommandTree) → AllByRecursion StartIsNameless (added es c)
+added_nameless es AppendNames = names_nameless _
+added_nameless es (StartCommand function arguments results) = ((λ start e. refl), tt)
+added_nameless es other = ((λ start e. absurd cc), tt)
+
+nameless_from : (es : List Entry) (cs : List CommandTree) (answers : List (Result (Option ℕ) Fault)) (all : List Entry) → AllByRecursion StartIsNameless es → RanFrom es cs answers all → AllByRecursion StartIsNameless all
+nameless_from es [] [] all h r = subst (AllByRecursion StartIsNameless) r h
+nameless_from es [] (a ∷ answers) all h r = absurd r
+nameless_from es (c ∷ cs) [] all h r = absurd r
+nameless_from es (c ∷ cs) (Ok a ∷ answers) all h r = nameless_from (es ++ added es c) cs answers all (all_both StartIsNameless es (added es c) h (added_nameless es c)) r.1
+nameless_from es (c ∷ cs) (Err fault ∷ answers) all h r = nameless_from es cs answers all h r.1
+
+pub led_nameless : (cs : List CommandTree) (answers : List (Result (Option ℕ) Fault)) (all : List Entry) → Ran cs answers all → AllByRecursion StartIsNameless all
+led_nameless cs answers all r = nameless_from [] cs answers all tt r

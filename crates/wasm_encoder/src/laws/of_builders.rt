@@ -1,0 +1,91 @@
+//! Laws over what the calls of a builder lead to.
+ghost use Rattle.std.specs.List.{AllByRecursion};
+ghost use Rattle.std.specs.List.Sorted.{IsStrictlyIncreasing};
+ghost use Rattle.std.specs.Prelude.{◌≡◌, ◌+◌, ◌<◌, ◌^◌, ◌++◌, ◌∷◌, [], ℕ, List, map, IsOk, Ok, Option, Result};
+ghost use Rattle.wenc_base.specs.Delimited.{NoCause};
+ghost use Rattle.wenc_base.specs.declared.fault.Fault.{Fault};
+ghost use Rattle.wenc_builder.specs.Builder.{State, Draft, begun_with, appended, ended, builder_given_up, count_in};
+ghost use Rattle.wenc_builder.specs.Enters.{Enters};
+ghost use Rattle.wenc_builder.specs.Entry.{Entry, items as items_of, names, type_entry, core_type_entry};
+ghost use Rattle.wenc_builder.specs.Holds.{Holds};
+ghost use Rattle.wenc_builder.specs.Item.{Item};
+ghost use Rattle.wenc_builder.specs.Layout.{draft_of};
+ghost use Rattle.wenc_builder.specs.Sections.{Section, Run, runs};
+ghost use Rattle.wenc_builder.specs.Space.{defines, some_in, place};
+ghost use Rattle.wenc_builder.specs.declared.builder.kind.Kind.TheVariants as kinds;
+ghost use Rattle.wenc_builder.specs.declared.builder.space.Space.{Space};
+ghost use Rattle.wenc_builder.specs.declared.builder.space.Space.TheVariants as spaces;
+ghost use Rattle.wenc_parts.specs.Types.{value_type, primitive};
+ghost use Rattle.wenc_parts.specs.declared.types.ComponentValType.TheVariants as value_types;
+ghost use Rattle.wenc_parts.specs.declared.types.PrimitiveValType.{PrimitiveValType};
+ghost use Rattle.wenc_types.specs.ComponentTypes.{TypeOf, type_text};
+ghost use Rattle.wenc_types.specs.CoreTypes.{CoreType, core_type_text};
+ghost use Rattle.wasm_encoder.specs.Cause.{led, first_cause};
+ghost use Rattle.wasm_encoder.specs.Command.{CommandTree, Commands, listed};
+ghost use Rattle.wasm_encoder.specs.Nameless.{StartIsNameless};
+ghost use Rattle.wasm_encoder.specs.Ran.{Ran};
+
+/// No two neighbours among the sections into which items are cut collect items of one kind.
+pub fn neighbours_differ()
+    ensures { (xs : List Item) (front behind : List Section) (id : ℕ) (ys zs : List Item)
+        → runs xs ≡ front ++ Run id ys ∷ Run id zs ∷ behind → ⊥ }
+{}
+
+/// An accepted call that defines one item answers the old count of the item's space, and raises that count alone, by
+/// one.
+pub fn one_item_counts_once()
+    ensures answered { (old new : State) (i : ℕ) (x : Entry) (space : Space) (es : List Entry)
+        → Holds old es → Enters old new (Ok i) x → defines x.item ≡ some_in space 1
+        → i ≡ count_in old space }
+    ensures raised { (old new : State) (i : ℕ) (x : Entry) (space : Space) (es : List Entry)
+        → Holds old es → Enters old new (Ok i) x → defines x.item ≡ some_in space 1
+        → count_in new space ≡ count_in old space + 1 }
+    ensures alone { (old new : State) (i : ℕ) (x : Entry) (space other : Space) (es : List Entry)
+        → Holds old es → Enters old new (Ok i) x → defines x.item ≡ some_in space 1
+        → (other ≡ space → ⊥) → count_in new other ≡ count_in old other }
+{}
+
+/// The places in a space's list of names ascend, and each is below the space's count, where no start has a name. So it
+/// is with all that commands lead to.
+pub fn named_places_ascend()
+    ensures ascending { (es : List Entry) (k : ℕ) → AllByRecursion StartIsNameless es
+        → IsStrictlyIncreasing (map (λ n. n.place) (names es k)) }
+    ensures below { (es : List Entry) (k : ℕ) → AllByRecursion StartIsNameless es
+        → AllByRecursion (λ n. n.place < place (items_of es) k) (names es k) }
+    ensures led_to { (commands : List CommandTree) (answers : List (Result (Option ℕ) Fault))
+        (es : List Entry) → Ran commands answers es → AllByRecursion StartIsNameless es }
+{}
+
+/// An index as a value type never has a primitive type's text, and doesn't begin with one.
+pub fn indices_are_no_primitives()
+    ensures { (n : ℕ) (p : PrimitiveValType) (r s : List ℕ) → n < 2 ^ 32
+        → (value_type (value_types.«Type» n)).text ++ r ≡ (primitive p).text ++ s → ⊥ }
+{}
+
+/// Nested commands against which nothing stands are a run with all of them accepted, to what they lead to. And where
+/// nested commands are a run with all of them accepted, nothing stands against them, and it led there.
+pub fn nested_runs()
+    ensures there { (inner : Commands) → NoCause (first_cause [] inner)
+        → (answers : List (Result (Option ℕ) Fault))
+        × Ran (listed inner) answers (led [] inner) × AllByRecursion IsOk answers }
+    ensures back { (inner : Commands) (answers : List (Result (Option ℕ) Fault)) (all : List Entry)
+        → Ran (listed inner) answers all → AllByRecursion IsOk answers
+        → (all ≡ led [] inner) × NoCause (first_cause [] inner) }
+{}
+
+/// A type that an encoder wrote whole and ended is one entry more in every list that the builder held. Given up, written
+/// in part or not at all, it leaves every list held that was held.
+pub fn encoded_types_are_entries()
+    ensures type_written { (old new : State) (es : List Entry) (name : Option (List ℕ)) (t : TypeOf)
+        → new ≡ ended (appended (begun_with old (draft_of kinds.«Type» spaces.Types name [])) (type_text t))
+        → Holds old es → Holds new (es ++ type_entry name t ∷ []) }
+    ensures core_type_written { (old new : State) (es : List Entry) (name : Option (List ℕ))
+        (t : CoreType) → new ≡ ended
+        (appended (begun_with old (draft_of kinds.CoreType spaces.CoreTypes name [])) (core_type_text t))
+        → Holds old es → Holds new (es ++ core_type_entry name t ∷ []) }
+    ensures begun_given_up { (old lent new : State) (es : List Entry) (d : Draft)
+        → lent ≡ begun_with old d → new ≡ builder_given_up lent → Holds old es → Holds new es }
+    ensures written_given_up { (old lent new : State) (es : List Entry) (d : Draft) (text : List ℕ)
+        → lent ≡ appended (begun_with old d) text → new ≡ builder_given_up lent
+        → Holds old es → Holds new es }
+{}
