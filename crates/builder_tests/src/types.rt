@@ -1,15 +1,16 @@
 //! Types, by the calls that answer an encoder and by those that take a whole type.
 
 use crate::accepted::ok;
-use crate::calls::{Inner, Item, NAME};
-use crate::checks::{Answer, answers, finishes, row};
-use crate::imports::FUNCTION;
+use crate::calls::{Inner, Item};
+use crate::checks::{Answer, HEADER, answers, finishes, row};
+use crate::imports::{FUNCTION, OUTER_TYPE};
 use crate::written::{AnyType, CoreType, STRING, Typed};
+use refusing::Refusing;
 use std::alloc::Global;
 use std::process::Abort;
 use wasm_encoder::{
     ComponentBuilder, ComponentType, ComponentTypeRef, CompositeType, Fault, FuncType,
-    InstanceType, ModuleType, SubType, TypeBounds,
+    InstanceType, ModuleType, SubType, TypeBounds, ValType,
 };
 
 #[test]
@@ -18,6 +19,9 @@ fn written_types(rt: HostRuntime) {
     let variant = [(Typed::Variant, Ok(0))];
     let wanted = b"\x07\x0c\x01\x71\x02\x01\x61\x00\x00\x01\x62\x01\x73\x00".as_slice();
     row(&rt, alloc, variant.as_slice(), wanted);
+    let function = [(Typed::AsyncFunction, Ok(0))];
+    let wanted = b"\x07\x05\x01\x43\x00\x01\x00".as_slice();
+    row(&rt, alloc, function.as_slice(), wanted);
     let functions = [
         (Typed::AsyncFunction, Ok(0)),
         (Typed::Function(&[], None), Ok(1)),
@@ -33,27 +37,43 @@ fn written_types(rt: HostRuntime) {
     );
 }
 
-/// A function type without parameters and results, which may have subtypes.
-fn function(rt: &impl Abort, alloc: Global) -> SubType {
-    let ty = ok(rt, FuncType::new(alloc, [].into_iter(), [].into_iter()));
+/// A function type with these parameters and no results, which is final or may have subtypes.
+pub fn function(rt: &impl Abort, alloc: Global, is_final: bool, params: &[ValType]) -> SubType {
+    let ty = FuncType::new(alloc, params.iter().copied(), [].into_iter());
     SubType {
-        is_final: false,
+        is_final,
         supertype_idx: None,
-        composite_type: CompositeType::Func(ty),
+        composite_type: CompositeType::Func(ok(rt, ty)),
     }
 }
 
 #[test]
 fn core_types(rt: HostRuntime) {
-    let ty = function(&rt, rt.alloc());
+    let ty = function(&rt, rt.alloc(), false, &[]);
     let calls = [(Typed::Core(CoreType::Subtype(&ty)), Ok(0))];
     let wanted = b"\x03\x07\x01\x00\x50\x00\x60\x00\x00".as_slice();
     row(&rt, rt.alloc(), calls.as_slice(), wanted);
 }
 
-/// A module type with that type alone.
+/// One builder makes these types into one core type, with these bytes.
+fn is_group(rt: &impl Abort, alloc: Global, types: &[SubType], wanted: &[u8]) {
+    let calls = [(Typed::Core(CoreType::Rec(types)), Ok(0))];
+    row(rt, alloc, calls.as_slice(), wanted);
+}
+
+#[test]
+fn groups(rt: HostRuntime) {
+    let types = [
+        function(&rt, rt.alloc(), true, &[]),
+        function(&rt, rt.alloc(), true, &[ValType::I32]),
+    ];
+    let wanted = b"\x03\x0a\x01\x4e\x02\x60\x00\x00\x60\x01\x7f\x00".as_slice();
+    is_group(&rt, rt.alloc(), types.as_slice(), wanted);
+}
+
+/// A module type with a function type that may have subtypes alone.
 fn module_type(rt: &impl Abort, alloc: Global) -> ModuleType {
-    let ty = function(rt, alloc);
+    let ty = function(rt, alloc, false, &[]);
     let mut module = ModuleType::new(alloc);
     ok(rt, ok(rt, module.ty()).subtype(&ty));
     module
@@ -87,12 +107,11 @@ fn instance_types(rt: HostRuntime) {
 #[test]
 fn component_types(rt: HostRuntime) {
     let ty = ComponentType::new(rt.alloc());
-    let calls = [
-        (Typed::Component(&ty), Ok(0)),
-        (Typed::Any(AnyType::Component(&ty)), Ok(1)),
-    ];
-    let wanted = b"\x07\x05\x02\x41\x00\x41\x00".as_slice();
-    row(&rt, rt.alloc(), calls.as_slice(), wanted);
+    let calls = [Typed::Component(&ty), Typed::Any(AnyType::Component(&ty))];
+    for call in calls {
+        let wanted = b"\x07\x03\x01\x41\x00".as_slice();
+        row(&rt, rt.alloc(), [(call, Ok(0))].as_slice(), wanted);
+    }
 }
 
 /// There are so many core types and types.
@@ -133,10 +152,11 @@ const UNFINISHED: &[Answer<Item<'static>>] = &[
     (FUNCTION, Err(Fault::Unfinished)),
     (Item::AppendNames, Err(Fault::Unfinished)),
     (Item::GiveUp, Ok(1)),
+    (Item::GiveUp, Ok(0)),
 ];
 
 /// What comes once it is given up.
-const AFTER: &[Answer<Item<'static>>] = &[(FUNCTION, Ok(1)), (Item::AppendNames, Ok(0))];
+const AFTER: &[Answer<Item<'static>>] = &[(OUTER_TYPE, Ok(0)), (Item::AppendNames, Ok(0))];
 
 /// The encoder is dropped, and leaves so many core types and types.
 fn drop_encoder(
@@ -146,7 +166,7 @@ fn drop_encoder(
     call: Typed<'_>,
     types: (u32, u32),
 ) {
-    answers(rt, alloc, Some(NAME), builder, [(call, Ok(0))].as_slice());
+    answers(rt, alloc, Some("t"), builder, [(call, Ok(0))].as_slice());
     has(rt, builder, types.0, types.1);
     assert!(rt; !builder.is_finished());
 }
@@ -160,7 +180,7 @@ fn given_up(rt: &impl Abort, alloc: Global, call: Typed<'_>, types: (u32, u32)) 
     answers(rt, alloc, None, &mut builder, UNFINISHED);
     has(rt, &builder, 0, 0);
     answers(rt, alloc, None, &mut builder, AFTER);
-    let wanted = b"\x00asm\x0d\x00\x01\x00\x06\x0b\x02\x01\x00\x00\x01\x66\x01\x00\x00\x01\x66";
+    let wanted = b"\x00asm\x0d\x00\x01\x00\x06\x0a\x02\x01\x00\x00\x01\x66\x03\x02\x00\x01";
     finishes(rt, builder, wanted);
 }
 
@@ -182,8 +202,27 @@ fn dropped_encoders(rt: HostRuntime) {
     }
 }
 
+/// What is refused as long as a type is unfinished.
+const EXPORT: &[Answer<Item<'static>>] = &[(Item::Export("g", None), Err(Fault::Unfinished))];
+
 // What comes next would be refused before anything else.
 #[test]
 fn finish_after_a_dropped_encoder(rt: HostRuntime) {
-    is_unfinished(&rt, ok(&rt, Inner::Unfinished.builder(rt.alloc())));
+    let mut builder = ok(&rt, Inner::Unfinished.builder(rt.alloc()));
+    has(&rt, &builder, 0, 1);
+    answers(&rt, rt.alloc(), None, &mut builder, EXPORT);
+    is_unfinished(&rt, builder);
+}
+
+// An asynchronous function that has its parameters is given up without memory.
+#[test]
+fn given_up_without_memory(rt: HostRuntime) {
+    let heap = Refusing::new(rt.alloc());
+    let mut builder = ok(&rt, ComponentBuilder::new(&heap));
+    let call = [(Typed::DroppedParams, Ok(0))];
+    answers(&rt, rt.alloc(), None, &mut builder, call.as_slice());
+    heap.refuse_all();
+    assert!(rt; builder.discard_unfinished() && builder.type_count() == 0);
+    finishes(&rt, builder, HEADER);
+    assert!(rt; heap.requests() == 0);
 }

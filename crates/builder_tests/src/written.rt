@@ -27,7 +27,7 @@ pub enum Typed<'a> {
     DroppedFunction,
     /// Once it is said whether it is asynchronous.
     DroppedTag,
-    /// Once it has its parameters.
+    /// An asynchronous one, once it has its parameters, of which there are none.
     DroppedParams,
     Instance(&'a InstanceType),
     Component(&'a ComponentType),
@@ -39,6 +39,8 @@ pub enum Typed<'a> {
 pub enum CoreType<'a> {
     Function,
     Subtype(&'a SubType),
+    /// Types that may refer to each other.
+    Rec(&'a [SubType]),
     Module(&'a ModuleType),
     Tree(&'a CoreTypeTree),
 }
@@ -101,6 +103,7 @@ fn add_core<A: Allocator>(
             let outcome = match ty {
                 CoreType::Function => encoder.core().function(one.into_iter(), one.into_iter()),
                 CoreType::Subtype(ty) => encoder.core().subtype(ty),
+                CoreType::Rec(types) => encoder.core().rec(types.iter()),
                 CoreType::Module(ty) => encoder.module(ty),
                 CoreType::Tree(tree) => encoder.tree(tree),
             };
@@ -209,7 +212,10 @@ fn drop_params<A: Allocator>(
     debug_name: Option<&str>,
 ) -> Result<u32, Fault> {
     match builder.type_function(debug_name) {
-        Ok((index, mut encoder)) => { written(index, encoder.params([("p", STRING)].into_iter())) }
+        Ok((index, mut encoder)) => {
+            encoder.async_(true)?;
+            written(index, encoder.params([].into_iter()))
+        }
         Err(fault) => Err(fault),
     }
 }

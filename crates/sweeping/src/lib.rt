@@ -34,7 +34,7 @@ pub trait Appends {
     fn append<A: Allocator>(&self, sink: &mut Vec<u8, A>) -> Result<(), Fault>;
 }
 
-/// Has the call's requests refused in turn.
+/// Has the call's requests refused in turn, of which there is at least one.
 pub fn sweep<C: Appends>(alloc: Global, call: &C) -> Result<bool, Fault> {
     let mut wanted = START.to_vec(alloc)?;
     call.append(&mut wanted)?;
@@ -46,7 +46,7 @@ pub fn sweep<C: Appends>(alloc: Global, call: &C) -> Result<bool, Fault> {
         heap.refuse_nth(n);
         let outcome = call.append(&mut sink);
         if !heap.was_refused() {
-            return Ok(outcome.is_ok() && sink.as_slice() == wanted.as_slice());
+            return Ok(n > 1 && outcome.is_ok() && sink.as_slice() == wanted.as_slice());
         }
         let is_answered = outcome == Err(REFUSED) && heap.requests() == n;
         if !is_answered || sink.as_slice() != START.as_slice() {
@@ -84,6 +84,15 @@ pub fn sweep_each<E: Encode>(alloc: Global, values: &[E]) -> Result<bool, Fault>
     Ok(true)
 }
 
+/// Whether a value without a text is encoded without memory.
+pub fn takes_no_memory<E: Encode>(alloc: Global, value: &E) -> Result<bool, Fault> {
+    let heap = Refusing::new(alloc);
+    let mut sink = Vec::new(&heap);
+    heap.refuse_all();
+    value.encode(&mut sink)?;
+    Ok(sink.is_empty() && heap.requests() == 0)
+}
+
 /// A section behind its id.
 #[derive(Clone, Copy)]
 struct BehindItsId<'a, S>(&'a S);
@@ -94,7 +103,12 @@ impl<'a, S: ComponentSection> Appends for BehindItsId<'a, S> {
     }
 }
 
+/// Has the requests of a section behind its id refused in turn.
+pub fn sweep_behind_id<S: ComponentSection>(alloc: Global, section: &S) -> Result<bool, Fault> {
+    sweep(alloc, &BehindItsId(section))
+}
+
 /// Has the requests of a section refused in turn, alone and behind its id.
 pub fn sweep_section<S: ComponentSection>(alloc: Global, section: &S) -> Result<bool, Fault> {
-    Ok(sweep_encode(alloc, section)? && sweep(alloc, &BehindItsId(section))?)
+    Ok(sweep_encode(alloc, section)? && sweep_behind_id(alloc, section)?)
 }

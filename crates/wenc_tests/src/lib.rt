@@ -18,6 +18,8 @@ mod memory;
 #[cfg(test)]
 mod pieces;
 #[cfg(test)]
+mod reading;
+#[cfg(test)]
 mod runs;
 #[cfg(test)]
 mod streams;

@@ -6,7 +6,7 @@ mod changed;
 mod checks;
 mod depth;
 mod faults;
-mod items;
+pub mod items;
 mod memory;
 mod rows;
 mod unfilled;

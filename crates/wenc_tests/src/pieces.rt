@@ -1,12 +1,19 @@
 //! The pieces of a run, each on its happy path.
 
 use crate::accepted::ok;
+use std::alloc::Global;
 use std::process::Abort;
-use wasm_encoder::{AliasTree, Command, ComponentExportKind, Fault};
+use wasm_encoder::{AliasTree, Command, ComponentExportKind, ComponentTypeRef, Fault};
+use wenc::failure::Failure;
 use wenc::kind::kind;
-use wenc::number::number;
+use wenc::line::command;
+use wenc::list;
+use wenc::number::{bytes, number};
 use wenc::print::printed;
+use wenc::program::translate;
 use wenc::script::parse;
+use wenc::unlisted::Unlisted;
+use wenc_list::ListFault;
 
 /// Words that are no number.
 const NO_NUMBERS: &[&str] = &[
@@ -73,4 +80,97 @@ fn answers_and_bytes_are_printed(rt: HostRuntime) {
         text.as_slice(),
         b"0\n4294967295\n-\nrefused 3\n006dff\n".as_slice()
     );
+}
+
+/// The bytes that a word says, if it says any.
+const BYTES: &[(&str, Option<&[u8]>)] = &[
+    ("-", Some(&[])),
+    ("0aFf", Some(&[0x0a, 0xff])),
+    ("0g", None),
+];
+
+#[test]
+fn bytes_are_read(rt: HostRuntime) {
+    for (word, wanted) in BYTES {
+        let read = ok(&rt, bytes(rt.alloc(), word));
+        assert_eq!(rt; read.as_deref(), *wanted, "{word}");
+    }
+}
+
+/// The line imports a function of this type as "f".
+fn imports(rt: &impl Abort, alloc: Global, line: &[u8], ty: u32) {
+    match ok(rt, command(alloc, line)) {
+        Some(Command::Import { name, ty: found }) => {
+            assert_eq!(rt; name.name.as_str(), "f");
+            assert_eq!(rt; found, ComponentTypeRef::Func(ty));
+        }
+        _ => panic!(rt; "no import"),
+    }
+}
+
+/// The line starts the function 7, without arguments.
+fn starts(rt: &impl Abort, alloc: Global, line: &[u8], count: u32) {
+    match ok(rt, command(alloc, line)) {
+        Some(
+            Command::Start {
+                function,
+                args,
+                results,
+            },
+        ) => assert!(rt; function == 7 && args.is_empty() && results == count),
+        _ => panic!(rt; "no start"),
+    }
+}
+
+#[test]
+fn lines_are_read(rt: HostRuntime) {
+    imports(&rt, rt.alloc(), b"import f func 007", 7);
+    starts(&rt, rt.alloc(), b"start 7 4294967295", 4294967295);
+    assert!(rt; ok(&rt, command(rt.alloc(), b"import f func")).is_none());
+}
+
+const REFUSED: &[u8] = b"start 7 4294967295\nimport v value 0";
+
+#[test]
+fn scripts_are_translated(rt: HostRuntime) {
+    let printout = ok(&rt, translate(rt.alloc(), rt.alloc(), REFUSED));
+    assert_eq!(rt; printout.status, 2);
+    assert_eq!(rt;
+        printout.text.as_slice(),
+        b"0\nrefused 2\n0061736d0d00010009070700ffffffff0f\n".as_slice()
+    );
+}
+
+#[test]
+fn bad_scripts_are_not_translated(rt: HostRuntime) {
+    let failure = translate(rt.alloc(), rt.alloc(), b"import f func").err();
+    assert!(rt; matches!(failure, Some(Failure::BadLine(1))));
+}
+
+const TWO_SECTIONS: &[u8] = b"0061736d0d0001000a060100016601000b0701000167010000";
+
+#[test]
+fn texts_are_listed(rt: HostRuntime) {
+    let text = ok(&rt, list::list_text(rt.alloc(), TWO_SECTIONS));
+    assert_eq!(rt;
+        text.as_slice(),
+        b"10 1\n11 1\n0 0 0 0 0 0 0 0 2 0 0 0 0\n".as_slice()
+    );
+}
+
+#[test]
+fn modules_are_not_listed(rt: HostRuntime) {
+    let fault = list::list_text(rt.alloc(), b"0061736d01000000").err();
+    let no_component = ListFault::NotAComponent { place: 0 };
+    assert!(rt; matches!(fault, Some(Unlisted::Fault(found)) if found == no_component));
+}
+
+/// A header alone.
+const EMPTY: &[u8] = b"\x00asm\x0d\x00\x01\x00";
+
+#[test]
+fn listings_are_printed(rt: HostRuntime) {
+    let listing = ok(&rt, wenc_list::list(rt.alloc(), EMPTY));
+    let text = ok(&rt, list::printed(rt.alloc(), &listing));
+    assert_eq!(rt; text.as_slice(), b"0 0 0 0 0 0 0 0 0 0 0 0 0\n".as_slice());
 }

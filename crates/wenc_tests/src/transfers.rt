@@ -55,7 +55,8 @@ fn a_read_fails(rt: HostRuntime) {
 fn the_end_may_come_too_late(rt: HostRuntime) {
     let mut input = Source::new(b"abc");
     input.step = 1;
-    assert!(rt; read_all(rt.alloc(), &mut input, 4).is_ok());
+    let text = ok(&rt, read_all(rt.alloc(), &mut input, 4));
+    assert_eq!(rt; text.as_slice(), b"abc".as_slice());
     let mut input = Source::new(b"abcd");
     input.step = 1;
     assert!(rt; read_all(rt.alloc(), &mut input, 4).is_err());

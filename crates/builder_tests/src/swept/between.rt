@@ -2,7 +2,7 @@
 
 use crate::accepted::ok;
 use crate::calls::{Item, NAME};
-use crate::checks::{Call, counts, finishes};
+use crate::checks::{Answer, Call, answers, counts, finishes};
 use crate::imports::{FUNCTION, OUTER_TYPE};
 use refusing::Refusing;
 use std::alloc::Global;
@@ -19,11 +19,13 @@ const BEHIND: &[u8] = b"\x06\x05\x01\x03\x02\x00\x01";
 /// How often there is the alias `FUNCTION` in front of a call.
 #[derive(Clone, Copy)]
 pub struct Start {
-    aliases: u32,
+    pub aliases: u32,
+    /// Their name.
+    pub name: Option<&'static str>,
     /// The component that has these alone.
-    bytes: &'static [u8],
-    /// The component that has these and the alias behind.
-    without: &'static [u8],
+    pub bytes: &'static [u8],
+    /// The component that has these and the alias behind, with their names.
+    pub without: &'static [u8],
 }
 
 /// The component that has an alias in front and the alias behind.
@@ -31,6 +33,7 @@ pub const BOTH: &[u8] = b"\x00asm\x0d\x00\x01\x00\x06\x0a\x02\x01\x00\x00\x01\x6
 
 pub const ONE: Start = Start {
     aliases: 1,
+    name: None,
     bytes: b"\x00asm\x0d\x00\x01\x00\x06\x06\x01\x01\x00\x00\x01\x66",
     without: BOTH,
 };
@@ -38,6 +41,7 @@ pub const ONE: Start = Start {
 /// A section behind these has to grow before its first item.
 pub const TWO: Start = Start {
     aliases: 2,
+    name: None,
     bytes: b"\x00asm\x0d\x00\x01\x00\x06\x0b\x02\x01\x00\x00\x01\x66\x01\x00\x00\x01\x66",
     without: b"\x00asm\x0d\x00\x01\x00\x06\x0f\x03\x01\x00\x00\x01\x66\x01\x00\x00\x01\x66\x03\x02\x00\x01",
 };
@@ -77,6 +81,22 @@ pub const CORE_MODULE: Named = Named {
     name: NAME,
 };
 
+/// A builder that has so many aliases under this name.
+fn started_named<'a>(
+    rt: &impl Abort,
+    alloc: Global,
+    heap: &'a Refusing,
+    aliases: u32,
+    name: Option<&str>,
+) -> ComponentBuilder<&'a Refusing> {
+    heap.refuse_none();
+    let mut builder = ok(rt, ComponentBuilder::new(heap));
+    for _ in 0..aliases {
+        ok(rt, FUNCTION.make(alloc, name, &mut builder));
+    }
+    builder
+}
+
 /// A builder that has so many aliases.
 pub fn started<'a>(
     rt: &impl Abort,
@@ -84,12 +104,7 @@ pub fn started<'a>(
     heap: &'a Refusing,
     aliases: u32,
 ) -> ComponentBuilder<&'a Refusing> {
-    heap.refuse_none();
-    let mut builder = ok(rt, ComponentBuilder::new(heap));
-    for _ in 0..aliases {
-        ok(rt, FUNCTION.make(alloc, None, &mut builder));
-    }
-    builder
+    started_named(rt, alloc, heap, aliases, None)
 }
 
 /// With its names the component has these bytes.
@@ -124,7 +139,7 @@ fn refuse<C: Call>(
     start: Start,
     n: u64,
 ) -> bool {
-    let mut builder = started(rt, alloc, heap, start.aliases);
+    let mut builder = started_named(rt, alloc, heap, start.aliases, start.name);
     heap.refuse_nth(n);
     let outcome = call.make(alloc, Some(NAME), &mut builder);
     let was_refused = heap.was_refused();
@@ -145,7 +160,7 @@ fn accept<C: Call>(
     case: Case<'_>,
     n: u64,
 ) {
-    let mut builder = started(rt, alloc, heap, case.start.aliases);
+    let mut builder = started_named(rt, alloc, heap, case.start.aliases, case.start.name);
     heap.refuse_nth(n);
     let mut outcome = call.make(alloc, Some(NAME), &mut builder);
     let was_refused = heap.was_refused();
@@ -204,7 +219,7 @@ fn apart(rt: &impl Abort, alloc: Global, start: Start, section: &[u8]) -> Vec<u8
 }
 
 /// Sweeps a call with which the component has these bytes, but for its name.
-fn sweep_with<C: Call>(
+pub fn sweep_with<C: Call>(
     rt: &impl Abort,
     alloc: Global,
     start: Start,
@@ -321,22 +336,33 @@ fn refuse_new(rt: &impl Abort, heap: &Refusing, n: u64) -> bool {
 #[test]
 fn new_builder(rt: HostRuntime) {
     let heap = Refusing::new(rt.alloc());
-    let mut done = false;
+    let mut had_growths = false;
     for n in 1..20u64 {
         if !refuse_new(&rt, &heap, n) {
-            done = true;
+            had_growths = n > 1;
             break;
         }
     }
-    assert!(rt; done);
+    assert!(rt; had_growths);
 }
+
+/// A function that is imported, and exported.
+const PASSED_ON: &[Answer<Item<'static>>] = &[
+    (Item::Import("f", ComponentTypeRef::Func(0)), Ok(0)),
+    (Item::Export("g", None), Ok(1)),
+];
 
 // `finish` takes no memory.
 #[test]
 fn finish(rt: HostRuntime) {
     let heap = Refusing::new(rt.alloc());
-    let builder = started(&rt, rt.alloc(), &heap, 1);
+    let mut builder = started(&rt, rt.alloc(), &heap, 0);
+    answers(&rt, rt.alloc(), None, &mut builder, PASSED_ON);
     heap.refuse_all();
-    finishes(&rt, builder, ONE.bytes);
+    finishes(
+        &rt,
+        builder,
+        b"\x00asm\x0d\x00\x01\x00\x0a\x06\x01\x00\x01\x66\x01\x00\x0b\x07\x01\x00\x01\x67\x01\x00\x00",
+    );
     assert!(rt; heap.requests() == 0);
 }

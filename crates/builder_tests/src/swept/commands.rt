@@ -133,13 +133,23 @@ fn between(alloc: Global, command: Command) -> [Command; 3] {
     [function, command, outer_type()]
 }
 
+/// The module under a name, of which the bytes tell nothing.
+fn named(alloc: Global, bytes: &[u8]) -> Command {
+    Command::CoreModule {
+        n: Some(text(alloc, "m")),
+        bytes: list(alloc, bytes.to_vec(alloc)),
+    }
+}
+
 // A command that is refused adds nothing, and those after it run all the same. The short module has room without a
-// growth.
+// growth, and its name hasn't.
 #[test]
 fn between_aliases(rt: HostRuntime) {
     let alloc = rt.alloc();
     let commands = between(alloc, module(alloc, &[0xaa]));
-    sweep(&rt, alloc, &commands, MODULE);
+    assert!(rt; !sweep(&rt, alloc, &commands, MODULE));
+    let commands = between(alloc, named(alloc, &[0xaa]));
+    assert!(rt; sweep(&rt, alloc, &commands, MODULE));
     let commands = between(alloc, module(alloc, NAME.as_bytes()));
     assert!(rt; sweep(&rt, alloc, &commands, LONG_MODULE));
     let commands = between(alloc, import(alloc));

@@ -1,49 +1,27 @@
 //! The section of debug names.
 
-use super::between::started;
+use super::between::{NAMELESS, Start, started, sweep_with};
 use crate::accepted::ok;
 use crate::calls::Item;
 use crate::checks::{Call, finishes};
 use refusing::Refusing;
-use std::alloc::Global;
-use std::process::Abort;
-use sweeping::REFUSED;
 
-/// A component with one function, `resource.drop`.
-const WITHOUT: &[u8] = b"\x00asm\x0d\x00\x01\x00\x08\x03\x01\x03\x00";
+/// An alias with a name.
+const NAMED: Start = Start {
+    aliases: 1,
+    name: Some("f"),
+    bytes: b"\x00asm\x0d\x00\x01\x00\x06\x06\x01\x01\x00\x00\x01\x66",
+    without: b"\x00asm\x0d\x00\x01\x00\x06\x0a\x02\x01\x00\x00\x01\x66\x03\x02\x00\x01\x00\x16\x0ecomponent-name\x01\x05\x01\x01\x00\x01\x66",
+};
 
-/// The same with its name.
+/// The section of that name stands between both aliases, and once more behind them.
 const WITH: &[u8] =
-    b"\x00asm\x0d\x00\x01\x00\x08\x03\x01\x03\x00\x00\x23\x0ecomponent-name\x01\x12\x00\x00\x01\x00\x0dresource.drop";
-
-/// Where growth number `n` is refused, no section is added. Whether there is such a growth.
-fn refuse(rt: &impl Abort, alloc: Global, heap: &Refusing, n: u64) -> bool {
-    let mut builder = started(rt, alloc, heap, 0);
-    ok(rt, Item::ResourceDrop(0).make(alloc, None, &mut builder));
-    heap.refuse_nth(n);
-    let outcome = Item::AppendNames.make(alloc, None, &mut builder);
-    let was_refused = heap.was_refused();
-    let (answer, wanted) = if was_refused {
-        (Err(REFUSED), WITHOUT)
-    } else {
-        (Ok(0), WITH)
-    };
-    assert!(rt; outcome == answer);
-    finishes(rt, builder, wanted);
-    was_refused
-}
+    b"\x00asm\x0d\x00\x01\x00\x06\x06\x01\x01\x00\x00\x01\x66\x00\x16\x0ecomponent-name\x01\x05\x01\x01\x00\x01\x66\x06\x05\x01\x03\x02\x00\x01\x00\x16\x0ecomponent-name\x01\x05\x01\x01\x00\x01\x66";
 
 #[test]
-fn of_a_function(rt: HostRuntime) {
-    let heap = Refusing::new(rt.alloc());
-    let mut had_growths = false;
-    for n in 1..20u64 {
-        if !refuse(&rt, rt.alloc(), &heap, n) {
-            had_growths = n > 1;
-            break;
-        }
-    }
-    assert!(rt; had_growths);
+fn between_aliases(rt: HostRuntime) {
+    let with = ok(&rt, WITH.to_vec(rt.alloc()));
+    sweep_with(&rt, rt.alloc(), NAMED, Item::AppendNames, NAMELESS, with);
 }
 
 // Without names it takes no memory.

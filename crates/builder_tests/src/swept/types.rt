@@ -4,6 +4,7 @@ use super::between::{CORE_FUNC, FUNC, Named, push, started, sweep_both};
 use crate::accepted::ok;
 use crate::calls::{Item, Listed, NAME};
 use crate::checks::{Call, finishes};
+use crate::types::function;
 use crate::written::{AnyType, CoreType, STRING, Typed};
 use refusing::Refusing;
 use std::alloc::{Allocator, Global};
@@ -11,7 +12,7 @@ use std::process::Abort;
 use sweeping::{LARGE, REFUSED};
 use wasm_encoder::{
     CanonicalOption, ComponentBuilder, ComponentExportKind, ComponentType, Fault, FuncStage,
-    InstanceType,
+    InstanceType, ModuleType,
 };
 
 /// A type that an encoder writes: where its last call is refused the builder is unfinished, and the type is given up.
@@ -114,7 +115,7 @@ const LISTED: &[(Listed<'static>, Named, &[u8])] = &[
 ];
 
 /// Each with its section.
-fn written() -> [(Typed<'static>, Named, &'static [u8]); 4] {
+fn written() -> [(Typed<'static>, Named, &'static [u8]); 6] {
     [
         (
             Typed::Core(CoreType::Function),
@@ -131,6 +132,12 @@ fn written() -> [(Typed<'static>, Named, &'static [u8]); 4] {
             TYPE,
             b"\x07\x22\x01r\x01\x1dan-interface-with-a-long-names",
         ),
+        (
+            Typed::Variant,
+            TYPE,
+            b"\x07\x0c\x01\x71\x02\x01\x61\x00\x00\x01\x62\x01\x73\x00",
+        ),
+        (Typed::AsyncFunction, TYPE, b"\x07\x05\x01\x43\x00\x01\x00"),
         (
             Typed::Function(&[(NAME, STRING)], Some(STRING)),
             TYPE,
@@ -151,6 +158,39 @@ fn types_that_are_written(rt: HostRuntime) {
     for (ty, named, section) in written().as_slice() {
         sweep_both(&rt, rt.alloc(), Swept(*ty), *named, section);
     }
+}
+
+/// Sweeps an encoder's call for a core type, with this section.
+fn sweep_core(rt: &impl Abort, alloc: Global, ty: CoreType<'_>, section: &[u8]) {
+    sweep_both(rt, alloc, Swept(Typed::Core(ty)), CORE_TYPE, section);
+}
+
+#[test]
+fn core_types(rt: HostRuntime) {
+    let types = [function(&rt, rt.alloc(), false, &[])];
+    sweep_core(
+        &rt,
+        rt.alloc(),
+        CoreType::Subtype(&types[0]),
+        b"\x03\x07\x01\x00\x50\x00\x60\x00\x00",
+    );
+    sweep_core(
+        &rt,
+        rt.alloc(),
+        CoreType::Rec(&types),
+        b"\x03\x08\x01\x4e\x01\x50\x00\x60\x00\x00",
+    );
+}
+
+#[test]
+fn module_types(rt: HostRuntime) {
+    let ty = ModuleType::new(rt.alloc());
+    sweep_core(
+        &rt,
+        rt.alloc(),
+        CoreType::Module(&ty),
+        b"\x03\x03\x01\x50\x00",
+    );
 }
 
 /// Sweeps a call that adds a type, with this section.
@@ -178,6 +218,8 @@ fn component_types(rt: HostRuntime) {
         Typed::Component(&ty),
         b"\x07\x03\x01\x41\x00",
     );
+    let call = Swept(Typed::Any(AnyType::Component(&ty)));
+    sweep_both(&rt, rt.alloc(), call, TYPE, b"\x07\x03\x01\x41\x00");
 }
 
 #[test]
@@ -284,6 +326,6 @@ fn functions(rt: &impl Abort, alloc: Global, count: u8) -> bool {
 
 #[test]
 fn refused_params(rt: HostRuntime) {
-    functions(&rt, rt.alloc(), 1);
+    assert!(rt; functions(&rt, rt.alloc(), 1));
     assert!(rt; functions(&rt, rt.alloc(), 30));
 }

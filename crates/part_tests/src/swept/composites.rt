@@ -160,6 +160,7 @@ fn new_functions(rt: HostRuntime) {
         let (was_refused, is_well) = refuse_nth(rt.alloc(), n);
         assert!(rt; is_well, "{n}");
         if !was_refused {
+            assert!(rt; n > 1);
             return;
         }
     }

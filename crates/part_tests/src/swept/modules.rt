@@ -6,7 +6,7 @@ use crate::swept::{bytes, check_call};
 use refusing::Refusing;
 use std::alloc::{Allocator, Global};
 use sweeping::members::{Adds, Members, sweep_calls, sweep_clones, sweep_new};
-use sweeping::{Appends, NAME, TEXT, sweep_section};
+use sweeping::{Appends, NAME, TEXT, sweep_behind_id, sweep_section, takes_no_memory};
 use wenc_base::{CustomSection, Encode, Fault, Module, RawCustomSection, RawSection, Section};
 
 /// A section of a core module, behind its id.
@@ -33,13 +33,23 @@ fn custom_sections(rt: HostRuntime) {
 
 const DATA: &[&[u8]] = &[&[], TEXT];
 
+// One without bytes has no text but its id.
+#[test]
+fn raw_custom_sections(rt: HostRuntime) {
+    let alloc = rt.alloc();
+    let none = RawCustomSection(&[]);
+    is_well(&rt, takes_no_memory(alloc, &none));
+    is_well(&rt, sweep_behind_id(alloc, &none));
+    check_call(&rt, alloc, &InModule(&none));
+    let some = RawCustomSection(TEXT);
+    is_well(&rt, sweep_section(alloc, &some));
+    check_call(&rt, alloc, &InModule(&some));
+}
+
 #[test]
 fn raw_sections(rt: HostRuntime) {
     let alloc = rt.alloc();
     for data in DATA {
-        let custom = RawCustomSection(data);
-        is_well(&rt, sweep_section(alloc, &custom));
-        check_call(&rt, alloc, &InModule(&custom));
         let raw = RawSection { id: 12, data };
         is_well(&rt, sweep_section(alloc, &raw));
         check_call(&rt, alloc, &InModule(&raw));

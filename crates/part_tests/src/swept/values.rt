@@ -1,5 +1,6 @@
+use crate::accepted::is_well;
 use crate::swept::check;
-use sweeping::{LARGE, NAME, TEXT};
+use sweeping::{LARGE, NAME, TEXT, takes_no_memory};
 use wenc_base::{Lent, Tagged, Verbatim, WithSize};
 
 #[test]
@@ -15,7 +16,8 @@ fn numbers(rt: HostRuntime) {
 #[test]
 fn texts(rt: HostRuntime) {
     let alloc = rt.alloc();
-    check(&rt, alloc, &());
+    is_well(&rt, takes_no_memory(alloc, &()));
+    is_well(&rt, takes_no_memory(alloc, &Verbatim(&[])));
     check(&rt, alloc, &NAME);
     check(&rt, alloc, &NAME.as_bytes());
     check(&rt, alloc, &Verbatim(TEXT));

@@ -184,15 +184,36 @@ impl<'a, K: Kind> OnHeap<'a> for Declarations<K, &'a Refusing> {
 #[derive(Clone, Copy)]
 pub enum Opening {
     Type,
+    /// A type of values.
+    Values,
+    Function,
     /// A function that is said to be asynchronous.
     Tagged,
+    /// A function with its parameters.
+    Listed,
     CoreType,
     /// A core type that is no module type.
     Core,
 }
 
+fn open_values<K: Kind, A: Allocator>(ty: &mut Declarations<K, A>) -> Result<(), Fault> {
+    ty.values()?;
+    Ok(())
+}
+
+fn open_function<K: Kind, A: Allocator>(ty: &mut Declarations<K, A>) -> Result<(), Fault> {
+    ty.encoder()?.function();
+    Ok(())
+}
+
 fn open_tagged<K: Kind, A: Allocator>(ty: &mut Declarations<K, A>) -> Result<(), Fault> {
     ty.encoder()?.function().async_(true)
+}
+
+fn open_listed<K: Kind, A: Allocator>(ty: &mut Declarations<K, A>) -> Result<(), Fault> {
+    ty.encoder()?
+        .function()
+        .params([("a", STRING)].iter().copied())
 }
 
 fn open_core_type<K: Kind, A: Allocator>(ty: &mut Declarations<K, A>) -> Result<(), Fault> {
@@ -213,7 +234,10 @@ impl<K: Kind, A: Allocator + Clone> Makes<Declarations<K, A>> for Opening {
     fn make(&self, to: &mut Declarations<K, A>) -> Result<(), Fault> {
         match self {
             Opening::Type => to.begin(),
+            Opening::Values => open_values(to),
+            Opening::Function => open_function(to),
             Opening::Tagged => open_tagged(to),
+            Opening::Listed => open_listed(to),
             Opening::CoreType => open_core_type(to),
             Opening::Core => open_core(to),
         }

@@ -39,6 +39,36 @@ fn types_of_values(rt: HostRuntime) {
     );
 }
 
+/// A section of what one call adds has these bytes.
+fn is_section<C: Makes<ComponentTypeSection>>(
+    rt: &impl Abort,
+    alloc: Global,
+    call: &C,
+    wanted: &str,
+) {
+    let mut section = ComponentTypeSection::new(alloc);
+    ok(rt, call.make(&mut section));
+    alone(rt, alloc, &section, wanted);
+}
+
+/// Types, each with its section.
+const ALONE: &[(Call<'static>, &str)] = &[
+    (Call::Record(&[]), "0703017200"),
+    (Call::Resource(ValType::I32, None), "0704013f7f00"),
+];
+
+#[test]
+fn one_type(rt: HostRuntime) {
+    for (call, wanted) in ALONE {
+        is_section(&rt, rt.alloc(), call, wanted);
+    }
+}
+
+#[test]
+fn one_resource(rt: HostRuntime) {
+    is_section(&rt, rt.alloc(), &Item::Resource(None), "0704013f7f00");
+}
+
 /// An encoder's call adds this item, and is swept.
 fn is_written(rt: &impl Abort, alloc: Global, heap: &Refusing, call: Whole<'_>, text: &[u8]) {
     sweep_item::<ComponentTypeSection<&Refusing>, Whole<'_>>(rt, alloc, heap, call, text);
@@ -100,6 +130,7 @@ fn around(rt: &impl Abort, alloc: Global, inner: &InstanceType) -> InstanceType 
 fn nested_instance_types(rt: HostRuntime) {
     let inner = InstanceType::new(rt.alloc());
     let outer = around(&rt, rt.alloc(), &inner);
+    is_section(&rt, rt.alloc(), &Item::Instance(&outer), "0706014201014200");
     check_whole(&rt, rt.alloc(), &outer, b"\x42\x01\x01\x42\x00");
 }
 

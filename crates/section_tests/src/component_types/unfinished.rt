@@ -19,7 +19,10 @@ use wenc_types::{ComponentType, Declarations, InstanceType};
 /// What is counted when a type is begun in each way.
 const OPENINGS: &[(Opening, [u32; 4])] = &[
     (Opening::Type, [1, 0, 1, 0]),
+    (Opening::Values, [1, 0, 1, 0]),
+    (Opening::Function, [1, 0, 1, 0]),
     (Opening::Tagged, [1, 0, 1, 0]),
+    (Opening::Listed, [1, 0, 1, 0]),
     (Opening::CoreType, [1, 1, 0, 0]),
     (Opening::Core, [1, 1, 0, 0]),
 ];

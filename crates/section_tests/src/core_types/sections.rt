@@ -2,10 +2,10 @@
 
 use crate::accepted::ok;
 use crate::checks::alone;
-use crate::core_types::calls::Composite;
+use crate::core_types::calls::{Call, Composite};
 use crate::core_types::declaring::{Declaration, declare};
 use crate::core_types::lending::{Beginning, Module};
-use crate::core_types::making::{I8, I32};
+use crate::core_types::making::{I8, I16, I32, array};
 use crate::core_types::module_types::{ENTITIES, add_group, add_open};
 use crate::lending::{Makes, has};
 use crate::swept_lending::{begun, sweep_item};
@@ -16,6 +16,21 @@ use sweeping::{LARGE, NAME};
 use wenc_base::{EntityType, StorageType, ValType};
 use wenc_sections::CoreTypeSection;
 use wenc_types::ModuleType;
+
+/// A section of what one call adds has these bytes.
+fn is_section<C: Makes<CoreTypeSection>>(rt: &impl Abort, alloc: Global, call: &C, wanted: &str) {
+    let mut section = CoreTypeSection::new(alloc);
+    ok(rt, call.make(&mut section));
+    alone(rt, alloc, &section, wanted);
+}
+
+#[test]
+fn one_type(rt: HostRuntime) {
+    let ty = array(true, Some(4), I16);
+    is_section(&rt, rt.alloc(), &Call::Subtype(&ty), "0307014f01045e7700");
+    let none = ModuleType::new(rt.alloc());
+    is_section(&rt, rt.alloc(), &Module(&none), "0303015000");
+}
 
 /// A section of this module type alone has this text behind what is asked of it.
 fn sweep_module(rt: &impl Abort, alloc: Global, ty: &ModuleType, text: &[u8]) {

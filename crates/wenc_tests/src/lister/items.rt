@@ -16,7 +16,7 @@ fn is_module(item: &ItemTree, wanted: &[u8]) -> bool {
 }
 
 /// The aliases are of the same item.
-fn are_of_one(one: Alias<'_>, other: Alias<'_>) -> bool {
+pub fn are_of_one(one: Alias<'_>, other: Alias<'_>) -> bool {
     match (one, other) {
         (
             Alias::InstanceExport {

@@ -26,21 +26,24 @@ fn refuse(rt: &impl Abort, alloc: Global, heap: &Refusing, bytes: &[u8], n: u64)
     }
 }
 
-/// Each request is refused in turn, until none is left.
-fn sweep(rt: &impl Abort, alloc: Global, bytes: &[u8]) {
+/// Each request is refused in turn, until none is left. `asks` says whether there is any.
+fn sweep(rt: &impl Abort, alloc: Global, bytes: &[u8], asks: bool) {
     let heap = Refusing::new(alloc);
     for n in 1..1000u64 {
         if !refuse(rt, alloc, &heap, bytes, n) {
+            assert!(rt; (n > 1) == asks);
             return;
         }
     }
     panic!(rt; "there is no end")
 }
 
+// A component without sections takes no memory.
 #[test]
 fn each_request(rt: HostRuntime) {
     for row in ROWS {
         let bytes = component(&rt, rt.alloc(), row.sections);
-        sweep(&rt, rt.alloc(), bytes.as_slice());
+        let asks = !row.listed.is_empty();
+        sweep(&rt, rt.alloc(), bytes.as_slice(), asks);
     }
 }
