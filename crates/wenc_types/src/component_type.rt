@@ -24,10 +24,16 @@ impl DeclaringKind for ComponentTypes {
     ghost is_declaration = { IsDeclaration component_text component_sort };
 
     ghost has_core_types = { λ t. record {
-        declaration = Declared (CoreTyped t); text_is = refl; sort_is = refl } };
+      declaration = Declared (CoreTyped t);
+      text_is = refl;
+      sort_is = refl;
+    } };
 
     ghost has_types = { λ t. record {
-        declaration = Declared (Typed t); text_is = refl; sort_is = refl } };
+      declaration = Declared (Typed t);
+      text_is = refl;
+      sort_is = refl;
+    } };
 }
 
 /// The type of a component: what it imports and exports, and the types that these have (component model, binary format,

@@ -24,10 +24,16 @@ impl DeclaringKind for InstanceTypes {
     ghost is_declaration = { IsDeclaration instance_text instance_sort };
 
     ghost has_core_types = { λ t. record {
-        declaration = CoreTyped t; text_is = refl; sort_is = refl } };
+      declaration = CoreTyped t;
+      text_is = refl;
+      sort_is = refl;
+    } };
 
     ghost has_types = { λ t. record {
-        declaration = Typed t; text_is = refl; sort_is = refl } };
+      declaration = Typed t;
+      text_is = refl;
+      sort_is = refl;
+    } };
 }
 
 /// The type of an instance: what it exports, and the types that these have (component model, binary format, "Type

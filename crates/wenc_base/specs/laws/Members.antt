@@ -1,6 +1,6 @@
 -- What a holder whose members are texts of one kind stays through all calls.
-use Rattle.std.proofs.Common.{◌≡◌, ℕ, ◌+◌, ◌-◌, ◌≤◌, Bool, true, false, is_none, Option, Some, None, Result, Ok, Err, ◌⊎◌, inl, inr, ◌↔◌, append_assoc, List, [], ◌∷◌, ◌++◌, length, map, take, drop, refl, sym, ap, ◌∙◌, arith, length-append, subst}
-use Rattle.std.proofs.Math.Logic.{∥∥₁_map, ∥∥₁_map₂, ∥∥₁_elim, ∥∥₁_prop}
+use Rattle.std.proofs.Common.{◌≡◌, ℕ, ◌+◌, ◌-◌, Bool, true, false, is_none, Option, Some, None, Result, Ok, Err, ◌⊎◌, inl, inr, ◌↔◌, append_assoc, List, [], ◌∷◌, ◌++◌, length, map, refl, sym, ap, ◌∙◌, arith, length-append, subst}
+use Rattle.std.proofs.Math.Logic.{∥∥₁_map₂, ∥∥₁_elim, ∥∥₁_prop}
 use Rattle.std.proofs.Math.Seq.{drop-append_seam}
 use Rattle.std.proofs.lemmas.List.{append-nil, take_at, take-append-drop, take-append-le}
 use Rattle.std.specs.List.{flat_map, AllByRecursion}

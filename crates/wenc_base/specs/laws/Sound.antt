@@ -1,5 +1,5 @@
 -- What a reader finds is read: the other way round of `finds`.
-use Rattle.std.proofs.Common.{◌≡◌, ℕ, zero, suc, Bool, true, false, cond, eqb, List, [], ◌∷◌, ◌++◌, length, map, Option, Some, None, refl, sym, ap, subst, inl, inr, ◌⊎◌}
+use Rattle.std.proofs.Common.{◌≡◌, ℕ, zero, suc, true, false, eqb, List, [], ◌∷◌, ◌++◌, length, map, Option, Some, None, refl, sym, ap, subst, inl, inr, ◌⊎◌}
 use Rattle.std.proofs.lemmas.Bool.{eqb-true}
 use Rattle.wenc_base.specs.Piece.{Form, Whole, Wide, each, all_of}
 use Rattle.wenc_base.specs.laws.Lawful.{Reader, go_on, ◌>>=◌, give, nowhere, times, pick, choose, done, all_read}

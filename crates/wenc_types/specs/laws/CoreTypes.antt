@@ -22,13 +22,13 @@ use Rattle.wenc_base.specs.Holder.{held_text}
 use Rattle.wenc_base.specs.declared.fault.Fault.{Fault}
 use Rattle.wenc_base.specs.declared.imports.EntityType.{EntityType}
 use Rattle.wenc_base.specs.laws.Causes.{seen_cause}
-use Rattle.wenc_base.specs.laws.Composites.{read_extension, extension_lawful, extension_sound, sub_of, final_rows, final_row, final_rows_sound, read_types, types_lawful, types_sound, read_closed, read_group, group_lawful, group_sound, group_free, same_params, same_results, same_element, same_fields}
+use Rattle.wenc_base.specs.laws.Composites.{read_extension, extension_lawful, extension_sound, sub_of, final_rows, final_row, final_rows_sound, read_types, types_lawful, types_sound, read_group, group_lawful, group_sound, group_free, same_params, same_results, same_element, same_fields}
 use Rattle.wenc_base.specs.laws.Delimited.{name_free, pair_cause_free, first_free, second_free, list_text_of, list_free}
 use Rattle.wenc_base.specs.laws.Entities.{read_entity_type, entity_type_lawful, entity_type_sound}
 use Rattle.wenc_base.specs.laws.Forms.{read_list, list_lawful, list_sound, read_name, name_lawful, name_sound}
 use Rattle.wenc_base.specs.laws.Lawful.{Lawful, Reader, ◌>>=◌, give, nowhere, choose, row, then, last}
 use Rattle.wenc_base.specs.laws.Sound.{Sound, behind, RowsAreSound, both_tables, last_sound, then_sound, nowhere_sound, choose_sound}
-use Rattle.wenc_base.specs.Piece.{Form, Wide, ◌▸◌}
+use Rattle.wenc_base.specs.Piece.{Form, Wide}
 use Rattle.wenc_base.specs.laws.Numbers.{read_u32, u32_lawful, u32_sound}
 use Rattle.wenc_types.specs.CoreTypes.{ModuleDeclaration, Import, Defined, Outer, Export, module_declaration, module_type, CoreType, Grouped, Module, core_type}
 use Rattle.wenc_types.specs.CoreTypeTrees.{core_type_cause, module_declaration_view, core_type_view}

@@ -2,14 +2,14 @@
 use Rattle.std.proofs.Common.{◌≡◌, ℕ, ◌+◌, ◌-◌, ◌≤◌, Bool, true, false, is_none, List, [], ◌∷◌, ◌++◌, Option, Some, None, refl, ap, sym, ◌∙◌, subst, arith, length}
 use Rattle.std.proofs.Math.Logic.{∥∥₁_map, ∥∥₁_map₂}
 use Rattle.std.specs.List.{flat_map, AllByRecursion}
-use Rattle.wenc_base.specs.Holder.{Held, is_finished, with_member, held_text, Contains}
+use Rattle.wenc_base.specs.Holder.{Held, is_finished, with_member, held_text}
 use Rattle.wenc_base.specs.Piece.{HasForm}
-use Rattle.wenc_base.specs.Openings.{opened_with, lengthened, closed, given_up, member_text, OpeningIsIn}
+use Rattle.wenc_base.specs.Openings.{given_up, member_text}
 use Rattle.wenc_base.specs.laws.Holders.{contains_next}
 use Rattle.wenc_base.specs.laws.Members.{all_more, finished_back, back_twice, opened_back, lengthened_back, closed_as_it_is, closed_as_more, within_finished, within_opened, within_lengthened, within_back}
 use Rattle.wenc_base.specs.declared.holder.openings.Opening.{Opening}
 use Rattle.wenc_types.specs.ComponentTypes.{ComponentType, InstanceType, components_of, instances_of, type_of}
-use Rattle.wenc_types.specs.Declarations.{component_text, component_sort, instance_text, instance_sort, Declaring, no_declarations, no_counts, Settled, Declares, IsDeclaration, DeclaresSome, IsDeclaring, HasOne, OpenedIsIn, total, counted, uncounted, counts_of, lead_of, begun, written, ended, taken_back}
+use Rattle.wenc_types.specs.Declarations.{component_text, component_sort, instance_text, instance_sort, Declaring, no_declarations, Settled, Declares, IsDeclaration, DeclaresSome, IsDeclaring, HasOne, OpenedIsIn, total, counted, uncounted, counts_of, lead_of, begun, written, ended, taken_back}
 use Rattle.wenc_types.specs.laws.Declarations.{counts_next, back_again, component_type_text, instance_type_text}
 use Rattle.wenc_types.specs.declared.counts.Counts.{Counts}
 use Rattle.wenc_types.specs.declared.counts.Sort.{Sort}
@@ -151,7 +151,7 @@ module _ (P : List ℕ → Option Sort → Type 0) where
       at false unfinished =
           let back : Declaring = taken_back t in
           let more : ∥ DeclaresSome P (record { held = with_member back.held (member_text t.held); counts = counted t.begun back.counts; begun = None }) ∥₁ =
-              ∥∥₁_map₂ d.settled whole (λ s p. some_more back (member_text t.held) t.begun s p) in
+          ∥∥₁_map₂ d.settled whole (λ s p. some_more back (member_text t.held) t.begun s p) in
           let one : HasOne t.begun t.counts = one_at t.held.opening t.begun t.counts unfinished d.counted in
           record {
             enough = d.enough;
@@ -183,8 +183,7 @@ values_of text sort (m ∷ ms) each =
 
 pub declares_values : {D : Type 0} (text : D → List ℕ) (sort : D → Option Sort) (t : Declaring) → DeclaresSome (IsDeclaration text sort) t → (ds : List D) × Declares text sort t ds
 declares_values text sort t s =
-    let all = values_of text sort s.declarations s.each in
-    (
+    let all = values_of text sort s.declarations s.each in (
       all.0,
       record {
         contained = record {

@@ -8,7 +8,7 @@ use Rattle.wenc_base.specs.Piece.{Form, Wide, ◌⨾◌}
 use Rattle.wenc_parts.specs.Types.{result_list}
 use Rattle.wenc_base.specs.laws.Numbers.{read_u32, u32_lawful, u32_sound}
 use Rattle.wenc_parts.specs.declared.types.ComponentValType.{ComponentValType}
-use Rattle.wenc_parts.specs.laws.Types.{primitive_rows, primitive_row, primitive_rows_sound, read_value_type, value_type_lawful, value_type_sound, read_result_list, result_list_lawful, result_list_sound}
+use Rattle.wenc_parts.specs.laws.Types.{primitive_rows, primitive_row, read_value_type, value_type_lawful, value_type_sound, read_result_list, result_list_lawful, result_list_sound}
 use Rattle.wenc_types.specs.DefinedTypes.{Named, named, Case, case, Defined, Primitive, Record, Variant, ListOf, MapOf, FixedLengthList, Tuple, Flags, Enumeration, OptionOf, ResultOf, Own, Borrow, Future, Stream, defined_type, Function, function_type_of, function_type}
 
 -- ---- parts

@@ -1,10 +1,8 @@
 -- What remains to be written of the type of a function, from stage to stage.
-use Rattle.std.proofs.Common.{◌≡◌, ℕ, Bool, true, false, List, [], ◌∷◌, ◌++◌, Option, append_assoc, ap, sym, ◌∙◌, subst}
+use Rattle.std.proofs.Common.{◌≡◌, ℕ, Bool, true, false, List, [], ◌∷◌, ◌++◌, ap}
 use Rattle.wenc_base.specs.Forms.{list}
 use Rattle.wenc_base.specs.Lender.{MakesWhole}
-use Rattle.wenc_base.specs.Piece.{HasForm}
-use Rattle.wenc_parts.specs.Types.{result_list}
-use Rattle.wenc_types.specs.DefinedTypes.{Named, named, Function}
+use Rattle.wenc_types.specs.DefinedTypes.{Named, named}
 use Rattle.wenc_types.specs.FuncStages.{async_byte, BeforeParams, lead_from, Remains}
 use Rattle.wenc_types.specs.declared.func_type.FuncStage.{FuncStage}
 use Rattle.wenc_types.specs.declared.func_type.FuncStage.TheVariants.{Start, Tagged, Params, Done}

@@ -1,17 +1,16 @@
 -- What module types stay through all calls.
-use Rattle.std.proofs.Common.{◌≡◌, ◌↔◌, ℕ, ◌+◌, ◌-◌, ◌≤◌, Bool, true, false, is_none, List, [], ◌∷◌, ◌++◌, Option, Some, None, Result, Ok, Err, inl, inr, refl, ap, sym, ◌∙◌, subst, arith, length}
+use Rattle.std.proofs.Common.{◌≡◌, ◌↔◌, ℕ, ◌+◌, ◌-◌, ◌≤◌, Bool, true, false, is_none, List, [], ◌∷◌, ◌++◌, Option, Some, None, Result, Ok, Err, inl, inr, refl, ap, sym, ◌∙◌, subst, arith}
 use Rattle.std.proofs.Math.Logic.{∥∥₁_map, ∥∥₁_map₂}
 use Rattle.std.specs.Prelude.{IsTrue}
-use Rattle.wenc_base.specs.Composites.{Group, group}
 use Rattle.wenc_base.specs.declared.fault.Fault.{Fault}
-use Rattle.wenc_base.specs.Holder.{Held, is_finished, with_member, held_text, as_they_are, Contains, AddsMember}
+use Rattle.wenc_base.specs.Holder.{Held, is_finished, with_member, held_text, as_they_are, AddsMember}
 use Rattle.wenc_base.specs.Piece.{HasForm}
-use Rattle.wenc_base.specs.Openings.{opened_with, lengthened, closed, given_up, member_text, OpeningIsIn}
+use Rattle.wenc_base.specs.Openings.{given_up}
 use Rattle.wenc_base.specs.laws.Holders.{contains_next}
 use Rattle.wenc_base.specs.laws.Members.{was_finished, told_finished, IsLonger, finished_back, back_twice, opened_back, lengthened_back, closed_as_it_is, closed_as_more, within_finished, within_opened, within_lengthened, within_back}
 use Rattle.wenc_base.specs.declared.holder.openings.Opening.{Opening}
 use Rattle.wenc_types.specs.CoreTypes.{ModuleDeclaration, Defined, Module, core_type}
-use Rattle.wenc_types.specs.ModuleTypes.{Declared, no_declarations, declaration_text, types_of, type_count, Declares, IsWhole, OpenedIsIn, IsDeclaring, types_before, begun, written, ended, taken_back}
+use Rattle.wenc_types.specs.ModuleTypes.{Declared, no_declarations, declaration_text, types_of, Declares, IsWhole, OpenedIsIn, IsDeclaring, types_before, begun, written, ended, taken_back}
 use Rattle.wenc_types.specs.laws.CoreTypes.{module_type_of}
 use Rattle.wenc_types.specs.laws.ModuleTypes.{type_count_next}
 
@@ -129,7 +128,7 @@ declaring_ended t whole k = at (is_finished t.held) refl
     ended_more : is_finished t.held ≡ false → (ds : List ModuleDeclaration) → Declares (taken_back t) ds → (w : IsWhole t) → Declares (ended t) (ds ++ Defined w.ty ∷ [])
     ended_more unfinished ds h w =
         let more : Declares (record { held = with_member (given_up t.held) (declaration_text (Defined w.ty)); types = types_before t.held.opening t.types + 1 }) (ds ++ Defined w.ty ∷ []) =
-            some_more (taken_back t) (Defined w.ty) ds h in
+        some_more (taken_back t) (Defined w.ty) ds h in
         rw (← w.is, closed_as_more t.held unfinished k.opening, types_ended t.held.opening t.types unfinished k.counted) at more
 
     at : (b : Bool) → is_finished t.held ≡ b → IsDeclaring (ended t)

@@ -12,6 +12,6 @@ invariant_of-self-2 g c =
     record {
       going_on = search rules;
       whole = tag_goes_on g.L.Lender.is_whole g.L.Lender.written g.L.Lender.joins lender c.append_value.new.self c.args.is_async
-      (elim c.if-is_async.branch [ then-is_async w ↦ search rules | else-is_async w ↦ search rules ])
-      (subst (λ (s : FuncStage). (text : List ℕ) → Remains s text → MakesWhole g.L.Lender.is_whole g.L.Lender.written lender text) c.requires c.args.self.now.whole);
+          (elim c.if-is_async.branch [ then-is_async w ↦ search rules | else-is_async w ↦ search rules ])
+          (subst (λ (s : FuncStage). (text : List ℕ) → Remains s text → MakesWhole g.L.Lender.is_whole g.L.Lender.written lender text) c.requires c.args.self.now.whole);
     }
