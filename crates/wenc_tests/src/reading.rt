@@ -1,4 +1,4 @@
-//! What is read from the front of bytes, and what is behind it; and each request for memory, refused in turn.
+//! What the front of bytes is read as, and what is behind it; each request for memory is refused.
 
 use crate::accepted::ok;
 use crate::lister::items::are_of_one;
