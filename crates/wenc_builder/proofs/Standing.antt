@@ -1,14 +1,12 @@
 -- A builder stays one: its buffer and its spaces agree, and it holds some entries.
-use Rattle.std.proofs.Common.{◌≡◌, ℕ, List, false, true, is_none, Option, Some, None, Result, Ok, Err, OnOk, OnErr, [], refl, sym, subst, ◌∙◌}
+use Rattle.std.proofs.Common.{◌≡◌, ℕ, List, true, is_none, Option, Some, None, Result, Ok, Err, OnOk, OnErr, [], refl, sym, subst}
 use Rattle.wenc_base.specs.Lender.{Extends, ExtendsListed}
 use Rattle.wenc_base.specs.declared.fault.Fault.{Fault}
-use Rattle.wenc_builder.specs.Builder.{State}
 use Rattle.wenc_builder.specs.Holds.{HoldsSome}
-use Rattle.wenc_builder.specs.Layout.{Buffered, buffer_begun, buffer_appended, section_appended, buffer_ended, buffer_given_up, buffer_with, NoRoom, AppendCause}
+use Rattle.wenc_builder.specs.Layout.{Buffered, buffer_begun, buffer_appended, buffer_ended, buffer_given_up, buffer_with}
 use Rattle.wenc_builder.specs.Lent.{IsItemText, is_whole}
-use Rattle.wenc_builder.specs.Space.{Defined}
 use Rattle.wenc_builder.specs.Spaces.{Spaced, spaces_begun, spaces_ended, spaces_given_up}
-use Rattle.wenc_builder.specs.View.{Agree, builder_view, IsBuilder}
+use Rattle.wenc_builder.specs.View.{builder_view, IsBuilder}
 use Rattle.wenc_builder.specs.laws.Held.{some_begun, some_appended, some_ended, some_given_up, some_alone}
 use Rattle.wenc_builder.proofs.Viewed.{appended_is, still_agree, ended_is, not_taking}
 

@@ -1,5 +1,5 @@
 -- What the section of names takes.
-use Rattle.std.proofs.Common.{◌≡◌, ℕ, ◌+◌, ◌<◌, ◌≤◌, ◌^◌, List, [], ◌∷◌, ◌++◌, length, Result, refl, inl, inr, arith, length-append}
+use Rattle.std.proofs.Common.{ℕ, ◌+◌, ◌<◌, ◌^◌, List, ◌∷◌, ◌++◌, length, Result, refl, inl, inr, arith, length-append}
 use Rattle.wenc_base.specs.Custom.{custom_cause}
 use Rattle.wenc_base.specs.Delimited.{NoCause}
 use Rattle.wenc_base.specs.Encode.{Appends}

@@ -1,10 +1,9 @@
 -- A builder holds some entries, whoever made which calls.
-use Rattle.std.proofs.Common.{◌≡◌, ℕ, List, [], ◌∷◌, ◌++◌, Bool, true, false, is_none, Option, Some, None, refl, sym, ap, subst}
-use Rattle.std.proofs.Math.Logic.{∥∥₁_map, ∥∥₁_map₂, ∥∥₁_elim, ∥∥₁_prop}
-use Rattle.wenc_builder.specs.Builder.{Begun, Content, State, settled_in, builder_is_finished, with_alone, with_entry, content_with, namespace_with, namespace_at, step, Draft, begun_with, longer, appended, ended, builder_given_up}
+use Rattle.std.proofs.Common.{◌≡◌, ℕ, List, [], ◌∷◌, ◌++◌, true, false, is_none, Option, Some, None, refl, subst}
+use Rattle.std.proofs.Math.Logic.{∥∥₁_map, ∥∥₁_elim, ∥∥₁_prop}
+use Rattle.wenc_builder.specs.Builder.{Begun, Content, State, settled_in, builder_is_finished, with_alone, with_entry, content_with, Draft, begun_with, longer, appended, ended, builder_given_up}
 use Rattle.wenc_builder.specs.Entry.{Entry, entry}
 use Rattle.wenc_builder.specs.Holds.{Holds, IsPlaced, HoldsSome}
-use Rattle.wenc_builder.specs.Item.{item}
 use Rattle.wenc_builder.specs.Lent.{IsItemText, IsWhole, is_whole}
 use Rattle.wenc_builder.specs.Space.{Defined}
 use Rattle.wenc_builder.specs.laws.Step.{holds_step}

@@ -2,7 +2,6 @@
 use Rattle.std.proofs.Common.{◌^◌, ◌<◌}
 use Rattle.wenc_base.specs.Delimited.{NoCause, FreeFits}
 use Rattle.wenc_base.specs.Forms.{option}
-use Rattle.wenc_parts.specs.Exports.{export_kind}
 use Rattle.wenc_parts.specs.Imports.{extern_name, extern_name_cause, type_reference}
 use Rattle.wenc_parts.specs.laws.Exports.{export_kind_fits}
 use Rattle.wenc_parts.specs.laws.Imports.{extern_name_free}

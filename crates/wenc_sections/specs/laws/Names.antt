@@ -1,7 +1,6 @@
 -- The laws of the section of names.
-use Rattle.std.proofs.Common.{◌≡◌, ℕ, List, [], ◌∷◌, ◌++◌, length, Some, refl, ap}
-use Rattle.wenc_base.specs.Forms.{AreBytes}
-use Rattle.wenc_base.specs.Holder.{Held, held_text, Contains}
+use Rattle.std.proofs.Common.{◌≡◌, ℕ, List, [], ◌∷◌, refl}
+use Rattle.wenc_base.specs.Holder.{Held, Contains}
 use Rattle.wenc_base.specs.Names.{Named, named_text}
 use Rattle.wenc_base.specs.laws.Forms.{read_name, name_lawful, read_sized, sized_lawful, read_bytes, bytes_lawful}
 use Rattle.wenc_base.specs.laws.Lawful.{Lawful, Reader, ◌>>=◌, give, nowhere, choose, done, go_on, row, row_byte, then, last, then_whole, whole_lawful}
