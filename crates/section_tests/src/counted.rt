@@ -18,7 +18,7 @@ pub trait Short: CountedKind + Sized {
 
 /// A section of items of this kind.
 #[derive(Drop)]
-pub struct Items<'a, K>(pub Counted<K, &'a Refusing>);
+pub struct Items<'a, K: CountedKind>(pub Counted<K, &'a Refusing>);
 
 /// Appends how many items it has, whether it has none, and its bytes behind its id.
 fn append_state<K: Short>(

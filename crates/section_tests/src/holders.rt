@@ -1,4 +1,8 @@
 //! Sections over holders, with bytes that are kept in front.
+ghost use Rattle.std.specs.Prelude.{IfOk};
+ghost use Rattle.wenc_base.specs.Openings.{HasMembers};
+ghost use Rattle.wenc_base.specs.Piece.{HasForm};
+ghost use Rattle.wenc_parts.specs.Aliases.{alias};
 
 use crate::accepted::ok;
 use crate::checks::{are, is_text, yes};
@@ -11,20 +15,36 @@ use wenc_sections::ComponentAliasSection;
 /// Two bytes, and the text of an alias behind them.
 const BYTES: [u8; 7] = [0xaa, 0xbb, 0x01, 0x00, 0x00, 0x01, 0x66];
 
+/// A holder of that alias.
 #[tactic(auto, using(wenc_base::proofs::Groups::size_1))]
-fn over(alloc: Global) -> Result<Holder, AllocError> {
-    Ok(Holder::over(BYTES.to_vec(alloc)?, 2, 1))
+fn over(alloc: Global) -> Result<Holder, AllocError>
+    ensures { IfOk result (HasMembers (HasForm alias)) }
+{
+    Ok(Holder::over(Vec::from_array(alloc, BYTES)?, 2, 1))
+}
+
+/// The same with an alias that is being written.
+fn opened(alloc: Global) -> Result<Holder, Fault>
+    ensures { IfOk result (HasMembers (HasForm alias)) }
+{
+    let mut holder = over(alloc)?;
+    holder.open(&[0x03])?;
+    Ok(holder)
 }
 
 fn section(rt: &impl Abort, alloc: Global) -> ComponentAliasSection {
-    ComponentAliasSection::from_holder(ok(rt, over(alloc)))
+    match over(alloc) {
+        Ok(holder) => ComponentAliasSection::from_holder(holder),
+        Err(_) => panic!(rt; "it is refused"),
+    }
 }
 
 /// A section in which an alias is being written.
 fn unfinished(rt: &impl Abort, alloc: Global) -> ComponentAliasSection {
-    let mut holder = ok(rt, over(alloc));
-    ok(rt, holder.open(&[0x03]));
-    ComponentAliasSection::from_holder(holder)
+    match opened(alloc) {
+        Ok(holder) => ComponentAliasSection::from_holder(holder),
+        Err(_) => panic!(rt; "it is refused"),
+    }
 }
 
 fn outer_type(section: &mut ComponentAliasSection) -> Result<(), Fault> {

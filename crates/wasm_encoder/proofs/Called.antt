@@ -70,7 +70,7 @@ entered old new r c x adds caused e = due old new (placed r) c (λ es h. (x ∷ 
 -- a call that adds an entry which has no place
 pub entered_placeless : (old new : State) (r : Result (Unit {0}) Fault) (c : CommandTree) (x : Entry) → ((es : List Entry) → added es c ≡ x ∷ []) → ((es : List Entry) → SameCause (cause es c) (EntryCause es x))
     → ((es : List Entry) → place_of (items es) x.item ≡ None) → EntersPlaceless old new r x → Answers old new (placeless r) c
-entered_placeless old new r c x adds caused nowhere e = due old new (placeless r) c (λ es h. (x ∷ [], EntryCause es x, adds es, caused es, is_due r es (answered_with old new r x (λ _ _. Unit {0}) es e h)))
+entered_placeless old new r c x adds caused nowhere e = due old new (placeless r) c (λ es h. (x ∷ [], EntryCause es x, adds es, caused es, is_due r es (answered_with old new r x (λ _ _. Unit {0}) (λ _ _. Unit {0}) es e h)))
   where
     is_due : (r : Result (Unit {0}) Fault) (es : List Entry)
         → MatchResult r (λ u. Holds new (es ++ x ∷ []) × Unit {0} × NoCause (EntryCause es x)) (λ fault. Holds new es × IsWarranted (EntryCause es x) fault)
@@ -91,5 +91,5 @@ names_entered old new r a = due old new (placeless r) AppendNames (λ es h. (one
         → MatchOption o ((r ≡ Ok tt) × (new ≡ old)) (λ x. EntersPlaceless old new r x) → IsDueTo es (one_or_none o) (added_cause es (one_or_none o)) new (placeless r)
     is_due (Ok u) es None h none m = (rw (m.1, append-nil es) h, refl, λ fault c. c)
     is_due (Err fault) es None h none m = absurd cc
-    is_due (Ok u) es (Some x) h none m = let k = answered_with old new (Ok u) x (λ _ _. Unit {0}) es m h in (k.0, sym (none x refl), k.2)
-    is_due (Err fault) es (Some x) h none m = let k = answered_with old new (Err fault) x (λ _ _. Unit {0}) es m h in (k.0, refusal es x fault k.1)
+    is_due (Ok u) es (Some x) h none m = let k = answered_with old new (Ok u) x (λ _ _. Unit {0}) (λ _ _. Unit {0}) es m h in (k.0, sym (none x refl), k.2)
+    is_due (Err fault) es (Some x) h none m = let k = answered_with old new (Err fault) x (λ _ _. Unit {0}) (λ _ _. Unit {0}) es m h in (k.0, refusal es x fault k.1)

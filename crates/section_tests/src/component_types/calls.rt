@@ -7,7 +7,8 @@ use wenc_base::{Fault, Lender, ValType};
 use wenc_parts::{ComponentValType, PrimitiveValType};
 use wenc_sections::ComponentTypeSection;
 use wenc_types::{
-    ComponentDefinedTypeEncoder, ComponentType, ComponentTypeEncoder, Declarations, InstanceType,
+    ComponentDefinedTypeEncoder, ComponentType, ComponentTypeEncoder, Declarations, DeclaringKind,
+    InstanceType,
 };
 
 /// What an encoder of types borrows.
@@ -23,7 +24,7 @@ pub trait Lends {
     }
 }
 
-impl<K, A: Allocator> Lends for Declarations<K, A> {
+impl<K: DeclaringKind, A: Allocator> Lends for Declarations<K, A> {
     type Lent = Declarations<K, A>;
 
     fn encoder(&mut self) -> Result<ComponentTypeEncoder<'_, Declarations<K, A>>, Fault> {

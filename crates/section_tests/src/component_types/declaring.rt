@@ -114,21 +114,27 @@ impl<'t, K: Kind, A: Allocator> Makes<Declarations<K, A>> for Declaration<'t> {
 }
 
 /// Begins a core type.
-pub fn core_type<K, A: Allocator>(
+pub fn core_type<K: DeclaringKind, A: Allocator>(
     ty: &mut Declarations<K, A>,
 ) -> Result<ComponentCoreTypeEncoder<'_, Declarations<K, A>>, Fault> {
     ty.core_type()
 }
 
-fn array<K, A: Allocator>(ty: &mut Declarations<K, A>) -> Result<(), Fault> {
+fn array<K: DeclaringKind, A: Allocator>(ty: &mut Declarations<K, A>) -> Result<(), Fault> {
     core_type(ty)?.core().array(&StorageType::I8, true)
 }
 
-fn module<K, A: Allocator>(ty: &mut Declarations<K, A>, inner: &ModuleType) -> Result<(), Fault> {
+fn module<K: DeclaringKind, A: Allocator>(
+    ty: &mut Declarations<K, A>,
+    inner: &ModuleType,
+) -> Result<(), Fault> {
     core_type(ty)?.module(inner)
 }
 
-fn tree<K, A: Allocator>(ty: &mut Declarations<K, A>, inner: &CoreTypeTree) -> Result<(), Fault> {
+fn tree<K: DeclaringKind, A: Allocator>(
+    ty: &mut Declarations<K, A>,
+    inner: &CoreTypeTree,
+) -> Result<(), Fault> {
     core_type(ty)?.tree(inner)
 }
 

@@ -1,0 +1,18 @@
+use Rattle.std.proofs.Common.{[], ◌∷◌, refl}
+use Rattle.wenc_base.specs.Holder.{holding}
+use Rattle.wenc_base.specs.Number.{groups}
+use Rattle.wenc_base.specs.Piece.{HasForm}
+use Rattle.wenc_base.specs.laws.Members.{keeps_some}
+use Rattle.wenc_parts.specs.Aliases.{alias, InstanceExport}
+use Rattle.wenc_parts.specs.declared.exports.ComponentExportKind.TheVariants.{Func}
+use Rattle.section_tests.proofs.holders.over.Goals as goal
+
+pub returns : goal.returns
+unfolding groups
+returns c = rw (c.over.ensures, c.in_ok-from_array.ensures.items)
+    (keeps_some (HasForm alias) (holding (0xaa ∷ 0xbb ∷ []) 1 (1 ∷ 0 ∷ 0 ∷ 1 ∷ 0x66 ∷ [])) refl
+    ∣ record {
+      members = (1 ∷ 0 ∷ 0 ∷ 1 ∷ 0x66 ∷ []) ∷ [];
+      contained = record { finished = refl; count = refl; body = refl };
+      each = (record { value = InstanceExport 0 Func (0x66 ∷ []); is = refl }, tt);
+    } ∣₁)
