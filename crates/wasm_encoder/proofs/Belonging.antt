@@ -1,12 +1,12 @@
 -- Why what a command adds can be encoded where nothing stands against it.
-use Rattle.std.proofs.Common.{◌≡◌, ℕ, zero, suc, ◌<◌, ◌≤◌, ◌^◌, List, [], ◌∷◌, ◌++◌, length, Option, Some, None, inl, inr, refl, arith, length-append}
+use Rattle.std.proofs.Common.{◌≡◌, ℕ, zero, suc, ◌<◌, ◌^◌, List, [], ◌∷◌, ◌++◌, length, Option, Some, None, inl, inr, refl, arith, length-append}
 use Rattle.std.proofs.lemmas.Bool.{cases_lt}
 use Rattle.std.proofs.lemmas.Str.{IsUtf8-from_ascii}
 use Rattle.std.specs.List.{AllByRecursion}
 use Rattle.std.specs.Prelude.{IsUtf8, slice_index}
-use Rattle.wenc_base.specs.Custom.{Custom, custom_cause}
+use Rattle.wenc_base.specs.Custom.{Custom}
 use Rattle.wenc_base.specs.Delimited.{NoCause, FreeFits, option_seen}
-use Rattle.wenc_base.specs.Fault.{text_cause, count_cause, member_cause, list_cause}
+use Rattle.wenc_base.specs.Fault.{text_cause, list_cause}
 use Rattle.wenc_base.specs.Forms.{AreBytes, name}
 use Rattle.wenc_base.specs.Number.{unsigned_text}
 use Rattle.wenc_base.specs.declared.fault.Fault.{Fault}

@@ -38,11 +38,13 @@ ghost use Rattle.wasm_encoder.specs.Ran.{Ran};
 ghost use Rattle.wasm_encoder.specs.Raw.{HasNoRaw, SectionsHaveNoRaw, AreEncodable, IsEncodable};
 
 mod of_builders;
+mod of_holders;
 
 pub use of_builders::{
     encoded_types_are_entries, indices_are_no_primitives, named_places_ascend, neighbours_differ,
     nested_runs, one_item_counts_once,
 };
+pub use of_holders::what_is_finished_has_some;
 use wenc_base::{Delimited, DelimitedEq};
 use wenc_list::laws::faults_of_what_is_read;
 
@@ -187,14 +189,22 @@ pub fn sections_are_their_items()
         → producers_text section ≡ (producers_section fields).text }
 {}
 
-/// A member that is written piece by piece, and a type that a module type, a component type or an instance type
-/// declares: given up it leaves no trace, and ended it is one more.
+/// A member that is written piece by piece, a type of a section, and a type that a module type, a component type or an
+/// instance type declares: given up it leaves no trace, and ended it is one more.
 pub fn openings_are_members()
     ensures given_up { (h : Held) (lead more : List ℕ) → is_finished h ≡ true
         → given_up (lengthened (opened_with h lead) more) ≡ h }
     ensures ended { (h : Held) (members : List (List ℕ)) (lead more : List ℕ) → Contains as_they_are h members
         → Contains as_they_are (closed (lengthened (opened_with h lead) more))
         (members ++ (lead ++ more) ∷ []) }
+    ensures type_ended_in_section { (section : Held) (t : TypeOf) (types : List TypeOf)
+        → Contains type_text section types
+        → Contains type_text (closed (lengthened (opened_with section []) (type_text t)))
+        (types ++ t ∷ []) }
+    ensures core_type_ended_in_section { (section : Held) (t : CoreType) (types : List CoreType)
+        → Contains core_type_text section types
+        → Contains core_type_text
+        (closed (lengthened (opened_with section []) (core_type_text t))) (types ++ t ∷ []) }
     ensures module_given_up { (ty : Declared) (text : List ℕ) → is_finished ty.held ≡ true
         → taken_back (written (begun ty) text) ≡ ty }
     ensures module_ended { (ty : Declared) (g : Group) (ds : List ModuleDeclaration) → Declares ty ds

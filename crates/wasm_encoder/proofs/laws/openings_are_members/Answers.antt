@@ -1,4 +1,4 @@
-use Rattle.std.proofs.Common.{refl, ◌++◌}
+use Rattle.std.proofs.Common.{[], refl, ◌++◌}
 use Rattle.wenc_base.specs.Holder.{as_they_are}
 use Rattle.wenc_base.specs.laws.Holders.{given_up_is_before, contains_opened}
 use Rattle.wenc_base.specs.Composites.{group}
@@ -15,6 +15,12 @@ returns-clause-given_up c = λ h lead more finished. given_up_is_before h lead m
 
 pub returns-clause-ended : goal.returns-clause-ended
 returns-clause-ended c = λ h members lead more contains. contains_opened as_they_are h (lead ++ more) members lead more refl contains
+
+pub returns-clause-type_ended_in_section : goal.returns-clause-type_ended_in_section
+returns-clause-type_ended_in_section c = λ section t types contains. contains_opened type_text section t types [] (type_text t) refl contains
+
+pub returns-clause-core_type_ended_in_section : goal.returns-clause-core_type_ended_in_section
+returns-clause-core_type_ended_in_section c = λ section t types contains. contains_opened core_type_text section t types [] (core_type_text t) refl contains
 
 pub returns-clause-module_given_up : goal.returns-clause-module_given_up
 returns-clause-module_given_up c = λ ty text finished. taken_back_is_before ty text finished
