@@ -1,5 +1,6 @@
 ghost use Rattle.std.specs.Borrow.{sem, RestsIfErr};
 ghost use Rattle.std.specs.Prelude.{◌≡◌, ◌==◌, ◌∷◌, ℕ, [], List, Option as Optional, Some, OnOk, OnErr, IfOk, IfErr, true, false};
+ghost use Rattle.wenc_base.specs.Encode.{Appends};
 ghost use Rattle.wenc_base.specs.Fault.{IsMemory, IsWarranted};
 ghost use Rattle.wenc_base.specs.Holder.{is_finished, as_they_are, held_text, EncodeCause, AddCause, AddsMember};
 ghost use Rattle.wenc_base.specs.Lender.{Lends, GivesUp};
@@ -232,7 +233,8 @@ impl<K: DeclaringKind, A: Allocator> Declarations<K, A> {
     }
 }
 
-/// A byte, then the number of declarations, then these. A finished one is refused for want of memory alone.
+/// A byte, then the number of declarations, then these. A finished one is refused for want of memory alone. What is
+/// written has some declarations, whoever made which calls.
 impl<K: DeclaringKind, A: Allocator> Encode for Declarations<K, A> {
     ghost text = { λ t. K.LEAD ∷ held_text t.held };
 
@@ -240,7 +242,11 @@ impl<K: DeclaringKind, A: Allocator> Encode for Declarations<K, A> {
 
     ghost unfinished = { λ t. is_finished t.held ≡ false };
 
-    fn encode<B: Allocator>(&self, sink: &mut Vec<u8, B>) -> Result<(), Fault> {
+    fn encode<B: Allocator>(&self, sink: &mut Vec<u8, B>) -> Result<(), Fault>
+        ensures appended { Appends (K.LEAD ∷ held_text self.now.held) (EncodeCause self.now.held)
+            (is_finished self.now.held ≡ false) sink.old.items sink.new.items result }
+        ensures declares { OnOk result (∥ DeclaresSome K.is_declaration self.now ∥₁) }
+    {
         Tagged(K::LEAD, &self.held).encode(sink)
     }
 }

@@ -1,7 +1,8 @@
 ghost use Rattle.std.specs.Borrow.{sem, RestsIfErr};
 ghost use Rattle.std.specs.Prelude.{◌≡◌, ◌∷◌, [], List, true, false, OnOk, OnErr, IfOk, IfErr};
+ghost use Rattle.wenc_base.specs.Encode.{Appends};
 ghost use Rattle.wenc_base.specs.Fault.{IsMemory, IsWarranted};
-ghost use Rattle.wenc_base.specs.Holder.{is_finished, AddCause};
+ghost use Rattle.wenc_base.specs.Holder.{is_finished, held_text, AddCause, EncodeCause};
 ghost use Rattle.wenc_base.specs.Lender.{Lends, GivesUp};
 ghost use Rattle.wenc_base.specs.declared.fault.Fault.TheVariants.{Unfinished};
 ghost use Rattle.wenc_base.specs.declared.fault.Fault.{Fault as FaultSpec};
@@ -154,7 +155,8 @@ impl<A: Allocator> ModuleType<A> {
     }
 }
 
-/// A byte, then the number of declarations, then these. A finished one is refused for want of memory alone.
+/// A byte, then the number of declarations, then these. A finished one is refused for want of memory alone. What is
+/// written has some declarations, whoever made which calls.
 impl<A: Allocator> Encode for ModuleType<A> {
     ghost use Rattle.std.specs.Prelude.{◌∷◌};
     ghost use Rattle.wenc_base.specs.Holder.{held_text, EncodeCause};
@@ -165,7 +167,12 @@ impl<A: Allocator> Encode for ModuleType<A> {
 
     ghost unfinished = { λ t. is_finished t.held ≡ false };
 
-    fn encode<B: Allocator>(&self, sink: &mut Vec<u8, B>) -> Result<(), Fault> {
+    fn encode<B: Allocator>(&self, sink: &mut Vec<u8, B>) -> Result<(), Fault>
+        ensures appended { Appends (0x50 ∷ held_text self.now.held) (EncodeCause self.now.held)
+            (is_finished self.now.held ≡ false) sink.old.items sink.new.items result }
+        ensures declares { OnOk result
+            (∥ ((ds : List ModuleDeclaration) × Declares self.now ds) ∥₁) }
+    {
         Tagged(0x50, &self.declarations).encode(sink)
     }
 }

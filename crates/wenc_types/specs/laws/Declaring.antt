@@ -66,8 +66,8 @@ enough_back (Some o) h sort n c e = omega (arith, total_uncounted sort n c)
 -- ---- declarations
 
 module _ (P : List ℕ → Option Sort → Type 0) where
-  abbrev Some' : Declaring → Type 0
-  Some' t = ∥ DeclaresSome P t ∥₁
+  abbrev HasSome : Declaring → Type 0
+  HasSome t = ∥ DeclaresSome P t ∥₁
 
   some_more : (t : Declaring) (text : List ℕ) (sort : Option Sort) → DeclaresSome P t → P text sort
       → DeclaresSome P (record { held = with_member t.held text; counts = counted sort t.counts; begun = t.begun })
@@ -88,7 +88,7 @@ module _ (P : List ℕ → Option Sort → Type 0) where
 
   -- what is finished declares some
   pub declares_some : (t : Declaring) → is_finished t.held ≡ true → IsDeclaring P t → ∥ DeclaresSome P t ∥₁
-  declares_some t finished d = subst Some' (settled_back t (settled t finished d)) d.settled
+  declares_some t finished d = subst HasSome (settled_back t (settled t finished d)) d.settled
 
   pub declaring_none : IsDeclaring P no_declarations
   declaring_none = record {
@@ -113,7 +113,7 @@ module _ (P : List ℕ → Option Sort → Type 0) where
         enough = omega (arith, d.enough, total_counted sort t.counts);
         counted = still_none t.held.opening t.begun t.counts (counted sort t.counts) finished none.none_begun;
         opening = within_finished (with_member t.held text) finished;
-        settled = subst Some' (sym (settled_back next (record { finished = finished; none_begun = none.none_begun }))) some;
+        settled = subst HasSome (sym (settled_back next (record { finished = finished; none_begun = none.none_begun }))) some;
       }
 
   -- a type is begun
@@ -125,7 +125,7 @@ module _ (P : List ℕ → Option Sort → Type 0) where
         enough = omega (arith, d.enough, total_counted (Some sort) t.counts);
         counted = has_one sort t.counts;
         opening = within_opened t.held (lead_of sort);
-        settled = subst Some' (sym back) (declares_some t finished d);
+        settled = subst HasSome (sym back) (declares_some t finished d);
       }
 
   -- more of it is written
@@ -136,7 +136,7 @@ module _ (P : List ℕ → Option Sort → Type 0) where
     opening = within_lengthened t.held text d.opening;
     settled =
         let back : taken_back (written t text) ≡ taken_back t = rw (lengthened_back t.held text unfinished d.opening) refl in
-        subst Some' (sym back) d.settled;
+        subst HasSome (sym back) d.settled;
   }
 
   -- it is ended, as a declaration
@@ -168,7 +168,7 @@ module _ (P : List ℕ → Option Sort → Type 0) where
     opening = within_back t.held;
     settled =
         let again : taken_back (taken_back t) ≡ taken_back t = rw (back_twice t.held) refl in
-        subst Some' (sym again) d.settled;
+        subst HasSome (sym again) d.settled;
   }
 
 -- ---- declarations that are values

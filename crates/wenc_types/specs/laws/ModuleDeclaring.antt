@@ -1,8 +1,9 @@
 -- What module types stay through all calls.
-use Rattle.std.proofs.Common.{◌≡◌, ◌↔◌, ℕ, ◌+◌, ◌-◌, ◌≤◌, Bool, true, false, is_none, List, [], ◌∷◌, ◌++◌, Option, Some, None, Result, Ok, Err, inl, inr, refl, ap, sym, ◌∙◌, subst, arith}
+use Rattle.std.proofs.Common.{◌≡◌, ◌↔◌, ℕ, ◌+◌, ◌-◌, ◌≤◌, Bool, true, false, is_none, List, [], ◌∷◌, ◌++◌, Option, Some, None, Result, Ok, Err, OnOk, inl, inr, refl, ap, sym, ◌∙◌, subst, arith}
 use Rattle.std.proofs.Math.Logic.{∥∥₁_map, ∥∥₁_map₂}
 use Rattle.std.specs.Prelude.{IsTrue}
 use Rattle.wenc_base.specs.declared.fault.Fault.{Fault}
+use Rattle.wenc_base.specs.declared.fault.Fault.TheVariants.{Unfinished}
 use Rattle.wenc_base.specs.Holder.{Held, is_finished, with_member, held_text, as_they_are, AddsMember}
 use Rattle.wenc_base.specs.Piece.{HasForm}
 use Rattle.wenc_base.specs.Openings.{given_up}
@@ -14,8 +15,8 @@ use Rattle.wenc_types.specs.ModuleTypes.{Declared, no_declarations, declaration_
 use Rattle.wenc_types.specs.laws.CoreTypes.{module_type_of}
 use Rattle.wenc_types.specs.laws.ModuleTypes.{type_count_next}
 
-abbrev Some' : Declared → Type 0
-Some' t = ∥ ((ds : List ModuleDeclaration) × Declares t ds) ∥₁
+abbrev HasSome : Declared → Type 0
+HasSome t = ∥ ((ds : List ModuleDeclaration) × Declares t ds) ∥₁
 
 -- ---- at an opening, or none
 
@@ -61,7 +62,7 @@ finished_as_it_is t finished = rw (finished_back t.held finished, types_finished
 
 -- what is finished declares some
 pub declares_some : (t : Declared) → is_finished t.held ≡ true → IsDeclaring t → ∥ ((ds : List ModuleDeclaration) × Declares t ds) ∥₁
-declares_some t finished d = subst Some' (finished_as_it_is t finished) d.settled
+declares_some t finished d = subst HasSome (finished_as_it_is t finished) d.settled
 
 pub declaring_none : IsDeclaring no_declarations
 declaring_none = record {
@@ -81,7 +82,7 @@ declaring_added t d finished few k =
       enough = omega (arith, k.enough);
       counted = still_counted t.held.opening (t.types + types_of d) finished;
       opening = within_finished (with_member t.held (declaration_text d)) finished;
-      settled = subst Some' (sym (finished_as_it_is next finished)) some;
+      settled = subst HasSome (sym (finished_as_it_is next finished)) some;
     }
 
 -- or the same of a call that may be refused
@@ -102,7 +103,7 @@ declaring_begun t finished k =
       enough = omega (arith, k.enough);
       counted = omega arith;
       opening = within_opened t.held (0x01 ∷ []);
-      settled = subst Some' (sym back) (declares_some t finished k);
+      settled = subst HasSome (sym back) (declares_some t finished k);
     }
 
 -- more of it is written
@@ -113,7 +114,7 @@ declaring_written t text unfinished k = record {
   opening = within_lengthened t.held text k.opening;
   settled =
       let back : taken_back (written t text) ≡ taken_back t = rw (lengthened_back t.held text unfinished k.opening) refl in
-      subst Some' (sym back) k.settled;
+      subst HasSome (sym back) k.settled;
 }
 
 -- or the same of a call that may be refused
@@ -150,7 +151,7 @@ declaring_taken_back t k = record {
   opening = within_back t.held;
   settled =
       let again : taken_back (taken_back t) ≡ taken_back t = rw (back_twice t.held, types_twice t.held.opening t.held (types_before t.held.opening t.types)) refl in
-      subst Some' (sym again) k.settled;
+      subst HasSome (sym again) k.settled;
 }
 
 -- the same, where it is told whether there was one
@@ -161,6 +162,12 @@ declaring_told t was types told given e k = rw (e, ← types_unfinished t.held.o
 pub declaring_told_none : (t : Declared) (was : Bool) → (IsTrue was ↔ (is_finished t.held ≡ false)) → was ≡ false → IsDeclaring t
     → IsDeclaring (record { held = given_up t.held; types = t.types })
 declaring_told_none t was told nothing k = rw (finished_back t.held (told_finished t.held was told nothing)) k
+
+-- what is encoded declares some
+pub encoded_declares : (t : Declared) (outcome : Result (Unit {0}) Fault) → IsDeclaring t → (is_finished t.held ≡ false → outcome ≡ Err Unfinished)
+    → OnOk outcome (∥ ((ds : List ModuleDeclaration) × Declares t ds) ∥₁)
+encoded_declares t (Ok u) k refused = declares_some t (was_finished t.held u refused) k
+encoded_declares t (Err f) k refused = tt
 
 -- ---- the text of what is finished
 
