@@ -1,18 +1,39 @@
-//! What was built is listed.
-ghost use Rattle.std.specs.Prelude.{◌≡◌, ◌⊎◌, ℕ, List, IfSome, MatchResult, map};
-ghost use Rattle.wasm_encoder.specs.Command.{command_view};
+//! What ran, and what was built, is listed.
+ghost use Rattle.std.specs.Prelude.{◌≡◌, ◌⊎◌, ℕ, List, Option, Result, IfSome, MatchResult, map};
+ghost use Rattle.wasm_encoder.specs.Command.{CommandTree, command_view};
 ghost use Rattle.wasm_encoder.specs.Ran.{Ran};
-ghost use Rattle.wasm_encoder.specs.Raw.{HasNoRaw};
+ghost use Rattle.wasm_encoder.specs.Raw.{HasNoRaw, IsEncodable};
+ghost use Rattle.wenc_base.specs.declared.fault.Fault.{Fault};
 ghost use Rattle.wenc_builder.specs.Entry.{Entry, items as items_of};
-ghost use Rattle.wenc_builder.specs.Sections.{runs};
+ghost use Rattle.wenc_builder.specs.Sections.{runs, whole};
 ghost use Rattle.wenc_list.specs.Items.{section_view};
-ghost use Rattle.wenc_list.specs.Listing.{AreWithin};
+ghost use Rattle.wenc_list.specs.Listing.{AreWithin, IsFaultOf};
 ghost use Rattle.wenc_list.specs.declared.fault.ListFault.TheVariants.{Memory, TooDeep};
+ghost use Rattle.wenc_list.specs.declared.fault.ListFault.{ListFault};
 
 use std::alloc::Allocator;
+use wasm_encoder::laws::listed;
 use wasm_encoder::{Built, Command, build};
 use wenc_list::laws::faults_of_what_is_read;
 use wenc_list::{ListFault, Listing, list};
+
+/// Where commands ran, and led to items that can be encoded and are not raw, and no type in them is deeper than 100, no
+/// fault of a lister stands against the bytes of the component, but want of memory. Where a type is deeper, every other
+/// fault that stands is `TooDeep`.
+pub fn faults_of_what_ran()
+    ensures no_fault { (commands : List CommandTree) (answers : List (Result (Option ℕ) Fault))
+        (es : List Entry) → Ran commands answers es → HasNoRaw (items_of es)
+        → IsEncodable (items_of es) → AreWithin 100 (runs (items_of es))
+        → (fault : ListFault) → IsFaultOf (whole (items_of es)) fault → fault ≡ Memory }
+    ensures too_deep { (commands : List CommandTree) (answers : List (Result (Option ℕ) Fault))
+        (es : List Entry) → Ran commands answers es → HasNoRaw (items_of es)
+        → IsEncodable (items_of es)
+        → (fault : ListFault) → IsFaultOf (whole (items_of es)) fault
+        → (fault ≡ Memory) ⊎ ((place : ℕ) × (fault ≡ TooDeep place)) }
+{
+    listed();
+    faults_of_what_is_read();
+}
 
 /// Builds a component, and lists it. Without a raw item its sections are the runs of the accepted commands' items, or
 /// memory is wanting, or a type in them is deeper than 100, and the fault is that.

@@ -1,6 +1,6 @@
 //! Laws over the definitions: what the numbers' texts are, in words; that every form, and a whole component, is read as
 //! it is written, and in one way only; that a section's text is that of what it contains. A call of these does nothing.
-ghost use Rattle.std.specs.Prelude.{◌≡◌, ◌↔◌, ◌⊎◌, ◌+◌, ℕ, ℤ, ◌^◌, ◌<◌, ◌++◌, ◌∷◌, [], List, Option, Result, FitsSigned, true, Ok};
+ghost use Rattle.std.specs.Prelude.{◌≡◌, ◌↔◌, ◌+◌, ℕ, ℤ, ◌^◌, ◌<◌, ◌++◌, ◌∷◌, [], List, Option, Result, FitsSigned, true, Ok};
 ghost use Rattle.std.specs.Int.{w64};
 ghost use Rattle.wenc_base.specs.Composites.{Group, group};
 ghost use Rattle.wenc_base.specs.Delimited.{NoCause};
@@ -17,9 +17,6 @@ ghost use Rattle.wenc_builder.specs.Entry.{Entry, items as items_of};
 ghost use Rattle.wenc_builder.specs.Item.{Item};
 ghost use Rattle.wenc_builder.specs.Sections.{Section, runs, component, Reading, whole};
 ghost use Rattle.wenc_canon.specs.Canonicals.{Intrinsic, row, Values, Canonical, canonical, canonical_text, Adds};
-ghost use Rattle.wenc_list.specs.Listing.{AreWithin, IsFaultOf};
-ghost use Rattle.wenc_list.specs.declared.fault.ListFault.TheVariants.{Memory, TooDeep};
-ghost use Rattle.wenc_list.specs.declared.fault.ListFault.{ListFault};
 ghost use Rattle.wenc_parts.specs.Aliases.{AliasOf, alias, alias_text};
 ghost use Rattle.wenc_sections.specs.Exports.{Export, export_item, export_text};
 ghost use Rattle.wenc_sections.specs.Imports.{Import, import_item, import_text};
@@ -46,7 +43,6 @@ pub use of_builders::{
 };
 pub use of_holders::what_is_finished_has_some;
 use wenc_base::{Delimited, DelimitedEq};
-use wenc_list::laws::faults_of_what_is_read;
 
 /// The text of an unsigned number is the shortest list of bytes that spells it, and the only one so short.
 pub fn unsigned_text_in_words()
@@ -135,25 +131,13 @@ pub fn one_list()
 {}
 
 /// Where commands ran, and led to items that can be encoded and are not raw, the bytes of the component are read widely as
-/// the runs of these items, and as nothing else. Where no type in them is deeper than 100, no fault of a lister stands
-/// against the bytes, but want of memory; where one is, every other fault that stands is `TooDeep`.
+/// the runs of these items, and as nothing else. So a lister that reads widely gives those.
 pub fn listed()
-    ensures reading { (commands : List CommandTree) (answers : List (Result (Option ℕ) Fault))
+    ensures { (commands : List CommandTree) (answers : List (Result (Option ℕ) Fault))
         (es : List Entry) → Ran commands answers es → HasNoRaw (items_of es)
         → IsEncodable (items_of es) → (ss : List Section)
         → (Reading Wide (whole (items_of es)) ss ↔ (ss ≡ runs (items_of es))) }
-    ensures no_fault { (commands : List CommandTree) (answers : List (Result (Option ℕ) Fault))
-        (es : List Entry) → Ran commands answers es → HasNoRaw (items_of es)
-        → IsEncodable (items_of es) → AreWithin 100 (runs (items_of es))
-        → (fault : ListFault) → IsFaultOf (whole (items_of es)) fault → fault ≡ Memory }
-    ensures too_deep { (commands : List CommandTree) (answers : List (Result (Option ℕ) Fault))
-        (es : List Entry) → Ran commands answers es → HasNoRaw (items_of es)
-        → IsEncodable (items_of es)
-        → (fault : ListFault) → IsFaultOf (whole (items_of es)) fault
-        → (fault ≡ Memory) ⊎ ((place : ℕ) × (fault ≡ TooDeep place)) }
-{
-    faults_of_what_is_read();
-}
+{}
 
 /// The text of a section that contains some items is their size, their number and the items. That of a module type, a
 /// component type or an instance type with some declarations is a byte, their number and the declarations.
