@@ -2,3 +2,4 @@
 pub mod Canonicals
 pub mod CanonTrees
 pub mod EqualTrees
+pub mod Rows

@@ -1,10 +1,14 @@
-ghost use Rattle.std.specs.Prelude.{◌≡◌, ◌==◌, ◌∷◌, false, IfOk, IfErr, length, refl};
+ghost use Rattle.std.specs.Prelude.{◌≡◌, ◌==◌, ◌∷◌, false, List, OnOk, IfOk, IfErr, length, refl};
 ghost use Rattle.std.specs.Iterator.{IsFinite};
 ghost use Rattle.wenc_base.specs.Fault.{IsMemory, count_cause};
 ghost use Rattle.wenc_base.specs.Delimited.{NoCause};
-ghost use Rattle.wenc_base.specs.Holder.{no_members, is_finished, section_text, as_they_are, AddsMember, AddsListed, EncodeCause};
+ghost use Rattle.wenc_base.specs.Encode.{Appends};
+ghost use Rattle.wenc_base.specs.Holder.{no_members, is_finished, section_text, as_they_are, ContainsSome, AddsMember, AddsListed, EncodeCause};
+ghost use Rattle.wenc_base.specs.Openings.{HasMembers};
+ghost use Rattle.wenc_base.specs.Piece.{HasForm};
 ghost use Rattle.wenc_base.specs.laws.Delimited.{itself};
-ghost use Rattle.wenc_canon.specs.Canonicals.{AddsWithOptions, Lift, Lower, text_with_options};
+ghost use Rattle.wenc_canon.specs.Canonicals.{AddsWithOptions, Lift, Lower, canonical, text_with_options};
+ghost use Rattle.wenc_canon.specs.declared.canonicals.CanonicalOption.{CanonicalOption as OptionSeen};
 
 mod intrinsics;
 
@@ -116,10 +120,15 @@ pub struct CanonicalFunctionSection<A: Allocator = Global> {
 
 impl<A: Allocator> Model for CanonicalFunctionSection<A> {
     ghost use Rattle.wenc_base.specs.Holder.{Held};
+    ghost use Rattle.wenc_base.specs.Openings.{HasMembers};
+    ghost use Rattle.wenc_base.specs.Piece.{HasForm};
+    ghost use Rattle.wenc_canon.specs.Canonicals.{canonical};
 
     ghost Value = { Held };
 
     ghost view = { λ s. s.functions };
+
+    ghost invariant = { λ s. HasMembers (HasForm canonical) s.functions };
 }
 
 impl<A: Allocator> CanonicalFunctionSection<A> {
@@ -132,7 +141,8 @@ impl<A: Allocator> CanonicalFunctionSection<A> {
         }
     }
 
-    /// The section whose functions are the members of this holder. It takes no memory.
+    /// The section whose functions are the members of this holder, which are texts of such functions. It takes no
+    /// memory.
     ///
     /// So a section may be written behind bytes that are kept: `Holder::over` begins it there, the calls
     /// that add leave these bytes where they are, and `encode` writes the section alone. `into_holder` and
@@ -145,6 +155,7 @@ impl<A: Allocator> CanonicalFunctionSection<A> {
     /// let (bytes, kept, count, _) = functions.into_holder().into_parts();
     /// ```
     pub fn from_holder(functions: Holder<A>) -> Self
+        requires { HasMembers (HasForm canonical) functions }
         ensures { result ≡ functions }
     {
         CanonicalFunctionSection { functions }
@@ -152,7 +163,8 @@ impl<A: Allocator> CanonicalFunctionSection<A> {
 
     /// The holder of the functions, with the bytes that it keeps in front of them. It takes no memory.
     pub fn into_holder(self) -> Holder<A>
-        ensures { result ≡ self }
+        ensures same { result ≡ self }
+        ensures functions { HasMembers (HasForm canonical) result }
     {
         let CanonicalFunctionSection { functions } = self;
         functions
@@ -217,6 +229,7 @@ impl<A: Allocator> CanonicalFunctionSection<A> {
 
     /// Adds what begins with this opcode and has these fields.
     fn add_row<E: Encode>(&mut self, opcode: u8, fields: &E) -> Result<(), Fault>
+        requires function { ∥ HasForm canonical (opcode ∷ E.text fields.now) ∥₁ }
         ensures { AddsMember as_they_are self.old self.new result (E.cause fields.now)
             (opcode ∷ E.text fields.now) }
     {
@@ -233,6 +246,8 @@ impl<A: Allocator> CanonicalFunctionSection<A> {
         requires can { I.can_next options }
         requires ends { IsFinite (I.remaining options) }
         requires free { NoCause (E.cause fields.now) }
+        requires functions { (os : List OptionSeen) →
+            ∥ HasForm canonical (text_with_options opcode (E.text fields.now) os) ∥₁ }
         ensures { AddsListed I.next_gives options as_they_are self.old self.new result
             (λ os. count_cause (length os)) (text_with_options opcode (E.text fields.now)) }
     {
@@ -241,7 +256,8 @@ impl<A: Allocator> CanonicalFunctionSection<A> {
     }
 }
 
-/// A finished section is refused for want of memory alone.
+/// A finished section is refused for want of memory alone. What is written has some functions, whoever made which
+/// calls.
 impl<A: Allocator> Encode for CanonicalFunctionSection<A> {
     ghost text = { λ s. section_text s };
 
@@ -249,7 +265,11 @@ impl<A: Allocator> Encode for CanonicalFunctionSection<A> {
 
     ghost unfinished = { λ s. is_finished s ≡ false };
 
-    fn encode<B: Allocator>(&self, sink: &mut Vec<u8, B>) -> Result<(), Fault> {
+    fn encode<B: Allocator>(&self, sink: &mut Vec<u8, B>) -> Result<(), Fault>
+        ensures appended { Appends (section_text self.now) (EncodeCause self.now)
+            (is_finished self.now ≡ false) sink.old.items sink.new.items result }
+        ensures functions { OnOk result (∥ ContainsSome (HasForm canonical) self.now ∥₁) }
+    {
         self.functions.encode_section(sink)
     }
 }

@@ -1,4 +1,8 @@
 //! Whole sections.
+ghost use Rattle.std.specs.Prelude.{IfOk};
+ghost use Rattle.wenc_base.specs.Openings.{HasMembers};
+ghost use Rattle.wenc_base.specs.Piece.{HasForm};
+ghost use Rattle.wenc_canon.specs.Canonicals.{canonical};
 
 use crate::accepted::ok;
 use crate::canon::calls::{Call, Function, Task, Thread};
@@ -106,11 +110,20 @@ fn clones_go_their_own_way(rt: HostRuntime) {
     copy_goes_its_own_way(&rt, rt.alloc(), &mut source);
 }
 
-/// A section behind two bytes that are kept, with a function.
+/// Two bytes, and the text of a function behind them.
+const BYTES: [u8; 3] = [0xaa, 0xbb, 0x05];
+
+/// A holder of that function.
 #[tactic(auto, using(wenc_base::proofs::Groups::size_1))]
+fn kept(alloc: Global) -> Result<Holder, AllocError>
+    ensures { IfOk result (HasMembers (HasForm canonical)) }
+{
+    Ok(Holder::over(Vec::from_array(alloc, BYTES)?, 2, 1))
+}
+
+/// A section of it.
 fn over(alloc: Global) -> Result<CanonicalFunctionSection, AllocError> {
-    let holder = Holder::over([0xaa, 0xbb, 0x05].to_vec(alloc)?, 2, 1);
-    Ok(CanonicalFunctionSection::from_holder(holder))
+    Ok(CanonicalFunctionSection::from_holder(kept(alloc)?))
 }
 
 fn resource_drop(section: &mut CanonicalFunctionSection) -> Result<(), Fault> {

@@ -1,4 +1,4 @@
-#![tactic(auto, using(wenc_base::specs::laws::Holders::adds_as, wenc_base::specs::laws::Holders::adds_listed_as))]
+#![tactic(auto, using(crate::specs::laws::Rows::row_laws))]
 
 ghost use Rattle.std.specs.Iterator.{IsFinite};
 ghost use Rattle.wenc_canon.specs.Canonicals as rows;
