@@ -57,7 +57,9 @@ pub fn write_all<T: Delimited + Drop, A: Allocator>(
     last: Option<T>,
     sink: &mut Vec<u8, A>,
 ) -> Result<(), Fault>
-    ensures { OnOk result (sink.new.items ≡ sink.old.items ++ list_text T.text values.now ++ option_text T.text last) }
+    ensures { OnOk result
+        (sink.new.items ≡
+        sink.old.items ++ list_text T.text values.now ++ option_text T.text last) }
 {
     (values, last).encode(sink)
 }

@@ -56,7 +56,8 @@ abbrev mutual
   -- why a command is refused after these entries: a nested component for the first inner command that has a cause, and
   -- each for what it adds
   pub cause : List Entry → CommandTree → Fault → Type 0
-  cause es (Component name inner) = first_of (first_cause [] inner) (added_cause es (added es (Component name inner)))
+  cause es (Component name inner) =
+      first_of (first_cause [] inner) (added_cause es (added es (Component name inner)))
   cause es c = added_cause es (added es c)
 
   -- the cause of the first of the commands that has one, after these entries and what those before it add

@@ -54,17 +54,20 @@ debug_name_view (Some name) = Some (string_bytes name)
 abbrev mutual
   pub command_view : {A : Type 0} → Command A → CommandTree
   command_view (commands.CoreModule n bytes) = CoreModule (debug_name_view n) bytes.items
-  command_view (commands.CoreInstance n instance) = CoreInstance (debug_name_view n) (core_instance_tree_view instance)
+  command_view (commands.CoreInstance n instance) =
+      CoreInstance (debug_name_view n) (core_instance_tree_view instance)
   command_view (commands.CoreType n ty) = CoreType (debug_name_view n) (core_type_view ty)
   command_view (commands.Component' n shape inner) = Component (debug_name_view n) (row_view inner)
   command_view (commands.ComponentRaw n bytes) = ComponentRaw (debug_name_view n) bytes.items
-  command_view (commands.Instance n instance) = Instance (debug_name_view n) (instance_tree_view instance)
+  command_view (commands.Instance n instance) =
+      Instance (debug_name_view n) (instance_tree_view instance)
   command_view (commands.Alias n alias) = Alias (debug_name_view n) (alias_tree_view alias)
   command_view (commands.«Type» n ty) = «Type» (debug_name_view n) (type_view ty)
   command_view (commands.Canon n canon) = Canon (debug_name_view n) (canon_view canon)
   command_view (commands.Start function args results) = Start function args.items results
   command_view (commands.Import name ty) = Import (record { name = name_tree_view name; what = ty })
-  command_view (commands.Export name kind index ty) = Export (record { name = name_tree_view name; kind = kind; index = index; what = ty })
+  command_view (commands.Export name kind index ty) =
+      Export (record { name = name_tree_view name; kind = kind; index = index; what = ty })
   command_view commands.AppendNames = AppendNames
   command_view (commands.Custom name bytes) = Custom (string_bytes name) bytes.items
   command_view (commands.RawCustom bytes) = RawCustom bytes.items

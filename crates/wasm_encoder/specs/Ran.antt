@@ -23,7 +23,8 @@ entries_after es c (Ok answer) = es ++ added es c
 entries_after es c (Err fault) = es
 
 -- After the entries es, the commands got these answers and led to these entries.
-abbrev pub RanFrom : List Entry → List CommandTree → List (Result (Option ℕ) Fault) → List Entry → Type 0
+abbrev pub RanFrom : List Entry → List CommandTree → List (Result (Option ℕ) Fault) → List Entry
+    → Type 0
 RanFrom es [] [] all = es ≡ all
 RanFrom es [] (a ∷ answers) all = ⊥
 RanFrom es (c ∷ cs) [] all = ⊥

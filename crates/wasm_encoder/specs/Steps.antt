@@ -9,8 +9,10 @@ use Rattle.wasm_encoder.specs.Cause.{cause}
 use Rattle.wasm_encoder.specs.Ran.{IsRefusal, IsDue, entries_after, IsTyped}
 
 -- A command got an answer, for every list of entries that was held.
-pub record Answers (old new : State) (answer : Result (Option ℕ) Fault) (c : CommandTree) : Type 0 where
-  pub held : (es : List Entry) → Holds old es → Holds new (entries_after es c answer) × IsDue es c answer
+pub record Answers (old new : State) (answer : Result (Option ℕ) Fault)
+    (c : CommandTree) : Type 0 where
+  pub held : (es : List Entry) → Holds old es
+      → Holds new (entries_after es c answer) × IsDue es c answer
 
 -- A command's type was refused by its encoder, so that the builder is unfinished.
 pub record Stops (old : State) (fault : Fault) (c : CommandTree) : Type 0 where
@@ -19,7 +21,8 @@ pub record Stops (old : State) (fault : Fault) (c : CommandTree) : Type 0 where
 
 -- what running a command does
 abbrev pub Runs : State → State → Result (Result (Option ℕ) Fault) Fault → CommandTree → Type 0
-Runs old new outcome c = MatchResult outcome (λ answer. Answers old new answer c) (λ fault. Stops old fault c)
+Runs old new outcome c =
+    MatchResult outcome (λ answer. Answers old new answer c) (λ fault. Stops old fault c)
 
 -- the answer of a call that answers an index
 abbrev pub placed : Result ℕ Fault → Result (Option ℕ) Fault

@@ -164,12 +164,14 @@ pub fn sections_are_their_items()
     ensures core_instances { (section : Held) (items : List CoreInstance)
         → Contains core_instance_text section items
         → section_text section ≡ (counted core_instance items).text }
-    ensures instances { (section : Held) (items : List Instance) → Contains instance_text section items
+    ensures instances { (section : Held) (items : List Instance)
+        → Contains instance_text section items
         → section_text section ≡ (counted instance items).text }
     ensures canonical_functions { (section : Held) (items : List Canonical)
         → Contains canonical_text section items
         → section_text section ≡ (counted canonical items).text }
-    ensures producers { (section : Held) (fields : List Producers) → Contains field_text section fields
+    ensures producers { (section : Held) (fields : List Producers)
+        → Contains field_text section fields
         → producers_text section ≡ (producers_section fields).text }
 {}
 
@@ -178,7 +180,8 @@ pub fn sections_are_their_items()
 pub fn openings_are_members()
     ensures given_up { (h : Held) (lead more : List ℕ) → is_finished h ≡ true
         → given_up (lengthened (opened_with h lead) more) ≡ h }
-    ensures ended { (h : Held) (members : List (List ℕ)) (lead more : List ℕ) → Contains as_they_are h members
+    ensures ended { (h : Held) (members : List (List ℕ)) (lead more : List ℕ)
+        → Contains as_they_are h members
         → Contains as_they_are (closed (lengthened (opened_with h lead) more))
         (members ++ (lead ++ more) ∷ []) }
     ensures type_ended_in_section { (section : Held) (t : TypeOf) (types : List TypeOf)
@@ -191,7 +194,8 @@ pub fn openings_are_members()
         (closed (lengthened (opened_with section []) (core_type_text t))) (types ++ t ∷ []) }
     ensures module_given_up { (ty : Declared) (text : List ℕ) → is_finished ty.held ≡ true
         → taken_back (written (begun ty) text) ≡ ty }
-    ensures module_ended { (ty : Declared) (g : Group) (ds : List ModuleDeclaration) → Declares ty ds
+    ensures module_ended { (ty : Declared) (g : Group) (ds : List ModuleDeclaration)
+        → Declares ty ds
         → Declares (ended (written (begun ty) (group g).text)) (ds ++ Defined g ∷ []) }
     ensures type_given_up { (t : Declaring) (sort : Sort) (text : List ℕ) → Settled t
         → types.taken_back (types.written (types.begun sort t) text) ≡ t }

@@ -20,11 +20,16 @@ alone verb =
     else if bytes_eq verb (codes "thread.index") then Some (Provided ThreadIndex tt)
     else if bytes_eq verb (codes "thread.resume-later") then Some (Provided ThreadResumeLater tt)
     else if bytes_eq verb (codes "thread.suspend") then Some (Provided ThreadSuspend tt)
-    else if bytes_eq verb (codes "thread.suspend-then-resume") then Some (Provided ThreadSuspendThenResume tt)
-    else if bytes_eq verb (codes "thread.yield-then-resume") then Some (Provided ThreadYieldThenResume tt)
-    else if bytes_eq verb (codes "thread.suspend-then-promote") then Some (Provided ThreadSuspendThenPromote tt)
-    else if bytes_eq verb (codes "thread.yield-then-promote") then Some (Provided ThreadYieldThenPromote tt)
-    else if bytes_eq verb (codes "thread.available-parallelism") then Some (Provided ThreadAvailableParallelism tt)
+    else if bytes_eq verb (codes "thread.suspend-then-resume")
+    then Some (Provided ThreadSuspendThenResume tt)
+    else if bytes_eq verb (codes "thread.yield-then-resume")
+    then Some (Provided ThreadYieldThenResume tt)
+    else if bytes_eq verb (codes "thread.suspend-then-promote")
+    then Some (Provided ThreadSuspendThenPromote tt)
+    else if bytes_eq verb (codes "thread.yield-then-promote")
+    then Some (Provided ThreadYieldThenPromote tt)
+    else if bytes_eq verb (codes "thread.available-parallelism")
+    then Some (Provided ThreadAvailableParallelism tt)
     else None
 
 -- with the index of a type, or of a memory
@@ -50,22 +55,27 @@ with_index verb i =
 abbrev pub with_flag : List ℕ → ℕ → Bool → Option Canonical
 with_flag verb i b =
     if bytes_eq verb (codes "stream.cancel-read") then Some (Provided StreamCancelRead (i, b))
-    else if bytes_eq verb (codes "stream.cancel-write") then Some (Provided StreamCancelWrite (i, b))
+    else if bytes_eq verb (codes "stream.cancel-write")
+    then Some (Provided StreamCancelWrite (i, b))
     else if bytes_eq verb (codes "future.cancel-read") then Some (Provided FutureCancelRead (i, b))
-    else if bytes_eq verb (codes "future.cancel-write") then Some (Provided FutureCancelWrite (i, b))
+    else if bytes_eq verb (codes "future.cancel-write")
+    then Some (Provided FutureCancelWrite (i, b))
     else None
 
 -- with one word: one has a flag alone
 abbrev pub with_one : List ℕ → List ℕ → Option Canonical
 with_one verb word =
-    if bytes_eq verb (codes "subtask.cancel") then option_map (λ b. Provided SubtaskCancel b) (flag word)
+    if bytes_eq verb (codes "subtask.cancel")
+    then option_map (λ b. Provided SubtaskCancel b) (flag word)
     else option_and_then (with_index verb) (number word)
 
 -- with the index of a type and one word more: two have the index of a table
 abbrev pub with_two : List ℕ → ℕ → List ℕ → Option Canonical
 with_two verb i word =
-    if bytes_eq verb (codes "thread.new-indirect") then option_map (λ j. Provided ThreadNewIndirect (i, j)) (number word)
-    else if bytes_eq verb (codes "thread.spawn-indirect") then option_map (λ j. Provided ThreadSpawnIndirect (i, j)) (number word)
+    if bytes_eq verb (codes "thread.new-indirect")
+    then option_map (λ j. Provided ThreadNewIndirect (i, j)) (number word)
+    else if bytes_eq verb (codes "thread.spawn-indirect")
+    then option_map (λ j. Provided ThreadSpawnIndirect (i, j)) (number word)
     else option_and_then (with_flag verb i) (flag word)
 
 -- with all words behind it

@@ -16,7 +16,8 @@ pub record IsListingOf {A : Type 0} (text : List ℕ) (listing : Listing A) : Ty
   pub says : text_bytes text ≡ Some bytes
   pub reading : Reading Wide bytes (map section_view listing.sections.items)
   pub placed : ArePlaced bytes listing.sections.items
-  pub counted : (k : ℕ) → slice_index listing.counts k ≡ count_in k (map section_view listing.sections.items)
+  pub counted : (k : ℕ)
+      → slice_index listing.counts k ≡ count_in k (map section_view listing.sections.items)
 
 -- the text says bytes that have this fault
 abbrev pub IsFaultIn : List ℕ → ListFault → Type 0
@@ -45,13 +46,18 @@ pub record PrintsListingFront (A : Type 0) (text before after : List ℕ) : Type
 
 -- What a reader had left and has left in the end, what a writer held before and after, and what standard error
 -- held, where these are known: the status says what was read and written.
-pub record EndsListing (A : Type 0) (status : ℕ) (left ended before after errors reported : Option (List ℕ)) : Type 0 where
+pub record EndsListing (A : Type 0) (status : ℕ)
+    (left ended before after errors reported : Option (List ℕ)) : Type 0 where
   pub known : (status ≡ 0) ⊎ (status ≡ 1) ⊎ (status ≡ 3) ⊎ (status ≡ 4)
   pub zero : status ≡ 0 → (text old : List ℕ) → left ≡ Some text → before ≡ Some old
-      → (new : List ℕ) × (after ≡ Some new) × (ended ≡ Some []) × PrintsListing A text old new × Keeps errors reported
+      → (new : List ℕ) × (after ≡ Some new) × (ended ≡ Some []) × PrintsListing A text old new ×
+      Keeps errors reported
   pub one : status ≡ 1 → (text : List ℕ) → left ≡ Some text
-      → (after ≡ before) × (ended ≡ Some []) × (text_bytes text ≡ None) × Appends errors reported bad_text
-  pub three : status ≡ 3 → (text : List ℕ) → left ≡ Some text → (after ≡ before) × NamesFault text ended errors reported
+      → (after ≡ before) × (ended ≡ Some []) × (text_bytes text ≡ None) ×
+      Appends errors reported bad_text
+  pub three : status ≡ 3 → (text : List ℕ) → left ≡ Some text
+      → (after ≡ before) × NamesFault text ended errors reported
   pub four : status ≡ 4 → (text old : List ℕ) → left ≡ Some text → before ≡ Some old
       → (new : List ℕ) × (after ≡ Some new)
-      × (((ended ≡ Some []) × PrintsListingFront A text old new × Keeps errors reported) ⊎ (new ≡ old))
+      × (((ended ≡ Some []) × PrintsListingFront A text old new × Keeps errors reported) ⊎
+      (new ≡ old))

@@ -23,11 +23,13 @@ NotListed text Transfer = ⊥
 
 -- what is printed of what a text says
 abbrev pub ListsText : {A : Type 0} → Result (Vec ℕ A) Unlisted → List ℕ → Type 0
-ListsText {A} (Ok printed) text = (listing : Listing A) × IsListingOf text listing × (printed.items ≡ listing_text listing)
+ListsText {A} (Ok printed) text =
+    (listing : Listing A) × IsListingOf text listing × (printed.items ≡ listing_text listing)
 ListsText (Err unlisted) text = NotListed text unlisted
 
 -- All that a reader had left was read, or a read failed, or memory ran out.
-abbrev pub ReadsText : {A : Type 0} → Result (Vec ℕ A) Unlisted → Option (List ℕ) → Option (List ℕ) → Type 0
+abbrev pub ReadsText : {A : Type 0} → Result (Vec ℕ A) Unlisted → Option (List ℕ) → Option (List ℕ)
+    → Type 0
 ReadsText (Ok text) left ended = IsWhole left ended text.items
 ReadsText (Err BadText) left ended = ⊥
 ReadsText (Err (Fault fault)) left ended = fault ≡ Memory
@@ -35,17 +37,22 @@ ReadsText (Err Transfer) left ended = Unit {0}
 
 -- why what a reader had left is not listed
 abbrev pub NotReadAndListed : Unlisted → Option (List ℕ) → Option (List ℕ) → Type 0
-NotReadAndListed BadText left ended = (text : List ℕ) × IsWhole left ended text × (text_bytes text ≡ None)
-NotReadAndListed (Fault fault) left ended = (fault ≡ Memory) ⊎ ((text : List ℕ) × IsWhole left ended text × IsFaultIn text fault)
+NotReadAndListed BadText left ended =
+    (text : List ℕ) × IsWhole left ended text × (text_bytes text ≡ None)
+NotReadAndListed (Fault fault) left ended =
+    (fault ≡ Memory) ⊎ ((text : List ℕ) × IsWhole left ended text × IsFaultIn text fault)
 NotReadAndListed Transfer left ended = Unit {0}
 
 -- what is printed of what a reader had left
-abbrev pub ReadsListing : {A : Type 0} → Result (Vec ℕ A) Unlisted → Option (List ℕ) → Option (List ℕ) → Type 0
-ReadsListing {A} (Ok printed) left ended = (text : List ℕ) × IsWhole left ended text × ListsText {A = A} (Ok printed) text
+abbrev pub ReadsListing : {A : Type 0} → Result (Vec ℕ A) Unlisted → Option (List ℕ)
+    → Option (List ℕ) → Type 0
+ReadsListing {A} (Ok printed) left ended =
+    (text : List ℕ) × IsWhole left ended text × ListsText {A = A} (Ok printed) text
 ReadsListing (Err unlisted) left ended = NotReadAndListed unlisted left ended
 
 -- how it was reported; a place's line also takes memory
 abbrev pub ReportsUnlisted : ℕ → Unlisted → Option (List ℕ) → Option (List ℕ) → Type 0
 ReportsUnlisted status BadText before after = Says status 1 bad_text before after
-ReportsUnlisted status (Fault fault) before after = Says status 3 (fault_line fault) before after ⊎ Says status 3 (fault_line Memory) before after
+ReportsUnlisted status (Fault fault) before after =
+    Says status 3 (fault_line fault) before after ⊎ Says status 3 (fault_line Memory) before after
 ReportsUnlisted status Transfer before after = (status ≡ 4) × (after ≡ before)

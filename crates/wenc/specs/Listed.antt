@@ -18,7 +18,8 @@ IsList args = map string_bytes args ≡ codes "list" ∷ []
 
 -- a text without the LF at its end, if there is one
 abbrev pub without_line_end : List ℕ → List ℕ
-without_line_end text = if slice_index text (length text - 1) == 10 then take (length text - 1) text else text
+without_line_end text =
+    if slice_index text (length text - 1) == 10 then take (length text - 1) text else text
 
 -- The bytes that a text says: an even number of hexadecimal digits, and perhaps an LF.
 abbrev pub text_bytes : List ℕ → Option (List ℕ)

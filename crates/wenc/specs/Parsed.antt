@@ -7,7 +7,8 @@ use Rattle.wenc.specs.declared.failure.Failure.{Failure}
 use Rattle.wenc.specs.declared.failure.Failure.TheVariants.{Arguments, BadLine, Fault, Transfer}
 
 -- The commands, or the first bad line, are those that the script says, unless memory ran out.
-abbrev pub Parses : {A B : Type 0} → Result (Vec (Command B) A) Failure → Result (List CommandTree) ℕ → Type 0
+abbrev pub Parses : {A B : Type 0} → Result (Vec (Command B) A) Failure
+    → Result (List CommandTree) ℕ → Type 0
 Parses (Ok commands) said = said ≡ Ok (map command_view commands.items)
 Parses (Err (BadLine line)) said = said ≡ Err line
 Parses (Err (Fault fault)) said = IsMemory fault

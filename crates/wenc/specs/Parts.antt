@@ -9,7 +9,8 @@ first_grown b (part ∷ parts) = (b ∷ part) ∷ parts
 -- the parts between separators: one more than there are separators
 abbrev pub parted : ℕ → List ℕ → List (List ℕ)
 parted separator [] = [] ∷ []
-parted separator (b ∷ bytes) = if b == separator then [] ∷ parted separator bytes else first_grown b (parted separator bytes)
+parted separator (b ∷ bytes) =
+    if b == separator then [] ∷ parted separator bytes else first_grown b (parted separator bytes)
 
 -- the parts of what is left behind a separator, if there was one
 abbrev pub parted_rest : ℕ → Option (List ℕ) → List (List ℕ)

@@ -28,7 +28,8 @@ no_memory = codes "fault 1" ++ 10 ∷ []
 -- ---- runs
 
 -- The text is a script, its commands ran with answers of which P holds, and what is printed for them was written.
-pub record Prints (P : List (Result (Option ℕ) Fault) → Type 0) (text before after : List ℕ) : Type 0 where
+pub record Prints (P : List (Result (Option ℕ) Fault) → Type 0)
+    (text before after : List ℕ) : Type 0 where
   pub commands : List CommandTree
   pub answers : List (Result (Option ℕ) Fault)
   pub entries : List Entry
@@ -48,7 +49,8 @@ PrintsRefused = Prints (Any IsErr)
 -- status 1: the text has a bad line, whose number was reported, and nothing was written
 abbrev pub NamesBadLine : List ℕ → List ℕ → List ℕ → Option (List ℕ) → Option (List ℕ) → Type 0
 NamesBadLine text before after errors reported =
-    (line : ℕ) × (script text ≡ Err line) × (after ≡ before) × Appends errors reported (line_report line)
+    (line : ℕ) × (script text ≡ Err line) × (after ≡ before) ×
+    Appends errors reported (line_report line)
 
 -- A front of the text was written.
 pub record AppendsFront (before after : Option (List ℕ)) (text : List ℕ) : Type 0 where
@@ -71,18 +73,23 @@ pub record PrintsFront (text before after : List ℕ) : Type 0 where
 
 -- What a reader had left and has left in the end, what a writer held before and after, and what standard error
 -- held, where these are known: the status says what was read and written. With status 2 there was perhaps no memory.
-pub record Ends (status : ℕ) (left ended before after errors reported : Option (List ℕ)) : Type 0 where
+pub record Ends (status : ℕ)
+    (left ended before after errors reported : Option (List ℕ)) : Type 0 where
   pub zero : status ≡ 0 → (text old : List ℕ) → left ≡ Some text → before ≡ Some old
-      → (new : List ℕ) × (after ≡ Some new) × (ended ≡ Some []) × PrintsAccepted text old new × Keeps errors reported
+      → (new : List ℕ) × (after ≡ Some new) × (ended ≡ Some []) × PrintsAccepted text old new ×
+      Keeps errors reported
   pub one : status ≡ 1 → (text old : List ℕ) → left ≡ Some text → before ≡ Some old
-      → (new : List ℕ) × (after ≡ Some new) × (ended ≡ Some []) × NamesBadLine text old new errors reported
+      → (new : List ℕ) × (after ≡ Some new) × (ended ≡ Some []) ×
+      NamesBadLine text old new errors reported
   pub two : status ≡ 2 → (text old : List ℕ) → left ≡ Some text → before ≡ Some old
       → (new : List ℕ) × (after ≡ Some new)
-      × (((ended ≡ Some []) × PrintsRefused text old new × Keeps errors reported) ⊎ ((new ≡ old) × Appends errors reported no_memory))
+      × (((ended ≡ Some []) × PrintsRefused text old new × Keeps errors reported) ⊎
+      ((new ≡ old) × Appends errors reported no_memory))
   pub four : status ≡ 4 → (text old : List ℕ) → left ≡ Some text → before ≡ Some old
       → (new : List ℕ) × (after ≡ Some new)
       × (((ended ≡ Some []) × PrintsFront text old new × Keeps errors reported) ⊎ (new ≡ old))
 
 -- the status says that this text was written, or that a write failed
 abbrev pub Says : ℕ → ℕ → List ℕ → Option (List ℕ) → Option (List ℕ) → Type 0
-Says status meant text before after = ((status ≡ meant) × Appends before after text) ⊎ ((status ≡ 4) × AppendsFront before after text)
+Says status meant text before after =
+    ((status ≡ meant) × Appends before after text) ⊎ ((status ≡ 4) × AppendsFront before after text)

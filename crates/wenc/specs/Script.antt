@@ -15,7 +15,8 @@ use Rattle.wenc.specs.Parts.{parted}
 abbrev pub import_of : List ℕ → Option ComponentExportKind → Option ℕ → Option CommandTree
 import_of name None i = None
 import_of name (Some k) None = None
-import_of name (Some k) (Some i) = Some (Import (record { name = plain_name name; what = reference k i }))
+import_of name (Some k) (Some i) =
+    Some (Import (record { name = plain_name name; what = reference k i }))
 
 abbrev pub import : List (List ℕ) → Option CommandTree
 import (name ∷ k ∷ i ∷ []) = import_of name (kind k) (number i)
@@ -25,7 +26,8 @@ import other = None
 abbrev pub export_of : List ℕ → Option ComponentExportKind → Option ℕ → Option CommandTree
 export_of name None i = None
 export_of name (Some k) None = None
-export_of name (Some k) (Some i) = Some (Export (record { name = plain_name name; kind = k; index = i; what = None }))
+export_of name (Some k) (Some i) =
+    Some (Export (record { name = plain_name name; kind = k; index = i; what = None }))
 
 abbrev pub export : List (List ℕ) → Option CommandTree
 export (name ∷ k ∷ i ∷ []) = export_of name (kind k) (number i)
@@ -54,7 +56,8 @@ start_of (Some f) (Some r) None = None
 start_of (Some f) (Some r) (Some values) = Some (Start f values r)
 
 abbrev pub start : List (List ℕ) → Option CommandTree
-start (function ∷ results ∷ arguments) = start_of (number function) (number results) (numbers arguments)
+start (function ∷ results ∷ arguments) =
+    start_of (number function) (number results) (numbers arguments)
 start other = None
 
 -- append-names
@@ -85,13 +88,15 @@ has_empty ((b ∷ word) ∷ words) = has_empty words
 
 abbrev pub line_command : List ℕ → Option CommandTree
 line_command line =
-    if is_utf8 line then (if has_empty (parted 32 line) then None else command_of (parted 32 line)) else None
+    if is_utf8 line then (if has_empty (parted 32 line) then None else command_of (parted 32 line))
+    else None
 
 abbrev pub with_command : CommandTree → Result (List CommandTree) ℕ → Result (List CommandTree) ℕ
 with_command c (Ok cs) = Ok (c ∷ cs)
 with_command c (Err line) = Err line
 
-abbrev pub with_line : ℕ → Option CommandTree → Result (List CommandTree) ℕ → Result (List CommandTree) ℕ
+abbrev pub with_line : ℕ → Option CommandTree → Result (List CommandTree) ℕ
+    → Result (List CommandTree) ℕ
 with_line n None behind = Err n
 with_line n (Some c) behind = with_command c behind
 
@@ -100,7 +105,8 @@ with_line n (Some c) behind = with_command c behind
 abbrev pub commands_from : ℕ → List (List ℕ) → Result (List CommandTree) ℕ
 commands_from n [] = Ok []
 commands_from n ([] ∷ lines) = commands_from (n + 1) lines
-commands_from n ((b ∷ line) ∷ lines) = with_line n (line_command (b ∷ line)) (commands_from (n + 1) lines)
+commands_from n ((b ∷ line) ∷ lines) =
+    with_line n (line_command (b ∷ line)) (commands_from (n + 1) lines)
 
 -- The commands that a script says, or the number of its first bad line. Lines end by LF, and the last may lack it.
 abbrev pub script : List ℕ → Result (List CommandTree) ℕ

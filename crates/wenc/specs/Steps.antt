@@ -41,7 +41,8 @@ pub record IsWhole (left ended : Option (List ℕ)) (text : List ℕ) : Type 0 w
   pub ends : IsAtEnd ended
 
 -- All that a reader had left was read, or a read failed, or memory ran out.
-abbrev pub ReadsWhole : {A : Type 0} → Result (Vec ℕ A) Failure → Option (List ℕ) → Option (List ℕ) → Type 0
+abbrev pub ReadsWhole : {A : Type 0} → Result (Vec ℕ A) Failure → Option (List ℕ) → Option (List ℕ)
+    → Type 0
 ReadsWhole (Ok text) left ended = IsWhole left ended text.items
 ReadsWhole (Err (BadLine line)) left ended = ⊥
 ReadsWhole (Err (Fault fault)) left ended = IsMemory fault
@@ -50,19 +51,22 @@ ReadsWhole (Err Arguments) left ended = ⊥
 
 -- why what a reader had left was not translated
 abbrev pub NotTranslated : Failure → Option (List ℕ) → Option (List ℕ) → Type 0
-NotTranslated (BadLine line) left ended = (text : List ℕ) × IsWhole left ended text × (script text ≡ Err line)
+NotTranslated (BadLine line) left ended =
+    (text : List ℕ) × IsWhole left ended text × (script text ≡ Err line)
 NotTranslated (Fault fault) left ended = IsMemory fault
 NotTranslated Transfer left ended = Unit {0}
 NotTranslated Arguments left ended = ⊥
 
 -- the translation of what a reader had left
-abbrev pub Reads : {A : Type 0} → Result (Printout A) Failure → Option (List ℕ) → Option (List ℕ) → Type 0
+abbrev pub Reads : {A : Type 0} → Result (Printout A) Failure → Option (List ℕ) → Option (List ℕ)
+    → Type 0
 Reads (Ok p) left ended = (text : List ℕ) × IsWhole left ended text × Translation p text
 Reads (Err failure) left ended = NotTranslated failure left ended
 
 -- how a failure was reported; a line's number also takes memory
 abbrev pub Reported : ℕ → Failure → Option (List ℕ) → Option (List ℕ) → Type 0
 Reported status Arguments before after = Says status 1 usage before after
-Reported status (BadLine line) before after = Says status 1 (line_report line) before after ⊎ Says status 2 no_memory before after
+Reported status (BadLine line) before after =
+    Says status 1 (line_report line) before after ⊎ Says status 2 no_memory before after
 Reported status (Fault fault) before after = Says status 2 (fault_report fault) before after
 Reported status Transfer before after = (status ≡ 4) × (after ≡ before)

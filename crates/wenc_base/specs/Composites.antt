@@ -123,7 +123,12 @@ composite_view (composites.Array a) = array_view a
 composite_view (composites.Struct s) = structure_view s
 
 abbrev pub sub_view : {A : Type 0} → SubType A → Sub
-sub_view s = record { is_final = s.is_final; supertype = s.supertype_idx; composite = composite_view s.composite_type }
+sub_view s =
+    record {
+      is_final = s.is_final;
+      supertype = s.supertype_idx;
+      composite = composite_view s.composite_type;
+    }
 
 abbrev pub group_view : {A : Type 0} → GroupTree A → Group
 group_view (groups.Sub s) = Single (sub_view s)

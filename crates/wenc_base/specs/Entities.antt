@@ -22,7 +22,8 @@ limit_flags is_bounded is_shared is_long = bit 1 is_bounded + (bit 2 is_shared +
 -- a byte of flags, the minimum, and the maximum if there is one
 abbrev pub limits : Bool → Bool → ℕ → Option ℕ → Piece
 limits is_shared is_long minimum None = limit_flags false is_shared is_long ▸ u64 minimum
-limits is_shared is_long minimum (Some maximum) = limit_flags true is_shared is_long ▸ (u64 minimum ⨾ u64 maximum)
+limits is_shared is_long minimum (Some maximum) =
+    limit_flags true is_shared is_long ▸ (u64 minimum ⨾ u64 maximum)
 
 -- a table is never shared
 abbrev pub table_type : Form TableType

@@ -4,23 +4,28 @@ use Rattle.wenc_base.specs.Piece.{Form, Spelling, Strict, Wide}
 
 -- The text is read, whatever follows it.
 abbrev pub TextIsRead : {A : Type 0} → Form A → Type 0
-TextIsRead {A} form = (mode : Spelling) (v : A) (rest : List ℕ) → (form v).Fits → (form v).Reads mode ((form v).text ++ rest) rest
+TextIsRead {A} form = (mode : Spelling) (v : A) (rest : List ℕ) → (form v).Fits
+    → (form v).Reads mode ((form v).text ++ rest) rest
 
 -- What is read strictly is the text, of a value that has one.
 abbrev pub StrictIsText : {A : Type 0} → Form A → Type 0
-StrictIsText {A} form = (v : A) (bytes rest : List ℕ) → (form v).Reads Strict bytes rest → (form v).Fits × (bytes ≡ (form v).text ++ rest)
+StrictIsText {A} form = (v : A) (bytes rest : List ℕ) → (form v).Reads Strict bytes rest
+    → (form v).Fits × (bytes ≡ (form v).text ++ rest)
 
 -- The bytes begin with one value at most, in one way.
 abbrev pub ReadsOnce : {A : Type 0} → Form A → Type 0
-ReadsOnce {A} form = (v w : A) (mode other : Spelling) (bytes r s : List ℕ) → (form v).Reads mode bytes r → (form w).Reads other bytes s → (v ≡ w) × (r ≡ s)
+ReadsOnce {A} form = (v w : A) (mode other : Spelling) (bytes r s : List ℕ)
+    → (form v).Reads mode bytes r → (form w).Reads other bytes s → (v ≡ w) × (r ≡ s)
 
 -- No value's text begins another's.
 abbrev pub IsDelimited : {A : Type 0} → Form A → Type 0
-IsDelimited {A} form = (v w : A) (r s : List ℕ) → (form v).Fits → (form w).Fits → (form v).text ++ r ≡ (form w).text ++ s → (v ≡ w) × (r ≡ s)
+IsDelimited {A} form = (v w : A) (r s : List ℕ) → (form v).Fits → (form w).Fits
+    → (form v).text ++ r ≡ (form w).text ++ s → (v ≡ w) × (r ≡ s)
 
 -- A strict reading is a wide one.
 abbrev pub WideReadsStrict : {A : Type 0} → Form A → Type 0
-WideReadsStrict {A} form = (v : A) (bytes rest : List ℕ) → (form v).Reads Strict bytes rest → (form v).Reads Wide bytes rest
+WideReadsStrict {A} form = (v : A) (bytes rest : List ℕ) → (form v).Reads Strict bytes rest
+    → (form v).Reads Wide bytes rest
 
 -- All of these.
 pub record FormLaws {A : Type 0} (form : Form A) : Type 0 where

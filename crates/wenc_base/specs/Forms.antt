@@ -45,7 +45,8 @@ abbrev pub sized : Whole → Piece
 sized w = record {
   Fits = (length w.text < 2 ^ 32) × w.Fits;
   text = (u32 (length w.text)).text ++ w.text;
-  Reads = λ mode bytes rest. (content : List ℕ) × (u32 (length content)).Reads mode bytes (content ++ rest) × w.ReadsAll mode content;
+  Reads = λ mode bytes rest. (content : List ℕ) ×
+      (u32 (length content)).Reads mode bytes (content ++ rest) × w.ReadsAll mode content;
 }
 
 -- how many bytes, then the bytes

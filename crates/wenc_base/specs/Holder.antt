@@ -36,11 +36,13 @@ no_members = holding [] 0 []
 
 -- one member more, with this text
 abbrev pub with_member : Held → List ℕ → Held
-with_member h text = record { kept = h.kept; count = h.count + 1; body = h.body ++ text; opening = h.opening }
+with_member h text =
+    record { kept = h.kept; count = h.count + 1; body = h.body ++ text; opening = h.opening }
 
 -- the first members, whose texts are the first bytes
 abbrev pub cut_to : Held → ℕ → ℕ → Held
-cut_to h count size = record { kept = h.kept; count = count; body = take size h.body; opening = h.opening }
+cut_to h count size =
+    record { kept = h.kept; count = count; body = take size h.body; opening = h.opening }
 
 -- the kept bytes, then those of the members
 abbrev pub all_bytes : Held → List ℕ
@@ -52,7 +54,8 @@ with_kept h kept = record { kept = kept; count = h.count; body = h.body; opening
 
 -- the first bytes of all, of which some are kept, and the others are the texts of so many members
 abbrev pub gone_back : Held → ℕ → ℕ → ℕ → Held
-gone_back h kept len count = holding (take kept (all_bytes h)) count (drop kept (take len (all_bytes h)))
+gone_back h kept len count =
+    holding (take kept (all_bytes h)) count (drop kept (take len (all_bytes h)))
 
 -- these bytes in the place of those from start to end
 abbrev pub filled : List ℕ → ℕ → ℕ → List ℕ → List ℕ
@@ -101,27 +104,37 @@ CountCause count size Unfinished = ⊥
 
 -- Why a member with this text can't be added: for its own cause, for number or size, or since one is being written.
 abbrev pub AddCause : Held → List ℕ → (Fault → Type 0) → Fault → Type 0
-AddCause h text cause fault = cause fault ⊎ (CountCause h.count (length (h.body ++ text)) fault ⊎ ((fault ≡ Unfinished) × (is_finished h ≡ false)))
+AddCause h text cause fault =
+    cause fault ⊎
+    (CountCause h.count (length (h.body ++ text)) fault ⊎
+    ((fault ≡ Unfinished) × (is_finished h ≡ false)))
 
 -- A member was added, and nothing stood against it.
-pub record Accepted {A : Type 0} (text : A → List ℕ) (old new : Held) (cause : Fault → Type 0) (member : A) : Type 0 where
+pub record Accepted {A : Type 0} (text : A → List ℕ) (old new : Held) (cause : Fault → Type 0)
+    (member : A) : Type 0 where
   pub state : new ≡ with_member old (text member)
-  pub contained : (members : List A) → Contains text old members → Contains text new (members ++ member ∷ [])
+  pub contained : (members : List A) → Contains text old members
+      → Contains text new (members ++ member ∷ [])
   pub free : (fault : Fault) → AddCause old (text member) cause fault → ⊥
 
 -- A call adds this member, or is refused for a cause and changes nothing.
-pub record AddsMember {A : Type 0} (text : A → List ℕ) (old new : Held) (outcome : Result (Unit {0}) Fault) (cause : Fault → Type 0) (member : A) : Type 0 where
+pub record AddsMember {A : Type 0} (text : A → List ℕ) (old new : Held)
+    (outcome : Result (Unit {0}) Fault) (cause : Fault → Type 0) (member : A) : Type 0 where
   pub ok : OnOk outcome (Accepted text old new cause member)
   pub err : OnErr outcome (new ≡ old)
   pub warranted : IfErr outcome (IsWarranted (AddCause old (text member) cause))
   pub unfinished_first : is_finished old ≡ false → outcome ≡ Err Unfinished
 
 -- The same where the member is made of the values that an iterator gives.
-pub record AddsListed {S A B : Type 0} (steps : S → Option B → S → Type 0) (values : S) (text : A → List ℕ) (old new : Held) (outcome : Result (Unit {0}) Fault)
+pub record AddsListed {S A B : Type 0} (steps : S → Option B → S → Type 0) (values : S)
+    (text : A → List ℕ) (old new : Held) (outcome : Result (Unit {0}) Fault)
     (cause : List B → Fault → Type 0) (member : List B → A) : Type 0 where
-  pub ok : OnOk outcome (WholeRun steps values (λ run. Accepted text old new (cause run.items) (member run.items)))
+  pub ok : OnOk outcome
+      (WholeRun steps values (λ run. Accepted text old new (cause run.items) (member run.items)))
   pub err : OnErr outcome (new ≡ old)
-  pub warranted : IfErr outcome (λ fault. SomeRun steps values (λ run. IsWarranted (AddCause old (text (member run.items)) (cause run.items)) fault))
+  pub warranted : IfErr outcome
+      (λ fault. SomeRun steps values
+      (λ run. IsWarranted (AddCause old (text (member run.items)) (cause run.items)) fault))
   pub unfinished_first : is_finished old ≡ false → outcome ≡ Err Unfinished
 
 -- a text, a list of values, another text
@@ -129,5 +142,6 @@ abbrev pub listed_text : {A : Type 0} → List ℕ → (A → List ℕ) → List
 listed_text lead text tail vs = lead ++ (list_text text vs ++ tail)
 
 -- the causes of these, in their order
-abbrev pub listed_cause : {A : Type 0} → (Fault → Type 0) → (A → Fault → Type 0) → (Fault → Type 0) → List A → Fault → Type 0
+abbrev pub listed_cause : {A : Type 0} → (Fault → Type 0) → (A → Fault → Type 0) → (Fault → Type 0)
+    → List A → Fault → Type 0
 listed_cause lead cause tail vs = first_of lead (first_of (drawn_cause cause vs) tail)

@@ -7,7 +7,8 @@ use Rattle.wenc_base.specs.Piece.{Form, Spelling, Strict, Wide}
 -- At most `room` bytes come before the last.
 unfoldable pub groups : ℕ → ℕ → ℕ → List ℕ
 groups top zero n = n ∷ []
-groups top (suc room) n = if nat_lt n top then n ∷ [] else ((n % 128 + 128) ∷ groups top room (n / 128))
+groups top (suc room) n =
+    if nat_lt n top then n ∷ [] else ((n % 128 + 128) ∷ groups top room (n / 128))
 
 -- an unsigned number of up to 64 bits: the last byte has seven bits
 abbrev pub unsigned_text : ℕ → List ℕ
@@ -37,8 +38,10 @@ MayGoOn Wide top n = Unit {0}
 
 pub data ReadsGroups (mode : Spelling) (top : ℕ) : ℕ → ℕ → List ℕ → List ℕ → Type 0 where
   last : {room b : ℕ} {rest : List ℕ} → b < top → ReadsGroups mode top room b (b ∷ rest) rest
-  more : {room n b high : ℕ} {bytes rest : List ℕ} → 128 ≤ b → b < 256 → MayGoOn mode top n → n + 128 ≡ b + 128 * high
-      → ReadsGroups mode top room high bytes rest → ReadsGroups mode top (suc room) n (b ∷ bytes) rest
+  more : {room n b high : ℕ} {bytes rest : List ℕ} → 128 ≤ b → b < 256 → MayGoOn mode top n
+      → n + 128 ≡ b + 128 * high
+      → ReadsGroups mode top room high bytes rest
+      → ReadsGroups mode top (suc room) n (b ∷ bytes) rest
 
 -- a number of 32 bits in at most five bytes
 abbrev pub u32 : Form ℕ
@@ -67,7 +70,8 @@ index n = record {
 -- A signed number is read as its groups are, which are turned over below zero.
 abbrev pub ReadsSigned : ℤ → List ℕ → List ℕ → Type 0
 ReadsSigned (pos n) bytes rest = ReadsGroups Strict 64 9 n bytes rest
-ReadsSigned (negsuc n) bytes rest = (front : List ℕ) × (bytes ≡ turned true front ++ rest) × ReadsGroups Strict 64 9 n front []
+ReadsSigned (negsuc n) bytes rest =
+    (front : List ℕ) × (bytes ≡ turned true front ++ rest) × ReadsGroups Strict 64 9 n front []
 
 -- a signed number of 64 bits in at most ten bytes, which has no other spelling
 abbrev pub i64 : Form ℤ
@@ -91,7 +95,8 @@ sum_from place (b ∷ bytes) = (b % 128) * 128 ^ place + sum_from (suc place) by
 -- All bytes but the last are from 128 to 255, and the last is below 128.
 pub record AreGroups (bytes : List ℕ) : Type 0 where
   pub some : 0 < length bytes
-  pub go_on : (k : ℕ) → k + 1 < length bytes → (128 ≤ slice_index bytes k) × (slice_index bytes k < 256)
+  pub go_on : (k : ℕ) → k + 1 < length bytes
+      → (128 ≤ slice_index bytes k) × (slice_index bytes k < 256)
   pub end : (k : ℕ) → k + 1 ≡ length bytes → slice_index bytes k < 128
 
 abbrev pub last_of : List ℕ → ℕ
@@ -99,16 +104,20 @@ last_of bytes = slice_index bytes (length bytes - 1)
 
 -- The sum, with 128 to the number of bytes taken off where bit 6 of the last byte is set.
 abbrev pub signed_sum : List ℕ → ℤ
-signed_sum bytes = if nat_lt (last_of bytes) 64 then pos (sum_from 0 bytes) else (pos (sum_from 0 bytes) -ℤ pos (128 ^ length bytes))
+signed_sum bytes =
+    if nat_lt (last_of bytes) 64 then pos (sum_from 0 bytes)
+    else (pos (sum_from 0 bytes) -ℤ pos (128 ^ length bytes))
 
 -- groups that sum to n, and no shorter list does the same
 pub record IsUnsignedText (bytes : List ℕ) (n : ℕ) : Type 0 where
   pub groups_of : AreGroups bytes
   pub sum : sum_from 0 bytes ≡ n
-  pub shortest : (other : List ℕ) → AreGroups other → sum_from 0 other ≡ n → length bytes ≤ length other
+  pub shortest : (other : List ℕ) → AreGroups other → sum_from 0 other ≡ n
+      → length bytes ≤ length other
 
 -- the same for a signed number
 pub record IsSignedText (bytes : List ℕ) (z : ℤ) : Type 0 where
   pub groups_of : AreGroups bytes
   pub sum : signed_sum bytes ≡ z
-  pub shortest : (other : List ℕ) → AreGroups other → signed_sum other ≡ z → length bytes ≤ length other
+  pub shortest : (other : List ℕ) → AreGroups other → signed_sum other ≡ z
+      → length bytes ≤ length other

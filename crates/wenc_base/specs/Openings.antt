@@ -18,7 +18,8 @@ opened_with h lead = record {
 
 -- more of that member
 abbrev pub lengthened : Held → List ℕ → Held
-lengthened h text = record { kept = h.kept; count = h.count; body = h.body ++ text; opening = h.opening }
+lengthened h text =
+    record { kept = h.kept; count = h.count; body = h.body ++ text; opening = h.opening }
 
 -- the member is whole
 abbrev pub closed : Held → Held
@@ -59,7 +60,8 @@ pub record HasMembers (IsMember : List ℕ → Type 0) (h : Held) : Type 0 where
   pub opening : OpeningIsIn h.opening h.count (length h.body)
 
 -- A call opens a member with this lead, or is refused for a cause and changes nothing.
-pub record OpensMember (old new : Held) (outcome : Result (Unit {0}) Fault) (lead : List ℕ) : Type 0 where
+pub record OpensMember (old new : Held) (outcome : Result (Unit {0}) Fault)
+    (lead : List ℕ) : Type 0 where
   pub ok : OnOk outcome (new ≡ opened_with old lead)
   pub free : OnOk outcome ((fault : Fault) → AddCause old lead (λ _. ⊥) fault → ⊥)
   pub err : OnErr outcome (new ≡ old)
@@ -68,12 +70,14 @@ pub record OpensMember (old new : Held) (outcome : Result (Unit {0}) Fault) (lea
 
 -- the members have no room for so many more bytes
 abbrev pub no_room : Held → List ℕ → Fault → Type 0
-no_room h text fault = (fault ≡ TooLarge) × (2 ^ 32 ≤ content_size h.count (length (h.body ++ text)))
+no_room h text fault =
+    (fault ≡ TooLarge) × (2 ^ 32 ≤ content_size h.count (length (h.body ++ text)))
 
 -- why no more can be added to a member: for its own cause, or for the size
 abbrev pub MoreCause : Held → List ℕ → (Fault → Type 0) → Fault → Type 0
 MoreCause h text cause = either cause (no_room h text)
 
 -- A call adds this to a member and leaves it so, or is refused for a cause and changes nothing.
-abbrev pub Lengthens : Held → Held → Held → Result (Unit {0}) Fault → (Fault → Type 0) → List ℕ → Type 0
+abbrev pub Lengthens : Held → Held → Held → Result (Unit {0}) Fault → (Fault → Type 0) → List ℕ
+    → Type 0
 Lengthens old new next outcome cause text = Extends old new next outcome (MoreCause old text cause)

@@ -59,7 +59,8 @@ abbrev pub also : ℕ → ℕ → Piece → Piece
 also b other p = record {
   Fits = p.Fits;
   text = b ∷ p.text;
-  Reads = λ mode bytes rest. (middle : List ℕ) × ((bytes ≡ b ∷ middle) ⊎ (IsWide mode × (bytes ≡ other ∷ middle))) × p.Reads mode middle rest;
+  Reads = λ mode bytes rest. (middle : List ℕ) ×
+      ((bytes ≡ b ∷ middle) ⊎ (IsWide mode × (bytes ≡ other ∷ middle))) × p.Reads mode middle rest;
 }
 
 -- a piece that is read widely in another piece's spelling too
@@ -76,7 +77,8 @@ abbrev pub ◌⨾◌ : Piece → Piece → Piece
 p ⨾ q = record {
   Fits = p.Fits × q.Fits;
   text = p.text ++ q.text;
-  Reads = λ mode bytes rest. (middle : List ℕ) × p.Reads mode bytes middle × q.Reads mode middle rest;
+  Reads = λ mode bytes rest. (middle : List ℕ) × p.Reads mode bytes middle ×
+      q.Reads mode middle rest;
 }
 
 -- a piece that is allowed where a fact holds
@@ -88,9 +90,11 @@ only_where P p = record {
 }
 
 -- what is read for each value, one after the other
-abbrev pub ReadsEach : {A : Type 0} → (A → List ℕ → List ℕ → Type 0) → List A → List ℕ → List ℕ → Type 0
+abbrev pub ReadsEach : {A : Type 0} → (A → List ℕ → List ℕ → Type 0) → List A → List ℕ → List ℕ
+    → Type 0
 ReadsEach Reads [] bytes rest = bytes ≡ rest
-ReadsEach Reads (v ∷ vs) bytes rest = (middle : List ℕ) × Reads v bytes middle × ReadsEach Reads vs middle rest
+ReadsEach Reads (v ∷ vs) bytes rest =
+    (middle : List ℕ) × Reads v bytes middle × ReadsEach Reads vs middle rest
 
 -- a piece for each value, one after the other
 abbrev pub each : {A : Type 0} → Form A → Form (List A)

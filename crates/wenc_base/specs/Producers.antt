@@ -43,7 +43,9 @@ producers_section fields = sized (name producers_label ⨾⨾ all_of (list produ
 
 -- its text, where its fields are held
 abbrev pub producers_text : Held → List ℕ
-producers_text h = unsigned_text (10 + content_size h.count (length h.body)) ++ ((name producers_label).text ++ held_text h)
+producers_text h =
+    unsigned_text (10 + content_size h.count (length h.body)) ++
+    ((name producers_label).text ++ held_text h)
 
 -- a field with the tools that are held
 abbrev pub field_bytes : List ℕ → Held → List ℕ
@@ -53,4 +55,5 @@ field_bytes field tools = (name field).text ++ held_text tools
 -- be no number of 32 bits.
 abbrev pub FieldCause : Held → List ℕ → Held → Fault → Type 0
 FieldCause h field tools fault = EncodeCause tools fault ⊎ (text_cause field fault
-    ⊎ ((fault ≡ TooLarge) × (2 ^ 32 ≤ 10 + content_size (h.count + 1) (length (h.body ++ field_bytes field tools)))))
+    ⊎ ((fault ≡ TooLarge) ×
+    (2 ^ 32 ≤ 10 + content_size (h.count + 1) (length (h.body ++ field_bytes field tools)))))

@@ -59,9 +59,16 @@ impl<A: Allocator> Model for Holder<A> {
 
     ghost Value = { Held };
 
-    ghost view = { λ h. record { kept = take h.kept h.bytes.items; count = h.count; body = drop h.kept h.bytes.items; opening = h.opening } };
+    ghost view = { λ h. record {
+      kept = take h.kept h.bytes.items;
+      count = h.count;
+      body = drop h.kept h.bytes.items;
+      opening = h.opening;
+    } };
 
-    ghost invariant = { λ h. (h.kept ≤ length h.bytes.items) × (content_size h.count (length (drop h.kept h.bytes.items)) < 2 ^ 32) × OpeningFits h.opening };
+    ghost invariant = { λ h. (h.kept ≤ length h.bytes.items) ×
+        (content_size h.count (length (drop h.kept h.bytes.items)) < 2 ^ 32) ×
+        OpeningFits h.opening };
 }
 
 impl<A: Allocator> Holder<A> {

@@ -32,11 +32,18 @@ sections_text s = s.closed ++ open_text s.current
 
 -- one more item: in the open section if that is of its kind, else in a new one
 abbrev pub entered_at : List ℕ → Option OpenSection → ℕ → List ℕ → Sections
-entered_at closed None id text = record { closed = closed; current = Some (record { id = id; count = 1; body = text }) }
+entered_at closed None id text =
+    record { closed = closed; current = Some (record { id = id; count = 1; body = text }) }
 entered_at closed (Some o) id text =
     if nat_eq o.id id
-    then (record { closed = closed; current = Some (record { id = o.id; count = o.count + 1; body = o.body ++ text }) })
-    else (record { closed = closed ++ open_text_of o; current = Some (record { id = id; count = 1; body = text }) })
+    then (record {
+      closed = closed;
+      current = Some (record { id = o.id; count = o.count + 1; body = o.body ++ text });
+    })
+    else (record {
+      closed = closed ++ open_text_of o;
+      current = Some (record { id = id; count = 1; body = text });
+    })
 
 abbrev pub entered : Sections → ℕ → List ℕ → Sections
 entered s id text = entered_at s.closed s.current id text
@@ -87,11 +94,16 @@ pub record Content : Type 0 where
 -- the spaces, where these places are taken in one of them
 abbrev pub spaces_with : List Namespace → Option Defined → Option (List ℕ) → List Namespace
 spaces_with spaces None name = spaces
-spaces_with spaces (Some d) name = slice_set spaces d.space (namespace_with (namespace_at spaces d.space) d.number name)
+spaces_with spaces (Some d) name =
+    slice_set spaces d.space (namespace_with (namespace_at spaces d.space) d.number name)
 
 -- one more entry
 abbrev pub with_entry : Content → Entry → Content
-with_entry c e = record { sections = with_item c.sections e.item; spaces = spaces_with c.spaces (defines e.item) e.name }
+with_entry c e =
+    record {
+      sections = with_item c.sections e.item;
+      spaces = spaces_with c.spaces (defines e.item) e.name;
+    }
 
 -- an item that is being written: its section's id, its text so far, its space, and what that is with it
 pub record Begun : Type 0 where
@@ -117,7 +129,8 @@ step s e = settled_in (with_entry s.settled e)
 
 -- what stands alone, with its places and its name or none
 abbrev pub with_alone : Content → Option Defined → Option (List ℕ) → List ℕ → Content
-with_alone c places name text = record { sections = stood_alone c.sections text; spaces = spaces_with c.spaces places name }
+with_alone c places name text =
+    record { sections = stood_alone c.sections text; spaces = spaces_with c.spaces places name }
 
 -- ---- an item that is being written
 
@@ -162,7 +175,8 @@ begun_with s d = record {
 
 abbrev pub longer : Option Begun → List ℕ → Option Begun
 longer None text = None
-longer (Some b) text = Some (record { id = b.id; text = b.text ++ text; space = b.space; after = b.after })
+longer (Some b) text =
+    Some (record { id = b.id; text = b.text ++ text; space = b.space; after = b.after })
 
 abbrev pub appended : State → List ℕ → State
 appended s text = record { settled = s.settled; begun = longer s.begun text }

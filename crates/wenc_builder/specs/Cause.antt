@@ -35,8 +35,10 @@ PlaceCause space (Some d) fault = SpaceCause (space d.space) fault
 
 -- Adding an item makes too much: of what keeps it from being encoded, of what its space is then, or of what the
 -- open section is then.
-abbrev pub AddingCause : (Fault → Type 0) → (ℕ → Namespace) → Option Defined → Option OpenSection → Fault → Type 0
-AddingCause cause space places current fault = cause fault ⊎ (PlaceCause space places fault ⊎ SectionCause current fault)
+abbrev pub AddingCause : (Fault → Type 0) → (ℕ → Namespace) → Option Defined → Option OpenSection
+    → Fault → Type 0
+AddingCause cause space places current fault =
+    cause fault ⊎ (PlaceCause space places fault ⊎ SectionCause current fault)
 
 -- ---- calls
 
@@ -53,4 +55,5 @@ EnterCause old x = CallCause old (item_cause x.item) (with_entry old.settled x) 
 -- the cause that x has after these entries
 abbrev pub EntryCause : List Entry → Entry → Fault → Type 0
 EntryCause es x =
-    AddingCause (item_cause x.item) (namespace_of (es ++ x ∷ [])) (defines x.item) (open_of (runs (items (es ++ x ∷ []))))
+    AddingCause (item_cause x.item) (namespace_of (es ++ x ∷ [])) (defines x.item)
+    (open_of (runs (items (es ++ x ∷ []))))

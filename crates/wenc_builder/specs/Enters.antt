@@ -22,7 +22,8 @@ IsCountAt s (Some d) i = i ≡ (namespace_at s.settled.spaces d.space).count
 -- and only then, it is `Unfinished`.
 pub record EntersWith {R : Type 0} (old new : State) (result : Result R Fault) (x : Entry)
     (Told : List Entry → R → Type 0) (Counted : Option Defined → R → Type 0) : Type 0 where
-  pub held : (es : List Entry) → Holds old es → IfOk result (λ r. Holds new (es ++ x ∷ []) × Told es r)
+  pub held : (es : List Entry) → Holds old es
+      → IfOk result (λ r. Holds new (es ++ x ∷ []) × Told es r)
   pub state : OnOk result (new ≡ step old x)
   pub counted : IfOk result (Counted (defines x.item))
   pub free : OnOk result ((fault : Fault) → EnterCause old x fault → ⊥)
@@ -37,25 +38,34 @@ Enters old new result x =
 
 -- The same, where the entry has no place.
 abbrev pub EntersPlaceless : State → State → Result (Unit {0}) Fault → Entry → Type 0
-EntersPlaceless old new result x = EntersWith old new result x (λ es r. Unit {0}) (λ places r. Unit {0})
+EntersPlaceless old new result x =
+    EntersWith old new result x (λ es r. Unit {0}) (λ places r. Unit {0})
 
 -- The same of a call whose entry is made of the values that an iterator gives: of all of them, or of those that came
 -- before it was refused.
-pub record EntersListed {S B : Type 0} (steps : S → Option B → S → Type 0) (values : S) (old new : State) (result : Result ℕ Fault) (x : List B → Entry) : Type 0 where
+pub record EntersListed {S B : Type 0} (steps : S → Option B → S → Type 0) (values : S)
+    (old new : State) (result : Result ℕ Fault) (x : List B → Entry) : Type 0 where
   pub ok : OnOk result (WholeRun steps values (λ run. Enters old new result (x run.items)))
   pub refused : OnErr result (SomeRun steps values (λ run. Enters old new result (x run.items)))
 
 -- A call begins an item and lends the builder to an encoder, with the item's place; or it is refused for a cause.
-pub record Begins {E : Type 0} (index : E → ℕ) (lent : E → State) (old : State) (result : Result E Fault) (d : Draft) : Type 0 where
+pub record Begins {E : Type 0} (index : E → ℕ) (lent : E → State) (old : State)
+    (result : Result E Fault) (d : Draft) : Type 0 where
   pub begun : IfOk result (λ e. lent e ≡ begun_with old d)
-  pub placed : IfOk result (λ e. (es : List Entry) → Holds old es → index e ≡ place (items es) d.space)
-  pub free : OnOk result ((fault : Fault) → CallCause old (λ _. ⊥) (content_of (begun_with old d)) (Some (draft_place d)) fault → ⊥)
-  pub warranted : IfErr result (IsWarranted (CallCause old (λ _. ⊥) (content_of (begun_with old d)) (Some (draft_place d))))
+  pub placed : IfOk result
+      (λ e. (es : List Entry) → Holds old es → index e ≡ place (items es) d.space)
+  pub free : OnOk result
+      ((fault : Fault)
+      → CallCause old (λ _. ⊥) (content_of (begun_with old d)) (Some (draft_place d)) fault → ⊥)
+  pub warranted : IfErr result
+      (IsWarranted (CallCause old (λ _. ⊥) (content_of (begun_with old d)) (Some (draft_place d))))
   pub unfinished_first : builder_is_finished old ≡ false → result ≡ Err Unfinished
 
 -- A call takes these places or none, which leaves `next` and would leave this content when it is done, and says this of
 -- its answer; or it is refused for a cause and changes nothing.
-pub record TakesWith {R : Type 0} (old new next : State) (result : Result R Fault) (after : Content) (places : Option Defined) (cause : Fault → Type 0) (Told : R → Type 0) : Type 0 where
+pub record TakesWith {R : Type 0} (old new next : State) (result : Result R Fault)
+    (after : Content) (places : Option Defined) (cause : Fault → Type 0)
+    (Told : R → Type 0) : Type 0 where
   pub told : IfOk result Told
   pub ok : OnOk result (new ≡ next)
   pub free : OnOk result ((fault : Fault) → CallCause old cause after places fault → ⊥)
@@ -64,36 +74,59 @@ pub record TakesWith {R : Type 0} (old new next : State) (result : Result R Faul
   pub unfinished_first : builder_is_finished old ≡ false → result ≡ Err Unfinished
 
 -- The same where the answer is the number of items in the places' space.
-abbrev pub TakesPlaces : State → State → State → Result ℕ Fault → Content → Defined → (Fault → Type 0) → Type 0
-TakesPlaces old new next result after d cause = TakesWith old new next result after (Some d) cause (λ i. i ≡ (namespace_at old.settled.spaces d.space).count)
+abbrev pub TakesPlaces : State → State → State → Result ℕ Fault → Content → Defined
+    → (Fault → Type 0) → Type 0
+TakesPlaces old new next result after d cause =
+    TakesWith old new next result after (Some d) cause
+    (λ i. i ≡ (namespace_at old.settled.spaces d.space).count)
 
 -- The same of the place of a draft.
 abbrev pub Takes : State → State → State → Result ℕ Fault → Draft → (Fault → Type 0) → Type 0
-Takes old new next result d cause = TakesPlaces old new next result (content_of (begun_with old d)) (draft_place d) cause
+Takes old new next result d cause =
+    TakesPlaces old new next result (content_of (begun_with old d)) (draft_place d) cause
 
 -- The same of an item that is written and ended too.
 abbrev pub TakesDraft : State → State → Result ℕ Fault → Draft → (Fault → Type 0) → Type 0
 TakesDraft old new result d cause = Takes old new (ended (begun_with old d)) result d cause
 
 -- The same of what stands alone.
-abbrev pub TakesAlone : State → State → Result ℕ Fault → Defined → Option (List ℕ) → List ℕ → (Fault → Type 0) → Type 0
+abbrev pub TakesAlone : State → State → Result ℕ Fault → Defined → Option (List ℕ) → List ℕ
+    → (Fault → Type 0) → Type 0
 TakesAlone old new result d name text cause =
-    TakesPlaces old new (settled_in (with_alone old.settled (Some d) name text)) result (with_alone old.settled (Some d) name text) d cause
+    TakesPlaces old new (settled_in (with_alone old.settled (Some d) name text)) result
+    (with_alone old.settled (Some d) name text) d cause
 
 -- The same of what stands alone and has no place.
-abbrev pub TakesNoPlace : State → State → Result (Unit {0}) Fault → List ℕ → (Fault → Type 0) → Type 0
+abbrev pub TakesNoPlace : State → State → Result (Unit {0}) Fault → List ℕ → (Fault → Type 0)
+    → Type 0
 TakesNoPlace old new result text cause =
-    TakesWith old new (settled_in (with_alone old.settled None None text)) result (with_alone old.settled None None text) None cause (λ r. Unit {0})
+    TakesWith old new (settled_in (with_alone old.settled None None text)) result
+    (with_alone old.settled None None text) None cause (λ r. Unit {0})
 
 -- A call appends a text to the item that is being written, which is made of the values that an iterator gives; where it
 -- is refused, it may have appended a part.
-pub record AppendsListed {S B : Type 0} (steps : S → Option B → S → Type 0) (values : S) (old new : State) (outcome : Result (Unit {0}) Fault) (cause : List B → Fault → Type 0) (text : List B → List ℕ) : Type 0 where
-  pub ok : OnOk outcome (WholeRun steps values (λ run. (new ≡ appended old (text run.items)) × ((fault : Fault) → either (cause run.items) (no_room old (text run.items)) fault → ⊥)))
+pub record AppendsListed {S B : Type 0} (steps : S → Option B → S → Type 0) (values : S)
+    (old new : State) (outcome : Result (Unit {0}) Fault) (cause : List B → Fault → Type 0)
+    (text : List B → List ℕ) : Type 0 where
+  pub ok : OnOk outcome
+      (WholeRun steps values
+      (λ run. (new ≡ appended old (text run.items)) ×
+      ((fault : Fault) → either (cause run.items) (no_room old (text run.items)) fault → ⊥)))
   pub settled : OnErr outcome (new.settled ≡ old.settled)
   pub still : builder_is_finished new ≡ false
-  pub warranted : IfErr outcome (λ fault. SomeRun steps values (λ run. IsWarranted (either (cause run.items) (no_room old (text run.items))) fault))
+  pub warranted : IfErr outcome
+      (λ fault. SomeRun steps values
+      (λ run. IsWarranted (either (cause run.items) (no_room old (text run.items))) fault))
 
 -- The same of a draft whose text is made of the values that an iterator gives.
-pub record TakesListed {S B : Type 0} (steps : S → Option B → S → Type 0) (values : S) (old new : State) (result : Result ℕ Fault) (d : List ℕ → Draft) (cause : List B → Fault → Type 0) (text : List B → List ℕ) : Type 0 where
-  pub ok : OnOk result (WholeRun steps values (λ run. Takes old new (ended (begun_with old (d (text run.items)))) result (d (text run.items)) (cause run.items)))
-  pub refused : OnErr result (SomeRun steps values (λ run. Takes old new (ended (begun_with old (d (text run.items)))) result (d (text run.items)) (cause run.items)))
+pub record TakesListed {S B : Type 0} (steps : S → Option B → S → Type 0) (values : S)
+    (old new : State) (result : Result ℕ Fault) (d : List ℕ → Draft)
+    (cause : List B → Fault → Type 0) (text : List B → List ℕ) : Type 0 where
+  pub ok : OnOk result
+      (WholeRun steps values
+      (λ run. Takes old new (ended (begun_with old (d (text run.items)))) result
+      (d (text run.items)) (cause run.items)))
+  pub refused : OnErr result
+      (SomeRun steps values
+      (λ run. Takes old new (ended (begun_with old (d (text run.items)))) result
+      (d (text run.items)) (cause run.items)))

@@ -30,7 +30,8 @@ import_entry name what = entry (ImportItem (record { name = name; what = what })
 
 abbrev pub export_entry : ExternName → ComponentExportKind → ℕ → Option ComponentTypeRef → Entry
 export_entry name kind index what =
-    entry (ExportItem (record { name = name; kind = kind; index = index; what = what })) (Some name.name)
+    entry (ExportItem (record { name = name; kind = kind; index = index; what = what }))
+    (Some name.name)
 
 abbrev pub alias_entry : Option (List ℕ) → AliasOf → Entry
 alias_entry debug_name to = entry (AliasItem to) debug_name
@@ -70,7 +71,8 @@ provided_entry i values = canonical_entry (Some (provided_name i values)) (Provi
 
 -- that of a canonical function as a tree, which has its own debug name or, lifted or lowered, this one
 abbrev pub canonical_tree_entry : Option (List ℕ) → Canonical → Entry
-canonical_tree_entry debug_name function = canonical_entry (canonical_name debug_name function) function
+canonical_tree_entry debug_name function =
+    canonical_entry (canonical_name debug_name function) function
 
 -- none of these has a name
 abbrev pub start_entry : ℕ → List ℕ → ℕ → Entry
@@ -99,7 +101,8 @@ named_in k (Some d) n name = if nat_eq d.space k then named_as n name else []
 -- the places and names of the named entries in space k, of which the first has place n
 abbrev pub names_from : ℕ → ℕ → List Entry → List Named
 names_from k n [] = []
-names_from k n (e ∷ es) = named_in k (defines e.item) n e.name ++ names_from k (n + defined_in k e.item) es
+names_from k n (e ∷ es) =
+    named_in k (defines e.item) n e.name ++ names_from k (n + defined_in k e.item) es
 
 abbrev pub names : List Entry → ℕ → List Named
 names es k = names_from k 0 es

@@ -11,7 +11,8 @@ use Rattle.wenc_builder.specs.Builder.{OpenSection, Sections, sections_text, Nam
 -- the open section that the last section is, where it collects items
 abbrev pub open_of : List Section → Option OpenSection
 open_of [] = None
-open_of (Run id xs ∷ []) = Some (record { id = id; count = length xs; body = flat_map (λ x. (item x).text) xs })
+open_of (Run id xs ∷ []) =
+    Some (record { id = id; count = length xs; body = flat_map (λ x. (item x).text) xs })
 open_of (Alone x ∷ []) = None
 open_of (s ∷ t ∷ ss) = open_of (t ∷ ss)
 
@@ -21,7 +22,12 @@ pub record SectionsHold (s : Sections) (xs : List Item) : Type 0 where
 
 -- what the entries make of space k
 abbrev pub namespace_of : List Entry → ℕ → Namespace
-namespace_of es k = record { count = place (items es) k; named = length (names es k); names = names_text (names es k) }
+namespace_of es k =
+    record {
+      count = place (items es) k;
+      named = length (names es k);
+      names = names_text (names es k);
+    }
 
 pub record SpacesHold (spaces : List Namespace) (es : List Entry) : Type 0 where
   pub all : length spaces ≡ 13
@@ -37,7 +43,9 @@ pub record Holds (s : State) (es : List Entry) : Type 0 where
 -- an item that is being written takes one place more of its space, with a name or none
 abbrev pub IsPlaced : Content → Option Begun → Type 0
 IsPlaced c None = Unit {0}
-IsPlaced c (Some b) = ∥ ((name : Option (List ℕ)) × (b.after ≡ namespace_with (namespace_at c.spaces b.space) 1 name)) ∥₁
+IsPlaced c (Some b) =
+    ∥ ((name : Option (List ℕ)) ×
+    (b.after ≡ namespace_with (namespace_at c.spaces b.space) 1 name)) ∥₁
 
 -- It holds some entries, but for an item that is being written.
 pub record HoldsSome (s : State) : Type 0 where

@@ -66,7 +66,8 @@ buffered_content b = sections_with b.settled b.writing
 
 -- the header alone
 abbrev pub nothing_buffered : Buffered
-nothing_buffered = record { settled = record { closed = preamble.text; current = None }; writing = None }
+nothing_buffered =
+    record { settled = record { closed = preamble.text; current = None }; writing = None }
 
 abbrev pub buffer_begun : Buffered → ℕ → Buffered
 buffer_begun b id = record { settled = b.settled; writing = Some (record { id = id; text = [] }) }
@@ -118,9 +119,14 @@ id_of (Some k) = kind_id k
 
 -- members behind closed bytes, the last of them being written or none
 abbrev pub member_view : List ℕ → Option Kind → ℕ → List ℕ → Option Opening → Buffered
-member_view closed kind count body None = record { settled = record { closed = closed; current = open_view kind count body }; writing = None }
+member_view closed kind count body None =
+    record {
+      settled = record { closed = closed; current = open_view kind count body };
+      writing = None;
+    }
 member_view closed kind count body (Some o) = record {
-  settled = record { closed = closed; current = open_view kind (count - 1) (take o.member_start body) };
+  settled =
+      record { closed = closed; current = open_view kind (count - 1) (take o.member_start body) };
   writing = Some (record { id = id_of kind; text = drop o.member_start body });
 }
 
@@ -130,7 +136,8 @@ earlier_view kept e = open_view e.kind e.count (drop (e.closed_len + 11) (take e
 
 -- closed bytes, and the members; or the earlier section and one member
 abbrev pub buffer_view : Held → ℕ → Option Kind → Option Earlier → Buffered
-buffer_view h closed_len kind None = member_view (take closed_len h.kept) kind h.count h.body h.opening
+buffer_view h closed_len kind None =
+    member_view (take closed_len h.kept) kind h.count h.body h.opening
 buffer_view h closed_len kind (Some e) = record {
   settled = record { closed = take e.closed_len h.kept; current = earlier_view h.kept e };
   writing = Some (record { id = id_of kind; text = h.body });
@@ -158,7 +165,12 @@ KindIsApart (Some k) e = OpensAnother (open_view e.kind e.count []) (kind_id k)
 
 -- an item behind a gap, and the earlier section before that
 pub record IsApart (h : Held) (kind : Option Kind) (e : Earlier) : Type 0 where
-  pub first : h ≡ record { kept = h.kept; count = 1; body = h.body; opening = Some (record { member_start = 0; lead_end = 0 }) }
+  pub first : h ≡ record {
+    kept = h.kept;
+    count = 1;
+    body = h.body;
+    opening = Some (record { member_start = 0; lead_end = 0 });
+  }
   pub gap : length h.kept ≡ e.items_end + 11
   pub section : SectionIsIn e.kind e.closed_len e.items_end
   pub another : KindIsApart kind e
@@ -166,10 +178,12 @@ pub record IsApart (h : Held) (kind : Option Kind) (e : Earlier) : Type 0 where
   pub fits : SectionFits (earlier_view h.kept e)
 
 abbrev pub EarlierIsIn : Held → ℕ → Option Kind → Option Earlier → Type 0
-EarlierIsIn h closed_len kind None = MembersAreIn kind closed_len h × OpeningIsIn h.opening h.count (length h.body)
+EarlierIsIn h closed_len kind None =
+    MembersAreIn kind closed_len h × OpeningIsIn h.opening h.count (length h.body)
 EarlierIsIn h closed_len kind (Some e) = IsApart h kind e
 
-pub record IsLaidOut (h : Held) (closed_len : ℕ) (kind : Option Kind) (earlier : Option Earlier) : Type 0 where
+pub record IsLaidOut (h : Held) (closed_len : ℕ) (kind : Option Kind)
+    (earlier : Option Earlier) : Type 0 where
   pub places : EarlierIsIn h closed_len kind earlier
 
 -- ---- an item behind a gap
@@ -191,7 +205,9 @@ kept_with kept e = closed_with kept e ++ drop e.items_end kept
 
 -- why all bytes can't be those of a nested component: there are too many, or an item is being written
 abbrev pub NestCause : Buffered → Fault → Type 0
-NestCause b = either (text_cause (sections_text b.settled)) (λ fault. (fault ≡ Unfinished) × (is_none b.writing ≡ false))
+NestCause b =
+    either (text_cause (sections_text b.settled))
+    (λ fault. (fault ≡ Unfinished) × (is_none b.writing ≡ false))
 
 -- The open section, as it would be, is too large.
 abbrev pub NoRoom : Option OpenSection → Fault → Type 0

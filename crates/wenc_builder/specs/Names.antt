@@ -55,7 +55,8 @@ names_held s = holding [] s.named s.names
 
 -- the subsection of names that are kept, where there are some
 abbrev pub space_names : Sort × Held → List ℕ
-space_names p = if nat_eq p.1.count 0 then [] else (subsection (RawNames 0x01 (items_content p.0 p.1))).text
+space_names p =
+    if nat_eq p.1.count 0 then [] else (subsection (RawNames 0x01 (items_content p.0 p.1))).text
 
 -- why it can't be encoded
 abbrev pub space_names_cause : Sort × Held → Fault → Type 0
@@ -81,8 +82,10 @@ kept_names s = by_sort (λ k. names_held (namespace_at s.settled.spaces k))
 -- names that are kept it is the same, whatever was held.
 pub record AddsNames (old new : State) (result : Result (Unit {0}) Fault) : Type 0 where
   pub held : (es : List Entry) → Holds old es
-      → MatchOption (names_entry es) ((result ≡ Ok tt) × (new ≡ old)) (λ x. EntersPlaceless old new result x)
-  pub none : none_named (kept_names old) ≡ true → builder_is_finished old ≡ true → (result ≡ Ok tt) × (new ≡ old)
+      → MatchOption (names_entry es) ((result ≡ Ok tt) × (new ≡ old))
+      (λ x. EntersPlaceless old new result x)
+  pub none : none_named (kept_names old) ≡ true → builder_is_finished old ≡ true
+      → (result ≡ Ok tt) × (new ≡ old)
   pub some : none_named (kept_names old) ≡ false
       → EntersPlaceless old new result (custom_entry names_label (all_names (kept_names old)))
   pub err : OnErr result (new ≡ old)

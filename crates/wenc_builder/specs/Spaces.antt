@@ -45,7 +45,9 @@ spaces_given_up s = record { settled = s.settled; taking = None }
 
 -- a map of names that is finished, and not too large
 abbrev pub NamesFit : Held → Type 0
-NamesFit h = (h ≡ holding [] h.count h.body) × (h.count < 2 ^ 32) × (content_size h.count (length h.body) < 2 ^ 32)
+NamesFit h =
+    (h ≡ holding [] h.count h.body) × (h.count < 2 ^ 32) ×
+    (content_size h.count (length h.body) < 2 ^ 32)
 
 -- what the undo record says of a space with these names
 abbrev pub before : Undo → List ℕ → Namespace
@@ -60,4 +62,6 @@ spaced_view spaces (Some u) = record {
 
 abbrev pub CanUndo : List Namespace → Option Undo → Type 0
 CanUndo spaces None = length spaces ≡ 13
-CanUndo spaces (Some u) = (length spaces ≡ 13) × (u.space < 13) × (u.named ≤ (namespace_at spaces u.space).named) × (u.len ≤ length (namespace_at spaces u.space).names)
+CanUndo spaces (Some u) =
+    (length spaces ≡ 13) × (u.space < 13) × (u.named ≤ (namespace_at spaces u.space).named) ×
+    (u.len ≤ length (namespace_at spaces u.space).names)

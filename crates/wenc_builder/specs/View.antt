@@ -15,7 +15,8 @@ Agree (Some w) (Some t) = Unit {0}
 abbrev pub begun_of : Option Writing → Option Taking → Option Begun
 begun_of None t = None
 begun_of (Some w) None = None
-begun_of (Some w) (Some t) = Some (record { id = w.id; text = w.text; space = t.space; after = t.after })
+begun_of (Some w) (Some t) =
+    Some (record { id = w.id; text = w.text; space = t.space; after = t.after })
 
 abbrev pub builder_view : Buffered → Spaced → State
 builder_view b s = record {

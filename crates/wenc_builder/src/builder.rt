@@ -664,7 +664,8 @@ impl<A: Allocator> ComponentBuilder<A> {
     /// Gives up the item that is being written, with its index, its debug name and its place in a section, and says
     /// whether there was one. It takes no memory.
     pub fn discard_unfinished(&mut self) -> bool
-        ensures { GivesUp self.new (builder_given_up self.old) (builder_is_finished self.old) result }
+        ensures { GivesUp self.new (builder_given_up self.old)
+            (builder_is_finished self.old) result }
     {
         if self.is_finished() {
             return false;

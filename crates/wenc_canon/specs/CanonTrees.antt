@@ -31,7 +31,8 @@ canon_view (trees.FutureCancelWrite ty async_) = Provided FutureCancelWrite (ty,
 canon_view (trees.FutureDropReadable ty) = Provided FutureDropReadable ty
 canon_view (trees.FutureDropWritable ty) = Provided FutureDropWritable ty
 canon_view (trees.ErrorContextNew options) = Provided ErrorContextNew options.items
-canon_view (trees.ErrorContextDebugMessage options) = Provided ErrorContextDebugMessage options.items
+canon_view (trees.ErrorContextDebugMessage options) =
+    Provided ErrorContextDebugMessage options.items
 canon_view trees.ErrorContextDrop = Provided ErrorContextDrop tt
 canon_view trees.WaitableSetNew = Provided WaitableSetNew tt
 canon_view (trees.WaitableSetWait memory) = Provided WaitableSetWait (tt, memory)

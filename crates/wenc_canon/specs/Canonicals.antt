@@ -199,7 +199,8 @@ pub data Canonical : Type 0 where
   Provided : (i : Intrinsic) → Values (row i).fields → Canonical
 
 abbrev pub canonical : Form Canonical
-canonical (Lift function options type_index) = 0x00 ▸ 0x00 ▸ u32 function ⨾ list canonical_option options ⨾ u32 type_index
+canonical (Lift function options type_index) =
+    0x00 ▸ 0x00 ▸ u32 function ⨾ list canonical_option options ⨾ u32 type_index
 canonical (Lower function options) = 0x01 ▸ 0x00 ▸ u32 function ⨾ list canonical_option options
 canonical (Provided i values) = (row i).opcode ▸ fields (row i).fields values
 
@@ -234,9 +235,13 @@ text_with_options opcode fields options = opcode ∷ (fields ++ (list canonical_
 -- ---- what the calls of a section add
 
 -- this intrinsic, with the values of its fields
-abbrev pub Adds : Held → Held → Result (Unit {0}) Fault → (i : Intrinsic) → Values (row i).fields → Type 0
-Adds old new outcome i values = AddsMember canonical_text old new outcome (λ fault. ⊥) (Provided i values)
+abbrev pub Adds : Held → Held → Result (Unit {0}) Fault → (i : Intrinsic) → Values (row i).fields
+    → Type 0
+Adds old new outcome i values =
+    AddsMember canonical_text old new outcome (λ fault. ⊥) (Provided i values)
 
 -- a function that is made of the options which an iterator gives
-abbrev pub AddsWithOptions : {S : Type 0} → (S → Option CanonicalOption → S → Type 0) → S → Held → Held → Result (Unit {0}) Fault → (List CanonicalOption → Canonical) → Type 0
-AddsWithOptions steps options old new outcome function = AddsListed steps options canonical_text old new outcome (λ os. count_cause (length os)) function
+abbrev pub AddsWithOptions : {S : Type 0} → (S → Option CanonicalOption → S → Type 0) → S → Held
+    → Held → Result (Unit {0}) Fault → (List CanonicalOption → Canonical) → Type 0
+AddsWithOptions steps options old new outcome function =
+    AddsListed steps options canonical_text old new outcome (λ os. count_cause (length os)) function

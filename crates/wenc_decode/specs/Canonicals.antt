@@ -10,10 +10,17 @@ abbrev pub read_zero : Reader (Unit {0})
 read_zero = read_field Zero
 
 abbrev pub read_lifted : Reader Canonical
-read_lifted = choose ((0x00, read_u32 >>= λ f. read_list read_option >>= λ os. read_u32 >>= λ t. give (Lift f os t)) ∷ []) nowhere
+read_lifted =
+    choose ((
+      0x00,
+      read_u32 >>= λ f. read_list read_option >>= λ os. read_u32 >>= λ t. give (Lift f os t),
+    ) ∷ [])
+    nowhere
 
 abbrev pub read_lowered : Reader Canonical
-read_lowered = choose ((0x00, read_u32 >>= λ f. read_list read_option >>= λ os. give (Lower f os)) ∷ []) nowhere
+read_lowered =
+    choose ((0x00, read_u32 >>= λ f. read_list read_option >>= λ os. give (Lower f os)) ∷ [])
+    nowhere
 
 -- the table behind the rows of functions, resources and tasks
 abbrev pub stream_rows : List (ℕ × Reader Canonical)

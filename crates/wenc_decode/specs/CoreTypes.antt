@@ -14,7 +14,12 @@ read_referred nullable = read_heap_type >>= λ h. give (to nullable h)
 
 -- a type of a component around
 abbrev pub read_outer_type : Reader ModuleDeclaration
-read_outer_type = choose ((0x10, choose ((0x01, read_u32 >>= λ count. read_u32 >>= λ number. give (Outer count number)) ∷ []) nowhere) ∷ []) nowhere
+read_outer_type =
+    choose ((
+      0x10,
+      choose ((0x01, read_u32 >>= λ count. read_u32 >>= λ number. give (Outer count number)) ∷ [])
+          nowhere,
+    ) ∷ []) nowhere
 
 -- a type that can be extended, behind its guard
 abbrev pub read_guarded : Reader CoreType

@@ -16,7 +16,8 @@ abbrev pub read_bounds : {A : Type 0} → Bool → (ℕ → Option ℕ → A) �
 read_bounds has_maximum make = read_u64 >>= λ n. read_maximum has_maximum >>= λ m. give (make n m)
 
 abbrev pub memory_so : Bool → Bool → ℕ → Option ℕ → MemoryType
-memory_so is_shared is_long n m = record { minimum = n; maximum = m; memory64 = is_long; shared = is_shared }
+memory_so is_shared is_long n m =
+    record { minimum = n; maximum = m; memory64 = is_long; shared = is_shared }
 
 abbrev pub table_so : RefType → Bool → ℕ → Option ℕ → TableType
 table_so r is_long n m = record { element_type = r; table64 = is_long; minimum = n; maximum = m }

@@ -47,9 +47,11 @@ repeat read zero = yield []
 repeat read (suc n) = read >>> λ v. repeat read n >>> λ vs. yield (v ∷ vs)
 
 -- the row of the first byte, behind it, or else the other reader, of all of the bytes
-abbrev pub take_row : {A : Type 0} → List (ℕ × DeepReader A) → DeepReader A → List ℕ → ℕ → DeepReader A
+abbrev pub take_row : {A : Type 0} → List (ℕ × DeepReader A) → DeepReader A → List ℕ → ℕ
+    → DeepReader A
 take_row [] other bytes first rest = other bytes
-take_row (row ∷ table) other bytes first rest = if nat_eq first row.0 then row.1 rest else take_row table other bytes first rest
+take_row (row ∷ table) other bytes first rest =
+    if nat_eq first row.0 then row.1 rest else take_row table other bytes first rest
 
 -- It stays shut, so that antt finds the table of a reader that is given.
 unfoldable pub select : {A : Type 0} → List (ℕ × DeepReader A) → DeepReader A → DeepReader A

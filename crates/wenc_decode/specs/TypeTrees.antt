@@ -29,16 +29,22 @@ abbrev pub read_instance_declaration : DeepReader TypeOf → DeepReader Instance
 read_instance_declaration read = select (instance_rows read) refuse
 
 abbrev pub read_component_declaration : DeepReader TypeOf → DeepReader ComponentDeclaration
-read_component_declaration read = select ((0x03, flat read_imported) ∷ []) (read_instance_declaration read >>> λ d. yield (Declared d))
+read_component_declaration read =
+    select ((0x03, flat read_imported) ∷ [])
+    (read_instance_declaration read >>> λ d. yield (Declared d))
 
 -- ---- types
 
 -- declarations, behind the first byte of the type that has them
 abbrev pub read_components : DeepReader TypeOf → DeepReader TypeOf
-read_components read = flat read_u32 >>> λ n. repeat (read_component_declaration read) n >>> λ ds. yield (ComponentType (components_of ds))
+read_components read =
+    flat read_u32 >>> λ n. repeat (read_component_declaration read) n >>> λ ds. yield
+    (ComponentType (components_of ds))
 
 abbrev pub read_instances : DeepReader TypeOf → DeepReader TypeOf
-read_instances read = flat read_u32 >>> λ n. repeat (read_instance_declaration read) n >>> λ ds. yield (InstanceType (instances_of ds))
+read_instances read =
+    flat read_u32 >>> λ n. repeat (read_instance_declaration read) n >>> λ ds. yield
+    (InstanceType (instances_of ds))
 
 -- what doesn't nest
 abbrev pub read_shallow : DeepReader TypeOf
@@ -55,7 +61,9 @@ type_rows components instances =
 -- a type in which so many component and instance types may stand in one another
 unfoldable pub read_type : ℕ → DeepReader TypeOf
 read_type zero = select (type_rows too_deep too_deep) read_shallow
-read_type (suc depth) = select (type_rows (read_components (read_type depth)) (read_instances (read_type depth))) read_shallow
+read_type (suc depth) =
+    select (type_rows (read_components (read_type depth)) (read_instances (read_type depth)))
+    read_shallow
 
 -- the declarations of a component type, or of an instance type, where so many may still open
 abbrev pub read_component_type : ℕ → DeepReader TypeOf

@@ -12,7 +12,9 @@ use Rattle.wenc_types.specs.DefinedTypes.{Defined}
 use Rattle.wenc_types.specs.laws.DefinedTypes.{defined_rows, read_named, to_function}
 
 abbrev pub primitive_types : List PrimitiveValType
-primitive_types = BoolType ∷ S8 ∷ U8 ∷ S16 ∷ U16 ∷ S32 ∷ U32 ∷ S64 ∷ U64 ∷ F32 ∷ F64 ∷ Char ∷ String ∷ ErrorContext ∷ []
+primitive_types =
+    BoolType ∷ S8 ∷ U8 ∷ S16 ∷ U16 ∷ S32 ∷ U32 ∷ S64 ∷ U64 ∷ F32 ∷ F64 ∷ Char ∷ String ∷
+    ErrorContext ∷ []
 
 -- a type of values that is no primitive one, behind this byte
 abbrev pub read_defined_row : ℕ → Reader Defined
@@ -24,8 +26,11 @@ handle_rows = drop 8 (defined_rows (λ t. t))
 
 -- the parameters of a function, and what it answers
 abbrev pub read_function_type : Bool → Reader TypeOf
-read_function_type is_async = read_list read_named >>= λ params. read_result_list >>= λ answer. give (FunctionType (to_function is_async params answer))
+read_function_type is_async =
+    read_list read_named >>= λ params. read_result_list >>= λ answer. give
+    (FunctionType (to_function is_async params answer))
 
 -- how a resource is represented, and what ends it
 abbrev pub read_resource_type : Reader TypeOf
-read_resource_type = read_val_type >>= λ rep. read_option read_u32 >>= λ dtor. give (ResourceType rep dtor)
+read_resource_type =
+    read_val_type >>= λ rep. read_option read_u32 >>= λ dtor. give (ResourceType rep dtor)

@@ -135,7 +135,8 @@ pub(crate) fn open<A: Allocator + Copy>(
 /// A type that extends another and can't be extended.
 #[tactic(auto, unfolding(wenc_base::specs::laws::Lawful::choose))]
 fn closed<A: Allocator + Copy>(alloc: A, bytes: &[u8]) -> Result<(SubType<A>, &[u8]), Refusal>
-    ensures { Gives (λ x. (sub_view x.0, x.1.now)) result (read_closed (λ n c. sub_of true (Some n) c) bytes.now) }
+    ensures { Gives (λ x. (sub_view x.0, x.1.now)) result
+        (read_closed (λ n c. sub_of true (Some n) c) bytes.now) }
 {
     match byte(bytes)? {
         (0x01, rest) => {

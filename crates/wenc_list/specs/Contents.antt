@@ -72,7 +72,9 @@ abbrev pub read_custom_content : List ℕ → Option Custom
 read_custom_content content = go_on (read_name content) (λ label. read_bytes (labelled label))
 
 abbrev pub read_start_content : List ℕ → Option Start
-read_start_content = done (read_u32 >>= λ function. read_list read_u32 >>= λ arguments. read_u32 >>= λ results. give (started function arguments results))
+read_start_content =
+    done (read_u32 >>= λ function. read_list read_u32 >>= λ arguments. read_u32 >>= λ results. give
+    (started function arguments results))
 
 abbrev pub read_raw : List ℕ → Option (List ℕ)
 read_raw = read_bytes (λ bytes. bytes)
@@ -100,7 +102,11 @@ read_content depth id content =
 -- the id, at most 11, and the content of the section that begins here
 abbrev pub read_frame : Reader (ℕ × List ℕ)
 read_frame [] = None
-read_frame (id ∷ bytes) = if nat_lt 11 id then None else go_on (read_u32 bytes) (λ size rest. if nat_lt (length rest) size then None else Some ((id, take size rest), drop size rest))
+read_frame (id ∷ bytes) =
+    if nat_lt 11 id then None
+    else go_on (read_u32 bytes)
+    (λ size rest. if nat_lt (length rest) size then None
+    else Some ((id, take size rest), drop size rest))
 
 -- ---- faults
 
@@ -113,5 +119,6 @@ fault_of_frame refusals.TooDeep place = faults.BadSection place
 -- why the content of a section with this id isn't read
 abbrev pub fault_of_content : Refusal → ℕ → ℕ → ListFault
 fault_of_content refusals.Memory id place = faults.Memory
-fault_of_content refusals.Malformed id place = if nat_eq id 0 then faults.BadSection place else faults.BadItem place
+fault_of_content refusals.Malformed id place =
+    if nat_eq id 0 then faults.BadSection place else faults.BadItem place
 fault_of_content refusals.TooDeep id place = faults.TooDeep place

@@ -22,10 +22,13 @@ item_view (trees.Instance instance) = InstanceItem (instance_tree_view instance)
 item_view (trees.Alias alias) = AliasItem (alias_tree_view alias)
 item_view (trees.«Type» ty) = TypeItem (type_view ty)
 item_view (trees.Canon canon) = CanonItem (canon_view canon)
-item_view (trees.Start function args results) = StartItem (record { function = function; arguments = args.items; results = results })
+item_view (trees.Start function args results) =
+    StartItem (record { function = function; arguments = args.items; results = results })
 item_view (trees.Import name ty) = ImportItem (record { name = name_tree_view name; what = ty })
-item_view (trees.Export name kind index ty) = ExportItem (record { name = name_tree_view name; kind = kind; index = index; what = ty })
-item_view (trees.Custom name bytes) = CustomItem (record { label = string_bytes name; bytes = bytes.items })
+item_view (trees.Export name kind index ty) =
+    ExportItem (record { name = name_tree_view name; kind = kind; index = index; what = ty })
+item_view (trees.Custom name bytes) =
+    CustomItem (record { label = string_bytes name; bytes = bytes.items })
 
 -- an item that is a section of its own
 abbrev pub alone : ℕ → List Item → Section

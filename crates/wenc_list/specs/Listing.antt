@@ -40,7 +40,8 @@ IsLabelled (suc id) content = Unit {0}
 
 -- no section begins here: an unknown id, no size, fewer bytes than that, or a custom section without a name
 abbrev pub IsBadSection : List ℕ → Type 0
-IsBadSection bytes = (id : ℕ) (content rest : List ℕ) → IsFramed bytes id content rest → IsLabelled id content → ⊥
+IsBadSection bytes = (id : ℕ) (content rest : List ℕ) → IsFramed bytes id content rest
+    → IsLabelled id content → ⊥
 
 -- a section begins here, whose content isn't that of any section
 pub record IsBadItem (bytes : List ℕ) : Type 0 where
@@ -68,7 +69,9 @@ Begins byte bytes = (rest : List ℕ) × (bytes ≡ byte ∷ rest)
 -- other up to the rest.
 abbrev pub AreFrom : {A : Type 0} → ℕ → List (ListedSection A) → List ℕ → List ℕ → Type 0
 AreFrom all [] bytes rest = bytes ≡ rest
-AreFrom all (s ∷ ss) bytes rest = (middle : List ℕ) × (section_piece (section_view s)).Reads Wide bytes middle × (all ≡ s.place + length bytes) × Begins s.id bytes × AreFrom all ss middle rest
+AreFrom all (s ∷ ss) bytes rest =
+    (middle : List ℕ) × (section_piece (section_view s)).Reads Wide bytes middle ×
+    (all ≡ s.place + length bytes) × Begins s.id bytes × AreFrom all ss middle rest
 
 -- how many places in space k the items of these sections take
 abbrev pub count_in : ℕ → List Section → ℕ
@@ -76,13 +79,15 @@ count_in k ss = place (flat_map members ss) k
 
 -- so it is of all of a component, behind its header
 abbrev pub ArePlaced : {A : Type 0} → List ℕ → List (ListedSection A) → Type 0
-ArePlaced bytes ss = (behind : List ℕ) × preamble.Reads Wide bytes behind × AreFrom (length bytes) ss behind []
+ArePlaced bytes ss =
+    (behind : List ℕ) × preamble.Reads Wide bytes behind × AreFrom (length bytes) ss behind []
 
 -- ---- what stands against it
 
 -- no section is read here within depth 100
 abbrev pub IsNoneWithin : List ℕ → Type 0
-IsNoneWithin bytes = (s : Section) (rest : List ℕ) → (section_piece s).Reads Wide bytes rest → AreWithin 100 (s ∷ []) → ⊥
+IsNoneWithin bytes = (s : Section) (rest : List ℕ) → (section_piece s).Reads Wide bytes rest
+    → AreWithin 100 (s ∷ []) → ⊥
 
 -- Sections are read within depth 100, of so many bytes in all, up to this place; the next one isn't, and P holds of
 -- the bytes from there on.
@@ -111,12 +116,16 @@ HasNoHeader bytes = (rest : List ℕ) → preamble.Reads Wide bytes rest → ⊥
 abbrev pub IsFaultOf : List ℕ → ListFault → Type 0
 IsFaultOf bytes faults.Memory = Unit {0}
 IsFaultOf bytes (faults.NotAComponent place) = (place ≡ 0) × HasNoHeader bytes
-IsFaultOf bytes fault = (behind : List ℕ) × preamble.Reads Wide bytes behind × IsFaultBehind (length bytes) behind fault
+IsFaultOf bytes fault =
+    (behind : List ℕ) × preamble.Reads Wide bytes behind × IsFaultBehind (length bytes) behind fault
 
 -- the fault has its cause in the section that begins here
 abbrev pub IsFaultHere : ℕ → List ℕ → ListFault → Type 0
 IsFaultHere here bytes faults.Memory = Unit {0}
 IsFaultHere here bytes (faults.NotAComponent place) = ⊥
-IsFaultHere here bytes (faults.BadSection place) = (place ≡ here) × IsNoneWithin bytes × IsBadSection bytes
-IsFaultHere here bytes (faults.BadItem place) = (place ≡ here) × IsNoneWithin bytes × IsBadItem bytes
-IsFaultHere here bytes (faults.TooDeep place) = (place ≡ here) × IsNoneWithin bytes × IsTooDeep bytes
+IsFaultHere here bytes (faults.BadSection place) =
+    (place ≡ here) × IsNoneWithin bytes × IsBadSection bytes
+IsFaultHere here bytes (faults.BadItem place) =
+    (place ≡ here) × IsNoneWithin bytes × IsBadItem bytes
+IsFaultHere here bytes (faults.TooDeep place) =
+    (place ≡ here) × IsNoneWithin bytes × IsTooDeep bytes

@@ -9,7 +9,8 @@ ghost use Rattle.wenc_list.specs.declared.fault.ListFault.{ListFault};
 /// Where bytes are read widely as sections in which no type is deeper than 100, no fault stands against them, but want
 /// of memory. Where they are read as any sections, every other fault that stands is `TooDeep`.
 pub fn faults_of_what_is_read()
-    ensures no_fault { (bytes : List ℕ) (ss : List Section) → Reading Wide bytes ss → AreWithin 100 ss
+    ensures no_fault { (bytes : List ℕ) (ss : List Section) → Reading Wide bytes ss
+        → AreWithin 100 ss
         → (fault : ListFault) → IsFaultOf bytes fault → fault ≡ Memory }
     ensures too_deep { (bytes : List ℕ) (ss : List Section) → Reading Wide bytes ss
         → (fault : ListFault) → IsFaultOf bytes fault

@@ -76,7 +76,8 @@ fn section<A: Allocator + Copy>(
     place: usize,
     bytes: &[u8],
 ) -> Result<(ListedSection<A>, &[u8]), ListFault>
-    ensures read { IfOk result (λ x. (section_piece (section_view x.0)).Reads Wide bytes.now x.1.now) }
+    ensures read { IfOk result
+        (λ x. (section_piece (section_view x.0)).Reads Wide bytes.now x.1.now) }
     ensures within { IfOk result (λ x. AreWithin 100 (section_view x.0 ∷ [])) }
     ensures placed { IfOk result (λ x. x.0.place ≡ place) }
     ensures begins { IfOk result (λ x. Begins x.0.id bytes.now) }
@@ -136,7 +137,8 @@ fn sections<A: Allocator + Copy>(
 /// ```
 pub fn list<A: Allocator + Copy>(alloc: A, bytes: &[u8]) -> Result<Listing<A>, ListFault>
     // What is listed is read of the bytes, widely, up to their end.
-    ensures reading { IfOk result (λ l. Reading Wide bytes.now (map section_view l.sections.items)) }
+    ensures reading { IfOk result
+        (λ l. Reading Wide bytes.now (map section_view l.sections.items)) }
     // No type in it is deeper than 100.
     ensures within { IfOk result (λ l. AreWithin 100 (map section_view l.sections.items)) }
     // Each section is read where it is placed, and its id is the byte there.

@@ -34,7 +34,8 @@ pub data AliasOf : Type 0 where
 
 abbrev pub alias : Form AliasOf
 alias (InstanceExport instance kind name) = export_kind kind ⨾ 0x00 ▸ u32 instance ⨾ name_form name
-alias (CoreInstanceExport instance kind name) = 0x00 ▸ core_kind kind ⨾ 0x01 ▸ u32 instance ⨾ name_form name
+alias (CoreInstanceExport instance kind name) =
+    0x00 ▸ core_kind kind ⨾ 0x01 ▸ u32 instance ⨾ name_form name
 alias (Outer kind count number) = outer_kind kind ⨾ 0x02 ▸ u32 count ⨾ u32 number
 
 abbrev pub alias_text : AliasOf → List ℕ
@@ -49,11 +50,15 @@ alias_cause (Outer kind count number) fault = ⊥
 -- ---- the code's aliases as pure ones
 
 abbrev pub alias_view : Alias → AliasOf
-alias_view (alias_variants.InstanceExport instance kind name) = InstanceExport instance kind name.now
-alias_view (alias_variants.CoreInstanceExport instance kind name) = CoreInstanceExport instance kind name.now
+alias_view (alias_variants.InstanceExport instance kind name) =
+    InstanceExport instance kind name.now
+alias_view (alias_variants.CoreInstanceExport instance kind name) =
+    CoreInstanceExport instance kind name.now
 alias_view (alias_variants.Outer kind count index) = Outer kind count index
 
 abbrev pub alias_tree_view : {A : Type 0} → AliasTree A → AliasOf
-alias_tree_view (tree_variants.InstanceExport instance kind name) = InstanceExport instance kind (string_bytes name)
-alias_tree_view (tree_variants.CoreInstanceExport instance kind name) = CoreInstanceExport instance kind (string_bytes name)
+alias_tree_view (tree_variants.InstanceExport instance kind name) =
+    InstanceExport instance kind (string_bytes name)
+alias_tree_view (tree_variants.CoreInstanceExport instance kind name) =
+    CoreInstanceExport instance kind (string_bytes name)
 alias_tree_view (tree_variants.Outer kind count index) = Outer kind count index

@@ -48,7 +48,8 @@ pub record ExternName : Type 0 where
 
 -- a name without options
 abbrev pub plain_name : List ℕ → ExternName
-plain_name name = record { name = name; implements = None; version_suffix = None; external_id = None }
+plain_name name =
+    record { name = name; implements = None; version_suffix = None; external_id = None }
 
 pub data NameOption : Type 0 where
   Implements : (text : List ℕ) → NameOption
@@ -66,7 +67,9 @@ present make (Some text) = make text ∷ []
 
 -- the options that are there, in ascending order of what they begin with
 abbrev pub name_options : ExternName → List NameOption
-name_options n = present Implements n.implements ++ (present VersionSuffix n.version_suffix ++ present ExternalId n.external_id)
+name_options n =
+    present Implements n.implements ++
+    (present VersionSuffix n.version_suffix ++ present ExternalId n.external_id)
 
 -- 01 is an older spelling of 00
 abbrev pub name_with : List ℕ → List NameOption → Piece
@@ -87,7 +90,10 @@ OptionFits None = Unit {0}
 OptionFits (Some text) = (name text).Fits
 
 abbrev pub extern_name_cause : ExternName → Fault → Type 0
-extern_name_cause n fault = text_cause n.name fault ⊎ (option_cause n.implements fault ⊎ (option_cause n.version_suffix fault ⊎ option_cause n.external_id fault))
+extern_name_cause n fault =
+    text_cause n.name fault ⊎
+    (option_cause n.implements fault ⊎
+    (option_cause n.version_suffix fault ⊎ option_cause n.external_id fault))
 
 -- ---- the code's names as pure ones
 

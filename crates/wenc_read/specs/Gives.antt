@@ -11,7 +11,8 @@ Fails refusals.Malformed found = found ≡ None
 Fails refusals.TooDeep found = ⊥
 
 -- What was returned, seen by view, is what the reader finds, unless memory ran out.
-abbrev pub Gives : {X A : Type 0} → (X → A × List ℕ) → Result X Refusal → Option (A × List ℕ) → Type 0
+abbrev pub Gives : {X A : Type 0} → (X → A × List ℕ) → Result X Refusal → Option (A × List ℕ)
+    → Type 0
 Gives view (Ok x) found = found ≡ Some (view x)
 Gives view (Err e) found = Fails e found
 

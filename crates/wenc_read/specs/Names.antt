@@ -14,7 +14,8 @@ option_view (options.ExternalId text) = ExternalId (string_bytes text)
 
 -- where they ascend from this number on
 abbrev pub ascending : List ℕ → ℕ → List NameOption → Reader ExternName
-ascending text least options bytes = cond (ascend_from least options) (Some (with_options text options, bytes)) None
+ascending text least options bytes =
+    cond (ascend_from least options) (Some (with_options text options, bytes)) None
 
 -- so many options of a name
 abbrev pub read_options : List ℕ → ℕ → ℕ → Reader ExternName

@@ -22,8 +22,10 @@ abbrev pub core_export_tree_view : {A : Type 0} → String A × ExportKind × �
 core_export_tree_view e = record { name = string_bytes e.0; kind = e.1; index = e.2 }
 
 abbrev pub core_instance_tree_view : {A : Type 0} → CoreInstanceTree A → CoreInstance
-core_instance_tree_view (core_trees.Instantiate index args) = CoreInstantiate index (map argument_tree_view args.items)
-core_instance_tree_view (core_trees.Exports exports) = CoreExports (map core_export_tree_view exports.items)
+core_instance_tree_view (core_trees.Instantiate index args) =
+    CoreInstantiate index (map argument_tree_view args.items)
+core_instance_tree_view (core_trees.Exports exports) =
+    CoreExports (map core_export_tree_view exports.items)
 
 -- ---- of components
 
@@ -34,12 +36,14 @@ abbrev pub exported_tree_view : {A : Type 0} → NameTree A × ComponentExportKi
 exported_tree_view e = record { name = name_tree_view e.0; kind = e.1; index = e.2 }
 
 abbrev pub instance_tree_view : {A : Type 0} → InstanceTree A → Instance
-instance_tree_view (trees.Instantiate index args) = Instantiate index (map given_tree_view args.items)
+instance_tree_view (trees.Instantiate index args) =
+    Instantiate index (map given_tree_view args.items)
 instance_tree_view (trees.Exports exports) = Exports (map exported_tree_view exports.items)
 
 -- the text of an export of a tree, and why it can't be encoded
 abbrev pub exported_tree_text : {A : Type 0} → NameTree A × ComponentExportKind × ℕ → List ℕ
 exported_tree_text e = (exported (exported_tree_view e)).text
 
-abbrev pub exported_tree_cause : {A : Type 0} → NameTree A × ComponentExportKind × ℕ → Fault → Type 0
+abbrev pub exported_tree_cause : {A : Type 0} → NameTree A × ComponentExportKind × ℕ → Fault
+    → Type 0
 exported_tree_cause e = exported_cause (exported_tree_view e)

@@ -40,7 +40,8 @@ pub data CoreInstance : Type 0 where
   CoreExports : (exports : List CoreExport) → CoreInstance
 
 abbrev pub core_instance : Form CoreInstance
-core_instance (CoreInstantiate module_index arguments) = 0x00 ▸ u32 module_index ⨾ list argument arguments
+core_instance (CoreInstantiate module_index arguments) =
+    0x00 ▸ u32 module_index ⨾ list argument arguments
 core_instance (CoreExports exports) = 0x01 ▸ list core_export exports
 
 abbrev pub core_instance_text : CoreInstance → List ℕ

@@ -63,7 +63,9 @@ name_subsections sorts = flat_map (λ p. item_names p.0 p.1) sorts
 
 -- "component-name"
 abbrev pub names_label : List ℕ
-names_label = 0x63 ∷ 0x6f ∷ 0x6d ∷ 0x70 ∷ 0x6f ∷ 0x6e ∷ 0x65 ∷ 0x6e ∷ 0x74 ∷ 0x2d ∷ 0x6e ∷ 0x61 ∷ 0x6d ∷ 0x65 ∷ []
+names_label =
+    0x63 ∷ 0x6f ∷ 0x6d ∷ 0x70 ∷ 0x6f ∷ 0x6e ∷ 0x65 ∷ 0x6e ∷ 0x74 ∷ 0x2d ∷ 0x6e ∷ 0x61 ∷ 0x6d ∷
+    0x65 ∷ []
 
 -- the custom section of that name, with these bytes behind it
 abbrev pub names_custom : List ℕ → Custom
@@ -78,9 +80,12 @@ RoomCause before text fault = (fault ≡ TooLarge) × (2 ^ 32 ≤ 15 + length (b
 
 -- A call appends this subsection, or is refused for a cause and changes nothing.
 abbrev pub AppendsSubsection : Subsection → List ℕ → List ℕ → Result (Unit {0}) Fault → Type 0
-AppendsSubsection s old new outcome = Appends (subsection s).text (RoomCause old (subsection s).text) ⊥ old new outcome
+AppendsSubsection s old new outcome =
+    Appends (subsection s).text (RoomCause old (subsection s).text) ⊥ old new outcome
 
 -- A call appends the names of a sort that are held: as bytes and, whatever names these are, as their subsection.
-pub record AppendsNames (sort : Sort) (held : Held) (old new : List ℕ) (outcome : Result (Unit {0}) Fault) : Type 0 where
+pub record AppendsNames (sort : Sort) (held : Held) (old new : List ℕ)
+    (outcome : Result (Unit {0}) Fault) : Type 0 where
   pub bytes : AppendsSubsection (RawNames 0x01 (items_content sort held)) old new outcome
-  pub named : (names : List Named) → Contains named_text held names → AppendsSubsection (ItemNames sort names) old new outcome
+  pub named : (names : List Named) → Contains named_text held names
+      → AppendsSubsection (ItemNames sort names) old new outcome

@@ -13,7 +13,8 @@ pub record Start : Type 0 where
   pub results : ℕ
 
 abbrev pub started : ℕ → List ℕ → ℕ → Start
-started function arguments results = record { function = function; arguments = arguments; results = results }
+started function arguments results =
+    record { function = function; arguments = arguments; results = results }
 
 abbrev pub start_content : Form Start
 start_content s = u32 s.function ⨾ list u32 s.arguments ⨾ u32 s.results

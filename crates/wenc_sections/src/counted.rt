@@ -44,12 +44,11 @@ pub struct Counted<K: CountedKind, A: Allocator = Global> {
 
 impl<K: CountedKind, A: Allocator> Model for Counted<K, A> {
     ghost use Rattle.wenc_base.specs.Holder.{Held};
+    ghost use Rattle.wenc_base.specs.Openings.{HasMembers};
 
     ghost Value = { Held };
 
     ghost view = { λ s. s.items };
-
-    ghost use Rattle.wenc_base.specs.Openings.{HasMembers};
 
     ghost invariant = { λ s. HasMembers K.is_item s.items };
 }

@@ -34,11 +34,13 @@ mutual
 
   pub data InstanceDeclarations : Type 0 where
     no_instance : InstanceDeclarations
-    and_instance : (first : InstanceDeclaration) (others : InstanceDeclarations) → InstanceDeclarations
+    and_instance : (first : InstanceDeclaration) (others : InstanceDeclarations)
+        → InstanceDeclarations
 
   pub data ComponentDeclarations : Type 0 where
     no_component : ComponentDeclarations
-    and_component : (first : ComponentDeclaration) (others : ComponentDeclarations) → ComponentDeclarations
+    and_component : (first : ComponentDeclaration) (others : ComponentDeclarations)
+        → ComponentDeclarations
 
 -- several of them
 abbrev pub instances_of : List InstanceDeclaration → InstanceDeclarations
@@ -106,7 +108,8 @@ abbrev mutual
   pub component_depth : ComponentDeclarations → ℕ
   component_depth no_component = 0
   component_depth (and_component (Imported name ty) others) = component_depth others
-  component_depth (and_component (Declared d) others) = max (declared_depth d) (component_depth others)
+  component_depth (and_component (Declared d) others) =
+      max (declared_depth d) (component_depth others)
 
   pub declared_depth : InstanceDeclaration → ℕ
   declared_depth (CoreTyped ty) = 0

@@ -19,7 +19,8 @@ core_type_cause (Module ds) = list_cause declaration_cause ds
 -- ---- the code's trees as pure ones
 
 abbrev pub module_declaration_view : {A : Type 0} → ModuleDecl A → ModuleDeclaration
-module_declaration_view (decls.Import from name ty) = Import (string_bytes from) (string_bytes name) ty
+module_declaration_view (decls.Import from name ty) =
+    Import (string_bytes from) (string_bytes name) ty
 module_declaration_view (decls.«Type» g) = Defined (group_view g)
 module_declaration_view (decls.Alias count index) = Outer count index
 module_declaration_view (decls.Export name ty) = Export (string_bytes name) ty

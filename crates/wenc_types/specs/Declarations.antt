@@ -59,9 +59,12 @@ no_counts = record { core_types = 0; types = 0; instances = 0 }
 -- one more of this sort
 abbrev pub counted : Option Sort → Counts → Counts
 counted None n = n
-counted (Some CoreType) n = record { core_types = n.core_types + 1; types = n.types; instances = n.instances }
-counted (Some TypeSort) n = record { core_types = n.core_types; types = n.types + 1; instances = n.instances }
-counted (Some Instance) n = record { core_types = n.core_types; types = n.types; instances = n.instances + 1 }
+counted (Some CoreType) n =
+    record { core_types = n.core_types + 1; types = n.types; instances = n.instances }
+counted (Some TypeSort) n =
+    record { core_types = n.core_types; types = n.types + 1; instances = n.instances }
+counted (Some Instance) n =
+    record { core_types = n.core_types; types = n.types; instances = n.instances + 1 }
 
 -- how many there are of each sort
 abbrev pub counts_of : {D : Type 0} → (D → Option Sort) → List D → Counts
@@ -85,7 +88,8 @@ pub record Settled (t : Declaring) : Type 0 where
   pub none_begun : t.begun ≡ None
 
 -- It has just these declarations, each with its text, and counts them.
-pub record Declares {D : Type 0} (text : D → List ℕ) (sort : D → Option Sort) (t : Declaring) (ds : List D) : Type 0 where
+pub record Declares {D : Type 0} (text : D → List ℕ) (sort : D → Option Sort) (t : Declaring)
+    (ds : List D) : Type 0 where
   pub contained : Contains text t.held ds
   pub counts : t.counts ≡ counts_of sort ds
 
@@ -96,7 +100,8 @@ abbrev pub ComponentDeclares : Declaring → List ComponentDeclaration → Type 
 ComponentDeclares = Declares component_text component_sort
 
 -- These bytes are the text of a declaration that counts as this.
-pub record IsDeclaration {D : Type 0} (text : D → List ℕ) (sort : D → Option Sort) (bytes : List ℕ) (counts_as : Option Sort) : Type 0 where
+pub record IsDeclaration {D : Type 0} (text : D → List ℕ) (sort : D → Option Sort) (bytes : List ℕ)
+    (counts_as : Option Sort) : Type 0 where
   pub declaration : D
   pub text_is : bytes ≡ text declaration
   pub sort_is : counts_as ≡ sort declaration
@@ -108,17 +113,22 @@ pub record DeclaresSome (IsSuch : List ℕ → Option Sort → Type 0) (t : Decl
   pub each : AllByRecursion (λ d. IsSuch d.0 d.1) declarations
 
 -- A call adds this declaration, or is refused for a cause and changes nothing.
-pub record AddsDeclaration {D : Type 0} (text : D → List ℕ) (sort : D → Option Sort) (old new : Declaring) (outcome : Result (Unit {0}) Fault) (cause : Fault → Type 0) (d : D) : Type 0 where
+pub record AddsDeclaration {D : Type 0} (text : D → List ℕ) (sort : D → Option Sort)
+    (old new : Declaring) (outcome : Result (Unit {0}) Fault) (cause : Fault → Type 0)
+    (d : D) : Type 0 where
   pub added : AddsMember text old.held new.held outcome cause d
   pub counts : OnOk outcome (new.counts ≡ counted (sort d) old.counts)
   pub begun : OnOk outcome (new.begun ≡ old.begun)
-  pub declared : OnOk outcome ((ds : List D) → Declares text sort old ds → Declares text sort new (ds ++ d ∷ []))
+  pub declared : OnOk outcome
+      ((ds : List D) → Declares text sort old ds → Declares text sort new (ds ++ d ∷ []))
   pub err : OnErr outcome (new ≡ old)
 
-abbrev pub AddsToInstance : Declaring → Declaring → Result (Unit {0}) Fault → (Fault → Type 0) → InstanceDeclaration → Type 0
+abbrev pub AddsToInstance : Declaring → Declaring → Result (Unit {0}) Fault → (Fault → Type 0)
+    → InstanceDeclaration → Type 0
 AddsToInstance = AddsDeclaration instance_text instance_sort
 
-abbrev pub AddsToComponent : Declaring → Declaring → Result (Unit {0}) Fault → (Fault → Type 0) → ComponentDeclaration → Type 0
+abbrev pub AddsToComponent : Declaring → Declaring → Result (Unit {0}) Fault → (Fault → Type 0)
+    → ComponentDeclaration → Type 0
 AddsToComponent = AddsDeclaration component_text component_sort
 
 -- ---- a type that is written by an encoder
@@ -134,7 +144,12 @@ with_held t held = record { held = held; counts = t.counts; begun = t.begun }
 
 -- one type more, of which there is the first byte
 abbrev pub begun : Sort → Declaring → Declaring
-begun sort t = record { held = opened_with t.held (lead_of sort); counts = counted (Some sort) t.counts; begun = Some sort }
+begun sort t =
+    record {
+      held = opened_with t.held (lead_of sort);
+      counts = counted (Some sort) t.counts;
+      begun = Some sort;
+    }
 
 -- more of that type
 abbrev pub written : Declaring → List ℕ → Declaring
@@ -147,9 +162,12 @@ ended t = record { held = closed t.held; counts = t.counts; begun = None }
 -- one less of this sort
 abbrev pub uncounted : Option Sort → Counts → Counts
 uncounted None n = n
-uncounted (Some CoreType) n = record { core_types = n.core_types - 1; types = n.types; instances = n.instances }
-uncounted (Some TypeSort) n = record { core_types = n.core_types; types = n.types - 1; instances = n.instances }
-uncounted (Some Instance) n = record { core_types = n.core_types; types = n.types; instances = n.instances - 1 }
+uncounted (Some CoreType) n =
+    record { core_types = n.core_types - 1; types = n.types; instances = n.instances }
+uncounted (Some TypeSort) n =
+    record { core_types = n.core_types; types = n.types - 1; instances = n.instances }
+uncounted (Some Instance) n =
+    record { core_types = n.core_types; types = n.types; instances = n.instances - 1 }
 
 -- as it was before that type
 abbrev pub taken_back : Declaring → Declaring

@@ -43,10 +43,12 @@ pub record Declares (t : Declared) (ds : List ModuleDeclaration) : Type 0 where
   pub types : t.types ≡ type_count ds
 
 -- A call adds this declaration, or is refused for a cause and changes nothing.
-pub record AddsDeclaration (old new : Declared) (outcome : Result (Unit {0}) Fault) (d : ModuleDeclaration) : Type 0 where
+pub record AddsDeclaration (old new : Declared) (outcome : Result (Unit {0}) Fault)
+    (d : ModuleDeclaration) : Type 0 where
   pub added : AddsMember declaration_text old.held new.held outcome (declaration_cause d) d
   pub types : OnOk outcome (new.types ≡ old.types + types_of d)
-  pub declared : OnOk outcome ((ds : List ModuleDeclaration) → Declares old ds → Declares new (ds ++ d ∷ []))
+  pub declared : OnOk outcome
+      ((ds : List ModuleDeclaration) → Declares old ds → Declares new (ds ++ d ∷ []))
   pub err : OnErr outcome (new ≡ old)
 
 -- ---- a type that is written by an encoder

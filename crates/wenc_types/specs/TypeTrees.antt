@@ -24,7 +24,8 @@ abbrev mutual
   pub type_cause : TypeOf → Fault → Type 0
   type_cause (DefinedType ty) = defined_cause ty
   type_cause (FunctionType ty) = function_cause ty
-  type_cause (ComponentType ds) = first_of (count_cause (component_count ds)) (each_component_cause ds)
+  type_cause (ComponentType ds) =
+      first_of (count_cause (component_count ds)) (each_component_cause ds)
   type_cause (InstanceType ds) = first_of (count_cause (instance_count ds)) (each_instance_cause ds)
   type_cause (ResourceType rep dtor) = λ fault. ⊥
 
@@ -40,11 +41,13 @@ abbrev mutual
 
   pub each_instance_cause : InstanceDeclarations → Fault → Type 0
   each_instance_cause no_instance = λ fault. ⊥
-  each_instance_cause (and_instance first others) = first_of (instance_declaration_cause first) (each_instance_cause others)
+  each_instance_cause (and_instance first others) =
+      first_of (instance_declaration_cause first) (each_instance_cause others)
 
   pub each_component_cause : ComponentDeclarations → Fault → Type 0
   each_component_cause no_component = λ fault. ⊥
-  each_component_cause (and_component first others) = first_of (component_declaration_cause first) (each_component_cause others)
+  each_component_cause (and_component first others) =
+      first_of (component_declaration_cause first) (each_component_cause others)
 
 -- ---- the code's trees as pure ones
 
@@ -71,32 +74,44 @@ defined_view (trees.Borrow number) = pure.Borrow number
 defined_view (trees.Future ty) = pure.Future ty
 defined_view (trees.Stream ty) = pure.Stream ty
 
-abbrev pub function_view : {A : Type 0} → Bool → List (String A × ComponentValType) → Option ComponentValType → Function
-function_view is_async params answer = record { is_async = is_async; params = map named_view params; answer = answer }
+abbrev pub function_view : {A : Type 0} → Bool → List (String A × ComponentValType)
+    → Option ComponentValType → Function
+function_view is_async params answer =
+    record { is_async = is_async; params = map named_view params; answer = answer }
 
 -- one level, with each child already seen as a pure one
-abbrev type_step : {A : Type 0} → TypeTree-F A ComponentDeclaration InstanceDeclaration TypeOf → TypeOf
+abbrev type_step : {A : Type 0} → TypeTree-F A ComponentDeclaration InstanceDeclaration TypeOf
+    → TypeOf
 type_step (TypeTree-F.Defined ty) = DefinedType (defined_view ty)
-type_step (TypeTree-F.Func is_async params answer) = FunctionType (function_view is_async params.items answer)
+type_step (TypeTree-F.Func is_async params answer) =
+    FunctionType (function_view is_async params.items answer)
 type_step (TypeTree-F.Component ds) = ComponentType (components_of ds.items)
 type_step (TypeTree-F.Instance ds) = InstanceType (instances_of ds.items)
 type_step (TypeTree-F.Resource rep dtor) = ResourceType rep dtor
 
-abbrev instance_step : {A : Type 0} → InstanceDecl-F A ComponentDeclaration InstanceDeclaration TypeOf → InstanceDeclaration
+abbrev instance_step : {A : Type 0}
+    → InstanceDecl-F A ComponentDeclaration InstanceDeclaration TypeOf → InstanceDeclaration
 instance_step (InstanceDecl-F.CoreType ty) = CoreTyped (core_type_view ty)
 instance_step (InstanceDecl-F.«Type» ty) = Typed ty
 instance_step (InstanceDecl-F.Alias a) = Aliased (alias_tree_view a)
 instance_step (InstanceDecl-F.Export name ty) = Exported (name_tree_view name) ty
 
-abbrev component_step : {A : Type 0} → ComponentDecl-F A ComponentDeclaration InstanceDeclaration TypeOf → ComponentDeclaration
+abbrev component_step : {A : Type 0}
+    → ComponentDecl-F A ComponentDeclaration InstanceDeclaration TypeOf → ComponentDeclaration
 component_step (ComponentDecl-F.Import name ty) = Imported (name_tree_view name) ty
 component_step (ComponentDecl-F.Decl d) = Declared d
 
 abbrev pub type_view : {A : Type 0} → TypeTree A → TypeOf
-type_view {A} = fold-TypeTree A ComponentDeclaration InstanceDeclaration TypeOf component_step instance_step type_step
+type_view {A} =
+    fold-TypeTree A ComponentDeclaration InstanceDeclaration TypeOf component_step instance_step
+    type_step
 
 abbrev pub instance_declaration_view : {A : Type 0} → InstanceDecl A → InstanceDeclaration
-instance_declaration_view {A} = fold-InstanceDecl A ComponentDeclaration InstanceDeclaration TypeOf component_step instance_step type_step
+instance_declaration_view {A} =
+    fold-InstanceDecl A ComponentDeclaration InstanceDeclaration TypeOf component_step
+    instance_step type_step
 
 abbrev pub component_declaration_view : {A : Type 0} → ComponentDecl A → ComponentDeclaration
-component_declaration_view {A} = fold-ComponentDecl A ComponentDeclaration InstanceDeclaration TypeOf component_step instance_step type_step
+component_declaration_view {A} =
+    fold-ComponentDecl A ComponentDeclaration InstanceDeclaration TypeOf component_step
+    instance_step type_step

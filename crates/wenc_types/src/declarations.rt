@@ -207,7 +207,8 @@ impl<K: DeclaringKind, A: Allocator> Declarations<K, A> {
     /// Gives up the type that is being written, and says whether there was one: all is as it was before that type. It
     /// takes no memory.
     pub fn discard_unfinished(&mut self) -> bool
-        ensures given_up { GivesUp self.new (taken_back self.old) (is_finished self.old.held) result }
+        ensures given_up { GivesUp self.new (taken_back self.old)
+            (is_finished self.old.held) result }
         ensures same { is_finished self.old.held ≡ true → self.new ≡ self.old }
     {
         let was = self.held.discard_unfinished();

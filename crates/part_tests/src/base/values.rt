@@ -144,7 +144,8 @@ fn kinds_of_exports(rt: HostRuntime) {
 
 // The values of a vector are the members.
 fn encode_vector<A: Allocator>(values: Vec<u32>, sink: &mut Vec<u8, A>) -> Result<(), Fault>
-    ensures { OnOk result (sink.new.items ≡ sink.old.items ++ list_text unsigned_text values.items) }
+    ensures { OnOk result
+        (sink.new.items ≡ sink.old.items ++ list_text unsigned_text values.items) }
 {
     encode_list(values.into_iter(), sink)?;
     Ok(())

@@ -77,11 +77,13 @@ pub fn nested_runs()
 /// in part or not at all, it leaves every list held that was held.
 pub fn encoded_types_are_entries()
     ensures type_written { (old new : State) (es : List Entry) (name : Option (List ℕ)) (t : TypeOf)
-        → new ≡ ended (appended (begun_with old (draft_of kinds.«Type» spaces.Types name [])) (type_text t))
+        → new ≡ ended
+        (appended (begun_with old (draft_of kinds.«Type» spaces.Types name [])) (type_text t))
         → Holds old es → Holds new (es ++ type_entry name t ∷ []) }
     ensures core_type_written { (old new : State) (es : List Entry) (name : Option (List ℕ))
         (t : CoreType) → new ≡ ended
-        (appended (begun_with old (draft_of kinds.CoreType spaces.CoreTypes name [])) (core_type_text t))
+        (appended (begun_with old (draft_of kinds.CoreType spaces.CoreTypes name []))
+        (core_type_text t))
         → Holds old es → Holds new (es ++ core_type_entry name t ∷ []) }
     ensures begun_given_up { (old lent new : State) (es : List Entry) (d : Draft)
         → lent ≡ begun_with old d → new ≡ builder_given_up lent → Holds old es → Holds new es }

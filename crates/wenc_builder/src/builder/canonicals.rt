@@ -43,7 +43,8 @@ impl<A: Allocator> ComponentBuilder<A> {
 
     /// `thread.spawn-indirect`: starts a thread in a shared function of this type, by its place in a table.
     pub fn thread_spawn_indirect(&mut self, ty: u32, table: u32) -> Result<u32, Fault>
-        ensures { Enters self.old self.new result (provided_entry rows.ThreadSpawnIndirect (ty, table)) }
+        ensures { Enters self.old self.new result
+            (provided_entry rows.ThreadSpawnIndirect (ty, table)) }
     {
         self.provide(
             "thread.spawn-indirect",
@@ -53,7 +54,8 @@ impl<A: Allocator> ComponentBuilder<A> {
 
     /// `thread.available-parallelism`: gives the number of threads that can be expected to run at once.
     pub fn thread_available_parallelism(&mut self) -> Result<u32, Fault>
-        ensures { Enters self.old self.new result (provided_entry rows.ThreadAvailableParallelism tt) }
+        ensures { Enters self.old self.new result
+            (provided_entry rows.ThreadAvailableParallelism tt) }
     {
         self.provide(
             "thread.available-parallelism",
@@ -181,7 +183,8 @@ impl<A: Allocator> ComponentBuilder<A> {
 
     /// `stream.cancel-read`: cancels a read from a stream of this type.
     pub fn stream_cancel_read(&mut self, ty: u32, async_: bool) -> Result<u32, Fault>
-        ensures { Enters self.old self.new result (provided_entry rows.StreamCancelRead (ty, async_)) }
+        ensures { Enters self.old self.new result
+            (provided_entry rows.StreamCancelRead (ty, async_)) }
     {
         self.provide(
             "stream.cancel-read",
@@ -191,7 +194,8 @@ impl<A: Allocator> ComponentBuilder<A> {
 
     /// `stream.cancel-write`: cancels a write to a stream of this type.
     pub fn stream_cancel_write(&mut self, ty: u32, async_: bool) -> Result<u32, Fault>
-        ensures { Enters self.old self.new result (provided_entry rows.StreamCancelWrite (ty, async_)) }
+        ensures { Enters self.old self.new result
+            (provided_entry rows.StreamCancelWrite (ty, async_)) }
     {
         self.provide(
             "stream.cancel-write",
@@ -257,7 +261,8 @@ impl<A: Allocator> ComponentBuilder<A> {
 
     /// `future.cancel-read`: cancels a read from a future of this type.
     pub fn future_cancel_read(&mut self, ty: u32, async_: bool) -> Result<u32, Fault>
-        ensures { Enters self.old self.new result (provided_entry rows.FutureCancelRead (ty, async_)) }
+        ensures { Enters self.old self.new result
+            (provided_entry rows.FutureCancelRead (ty, async_)) }
     {
         self.provide(
             "future.cancel-read",
@@ -267,7 +272,8 @@ impl<A: Allocator> ComponentBuilder<A> {
 
     /// `future.cancel-write`: cancels a write to a future of this type.
     pub fn future_cancel_write(&mut self, ty: u32, async_: bool) -> Result<u32, Fault>
-        ensures { Enters self.old self.new result (provided_entry rows.FutureCancelWrite (ty, async_)) }
+        ensures { Enters self.old self.new result
+            (provided_entry rows.FutureCancelWrite (ty, async_)) }
     {
         self.provide(
             "future.cancel-write",
@@ -341,14 +347,16 @@ impl<A: Allocator> ComponentBuilder<A> {
 
     /// `waitable-set.wait`: waits until something in a set happens, which is written to this memory.
     pub fn waitable_set_wait(&mut self, memory: u32) -> Result<u32, Fault>
-        ensures { Enters self.old self.new result (provided_entry rows.WaitableSetWait (tt, memory)) }
+        ensures { Enters self.old self.new result
+            (provided_entry rows.WaitableSetWait (tt, memory)) }
     {
         self.provide("waitable-set.wait", &CanonTree::WaitableSetWait(memory))
     }
 
     /// `waitable-set.poll`: looks whether something in a set happened, which is written to this memory.
     pub fn waitable_set_poll(&mut self, memory: u32) -> Result<u32, Fault>
-        ensures { Enters self.old self.new result (provided_entry rows.WaitableSetPoll (tt, memory)) }
+        ensures { Enters self.old self.new result
+            (provided_entry rows.WaitableSetPoll (tt, memory)) }
     {
         self.provide("waitable-set.poll", &CanonTree::WaitableSetPoll(memory))
     }
@@ -376,7 +384,8 @@ impl<A: Allocator> ComponentBuilder<A> {
 
     /// `thread.new-indirect`: makes a thread of a function of this type, by its place in a table.
     pub fn thread_new_indirect(&mut self, ty: u32, table: u32) -> Result<u32, Fault>
-        ensures { Enters self.old self.new result (provided_entry rows.ThreadNewIndirect (ty, table)) }
+        ensures { Enters self.old self.new result
+            (provided_entry rows.ThreadNewIndirect (ty, table)) }
     {
         self.provide(
             "thread.new-indirect",
@@ -428,7 +437,8 @@ impl<A: Allocator> ComponentBuilder<A> {
     /// `thread.suspend-then-promote`: suspends the current thread, and moves another to the front
     /// of those that wait.
     pub fn thread_suspend_then_promote(&mut self) -> Result<u32, Fault>
-        ensures { Enters self.old self.new result (provided_entry rows.ThreadSuspendThenPromote tt) }
+        ensures { Enters self.old self.new result
+            (provided_entry rows.ThreadSuspendThenPromote tt) }
     {
         self.provide(
             "thread.suspend-then-promote",

@@ -64,7 +64,8 @@ impl<A: Allocator> Namespace<A> {
     /// So many more items, the first of them with this name or none.
     #[tactic(auto, using(crate::proofs::Mapped::unnamed_free))]
     pub fn add(&mut self, number: u32, name: Option<&str>) -> Result<(), Fault>
-        ensures ok { OnOk result (self.new ≡ namespace_with self.old number (option_copied name.entry)) }
+        ensures ok { OnOk result
+            (self.new ≡ namespace_with self.old number (option_copied name.entry)) }
         ensures free { OnOk result ((fault : FaultSpec)
             → SpaceCause (namespace_with self.old number (option_copied name.entry)) fault → ⊥) }
         ensures err { OnErr result (self.new ≡ self.old) }

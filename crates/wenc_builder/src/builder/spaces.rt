@@ -63,7 +63,7 @@ impl<A: Allocator> Spaces<A> {
     }
 
     /// What the spaces' names are allocated with.
-    pub fn allocator(&self) -> &A {
+    pub(super) fn allocator(&self) -> &A {
         self.spaces.allocator()
     }
 
@@ -114,10 +114,12 @@ impl<A: Allocator> Spaces<A> {
         ensures ok { OnOk result (self.new
             ≡ spaces_begun self.old (space_number space) number (option_copied name.entry)) }
         ensures free { OnOk result ((fault : FaultSpec) → SpaceCause
-            (space_begun self.old (space_number space) number (option_copied name.entry)) fault → ⊥) }
+            (space_begun self.old (space_number space) number
+            (option_copied name.entry)) fault → ⊥) }
         ensures err { OnErr result (self.new ≡ self.old) }
         ensures warranted { IfErr result (IsWarranted
-            (SpaceCause (space_begun self.old (space_number space) number (option_copied name.entry)))) }
+            (SpaceCause
+            (space_begun self.old (space_number space) number (option_copied name.entry)))) }
         ensures all { length self.old.settled ≡ 13 }
     {
         let space = space.number();
