@@ -1,10 +1,11 @@
 -- Numbers in groups of seven bits.
-use Rattle.std.proofs.Common.{◌≡◌, ℕ, ℤ, pos, negsuc, zero, suc, ◌+◌, ◌/◌, ◌%◌, ◌^◌, ◌<◌, ◌≤◌, Bool, true, false, cond, List, [], ◌∷◌, ◌++◌, length, refl, sym, ap, ◌∙◌, arith, inl, inr, append_assoc, length-append}
+use Rattle.std.proofs.Common.{◌≡◌, ℕ, ℤ, pos, negsuc, zero, suc, ◌+◌, ◌/◌, ◌%◌, ◌^◌, ◌<◌, ◌≤◌, Bool, true, false, cond, List, [], ◌∷◌, ◌++◌, length, refl, sym, ap, ◌∙◌, arith, inl, inr, append_assoc, length-append, add-one, take, drop}
 use Rattle.std.proofs.lemmas.Bool.{cases_lt}
-use Rattle.std.proofs.lemmas.List.{length-map}
+use Rattle.std.proofs.lemmas.List.{length-map, set_split}
+use Rattle.std.specs.Prelude.{slice_set}
 pub use Rattle.wenc_base.specs.laws.Groups.{limit, groups_below, groups_from}
 use Rattle.wenc_base.specs.laws.Numbers.{same_in_room}
-use Rattle.wenc_base.specs.Number.{groups, complement, turned, signed_text, number_size}
+use Rattle.wenc_base.specs.Number.{groups, complement, turned, unsigned_text, signed_text, number_size}
 
 pub groups_length : (top room n : ℕ) → length (groups top room n) ≤ suc room
 unfolding groups
@@ -49,6 +50,28 @@ size_1 n h = rw (groups_below 128 9 n h) refl
 
 pub size_2 : (n : ℕ) → 128 ≤ n → n < 16384 → number_size n ≡ 2
 size_2 n h l = rw (groups_from 128 8 n h, groups_below 128 8 (n / 128) (omega arith)) refl
+
+-- a number of one byte in the place of a byte
+pub put_over : (bytes : List ℕ) (start n : ℕ) → start < length bytes → n < 128 → slice_set bytes start n ≡ take start bytes ++ unsigned_text n ++ drop (start + 1) bytes
+put_over bytes start n within short =
+    rw (groups_below 128 9 n short, add-one start, append_assoc (take start bytes) (n ∷ []) (drop (suc start) bytes)) (set_split bytes start n within)
+
+-- the texts of two and of three bytes
+pub text_2 : (n : ℕ) → 128 ≤ n → n < 16384 → groups 128 9 n ≡ (n % 128 + 128) ∷ n / 128 ∷ []
+text_2 n h l = rw (groups_from 128 8 n h, groups_below 128 8 (n / 128) (omega arith)) refl
+
+pub text_3 : (n : ℕ) → 16384 ≤ n → n < 2097152 → groups 128 9 n ≡ (n % 128 + 128) ∷ (n / 128 % 128 + 128) ∷ n / 128 / 128 ∷ []
+text_3 n h l = rw (groups_from 128 8 n (omega arith), groups_from 128 7 (n / 128) (omega arith), groups_below 128 7 (n / 128 / 128) (omega arith)) refl
+
+-- the same of signed ones that are not negative
+pub signed_below : (n : ℕ) → n < 64 → groups 64 9 n ≡ n ∷ []
+signed_below n h = groups_below 64 9 n h
+
+pub signed_2 : (n : ℕ) → 64 ≤ n → n < 8192 → groups 64 9 n ≡ (n % 128 + 128) ∷ n / 128 ∷ []
+signed_2 n h l = rw (groups_from 64 8 n h, groups_below 64 8 (n / 128) (omega arith)) refl
+
+pub signed_3 : (n : ℕ) → 8192 ≤ n → n < 1048576 → groups 64 9 n ≡ (n % 128 + 128) ∷ (n / 128 % 128 + 128) ∷ n / 128 / 128 ∷ []
+signed_3 n h l = rw (groups_from 64 8 n (omega arith), groups_from 64 7 (n / 128) (omega arith), groups_below 64 7 (n / 128 / 128) (omega arith)) refl
 
 pub size_3 : (n : ℕ) → 16384 ≤ n → n < 2097152 → number_size n ≡ 3
 size_3 n h l = rw (groups_from 128 8 n (omega arith), groups_from 128 7 (n / 128) (omega arith), groups_below 128 7 (n / 128 / 128) (omega arith)) refl

@@ -1,5 +1,5 @@
 -- Members of a list, written one after the other.
-use Rattle.std.proofs.Common.{◌≡◌, ℕ, zero, suc, ◌+◌, ◌<◌, List, [], ◌∷◌, ◌++◌, length, Result, Ok, Err, OnOk, take, drop, get_or, append_assoc, ap, sym, ◌∙◌, inl, inr, arith}
+use Rattle.std.proofs.Common.{◌≡◌, ℕ, zero, suc, ◌+◌, ◌<◌, List, [], ◌∷◌, ◌++◌, length, Result, Ok, Err, OnOk, take, drop, get_or, append_assoc, length-append, ap, sym, ◌∙◌, inl, inr, arith}
 use Rattle.std.proofs.lemmas.List.{append-nil, take_at, drop_at}
 use Rattle.std.proofs.lemmas.Grind.{flat_map-append}
 use Rattle.std.proofs.Math.Numerals.{add-one}
@@ -61,8 +61,13 @@ written_at text cause start vs i v now next w lt is e free =
     rw one (written_next text cause start (take i vs) v now next w e free)
 
 -- the number in front of the values that were written
-pub list_is_written : {A : Type 0} (text : A → List ℕ) (cause : A → Fault → Type 0) (old now new : List ℕ) (vs : List A) (start count : ℕ) (outcome : Result (Unit {0}) Fault)
-    → Written text cause old vs now → length vs ≡ count → start ≡ length old → OnOk outcome (new ≡ take start now ++ unsigned_text count ++ drop start now) → OnOk outcome (new ≡ old ++ list_text text vs)
-list_is_written text cause old now new vs start count (Err fault) w counted begins h = tt
-list_is_written text cause old now new vs start count (Ok u) w counted begins h =
-    h ∙ rw (w.items, take_at old (flat_map text vs) start (sym begins), drop_at old (flat_map text vs) start (sym begins), counted) (append_assoc old (unsigned_text count) (flat_map text vs))
+pub list_is_written : {A : Type 0} (text : A → List ℕ) (cause : A → Fault → Type 0) (old now new : List ℕ) (vs : List A) (lead start count : ℕ) (outcome : Result (Unit {0}) Fault)
+    → Written text cause (old ++ lead ∷ []) vs now → length vs ≡ count → start ≡ length old → OnOk outcome (new ≡ take start now ++ unsigned_text count ++ drop (start + 1) now)
+    → OnOk outcome (new ≡ old ++ list_text text vs)
+list_is_written text cause old now new vs lead start count (Err fault) w counted begins h = tt
+list_is_written text cause old now new vs lead start count (Ok u) w counted begins h =
+    let texts : List ℕ = flat_map text vs in
+    let size : length (old ++ lead ∷ []) ≡ start + 1 = omega (arith, begins, length-append old (lead ∷ [])) in
+    let front : take start now ≡ old = ap (λ (bytes : List ℕ). take start bytes) (w.items ∙ append_assoc old (lead ∷ []) texts) ∙ take_at old (lead ∷ texts) start (sym begins) in
+    let behind : drop (start + 1) now ≡ texts = ap (λ (bytes : List ℕ). drop (start + 1) bytes) w.items ∙ drop_at (old ++ lead ∷ []) texts (start + 1) size in
+    h ∙ rw (front, behind, counted) (append_assoc old (unsigned_text count) texts)

@@ -1,5 +1,5 @@
 -- Values that come from an iterator, and their runs.
-use Rattle.std.proofs.Common.{◌≡◌, ℕ, ◌^◌, ◌<◌, List, [], ◌∷◌, ◌++◌, length, length-append, take, drop, Option, Result, Ok, Err, OnOk, IfErr, IsErrAnd, false, refl, ap, append_assoc, ◌∙◌, inl, inr, arith}
+use Rattle.std.proofs.Common.{◌≡◌, ℕ, ◌+◌, ◌^◌, ◌<◌, List, [], ◌∷◌, ◌++◌, length, length-append, take, drop, Option, Result, Ok, Err, OnOk, IfErr, IsErrAnd, false, refl, ap, append_assoc, ◌∙◌, inl, inr, arith}
 use Rattle.std.proofs.iter.runs.Made.{run}
 use Rattle.std.specs.Iterator.Runs.{Run, SomeRun, WholeRun}
 use Rattle.wenc_base.specs.Holder.{listed_text, listed_cause}
@@ -36,22 +36,22 @@ module _ {S A : Type 0} (steps : S → Option A → S → Type 0) (cause : A →
   refused_run run vs v fault begins gave free h =
       (run, begins, rw gave (still_warranted (cause v) (drawn_cause cause (vs ++ v ∷ [])) (λ f g. inl (cause_of_later cause vs (v ∷ []) f free (inl g))) fault h))
 
-  -- where all came, and their number is put in front
-  module _ (text : A → List ℕ) (old now : List ℕ) (count : ℕ) (outcome : Result (Unit {0}) Fault) where
+  -- where all came behind a byte, and their number is put in its place
+  module _ (text : A → List ℕ) (old now : List ℕ) (lead count : ℕ) (outcome : Result (Unit {0}) Fault) where
     abbrev AllCame : Type 0
-    AllCame = WholeRun steps s (λ run. (length run.items ≡ count) × (count < 2 ^ 32) × Written text cause old run.items now)
+    AllCame = WholeRun steps s (λ run. (length run.items ≡ count) × (count < 2 ^ 32) × Written text cause (old ++ lead ∷ []) run.items now)
 
-    pub ok_run : (new : List ℕ) (start : ℕ) → AllCame → start ≡ length old → OnOk outcome (new ≡ take start now ++ unsigned_text count ++ drop start now)
+    pub ok_run : (new : List ℕ) (start : ℕ) → AllCame → start ≡ length old → OnOk outcome (new ≡ take start now ++ unsigned_text count ++ drop (start + 1) now)
         → OnOk outcome (WholeRun steps s (λ run. (new ≡ old ++ list_text text run.items) × ((fault : Fault) → drawn_cause cause run.items fault → ⊥)))
     ok_run new start came begins h = go outcome h
       where
         free : (fault : Fault) → drawn_cause cause came.0.items fault → ⊥
         free fault h = elim h [ inl member ↦ came.3.2.no_cause fault member | inr many ↦ no_count_cause (length came.0.items) fault (omega (arith, came.3.0, came.3.1)) many.1 ]
 
-        go : (outcome : Result (Unit {0}) Fault) → OnOk outcome (new ≡ take start now ++ unsigned_text count ++ drop start now)
+        go : (outcome : Result (Unit {0}) Fault) → OnOk outcome (new ≡ take start now ++ unsigned_text count ++ drop (start + 1) now)
             → OnOk outcome (WholeRun steps s (λ run. (new ≡ old ++ list_text text run.items) × ((fault : Fault) → drawn_cause cause run.items fault → ⊥)))
         go (Err fault) h = tt
-        go (Ok u) h = (came.0, came.1, came.2, (list_is_written text cause old now new came.0.items start count (Ok u) came.3.2 came.3.0 begins h, free))
+        go (Ok u) h = (came.0, came.1, came.2, (list_is_written text cause old now new came.0.items lead start count (Ok u) came.3.2 came.3.0 begins h, free))
 
     pub memory_run : AllCame → IfErr outcome IsMemory → IfErr outcome (λ fault. SomeRun steps s (λ run. IsWarranted (drawn_cause cause run.items) fault))
     memory_run came h = go outcome h

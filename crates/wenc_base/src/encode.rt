@@ -1,7 +1,7 @@
 ghost use Rattle.std.specs.Prelude.{◌≡◌, ℕ, ◌+◌, ◌<◌, ◌≤◌, ◌++◌, ◌∷◌, [], List, length, vec_len, vec_capacity};
 ghost use Rattle.wenc_base.specs.Encode.{Appends};
 ghost use Rattle.wenc_base.specs.Fault.{text_cause};
-ghost use Rattle.wenc_base.specs.Number.{number_size, unsigned_text};
+ghost use Rattle.wenc_base.specs.Number.{number_size, unsigned_text, signed_text};
 ghost use Rattle.wenc_base.specs.declared.fault.Fault.{Fault as FaultSpec};
 
 mod front;
@@ -111,13 +111,43 @@ impl Encode for i64 {
 
     ghost cause = { λ _ _. ⊥ };
 
-    #[tactic(auto, using(crate::proofs::Groups::signed_length))]
+    #[tactic(auto, using(crate::proofs::Groups::signed_below, crate::proofs::Groups::signed_2, crate::proofs::Groups::signed_3))]
     fn encode<A: Allocator>(&self, sink: &mut Vec<u8, A>) -> Result<(), Fault> {
-        let mut text = Short::new();
-        text.signed(*self);
-        sink.extend_from_slice(text.as_slice())?;
-        Ok(())
+        if *self < 0 {
+            return encode_long_signed(*self, sink);
+        }
+        let n = *self as u64;
+        if n < 1 << 6 {
+            sink.push(n as u8)?;
+            return Ok(());
+        }
+        if n < 1 << 13 {
+            sink.extend_from_slice(&[(n % 128) as u8 + 128, (n / 128) as u8])?;
+            return Ok(());
+        }
+        if n < 1 << 20 {
+            sink.extend_from_slice(&[
+                (n % 128) as u8 + 128,
+                (n / 128 % 128) as u8 + 128,
+                (n / 128 / 128) as u8,
+            ])?;
+            return Ok(());
+        }
+        encode_long_signed(*self, sink)
     }
+}
+
+/// The same of any number.
+#[tactic(auto, using(crate::proofs::Groups::signed_length))]
+#[cold]
+#[inline(never)]
+fn encode_long_signed<A: Allocator>(n: i64, sink: &mut Vec<u8, A>) -> Result<(), Fault>
+    ensures { Appends (signed_text n) (λ _. ⊥) ⊥ sink.old.items sink.new.items result }
+{
+    let mut text = Short::new();
+    text.signed(n);
+    sink.extend_from_slice(text.as_slice())?;
+    Ok(())
 }
 
 impl Encode for &str {
@@ -164,6 +194,22 @@ fn encode_bytes<A: Allocator>(bytes: &[u8], sink: &mut Vec<u8, A>) -> Result<(),
     ensures { Appends (unsigned_text (length bytes.now) ++ bytes.now) (text_cause bytes.now) ⊥
         sink.old.items sink.new.items result }
 {
+    if bytes.len() < 1 << 7 {
+        sink.try_reserve(1 + bytes.len())?;
+        short_number_in_room(bytes.len() as u8, sink);
+        extend_in_room(sink, bytes);
+        return Ok(());
+    }
+    encode_long_bytes(bytes, sink)
+}
+
+/// The same of so many bytes that their number has more than one.
+#[cold]
+#[inline(never)]
+fn encode_long_bytes<A: Allocator>(bytes: &[u8], sink: &mut Vec<u8, A>) -> Result<(), Fault>
+    ensures { Appends (unsigned_text (length bytes.now) ++ bytes.now) (text_cause bytes.now) ⊥
+        sink.old.items sink.new.items result }
+{
     let Ok(len) = u32::try_from(bytes.len()) else {
         return Err(Fault::TooLarge);
     };
@@ -174,14 +220,36 @@ fn encode_bytes<A: Allocator>(bytes: &[u8], sink: &mut Vec<u8, A>) -> Result<(),
 }
 
 /// Appends the text of a number. Most have one byte, which needs no room of its own.
-#[tactic(auto, using(crate::proofs::Groups::groups_length, crate::proofs::Groups::groups_below))]
+#[tactic(auto, using(crate::proofs::Groups::groups_below, crate::proofs::Groups::text_2, crate::proofs::Groups::text_3))]
 fn encode_number<A: Allocator>(n: u64, sink: &mut Vec<u8, A>) -> Result<(), Fault>
     ensures { Appends (unsigned_text n) (λ _. ⊥) ⊥ sink.old.items sink.new.items result }
 {
-    if n < 128 {
+    if n < 1 << 7 {
         sink.push(n as u8)?;
         return Ok(());
     }
+    if n < 1 << 14 {
+        sink.extend_from_slice(&[(n % 128) as u8 + 128, (n / 128) as u8])?;
+        return Ok(());
+    }
+    if n < 1 << 21 {
+        sink.extend_from_slice(&[
+            (n % 128) as u8 + 128,
+            (n / 128 % 128) as u8 + 128,
+            (n / 128 / 128) as u8,
+        ])?;
+        return Ok(());
+    }
+    encode_long(n, sink)
+}
+
+/// The same of a number that has more bytes.
+#[tactic(auto, using(crate::proofs::Groups::groups_length))]
+#[cold]
+#[inline(never)]
+fn encode_long<A: Allocator>(n: u64, sink: &mut Vec<u8, A>) -> Result<(), Fault>
+    ensures { Appends (unsigned_text n) (λ _. ⊥) ⊥ sink.old.items sink.new.items result }
+{
     let mut text = Short::new();
     text.unsigned(n);
     sink.extend_from_slice(text.as_slice())?;
@@ -189,7 +257,7 @@ fn encode_number<A: Allocator>(n: u64, sink: &mut Vec<u8, A>) -> Result<(), Faul
 }
 
 /// The same where there is room, which takes no memory.
-#[tactic(auto, using(crate::proofs::Groups::size_of_u32, crate::proofs::Groups::groups_below))]
+#[tactic(auto, using(crate::proofs::Groups::groups_below, crate::proofs::Groups::text_2, crate::proofs::Groups::text_3))]
 #[inline]
 pub(crate) fn number_in_room<A: Allocator>(n: u32, sink: &mut Vec<u8, A>)
     requires { vec_len sink.old + number_size n ≤ vec_capacity sink.old }
@@ -197,13 +265,50 @@ pub(crate) fn number_in_room<A: Allocator>(n: u32, sink: &mut Vec<u8, A>)
     ensures len { vec_len sink.new ≡ vec_len sink.old + number_size n }
     ensures capacity { vec_capacity sink.old ≤ vec_capacity sink.new }
 {
-    if n < 128 {
+    if n < 1 << 7 {
         push_in_room(sink, n as u8);
-        return;
+    } else if n < 1 << 14 {
+        extend_in_room(sink, &[(n % 128) as u8 + 128, (n / 128) as u8]);
+    } else if n < 1 << 21 {
+        extend_in_room(
+            sink,
+            &[
+                (n % 128) as u8 + 128,
+                (n / 128 % 128) as u8 + 128,
+                (n / 128 / 128) as u8,
+            ],
+        );
+    } else {
+        long_in_room(n, sink);
     }
+}
+
+/// The same of a number that has more bytes.
+#[tactic(auto, using(crate::proofs::Groups::size_of_u32))]
+#[cold]
+#[inline(never)]
+fn long_in_room<A: Allocator>(n: u32, sink: &mut Vec<u8, A>)
+    requires { vec_len sink.old + number_size n ≤ vec_capacity sink.old }
+    ensures items { sink.new.items ≡ sink.old.items ++ unsigned_text n }
+    ensures len { vec_len sink.new ≡ vec_len sink.old + number_size n }
+    ensures capacity { vec_capacity sink.old ≤ vec_capacity sink.new }
+{
     let mut text = Short::new();
     text.unsigned(u64::from(n));
     extend_in_room(sink, text.as_slice());
+}
+
+/// The same of a number that has one byte.
+#[tactic(auto, using(crate::proofs::Groups::groups_below))]
+#[inline]
+pub(crate) fn short_number_in_room<A: Allocator>(n: u8, sink: &mut Vec<u8, A>)
+    requires short { n < 128 }
+    requires room { vec_len sink.old < vec_capacity sink.old }
+    ensures items { sink.new.items ≡ sink.old.items ++ unsigned_text n }
+    ensures len { vec_len sink.new ≡ vec_len sink.old + 1 }
+    ensures capacity { vec_capacity sink.old ≤ vec_capacity sink.new }
+{
+    push_in_room(sink, n);
 }
 
 /// Appends a byte where there is room, which takes no memory.

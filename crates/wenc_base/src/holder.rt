@@ -322,6 +322,31 @@ pub(crate) fn next_count(count: u32, body: usize) -> Result<u32, Fault>
     let Some(next) = count.checked_add(1) else {
         return Err(Fault::TooMany);
     };
-    section_size(next, body as u64)?;
+    size_fits(next, body as u64)?;
     Ok(next)
+}
+
+/// Refuses what is too large for a section, with `TooLarge` alone. Most have far less.
+#[tactic(auto, using(crate::proofs::Groups::size_of_u32))]
+pub(crate) fn size_fits(count: u32, body: u64) -> Result<(), Fault>
+    ensures ok { OnOk result (content_size count body < 2 ^ 32) }
+    ensures refused { IfErr result (λ fault.
+        (fault ≡ TooLarge) × (2 ^ 32 ≤ content_size count body)) }
+{
+    if body <= LIMIT - 5 {
+        return Ok(());
+    }
+    large_fits(count, body)
+}
+
+/// The same of a size near the limit.
+#[cold]
+#[inline(never)]
+fn large_fits(count: u32, body: u64) -> Result<(), Fault>
+    ensures ok { OnOk result (content_size count body < 2 ^ 32) }
+    ensures refused { IfErr result (λ fault.
+        (fault ≡ TooLarge) × (2 ^ 32 ≤ content_size count body)) }
+{
+    section_size(count, body)?;
+    Ok(())
 }

@@ -3,7 +3,7 @@ ghost use Rattle.wenc_base.specs.Fault.{IsMemory, text_cause};
 ghost use Rattle.wenc_base.specs.Holder.{no_members, holding, held_text, cut_to, AddsMember};
 ghost use Rattle.wenc_base.specs.Names.{Named, named_text};
 
-use crate::encode::{Encode, Verbatim, extend_in_room, number_in_room};
+use crate::encode::{Encode, Verbatim, extend_in_room, number_in_room, short_number_in_room};
 use crate::fault::Fault;
 use crate::holder::next_count;
 use crate::number::encoding_size;
@@ -55,6 +55,28 @@ impl<A: Allocator> NameMap<A> {
         ensures { let entry : Named = record { place = idx; name = name.now } in
             AddsMember named_text self.old self.new result (text_cause name.now) entry }
     {
+        if name.len() < 1 << 7 {
+            let len = name.len() as u32;
+            let more = encoding_size(idx) + encoding_size(len) + name.len();
+            let count = next_count(self.count, self.names.len() + more)?;
+            self.names.try_reserve(more)?;
+            number_in_room(idx, &mut self.names);
+            short_number_in_room(len as u8, &mut self.names);
+            extend_in_room(&mut self.names, name.as_bytes());
+            self.count = count;
+            return Ok(());
+        }
+        self.append_long(idx, name)
+    }
+
+    /// The same of any name.
+    #[tactic(auto, using(crate::proofs::Groups::size_of_u32))]
+    #[cold]
+    #[inline(never)]
+    fn append_long(&mut self, idx: u32, name: &str) -> Result<(), Fault>
+        ensures { let entry : Named = record { place = idx; name = name.now } in
+            AddsMember named_text self.old self.new result (text_cause name.now) entry }
+    {
         let body = self.names.len();
         let Ok(len) = u32::try_from(name.len()) else {
             return Err(Fault::TooLarge);
@@ -67,6 +89,13 @@ impl<A: Allocator> NameMap<A> {
         extend_in_room(&mut self.names, name.as_bytes());
         self.count = count;
         Ok(())
+    }
+
+    /// How many bytes the names have, behind their count.
+    pub fn names_len(&self) -> usize
+        ensures { result ≡ length self.now.body }
+    {
+        self.names.len()
     }
 
     /// How many bytes `encode` appends.

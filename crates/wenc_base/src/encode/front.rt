@@ -1,4 +1,4 @@
-ghost use Rattle.std.specs.Prelude.{◌≡◌, ℕ, ◌+◌, ◌≤◌, ◌++◌, List, length, take, drop, OnOk, OnErr, IfErr};
+ghost use Rattle.std.specs.Prelude.{◌≡◌, ℕ, ◌+◌, ◌<◌, ◌≤◌, ◌++◌, List, length, take, drop, OnOk, OnErr, IfErr};
 ghost use Rattle.wenc_base.specs.Fault.{IsMemory};
 ghost use Rattle.wenc_base.specs.Number.{unsigned_text};
 
@@ -23,6 +23,53 @@ pub fn put_number<A: Allocator>(
         Ok(()) => {
             let size = sink.len() - end;
             turn_to_front(sink.as_mut_slice(), start, size);
+            Ok(())
+        }
+        Err(fault) => {
+            sink.truncate(start);
+            Err(fault)
+        }
+    }
+}
+
+/// Puts a number in the place of the byte at `start`, or leaves it out with what is behind it where it is refused. Most
+/// have one byte.
+#[tactic(auto, using(crate::proofs::Groups::put_over))]
+pub fn put_number_over<A: Allocator>(
+    number: u32,
+    start: usize,
+    sink: &mut Vec<u8, A>,
+) -> Result<(), Fault>
+    requires { start < length sink.old.items }
+    ensures ok { OnOk result (sink.new.items
+        ≡ take start sink.old.items ++ unsigned_text number ++ drop (start + 1) sink.old.items) }
+    ensures err { OnErr result (sink.new.items ≡ take start sink.old.items) }
+    ensures warranted { IfErr result IsMemory }
+{
+    if number < 1 << 7 {
+        sink[start] = number as u8;
+        return Ok(());
+    }
+    put_long_number_over(number, start, sink)
+}
+
+/// The same of a number that has more bytes.
+#[cold]
+#[inline(never)]
+fn put_long_number_over<A: Allocator>(
+    number: u32,
+    start: usize,
+    sink: &mut Vec<u8, A>,
+) -> Result<(), Fault>
+    requires { start < length sink.old.items }
+    ensures ok { OnOk result (sink.new.items
+        ≡ take start sink.old.items ++ unsigned_text number ++ drop (start + 1) sink.old.items) }
+    ensures err { OnErr result (sink.new.items ≡ take start sink.old.items) }
+    ensures warranted { IfErr result IsMemory }
+{
+    match put_number(number, start + 1, sink) {
+        Ok(()) => {
+            sink.remove(start);
             Ok(())
         }
         Err(fault) => {

@@ -7,7 +7,7 @@ ghost use Rattle.wenc_base.specs.Forms.{list_text};
 ghost use Rattle.wenc_base.specs.Encode.{Written};
 ghost use Rattle.wenc_base.specs.declared.fault.Fault.{Fault as FaultSpec};
 
-use super::front::put_number;
+use super::front::put_number_over;
 use crate::encode::Encode;
 use crate::fault::Fault;
 use std::alloc::Allocator;
@@ -61,8 +61,9 @@ pub fn encode_list<T: Encode + Drop, I: Iterator<Item = T> + Drop, A: Allocator>
         IsWarranted (drawn_cause T.cause run.items) fault)) }
 {
     let start = sink.len();
+    sink.push(0)?;
     match encode_all(values, sink) {
-        Ok(count) => put_number(count, start, sink),
+        Ok(count) => put_number_over(count, start, sink),
         Err(fault) => {
             sink.truncate(start);
             Err(fault)

@@ -7,7 +7,7 @@ ghost use Rattle.wenc_base.specs.Holder.{is_finished, content_size, AddCause};
 ghost use Rattle.wenc_base.specs.Lender.{ExtendsListed, GivesUp};
 ghost use Rattle.wenc_base.specs.Openings.{lengthened, closed, given_up, no_room, is_opened, OpensMember, Lengthens};
 
-use super::{Holder, encode_listed, next_count, section_size};
+use super::{Holder, encode_listed, next_count, size_fits};
 use crate::encode::{Encode, Verbatim};
 use crate::fault::Fault;
 use std::alloc::Allocator;
@@ -148,7 +148,7 @@ fn keep_in_room<A: Allocator>(
     ensures warranted { IfErr result (λ fault. (fault ≡ TooLarge)
         × (2 ^ 32 ≤ content_size count (length (drop kept bytes.old.items)))) }
 {
-    if let Err(fault) = section_size(count, (bytes.len() - kept) as u64) {
+    if let Err(fault) = size_fits(count, (bytes.len() - kept) as u64) {
         bytes.truncate(start);
         return Err(fault);
     }

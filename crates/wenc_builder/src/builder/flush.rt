@@ -25,6 +25,16 @@ pub fn section_head(kind: Kind, count: u32, body: usize) -> Short
     head
 }
 
+/// The same where the size and the count have one byte each.
+#[tactic(auto, using(wenc_base::proofs::Groups::groups_below))]
+fn short_head(kind: Kind, count: u8, body: u8) -> [u8; 3]
+    requires count { count < 128 }
+    requires body { body < 127 }
+    ensures { result ≡ head_text (kind_id kind) count (number_size count + body) }
+{
+    [kind.id(), 1 + body, count]
+}
+
 /// The same of the open section, or nothing where none is open.
 pub fn open_head(kind: Option<Kind>, count: u32, body: usize) -> Short
     requires { number_size count + body < 2 ^ 32 }
@@ -50,6 +60,12 @@ pub fn close_earlier<A: Allocator>(holder: &mut Holder<A>, earlier: Earlier) -> 
         None => earlier.closed_len,
         Some(kind) => {
             let start = earlier.closed_len + GAP;
+            let body = earlier.items_end - start;
+            if earlier.count < 1 << 7 && body < 127 {
+                let head = short_head(kind, earlier.count as u8, body as u8);
+                holder.fill_kept(earlier.closed_len, start, &head);
+                return earlier.items_end - (GAP - 3);
+            }
             let head = section_head(kind, earlier.count, earlier.items_end - start);
             let head = head.as_slice();
             holder.fill_kept(earlier.closed_len, start, head);

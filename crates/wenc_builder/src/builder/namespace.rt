@@ -8,7 +8,7 @@ ghost use Rattle.wenc_builder.specs.Cause.{SpaceCause};
 
 use std::alloc::{Allocator, Global};
 use std::marker::Model;
-use wenc_base::{Fault, NameMap, encoding_size};
+use wenc_base::{Fault, NameMap};
 
 /// An index space: how many items it has, and the names of some.
 #[derive(Drop)]
@@ -58,7 +58,7 @@ impl<A: Allocator> Namespace<A> {
     pub fn names_len(&self) -> usize
         ensures { result ≡ length self.now.names }
     {
-        self.names.size() - encoding_size(self.names.len())
+        self.names.names_len()
     }
 
     /// So many more items, the first of them with this name or none.

@@ -4,8 +4,14 @@ use Rattle.wenc_builder.specs.Layout.{kind_id}
 use Rattle.wenc_builder.proofs.Gap.{closed_items}
 use Rattle.wenc_builder.proofs.builder.flush.close_earlier.Goals as goal
 
-pub returns-in-Some-clause-holder : goal.returns-in-Some-clause-holder
-returns-in-Some-clause-holder g c =
+pub returns-then-body-lt127-clause-holder : goal.returns-then-body-lt127-clause-holder
+returns-then-body-lt127-clause-holder g c =
     let e = c.args.earlier in
     let same = closed_items c.args.holder.now.kept e.closed_len e.items_end (kind_id c.in-Some.kind) e.count (rw c.in-Some.is at c.requires.section) c.requires.within in
-    c.fill_kept.ensures ∙ rw (c.as_slice-head.ensures.same, c.section_head-head.ensures, c.in-Some.is) (ap (λ (kept : List ℕ). with_kept c.args.holder.now kept) same)
+    c.fill_kept.ensures ∙ rw (c.short_head-head.ensures, c.in-Some.is) (ap (λ (kept : List ℕ). with_kept c.args.holder.now kept) same)
+
+pub returns-else-earlier-clause-holder : goal.returns-else-earlier-clause-holder
+returns-else-earlier-clause-holder g c =
+    let e = c.args.earlier in
+    let same = closed_items c.args.holder.now.kept e.closed_len e.items_end (kind_id c.in-Some.kind) e.count (rw c.in-Some.is at c.requires.section) c.requires.within in
+    c.fill_kept-in-Some.ensures ∙ rw (c.as_slice-head.ensures.same, c.section_head-head.ensures, c.in-Some.is) (ap (λ (kept : List ℕ). with_kept c.args.holder.now kept) same)
