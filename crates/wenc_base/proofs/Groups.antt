@@ -2,7 +2,7 @@
 use Rattle.std.proofs.Common.{◌≡◌, ℕ, ℤ, pos, negsuc, zero, suc, ◌+◌, ◌/◌, ◌%◌, ◌^◌, ◌<◌, ◌≤◌, Bool, true, false, cond, List, [], ◌∷◌, ◌++◌, length, refl, sym, ap, ◌∙◌, arith, inl, inr, append_assoc, length-append, add-one, take, drop}
 use Rattle.std.proofs.lemmas.Bool.{cases_lt}
 use Rattle.std.proofs.lemmas.List.{length-map, set_split}
-use Rattle.std.specs.Prelude.{slice_set}
+use Rattle.std.specs.Prelude.{slice_set, slice_index}
 pub use Rattle.wenc_base.specs.laws.Groups.{limit, groups_below, groups_from}
 use Rattle.wenc_base.specs.laws.Numbers.{same_in_room}
 use Rattle.wenc_base.specs.Number.{groups, complement, turned, unsigned_text, signed_text, number_size}
@@ -50,6 +50,12 @@ size_1 n h = rw (groups_below 128 9 n h) refl
 
 pub size_2 : (n : ℕ) → 128 ≤ n → n < 16384 → number_size n ≡ 2
 size_2 n h l = rw (groups_from 128 8 n h, groups_below 128 8 (n / 128) (omega arith)) refl
+
+-- the text of one byte
+pub one_byte : (bytes : List ℕ) → 1 ≤ length bytes → length bytes < 2 → unsigned_text (length bytes) ++ bytes ≡ 1 ∷ slice_index bytes 0 ∷ []
+one_byte [] some few = absurd (omega (arith, some))
+one_byte (b ∷ []) some few = rw (groups_below 128 9 1 (omega arith)) refl
+one_byte (b ∷ c ∷ bytes) some few = absurd (omega (arith, few))
 
 -- a number of one byte in the place of a byte
 pub put_over : (bytes : List ℕ) (start n : ℕ) → start < length bytes → n < 128 → slice_set bytes start n ≡ take start bytes ++ unsigned_text n ++ drop (start + 1) bytes

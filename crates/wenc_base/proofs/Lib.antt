@@ -7,3 +7,4 @@ pub mod Grown
 pub mod Kept
 pub mod Produced
 mod Composites
+pub mod Named

@@ -190,10 +190,15 @@ impl Encode for &[u8] {
 }
 
 /// Appends the number of bytes, and the bytes, in one growth.
+#[tactic(auto, using(crate::proofs::Groups::groups_below))]
 fn encode_bytes<A: Allocator>(bytes: &[u8], sink: &mut Vec<u8, A>) -> Result<(), Fault>
     ensures { Appends (unsigned_text (length bytes.now) ++ bytes.now) (text_cause bytes.now) ⊥
         sink.old.items sink.new.items result }
 {
+    if let [byte] = bytes {
+        sink.extend_from_slice(&[1, *byte])?;
+        return Ok(());
+    }
     if bytes.len() < 1 << 7 {
         sink.try_reserve(1 + bytes.len())?;
         short_number_in_room(bytes.len() as u8, sink);

@@ -36,6 +36,9 @@ impl<A: Allocator> Model for NameMap<A> {
     ghost invariant = { λ m. content_size m.count (length m.names.items) < 2 ^ 32 };
 }
 
+/// From so many bytes on, one short name more could be too many.
+const NEARLY_FULL: usize = (1 << 32) - 256;
+
 impl<A: Allocator> NameMap<A> {
     /// No names. It takes no memory.
     #[tactic(auto, using(crate::proofs::Groups::size_1))]
@@ -55,15 +58,12 @@ impl<A: Allocator> NameMap<A> {
         ensures { let entry : Named = record { place = idx; name = name.now } in
             AddsMember named_text self.old self.new result (text_cause name.now) entry }
     {
-        if name.len() < 1 << 7 {
-            let len = name.len() as u32;
-            let more = encoding_size(idx) + encoding_size(len) + name.len();
-            let count = next_count(self.count, self.names.len() + more)?;
-            self.names.try_reserve(more)?;
+        if name.len() < 1 << 7 && self.names.len() < NEARLY_FULL && self.count < u32::MAX {
+            self.names.try_reserve(6 + name.len())?;
             number_in_room(idx, &mut self.names);
-            short_number_in_room(len as u8, &mut self.names);
+            short_number_in_room(name.len() as u8, &mut self.names);
             extend_in_room(&mut self.names, name.as_bytes());
-            self.count = count;
+            self.count += 1;
             return Ok(());
         }
         self.append_long(idx, name)

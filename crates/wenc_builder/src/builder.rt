@@ -8,7 +8,8 @@ ghost use Rattle.wenc_base.specs.Lender.{GivesUp};
 ghost use Rattle.wenc_base.specs.declared.fault.Fault.TheVariants.{Unfinished};
 ghost use Rattle.wenc_parts.specs.Imports.{extern_name_view};
 ghost use Rattle.wenc_parts.specs.Aliases.{alias_view};
-ghost use Rattle.wenc_canon.specs.Canonicals.{canonical_option};
+ghost use Rattle.wenc_canon.specs.Canonicals.{canonical_option, ◌takes◌};
+ghost use Rattle.wenc_canon.specs.Rows.{row_with, provided_by};
 ghost use Rattle.wenc_canon.specs.CanonTrees.{canon_view};
 ghost use Rattle.wenc_builder.specs.Sections.{whole};
 ghost use Rattle.wenc_builder.specs.Entry.{Entry, items, module_entry, component_entry, canonical_entry, start_entry, custom_entry, raw_entry};
@@ -49,7 +50,7 @@ use std::marker::Model;
 use wenc_base::{
     CustomSection, Encode, ExportKind, Fault, Lender, Module, RawCustomSection, Tagged, WithSize,
 };
-use wenc_canon::{CanonTree, CanonicalOption};
+use wenc_canon::{CanonTree, CanonicalOption, Fields};
 use wenc_parts::{
     Alias, ComponentExportKind, ComponentExternName, ComponentSectionId, ComponentTypeRef,
 };
@@ -404,13 +405,18 @@ impl<A: Allocator> ComponentBuilder<A> {
         self.add(Kind::CanonicalFunction, space, name, function)
     }
 
-    /// Adds a function that gives a core one, with this debug name. Answers its index.
-    fn provide(&mut self, name: &str, function: &CanonTree) -> Result<u32, Fault>
-        requires { canonical_space (canon_view function.now) ≡ Space.CoreFuncs }
-        ensures { Enters self.old self.new result
-            (canonical_entry (Some name.now) (canon_view function.now)) }
+    /// Adds the intrinsic that begins with this opcode and has these fields, with this debug name. Answers its index.
+    fn provide<F: Fields>(&mut self, name: &str, opcode: u8, fields: &F) -> Result<u32, Fault>
+        requires row { row_with opcode ≡ (opcode takes F.kinds) }
+        ensures { Enters self.old self.new result (canonical_entry (Some name.now)
+            (provided_by opcode F.kinds (F.values fields.now))) }
     {
-        self.add_canonical(Space::CoreFuncs, Some(name), function)
+        self.add(
+            Kind::CanonicalFunction,
+            Space::CoreFuncs,
+            Some(name),
+            &Tagged(opcode, fields),
+        )
     }
 
     /// Adds a function of a slot of a task, whose debug name is this word with the number of the slot behind it. Answers

@@ -1,3 +1,4 @@
 pub mod Canonicals
+pub mod Rows
 pub mod CanonTrees
 pub mod laws

@@ -5,7 +5,8 @@ ghost use Rattle.wenc_base.specs.Fault.{count_cause};
 ghost use Rattle.wenc_base.specs.Forms.{list};
 ghost use Rattle.wenc_canon.specs.Canonicals.{Lift, canonical_option, canonical_text, text_with_options};
 
-use crate::canonicals::{CANCELLABLE, CanonicalOption};
+use crate::canonicals::CanonicalOption;
+use crate::fields::NotCancellable;
 use crate::opcodes;
 use std::alloc::{Allocator, Global};
 use wenc_base::{Delimited, Encode, Fault, Tagged, ValType};
@@ -240,7 +241,7 @@ impl<A: Allocator> Encode for CanonTree<A> {
                 opcodes::CONTEXT_SET,
                 &(*ty, *slot),
             ).encode(sink),
-            CanonTree::ThreadYield => Tagged(opcodes::THREAD_YIELD, &CANCELLABLE).encode(sink),
+            CanonTree::ThreadYield => Tagged(opcodes::THREAD_YIELD, &NotCancellable).encode(sink),
             CanonTree::SubtaskDrop => Tagged(opcodes::SUBTASK_DROP, &()).encode(sink),
             CanonTree::StreamNew(ty) => Tagged(opcodes::STREAM_NEW, ty).encode(sink),
             CanonTree::StreamRead { ty, options } => with_options(
@@ -312,11 +313,11 @@ impl<A: Allocator> Encode for CanonTree<A> {
             CanonTree::WaitableSetNew => Tagged(opcodes::WAITABLE_SET_NEW, &()).encode(sink),
             CanonTree::WaitableSetWait(memory) => Tagged(
                 opcodes::WAITABLE_SET_WAIT,
-                &(CANCELLABLE, *memory),
+                &(NotCancellable, *memory),
             ).encode(sink),
             CanonTree::WaitableSetPoll(memory) => Tagged(
                 opcodes::WAITABLE_SET_POLL,
-                &(CANCELLABLE, *memory),
+                &(NotCancellable, *memory),
             ).encode(sink),
             CanonTree::WaitableSetDrop => Tagged(opcodes::WAITABLE_SET_DROP, &()).encode(sink),
             CanonTree::WaitableJoin => Tagged(opcodes::WAITABLE_JOIN, &()).encode(sink),
@@ -328,22 +329,24 @@ impl<A: Allocator> Encode for CanonTree<A> {
                 &(*ty, *table),
             ).encode(sink),
             CanonTree::ThreadResumeLater => Tagged(opcodes::THREAD_RESUME_LATER, &()).encode(sink),
-            CanonTree::ThreadSuspend => Tagged(opcodes::THREAD_SUSPEND, &CANCELLABLE).encode(sink),
+            CanonTree::ThreadSuspend => Tagged(opcodes::THREAD_SUSPEND, &NotCancellable).encode(
+                sink,
+            ),
             CanonTree::ThreadSuspendThenResume => Tagged(
                 opcodes::THREAD_SUSPEND_THEN_RESUME,
-                &CANCELLABLE,
+                &NotCancellable,
             ).encode(sink),
             CanonTree::ThreadYieldThenResume => Tagged(
                 opcodes::THREAD_YIELD_THEN_RESUME,
-                &CANCELLABLE,
+                &NotCancellable,
             ).encode(sink),
             CanonTree::ThreadSuspendThenPromote => Tagged(
                 opcodes::THREAD_SUSPEND_THEN_PROMOTE,
-                &CANCELLABLE,
+                &NotCancellable,
             ).encode(sink),
             CanonTree::ThreadYieldThenPromote => Tagged(
                 opcodes::THREAD_YIELD_THEN_PROMOTE,
-                &CANCELLABLE,
+                &NotCancellable,
             ).encode(sink),
             CanonTree::StreamForward(ty) => Tagged(opcodes::STREAM_FORWARD, ty).encode(sink),
             CanonTree::FutureForward(ty) => Tagged(opcodes::FUTURE_FORWARD, ty).encode(sink),

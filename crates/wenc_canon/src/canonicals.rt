@@ -7,13 +7,14 @@ ghost use Rattle.wenc_base.specs.Holder.{no_members, is_finished, section_text, 
 ghost use Rattle.wenc_base.specs.Openings.{HasMembers};
 ghost use Rattle.wenc_base.specs.Piece.{HasForm};
 ghost use Rattle.wenc_base.specs.laws.Delimited.{itself};
-ghost use Rattle.wenc_canon.specs.Canonicals.{AddsWithOptions, Lift, Lower, canonical, text_with_options};
+ghost use Rattle.wenc_canon.specs.Canonicals.{AddsWithOptions, Lift, Lower, canonical, canonical_text, ◌takes◌, text_with_options};
+ghost use Rattle.wenc_canon.specs.Rows.{row_with, provided_by};
 ghost use Rattle.wenc_canon.specs.declared.canonicals.CanonicalOption.{CanonicalOption as OptionSeen};
 
 mod intrinsics;
 
+use crate::fields::Fields;
 use crate::opcodes;
-pub(crate) use intrinsics::CANCELLABLE;
 use std::alloc::{Allocator, Global};
 use std::marker::Model;
 use wenc_base::{Delimited, DelimitedEq, Encode, Fault, Holder, Tagged};
@@ -227,16 +228,16 @@ impl<A: Allocator> CanonicalFunctionSection<A> {
         self.add_row_with_options(opcodes::LOWER, &Tagged(opcodes::PLAIN, &func), options)
     }
 
-    /// Adds what begins with this opcode and has these fields.
-    fn add_row<E: Encode>(&mut self, opcode: u8, fields: &E) -> Result<(), Fault>
-        requires function { ∥ HasForm canonical (opcode ∷ E.text fields.now) ∥₁ }
-        ensures { AddsMember as_they_are self.old self.new result (E.cause fields.now)
-            (opcode ∷ E.text fields.now) }
+    /// Adds the intrinsic that begins with this opcode and has these fields.
+    fn add_row<F: Fields>(&mut self, opcode: u8, fields: &F) -> Result<(), Fault>
+        requires row { row_with opcode ≡ (opcode takes F.kinds) }
+        ensures { AddsMember canonical_text self.old self.new result (λ _. ⊥)
+            (provided_by opcode F.kinds (F.values fields.now)) }
     {
         self.functions.add_encoded(&Tagged(opcode, fields))
     }
 
-    /// The same where options come last, and nothing stands against the fields.
+    /// Adds what begins with this opcode and has these fields, against which nothing stands, and options.
     fn add_row_with_options<E: Encode, I: Iterator<Item = CanonicalOption> + Drop>(
         &mut self,
         opcode: u8,

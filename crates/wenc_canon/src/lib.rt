@@ -7,7 +7,9 @@
 pub mod canon_tree;
 pub mod canonicals;
 pub mod equality;
+pub mod fields;
 pub mod opcodes;
 
 pub use canon_tree::CanonTree;
 pub use canonicals::{CanonicalFunctionSection, CanonicalOption};
+pub use fields::{Fields, NotCancellable};

@@ -6,7 +6,7 @@ ghost use Rattle.wenc_canon.specs.Canonicals as rows;
 use super::ComponentBuilder;
 use std::alloc::Allocator;
 use wenc_base::{Fault, ValType};
-use wenc_canon::{CanonTree, CanonicalOption, opcodes};
+use wenc_canon::{CanonTree, CanonicalOption, NotCancellable, opcodes};
 use wenc_parts::{ComponentValType, ResultList};
 
 /// The functions that the component model provides: each call adds one, with its own name as its debug name, and
@@ -17,28 +17,28 @@ impl<A: Allocator> ComponentBuilder<A> {
     pub fn resource_new(&mut self, ty: u32) -> Result<u32, Fault>
         ensures { Enters self.old self.new result (provided_entry rows.ResourceNew ty) }
     {
-        self.provide("resource.new", &CanonTree::ResourceNew(ty))
+        self.provide("resource.new", opcodes::RESOURCE_NEW, &ty)
     }
 
     /// `resource.drop`: drops a handle of this type.
     pub fn resource_drop(&mut self, ty: u32) -> Result<u32, Fault>
         ensures { Enters self.old self.new result (provided_entry rows.ResourceDrop ty) }
     {
-        self.provide("resource.drop", &CanonTree::ResourceDrop(ty))
+        self.provide("resource.drop", opcodes::RESOURCE_DROP, &ty)
     }
 
     /// `resource.rep`: gives the representation of a resource of this type.
     pub fn resource_rep(&mut self, ty: u32) -> Result<u32, Fault>
         ensures { Enters self.old self.new result (provided_entry rows.ResourceRep ty) }
     {
-        self.provide("resource.rep", &CanonTree::ResourceRep(ty))
+        self.provide("resource.rep", opcodes::RESOURCE_REP, &ty)
     }
 
     /// `thread.spawn-ref`: starts a thread in a shared function of this type, by a reference to it.
     pub fn thread_spawn_ref(&mut self, ty: u32) -> Result<u32, Fault>
         ensures { Enters self.old self.new result (provided_entry rows.ThreadSpawnRef ty) }
     {
-        self.provide("thread.spawn-ref", &CanonTree::ThreadSpawnRef(ty))
+        self.provide("thread.spawn-ref", opcodes::THREAD_SPAWN_REF, &ty)
     }
 
     /// `thread.spawn-indirect`: starts a thread in a shared function of this type, by its place in a table.
@@ -48,7 +48,8 @@ impl<A: Allocator> ComponentBuilder<A> {
     {
         self.provide(
             "thread.spawn-indirect",
-            &CanonTree::ThreadSpawnIndirect { ty, table },
+            opcodes::THREAD_SPAWN_INDIRECT,
+            &(ty, table),
         )
     }
 
@@ -59,7 +60,8 @@ impl<A: Allocator> ComponentBuilder<A> {
     {
         self.provide(
             "thread.available-parallelism",
-            &CanonTree::ThreadAvailableParallelism,
+            opcodes::THREAD_AVAILABLE_PARALLELISM,
+            &(),
         )
     }
 
@@ -67,14 +69,14 @@ impl<A: Allocator> ComponentBuilder<A> {
     pub fn backpressure_inc(&mut self) -> Result<u32, Fault>
         ensures { Enters self.old self.new result (provided_entry rows.BackpressureInc tt) }
     {
-        self.provide("backpressure.inc", &CanonTree::BackpressureInc)
+        self.provide("backpressure.inc", opcodes::BACKPRESSURE_INC, &())
     }
 
     /// `backpressure.dec`: lowers the counter that keeps new calls back.
     pub fn backpressure_dec(&mut self) -> Result<u32, Fault>
         ensures { Enters self.old self.new result (provided_entry rows.BackpressureDec tt) }
     {
-        self.provide("backpressure.dec", &CanonTree::BackpressureDec)
+        self.provide("backpressure.dec", opcodes::BACKPRESSURE_DEC, &())
     }
 
     /// `task.return`: gives the caller of a lifted function its result, or none, while the callee goes on.
@@ -100,7 +102,7 @@ impl<A: Allocator> ComponentBuilder<A> {
     pub fn task_cancel(&mut self) -> Result<u32, Fault>
         ensures { Enters self.old self.new result (provided_entry rows.TaskCancel tt) }
     {
-        self.provide("task.cancel", &CanonTree::TaskCancel)
+        self.provide("task.cancel", opcodes::TASK_CANCEL, &())
     }
 
     /// `context.get`: reads a slot of the current task, which has this value type. The slot's number stands in its
@@ -129,21 +131,21 @@ impl<A: Allocator> ComponentBuilder<A> {
     pub fn subtask_drop(&mut self) -> Result<u32, Fault>
         ensures { Enters self.old self.new result (provided_entry rows.SubtaskDrop tt) }
     {
-        self.provide("subtask.drop", &CanonTree::SubtaskDrop)
+        self.provide("subtask.drop", opcodes::SUBTASK_DROP, &())
     }
 
     /// `subtask.cancel`: cancels a subtask.
     pub fn subtask_cancel(&mut self, async_: bool) -> Result<u32, Fault>
         ensures { Enters self.old self.new result (provided_entry rows.SubtaskCancel async_) }
     {
-        self.provide("subtask.cancel", &CanonTree::SubtaskCancel(async_))
+        self.provide("subtask.cancel", opcodes::SUBTASK_CANCEL, &async_)
     }
 
     /// `stream.new`: makes a stream of this type.
     pub fn stream_new(&mut self, ty: u32) -> Result<u32, Fault>
         ensures { Enters self.old self.new result (provided_entry rows.StreamNew ty) }
     {
-        self.provide("stream.new", &CanonTree::StreamNew(ty))
+        self.provide("stream.new", opcodes::STREAM_NEW, &ty)
     }
 
     /// `stream.read`: reads from a stream of this type.
@@ -178,7 +180,7 @@ impl<A: Allocator> ComponentBuilder<A> {
     pub fn stream_forward(&mut self, ty: u32) -> Result<u32, Fault>
         ensures { Enters self.old self.new result (provided_entry rows.StreamForward ty) }
     {
-        self.provide("stream.forward", &CanonTree::StreamForward(ty))
+        self.provide("stream.forward", opcodes::STREAM_FORWARD, &ty)
     }
 
     /// `stream.cancel-read`: cancels a read from a stream of this type.
@@ -188,7 +190,8 @@ impl<A: Allocator> ComponentBuilder<A> {
     {
         self.provide(
             "stream.cancel-read",
-            &CanonTree::StreamCancelRead { ty, async_ },
+            opcodes::STREAM_CANCEL_READ,
+            &(ty, async_),
         )
     }
 
@@ -199,7 +202,8 @@ impl<A: Allocator> ComponentBuilder<A> {
     {
         self.provide(
             "stream.cancel-write",
-            &CanonTree::StreamCancelWrite { ty, async_ },
+            opcodes::STREAM_CANCEL_WRITE,
+            &(ty, async_),
         )
     }
 
@@ -207,21 +211,21 @@ impl<A: Allocator> ComponentBuilder<A> {
     pub fn stream_drop_readable(&mut self, ty: u32) -> Result<u32, Fault>
         ensures { Enters self.old self.new result (provided_entry rows.StreamDropReadable ty) }
     {
-        self.provide("stream.drop-readable", &CanonTree::StreamDropReadable(ty))
+        self.provide("stream.drop-readable", opcodes::STREAM_DROP_READABLE, &ty)
     }
 
     /// `stream.drop-writable`: drops the end of a stream of this type that is written.
     pub fn stream_drop_writable(&mut self, ty: u32) -> Result<u32, Fault>
         ensures { Enters self.old self.new result (provided_entry rows.StreamDropWritable ty) }
     {
-        self.provide("stream.drop-writable", &CanonTree::StreamDropWritable(ty))
+        self.provide("stream.drop-writable", opcodes::STREAM_DROP_WRITABLE, &ty)
     }
 
     /// `future.new`: makes a future of this type.
     pub fn future_new(&mut self, ty: u32) -> Result<u32, Fault>
         ensures { Enters self.old self.new result (provided_entry rows.FutureNew ty) }
     {
-        self.provide("future.new", &CanonTree::FutureNew(ty))
+        self.provide("future.new", opcodes::FUTURE_NEW, &ty)
     }
 
     /// `future.read`: reads from a future of this type.
@@ -256,7 +260,7 @@ impl<A: Allocator> ComponentBuilder<A> {
     pub fn future_forward(&mut self, ty: u32) -> Result<u32, Fault>
         ensures { Enters self.old self.new result (provided_entry rows.FutureForward ty) }
     {
-        self.provide("future.forward", &CanonTree::FutureForward(ty))
+        self.provide("future.forward", opcodes::FUTURE_FORWARD, &ty)
     }
 
     /// `future.cancel-read`: cancels a read from a future of this type.
@@ -266,7 +270,8 @@ impl<A: Allocator> ComponentBuilder<A> {
     {
         self.provide(
             "future.cancel-read",
-            &CanonTree::FutureCancelRead { ty, async_ },
+            opcodes::FUTURE_CANCEL_READ,
+            &(ty, async_),
         )
     }
 
@@ -277,7 +282,8 @@ impl<A: Allocator> ComponentBuilder<A> {
     {
         self.provide(
             "future.cancel-write",
-            &CanonTree::FutureCancelWrite { ty, async_ },
+            opcodes::FUTURE_CANCEL_WRITE,
+            &(ty, async_),
         )
     }
 
@@ -285,14 +291,14 @@ impl<A: Allocator> ComponentBuilder<A> {
     pub fn future_drop_readable(&mut self, ty: u32) -> Result<u32, Fault>
         ensures { Enters self.old self.new result (provided_entry rows.FutureDropReadable ty) }
     {
-        self.provide("future.drop-readable", &CanonTree::FutureDropReadable(ty))
+        self.provide("future.drop-readable", opcodes::FUTURE_DROP_READABLE, &ty)
     }
 
     /// `future.drop-writable`: drops the end of a future of this type that is written.
     pub fn future_drop_writable(&mut self, ty: u32) -> Result<u32, Fault>
         ensures { Enters self.old self.new result (provided_entry rows.FutureDropWritable ty) }
     {
-        self.provide("future.drop-writable", &CanonTree::FutureDropWritable(ty))
+        self.provide("future.drop-writable", opcodes::FUTURE_DROP_WRITABLE, &ty)
     }
 
     /// `error-context.new`: makes an error context of a message.
@@ -335,14 +341,14 @@ impl<A: Allocator> ComponentBuilder<A> {
     pub fn error_context_drop(&mut self) -> Result<u32, Fault>
         ensures { Enters self.old self.new result (provided_entry rows.ErrorContextDrop tt) }
     {
-        self.provide("error-context.drop", &CanonTree::ErrorContextDrop)
+        self.provide("error-context.drop", opcodes::ERROR_CONTEXT_DROP, &())
     }
 
     /// `waitable-set.new`: makes a set of what can be waited for.
     pub fn waitable_set_new(&mut self) -> Result<u32, Fault>
         ensures { Enters self.old self.new result (provided_entry rows.WaitableSetNew tt) }
     {
-        self.provide("waitable-set.new", &CanonTree::WaitableSetNew)
+        self.provide("waitable-set.new", opcodes::WAITABLE_SET_NEW, &())
     }
 
     /// `waitable-set.wait`: waits until something in a set happens, which is written to this memory.
@@ -350,7 +356,11 @@ impl<A: Allocator> ComponentBuilder<A> {
         ensures { Enters self.old self.new result
             (provided_entry rows.WaitableSetWait (tt, memory)) }
     {
-        self.provide("waitable-set.wait", &CanonTree::WaitableSetWait(memory))
+        self.provide(
+            "waitable-set.wait",
+            opcodes::WAITABLE_SET_WAIT,
+            &(NotCancellable, memory),
+        )
     }
 
     /// `waitable-set.poll`: looks whether something in a set happened, which is written to this memory.
@@ -358,28 +368,32 @@ impl<A: Allocator> ComponentBuilder<A> {
         ensures { Enters self.old self.new result
             (provided_entry rows.WaitableSetPoll (tt, memory)) }
     {
-        self.provide("waitable-set.poll", &CanonTree::WaitableSetPoll(memory))
+        self.provide(
+            "waitable-set.poll",
+            opcodes::WAITABLE_SET_POLL,
+            &(NotCancellable, memory),
+        )
     }
 
     /// `waitable-set.drop`: drops a set of what can be waited for.
     pub fn waitable_set_drop(&mut self) -> Result<u32, Fault>
         ensures { Enters self.old self.new result (provided_entry rows.WaitableSetDrop tt) }
     {
-        self.provide("waitable-set.drop", &CanonTree::WaitableSetDrop)
+        self.provide("waitable-set.drop", opcodes::WAITABLE_SET_DROP, &())
     }
 
     /// `waitable.join`: puts something that can be waited for into a set.
     pub fn waitable_join(&mut self) -> Result<u32, Fault>
         ensures { Enters self.old self.new result (provided_entry rows.WaitableJoin tt) }
     {
-        self.provide("waitable.join", &CanonTree::WaitableJoin)
+        self.provide("waitable.join", opcodes::WAITABLE_JOIN, &())
     }
 
     /// `thread.index`: gives the index of the current thread.
     pub fn thread_index(&mut self) -> Result<u32, Fault>
         ensures { Enters self.old self.new result (provided_entry rows.ThreadIndex tt) }
     {
-        self.provide("thread.index", &CanonTree::ThreadIndex)
+        self.provide("thread.index", opcodes::THREAD_INDEX, &())
     }
 
     /// `thread.new-indirect`: makes a thread of a function of this type, by its place in a table.
@@ -389,7 +403,8 @@ impl<A: Allocator> ComponentBuilder<A> {
     {
         self.provide(
             "thread.new-indirect",
-            &CanonTree::ThreadNewIndirect { ty, table },
+            opcodes::THREAD_NEW_INDIRECT,
+            &(ty, table),
         )
     }
 
@@ -397,21 +412,21 @@ impl<A: Allocator> ComponentBuilder<A> {
     pub fn thread_resume_later(&mut self) -> Result<u32, Fault>
         ensures { Enters self.old self.new result (provided_entry rows.ThreadResumeLater tt) }
     {
-        self.provide("thread.resume-later", &CanonTree::ThreadResumeLater)
+        self.provide("thread.resume-later", opcodes::THREAD_RESUME_LATER, &())
     }
 
     /// `thread.suspend`: suspends the current thread.
     pub fn thread_suspend(&mut self) -> Result<u32, Fault>
         ensures { Enters self.old self.new result (provided_entry rows.ThreadSuspend tt) }
     {
-        self.provide("thread.suspend", &CanonTree::ThreadSuspend)
+        self.provide("thread.suspend", opcodes::THREAD_SUSPEND, &NotCancellable)
     }
 
     /// `thread.yield`: lets other threads go on.
     pub fn thread_yield(&mut self) -> Result<u32, Fault>
         ensures { Enters self.old self.new result (provided_entry rows.ThreadYield tt) }
     {
-        self.provide("thread.yield", &CanonTree::ThreadYield)
+        self.provide("thread.yield", opcodes::THREAD_YIELD, &NotCancellable)
     }
 
     /// `thread.suspend-then-resume`: suspends the current thread, and lets another go on at once.
@@ -420,7 +435,8 @@ impl<A: Allocator> ComponentBuilder<A> {
     {
         self.provide(
             "thread.suspend-then-resume",
-            &CanonTree::ThreadSuspendThenResume,
+            opcodes::THREAD_SUSPEND_THEN_RESUME,
+            &NotCancellable,
         )
     }
 
@@ -430,7 +446,8 @@ impl<A: Allocator> ComponentBuilder<A> {
     {
         self.provide(
             "thread.yield-then-resume",
-            &CanonTree::ThreadYieldThenResume,
+            opcodes::THREAD_YIELD_THEN_RESUME,
+            &NotCancellable,
         )
     }
 
@@ -442,7 +459,8 @@ impl<A: Allocator> ComponentBuilder<A> {
     {
         self.provide(
             "thread.suspend-then-promote",
-            &CanonTree::ThreadSuspendThenPromote,
+            opcodes::THREAD_SUSPEND_THEN_PROMOTE,
+            &NotCancellable,
         )
     }
 
@@ -453,7 +471,8 @@ impl<A: Allocator> ComponentBuilder<A> {
     {
         self.provide(
             "thread.yield-then-promote",
-            &CanonTree::ThreadYieldThenPromote,
+            opcodes::THREAD_YIELD_THEN_PROMOTE,
+            &NotCancellable,
         )
     }
 }

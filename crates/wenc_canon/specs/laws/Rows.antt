@@ -1,81 +1,53 @@
--- What the calls of a section write has the form of a canonical function.
-use Rattle.std.proofs.Common.{◌≡◌, ◌==◌, ℕ, Bool, if◌then◌else◌, List, [], ◌∷◌, ◌++◌, Option, subst}
-use Rattle.wenc_base.specs.Piece.{HasForm}
+-- The intrinsic that an opcode and values say is written as these, where the opcode's row takes such values.
+use Rattle.std.proofs.Common.{◌≡◌, ℕ, List, [], ◌∷◌, Option, refl, subst, sym}
+use Rattle.wenc_base.specs.Delimited.{NoCause}
 use Rattle.wenc_base.specs.Number.{u32}
-use Rattle.wenc_base.specs.Forms.{flag}
-use Rattle.wenc_base.specs.Types.{val_type}
+use Rattle.wenc_base.specs.Piece.{HasForm}
 use Rattle.wenc_base.specs.laws.Holders.{adds_as, adds_listed_as}
-use Rattle.wenc_base.specs.laws.Members.{has_form}
-use Rattle.wenc_base.specs.declared.types.ValType.{ValType}
 use Rattle.wenc_parts.specs.Types.{result_list}
 use Rattle.wenc_parts.specs.declared.types.ComponentValType.{ComponentValType}
 use Rattle.wenc_canon.specs.declared.canonicals.CanonicalOption.{CanonicalOption}
-use Rattle.wenc_canon.specs.Canonicals.{Field, Index, Options, Flag, Zero, CoreType, Results, Values, fields, Intrinsic, ResourceNew, Row, ◌takes◌, row, intrinsics, Provided, canonical, text_with_options}
+use Rattle.wenc_canon.specs.Canonicals.{Field, Index, Options, Flag, Zero, CoreType, Results, Value, Values, fields, Row, ◌takes◌, canonical, canonical_text, canonical_cause, fields_cause, text_with_options}
+use Rattle.wenc_canon.specs.Rows.{row_with, as_value, as_values, provided_by}
 
--- the intrinsic with this opcode, of these
-abbrev first_with : ℕ → List Intrinsic → Intrinsic
-first_with opcode [] = ResourceNew
-first_with opcode (i ∷ is) = if (row i).opcode == opcode then i else first_with opcode is
+same_value : (f : Field) (v : Value f) → as_value f f v ≡ v
+same_value Index n = refl
+same_value Options os = refl
+same_value Flag b = refl
+same_value Zero v = refl
+same_value CoreType t = refl
+same_value Results r = refl
 
--- the row with this opcode
-abbrev pub row_with : ℕ → Row
-row_with opcode = row (first_with opcode intrinsics)
+same_values : (fs : List Field) (vs : Values fs) → as_values fs fs vs ≡ vs
+same_values [] vs = refl
+same_values (f ∷ []) v = same_value f v
+same_values (f ∷ g ∷ fs) vs = rw (same_value f vs.0, same_values (g ∷ fs) vs.1) refl
 
--- what stands in a row is a canonical function
-pub provided_has_form : (opcode : ℕ) (fs : List Field) (vs : Values fs) → row_with opcode ≡ (opcode takes fs) → ∥ HasForm canonical (opcode ∷ (fields fs vs).text) ∥₁
-provided_has_form opcode fs vs e = subst (λ (r : Row). (vs : Values r.fields) → ∥ HasForm canonical (r.opcode ∷ (fields r.fields vs).text) ∥₁) e (λ vs. has_form canonical (Provided (first_with opcode intrinsics) vs)) vs
+-- in a row that takes these fields
+module _ (opcode : ℕ) (fs : List Field) (vs : Values fs) where
+  pub provided_text : (text : List ℕ) → text ≡ (fields fs vs).text → row_with opcode ≡ (opcode takes fs) → opcode ∷ text ≡ canonical_text (provided_by opcode fs vs)
+  provided_text text is e =
+      let same : as_values fs fs vs ≡ vs = same_values fs vs in
+      subst (λ (r : Row). opcode ∷ text ≡ r.opcode ∷ (fields r.fields (as_values fs r.fields vs)).text) (sym e) (rw (is, same) refl)
 
--- ---- rows without options
+  pub provided_free : row_with opcode ≡ (opcode takes fs) → NoCause (fields_cause fs vs) → NoCause (canonical_cause (provided_by opcode fs vs))
+  provided_free e free = subst (λ (r : Row). NoCause (fields_cause r.fields (as_values fs r.fields vs))) (sym e) (rw (same_values fs vs) free)
 
-pub no_fields : (opcode : ℕ) → row_with opcode ≡ (opcode takes []) → ∥ HasForm canonical (opcode ∷ []) ∥₁
-no_fields opcode = provided_has_form opcode [] tt
-
-pub one_index : (opcode n : ℕ) → row_with opcode ≡ (opcode takes Index ∷ []) → ∥ HasForm canonical (opcode ∷ (u32 n).text) ∥₁
-one_index opcode = provided_has_form opcode (Index ∷ [])
-
-pub one_flag : (opcode : ℕ) (b : Bool) → row_with opcode ≡ (opcode takes Flag ∷ []) → ∥ HasForm canonical (opcode ∷ (flag b).text) ∥₁
-one_flag opcode = provided_has_form opcode (Flag ∷ [])
-
-pub one_zero : (opcode : ℕ) → row_with opcode ≡ (opcode takes Zero ∷ []) → ∥ HasForm canonical (opcode ∷ 0x00 ∷ []) ∥₁
-one_zero opcode = provided_has_form opcode (Zero ∷ []) tt
-
-pub two_indices : (opcode n m : ℕ) → row_with opcode ≡ (opcode takes Index ∷ Index ∷ []) → ∥ HasForm canonical (opcode ∷ ((u32 n).text ++ (u32 m).text)) ∥₁
-two_indices opcode n m = provided_has_form opcode (Index ∷ Index ∷ []) (n, m)
-
-pub index_then_flag : (opcode n : ℕ) (b : Bool) → row_with opcode ≡ (opcode takes Index ∷ Flag ∷ []) → ∥ HasForm canonical (opcode ∷ ((u32 n).text ++ (flag b).text)) ∥₁
-index_then_flag opcode n b = provided_has_form opcode (Index ∷ Flag ∷ []) (n, b)
-
-pub type_then_index : (opcode : ℕ) (t : ValType) (n : ℕ) → row_with opcode ≡ (opcode takes CoreType ∷ Index ∷ []) → ∥ HasForm canonical (opcode ∷ ((val_type t).text ++ (u32 n).text)) ∥₁
-type_then_index opcode t n = provided_has_form opcode (CoreType ∷ Index ∷ []) (t, n)
-
-pub zero_then_index : (opcode n : ℕ) → row_with opcode ≡ (opcode takes Zero ∷ Index ∷ []) → ∥ HasForm canonical (opcode ∷ 0x00 ∷ (u32 n).text) ∥₁
-zero_then_index opcode n = provided_has_form opcode (Zero ∷ Index ∷ []) (tt, n)
+  -- what is written in it is a canonical function
+  pub row_has_form : row_with opcode ≡ (opcode takes fs) → ∥ HasForm canonical (opcode ∷ (fields fs vs).text) ∥₁
+  row_has_form e = ∣ record { value = provided_by opcode fs vs; is = provided_text (fields fs vs).text refl e } ∣₁
 
 -- ---- rows with options
 
 pub options_alone : (opcode : ℕ) → row_with opcode ≡ (opcode takes Options ∷ []) → (os : List CanonicalOption) → ∥ HasForm canonical (text_with_options opcode [] os) ∥₁
-options_alone opcode e os = provided_has_form opcode (Options ∷ []) os e
+options_alone opcode e os = row_has_form opcode (Options ∷ []) os e
 
 pub index_then_options : (opcode n : ℕ) → row_with opcode ≡ (opcode takes Index ∷ Options ∷ []) → (os : List CanonicalOption) → ∥ HasForm canonical (text_with_options opcode (u32 n).text os) ∥₁
-index_then_options opcode n e os = provided_has_form opcode (Index ∷ Options ∷ []) (n, os) e
+index_then_options opcode n e os = row_has_form opcode (Index ∷ Options ∷ []) (n, os) e
 
 pub results_then_options : (opcode : ℕ) (r : Option ComponentValType) → row_with opcode ≡ (opcode takes Results ∷ Options ∷ []) → (os : List CanonicalOption)
     → ∥ HasForm canonical (text_with_options opcode (result_list r).text os) ∥₁
-results_then_options opcode r e os = provided_has_form opcode (Results ∷ Options ∷ []) (r, os) e
+results_then_options opcode r e os = row_has_form opcode (Results ∷ Options ∷ []) (r, os) e
 
--- what the methods' proofs go by
-pub ruleset row_laws = (
-  adds_as,
-  adds_listed_as,
-  no_fields,
-  one_index,
-  one_flag,
-  one_zero,
-  two_indices,
-  index_then_flag,
-  type_then_index,
-  zero_then_index,
-  options_alone,
-  index_then_options,
-  results_then_options,
-)
+-- what the methods with options go by
+pub ruleset option_laws = (adds_as, adds_listed_as, options_alone, index_then_options, results_then_options)

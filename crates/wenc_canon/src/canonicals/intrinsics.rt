@@ -1,17 +1,15 @@
-#![tactic(auto, using(crate::specs::laws::Rows::row_laws))]
+#![tactic(auto, using(crate::specs::laws::Rows::option_laws))]
 
 ghost use Rattle.std.specs.Iterator.{IsFinite};
 ghost use Rattle.wenc_canon.specs.Canonicals as rows;
 ghost use Rattle.wenc_canon.specs.Canonicals.{Adds, AddsWithOptions, Provided};
 
 use super::{CanonicalFunctionSection, CanonicalOption};
+use crate::fields::NotCancellable;
 use crate::opcodes;
 use std::alloc::Allocator;
 use wenc_base::{Fault, ValType};
 use wenc_parts::{ComponentValType, ResultList};
-
-/// Functions that wait have a byte that says whether they can be cancelled. Here none can.
-pub(crate) const CANCELLABLE: bool = false;
 
 /// The functions that the component model provides: each call adds one. Refused as the type says.
 impl<A: Allocator> CanonicalFunctionSection<A> {
@@ -306,14 +304,14 @@ impl<A: Allocator> CanonicalFunctionSection<A> {
     pub fn waitable_set_wait(&mut self, memory: u32) -> Result<(), Fault>
         ensures { Adds self.old self.new result rows.WaitableSetWait (tt, memory) }
     {
-        self.add_row(opcodes::WAITABLE_SET_WAIT, &(CANCELLABLE, memory))
+        self.add_row(opcodes::WAITABLE_SET_WAIT, &(NotCancellable, memory))
     }
 
     /// `waitable-set.poll`: looks whether something in a set happened, which is written to this memory.
     pub fn waitable_set_poll(&mut self, memory: u32) -> Result<(), Fault>
         ensures { Adds self.old self.new result rows.WaitableSetPoll (tt, memory) }
     {
-        self.add_row(opcodes::WAITABLE_SET_POLL, &(CANCELLABLE, memory))
+        self.add_row(opcodes::WAITABLE_SET_POLL, &(NotCancellable, memory))
     }
 
     /// `waitable-set.drop`: drops a set of what can be waited for.
@@ -355,28 +353,28 @@ impl<A: Allocator> CanonicalFunctionSection<A> {
     pub fn thread_suspend(&mut self) -> Result<(), Fault>
         ensures { Adds self.old self.new result rows.ThreadSuspend tt }
     {
-        self.add_row(opcodes::THREAD_SUSPEND, &CANCELLABLE)
+        self.add_row(opcodes::THREAD_SUSPEND, &NotCancellable)
     }
 
     /// `thread.yield`: lets other threads go on.
     pub fn thread_yield(&mut self) -> Result<(), Fault>
         ensures { Adds self.old self.new result rows.ThreadYield tt }
     {
-        self.add_row(opcodes::THREAD_YIELD, &CANCELLABLE)
+        self.add_row(opcodes::THREAD_YIELD, &NotCancellable)
     }
 
     /// `thread.suspend-then-resume`: suspends the current thread, and lets another go on at once.
     pub fn thread_suspend_then_resume(&mut self) -> Result<(), Fault>
         ensures { Adds self.old self.new result rows.ThreadSuspendThenResume tt }
     {
-        self.add_row(opcodes::THREAD_SUSPEND_THEN_RESUME, &CANCELLABLE)
+        self.add_row(opcodes::THREAD_SUSPEND_THEN_RESUME, &NotCancellable)
     }
 
     /// `thread.yield-then-resume`: lets another thread go on at once, and this one after it.
     pub fn thread_yield_then_resume(&mut self) -> Result<(), Fault>
         ensures { Adds self.old self.new result rows.ThreadYieldThenResume tt }
     {
-        self.add_row(opcodes::THREAD_YIELD_THEN_RESUME, &CANCELLABLE)
+        self.add_row(opcodes::THREAD_YIELD_THEN_RESUME, &NotCancellable)
     }
 
     /// `thread.suspend-then-promote`: suspends the current thread, and moves another to the front of
@@ -384,7 +382,7 @@ impl<A: Allocator> CanonicalFunctionSection<A> {
     pub fn thread_suspend_then_promote(&mut self) -> Result<(), Fault>
         ensures { Adds self.old self.new result rows.ThreadSuspendThenPromote tt }
     {
-        self.add_row(opcodes::THREAD_SUSPEND_THEN_PROMOTE, &CANCELLABLE)
+        self.add_row(opcodes::THREAD_SUSPEND_THEN_PROMOTE, &NotCancellable)
     }
 
     /// `thread.yield-then-promote`: lets other threads go on, first the one that is moved to the front
@@ -392,6 +390,6 @@ impl<A: Allocator> CanonicalFunctionSection<A> {
     pub fn thread_yield_then_promote(&mut self) -> Result<(), Fault>
         ensures { Adds self.old self.new result rows.ThreadYieldThenPromote tt }
     {
-        self.add_row(opcodes::THREAD_YIELD_THEN_PROMOTE, &CANCELLABLE)
+        self.add_row(opcodes::THREAD_YIELD_THEN_PROMOTE, &NotCancellable)
     }
 }

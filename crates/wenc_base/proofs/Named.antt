@@ -1,0 +1,41 @@
+-- A short name that is appended to a map which is far from full.
+use Rattle.std.proofs.Common.{◌≡◌, ℕ, ◌+◌, ◌<◌, ◌≤◌, ◌^◌, true, List, [], ◌∷◌, ◌++◌, length, length-append, Result, Ok, refl, arith, inl, inr}
+use Rattle.wenc_base.specs.Fault.{text_cause}
+use Rattle.wenc_base.specs.Holder.{Held, is_finished, with_member, CountCause, AddCause, AddsMember}
+use Rattle.wenc_base.specs.Names.{Named, named_text}
+use Rattle.wenc_base.specs.Number.{number_size, unsigned_text}
+use Rattle.wenc_base.specs.laws.Delimited.{text_free}
+use Rattle.wenc_base.specs.laws.Holders.{contains_next}
+use Rattle.wenc_base.specs.declared.fault.Fault.{Fault}
+use Rattle.wenc_base.specs.declared.fault.Fault.TheVariants.{Memory, TooMany, TooLarge, Unfinished}
+use Rattle.wenc_base.proofs.Groups.{size_1, size_of_u32}
+
+pub short_name_added : (old new : Held) (entry : Named) → new ≡ with_member old (named_text entry) → is_finished old ≡ true
+    → old.count < 4294967295 → length old.body < 4294967040 → length entry.name < 128 → entry.place < 2 ^ 32
+    → AddsMember named_text old new (Ok tt) (text_cause entry.name) entry
+short_name_added old new entry state finished few small short place = record {
+  ok = record { state = state; contained = λ members c. contains_next named_text old new entry members state c; free = none };
+  err = tt;
+  warranted = tt;
+  unfinished_first = λ g. absurd cc;
+}
+  where
+    size : length (named_text entry) ≤ 133
+    size =
+        omega (
+          arith,
+          size_1 (length entry.name) short,
+          size_of_u32 entry.place place,
+          short,
+          length-append (unsigned_text entry.place) (unsigned_text (length entry.name) ++ entry.name),
+          length-append (unsigned_text (length entry.name)) entry.name,
+        )
+
+    uncounted : (fault : Fault) → CountCause old.count (length (old.body ++ named_text entry)) fault → ⊥
+    uncounted (Memory e) h = h
+    uncounted TooMany h = omega (arith, h, few)
+    uncounted TooLarge h = omega (arith, h, small, size, size_of_u32 (old.count + 1) (omega (arith, few)), length-append old.body (named_text entry))
+    uncounted Unfinished h = h
+
+    none : (fault : Fault) → AddCause old (named_text entry) (text_cause entry.name) fault → ⊥
+    none fault h = elim h [ inl own ↦ text_free entry.name (omega (arith, short)) fault own | inr more ↦ elim more [ inl count ↦ uncounted fault count | inr stopped ↦ absurd cc ] ]

@@ -1,0 +1,48 @@
+-- The intrinsic that an opcode and the values of its fields say, for the code that writes them.
+use Rattle.std.specs.Prelude.{ℕ, ◌==◌, Bool, false, if◌then◌else◌, List, [], ◌∷◌, None}
+use Rattle.wenc_base.specs.declared.types.ValType.TheVariants.{I32}
+use Rattle.wenc_canon.specs.Canonicals.{Field, Index, Options, Flag, Zero, CoreType, Results, Value, Values, Intrinsic, ResourceNew, Row, row, intrinsics, Canonical, Provided}
+
+-- the intrinsic with this opcode, of these
+abbrev pub first_with : ℕ → List Intrinsic → Intrinsic
+first_with opcode [] = ResourceNew
+first_with opcode (i ∷ is) = if (row i).opcode == opcode then i else first_with opcode is
+
+-- the row with this opcode
+abbrev pub row_with : ℕ → Row
+row_with opcode = row (first_with opcode intrinsics)
+
+-- some value
+abbrev pub any_value : (f : Field) → Value f
+any_value Index = 0
+any_value Options = []
+any_value Flag = false
+any_value Zero = tt
+any_value CoreType = I32
+any_value Results = None
+
+abbrev pub any_values : (fs : List Field) → Values fs
+any_values [] = tt
+any_values (f ∷ []) = any_value f
+any_values (f ∷ g ∷ fs) = (any_value f, any_values (g ∷ fs))
+
+-- a value of one field as one of another: itself, where they are the same
+abbrev pub as_value : (f g : Field) → Value f → Value g
+as_value Index Index n = n
+as_value Options Options os = os
+as_value Flag Flag b = b
+as_value Zero Zero v = v
+as_value CoreType CoreType t = t
+as_value Results Results r = r
+as_value f g v = any_value g
+
+abbrev pub as_values : (fs gs : List Field) → Values fs → Values gs
+as_values (f ∷ []) (g ∷ []) v = as_value f g v
+as_values (f ∷ h ∷ fs) (g ∷ k ∷ gs) vs = (as_value f g vs.0, as_values (h ∷ fs) (k ∷ gs) vs.1)
+as_values fs gs vs = any_values gs
+
+-- the intrinsic with this opcode and these values
+abbrev pub provided_by : ℕ → (fs : List Field) → Values fs → Canonical
+provided_by opcode fs vs =
+    let i : Intrinsic = first_with opcode intrinsics in
+    Provided i (as_values fs (row i).fields vs)
