@@ -1,9 +1,9 @@
 -- A short name that is appended to a map which is far from full.
-use Rattle.std.proofs.Common.{◌≡◌, ℕ, ◌+◌, ◌<◌, ◌≤◌, ◌^◌, true, List, [], ◌∷◌, ◌++◌, length, length-append, Result, Ok, refl, arith, inl, inr}
+use Rattle.std.proofs.Common.{◌≡◌, ◌+◌, ◌<◌, ◌≤◌, ◌^◌, true, ◌++◌, length, length-append, Ok, arith, inl, inr}
 use Rattle.wenc_base.specs.Fault.{text_cause}
 use Rattle.wenc_base.specs.Holder.{Held, is_finished, with_member, CountCause, AddCause, AddsMember}
 use Rattle.wenc_base.specs.Names.{Named, named_text}
-use Rattle.wenc_base.specs.Number.{number_size, unsigned_text}
+use Rattle.wenc_base.specs.Number.{unsigned_text}
 use Rattle.wenc_base.specs.laws.Delimited.{text_free}
 use Rattle.wenc_base.specs.laws.Holders.{contains_next}
 use Rattle.wenc_base.specs.declared.fault.Fault.{Fault}

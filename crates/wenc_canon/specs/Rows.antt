@@ -1,5 +1,5 @@
 -- The intrinsic that an opcode and the values of its fields say, for the code that writes them.
-use Rattle.std.specs.Prelude.{ℕ, ◌==◌, Bool, false, if◌then◌else◌, List, [], ◌∷◌, None}
+use Rattle.std.specs.Prelude.{ℕ, ◌==◌, false, if◌then◌else◌, List, [], ◌∷◌, None}
 use Rattle.wenc_base.specs.declared.types.ValType.TheVariants.{I32}
 use Rattle.wenc_canon.specs.Canonicals.{Field, Index, Options, Flag, Zero, CoreType, Results, Value, Values, Intrinsic, ResourceNew, Row, row, intrinsics, Canonical, Provided}
 

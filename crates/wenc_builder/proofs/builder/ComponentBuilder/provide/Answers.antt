@@ -1,5 +1,5 @@
-use Rattle.std.proofs.Common.{◌≡◌, ◌∷◌, refl, sym, Some}
-use Rattle.wenc_canon.specs.Canonicals.{Canonical, Values, canonical_text}
+use Rattle.std.proofs.Common.{refl, sym, Some}
+use Rattle.wenc_canon.specs.Canonicals.{Values}
 use Rattle.wenc_canon.specs.Rows.{provided_by}
 use Rattle.wenc_canon.specs.laws.Rows.{provided_text, provided_free}
 use Rattle.wenc_builder.specs.Entry.{canonical_entry}

@@ -1,12 +1,12 @@
-use Rattle.std.proofs.Common.{◌≡◌, ◌∷◌, ◌∙◌, ap, sym, List, ℕ, Result}
+use Rattle.std.proofs.Common.{◌≡◌, List, ℕ, Result}
 use Rattle.wenc_base.specs.Delimited.{NoCause}
 use Rattle.wenc_base.specs.Holder.{Held, as_they_are, AddsMember}
 use Rattle.wenc_base.specs.Piece.{HasForm}
 use Rattle.wenc_base.specs.laws.Holders.{adds_as}
 use Rattle.wenc_base.specs.laws.Members.{keeps_took}
 use Rattle.wenc_base.specs.declared.fault.Fault.{Fault}
-use Rattle.wenc_canon.specs.Canonicals.{Field, Values, fields, Canonical, canonical, canonical_text, ◌takes◌}
-use Rattle.wenc_canon.specs.Rows.{row_with, provided_by}
+use Rattle.wenc_canon.specs.Canonicals.{Values, Canonical, canonical, canonical_text}
+use Rattle.wenc_canon.specs.Rows.{provided_by}
 use Rattle.wenc_canon.specs.laws.Rows.{provided_text}
 use Rattle.wenc_canon.proofs.canonicals.CanonicalFunctionSection.add_row.Goals as goal
 
