@@ -29,7 +29,7 @@ struct Plan {
 }
 
 /// What a run found.
-#[derive(Clone, Copy)]
+#[derive(Drop)]
 struct Outcome {
     bytes: usize,
     hash: u64,

@@ -44,6 +44,17 @@ impl<'a> Choices<'a> {
         number
     }
 
+    /// The value in a box, if there is memory.
+    pub fn boxed<T: Drop>(&mut self, value: T) -> Option<Box<T>> {
+        match Box::new(self.alloc, value) {
+            Ok(boxed) => Some(boxed),
+            Err(_) => {
+                self.is_out_of_memory = true;
+                None
+            }
+        }
+    }
+
     /// One value more, if there is memory.
     pub fn push<T: Drop>(&mut self, values: &mut Vec<T>, value: T) {
         if values.push(value).is_err() {

@@ -1,7 +1,7 @@
 use crate::choices::{Choices, Choose};
 use wasm_encoder::{
     AliasTree, CanonicalOption, ComponentExportKind, ComponentOuterAliasKind, ComponentTypeRef,
-    ComponentValType, CoreInstanceTree, ExportKind, InstanceTree, ModuleArg, NameTree,
+    ComponentValType, CoreInstanceTree, ExportKind, InstanceTree, ModuleArg, NameOptions, NameTree,
     PrimitiveValType, TypeBounds,
 };
 
@@ -87,11 +87,14 @@ impl Choose for NameTree {
         let implements = Option::choose(choices);
         let version_suffix = Option::choose(choices);
         let external_id = Option::choose(choices);
-        NameTree {
-            name,
+        let options = NameOptions {
             implements,
             version_suffix,
             external_id,
+        };
+        NameTree {
+            name,
+            options: choices.boxed(options),
         }
     }
 }

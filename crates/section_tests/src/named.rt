@@ -4,7 +4,7 @@ use crate::accepted::ok;
 use std::alloc::Global;
 use std::borrow::CowStr;
 use std::process::Abort;
-use wenc_parts::{ComponentExternName, NameTree};
+use wenc_parts::{ComponentExternName, NameOptions, NameTree};
 
 /// A name, with its options.
 #[derive(Clone, Copy)]
@@ -47,20 +47,26 @@ fn plain_tree(rt: &impl Abort, alloc: Global, name: &str) -> NameTree {
 }
 
 fn implementing_tree(rt: &impl Abort, alloc: Global, name: &str, interface: &str) -> NameTree {
-    NameTree {
-        name: owned(rt, alloc, name),
+    let options = NameOptions {
         implements: Some(owned(rt, alloc, interface)),
         version_suffix: None,
         external_id: None,
+    };
+    NameTree {
+        name: owned(rt, alloc, name),
+        options: Some(ok(rt, Box::new(alloc, options))),
     }
 }
 
 fn each_tree(rt: &impl Abort, alloc: Global, name: &str) -> NameTree {
-    NameTree {
-        name: owned(rt, alloc, name),
+    let options = NameOptions {
         implements: Some(owned(rt, alloc, name)),
         version_suffix: Some(owned(rt, alloc, name)),
         external_id: Some(owned(rt, alloc, name)),
+    };
+    NameTree {
+        name: owned(rt, alloc, name),
+        options: Some(ok(rt, Box::new(alloc, options))),
     }
 }
 

@@ -21,8 +21,8 @@ pub use wenc_builder::ComponentBuilder;
 pub use wenc_canon::{CanonTree, CanonicalFunctionSection, CanonicalOption};
 pub use wenc_parts::{
     Alias, AliasTree, ComponentExportKind, ComponentExternName, ComponentOuterAliasKind,
-    ComponentSection, ComponentSectionId, ComponentTypeRef, ComponentValType, ModuleArg, NameTree,
-    PrimitiveValType, ResultList, TypeBounds,
+    ComponentSection, ComponentSectionId, ComponentTypeRef, ComponentValType, ModuleArg,
+    NameOptions, NameTree, PrimitiveValType, ResultList, TypeBounds,
 };
 pub use wenc_sections::{
     Component, ComponentAliasSection, ComponentExportSection, ComponentImportSection,

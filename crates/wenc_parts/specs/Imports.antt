@@ -1,6 +1,6 @@
 -- What an import or an export refers to, and its name (component model, binary format, "Import and Export
 -- Definitions").
-use Rattle.std.specs.Prelude.{ℕ, List, [], ◌∷◌, ◌++◌, ◌⊎◌, Option, Some, None, String}
+use Rattle.std.specs.Prelude.{ℕ, List, [], ◌∷◌, ◌++◌, ◌⊎◌, Option, Some, None, String, Box}
 use Rattle.wenc_base.specs.Piece.{Piece, Form, byte, ◌▸◌, ◌⨾◌, also}
 use Rattle.wenc_base.specs.Number.{u32}
 use Rattle.wenc_base.specs.Forms.{name, list}
@@ -13,6 +13,7 @@ use Rattle.std.specs.declared.borrow.CowStr.{CowStr}
 use Rattle.wenc_parts.specs.declared.exports.ComponentExportKind.{ComponentExportKind}
 use Rattle.wenc_parts.specs.declared.exports.ComponentExportKind.TheVariants as kinds
 use Rattle.wenc_parts.specs.declared.imports.ComponentExternName.{ComponentExternName}
+use Rattle.wenc_parts.specs.declared.imports.NameOptions.{NameOptions}
 use Rattle.wenc_parts.specs.declared.imports.NameTree.{NameTree}
 use Rattle.wenc_parts.specs.declared.imports.TypeBounds.{TypeBounds}
 use Rattle.wenc_parts.specs.declared.imports.TypeBounds.TheVariants.{Eq, SubResource}
@@ -113,13 +114,22 @@ abbrev pub string_option : {A : Type 0} → Option (String A) → Option (List �
 string_option None = None
 string_option (Some text) = Some (string_bytes text)
 
-abbrev pub name_tree_view : {A : Type 0} → NameTree A → ExternName
-name_tree_view n = record {
-  name = string_bytes n.name;
-  implements = string_option n.implements;
-  version_suffix = string_option n.version_suffix;
-  external_id = string_option n.external_id;
+-- a name with these options
+abbrev pub options_view : {A : Type 0} → List ℕ → NameOptions A → ExternName
+options_view name options = record {
+  name = name;
+  implements = string_option options.implements;
+  version_suffix = string_option options.version_suffix;
+  external_id = string_option options.external_id;
 }
+
+-- a name with the options that are in a box, or without any
+abbrev pub boxed_view : {A : Type 0} → List ℕ → Option (Box (NameOptions A) A) → ExternName
+boxed_view name None = plain_name name
+boxed_view name (Some options) = options_view name options.value
+
+abbrev pub name_tree_view : {A : Type 0} → NameTree A → ExternName
+name_tree_view n = boxed_view (string_bytes n.name) n.options
 
 -- the text of an option that begins with this number; none where it isn't there
 abbrev pub option_entry_text : ℕ → Option (List ℕ) → List ℕ

@@ -320,17 +320,24 @@ impl<'a> From<String> for ComponentExternName<'a> {
     }
 }
 
-/// A `ComponentExternName` that owns its texts, for commands.
+/// The options of a name, which own their texts.
 #[derive(Drop)]
-pub struct NameTree<A: Allocator = Global> {
-    /// The name.
-    pub name: String<A>,
+pub struct NameOptions<A: Allocator = Global> {
     /// The name of the interface that is implemented.
     pub implements: Option<String<A>>,
     /// What follows the version that the name bears.
     pub version_suffix: Option<String<A>>,
     /// A name that this one has elsewhere.
     pub external_id: Option<String<A>>,
+}
+
+/// A `ComponentExternName` that owns its texts, for commands.
+#[derive(Drop)]
+pub struct NameTree<A: Allocator = Global> {
+    /// The name.
+    pub name: String<A>,
+    /// Its options, in a box, since few names have any.
+    pub options: Option<Box<NameOptions<A>, A>>,
 }
 
 impl<A: Allocator> From<String<A>> for NameTree<A> {
@@ -342,9 +349,7 @@ impl<A: Allocator> From<String<A>> for NameTree<A> {
     fn from(name: String<A>) -> NameTree<A> {
         NameTree {
             name,
-            implements: None,
-            version_suffix: None,
-            external_id: None,
+            options: None,
         }
     }
 }
@@ -356,11 +361,15 @@ impl<A: Allocator> NameTree<A> {
     pub fn as_name(&self) -> ComponentExternName<'_>
         ensures { extern_name_view result ≡ name_tree_view self.now }
     {
-        ComponentExternName {
-            name: CowStr::Borrowed(self.name.as_str()),
-            implements: borrowed(&self.implements),
-            version_suffix: borrowed(&self.version_suffix),
-            external_id: borrowed(&self.external_id),
+        let name = self.name.as_str();
+        match &self.options {
+            None => ComponentExternName::from(name),
+            Some(options) => ComponentExternName {
+                name: CowStr::Borrowed(name),
+                implements: borrowed(&options.implements),
+                version_suffix: borrowed(&options.version_suffix),
+                external_id: borrowed(&options.external_id),
+            },
         }
     }
 }

@@ -14,6 +14,6 @@ pub mod types;
 pub use aliases::{Alias, AliasTree, ComponentOuterAliasKind};
 pub use component::{ComponentSection, ComponentSectionId};
 pub use exports::ComponentExportKind;
-pub use imports::{ComponentExternName, ComponentTypeRef, NameTree, TypeBounds};
+pub use imports::{ComponentExternName, ComponentTypeRef, NameOptions, NameTree, TypeBounds};
 pub use instances::ModuleArg;
 pub use types::{ComponentValType, PrimitiveValType, ResultList};

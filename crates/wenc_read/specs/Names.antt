@@ -2,10 +2,14 @@
 use Rattle.std.specs.Prelude.{ℕ, List, Some, None, cond}
 use Rattle.std.specs.String.{string_bytes}
 use Rattle.wenc_base.specs.laws.Lawful.{Reader, ◌>>=◌, times}
-use Rattle.wenc_parts.specs.Imports.{ExternName, NameOption, Implements, VersionSuffix, ExternalId}
+use Rattle.wenc_parts.specs.Imports.{options_view, ExternName, NameOption, Implements, VersionSuffix, ExternalId}
 use Rattle.wenc_parts.specs.laws.Imports.{read_name_option, with_options, ascend_from}
+use Rattle.wenc_read.specs.declared.names.Named.{Named}
 use Rattle.wenc_read.specs.declared.names.OptionTree.{OptionTree}
 use Rattle.wenc_read.specs.declared.names.OptionTree.TheVariants as options
+
+abbrev pub named_view : {A : Type 0} → Named A → ExternName
+named_view n = options_view (string_bytes n.name) n.options
 
 abbrev pub option_view : {A : Type 0} → OptionTree A → NameOption
 option_view (options.Implements text) = Implements (string_bytes text)

@@ -4,13 +4,20 @@ ghost use Rattle.std.specs.String.{string_bytes};
 ghost use Rattle.wenc_parts.specs.Imports.{name_tree_view};
 ghost use Rattle.wenc_parts.specs.laws.Imports.{option_number, with_option, read_name_option, read_extern_name};
 ghost use Rattle.wenc_read.specs.Gives.{Gives};
-ghost use Rattle.wenc_read.specs.Names.{option_view, read_options};
+ghost use Rattle.wenc_read.specs.Names.{named_view, option_view, read_options};
 
 use crate::number::{byte, u32_of};
 use crate::refusal::Refusal;
 use crate::text::name_of;
 use std::alloc::Allocator;
-use wenc_parts::NameTree;
+use wenc_parts::{NameOptions, NameTree};
+
+/// A name, and its options.
+#[derive(Drop)]
+struct Named<A: Allocator> {
+    name: String<A>,
+    options: NameOptions<A>,
+}
 
 /// An option of a name.
 #[derive(Drop)]
@@ -33,23 +40,25 @@ impl<A: Allocator> OptionTree<A> {
     }
 
     /// The name with this option.
-    fn put(self, name: NameTree<A>) -> NameTree<A>
-        ensures { name_tree_view result ≡ with_option (option_view self) (name_tree_view name) }
+    fn put(self, named: Named<A>) -> Named<A>
+        ensures { named_view result ≡ with_option (option_view self) (named_view named) }
     {
-        match self {
-            OptionTree::Implements(text) => NameTree {
+        let Named { name, options } = named;
+        let options = match self {
+            OptionTree::Implements(text) => NameOptions {
                 implements: Some(text),
-                ..name
+                ..options
             },
-            OptionTree::VersionSuffix(text) => NameTree {
+            OptionTree::VersionSuffix(text) => NameOptions {
                 version_suffix: Some(text),
-                ..name
+                ..options
             },
-            OptionTree::ExternalId(text) => NameTree {
+            OptionTree::ExternalId(text) => NameOptions {
                 external_id: Some(text),
-                ..name
+                ..options
             },
-        }
+        };
+        Named { name, options }
     }
 }
 
@@ -77,27 +86,47 @@ fn option_of<A: Allocator>(alloc: A, bytes: &[u8]) -> Result<(OptionTree<A>, &[u
 
 /// A name with so many options, whose first bytes ascend from `least` on: so there are three of them at most, however many
 /// the bytes say.
-fn with_options<A: Allocator + Copy>(
+fn options_from<A: Allocator + Copy>(
     alloc: A,
     name: String<A>,
     least: u8,
     count: u32,
     bytes: &[u8],
-) -> Result<(NameTree<A>, &[u8]), Refusal>
+) -> Result<(Named<A>, &[u8]), Refusal>
     requires { least ≤ 3 }
-    ensures { Gives (λ x. (name_tree_view x.0, x.1.now)) result
+    ensures { Gives (λ x. (named_view x.0, x.1.now)) result
         (read_options (string_bytes name) least count bytes.now) }
 {
     if count == 0 {
-        return Ok((name.into(), bytes));
+        let options = NameOptions {
+            implements: None,
+            version_suffix: None,
+            external_id: None,
+        };
+        return Ok((Named { name, options }, bytes));
     }
     let (option, rest) = option_of(alloc, bytes)?;
     let number = option.number();
     if number < least {
         return Err(Refusal::Malformed);
     }
-    let (name, rest) = with_options(alloc, name, number + 1, count - 1, rest)?;
-    Ok((option.put(name), rest))
+    let (named, rest) = options_from(alloc, name, number + 1, count - 1, rest)?;
+    Ok((option.put(named), rest))
+}
+
+/// A name with so many options.
+fn with_options<A: Allocator + Copy>(
+    alloc: A,
+    name: String<A>,
+    count: u32,
+    bytes: &[u8],
+) -> Result<(NameTree<A>, &[u8]), Refusal>
+    ensures { Gives (λ x. (name_tree_view x.0, x.1.now)) result
+        (read_options (string_bytes name) 0 count bytes.now) }
+{
+    let (Named { name, options }, rest) = options_from(alloc, name, 0, count, bytes)?;
+    let options = Some(Box::new(alloc, options)?);
+    Ok((NameTree { name, options }, rest))
 }
 
 /// The name of an import or an export, with its options (component model, binary format, "Import and Export Definitions"). It
@@ -119,7 +148,7 @@ pub fn extern_name_of<A: Allocator + Copy>(
             let (name, rest) = name_of(alloc, rest)?;
             match u32_of(rest)? {
                 (0, _) => Err(Refusal::Malformed),
-                (count, rest) => with_options(alloc, name, 0, count, rest),
+                (count, rest) => with_options(alloc, name, count, rest),
             }
         }
         _ => Err(Refusal::Malformed),

@@ -43,10 +43,11 @@ impl<'a> Named<'a> {
     }
 
     fn is(self, tree: &NameTree) -> bool {
-        tree.name.as_str() == self.name
-            && tree.implements.as_deref() == self.implements
-            && tree.version_suffix.as_deref() == self.version_suffix
-            && tree.external_id.as_deref() == self.external_id
+        let name = tree.as_name();
+        name.name.as_str() == self.name
+            && name.implements.as_deref() == self.implements
+            && name.version_suffix.as_deref() == self.version_suffix
+            && name.external_id.as_deref() == self.external_id
     }
 }
 

@@ -4,7 +4,7 @@ use std::alloc::{Allocator, Global};
 use std::borrow::CowStr;
 use std::process::Abort;
 use wenc_base::Fault;
-use wenc_parts::{ComponentExternName, NameTree};
+use wenc_parts::{ComponentExternName, NameOptions, NameTree};
 
 /// The name of the interface, what follows the version, and the name elsewhere.
 type Options<'a> = (Option<&'a str>, Option<&'a str>, Option<&'a str>);
@@ -64,27 +64,32 @@ fn tree<A: Allocator + Copy>(
     name: &str,
     options: Options<'_>,
 ) -> NameTree<A> {
-    NameTree {
-        name: ok(rt, String::from_str(alloc, name)),
+    let options = NameOptions {
         implements: string(rt, alloc, options.0),
         version_suffix: string(rt, alloc, options.1),
         external_id: string(rt, alloc, options.2),
+    };
+    NameTree {
+        name: ok(rt, String::from_str(alloc, name)),
+        options: Some(ok(rt, Box::new(alloc, options))),
     }
 }
 
-fn owned<'a>(text: Option<String>) -> Option<CowStr<'a>> {
-    match text {
-        None => None,
-        Some(text) => Some(CowStr::Owned(text)),
-    }
+fn kept<'a>(rt: &impl Abort, alloc: Global, text: &str) -> CowStr<'a> {
+    CowStr::Owned(ok(rt, String::from_str(alloc, text)))
 }
 
-fn kept<'a>(tree: NameTree) -> ComponentExternName<'a> {
+fn kept_name<'a>(
+    rt: &impl Abort,
+    alloc: Global,
+    name: &str,
+    options: Options<'_>,
+) -> ComponentExternName<'a> {
     ComponentExternName {
-        name: CowStr::Owned(tree.name),
-        implements: owned(tree.implements),
-        version_suffix: owned(tree.version_suffix),
-        external_id: owned(tree.external_id),
+        name: kept(rt, alloc, name),
+        implements: options.0.map(|text| kept(rt, alloc, text)),
+        version_suffix: options.1.map(|text| kept(rt, alloc, text)),
+        external_id: options.2.map(|text| kept(rt, alloc, text)),
     }
 }
 
@@ -105,8 +110,8 @@ fn trees(rt: HostRuntime) {
 #[test]
 fn kept_names(rt: HostRuntime) {
     for (name, options, wanted) in ROWS {
-        let kept = kept(tree(&rt, rt.alloc(), name, *options));
-        text_is(&rt, rt.alloc(), &kept, wanted);
+        let name = kept_name(&rt, rt.alloc(), name, *options);
+        text_is(&rt, rt.alloc(), &name, wanted);
     }
 }
 

@@ -81,6 +81,7 @@ fn is_start(item: &ItemTree, wanted: u32, given: &[u32], answered: u32) -> bool 
 
 /// The names are the same, with their options.
 fn are_same(one: &NameTree, other: &NameTree) -> bool {
+    let (one, other) = (one.as_name(), other.as_name());
     one.name == other.name
         && one.implements == other.implements
         && one.version_suffix == other.version_suffix
