@@ -18,7 +18,7 @@ pub struct Names {
 
 /// A letter with each number below this one.
 fn numbered(alloc: Global, letter: &str, rounds: u32) -> Result<Vec<String>, Fault> {
-    let mut names = Vec::new(alloc);
+    let mut names = Vec::with_capacity(alloc, rounds as usize)?;
     for i in 0..rounds {
         let name = format!(in alloc; "{letter}{i}")?;
         names.push(name)?;
