@@ -16,7 +16,7 @@ use Rattle.wenc_list.specs.declared.listing.ListedSection.{ListedSection}
 abbrev pub item_view : {A : Type 0} → ItemTree A → Item
 item_view (trees.Module bytes) = ModuleItem bytes.items
 item_view (trees.CoreInstance instance) = CoreInstanceItem (core_instance_tree_view instance)
-item_view (trees.CoreType ty) = CoreTypeItem (core_type_view ty)
+item_view (trees.CoreType ty) = CoreTypeItem (core_type_view ty.value)
 item_view (trees.Component bytes) = ComponentItem bytes.items
 item_view (trees.Instance instance) = InstanceItem (instance_tree_view instance)
 item_view (trees.Alias alias) = AliasItem (alias_tree_view alias)

@@ -18,8 +18,8 @@ pub enum ItemTree<A: Allocator = Global> {
     Module(Vec<u8, A>),
     /// An instance of a core module, or one of core items.
     CoreInstance(CoreInstanceTree<A>),
-    /// A core type.
-    CoreType(CoreTypeTree<A>),
+    /// A core type, in a box, since it is far larger than the others.
+    CoreType(Box<CoreTypeTree<A>, A>),
     /// A nested component, by its bytes, which are not read.
     Component(Vec<u8, A>),
     /// An instance of a component, or one of items.

@@ -47,7 +47,7 @@ impl<A: Allocator + Copy> Member<A> for CoreTypeTree<A> {
     #[inline(always)]
     fn item<'a>(alloc: A, bytes: &'a [u8]) -> Result<(ItemTree<A>, &'a [u8]), Refusal> {
         let (ty, rest) = CoreTypeTree::decode(alloc, bytes)?;
-        Ok((ItemTree::CoreType(ty), rest))
+        Ok((ItemTree::CoreType(Box::new(alloc, ty)?), rest))
     }
 }
 
@@ -172,6 +172,7 @@ fn members<'a, A: Allocator + Copy, T: Member<A>>(
 }
 
 /// So many items of the section with this id.
+#[inline(always)]
 pub(crate) fn collected<A: Allocator + Copy>(
     alloc: A,
     id: u8,

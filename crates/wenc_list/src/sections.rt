@@ -54,6 +54,7 @@ fn start<A: Allocator + Copy>(alloc: A, content: &[u8]) -> Result<(u32, Vec<u32,
 }
 
 /// A count, and so many items, up to the end.
+#[inline(always)]
 fn items<A: Allocator + Copy>(
     alloc: A,
     id: u8,
@@ -80,7 +81,60 @@ fn single<A: Allocator>(alloc: A, item: ItemTree<A>) -> Result<Vec<ItemTree<A>, 
     Ok(items)
 }
 
+/// The item of a custom section. Neither this nor the next ones are inlined, since room for what they hold would be cleared
+/// at every section.
+#[inline(never)]
+fn custom_alone<A: Allocator + Copy>(
+    alloc: A,
+    content: &[u8],
+) -> Result<Vec<ItemTree<A>, A>, Refusal>
+    ensures { Yields (λ v. map item_view v.items) result (read_content 100 0 content.now) }
+{
+    let (name, data) = custom(alloc, content)?;
+    single(alloc, ItemTree::Custom { name, data })
+}
+
+/// A core module.
+#[inline(never)]
+fn module_alone<A: Allocator + Copy>(
+    alloc: A,
+    content: &[u8],
+) -> Result<Vec<ItemTree<A>, A>, Refusal>
+    ensures { Yields (λ v. map item_view v.items) result (read_content 100 1 content.now) }
+{
+    single(alloc, ItemTree::Module(copied(alloc, content)?))
+}
+
+/// A nested component.
+#[inline(never)]
+fn component_alone<A: Allocator + Copy>(
+    alloc: A,
+    content: &[u8],
+) -> Result<Vec<ItemTree<A>, A>, Refusal>
+    ensures { Yields (λ v. map item_view v.items) result (read_content 100 4 content.now) }
+{
+    single(alloc, ItemTree::Component(copied(alloc, content)?))
+}
+
+/// A start.
+#[inline(never)]
+fn start_alone<A: Allocator + Copy>(
+    alloc: A,
+    content: &[u8],
+) -> Result<Vec<ItemTree<A>, A>, Refusal>
+    ensures { Yields (λ v. map item_view v.items) result (read_content 100 9 content.now) }
+{
+    let (function, args, results) = start(alloc, content)?;
+    let item = ItemTree::Start {
+        function,
+        args,
+        results,
+    };
+    single(alloc, item)
+}
+
 /// The items that fill a section with this id.
+#[inline(always)]
 pub(crate) fn content<A: Allocator + Copy>(
     alloc: A,
     id: u8,
@@ -89,21 +143,10 @@ pub(crate) fn content<A: Allocator + Copy>(
     ensures { Yields (λ v. map item_view v.items) result (read_content 100 id content.now) }
 {
     match id {
-        0 => {
-            let (name, data) = custom(alloc, content)?;
-            single(alloc, ItemTree::Custom { name, data })
-        }
-        1 => single(alloc, ItemTree::Module(copied(alloc, content)?)),
-        4 => single(alloc, ItemTree::Component(copied(alloc, content)?)),
-        9 => {
-            let (function, args, results) = start(alloc, content)?;
-            let item = ItemTree::Start {
-                function,
-                args,
-                results,
-            };
-            single(alloc, item)
-        }
+        0 => custom_alone(alloc, content),
+        1 => module_alone(alloc, content),
+        4 => component_alone(alloc, content),
+        9 => start_alone(alloc, content),
         _ => items(alloc, id, content),
     }
 }
