@@ -11,6 +11,7 @@ use wenc_parts::{AliasTree, ComponentExportKind, ComponentOuterAliasKind};
 use wenc_read::{Refusal, byte};
 
 /// An export of an instance.
+#[inline(always)]
 fn export<A: Allocator + Copy>(
     alloc: A,
     kind: ComponentExportKind,
@@ -67,6 +68,7 @@ fn core_export<A: Allocator + Copy>(
 
 /// An export of an instance, of a kind that is no outer item's.
 #[tactic(auto, unfolding(wenc_base::specs::laws::Lawful::choose))]
+#[inline(always)]
 fn export_alone<A: Allocator + Copy>(
     alloc: A,
     kind: ComponentExportKind,

@@ -66,6 +66,7 @@ fn joined(low: u8, high: u32) -> u32
 
 /// A number of 32 bits in at most 5 bytes, whose last byte is below `top`. Most have three at most.
 #[tactic(auto, unfolding(wenc_base::specs::laws::Numbers::read_groups))]
+#[inline(always)]
 fn short_number(top: u8, bytes: &[u8]) -> Result<(u32, &[u8]), Refusal>
     requires { top ≤ 128 }
     ensures { Gives (λ x. (x.0, x.1.now)) result (read_groups top (2 ^ 32) 4 bytes.now) }
@@ -100,6 +101,7 @@ pub fn u64_of(bytes: &[u8]) -> Result<(u64, &[u8]), Refusal>
 
 /// An index that is written as a signed number of 33 bits (WebAssembly 3.0, binary format, "Heap Types"), from 0 to
 /// 4294967295. It is refused where none is spelled in at most 5 bytes.
+#[inline(always)]
 pub fn index_of(bytes: &[u8]) -> Result<(u32, &[u8]), Refusal>
     ensures { Gives (λ x. (x.0, x.1.now)) result (read_index bytes.now) }
 {
