@@ -12,11 +12,11 @@ mod types;
 use choices::Choices;
 use commands::{DEPTH, commands};
 use std::alloc::{AllocError, Global};
-use std::io::Write;
 use std::process::ExitCode;
 use wasm_encoder::{Fault, build};
 use wenc::input::read_all;
-use wenc::print::printed;
+use wenc::output::send_with_hex;
+use wenc::print::answer_lines;
 
 /// How many reads the input's end may take.
 const MAX_READS: u32 = 16_777_216;
@@ -24,15 +24,16 @@ const MAX_READS: u32 = 16_777_216;
 /// The status where a read or a write failed.
 const TRANSFER_FAILED: u8 = 5;
 
-/// What is printed for the commands that these bytes choose.
-fn run(alloc: Global, bytes: &[u8]) -> Result<Vec<u8>, Fault> {
+/// The lines of the answers, and the component, of the commands that these bytes choose.
+fn run(alloc: Global, bytes: &[u8]) -> Result<(Vec<u8>, Vec<u8>), Fault> {
     let mut choices = Choices::new(alloc, bytes);
     let commands = commands(&mut choices, DEPTH);
     if choices.is_out_of_memory {
         return Err(Fault::Memory(AllocError));
     }
     let built = build(alloc, commands.as_slice())?;
-    Ok(printed(alloc, built.answers.as_slice(), built.bytes.as_slice())?)
+    let lines = answer_lines(alloc, built.answers.as_slice())?;
+    Ok((lines, built.bytes))
 }
 
 fn main(rt: HostRuntime) -> ExitCode {
@@ -41,10 +42,12 @@ fn main(rt: HostRuntime) -> ExitCode {
         return ExitCode::from(TRANSFER_FAILED);
     };
     match run(rt.alloc(), bytes.as_slice()) {
-        Ok(text) => match rt.stdout().write_all(text.as_slice()) {
-            Ok(()) => ExitCode::SUCCESS,
-            Err(_) => ExitCode::from(TRANSFER_FAILED),
-        },
+        Ok((lines, component)) => {
+            match send_with_hex(&mut rt.stdout(), lines.as_slice(), component.as_slice()) {
+                Ok(()) => ExitCode::SUCCESS,
+                Err(_) => ExitCode::from(TRANSFER_FAILED),
+            }
+        }
         Err(fault) => ExitCode::from(fault.number()),
     }
 }

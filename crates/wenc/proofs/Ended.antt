@@ -1,7 +1,8 @@
 -- What the steps of a run make of the whole.
-use Rattle.std.proofs.Common.{◌≡◌, ℕ, ◌+◌, List, [], ◌∷◌, ◌++◌, All, Any, IsOk, IsErr, Option, Some, None, Result, Ok, Err, refl, sym, ap, ◌∙◌, arith, inl, inr, append-nil, lit<}
+use Rattle.std.proofs.Common.{◌≡◌, ℕ, ◌+◌, List, [], ◌∷◌, ◌++◌, All, Any, IsOk, IsErr, Option, Some, None, Result, Ok, Err, refl, sym, ap, ◌∙◌, arith, inl, inr, append-nil, append_assoc, lit<}
 use Rattle.std.proofs.lemmas.Fmt.{decimal_digit}
 use Rattle.std.specs.Io.KnownBytes.{Appends, Keeps}
+use Rattle.hex.specs.Hex.{encode_lower}
 use Rattle.wenc_base.specs.declared.fault.Fault.{Fault as FaultSpec}
 use Rattle.wenc_base.specs.declared.fault.Fault.TheVariants.{Memory, TooMany, TooLarge, Unfinished}
 use Rattle.wenc_base.specs.Fault.{IsMemory, fault_number}
@@ -9,8 +10,9 @@ use Rattle.wenc.specs.declared.failure.Failure.{Failure}
 use Rattle.wenc.specs.declared.failure.Failure.TheVariants.{Arguments, BadLine, Fault, Transfer}
 use Rattle.wenc.specs.declared.program.Printout.{Printout}
 use Rattle.wenc.specs.Script.{script}
+use Rattle.wenc.specs.Printed.{line_of, answer_line, answer_lines, printed}
 use Rattle.wenc.specs.Run.{Prints, Ends, AppendsFront, Says, fault_report, no_memory, line_report}
-use Rattle.wenc.specs.Steps.{Translation, IsWhole, Reads, NotTranslated, Reported}
+use Rattle.wenc.specs.Steps.{text_of, Translation, IsWhole, Reads, NotTranslated, Reported}
 
 pub keeps_same : (a : Option (List ℕ)) → Keeps a a
 keeps_same None = tt
@@ -30,7 +32,13 @@ appended_known None after old bytes h b = absurd cc
 appended_known (Some x) None old bytes h b = absurd h
 appended_known (Some x) (Some y) old bytes h b = let same : x ≡ old = cc in rw (h, same) refl
 
-prints_so : (P : List (Result (Option ℕ) FaultSpec) → Type 0) {A : Type 0} (p : Printout A) (text all old : List ℕ) (t : Translation p text) → P t.answers → text ≡ all → Prints P all old (old ++ p.text.items)
+-- the lines of the answers, and then the bytes, are what is printed
+pub lines_then_bytes : (answers : List (Result (Option ℕ) FaultSpec)) (bytes : List ℕ) → answer_lines answers ++ line_of (encode_lower bytes) ≡ printed answers bytes
+lines_then_bytes [] bytes = refl
+lines_then_bytes (a ∷ answers) bytes =
+    append_assoc (answer_line a) (answer_lines answers) (line_of (encode_lower bytes)) ∙ ap (λ (l : List ℕ). answer_line a ++ l) (lines_then_bytes answers bytes)
+
+prints_so : (P : List (Result (Option ℕ) FaultSpec) → Type 0) {A : Type 0} (p : Printout A) (text all old : List ℕ) (t : Translation p text) → P t.answers → text ≡ all → Prints P all old (old ++ text_of p)
 prints_so P p text all old t h e = record {
   commands = t.commands;
   answers = t.answers;
@@ -69,25 +77,25 @@ ends_at_line result line left ended before errors reported text h bad one app = 
 }
 
 ends_accepted : {A : Type 0} (p : Printout A) (result : ℕ) (left ended before after errors : Option (List ℕ)) (text : List ℕ) → IsWhole left ended text → (t : Translation p text)
-    → result ≡ 0 → All IsOk t.answers → Appends before after p.text.items → Ends result left ended before after errors errors
+    → result ≡ 0 → All IsOk t.answers → Appends before after (text_of p) → Ends result left ended before after errors errors
 ends_accepted p result left ended before after errors text h t zero ok app = record {
-  zero = λ s all old l b. let k = whole_known left ended text all h l in (old ++ p.text.items, appended_known before after old _ app b, k.1, prints_so (All IsOk) p text all old t ok k.0, keeps_same errors);
+  zero = λ s all old l b. let k = whole_known left ended text all h l in (old ++ text_of p, appended_known before after old _ app b, k.1, prints_so (All IsOk) p text all old t ok k.0, keeps_same errors);
   one = λ s all old l b. absurd (omega arith);
   two = λ s all old l b. absurd (omega arith);
   four = λ s all old l b. absurd (omega arith);
 }
 
 ends_refused : {A : Type 0} (p : Printout A) (result : ℕ) (left ended before after errors : Option (List ℕ)) (text : List ℕ) → IsWhole left ended text → (t : Translation p text)
-    → result ≡ 2 → Any IsErr t.answers → Appends before after p.text.items → Ends result left ended before after errors errors
+    → result ≡ 2 → Any IsErr t.answers → Appends before after (text_of p) → Ends result left ended before after errors errors
 ends_refused p result left ended before after errors text h t two refused app = record {
   zero = λ s all old l b. absurd (omega arith);
   one = λ s all old l b. absurd (omega arith);
-  two = λ s all old l b. let k = whole_known left ended text all h l in (old ++ p.text.items, appended_known before after old _ app b, inl (k.1, prints_so (Any IsErr) p text all old t refused k.0, keeps_same errors));
+  two = λ s all old l b. let k = whole_known left ended text all h l in (old ++ text_of p, appended_known before after old _ app b, inl (k.1, prints_so (Any IsErr) p text all old t refused k.0, keeps_same errors));
   four = λ s all old l b. absurd (omega arith);
 }
 
 ends_in_front : {A : Type 0} (p : Printout A) (result : ℕ) (left ended before after errors : Option (List ℕ)) (text : List ℕ) → IsWhole left ended text → (t : Translation p text)
-    → result ≡ 4 → AppendsFront before after p.text.items → Ends result left ended before after errors errors
+    → result ≡ 4 → AppendsFront before after (text_of p) → Ends result left ended before after errors errors
 ends_in_front p result left ended before after errors text h t four f = record {
   zero = λ s all old l b. absurd (omega arith);
   one = λ s all old l b. absurd (omega arith);
@@ -115,7 +123,7 @@ ends_in_front p result left ended before after errors text h t four f = record {
 }
 
 -- what was printed was written, or a write failed
-pub ends_printed : {A : Type 0} (p : Printout A) (result : ℕ) (left ended before after errors : Option (List ℕ)) → Reads (Ok p) left ended → Says result p.status p.text.items before after
+pub ends_printed : {A : Type 0} (p : Printout A) (result : ℕ) (left ended before after errors : Option (List ℕ)) → Reads (Ok p) left ended → Says result p.status (text_of p) before after
     → Ends result left ended before after errors errors
 ends_printed p result left ended before after errors r (inr f) = ends_in_front p result left ended before after errors r.0 r.1 r.2 f.0 f.1
 ends_printed p result left ended before after errors r (inl s) =

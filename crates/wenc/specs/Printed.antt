@@ -18,6 +18,11 @@ line_of text = text ++ 10 ∷ []
 abbrev pub answer_line : Result (Option ℕ) Fault → List ℕ
 answer_line given = line_of (answer given)
 
+-- a line for each answer
+abbrev pub answer_lines : List (Result (Option ℕ) Fault) → List ℕ
+answer_lines [] = []
+answer_lines (a ∷ answers) = answer_line a ++ answer_lines answers
+
 -- a line for each answer, then one with the bytes in hexadecimal
 abbrev pub printed : List (Result (Option ℕ) Fault) → List ℕ → List ℕ
 printed [] bytes = line_of (encode_lower bytes)

@@ -1,6 +1,7 @@
 -- What the steps of a run returned.
-use Rattle.std.specs.Prelude.{◌≡◌, ℕ, List, ◌⊎◌, All, Any, IsOk, IsErr, Option, Result, Ok, Err, Vec}
+use Rattle.std.specs.Prelude.{◌≡◌, ℕ, List, ◌++◌, ◌⊎◌, All, Any, IsOk, IsErr, Option, Result, Ok, Err, Vec}
 use Rattle.std.specs.Io.KnownBytes.{Consumes, IsAtEnd}
+use Rattle.hex.specs.Hex.{encode_lower}
 use Rattle.wenc_base.specs.Fault.{IsMemory}
 use Rattle.wenc_base.specs.declared.fault.Fault.{Fault as FaultSpec}
 use Rattle.wenc_builder.specs.Sections.{whole}
@@ -11,12 +12,16 @@ use Rattle.wenc.specs.declared.failure.Failure.{Failure}
 use Rattle.wenc.specs.declared.failure.Failure.TheVariants.{Arguments, BadLine, Fault, Transfer}
 use Rattle.wenc.specs.declared.program.Printout.{Printout}
 use Rattle.wenc.specs.Script.{script}
-use Rattle.wenc.specs.Printed.{printed}
+use Rattle.wenc.specs.Printed.{line_of, printed}
 use Rattle.wenc.specs.Run.{Says, usage, line_report, fault_report, no_memory}
 
 -- the exit status for these answers
 abbrev pub IsStatusOf : ℕ → List (Result (Option ℕ) FaultSpec) → Type 0
 IsStatusOf status answers = ((status ≡ 2) × Any IsErr answers) ⊎ ((status ≡ 0) × All IsOk answers)
+
+-- the text of a printout: its lines, then one with its bytes in hexadecimal
+abbrev pub text_of : {A : Type 0} → Printout A → List ℕ
+text_of p = p.lines.items ++ line_of (encode_lower p.bytes.items)
 
 -- what is printed for a script
 pub record Translation {A : Type 0} (p : Printout A) (text : List ℕ) : Type 0 where
@@ -26,7 +31,7 @@ pub record Translation {A : Type 0} (p : Printout A) (text : List ℕ) : Type 0 
   pub says : script text ≡ Ok commands
   pub ran : Ran commands answers entries
   pub status : IsStatusOf p.status answers
-  pub prints : p.text.items ≡ printed answers (whole (items entries))
+  pub prints : text_of p ≡ printed answers (whole (items entries))
 
 abbrev pub Translates : {A : Type 0} → Result (Printout A) Failure → List ℕ → Type 0
 Translates (Ok p) text = Translation p text

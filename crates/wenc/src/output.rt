@@ -1,13 +1,18 @@
-ghost use Rattle.std.specs.Prelude.{OnOk};
+ghost use Rattle.std.specs.Prelude.{◌*◌, ◌≤◌, ◌++◌, length, OnOk};
 ghost use Rattle.std.specs.Io.KnownBytes.{Appends};
+ghost use Rattle.hex.specs.Hex.{encode_lower};
+ghost use Rattle.wenc.specs.Printed.{line_of};
 ghost use Rattle.wenc.specs.Run.{AppendsFront, Says};
 
 use crate::failure::Failure;
 use crate::status::TRANSFER_FAILED;
 use std::io::Write;
 
-/// Writes a text and flushes. The first call that fails, or takes nothing, is the last.
-pub fn send<W: Write>(writer: &mut W, text: &[u8]) -> Result<(), Failure>
+/// How many bytes are written in hexadecimal at a time.
+const PIECE_SIZE: usize = 16_384;
+
+/// Writes a text. The first call that fails, or takes nothing, is the last.
+fn write_text<W: Write>(writer: &mut W, text: &[u8]) -> Result<(), Failure>
     ensures ok { OnOk result (Appends (W.contents writer.old) (W.contents writer.new) text.now) }
     ensures front { AppendsFront (W.contents writer.old) (W.contents writer.new) text.now }
 {
@@ -21,7 +26,59 @@ pub fn send<W: Write>(writer: &mut W, text: &[u8]) -> Result<(), Failure>
         }
         rest = &rest[count..];
     }
+    Ok(())
+}
+
+/// Writes a few bytes in hexadecimal, for which `buffer` has room.
+fn write_piece<W: Write>(writer: &mut W, buffer: &mut [u8], piece: &[u8]) -> Result<(), Failure>
+    requires { 2 * length piece.now ≤ length buffer.old }
+    ensures ok { OnOk result (Appends (W.contents writer.old) (W.contents writer.new)
+        (encode_lower piece.now)) }
+    ensures front { AppendsFront (W.contents writer.old) (W.contents writer.new)
+        (encode_lower piece.now) }
+{
+    let text = &mut buffer[..2 * piece.len()];
+    let _ = hex::encode_to_slice(piece, text);
+    write_text(writer, text)
+}
+
+/// Writes bytes in hexadecimal, piece by piece.
+fn write_hex<W: Write>(writer: &mut W, bytes: &[u8]) -> Result<(), Failure>
+    ensures ok { OnOk result (Appends (W.contents writer.old) (W.contents writer.new)
+        (encode_lower bytes.now)) }
+    ensures front { AppendsFront (W.contents writer.old) (W.contents writer.new)
+        (encode_lower bytes.now) }
+{
+    let mut buffer = [0; 2 * PIECE_SIZE];
+    let mut rest = bytes;
+    while !rest.is_empty() {
+        let (piece, behind) = rest.split_at(rest.len().min(PIECE_SIZE));
+        write_piece(writer, &mut buffer, piece)?;
+        rest = behind;
+    }
+    Ok(())
+}
+
+/// Writes a text and flushes. The first call that fails, or takes nothing, is the last.
+pub fn send<W: Write>(writer: &mut W, text: &[u8]) -> Result<(), Failure>
+    ensures ok { OnOk result (Appends (W.contents writer.old) (W.contents writer.new) text.now) }
+    ensures front { AppendsFront (W.contents writer.old) (W.contents writer.new) text.now }
+{
+    write_text(writer, text)?;
     writer.flush().map_err(|_| Failure::Transfer)
+}
+
+/// Writes lines, then one with the bytes in hexadecimal, and flushes. It takes no memory, and the first call that fails,
+/// or takes nothing, is the last.
+pub fn send_with_hex<W: Write>(writer: &mut W, lines: &[u8], bytes: &[u8]) -> Result<(), Failure>
+    ensures ok { OnOk result (Appends (W.contents writer.old) (W.contents writer.new)
+        (lines.now ++ line_of (encode_lower bytes.now))) }
+    ensures front { AppendsFront (W.contents writer.old) (W.contents writer.new)
+        (lines.now ++ line_of (encode_lower bytes.now)) }
+{
+    write_text(writer, lines)?;
+    write_hex(writer, bytes)?;
+    send(writer, b"\n")
 }
 
 /// Writes a text, and answers the status, or that a write failed.

@@ -4,13 +4,13 @@ ghost use Rattle.std.specs.declared.alloc.Global.{Global};
 ghost use Rattle.wenc.specs.Listed.{IsList};
 ghost use Rattle.wenc.specs.ListRun.{EndsListing};
 ghost use Rattle.wenc.specs.Run.{Ends, Says, usage, fault_report};
-ghost use Rattle.wenc.specs.Steps.{IsStatusOf, Translates, Reads, Reported};
+ghost use Rattle.wenc.specs.Steps.{IsStatusOf, text_of, Translates, Reads, Reported};
 
 use crate::failure::Failure;
 use crate::input::{MAX_READS, read_all};
 use crate::list::run_list;
-use crate::output::write_with_status;
-use crate::print::printed;
+use crate::output::{send_with_hex, write_with_status};
+use crate::print::answer_lines;
 use crate::script::parse;
 use crate::status::{DONE, MALFORMED, REFUSED, TRANSFER_FAILED};
 use std::alloc::{Allocator, Global};
@@ -20,8 +20,10 @@ use wasm_encoder::{Fault, build};
 /// What is printed for a script.
 #[derive(Drop)]
 pub struct Printout<A: Allocator = Global> {
-    /// The answers and the bytes.
-    pub text: Vec<u8, A>,
+    /// The lines of the answers.
+    pub lines: Vec<u8, A>,
+    /// The component, which is printed in hexadecimal.
+    pub bytes: Vec<u8, A>,
     /// The exit status.
     pub status: u8,
 }
@@ -41,20 +43,24 @@ fn status_of(answers: &[Result<Option<u32>, Fault>]) -> u8
     if has_refusal(answers) { REFUSED } else { DONE }
 }
 
-/// Runs the commands of a script, whose names are allocated by `names`.
+/// Runs the commands of a script, whose names are allocated by `names`. The text is freed once it is
+/// parsed, and the commands once they ran.
 pub fn translate<A: Allocator + Copy>(
     alloc: A,
     names: Global,
-    text: &[u8],
+    text: Vec<u8, A>,
 ) -> Result<Printout<A>, Failure>
-    ensures { Translates result text.now }
+    ensures { Translates result text.items }
 {
-    let commands = parse(alloc, names, text)?;
+    let commands = parse(alloc, names, text.as_slice())?;
+    drop(text);
     let built = build(alloc, commands.as_slice())?;
+    drop(commands);
     let answers = built.answers.as_slice();
     Ok(Printout {
-        text: printed(alloc, answers, built.bytes.as_slice())?,
+        lines: answer_lines(alloc, answers)?,
         status: status_of(answers),
+        bytes: built.bytes,
     })
 }
 
@@ -67,7 +73,18 @@ fn read_and_translate<A: Allocator + Copy, R: Read>(
     ensures { Reads result (R.remaining input.old) (R.remaining input.new) }
 {
     let text = read_all(alloc, input, MAX_READS)?;
-    translate(alloc, names, text.as_slice())
+    translate(alloc, names, text)
+}
+
+/// Writes what is printed for a script, and answers the status, or that a write failed.
+fn print<A: Allocator, O: Write>(out: &mut O, printout: &Printout<A>) -> u8
+    ensures { Says result printout.now.status (text_of printout.now)
+        (O.contents out.old) (O.contents out.new) }
+{
+    match send_with_hex(out, printout.lines.as_slice(), printout.bytes.as_slice()) {
+        Ok(()) => printout.status,
+        Err(_) => TRANSFER_FAILED,
+    }
 }
 
 /// Reports a fault, and answers the status.
@@ -117,7 +134,7 @@ fn run_script<A: Allocator + Copy, R: Read, O: Write, E: Write>(
     ensures status { (result ≡ 0) ⊎ (result ≡ 1) ⊎ (result ≡ 2) ⊎ (result ≡ 4) }
 {
     match read_and_translate(alloc, names, input) {
-        Ok(printout) => write_with_status(out, printout.text.as_slice(), printout.status),
+        Ok(printout) => print(out, &printout),
         Err(failure) => report(alloc, err, failure),
     }
 }

@@ -9,7 +9,7 @@ use wenc::kind::kind;
 use wenc::line::command;
 use wenc::list;
 use wenc::number::{bytes, number};
-use wenc::print::printed;
+use wenc::print::answer_lines;
 use wenc::program::translate;
 use wenc::script::parse;
 use wenc::unlisted::Unlisted;
@@ -68,18 +68,15 @@ fn every_kind_of_line_is_read(rt: HostRuntime) {
 }
 
 #[test]
-fn answers_and_bytes_are_printed(rt: HostRuntime) {
+fn answers_have_lines(rt: HostRuntime) {
     let answers = [
         Ok(Some(0)),
         Ok(Some(4294967295)),
         Ok(None),
         Err(Fault::TooLarge),
     ];
-    let text = ok(&rt, printed(rt.alloc(), &answers, &[0x00, 0x6d, 0xff]));
-    assert_eq!(rt;
-        text.as_slice(),
-        b"0\n4294967295\n-\nrefused 3\n006dff\n".as_slice()
-    );
+    let lines = ok(&rt, answer_lines(rt.alloc(), &answers));
+    assert_eq!(rt; lines.as_slice(), b"0\n4294967295\n-\nrefused 3\n".as_slice());
 }
 
 /// The bytes that a word says, if it says any.
@@ -133,17 +130,20 @@ const REFUSED: &[u8] = b"start 7 4294967295\nimport v value 0";
 
 #[test]
 fn scripts_are_translated(rt: HostRuntime) {
-    let printout = ok(&rt, translate(rt.alloc(), rt.alloc(), REFUSED));
+    let text = ok(&rt, REFUSED.to_vec(rt.alloc()));
+    let printout = ok(&rt, translate(rt.alloc(), rt.alloc(), text));
     assert_eq!(rt; printout.status, 2);
+    assert_eq!(rt; printout.lines.as_slice(), b"0\nrefused 2\n".as_slice());
     assert_eq!(rt;
-        printout.text.as_slice(),
-        b"0\nrefused 2\n0061736d0d00010009070700ffffffff0f\n".as_slice()
+        printout.bytes.as_slice(),
+        b"\x00asm\x0d\x00\x01\x00\x09\x07\x07\x00\xff\xff\xff\xff\x0f".as_slice()
     );
 }
 
 #[test]
 fn bad_scripts_are_not_translated(rt: HostRuntime) {
-    let failure = translate(rt.alloc(), rt.alloc(), b"import f func").err();
+    let text = ok(&rt, b"import f func".to_vec(rt.alloc()));
+    let failure = translate(rt.alloc(), rt.alloc(), text).err();
     assert!(rt; matches!(failure, Some(Failure::BadLine(1))));
 }
 

@@ -1,12 +1,27 @@
 use Rattle.std.proofs.Common.{◌≡◌, Ok, map}
 use Rattle.wasm_encoder.specs.Command.{command_view}
 use Rattle.wenc.specs.Script.{script}
+use Rattle.wenc.proofs.Ended.{lines_then_bytes}
 use Rattle.wenc.proofs.Untyped.{only_memory, not_translated}
 use Rattle.wenc.proofs.program.translate.Goals as goal
 
 pub returns-in_err-built : goal.returns-in_err-built
 returns-in_err-built g c =
     let fault = c.in_err-built.field-0.0 in
-    let says : script c.args.text.now ≡ Ok (map command_view c.as_slice.result.now) = rw c.as_slice.ensures.value c.in_ok-commands.ensures in
-    not_translated c.from_residual-in_err-built.result fault c.args.text.now c.from_residual-in_err-built.ensures
-    (only_memory c.args.text.now (map command_view c.as_slice.result.now) fault says c.in_err-built.ensures.refused)
+    let text = c.args.text.items in
+    let says : script text ≡ Ok (map command_view c.in_ok-commands.commands.items) = rw c.as_slice.ensures.value at c.in_ok-commands.ensures in
+    not_translated c.from_residual-in_err-built.result fault text c.from_residual-in_err-built.ensures
+    (only_memory text _ fault says (rw c.as_slice-2.ensures.value at c.in_err-built.ensures.refused))
+
+pub returns : goal.returns
+returns g c =
+    let ran = c.in_ok-built.ensures.ran in
+    record {
+      commands = map command_view c.in_ok-commands.commands.items;
+      answers = c.in_ok-built.built.answers.items;
+      entries = ran.0;
+      says = rw c.as_slice.ensures.value at c.in_ok-commands.ensures;
+      ran = rw c.as_slice-2.ensures.value at ran.1;
+      status = rw c.as_slice-answers.ensures.value at c.status_of.ensures;
+      prints = rw (c.in_ok-answer_lines.ensures, c.as_slice-answers.ensures.value, ran.2) (lines_then_bytes _ _);
+    }

@@ -1,6 +1,6 @@
 use Rattle.std.proofs.Common.{arith}
 use Rattle.wenc.proofs.Sent.{sent_more}
-use Rattle.wenc.proofs.output.send.Goals as goal
+use Rattle.wenc.proofs.output.write_text.Goals as goal
 
 pub loop-rest-preserved : goal.loop-rest-preserved
 loop-rest-preserved g c =
