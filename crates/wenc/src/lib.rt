@@ -2,6 +2,7 @@
 //! answers and the component that they build; or it lists a component's sections.
 #![tactic(auto)]
 
+pub mod digits;
 pub mod failure;
 pub mod input;
 pub mod intrinsic;

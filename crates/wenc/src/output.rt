@@ -4,6 +4,7 @@ ghost use Rattle.hex.specs.Hex.{encode_lower};
 ghost use Rattle.wenc.specs.Printed.{line_of};
 ghost use Rattle.wenc.specs.Run.{AppendsFront, Says};
 
+use crate::digits::encode;
 use crate::failure::Failure;
 use crate::status::TRANSFER_FAILED;
 use std::io::Write;
@@ -38,7 +39,7 @@ fn write_piece<W: Write>(writer: &mut W, buffer: &mut [u8], piece: &[u8]) -> Res
         (encode_lower piece.now) }
 {
     let text = &mut buffer[..2 * piece.len()];
-    let _ = hex::encode_to_slice(piece, text);
+    encode(piece, text);
     write_text(writer, text)
 }
 
