@@ -9,19 +9,21 @@ pub returns-in_err-built : goal.returns-in_err-built
 returns-in_err-built g c =
     let fault = c.in_err-built.field-0.0 in
     let text = c.args.text.items in
-    let says : script text ≡ Ok (map command_view c.in_ok-commands.commands.items) = rw c.as_slice.ensures.value at c.in_ok-commands.ensures in
+    let parsed = rw c.as_slice.ensures.value at c.in_ok-commands.ensures in
+    let says : script text ≡ Ok (map command_view c.as_slice-2.result.now) = rw c.as_slice-2.ensures.value parsed in
     not_translated c.from_residual-in_err-built.result fault text c.from_residual-in_err-built.ensures
-    (only_memory text _ fault says (rw c.as_slice-2.ensures.value at c.in_err-built.ensures.refused))
+    (only_memory text (map command_view c.as_slice-2.result.now) fault says c.in_err-built.ensures.refused)
 
 pub returns : goal.returns
 returns g c =
+    let parsed = rw c.as_slice.ensures.value at c.in_ok-commands.ensures in
     let ran = c.in_ok-built.ensures.ran in
     record {
-      commands = map command_view c.in_ok-commands.commands.items;
+      commands = map command_view c.as_slice-2.result.now;
       answers = c.in_ok-built.built.answers.items;
       entries = ran.0;
-      says = rw c.as_slice.ensures.value at c.in_ok-commands.ensures;
-      ran = rw c.as_slice-2.ensures.value at ran.1;
+      says = rw c.as_slice-2.ensures.value parsed;
+      ran = ran.1;
       status = rw c.as_slice-answers.ensures.value at c.status_of.ensures;
       prints = rw (c.in_ok-answer_lines.ensures, c.as_slice-answers.ensures.value, ran.2) (lines_then_bytes _ _);
     }
