@@ -1,12 +1,11 @@
-//! Modules, components, starts and custom sections: each is a section of its own, and parts its neighbours.
+//! Modules, components, starts and custom sections: each is a section of its own, and parts its
+//! neighbours.
 
-use crate::accepted::ok;
-use crate::calls::{Item, Lent};
-use crate::checks::{Row, row, rows};
-use crate::imports::{FUNCTION, OUTER_TYPE};
+use crate::calls::{BEGIN_TYPE, FUNCTION, GIVE_UP, Item, OUTER_TYPE};
+use crate::canonicals::Indexed;
+use crate::checks::Row;
 use wasm_encoder::{
-    ComponentExportKind, ComponentTypeRef, ComponentValType, CustomSection, Fault, Module,
-    PrimitiveValType,
+    ComponentExportKind, ComponentTypeRef, ComponentValType, CustomSection, Fault, PrimitiveValType,
 };
 
 const NO_DATA: CustomSection<'static> = CustomSection {
@@ -23,14 +22,14 @@ const VALUE: Item<'static> = Item::Import(
     ComponentTypeRef::Value(ComponentValType::Primitive(PrimitiveValType::U8)),
 );
 
-/// The size of a module of 128 bytes has two. A start defines as many values as it has results, and there are at most
-/// 4294967295.
-const ROWS: &[Row<'static, Item<'static>>] = &[
+/// The size of a module of 128 bytes has two. A start defines as many values as it has results, and
+/// there are at most 4294967295.
+pub const ROWS: &[Row<'static>] = &[
     (
         &[
-            (Item::ResourceNew(1), Ok(0)),
+            (Item::Indexed(Indexed::ResourceNew, 1), Ok(0)),
             (Item::RawModule(b""), Ok(0)),
-            (Item::ResourceRep(1), Ok(1)),
+            (Item::Indexed(Indexed::ResourceRep, 1), Ok(1)),
         ],
         b"\x08\x03\x01\x02\x01\x01\x00\x08\x03\x01\x04\x01",
     ),
@@ -79,10 +78,10 @@ const ROWS: &[Row<'static, Item<'static>>] = &[
     ),
     (
         &[
-            (Item::ResourceNew(1), Ok(0)),
+            (Item::Indexed(Indexed::ResourceNew, 1), Ok(0)),
             (Item::Custom(NO_DATA), Ok(0)),
             (Item::RawCustom(b"\x02\x01x"), Ok(0)),
-            (Item::ResourceRep(1), Ok(1)),
+            (Item::Indexed(Indexed::ResourceRep, 1), Ok(1)),
         ],
         b"\x08\x03\x01\x02\x01\x00\x02\x01\x78\x00\x02\x01\x78\x08\x03\x01\x04\x01",
     ),
@@ -91,27 +90,17 @@ const ROWS: &[Row<'static, Item<'static>>] = &[
         &[
             (Item::Start(0, &[], 4294967295), Ok(0)),
             (Item::Start(0, &[], 1), Err(Fault::TooMany)),
-            (Item::BeginType, Ok(0)),
+            (BEGIN_TYPE, Ok(0)),
             (Item::Start(0, &[], 1), Err(Fault::Unfinished)),
-            (Item::GiveUp, Ok(1)),
+            (GIVE_UP, Ok(1)),
         ],
         b"\x09\x07\x00\x00\xff\xff\xff\xff\x0f",
     ),
+    (
+        &[
+            (Item::RawModule(b""), Ok(0)),
+            (Item::Module(NO_DATA), Ok(1)),
+        ],
+        b"\x01\x00\x01\x0c\x00asm\x01\x00\x00\x00\x00\x02\x01\x78",
+    ),
 ];
-
-#[test]
-fn sections(rt: HostRuntime) {
-    rows(&rt, rt.alloc(), ROWS);
-}
-
-#[test]
-fn modules(rt: HostRuntime) {
-    let mut module = ok(&rt, Module::new(rt.alloc()));
-    ok(&rt, module.section(&NO_DATA));
-    let calls = [
-        (Lent::Item(Item::RawModule(b"")), Ok(0)),
-        (Lent::Module(&module), Ok(1)),
-    ];
-    let wanted = b"\x01\x00\x01\x0c\x00asm\x01\x00\x00\x00\x00\x02\x01\x78".as_slice();
-    row(&rt, rt.alloc(), calls.as_slice(), wanted);
-}

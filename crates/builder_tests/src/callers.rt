@@ -5,7 +5,8 @@ use wasm_encoder::Fault;
 /// A core module without sections.
 const MODULE: [u8; 8] = [0x00, 0x61, 0x73, 0x6d, 0x01, 0x00, 0x00, 0x00];
 
-/// That module, an instance of it, an alias of its export, a type, the lifted function, and an export.
+/// That module, an instance of it, an alias of its export, a type, the lifted function, and an
+/// export.
 const WRAPPED: &str = concat!(
     "0061736d0d000100",
     "01080061736d01000000",
@@ -17,13 +18,9 @@ const WRAPPED: &str = concat!(
 );
 
 #[test]
-fn a_module_wrapped(rt: HostRuntime) {
+fn a_module_wrapped_and_a_fault(rt: HostRuntime) {
     let bytes = ok(&rt, wrapped(rt.alloc(), &MODULE));
     let text = ok(&rt, hex::encode(rt.alloc(), bytes.as_slice()));
     assert!(rt; text.as_str() == WRAPPED);
-}
-
-#[test]
-fn faults_have_numbers(rt: HostRuntime) {
     assert!(rt; Fault::Unfinished.number() == 4);
 }

@@ -1,16 +1,44 @@
 //! Calls of the builder, as values: tables of them say how a component is made.
 
-use crate::checks::Call;
-use crate::written::dropped;
-use std::alloc::{Allocator, Global};
+use crate::accepted::ok;
+use crate::canonicals::{Indexed, Other, Plain, WithOptions};
+use crate::trees::Tree;
+use crate::written::{Defined, Typed, Written};
+use refusing::Refusing;
+use std::alloc::Global;
 use std::borrow::CowStr;
+use std::process::Abort;
 use wasm_encoder::{
     Alias, CanonicalOption, ComponentBuilder, ComponentExportKind, ComponentExternName,
-    ComponentTypeRef, CustomSection, ExportKind, Fault, Module, ModuleArg,
+    ComponentOuterAliasKind, ComponentTypeRef, CustomSection, ExportKind, Fault, Module, ModuleArg,
 };
 
 /// It has more bytes than there is room for without a growth.
 pub const NAME: &str = "an-interface-with-a-long-name";
+
+/// The function that the first instance has.
+pub const FUNCTION: Item<'static> = Item::Alias(Alias::InstanceExport {
+    instance: 0,
+    kind: ComponentExportKind::Func,
+    name: "f",
+});
+
+/// A type of the component that this one stands in.
+pub const OUTER_TYPE: Item<'static> = Item::Alias(Alias::Outer {
+    kind: ComponentOuterAliasKind::Type,
+    count: 0,
+    index: 1,
+});
+
+pub const TASK_CANCEL: Item<'static> = Item::Plain(Plain::TaskCancel);
+
+/// Begins a type of which nothing is written.
+pub const BEGIN_TYPE: Item<'static> = Item::Written(Written::Defined(Defined::Begun));
+
+pub const GIVE_UP: Item<'static> = Item::Asked(Asked::GiveUp);
+
+/// A builder whose requests for memory may be refused.
+pub type Builder<'h> = ComponentBuilder<&'h Refusing>;
 
 /// A call that adds an item or a section, or that stands between such calls.
 #[derive(Clone, Copy)]
@@ -24,13 +52,20 @@ pub enum Item<'a> {
     Alias(Alias<'a>),
     /// Of the first core instance.
     CoreAlias(&'a str, ExportKind),
-    TaskCancel,
-    ThreadYieldThenPromote,
-    ThreadSpawnIndirect(u32, u32),
-    ResourceNew(u32),
-    ResourceDrop(u32),
-    ResourceRep(u32),
+    Plain(Plain),
+    Indexed(Indexed, u32),
+    Other(Other),
+    WithOptions(WithOptions),
+    Listed(Listed<'a>),
+    Typed(Typed),
+    Written(Written<'a>),
+    /// A type that is begun, always under this debug name.
+    Begun(&'a str, Written<'a>),
+    /// What is no type, by its tree.
+    Tree(Tree<'a>),
     RawModule(&'a [u8]),
+    /// A module with this section alone.
+    Module(CustomSection<'a>),
     /// Gives up the builder.
     Component(Inner),
     /// Lends the builder.
@@ -41,18 +76,18 @@ pub enum Item<'a> {
     Custom(CustomSection<'a>),
     RawCustom(&'a [u8]),
     AppendNames,
-    /// A type of which nothing is written.
-    BeginType,
-    /// Gives up what is unfinished: 1 where something was, or 0.
-    GiveUp,
+    Asked(Asked),
 }
 
-impl<'a> Call for Item<'a> {
-    fn make<A: Allocator + Copy>(
+impl<'a> Item<'a> {
+    /// Makes the call, under this debug name where it takes one. What else it is given is made with
+    /// `alloc`, which refuses nothing.
+    pub fn make(
         self,
+        rt: &impl Abort,
         alloc: Global,
         debug_name: Option<&str>,
-        builder: &mut ComponentBuilder<A>,
+        builder: &mut Builder<'_>,
     ) -> Result<u32, Fault> {
         match self {
             Item::Import(name, ty) => builder.import(name.into(), ty),
@@ -61,56 +96,49 @@ impl<'a> Call for Item<'a> {
             Item::AliasExport(instance, name, kind) => builder.alias_export(instance, name, kind),
             Item::Alias(alias) => builder.alias(debug_name, alias),
             Item::CoreAlias(name, kind) => builder.core_alias_export(debug_name, 0, name, kind),
-            Item::TaskCancel => builder.task_cancel(),
-            Item::ThreadYieldThenPromote => builder.thread_yield_then_promote(),
-            Item::ThreadSpawnIndirect(ty, table) => builder.thread_spawn_indirect(ty, table),
-            Item::ResourceNew(ty) => builder.resource_new(ty),
-            Item::ResourceDrop(ty) => builder.resource_drop(ty),
-            Item::ResourceRep(ty) => builder.resource_rep(ty),
+            Item::Plain(function) => function.make(builder),
+            Item::Indexed(function, index) => function.make(index, builder),
+            Item::Other(function) => function.make(builder),
+            Item::WithOptions(function) => function.make(builder),
+            Item::Listed(listed) => listed.make(debug_name, builder),
+            Item::Typed(ty) => ty.make(rt, alloc, debug_name, builder),
+            Item::Written(ty) => ty.make(rt, alloc, debug_name, builder),
+            Item::Begun(name, ty) => ty.make(rt, alloc, Some(name), builder),
+            Item::Tree(tree) => tree.make(rt, alloc, debug_name, builder),
             Item::RawModule(bytes) => builder.core_module_raw(debug_name, bytes),
-            Item::Component(inner) => nest(alloc, builder, debug_name, inner),
-            Item::LentComponent(inner) => lend(alloc, builder, debug_name, inner),
+            Item::Module(section) => builder.core_module(debug_name, &module(rt, alloc, section)),
+            Item::Component(inner) => builder.component(debug_name, inner.builder(rt, alloc)),
+            Item::LentComponent(inner) => {
+                builder.component_ref(debug_name, &inner.builder(rt, alloc))
+            }
             Item::RawComponent(bytes) => builder.component_raw(debug_name, bytes),
-            Item::Start(function, args, results) => start(alloc, builder, function, args, results),
+            Item::Start(function, args, results) => {
+                builder.start(function, ok(rt, args.to_vec(alloc)), results)
+            }
             Item::Custom(section) => placeless(builder.custom_section(&section)),
             Item::RawCustom(bytes) => placeless(builder.raw_custom_section(bytes)),
             Item::AppendNames => placeless(builder.append_names()),
-            Item::BeginType => dropped(builder.type_defined(debug_name)),
-            Item::GiveUp => Ok(u32::from(builder.discard_unfinished())),
+            Item::Asked(asked) => Ok(asked.answer(builder)),
         }
     }
 }
 
-/// A call that is lent a module or a component, or one of those above.
-#[derive(Clone, Copy)]
-pub enum Lent<'a> {
-    Module(&'a Module),
-    Component(&'a ComponentBuilder),
-    Item(Item<'a>),
-}
-
-impl<'a> Call for Lent<'a> {
-    fn make<A: Allocator + Copy>(
-        self,
-        alloc: Global,
-        debug_name: Option<&str>,
-        builder: &mut ComponentBuilder<A>,
-    ) -> Result<u32, Fault> {
-        match self {
-            Lent::Module(module) => builder.core_module(debug_name, module),
-            Lent::Component(component) => builder.component_ref(debug_name, component),
-            Lent::Item(item) => item.make(alloc, debug_name, builder),
-        }
-    }
+/// A module with this section alone.
+fn module(rt: &impl Abort, alloc: Global, section: CustomSection<'_>) -> Module {
+    let mut module = ok(rt, Module::new(alloc));
+    ok(rt, module.section(&section));
+    module
 }
 
 /// Such a call answers no index.
 fn placeless(outcome: Result<(), Fault>) -> Result<u32, Fault> {
-    outcome?;
-    Ok(0)
+    match outcome {
+        Ok(()) => Ok(0),
+        Err(fault) => Err(fault),
+    }
 }
 
-fn import_with_options<A: Allocator>(builder: &mut ComponentBuilder<A>) -> Result<u32, Fault> {
+fn import_with_options(builder: &mut Builder<'_>) -> Result<u32, Fault> {
     let name: ComponentExternName = ComponentExternName {
         name: CowStr::Borrowed("a"),
         implements: Some(CowStr::Borrowed("i")),
@@ -120,20 +148,32 @@ fn import_with_options<A: Allocator>(builder: &mut ComponentBuilder<A>) -> Resul
     builder.import(name, ComponentTypeRef::Func(0))
 }
 
-fn start<A: Allocator>(
-    alloc: Global,
-    builder: &mut ComponentBuilder<A>,
-    function: u32,
-    args: &[u32],
-    results: u32,
-) -> Result<u32, Fault> {
-    let args = args.to_vec(alloc)?;
-    builder.start(function, args, results)
+/// What is asked of the builder, with a number for an answer.
+#[derive(Clone, Copy)]
+pub enum Asked {
+    CoreTypeCount,
+    TypeCount,
+    /// 1 where nothing is unfinished, or 0.
+    IsFinished,
+    /// Gives up what is unfinished: 1 where something was, or 0.
+    GiveUp,
+}
+
+impl Asked {
+    fn answer(self, builder: &mut Builder<'_>) -> u32 {
+        match self {
+            Asked::CoreTypeCount => builder.core_type_count(),
+            Asked::TypeCount => builder.type_count(),
+            Asked::IsFinished => u32::from(builder.is_finished()),
+            Asked::GiveUp => u32::from(builder.discard_unfinished()),
+        }
+    }
 }
 
 /// What the builder of a component has that is nested in another.
 #[derive(Clone, Copy)]
 pub enum Inner {
+    Nothing,
     /// An import of a function.
     Importing,
     /// The function `task.cancel`.
@@ -146,45 +186,28 @@ pub enum Inner {
 
 impl Inner {
     /// A builder that has it.
-    pub fn builder(self, alloc: Global) -> Result<ComponentBuilder, Fault> {
-        let mut builder = ComponentBuilder::new(alloc)?;
-        self.add(alloc, &mut builder)?;
-        Ok(builder)
-    }
-
-    fn add(self, alloc: Global, builder: &mut ComponentBuilder) -> Result<u32, Fault> {
-        match self {
+    pub fn builder(self, rt: &impl Abort, alloc: Global) -> ComponentBuilder {
+        let mut builder = ok(rt, ComponentBuilder::new(alloc));
+        let outcome = match self {
+            Inner::Nothing => Ok(0),
             Inner::Importing => builder.import(NAME.into(), ComponentTypeRef::Func(0)),
             Inner::Cancels => builder.task_cancel(),
-            Inner::CancelsInside => builder.component(None, cancels(alloc)?),
-            Inner::Unfinished => dropped(builder.type_defined(None)),
-        }
+            Inner::CancelsInside => builder.component(None, cancels(rt, alloc)),
+            Inner::Unfinished => match builder.type_defined(None) {
+                Ok((index, _)) => Ok(index),
+                Err(fault) => Err(fault),
+            },
+        };
+        ok(rt, outcome);
+        builder
     }
 }
 
 /// A component with the function `task.cancel`.
-fn cancels(alloc: Global) -> Result<ComponentBuilder, Fault> {
-    let mut builder = ComponentBuilder::new(alloc)?;
-    builder.task_cancel()?;
-    Ok(builder)
-}
-
-fn nest<A: Allocator>(
-    alloc: Global,
-    builder: &mut ComponentBuilder<A>,
-    debug_name: Option<&str>,
-    inner: Inner,
-) -> Result<u32, Fault> {
-    builder.component(debug_name, inner.builder(alloc)?)
-}
-
-fn lend<A: Allocator>(
-    alloc: Global,
-    builder: &mut ComponentBuilder<A>,
-    debug_name: Option<&str>,
-    inner: Inner,
-) -> Result<u32, Fault> {
-    builder.component_ref(debug_name, &inner.builder(alloc)?)
+fn cancels(rt: &impl Abort, alloc: Global) -> ComponentBuilder {
+    let mut builder = ok(rt, ComponentBuilder::new(alloc));
+    ok(rt, builder.task_cancel());
+    builder
 }
 
 /// A call that takes lists.
@@ -201,30 +224,18 @@ pub enum Listed<'a> {
     Lower(u32, &'a [CanonicalOption]),
     /// A function, and its type.
     Lift(u32, u32, &'a [CanonicalOption]),
-    /// No list: a neighbour.
-    TaskCancel,
 }
 
-impl<'a> Call for Listed<'a> {
-    fn make<A: Allocator + Copy>(
-        self,
-        _: Global,
-        debug_name: Option<&str>,
-        builder: &mut ComponentBuilder<A>,
-    ) -> Result<u32, Fault> {
+impl<'a> Listed<'a> {
+    fn make(self, debug_name: Option<&str>, builder: &mut Builder<'_>) -> Result<u32, Fault> {
         match self {
             Listed::CoreInstantiate(module, arg, index) => {
-                builder.core_instantiate(
-                    debug_name,
-                    module,
-                    [(arg, ModuleArg::Instance(index))].into_iter(),
-                )
+                let args = [(arg, ModuleArg::Instance(index))].into_iter();
+                builder.core_instantiate(debug_name, module, args)
             }
             Listed::CoreExports(export, index) => {
-                builder.core_instantiate_exports(
-                    debug_name,
-                    [(export, ExportKind::Func, index)].into_iter(),
-                )
+                let exports = [(export, ExportKind::Func, index)].into_iter();
+                builder.core_instantiate_exports(debug_name, exports)
             }
             Listed::Instantiate(component, arg, kind, index) => {
                 builder.instantiate(debug_name, component, [(arg, kind, index)].into_iter())
@@ -236,13 +247,12 @@ impl<'a> Call for Listed<'a> {
             Listed::Lift(function, ty, options) => {
                 builder.lift_func(debug_name, function, ty, options.iter().copied())
             }
-            Listed::TaskCancel => builder.task_cancel(),
         }
     }
 }
 
-fn exports<A: Allocator>(
-    builder: &mut ComponentBuilder<A>,
+fn exports(
+    builder: &mut Builder<'_>,
     debug_name: Option<&str>,
     name: &str,
     index: u32,

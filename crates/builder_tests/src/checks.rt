@@ -1,7 +1,9 @@
 //! What a builder's component is to be.
 
 use crate::accepted::ok;
-use crate::calls::NAME;
+use crate::calls::{Builder, Item, NAME};
+use crate::{alone, imports, lists, names, nested, types};
+use refusing::Refusing;
 use std::alloc::{Allocator, Global};
 use std::process::Abort;
 use wasm_encoder::{ComponentBuilder, Fault};
@@ -9,84 +11,100 @@ use wasm_encoder::{ComponentBuilder, Fault};
 /// The bytes in front of the first section.
 pub const HEADER: &[u8] = b"\x00asm\x0d\x00\x01\x00";
 
-/// A call that adds an item, under this debug name where it takes one. What else it is given is made with `alloc`, which
-/// refuses nothing.
-pub trait Call: Copy {
-    fn make<A: Allocator + Copy>(
-        self,
-        alloc: Global,
-        debug_name: Option<&str>,
-        builder: &mut ComponentBuilder<A>,
-    ) -> Result<u32, Fault>;
-}
-
 /// The component has these bytes.
 pub fn finishes<A: Allocator>(rt: &impl Abort, builder: ComponentBuilder<A>, wanted: &[u8]) {
     let bytes = ok(rt, builder.finish());
     assert!(rt; bytes.as_slice() == wanted);
 }
 
-/// How many items there are of each kind.
-pub fn counts<A: Allocator>(builder: &ComponentBuilder<A>) -> [u32; 13] {
-    [
-        builder.core_module_count(),
-        builder.core_func_count(),
-        builder.core_type_count(),
-        builder.core_memory_count(),
-        builder.core_table_count(),
-        builder.core_instance_count(),
-        builder.core_tag_count(),
-        builder.core_global_count(),
-        builder.func_count(),
-        builder.instance_count(),
-        builder.value_count(),
-        builder.component_count(),
-        builder.type_count(),
-    ]
-}
-
 /// A call, and its answer.
-pub type Answer<C> = (C, Result<u32, Fault>);
+pub type Answer<'a> = (Item<'a>, Result<u32, Fault>);
 
 /// The builder answers these calls so, under this debug name.
-pub fn answers<C: Call, A: Allocator + Copy>(
+pub fn answers(
     rt: &impl Abort,
     alloc: Global,
     debug_name: Option<&str>,
-    builder: &mut ComponentBuilder<A>,
-    calls: &[Answer<C>],
+    builder: &mut Builder<'_>,
+    calls: &[Answer<'_>],
 ) {
     for (call, answer) in calls {
-        assert!(rt; call.make(alloc, debug_name, builder) == *answer);
+        assert!(rt; call.make(rt, alloc, debug_name, builder) == *answer);
     }
 }
 
 /// Calls with their answers, and the component that they make, behind its header.
-pub type Row<'a, C> = (&'a [Answer<C>], &'a [u8]);
+pub type Row<'a> = (&'a [Answer<'a>], &'a [u8]);
 
-/// A builder that makes these calls under this debug name answers so, and then has these bytes behind its header.
-pub fn row_named<C: Call>(
+/// A builder that answers these calls so, under this debug name. From now on no request is refused.
+pub fn made<'h>(
+    rt: &impl Abort,
+    alloc: Global,
+    heap: &'h Refusing,
+    debug_name: Option<&str>,
+    calls: &[Answer<'_>],
+) -> Builder<'h> {
+    heap.refuse_none();
+    let mut builder = ok(rt, ComponentBuilder::new(heap));
+    answers(rt, alloc, debug_name, &mut builder, calls);
+    builder
+}
+
+/// It has these bytes behind its header, or none where it is unfinished.
+pub fn makes(
     rt: &impl Abort,
     alloc: Global,
     debug_name: Option<&str>,
-    calls: &[Answer<C>],
-    wanted: &[u8],
+    calls: &[Answer<'_>],
+    wanted: Option<&[u8]>,
 ) {
-    let mut builder = ok(rt, ComponentBuilder::new(alloc));
-    answers(rt, alloc, debug_name, &mut builder, calls);
-    let bytes = ok(rt, builder.finish());
-    assert!(rt; bytes.as_slice().strip_prefix(HEADER) == Some(wanted));
+    let heap = Refusing::new(alloc);
+    match made(rt, alloc, &heap, debug_name, calls).finish() {
+        Ok(bytes) => assert!(rt;
+            wanted.is_some() && bytes.as_slice().strip_prefix(HEADER) == wanted
+        ),
+        Err(fault) => assert!(rt; wanted.is_none() && fault == Fault::Unfinished),
+    }
 }
 
-/// So it is without a debug name, and with one, which isn't written.
-pub fn row<C: Call>(rt: &impl Abort, alloc: Global, calls: &[Answer<C>], wanted: &[u8]) {
-    row_named(rt, alloc, None, calls, wanted);
-    row_named(rt, alloc, Some(NAME), calls, wanted);
+/// Whether the bytes are this front, so often what is repeated, and this end.
+pub fn repeat(bytes: &[u8], front: &[u8], times: usize, repeated: &[u8], end: &[u8]) -> bool {
+    let mut rest = match bytes.strip_prefix(front) {
+        Some(behind) => behind,
+        None => return false,
+    };
+    for _ in 0..times {
+        match rest.strip_prefix(repeated) {
+            Some(behind) => rest = behind,
+            None => return false,
+        }
+    }
+    rest == end
 }
 
-/// The same of each row.
-pub fn rows<C: Call>(rt: &impl Abort, alloc: Global, rows: &[Row<'_, C>]) {
-    for (calls, wanted) in rows {
-        row(rt, alloc, calls, wanted);
+/// Where a debug name isn't written, each row is made without one and with one.
+const BOTH: &[Option<&str>] = &[None, Some(NAME)];
+
+/// The tables of rows, with the debug names that each row is made under.
+const TABLES: &[(&[Option<&str>], &[Row<'static>])] = &[
+    (BOTH, alone::ROWS),
+    (BOTH, imports::ROWS),
+    (BOTH, lists::ROWS),
+    (BOTH, nested::ROWS),
+    (BOTH, types::ROWS),
+    (&[None], names::ROWS),
+];
+
+#[test]
+fn rows(rt: HostRuntime) {
+    for (debug_names, rows) in TABLES {
+        for (calls, wanted) in *rows {
+            for debug_name in *debug_names {
+                makes(&rt, rt.alloc(), *debug_name, calls, Some(wanted));
+            }
+        }
+    }
+    for calls in types::UNFINISHED {
+        makes(&rt, rt.alloc(), None, calls, None);
     }
 }

@@ -1,103 +1,153 @@
 //! Every kind of item has its own space, and its own count.
 
-use crate::accepted::ok;
 use crate::calls::{Item, Listed};
-use crate::checks::{Call, counts};
-use std::alloc::Global;
-use std::process::Abort;
+use crate::checks::{Answer, made};
+use refusing::Refusing;
 use wasm_encoder::{
     Alias, ComponentBuilder, ComponentOuterAliasKind, ComponentTypeRef, ComponentValType,
     ExportKind, TypeBounds,
 };
 
-/// Which counts an outer alias of each kind raises.
-const OUTER: &[(ComponentOuterAliasKind, [u32; 13])] = &[
+/// How many items there are of each kind.
+pub fn counts(builder: &ComponentBuilder<&Refusing>) -> [u32; 13] {
+    [
+        builder.core_module_count(),
+        builder.core_func_count(),
+        builder.core_type_count(),
+        builder.core_memory_count(),
+        builder.core_table_count(),
+        builder.core_instance_count(),
+        builder.core_tag_count(),
+        builder.core_global_count(),
+        builder.func_count(),
+        builder.instance_count(),
+        builder.value_count(),
+        builder.component_count(),
+        builder.type_count(),
+    ]
+}
+
+const MODULE: Item<'static> = Item::Import("a", ComponentTypeRef::Module(0));
+
+const FUNC: Item<'static> = Item::Import("a", ComponentTypeRef::Func(0));
+
+const VALUE: Item<'static> = Item::Import("a", ComponentTypeRef::Value(ComponentValType::Type(0)));
+
+const TYPE: Item<'static> = Item::Import("a", ComponentTypeRef::Type(TypeBounds::SubResource));
+
+const INSTANCE: Item<'static> = Item::Import("a", ComponentTypeRef::Instance(0));
+
+const COMPONENT: Item<'static> = Item::Import("a", ComponentTypeRef::Component(0));
+
+/// Calls with their answers, and the counts that they raise: outer aliases, aliases of a core
+/// instance's exports, instances, and imports. The spaces that no import defines in stay empty.
+const ROWS: &[(&[Answer<'static>], [u32; 13])] = &[
     (
-        ComponentOuterAliasKind::CoreModule,
+        &[(
+            Item::Alias(Alias::Outer {
+                kind: ComponentOuterAliasKind::CoreModule,
+                count: 1,
+                index: 2,
+            }),
+            Ok(0),
+        )],
         [1, 0, 0, 0, 0, 0, 0, 0, 0, 0, 0, 0, 0],
     ),
     (
-        ComponentOuterAliasKind::CoreType,
+        &[(
+            Item::Alias(Alias::Outer {
+                kind: ComponentOuterAliasKind::CoreType,
+                count: 1,
+                index: 2,
+            }),
+            Ok(0),
+        )],
         [0, 0, 1, 0, 0, 0, 0, 0, 0, 0, 0, 0, 0],
     ),
     (
-        ComponentOuterAliasKind::Component,
+        &[(
+            Item::Alias(Alias::Outer {
+                kind: ComponentOuterAliasKind::Component,
+                count: 1,
+                index: 2,
+            }),
+            Ok(0),
+        )],
         [0, 0, 0, 0, 0, 0, 0, 0, 0, 0, 0, 1, 0],
     ),
     (
-        ComponentOuterAliasKind::Type,
+        &[(
+            Item::Alias(Alias::Outer {
+                kind: ComponentOuterAliasKind::Type,
+                count: 1,
+                index: 2,
+            }),
+            Ok(0),
+        )],
         [0, 0, 0, 0, 0, 0, 0, 0, 0, 0, 0, 0, 1],
+    ),
+    (
+        &[(Item::CoreAlias("x", ExportKind::Func), Ok(0))],
+        [0, 1, 0, 0, 0, 0, 0, 0, 0, 0, 0, 0, 0],
+    ),
+    (
+        &[(Item::CoreAlias("x", ExportKind::Memory), Ok(0))],
+        [0, 0, 0, 1, 0, 0, 0, 0, 0, 0, 0, 0, 0],
+    ),
+    (
+        &[(Item::CoreAlias("x", ExportKind::Table), Ok(0))],
+        [0, 0, 0, 0, 1, 0, 0, 0, 0, 0, 0, 0, 0],
+    ),
+    (
+        &[(Item::CoreAlias("x", ExportKind::Tag), Ok(0))],
+        [0, 0, 0, 0, 0, 0, 1, 0, 0, 0, 0, 0, 0],
+    ),
+    (
+        &[(Item::CoreAlias("x", ExportKind::Global), Ok(0))],
+        [0, 0, 0, 0, 0, 0, 0, 1, 0, 0, 0, 0, 0],
+    ),
+    (
+        &[(Item::Listed(Listed::CoreExports("foo", 0)), Ok(0))],
+        [0, 0, 0, 0, 0, 1, 0, 0, 0, 0, 0, 0, 0],
+    ),
+    (
+        &[(Item::Listed(Listed::Exports("foo", 0)), Ok(0))],
+        [0, 0, 0, 0, 0, 0, 0, 0, 0, 1, 0, 0, 0],
+    ),
+    (
+        &[
+            (MODULE, Ok(0)),
+            (FUNC, Ok(0)),
+            (FUNC, Ok(1)),
+            (VALUE, Ok(0)),
+            (VALUE, Ok(1)),
+            (VALUE, Ok(2)),
+            (TYPE, Ok(0)),
+            (TYPE, Ok(1)),
+            (TYPE, Ok(2)),
+            (TYPE, Ok(3)),
+            (INSTANCE, Ok(0)),
+            (INSTANCE, Ok(1)),
+            (INSTANCE, Ok(2)),
+            (INSTANCE, Ok(3)),
+            (INSTANCE, Ok(4)),
+            (COMPONENT, Ok(0)),
+            (COMPONENT, Ok(1)),
+            (COMPONENT, Ok(2)),
+            (COMPONENT, Ok(3)),
+            (COMPONENT, Ok(4)),
+            (COMPONENT, Ok(5)),
+        ],
+        [1, 0, 0, 0, 0, 0, 0, 0, 2, 5, 3, 6, 4],
     ),
 ];
 
-/// Which counts an alias of an export of a core instance raises.
-const CORE: &[(ExportKind, [u32; 13])] = &[
-    (ExportKind::Func, [0, 1, 0, 0, 0, 0, 0, 0, 0, 0, 0, 0, 0]),
-    (ExportKind::Memory, [0, 0, 0, 1, 0, 0, 0, 0, 0, 0, 0, 0, 0]),
-    (ExportKind::Table, [0, 0, 0, 0, 1, 0, 0, 0, 0, 0, 0, 0, 0]),
-    (ExportKind::Tag, [0, 0, 0, 0, 0, 0, 1, 0, 0, 0, 0, 0, 0]),
-    (ExportKind::Global, [0, 0, 0, 0, 0, 0, 0, 1, 0, 0, 0, 0, 0]),
-];
-
-/// How often each kind is imported.
-const IMPORTS: &[(ComponentTypeRef, u32)] = &[
-    (ComponentTypeRef::Module(0), 1),
-    (ComponentTypeRef::Func(0), 2),
-    (ComponentTypeRef::Value(ComponentValType::Type(0)), 3),
-    (ComponentTypeRef::Type(TypeBounds::SubResource), 4),
-    (ComponentTypeRef::Instance(0), 5),
-    (ComponentTypeRef::Component(0), 6),
-];
-
-/// One call raises these counts.
-fn raises<C: Call>(rt: &impl Abort, alloc: Global, call: C, wanted: [u32; 13]) {
-    let mut builder = ok(rt, ComponentBuilder::new(alloc));
-    assert!(rt; call.make(alloc, None, &mut builder) == Ok(0));
-    assert!(rt; counts(&builder) == wanted);
-}
-
 #[test]
-fn counts_of_aliases(rt: HostRuntime) {
-    for (kind, wanted) in OUTER {
-        let alias = Alias::Outer {
-            kind: *kind,
-            count: 1,
-            index: 2,
-        };
-        raises(&rt, rt.alloc(), Item::Alias(alias), *wanted);
+fn counts_of_calls(rt: HostRuntime) {
+    let alloc = rt.alloc();
+    let heap = Refusing::new(alloc);
+    for (calls, wanted) in ROWS {
+        let builder = made(&rt, alloc, &heap, None, calls);
+        assert!(rt; counts(&builder) == *wanted);
     }
-    for (kind, wanted) in CORE {
-        raises(&rt, rt.alloc(), Item::CoreAlias("x", *kind), *wanted);
-    }
-}
-
-#[test]
-fn counts_of_instances(rt: HostRuntime) {
-    let wanted = [0, 0, 0, 0, 0, 1, 0, 0, 0, 0, 0, 0, 0];
-    raises(&rt, rt.alloc(), Listed::CoreExports("foo", 0), wanted);
-    let wanted = [0, 0, 0, 0, 0, 0, 0, 0, 0, 1, 0, 0, 0];
-    raises(&rt, rt.alloc(), Listed::Exports("foo", 0), wanted);
-}
-
-/// Imports what has this type so often.
-fn import_often(
-    rt: &impl Abort,
-    alloc: Global,
-    builder: &mut ComponentBuilder,
-    ty: ComponentTypeRef,
-    times: u32,
-) {
-    for index in 0..times {
-        assert!(rt; Item::Import("a", ty).make(alloc, None, builder) == Ok(index));
-    }
-}
-
-// The spaces that no import defines in stay empty.
-#[test]
-fn counts_of_imports(rt: HostRuntime) {
-    let mut builder = ok(&rt, ComponentBuilder::new(rt.alloc()));
-    for (ty, times) in IMPORTS {
-        import_often(&rt, rt.alloc(), &mut builder, *ty, *times);
-    }
-    assert!(rt; counts(&builder) == [1, 0, 0, 0, 0, 0, 0, 0, 2, 5, 3, 6, 4]);
 }

@@ -1,27 +1,11 @@
 //! Imports, exports and aliases.
 
-use crate::calls::Item;
-use crate::checks::{Row, rows};
-use wasm_encoder::{
-    Alias, ComponentExportKind, ComponentOuterAliasKind, ComponentTypeRef, ExportKind,
-};
-
-/// The function that the first instance has.
-pub const FUNCTION: Item<'static> = Item::Alias(Alias::InstanceExport {
-    instance: 0,
-    kind: ComponentExportKind::Func,
-    name: "f",
-});
-
-/// A type of the component that this one stands in.
-pub const OUTER_TYPE: Item<'static> = Item::Alias(Alias::Outer {
-    kind: ComponentOuterAliasKind::Type,
-    count: 0,
-    index: 1,
-});
+use crate::calls::{FUNCTION, Item, OUTER_TYPE};
+use crate::checks::Row;
+use wasm_encoder::{ComponentExportKind, ComponentTypeRef, ExportKind};
 
 /// Neighbours of one kind share a section.
-const ROWS: &[Row<'static, Item<'static>>] = &[
+pub const ROWS: &[Row<'static>] = &[
     (&[], b""),
     (
         &[
@@ -57,8 +41,3 @@ const ROWS: &[Row<'static, Item<'static>>] = &[
         b"\x0a\x0c\x01\x02\x01\x61\x02\x00\x01\x69\x02\x00\x01\x00",
     ),
 ];
-
-#[test]
-fn imports(rt: HostRuntime) {
-    rows(&rt, rt.alloc(), ROWS);
-}

@@ -1,5 +1,5 @@
-//! Tests of `wenc_builder` and `wasm_encoder`: worked components, call by call and by `build`, and each request for memory
-//! refused in turn.
+//! Tests of `wenc_builder` and `wasm_encoder`: worked components, call by call and by `build`, and
+//! each request for memory refused in turn.
 #![tactic(auto)]
 
 #[cfg(test)]
@@ -11,6 +11,8 @@ mod callers;
 #[cfg(test)]
 mod calls;
 #[cfg(test)]
+mod canonicals;
+#[cfg(test)]
 mod checks;
 #[cfg(test)]
 mod commands;
@@ -18,8 +20,6 @@ mod commands;
 mod counts;
 #[cfg(test)]
 mod ends;
-#[cfg(test)]
-mod heap;
 #[cfg(test)]
 mod imports;
 #[cfg(test)]
@@ -30,6 +30,8 @@ mod names;
 mod nested;
 #[cfg(test)]
 mod swept;
+#[cfg(test)]
+mod trees;
 #[cfg(test)]
 mod types;
 #[cfg(test)]

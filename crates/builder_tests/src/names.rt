@@ -1,8 +1,8 @@
 //! Debug names, and the section that they make.
 
-use crate::calls::Item;
-use crate::checks::{Row, row_named};
-use crate::imports::{FUNCTION, OUTER_TYPE};
+use crate::calls::{FUNCTION, Item, OUTER_TYPE};
+use crate::canonicals::{Indexed, Other, Plain};
+use crate::checks::Row;
 use wasm_encoder::{
     ComponentExportKind, ComponentTypeRef, ComponentValType, Fault, PrimitiveValType,
 };
@@ -12,14 +12,14 @@ const U8: ComponentTypeRef = ComponentTypeRef::Value(ComponentValType::Primitive
 ));
 
 /// A second section has the same names.
-const ROWS: &[Row<'static, Item<'static>>] = &[
+pub const ROWS: &[Row<'static>] = &[
     (
         &[(Item::Import("v", U8), Ok(0)), (Item::AppendNames, Ok(0))],
         b"\x0a\x06\x01\x00\x01\x76\x02\x7d\x00\x16\x0ecomponent-name\x01\x05\x02\x01\x00\x01\x76",
     ),
     (
         &[
-            (Item::ResourceDrop(0), Ok(0)),
+            (Item::Indexed(Indexed::ResourceDrop, 0), Ok(0)),
             (Item::AppendNames, Ok(0)),
             (Item::AppendNames, Ok(0)),
         ],
@@ -27,14 +27,14 @@ const ROWS: &[Row<'static, Item<'static>>] = &[
     ),
     (
         &[
-            (Item::ThreadYieldThenPromote, Ok(0)),
+            (Item::Plain(Plain::ThreadYieldThenPromote), Ok(0)),
             (Item::AppendNames, Ok(0)),
         ],
         b"\x08\x03\x01\x2d\x00\x00\x2f\x0ecomponent-name\x01\x1e\x00\x00\x01\x00\x19thread.yield-then-promote",
     ),
     (
         &[
-            (Item::ThreadSpawnIndirect(1, 2), Ok(0)),
+            (Item::Other(Other::ThreadSpawnIndirect(1, 2)), Ok(0)),
             (Item::AppendNames, Ok(0)),
         ],
         b"\x08\x04\x01\x41\x01\x02\x00\x2b\x0ecomponent-name\x01\x1a\x00\x00\x01\x00\x15thread.spawn-indirect",
@@ -75,10 +75,3 @@ const ROWS: &[Row<'static, Item<'static>>] = &[
         b"\x09\x07\x00\x00\xfe\xff\xff\xff\x0f\x06\x06\x01\x02\x00\x00\x01\x76\x00\x1a\x0ecomponent-name\x01\x09\x02\x01\xfe\xff\xff\xff\x0f\x01\x76",
     ),
 ];
-
-#[test]
-fn names(rt: HostRuntime) {
-    for (calls, wanted) in ROWS {
-        row_named(&rt, rt.alloc(), None, calls, wanted);
-    }
-}

@@ -1,14 +1,12 @@
 //! Nested components, by the builder that is given up and by the one that is lent.
 
 use crate::accepted::ok;
-use crate::calls::{Inner, Item, Lent};
-use crate::checks::{Row, finishes, row, rows};
-use crate::imports::FUNCTION;
-use std::alloc::Global;
-use std::process::Abort;
-use wasm_encoder::{ComponentBuilder, Fault};
+use crate::calls::{BEGIN_TYPE, FUNCTION, GIVE_UP, Inner, Item, NAME, TASK_CANCEL};
+use crate::checks::{HEADER, Row, finishes, made};
+use refusing::Refusing;
+use wasm_encoder::Fault;
 
-const ROWS: &[Row<'static, Item<'static>>] = &[
+pub const ROWS: &[Row<'static>] = &[
     (
         &[(Item::Component(Inner::Cancels), Ok(0))],
         b"\x04\x0c\x00asm\x0d\x00\x01\x00\x08\x02\x01\x05",
@@ -42,68 +40,57 @@ const ROWS: &[Row<'static, Item<'static>>] = &[
         ],
         b"\x04\x00\x06\x06\x01\x01\x00\x00\x01\x66",
     ),
-    // Nor does a builder that is unfinished take any. Once it has given that up, there is nothing more to give up.
+    // Nor does a builder that is unfinished take any. Once it has given that up, there is nothing
+    // more to give up.
     (
         &[
-            (Item::TaskCancel, Ok(0)),
-            (Item::BeginType, Ok(0)),
+            (TASK_CANCEL, Ok(0)),
+            (BEGIN_TYPE, Ok(0)),
             (
                 Item::LentComponent(Inner::Importing),
                 Err(Fault::Unfinished),
             ),
             (Item::Component(Inner::Importing), Err(Fault::Unfinished)),
-            (Item::GiveUp, Ok(1)),
-            (Item::GiveUp, Ok(0)),
+            (GIVE_UP, Ok(1)),
+            (GIVE_UP, Ok(0)),
         ],
         b"\x08\x02\x01\x05",
     ),
 ];
 
-#[test]
-fn given_up_or_lent(rt: HostRuntime) {
-    rows(&rt, rt.alloc(), ROWS);
-}
+/// What is lent, the component that has it twice, behind its header, and the one that has it alone:
+/// with a section open, without one, and with a component in it.
+const LENT: &[(Inner, &[u8], &[u8])] = &[
+    (
+        Inner::Cancels,
+        b"\x04\x0c\x00asm\x0d\x00\x01\x00\x08\x02\x01\x05\x04\x0c\x00asm\x0d\x00\x01\x00\x08\x02\x01\x05",
+        b"\x00asm\x0d\x00\x01\x00\x08\x02\x01\x05",
+    ),
+    (
+        Inner::Nothing,
+        b"\x04\x08\x00asm\x0d\x00\x01\x00\x04\x08\x00asm\x0d\x00\x01\x00",
+        b"\x00asm\x0d\x00\x01\x00",
+    ),
+    (
+        Inner::CancelsInside,
+        b"\x04\x16\x00asm\x0d\x00\x01\x00\x04\x0c\x00asm\x0d\x00\x01\x00\x08\x02\x01\x05\x04\x16\x00asm\x0d\x00\x01\x00\x04\x0c\x00asm\x0d\x00\x01\x00\x08\x02\x01\x05",
+        b"\x00asm\x0d\x00\x01\x00\x04\x0c\x00asm\x0d\x00\x01\x00\x08\x02\x01\x05",
+    ),
+];
 
-/// A lent component stands twice in another, and stays as it was.
-fn lent_twice(
-    rt: &impl Abort,
-    alloc: Global,
-    component: ComponentBuilder,
-    twice: &[u8],
-    alone: &[u8],
-) {
-    let calls = [
-        (Lent::Component(&component), Ok(0)),
-        (Lent::Component(&component), Ok(1)),
-    ];
-    row(rt, alloc, calls.as_slice(), twice);
-    finishes(rt, component, alone);
-}
-
-// With a section open, or without one.
+// A lent component stands twice in another, without a debug name and with one, and stays as it was.
 #[test]
-fn lent(rt: HostRuntime) {
-    let alone = b"\x00asm\x0d\x00\x01\x00\x08\x02\x01\x05".as_slice();
-    let twice =
-        b"\x04\x0c\x00asm\x0d\x00\x01\x00\x08\x02\x01\x05\x04\x0c\x00asm\x0d\x00\x01\x00\x08\x02\x01\x05".as_slice();
-    let component = ok(&rt, Inner::Cancels.builder(rt.alloc()));
-    lent_twice(&rt, rt.alloc(), component, twice, alone);
-}
-
-#[test]
-fn lent_without_items(rt: HostRuntime) {
-    let alone = b"\x00asm\x0d\x00\x01\x00".as_slice();
-    let twice = b"\x04\x08\x00asm\x0d\x00\x01\x00\x04\x08\x00asm\x0d\x00\x01\x00".as_slice();
-    let component = ok(&rt, ComponentBuilder::new(rt.alloc()));
-    lent_twice(&rt, rt.alloc(), component, twice, alone);
-}
-
-#[test]
-fn lent_with_one_in_it(rt: HostRuntime) {
-    let alone =
-        b"\x00asm\x0d\x00\x01\x00\x04\x0c\x00asm\x0d\x00\x01\x00\x08\x02\x01\x05".as_slice();
-    let twice =
-        b"\x04\x16\x00asm\x0d\x00\x01\x00\x04\x0c\x00asm\x0d\x00\x01\x00\x08\x02\x01\x05\x04\x16\x00asm\x0d\x00\x01\x00\x04\x0c\x00asm\x0d\x00\x01\x00\x08\x02\x01\x05".as_slice();
-    let component = ok(&rt, Inner::CancelsInside.builder(rt.alloc()));
-    lent_twice(&rt, rt.alloc(), component, twice, alone);
+fn lent_twice(rt: HostRuntime) {
+    let heap = Refusing::new(rt.alloc());
+    for (inner, twice, alone) in LENT {
+        let component = inner.builder(&rt, rt.alloc());
+        for debug_name in [None, Some(NAME)] {
+            let mut builder = made(&rt, rt.alloc(), &heap, None, &[]);
+            assert!(rt; builder.component_ref(debug_name, &component) == Ok(0));
+            assert!(rt; builder.component_ref(debug_name, &component) == Ok(1));
+            let bytes = ok(&rt, builder.finish());
+            assert!(rt; bytes.as_slice().strip_prefix(HEADER) == Some(*twice));
+        }
+        finishes(&rt, component, alone);
+    }
 }

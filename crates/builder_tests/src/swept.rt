@@ -1,9 +1,7 @@
 //! Each request for memory of the calls of `wasm_encoder` is refused in turn.
 
 mod alone;
-mod between;
-mod canonicals;
+pub mod between;
 mod commands;
-mod names;
-mod trees;
+mod items;
 mod types;

@@ -1,221 +1,281 @@
 //! Types, as values: those that an encoder writes, and those that are handed in.
 
-use crate::calls::NAME;
-use crate::checks::Call;
-use std::alloc::{Allocator, Global};
+use crate::accepted::ok;
+use crate::calls::{Builder, NAME};
+use crate::trees::Tree;
+use std::alloc::Global;
+use std::process::Abort;
 use wasm_encoder::{
-    ComponentBuilder, ComponentType, ComponentValType, CoreTypeTree, Fault, InstanceType,
-    ModuleType, PrimitiveValType, SubType, TypeTree, ValType,
+    ComponentType, ComponentTypeRef, ComponentValType, CompositeType, Fault, FuncType,
+    InstanceType, ModuleType, PrimitiveValType, SubType, TypeBounds, ValType,
 };
 
 pub const STRING: ComponentValType = ComponentValType::Primitive(PrimitiveValType::String);
 
-/// A call that adds a type. Of what is dropped the type is left unfinished.
+/// A type that an encoder writes. Of what is begun the type is left unfinished.
 #[derive(Clone, Copy)]
-pub enum Typed<'a> {
-    Core(CoreType<'a>),
-    Any(AnyType<'a>),
-    Record,
-    Variant,
-    Function(&'a [(&'a str, ComponentValType)], Option<ComponentValType>),
-    AsyncFunction,
-    DroppedCoreType,
-    /// With the encoder that it gives for all but modules.
-    DroppedCore,
-    DroppedType,
-    DroppedDefined,
-    DroppedFunction,
-    /// Once it is said whether it is asynchronous.
-    DroppedTag,
-    /// An asynchronous one, once it has its parameters, of which there are none.
-    DroppedParams,
-    Instance(&'a InstanceType),
-    Component(&'a ComponentType),
-    Resource(u32),
+pub enum Written<'a> {
+    Core(Core),
+    Any(Any),
+    Defined(Defined),
+    Function(Function<'a>),
+    /// A core type or a type, by its tree.
+    Tree(Tree<'a>),
 }
 
-/// What the encoder of a core type writes.
-#[derive(Clone, Copy)]
-pub enum CoreType<'a> {
-    Function,
-    Subtype(&'a SubType),
-    /// Types that may refer to each other.
-    Rec(&'a [SubType]),
-    Module(&'a ModuleType),
-    Tree(&'a CoreTypeTree),
-}
-
-/// What the encoder of a type writes.
-#[derive(Clone, Copy)]
-pub enum AnyType<'a> {
-    Resource(u32),
-    Component(&'a ComponentType),
-    Tree(&'a TypeTree),
-}
-
-impl<'a> Call for Typed<'a> {
-    fn make<A: Allocator + Copy>(
+impl<'a> Written<'a> {
+    pub fn make(
         self,
-        _: Global,
+        rt: &impl Abort,
+        alloc: Global,
         debug_name: Option<&str>,
-        builder: &mut ComponentBuilder<A>,
+        builder: &mut Builder<'_>,
     ) -> Result<u32, Fault> {
         match self {
-            Typed::Core(ty) => add_core(builder, debug_name, ty),
-            Typed::Any(ty) => add_any(builder, debug_name, ty),
-            Typed::Record => add_record(builder, debug_name),
-            Typed::Variant => add_variant(builder, debug_name),
-            Typed::Function(params, answer) => add_function(builder, debug_name, params, answer),
-            Typed::AsyncFunction => add_async_function(builder, debug_name),
-            Typed::DroppedCoreType => dropped(builder.core_type(debug_name)),
-            Typed::DroppedCore => drop_core(builder, debug_name),
-            Typed::DroppedType => dropped(builder.ty(debug_name)),
-            Typed::DroppedDefined => dropped(builder.type_defined(debug_name)),
-            Typed::DroppedFunction => dropped(builder.type_function(debug_name)),
-            Typed::DroppedTag => drop_tag(builder, debug_name),
-            Typed::DroppedParams => drop_params(builder, debug_name),
-            Typed::Instance(ty) => builder.type_instance(debug_name, ty),
-            Typed::Component(ty) => builder.type_component(debug_name, ty),
-            Typed::Resource(drop) => builder.type_resource(debug_name, ValType::I32, Some(drop)),
+            Written::Core(ty) => ty.make(rt, alloc, debug_name, builder),
+            Written::Any(ty) => ty.make(rt, alloc, debug_name, builder),
+            Written::Defined(ty) => ty.make(debug_name, builder),
+            Written::Function(ty) => ty.make(debug_name, builder),
+            Written::Tree(tree) => tree.make(rt, alloc, debug_name, builder),
         }
     }
 }
 
 /// The index of a type, where what was to be written is taken.
-fn written(index: u32, outcome: Result<(), Fault>) -> Result<u32, Fault> {
-    outcome?;
-    Ok(index)
+pub fn answered(index: u32, outcome: Result<(), Fault>) -> Result<u32, Fault> {
+    match outcome {
+        Ok(()) => Ok(index),
+        Err(fault) => Err(fault),
+    }
 }
 
-/// The index in front of an encoder, which is dropped.
-pub fn dropped<E: Drop>(outcome: Result<(u32, E), Fault>) -> Result<u32, Fault> {
-    Ok(outcome?.0)
+/// What the encoder of a core type writes.
+#[derive(Clone, Copy)]
+pub enum Core {
+    Begun,
+    /// With the encoder that it gives for all but modules.
+    BegunCore,
+    Function,
+    /// A function type that may have subtypes.
+    Open,
+    /// That one, in a group of its own.
+    OpenGroup,
+    /// Two types that may refer to each other.
+    Pair,
+    EmptyModule,
+    /// A module type with the one that may have subtypes.
+    Module,
 }
 
-fn add_core<A: Allocator>(
-    builder: &mut ComponentBuilder<A>,
-    debug_name: Option<&str>,
-    ty: CoreType<'_>,
-) -> Result<u32, Fault> {
-    match builder.core_type(debug_name) {
-        Ok((index, encoder)) => {
-            let one = [ValType::I32];
-            let outcome = match ty {
-                CoreType::Function => encoder.core().function(one.into_iter(), one.into_iter()),
-                CoreType::Subtype(ty) => encoder.core().subtype(ty),
-                CoreType::Rec(types) => encoder.core().rec(types.iter()),
-                CoreType::Module(ty) => encoder.module(ty),
-                CoreType::Tree(tree) => encoder.tree(tree),
-            };
-            written(index, outcome)
+impl Core {
+    fn make(
+        self,
+        rt: &impl Abort,
+        alloc: Global,
+        debug_name: Option<&str>,
+        builder: &mut Builder<'_>,
+    ) -> Result<u32, Fault> {
+        match builder.core_type(debug_name) {
+            Ok((index, encoder)) => {
+                let one = [ValType::I32];
+                let outcome = match self {
+                    Core::Begun => Ok(()),
+                    Core::BegunCore => {
+                        encoder.core();
+                        Ok(())
+                    }
+                    Core::Function => encoder.core().function(one.into_iter(), one.into_iter()),
+                    Core::Open => encoder.core().subtype(&open_type(rt, alloc)),
+                    Core::OpenGroup => encoder.core().rec([open_type(rt, alloc)].iter()),
+                    Core::Pair => encoder.core().rec(pair(rt, alloc).iter()),
+                    Core::EmptyModule => encoder.module(&ModuleType::new(alloc)),
+                    Core::Module => encoder.module(&module_type(rt, alloc)),
+                };
+                answered(index, outcome)
+            }
+            Err(fault) => Err(fault),
         }
-        Err(fault) => Err(fault),
     }
 }
 
-fn drop_core<A: Allocator>(
-    builder: &mut ComponentBuilder<A>,
-    debug_name: Option<&str>,
-) -> Result<u32, Fault> {
-    match builder.core_type(debug_name) {
-        Ok((index, encoder)) => {
-            encoder.core();
-            Ok(index)
+/// A function type with these parameters and no results, which is final or may have subtypes.
+pub fn function_type(
+    rt: &impl Abort,
+    alloc: Global,
+    is_final: bool,
+    params: &[ValType],
+) -> SubType {
+    let ty = FuncType::new(alloc, params.iter().copied(), [].into_iter());
+    SubType {
+        is_final,
+        supertype_idx: None,
+        composite_type: CompositeType::Func(ok(rt, ty)),
+    }
+}
+
+fn open_type(rt: &impl Abort, alloc: Global) -> SubType {
+    function_type(rt, alloc, false, &[])
+}
+
+fn pair(rt: &impl Abort, alloc: Global) -> [SubType; 2] {
+    [
+        function_type(rt, alloc, true, &[]),
+        function_type(rt, alloc, true, &[ValType::I32]),
+    ]
+}
+
+/// A module type with a function type that may have subtypes alone.
+fn module_type(rt: &impl Abort, alloc: Global) -> ModuleType {
+    let ty = open_type(rt, alloc);
+    let mut module = ModuleType::new(alloc);
+    ok(rt, ok(rt, module.ty()).subtype(&ty));
+    module
+}
+
+/// What the encoder of a type writes.
+#[derive(Clone, Copy)]
+pub enum Any {
+    Begun,
+    Resource(u32),
+    EmptyComponent,
+    UnfinishedComponent,
+}
+
+impl Any {
+    fn make(
+        self,
+        rt: &impl Abort,
+        alloc: Global,
+        debug_name: Option<&str>,
+        builder: &mut Builder<'_>,
+    ) -> Result<u32, Fault> {
+        match builder.ty(debug_name) {
+            Ok((index, encoder)) => {
+                let outcome = match self {
+                    Any::Begun => Ok(()),
+                    Any::Resource(drop) => encoder.resource(ValType::I32, Some(drop)),
+                    Any::EmptyComponent => encoder.component(&ComponentType::new(alloc)),
+                    Any::UnfinishedComponent => encoder.component(&unfinished(rt, alloc)),
+                };
+                answered(index, outcome)
+            }
+            Err(fault) => Err(fault),
         }
-        Err(fault) => Err(fault),
     }
 }
 
-fn add_any<A: Allocator>(
-    builder: &mut ComponentBuilder<A>,
-    debug_name: Option<&str>,
-    ty: AnyType<'_>,
-) -> Result<u32, Fault> {
-    match builder.ty(debug_name) {
-        Ok((index, encoder)) => {
-            let outcome = match ty {
-                AnyType::Resource(drop) => encoder.resource(ValType::I32, Some(drop)),
-                AnyType::Component(ty) => encoder.component(ty),
-                AnyType::Tree(tree) => encoder.tree(tree),
-            };
-            written(index, outcome)
+/// A component type in which a type is left unfinished.
+fn unfinished(rt: &impl Abort, alloc: Global) -> ComponentType {
+    let mut ty = ComponentType::new(alloc);
+    ok(rt, ty.ty());
+    ty
+}
+
+/// What the encoder of a type of values writes.
+#[derive(Clone, Copy)]
+pub enum Defined {
+    Begun,
+    Record,
+    Variant,
+}
+
+impl Defined {
+    fn make(self, debug_name: Option<&str>, builder: &mut Builder<'_>) -> Result<u32, Fault> {
+        match builder.type_defined(debug_name) {
+            Ok((index, encoder)) => {
+                let cases = [("a", None), ("b", Some(STRING))];
+                let outcome = match self {
+                    Defined::Begun => Ok(()),
+                    Defined::Record => encoder.record([(NAME, STRING)].into_iter()),
+                    Defined::Variant => encoder.variant(cases.into_iter()),
+                };
+                answered(index, outcome)
+            }
+            Err(fault) => Err(fault),
         }
-        Err(fault) => Err(fault),
     }
 }
 
-fn add_record<A: Allocator>(
-    builder: &mut ComponentBuilder<A>,
-    debug_name: Option<&str>,
-) -> Result<u32, Fault> {
-    match builder.type_defined(debug_name) {
-        Ok((index, encoder)) => written(index, encoder.record([(NAME, STRING)].into_iter())),
-        Err(fault) => Err(fault),
-    }
+/// What the encoder of a function's type writes.
+#[derive(Clone, Copy)]
+pub enum Function<'a> {
+    Begun,
+    /// It is begun, and said whether it is asynchronous.
+    BegunTag,
+    /// An asynchronous one is begun, up to its parameters, of which there are none.
+    BegunParams,
+    /// An asynchronous one without parameters and a result.
+    Async,
+    Plain(&'a [(&'a str, ComponentValType)], Option<ComponentValType>),
 }
 
-fn add_variant<A: Allocator>(
-    builder: &mut ComponentBuilder<A>,
-    debug_name: Option<&str>,
-) -> Result<u32, Fault> {
-    match builder.type_defined(debug_name) {
-        Ok((index, encoder)) => {
-            let cases = [("a", None), ("b", Some(STRING))];
-            written(index, encoder.variant(cases.into_iter()))
+impl<'a> Function<'a> {
+    fn make(self, debug_name: Option<&str>, builder: &mut Builder<'_>) -> Result<u32, Fault> {
+        match builder.type_function(debug_name) {
+            Ok((index, mut encoder)) => {
+                let outcome = match self {
+                    Function::Begun => Ok(()),
+                    Function::BegunTag => encoder.async_(false),
+                    Function::BegunParams => match encoder.async_(true) {
+                        Ok(()) => encoder.params([].into_iter()),
+                        Err(fault) => Err(fault),
+                    },
+                    Function::Async => match encoder.async_(true) {
+                        Ok(()) => match encoder.params([].into_iter()) {
+                            Ok(()) => encoder.result(None),
+                            Err(fault) => Err(fault),
+                        },
+                        Err(fault) => Err(fault),
+                    },
+                    Function::Plain(params, answer) => {
+                        match encoder.params(params.iter().copied()) {
+                            Ok(()) => encoder.result(answer),
+                            Err(fault) => Err(fault),
+                        }
+                    }
+                };
+                answered(index, outcome)
+            }
+            Err(fault) => Err(fault),
         }
-        Err(fault) => Err(fault),
     }
 }
 
-fn add_function<A: Allocator>(
-    builder: &mut ComponentBuilder<A>,
-    debug_name: Option<&str>,
-    params: &[(&str, ComponentValType)],
-    answer: Option<ComponentValType>,
-) -> Result<u32, Fault> {
-    match builder.type_function(debug_name) {
-        Ok((index, mut encoder)) => {
-            encoder.params(params.iter().copied())?;
-            written(index, encoder.result(answer))
+/// A type that is handed in, without an encoder.
+#[derive(Clone, Copy)]
+pub enum Typed {
+    EmptyInstance,
+    /// An instance type with an option, and an export of that.
+    Instance,
+    EmptyComponent,
+    UnfinishedComponent,
+    Resource(u32),
+}
+
+impl Typed {
+    pub fn make(
+        self,
+        rt: &impl Abort,
+        alloc: Global,
+        debug_name: Option<&str>,
+        builder: &mut Builder<'_>,
+    ) -> Result<u32, Fault> {
+        match self {
+            Typed::EmptyInstance => builder.type_instance(debug_name, &InstanceType::new(alloc)),
+            Typed::Instance => builder.type_instance(debug_name, &instance_type(rt, alloc)),
+            Typed::EmptyComponent => builder.type_component(debug_name, &ComponentType::new(alloc)),
+            Typed::UnfinishedComponent => {
+                builder.type_component(debug_name, &unfinished(rt, alloc))
+            }
+            Typed::Resource(drop) => builder.type_resource(debug_name, ValType::I32, Some(drop)),
         }
-        Err(fault) => Err(fault),
     }
 }
 
-/// Without parameters and a result.
-fn add_async_function<A: Allocator>(
-    builder: &mut ComponentBuilder<A>,
-    debug_name: Option<&str>,
-) -> Result<u32, Fault> {
-    match builder.type_function(debug_name) {
-        Ok((index, mut encoder)) => {
-            encoder.async_(true)?;
-            encoder.params([].into_iter())?;
-            written(index, encoder.result(None))
-        }
-        Err(fault) => Err(fault),
-    }
-}
-
-fn drop_tag<A: Allocator>(
-    builder: &mut ComponentBuilder<A>,
-    debug_name: Option<&str>,
-) -> Result<u32, Fault> {
-    match builder.type_function(debug_name) {
-        Ok((index, mut encoder)) => written(index, encoder.async_(false)),
-        Err(fault) => Err(fault),
-    }
-}
-
-fn drop_params<A: Allocator>(
-    builder: &mut ComponentBuilder<A>,
-    debug_name: Option<&str>,
-) -> Result<u32, Fault> {
-    match builder.type_function(debug_name) {
-        Ok((index, mut encoder)) => {
-            encoder.async_(true)?;
-            written(index, encoder.params([].into_iter()))
-        }
-        Err(fault) => Err(fault),
-    }
+fn instance_type(rt: &impl Abort, alloc: Global) -> InstanceType {
+    let mut ty = InstanceType::new(alloc);
+    ok(rt, ok(rt, ty.ty()).defined_type().option(STRING));
+    let option = ComponentTypeRef::Type(TypeBounds::Eq(0));
+    ok(rt, ty.export("t".into(), option));
+    ty
 }

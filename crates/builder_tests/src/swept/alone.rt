@@ -1,26 +1,18 @@
 //! Modules, components, starts and custom sections: each is a section of its own.
 
-use super::between::{CORE_MODULE, NAMELESS, Named, ONE, started, sweep_section};
-use crate::accepted::ok;
-use crate::calls::{Inner, Item, Lent, NAME};
-use crate::checks::{Call, finishes};
+use super::between::{CORE_MODULE, ONE, Swept};
+use crate::calls::{Inner, Item, NAME};
+use crate::checks::{finishes, made};
 use refusing::Refusing;
 use std::alloc::Global;
 use std::process::Abort;
 use sweeping::{LARGE, REFUSED};
-use wasm_encoder::{ComponentBuilder, ComponentTypeRef, CustomSection, Module};
+use wasm_encoder::{ComponentBuilder, ComponentTypeRef, CustomSection};
 
 const CUSTOM: CustomSection<'static> = CustomSection {
     name: NAME,
     data: b"data",
 };
-
-/// A module with a custom section.
-fn module(rt: &impl Abort, alloc: Global) -> Module {
-    let mut module = ok(rt, Module::new(alloc));
-    ok(rt, module.section(&CUSTOM));
-    module
-}
 
 /// The bytes of that name.
 const BYTES: &[u8] = b"an-interface-with-a-long-name";
@@ -29,79 +21,93 @@ const BYTES: &[u8] = b"an-interface-with-a-long-name";
 const NESTED: &[u8] =
     b"\x04\x2c\x00asm\x0d\x00\x01\x00\x0a\x22\x01\x00\x1dan-interface-with-a-long-name\x01\x00";
 
-const COMPONENT: Named = Named {
-    sort: &[0x04],
-    name: NAME,
-};
+const COMPONENT: &[u8] = &[0x04];
 
 /// What is made of bytes or of numbers, with its section.
-const CALLS: &[(Item<'static>, Named, &[u8])] = &[
+pub const CALLS: &[Swept<'static>] = &[
     (
         Item::RawModule(BYTES),
         CORE_MODULE,
+        NAME,
         b"\x01\x1dan-interface-with-a-long-name",
     ),
-    (Item::Component(Inner::Importing), COMPONENT, NESTED),
+    (Item::Component(Inner::Importing), COMPONENT, NAME, NESTED),
+    (
+        Item::LentComponent(Inner::Importing),
+        COMPONENT,
+        NAME,
+        NESTED,
+    ),
     (
         Item::RawComponent(BYTES),
         COMPONENT,
+        NAME,
         b"\x04\x1dan-interface-with-a-long-name",
     ),
     (
         Item::Start(7, &[LARGE; 4], LARGE),
-        NAMELESS,
+        &[],
+        "",
         b"\x09\x1b\x07\x04\xff\xff\xff\xff\x0f\xff\xff\xff\xff\x0f\xff\xff\xff\xff\x0f\xff\xff\xff\xff\x0f\xff\xff\xff\xff\x0f",
     ),
     (
         Item::Custom(CUSTOM),
-        NAMELESS,
+        &[],
+        "",
         b"\x00\x22\x1dan-interface-with-a-long-namedata",
     ),
     (
         Item::RawCustom(BYTES),
-        NAMELESS,
+        &[],
+        "",
         b"\x00an-interface-with-a-long-name",
+    ),
+    (
+        Item::Module(CUSTOM),
+        CORE_MODULE,
+        NAME,
+        b"\x01\x2c\x00asm\x01\x00\x00\x00\x00\x22\x1dan-interface-with-a-long-namedata",
     ),
 ];
 
-#[test]
-fn made_of_bytes(rt: HostRuntime) {
-    for (call, named, section) in CALLS {
-        sweep_section(&rt, rt.alloc(), ONE, *call, *named, section);
-    }
-}
-
-#[test]
-fn modules(rt: HostRuntime) {
-    let module = module(&rt, rt.alloc());
-    let call = Lent::Module(&module);
-    let section = b"\x01\x2c\x00asm\x01\x00\x00\x00\x00\x22\x1dan-interface-with-a-long-namedata";
-    sweep_section(&rt, rt.alloc(), ONE, call, CORE_MODULE, section.as_slice());
-}
-
-// What is lent stays as it was.
-#[test]
-fn lent_components(rt: HostRuntime) {
-    let component = ok(&rt, Inner::Importing.builder(rt.alloc()));
-    let call = Lent::Component(&component);
-    sweep_section(&rt, rt.alloc(), ONE, call, COMPONENT, NESTED);
-    finishes(&rt, component, &NESTED[2..]);
+/// It is lent, with the growth number `n` refused. Whether there is such a growth.
+fn is_refused(
+    rt: &impl Abort,
+    alloc: Global,
+    heap: &Refusing,
+    component: &ComponentBuilder,
+    n: u64,
+) -> bool {
+    let mut builder = made(rt, alloc, heap, None, ONE.front);
+    heap.refuse_nth(n);
+    let outcome = builder.component_ref(Some(NAME), component);
+    let was_refused = heap.was_refused();
+    let wanted = if was_refused { Err(REFUSED) } else { Ok(0) };
+    assert!(rt; outcome == wanted);
+    was_refused
 }
 
 /// Without memory it isn't nested.
-fn nest_without_memory(rt: &impl Abort, alloc: Global, component: &ComponentBuilder) {
+fn is_not_nested(rt: &impl Abort, alloc: Global, component: &ComponentBuilder) {
     let heap = Refusing::new(alloc);
-    let mut builder = started(rt, alloc, &heap, 1);
+    let mut builder = made(rt, alloc, &heap, None, ONE.front);
     heap.refuse_all();
-    let outcome = Lent::Component(component).make(alloc, None, &mut builder);
-    assert!(rt; outcome == Err(REFUSED));
+    assert!(rt; builder.component_ref(None, component) == Err(REFUSED));
 }
 
-// It can be added to after a refusal.
+// What is lent stays as it was, whichever growth is refused, and can be added to.
 #[test]
-fn lent_components_go_on(rt: HostRuntime) {
-    let mut component = ok(&rt, Inner::Importing.builder(rt.alloc()));
-    nest_without_memory(&rt, rt.alloc(), &component);
+fn lent_components(rt: HostRuntime) {
+    let mut component = Inner::Importing.builder(&rt, rt.alloc());
+    let heap = Refusing::new(rt.alloc());
+    let mut growths = 0u64;
+    for n in 1..20u64 {
+        if growths.saturating_add(1) == n && is_refused(&rt, rt.alloc(), &heap, &component, n) {
+            growths = n;
+        }
+    }
+    assert!(rt; growths > 0 && growths < 19);
+    is_not_nested(&rt, rt.alloc(), &component);
     assert!(rt; component.import(NAME.into(), ComponentTypeRef::Func(0)) == Ok(1));
     finishes(
         &rt,

@@ -1,18 +1,13 @@
 //! Commands, with each growth of a whole `build` refused in turn.
 
 use super::between::BOTH;
-use crate::heap::{export_alias, list, module, name, outer_type, text};
+use crate::commands::{Answer, FUNCTION, OUTER_TYPE, commands};
+use crate::trees::{Shape, Tree, Whole};
 use refusing::Refusing;
 use std::alloc::Global;
 use std::process::Abort;
 use sweeping::{NAME, REFUSED};
-use wasm_encoder::{
-    Command, ComponentExportKind, ComponentTypeRef, ComponentValType, DefinedTree, Fault,
-    PrimitiveValType, TypeTree, build,
-};
-
-/// What a command is answered with.
-type Answer = Result<Option<u32>, Fault>;
+use wasm_encoder::{Command, ComponentTypeRef, ComponentValType, PrimitiveValType, build};
 
 /// The component of these answers.
 #[derive(Clone, Copy)]
@@ -53,16 +48,21 @@ fn refuse(
     match outcome {
         Ok(built) => {
             let is_skipped = matches!(built.answers.get(case.place), Some(Err(_)));
-            if was_refused && !is_skipped {
-                return Found::Elsewhere;
-            }
-            let (found, wanted) = if was_refused {
-                (Found::Skipped, case.refused)
+            let wanted = if was_refused {
+                case.refused
             } else {
-                (Found::NoRefusal, case.accepted)
+                case.accepted
             };
-            assert!(rt; built.answers.as_slice() == wanted.answers);
-            assert!(rt; built.bytes.as_slice() == wanted.bytes);
+            let is_wanted = built.answers.as_slice() == wanted.answers
+                && built.bytes.as_slice() == wanted.bytes;
+            let found = if !was_refused {
+                Found::NoRefusal
+            } else if is_skipped {
+                Found::Skipped
+            } else {
+                Found::Elsewhere
+            };
+            assert!(rt; is_wanted || found == Found::Elsewhere);
             found
         }
         Err(fault) => {
@@ -85,13 +85,6 @@ fn sweep(rt: &impl Abort, alloc: Global, commands: &[Command], case: &Case<'_>) 
     }
     assert!(rt; last == Found::NoRefusal);
     skipped
-}
-
-fn import(alloc: Global) -> Command {
-    Command::Import {
-        name: name(alloc, NAME),
-        ty: ComponentTypeRef::Func(0),
-    }
 }
 
 /// Both aliases stand in one section where what is between them is refused.
@@ -127,35 +120,6 @@ const IMPORT: &Case<'static> = &Case {
     },
 };
 
-/// The command between two aliases.
-fn between(alloc: Global, command: Command) -> [Command; 3] {
-    let function = export_alias(alloc, ComponentExportKind::Func, "f");
-    [function, command, outer_type()]
-}
-
-/// The module under a name, of which the bytes tell nothing.
-fn named(alloc: Global, bytes: &[u8]) -> Command {
-    Command::CoreModule {
-        n: Some(text(alloc, "m")),
-        bytes: list(alloc, bytes.to_vec(alloc)),
-    }
-}
-
-// A command that is refused adds nothing, and those after it run all the same. The short module has room without a
-// growth, and its name hasn't.
-#[test]
-fn between_aliases(rt: HostRuntime) {
-    let alloc = rt.alloc();
-    let commands = between(alloc, module(alloc, &[0xaa]));
-    assert!(rt; !sweep(&rt, alloc, &commands, MODULE));
-    let commands = between(alloc, named(alloc, &[0xaa]));
-    assert!(rt; sweep(&rt, alloc, &commands, MODULE));
-    let commands = between(alloc, module(alloc, NAME.as_bytes()));
-    assert!(rt; sweep(&rt, alloc, &commands, LONG_MODULE));
-    let commands = between(alloc, import(alloc));
-    assert!(rt; sweep(&rt, alloc, &commands, IMPORT));
-}
-
 const BOOL: ComponentValType = ComponentValType::Primitive(PrimitiveValType::Bool);
 
 const RECORD: &Case<'static> = &Case {
@@ -170,18 +134,37 @@ const RECORD: &Case<'static> = &Case {
     },
 };
 
-/// A record of two fields.
-fn record(alloc: Global) -> TypeTree {
-    let fields = vec![in alloc; (text(alloc, "a"), BOOL), (text(alloc, "b"), BOOL)];
-    TypeTree::Defined(DefinedTree::Record(list(alloc, fields)))
-}
+const SHORT: Tree<'static> = Tree::Whole(Whole::Module(None, &[0xaa]));
 
-// Where the opening is refused, so is the command. Where the rest of the type is, so is the whole.
+const NAMED: Tree<'static> = Tree::Whole(Whole::Module(Some("m"), &[0xaa]));
+
+const LONG: Tree<'static> = Tree::Whole(Whole::Module(
+    None,
+    b"a name that is longer than a first growth, by far: aaaaaaaaaaaaaaaaaaaaaa",
+));
+
+const LONG_IMPORT: Tree<'static> = Tree::Import(NAME, ComponentTypeRef::Func(0));
+
+/// Commands, what they are to come to, and whether some growth is that of the one at the place.
+/// What is refused adds nothing, and those after it run all the same. The short module has room
+/// without a growth, and its name hasn't. Where the opening of a record is refused, so is the
+/// command; where the rest of the type is, so is the whole.
+const ROWS: &[(&[Tree<'static>], &Case<'static>, bool)] = &[
+    (&[FUNCTION, SHORT, OUTER_TYPE], MODULE, false),
+    (&[FUNCTION, NAMED, OUTER_TYPE], MODULE, true),
+    (&[FUNCTION, LONG, OUTER_TYPE], LONG_MODULE, true),
+    (&[FUNCTION, LONG_IMPORT, OUTER_TYPE], IMPORT, true),
+    (
+        &[Tree::Type(Shape::Record(&["a", "b"], BOOL))],
+        RECORD,
+        true,
+    ),
+];
+
 #[test]
-fn records(rt: HostRuntime) {
-    let commands = [Command::Type {
-        n: None,
-        ty: record(rt.alloc()),
-    }];
-    assert!(rt; sweep(&rt, rt.alloc(), &commands, RECORD));
+fn commands_are_swept(rt: HostRuntime) {
+    for (trees, case, is_skipped) in ROWS {
+        let commands = commands(&rt, rt.alloc(), trees);
+        assert!(rt; sweep(&rt, rt.alloc(), commands.as_slice(), case) == *is_skipped);
+    }
 }

@@ -1,331 +1,302 @@
-//! Instances, functions with options, and types: what an iterator gives, and what an encoder writes.
+//! Instances, functions with options, and types: what an iterator gives, what an encoder writes,
+//! and what is handed in.
 
-use super::between::{CORE_FUNC, FUNC, Named, push, started, sweep_both};
+use super::between::{CORE_FUNC, FUNC, Swept};
 use crate::accepted::ok;
-use crate::calls::{Item, Listed, NAME};
-use crate::checks::{Call, finishes};
-use crate::types::function;
-use crate::written::{AnyType, CoreType, STRING, Typed};
+use crate::calls::{Builder, FUNCTION, Item, Listed, NAME};
+use crate::checks::{Answer, made, repeat};
+use crate::trees::{Canon, CoreShape, Shape, Tree};
+use crate::written::{Any, Core, Defined, Function, STRING, Typed, Written};
 use refusing::Refusing;
-use std::alloc::{Allocator, Global};
+use std::alloc::Global;
 use std::process::Abort;
 use sweeping::{LARGE, REFUSED};
-use wasm_encoder::{
-    CanonicalOption, ComponentBuilder, ComponentExportKind, ComponentType, Fault, FuncStage,
-    InstanceType, ModuleType,
-};
+use wasm_encoder::{CanonicalOption, ComponentExportKind, Fault, FuncStage};
 
-/// A type that an encoder writes: where its last call is refused the builder is unfinished, and the type is given up.
-#[derive(Clone, Copy)]
-pub struct Swept<'a>(pub Typed<'a>);
+const TYPE: &[u8] = &[0x03];
 
-impl<'a> Call for Swept<'a> {
-    fn make<A: Allocator + Copy>(
-        self,
-        alloc: Global,
-        debug_name: Option<&str>,
-        builder: &mut ComponentBuilder<A>,
-    ) -> Result<u32, Fault> {
-        let outcome = self.0.make(alloc, debug_name, builder);
-        with_nothing_left(alloc, builder, outcome)
-    }
-}
+const CORE_TYPE: &[u8] = &[0x00, 0x10];
 
-/// What a call answered, where its type is finished or is given up. `TooMany` says that the builder wasn't left as it
-/// has to be.
-fn with_nothing_left<A: Allocator + Copy>(
-    alloc: Global,
-    builder: &mut ComponentBuilder<A>,
-    outcome: Result<u32, Fault>,
-) -> Result<u32, Fault> {
-    if builder.is_finished() {
-        return outcome;
-    }
-    let is_refused = outcome.is_err() && takes_nothing(alloc, builder);
-    if is_refused && builder.discard_unfinished() {
-        outcome
-    } else {
-        Err(Fault::TooMany)
-    }
-}
+const INSTANCE: &[u8] = &[0x05];
 
-/// All that follows a refused last call is refused.
-fn takes_nothing<A: Allocator + Copy>(alloc: Global, builder: &mut ComponentBuilder<A>) -> bool {
-    Item::TaskCancel.make(alloc, None, builder) == Err(Fault::Unfinished)
-        && Item::AppendNames.make(alloc, None, builder) == Err(Fault::Unfinished)
-        && RESOURCE.make(alloc, None, builder) == Err(Fault::Unfinished)
-}
-
-const RESOURCE: Typed<'static> = Typed::Any(AnyType::Resource(LARGE));
-
-pub const TYPE: Named = Named {
-    sort: &[0x03],
-    name: NAME,
-};
-
-pub const CORE_TYPE: Named = Named {
-    sort: &[0x00, 0x10],
-    name: NAME,
-};
-
-pub const INSTANCE: Named = Named {
-    sort: &[0x05],
-    name: NAME,
-};
-
-pub const CORE_INSTANCE: Named = Named {
-    sort: &[0x00, 0x12],
-    name: NAME,
-};
+const CORE_INSTANCE: &[u8] = &[0x00, 0x12];
 
 const OPTIONS: &[CanonicalOption] = &[CanonicalOption::Memory(LARGE)];
 
 /// Each with its section.
-const LISTED: &[(Listed<'static>, Named, &[u8])] = &[
+pub const LISTED: &[Swept<'static>] = &[
     (
-        Listed::CoreInstantiate(LARGE, NAME, LARGE),
+        Item::Listed(Listed::CoreInstantiate(LARGE, NAME, LARGE)),
         CORE_INSTANCE,
+        NAME,
         b"\x02\x2c\x01\x00\xff\xff\xff\xff\x0f\x01\x1dan-interface-with-a-long-name\x12\xff\xff\xff\xff\x0f",
     ),
     (
-        Listed::CoreExports(NAME, LARGE),
+        Item::Listed(Listed::CoreExports(NAME, LARGE)),
         CORE_INSTANCE,
+        NAME,
         b"\x02\x27\x01\x01\x01\x1dan-interface-with-a-long-name\x00\xff\xff\xff\xff\x0f",
     ),
     (
-        Listed::Instantiate(LARGE, NAME, ComponentExportKind::Func, LARGE),
+        Item::Listed(Listed::Instantiate(LARGE, NAME, ComponentExportKind::Func, LARGE)),
         INSTANCE,
+        NAME,
         b"\x05\x2c\x01\x00\xff\xff\xff\xff\x0f\x01\x1dan-interface-with-a-long-name\x01\xff\xff\xff\xff\x0f",
     ),
     (
-        Listed::Exports(NAME, LARGE),
+        Item::Listed(Listed::Exports(NAME, LARGE)),
         INSTANCE,
+        NAME,
         b"\x05\x28\x01\x01\x01\x00\x1dan-interface-with-a-long-name\x01\xff\xff\xff\xff\x0f",
     ),
     (
-        Listed::Lower(LARGE, OPTIONS),
+        Item::Listed(Listed::Lower(LARGE, OPTIONS)),
         CORE_FUNC,
+        NAME,
         b"\x08\x0f\x01\x01\x00\xff\xff\xff\xff\x0f\x01\x03\xff\xff\xff\xff\x0f",
     ),
     (
-        Listed::Lift(LARGE, LARGE, OPTIONS),
+        Item::Listed(Listed::Lift(LARGE, LARGE, OPTIONS)),
         FUNC,
+        NAME,
         b"\x08\x14\x01\x00\x00\xff\xff\xff\xff\x0f\x01\x03\xff\xff\xff\xff\x0f\xff\xff\xff\xff\x0f",
     ),
 ];
 
 /// Each with its section.
-fn written() -> [(Typed<'static>, Named, &'static [u8]); 6] {
-    [
-        (
-            Typed::Core(CoreType::Function),
-            CORE_TYPE,
-            b"\x03\x06\x01\x60\x01\x7f\x01\x7f",
-        ),
-        (
-            RESOURCE,
-            TYPE,
-            b"\x07\x09\x01\x3f\x7f\x01\xff\xff\xff\xff\x0f",
-        ),
-        (
-            Typed::Record,
-            TYPE,
-            b"\x07\x22\x01r\x01\x1dan-interface-with-a-long-names",
-        ),
-        (
-            Typed::Variant,
-            TYPE,
-            b"\x07\x0c\x01\x71\x02\x01\x61\x00\x00\x01\x62\x01\x73\x00",
-        ),
-        (Typed::AsyncFunction, TYPE, b"\x07\x05\x01\x43\x00\x01\x00"),
-        (
-            Typed::Function(&[(NAME, STRING)], Some(STRING)),
-            TYPE,
-            b"\x07\x24\x01\x40\x01\x1dan-interface-with-a-long-names\x00s",
-        ),
-    ]
-}
-
-#[test]
-fn calls_with_lists(rt: HostRuntime) {
-    for (call, named, section) in LISTED {
-        sweep_both(&rt, rt.alloc(), *call, *named, section);
-    }
-}
-
-#[test]
-fn types_that_are_written(rt: HostRuntime) {
-    for (ty, named, section) in written().as_slice() {
-        sweep_both(&rt, rt.alloc(), Swept(*ty), *named, section);
-    }
-}
-
-/// Sweeps an encoder's call for a core type, with this section.
-fn sweep_core(rt: &impl Abort, alloc: Global, ty: CoreType<'_>, section: &[u8]) {
-    sweep_both(rt, alloc, Swept(Typed::Core(ty)), CORE_TYPE, section);
-}
-
-#[test]
-fn core_types(rt: HostRuntime) {
-    let types = [function(&rt, rt.alloc(), false, &[])];
-    sweep_core(
-        &rt,
-        rt.alloc(),
-        CoreType::Subtype(&types[0]),
-        b"\x03\x07\x01\x00\x50\x00\x60\x00\x00",
-    );
-    sweep_core(
-        &rt,
-        rt.alloc(),
-        CoreType::Rec(&types),
-        b"\x03\x08\x01\x4e\x01\x50\x00\x60\x00\x00",
-    );
-}
-
-#[test]
-fn module_types(rt: HostRuntime) {
-    let ty = ModuleType::new(rt.alloc());
-    sweep_core(
-        &rt,
-        rt.alloc(),
-        CoreType::Module(&ty),
-        b"\x03\x03\x01\x50\x00",
-    );
-}
-
-/// Sweeps a call that adds a type, with this section.
-fn sweep_type(rt: &impl Abort, alloc: Global, ty: Typed<'_>, section: &[u8]) {
-    sweep_both(rt, alloc, ty, TYPE, section);
-}
-
-#[test]
-fn instance_types(rt: HostRuntime) {
-    let ty = InstanceType::new(rt.alloc());
-    sweep_type(
-        &rt,
-        rt.alloc(),
-        Typed::Instance(&ty),
-        b"\x07\x03\x01\x42\x00",
-    );
-}
-
-#[test]
-fn component_types(rt: HostRuntime) {
-    let ty = ComponentType::new(rt.alloc());
-    sweep_type(
-        &rt,
-        rt.alloc(),
-        Typed::Component(&ty),
-        b"\x07\x03\x01\x41\x00",
-    );
-    let call = Swept(Typed::Any(AnyType::Component(&ty)));
-    sweep_both(&rt, rt.alloc(), call, TYPE, b"\x07\x03\x01\x41\x00");
-}
-
-#[test]
-fn resource_types(rt: HostRuntime) {
-    sweep_type(
-        &rt,
-        rt.alloc(),
-        Typed::Resource(LARGE),
+pub const WRITTEN: &[Swept<'static>] = &[
+    (
+        Item::Written(Written::Core(Core::Function)),
+        CORE_TYPE,
+        NAME,
+        b"\x03\x06\x01\x60\x01\x7f\x01\x7f",
+    ),
+    (
+        Item::Written(Written::Any(Any::Resource(LARGE))),
+        TYPE,
+        NAME,
         b"\x07\x09\x01\x3f\x7f\x01\xff\xff\xff\xff\x0f",
-    );
-}
+    ),
+    (
+        Item::Written(Written::Defined(Defined::Record)),
+        TYPE,
+        NAME,
+        b"\x07\x22\x01r\x01\x1dan-interface-with-a-long-names",
+    ),
+    (
+        Item::Written(Written::Defined(Defined::Variant)),
+        TYPE,
+        NAME,
+        b"\x07\x0c\x01\x71\x02\x01\x61\x00\x00\x01\x62\x01\x73\x00",
+    ),
+    (
+        Item::Written(Written::Function(Function::Async)),
+        TYPE,
+        NAME,
+        b"\x07\x05\x01\x43\x00\x01\x00",
+    ),
+    (
+        Item::Written(Written::Function(Function::Plain(&[(NAME, STRING)], Some(STRING)))),
+        TYPE,
+        NAME,
+        b"\x07\x24\x01\x40\x01\x1dan-interface-with-a-long-names\x00s",
+    ),
+];
 
-/// Where growth number `n` is refused behind the opening, the component isn't finished. Whether there is such a growth.
-fn refuse_finish(
+/// Types that are made first, each with its section.
+pub const TYPED: &[Swept<'static>] = &[
+    (
+        Item::Written(Written::Core(Core::Open)),
+        CORE_TYPE,
+        NAME,
+        b"\x03\x07\x01\x00\x50\x00\x60\x00\x00",
+    ),
+    (
+        Item::Written(Written::Core(Core::OpenGroup)),
+        CORE_TYPE,
+        NAME,
+        b"\x03\x08\x01\x4e\x01\x50\x00\x60\x00\x00",
+    ),
+    (
+        Item::Written(Written::Core(Core::EmptyModule)),
+        CORE_TYPE,
+        NAME,
+        b"\x03\x03\x01\x50\x00",
+    ),
+    (
+        Item::Typed(Typed::EmptyInstance),
+        TYPE,
+        NAME,
+        b"\x07\x03\x01\x42\x00",
+    ),
+    (
+        Item::Typed(Typed::EmptyComponent),
+        TYPE,
+        NAME,
+        b"\x07\x03\x01\x41\x00",
+    ),
+    (
+        Item::Written(Written::Any(Any::EmptyComponent)),
+        TYPE,
+        NAME,
+        b"\x07\x03\x01\x41\x00",
+    ),
+    (
+        Item::Typed(Typed::Resource(LARGE)),
+        TYPE,
+        NAME,
+        b"\x07\x09\x01\x3f\x7f\x01\xff\xff\xff\xff\x0f",
+    ),
+];
+
+/// Items that are handed in as trees.
+pub const TREES: &[Swept<'static>] = &[
+    (
+        Item::Tree(Tree::Listed(Listed::CoreExports(NAME, LARGE))),
+        CORE_INSTANCE,
+        NAME,
+        b"\x02\x27\x01\x01\x01\x1dan-interface-with-a-long-name\x00\xff\xff\xff\xff\x0f",
+    ),
+    (
+        Item::Tree(Tree::Listed(Listed::Exports(NAME, LARGE))),
+        INSTANCE,
+        NAME,
+        b"\x05\x28\x01\x01\x01\x00\x1dan-interface-with-a-long-name\x01\xff\xff\xff\xff\x0f",
+    ),
+    (
+        Item::Tree(Tree::Listed(Listed::Lift(LARGE, LARGE, OPTIONS))),
+        FUNC,
+        NAME,
+        b"\x08\x14\x01\x00\x00\xff\xff\xff\xff\x0f\x01\x03\xff\xff\xff\xff\x0f\xff\xff\xff\xff\x0f",
+    ),
+    (
+        Item::Tree(Tree::Listed(Listed::Lower(LARGE, OPTIONS))),
+        CORE_FUNC,
+        NAME,
+        b"\x08\x0f\x01\x01\x00\xff\xff\xff\xff\x0f\x01\x03\xff\xff\xff\xff\x0f",
+    ),
+    (
+        Item::Tree(Tree::Canon(None, Canon::ResourceDrop(LARGE))),
+        CORE_FUNC,
+        "resource.drop",
+        b"\x08\x07\x01\x03\xff\xff\xff\xff\x0f",
+    ),
+    (
+        Item::Tree(Tree::Canon(None, Canon::ContextGet(LARGE))),
+        CORE_FUNC,
+        "context.get 4294967295",
+        b"\x08\x08\x01\x0a\x7f\xff\xff\xff\xff\x0f",
+    ),
+    (
+        Item::Written(Written::Tree(Tree::Core(CoreShape::ModuleOfAlias(LARGE, LARGE)))),
+        CORE_TYPE,
+        NAME,
+        b"\x03\x10\x01\x50\x01\x02\x10\x01\xff\xff\xff\xff\x0f\xff\xff\xff\xff\x0f",
+    ),
+    (
+        Item::Written(Written::Tree(Tree::Type(Shape::Record(&[NAME], STRING)))),
+        TYPE,
+        NAME,
+        b"\x07\x22\x01r\x01\x1dan-interface-with-a-long-names",
+    ),
+];
+
+/// An alias, as often as there may be in front of a type.
+const ALIASES: &[Answer<'static>] = &[
+    (FUNCTION, Ok(0)),
+    (FUNCTION, Ok(1)),
+    (FUNCTION, Ok(2)),
+    (FUNCTION, Ok(3)),
+    (FUNCTION, Ok(4)),
+    (FUNCTION, Ok(5)),
+    (FUNCTION, Ok(6)),
+    (FUNCTION, Ok(7)),
+    (FUNCTION, Ok(8)),
+    (FUNCTION, Ok(9)),
+    (FUNCTION, Ok(10)),
+    (FUNCTION, Ok(11)),
+    (FUNCTION, Ok(12)),
+];
+
+/// Where growth number `n` is refused behind the opening, the component isn't finished. So it is
+/// left.
+fn is_left_unfinished(
     rt: &impl Abort,
     alloc: Global,
     heap: &Refusing,
-    aliases: u32,
-    ty: Typed<'_>,
+    front: &[Answer<'_>],
+    call: Item<'_>,
     n: u64,
 ) -> bool {
-    let mut builder = started(rt, alloc, heap, aliases);
+    let mut builder = made(rt, alloc, heap, None, front);
     heap.refuse_nth(n);
-    let outcome = ty.make(alloc, Some(NAME), &mut builder);
+    let outcome = call.make(rt, alloc, Some(NAME), &mut builder);
     assert!(rt; outcome.is_err() == heap.was_refused());
     builder.finish().err() == Some(Fault::Unfinished)
 }
 
-/// With up to 13 aliases in front the room ends at each place. Whether it ends somewhere behind the opening.
-fn is_left_unfinished(rt: &impl Abort, alloc: Global, ty: Typed<'_>) -> bool {
-    let heap = Refusing::new(alloc);
-    let mut is_left = false;
-    for aliases in 0..14 {
-        for n in 1..8u64 {
-            is_left |= refuse_finish(rt, alloc, &heap, aliases, ty, n);
-        }
-    }
-    is_left
-}
-
-// A type whose last call is refused leaves no component.
+// A type whose last call is refused leaves no component. With up to 13 aliases in front the room
+// ends at each place, and somewhere behind the opening.
 #[test]
 fn unfinished_builders(rt: HostRuntime) {
-    for (ty, _, _) in written().as_slice() {
-        assert!(rt; is_left_unfinished(&rt, rt.alloc(), *ty));
+    let heap = Refusing::new(rt.alloc());
+    for (call, _, _, _) in WRITTEN {
+        let mut is_left = false;
+        for aliases in 0..14 {
+            let front = ALIASES.get(..aliases).unwrap_or(ALIASES);
+            for n in 1..8u64 {
+                is_left |= is_left_unfinished(&rt, rt.alloc(), &heap, front, *call, n);
+            }
+        }
+        assert!(rt; is_left);
     }
 }
 
-/// The type of a function whose parameters are refused where there is no room, and given again. Whether they were.
-fn params_again(
-    rt: &impl Abort,
-    heap: &Refusing,
-    builder: &mut ComponentBuilder<&Refusing>,
-) -> Result<bool, Fault> {
+/// The type of a function whose parameters are refused where there is no room, and given again.
+/// Whether they were.
+fn params_again(rt: &impl Abort, heap: &Refusing, builder: &mut Builder<'_>) -> bool {
     match builder.type_function(None) {
         Ok((_, mut function)) => {
             heap.refuse_all();
             match function.params([].into_iter()) {
                 Ok(()) => {
                     heap.refuse_none();
-                    function.result(None)?;
-                    Ok(false)
+                    ok(rt, function.result(None));
+                    false
                 }
                 Err(fault) => {
                     heap.refuse_none();
-                    assert!(rt; fault == REFUSED);
-                    assert!(rt; function.stage() == FuncStage::Start);
-                    function.params([].into_iter())?;
-                    function.result(None)?;
-                    Ok(true)
+                    assert!(rt; fault == REFUSED && function.stage() == FuncStage::Start);
+                    match function.params([].into_iter()) {
+                        Ok(()) => ok(rt, function.result(None)),
+                        Err(_) => panic!(rt; "it is refused"),
+                    }
+                    true
                 }
             }
         }
-        Err(fault) => Err(fault),
+        Err(_) => panic!(rt; "it is refused"),
     }
 }
 
-/// A component with so many of these types.
-fn wanted_functions(rt: &impl Abort, alloc: Global, count: u8) -> Vec<u8> {
-    let mut wanted = ok(rt, b"\x00asm\x0d\x00\x01\x00\x07".to_vec(alloc));
-    push(
-        rt,
-        &mut wanted,
-        &[count.saturating_mul(4).saturating_add(1), count],
-    );
-    for _ in 0..count {
-        push(rt, &mut wanted, b"\x40\x00\x01\x00");
-    }
-    wanted
-}
+/// How many of these types, and the component up to the first.
+const FUNCTIONS: &[(usize, &[u8])] = &[
+    (1, b"\x00asm\x0d\x00\x01\x00\x07\x05\x01"),
+    (30, b"\x00asm\x0d\x00\x01\x00\x07\x79\x1e"),
+];
 
-/// So many of these types, and their section. Whether the parameters of any were refused.
-fn functions(rt: &impl Abort, alloc: Global, count: u8) -> bool {
-    let heap = Refusing::new(alloc);
-    let mut builder = started(rt, alloc, &heap, 0);
-    let mut was_refused = false;
-    for _ in 0..count {
-        was_refused |= ok(rt, params_again(rt, &heap, &mut builder));
-    }
-    let wanted = wanted_functions(rt, alloc, count);
-    finishes(rt, builder, wanted.as_slice());
-    was_refused
-}
-
+// Of each component the parameters of some type are refused.
 #[test]
 fn refused_params(rt: HostRuntime) {
-    assert!(rt; functions(&rt, rt.alloc(), 1));
-    assert!(rt; functions(&rt, rt.alloc(), 30));
+    let heap = Refusing::new(rt.alloc());
+    for (count, front) in FUNCTIONS {
+        let mut builder = made(&rt, rt.alloc(), &heap, None, &[]);
+        let mut was_refused = false;
+        for _ in 0..*count {
+            was_refused |= params_again(&rt, &heap, &mut builder);
+        }
+        let bytes = ok(&rt, builder.finish());
+        assert!(rt; repeat(bytes.as_slice(), front, *count, b"\x40\x00\x01\x00", b""));
+        assert!(rt; was_refused);
+    }
 }

@@ -1,16 +1,12 @@
-//! Functions that the component model provides.
+//! Functions that the component model provides, as calls and as rows of them.
 
-use super::between::{Named, sweep_both};
-use crate::checks::Call;
-use std::alloc::{Allocator, Global};
-use std::process::Abort;
-use wasm_encoder::{
-    CanonicalOption, ComponentBuilder, ComponentValType, Fault, PrimitiveValType, ValType,
-};
+use crate::calls::{Builder, Item};
+use crate::swept::between::{CORE_FUNC, Swept};
+use wasm_encoder::{CanonicalOption, ComponentValType, Fault, PrimitiveValType, ValType};
 
 /// A function without fields.
 #[derive(Clone, Copy)]
-enum Plain {
+pub enum Plain {
     ThreadAvailableParallelism,
     BackpressureInc,
     BackpressureDec,
@@ -30,13 +26,8 @@ enum Plain {
     ThreadYieldThenPromote,
 }
 
-impl Call for Plain {
-    fn make<A: Allocator + Copy>(
-        self,
-        _: Global,
-        _: Option<&str>,
-        builder: &mut ComponentBuilder<A>,
-    ) -> Result<u32, Fault> {
+impl Plain {
+    pub fn make(self, builder: &mut Builder<'_>) -> Result<u32, Fault> {
         match self {
             Plain::ThreadAvailableParallelism => builder.thread_available_parallelism(),
             Plain::BackpressureInc => builder.backpressure_inc(),
@@ -61,52 +52,47 @@ impl Call for Plain {
 
 /// A function with an index.
 #[derive(Clone, Copy)]
-enum Indexed {
-    ResourceNew(u32),
-    ResourceDrop(u32),
-    ResourceRep(u32),
-    ThreadSpawnRef(u32),
-    StreamNew(u32),
-    StreamForward(u32),
-    StreamDropReadable(u32),
-    StreamDropWritable(u32),
-    FutureNew(u32),
-    FutureForward(u32),
-    FutureDropReadable(u32),
-    FutureDropWritable(u32),
-    WaitableSetWait(u32),
-    WaitableSetPoll(u32),
+pub enum Indexed {
+    ResourceNew,
+    ResourceDrop,
+    ResourceRep,
+    ThreadSpawnRef,
+    StreamNew,
+    StreamForward,
+    StreamDropReadable,
+    StreamDropWritable,
+    FutureNew,
+    FutureForward,
+    FutureDropReadable,
+    FutureDropWritable,
+    WaitableSetWait,
+    WaitableSetPoll,
 }
 
-impl Call for Indexed {
-    fn make<A: Allocator + Copy>(
-        self,
-        _: Global,
-        _: Option<&str>,
-        builder: &mut ComponentBuilder<A>,
-    ) -> Result<u32, Fault> {
+impl Indexed {
+    pub fn make(self, index: u32, builder: &mut Builder<'_>) -> Result<u32, Fault> {
         match self {
-            Indexed::ResourceNew(index) => builder.resource_new(index),
-            Indexed::ResourceDrop(index) => builder.resource_drop(index),
-            Indexed::ResourceRep(index) => builder.resource_rep(index),
-            Indexed::ThreadSpawnRef(index) => builder.thread_spawn_ref(index),
-            Indexed::StreamNew(index) => builder.stream_new(index),
-            Indexed::StreamForward(index) => builder.stream_forward(index),
-            Indexed::StreamDropReadable(index) => builder.stream_drop_readable(index),
-            Indexed::StreamDropWritable(index) => builder.stream_drop_writable(index),
-            Indexed::FutureNew(index) => builder.future_new(index),
-            Indexed::FutureForward(index) => builder.future_forward(index),
-            Indexed::FutureDropReadable(index) => builder.future_drop_readable(index),
-            Indexed::FutureDropWritable(index) => builder.future_drop_writable(index),
-            Indexed::WaitableSetWait(index) => builder.waitable_set_wait(index),
-            Indexed::WaitableSetPoll(index) => builder.waitable_set_poll(index),
+            Indexed::ResourceNew => builder.resource_new(index),
+            Indexed::ResourceDrop => builder.resource_drop(index),
+            Indexed::ResourceRep => builder.resource_rep(index),
+            Indexed::ThreadSpawnRef => builder.thread_spawn_ref(index),
+            Indexed::StreamNew => builder.stream_new(index),
+            Indexed::StreamForward => builder.stream_forward(index),
+            Indexed::StreamDropReadable => builder.stream_drop_readable(index),
+            Indexed::StreamDropWritable => builder.stream_drop_writable(index),
+            Indexed::FutureNew => builder.future_new(index),
+            Indexed::FutureForward => builder.future_forward(index),
+            Indexed::FutureDropReadable => builder.future_drop_readable(index),
+            Indexed::FutureDropWritable => builder.future_drop_writable(index),
+            Indexed::WaitableSetWait => builder.waitable_set_wait(index),
+            Indexed::WaitableSetPoll => builder.waitable_set_poll(index),
         }
     }
 }
 
 /// A function with a flag, or with two fields.
 #[derive(Clone, Copy)]
-enum Other {
+pub enum Other {
     ThreadSpawnIndirect(u32, u32),
     SubtaskCancel(bool),
     StreamCancelRead(u32, bool),
@@ -118,13 +104,8 @@ enum Other {
     ContextSet(ValType, u32),
 }
 
-impl Call for Other {
-    fn make<A: Allocator + Copy>(
-        self,
-        _: Global,
-        _: Option<&str>,
-        builder: &mut ComponentBuilder<A>,
-    ) -> Result<u32, Fault> {
+impl Other {
+    pub fn make(self, builder: &mut Builder<'_>) -> Result<u32, Fault> {
         match self {
             Other::ThreadSpawnIndirect(ty, table) => builder.thread_spawn_indirect(ty, table),
             Other::SubtaskCancel(async_) => builder.subtask_cancel(async_),
@@ -141,7 +122,7 @@ impl Call for Other {
 
 /// A function with options.
 #[derive(Clone, Copy)]
-enum WithOptions {
+pub enum WithOptions {
     TaskReturn(Option<ComponentValType>),
     StreamRead(u32),
     StreamWrite(u32),
@@ -151,13 +132,8 @@ enum WithOptions {
     ErrorContextDebugMessage,
 }
 
-impl Call for WithOptions {
-    fn make<A: Allocator + Copy>(
-        self,
-        _: Global,
-        _: Option<&str>,
-        builder: &mut ComponentBuilder<A>,
-    ) -> Result<u32, Fault> {
+impl WithOptions {
+    pub fn make(self, builder: &mut Builder<'_>) -> Result<u32, Fault> {
         let options = [CanonicalOption::UTF8, CanonicalOption::Memory(0)].into_iter();
         match self {
             WithOptions::TaskReturn(ty) => builder.task_return(ty, options),
@@ -176,258 +152,308 @@ const STRING: Option<ComponentValType> = Some(ComponentValType::Primitive(
 ));
 
 /// Each with its name and its section.
-const PLAIN: &[(Plain, &str, &[u8])] = &[
+pub const PLAIN: &[Swept<'static>] = &[
     (
-        Plain::ThreadAvailableParallelism,
+        Item::Plain(Plain::ThreadAvailableParallelism),
+        CORE_FUNC,
         "thread.available-parallelism",
         b"\x08\x02\x01\x42",
     ),
     (
-        Plain::BackpressureInc,
+        Item::Plain(Plain::BackpressureInc),
+        CORE_FUNC,
         "backpressure.inc",
         b"\x08\x02\x01\x24",
     ),
     (
-        Plain::BackpressureDec,
+        Item::Plain(Plain::BackpressureDec),
+        CORE_FUNC,
         "backpressure.dec",
         b"\x08\x02\x01\x25",
     ),
-    (Plain::TaskCancel, "task.cancel", b"\x08\x02\x01\x05"),
-    (Plain::SubtaskDrop, "subtask.drop", b"\x08\x02\x01\x0d"),
     (
-        Plain::ErrorContextDrop,
+        Item::Plain(Plain::TaskCancel),
+        CORE_FUNC,
+        "task.cancel",
+        b"\x08\x02\x01\x05",
+    ),
+    (
+        Item::Plain(Plain::SubtaskDrop),
+        CORE_FUNC,
+        "subtask.drop",
+        b"\x08\x02\x01\x0d",
+    ),
+    (
+        Item::Plain(Plain::ErrorContextDrop),
+        CORE_FUNC,
         "error-context.drop",
         b"\x08\x02\x01\x1e",
     ),
     (
-        Plain::WaitableSetNew,
+        Item::Plain(Plain::WaitableSetNew),
+        CORE_FUNC,
         "waitable-set.new",
         b"\x08\x02\x01\x1f",
     ),
     (
-        Plain::WaitableSetDrop,
+        Item::Plain(Plain::WaitableSetDrop),
+        CORE_FUNC,
         "waitable-set.drop",
         b"\x08\x02\x01\x22",
     ),
-    (Plain::WaitableJoin, "waitable.join", b"\x08\x02\x01\x23"),
-    (Plain::ThreadIndex, "thread.index", b"\x08\x02\x01\x26"),
     (
-        Plain::ThreadResumeLater,
+        Item::Plain(Plain::WaitableJoin),
+        CORE_FUNC,
+        "waitable.join",
+        b"\x08\x02\x01\x23",
+    ),
+    (
+        Item::Plain(Plain::ThreadIndex),
+        CORE_FUNC,
+        "thread.index",
+        b"\x08\x02\x01\x26",
+    ),
+    (
+        Item::Plain(Plain::ThreadResumeLater),
+        CORE_FUNC,
         "thread.resume-later",
         b"\x08\x02\x01\x28",
     ),
     (
-        Plain::ThreadSuspend,
+        Item::Plain(Plain::ThreadSuspend),
+        CORE_FUNC,
         "thread.suspend",
         b"\x08\x03\x01\x29\x00",
     ),
-    (Plain::ThreadYield, "thread.yield", b"\x08\x03\x01\x0c\x00"),
     (
-        Plain::ThreadSuspendThenResume,
+        Item::Plain(Plain::ThreadYield),
+        CORE_FUNC,
+        "thread.yield",
+        b"\x08\x03\x01\x0c\x00",
+    ),
+    (
+        Item::Plain(Plain::ThreadSuspendThenResume),
+        CORE_FUNC,
         "thread.suspend-then-resume",
         b"\x08\x03\x01\x2a\x00",
     ),
     (
-        Plain::ThreadYieldThenResume,
+        Item::Plain(Plain::ThreadYieldThenResume),
+        CORE_FUNC,
         "thread.yield-then-resume",
         b"\x08\x03\x01\x2b\x00",
     ),
     (
-        Plain::ThreadSuspendThenPromote,
+        Item::Plain(Plain::ThreadSuspendThenPromote),
+        CORE_FUNC,
         "thread.suspend-then-promote",
         b"\x08\x03\x01\x2c\x00",
     ),
     (
-        Plain::ThreadYieldThenPromote,
+        Item::Plain(Plain::ThreadYieldThenPromote),
+        CORE_FUNC,
         "thread.yield-then-promote",
         b"\x08\x03\x01\x2d\x00",
     ),
 ];
 
-const INDEXED: &[(Indexed, &str, &[u8])] = &[
+pub const INDEXED: &[Swept<'static>] = &[
     (
-        Indexed::ResourceNew(128),
+        Item::Indexed(Indexed::ResourceNew, 128),
+        CORE_FUNC,
         "resource.new",
         b"\x08\x04\x01\x02\x80\x01",
     ),
     (
-        Indexed::ResourceDrop(128),
+        Item::Indexed(Indexed::ResourceDrop, 128),
+        CORE_FUNC,
         "resource.drop",
         b"\x08\x04\x01\x03\x80\x01",
     ),
     (
-        Indexed::ResourceRep(128),
+        Item::Indexed(Indexed::ResourceRep, 128),
+        CORE_FUNC,
         "resource.rep",
         b"\x08\x04\x01\x04\x80\x01",
     ),
     (
-        Indexed::ThreadSpawnRef(128),
+        Item::Indexed(Indexed::ThreadSpawnRef, 128),
+        CORE_FUNC,
         "thread.spawn-ref",
         b"\x08\x04\x01\x40\x80\x01",
     ),
     (
-        Indexed::StreamNew(128),
+        Item::Indexed(Indexed::StreamNew, 128),
+        CORE_FUNC,
         "stream.new",
         b"\x08\x04\x01\x0e\x80\x01",
     ),
     (
-        Indexed::StreamForward(128),
+        Item::Indexed(Indexed::StreamForward, 128),
+        CORE_FUNC,
         "stream.forward",
         b"\x08\x04\x01\x2e\x80\x01",
     ),
     (
-        Indexed::StreamDropReadable(128),
+        Item::Indexed(Indexed::StreamDropReadable, 128),
+        CORE_FUNC,
         "stream.drop-readable",
         b"\x08\x04\x01\x13\x80\x01",
     ),
     (
-        Indexed::StreamDropWritable(128),
+        Item::Indexed(Indexed::StreamDropWritable, 128),
+        CORE_FUNC,
         "stream.drop-writable",
         b"\x08\x04\x01\x14\x80\x01",
     ),
     (
-        Indexed::FutureNew(128),
+        Item::Indexed(Indexed::FutureNew, 128),
+        CORE_FUNC,
         "future.new",
         b"\x08\x04\x01\x15\x80\x01",
     ),
     (
-        Indexed::FutureForward(128),
+        Item::Indexed(Indexed::FutureForward, 128),
+        CORE_FUNC,
         "future.forward",
         b"\x08\x04\x01\x2f\x80\x01",
     ),
     (
-        Indexed::FutureDropReadable(128),
+        Item::Indexed(Indexed::FutureDropReadable, 128),
+        CORE_FUNC,
         "future.drop-readable",
         b"\x08\x04\x01\x1a\x80\x01",
     ),
     (
-        Indexed::FutureDropWritable(128),
+        Item::Indexed(Indexed::FutureDropWritable, 128),
+        CORE_FUNC,
         "future.drop-writable",
         b"\x08\x04\x01\x1b\x80\x01",
     ),
     (
-        Indexed::WaitableSetWait(128),
+        Item::Indexed(Indexed::WaitableSetWait, 128),
+        CORE_FUNC,
         "waitable-set.wait",
         b"\x08\x05\x01\x20\x00\x80\x01",
     ),
     (
-        Indexed::WaitableSetPoll(128),
+        Item::Indexed(Indexed::WaitableSetPoll, 128),
+        CORE_FUNC,
         "waitable-set.poll",
         b"\x08\x05\x01\x21\x00\x80\x01",
     ),
 ];
 
-const OTHER: &[(Other, &str, &[u8])] = &[
+pub const OTHER: &[Swept<'static>] = &[
     (
-        Other::ThreadSpawnIndirect(128, 5),
+        Item::Other(Other::ThreadSpawnIndirect(128, 5)),
+        CORE_FUNC,
         "thread.spawn-indirect",
         b"\x08\x05\x01\x41\x80\x01\x05",
     ),
     (
-        Other::SubtaskCancel(true),
+        Item::Other(Other::SubtaskCancel(true)),
+        CORE_FUNC,
         "subtask.cancel",
         b"\x08\x03\x01\x06\x01",
     ),
     (
-        Other::StreamCancelRead(128, true),
+        Item::Other(Other::StreamCancelRead(128, true)),
+        CORE_FUNC,
         "stream.cancel-read",
         b"\x08\x05\x01\x11\x80\x01\x01",
     ),
     (
-        Other::StreamCancelWrite(128, true),
+        Item::Other(Other::StreamCancelWrite(128, true)),
+        CORE_FUNC,
         "stream.cancel-write",
         b"\x08\x05\x01\x12\x80\x01\x01",
     ),
     (
-        Other::FutureCancelRead(128, true),
+        Item::Other(Other::FutureCancelRead(128, true)),
+        CORE_FUNC,
         "future.cancel-read",
         b"\x08\x05\x01\x18\x80\x01\x01",
     ),
     (
-        Other::FutureCancelWrite(128, true),
+        Item::Other(Other::FutureCancelWrite(128, true)),
+        CORE_FUNC,
         "future.cancel-write",
         b"\x08\x05\x01\x19\x80\x01\x01",
     ),
     (
-        Other::ThreadNewIndirect(128, 5),
+        Item::Other(Other::ThreadNewIndirect(128, 5)),
+        CORE_FUNC,
         "thread.new-indirect",
         b"\x08\x05\x01\x27\x80\x01\x05",
     ),
     (
-        Other::ContextGet(ValType::I32, 0),
+        Item::Other(Other::ContextGet(ValType::I32, 0)),
+        CORE_FUNC,
         "context.get 0",
         b"\x08\x04\x01\x0a\x7f\x00",
     ),
     (
-        Other::ContextGet(ValType::I32, 4294967295),
+        Item::Other(Other::ContextGet(ValType::I32, 4294967295)),
+        CORE_FUNC,
         "context.get 4294967295",
         b"\x08\x08\x01\x0a\x7f\xff\xff\xff\xff\x0f",
     ),
     (
-        Other::ContextSet(ValType::I64, 128),
+        Item::Other(Other::ContextSet(ValType::I64, 128)),
+        CORE_FUNC,
         "context.set 128",
         b"\x08\x05\x01\x0b\x7e\x80\x01",
     ),
 ];
 
-const WITH_OPTIONS: &[(WithOptions, &str, &[u8])] = &[
+pub const WITH_OPTIONS: &[Swept<'static>] = &[
     (
-        WithOptions::TaskReturn(STRING),
+        Item::WithOptions(WithOptions::TaskReturn(STRING)),
+        CORE_FUNC,
         "task.return",
         b"\x08\x08\x01\x09\x00\x73\x02\x00\x03\x00",
     ),
     (
-        WithOptions::TaskReturn(None),
+        Item::WithOptions(WithOptions::TaskReturn(None)),
+        CORE_FUNC,
         "task.return",
         b"\x08\x08\x01\x09\x01\x00\x02\x00\x03\x00",
     ),
     (
-        WithOptions::StreamRead(128),
+        Item::WithOptions(WithOptions::StreamRead(128)),
+        CORE_FUNC,
         "stream.read",
         b"\x08\x08\x01\x0f\x80\x01\x02\x00\x03\x00",
     ),
     (
-        WithOptions::StreamWrite(128),
+        Item::WithOptions(WithOptions::StreamWrite(128)),
+        CORE_FUNC,
         "stream.write",
         b"\x08\x08\x01\x10\x80\x01\x02\x00\x03\x00",
     ),
     (
-        WithOptions::FutureRead(128),
+        Item::WithOptions(WithOptions::FutureRead(128)),
+        CORE_FUNC,
         "future.read",
         b"\x08\x08\x01\x16\x80\x01\x02\x00\x03\x00",
     ),
     (
-        WithOptions::FutureWrite(128),
+        Item::WithOptions(WithOptions::FutureWrite(128)),
+        CORE_FUNC,
         "future.write",
         b"\x08\x08\x01\x17\x80\x01\x02\x00\x03\x00",
     ),
     (
-        WithOptions::ErrorContextNew,
+        Item::WithOptions(WithOptions::ErrorContextNew),
+        CORE_FUNC,
         "error-context.new",
         b"\x08\x06\x01\x1c\x02\x00\x03\x00",
     ),
     (
-        WithOptions::ErrorContextDebugMessage,
+        Item::WithOptions(WithOptions::ErrorContextDebugMessage),
+        CORE_FUNC,
         "error-context.debug-message",
         b"\x08\x06\x01\x1d\x02\x00\x03\x00",
     ),
 ];
-
-/// Each is swept.
-fn sweep_rows<C: Call>(rt: &impl Abort, alloc: Global, rows: &[(C, &'static str, &[u8])]) {
-    for (call, name, section) in rows {
-        let named = Named {
-            sort: &[0x00, 0x00],
-            name,
-        };
-        sweep_both(rt, alloc, *call, named, section);
-    }
-}
-
-#[test]
-fn functions(rt: HostRuntime) {
-    sweep_rows(&rt, rt.alloc(), PLAIN);
-    sweep_rows(&rt, rt.alloc(), INDEXED);
-    sweep_rows(&rt, rt.alloc(), OTHER);
-    sweep_rows(&rt, rt.alloc(), WITH_OPTIONS);
-}
