@@ -1,225 +1,119 @@
 //! The calls that add a canonical function, as values.
 
 use crate::canon::functions::Functions;
-use std::alloc::Allocator;
+use refusing::Refusing;
 use sweeping::members::Adds;
 use wenc_base::{Fault, ValType};
 use wenc_canon::{CanonicalFunctionSection, CanonicalOption};
 use wenc_parts::ComponentValType;
 
-fn lift<A: Allocator>(
-    to: &mut CanonicalFunctionSection<A>,
-    function: u32,
-    ty: u32,
-    options: &[CanonicalOption],
-) -> Result<(), Fault> {
-    to.lift(function, ty, options.iter().copied())
-}
-
-fn lower<A: Allocator>(
-    to: &mut CanonicalFunctionSection<A>,
-    function: u32,
-    options: &[CanonicalOption],
-) -> Result<(), Fault> {
-    to.lower(function, options.iter().copied())
-}
-
-fn task_return<A: Allocator>(
-    to: &mut CanonicalFunctionSection<A>,
-    ty: Option<ComponentValType>,
-    options: &[CanonicalOption],
-) -> Result<(), Fault> {
-    to.task_return(ty, options.iter().copied())
-}
-
-fn stream_read<A: Allocator>(
-    to: &mut CanonicalFunctionSection<A>,
-    ty: u32,
-    options: &[CanonicalOption],
-) -> Result<(), Fault> {
-    to.stream_read(ty, options.iter().copied())
-}
-
-fn stream_write<A: Allocator>(
-    to: &mut CanonicalFunctionSection<A>,
-    ty: u32,
-    options: &[CanonicalOption],
-) -> Result<(), Fault> {
-    to.stream_write(ty, options.iter().copied())
-}
-
-fn future_read<A: Allocator>(
-    to: &mut CanonicalFunctionSection<A>,
-    ty: u32,
-    options: &[CanonicalOption],
-) -> Result<(), Fault> {
-    to.future_read(ty, options.iter().copied())
-}
-
-fn future_write<A: Allocator>(
-    to: &mut CanonicalFunctionSection<A>,
-    ty: u32,
-    options: &[CanonicalOption],
-) -> Result<(), Fault> {
-    to.future_write(ty, options.iter().copied())
-}
-
-fn error_context_new<A: Allocator>(
-    to: &mut CanonicalFunctionSection<A>,
-    options: &[CanonicalOption],
-) -> Result<(), Fault> {
-    to.error_context_new(options.iter().copied())
-}
-
-fn error_context_debug_message<A: Allocator>(
-    to: &mut CanonicalFunctionSection<A>,
-    options: &[CanonicalOption],
-) -> Result<(), Fault> {
-    to.error_context_debug_message(options.iter().copied())
-}
-
-/// Functions that are lifted or lowered, and those of resources.
+/// A call.
 #[derive(Clone, Copy)]
-pub enum Function<'a> {
+pub enum Call<'a> {
     Lift(u32, u32, &'a [CanonicalOption]),
     Lower(u32, &'a [CanonicalOption]),
     ResourceNew(u32),
     ResourceDrop(u32),
     ResourceRep(u32),
-}
-
-impl<'a, 'b> Adds<Functions<'a>> for Function<'b> {
-    fn add(&self, to: &mut Functions<'a>) -> Result<(), Fault> {
-        let functions = &mut to.0;
-        match self {
-            Function::Lift(function, ty, options) => lift(functions, *function, *ty, options),
-            Function::Lower(function, options) => lower(functions, *function, options),
-            Function::ResourceNew(ty) => functions.resource_new(*ty),
-            Function::ResourceDrop(ty) => functions.resource_drop(*ty),
-            Function::ResourceRep(ty) => functions.resource_rep(*ty),
-        }
-    }
-}
-
-/// Those of tasks and subtasks.
-#[derive(Clone, Copy)]
-pub enum Task<'a> {
     BackpressureInc,
     BackpressureDec,
-    Return(Option<ComponentValType>, &'a [CanonicalOption]),
-    Cancel,
+    TaskReturn(Option<ComponentValType>, &'a [CanonicalOption]),
+    TaskCancel,
     ContextGet(ValType, u32),
     ContextSet(ValType, u32),
     SubtaskDrop,
     SubtaskCancel(bool),
-}
-
-impl<'a, 'b> Adds<Functions<'a>> for Task<'b> {
-    fn add(&self, to: &mut Functions<'a>) -> Result<(), Fault> {
-        let functions = &mut to.0;
-        match self {
-            Task::BackpressureInc => functions.backpressure_inc(),
-            Task::BackpressureDec => functions.backpressure_dec(),
-            Task::Return(ty, options) => task_return(functions, *ty, options),
-            Task::Cancel => functions.task_cancel(),
-            Task::ContextGet(ty, slot) => functions.context_get(*ty, *slot),
-            Task::ContextSet(ty, slot) => functions.context_set(*ty, *slot),
-            Task::SubtaskDrop => functions.subtask_drop(),
-            Task::SubtaskCancel(waits) => functions.subtask_cancel(*waits),
-        }
-    }
-}
-
-/// Those of streams.
-#[derive(Clone, Copy)]
-pub enum Stream<'a> {
-    New(u32),
-    Read(u32, &'a [CanonicalOption]),
-    Write(u32, &'a [CanonicalOption]),
-    Forward(u32),
-    CancelRead(u32, bool),
-    CancelWrite(u32, bool),
-    DropReadable(u32),
-    DropWritable(u32),
-}
-
-impl<'a, 'b> Adds<Functions<'a>> for Stream<'b> {
-    fn add(&self, to: &mut Functions<'a>) -> Result<(), Fault> {
-        let functions = &mut to.0;
-        match self {
-            Stream::New(ty) => functions.stream_new(*ty),
-            Stream::Read(ty, options) => stream_read(functions, *ty, options),
-            Stream::Write(ty, options) => stream_write(functions, *ty, options),
-            Stream::Forward(ty) => functions.stream_forward(*ty),
-            Stream::CancelRead(ty, waits) => functions.stream_cancel_read(*ty, *waits),
-            Stream::CancelWrite(ty, waits) => functions.stream_cancel_write(*ty, *waits),
-            Stream::DropReadable(ty) => functions.stream_drop_readable(*ty),
-            Stream::DropWritable(ty) => functions.stream_drop_writable(*ty),
-        }
-    }
-}
-
-/// Those of futures.
-#[derive(Clone, Copy)]
-pub enum Future<'a> {
-    New(u32),
-    Read(u32, &'a [CanonicalOption]),
-    Write(u32, &'a [CanonicalOption]),
-    Forward(u32),
-    CancelRead(u32, bool),
-    CancelWrite(u32, bool),
-    DropReadable(u32),
-    DropWritable(u32),
-}
-
-impl<'a, 'b> Adds<Functions<'a>> for Future<'b> {
-    fn add(&self, to: &mut Functions<'a>) -> Result<(), Fault> {
-        let functions = &mut to.0;
-        match self {
-            Future::New(ty) => functions.future_new(*ty),
-            Future::Read(ty, options) => future_read(functions, *ty, options),
-            Future::Write(ty, options) => future_write(functions, *ty, options),
-            Future::Forward(ty) => functions.future_forward(*ty),
-            Future::CancelRead(ty, waits) => functions.future_cancel_read(*ty, *waits),
-            Future::CancelWrite(ty, waits) => functions.future_cancel_write(*ty, *waits),
-            Future::DropReadable(ty) => functions.future_drop_readable(*ty),
-            Future::DropWritable(ty) => functions.future_drop_writable(*ty),
-        }
-    }
-}
-
-/// Those of error contexts and of waitables.
-#[derive(Clone, Copy)]
-pub enum Waitable<'a> {
     ErrorContextNew(&'a [CanonicalOption]),
     ErrorContextDebugMessage(&'a [CanonicalOption]),
     ErrorContextDrop,
-    SetNew,
-    SetWait(u32),
-    SetPoll(u32),
-    SetDrop,
-    Join,
+    WaitableSetNew,
+    WaitableSetWait(u32),
+    WaitableSetPoll(u32),
+    WaitableSetDrop,
+    WaitableJoin,
+    Transfer(Transfer<'a>),
+    Thread(Thread),
 }
 
-impl<'a, 'b> Adds<Functions<'a>> for Waitable<'b> {
+impl<'a, 'b> Adds<Functions<'a>> for Call<'b> {
     fn add(&self, to: &mut Functions<'a>) -> Result<(), Fault> {
-        let functions = &mut to.0;
-        match self {
-            Waitable::ErrorContextNew(options) => error_context_new(functions, options),
-            Waitable::ErrorContextDebugMessage(options) => {
-                error_context_debug_message(functions, options)
+        let to = &mut to.0;
+        match *self {
+            Call::Lift(function, ty, options) => to.lift(function, ty, options.iter().copied()),
+            Call::Lower(function, options) => to.lower(function, options.iter().copied()),
+            Call::ResourceNew(ty) => to.resource_new(ty),
+            Call::ResourceDrop(ty) => to.resource_drop(ty),
+            Call::ResourceRep(ty) => to.resource_rep(ty),
+            Call::BackpressureInc => to.backpressure_inc(),
+            Call::BackpressureDec => to.backpressure_dec(),
+            Call::TaskReturn(ty, options) => to.task_return(ty, options.iter().copied()),
+            Call::TaskCancel => to.task_cancel(),
+            Call::ContextGet(ty, slot) => to.context_get(ty, slot),
+            Call::ContextSet(ty, slot) => to.context_set(ty, slot),
+            Call::SubtaskDrop => to.subtask_drop(),
+            Call::SubtaskCancel(waits) => to.subtask_cancel(waits),
+            Call::ErrorContextNew(options) => to.error_context_new(options.iter().copied()),
+            Call::ErrorContextDebugMessage(options) => {
+                to.error_context_debug_message(options.iter().copied())
             }
-            Waitable::ErrorContextDrop => functions.error_context_drop(),
-            Waitable::SetNew => functions.waitable_set_new(),
-            Waitable::SetWait(memory) => functions.waitable_set_wait(*memory),
-            Waitable::SetPoll(memory) => functions.waitable_set_poll(*memory),
-            Waitable::SetDrop => functions.waitable_set_drop(),
-            Waitable::Join => functions.waitable_join(),
+            Call::ErrorContextDrop => to.error_context_drop(),
+            Call::WaitableSetNew => to.waitable_set_new(),
+            Call::WaitableSetWait(memory) => to.waitable_set_wait(memory),
+            Call::WaitableSetPoll(memory) => to.waitable_set_poll(memory),
+            Call::WaitableSetDrop => to.waitable_set_drop(),
+            Call::WaitableJoin => to.waitable_join(),
+            Call::Transfer(call) => add_transfer(to, call),
+            Call::Thread(call) => add_thread(to, call),
         }
     }
 }
 
-/// Those of threads.
+/// A call of streams or of futures.
+#[derive(Clone, Copy)]
+pub enum Transfer<'a> {
+    StreamNew(u32),
+    StreamRead(u32, &'a [CanonicalOption]),
+    StreamWrite(u32, &'a [CanonicalOption]),
+    StreamForward(u32),
+    StreamCancelRead(u32, bool),
+    StreamCancelWrite(u32, bool),
+    StreamDropReadable(u32),
+    StreamDropWritable(u32),
+    FutureNew(u32),
+    FutureRead(u32, &'a [CanonicalOption]),
+    FutureWrite(u32, &'a [CanonicalOption]),
+    FutureForward(u32),
+    FutureCancelRead(u32, bool),
+    FutureCancelWrite(u32, bool),
+    FutureDropReadable(u32),
+    FutureDropWritable(u32),
+}
+
+fn add_transfer(
+    to: &mut CanonicalFunctionSection<&Refusing>,
+    call: Transfer<'_>,
+) -> Result<(), Fault> {
+    match call {
+        Transfer::StreamNew(ty) => to.stream_new(ty),
+        Transfer::StreamRead(ty, options) => to.stream_read(ty, options.iter().copied()),
+        Transfer::StreamWrite(ty, options) => to.stream_write(ty, options.iter().copied()),
+        Transfer::StreamForward(ty) => to.stream_forward(ty),
+        Transfer::StreamCancelRead(ty, waits) => to.stream_cancel_read(ty, waits),
+        Transfer::StreamCancelWrite(ty, waits) => to.stream_cancel_write(ty, waits),
+        Transfer::StreamDropReadable(ty) => to.stream_drop_readable(ty),
+        Transfer::StreamDropWritable(ty) => to.stream_drop_writable(ty),
+        Transfer::FutureNew(ty) => to.future_new(ty),
+        Transfer::FutureRead(ty, options) => to.future_read(ty, options.iter().copied()),
+        Transfer::FutureWrite(ty, options) => to.future_write(ty, options.iter().copied()),
+        Transfer::FutureForward(ty) => to.future_forward(ty),
+        Transfer::FutureCancelRead(ty, waits) => to.future_cancel_read(ty, waits),
+        Transfer::FutureCancelWrite(ty, waits) => to.future_cancel_write(ty, waits),
+        Transfer::FutureDropReadable(ty) => to.future_drop_readable(ty),
+        Transfer::FutureDropWritable(ty) => to.future_drop_writable(ty),
+    }
+}
+
+/// A call of threads.
 #[derive(Clone, Copy)]
 pub enum Thread {
     SpawnRef(u32),
@@ -236,46 +130,19 @@ pub enum Thread {
     YieldThenPromote,
 }
 
-impl<'a> Adds<Functions<'a>> for Thread {
-    fn add(&self, to: &mut Functions<'a>) -> Result<(), Fault> {
-        let functions = &mut to.0;
-        match self {
-            Thread::SpawnRef(ty) => functions.thread_spawn_ref(*ty),
-            Thread::SpawnIndirect(ty, table) => functions.thread_spawn_indirect(*ty, *table),
-            Thread::AvailableParallelism => functions.thread_available_parallelism(),
-            Thread::Index => functions.thread_index(),
-            Thread::NewIndirect(ty, table) => functions.thread_new_indirect(*ty, *table),
-            Thread::ResumeLater => functions.thread_resume_later(),
-            Thread::Suspend => functions.thread_suspend(),
-            Thread::Yield => functions.thread_yield(),
-            Thread::SuspendThenResume => functions.thread_suspend_then_resume(),
-            Thread::YieldThenResume => functions.thread_yield_then_resume(),
-            Thread::SuspendThenPromote => functions.thread_suspend_then_promote(),
-            Thread::YieldThenPromote => functions.thread_yield_then_promote(),
-        }
-    }
-}
-
-/// Any of these calls.
-#[derive(Clone, Copy)]
-pub enum Call<'a> {
-    Function(Function<'a>),
-    Task(Task<'a>),
-    Stream(Stream<'a>),
-    Future(Future<'a>),
-    Waitable(Waitable<'a>),
-    Thread(Thread),
-}
-
-impl<'a, 'b> Adds<Functions<'a>> for Call<'b> {
-    fn add(&self, to: &mut Functions<'a>) -> Result<(), Fault> {
-        match self {
-            Call::Function(call) => call.add(to),
-            Call::Task(call) => call.add(to),
-            Call::Stream(call) => call.add(to),
-            Call::Future(call) => call.add(to),
-            Call::Waitable(call) => call.add(to),
-            Call::Thread(call) => call.add(to),
-        }
+fn add_thread(to: &mut CanonicalFunctionSection<&Refusing>, call: Thread) -> Result<(), Fault> {
+    match call {
+        Thread::SpawnRef(ty) => to.thread_spawn_ref(ty),
+        Thread::SpawnIndirect(ty, table) => to.thread_spawn_indirect(ty, table),
+        Thread::AvailableParallelism => to.thread_available_parallelism(),
+        Thread::Index => to.thread_index(),
+        Thread::NewIndirect(ty, table) => to.thread_new_indirect(ty, table),
+        Thread::ResumeLater => to.thread_resume_later(),
+        Thread::Suspend => to.thread_suspend(),
+        Thread::Yield => to.thread_yield(),
+        Thread::SuspendThenResume => to.thread_suspend_then_resume(),
+        Thread::YieldThenResume => to.thread_yield_then_resume(),
+        Thread::SuspendThenPromote => to.thread_suspend_then_promote(),
+        Thread::YieldThenPromote => to.thread_yield_then_promote(),
     }
 }

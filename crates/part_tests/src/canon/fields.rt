@@ -1,12 +1,10 @@
 //! Options and slots.
 
-use crate::canon::calls::{Call, Function, Task};
+use crate::canon::calls::Call;
 use crate::canon::rows::row;
 use crate::parts::texts::text_is;
 use crate::swept::check_each;
 use refusing::Refusing;
-use std::alloc::Global;
-use std::process::Abort;
 use sweeping::LARGE;
 use wenc_base::{AbstractHeapType, HeapType, RefType, ValType};
 use wenc_canon::CanonicalOption;
@@ -43,31 +41,16 @@ const LARGE_OPTIONS: &[CanonicalOption] = &[
     CanonicalOption::Gc,
 ];
 
-/// The row of a function that is lowered with these options.
-fn lowered(
-    rt: &impl Abort,
-    alloc: Global,
-    heap: &Refusing,
-    options: &[CanonicalOption],
-    wanted: &str,
-) {
-    let call = Call::Function(Function::Lower(0, options));
-    row(rt, alloc, heap, call, wanted);
-}
-
 #[test]
 fn each_option_is_written(rt: HostRuntime) {
     let alloc = rt.alloc();
     let heap = Refusing::new(alloc);
     for (option, alone, wanted) in OPTIONS {
         text_is(&rt, alloc, option, alone);
-        lowered(&rt, alloc, &heap, [*option].as_slice(), wanted);
+        let options = [*option];
+        row(&rt, alloc, &heap, Call::Lower(0, options.as_slice()), wanted);
     }
-}
-
-#[test]
-fn options_are_swept(rt: HostRuntime) {
-    check_each(&rt, rt.alloc(), LARGE_OPTIONS);
+    check_each(&rt, alloc, LARGE_OPTIONS);
 }
 
 const FUNC: HeapType = HeapType::Abstract(AbstractHeapType::Func);
@@ -107,16 +90,13 @@ const TYPES: &[(ValType, &str, &str)] = &[
     ),
 ];
 
-/// The rows that get and set a slot of this type.
-fn slot(rt: &impl Abort, alloc: Global, heap: &Refusing, ty: ValType, get: &str, set: &str) {
-    row(rt, alloc, heap, Call::Task(Task::ContextGet(ty, 128)), get);
-    row(rt, alloc, heap, Call::Task(Task::ContextSet(ty, 128)), set);
-}
-
+/// The rows that get and set a slot of each type.
 #[test]
 fn slots_have_core_value_types(rt: HostRuntime) {
-    let heap = Refusing::new(rt.alloc());
+    let alloc = rt.alloc();
+    let heap = Refusing::new(alloc);
     for (ty, get, set) in TYPES {
-        slot(&rt, rt.alloc(), &heap, *ty, get, set);
+        row(&rt, alloc, &heap, Call::ContextGet(*ty, 128), get);
+        row(&rt, alloc, &heap, Call::ContextSet(*ty, 128), set);
     }
 }
