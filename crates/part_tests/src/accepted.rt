@@ -17,3 +17,10 @@ pub fn ok<T, E>(rt: &impl Abort, outcome: Result<T, E>) -> T {
 pub fn is_well(rt: &impl Abort, swept: Result<bool, Fault>) {
     assert!(rt; ok(rt, swept));
 }
+
+/// No step of these was found to be wrong.
+pub fn all_are_well(rt: &impl Abort, steps: &str, first_wrong: Option<usize>) {
+    if let Some(i) = first_wrong {
+        panic!(rt; "{steps}: step {i}");
+    }
+}

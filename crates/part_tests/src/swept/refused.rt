@@ -1,56 +1,44 @@
 //! The allocator that refuses, by itself.
 
-use crate::accepted::ok;
+use crate::accepted::all_are_well;
 use refusing::Refusing;
-use std::alloc::{AllocError, Allocator, Global};
-use std::mem;
-use std::process::Abort;
+use std::alloc::{AllocError, Global};
 
-fn fill<A: Allocator>(v: &mut Vec<u8, A>, n: u8) -> Result<(), AllocError> {
+type Bytes<'a> = Vec<u8, &'a Refusing>;
+
+/// A step with a vector of the allocator, and what comes of it.
+#[derive(Clone, Copy)]
+enum Step<'a> {
+    RefuseNth(u64),
+    RefuseAll,
+    RefuseNone,
+    /// So many bytes more are taken: 0, 1, 2 and so on.
+    Filled(u8),
+    /// A request for them is refused.
+    Refused(u8),
+    /// This byte more.
+    Taken(u8),
+    NotTaken(u8),
+    /// The vector is cut to this length, and this was the last byte then.
+    Cut(usize, u8),
+    Shrunk,
+    /// What the vector had is given back, and it is a new one.
+    Freed,
+    /// So many requests came since the plan was set, and whether one was refused.
+    Requests(u64, bool),
+    Length(usize),
+    Is(&'a [u8]),
+    /// The bytes that a refused run left, which are so many, then those of one that wasn't.
+    IsFilledTwice(usize),
+}
+
+fn fill(v: &mut Bytes<'_>, n: u8) -> Result<(), AllocError> {
     for i in 0..n {
         v.push(i)?;
     }
     Ok(())
 }
 
-/// So many more bytes lead to so many requests.
-fn requests_after(
-    rt: &impl Abort,
-    heap: &Refusing,
-    v: &mut Vec<u8, &Refusing>,
-    n: u8,
-    requests: u64,
-) {
-    ok(rt, fill(v, n));
-    assert!(rt; heap.requests() == requests);
-}
-
-const GROWTHS: &[(u8, u64)] = &[
-    (8, 1),
-    (1, 2),
-    (7, 2),
-    (1, 3),
-    (15, 3),
-    (1, 4),
-    (31, 4),
-    (1, 5),
-];
-
-// A growth is one request: a `Vec<u8>` grows to 8, 16, 32, 64 and 128 bytes.
-#[test]
-fn counts_each_growth_once(rt: HostRuntime) {
-    let heap = Refusing::new(rt.alloc());
-    let mut v: Vec<u8, &Refusing> = Vec::new(&heap);
-    assert!(rt; heap.requests() == 0);
-    for (n, requests) in GROWTHS {
-        requests_after(&rt, &heap, &mut v, *n, *requests);
-    }
-    assert!(rt; v.len() == 65 && !heap.was_refused());
-    v.shrink_to_fit();
-    assert!(rt; heap.requests() == 6);
-}
-
-/// The bytes that a refused run left, then those of one that wasn't.
 fn is_filled_twice(v: &[u8], len: usize) -> bool {
     for (i, x) in v.iter().enumerate() {
         let pushed = if i < len { i } else { i.wrapping_sub(len) };
@@ -61,59 +49,102 @@ fn is_filled_twice(v: &[u8], len: usize) -> bool {
     v.len().wrapping_sub(len) == 100
 }
 
-/// The growth with this number is refused, once, where so many bytes are there.
-fn refuses_growth(rt: &impl Abort, alloc: Global, n: u64, len: usize) {
-    let heap = Refusing::new(alloc);
-    let mut v: Vec<u8, &Refusing> = Vec::new(&heap);
-    heap.refuse_nth(n);
-    assert!(rt; fill(&mut v, 100).is_err());
-    assert!(rt; heap.was_refused() && heap.requests() == n);
-    assert!(rt; v.len() == len);
-    ok(rt, fill(&mut v, 100));
-    assert!(rt; is_filled_twice(v.as_slice(), len));
+/// Whether the step is as it should be.
+fn is_well<'a>(heap: &'a Refusing, v: &mut Bytes<'a>, step: Step<'_>) -> bool {
+    match step {
+        Step::RefuseNth(n) => heap.refuse_nth(n),
+        Step::RefuseAll => heap.refuse_all(),
+        Step::RefuseNone => heap.refuse_none(),
+        Step::Filled(n) => return fill(v, n).is_ok(),
+        Step::Refused(n) => return fill(v, n).is_err(),
+        Step::Taken(byte) => return v.push(byte).is_ok(),
+        Step::NotTaken(byte) => return v.push(byte).is_err(),
+        Step::Cut(len, last) => {
+            v.truncate(len);
+            return v.pop() == Some(last);
+        }
+        Step::Shrunk => v.shrink_to_fit(),
+        Step::Freed => *v = Vec::new(heap),
+        Step::Requests(n, some) => return heap.requests() == n && heap.was_refused() == some,
+        Step::Length(len) => return v.len() == len,
+        Step::Is(bytes) => return v.as_slice() == bytes,
+        Step::IsFilledTwice(len) => return is_filled_twice(v.as_slice(), len),
+    }
+    true
 }
 
+/// The first step that is not as it should be.
+fn first_wrong(alloc: Global, steps: &[Step<'_>]) -> Option<usize> {
+    let heap = Refusing::new(alloc);
+    let mut v = Vec::new(&heap);
+    for (i, step) in steps.iter().enumerate() {
+        if !is_well(&heap, &mut v, *step) {
+            return Some(i);
+        }
+    }
+    None
+}
+
+// A growth is one request: a `Vec<u8>` grows to 8, 16, 32, 64 and 128 bytes.
+const EACH_GROWTH_IS_ONE_REQUEST: &[Step<'static>] = &[
+    Step::Requests(0, false),
+    Step::Filled(8),
+    Step::Requests(1, false),
+    Step::Filled(1),
+    Step::Requests(2, false),
+    Step::Filled(7),
+    Step::Requests(2, false),
+    Step::Filled(1),
+    Step::Requests(3, false),
+    Step::Filled(15),
+    Step::Requests(3, false),
+    Step::Filled(1),
+    Step::Requests(4, false),
+    Step::Filled(31),
+    Step::Requests(4, false),
+    Step::Filled(1),
+    Step::Requests(5, false),
+    Step::Length(65),
+    Step::Shrunk,
+    Step::Requests(6, false),
+];
+
+/// What was given is given back while all is refused.
+const GIVEN_BACK: &[Step<'static>] = &[
+    Step::Filled(8),
+    Step::RefuseAll,
+    Step::NotTaken(8),
+    Step::NotTaken(8),
+    Step::Requests(2, true),
+    Step::Cut(4, 3),
+    Step::Taken(9),
+    Step::Is(&[0, 1, 2, 9]),
+    Step::Freed,
+    Step::Length(0),
+    Step::NotTaken(1),
+    Step::RefuseNone,
+    Step::Requests(0, false),
+    Step::Taken(1),
+    Step::Is(&[1]),
+];
+
+/// The growth with this number is refused, once, where so many bytes are there.
 const LENGTHS: &[(u64, usize)] = &[(1, 0), (2, 8), (3, 16), (4, 32)];
 
 #[test]
-fn refuses_the_nth_growth(rt: HostRuntime) {
+fn refuses_by_its_plan(rt: HostRuntime) {
+    let alloc = rt.alloc();
+    all_are_well(&rt, "growths", first_wrong(alloc, EACH_GROWTH_IS_ONE_REQUEST));
+    all_are_well(&rt, "given back", first_wrong(alloc, GIVEN_BACK));
     for (n, len) in LENGTHS {
-        refuses_growth(&rt, rt.alloc(), *n, *len);
+        let steps = [
+            Step::RefuseNth(*n),
+            Step::Refused(100),
+            Step::Requests(*n, true),
+            Step::Length(*len),
+            Step::Filled(100),
+            Step::IsFilledTwice(*len),
+        ];
+        all_are_well(&rt, "a refused growth", first_wrong(alloc, steps.as_slice()));
     }
-}
-
-/// Whether the byte is taken.
-fn takes<A: Allocator>(v: &mut Vec<u8, A>, byte: u8) -> bool {
-    v.push(byte).is_ok()
-}
-
-/// A full vector is refused more room, and takes what it has room for.
-fn takes_what_fits(rt: &impl Abort, heap: &Refusing, v: &mut Vec<u8, &Refusing>) {
-    assert!(rt; !takes(v, 8) && !takes(v, 8));
-    assert!(rt; heap.requests() == 2);
-    v.truncate(4);
-    assert!(rt; v.pop() == Some(3));
-    assert!(rt; takes(v, 9));
-}
-
-/// These are the bytes.
-fn are<A: Allocator>(rt: &impl Abort, v: &Vec<u8, A>, wanted: &[u8]) {
-    assert!(rt; v.as_slice() == wanted);
-}
-
-#[test]
-fn frees_what_it_gave_while_it_refuses(rt: HostRuntime) {
-    let heap = Refusing::new(rt.alloc());
-    let mut v: Vec<u8, &Refusing> = Vec::new(&heap);
-    ok(&rt, fill(&mut v, 8));
-    heap.refuse_all();
-    takes_what_fits(&rt, &heap, &mut v);
-    let had = mem::replace(&mut v, Vec::new(&heap));
-    are(&rt, &had, &[0, 1, 2, 9]);
-    assert!(rt; v.is_empty() && !takes(&mut v, 1));
-    drop(had);
-    heap.refuse_none();
-    assert!(rt; !heap.was_refused());
-    assert!(rt; takes(&mut v, 1));
-    are(&rt, &v, &[1]);
 }
