@@ -1,12 +1,11 @@
 //! Tests of `wenc_base` by its public calls.
 
-mod calls;
+pub mod calls;
 mod composites;
 mod entities;
 mod holder;
 mod kept;
-mod lenders;
 mod names;
-mod openings;
+pub mod steps;
 mod types;
-mod values;
+pub mod values;

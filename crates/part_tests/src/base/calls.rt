@@ -1,99 +1,142 @@
-//! Calls of a holder, each by itself: what a test does with the answer then rests on nothing that the call promises.
+//! The calls that change a holder, as values.
 
-use wenc_base::{Encode, Fault, Holder, Lender, Verbatim};
+use crate::base::values::{Item, OPEN};
+use refusing::Refusing;
+use wenc_base::{Encode, Fault, Holder, Lender};
 
-pub fn add(holder: &mut Holder, text: &[u8]) -> Result<(), Fault> {
-    holder.add(text)
+/// A holder whose requests for memory can be refused.
+pub type Held<'a> = Holder<&'a Refusing>;
+
+/// A call that adds a member or begins one.
+#[derive(Clone, Copy)]
+pub enum Member<'a> {
+    Add(&'a [u8]),
+    Nothing,
+    Number(u32),
+    Size(usize),
+    Pair(u32, usize),
+    Named(&'a str, u32),
+    NumberAndText(u32, &'a [u8]),
+    /// An item that was begun and not ended.
+    Unfinished,
+    Listed(Listed<'a>),
+    Open(&'a [u8]),
 }
 
-pub fn add_encoded<T: Encode>(holder: &mut Holder, value: &T) -> Result<(), Fault> {
-    holder.add_encoded(value)
+pub fn add_member(to: &mut Held<'_>, member: Member<'_>) -> Result<(), Fault> {
+    match member {
+        Member::Add(text) => to.add(text),
+        Member::Nothing => to.add_encoded(&()),
+        Member::Number(number) => to.add_encoded(&number),
+        Member::Size(size) => to.add_encoded(&size),
+        Member::Pair(number, size) => to.add_encoded(&(number, size)),
+        Member::Named(name, number) => to.add_encoded(&(name, number)),
+        Member::NumberAndText(number, text) => to.add_encoded(&(number, text)),
+        Member::Unfinished => to.add_encoded(&OPEN),
+        Member::Listed(listed) => add_listed(to, listed),
+        Member::Open(lead) => to.open(lead),
+    }
 }
 
-pub fn add_listed<L: Encode, T: Encode>(
-    holder: &mut Holder,
+/// A member with a list of sizes, what stands in front of the list and what behind it.
+#[derive(Clone, Copy)]
+pub enum Listed<'a> {
+    Alone(&'a [usize]),
+    TruthAndText(bool, &'a [usize], &'a str),
+    Number(u32, &'a [usize]),
+    Size(usize, &'a [usize]),
+    NumberAndSize(u32, &'a [usize], usize),
+    UnfinishedAndSize(&'a [usize], usize),
+    NumberAndUnfinished(u32, &'a [usize]),
+    /// A list of numbers, between a number and a text.
+    Numbers(u32, &'a [u32], &'a [u8]),
+}
+
+fn add_listed(to: &mut Held<'_>, listed: Listed<'_>) -> Result<(), Fault> {
+    match listed {
+        Listed::Alone(list) => add_list(to, &(), list, &()),
+        Listed::TruthAndText(lead, list, tail) => add_list(to, &lead, list, &tail),
+        Listed::Number(lead, list) => add_list(to, &lead, list, &()),
+        Listed::Size(lead, list) => add_list(to, &lead, list, &()),
+        Listed::NumberAndSize(lead, list, tail) => add_list(to, &lead, list, &tail),
+        Listed::UnfinishedAndSize(list, tail) => add_list(to, &OPEN, list, &tail),
+        Listed::NumberAndUnfinished(lead, list) => add_list(to, &lead, list, &OPEN),
+        Listed::Numbers(lead, list, tail) => add_list(to, &lead, list, &tail),
+    }
+}
+
+fn add_list<L: Encode, T: Encode + Copy, F: Encode>(
+    to: &mut Held<'_>,
     lead: &L,
-    values: &[usize],
-    tail: &T,
+    list: &[T],
+    tail: &F,
 ) -> Result<(), Fault> {
-    holder.add_listed(lead, values.iter().copied(), tail)
+    to.add_listed(lead, list.iter().copied(), tail)
 }
 
-pub fn copy(holder: &Holder) -> Result<Holder, Fault> {
-    Ok(holder.clone()?)
+/// A call that writes at a member which was begun.
+#[derive(Clone, Copy)]
+pub enum Piece<'a> {
+    Append(&'a [u8]),
+    Text(&'a str),
+    Size(usize),
+    Named(&'a str, usize),
+    NumberAndText(u32, &'a [u8]),
+    Unfinished,
+    Texts(&'a [u8], &'a [&'a str]),
+    Numbers(&'a [u8], &'a [u32]),
+    Close(&'a [u8]),
+    Lent(Lent<'a>),
 }
 
-pub fn discard(holder: &mut Holder) -> bool {
-    holder.discard_unfinished()
-}
-
-pub fn open(holder: &mut Holder, lead: &[u8]) -> Result<(), Fault> {
-    holder.open(lead)
-}
-
-// What follows asks for a holder that is unfinished, as the calls do. No test wants this answer.
+/// A holder that is finished has no member to write at. No test wants this answer.
 const WHOLE: Result<(), Fault> = Err(Fault::TooLarge);
 
-pub fn append(holder: &mut Holder, text: &[u8]) -> Result<(), Fault> {
-    if holder.is_finished() {
+pub fn write(to: &mut Held<'_>, piece: Piece<'_>) -> Result<(), Fault> {
+    if to.is_finished() {
         return WHOLE;
     }
-    holder.append(text)
+    match piece {
+        Piece::Append(text) => to.append(text),
+        Piece::Text(text) => to.append_encoded(&text),
+        Piece::Size(size) => to.append_encoded(&size),
+        Piece::Named(name, size) => to.append_encoded(&(name, size)),
+        Piece::NumberAndText(number, text) => to.append_encoded(&(number, text)),
+        Piece::Unfinished => to.append_encoded(&OPEN),
+        Piece::Texts(lead, texts) => to.append_listed(lead, texts.iter().copied()),
+        Piece::Numbers(lead, numbers) => to.append_listed(lead, numbers.iter().copied()),
+        Piece::Close(text) => to.close(text),
+        Piece::Lent(call) => lend(to, call),
+    }
 }
 
-pub fn append_encoded<T: Encode>(holder: &mut Holder, value: &T) -> Result<(), Fault> {
-    if holder.is_finished() {
+/// A call of a lender.
+#[derive(Clone, Copy)]
+pub enum Lent<'a> {
+    Text(&'a str),
+    Number(u32),
+    Size(usize),
+    List(&'a [u8], &'a [usize]),
+    EndWithTruth(bool),
+    EndWithNumber(u32),
+    EndWithSize(usize),
+    EndWithTexts(&'a [u8], &'a [&'a str]),
+    EndWithSizes(&'a [u8], &'a [usize]),
+}
+
+fn lend(to: &mut Held<'_>, call: Lent<'_>) -> Result<(), Fault> {
+    if to.is_finished() {
         return WHOLE;
     }
-    holder.append_encoded(value)
-}
-
-pub fn append_listed(holder: &mut Holder, lead: &[u8], values: &[&str]) -> Result<(), Fault> {
-    if holder.is_finished() {
-        return WHOLE;
+    match call {
+        Lent::Text(text) => to.append_value(&text),
+        Lent::Number(number) => to.append_value(&number),
+        Lent::Size(size) => to.append_value(&size),
+        Lent::List(lead, sizes) => to.append_list(lead, sizes.iter().copied()),
+        Lent::EndWithTruth(truth) => to.end_with(&truth),
+        Lent::EndWithNumber(number) => to.end_with(&number),
+        Lent::EndWithSize(size) => to.end_with(&size),
+        Lent::EndWithTexts(lead, texts) => to.end_with_list(lead, texts.iter().copied()),
+        Lent::EndWithSizes(lead, sizes) => to.end_with_list(lead, sizes.iter().copied()),
     }
-    holder.append_listed(lead, values.iter().copied())
-}
-
-pub fn append_value<T: Encode>(holder: &mut Holder, value: &T) -> Result<(), Fault> {
-    if holder.is_finished() {
-        return WHOLE;
-    }
-    holder.append_value(value)
-}
-
-pub fn append_list(holder: &mut Holder, lead: &[u8], values: &[usize]) -> Result<(), Fault> {
-    if holder.is_finished() {
-        return WHOLE;
-    }
-    holder.append_list(lead, values.iter().copied())
-}
-
-pub fn end_with<T: Encode>(holder: &mut Holder, value: &T) -> Result<(), Fault> {
-    if holder.is_finished() {
-        return WHOLE;
-    }
-    holder.end_with(value)
-}
-
-pub fn end_with_list<T: Encode + Copy>(
-    holder: &mut Holder,
-    lead: &[u8],
-    values: &[T],
-) -> Result<(), Fault> {
-    if holder.is_finished() {
-        return WHOLE;
-    }
-    holder.end_with_list(lead, values.iter().copied())
-}
-
-pub fn close(holder: &mut Holder, text: &[u8]) -> Result<(), Fault> {
-    if holder.is_finished() {
-        return WHOLE;
-    }
-    holder.close(text)
-}
-
-pub fn keep_all(holder: &mut Holder, text: &[u8]) -> Result<usize, Fault> {
-    holder.keep_all(&Verbatim(text))
 }

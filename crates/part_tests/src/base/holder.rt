@@ -1,41 +1,11 @@
-use crate::accepted::ok;
-use crate::base::calls::{add, add_encoded, add_listed, copy};
-use crate::base::openings::with_a_member;
-use crate::base::values::{LARGE, OPEN, agree, answers, behind, check};
-use std::alloc::Global;
-use std::process::Abort;
-use wenc_base::{Fault, Holder, Verbatim, section_size};
+//! Members of a holder.
 
-// What the holder's section adds to a sink.
-pub fn encode_section(holder: &Holder, sink: &mut Vec<u8>) -> Result<(), Fault> {
-    holder.encode_section(sink)
-}
-
-// That behind a byte that the sink has.
-fn section(alloc: Global, holder: &Holder) -> Result<Vec<u8>, Fault> {
-    let mut sink = behind(alloc, &[])?;
-    encode_section(holder, &mut sink)?;
-    Ok(sink)
-}
-
-// What can be asked of a holder.
-pub fn has(holder: &Holder, count: u32, body: &[u8]) -> bool {
-    holder.len() == count && holder.as_slice() == body
-}
-
-// What the holder has, and its section behind a byte that the sink has.
-pub fn check_holder(
-    rt: &impl Abort,
-    alloc: Global,
-    holder: &Holder,
-    count: u32,
-    body: &[u8],
-    text: &[u8],
-) {
-    assert!(rt; has(holder, count, body), "{body:?}");
-    assert!(rt; holder.is_finished());
-    agree(rt, section(alloc, holder), behind(alloc, text));
-}
+use crate::accepted::{all_are_well, ok};
+use crate::base::calls::{Lent, Listed, Member, Piece};
+use crate::base::steps::{DONE, MANY, Step, UNFINISHED, first_wrong};
+use crate::base::values::LARGE;
+use refusing::Refusing;
+use wenc_base::{Fault, Holder, section_size};
 
 type Size = (u32, u64, Result<u32, Fault>);
 
@@ -53,116 +23,330 @@ const SIZES: &[Size] = &[
     (0, 18446744073709551615, Err(Fault::TooLarge)),
 ];
 
-fn is_size(row: &Size) -> bool {
-    section_size(row.0, row.1) == row.2
-}
-
 #[test]
 fn section_sizes(rt: HostRuntime) {
-    for row in SIZES {
-        assert!(rt; is_size(row), "of {} with {}", row.0, row.1);
+    for (count, body, wanted) in SIZES {
+        assert!(rt;
+            section_size(*count, *body) == *wanted,
+            "of {count} with {body}"
+        );
     }
 }
 
-const TWO: &[u8] = &[0xaa, 0xbb, 0x01, 0x66, 0x80, 0x01];
-
-const THREE: &[u8] = &[
-    0xaa, 0xbb, 0x01, 0x66, 0x80, 0x01, 0x01, 0x02, 0x01, 0x80, 0x01, 0x01, 0x67,
+const MEMBERS: &[Step<'static>] = &[
+    Step::Whole(0, &[], &[0x01, 0x00]),
+    Step::Member(Member::Add(&[0xaa, 0xbb]), DONE),
+    Step::Whole(1, &[0xaa, 0xbb], &[0x03, 0x01, 0xaa, 0xbb]),
+    Step::Member(Member::Named("f", 128), DONE),
+    Step::Whole(
+        2,
+        &[0xaa, 0xbb, 0x01, 0x66, 0x80, 0x01],
+        &[0x07, 0x02, 0xaa, 0xbb, 0x01, 0x66, 0x80, 0x01],
+    ),
+    Step::Member(
+        Member::Listed(Listed::TruthAndText(true, &[1, 128], "g")),
+        DONE,
+    ),
+    Step::Whole(
+        3,
+        &[
+            0xaa, 0xbb, 0x01, 0x66, 0x80, 0x01, 0x01, 0x02, 0x01, 0x80, 0x01, 0x01, 0x67,
+        ],
+        &[
+            0x0e, 0x03, 0xaa, 0xbb, 0x01, 0x66, 0x80, 0x01, 0x01, 0x02, 0x01, 0x80, 0x01, 0x01,
+            0x67,
+        ],
+    ),
 ];
-
-const THREE_COUNTED: &[u8] = &[
-    0x0e, 0x03, 0xaa, 0xbb, 0x01, 0x66, 0x80, 0x01, 0x01, 0x02, 0x01, 0x80, 0x01, 0x01, 0x67,
-];
-
-#[test]
-fn members(rt: HostRuntime) {
-    let alloc = rt.alloc();
-    let mut holder = Holder::new(alloc);
-    check_holder(&rt, alloc, &holder, 0, &[], &[0x01, 0x00]);
-    ok(&rt, add(&mut holder, &[0xaa, 0xbb]));
-    let one = [0x03, 0x01, 0xaa, 0xbb].as_slice();
-    check_holder(&rt, alloc, &holder, 1, &[0xaa, 0xbb], one);
-    ok(&rt, add_encoded(&mut holder, &("f", 128u32)));
-    let two = [0x07, 0x02, 0xaa, 0xbb, 0x01, 0x66, 0x80, 0x01].as_slice();
-    check_holder(&rt, alloc, &holder, 2, TWO, two);
-    ok(&rt, add_listed(&mut holder, &true, &[1, 128], &"g"));
-    check_holder(&rt, alloc, &holder, 3, THREE, THREE_COUNTED);
-}
 
 // A member without bytes is counted too.
+const EMPTY_MEMBERS: &[Step<'static>] = &[
+    Step::Member(Member::Add(&[]), DONE),
+    Step::Member(Member::Nothing, DONE),
+    Step::Whole(2, &[], &[0x01, 0x02]),
+    Step::Member(Member::Listed(Listed::Alone(&[])), DONE),
+    Step::Whole(3, &[0x00], &[0x02, 0x03, 0x00]),
+];
+
+const ONE: Step<'static> = Step::Whole(1, &[0xaa], &[0x02, 0x01, 0xaa]);
+
+// Each of these has a part that is refused, some behind parts that were written. The first refusal that is met is
+// answered.
+const REFUSED_MEMBERS: &[Step<'static>] = &[
+    Step::Member(Member::Add(&[0xaa]), DONE),
+    Step::Member(Member::Size(LARGE), MANY),
+    Step::Member(Member::Pair(1, LARGE), MANY),
+    Step::Member(Member::Unfinished, UNFINISHED),
+    Step::Member(Member::Listed(Listed::Size(LARGE, &[1])), MANY),
+    Step::Member(Member::Listed(Listed::Number(1, &[1, LARGE])), MANY),
+    Step::Member(Member::Listed(Listed::NumberAndSize(1, &[1], LARGE)), MANY),
+    Step::Member(
+        Member::Listed(Listed::UnfinishedAndSize(&[LARGE], LARGE)),
+        UNFINISHED,
+    ),
+    Step::Member(
+        Member::Listed(Listed::NumberAndUnfinished(1, &[LARGE])),
+        MANY,
+    ),
+    ONE,
+    Step::Member(Member::Add(&[0xbb]), DONE),
+    Step::Whole(2, &[0xaa, 0xbb], &[0x03, 0x02, 0xaa, 0xbb]),
+];
+
+const PIECE_BY_PIECE: &[Step<'static>] = &[
+    Step::Member(Member::Add(&[0xaa]), DONE),
+    Step::Member(Member::Open(&[1, 2]), DONE),
+    Step::Begun(2, &[0xaa, 1, 2], true),
+    Step::Piece(Piece::Append(&[3]), DONE),
+    Step::Begun(2, &[0xaa, 1, 2, 3], false),
+    Step::Piece(Piece::Text("f"), DONE),
+    Step::Begun(2, &[0xaa, 1, 2, 3, 1, 0x66], false),
+];
+
+const CLOSED: &[Step<'static>] = &[
+    Step::Member(Member::Add(&[0xaa]), DONE),
+    Step::Member(Member::Open(&[1, 2]), DONE),
+    Step::Piece(Piece::Text("f"), DONE),
+    Step::Piece(Piece::Close(&[4]), DONE),
+    Step::IsOpened(false),
+    Step::Whole(
+        2,
+        &[0xaa, 1, 2, 1, 0x66, 4],
+        &[0x07, 0x02, 0xaa, 1, 2, 1, 0x66, 4],
+    ),
+    Step::Member(Member::Add(&[5]), DONE),
+    Step::Whole(
+        3,
+        &[0xaa, 1, 2, 1, 0x66, 4, 5],
+        &[0x08, 0x03, 0xaa, 1, 2, 1, 0x66, 4, 5],
+    ),
+];
+
+const EMPTY_PIECES: &[Step<'static>] = &[
+    Step::Member(Member::Open(&[]), DONE),
+    Step::Begun(1, &[], true),
+    Step::Piece(Piece::Append(&[]), DONE),
+    Step::Begun(1, &[], true),
+    Step::Piece(Piece::Close(&[]), DONE),
+    Step::Whole(1, &[], &[0x01, 0x01]),
+];
+
+// What the holder with a member has, once three bytes are its two members.
+const TWO: Step<'static> = Step::Whole(2, &[0xaa, 1, 2], &[0x04, 0x02, 0xaa, 1, 2]);
+
+const THE_LEAD_ALONE: &[Step<'static>] = &[
+    Step::Member(Member::Add(&[0xaa]), DONE),
+    Step::Member(Member::Open(&[1, 2]), DONE),
+    Step::FinishMember,
+    Step::IsOpened(false),
+    TWO,
+];
+
+const REFUSED_WHILE_UNFINISHED: &[Step<'static>] = &[
+    Step::Member(Member::Add(&[0xaa]), DONE),
+    Step::Member(Member::Open(&[1]), DONE),
+    Step::Member(Member::Add(&[9]), UNFINISHED),
+    Step::Member(Member::Number(9), UNFINISHED),
+    Step::Member(Member::Size(LARGE), UNFINISHED),
+    Step::Member(Member::Listed(Listed::Number(1, &[2])), UNFINISHED),
+    Step::Begun(2, &[0xaa, 1], true),
+];
+
+const OPENED_ONCE: &[Step<'static>] = &[
+    Step::Member(Member::Add(&[0xaa]), DONE),
+    Step::Member(Member::Open(&[1]), DONE),
+    Step::Piece(Piece::Append(&[2]), DONE),
+    Step::Member(Member::Open(&[9]), UNFINISHED),
+    Step::Member(Member::Open(&[]), UNFINISHED),
+    Step::Begun(2, &[0xaa, 1, 2], false),
+    Step::FinishMember,
+    TWO,
+];
+
+const DISCARDED: &[Step<'static>] = &[
+    Step::Member(Member::Add(&[0xaa]), DONE),
+    Step::Member(Member::Open(&[1, 2]), DONE),
+    Step::Discard(true),
+    ONE,
+    Step::Discard(false),
+    ONE,
+    Step::Member(Member::Add(&[0xbb]), DONE),
+    Step::Whole(2, &[0xaa, 0xbb], &[0x03, 0x02, 0xaa, 0xbb]),
+];
+
+// The second of these has a part that was written when the other was refused.
+const REFUSED_PIECES: &[Step<'static>] = &[
+    Step::Member(Member::Add(&[0xaa]), DONE),
+    Step::Member(Member::Open(&[1]), DONE),
+    Step::Piece(Piece::Size(LARGE), MANY),
+    Step::Begun(2, &[0xaa, 1], true),
+    Step::Piece(Piece::Named("f", LARGE), MANY),
+    Step::Begun(2, &[0xaa, 1], true),
+];
+
+const UNFINISHED_PIECES: &[Step<'static>] = &[
+    Step::Member(Member::Add(&[0xaa]), DONE),
+    Step::Member(Member::Open(&[1]), DONE),
+    Step::Piece(Piece::Unfinished, UNFINISHED),
+    Step::Begun(2, &[0xaa, 1], true),
+    Step::Piece(Piece::Close(&[2]), DONE),
+    TWO,
+];
+
+const VALUES_AND_LISTS: &[Step<'static>] = &[
+    Step::Member(Member::Open(&[]), DONE),
+    Step::Piece(Piece::Lent(Lent::Text("f")), DONE),
+    Step::Piece(Piece::Lent(Lent::List(&[0x60], &[1, 128])), DONE),
+    Step::Piece(Piece::Texts(&[2, 3], &["g"]), DONE),
+    Step::Piece(Piece::Lent(Lent::EndWithTruth(true)), DONE),
+    Step::Whole(
+        1,
+        &[1, 0x66, 0x60, 2, 1, 0x80, 1, 2, 3, 1, 1, 0x67, 1],
+        &[14, 1, 1, 0x66, 0x60, 2, 1, 0x80, 1, 2, 3, 1, 1, 0x67, 1],
+    ),
+];
+
+const ENDED_WITH_A_LIST: &[Step<'static>] = &[
+    Step::Member(Member::Open(&[9]), DONE),
+    Step::Piece(Piece::Lent(Lent::EndWithTexts(&[8], &["f"])), DONE),
+    Step::Member(Member::Open(&[]), DONE),
+    Step::Piece(Piece::Lent(Lent::Number(7)), DONE),
+    Step::Piece(Piece::Lent(Lent::List(&[], &[])), DONE),
+    Step::EndMember,
+    Step::Whole(
+        2,
+        &[9, 8, 1, 1, 0x66, 7, 0],
+        &[8, 2, 9, 8, 1, 1, 0x66, 7, 0],
+    ),
+];
+
+// The second value of the list can't be encoded.
+const REFUSED_VALUES: &[Step<'static>] = &[
+    Step::Member(Member::Open(&[1]), DONE),
+    Step::Piece(Piece::Lent(Lent::Size(LARGE)), MANY),
+    Step::Piece(Piece::Lent(Lent::List(&[2], &[3, LARGE])), MANY),
+    Step::Begun(1, &[1], true),
+];
+
+const REFUSED_ENDS: &[Step<'static>] = &[
+    Step::Member(Member::Open(&[1]), DONE),
+    Step::Piece(Piece::Lent(Lent::EndWithSize(LARGE)), MANY),
+    Step::Begun(1, &[1], true),
+    Step::Piece(Piece::Lent(Lent::EndWithSizes(&[2], &[3, LARGE])), MANY),
+    Step::Begun(1, &[1], true),
+    Step::Piece(Piece::Lent(Lent::EndWithNumber(2)), DONE),
+    Step::Whole(1, &[1, 2], &[3, 1, 1, 2]),
+];
+
+const RUNS: &[(&str, &[Step<'static>])] = &[
+    ("members", MEMBERS),
+    ("empty members", EMPTY_MEMBERS),
+    ("refused members", REFUSED_MEMBERS),
+    ("piece by piece", PIECE_BY_PIECE),
+    ("closed", CLOSED),
+    ("empty pieces", EMPTY_PIECES),
+    ("the lead alone", THE_LEAD_ALONE),
+    ("refused while unfinished", REFUSED_WHILE_UNFINISHED),
+    ("opened once", OPENED_ONCE),
+    ("discarded", DISCARDED),
+    ("refused pieces", REFUSED_PIECES),
+    ("unfinished pieces", UNFINISHED_PIECES),
+    ("values and lists", VALUES_AND_LISTS),
+    ("ended with a list", ENDED_WITH_A_LIST),
+    ("refused values", REFUSED_VALUES),
+    ("refused ends", REFUSED_ENDS),
+];
+
 #[test]
-fn empty_members(rt: HostRuntime) {
-    let alloc = rt.alloc();
-    let mut holder = Holder::new(alloc);
-    ok(&rt, add(&mut holder, &[]));
-    ok(&rt, add_encoded(&mut holder, &()));
-    check_holder(&rt, alloc, &holder, 2, &[], &[0x01, 0x02]);
-    ok(&rt, add_listed(&mut holder, &(), &[], &()));
-    check_holder(&rt, alloc, &holder, 3, &[0x00], &[0x02, 0x03, 0x00]);
+fn steps_from_no_members(rt: HostRuntime) {
+    let heap = Refusing::new(rt.alloc());
+    for (name, steps) in RUNS {
+        let mut holder = Holder::new(&heap);
+        all_are_well(&rt, name, first_wrong(rt.alloc(), &mut holder, steps));
+    }
 }
 
-// The section of so many members of a byte.
-fn long_section(rt: &impl Abort, alloc: Global, count: u32) -> Vec<u8> {
-    let mut holder = Holder::new(alloc);
-    for _ in 0..count {
-        ok(rt, add(&mut holder, &[0x2a]));
+/// Steps with a holder or with its copy.
+enum Of<'a> {
+    Source(&'a [Step<'a>]),
+    Copy(&'a [Step<'a>]),
+}
+
+const COPIED: &[Of<'static>] = &[
+    Of::Copy(&[ONE]),
+    Of::Source(&[Step::Member(Member::Add(&[0xbb]), DONE)]),
+    Of::Copy(&[
+        ONE,
+        Step::Member(Member::Add(&[0xcc]), DONE),
+        Step::Member(Member::Add(&[0xdd]), DONE),
+    ]),
+    Of::Source(&[Step::Whole(2, &[0xaa, 0xbb], &[0x03, 0x02, 0xaa, 0xbb])]),
+    Of::Copy(&[Step::Whole(3, &[0xaa, 0xcc, 0xdd], &[0x04, 0x03, 0xaa, 0xcc, 0xdd])]),
+];
+
+const COPIED_WHEN_OPENED: &[Of<'static>] = &[
+    Of::Source(&[Step::Piece(Piece::Append(&[2]), DONE)]),
+    Of::Copy(&[Step::Begun(2, &[0xaa, 1], true)]),
+];
+
+const COPIED_WHEN_BEGUN: &[Of<'static>] = &[
+    Of::Copy(&[
+        Step::Begun(2, &[0xaa, 1, 2], false),
+        Step::Discard(true),
+        ONE,
+    ]),
+    Of::Source(&[Step::Begun(2, &[0xaa, 1, 2], false)]),
+];
+
+/// What is done before the copy is made, and then.
+const COPIES: &[(&[Step<'static>], &[Of<'static>])] = &[
+    (&[Step::Member(Member::Add(&[0xaa]), DONE)], COPIED),
+    (
+        &[
+            Step::Member(Member::Add(&[0xaa]), DONE),
+            Step::Member(Member::Open(&[1]), DONE),
+        ],
+        COPIED_WHEN_OPENED,
+    ),
+    (
+        &[
+            Step::Member(Member::Add(&[0xaa]), DONE),
+            Step::Member(Member::Open(&[1]), DONE),
+            Step::Piece(Piece::Append(&[2]), DONE),
+        ],
+        COPIED_WHEN_BEGUN,
+    ),
+];
+
+#[test]
+fn steps_with_copies(rt: HostRuntime) {
+    let alloc = rt.alloc();
+    let heap = Refusing::new(alloc);
+    for (before, then) in COPIES {
+        let mut source = Holder::new(&heap);
+        all_are_well(&rt, "before", first_wrong(alloc, &mut source, before));
+        let mut copy = ok(&rt, source.clone());
+        for of in *then {
+            let wrong = match of {
+                Of::Source(steps) => first_wrong(alloc, &mut source, steps),
+                Of::Copy(steps) => first_wrong(alloc, &mut copy, steps),
+            };
+            all_are_well(&rt, "copied", wrong);
+        }
     }
-    let mut sink = Vec::new(alloc);
-    ok(rt, encode_section(&holder, &mut sink));
-    sink
 }
 
 // With 128 members the count has two bytes, and with 126 bytes behind it so has the size.
 #[test]
 fn long_sections(rt: HostRuntime) {
-    let sink = long_section(&rt, rt.alloc(), 128);
+    let heap = Refusing::new(rt.alloc());
+    let mut holder = Holder::new(&heap);
+    for _ in 0..128 {
+        ok(&rt, holder.add(&[0x2a]));
+    }
+    let mut sink = Vec::new(rt.alloc());
+    ok(&rt, holder.encode_section(&mut sink));
     assert!(rt; sink.len() == 132);
     let start = [0x82, 0x01, 0x80, 0x01, 0x2a];
     assert!(rt; sink.as_slice().starts_with(start.as_slice()));
-}
-
-#[test]
-fn clones(rt: HostRuntime) {
-    let alloc = rt.alloc();
-    let mut holder = with_a_member(&rt, alloc);
-    let mut other = ok(&rt, copy(&holder));
-    check_holder(&rt, alloc, &other, 1, &[0xaa], &[0x02, 0x01, 0xaa]);
-    ok(&rt, add(&mut holder, &[0xbb]));
-    check_holder(&rt, alloc, &other, 1, &[0xaa], &[0x02, 0x01, 0xaa]);
-    ok(&rt, add(&mut other, &[0xcc]));
-    ok(&rt, add(&mut other, &[0xdd]));
-    let two = [0x03, 0x02, 0xaa, 0xbb].as_slice();
-    check_holder(&rt, alloc, &holder, 2, &[0xaa, 0xbb], two);
-    let three = [0x04, 0x03, 0xaa, 0xcc, 0xdd].as_slice();
-    check_holder(&rt, alloc, &other, 3, &[0xaa, 0xcc, 0xdd], three);
-}
-
-// Each of these has a part that is refused, some behind parts that were written.
-#[test]
-fn refused_members(rt: HostRuntime) {
-    let alloc = rt.alloc();
-    let mut h = with_a_member(&rt, alloc);
-    let (many, open) = (Err(Fault::TooMany), Err(Fault::Unfinished));
-    answers(&rt, add_encoded(&mut h, &LARGE), many);
-    answers(&rt, add_encoded(&mut h, &(1u32, LARGE)), many);
-    answers(&rt, add_encoded(&mut h, &OPEN), open);
-    answers(&rt, add_listed(&mut h, &LARGE, &[1], &()), many);
-    answers(&rt, add_listed(&mut h, &1u32, &[1, LARGE], &()), many);
-    answers(&rt, add_listed(&mut h, &1u32, &[1], &LARGE), many);
-    // The first refusal that is met is answered.
-    answers(&rt, add_listed(&mut h, &OPEN, &[LARGE], &LARGE), open);
-    answers(&rt, add_listed(&mut h, &1u32, &[LARGE], &OPEN), many);
-    check_holder(&rt, alloc, &h, 1, &[0xaa], &[0x02, 0x01, 0xaa]);
-    ok(&rt, add(&mut h, &[0xbb]));
-    let two = [0x03, 0x02, 0xaa, 0xbb].as_slice();
-    check_holder(&rt, alloc, &h, 2, &[0xaa, 0xbb], two);
-}
-
-#[test]
-fn as_they_are(rt: HostRuntime) {
-    let alloc = rt.alloc();
-    check(&rt, alloc, &(), &[]);
-    check(&rt, alloc, &Verbatim(&[]), &[]);
-    check(&rt, alloc, &Verbatim(&[0x80, 0x00]), &[0x80, 0x00]);
-    check(&rt, alloc, &(Verbatim(&[0x01]), ((), 2u32)), &[0x01, 0x02]);
 }

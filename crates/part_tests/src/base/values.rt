@@ -23,6 +23,11 @@ pub fn behind(alloc: Global, bytes: &[u8]) -> Result<Vec<u8>, Fault> {
     Ok(sink)
 }
 
+// Whether the sink has that byte and these.
+pub fn is_behind(sink: &[u8], bytes: &[u8]) -> bool {
+    sink.strip_prefix([0x99].as_slice()) == Some(bytes)
+}
+
 // What a value appends behind that byte.
 fn appended<T: Encode>(alloc: Global, value: &T) -> Result<Vec<u8>, Fault> {
     let mut sink = behind(alloc, &[])?;

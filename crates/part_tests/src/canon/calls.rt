@@ -7,113 +7,135 @@ use wenc_base::{Fault, ValType};
 use wenc_canon::{CanonicalFunctionSection, CanonicalOption};
 use wenc_parts::ComponentValType;
 
-/// A call.
+type Section<'a> = CanonicalFunctionSection<&'a Refusing>;
+
+/// Functions that are lifted or lowered, and those of resources.
 #[derive(Clone, Copy)]
-pub enum Call<'a> {
+pub enum Function<'a> {
     Lift(u32, u32, &'a [CanonicalOption]),
     Lower(u32, &'a [CanonicalOption]),
     ResourceNew(u32),
     ResourceDrop(u32),
     ResourceRep(u32),
+}
+
+fn add_function(to: &mut Section<'_>, call: Function<'_>) -> Result<(), Fault> {
+    match call {
+        Function::Lift(function, ty, options) => to.lift(function, ty, options.iter().copied()),
+        Function::Lower(function, options) => to.lower(function, options.iter().copied()),
+        Function::ResourceNew(ty) => to.resource_new(ty),
+        Function::ResourceDrop(ty) => to.resource_drop(ty),
+        Function::ResourceRep(ty) => to.resource_rep(ty),
+    }
+}
+
+/// Those of tasks and subtasks.
+#[derive(Clone, Copy)]
+pub enum Task<'a> {
     BackpressureInc,
     BackpressureDec,
-    TaskReturn(Option<ComponentValType>, &'a [CanonicalOption]),
-    TaskCancel,
+    Return(Option<ComponentValType>, &'a [CanonicalOption]),
+    Cancel,
     ContextGet(ValType, u32),
     ContextSet(ValType, u32),
     SubtaskDrop,
     SubtaskCancel(bool),
+}
+
+fn add_task(to: &mut Section<'_>, call: Task<'_>) -> Result<(), Fault> {
+    match call {
+        Task::BackpressureInc => to.backpressure_inc(),
+        Task::BackpressureDec => to.backpressure_dec(),
+        Task::Return(ty, options) => to.task_return(ty, options.iter().copied()),
+        Task::Cancel => to.task_cancel(),
+        Task::ContextGet(ty, slot) => to.context_get(ty, slot),
+        Task::ContextSet(ty, slot) => to.context_set(ty, slot),
+        Task::SubtaskDrop => to.subtask_drop(),
+        Task::SubtaskCancel(waits) => to.subtask_cancel(waits),
+    }
+}
+
+/// Those of streams.
+#[derive(Clone, Copy)]
+pub enum Stream<'a> {
+    New(u32),
+    Read(u32, &'a [CanonicalOption]),
+    Write(u32, &'a [CanonicalOption]),
+    Forward(u32),
+    CancelRead(u32, bool),
+    CancelWrite(u32, bool),
+    DropReadable(u32),
+    DropWritable(u32),
+}
+
+fn add_stream(to: &mut Section<'_>, call: Stream<'_>) -> Result<(), Fault> {
+    match call {
+        Stream::New(ty) => to.stream_new(ty),
+        Stream::Read(ty, options) => to.stream_read(ty, options.iter().copied()),
+        Stream::Write(ty, options) => to.stream_write(ty, options.iter().copied()),
+        Stream::Forward(ty) => to.stream_forward(ty),
+        Stream::CancelRead(ty, waits) => to.stream_cancel_read(ty, waits),
+        Stream::CancelWrite(ty, waits) => to.stream_cancel_write(ty, waits),
+        Stream::DropReadable(ty) => to.stream_drop_readable(ty),
+        Stream::DropWritable(ty) => to.stream_drop_writable(ty),
+    }
+}
+
+/// Those of futures.
+#[derive(Clone, Copy)]
+pub enum Future<'a> {
+    New(u32),
+    Read(u32, &'a [CanonicalOption]),
+    Write(u32, &'a [CanonicalOption]),
+    Forward(u32),
+    CancelRead(u32, bool),
+    CancelWrite(u32, bool),
+    DropReadable(u32),
+    DropWritable(u32),
+}
+
+fn add_future(to: &mut Section<'_>, call: Future<'_>) -> Result<(), Fault> {
+    match call {
+        Future::New(ty) => to.future_new(ty),
+        Future::Read(ty, options) => to.future_read(ty, options.iter().copied()),
+        Future::Write(ty, options) => to.future_write(ty, options.iter().copied()),
+        Future::Forward(ty) => to.future_forward(ty),
+        Future::CancelRead(ty, waits) => to.future_cancel_read(ty, waits),
+        Future::CancelWrite(ty, waits) => to.future_cancel_write(ty, waits),
+        Future::DropReadable(ty) => to.future_drop_readable(ty),
+        Future::DropWritable(ty) => to.future_drop_writable(ty),
+    }
+}
+
+/// Those of error contexts and of waitables.
+#[derive(Clone, Copy)]
+pub enum Waitable<'a> {
     ErrorContextNew(&'a [CanonicalOption]),
     ErrorContextDebugMessage(&'a [CanonicalOption]),
     ErrorContextDrop,
-    WaitableSetNew,
-    WaitableSetWait(u32),
-    WaitableSetPoll(u32),
-    WaitableSetDrop,
-    WaitableJoin,
-    Transfer(Transfer<'a>),
-    Thread(Thread),
+    SetNew,
+    SetWait(u32),
+    SetPoll(u32),
+    SetDrop,
+    Join,
 }
 
-impl<'a, 'b> Adds<Functions<'a>> for Call<'b> {
-    fn add(&self, to: &mut Functions<'a>) -> Result<(), Fault> {
-        let to = &mut to.0;
-        match *self {
-            Call::Lift(function, ty, options) => to.lift(function, ty, options.iter().copied()),
-            Call::Lower(function, options) => to.lower(function, options.iter().copied()),
-            Call::ResourceNew(ty) => to.resource_new(ty),
-            Call::ResourceDrop(ty) => to.resource_drop(ty),
-            Call::ResourceRep(ty) => to.resource_rep(ty),
-            Call::BackpressureInc => to.backpressure_inc(),
-            Call::BackpressureDec => to.backpressure_dec(),
-            Call::TaskReturn(ty, options) => to.task_return(ty, options.iter().copied()),
-            Call::TaskCancel => to.task_cancel(),
-            Call::ContextGet(ty, slot) => to.context_get(ty, slot),
-            Call::ContextSet(ty, slot) => to.context_set(ty, slot),
-            Call::SubtaskDrop => to.subtask_drop(),
-            Call::SubtaskCancel(waits) => to.subtask_cancel(waits),
-            Call::ErrorContextNew(options) => to.error_context_new(options.iter().copied()),
-            Call::ErrorContextDebugMessage(options) => {
-                to.error_context_debug_message(options.iter().copied())
-            }
-            Call::ErrorContextDrop => to.error_context_drop(),
-            Call::WaitableSetNew => to.waitable_set_new(),
-            Call::WaitableSetWait(memory) => to.waitable_set_wait(memory),
-            Call::WaitableSetPoll(memory) => to.waitable_set_poll(memory),
-            Call::WaitableSetDrop => to.waitable_set_drop(),
-            Call::WaitableJoin => to.waitable_join(),
-            Call::Transfer(call) => add_transfer(to, call),
-            Call::Thread(call) => add_thread(to, call),
-        }
-    }
-}
-
-/// A call of streams or of futures.
-#[derive(Clone, Copy)]
-pub enum Transfer<'a> {
-    StreamNew(u32),
-    StreamRead(u32, &'a [CanonicalOption]),
-    StreamWrite(u32, &'a [CanonicalOption]),
-    StreamForward(u32),
-    StreamCancelRead(u32, bool),
-    StreamCancelWrite(u32, bool),
-    StreamDropReadable(u32),
-    StreamDropWritable(u32),
-    FutureNew(u32),
-    FutureRead(u32, &'a [CanonicalOption]),
-    FutureWrite(u32, &'a [CanonicalOption]),
-    FutureForward(u32),
-    FutureCancelRead(u32, bool),
-    FutureCancelWrite(u32, bool),
-    FutureDropReadable(u32),
-    FutureDropWritable(u32),
-}
-
-fn add_transfer(
-    to: &mut CanonicalFunctionSection<&Refusing>,
-    call: Transfer<'_>,
-) -> Result<(), Fault> {
+fn add_waitable(to: &mut Section<'_>, call: Waitable<'_>) -> Result<(), Fault> {
     match call {
-        Transfer::StreamNew(ty) => to.stream_new(ty),
-        Transfer::StreamRead(ty, options) => to.stream_read(ty, options.iter().copied()),
-        Transfer::StreamWrite(ty, options) => to.stream_write(ty, options.iter().copied()),
-        Transfer::StreamForward(ty) => to.stream_forward(ty),
-        Transfer::StreamCancelRead(ty, waits) => to.stream_cancel_read(ty, waits),
-        Transfer::StreamCancelWrite(ty, waits) => to.stream_cancel_write(ty, waits),
-        Transfer::StreamDropReadable(ty) => to.stream_drop_readable(ty),
-        Transfer::StreamDropWritable(ty) => to.stream_drop_writable(ty),
-        Transfer::FutureNew(ty) => to.future_new(ty),
-        Transfer::FutureRead(ty, options) => to.future_read(ty, options.iter().copied()),
-        Transfer::FutureWrite(ty, options) => to.future_write(ty, options.iter().copied()),
-        Transfer::FutureForward(ty) => to.future_forward(ty),
-        Transfer::FutureCancelRead(ty, waits) => to.future_cancel_read(ty, waits),
-        Transfer::FutureCancelWrite(ty, waits) => to.future_cancel_write(ty, waits),
-        Transfer::FutureDropReadable(ty) => to.future_drop_readable(ty),
-        Transfer::FutureDropWritable(ty) => to.future_drop_writable(ty),
+        Waitable::ErrorContextNew(options) => to.error_context_new(options.iter().copied()),
+        Waitable::ErrorContextDebugMessage(options) => {
+            to.error_context_debug_message(options.iter().copied())
+        }
+        Waitable::ErrorContextDrop => to.error_context_drop(),
+        Waitable::SetNew => to.waitable_set_new(),
+        Waitable::SetWait(memory) => to.waitable_set_wait(memory),
+        Waitable::SetPoll(memory) => to.waitable_set_poll(memory),
+        Waitable::SetDrop => to.waitable_set_drop(),
+        Waitable::Join => to.waitable_join(),
     }
 }
 
-/// A call of threads.
+/// Those of threads.
 #[derive(Clone, Copy)]
 pub enum Thread {
     SpawnRef(u32),
@@ -130,7 +152,7 @@ pub enum Thread {
     YieldThenPromote,
 }
 
-fn add_thread(to: &mut CanonicalFunctionSection<&Refusing>, call: Thread) -> Result<(), Fault> {
+fn add_thread(to: &mut Section<'_>, call: Thread) -> Result<(), Fault> {
     match call {
         Thread::SpawnRef(ty) => to.thread_spawn_ref(ty),
         Thread::SpawnIndirect(ty, table) => to.thread_spawn_indirect(ty, table),
@@ -144,5 +166,29 @@ fn add_thread(to: &mut CanonicalFunctionSection<&Refusing>, call: Thread) -> Res
         Thread::YieldThenResume => to.thread_yield_then_resume(),
         Thread::SuspendThenPromote => to.thread_suspend_then_promote(),
         Thread::YieldThenPromote => to.thread_yield_then_promote(),
+    }
+}
+
+/// Any of these calls.
+#[derive(Clone, Copy)]
+pub enum Call<'a> {
+    Function(Function<'a>),
+    Task(Task<'a>),
+    Stream(Stream<'a>),
+    Future(Future<'a>),
+    Waitable(Waitable<'a>),
+    Thread(Thread),
+}
+
+impl<'a, 'b> Adds<Functions<'a>> for Call<'b> {
+    fn add(&self, to: &mut Functions<'a>) -> Result<(), Fault> {
+        match *self {
+            Call::Function(call) => add_function(&mut to.0, call),
+            Call::Task(call) => add_task(&mut to.0, call),
+            Call::Stream(call) => add_stream(&mut to.0, call),
+            Call::Future(call) => add_future(&mut to.0, call),
+            Call::Waitable(call) => add_waitable(&mut to.0, call),
+            Call::Thread(call) => add_thread(&mut to.0, call),
+        }
     }
 }

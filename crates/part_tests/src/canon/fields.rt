@@ -1,6 +1,6 @@
 //! Options and slots.
 
-use crate::canon::calls::Call;
+use crate::canon::calls::{Call, Function, Task};
 use crate::canon::rows::row;
 use crate::parts::texts::text_is;
 use crate::swept::check_each;
@@ -48,7 +48,8 @@ fn each_option_is_written(rt: HostRuntime) {
     for (option, alone, wanted) in OPTIONS {
         text_is(&rt, alloc, option, alone);
         let options = [*option];
-        row(&rt, alloc, &heap, Call::Lower(0, options.as_slice()), wanted);
+        let lowered = Function::Lower(0, options.as_slice());
+        row(&rt, alloc, &heap, Call::Function(lowered), wanted);
     }
     check_each(&rt, alloc, LARGE_OPTIONS);
 }
@@ -96,7 +97,9 @@ fn slots_have_core_value_types(rt: HostRuntime) {
     let alloc = rt.alloc();
     let heap = Refusing::new(alloc);
     for (ty, get, set) in TYPES {
-        row(&rt, alloc, &heap, Call::ContextGet(*ty, 128), get);
-        row(&rt, alloc, &heap, Call::ContextSet(*ty, 128), set);
+        let gets = Call::Task(Task::ContextGet(*ty, 128));
+        row(&rt, alloc, &heap, gets, get);
+        let sets = Call::Task(Task::ContextSet(*ty, 128));
+        row(&rt, alloc, &heap, sets, set);
     }
 }

@@ -1,7 +1,7 @@
 //! Each call: the row that it adds, and each of its requests for memory refused in turn.
 
 use crate::accepted::{is_well, ok};
-use crate::canon::calls::{Call, Thread, Transfer};
+use crate::canon::calls::{Call, Function, Future, Stream, Task, Thread, Waitable};
 use crate::canon::functions::{Functions, LONG};
 use refusing::Refusing;
 use std::alloc::Global;
@@ -43,117 +43,117 @@ pub fn row(rt: &impl Abort, alloc: Global, heap: &Refusing, call: Call<'_>, want
 
 const FUNCTIONS: &[(Call<'static>, &str)] = &[
     (
-        Call::Lift(128, 10, BOTH),
+        Call::Function(Function::Lift(128, 10, BOTH)),
         "00008001020003000a",
     ),
     (
-        Call::Lower(128, WAITS),
+        Call::Function(Function::Lower(128, WAITS)),
         "01008001020006",
     ),
-    (Call::ResourceNew(128), "028001"),
-    (Call::ResourceDrop(128), "038001"),
-    (Call::ResourceRep(128), "048001"),
+    (Call::Function(Function::ResourceNew(128)), "028001"),
+    (Call::Function(Function::ResourceDrop(128)), "038001"),
+    (Call::Function(Function::ResourceRep(128)), "048001"),
 ];
 
 const LONG_FUNCTIONS: &[Call<'static>] = &[
-    Call::Lift(LARGE, LARGE, LONG),
-    Call::Lower(LARGE, LONG),
-    Call::ResourceNew(LARGE),
-    Call::ResourceDrop(LARGE),
-    Call::ResourceRep(LARGE),
+    Call::Function(Function::Lift(LARGE, LARGE, LONG)),
+    Call::Function(Function::Lower(LARGE, LONG)),
+    Call::Function(Function::ResourceNew(LARGE)),
+    Call::Function(Function::ResourceDrop(LARGE)),
+    Call::Function(Function::ResourceRep(LARGE)),
 ];
 
 const TASKS: &[(Call<'static>, &str)] = &[
-    (Call::BackpressureInc, "24"),
-    (Call::BackpressureDec, "25"),
-    (Call::TaskReturn(STRING, BOTH), "09007302000300"),
-    (Call::TaskCancel, "05"),
-    (Call::ContextGet(ValType::I32, 0), "0a7f00"),
-    (Call::ContextSet(ValType::I32, 0), "0b7f00"),
-    (Call::SubtaskDrop, "0d"),
-    (Call::SubtaskCancel(true), "0601"),
+    (Call::Task(Task::BackpressureInc), "24"),
+    (Call::Task(Task::BackpressureDec), "25"),
+    (Call::Task(Task::Return(STRING, BOTH)), "09007302000300"),
+    (Call::Task(Task::Cancel), "05"),
+    (Call::Task(Task::ContextGet(ValType::I32, 0)), "0a7f00"),
+    (Call::Task(Task::ContextSet(ValType::I32, 0)), "0b7f00"),
+    (Call::Task(Task::SubtaskDrop), "0d"),
+    (Call::Task(Task::SubtaskCancel(true)), "0601"),
 ];
 
 const LONG_TASKS: &[Call<'static>] = &[
-    Call::BackpressureInc,
-    Call::BackpressureDec,
-    Call::TaskReturn(Some(ComponentValType::Type(LARGE)), LONG),
-    Call::TaskReturn(None, LONG),
-    Call::TaskCancel,
-    Call::ContextGet(ValType::I32, LARGE),
-    Call::ContextSet(ValType::I32, LARGE),
-    Call::SubtaskDrop,
-    Call::SubtaskCancel(true),
+    Call::Task(Task::BackpressureInc),
+    Call::Task(Task::BackpressureDec),
+    Call::Task(Task::Return(Some(ComponentValType::Type(LARGE)), LONG)),
+    Call::Task(Task::Return(None, LONG)),
+    Call::Task(Task::Cancel),
+    Call::Task(Task::ContextGet(ValType::I32, LARGE)),
+    Call::Task(Task::ContextSet(ValType::I32, LARGE)),
+    Call::Task(Task::SubtaskDrop),
+    Call::Task(Task::SubtaskCancel(true)),
 ];
 
 const STREAMS: &[(Call<'static>, &str)] = &[
-    (Call::Transfer(Transfer::StreamNew(128)), "0e8001"),
-    (Call::Transfer(Transfer::StreamRead(7, WAITS)), "0f07020006"),
-    (Call::Transfer(Transfer::StreamWrite(7, WAITS)), "1007020006"),
-    (Call::Transfer(Transfer::StreamForward(128)), "2e8001"),
-    (Call::Transfer(Transfer::StreamCancelRead(3, true)), "110301"),
-    (Call::Transfer(Transfer::StreamCancelWrite(3, true)), "120301"),
-    (Call::Transfer(Transfer::StreamDropReadable(128)), "138001"),
-    (Call::Transfer(Transfer::StreamDropWritable(128)), "148001"),
+    (Call::Stream(Stream::New(128)), "0e8001"),
+    (Call::Stream(Stream::Read(7, WAITS)), "0f07020006"),
+    (Call::Stream(Stream::Write(7, WAITS)), "1007020006"),
+    (Call::Stream(Stream::Forward(128)), "2e8001"),
+    (Call::Stream(Stream::CancelRead(3, true)), "110301"),
+    (Call::Stream(Stream::CancelWrite(3, true)), "120301"),
+    (Call::Stream(Stream::DropReadable(128)), "138001"),
+    (Call::Stream(Stream::DropWritable(128)), "148001"),
 ];
 
 const LONG_STREAMS: &[Call<'static>] = &[
-    Call::Transfer(Transfer::StreamNew(LARGE)),
-    Call::Transfer(Transfer::StreamRead(LARGE, LONG)),
-    Call::Transfer(Transfer::StreamWrite(LARGE, LONG)),
-    Call::Transfer(Transfer::StreamForward(LARGE)),
-    Call::Transfer(Transfer::StreamCancelRead(LARGE, true)),
-    Call::Transfer(Transfer::StreamCancelWrite(LARGE, true)),
-    Call::Transfer(Transfer::StreamDropReadable(LARGE)),
-    Call::Transfer(Transfer::StreamDropWritable(LARGE)),
+    Call::Stream(Stream::New(LARGE)),
+    Call::Stream(Stream::Read(LARGE, LONG)),
+    Call::Stream(Stream::Write(LARGE, LONG)),
+    Call::Stream(Stream::Forward(LARGE)),
+    Call::Stream(Stream::CancelRead(LARGE, true)),
+    Call::Stream(Stream::CancelWrite(LARGE, true)),
+    Call::Stream(Stream::DropReadable(LARGE)),
+    Call::Stream(Stream::DropWritable(LARGE)),
 ];
 
 const FUTURES: &[(Call<'static>, &str)] = &[
-    (Call::Transfer(Transfer::FutureNew(128)), "158001"),
-    (Call::Transfer(Transfer::FutureRead(7, WAITS)), "1607020006"),
-    (Call::Transfer(Transfer::FutureWrite(7, WAITS)), "1707020006"),
-    (Call::Transfer(Transfer::FutureForward(128)), "2f8001"),
-    (Call::Transfer(Transfer::FutureCancelRead(3, true)), "180301"),
-    (Call::Transfer(Transfer::FutureCancelWrite(3, true)), "190301"),
-    (Call::Transfer(Transfer::FutureDropReadable(128)), "1a8001"),
-    (Call::Transfer(Transfer::FutureDropWritable(128)), "1b8001"),
+    (Call::Future(Future::New(128)), "158001"),
+    (Call::Future(Future::Read(7, WAITS)), "1607020006"),
+    (Call::Future(Future::Write(7, WAITS)), "1707020006"),
+    (Call::Future(Future::Forward(128)), "2f8001"),
+    (Call::Future(Future::CancelRead(3, true)), "180301"),
+    (Call::Future(Future::CancelWrite(3, true)), "190301"),
+    (Call::Future(Future::DropReadable(128)), "1a8001"),
+    (Call::Future(Future::DropWritable(128)), "1b8001"),
 ];
 
 const LONG_FUTURES: &[Call<'static>] = &[
-    Call::Transfer(Transfer::FutureNew(LARGE)),
-    Call::Transfer(Transfer::FutureRead(LARGE, LONG)),
-    Call::Transfer(Transfer::FutureWrite(LARGE, LONG)),
-    Call::Transfer(Transfer::FutureForward(LARGE)),
-    Call::Transfer(Transfer::FutureCancelRead(LARGE, true)),
-    Call::Transfer(Transfer::FutureCancelWrite(LARGE, true)),
-    Call::Transfer(Transfer::FutureDropReadable(LARGE)),
-    Call::Transfer(Transfer::FutureDropWritable(LARGE)),
+    Call::Future(Future::New(LARGE)),
+    Call::Future(Future::Read(LARGE, LONG)),
+    Call::Future(Future::Write(LARGE, LONG)),
+    Call::Future(Future::Forward(LARGE)),
+    Call::Future(Future::CancelRead(LARGE, true)),
+    Call::Future(Future::CancelWrite(LARGE, true)),
+    Call::Future(Future::DropReadable(LARGE)),
+    Call::Future(Future::DropWritable(LARGE)),
 ];
 
 const WAITABLES: &[(Call<'static>, &str)] = &[
-    (Call::ErrorContextNew(GC), "1c0109"),
+    (Call::Waitable(Waitable::ErrorContextNew(GC)), "1c0109"),
     (
-        Call::ErrorContextDebugMessage(GC),
+        Call::Waitable(Waitable::ErrorContextDebugMessage(GC)),
         "1d0109",
     ),
-    (Call::ErrorContextDrop, "1e"),
-    (Call::WaitableSetNew, "1f"),
-    (Call::WaitableSetWait(5), "200005"),
-    (Call::WaitableSetPoll(5), "210005"),
-    (Call::WaitableSetPoll(0), "210000"),
-    (Call::WaitableSetDrop, "22"),
-    (Call::WaitableJoin, "23"),
+    (Call::Waitable(Waitable::ErrorContextDrop), "1e"),
+    (Call::Waitable(Waitable::SetNew), "1f"),
+    (Call::Waitable(Waitable::SetWait(5)), "200005"),
+    (Call::Waitable(Waitable::SetPoll(5)), "210005"),
+    (Call::Waitable(Waitable::SetPoll(0)), "210000"),
+    (Call::Waitable(Waitable::SetDrop), "22"),
+    (Call::Waitable(Waitable::Join), "23"),
 ];
 
 const LONG_WAITABLES: &[Call<'static>] = &[
-    Call::ErrorContextNew(LONG),
-    Call::ErrorContextDebugMessage(LONG),
-    Call::ErrorContextDrop,
-    Call::WaitableSetNew,
-    Call::WaitableSetWait(LARGE),
-    Call::WaitableSetPoll(LARGE),
-    Call::WaitableSetDrop,
-    Call::WaitableJoin,
+    Call::Waitable(Waitable::ErrorContextNew(LONG)),
+    Call::Waitable(Waitable::ErrorContextDebugMessage(LONG)),
+    Call::Waitable(Waitable::ErrorContextDrop),
+    Call::Waitable(Waitable::SetNew),
+    Call::Waitable(Waitable::SetWait(LARGE)),
+    Call::Waitable(Waitable::SetPoll(LARGE)),
+    Call::Waitable(Waitable::SetDrop),
+    Call::Waitable(Waitable::Join),
 ];
 
 const THREADS: &[(Call<'static>, &str)] = &[

@@ -5,7 +5,7 @@ ghost use Rattle.wenc_base.specs.Piece.{HasForm};
 ghost use Rattle.wenc_canon.specs.Canonicals.{canonical};
 
 use crate::accepted::ok;
-use crate::canon::calls::{Call, Thread};
+use crate::canon::calls::{Call, Function, Task, Thread};
 use crate::canon::functions::Functions;
 use crate::parts::texts::{is, text_is};
 use refusing::Refusing;
@@ -26,15 +26,15 @@ fn grown(alloc: Global, to: &mut Functions<'_>, rows: &[Call<'_>]) -> Result<Str
 
 const SECTIONS: &[(&[Call<'static>], &str)] = &[
     (&[], "0001080100"),
-    (&[Call::TaskCancel], "010008020105"),
+    (&[Call::Task(Task::Cancel)], "010008020105"),
     (
-        &[Call::Lift(0, 0, &[CanonicalOption::UTF8])],
+        &[Call::Function(Function::Lift(0, 0, &[CanonicalOption::UTF8]))],
         "0100080701000000010000",
     ),
     (
         &[
-            Call::ContextGet(ValType::I32, 0),
-            Call::TaskReturn(None, &[]),
+            Call::Task(Task::ContextGet(ValType::I32, 0)),
+            Call::Task(Task::Return(None, &[])),
             Call::Thread(Thread::SpawnIndirect(1, 2)),
         ],
         "0300080b030a7f0009010000410102",
@@ -50,6 +50,12 @@ fn rows_stand_in_their_order(rt: HostRuntime) {
     }
 }
 
+const RESOURCE: Call<'static> = Call::Function(Function::ResourceNew(1));
+
+const CANCEL: Call<'static> = Call::Task(Task::Cancel);
+
+const DROP: Call<'static> = Call::Task(Task::SubtaskDrop);
+
 const ONE_RESOURCE: &str = "01000803010201";
 
 const AND_A_CANCEL: &str = "0200080402020105";
@@ -64,9 +70,9 @@ fn go_their_own_way(
     copy: &mut Functions<'_>,
 ) {
     is(rt, grown(alloc, copy, &[]), ONE_RESOURCE);
-    is(rt, grown(alloc, copy, &[Call::TaskCancel]), AND_A_CANCEL);
+    is(rt, grown(alloc, copy, &[CANCEL]), AND_A_CANCEL);
     is(rt, grown(alloc, source, &[]), ONE_RESOURCE);
-    is(rt, grown(alloc, source, &[Call::SubtaskDrop]), AND_A_DROP);
+    is(rt, grown(alloc, source, &[DROP]), AND_A_DROP);
     is(rt, grown(alloc, copy, &[]), AND_A_CANCEL);
 }
 
@@ -74,7 +80,7 @@ fn go_their_own_way(
 fn clones_go_their_own_way(rt: HostRuntime) {
     let heap = Refusing::new(rt.alloc());
     let mut source = ok(&rt, Functions::empty(&heap));
-    ok(&rt, Call::ResourceNew(1).add(&mut source));
+    ok(&rt, RESOURCE.add(&mut source));
     let mut copy = ok(&rt, source.again());
     go_their_own_way(&rt, rt.alloc(), &mut source, &mut copy);
 }

@@ -134,7 +134,11 @@ const LENGTHS: &[(u64, usize)] = &[(1, 0), (2, 8), (3, 16), (4, 32)];
 #[test]
 fn refuses_by_its_plan(rt: HostRuntime) {
     let alloc = rt.alloc();
-    all_are_well(&rt, "growths", first_wrong(alloc, EACH_GROWTH_IS_ONE_REQUEST));
+    all_are_well(
+        &rt,
+        "growths",
+        first_wrong(alloc, EACH_GROWTH_IS_ONE_REQUEST),
+    );
     all_are_well(&rt, "given back", first_wrong(alloc, GIVEN_BACK));
     for (n, len) in LENGTHS {
         let steps = [
@@ -145,6 +149,10 @@ fn refuses_by_its_plan(rt: HostRuntime) {
             Step::Filled(100),
             Step::IsFilledTwice(*len),
         ];
-        all_are_well(&rt, "a refused growth", first_wrong(alloc, steps.as_slice()));
+        all_are_well(
+            &rt,
+            "a refused growth",
+            first_wrong(alloc, steps.as_slice()),
+        );
     }
 }
