@@ -6,6 +6,7 @@ mod entities;
 mod holder;
 mod kept;
 mod names;
+mod refusals;
 pub mod steps;
 mod types;
 pub mod values;

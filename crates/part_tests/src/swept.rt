@@ -2,18 +2,13 @@
 //! that refuses.
 
 mod composites;
-mod entities;
 mod extern_names;
 mod holders;
-mod lists;
 mod modules;
 mod names;
 mod parts;
-mod pieces;
 mod producers;
 mod refused;
-mod types;
-mod unfinished;
 mod values;
 
 use crate::accepted::is_well;

@@ -1,8 +1,8 @@
 //! The calls that change a holder, as values.
 
-use crate::base::values::{Item, OPEN};
+use crate::base::refusals::OPEN;
 use refusing::Refusing;
-use wenc_base::{Encode, Fault, Holder, Lender};
+use wenc_base::{Encode, Fault, Holder, Lender, Verbatim};
 
 /// A holder whose requests for memory can be refused.
 pub type Held<'a> = Holder<&'a Refusing>;
@@ -21,6 +21,8 @@ pub enum Member<'a> {
     Unfinished,
     Listed(Listed<'a>),
     Open(&'a [u8]),
+    /// All that is there is kept in front, and these bytes.
+    Keep(&'a [u8]),
 }
 
 pub fn add_member(to: &mut Held<'_>, member: Member<'_>) -> Result<(), Fault> {
@@ -35,6 +37,10 @@ pub fn add_member(to: &mut Held<'_>, member: Member<'_>) -> Result<(), Fault> {
         Member::Unfinished => to.add_encoded(&OPEN),
         Member::Listed(listed) => add_listed(to, listed),
         Member::Open(lead) => to.open(lead),
+        Member::Keep(more) => {
+            to.keep_all(&Verbatim(more))?;
+            Ok(())
+        }
     }
 }
 

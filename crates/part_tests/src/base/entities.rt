@@ -1,4 +1,6 @@
 use crate::base::values::{check, check_all};
+use crate::swept::check_each;
+use sweeping::LARGE;
 use wenc_base::{
     AbstractHeapType, EntityType, GlobalType, HeapType, MemoryType, RefType, TableType, TagType,
     ValType,
@@ -12,11 +14,6 @@ const FUNCTIONS: &[(EntityType, &[u8])] = &[
         &[0x00, 0xff, 0xff, 0xff, 0xff, 0x0f],
     ),
 ];
-
-#[test]
-fn functions(rt: HostRuntime) {
-    check_all(&rt, rt.alloc(), FUNCTIONS);
-}
 
 const FUNCS: RefType = RefType {
     nullable: true,
@@ -43,24 +40,29 @@ const TABLES: &[(RefType, u64, Option<u64>, bool, &[u8])] = &[
     (CONCRETE, 1, None, false, &[0x01, 0x64, 0x05, 0x00, 0x01]),
 ];
 
-fn table(element_type: RefType, minimum: u64, maximum: Option<u64>, table64: bool) -> TableType {
-    TableType {
-        element_type,
-        table64,
-        minimum,
-        maximum,
-    }
-}
-
 #[test]
 fn tables(rt: HostRuntime) {
     for (element_type, minimum, maximum, table64, bytes) in TABLES {
-        let ty = table(*element_type, *minimum, *maximum, *table64);
-        check(&rt, rt.alloc(), &EntityType::Table(ty), bytes);
+        let table = TableType {
+            element_type: *element_type,
+            table64: *table64,
+            minimum: *minimum,
+            maximum: *maximum,
+        };
+        check(&rt, rt.alloc(), &EntityType::Table(table), bytes);
     }
-    let ty = table(FUNCS, 0, Some(0), false);
-    check(&rt, rt.alloc(), &ty, &[0x70, 0x01, 0x00, 0x00]);
 }
+
+// One by itself.
+const TABLE: &[(TableType, &[u8])] = &[(
+    TableType {
+        element_type: FUNCS,
+        table64: false,
+        minimum: 0,
+        maximum: Some(0),
+    },
+    &[0x70, 0x01, 0x00, 0x00],
+)];
 
 // The sizes, whether they have 64 bits, whether it is shared, and the bytes.
 const MEMORIES: &[(u64, Option<u64>, bool, bool, &[u8])] = &[
@@ -74,21 +76,17 @@ const MEMORIES: &[(u64, Option<u64>, bool, bool, &[u8])] = &[
     (1, Some(2), true, true, &[0x02, 0x07, 0x01, 0x02]),
 ];
 
-fn memory(minimum: u64, maximum: Option<u64>, memory64: bool, shared: bool) -> MemoryType {
-    MemoryType {
-        minimum,
-        maximum,
-        memory64,
-        shared,
-    }
-}
-
 // Every flag.
 #[test]
 fn memories(rt: HostRuntime) {
     for (minimum, maximum, memory64, shared, bytes) in MEMORIES {
-        let ty = memory(*minimum, *maximum, *memory64, *shared);
-        check(&rt, rt.alloc(), &EntityType::Memory(ty), bytes);
+        let memory = MemoryType {
+            minimum: *minimum,
+            maximum: *maximum,
+            memory64: *memory64,
+            shared: *shared,
+        };
+        check(&rt, rt.alloc(), &EntityType::Memory(memory), bytes);
     }
 }
 
@@ -116,25 +114,23 @@ const LARGE_MEMORIES: &[(MemoryType, &[u8])] = &[
     ),
 ];
 
-#[test]
-fn large_memories(rt: HostRuntime) {
-    check_all(&rt, rt.alloc(), LARGE_MEMORIES);
-}
+const MUTABLE: GlobalType = GlobalType {
+    val_type: ValType::I64,
+    mutable: true,
+};
 
-fn global(val_type: ValType, mutable: bool) -> GlobalType {
-    GlobalType { val_type, mutable }
-}
+const FIXED: GlobalType = GlobalType {
+    val_type: ValType::F32,
+    mutable: false,
+};
 
-// As entities, and by themselves.
-#[test]
-fn globals(rt: HostRuntime) {
-    let alloc = rt.alloc();
-    let mutable = EntityType::Global(global(ValType::I64, true));
-    check(&rt, alloc, &mutable, &[0x03, 0x7e, 0x01]);
-    let fixed = EntityType::Global(global(ValType::F32, false));
-    check(&rt, alloc, &fixed, &[0x03, 0x7d, 0x00]);
-    check(&rt, alloc, &global(ValType::I32, false), &[0x7f, 0x00]);
-}
+const GLOBALS: &[(GlobalType, &[u8])] = &[(
+    GlobalType {
+        val_type: ValType::I32,
+        mutable: false,
+    },
+    &[0x7f, 0x00],
+)];
 
 const TAG: TagType = TagType { func_type_idx: 0 };
 
@@ -143,25 +139,89 @@ const TAGS: &[(TagType, &[u8])] = &[
     (TagType { func_type_idx: 300 }, &[0x00, 0xac, 0x02]),
 ];
 
+const ENTITIES: &[(EntityType, &[u8])] = &[
+    (EntityType::Global(MUTABLE), &[0x03, 0x7e, 0x01]),
+    (EntityType::Global(FIXED), &[0x03, 0x7d, 0x00]),
+    (EntityType::Tag(TAG), &[0x04, 0x00, 0x00]),
+];
+
+// A size whose text has ten bytes.
+const HUGE: u64 = 18446744073709551615;
+
+const LARGE_TABLE: TableType = TableType {
+    element_type: RefType {
+        nullable: false,
+        heap_type: HeapType::Concrete(LARGE),
+    },
+    table64: true,
+    minimum: HUGE,
+    maximum: None,
+};
+
+const BOUNDED_TABLE: TableType = TableType {
+    element_type: RefType {
+        nullable: false,
+        heap_type: HeapType::Concrete(LARGE),
+    },
+    table64: true,
+    minimum: HUGE,
+    maximum: Some(HUGE),
+};
+
+const LARGE_MEMORY: MemoryType = MemoryType {
+    minimum: HUGE,
+    maximum: None,
+    memory64: true,
+    shared: true,
+};
+
+const BOUNDED_MEMORY: MemoryType = MemoryType {
+    minimum: HUGE,
+    maximum: Some(HUGE),
+    memory64: true,
+    shared: true,
+};
+
+const LARGE_GLOBAL: GlobalType = GlobalType {
+    val_type: ValType::Ref(RefType {
+        nullable: true,
+        heap_type: HeapType::Concrete(LARGE),
+    }),
+    mutable: true,
+};
+
+const LARGE_TAG: TagType = TagType {
+    func_type_idx: LARGE,
+};
+
+const LARGE_ENTITIES: &[EntityType] = &[
+    EntityType::Function(LARGE),
+    EntityType::Table(LARGE_TABLE),
+    EntityType::Table(BOUNDED_TABLE),
+    EntityType::Memory(LARGE_MEMORY),
+    EntityType::Memory(BOUNDED_MEMORY),
+    EntityType::Global(LARGE_GLOBAL),
+    EntityType::Tag(LARGE_TAG),
+];
+
+// Entities, and their parts by themselves.
 #[test]
-fn tags(rt: HostRuntime) {
-    check_all(&rt, rt.alloc(), TAGS);
-    check(&rt, rt.alloc(), &EntityType::Tag(TAG), &[0x04, 0x00, 0x00]);
+fn entities(rt: HostRuntime) {
+    let alloc = rt.alloc();
+    check_all(&rt, alloc, FUNCTIONS);
+    check_all(&rt, alloc, ENTITIES);
+    check_all(&rt, alloc, TABLE);
+    check_all(&rt, alloc, LARGE_MEMORIES);
+    check_all(&rt, alloc, GLOBALS);
+    check_all(&rt, alloc, TAGS);
 }
 
-fn tag(func_type_idx: u32) -> EntityType {
-    EntityType::Tag(TagType { func_type_idx })
-}
-
 #[test]
-fn entities_are_compared(rt: HostRuntime) {
-    assert!(rt; tag(7) == tag(7));
-    assert!(rt; tag(7) != tag(8));
-    assert!(rt; tag(7) != EntityType::Function(7));
-}
-
-#[test]
-fn parts_are_compared(rt: HostRuntime) {
-    assert!(rt; table(FUNCS, 0, None, false) != table(FUNCS, 0, None, true));
-    assert!(rt; memory(1, None, false, false) != memory(1, Some(1), false, false));
+fn large_entities(rt: HostRuntime) {
+    let alloc = rt.alloc();
+    check_each(&rt, alloc, LARGE_ENTITIES);
+    check_each(&rt, alloc, &[LARGE_TABLE, BOUNDED_TABLE]);
+    check_each(&rt, alloc, &[LARGE_MEMORY, BOUNDED_MEMORY]);
+    check_each(&rt, alloc, &[LARGE_GLOBAL]);
+    check_each(&rt, alloc, &[LARGE_TAG]);
 }

@@ -1,6 +1,6 @@
 use crate::base::values::{check, check_all};
-use std::alloc::Global;
-use std::process::Abort;
+use crate::swept::check_each;
+use sweeping::LARGE;
 use wenc_base::{AbstractHeapType, HeapType, RefType, ValType};
 
 const NUMBERS: &[(ValType, &[u8])] = &[
@@ -10,11 +10,6 @@ const NUMBERS: &[(ValType, &[u8])] = &[
     (ValType::F64, &[0x7c]),
     (ValType::V128, &[0x7b]),
 ];
-
-#[test]
-fn numbers_and_vectors(rt: HostRuntime) {
-    check_all(&rt, rt.alloc(), NUMBERS);
-}
 
 const KINDS: &[(AbstractHeapType, u8)] = &[
     (AbstractHeapType::NoExn, 0x74),
@@ -31,28 +26,6 @@ const KINDS: &[(AbstractHeapType, u8)] = &[
     (AbstractHeapType::Exn, 0x69),
 ];
 
-fn reference(nullable: bool, heap_type: HeapType) -> RefType {
-    RefType {
-        nullable,
-        heap_type,
-    }
-}
-
-// A kind by itself, and behind the byte of a reference that isn't null.
-fn check_kind(rt: &impl Abort, alloc: Global, kind: AbstractHeapType, byte: u8) {
-    let heap_type = HeapType::Abstract(kind);
-    check(rt, alloc, &kind, &[byte]);
-    check(rt, alloc, &heap_type, &[byte]);
-    check(rt, alloc, &reference(false, heap_type), &[0x64, byte]);
-}
-
-#[test]
-fn abstract_heap_types(rt: HostRuntime) {
-    for (kind, byte) in KINDS {
-        check_kind(&rt, rt.alloc(), *kind, *byte);
-    }
-}
-
 // The index of a type is a signed number: 64 has two bytes.
 const INDICES: &[(HeapType, &[u8])] = &[
     (HeapType::Concrete(0), &[0x00]),
@@ -63,11 +36,6 @@ const INDICES: &[(HeapType, &[u8])] = &[
         &[0xff, 0xff, 0xff, 0xff, 0x0f],
     ),
 ];
-
-#[test]
-fn types_with_an_index(rt: HostRuntime) {
-    check_all(&rt, rt.alloc(), INDICES);
-}
 
 const REFERENCES: &[(bool, HeapType, &[u8])] = &[
     (true, HeapType::Abstract(AbstractHeapType::Func), &[0x70]),
@@ -97,32 +65,57 @@ const REFERENCES: &[(bool, HeapType, &[u8])] = &[
     (false, HeapType::Concrete(64), &[0x64, 0xc0, 0x00]),
 ];
 
-// By itself, and as a type of values.
-fn check_reference(rt: &impl Abort, alloc: Global, reference: RefType, bytes: &[u8]) {
-    check(rt, alloc, &reference, bytes);
-    check(rt, alloc, &ValType::Ref(reference), bytes);
-}
+// Those with an index of five bytes.
+const LARGE_REFERENCES: &[RefType] = &[
+    RefType {
+        nullable: true,
+        heap_type: HeapType::Concrete(LARGE),
+    },
+    RefType {
+        nullable: false,
+        heap_type: HeapType::Concrete(LARGE),
+    },
+];
+
+const LARGE_TYPES: &[ValType] = &[ValType::Ref(RefType {
+    nullable: false,
+    heap_type: HeapType::Concrete(LARGE),
+})];
 
 #[test]
-fn references(rt: HostRuntime) {
-    for (nullable, heap_type, bytes) in REFERENCES {
-        check_reference(&rt, rt.alloc(), reference(*nullable, *heap_type), bytes);
+fn types(rt: HostRuntime) {
+    let alloc = rt.alloc();
+    check_all(&rt, alloc, NUMBERS);
+    check_all(&rt, alloc, INDICES);
+    check_each(&rt, alloc, LARGE_REFERENCES);
+    check_each(&rt, alloc, LARGE_TYPES);
+}
+
+// A kind by itself, and behind the byte of a reference that isn't null.
+#[test]
+fn abstract_heap_types(rt: HostRuntime) {
+    let alloc = rt.alloc();
+    for (kind, byte) in KINDS {
+        let heap_type = HeapType::Abstract(*kind);
+        let reference = RefType {
+            nullable: false,
+            heap_type,
+        };
+        check(&rt, alloc, kind, &[*byte]);
+        check(&rt, alloc, &heap_type, &[*byte]);
+        check(&rt, alloc, &reference, &[0x64, *byte]);
     }
 }
 
-const ANY: RefType = RefType {
-    nullable: true,
-    heap_type: HeapType::Abstract(AbstractHeapType::Any),
-};
-
-const EQ: RefType = RefType {
-    nullable: true,
-    heap_type: HeapType::Abstract(AbstractHeapType::Eq),
-};
-
+// By itself, and as a type of values.
 #[test]
-fn types_are_compared(rt: HostRuntime) {
-    assert!(rt; ValType::Ref(ANY) == ValType::Ref(ANY));
-    assert!(rt; ValType::Ref(ANY) != ValType::Ref(EQ));
-    assert!(rt; ANY.heap_type != HeapType::Concrete(0));
+fn references(rt: HostRuntime) {
+    for (nullable, heap_type, bytes) in REFERENCES {
+        let reference = RefType {
+            nullable: *nullable,
+            heap_type: *heap_type,
+        };
+        check(&rt, rt.alloc(), &reference, bytes);
+        check(&rt, rt.alloc(), &ValType::Ref(reference), bytes);
+    }
 }

@@ -1,14 +1,15 @@
-ghost use Rattle.std.specs.Prelude.{◌≡◌, true, [], ◌++◌, IfOk, OnOk};
+//! Values: what they are written as.
+ghost use Rattle.std.specs.Prelude.{◌≡◌, ◌++◌, IfOk, OnOk};
 ghost use Rattle.wenc_base.specs.Forms.{list_text};
 ghost use Rattle.wenc_base.specs.Number.{unsigned_text};
-ghost use Rattle.wenc_base.specs.declared.fault.Fault.TheVariants.{Unfinished};
 
-use crate::accepted::ok;
+use crate::accepted::{is_well, ok};
 use std::alloc::{AllocError, Allocator, Global};
 use std::process::Abort;
+use sweeping::{sweep_encode, takes_no_memory};
 use wenc_base::{
-    CustomSection, Encode, ExportKind, Fault, Section, Short, Tagged, encode_list, encoding_size,
-    extend_in_room,
+    CustomSection, Encode, ExportKind, Fault, Section, Short, Tagged, Verbatim, encode_list,
+    encoding_size, extend_in_room,
 };
 
 // What `encode` answers.
@@ -39,18 +40,20 @@ pub fn are(rt: &impl Abort, given: &[u8], wanted: &[u8]) {
     assert_eq!(rt; given, wanted);
 }
 
-pub fn answers(rt: &impl Abort, given: Result<(), Fault>, wanted: Result<(), Fault>) {
-    assert_eq!(rt; given, wanted);
-}
-
-// What was appended, and what was to be.
-pub fn agree(rt: &impl Abort, given: Result<Vec<u8>, Fault>, wanted: Result<Vec<u8>, Fault>) {
-    are(rt, ok(rt, given).as_slice(), ok(rt, wanted).as_slice());
-}
-
-// Each value is written behind a byte that the sink has.
+// Each value is written behind a byte that the sink has, and its requests are refused in turn.
 pub fn check<T: Encode>(rt: &impl Abort, alloc: Global, value: &T, bytes: &[u8]) {
-    agree(rt, appended(alloc, value), behind(alloc, bytes));
+    let wanted = ok(rt, behind(alloc, bytes));
+    are(
+        rt,
+        ok(rt, appended(alloc, value)).as_slice(),
+        wanted.as_slice(),
+    );
+    let is_refused = if bytes.is_empty() {
+        takes_no_memory(alloc, value)
+    } else {
+        sweep_encode(alloc, value)
+    };
+    is_well(rt, is_refused);
 }
 
 // Each of these is written as what stands beside it.
@@ -97,42 +100,11 @@ const LONG: &[(u64, &[u8])] = &[(
     &[0xff, 0xff, 0xff, 0xff, 0xff, 0xff, 0xff, 0xff, 0xff, 0x01],
 )];
 
-#[test]
-fn numbers(rt: HostRuntime) {
-    let alloc = rt.alloc();
-    check_all(&rt, alloc, UNSIGNED);
-    check_all(&rt, alloc, SIGNED);
-    check_all(&rt, alloc, LONG);
-    check(&rt, alloc, &128usize, &[0x80, 0x01]);
-}
-
 const TRUTHS: &[(bool, &[u8])] = &[(false, &[0x00]), (true, &[0x01])];
 
 const TEXTS: &[(&str, &[u8])] = &[("f", &[0x01, 0x66]), ("", &[0x00])];
 
 const BYTE_LISTS: &[(&[u8], &[u8])] = &[(&[0xaa], &[0x01, 0xaa])];
-
-#[test]
-fn truths_and_texts(rt: HostRuntime) {
-    let alloc = rt.alloc();
-    check_all(&rt, alloc, TRUTHS);
-    check_all(&rt, alloc, TEXTS);
-    check_all(&rt, alloc, BYTE_LISTS);
-}
-
-// Three values in one sink.
-fn joined(alloc: Global) -> Result<Vec<u8>, Fault> {
-    let mut sink = encoded(alloc, &"f")?;
-    encode(&"", &mut sink)?;
-    encode(&[0xaau8].as_slice(), &mut sink)?;
-    Ok(sink)
-}
-
-#[test]
-fn texts_in_one_sink(rt: HostRuntime) {
-    let sink = ok(&rt, joined(rt.alloc()));
-    are(&rt, sink.as_slice(), &[0x01, 0x66, 0x00, 0x01, 0xaa]);
-}
 
 const KINDS: &[(ExportKind, &[u8])] = &[
     (ExportKind::Func, &[0x00]),
@@ -141,11 +113,6 @@ const KINDS: &[(ExportKind, &[u8])] = &[
     (ExportKind::Global, &[0x03]),
     (ExportKind::Tag, &[0x04]),
 ];
-
-#[test]
-fn kinds_of_exports(rt: HostRuntime) {
-    check_all(&rt, rt.alloc(), KINDS);
-}
 
 // The values of a vector are the members.
 fn encode_vector<A: Allocator>(values: Vec<u32>, sink: &mut Vec<u8, A>) -> Result<(), Fault>
@@ -166,16 +133,53 @@ const LISTS_OF_PAIRS: &[(&[(&str, u32)], &[u8])] = &[(
     &[0x02, 0x01, 0x61, 0x01, 0x00, 0x02],
 )];
 
+const OPTIONS: &[(Option<u32>, &[u8])] = &[(None, &[0x00]), (Some(5), &[0x01, 0x05])];
+
+const SIZE: &[(usize, &[u8])] = &[(128, &[0x80, 0x01])];
+
 #[test]
-fn lists(rt: HostRuntime) {
+fn values(rt: HostRuntime) {
     let alloc = rt.alloc();
-    check_all(&rt, alloc, LISTS);
-    check_all(&rt, alloc, LISTS_OF_PAIRS);
+    check_all(&rt, alloc, UNSIGNED);
+    check_all(&rt, alloc, SIGNED);
+    check_all(&rt, alloc, LONG);
+    check_all(&rt, alloc, SIZE);
+    check_all(&rt, alloc, TRUTHS);
+    check_all(&rt, alloc, TEXTS);
+    check_all(&rt, alloc, KINDS);
+    check_all(&rt, alloc, OPTIONS);
 }
 
-fn encode_copied(values: &[usize], sink: &mut Vec<u8>) -> Result<(), Fault> {
+#[test]
+fn lists_and_pairs(rt: HostRuntime) {
+    let alloc = rt.alloc();
+    check_all(&rt, alloc, BYTE_LISTS);
+    check_all(&rt, alloc, LISTS);
+    check_all(&rt, alloc, LISTS_OF_PAIRS);
+    check(&rt, alloc, &(1u32, "a"), &[0x01, 0x01, 0x61]);
+    check(&rt, alloc, &Tagged(0x2a, &7u32), &[0x2a, 0x07]);
+}
+
+#[test]
+fn as_they_are(rt: HostRuntime) {
+    let alloc = rt.alloc();
+    check(&rt, alloc, &(), &[]);
+    check(&rt, alloc, &Verbatim(&[]), &[]);
+    check(&rt, alloc, &Verbatim(&[0x80, 0x00]), &[0x80, 0x00]);
+    check(&rt, alloc, &(Verbatim(&[0x01]), ((), 2u32)), &[0x01, 0x02]);
+}
+
+pub fn encode_copied(values: &[usize], sink: &mut Vec<u8>) -> Result<(), Fault> {
     encode_list(values.iter().copied(), sink)?;
     Ok(())
+}
+
+// Three values in one sink.
+fn joined(alloc: Global) -> Result<Vec<u8>, Fault> {
+    let mut sink = encoded(alloc, &"f")?;
+    encode(&"", &mut sink)?;
+    encode(&[0xaau8].as_slice(), &mut sink)?;
+    Ok(sink)
 }
 
 fn of_iterators(alloc: Global) -> Result<Vec<u8>, Fault> {
@@ -188,101 +192,11 @@ fn of_iterators(alloc: Global) -> Result<Vec<u8>, Fault> {
 const TWO_LISTS: &[u8] = &[0x99, 0x03, 0x01, 0x80, 0x01, 0x03, 0x00];
 
 #[test]
-fn lists_from_iterators(rt: HostRuntime) {
-    let sink = ok(&rt, of_iterators(rt.alloc()));
-    are(&rt, sink.as_slice(), TWO_LISTS);
-}
-
-// The second of these is refused, behind the text of the first.
-#[test]
-fn refused_lists(rt: HostRuntime) {
-    let mut sink = ok(&rt, behind(rt.alloc(), &[]));
-    let values: &[usize] = &[1, LARGE];
-    answers(&rt, encode(&values, &mut sink), Err(Fault::TooMany));
-    answers(&rt, encode_copied(values, &mut sink), Err(Fault::TooMany));
-    are(&rt, sink.as_slice(), &[0x99]);
-}
-
-// An item that was begun, and perhaps not ended.
-#[derive(Drop)]
-pub struct Item {
-    pub is_open: bool,
-}
-
-impl Encode for Item {
-    ghost text = { λ _. [] };
-
-    ghost cause = { λ item fault. (item.is_open ≡ true) × (fault ≡ Unfinished) };
-
-    ghost unfinished = { λ item. item.is_open ≡ true };
-
-    fn encode<A: Allocator>(&self, _sink: &mut Vec<u8, A>) -> Result<(), Fault> {
-        if self.is_open {
-            return Err(Fault::Unfinished);
-        }
-        Ok(())
-    }
-}
-
-// An answer, and what the sink has then.
-pub type Outcome = (Result<(), Fault>, Vec<u8>);
-
-fn outcome<T: Encode>(alloc: Global, value: &T) -> Result<Outcome, Fault> {
-    let mut sink = behind(alloc, &[])?;
-    let given = encode(value, &mut sink);
-    Ok((given, sink))
-}
-
-// It was refused, and the sink stays as it was.
-pub fn check_refusal(rt: &impl Abort, outcome: Result<Outcome, Fault>, fault: Fault) {
-    let (given, sink) = ok(rt, outcome);
-    answers(rt, given, Err(fault));
-    are(rt, sink.as_slice(), &[0x99]);
-}
-
-// It is refused.
-pub fn check_refused<T: Encode>(rt: &impl Abort, alloc: Global, value: &T, fault: Fault) {
-    check_refusal(rt, outcome(alloc, value), fault);
-}
-
-// More than a count can be.
-pub const LARGE: usize = 4294967296;
-
-pub const OPEN: Item = Item { is_open: true };
-
-const ENDED: Item = Item { is_open: false };
-
-const SECOND_OPEN: &[(u32, Item)] = &[(1, ENDED), (2, OPEN)];
-
-#[test]
-fn unfinished(rt: HostRuntime) {
-    let alloc = rt.alloc();
-    check_refused(&rt, alloc, &SECOND_OPEN, Fault::Unfinished);
-    check_refused(&rt, alloc, &Tagged(0x2a, &OPEN), Fault::Unfinished);
-    check_refused(&rt, alloc, &Some(OPEN), Fault::Unfinished);
-    check(&rt, alloc, &(1u32, ENDED), &[0x01]);
-}
-
-const BOTH_OPEN: &[(usize, Item)] = &[(1, OPEN), (LARGE, OPEN)];
-
-// The first refusal that is met is answered.
-#[test]
-fn first_refusals(rt: HostRuntime) {
-    let alloc = rt.alloc();
-    check_refused(&rt, alloc, &LARGE, Fault::TooMany);
-    check_refused(&rt, alloc, &(OPEN, LARGE), Fault::Unfinished);
-    check_refused(&rt, alloc, &(LARGE, OPEN), Fault::TooMany);
-    check_refused(&rt, alloc, &BOTH_OPEN, Fault::Unfinished);
-}
-
-const OPTIONS: &[(Option<u32>, &[u8])] = &[(None, &[0x00]), (Some(5), &[0x01, 0x05])];
-
-#[test]
-fn made_of_others(rt: HostRuntime) {
-    let alloc = rt.alloc();
-    check_all(&rt, alloc, OPTIONS);
-    check(&rt, alloc, &(1u32, "a"), &[0x01, 0x01, 0x61]);
-    check(&rt, alloc, &Tagged(0x2a, &7u32), &[0x2a, 0x07]);
+fn in_one_sink(rt: HostRuntime) {
+    let sink = ok(&rt, joined(rt.alloc()));
+    are(&rt, sink.as_slice(), &[0x01, 0x66, 0x00, 0x01, 0xaa]);
+    let lists = ok(&rt, of_iterators(rt.alloc()));
+    are(&rt, lists.as_slice(), TWO_LISTS);
 }
 
 const SIZES: &[(u32, usize)] = &[

@@ -1,30 +1,79 @@
 //! Options and slots.
 
 use crate::canon::calls::{Call, Function, Task};
-use crate::canon::rows::row;
-use crate::parts::texts::text_is;
+use crate::canon::rows::check_rows;
+use crate::parts::texts::texts;
 use crate::swept::check_each;
-use refusing::Refusing;
 use sweeping::LARGE;
 use wenc_base::{AbstractHeapType, HeapType, RefType, ValType};
 use wenc_canon::CanonicalOption;
 
-/// Each option, and its text: alone, and as the option of a row.
-const OPTIONS: &[(CanonicalOption, &str, &str)] = &[
-    (CanonicalOption::UTF8, "ee00", "0100000100"),
-    (CanonicalOption::UTF16, "ee01", "0100000101"),
-    (CanonicalOption::CompactUTF16, "ee02", "0100000102"),
-    (CanonicalOption::Memory(128), "ee038001", "01000001038001"),
-    (CanonicalOption::Realloc(128), "ee048001", "01000001048001"),
+/// Each option, and its text.
+const OPTIONS: &[(CanonicalOption, &str)] = &[
+    (CanonicalOption::UTF8, "ee00"),
+    (CanonicalOption::UTF16, "ee01"),
+    (CanonicalOption::CompactUTF16, "ee02"),
+    (CanonicalOption::Memory(128), "ee038001"),
+    (CanonicalOption::Realloc(128), "ee048001"),
+    (CanonicalOption::PostReturn(128), "ee058001"),
+    (CanonicalOption::Async, "ee06"),
+    (CanonicalOption::Callback(128), "ee078001"),
+    (CanonicalOption::CoreType(128), "ee088001"),
+    (CanonicalOption::Gc, "ee09"),
+];
+
+/// The row of a function that is lowered with this option.
+const LOWERED: &[(Call<'static>, &[u8])] = &[
     (
-        CanonicalOption::PostReturn(128),
-        "ee058001",
-        "01000001058001",
+        Call::Function(Function::Lower(0, &[CanonicalOption::UTF8])),
+        &[0x01, 0x00, 0x08, 0x06, 0x01, 0x01, 0x00, 0x00, 0x01, 0x00],
     ),
-    (CanonicalOption::Async, "ee06", "0100000106"),
-    (CanonicalOption::Callback(128), "ee078001", "01000001078001"),
-    (CanonicalOption::CoreType(128), "ee088001", "01000001088001"),
-    (CanonicalOption::Gc, "ee09", "0100000109"),
+    (
+        Call::Function(Function::Lower(0, &[CanonicalOption::UTF16])),
+        &[0x01, 0x00, 0x08, 0x06, 0x01, 0x01, 0x00, 0x00, 0x01, 0x01],
+    ),
+    (
+        Call::Function(Function::Lower(0, &[CanonicalOption::CompactUTF16])),
+        &[0x01, 0x00, 0x08, 0x06, 0x01, 0x01, 0x00, 0x00, 0x01, 0x02],
+    ),
+    (
+        Call::Function(Function::Lower(0, &[CanonicalOption::Memory(128)])),
+        &[
+            0x01, 0x00, 0x08, 0x08, 0x01, 0x01, 0x00, 0x00, 0x01, 0x03, 0x80, 0x01,
+        ],
+    ),
+    (
+        Call::Function(Function::Lower(0, &[CanonicalOption::Realloc(128)])),
+        &[
+            0x01, 0x00, 0x08, 0x08, 0x01, 0x01, 0x00, 0x00, 0x01, 0x04, 0x80, 0x01,
+        ],
+    ),
+    (
+        Call::Function(Function::Lower(0, &[CanonicalOption::PostReturn(128)])),
+        &[
+            0x01, 0x00, 0x08, 0x08, 0x01, 0x01, 0x00, 0x00, 0x01, 0x05, 0x80, 0x01,
+        ],
+    ),
+    (
+        Call::Function(Function::Lower(0, &[CanonicalOption::Async])),
+        &[0x01, 0x00, 0x08, 0x06, 0x01, 0x01, 0x00, 0x00, 0x01, 0x06],
+    ),
+    (
+        Call::Function(Function::Lower(0, &[CanonicalOption::Callback(128)])),
+        &[
+            0x01, 0x00, 0x08, 0x08, 0x01, 0x01, 0x00, 0x00, 0x01, 0x07, 0x80, 0x01,
+        ],
+    ),
+    (
+        Call::Function(Function::Lower(0, &[CanonicalOption::CoreType(128)])),
+        &[
+            0x01, 0x00, 0x08, 0x08, 0x01, 0x01, 0x00, 0x00, 0x01, 0x08, 0x80, 0x01,
+        ],
+    ),
+    (
+        Call::Function(Function::Lower(0, &[CanonicalOption::Gc])),
+        &[0x01, 0x00, 0x08, 0x06, 0x01, 0x01, 0x00, 0x00, 0x01, 0x09],
+    ),
 ];
 
 /// The same with numbers of five bytes.
@@ -42,16 +91,11 @@ const LARGE_OPTIONS: &[CanonicalOption] = &[
 ];
 
 #[test]
-fn each_option_is_written(rt: HostRuntime) {
+fn options(rt: HostRuntime) {
     let alloc = rt.alloc();
-    let heap = Refusing::new(alloc);
-    for (option, alone, wanted) in OPTIONS {
-        text_is(&rt, alloc, option, alone);
-        let options = [*option];
-        let lowered = Function::Lower(0, options.as_slice());
-        row(&rt, alloc, &heap, Call::Function(lowered), wanted);
-    }
+    texts(&rt, alloc, OPTIONS);
     check_each(&rt, alloc, LARGE_OPTIONS);
+    check_rows(&rt, alloc, LOWERED);
 }
 
 const FUNC: HeapType = HeapType::Abstract(AbstractHeapType::Func);
@@ -76,30 +120,79 @@ const NULLABLE_CONCRETE: RefType = RefType {
     heap_type: HeapType::Concrete(64),
 };
 
-const TYPES: &[(ValType, &str, &str)] = &[
-    (ValType::I64, "0a7e8001", "0b7e8001"),
-    (ValType::F32, "0a7d8001", "0b7d8001"),
-    (ValType::F64, "0a7c8001", "0b7c8001"),
-    (ValType::V128, "0a7b8001", "0b7b8001"),
-    (ValType::Ref(NULLABLE_FUNC), "0a708001", "0b708001"),
-    (ValType::Ref(SOME_FUNC), "0a64708001", "0b64708001"),
-    (ValType::Ref(NULLABLE_ANY), "0a636e8001", "0b636e8001"),
+/// A slot of each type.
+const SLOTS: &[(Call<'static>, &[u8])] = &[
     (
-        ValType::Ref(NULLABLE_CONCRETE),
-        "0a63c0008001",
-        "0b63c0008001",
+        Call::Task(Task::ContextGet(ValType::I64, 128)),
+        &[0x01, 0x00, 0x08, 0x05, 0x01, 0x0a, 0x7e, 0x80, 0x01],
+    ),
+    (
+        Call::Task(Task::ContextSet(ValType::I64, 128)),
+        &[0x01, 0x00, 0x08, 0x05, 0x01, 0x0b, 0x7e, 0x80, 0x01],
+    ),
+    (
+        Call::Task(Task::ContextGet(ValType::F32, 128)),
+        &[0x01, 0x00, 0x08, 0x05, 0x01, 0x0a, 0x7d, 0x80, 0x01],
+    ),
+    (
+        Call::Task(Task::ContextSet(ValType::F32, 128)),
+        &[0x01, 0x00, 0x08, 0x05, 0x01, 0x0b, 0x7d, 0x80, 0x01],
+    ),
+    (
+        Call::Task(Task::ContextGet(ValType::F64, 128)),
+        &[0x01, 0x00, 0x08, 0x05, 0x01, 0x0a, 0x7c, 0x80, 0x01],
+    ),
+    (
+        Call::Task(Task::ContextSet(ValType::F64, 128)),
+        &[0x01, 0x00, 0x08, 0x05, 0x01, 0x0b, 0x7c, 0x80, 0x01],
+    ),
+    (
+        Call::Task(Task::ContextGet(ValType::V128, 128)),
+        &[0x01, 0x00, 0x08, 0x05, 0x01, 0x0a, 0x7b, 0x80, 0x01],
+    ),
+    (
+        Call::Task(Task::ContextSet(ValType::V128, 128)),
+        &[0x01, 0x00, 0x08, 0x05, 0x01, 0x0b, 0x7b, 0x80, 0x01],
+    ),
+    (
+        Call::Task(Task::ContextGet(ValType::Ref(NULLABLE_FUNC), 128)),
+        &[0x01, 0x00, 0x08, 0x05, 0x01, 0x0a, 0x70, 0x80, 0x01],
+    ),
+    (
+        Call::Task(Task::ContextSet(ValType::Ref(NULLABLE_FUNC), 128)),
+        &[0x01, 0x00, 0x08, 0x05, 0x01, 0x0b, 0x70, 0x80, 0x01],
+    ),
+    (
+        Call::Task(Task::ContextGet(ValType::Ref(SOME_FUNC), 128)),
+        &[0x01, 0x00, 0x08, 0x06, 0x01, 0x0a, 0x64, 0x70, 0x80, 0x01],
+    ),
+    (
+        Call::Task(Task::ContextSet(ValType::Ref(SOME_FUNC), 128)),
+        &[0x01, 0x00, 0x08, 0x06, 0x01, 0x0b, 0x64, 0x70, 0x80, 0x01],
+    ),
+    (
+        Call::Task(Task::ContextGet(ValType::Ref(NULLABLE_ANY), 128)),
+        &[0x01, 0x00, 0x08, 0x06, 0x01, 0x0a, 0x63, 0x6e, 0x80, 0x01],
+    ),
+    (
+        Call::Task(Task::ContextSet(ValType::Ref(NULLABLE_ANY), 128)),
+        &[0x01, 0x00, 0x08, 0x06, 0x01, 0x0b, 0x63, 0x6e, 0x80, 0x01],
+    ),
+    (
+        Call::Task(Task::ContextGet(ValType::Ref(NULLABLE_CONCRETE), 128)),
+        &[
+            0x01, 0x00, 0x08, 0x07, 0x01, 0x0a, 0x63, 0xc0, 0x00, 0x80, 0x01,
+        ],
+    ),
+    (
+        Call::Task(Task::ContextSet(ValType::Ref(NULLABLE_CONCRETE), 128)),
+        &[
+            0x01, 0x00, 0x08, 0x07, 0x01, 0x0b, 0x63, 0xc0, 0x00, 0x80, 0x01,
+        ],
     ),
 ];
 
-/// The rows that get and set a slot of each type.
 #[test]
 fn slots_have_core_value_types(rt: HostRuntime) {
-    let alloc = rt.alloc();
-    let heap = Refusing::new(alloc);
-    for (ty, get, set) in TYPES {
-        let gets = Call::Task(Task::ContextGet(*ty, 128));
-        row(&rt, alloc, &heap, gets, get);
-        let sets = Call::Task(Task::ContextSet(*ty, 128));
-        row(&rt, alloc, &heap, sets, set);
-    }
+    check_rows(&rt, rt.alloc(), SLOTS);
 }

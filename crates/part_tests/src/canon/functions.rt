@@ -47,12 +47,17 @@ fn clones(rt: HostRuntime) {
     is_well(&rt, sweep_clones::<Functions>(rt.alloc(), &heap, false));
 }
 
+/// Adds a function with numbers of five bytes.
+fn add_long(section: &mut CanonicalFunctionSection) -> Result<(), Fault> {
+    section.lift(LARGE, LARGE, LONG.iter().copied())
+}
+
 // With none, with one and with two functions.
 #[test]
 fn sections(rt: HostRuntime) {
     let mut section = CanonicalFunctionSection::new(rt.alloc());
     for _ in 0..3 {
         is_well(&rt, sweep_section(rt.alloc(), &section));
-        ok(&rt, section.lift(LARGE, LARGE, LONG.iter().copied()));
+        ok(&rt, add_long(&mut section));
     }
 }

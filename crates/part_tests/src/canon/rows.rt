@@ -1,15 +1,15 @@
-//! Each call: the row that it adds, and each of its requests for memory refused in turn.
+//! Each call: the section that it makes, and each of its requests for memory refused in turn. In front of a section stand
+//! its number of rows and whether it has none, and behind its id and its size that number once more.
 
-use crate::accepted::{is_well, ok};
+use crate::accepted::is_well;
 use crate::canon::calls::{Call, Function, Future, Stream, Task, Thread, Waitable};
 use crate::canon::functions::{Functions, LONG};
 use refusing::Refusing;
 use std::alloc::Global;
 use std::process::Abort;
 use sweeping::LARGE;
-use sweeping::hexed::text;
-use sweeping::members::{Adds, Members, sweep_calls};
-use wenc_base::{Fault, Lent, ValType};
+use sweeping::members::{sweep_calls, sweep_rows};
+use wenc_base::ValType;
 use wenc_canon::CanonicalOption;
 use wenc_parts::{ComponentValType, PrimitiveValType};
 
@@ -23,36 +23,31 @@ const WAITS: &[CanonicalOption] = &[CanonicalOption::UTF8, CanonicalOption::Asyn
 
 const GC: &[CanonicalOption] = &[CanonicalOption::Gc];
 
-/// How many rows a section has that the call begins, and the section, behind `ee`.
-fn begun(alloc: Global, heap: &Refusing, call: Call<'_>) -> Result<String, Fault> {
-    let mut functions = Functions::empty(heap)?;
-    call.add(&mut functions)?;
-    text(alloc, &(functions.0.len(), Lent(&functions.0)))
-}
-
-/// The only row, behind the size of its section and the number of rows.
-fn only_row(begun: &str) -> Option<&str> {
-    begun.strip_prefix("ee01")?.get(2..)?.strip_prefix("01")
-}
-
-/// The section that a call begins has these bytes behind its size and its number of rows, which is 1.
-pub fn row(rt: &impl Abort, alloc: Global, heap: &Refusing, call: Call<'_>, wanted: &str) {
-    let text = ok(rt, begun(alloc, heap, call));
-    assert!(rt; only_row(text.as_str()) == Some(wanted), "{wanted}");
-}
-
-const FUNCTIONS: &[(Call<'static>, &str)] = &[
+const FUNCTIONS: &[(Call<'static>, &[u8])] = &[
     (
         Call::Function(Function::Lift(128, 10, BOTH)),
-        "00008001020003000a",
+        &[
+            0x01, 0x00, 0x08, 0x0a, 0x01, 0x00, 0x00, 0x80, 0x01, 0x02, 0x00, 0x03, 0x00, 0x0a,
+        ],
     ),
     (
         Call::Function(Function::Lower(128, WAITS)),
-        "01008001020006",
+        &[
+            0x01, 0x00, 0x08, 0x08, 0x01, 0x01, 0x00, 0x80, 0x01, 0x02, 0x00, 0x06,
+        ],
     ),
-    (Call::Function(Function::ResourceNew(128)), "028001"),
-    (Call::Function(Function::ResourceDrop(128)), "038001"),
-    (Call::Function(Function::ResourceRep(128)), "048001"),
+    (
+        Call::Function(Function::ResourceNew(128)),
+        &[0x01, 0x00, 0x08, 0x04, 0x01, 0x02, 0x80, 0x01],
+    ),
+    (
+        Call::Function(Function::ResourceDrop(128)),
+        &[0x01, 0x00, 0x08, 0x04, 0x01, 0x03, 0x80, 0x01],
+    ),
+    (
+        Call::Function(Function::ResourceRep(128)),
+        &[0x01, 0x00, 0x08, 0x04, 0x01, 0x04, 0x80, 0x01],
+    ),
 ];
 
 const LONG_FUNCTIONS: &[Call<'static>] = &[
@@ -63,15 +58,41 @@ const LONG_FUNCTIONS: &[Call<'static>] = &[
     Call::Function(Function::ResourceRep(LARGE)),
 ];
 
-const TASKS: &[(Call<'static>, &str)] = &[
-    (Call::Task(Task::BackpressureInc), "24"),
-    (Call::Task(Task::BackpressureDec), "25"),
-    (Call::Task(Task::Return(STRING, BOTH)), "09007302000300"),
-    (Call::Task(Task::Cancel), "05"),
-    (Call::Task(Task::ContextGet(ValType::I32, 0)), "0a7f00"),
-    (Call::Task(Task::ContextSet(ValType::I32, 0)), "0b7f00"),
-    (Call::Task(Task::SubtaskDrop), "0d"),
-    (Call::Task(Task::SubtaskCancel(true)), "0601"),
+const TASKS: &[(Call<'static>, &[u8])] = &[
+    (
+        Call::Task(Task::BackpressureInc),
+        &[0x01, 0x00, 0x08, 0x02, 0x01, 0x24],
+    ),
+    (
+        Call::Task(Task::BackpressureDec),
+        &[0x01, 0x00, 0x08, 0x02, 0x01, 0x25],
+    ),
+    (
+        Call::Task(Task::Return(STRING, BOTH)),
+        &[
+            0x01, 0x00, 0x08, 0x08, 0x01, 0x09, 0x00, 0x73, 0x02, 0x00, 0x03, 0x00,
+        ],
+    ),
+    (
+        Call::Task(Task::Cancel),
+        &[0x01, 0x00, 0x08, 0x02, 0x01, 0x05],
+    ),
+    (
+        Call::Task(Task::ContextGet(ValType::I32, 0)),
+        &[0x01, 0x00, 0x08, 0x04, 0x01, 0x0a, 0x7f, 0x00],
+    ),
+    (
+        Call::Task(Task::ContextSet(ValType::I32, 0)),
+        &[0x01, 0x00, 0x08, 0x04, 0x01, 0x0b, 0x7f, 0x00],
+    ),
+    (
+        Call::Task(Task::SubtaskDrop),
+        &[0x01, 0x00, 0x08, 0x02, 0x01, 0x0d],
+    ),
+    (
+        Call::Task(Task::SubtaskCancel(true)),
+        &[0x01, 0x00, 0x08, 0x03, 0x01, 0x06, 0x01],
+    ),
 ];
 
 const LONG_TASKS: &[Call<'static>] = &[
@@ -86,15 +107,39 @@ const LONG_TASKS: &[Call<'static>] = &[
     Call::Task(Task::SubtaskCancel(true)),
 ];
 
-const STREAMS: &[(Call<'static>, &str)] = &[
-    (Call::Stream(Stream::New(128)), "0e8001"),
-    (Call::Stream(Stream::Read(7, WAITS)), "0f07020006"),
-    (Call::Stream(Stream::Write(7, WAITS)), "1007020006"),
-    (Call::Stream(Stream::Forward(128)), "2e8001"),
-    (Call::Stream(Stream::CancelRead(3, true)), "110301"),
-    (Call::Stream(Stream::CancelWrite(3, true)), "120301"),
-    (Call::Stream(Stream::DropReadable(128)), "138001"),
-    (Call::Stream(Stream::DropWritable(128)), "148001"),
+const STREAMS: &[(Call<'static>, &[u8])] = &[
+    (
+        Call::Stream(Stream::New(128)),
+        &[0x01, 0x00, 0x08, 0x04, 0x01, 0x0e, 0x80, 0x01],
+    ),
+    (
+        Call::Stream(Stream::Read(7, WAITS)),
+        &[0x01, 0x00, 0x08, 0x06, 0x01, 0x0f, 0x07, 0x02, 0x00, 0x06],
+    ),
+    (
+        Call::Stream(Stream::Write(7, WAITS)),
+        &[0x01, 0x00, 0x08, 0x06, 0x01, 0x10, 0x07, 0x02, 0x00, 0x06],
+    ),
+    (
+        Call::Stream(Stream::Forward(128)),
+        &[0x01, 0x00, 0x08, 0x04, 0x01, 0x2e, 0x80, 0x01],
+    ),
+    (
+        Call::Stream(Stream::CancelRead(3, true)),
+        &[0x01, 0x00, 0x08, 0x04, 0x01, 0x11, 0x03, 0x01],
+    ),
+    (
+        Call::Stream(Stream::CancelWrite(3, true)),
+        &[0x01, 0x00, 0x08, 0x04, 0x01, 0x12, 0x03, 0x01],
+    ),
+    (
+        Call::Stream(Stream::DropReadable(128)),
+        &[0x01, 0x00, 0x08, 0x04, 0x01, 0x13, 0x80, 0x01],
+    ),
+    (
+        Call::Stream(Stream::DropWritable(128)),
+        &[0x01, 0x00, 0x08, 0x04, 0x01, 0x14, 0x80, 0x01],
+    ),
 ];
 
 const LONG_STREAMS: &[Call<'static>] = &[
@@ -108,15 +153,39 @@ const LONG_STREAMS: &[Call<'static>] = &[
     Call::Stream(Stream::DropWritable(LARGE)),
 ];
 
-const FUTURES: &[(Call<'static>, &str)] = &[
-    (Call::Future(Future::New(128)), "158001"),
-    (Call::Future(Future::Read(7, WAITS)), "1607020006"),
-    (Call::Future(Future::Write(7, WAITS)), "1707020006"),
-    (Call::Future(Future::Forward(128)), "2f8001"),
-    (Call::Future(Future::CancelRead(3, true)), "180301"),
-    (Call::Future(Future::CancelWrite(3, true)), "190301"),
-    (Call::Future(Future::DropReadable(128)), "1a8001"),
-    (Call::Future(Future::DropWritable(128)), "1b8001"),
+const FUTURES: &[(Call<'static>, &[u8])] = &[
+    (
+        Call::Future(Future::New(128)),
+        &[0x01, 0x00, 0x08, 0x04, 0x01, 0x15, 0x80, 0x01],
+    ),
+    (
+        Call::Future(Future::Read(7, WAITS)),
+        &[0x01, 0x00, 0x08, 0x06, 0x01, 0x16, 0x07, 0x02, 0x00, 0x06],
+    ),
+    (
+        Call::Future(Future::Write(7, WAITS)),
+        &[0x01, 0x00, 0x08, 0x06, 0x01, 0x17, 0x07, 0x02, 0x00, 0x06],
+    ),
+    (
+        Call::Future(Future::Forward(128)),
+        &[0x01, 0x00, 0x08, 0x04, 0x01, 0x2f, 0x80, 0x01],
+    ),
+    (
+        Call::Future(Future::CancelRead(3, true)),
+        &[0x01, 0x00, 0x08, 0x04, 0x01, 0x18, 0x03, 0x01],
+    ),
+    (
+        Call::Future(Future::CancelWrite(3, true)),
+        &[0x01, 0x00, 0x08, 0x04, 0x01, 0x19, 0x03, 0x01],
+    ),
+    (
+        Call::Future(Future::DropReadable(128)),
+        &[0x01, 0x00, 0x08, 0x04, 0x01, 0x1a, 0x80, 0x01],
+    ),
+    (
+        Call::Future(Future::DropWritable(128)),
+        &[0x01, 0x00, 0x08, 0x04, 0x01, 0x1b, 0x80, 0x01],
+    ),
 ];
 
 const LONG_FUTURES: &[Call<'static>] = &[
@@ -130,19 +199,43 @@ const LONG_FUTURES: &[Call<'static>] = &[
     Call::Future(Future::DropWritable(LARGE)),
 ];
 
-const WAITABLES: &[(Call<'static>, &str)] = &[
-    (Call::Waitable(Waitable::ErrorContextNew(GC)), "1c0109"),
+const WAITABLES: &[(Call<'static>, &[u8])] = &[
+    (
+        Call::Waitable(Waitable::ErrorContextNew(GC)),
+        &[0x01, 0x00, 0x08, 0x04, 0x01, 0x1c, 0x01, 0x09],
+    ),
     (
         Call::Waitable(Waitable::ErrorContextDebugMessage(GC)),
-        "1d0109",
+        &[0x01, 0x00, 0x08, 0x04, 0x01, 0x1d, 0x01, 0x09],
     ),
-    (Call::Waitable(Waitable::ErrorContextDrop), "1e"),
-    (Call::Waitable(Waitable::SetNew), "1f"),
-    (Call::Waitable(Waitable::SetWait(5)), "200005"),
-    (Call::Waitable(Waitable::SetPoll(5)), "210005"),
-    (Call::Waitable(Waitable::SetPoll(0)), "210000"),
-    (Call::Waitable(Waitable::SetDrop), "22"),
-    (Call::Waitable(Waitable::Join), "23"),
+    (
+        Call::Waitable(Waitable::ErrorContextDrop),
+        &[0x01, 0x00, 0x08, 0x02, 0x01, 0x1e],
+    ),
+    (
+        Call::Waitable(Waitable::SetNew),
+        &[0x01, 0x00, 0x08, 0x02, 0x01, 0x1f],
+    ),
+    (
+        Call::Waitable(Waitable::SetWait(5)),
+        &[0x01, 0x00, 0x08, 0x04, 0x01, 0x20, 0x00, 0x05],
+    ),
+    (
+        Call::Waitable(Waitable::SetPoll(5)),
+        &[0x01, 0x00, 0x08, 0x04, 0x01, 0x21, 0x00, 0x05],
+    ),
+    (
+        Call::Waitable(Waitable::SetPoll(0)),
+        &[0x01, 0x00, 0x08, 0x04, 0x01, 0x21, 0x00, 0x00],
+    ),
+    (
+        Call::Waitable(Waitable::SetDrop),
+        &[0x01, 0x00, 0x08, 0x02, 0x01, 0x22],
+    ),
+    (
+        Call::Waitable(Waitable::Join),
+        &[0x01, 0x00, 0x08, 0x02, 0x01, 0x23],
+    ),
 ];
 
 const LONG_WAITABLES: &[Call<'static>] = &[
@@ -156,19 +249,55 @@ const LONG_WAITABLES: &[Call<'static>] = &[
     Call::Waitable(Waitable::Join),
 ];
 
-const THREADS: &[(Call<'static>, &str)] = &[
-    (Call::Thread(Thread::SpawnRef(128)), "408001"),
-    (Call::Thread(Thread::SpawnIndirect(1, 2)), "410102"),
-    (Call::Thread(Thread::AvailableParallelism), "42"),
-    (Call::Thread(Thread::Index), "26"),
-    (Call::Thread(Thread::NewIndirect(1, 2)), "270102"),
-    (Call::Thread(Thread::ResumeLater), "28"),
-    (Call::Thread(Thread::Suspend), "2900"),
-    (Call::Thread(Thread::Yield), "0c00"),
-    (Call::Thread(Thread::SuspendThenResume), "2a00"),
-    (Call::Thread(Thread::YieldThenResume), "2b00"),
-    (Call::Thread(Thread::SuspendThenPromote), "2c00"),
-    (Call::Thread(Thread::YieldThenPromote), "2d00"),
+const THREADS: &[(Call<'static>, &[u8])] = &[
+    (
+        Call::Thread(Thread::SpawnRef(128)),
+        &[0x01, 0x00, 0x08, 0x04, 0x01, 0x40, 0x80, 0x01],
+    ),
+    (
+        Call::Thread(Thread::SpawnIndirect(1, 2)),
+        &[0x01, 0x00, 0x08, 0x04, 0x01, 0x41, 0x01, 0x02],
+    ),
+    (
+        Call::Thread(Thread::AvailableParallelism),
+        &[0x01, 0x00, 0x08, 0x02, 0x01, 0x42],
+    ),
+    (
+        Call::Thread(Thread::Index),
+        &[0x01, 0x00, 0x08, 0x02, 0x01, 0x26],
+    ),
+    (
+        Call::Thread(Thread::NewIndirect(1, 2)),
+        &[0x01, 0x00, 0x08, 0x04, 0x01, 0x27, 0x01, 0x02],
+    ),
+    (
+        Call::Thread(Thread::ResumeLater),
+        &[0x01, 0x00, 0x08, 0x02, 0x01, 0x28],
+    ),
+    (
+        Call::Thread(Thread::Suspend),
+        &[0x01, 0x00, 0x08, 0x03, 0x01, 0x29, 0x00],
+    ),
+    (
+        Call::Thread(Thread::Yield),
+        &[0x01, 0x00, 0x08, 0x03, 0x01, 0x0c, 0x00],
+    ),
+    (
+        Call::Thread(Thread::SuspendThenResume),
+        &[0x01, 0x00, 0x08, 0x03, 0x01, 0x2a, 0x00],
+    ),
+    (
+        Call::Thread(Thread::YieldThenResume),
+        &[0x01, 0x00, 0x08, 0x03, 0x01, 0x2b, 0x00],
+    ),
+    (
+        Call::Thread(Thread::SuspendThenPromote),
+        &[0x01, 0x00, 0x08, 0x03, 0x01, 0x2c, 0x00],
+    ),
+    (
+        Call::Thread(Thread::YieldThenPromote),
+        &[0x01, 0x00, 0x08, 0x03, 0x01, 0x2d, 0x00],
+    ),
 ];
 
 const LONG_THREADS: &[Call<'static>] = &[
@@ -186,8 +315,8 @@ const LONG_THREADS: &[Call<'static>] = &[
     Call::Thread(Thread::YieldThenPromote),
 ];
 
-/// Calls with the rows that they add, and calls whose requests are refused.
-const GROUPS: &[(&[(Call<'static>, &str)], &[Call<'static>])] = &[
+/// Calls with what a section is that has this row alone, and calls whose requests alone are refused.
+const GROUPS: &[(&[(Call<'static>, &[u8])], &[Call<'static>])] = &[
     (FUNCTIONS, LONG_FUNCTIONS),
     (TASKS, LONG_TASKS),
     (STREAMS, LONG_STREAMS),
@@ -196,16 +325,21 @@ const GROUPS: &[(&[(Call<'static>, &str)], &[Call<'static>])] = &[
     (THREADS, LONG_THREADS),
 ];
 
+/// Each of these calls makes the section that stands beside it, and its requests are refused in turn.
+pub fn check_rows(rt: &impl Abort, alloc: Global, rows: &[(Call<'_>, &[u8])]) {
+    let heap = Refusing::new(alloc);
+    is_well(rt, sweep_rows::<Functions, Call>(alloc, &heap, rows));
+}
+
+fn check_calls(rt: &impl Abort, alloc: Global, calls: &[Call<'_>]) {
+    let heap = Refusing::new(alloc);
+    is_well(rt, sweep_calls::<Functions, Call>(alloc, &heap, calls));
+}
+
 #[test]
 fn each_call_adds_its_row(rt: HostRuntime) {
     for (rows, swept) in GROUPS {
-        let heap = Refusing::new(rt.alloc());
-        for (call, wanted) in *rows {
-            row(&rt, rt.alloc(), &heap, *call, wanted);
-        }
-        is_well(
-            &rt,
-            sweep_calls::<Functions, Call>(rt.alloc(), &heap, swept),
-        );
+        check_rows(&rt, rt.alloc(), rows);
+        check_calls(&rt, rt.alloc(), swept);
     }
 }

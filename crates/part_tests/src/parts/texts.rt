@@ -1,7 +1,8 @@
-use crate::accepted::ok;
+use crate::accepted::{is_well, ok};
 use std::alloc::Global;
 use std::process::Abort;
 use sweeping::hexed::text;
+use sweeping::sweep_encode;
 use wenc_base::{Encode, Fault};
 
 /// A text was made, and is this one.
@@ -9,9 +10,10 @@ pub fn is(rt: &impl Abort, given: Result<String, Fault>, wanted: &str) {
     assert_eq!(rt; ok(rt, given).as_str(), wanted);
 }
 
-/// The value appends this.
+/// The value appends this, and its requests for memory are refused in turn.
 pub fn text_is<T: Encode>(rt: &impl Abort, alloc: Global, value: &T, wanted: &str) {
     is(rt, text(alloc, value), wanted);
+    is_well(rt, sweep_encode(alloc, value));
 }
 
 /// Each value appends what stands beside it.

@@ -1,32 +1,15 @@
-use crate::accepted::is_well;
-use crate::swept::check;
-use sweeping::{LARGE, NAME, TEXT, takes_no_memory};
-use wenc_base::{Lent, Tagged, Verbatim, WithSize};
-
-#[test]
-fn numbers(rt: HostRuntime) {
-    let alloc = rt.alloc();
-    check(&rt, alloc, &true);
-    check(&rt, alloc, &LARGE);
-    check(&rt, alloc, &18446744073709551615u64);
-    check(&rt, alloc, &4294967295usize);
-    check(&rt, alloc, &-65i64);
-}
+use crate::swept::{check, check_call, check_each};
+use std::alloc::Allocator;
+use sweeping::{Appends, LARGE, NAME, TEXT};
+use wenc_base::{Fault, Lent, Tagged, Verbatim, WithSize, encode_list};
 
 #[test]
 fn texts(rt: HostRuntime) {
     let alloc = rt.alloc();
-    is_well(&rt, takes_no_memory(alloc, &()));
-    is_well(&rt, takes_no_memory(alloc, &Verbatim(&[])));
+    check(&rt, alloc, &4294967295usize);
     check(&rt, alloc, &NAME);
     check(&rt, alloc, &NAME.as_bytes());
     check(&rt, alloc, &Verbatim(TEXT));
-}
-
-#[test]
-fn options_and_pairs(rt: HostRuntime) {
-    let alloc = rt.alloc();
-    check(&rt, alloc, &None::<u32>);
     check(&rt, alloc, &Some(NAME));
     check(&rt, alloc, &(NAME, NAME));
     check(&rt, alloc, &Tagged(7, &NAME));
@@ -41,12 +24,46 @@ fn triples(rt: HostRuntime) {
     check(&rt, alloc, &Lent(&NAME));
 }
 
+// Nothing of the first growth is left for the size of four letters.
+const SIZES: &[WithSize<'static, &str>] = &[WithSize(&NAME), WithSize(&"abcd")];
+
+const NUMBERS: &[u32] = &[1, 128, 3, 4, LARGE];
+
+const TEXTS: &[&str] = &[NAME, "", NAME];
+
+const TWICE: &[&[u32]] = &[NUMBERS, NUMBERS];
+
 #[test]
-fn sizes(rt: HostRuntime) {
+fn sizes_and_lists(rt: HostRuntime) {
     let alloc = rt.alloc();
-    check(&rt, alloc, &WithSize(&()));
-    check(&rt, alloc, &WithSize(&NAME));
-    // Nothing of the first growth is left for the size.
-    check(&rt, alloc, &WithSize(&"abcd"));
+    check_each(&rt, alloc, SIZES);
     check(&rt, alloc, &WithSize(&(LARGE, NAME, TEXT)));
+    check(&rt, alloc, &NUMBERS);
+    check(&rt, alloc, &TEXTS);
+    check(&rt, alloc, &(NUMBERS, TEXTS));
+    check(&rt, alloc, &(TEXTS, NUMBERS));
+    check(&rt, alloc, &TWICE);
+}
+
+#[derive(Clone, Copy)]
+struct Listed<'a>(&'a [u32]);
+
+impl<'a> Appends for Listed<'a> {
+    fn append<A: Allocator>(&self, sink: &mut Vec<u8, A>) -> Result<(), Fault> {
+        encode_list(self.0.iter().copied(), sink)
+    }
+}
+
+// Five values of a byte fill the sink's first growth, so that the second is for their number.
+const LISTED: &[Listed<'static>] = &[
+    Listed(&[]),
+    Listed(&[1, 2, 3, 4, 5]),
+    Listed(&[LARGE, LARGE, LARGE, LARGE, LARGE]),
+];
+
+#[test]
+fn listed_values(rt: HostRuntime) {
+    for listed in LISTED {
+        check_call(&rt, rt.alloc(), listed);
+    }
 }
