@@ -1,7 +1,7 @@
 //! Tests of `wenc_parts` and of values of `wenc_base`: worked parts, and a stranger's type.
 
 mod aliases;
-mod equality;
+pub mod equality;
 mod kinds;
 pub mod names;
 mod own_values;

@@ -1,10 +1,17 @@
+//! Composite types, their parts, sub types and groups.
+
 use crate::accepted::ok;
 use crate::base::values::{check, check_all};
-use std::alloc::Global;
+use crate::parts::equality::tells_apart;
+use crate::swept;
+use crate::swept::check_each;
+use refusing::Refusing;
+use std::alloc::{Allocator, Global};
 use std::process::Abort;
+use sweeping::{LARGE, REFUSED};
 use wenc_base::{
-    AbstractHeapType, ArrayType, CompositeType, Encode, FieldType, FuncType, GroupTree, HeapType,
-    RefType, StorageType, StructType, SubType, ValType,
+    AbstractHeapType, ArrayType, CompositeType, Encode, Fault, FieldType, FuncType, GroupTree,
+    HeapType, RefType, StorageType, StructType, SubType, ValType,
 };
 
 const I8: FieldType = FieldType {
@@ -27,6 +34,16 @@ const REFERENCE: StorageType = StorageType::Val(ValType::Ref(RefType {
     heap_type: HeapType::Abstract(AbstractHeapType::Any),
 }));
 
+const LARGE_REFERENCE: ValType = ValType::Ref(RefType {
+    nullable: false,
+    heap_type: HeapType::Concrete(LARGE),
+});
+
+const LARGE_FIELD: FieldType = FieldType {
+    element_type: StorageType::Val(LARGE_REFERENCE),
+    mutable: true,
+};
+
 const STORAGES: &[(StorageType, &[u8])] = &[
     (StorageType::I8, &[0x78]),
     (StorageType::I16, &[0x77]),
@@ -37,208 +54,314 @@ const FIELDS: &[(FieldType, &[u8])] = &[(I8, &[0x78, 0x01]), (I32, &[0x7f, 0x00]
 
 #[test]
 fn fields(rt: HostRuntime) {
-    check_all(&rt, rt.alloc(), STORAGES);
-    check_all(&rt, rt.alloc(), FIELDS);
+    let alloc = rt.alloc();
+    check_all(&rt, alloc, STORAGES);
+    check_all(&rt, alloc, FIELDS);
+    check_each(&rt, alloc, &[StorageType::Val(LARGE_REFERENCE)]);
+    check_each(&rt, alloc, &[LARGE_FIELD]);
 }
 
-fn function(rt: &impl Abort, alloc: Global, params: &[ValType], results: &[ValType]) -> FuncType {
-    ok(
-        rt,
-        FuncType::new(alloc, params.iter().copied(), results.iter().copied()),
-    )
+/// A composite type, by its parts.
+#[derive(Clone, Copy)]
+enum Shape<'a> {
+    Function(&'a [ValType], &'a [ValType]),
+    /// A function that is made of two lists.
+    OfLists(&'a [ValType], &'a [ValType]),
+    Array(FieldType),
+    Structure(&'a [FieldType]),
+}
+
+/// The call by itself: what a test does with the answer then rests on nothing that the call promises.
+fn function<A: Allocator + Copy>(
+    alloc: A,
+    params: &[ValType],
+    results: &[ValType],
+) -> Result<FuncType<A>, Fault> {
+    FuncType::new(alloc, params.iter().copied(), results.iter().copied())
 }
 
 fn of_lists(rt: &impl Abort, alloc: Global, params: &[ValType], results: &[ValType]) -> FuncType {
     FuncType::from_lists(ok(rt, params.to_vec(alloc)), ok(rt, results.to_vec(alloc)))
 }
 
-// As one of the composite types.
-fn composite(
-    rt: &impl Abort,
-    alloc: Global,
-    params: &[ValType],
-    results: &[ValType],
-) -> CompositeType {
-    CompositeType::Func(function(rt, alloc, params, results))
+fn composite(rt: &impl Abort, alloc: Global, shape: Shape<'_>) -> CompositeType {
+    match shape {
+        Shape::Function(params, results) => {
+            CompositeType::Func(ok(rt, function(alloc, params, results)))
+        }
+        Shape::OfLists(params, results) => {
+            CompositeType::Func(of_lists(rt, alloc, params, results))
+        }
+        Shape::Array(field) => CompositeType::Array(ArrayType(field)),
+        Shape::Structure(fields) => CompositeType::Struct(StructType {
+            fields: ok(rt, fields.to_vec(alloc)),
+        }),
+    }
 }
 
-const PARAMS: &[ValType] = &[ValType::I32, ValType::I64];
+/// What a value is written as. Where it isn't said, its requests for memory are refused in turn.
+type Wanted<'a> = Option<&'a [u8]>;
 
-const RESULTS: &[ValType] = &[ValType::F32];
+fn check_as<T: Encode>(rt: &impl Abort, alloc: Global, value: &T, wanted: Wanted<'_>) {
+    match wanted {
+        Some(bytes) => check(rt, alloc, value, bytes),
+        None => swept::check(rt, alloc, value),
+    }
+}
 
 const FUNCTION: &[u8] = &[0x60, 0x02, 0x7f, 0x7e, 0x01, 0x7d];
 
 const EMPTY: &[u8] = &[0x60, 0x00, 0x00];
 
-// A value that the caller has no more use for is written as these bytes.
-fn check_made<T: Encode + Drop>(rt: &impl Abort, alloc: Global, value: T, bytes: &[u8]) {
-    check(rt, alloc, &value, bytes);
-}
+const PARAMS: &[ValType] = &[ValType::I32, ValType::I64];
 
-#[test]
-fn functions(rt: HostRuntime) {
-    let alloc = rt.alloc();
-    check_made(&rt, alloc, function(&rt, alloc, PARAMS, RESULTS), FUNCTION);
-    check_made(&rt, alloc, function(&rt, alloc, &[], &[]), EMPTY);
-    check_made(&rt, alloc, of_lists(&rt, alloc, PARAMS, RESULTS), FUNCTION);
-}
-
-#[test]
-fn composite_functions(rt: HostRuntime) {
-    let alloc = rt.alloc();
-    check_made(&rt, alloc, composite(&rt, alloc, PARAMS, RESULTS), FUNCTION);
-    check_made(&rt, alloc, composite(&rt, alloc, &[], &[]), EMPTY);
-}
-
-#[test]
-fn types_of_functions(rt: HostRuntime) {
-    let ty = function(&rt, rt.alloc(), PARAMS, RESULTS);
-    assert!(rt; ty.params() == PARAMS && ty.results() == RESULTS);
-}
-
-const ARRAY: ArrayType = ArrayType(I8);
-
-// By itself, and as one of the composite types.
-#[test]
-fn arrays(rt: HostRuntime) {
-    let bytes = [0x5e, 0x78, 0x01].as_slice();
-    check(&rt, rt.alloc(), &ARRAY, bytes);
-    let array: CompositeType = CompositeType::Array(ARRAY);
-    check(&rt, rt.alloc(), &array, bytes);
-}
-
-fn structure(rt: &impl Abort, alloc: Global, fields: &[FieldType]) -> StructType {
-    StructType {
-        fields: ok(rt, fields.to_vec(alloc)),
-    }
-}
-
-// As one of the composite types.
-fn composite_structure(rt: &impl Abort, alloc: Global, fields: &[FieldType]) -> CompositeType {
-    CompositeType::Struct(structure(rt, alloc, fields))
-}
-
-const STRUCTURE: &[u8] = &[0x5f, 0x02, 0x78, 0x01, 0x7f, 0x00];
+const RESULTS: &[ValType] = &[ValType::F32];
 
 const TWO_FIELDS: &[FieldType] = &[I8, I32];
 
-#[test]
-fn structures(rt: HostRuntime) {
-    let alloc = rt.alloc();
-    check_made(&rt, alloc, structure(&rt, alloc, TWO_FIELDS), STRUCTURE);
-    check_made(&rt, alloc, structure(&rt, alloc, &[]), &[0x5f, 0x00]);
-    let composite = composite_structure(&rt, alloc, TWO_FIELDS);
-    check_made(&rt, alloc, composite, STRUCTURE);
-    let none = composite_structure(&rt, alloc, &[]);
-    check_made(&rt, alloc, none, &[0x5f, 0x00]);
-}
+const LARGE_PARAMS: &[ValType] = &[
+    LARGE_REFERENCE,
+    ValType::I32,
+    LARGE_REFERENCE,
+    ValType::I64,
+    LARGE_REFERENCE,
+];
 
-fn sub_type(is_final: bool, supertype_idx: Option<u32>, composite_type: CompositeType) -> SubType {
-    SubType {
-        is_final,
-        supertype_idx,
-        composite_type,
+const LARGE_RESULTS: &[ValType] = &[ValType::F64, LARGE_REFERENCE, ValType::V128];
+
+const LARGE_FUNCTION: Shape<'static> = Shape::Function(LARGE_PARAMS, LARGE_RESULTS);
+
+const COMPOSITES: &[(Shape<'static>, Wanted<'static>)] = &[
+    (Shape::Function(PARAMS, RESULTS), Some(FUNCTION)),
+    (Shape::Function(&[], &[]), Some(EMPTY)),
+    (Shape::OfLists(PARAMS, RESULTS), Some(FUNCTION)),
+    (Shape::Array(I8), Some(&[0x5e, 0x78, 0x01])),
+    (
+        Shape::Structure(TWO_FIELDS),
+        Some(&[0x5f, 0x02, 0x78, 0x01, 0x7f, 0x00]),
+    ),
+    (Shape::Structure(&[]), Some(&[0x5f, 0x00])),
+    (LARGE_FUNCTION, None),
+    (Shape::Array(LARGE_FIELD), None),
+    (
+        Shape::Structure(&[LARGE_FIELD, LARGE_FIELD, LARGE_FIELD, LARGE_FIELD]),
+        None,
+    ),
+];
+
+// As one of the composite types, and by itself.
+fn check_composite(rt: &impl Abort, alloc: Global, ty: &CompositeType, wanted: Wanted<'_>) {
+    check_as(rt, alloc, ty, wanted);
+    match ty {
+        CompositeType::Func(function) => check_as(rt, alloc, function, wanted),
+        CompositeType::Array(array) => check_as(rt, alloc, array, wanted),
+        CompositeType::Struct(structure) => check_as(rt, alloc, structure, wanted),
     }
 }
 
-// A function that extends no other type.
-fn sub_function(
-    rt: &impl Abort,
-    alloc: Global,
-    is_final: bool,
-    params: &[ValType],
-    results: &[ValType],
-) -> SubType {
-    sub_type(is_final, None, composite(rt, alloc, params, results))
+fn check_shape(rt: &impl Abort, alloc: Global, shape: Shape<'_>, wanted: Wanted<'_>) {
+    let ty = composite(rt, alloc, shape);
+    check_composite(rt, alloc, &ty, wanted);
 }
 
-// One of that array extends the type with this index.
-fn sub_array(is_final: bool, supertype_idx: u32) -> SubType {
-    let ty = CompositeType::Array(ArrayType(I16));
-    sub_type(is_final, Some(supertype_idx), ty)
+#[test]
+fn composites(rt: HostRuntime) {
+    for (shape, wanted) in COMPOSITES {
+        check_shape(&rt, rt.alloc(), *shape, *wanted);
+    }
 }
 
-// By itself, and behind a reference.
-fn check_sub(rt: &impl Abort, alloc: Global, ty: SubType, bytes: &[u8]) {
-    check(rt, alloc, &ty, bytes);
-    check(rt, alloc, &&ty, bytes);
+/// Whether it is final, the type that it extends, and what it is.
+type Sub<'a> = (bool, Option<u32>, Shape<'a>);
+
+fn sub_type(rt: &impl Abort, alloc: Global, row: &Sub<'_>) -> SubType {
+    SubType {
+        is_final: row.0,
+        supertype_idx: row.1,
+        composite_type: composite(rt, alloc, row.2),
+    }
 }
 
 const OPEN: &[u8] = &[0x50, 0x00, 0x60, 0x00, 0x00];
 
-#[test]
-fn sub_types(rt: HostRuntime) {
-    let alloc = rt.alloc();
-    check_sub(&rt, alloc, sub_function(&rt, alloc, true, &[], &[]), EMPTY);
-    check_sub(&rt, alloc, sub_function(&rt, alloc, false, &[], &[]), OPEN);
+const SUB_TYPES: &[(Sub<'static>, Wanted<'static>)] = &[
+    ((true, None, Shape::Function(&[], &[])), Some(EMPTY)),
+    ((false, None, Shape::Function(&[], &[])), Some(OPEN)),
+    (
+        (true, Some(4), Shape::Array(I16)),
+        Some(&[0x4f, 0x01, 0x04, 0x5e, 0x77, 0x00]),
+    ),
+    (
+        (false, Some(128), Shape::Array(I16)),
+        Some(&[0x50, 0x01, 0x80, 0x01, 0x5e, 0x77, 0x00]),
+    ),
+    ((true, None, LARGE_FUNCTION), None),
+    ((true, Some(LARGE), LARGE_FUNCTION), None),
+    ((false, None, LARGE_FUNCTION), None),
+    ((false, Some(LARGE), LARGE_FUNCTION), None),
+];
+
+// By itself, and behind a reference.
+fn check_sub(rt: &impl Abort, alloc: Global, ty: &SubType, wanted: Wanted<'_>) {
+    check_as(rt, alloc, ty, wanted);
+    check_as(rt, alloc, &ty, wanted);
 }
 
-const FINAL_ARRAY: &[u8] = &[0x4f, 0x01, 0x04, 0x5e, 0x77, 0x00];
-
-const OPEN_ARRAY: &[u8] = &[0x50, 0x01, 0x80, 0x01, 0x5e, 0x77, 0x00];
+// And as a group of one.
+fn check_group_of_one(rt: &impl Abort, alloc: Global, row: &Sub<'_>, wanted: Wanted<'_>) {
+    let ty = sub_type(rt, alloc, row);
+    check_sub(rt, alloc, &ty, wanted);
+    let group = GroupTree::Sub(ty);
+    check_as(rt, alloc, &group, wanted);
+}
 
 #[test]
-fn sub_types_of_others(rt: HostRuntime) {
-    let alloc = rt.alloc();
-    check_sub(&rt, alloc, sub_array(true, 4), FINAL_ARRAY);
-    check_sub(&rt, alloc, sub_array(false, 128), OPEN_ARRAY);
+fn sub_types(rt: HostRuntime) {
+    for (row, wanted) in SUB_TYPES {
+        check_group_of_one(&rt, rt.alloc(), row, *wanted);
+    }
+}
+
+fn add<T: Drop>(rt: &impl Abort, to: &mut Vec<T>, ty: T) {
+    ok(rt, to.push(ty));
+}
+
+fn each_sub_type(rt: &impl Abort, alloc: Global, rows: &[Sub<'_>]) -> Vec<SubType> {
+    let mut types = Vec::new(alloc);
+    for row in rows {
+        add(rt, &mut types, sub_type(rt, alloc, row));
+    }
+    types
 }
 
 const NUMBER: &[ValType] = &[ValType::I32];
 
-fn add(rt: &impl Abort, types: &mut Vec<SubType>, ty: SubType) {
-    ok(rt, types.push(ty));
-}
+const GROUPS: &[(&[Sub<'static>], Wanted<'static>)] = &[
+    (
+        &[
+            (true, None, Shape::Function(&[], &[])),
+            (true, None, Shape::Function(NUMBER, &[])),
+        ],
+        Some(&[0x4e, 0x02, 0x60, 0x00, 0x00, 0x60, 0x01, 0x7f, 0x00]),
+    ),
+    (&[], Some(&[0x4e, 0x00])),
+    (
+        &[
+            (true, None, LARGE_FUNCTION),
+            (true, Some(LARGE), LARGE_FUNCTION),
+            (false, None, LARGE_FUNCTION),
+            (false, Some(LARGE), LARGE_FUNCTION),
+        ],
+        None,
+    ),
+];
 
-fn pair(rt: &impl Abort, alloc: Global) -> GroupTree {
-    let mut types = Vec::new(alloc);
-    add(rt, &mut types, sub_function(rt, alloc, true, &[], &[]));
-    add(rt, &mut types, sub_function(rt, alloc, true, NUMBER, &[]));
-    GroupTree::Rec(types)
+fn check_group(rt: &impl Abort, alloc: Global, rows: &[Sub<'_>], wanted: Wanted<'_>) {
+    let group = GroupTree::Rec(each_sub_type(rt, alloc, rows));
+    check_as(rt, alloc, &group, wanted);
 }
-
-fn group_of_one(ty: SubType) -> GroupTree {
-    GroupTree::Sub(ty)
-}
-
-fn open_group(rt: &impl Abort, alloc: Global) -> GroupTree {
-    group_of_one(sub_function(rt, alloc, false, &[], &[]))
-}
-
-fn no_types(alloc: Global) -> GroupTree {
-    GroupTree::Rec(Vec::new(alloc))
-}
-
-const PAIR: &[u8] = &[0x4e, 0x02, 0x60, 0x00, 0x00, 0x60, 0x01, 0x7f, 0x00];
 
 #[test]
 fn groups(rt: HostRuntime) {
-    let alloc = rt.alloc();
-    check_made(&rt, alloc, pair(&rt, alloc), PAIR);
-    check_made(&rt, alloc, no_types(alloc), &[0x4e, 0x00]);
-    check_made(&rt, alloc, open_group(&rt, alloc), OPEN);
+    for (rows, wanted) in GROUPS {
+        check_group(&rt, rt.alloc(), rows, *wanted);
+    }
 }
 
-// A function of a number, the same once more, and one that gives a number.
-#[test]
-fn composites_are_compared(rt: HostRuntime) {
-    let alloc = rt.alloc();
-    let one = composite(&rt, alloc, NUMBER, &[]);
-    let same = composite(&rt, alloc, NUMBER, &[]);
-    let turned = composite(&rt, alloc, &[], NUMBER);
-    assert!(rt; one == same);
-    assert!(rt; one != turned);
-    assert!(rt; one != CompositeType::Array(ARRAY));
+// A function of a number, one that gives a number, and an array.
+const COMPARED: &[Shape<'static>] = &[
+    Shape::Function(NUMBER, &[]),
+    Shape::Function(&[], NUMBER),
+    Shape::Array(I8),
+];
+
+fn each_composite(rt: &impl Abort, alloc: Global) -> Vec<CompositeType> {
+    let mut types = Vec::new(alloc);
+    for shape in COMPARED {
+        add(rt, &mut types, composite(rt, alloc, *shape));
+    }
+    types
 }
 
-// Likewise.
+const COMPARED_SUB_TYPES: &[Sub<'static>] = &[
+    (true, None, Shape::Function(NUMBER, &[])),
+    (true, None, Shape::Function(&[], NUMBER)),
+];
+
+fn group_of_one(rt: &impl Abort, alloc: Global, row: &Sub<'_>) -> GroupTree {
+    GroupTree::Sub(sub_type(rt, alloc, row))
+}
+
+fn each_group(rt: &impl Abort, alloc: Global) -> Vec<GroupTree> {
+    let mut groups = Vec::new(alloc);
+    for row in COMPARED_SUB_TYPES {
+        add(rt, &mut groups, group_of_one(rt, alloc, row));
+    }
+    groups
+}
+
+/// Each of these values equals the one of the others that stands at its place, and no other.
+fn tell_apart<T: Eq + Drop>(rt: &impl Abort, values: Vec<T>, others: Vec<T>) {
+    tells_apart(rt, values.as_slice(), others.as_slice());
+}
+
 #[test]
-fn sub_types_are_compared(rt: HostRuntime) {
+fn types_are_compared(rt: HostRuntime) {
     let alloc = rt.alloc();
-    let one = sub_function(&rt, alloc, true, NUMBER, &[]);
-    let same = sub_function(&rt, alloc, true, NUMBER, &[]);
-    let turned = sub_function(&rt, alloc, true, &[], NUMBER);
-    assert!(rt; one == same);
-    assert!(rt; one != turned);
-    assert!(rt; group_of_one(one) == group_of_one(same));
+    tell_apart(&rt, each_composite(&rt, alloc), each_composite(&rt, alloc));
+    tell_apart(
+        &rt,
+        each_sub_type(&rt, alloc, COMPARED_SUB_TYPES),
+        each_sub_type(&rt, alloc, COMPARED_SUB_TYPES),
+    );
+    tell_apart(&rt, each_group(&rt, alloc), each_group(&rt, alloc));
+}
+
+/// Whether a function that is made has its types.
+fn has_its_types(heap: &Refusing, params: &[ValType], results: &[ValType]) -> Result<bool, Fault> {
+    let ty = function(heap, params, results)?;
+    Ok(ty.params() == params && ty.results() == results)
+}
+
+/// Whether the request number `n` was there to be refused, and whether all was as it should be.
+fn refuse_nth(alloc: Global, n: u64) -> (bool, bool) {
+    let heap = Refusing::new(alloc);
+    heap.refuse_nth(n);
+    let is_well = match has_its_types(&heap, LARGE_PARAMS, LARGE_RESULTS) {
+        Ok(has) => has,
+        Err(fault) => heap.was_refused() && fault == REFUSED,
+    };
+    (heap.was_refused(), is_well)
+}
+
+// A refused growth is asked for once more, for less, so that one refusal alone may be got over.
+#[test]
+fn new_functions(rt: HostRuntime) {
+    for n in 1..20u64 {
+        let (was_refused, is_well) = refuse_nth(rt.alloc(), n);
+        assert!(rt; is_well, "{n}");
+        if !was_refused {
+            assert!(rt; n > 1);
+            return;
+        }
+    }
+    assert!(rt; false);
+}
+
+/// Parameters, results, and what comes of the function without memory: one without types takes none.
+const WITHOUT_MEMORY: &[(&[ValType], &[ValType], Result<bool, Fault>)] = &[
+    (LARGE_PARAMS, LARGE_RESULTS, Err(REFUSED)),
+    (LARGE_PARAMS, &[], Err(REFUSED)),
+    (&[], LARGE_RESULTS, Err(REFUSED)),
+    (&[], &[], Ok(true)),
+];
+
+#[test]
+fn types_of_functions(rt: HostRuntime) {
+    let heap = Refusing::new(rt.alloc());
+    assert!(rt; has_its_types(&heap, PARAMS, RESULTS) == Ok(true));
+    heap.refuse_all();
+    for (params, results, wanted) in WITHOUT_MEMORY {
+        assert!(rt; has_its_types(&heap, params, results) == *wanted);
+    }
 }

@@ -1,13 +1,18 @@
+//! Values that are compared.
+
 use std::process::Abort;
+use wenc_base::{
+    AbstractHeapType, EntityType, HeapType, MemoryType, RefType, TableType, TagType, ValType,
+};
 use wenc_parts::{
     ComponentOuterAliasKind, ComponentTypeRef, ComponentValType, ModuleArg, PrimitiveValType,
     TypeBounds,
 };
 
-/// Each of these values equals itself alone.
-fn tells_apart<T: Eq>(rt: &impl Abort, values: &[T]) {
+/// Each of these values equals the one of the others that stands at its place, and no other.
+pub fn tells_apart<T: Eq>(rt: &impl Abort, values: &[T], others: &[T]) {
     for (i, value) in values.iter().enumerate() {
-        for (j, other) in values.iter().enumerate() {
+        for (j, other) in others.iter().enumerate() {
             assert!(rt; (value == other) == (i == j), "{i} and {j}");
         }
     }
@@ -58,37 +63,12 @@ const VALUE_TYPES: &[ComponentValType] = &[
     ComponentValType::Type(4294967295),
 ];
 
-#[test]
-fn bounds(rt: HostRuntime) {
-    tells_apart(&rt, BOUNDS);
-}
-
-#[test]
-fn references(rt: HostRuntime) {
-    tells_apart(&rt, REFERENCES);
-}
-
-#[test]
-fn primitive_types(rt: HostRuntime) {
-    tells_apart(&rt, PRIMITIVES);
-}
-
-#[test]
-fn value_types(rt: HostRuntime) {
-    tells_apart(&rt, VALUE_TYPES);
-}
-
 const ARGUMENTS: &[ModuleArg] = &[
     ModuleArg::Instance(0),
     ModuleArg::Instance(1),
     ModuleArg::Instance(128),
     ModuleArg::Instance(4294967295),
 ];
-
-#[test]
-fn module_arguments(rt: HostRuntime) {
-    tells_apart(&rt, ARGUMENTS);
-}
 
 const OUTER_KINDS: &[ComponentOuterAliasKind] = &[
     ComponentOuterAliasKind::CoreModule,
@@ -97,7 +77,79 @@ const OUTER_KINDS: &[ComponentOuterAliasKind] = &[
     ComponentOuterAliasKind::Component,
 ];
 
+const ANY: RefType = RefType {
+    nullable: true,
+    heap_type: HeapType::Abstract(AbstractHeapType::Any),
+};
+
+const EQ: RefType = RefType {
+    nullable: true,
+    heap_type: HeapType::Abstract(AbstractHeapType::Eq),
+};
+
+const HEAP_TYPES: &[HeapType] = &[
+    HeapType::Abstract(AbstractHeapType::Any),
+    HeapType::Concrete(0),
+];
+
+const TYPES: &[ValType] = &[ValType::Ref(ANY), ValType::Ref(EQ)];
+
+const ENTITIES: &[EntityType] = &[
+    EntityType::Tag(TagType { func_type_idx: 7 }),
+    EntityType::Tag(TagType { func_type_idx: 8 }),
+    EntityType::Function(7),
+];
+
+const FUNCS: RefType = RefType {
+    nullable: true,
+    heap_type: HeapType::Abstract(AbstractHeapType::Func),
+};
+
+const TABLES: &[TableType] = &[
+    TableType {
+        element_type: FUNCS,
+        table64: false,
+        minimum: 0,
+        maximum: None,
+    },
+    TableType {
+        element_type: FUNCS,
+        table64: true,
+        minimum: 0,
+        maximum: None,
+    },
+];
+
+const MEMORIES: &[MemoryType] = &[
+    MemoryType {
+        minimum: 1,
+        maximum: None,
+        memory64: false,
+        shared: false,
+    },
+    MemoryType {
+        minimum: 1,
+        maximum: Some(1),
+        memory64: false,
+        shared: false,
+    },
+];
+
 #[test]
-fn outer_kinds(rt: HostRuntime) {
-    tells_apart(&rt, OUTER_KINDS);
+fn core_types(rt: HostRuntime) {
+    tells_apart(&rt, HEAP_TYPES, HEAP_TYPES);
+    tells_apart(&rt, TYPES, TYPES);
+    tells_apart(&rt, ENTITIES, ENTITIES);
+    tells_apart(&rt, TABLES, TABLES);
+    tells_apart(&rt, MEMORIES, MEMORIES);
+}
+
+#[test]
+fn parts(rt: HostRuntime) {
+    tells_apart(&rt, BOUNDS, BOUNDS);
+    tells_apart(&rt, REFERENCES, REFERENCES);
+    tells_apart(&rt, PRIMITIVES, PRIMITIVES);
+    tells_apart(&rt, VALUE_TYPES, VALUE_TYPES);
+    tells_apart(&rt, ARGUMENTS, ARGUMENTS);
+    tells_apart(&rt, OUTER_KINDS, OUTER_KINDS);
 }
