@@ -1,7 +1,6 @@
 //! Each request for memory of the calls of `wenc_base` and `wenc_parts` is refused in turn; and tests of the allocator
 //! that refuses.
 
-mod extern_names;
 mod holders;
 mod modules;
 mod names;

@@ -1,8 +1,13 @@
+//! Names of imports and exports.
+
 use crate::accepted::ok;
-use crate::parts::texts::text_is;
+use crate::parts::texts::{text_is, text_of};
+use crate::swept::check_made;
+use refusing::Refusing;
 use std::alloc::{Allocator, Global};
 use std::borrow::CowStr;
 use std::process::Abort;
+use sweeping::{NAME, REFUSED};
 use wenc_base::Fault;
 use wenc_parts::{ComponentExternName, NameOptions, NameTree};
 
@@ -28,26 +33,44 @@ const ROWS: &[Row<'static>] = &[
     ("n", (None, None, Some("x")), "ee02016e01020178"),
 ];
 
-fn borrowed<'a>(text: Option<&'a str>) -> Option<CowStr<'a>> {
+/// The text itself, or a copy of it.
+fn held<'a, A: Allocator>(
+    rt: &impl Abort,
+    alloc: A,
+    text: &'a str,
+    is_owned: bool,
+) -> CowStr<'a, A> {
+    if is_owned {
+        CowStr::Owned(ok(rt, String::from_str(alloc, text)))
+    } else {
+        CowStr::Borrowed(text)
+    }
+}
+
+fn option<'a, A: Allocator>(
+    rt: &impl Abort,
+    alloc: A,
+    text: Option<&'a str>,
+    is_owned: bool,
+) -> Option<CowStr<'a, A>> {
     match text {
         None => None,
-        Some(text) => Some(CowStr::Borrowed(text)),
+        Some(text) => Some(held(rt, alloc, text, is_owned)),
     }
 }
 
-fn lent<'a>(name: &'a str, options: Options<'a>) -> ComponentExternName<'a> {
+fn named<'a, A: Allocator + Copy>(
+    rt: &impl Abort,
+    alloc: A,
+    name: &'a str,
+    options: Options<'a>,
+    is_owned: bool,
+) -> ComponentExternName<'a, A> {
     ComponentExternName {
-        name: CowStr::Borrowed(name),
-        implements: borrowed(options.0),
-        version_suffix: borrowed(options.1),
-        external_id: borrowed(options.2),
-    }
-}
-
-#[test]
-fn lent_names(rt: HostRuntime) {
-    for (name, options, wanted) in ROWS {
-        text_is(&rt, rt.alloc(), &lent(name, *options), wanted);
+        name: held(rt, alloc, name, is_owned),
+        implements: option(rt, alloc, options.0, is_owned),
+        version_suffix: option(rt, alloc, options.1, is_owned),
+        external_id: option(rt, alloc, options.2, is_owned),
     }
 }
 
@@ -75,43 +98,19 @@ fn tree<A: Allocator + Copy>(
     }
 }
 
-fn kept<'a>(rt: &impl Abort, alloc: Global, text: &str) -> CowStr<'a> {
-    CowStr::Owned(ok(rt, String::from_str(alloc, text)))
-}
-
-fn kept_name<'a>(
-    rt: &impl Abort,
-    alloc: Global,
-    name: &str,
-    options: Options<'_>,
-) -> ComponentExternName<'a> {
-    ComponentExternName {
-        name: kept(rt, alloc, name),
-        implements: options.0.map(|text| kept(rt, alloc, text)),
-        version_suffix: options.1.map(|text| kept(rt, alloc, text)),
-        external_id: options.2.map(|text| kept(rt, alloc, text)),
-    }
-}
-
 /// The tree's name appends this.
 fn tree_is<A: Allocator>(rt: &impl Abort, alloc: Global, tree: NameTree<A>, wanted: &str) {
-    text_is(rt, alloc, &tree.as_name(), wanted);
+    text_of(rt, alloc, tree.as_name(), wanted);
 }
 
-// In an allocator that isn't the sink's.
+// Lent, with texts of its own, and of a tree in an allocator that isn't the sink's.
 #[test]
-fn trees(rt: HostRuntime) {
+fn names(rt: HostRuntime) {
     let alloc = rt.alloc();
     for (name, options, wanted) in ROWS {
+        text_of(&rt, alloc, named(&rt, alloc, name, *options, false), wanted);
+        text_of(&rt, alloc, named(&rt, alloc, name, *options, true), wanted);
         tree_is(&rt, alloc, tree(&rt, &alloc, name, *options), wanted);
-    }
-}
-
-#[test]
-fn kept_names(rt: HostRuntime) {
-    for (name, options, wanted) in ROWS {
-        let name = kept_name(&rt, rt.alloc(), name, *options);
-        text_is(&rt, rt.alloc(), &name, wanted);
     }
 }
 
@@ -140,25 +139,15 @@ fn made_of_text(rt: HostRuntime) {
     check_plain(&rt, alloc, tree.as_name());
 }
 
-fn with_two_options<'a>(rt: &impl Abort, alloc: Global) -> ComponentExternName<'a> {
-    let implements = ok(rt, String::from_str(alloc, "i"));
-    ComponentExternName {
-        name: CowStr::Borrowed("a"),
-        implements: Some(CowStr::Owned(implements)),
-        version_suffix: None,
-        external_id: Some(CowStr::Borrowed("")),
-    }
-}
-
 /// The call by itself: what a test does with the answer then rests on nothing that the call promises.
-pub fn copy<'a, A: Allocator + Clone>(
+fn copy<'a, A: Allocator + Clone>(
     name: &ComponentExternName<'a, A>,
 ) -> Result<ComponentExternName<'a, A>, Fault> {
     name.clone()
 }
 
 /// The names are the same, with their options.
-pub fn are_same<A: Allocator>(
+fn are_same<A: Allocator>(
     one: &ComponentExternName<'_, A>,
     other: &ComponentExternName<'_, A>,
 ) -> bool {
@@ -168,13 +157,72 @@ pub fn are_same<A: Allocator>(
         && one.external_id == other.external_id
 }
 
+fn with_two_options<'a>(rt: &impl Abort, alloc: Global) -> ComponentExternName<'a> {
+    ComponentExternName {
+        name: CowStr::Borrowed("a"),
+        implements: Some(held(rt, alloc, "i", true)),
+        version_suffix: None,
+        external_id: Some(CowStr::Borrowed("")),
+    }
+}
+
+/// A copy of a name that is no longer there.
+fn copied<'a>(rt: &impl Abort, name: ComponentExternName<'a>) -> ComponentExternName<'a> {
+    let other = ok(rt, copy(&name));
+    assert!(rt; are_same(&other, &name));
+    other
+}
+
 #[test]
 fn cloned(rt: HostRuntime) {
-    let name = with_two_options(&rt, rt.alloc());
-    let other = ok(&rt, copy(&name));
-    assert!(rt; other.name.as_str() == "a");
-    assert!(rt; other.version_suffix.is_none());
-    assert!(rt; are_same(&other, &name));
-    drop(name);
-    text_is(&rt, rt.alloc(), &other, "ee020161020001690200");
+    let other = copied(&rt, with_two_options(&rt, rt.alloc()));
+    text_of(&rt, rt.alloc(), other, "ee020161020001690200");
+}
+
+/// A long name with each option, and a short one.
+const EACH_OPTION: Options<'static> = (Some(NAME), Some(NAME), Some(NAME));
+
+const SHORT: Options<'static> = (Some("n"), Some("n"), Some("n"));
+
+#[test]
+fn names_are_swept(rt: HostRuntime) {
+    let alloc = rt.alloc();
+    check_made(&rt, alloc, ComponentExternName::from(NAME));
+    check_made(&rt, alloc, named(&rt, alloc, NAME, EACH_OPTION, false));
+    check_made(&rt, alloc, named(&rt, alloc, "n", SHORT, false));
+}
+
+type Kept<'a> = ComponentExternName<'a, &'a Refusing>;
+
+/// Whether a copy's request number `n` is refused and leaves the name as it was.
+fn is_refused<'a>(heap: &'a Refusing, name: &Kept<'a>, n: u64) -> bool {
+    heap.refuse_nth(n);
+    let outcome = copy(name);
+    outcome.err() == Some(REFUSED) && heap.requests() == n && name.name.as_str() == NAME
+}
+
+/// Whether a copy is made, and is the same.
+fn has_a_copy<'a>(name: &Kept<'a>) -> bool {
+    match copy(name) {
+        Ok(other) => other.name.as_str() == NAME && are_same(&other, name),
+        Err(_) => false,
+    }
+}
+
+/// A copy makes four requests, and each of them is refused.
+fn check_copies<'a>(rt: &impl Abort, heap: &'a Refusing, name: &Kept<'a>) {
+    for n in 1..5u64 {
+        assert!(rt; is_refused(heap, name, n), "{n}");
+    }
+    heap.refuse_nth(5);
+    assert!(rt; has_a_copy(name));
+    assert!(rt; heap.requests() == 4);
+}
+
+// A copy takes memory for each text that is owned.
+#[test]
+fn copies(rt: HostRuntime) {
+    let heap = Refusing::new(rt.alloc());
+    let name = named(&rt, &heap, NAME, EACH_OPTION, true);
+    check_copies(&rt, &heap, &name);
 }

@@ -16,6 +16,11 @@ pub fn text_is<T: Encode>(rt: &impl Abort, alloc: Global, value: &T, wanted: &st
     is_well(rt, sweep_encode(alloc, value));
 }
 
+/// A value that the caller has no more use for appends this.
+pub fn text_of<T: Encode + Drop>(rt: &impl Abort, alloc: Global, value: T, wanted: &str) {
+    text_is(rt, alloc, &value, wanted);
+}
+
 /// Each value appends what stands beside it.
 pub fn texts<T: Encode>(rt: &impl Abort, alloc: Global, rows: &[(T, &str)]) {
     for (value, wanted) in rows {
