@@ -5,7 +5,6 @@ mod composites;
 mod entities;
 mod holder;
 mod kept;
-mod names;
 mod refusals;
 pub mod steps;
 mod types;

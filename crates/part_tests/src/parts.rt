@@ -4,6 +4,7 @@ mod aliases;
 pub mod equality;
 mod kinds;
 pub mod names;
+pub mod own_sections;
 mod own_values;
 mod section_ids;
 pub mod texts;

@@ -4,14 +4,15 @@
 mod holders;
 mod modules;
 mod names;
-mod parts;
 mod producers;
 mod refused;
 mod values;
 
 use crate::accepted::is_well;
+use refusing::Refusing;
 use std::alloc::Global;
 use std::process::Abort;
+use sweeping::members::{Adds, Members, is_as, started};
 use sweeping::{Appends, sweep, sweep_encode};
 use wenc_base::{Encode, Fault};
 
@@ -42,4 +43,51 @@ pub fn check_each<E: Encode>(rt: &impl Abort, alloc: Global, values: &[E]) {
     for value in values {
         check(rt, alloc, value);
     }
+}
+
+/// Whether the call makes a copy what is wanted, and leaves what it was copied from as it was.
+fn makes_of_a_copy<'a, M: Members<'a>, C: Adds<M>>(
+    alloc: Global,
+    members: &M,
+    call: &C,
+    before: &[u8],
+    wanted: &[u8],
+) -> Result<bool, Fault> {
+    let mut copy = members.again()?;
+    call.add(&mut copy)?;
+    Ok(is_as(alloc, &copy, wanted)? && is_as(alloc, members, before)?)
+}
+
+/// Whether the call makes these members what is wanted, and leaves a copy as they were.
+fn leaves_a_copy<'a, M: Members<'a>, C: Adds<M>>(
+    alloc: Global,
+    members: &mut M,
+    call: &C,
+    before: &[u8],
+    wanted: &[u8],
+) -> Result<bool, Fault> {
+    let copy = members.again()?;
+    call.add(members)?;
+    Ok(is_as(alloc, members, wanted)? && is_as(alloc, &copy, before)?)
+}
+
+/// Whether each of these calls, made one after the other, makes what stands beside it, of what has no members and then
+/// is `none`. A copy of what each call is made at goes its own way.
+pub fn grows<'a, M: Members<'a>, C: Adds<M>>(
+    alloc: Global,
+    heap: &'a Refusing,
+    none: &[u8],
+    rows: &[(C, &[u8])],
+) -> Result<bool, Fault> {
+    let mut members: M = started(heap, 0)?;
+    let mut before = none;
+    for (call, wanted) in rows {
+        let is_well = makes_of_a_copy(alloc, &members, call, before, wanted)?
+            && leaves_a_copy(alloc, &mut members, call, before, wanted)?;
+        if !is_well {
+            return Ok(false);
+        }
+        before = wanted;
+    }
+    is_as(alloc, &members, before)
 }

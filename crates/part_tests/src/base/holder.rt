@@ -35,6 +35,7 @@ fn section_sizes(rt: HostRuntime) {
 
 const MEMBERS: &[Step<'static>] = &[
     Step::Whole(0, &[], &[0x01, 0x00]),
+    Step::List(&[0x00]),
     Step::Member(Member::Add(&[0xaa, 0xbb]), DONE),
     Step::Whole(1, &[0xaa, 0xbb], &[0x03, 0x01, 0xaa, 0xbb]),
     Step::Member(Member::Named("f", 128), DONE),
@@ -43,6 +44,7 @@ const MEMBERS: &[Step<'static>] = &[
         &[0xaa, 0xbb, 0x01, 0x66, 0x80, 0x01],
         &[0x07, 0x02, 0xaa, 0xbb, 0x01, 0x66, 0x80, 0x01],
     ),
+    Step::List(&[0x02, 0xaa, 0xbb, 0x01, 0x66, 0x80, 0x01]),
     Step::Member(
         Member::Listed(Listed::TruthAndText(true, &[1, 128], "g")),
         DONE,

@@ -3,7 +3,7 @@
 use crate::base::calls::{Held, Member, Piece, add_member, write};
 use crate::base::values::{behind, is_behind};
 use std::alloc::Global;
-use wenc_base::{Encode, Fault, Lender, Verbatim};
+use wenc_base::{Encode, Fault, Lender, Lent, Verbatim};
 
 pub type Answer = Result<(), Fault>;
 
@@ -29,6 +29,8 @@ pub enum Step<'a> {
     Discard(bool),
     /// It is finished, with so many members, these bytes and this section.
     Whole(u32, &'a [u8], &'a [u8]),
+    /// Without the size that a section has in front, it is written as this.
+    List(&'a [u8]),
     /// A member is being written: the count, the bytes, and whether nothing came after the opening.
     Begun(u32, &'a [u8], bool),
 }
@@ -53,6 +55,7 @@ fn is_well(alloc: Global, holder: &mut Held<'_>, step: Step<'_>) -> bool {
         Step::Whole(count, body, section) => {
             has(holder, count, body) && is_whole(alloc, holder, section) == Ok(true)
         }
+        Step::List(text) => is_list(alloc, holder, text) == Ok(true),
         Step::Begun(count, body, is_opened) => {
             has(holder, count, body)
                 && holder.is_opened() == is_opened
@@ -70,6 +73,12 @@ fn is_whole(alloc: Global, holder: &Held<'_>, section: &[u8]) -> Result<bool, Fa
     let mut sink = behind(alloc, &[])?;
     holder.encode_section(&mut sink)?;
     Ok(holder.is_finished() && is_behind(sink.as_slice(), section))
+}
+
+fn is_list(alloc: Global, holder: &Held<'_>, text: &[u8]) -> Result<bool, Fault> {
+    let mut sink = behind(alloc, &[])?;
+    Lent(holder).encode(&mut sink)?;
+    Ok(is_behind(sink.as_slice(), text))
 }
 
 /// It is not finished: neither a section nor a list of members comes of it.

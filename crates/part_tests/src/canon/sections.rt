@@ -4,116 +4,88 @@ ghost use Rattle.wenc_base.specs.Openings.{HasMembers};
 ghost use Rattle.wenc_base.specs.Piece.{HasForm};
 ghost use Rattle.wenc_canon.specs.Canonicals.{canonical};
 
-use crate::accepted::ok;
+use crate::accepted::{is_well, ok};
 use crate::canon::calls::{Call, Function, Task, Thread};
 use crate::canon::functions::Functions;
 use crate::parts::texts::text_is;
+use crate::swept::grows;
 use refusing::Refusing;
 use std::alloc::{AllocError, Global};
 use std::process::Abort;
-use sweeping::members::{Adds, Members};
 use wenc_base::{Fault, Holder, ValType};
 use wenc_canon::{CanonicalFunctionSection, CanonicalOption};
 
-/// These are the bytes, in hexadecimal.
-fn are(rt: &impl Abort, alloc: Global, bytes: &[u8], wanted: &str) {
-    let text = ok(rt, hex::encode(alloc, bytes));
-    assert!(rt; text.as_str() == wanted);
-}
+/// No rows: their number, whether there are none, and the bytes behind the id.
+const NONE: &[u8] = &[0x00, 0x01, 0x08, 0x01, 0x00];
 
-/// How many rows the section has, whether it has none, and its bytes.
-fn is(rt: &impl Abort, alloc: Global, functions: &Functions<'_>, wanted: &str) {
-    let state = ok(rt, functions.state(alloc));
-    are(rt, alloc, state.as_slice(), wanted);
-}
+const LIFTED: &[(Call<'static>, &[u8])] = &[(
+    Call::Function(Function::Lift(0, 0, &[CanonicalOption::UTF8])),
+    &[
+        0x01, 0x00, 0x08, 0x07, 0x01, 0x00, 0x00, 0x00, 0x01, 0x00, 0x00,
+    ],
+)];
 
-/// With these rows it is this.
-fn is_with(rt: &impl Abort, alloc: Global, heap: &Refusing, calls: &[Call<'_>], wanted: &str) {
-    let mut functions = ok(rt, Functions::empty(heap));
-    for call in calls {
-        ok(rt, call.add(&mut functions));
-    }
-    is(rt, alloc, &functions, wanted);
-}
-
-const SECTIONS: &[(&[Call<'static>], &str)] = &[
-    (&[], "0001080100"),
-    (&[Call::Task(Task::Cancel)], "010008020105"),
+const IN_THEIR_ORDER: &[(Call<'static>, &[u8])] = &[
     (
-        &[Call::Function(Function::Lift(0, 0, &[CanonicalOption::UTF8]))],
-        "0100080701000000010000",
+        Call::Task(Task::ContextGet(ValType::I32, 0)),
+        &[0x01, 0x00, 0x08, 0x04, 0x01, 0x0a, 0x7f, 0x00],
     ),
     (
+        Call::Task(Task::Return(None, &[])),
         &[
-            Call::Task(Task::ContextGet(ValType::I32, 0)),
-            Call::Task(Task::Return(None, &[])),
-            Call::Thread(Thread::SpawnIndirect(1, 2)),
+            0x02, 0x00, 0x08, 0x08, 0x02, 0x0a, 0x7f, 0x00, 0x09, 0x01, 0x00, 0x00,
         ],
-        "0300080b030a7f0009010000410102",
     ),
+    (
+        Call::Thread(Thread::SpawnIndirect(1, 2)),
+        &[
+            0x03, 0x00, 0x08, 0x0b, 0x03, 0x0a, 0x7f, 0x00, 0x09, 0x01, 0x00, 0x00, 0x41, 0x01,
+            0x02,
+        ],
+    ),
+];
+
+const AND_A_CANCEL: &[(Call<'static>, &[u8])] = &[
+    (
+        Call::Function(Function::ResourceNew(1)),
+        &[0x01, 0x00, 0x08, 0x03, 0x01, 0x02, 0x01],
+    ),
+    (
+        Call::Task(Task::Cancel),
+        &[0x02, 0x00, 0x08, 0x04, 0x02, 0x02, 0x01, 0x05],
+    ),
+];
+
+const AND_A_DROP: &[(Call<'static>, &[u8])] = &[
+    (
+        Call::Function(Function::ResourceNew(1)),
+        &[0x01, 0x00, 0x08, 0x03, 0x01, 0x02, 0x01],
+    ),
+    (
+        Call::Task(Task::SubtaskDrop),
+        &[0x02, 0x00, 0x08, 0x04, 0x02, 0x02, 0x01, 0x0d],
+    ),
+];
+
+const CANCELLED: &[(Call<'static>, &[u8])] = &[(
+    Call::Task(Task::Cancel),
+    &[0x01, 0x00, 0x08, 0x02, 0x01, 0x05],
+)];
+
+const RUNS: &[&[(Call<'static>, &[u8])]] = &[
+    LIFTED,
+    IN_THEIR_ORDER,
+    AND_A_CANCEL,
+    AND_A_DROP,
+    CANCELLED,
 ];
 
 #[test]
 fn rows_stand_in_their_order(rt: HostRuntime) {
     let heap = Refusing::new(rt.alloc());
-    for (calls, wanted) in SECTIONS {
-        is_with(&rt, rt.alloc(), &heap, calls, wanted);
+    for rows in RUNS {
+        is_well(&rt, grows::<Functions, Call>(rt.alloc(), &heap, NONE, rows));
     }
-}
-
-/// With this row too it is this.
-fn grows(
-    rt: &impl Abort,
-    alloc: Global,
-    functions: &mut Functions<'_>,
-    row: Call<'_>,
-    wanted: &str,
-) {
-    ok(rt, row.add(functions));
-    is(rt, alloc, functions, wanted);
-}
-
-/// A section with one row, and its copy, which both go their own way.
-fn both_go_their_own_way(
-    rt: &impl Abort,
-    alloc: Global,
-    source: &mut Functions<'_>,
-    copy: &mut Functions<'_>,
-) {
-    is(rt, alloc, copy, ONE_RESOURCE);
-    grows(rt, alloc, copy, CANCEL, AND_A_CANCEL);
-    is(rt, alloc, source, ONE_RESOURCE);
-    grows(rt, alloc, source, DROP, "020008040202010d");
-    is(rt, alloc, copy, AND_A_CANCEL);
-}
-
-const RESOURCE: Call<'static> = Call::Function(Function::ResourceNew(1));
-
-const CANCEL: Call<'static> = Call::Task(Task::Cancel);
-
-const DROP: Call<'static> = Call::Task(Task::SubtaskDrop);
-
-const ONE_RESOURCE: &str = "01000803010201";
-
-const AND_A_CANCEL: &str = "0200080402020105";
-
-fn one_resource<'a>(rt: &impl Abort, heap: &'a Refusing) -> Functions<'a> {
-    let mut functions = ok(rt, Functions::empty(heap));
-    ok(rt, RESOURCE.add(&mut functions));
-    functions
-}
-
-/// A copy of this section, and it, go their own way.
-fn copy_goes_its_own_way(rt: &impl Abort, alloc: Global, source: &mut Functions<'_>) {
-    let mut copy = ok(rt, source.again());
-    both_go_their_own_way(rt, alloc, source, &mut copy);
-}
-
-#[test]
-fn clones_go_their_own_way(rt: HostRuntime) {
-    let heap = Refusing::new(rt.alloc());
-    let mut source = one_resource(&rt, &heap);
-    copy_goes_its_own_way(&rt, rt.alloc(), &mut source);
 }
 
 /// Two bytes, and the text of a function behind them.
@@ -143,10 +115,10 @@ fn parts(section: CanonicalFunctionSection) -> (Vec<u8>, usize, u32, bool) {
 }
 
 /// The holder is finished, with two rows and these bytes, of which two are kept.
-fn gives_back(rt: &impl Abort, alloc: Global, section: CanonicalFunctionSection, wanted: &str) {
+fn gives_back(rt: &impl Abort, section: CanonicalFunctionSection, wanted: &[u8]) {
     let (bytes, kept, count, is_finished) = parts(section);
     assert!(rt; kept == 2 && count == 2 && is_finished);
-    are(rt, alloc, bytes.as_slice(), wanted);
+    assert!(rt; bytes.as_slice() == wanted);
 }
 
 #[test]
@@ -156,5 +128,5 @@ fn behind_bytes_that_are_kept(rt: HostRuntime) {
     text_is(&rt, alloc, &section, "ee020105");
     ok(&rt, resource_drop(&mut section));
     text_is(&rt, alloc, &section, "ee0402050300");
-    gives_back(&rt, alloc, section, "aabb050300");
+    gives_back(&rt, section, &[0xaa, 0xbb, 0x05, 0x03, 0x00]);
 }

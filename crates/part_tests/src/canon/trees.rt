@@ -96,31 +96,24 @@ fn behind<'a>(text: &'a str, front: &str) -> &'a str {
     text.strip_prefix(front).unwrap_or("?")
 }
 
-/// The tree has the text of these three, and is swept.
-fn check(rt: &impl Abort, alloc: Global, tree: &CanonTree, wanted: (&str, &str, &str)) {
-    let bytes = ok(rt, text(alloc, tree));
-    let rest = behind(behind(bytes.as_str(), "ee"), wanted.0);
-    assert!(rt; behind(rest, wanted.1) == wanted.2);
-    swept::check(rt, alloc, tree);
+/// The text of these three.
+fn is_joined(text: &str, wanted: (&str, &str, &str)) -> bool {
+    behind(behind(behind(text, "ee"), wanted.0), wanted.1) == wanted.2
 }
 
-/// The same of the function with these options.
-fn with_options(
-    rt: &impl Abort,
-    alloc: Global,
-    function: WithOptions,
-    options: &[CanonicalOption],
-    wanted: (&str, &str, &str),
-) {
-    let tree = function.tree(rt, alloc, options);
-    check(rt, alloc, &tree, wanted);
+/// The tree has the text of these three, and is swept.
+fn check(rt: &impl Abort, alloc: Global, tree: CanonTree, wanted: (&str, &str, &str)) {
+    let bytes = ok(rt, text(alloc, &tree));
+    assert!(rt; is_joined(bytes.as_str(), wanted));
+    swept::check(rt, alloc, &tree);
 }
 
 #[test]
 fn trees_with_options(rt: HostRuntime) {
     for (function, front, back) in FUNCTIONS {
         for (options, list) in OPTIONS {
-            with_options(&rt, rt.alloc(), *function, options, (front, list, back));
+            let tree = function.tree(&rt, rt.alloc(), options);
+            check(&rt, rt.alloc(), tree, (front, list, back));
         }
     }
 }

@@ -1,23 +1,13 @@
 use crate::accepted::ok;
 use crate::parts::texts::{text_is, texts};
-use std::alloc::{AllocError, Allocator, Global};
+use crate::swept::check_each;
+use std::alloc::{Allocator, Global};
 use std::process::Abort;
+use sweeping::{LARGE, NAME};
 use wenc_base::ExportKind;
 use wenc_parts::{Alias, AliasTree, ComponentExportKind, ComponentOuterAliasKind};
 
-const OUTER_KINDS: &[(ComponentOuterAliasKind, &str)] = &[
-    (ComponentOuterAliasKind::CoreModule, "ee0011"),
-    (ComponentOuterAliasKind::CoreType, "ee0010"),
-    (ComponentOuterAliasKind::Type, "ee03"),
-    (ComponentOuterAliasKind::Component, "ee04"),
-];
-
-#[test]
-fn outer_kinds(rt: HostRuntime) {
-    texts(&rt, rt.alloc(), OUTER_KINDS);
-}
-
-const OF_EXPORTS: &[(Alias, &str)] = &[
+const ALIASES: &[(Alias, &str)] = &[
     (
         Alias::InstanceExport {
             instance: 0,
@@ -42,9 +32,6 @@ const OF_EXPORTS: &[(Alias, &str)] = &[
         },
         "ee0200800100",
     ),
-];
-
-const OF_CORE_EXPORTS: &[(Alias, &str)] = &[
     (
         Alias::CoreInstanceExport {
             instance: 0,
@@ -69,27 +56,81 @@ const OF_CORE_EXPORTS: &[(Alias, &str)] = &[
         },
         "ee000001800100",
     ),
+    (
+        Alias::Outer {
+            kind: ComponentOuterAliasKind::CoreType,
+            count: 1,
+            index: 2,
+        },
+        "ee0010020102",
+    ),
+    (
+        Alias::Outer {
+            kind: ComponentOuterAliasKind::CoreModule,
+            count: 0,
+            index: 5,
+        },
+        "ee0011020005",
+    ),
+    (
+        Alias::Outer {
+            kind: ComponentOuterAliasKind::Type,
+            count: 0,
+            index: 1,
+        },
+        "ee03020001",
+    ),
+    (
+        Alias::Outer {
+            kind: ComponentOuterAliasKind::Component,
+            count: 2,
+            index: 128,
+        },
+        "ee0402028001",
+    ),
 ];
 
-#[test]
-fn of_exports(rt: HostRuntime) {
-    texts(&rt, rt.alloc(), OF_EXPORTS);
-    texts(&rt, rt.alloc(), OF_CORE_EXPORTS);
-}
-
-const OUTER: &[(ComponentOuterAliasKind, u32, u32, &str)] = &[
-    (ComponentOuterAliasKind::CoreType, 1, 2, "ee0010020102"),
-    (ComponentOuterAliasKind::CoreModule, 0, 5, "ee0011020005"),
-    (ComponentOuterAliasKind::Type, 0, 1, "ee03020001"),
-    (ComponentOuterAliasKind::Component, 2, 128, "ee0402028001"),
+const LONG_ALIASES: &[Alias] = &[
+    Alias::InstanceExport {
+        instance: 128,
+        kind: ComponentExportKind::Module,
+        name: NAME,
+    },
+    Alias::CoreInstanceExport {
+        instance: 128,
+        kind: ExportKind::Tag,
+        name: NAME,
+    },
+    Alias::Outer {
+        kind: ComponentOuterAliasKind::CoreType,
+        count: LARGE,
+        index: LARGE,
+    },
 ];
 
-fn outer_alias(kind: ComponentOuterAliasKind, count: u32, index: u32) -> Alias<'static> {
-    Alias::Outer { kind, count, index }
-}
-
-fn outer_tree(kind: ComponentOuterAliasKind, count: u32, index: u32) -> AliasTree {
-    AliasTree::Outer { kind, count, index }
+/// The alias as a tree.
+fn tree<A: Allocator>(rt: &impl Abort, alloc: A, alias: &Alias<'_>) -> AliasTree<A> {
+    match *alias {
+        Alias::InstanceExport {
+            instance,
+            kind,
+            name,
+        } => AliasTree::InstanceExport {
+            instance,
+            kind,
+            name: ok(rt, String::from_str(alloc, name)),
+        },
+        Alias::CoreInstanceExport {
+            instance,
+            kind,
+            name,
+        } => AliasTree::CoreInstanceExport {
+            instance,
+            kind,
+            name: ok(rt, String::from_str(alloc, name)),
+        },
+        Alias::Outer { kind, count, index } => AliasTree::Outer { kind, count, index },
+    }
 }
 
 /// The tree's alias appends this.
@@ -97,37 +138,14 @@ fn tree_is<A: Allocator>(rt: &impl Abort, alloc: Global, tree: AliasTree<A>, wan
     text_is(rt, alloc, &tree.as_alias(), wanted);
 }
 
+// By themselves, and of trees in the sink's allocator and in one that isn't the sink's.
 #[test]
-fn outer(rt: HostRuntime) {
-    for (kind, count, index, wanted) in OUTER {
-        let alias = outer_alias(*kind, *count, *index);
-        text_is(&rt, rt.alloc(), &alias, wanted);
-        let tree = outer_tree(*kind, *count, *index);
-        tree_is(&rt, rt.alloc(), tree, wanted);
-    }
-}
-
-fn tree_of_export<A: Allocator>(alloc: A) -> Result<AliasTree<A>, AllocError> {
-    Ok(AliasTree::InstanceExport {
-        instance: 0,
-        kind: ComponentExportKind::Func,
-        name: String::from_str(alloc, "f")?,
-    })
-}
-
-fn tree_of_core_export<A: Allocator>(alloc: A) -> Result<AliasTree<A>, AllocError> {
-    Ok(AliasTree::CoreInstanceExport {
-        instance: 0,
-        kind: ExportKind::Tag,
-        name: String::from_str(alloc, "t")?,
-    })
-}
-
-#[test]
-fn trees_of_exports(rt: HostRuntime) {
+fn aliases(rt: HostRuntime) {
     let alloc = rt.alloc();
-    let tree = ok(&rt, tree_of_export(alloc));
-    tree_is(&rt, alloc, tree, "ee0100000166");
-    let core_tree = ok(&rt, tree_of_core_export(&alloc));
-    tree_is(&rt, alloc, core_tree, "ee000401000174");
+    check_each(&rt, alloc, LONG_ALIASES);
+    texts(&rt, alloc, ALIASES);
+    for (alias, wanted) in ALIASES {
+        tree_is(&rt, alloc, tree(&rt, alloc, alias), wanted);
+        tree_is(&rt, alloc, tree(&rt, &alloc, alias), wanted);
+    }
 }

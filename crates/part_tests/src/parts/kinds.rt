@@ -1,6 +1,11 @@
+//! Kinds of items, and references to types.
+
 use crate::parts::texts::texts;
-use wenc_base::ExportKind;
-use wenc_parts::{ComponentExportKind, ComponentTypeRef, ComponentValType, ModuleArg, TypeBounds};
+use crate::swept::check_each;
+use wenc_parts::{
+    ComponentExportKind, ComponentOuterAliasKind, ComponentTypeRef, ComponentValType, ModuleArg,
+    TypeBounds,
+};
 
 const INDEXED: ComponentValType = ComponentValType::Type(64);
 
@@ -13,24 +18,6 @@ const KINDS: &[(ComponentExportKind, &str)] = &[
     (ComponentExportKind::Component, "ee04"),
 ];
 
-#[test]
-fn kinds(rt: HostRuntime) {
-    texts(&rt, rt.alloc(), KINDS);
-}
-
-const CORE_KINDS: &[(ExportKind, &str)] = &[
-    (ExportKind::Func, "ee00"),
-    (ExportKind::Table, "ee01"),
-    (ExportKind::Memory, "ee02"),
-    (ExportKind::Global, "ee03"),
-    (ExportKind::Tag, "ee04"),
-];
-
-#[test]
-fn core_kinds(rt: HostRuntime) {
-    texts(&rt, rt.alloc(), CORE_KINDS);
-}
-
 const REFERENCES: &[(ComponentTypeRef, &str)] = &[
     (ComponentTypeRef::Module(5), "ee001105"),
     (ComponentTypeRef::Func(128), "ee018001"),
@@ -40,11 +27,6 @@ const REFERENCES: &[(ComponentTypeRef, &str)] = &[
     (ComponentTypeRef::Instance(1), "ee0501"),
     (ComponentTypeRef::Component(2), "ee0402"),
 ];
-
-#[test]
-fn references(rt: HostRuntime) {
-    texts(&rt, rt.alloc(), REFERENCES);
-}
 
 const KINDS_OF_REFERENCES: &[(ComponentTypeRef, ComponentExportKind)] = &[
     (ComponentTypeRef::Module(5), ComponentExportKind::Module),
@@ -76,22 +58,38 @@ fn kinds_of_references(rt: HostRuntime) {
     }
 }
 
+const LONG_REFERENCES: &[ComponentTypeRef] = &[
+    ComponentTypeRef::Module(128),
+    ComponentTypeRef::Type(TypeBounds::Eq(1)),
+];
+
+const LONG_BOUNDS: &[TypeBounds] = &[TypeBounds::Eq(128)];
+
 const BOUNDS: &[(TypeBounds, &str)] = &[
     (TypeBounds::Eq(3), "ee0003"),
     (TypeBounds::SubResource, "ee01"),
 ];
-
-#[test]
-fn bounds(rt: HostRuntime) {
-    texts(&rt, rt.alloc(), BOUNDS);
-}
 
 const MODULE_ARGUMENTS: &[(ModuleArg, &str)] = &[
     (ModuleArg::Instance(0), "ee1200"),
     (ModuleArg::Instance(128), "ee128001"),
 ];
 
+const OUTER_KINDS: &[(ComponentOuterAliasKind, &str)] = &[
+    (ComponentOuterAliasKind::CoreModule, "ee0011"),
+    (ComponentOuterAliasKind::CoreType, "ee0010"),
+    (ComponentOuterAliasKind::Type, "ee03"),
+    (ComponentOuterAliasKind::Component, "ee04"),
+];
+
 #[test]
-fn module_arguments(rt: HostRuntime) {
-    texts(&rt, rt.alloc(), MODULE_ARGUMENTS);
+fn kinds_and_references(rt: HostRuntime) {
+    let alloc = rt.alloc();
+    texts(&rt, alloc, KINDS);
+    texts(&rt, alloc, OUTER_KINDS);
+    texts(&rt, alloc, MODULE_ARGUMENTS);
+    texts(&rt, alloc, BOUNDS);
+    texts(&rt, alloc, REFERENCES);
+    check_each(&rt, alloc, LONG_BOUNDS);
+    check_each(&rt, alloc, LONG_REFERENCES);
 }

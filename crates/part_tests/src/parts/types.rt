@@ -18,29 +18,13 @@ const PRIMITIVES: &[(PrimitiveValType, &str)] = &[
     (PrimitiveValType::ErrorContext, "ee64"),
 ];
 
-#[test]
-fn primitive_types(rt: HostRuntime) {
-    texts(&rt, rt.alloc(), PRIMITIVES);
-}
-
-#[test]
-fn primitive_value_types(rt: HostRuntime) {
-    for (ty, wanted) in PRIMITIVES {
-        text_is(&rt, rt.alloc(), &ComponentValType::from(*ty), wanted);
-    }
-}
-
+// Indices of types are signed numbers.
 const INDICES: &[(ComponentValType, &str)] = &[
     (ComponentValType::Type(0), "ee00"),
     (ComponentValType::Type(63), "ee3f"),
     (ComponentValType::Type(64), "eec000"),
     (ComponentValType::Type(4294967295), "eeffffffff0f"),
 ];
-
-#[test]
-fn type_indices_are_signed(rt: HostRuntime) {
-    texts(&rt, rt.alloc(), INDICES);
-}
 
 const STRING: ComponentValType = ComponentValType::Primitive(PrimitiveValType::String);
 
@@ -51,6 +35,12 @@ const RESULTS: &[(ResultList, &str)] = &[
 ];
 
 #[test]
-fn results(rt: HostRuntime) {
-    texts(&rt, rt.alloc(), RESULTS);
+fn types(rt: HostRuntime) {
+    let alloc = rt.alloc();
+    texts(&rt, alloc, PRIMITIVES);
+    texts(&rt, alloc, INDICES);
+    texts(&rt, alloc, RESULTS);
+    for (ty, wanted) in PRIMITIVES {
+        text_is(&rt, alloc, &ComponentValType::from(*ty), wanted);
+    }
 }

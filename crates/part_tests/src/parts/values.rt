@@ -1,21 +1,14 @@
-use crate::accepted::ok;
 use crate::parts::texts::text_is;
 use std::alloc::Global;
-use std::process::Abort;
 use sweeping::hexed::text;
-use wenc_base::{Fault, Holder, Lent, ProducersField, WithSize};
+use wenc_base::{Fault, Lent, WithSize};
 
 #[test]
-fn triples(rt: HostRuntime) {
+fn triples_and_sizes(rt: HostRuntime) {
     let alloc = rt.alloc();
     text_is(&rt, alloc, &(128u32, "a", false), "ee8001016100");
     text_is(&rt, alloc, &("b", 1u32, Some(true)), "ee0162010101");
     text_is(&rt, alloc, &Lent(&128u32), "ee8001");
-}
-
-#[test]
-fn sizes(rt: HostRuntime) {
-    let alloc = rt.alloc();
     text_is(&rt, alloc, &WithSize(&()), "ee00");
     text_is(&rt, alloc, &WithSize(&"ab"), "ee03026162");
     let content = (128u32, "a", false);
@@ -43,44 +36,4 @@ fn long_sizes(rt: HostRuntime) {
             "{start}"
         );
     }
-}
-
-fn fill(holder: &mut Holder) -> Result<(), Fault> {
-    holder.add(&[0xaa, 0xbb])?;
-    holder.add_encoded(&("f", 128u32))
-}
-
-// Without the size that a section has in front.
-#[test]
-fn members_behind_their_number(rt: HostRuntime) {
-    let alloc = rt.alloc();
-    let mut holder = Holder::new(alloc);
-    text_is(&rt, alloc, &Lent(&holder), "ee00");
-    ok(&rt, fill(&mut holder));
-    text_is(&rt, alloc, &Lent(&holder), "ee02aabb01668001");
-}
-
-fn add(field: &mut ProducersField, name: &str, version: &str) -> Result<(), Fault> {
-    field.value(name, version)
-}
-
-fn copy(field: &ProducersField) -> Result<ProducersField, Fault> {
-    field.clone()
-}
-
-fn field_is(rt: &impl Abort, alloc: Global, field: &ProducersField, wanted: &str) {
-    text_is(rt, alloc, &Lent(field), wanted);
-}
-
-#[test]
-fn producers_fields(rt: HostRuntime) {
-    let alloc = rt.alloc();
-    let mut field = ProducersField::new(alloc);
-    field_is(&rt, alloc, &field, "ee00");
-    ok(&rt, add(&mut field, "a", "1"));
-    field_is(&rt, alloc, &field, "ee0101610131");
-    let mut other = ok(&rt, copy(&field));
-    ok(&rt, add(&mut other, "b", ""));
-    field_is(&rt, alloc, &other, "ee0201610131016200");
-    field_is(&rt, alloc, &field, "ee0101610131");
 }

@@ -1,17 +1,19 @@
-ghost use Rattle.wenc_base.specs.Fault.{text_cause};
-ghost use Rattle.wenc_base.specs.Forms.{name};
+//! Core modules and their sections.
 
 use crate::accepted::is_well;
+use crate::parts::own_sections::Own;
 use crate::swept::{bytes, check_call};
 use refusing::Refusing;
 use std::alloc::{Allocator, Global};
+use std::process::Abort;
 use sweeping::members::{Adds, Members, sweep_calls, sweep_clones, sweep_new};
 use sweeping::{Appends, NAME, TEXT, sweep_behind_id, sweep_section, takes_no_memory};
-use wenc_base::{CustomSection, Encode, Fault, Module, RawCustomSection, RawSection, Section};
+use wenc_base::{CustomSection, Fault, Module, RawCustomSection, RawSection, Section};
+use wenc_parts::ComponentSection;
 
 /// A section of a core module, behind its id.
-#[derive(Clone, Copy)]
-pub struct InModule<'a, S>(pub &'a S);
+#[derive(Drop)]
+struct InModule<'a, S>(&'a S);
 
 impl<'a, S: Section> Appends for InModule<'a, S> {
     fn append<A: Allocator>(&self, sink: &mut Vec<u8, A>) -> Result<(), Fault> {
@@ -19,63 +21,34 @@ impl<'a, S: Section> Appends for InModule<'a, S> {
     }
 }
 
-// In a component, and in a core module.
-const CUSTOM: &[(&str, &[u8])] = &[("", &[]), ("", TEXT), (NAME, &[]), (NAME, TEXT)];
-
-#[test]
-fn custom_sections(rt: HostRuntime) {
-    for (name, data) in CUSTOM {
-        let custom = CustomSection { name, data };
-        is_well(&rt, sweep_section(rt.alloc(), &custom));
-        check_call(&rt, rt.alloc(), &InModule(&custom));
-    }
+/// In a component, and in a core module.
+pub fn check_section<S: Section + ComponentSection>(rt: &impl Abort, alloc: Global, section: &S) {
+    is_well(rt, sweep_section(alloc, section));
+    check_call(rt, alloc, &InModule(section));
 }
+
+const CUSTOM: &[(&str, &[u8])] = &[("", &[]), ("", TEXT), (NAME, &[]), (NAME, TEXT)];
 
 const DATA: &[&[u8]] = &[&[], TEXT];
 
+#[test]
+fn custom_and_raw_sections(rt: HostRuntime) {
+    for (name, data) in CUSTOM {
+        check_section(&rt, rt.alloc(), &CustomSection { name, data });
+    }
+    for data in DATA {
+        check_section(&rt, rt.alloc(), &RawSection { id: 12, data });
+    }
+    check_section(&rt, rt.alloc(), &RawCustomSection(TEXT));
+}
+
 // One without bytes has no text but its id.
 #[test]
-fn raw_custom_sections(rt: HostRuntime) {
-    let alloc = rt.alloc();
+fn no_bytes(rt: HostRuntime) {
     let none = RawCustomSection(&[]);
-    is_well(&rt, takes_no_memory(alloc, &none));
-    is_well(&rt, sweep_behind_id(alloc, &none));
-    check_call(&rt, alloc, &InModule(&none));
-    let some = RawCustomSection(TEXT);
-    is_well(&rt, sweep_section(alloc, &some));
-    check_call(&rt, alloc, &InModule(&some));
-}
-
-#[test]
-fn raw_sections(rt: HostRuntime) {
-    let alloc = rt.alloc();
-    for data in DATA {
-        let raw = RawSection { id: 12, data };
-        is_well(&rt, sweep_section(alloc, &raw));
-        check_call(&rt, alloc, &InModule(&raw));
-    }
-}
-
-/// A section of one's own, with this text in it.
-#[derive(Clone, Copy)]
-struct Own<'a>(&'a str);
-
-impl<'a> Encode for Own<'a> {
-    ghost text = { λ s. (name s.0.now).text };
-
-    ghost cause = { λ s. text_cause s.0.now };
-
-    fn encode<A: Allocator>(&self, sink: &mut Vec<u8, A>) -> Result<(), Fault> {
-        self.0.encode(sink)
-    }
-}
-
-impl<'a> Section for Own<'a> {
-    ghost section_id = { λ _. 98 };
-
-    fn id(&self) -> u8 {
-        98
-    }
+    is_well(&rt, takes_no_memory(rt.alloc(), &none));
+    is_well(&rt, sweep_behind_id(rt.alloc(), &none));
+    check_call(&rt, rt.alloc(), &InModule(&none));
 }
 
 /// A core module.
@@ -106,13 +79,15 @@ impl<'a, 'b> Adds<Sections<'a>> for Own<'b> {
     }
 }
 
-const OWN: &[Own<'static>] = &[Own(""), Own(NAME)];
-
 #[test]
 fn modules(rt: HostRuntime) {
     let alloc = rt.alloc();
     let heap = Refusing::new(alloc);
     is_well(&rt, sweep_new::<Sections>(alloc, &heap));
-    is_well(&rt, sweep_calls::<Sections, Own>(alloc, &heap, OWN));
+    let own = [Own(&[0]), Own(NAME.as_bytes())];
+    is_well(
+        &rt,
+        sweep_calls::<Sections, Own>(alloc, &heap, own.as_slice()),
+    );
     is_well(&rt, sweep_clones::<Sections>(alloc, &heap, true));
 }

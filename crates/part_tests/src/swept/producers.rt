@@ -1,11 +1,11 @@
 use crate::accepted::{is_well, ok};
-use crate::swept::modules::InModule;
-use crate::swept::{bytes, check, check_call};
+use crate::swept::modules::check_section;
+use crate::swept::{bytes, check, grows};
 use refusing::Refusing;
 use std::alloc::Global;
 use std::process::Abort;
-use sweeping::members::{Adds, Members, sweep_add, sweep_calls, sweep_clones};
-use sweeping::{NAME, sweep_section};
+use sweeping::NAME;
+use sweeping::members::{Adds, Members, sweep_calls, sweep_clones};
 use wenc_base::{Fault, Lent, ProducersField, ProducersSection};
 
 /// A field of tools.
@@ -42,11 +42,21 @@ impl<'a, 'b> Adds<Tools<'a>> for Tool<'b> {
 
 const TOOLS: &[Tool<'static>] = &[Tool("", ""), Tool("a", NAME), Tool(NAME, "1")];
 
+const TWO_TOOLS: &[(Tool<'static>, &[u8])] = &[
+    (Tool("a", "1"), &[0x01, 0x01, 0x61, 0x01, 0x31]),
+    (
+        Tool("b", ""),
+        &[0x02, 0x01, 0x61, 0x01, 0x31, 0x01, 0x62, 0x00],
+    ),
+];
+
 #[test]
 fn added_and_copied_tools(rt: HostRuntime) {
-    let heap = Refusing::new(rt.alloc());
-    is_well(&rt, sweep_calls::<Tools, Tool>(rt.alloc(), &heap, TOOLS));
-    is_well(&rt, sweep_clones::<Tools>(rt.alloc(), &heap, false));
+    let alloc = rt.alloc();
+    let heap = Refusing::new(alloc);
+    is_well(&rt, grows::<Tools, Tool>(alloc, &heap, &[0x00], TWO_TOOLS));
+    is_well(&rt, sweep_calls::<Tools, Tool>(alloc, &heap, TOOLS));
+    is_well(&rt, sweep_clones::<Tools>(alloc, &heap, false));
 }
 
 fn add_tool(field: &mut ProducersField, name: &str, version: &str) -> Result<(), Fault> {
@@ -111,25 +121,26 @@ fn some_tools(rt: &impl Abort, alloc: Global) -> ProducersField {
     field
 }
 
-fn sweep_field(alloc: Global, name: &str, field: &ProducersField) -> Result<bool, Fault> {
-    let heap = Refusing::new(alloc);
-    sweep_add::<Fields, Field>(alloc, &heap, &Field(name, field))
-}
-
-fn sweep_copied_fields(alloc: Global) -> Result<bool, Fault> {
-    let heap = Refusing::new(alloc);
-    sweep_clones::<Fields>(alloc, &heap, false)
+/// Whether fields with these tools and with none are added, and copied, as they should be.
+fn sweep_fields(
+    alloc: Global,
+    heap: &Refusing,
+    some: &ProducersField,
+    none: &ProducersField,
+) -> Result<bool, Fault> {
+    let fields = [Field("", none), Field(NAME, none), Field("a", some)];
+    Ok(
+        sweep_calls::<Fields, Field>(alloc, heap, fields.as_slice())?
+            && sweep_clones::<Fields>(alloc, heap, false)?,
+    )
 }
 
 #[test]
 fn added_and_copied_fields(rt: HostRuntime) {
-    let alloc = rt.alloc();
-    let some = some_tools(&rt, alloc);
-    let none = ProducersField::new(alloc);
-    is_well(&rt, sweep_field(alloc, "", &none));
-    is_well(&rt, sweep_field(alloc, NAME, &none));
-    is_well(&rt, sweep_field(alloc, "a", &some));
-    is_well(&rt, sweep_copied_fields(alloc));
+    let heap = Refusing::new(rt.alloc());
+    let some = some_tools(&rt, rt.alloc());
+    let none = ProducersField::new(rt.alloc());
+    is_well(&rt, sweep_fields(rt.alloc(), &heap, &some, &none));
 }
 
 fn add_field(
@@ -149,8 +160,7 @@ fn sections(rt: HostRuntime) {
     let some = some_tools(&rt, alloc);
     let mut section = ProducersSection::new(alloc);
     for name in NAMES {
-        is_well(&rt, sweep_section(alloc, &section));
-        check_call(&rt, alloc, &InModule(&section));
+        check_section(&rt, alloc, &section);
         ok(&rt, add_field(&mut section, name, &some));
     }
 }

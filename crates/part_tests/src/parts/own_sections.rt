@@ -1,0 +1,52 @@
+//! A section that neither the component model nor WebAssembly names.
+
+use crate::accepted::is_well;
+use crate::parts::texts::is;
+use std::alloc::{Allocator, Global};
+use sweeping::{NAME, sweep_section};
+use wenc_base::{Encode, Fault, Section};
+use wenc_parts::ComponentSection;
+
+/// A section of one's own, with these bytes in it.
+#[derive(Clone, Copy)]
+pub struct Own<'a>(pub &'a [u8]);
+
+impl<'a> Encode for Own<'a> {
+    ghost text = { λ s. s.0.now };
+
+    ghost cause = { λ _ _. ⊥ };
+
+    fn encode<A: Allocator>(&self, sink: &mut Vec<u8, A>) -> Result<(), Fault> {
+        sink.extend_from_slice(self.0)?;
+        Ok(())
+    }
+}
+
+impl<'a> Section for Own<'a> {
+    ghost section_id = { λ _. 98 };
+
+    fn id(&self) -> u8 {
+        98
+    }
+}
+
+impl<'a> ComponentSection for Own<'a> {
+    ghost section_id = { λ _. 99 };
+
+    fn id(&self) -> u8 {
+        99
+    }
+}
+
+fn written(alloc: Global) -> Result<String, Fault> {
+    let mut sink = [0xee].to_vec(alloc)?;
+    Own(&[0x2a]).append_to_component(&mut sink)?;
+    Ok(hex::encode(alloc, sink.as_slice())?)
+}
+
+#[test]
+fn own_sections(rt: HostRuntime) {
+    is(&rt, written(rt.alloc()), "ee632a");
+    is_well(&rt, sweep_section(rt.alloc(), &Own(&[0])));
+    is_well(&rt, sweep_section(rt.alloc(), &Own(NAME.as_bytes())));
+}
