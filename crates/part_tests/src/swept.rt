@@ -1,5 +1,5 @@
-//! Each request for memory of the calls of `wenc_base` and `wenc_parts` is refused in turn; and tests of the allocator
-//! that refuses.
+//! Each request for memory of the calls of `wenc_base` and `wenc_parts` is refused in turn; and
+//! tests of the allocator that refuses.
 
 mod holders;
 mod modules;
@@ -71,8 +71,8 @@ fn leaves_a_copy<'a, M: Members<'a>, C: Adds<M>>(
     Ok(is_as(alloc, members, wanted)? && is_as(alloc, &copy, before)?)
 }
 
-/// Whether each of these calls, made one after the other, makes what stands beside it, of what has no members and then
-/// is `none`. A copy of what each call is made at goes its own way.
+/// Begins with no members, whose state is `none`, and makes these calls in turn. Whether each of them
+/// makes what stands beside it, and a copy of what it is made at goes its own way.
 pub fn grows<'a, M: Members<'a>, C: Adds<M>>(
     alloc: Global,
     heap: &'a Refusing,

@@ -71,7 +71,8 @@ enum Shape<'a> {
     Structure(&'a [FieldType]),
 }
 
-/// The call by itself: what a test does with the answer then rests on nothing that the call promises.
+/// The call by itself: what a test does with the answer then rests on nothing that the call
+/// promises.
 fn function<A: Allocator + Copy>(
     alloc: A,
     params: &[ValType],
@@ -348,7 +349,8 @@ fn new_functions(rt: HostRuntime) {
     assert!(rt; false);
 }
 
-/// Parameters, results, and what comes of the function without memory: one without types takes none.
+/// Parameters, results, and what comes of the function without memory: one without types takes
+/// none.
 const WITHOUT_MEMORY: &[(&[ValType], &[ValType], Result<bool, Fault>)] = &[
     (LARGE_PARAMS, LARGE_RESULTS, Err(REFUSED)),
     (LARGE_PARAMS, &[], Err(REFUSED)),

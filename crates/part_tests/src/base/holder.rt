@@ -72,8 +72,8 @@ const EMPTY_MEMBERS: &[Step<'static>] = &[
 
 const ONE: Step<'static> = Step::Whole(1, &[0xaa], &[0x02, 0x01, 0xaa]);
 
-// Each of these has a part that is refused, some behind parts that were written. The first refusal that is met is
-// answered.
+// Each of these has a part that is refused, some behind parts that were written. The first refusal
+// that is met is answered.
 const REFUSED_MEMBERS: &[Step<'static>] = &[
     Step::Member(Member::Add(&[0xaa]), DONE),
     Step::Member(Member::Size(LARGE), MANY),

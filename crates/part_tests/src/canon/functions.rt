@@ -41,20 +41,16 @@ impl<'a> Members<'a> for Functions<'a> {
     }
 }
 
-#[test]
-fn clones(rt: HostRuntime) {
-    let heap = Refusing::new(rt.alloc());
-    is_well(&rt, sweep_clones::<Functions>(rt.alloc(), &heap, false));
-}
-
 /// Adds a function with numbers of five bytes.
 fn add_long(section: &mut CanonicalFunctionSection) -> Result<(), Fault> {
     section.lift(LARGE, LARGE, LONG.iter().copied())
 }
 
-// With none, with one and with two functions.
+// With none, with one and with two functions, and their copies.
 #[test]
-fn sections(rt: HostRuntime) {
+fn sections_and_copies(rt: HostRuntime) {
+    let heap = Refusing::new(rt.alloc());
+    is_well(&rt, sweep_clones::<Functions>(rt.alloc(), &heap, false));
     let mut section = CanonicalFunctionSection::new(rt.alloc());
     for _ in 0..3 {
         is_well(&rt, sweep_section(rt.alloc(), &section));

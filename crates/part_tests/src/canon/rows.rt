@@ -1,5 +1,6 @@
-//! Each call: the section that it makes, and each of its requests for memory refused in turn. In front of a section stand
-//! its number of rows and whether it has none, and behind its id and its size that number once more.
+//! Each call: the section that it makes, and each of its requests for memory refused in turn. In
+//! front of a section stand its number of rows and whether it has none, and behind its id and its
+//! size that number once more.
 
 use crate::accepted::is_well;
 use crate::canon::calls::{Call, Function, Future, Stream, Task, Thread, Waitable};
@@ -315,7 +316,8 @@ const LONG_THREADS: &[Call<'static>] = &[
     Call::Thread(Thread::YieldThenPromote),
 ];
 
-/// Calls with what a section is that has this row alone, and calls whose requests alone are refused.
+/// Calls with what a section is that has this row alone, and calls whose requests alone are
+/// refused.
 const GROUPS: &[(&[(Call<'static>, &[u8])], &[Call<'static>])] = &[
     (FUNCTIONS, LONG_FUNCTIONS),
     (TASKS, LONG_TASKS),
@@ -325,7 +327,8 @@ const GROUPS: &[(&[(Call<'static>, &[u8])], &[Call<'static>])] = &[
     (THREADS, LONG_THREADS),
 ];
 
-/// Each of these calls makes the section that stands beside it, and its requests are refused in turn.
+/// Each of these calls makes the section that stands beside it, and its requests are refused in
+/// turn.
 pub fn check_rows(rt: &impl Abort, alloc: Global, rows: &[(Call<'_>, &[u8])]) {
     let heap = Refusing::new(alloc);
     is_well(rt, sweep_rows::<Functions, Call>(alloc, &heap, rows));

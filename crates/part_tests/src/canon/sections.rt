@@ -108,8 +108,8 @@ fn resource_drop(section: &mut CanonicalFunctionSection) -> Result<(), Fault> {
     section.resource_drop(0)
 }
 
-/// What the section's holder is made of: all bytes, how many of them are kept, its number of rows, and whether it is
-/// finished.
+/// What the section's holder is made of: all bytes, how many of them are kept, its number of rows,
+/// and whether it is finished.
 fn parts(section: CanonicalFunctionSection) -> (Vec<u8>, usize, u32, bool) {
     section.into_holder().into_parts()
 }

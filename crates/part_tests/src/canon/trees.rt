@@ -1,4 +1,5 @@
-//! The functions that have options, as trees: their texts, and each request for memory refused in turn.
+//! The functions that have options, as trees: their texts, and each request for memory refused in
+//! turn.
 
 use crate::accepted::ok;
 use crate::swept;

@@ -47,17 +47,6 @@ const KINDS_OF_REFERENCES: &[(ComponentTypeRef, ComponentExportKind)] = &[
     ),
 ];
 
-fn is_kind(reference: &ComponentTypeRef, kind: ComponentExportKind) -> bool {
-    reference.kind() == kind
-}
-
-#[test]
-fn kinds_of_references(rt: HostRuntime) {
-    for (reference, kind) in KINDS_OF_REFERENCES {
-        assert!(rt; is_kind(reference, *kind), "{kind:?}");
-    }
-}
-
 const LONG_REFERENCES: &[ComponentTypeRef] = &[
     ComponentTypeRef::Module(128),
     ComponentTypeRef::Type(TypeBounds::Eq(1)),
@@ -92,4 +81,7 @@ fn kinds_and_references(rt: HostRuntime) {
     texts(&rt, alloc, REFERENCES);
     check_each(&rt, alloc, LONG_BOUNDS);
     check_each(&rt, alloc, LONG_REFERENCES);
+    for (reference, kind) in KINDS_OF_REFERENCES {
+        assert!(rt; reference.kind() == *kind, "{kind:?}");
+    }
 }

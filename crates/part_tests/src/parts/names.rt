@@ -139,7 +139,8 @@ fn made_of_text(rt: HostRuntime) {
     check_plain(&rt, alloc, tree.as_name());
 }
 
-/// The call by itself: what a test does with the answer then rests on nothing that the call promises.
+/// The call by itself: what a test does with the answer then rests on nothing that the call
+/// promises.
 fn copy<'a, A: Allocator + Clone>(
     name: &ComponentExternName<'a, A>,
 ) -> Result<ComponentExternName<'a, A>, Fault> {

@@ -9,14 +9,6 @@ const IN_OPTIONS: &[(Option<Light>, &str)] = &[(Some(Light::Green), "ee0167"), (
 
 const IN_LISTS: &[(&[Light], &str)] = &[(&[Light::Red, Light::Green, Light::Red], "ee03726772")];
 
-#[test]
-fn lights(rt: HostRuntime) {
-    let alloc = rt.alloc();
-    texts(&rt, alloc, ALONE);
-    texts(&rt, alloc, IN_OPTIONS);
-    texts(&rt, alloc, IN_LISTS);
-}
-
 fn append(values: &[Light], last: Option<Light>, sink: &mut Vec<u8>) -> Result<(), Fault> {
     write_all(values, last, sink)
 }
@@ -29,6 +21,10 @@ fn written(alloc: Global) -> Result<String, Fault> {
 }
 
 #[test]
-fn generic(rt: HostRuntime) {
-    is(&rt, written(rt.alloc()), "ee02726701720000");
+fn lights(rt: HostRuntime) {
+    let alloc = rt.alloc();
+    texts(&rt, alloc, ALONE);
+    texts(&rt, alloc, IN_OPTIONS);
+    texts(&rt, alloc, IN_LISTS);
+    is(&rt, written(alloc), "ee02726701720000");
 }

@@ -173,8 +173,8 @@ const EIGHT_ARE_LEFT: &[Step<'static>] = &[
     ),
 ];
 
-/// The number of members of a byte, what is done with memory, and what then takes none. Eight bytes fill the first
-/// growth, so that one byte more would take memory.
+/// The number of members of a byte, what is done with memory, and what then takes none. Eight bytes
+/// fill the first growth, so that one byte more would take memory.
 const NONE_IS_TAKEN: &[(u32, &[Step<'static>], &[Step<'static>])] = &[
     (0, &[], AN_EMPTY_LEAD),
     (8, &[], ONE_MORE),
