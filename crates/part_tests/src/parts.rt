@@ -7,6 +7,5 @@ pub mod names;
 pub mod own_sections;
 mod own_values;
 mod section_ids;
-pub mod texts;
 mod types;
 mod values;

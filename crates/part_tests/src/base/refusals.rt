@@ -3,7 +3,7 @@ ghost use Rattle.std.specs.Prelude.{◌≡◌, true, []};
 ghost use Rattle.wenc_base.specs.declared.fault.Fault.TheVariants.{Unfinished};
 
 use crate::accepted::ok;
-use crate::base::values::{are, behind, check, encode, encode_copied};
+use crate::base::values::{are, begun, check, encode, encode_copied};
 use refusing::Refusing;
 use std::alloc::{Allocator, Global};
 use std::process::Abort;
@@ -48,7 +48,7 @@ pub const LARGE: usize = 4294967296;
 
 // It is refused, and the sink stays as it was.
 fn check_refused<T: Encode>(rt: &impl Abort, alloc: Global, value: &T, fault: Fault) {
-    let mut sink = ok(rt, behind(alloc, &[]));
+    let mut sink = ok(rt, begun(alloc));
     assert_eq!(rt; encode(value, &mut sink), Err(fault));
     are(rt, sink.as_slice(), &[0x99]);
 }
@@ -118,7 +118,7 @@ fn first_refusals_in_lists(rt: HostRuntime) {
 // The second of these is refused, behind the text of the first.
 #[test]
 fn lists_from_iterators(rt: HostRuntime) {
-    let mut sink = ok(&rt, behind(rt.alloc(), &[]));
+    let mut sink = ok(&rt, begun(rt.alloc()));
     assert!(rt; encode_copied(SECOND_LARGE, &mut sink) == Err(Fault::TooMany));
     are(&rt, sink.as_slice(), &[0x99]);
 }

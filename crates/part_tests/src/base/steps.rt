@@ -1,7 +1,7 @@
 //! Steps with a holder, and what comes of them.
 
 use crate::base::calls::{Held, Member, Piece, add_member, write};
-use crate::base::values::{behind, is_behind};
+use crate::base::values::{added, begun};
 use std::alloc::Global;
 use wenc_base::{Encode, Fault, Lender, Lent, Verbatim};
 
@@ -70,24 +70,24 @@ fn has(holder: &Held<'_>, count: u32, body: &[u8]) -> bool {
 
 /// It is finished, and adds this section to a sink.
 fn is_whole(alloc: Global, holder: &Held<'_>, section: &[u8]) -> Result<bool, Fault> {
-    let mut sink = behind(alloc, &[])?;
+    let mut sink = begun(alloc)?;
     holder.encode_section(&mut sink)?;
-    Ok(holder.is_finished() && is_behind(sink.as_slice(), section))
+    Ok(holder.is_finished() && added(sink.as_slice()) == Some(section))
 }
 
 fn is_list(alloc: Global, holder: &Held<'_>, text: &[u8]) -> Result<bool, Fault> {
-    let mut sink = behind(alloc, &[])?;
+    let mut sink = begun(alloc)?;
     Lent(holder).encode(&mut sink)?;
-    Ok(is_behind(sink.as_slice(), text))
+    Ok(added(sink.as_slice()) == Some(text))
 }
 
 /// It is not finished: neither a section nor a list of members comes of it.
 fn is_begun(alloc: Global, holder: &Held<'_>) -> Result<bool, Fault> {
-    let mut sink = behind(alloc, &[])?;
+    let mut sink = begun(alloc)?;
     let is_refused = holder.encode_section(&mut sink) == UNFINISHED
-        && is_behind(sink.as_slice(), &[])
+        && added(sink.as_slice()) == Some(&[])
         && holder.encode(&mut sink) == UNFINISHED;
-    Ok(is_refused && !holder.is_finished() && is_behind(sink.as_slice(), &[]))
+    Ok(is_refused && !holder.is_finished() && added(sink.as_slice()) == Some(&[]))
 }
 
 /// The first step that is not as it should be.

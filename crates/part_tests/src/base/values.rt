@@ -17,21 +17,19 @@ pub fn encode<T: Encode>(value: &T, sink: &mut Vec<u8>) -> Result<(), Fault> {
     value.encode(sink)
 }
 
-// A byte that a sink has, and these.
-pub fn behind(alloc: Global, bytes: &[u8]) -> Result<Vec<u8>, Fault> {
-    let mut sink = [0x99].to_vec(alloc)?;
-    sink.extend_from_slice(bytes)?;
-    Ok(sink)
+// A sink that has a byte.
+pub fn begun(alloc: Global) -> Result<Vec<u8>, Fault> {
+    Ok([0x99].to_vec(alloc)?)
 }
 
-// Whether the sink has that byte and these.
-pub fn is_behind(sink: &[u8], bytes: &[u8]) -> bool {
-    sink.strip_prefix([0x99].as_slice()) == Some(bytes)
+// What a sink has behind that byte.
+pub fn added(sink: &[u8]) -> Option<&[u8]> {
+    sink.strip_prefix([0x99].as_slice())
 }
 
 // What a value appends behind that byte.
 fn appended<T: Encode>(alloc: Global, value: &T) -> Result<Vec<u8>, Fault> {
-    let mut sink = behind(alloc, &[])?;
+    let mut sink = begun(alloc)?;
     encode(value, &mut sink)?;
     Ok(sink)
 }
@@ -42,18 +40,19 @@ pub fn are(rt: &impl Abort, given: &[u8], wanted: &[u8]) {
 
 // Each value is written behind a byte that the sink has, and its requests are refused in turn.
 pub fn check<T: Encode>(rt: &impl Abort, alloc: Global, value: &T, bytes: &[u8]) {
-    let wanted = ok(rt, behind(alloc, bytes));
-    are(
-        rt,
-        ok(rt, appended(alloc, value)).as_slice(),
-        wanted.as_slice(),
-    );
+    let sink = ok(rt, appended(alloc, value));
+    assert_eq!(rt; added(sink.as_slice()), Some(bytes));
     let is_refused = if bytes.is_empty() {
         takes_no_memory(alloc, value)
     } else {
         sweep_encode(alloc, value)
     };
     is_well(rt, is_refused);
+}
+
+// The same of a value that the caller has no more use for.
+pub fn check_made<T: Encode + Drop>(rt: &impl Abort, alloc: Global, value: T, bytes: &[u8]) {
+    check(rt, alloc, &value, bytes);
 }
 
 // Each of these is written as what stands beside it.
@@ -183,7 +182,7 @@ fn joined(alloc: Global) -> Result<Vec<u8>, Fault> {
 }
 
 fn of_iterators(alloc: Global) -> Result<Vec<u8>, Fault> {
-    let mut sink = behind(alloc, &[])?;
+    let mut sink = begun(alloc)?;
     encode_vector([1, 128, 3].to_vec(alloc)?, &mut sink)?;
     encode_copied(&[], &mut sink)?;
     Ok(sink)
@@ -276,7 +275,7 @@ fn append_section(section: &CustomSection, sink: &mut Vec<u8>) -> Result<(), Fau
 // A section of a core module: its id, its size, its name, no data.
 #[test]
 fn core_section(rt: HostRuntime) {
-    let mut sink = ok(&rt, behind(rt.alloc(), &[]));
+    let mut sink = ok(&rt, begun(rt.alloc()));
     let section = CustomSection {
         name: "x",
         data: &[],

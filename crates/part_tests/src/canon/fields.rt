@@ -1,25 +1,25 @@
 //! Options and slots.
 
+use crate::base::values::check_all;
 use crate::canon::calls::{Call, Function, Task};
 use crate::canon::rows::check_rows;
-use crate::parts::texts::texts;
 use crate::swept::check_each;
 use sweeping::LARGE;
 use wenc_base::{AbstractHeapType, HeapType, RefType, ValType};
 use wenc_canon::CanonicalOption;
 
 /// Each option, and its text.
-const OPTIONS: &[(CanonicalOption, &str)] = &[
-    (CanonicalOption::UTF8, "ee00"),
-    (CanonicalOption::UTF16, "ee01"),
-    (CanonicalOption::CompactUTF16, "ee02"),
-    (CanonicalOption::Memory(128), "ee038001"),
-    (CanonicalOption::Realloc(128), "ee048001"),
-    (CanonicalOption::PostReturn(128), "ee058001"),
-    (CanonicalOption::Async, "ee06"),
-    (CanonicalOption::Callback(128), "ee078001"),
-    (CanonicalOption::CoreType(128), "ee088001"),
-    (CanonicalOption::Gc, "ee09"),
+const OPTIONS: &[(CanonicalOption, &[u8])] = &[
+    (CanonicalOption::UTF8, &[0x00]),
+    (CanonicalOption::UTF16, &[0x01]),
+    (CanonicalOption::CompactUTF16, &[0x02]),
+    (CanonicalOption::Memory(128), &[0x03, 0x80, 0x01]),
+    (CanonicalOption::Realloc(128), &[0x04, 0x80, 0x01]),
+    (CanonicalOption::PostReturn(128), &[0x05, 0x80, 0x01]),
+    (CanonicalOption::Async, &[0x06]),
+    (CanonicalOption::Callback(128), &[0x07, 0x80, 0x01]),
+    (CanonicalOption::CoreType(128), &[0x08, 0x80, 0x01]),
+    (CanonicalOption::Gc, &[0x09]),
 ];
 
 /// The row of a function that is lowered with this option.
@@ -93,7 +93,7 @@ const LARGE_OPTIONS: &[CanonicalOption] = &[
 #[test]
 fn options(rt: HostRuntime) {
     let alloc = rt.alloc();
-    texts(&rt, alloc, OPTIONS);
+    check_all(&rt, alloc, OPTIONS);
     check_each(&rt, alloc, LARGE_OPTIONS);
     check_rows(&rt, alloc, LOWERED);
 }

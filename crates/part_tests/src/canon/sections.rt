@@ -5,9 +5,9 @@ ghost use Rattle.wenc_base.specs.Piece.{HasForm};
 ghost use Rattle.wenc_canon.specs.Canonicals.{canonical};
 
 use crate::accepted::{is_well, ok};
+use crate::base::values::check;
 use crate::canon::calls::{Call, Function, Task, Thread};
 use crate::canon::functions::Functions;
-use crate::parts::texts::text_is;
 use crate::swept::grows;
 use refusing::Refusing;
 use std::alloc::{AllocError, Global};
@@ -125,8 +125,8 @@ fn gives_back(rt: &impl Abort, section: CanonicalFunctionSection, wanted: &[u8])
 fn behind_bytes_that_are_kept(rt: HostRuntime) {
     let alloc = rt.alloc();
     let mut section = ok(&rt, over(alloc));
-    text_is(&rt, alloc, &section, "ee020105");
+    check(&rt, alloc, &section, &[0x02, 0x01, 0x05]);
     ok(&rt, resource_drop(&mut section));
-    text_is(&rt, alloc, &section, "ee0402050300");
+    check(&rt, alloc, &section, &[0x04, 0x02, 0x05, 0x03, 0x00]);
     gives_back(&rt, section, &[0xaa, 0xbb, 0x05, 0x03, 0x00]);
 }

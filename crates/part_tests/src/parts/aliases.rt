@@ -1,5 +1,5 @@
 use crate::accepted::ok;
-use crate::parts::texts::{text_is, texts};
+use crate::base::values::{check, check_all};
 use crate::swept::check_each;
 use std::alloc::{Allocator, Global};
 use std::process::Abort;
@@ -7,14 +7,14 @@ use sweeping::{LARGE, NAME};
 use wenc_base::ExportKind;
 use wenc_parts::{Alias, AliasTree, ComponentExportKind, ComponentOuterAliasKind};
 
-const ALIASES: &[(Alias, &str)] = &[
+const ALIASES: &[(Alias, &[u8])] = &[
     (
         Alias::InstanceExport {
             instance: 0,
             kind: ComponentExportKind::Func,
             name: "f",
         },
-        "ee0100000166",
+        &[0x01, 0x00, 0x00, 0x01, 0x66],
     ),
     (
         Alias::InstanceExport {
@@ -22,7 +22,7 @@ const ALIASES: &[(Alias, &str)] = &[
             kind: ComponentExportKind::Module,
             name: "m",
         },
-        "ee00110005016d",
+        &[0x00, 0x11, 0x00, 0x05, 0x01, 0x6d],
     ),
     (
         Alias::InstanceExport {
@@ -30,7 +30,7 @@ const ALIASES: &[(Alias, &str)] = &[
             kind: ComponentExportKind::Value,
             name: "",
         },
-        "ee0200800100",
+        &[0x02, 0x00, 0x80, 0x01, 0x00],
     ),
     (
         Alias::CoreInstanceExport {
@@ -38,7 +38,7 @@ const ALIASES: &[(Alias, &str)] = &[
             kind: ExportKind::Tag,
             name: "t",
         },
-        "ee000401000174",
+        &[0x00, 0x04, 0x01, 0x00, 0x01, 0x74],
     ),
     (
         Alias::CoreInstanceExport {
@@ -46,7 +46,7 @@ const ALIASES: &[(Alias, &str)] = &[
             kind: ExportKind::Memory,
             name: "m",
         },
-        "ee00020100016d",
+        &[0x00, 0x02, 0x01, 0x00, 0x01, 0x6d],
     ),
     (
         Alias::CoreInstanceExport {
@@ -54,7 +54,7 @@ const ALIASES: &[(Alias, &str)] = &[
             kind: ExportKind::Func,
             name: "",
         },
-        "ee000001800100",
+        &[0x00, 0x00, 0x01, 0x80, 0x01, 0x00],
     ),
     (
         Alias::Outer {
@@ -62,7 +62,7 @@ const ALIASES: &[(Alias, &str)] = &[
             count: 1,
             index: 2,
         },
-        "ee0010020102",
+        &[0x00, 0x10, 0x02, 0x01, 0x02],
     ),
     (
         Alias::Outer {
@@ -70,7 +70,7 @@ const ALIASES: &[(Alias, &str)] = &[
             count: 0,
             index: 5,
         },
-        "ee0011020005",
+        &[0x00, 0x11, 0x02, 0x00, 0x05],
     ),
     (
         Alias::Outer {
@@ -78,7 +78,7 @@ const ALIASES: &[(Alias, &str)] = &[
             count: 0,
             index: 1,
         },
-        "ee03020001",
+        &[0x03, 0x02, 0x00, 0x01],
     ),
     (
         Alias::Outer {
@@ -86,7 +86,7 @@ const ALIASES: &[(Alias, &str)] = &[
             count: 2,
             index: 128,
         },
-        "ee0402028001",
+        &[0x04, 0x02, 0x02, 0x80, 0x01],
     ),
 ];
 
@@ -134,8 +134,8 @@ fn tree<A: Allocator>(rt: &impl Abort, alloc: A, alias: &Alias<'_>) -> AliasTree
 }
 
 /// The tree's alias appends this.
-fn tree_is<A: Allocator>(rt: &impl Abort, alloc: Global, tree: AliasTree<A>, wanted: &str) {
-    text_is(rt, alloc, &tree.as_alias(), wanted);
+fn tree_is<A: Allocator>(rt: &impl Abort, alloc: Global, tree: AliasTree<A>, wanted: &[u8]) {
+    check(rt, alloc, &tree.as_alias(), wanted);
 }
 
 // By themselves, and of trees in the sink's allocator and in one that isn't the sink's.
@@ -143,7 +143,7 @@ fn tree_is<A: Allocator>(rt: &impl Abort, alloc: Global, tree: AliasTree<A>, wan
 fn aliases(rt: HostRuntime) {
     let alloc = rt.alloc();
     check_each(&rt, alloc, LONG_ALIASES);
-    texts(&rt, alloc, ALIASES);
+    check_all(&rt, alloc, ALIASES);
     for (alias, wanted) in ALIASES {
         tree_is(&rt, alloc, tree(&rt, alloc, alias), wanted);
         tree_is(&rt, alloc, tree(&rt, &alloc, alias), wanted);

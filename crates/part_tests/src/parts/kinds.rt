@@ -1,6 +1,6 @@
 //! Kinds of items, and references to types.
 
-use crate::parts::texts::texts;
+use crate::base::values::check_all;
 use crate::swept::check_each;
 use wenc_parts::{
     ComponentExportKind, ComponentOuterAliasKind, ComponentTypeRef, ComponentValType, ModuleArg,
@@ -9,23 +9,29 @@ use wenc_parts::{
 
 const INDEXED: ComponentValType = ComponentValType::Type(64);
 
-const KINDS: &[(ComponentExportKind, &str)] = &[
-    (ComponentExportKind::Module, "ee0011"),
-    (ComponentExportKind::Func, "ee01"),
-    (ComponentExportKind::Value, "ee02"),
-    (ComponentExportKind::Type, "ee03"),
-    (ComponentExportKind::Instance, "ee05"),
-    (ComponentExportKind::Component, "ee04"),
+const KINDS: &[(ComponentExportKind, &[u8])] = &[
+    (ComponentExportKind::Module, &[0x00, 0x11]),
+    (ComponentExportKind::Func, &[0x01]),
+    (ComponentExportKind::Value, &[0x02]),
+    (ComponentExportKind::Type, &[0x03]),
+    (ComponentExportKind::Instance, &[0x05]),
+    (ComponentExportKind::Component, &[0x04]),
 ];
 
-const REFERENCES: &[(ComponentTypeRef, &str)] = &[
-    (ComponentTypeRef::Module(5), "ee001105"),
-    (ComponentTypeRef::Func(128), "ee018001"),
-    (ComponentTypeRef::Value(INDEXED), "ee02c000"),
-    (ComponentTypeRef::Type(TypeBounds::Eq(3)), "ee030003"),
-    (ComponentTypeRef::Type(TypeBounds::SubResource), "ee0301"),
-    (ComponentTypeRef::Instance(1), "ee0501"),
-    (ComponentTypeRef::Component(2), "ee0402"),
+const REFERENCES: &[(ComponentTypeRef, &[u8])] = &[
+    (ComponentTypeRef::Module(5), &[0x00, 0x11, 0x05]),
+    (ComponentTypeRef::Func(128), &[0x01, 0x80, 0x01]),
+    (ComponentTypeRef::Value(INDEXED), &[0x02, 0xc0, 0x00]),
+    (
+        ComponentTypeRef::Type(TypeBounds::Eq(3)),
+        &[0x03, 0x00, 0x03],
+    ),
+    (
+        ComponentTypeRef::Type(TypeBounds::SubResource),
+        &[0x03, 0x01],
+    ),
+    (ComponentTypeRef::Instance(1), &[0x05, 0x01]),
+    (ComponentTypeRef::Component(2), &[0x04, 0x02]),
 ];
 
 const KINDS_OF_REFERENCES: &[(ComponentTypeRef, ComponentExportKind)] = &[
@@ -54,31 +60,31 @@ const LONG_REFERENCES: &[ComponentTypeRef] = &[
 
 const LONG_BOUNDS: &[TypeBounds] = &[TypeBounds::Eq(128)];
 
-const BOUNDS: &[(TypeBounds, &str)] = &[
-    (TypeBounds::Eq(3), "ee0003"),
-    (TypeBounds::SubResource, "ee01"),
+const BOUNDS: &[(TypeBounds, &[u8])] = &[
+    (TypeBounds::Eq(3), &[0x00, 0x03]),
+    (TypeBounds::SubResource, &[0x01]),
 ];
 
-const MODULE_ARGUMENTS: &[(ModuleArg, &str)] = &[
-    (ModuleArg::Instance(0), "ee1200"),
-    (ModuleArg::Instance(128), "ee128001"),
+const MODULE_ARGUMENTS: &[(ModuleArg, &[u8])] = &[
+    (ModuleArg::Instance(0), &[0x12, 0x00]),
+    (ModuleArg::Instance(128), &[0x12, 0x80, 0x01]),
 ];
 
-const OUTER_KINDS: &[(ComponentOuterAliasKind, &str)] = &[
-    (ComponentOuterAliasKind::CoreModule, "ee0011"),
-    (ComponentOuterAliasKind::CoreType, "ee0010"),
-    (ComponentOuterAliasKind::Type, "ee03"),
-    (ComponentOuterAliasKind::Component, "ee04"),
+const OUTER_KINDS: &[(ComponentOuterAliasKind, &[u8])] = &[
+    (ComponentOuterAliasKind::CoreModule, &[0x00, 0x11]),
+    (ComponentOuterAliasKind::CoreType, &[0x00, 0x10]),
+    (ComponentOuterAliasKind::Type, &[0x03]),
+    (ComponentOuterAliasKind::Component, &[0x04]),
 ];
 
 #[test]
 fn kinds_and_references(rt: HostRuntime) {
     let alloc = rt.alloc();
-    texts(&rt, alloc, KINDS);
-    texts(&rt, alloc, OUTER_KINDS);
-    texts(&rt, alloc, MODULE_ARGUMENTS);
-    texts(&rt, alloc, BOUNDS);
-    texts(&rt, alloc, REFERENCES);
+    check_all(&rt, alloc, KINDS);
+    check_all(&rt, alloc, OUTER_KINDS);
+    check_all(&rt, alloc, MODULE_ARGUMENTS);
+    check_all(&rt, alloc, BOUNDS);
+    check_all(&rt, alloc, REFERENCES);
     check_each(&rt, alloc, LONG_BOUNDS);
     check_each(&rt, alloc, LONG_REFERENCES);
     for (reference, kind) in KINDS_OF_REFERENCES {

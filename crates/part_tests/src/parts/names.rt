@@ -1,8 +1,8 @@
 //! Names of imports and exports.
 
 use crate::accepted::ok;
-use crate::parts::texts::{text_is, text_of};
-use crate::swept::check_made;
+use crate::base::values::{check, check_made};
+use crate::swept;
 use refusing::Refusing;
 use std::alloc::{Allocator, Global};
 use std::borrow::CowStr;
@@ -15,22 +15,44 @@ use wenc_parts::{ComponentExternName, NameOptions, NameTree};
 type Options<'a> = (Option<&'a str>, Option<&'a str>, Option<&'a str>);
 
 /// A name, its options, and its text.
-type Row<'a> = (&'a str, Options<'a>, &'a str);
+type Row<'a> = (&'a str, Options<'a>, &'a [u8]);
 
 const ROWS: &[Row<'static>] = &[
-    ("", (None, None, None), "ee0000"),
-    ("f", (None, None, None), "ee000166"),
-    ("a", (Some("i"), None, Some("")), "ee020161020001690200"),
-    ("n", (None, Some("1"), Some("x")), "ee02016e02010131020178"),
+    ("", (None, None, None), &[0x00, 0x00]),
+    ("f", (None, None, None), &[0x00, 0x01, 0x66]),
+    (
+        "a",
+        (Some("i"), None, Some("")),
+        &[0x02, 0x01, 0x61, 0x02, 0x00, 0x01, 0x69, 0x02, 0x00],
+    ),
+    (
+        "n",
+        (None, Some("1"), Some("x")),
+        &[0x02, 0x01, 0x6e, 0x02, 0x01, 0x01, 0x31, 0x02, 0x01, 0x78],
+    ),
     (
         "n",
         (Some("i"), Some("1"), Some("x")),
-        "ee02016e03000169010131020178",
+        &[
+            0x02, 0x01, 0x6e, 0x03, 0x00, 0x01, 0x69, 0x01, 0x01, 0x31, 0x02, 0x01, 0x78,
+        ],
     ),
     // Each option alone.
-    ("n", (Some("i"), None, None), "ee02016e01000169"),
-    ("n", (None, Some("1"), None), "ee02016e01010131"),
-    ("n", (None, None, Some("x")), "ee02016e01020178"),
+    (
+        "n",
+        (Some("i"), None, None),
+        &[0x02, 0x01, 0x6e, 0x01, 0x00, 0x01, 0x69],
+    ),
+    (
+        "n",
+        (None, Some("1"), None),
+        &[0x02, 0x01, 0x6e, 0x01, 0x01, 0x01, 0x31],
+    ),
+    (
+        "n",
+        (None, None, Some("x")),
+        &[0x02, 0x01, 0x6e, 0x01, 0x02, 0x01, 0x78],
+    ),
 ];
 
 /// The text itself, or a copy of it.
@@ -99,8 +121,8 @@ fn tree<A: Allocator + Copy>(
 }
 
 /// The tree's name appends this.
-fn tree_is<A: Allocator>(rt: &impl Abort, alloc: Global, tree: NameTree<A>, wanted: &str) {
-    text_of(rt, alloc, tree.as_name(), wanted);
+fn tree_is<A: Allocator>(rt: &impl Abort, alloc: Global, tree: NameTree<A>, wanted: &[u8]) {
+    check_made(rt, alloc, tree.as_name(), wanted);
 }
 
 // Lent, with texts of its own, and of a tree in an allocator that isn't the sink's.
@@ -108,8 +130,8 @@ fn tree_is<A: Allocator>(rt: &impl Abort, alloc: Global, tree: NameTree<A>, want
 fn names(rt: HostRuntime) {
     let alloc = rt.alloc();
     for (name, options, wanted) in ROWS {
-        text_of(&rt, alloc, named(&rt, alloc, name, *options, false), wanted);
-        text_of(&rt, alloc, named(&rt, alloc, name, *options, true), wanted);
+        check_made(&rt, alloc, named(&rt, alloc, name, *options, false), wanted);
+        check_made(&rt, alloc, named(&rt, alloc, name, *options, true), wanted);
         tree_is(&rt, alloc, tree(&rt, &alloc, name, *options), wanted);
     }
 }
@@ -121,7 +143,7 @@ fn has_no_options(name: &ComponentExternName) -> bool {
 /// No option is there, and it is written as the name alone.
 fn check_plain(rt: &impl Abort, alloc: Global, name: ComponentExternName) {
     assert!(rt; has_no_options(&name));
-    text_is(rt, alloc, &name, "ee000166");
+    check(rt, alloc, &name, &[0x00, 0x01, 0x66]);
 }
 
 fn plain_text(rt: &impl Abort, alloc: Global) -> String {
@@ -177,7 +199,12 @@ fn copied<'a>(rt: &impl Abort, name: ComponentExternName<'a>) -> ComponentExtern
 #[test]
 fn cloned(rt: HostRuntime) {
     let other = copied(&rt, with_two_options(&rt, rt.alloc()));
-    text_of(&rt, rt.alloc(), other, "ee020161020001690200");
+    check_made(
+        &rt,
+        rt.alloc(),
+        other,
+        &[0x02, 0x01, 0x61, 0x02, 0x00, 0x01, 0x69, 0x02, 0x00],
+    );
 }
 
 /// A long name with each option, and a short one.
@@ -188,9 +215,9 @@ const SHORT: Options<'static> = (Some("n"), Some("n"), Some("n"));
 #[test]
 fn names_are_swept(rt: HostRuntime) {
     let alloc = rt.alloc();
-    check_made(&rt, alloc, ComponentExternName::from(NAME));
-    check_made(&rt, alloc, named(&rt, alloc, NAME, EACH_OPTION, false));
-    check_made(&rt, alloc, named(&rt, alloc, "n", SHORT, false));
+    swept::check_made(&rt, alloc, ComponentExternName::from(NAME));
+    swept::check_made(&rt, alloc, named(&rt, alloc, NAME, EACH_OPTION, false));
+    swept::check_made(&rt, alloc, named(&rt, alloc, "n", SHORT, false));
 }
 
 type Kept<'a> = ComponentExternName<'a, &'a Refusing>;

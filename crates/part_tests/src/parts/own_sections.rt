@@ -1,8 +1,8 @@
 //! A section that neither the component model nor WebAssembly names.
 
-use crate::accepted::is_well;
-use crate::parts::texts::is;
-use std::alloc::{Allocator, Global};
+use crate::accepted::{is_well, ok};
+use crate::base::values::are;
+use std::alloc::Allocator;
 use sweeping::{NAME, sweep_section};
 use wenc_base::{Encode, Fault, Section};
 use wenc_parts::ComponentSection;
@@ -38,15 +38,15 @@ impl<'a> ComponentSection for Own<'a> {
     }
 }
 
-fn written(alloc: Global) -> Result<String, Fault> {
-    let mut sink = [0xee].to_vec(alloc)?;
-    Own(&[0x2a]).append_to_component(&mut sink)?;
-    Ok(hex::encode(alloc, sink.as_slice())?)
+fn append(section: &Own<'_>, sink: &mut Vec<u8>) -> Result<(), Fault> {
+    section.append_to_component(sink)
 }
 
 #[test]
 fn own_sections(rt: HostRuntime) {
-    is(&rt, written(rt.alloc()), "ee632a");
+    let mut sink = Vec::new(rt.alloc());
+    ok(&rt, append(&Own(&[0x2a]), &mut sink));
+    are(&rt, sink.as_slice(), &[0x63, 0x2a]);
     is_well(&rt, sweep_section(rt.alloc(), &Own(&[0])));
     is_well(&rt, sweep_section(rt.alloc(), &Own(NAME.as_bytes())));
 }

@@ -1,30 +1,39 @@
-use crate::parts::texts::{is, texts};
-use std::alloc::Global;
+use crate::accepted::ok;
+use crate::base::values::{are, check_all};
 use sweeping::own::{Light, write_all};
 use wenc_base::Fault;
 
-const ALONE: &[(Light, &str)] = &[(Light::Red, "ee72"), (Light::Green, "ee67")];
+const ALONE: &[(Light, &[u8])] = &[(Light::Red, &[0x72]), (Light::Green, &[0x67])];
 
-const IN_OPTIONS: &[(Option<Light>, &str)] = &[(Some(Light::Green), "ee0167"), (None, "ee00")];
+const IN_OPTIONS: &[(Option<Light>, &[u8])] = &[
+    (Some(Light::Green), &[0x01, 0x67]),
+    (None, &[0x00]),
+];
 
-const IN_LISTS: &[(&[Light], &str)] = &[(&[Light::Red, Light::Green, Light::Red], "ee03726772")];
+const IN_LISTS: &[(&[Light], &[u8])] = &[(
+    &[Light::Red, Light::Green, Light::Red],
+    &[0x03, 0x72, 0x67, 0x72],
+)];
 
 fn append(values: &[Light], last: Option<Light>, sink: &mut Vec<u8>) -> Result<(), Fault> {
     write_all(values, last, sink)
 }
 
-fn written(alloc: Global) -> Result<String, Fault> {
-    let mut sink = [0xee].to_vec(alloc)?;
-    append(&[Light::Red, Light::Green], Some(Light::Red), &mut sink)?;
-    append(&[], None, &mut sink)?;
-    Ok(hex::encode(alloc, sink.as_slice())?)
-}
-
 #[test]
 fn lights(rt: HostRuntime) {
     let alloc = rt.alloc();
-    texts(&rt, alloc, ALONE);
-    texts(&rt, alloc, IN_OPTIONS);
-    texts(&rt, alloc, IN_LISTS);
-    is(&rt, written(alloc), "ee02726701720000");
+    check_all(&rt, alloc, ALONE);
+    check_all(&rt, alloc, IN_OPTIONS);
+    check_all(&rt, alloc, IN_LISTS);
+    let mut sink = Vec::new(alloc);
+    ok(
+        &rt,
+        append(&[Light::Red, Light::Green], Some(Light::Red), &mut sink),
+    );
+    ok(&rt, append(&[], None, &mut sink));
+    are(
+        &rt,
+        sink.as_slice(),
+        &[0x02, 0x72, 0x67, 0x01, 0x72, 0x00, 0x00],
+    );
 }

@@ -1,22 +1,22 @@
 //! The ids of sections.
 
-use crate::parts::texts::texts;
+use crate::base::values::check_all;
 use wenc_parts::ComponentSectionId;
 
 /// Each id stands at its number.
-const IDS: &[(ComponentSectionId, &str)] = &[
-    (ComponentSectionId::CoreCustom, "ee00"),
-    (ComponentSectionId::CoreModule, "ee01"),
-    (ComponentSectionId::CoreInstance, "ee02"),
-    (ComponentSectionId::CoreType, "ee03"),
-    (ComponentSectionId::Component, "ee04"),
-    (ComponentSectionId::Instance, "ee05"),
-    (ComponentSectionId::Alias, "ee06"),
-    (ComponentSectionId::Type, "ee07"),
-    (ComponentSectionId::CanonicalFunction, "ee08"),
-    (ComponentSectionId::Start, "ee09"),
-    (ComponentSectionId::Import, "ee0a"),
-    (ComponentSectionId::Export, "ee0b"),
+const IDS: &[(ComponentSectionId, &[u8])] = &[
+    (ComponentSectionId::CoreCustom, &[0x00]),
+    (ComponentSectionId::CoreModule, &[0x01]),
+    (ComponentSectionId::CoreInstance, &[0x02]),
+    (ComponentSectionId::CoreType, &[0x03]),
+    (ComponentSectionId::Component, &[0x04]),
+    (ComponentSectionId::Instance, &[0x05]),
+    (ComponentSectionId::Alias, &[0x06]),
+    (ComponentSectionId::Type, &[0x07]),
+    (ComponentSectionId::CanonicalFunction, &[0x08]),
+    (ComponentSectionId::Start, &[0x09]),
+    (ComponentSectionId::Import, &[0x0a]),
+    (ComponentSectionId::Export, &[0x0b]),
 ];
 
 /// All comparisons go by these places.
@@ -26,7 +26,7 @@ fn are_ordered(one: ComponentSectionId, i: usize, other: ComponentSectionId, j: 
 
 #[test]
 fn ids(rt: HostRuntime) {
-    texts(&rt, rt.alloc(), IDS);
+    check_all(&rt, rt.alloc(), IDS);
     for (i, (one, _)) in IDS.iter().enumerate() {
         assert!(rt; usize::from(u8::from(*one)) == i, "{i}");
         for (j, (other, _)) in IDS.iter().enumerate() {

@@ -1,4 +1,4 @@
-use crate::parts::texts::text_is;
+use crate::base::values::check;
 use std::alloc::Global;
 use sweeping::hexed::text;
 use wenc_base::{Fault, Lent, WithSize};
@@ -6,13 +6,28 @@ use wenc_base::{Fault, Lent, WithSize};
 #[test]
 fn triples_and_sizes(rt: HostRuntime) {
     let alloc = rt.alloc();
-    text_is(&rt, alloc, &(128u32, "a", false), "ee8001016100");
-    text_is(&rt, alloc, &("b", 1u32, Some(true)), "ee0162010101");
-    text_is(&rt, alloc, &Lent(&128u32), "ee8001");
-    text_is(&rt, alloc, &WithSize(&()), "ee00");
-    text_is(&rt, alloc, &WithSize(&"ab"), "ee03026162");
+    check(
+        &rt,
+        alloc,
+        &(128u32, "a", false),
+        &[0x80, 0x01, 0x01, 0x61, 0x00],
+    );
+    check(
+        &rt,
+        alloc,
+        &("b", 1u32, Some(true)),
+        &[0x01, 0x62, 0x01, 0x01, 0x01],
+    );
+    check(&rt, alloc, &Lent(&128u32), &[0x80, 0x01]);
+    check(&rt, alloc, &WithSize(&()), &[0x00]);
+    check(&rt, alloc, &WithSize(&"ab"), &[0x03, 0x02, 0x61, 0x62]);
     let content = (128u32, "a", false);
-    text_is(&rt, alloc, &WithSize(&content), "ee058001016100");
+    check(
+        &rt,
+        alloc,
+        &WithSize(&content),
+        &[0x05, 0x80, 0x01, 0x01, 0x61, 0x00],
+    );
 }
 
 // Behind 126 bytes and their number the size has one byte, and behind 127 it has two.
