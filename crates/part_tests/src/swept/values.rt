@@ -4,7 +4,7 @@ use sweeping::{Appends, LARGE, NAME, TEXT};
 use wenc_base::{Fault, Lent, Tagged, Verbatim, WithSize, encode_list};
 
 #[test]
-fn texts(rt: HostRuntime) {
+fn numbers_and_texts(rt: HostRuntime) {
     let alloc = rt.alloc();
     check(&rt, alloc, &4294967295usize);
     check(&rt, alloc, &NAME);
