@@ -1,7 +1,7 @@
 //! Members of a holder.
 
 use crate::accepted::{all_are_well, ok};
-use crate::base::calls::{Held, Lent, Listed, Member, Piece, add_member};
+use crate::base::calls::{Lent, Listed, Member, Piece};
 use crate::base::refusals::LARGE;
 use crate::base::steps::{DONE, MANY, Step, UNFINISHED, first_wrong};
 use refusing::Refusing;
@@ -240,7 +240,14 @@ const REFUSED_ENDS: &[Step<'static>] = &[
     Step::Whole(1, &[1, 2], &[3, 1, 1, 2]),
 ];
 
+// With 128 members the count has two bytes, and with 126 bytes behind it so has the size.
+const LONG: &[Step<'static>] = &[
+    Step::Filled(128),
+    Step::Long(132, &[0x82, 0x01, 0x80, 0x01, 0x2a]),
+];
+
 const RUNS: &[(&str, &[Step<'static>])] = &[
+    ("long", LONG),
     ("members", MEMBERS),
     ("empty members", EMPTY_MEMBERS),
     ("refused members", REFUSED_MEMBERS),
@@ -336,27 +343,4 @@ fn steps_with_copies(rt: HostRuntime) {
             all_are_well(&rt, "copied", wrong);
         }
     }
-}
-
-// So many members of a byte.
-fn fill(holder: &mut Held<'_>, count: u32) -> Result<(), Fault> {
-    for _ in 0..count {
-        add_member(holder, Member::Add(&[0x2a]))?;
-    }
-    Ok(())
-}
-
-fn is_long(holder: &Held<'_>, sink: &mut Vec<u8>) -> bool {
-    let start = [0x82, 0x01, 0x80, 0x01, 0x2a];
-    let outcome = holder.encode_section(sink);
-    outcome.is_ok() && sink.len() == 132 && sink.as_slice().starts_with(start.as_slice())
-}
-
-// With 128 members the count has two bytes, and with 126 bytes behind it so has the size.
-#[test]
-fn long_sections(rt: HostRuntime) {
-    let heap = Refusing::new(rt.alloc());
-    let mut holder = Holder::new(&heap);
-    ok(&rt, fill(&mut holder, 128));
-    assert!(rt; is_long(&holder, &mut Vec::new(rt.alloc())));
 }

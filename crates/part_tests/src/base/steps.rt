@@ -29,6 +29,10 @@ pub enum Step<'a> {
     Discard(bool),
     /// It is finished, with so many members, these bytes and this section.
     Whole(u32, &'a [u8], &'a [u8]),
+    /// So many members of a byte more.
+    Filled(u32),
+    /// The length of its section, and the start of it.
+    Long(usize, &'a [u8]),
     /// Without the size that a section has in front, it is written as this.
     List(&'a [u8]),
     /// A member is being written: the count, the bytes, and whether nothing came after the opening.
@@ -53,26 +57,49 @@ fn is_well(alloc: Global, holder: &mut Held<'_>, step: Step<'_>) -> bool {
         Step::IsOpened(is_opened) => holder.is_opened() == is_opened,
         Step::Discard(was_begun) => holder.discard_unfinished() == was_begun,
         Step::Whole(count, body, section) => {
-            has(holder, count, body) && is_whole(alloc, holder, section) == Ok(true)
+            is_whole(alloc, holder, (count, body), section) == Ok(true)
         }
+        Step::Filled(count) => fill(holder, count) == DONE,
+        Step::Long(len, start) => is_long(alloc, holder, len, start) == Ok(true),
         Step::List(text) => is_list(alloc, holder, text) == Ok(true),
         Step::Begun(count, body, is_opened) => {
-            has(holder, count, body)
-                && holder.is_opened() == is_opened
-                && is_begun(alloc, holder) == Ok(true)
+            is_begun(alloc, holder, (count, body), is_opened) == Ok(true)
         }
     }
 }
 
-fn has(holder: &Held<'_>, count: u32, body: &[u8]) -> bool {
-    holder.len() == count && holder.as_slice() == body
+/// So many members of a byte more.
+fn fill(holder: &mut Held<'_>, count: u32) -> Answer {
+    for _ in 0..count {
+        add_member(holder, Member::Add(&[0x2a]))?;
+    }
+    Ok(())
+}
+
+fn is_long(alloc: Global, holder: &Held<'_>, len: usize, start: &[u8]) -> Result<bool, Fault> {
+    let mut section = Vec::new(alloc);
+    holder.encode_section(&mut section)?;
+    Ok(section.len() == len && section.as_slice().starts_with(start))
+}
+
+/// So many members, and their bytes.
+type Members<'a> = (u32, &'a [u8]);
+
+fn has(holder: &Held<'_>, members: Members<'_>) -> bool {
+    holder.len() == members.0 && holder.as_slice() == members.1
 }
 
 /// It is finished, and adds this section to a sink.
-fn is_whole(alloc: Global, holder: &Held<'_>, section: &[u8]) -> Result<bool, Fault> {
+fn is_whole(
+    alloc: Global,
+    holder: &Held<'_>,
+    members: Members<'_>,
+    section: &[u8],
+) -> Result<bool, Fault> {
     let mut sink = begun(alloc)?;
     holder.encode_section(&mut sink)?;
-    Ok(holder.is_finished() && added(sink.as_slice()) == Some(section))
+    let is_finished = has(holder, members) && holder.is_finished();
+    Ok(is_finished && added(sink.as_slice()) == Some(section))
 }
 
 fn is_list(alloc: Global, holder: &Held<'_>, text: &[u8]) -> Result<bool, Fault> {
@@ -82,12 +109,19 @@ fn is_list(alloc: Global, holder: &Held<'_>, text: &[u8]) -> Result<bool, Fault>
 }
 
 /// It is not finished: neither a section nor a list of members comes of it.
-fn is_begun(alloc: Global, holder: &Held<'_>) -> Result<bool, Fault> {
+fn is_begun(
+    alloc: Global,
+    holder: &Held<'_>,
+    members: Members<'_>,
+    is_opened: bool,
+) -> Result<bool, Fault> {
     let mut sink = begun(alloc)?;
     let is_refused = holder.encode_section(&mut sink) == UNFINISHED
         && added(sink.as_slice()) == Some(&[])
-        && holder.encode(&mut sink) == UNFINISHED;
-    Ok(is_refused && !holder.is_finished() && added(sink.as_slice()) == Some(&[]))
+        && holder.encode(&mut sink) == UNFINISHED
+        && added(sink.as_slice()) == Some(&[]);
+    let is_begun = has(holder, members) && holder.is_opened() == is_opened;
+    Ok(is_refused && is_begun && !holder.is_finished())
 }
 
 /// The first step that is not as it should be.

@@ -13,7 +13,7 @@ use wenc_base::{
 };
 
 // What `encode` answers.
-pub fn encode<T: Encode>(value: &T, sink: &mut Vec<u8>) -> Result<(), Fault> {
+pub fn encode<T: Encode, A: Allocator>(value: &T, sink: &mut Vec<u8, A>) -> Result<(), Fault> {
     value.encode(sink)
 }
 
@@ -229,17 +229,16 @@ fn printed(alloc: Global, fault: Fault) -> Result<String, Fault> {
     Ok(format!(in alloc; "{fault}")?)
 }
 
-// Its number, and what is printed of it.
-fn check_fault(rt: &impl Abort, alloc: Global, fault: Fault, number: u8, text: &str) {
-    assert!(rt; fault.number() == number);
-    assert!(rt; ok(rt, printed(alloc, fault)).as_str() == text);
-}
-
+// Their numbers, and what is printed of them.
 #[test]
 fn faults(rt: HostRuntime) {
     assert!(rt; Fault::from(AllocError) == Fault::Memory(AllocError));
     for (fault, number, text) in FAULTS {
-        check_fault(&rt, rt.alloc(), *fault, *number, text);
+        assert!(rt; fault.number() == *number, "{text}");
+        assert!(rt;
+            ok(&rt, printed(rt.alloc(), *fault)).as_str() == *text,
+            "{text}"
+        );
     }
 }
 

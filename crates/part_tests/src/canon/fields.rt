@@ -90,14 +90,6 @@ const LARGE_OPTIONS: &[CanonicalOption] = &[
     CanonicalOption::Gc,
 ];
 
-#[test]
-fn options(rt: HostRuntime) {
-    let alloc = rt.alloc();
-    check_all(&rt, alloc, OPTIONS);
-    check_each(&rt, alloc, LARGE_OPTIONS);
-    check_rows(&rt, alloc, LOWERED);
-}
-
 const FUNC: HeapType = HeapType::Abstract(AbstractHeapType::Func);
 
 const NULLABLE_FUNC: RefType = RefType {
@@ -193,6 +185,10 @@ const SLOTS: &[(Call<'static>, &[u8])] = &[
 ];
 
 #[test]
-fn slots_have_core_value_types(rt: HostRuntime) {
-    check_rows(&rt, rt.alloc(), SLOTS);
+fn options_and_slots(rt: HostRuntime) {
+    let alloc = rt.alloc();
+    check_all(&rt, alloc, OPTIONS);
+    check_each(&rt, alloc, LARGE_OPTIONS);
+    check_rows(&rt, alloc, LOWERED);
+    check_rows(&rt, alloc, SLOTS);
 }

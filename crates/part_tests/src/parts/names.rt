@@ -1,7 +1,7 @@
 //! Names of imports and exports.
 
 use crate::accepted::ok;
-use crate::base::values::{check, check_made};
+use crate::base::values::check_made;
 use crate::swept;
 use refusing::Refusing;
 use std::alloc::{Allocator, Global};
@@ -143,7 +143,7 @@ fn has_no_options(name: &ComponentExternName) -> bool {
 /// No option is there, and it is written as the name alone.
 fn check_plain(rt: &impl Abort, alloc: Global, name: ComponentExternName) {
     assert!(rt; has_no_options(&name));
-    check(rt, alloc, &name, &[0x00, 0x01, 0x66]);
+    check_made(rt, alloc, name, &[0x00, 0x01, 0x66]);
 }
 
 fn plain_text(rt: &impl Abort, alloc: Global) -> String {
@@ -189,16 +189,27 @@ fn with_two_options<'a>(rt: &impl Abort, alloc: Global) -> ComponentExternName<'
     }
 }
 
-/// A copy of a name that is no longer there.
-fn copied<'a>(rt: &impl Abort, name: ComponentExternName<'a>) -> ComponentExternName<'a> {
-    let other = ok(rt, copy(&name));
-    assert!(rt; are_same(&other, &name));
+/// A copy, which is the same.
+fn copied<'a, A: Allocator + Clone>(
+    rt: &impl Abort,
+    name: &ComponentExternName<'a, A>,
+) -> ComponentExternName<'a, A> {
+    let other = ok(rt, copy(name));
+    assert!(rt; are_same(&other, name));
     other
+}
+
+/// A copy of a name that is no longer there.
+fn copy_of_a_lost_name<'a>(
+    rt: &impl Abort,
+    name: ComponentExternName<'a>,
+) -> ComponentExternName<'a> {
+    copied(rt, &name)
 }
 
 #[test]
 fn cloned(rt: HostRuntime) {
-    let other = copied(&rt, with_two_options(&rt, rt.alloc()));
+    let other = copy_of_a_lost_name(&rt, with_two_options(&rt, rt.alloc()));
     check_made(
         &rt,
         rt.alloc(),
@@ -229,21 +240,13 @@ fn is_refused<'a>(heap: &'a Refusing, name: &Kept<'a>, n: u64) -> bool {
     outcome.err() == Some(REFUSED) && heap.requests() == n && name.name.as_str() == NAME
 }
 
-/// Whether a copy is made, and is the same.
-fn has_a_copy<'a>(name: &Kept<'a>) -> bool {
-    match copy(name) {
-        Ok(other) => other.name.as_str() == NAME && are_same(&other, name),
-        Err(_) => false,
-    }
-}
-
 /// A copy makes four requests, and each of them is refused.
 fn check_copies<'a>(rt: &impl Abort, heap: &'a Refusing, name: &Kept<'a>) {
     for n in 1..5u64 {
         assert!(rt; is_refused(heap, name, n), "{n}");
     }
     heap.refuse_nth(5);
-    assert!(rt; has_a_copy(name));
+    assert!(rt; copied(rt, name).name.as_str() == NAME);
     assert!(rt; heap.requests() == 4);
 }
 
