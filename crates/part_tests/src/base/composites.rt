@@ -52,13 +52,17 @@ const STORAGES: &[(StorageType, &[u8])] = &[
 
 const FIELDS: &[(FieldType, &[u8])] = &[(I8, &[0x78, 0x01]), (I32, &[0x7f, 0x00])];
 
+const LARGE_STORAGES: &[StorageType] = &[StorageType::Val(LARGE_REFERENCE)];
+
+const LARGE_FIELDS: &[FieldType] = &[LARGE_FIELD];
+
 #[test]
 fn fields(rt: HostRuntime) {
     let alloc = rt.alloc();
     check_all(&rt, alloc, STORAGES);
     check_all(&rt, alloc, FIELDS);
-    check_each(&rt, alloc, &[StorageType::Val(LARGE_REFERENCE)]);
-    check_each(&rt, alloc, &[LARGE_FIELD]);
+    check_each(&rt, alloc, LARGE_STORAGES);
+    check_each(&rt, alloc, LARGE_FIELDS);
 }
 
 /// A composite type, by its parts.

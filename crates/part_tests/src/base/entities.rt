@@ -204,6 +204,14 @@ const LARGE_ENTITIES: &[EntityType] = &[
     EntityType::Tag(LARGE_TAG),
 ];
 
+const LARGE_TABLES: &[TableType] = &[LARGE_TABLE, BOUNDED_TABLE];
+
+const UNBOUNDED_AND_BOUNDED: &[MemoryType] = &[LARGE_MEMORY, BOUNDED_MEMORY];
+
+const LARGE_GLOBALS: &[GlobalType] = &[LARGE_GLOBAL];
+
+const LARGE_TAGS: &[TagType] = &[LARGE_TAG];
+
 // Entities, and their parts by themselves.
 #[test]
 fn entities(rt: HostRuntime) {
@@ -220,8 +228,8 @@ fn entities(rt: HostRuntime) {
 fn large_entities(rt: HostRuntime) {
     let alloc = rt.alloc();
     check_each(&rt, alloc, LARGE_ENTITIES);
-    check_each(&rt, alloc, &[LARGE_TABLE, BOUNDED_TABLE]);
-    check_each(&rt, alloc, &[LARGE_MEMORY, BOUNDED_MEMORY]);
-    check_each(&rt, alloc, &[LARGE_GLOBAL]);
-    check_each(&rt, alloc, &[LARGE_TAG]);
+    check_each(&rt, alloc, LARGE_TABLES);
+    check_each(&rt, alloc, UNBOUNDED_AND_BOUNDED);
+    check_each(&rt, alloc, LARGE_GLOBALS);
+    check_each(&rt, alloc, LARGE_TAGS);
 }

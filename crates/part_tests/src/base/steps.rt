@@ -39,8 +39,8 @@ pub enum Step<'a> {
     Begun(u32, &'a [u8], bool),
 }
 
-/// Whether the step is as it should be.
-fn is_well(alloc: Global, holder: &mut Held<'_>, step: Step<'_>) -> bool {
+/// Whether the step is as it should be. The sink has a byte.
+fn is_well(holder: &mut Held<'_>, sink: &mut Vec<u8>, step: Step<'_>) -> bool {
     match step {
         Step::Member(member, answer) => add_member(holder, member) == answer,
         Step::Piece(piece, answer) => write(holder, piece) == answer,
@@ -56,14 +56,12 @@ fn is_well(alloc: Global, holder: &mut Held<'_>, step: Step<'_>) -> bool {
         }
         Step::IsOpened(is_opened) => holder.is_opened() == is_opened,
         Step::Discard(was_begun) => holder.discard_unfinished() == was_begun,
-        Step::Whole(count, body, section) => {
-            is_whole(alloc, holder, (count, body), section) == Ok(true)
-        }
+        Step::Whole(count, body, section) => is_whole(holder, sink, (count, body), section),
         Step::Filled(count) => fill(holder, count) == DONE,
-        Step::Long(len, start) => is_long(alloc, holder, len, start) == Ok(true),
-        Step::List(text) => is_list(alloc, holder, text) == Ok(true),
+        Step::Long(len, start) => is_long(holder, sink, len, start),
+        Step::List(text) => is_list(holder, sink, text),
         Step::Begun(count, body, is_opened) => {
-            is_begun(alloc, holder, (count, body), is_opened) == Ok(true)
+            is_begun(holder, (count, body), is_opened) && is_refused(holder, sink)
         }
     }
 }
@@ -76,10 +74,12 @@ fn fill(holder: &mut Held<'_>, count: u32) -> Answer {
     Ok(())
 }
 
-fn is_long(alloc: Global, holder: &Held<'_>, len: usize, start: &[u8]) -> Result<bool, Fault> {
-    let mut section = Vec::new(alloc);
-    holder.encode_section(&mut section)?;
-    Ok(section.len() == len && section.as_slice().starts_with(start))
+fn is_long(holder: &Held<'_>, sink: &mut Vec<u8>, len: usize, start: &[u8]) -> bool {
+    let is_done = holder.encode_section(sink) == DONE;
+    match added(sink.as_slice()) {
+        Some(section) => is_done && section.len() == len && section.starts_with(start),
+        None => false,
+    }
 }
 
 /// So many members, and their bytes.
@@ -90,44 +90,42 @@ fn has(holder: &Held<'_>, members: Members<'_>) -> bool {
 }
 
 /// It is finished, and adds this section to a sink.
-fn is_whole(
-    alloc: Global,
-    holder: &Held<'_>,
-    members: Members<'_>,
-    section: &[u8],
-) -> Result<bool, Fault> {
-    let mut sink = begun(alloc)?;
-    holder.encode_section(&mut sink)?;
-    let is_finished = has(holder, members) && holder.is_finished();
-    Ok(is_finished && added(sink.as_slice()) == Some(section))
+fn is_whole(holder: &Held<'_>, sink: &mut Vec<u8>, members: Members<'_>, section: &[u8]) -> bool {
+    has(holder, members)
+        && holder.is_finished()
+        && holder.encode_section(sink) == DONE
+        && added(sink.as_slice()) == Some(section)
 }
 
-fn is_list(alloc: Global, holder: &Held<'_>, text: &[u8]) -> Result<bool, Fault> {
-    let mut sink = begun(alloc)?;
-    Lent(holder).encode(&mut sink)?;
-    Ok(added(sink.as_slice()) == Some(text))
+fn is_list(holder: &Held<'_>, sink: &mut Vec<u8>, text: &[u8]) -> bool {
+    Lent(holder).encode(sink) == DONE && added(sink.as_slice()) == Some(text)
 }
 
-/// It is not finished: neither a section nor a list of members comes of it.
-fn is_begun(
-    alloc: Global,
-    holder: &Held<'_>,
-    members: Members<'_>,
-    is_opened: bool,
-) -> Result<bool, Fault> {
-    let mut sink = begun(alloc)?;
-    let is_refused = holder.encode_section(&mut sink) == UNFINISHED
+fn is_begun(holder: &Held<'_>, members: Members<'_>, is_opened: bool) -> bool {
+    has(holder, members) && holder.is_opened() == is_opened && !holder.is_finished()
+}
+
+/// Neither a section nor a list of members comes of it.
+fn is_refused(holder: &Held<'_>, sink: &mut Vec<u8>) -> bool {
+    holder.encode_section(sink) == UNFINISHED
         && added(sink.as_slice()) == Some(&[])
-        && holder.encode(&mut sink) == UNFINISHED
-        && added(sink.as_slice()) == Some(&[]);
-    let is_begun = has(holder, members) && holder.is_opened() == is_opened;
-    Ok(is_refused && is_begun && !holder.is_finished())
+        && holder.encode(sink) == UNFINISHED
+        && added(sink.as_slice()) == Some(&[])
+}
+
+fn is_well_with_a_sink(
+    alloc: Global,
+    holder: &mut Held<'_>,
+    step: Step<'_>,
+) -> Result<bool, Fault> {
+    let mut sink = begun(alloc)?;
+    Ok(is_well(holder, &mut sink, step))
 }
 
 /// The first step that is not as it should be.
 pub fn first_wrong(alloc: Global, holder: &mut Held<'_>, steps: &[Step<'_>]) -> Option<usize> {
     for (i, step) in steps.iter().enumerate() {
-        if !is_well(alloc, holder, *step) {
+        if is_well_with_a_sink(alloc, holder, *step) != Ok(true) {
             return Some(i);
         }
     }

@@ -38,16 +38,23 @@ pub fn are(rt: &impl Abort, given: &[u8], wanted: &[u8]) {
     assert_eq!(rt; given, wanted);
 }
 
-// Each value is written behind a byte that the sink has, and its requests are refused in turn.
-pub fn check<T: Encode>(rt: &impl Abort, alloc: Global, value: &T, bytes: &[u8]) {
-    let sink = ok(rt, appended(alloc, value));
-    assert_eq!(rt; added(sink.as_slice()), Some(bytes));
-    let is_refused = if bytes.is_empty() {
+fn are_added(rt: &impl Abort, sink: &[u8], wanted: &[u8]) {
+    assert_eq!(rt; added(sink), Some(wanted));
+}
+
+fn sweep<T: Encode>(alloc: Global, value: &T, is_empty: bool) -> Result<bool, Fault> {
+    if is_empty {
         takes_no_memory(alloc, value)
     } else {
         sweep_encode(alloc, value)
-    };
-    is_well(rt, is_refused);
+    }
+}
+
+// Each value is written behind a byte that the sink has, and its requests are refused in turn.
+pub fn check<T: Encode>(rt: &impl Abort, alloc: Global, value: &T, bytes: &[u8]) {
+    let sink = ok(rt, appended(alloc, value));
+    are_added(rt, sink.as_slice(), bytes);
+    is_well(rt, sweep(alloc, value, bytes.is_empty()));
 }
 
 // The same of a value that the caller has no more use for.
@@ -149,23 +156,38 @@ fn values(rt: HostRuntime) {
     check_all(&rt, alloc, OPTIONS);
 }
 
+const PAIRS: &[((u32, &str), &[u8])] = &[((1, "a"), &[0x01, 0x01, 0x61])];
+
+const TAGGED: &[(Tagged<'static, u32>, &[u8])] = &[(Tagged(0x2a, &7), &[0x2a, 0x07])];
+
 #[test]
 fn lists_and_pairs(rt: HostRuntime) {
     let alloc = rt.alloc();
     check_all(&rt, alloc, BYTE_LISTS);
     check_all(&rt, alloc, LISTS);
     check_all(&rt, alloc, LISTS_OF_PAIRS);
-    check(&rt, alloc, &(1u32, "a"), &[0x01, 0x01, 0x61]);
-    check(&rt, alloc, &Tagged(0x2a, &7u32), &[0x2a, 0x07]);
+    check_all(&rt, alloc, PAIRS);
+    check_all(&rt, alloc, TAGGED);
 }
+
+const NOTHING: &[((), &[u8])] = &[((), &[])];
+
+const AS_IT_IS: &[(Verbatim<'static>, &[u8])] = &[
+    (Verbatim(&[]), &[]),
+    (Verbatim(&[0x80, 0x00]), &[0x80, 0x00]),
+];
+
+const TOGETHER: &[((Verbatim<'static>, ((), u32)), &[u8])] = &[(
+    (Verbatim(&[0x01]), ((), 2)),
+    &[0x01, 0x02],
+)];
 
 #[test]
 fn as_they_are(rt: HostRuntime) {
     let alloc = rt.alloc();
-    check(&rt, alloc, &(), &[]);
-    check(&rt, alloc, &Verbatim(&[]), &[]);
-    check(&rt, alloc, &Verbatim(&[0x80, 0x00]), &[0x80, 0x00]);
-    check(&rt, alloc, &(Verbatim(&[0x01]), ((), 2u32)), &[0x01, 0x02]);
+    check_all(&rt, alloc, NOTHING);
+    check_all(&rt, alloc, AS_IT_IS);
+    check_all(&rt, alloc, TOGETHER);
 }
 
 pub fn encode_copied(values: &[usize], sink: &mut Vec<u8>) -> Result<(), Fault> {

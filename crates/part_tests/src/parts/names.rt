@@ -1,7 +1,7 @@
 //! Names of imports and exports.
 
 use crate::accepted::ok;
-use crate::base::values::check_made;
+use crate::base::values::{check, check_made};
 use crate::swept;
 use refusing::Refusing;
 use std::alloc::{Allocator, Global};
@@ -141,9 +141,13 @@ fn has_no_options(name: &ComponentExternName) -> bool {
 }
 
 /// No option is there, and it is written as the name alone.
+fn is_plain(rt: &impl Abort, alloc: Global, name: &ComponentExternName) {
+    assert!(rt; has_no_options(name));
+    check(rt, alloc, name, &[0x00, 0x01, 0x66]);
+}
+
 fn check_plain(rt: &impl Abort, alloc: Global, name: ComponentExternName) {
-    assert!(rt; has_no_options(&name));
-    check_made(rt, alloc, name, &[0x00, 0x01, 0x66]);
+    is_plain(rt, alloc, &name);
 }
 
 fn plain_text(rt: &impl Abort, alloc: Global) -> String {

@@ -42,11 +42,13 @@ fn append(section: &Own<'_>, sink: &mut Vec<u8>) -> Result<(), Fault> {
     section.append_to_component(sink)
 }
 
+const ONE_BYTE: Own<'static> = Own(&[0x2a]);
+
 #[test]
 fn own_sections(rt: HostRuntime) {
     let mut sink = Vec::new(rt.alloc());
-    ok(&rt, append(&Own(&[0x2a]), &mut sink));
+    ok(&rt, append(&ONE_BYTE, &mut sink));
     are(&rt, sink.as_slice(), &[0x63, 0x2a]);
-    is_well(&rt, sweep_section(rt.alloc(), &Own(&[0])));
+    is_well(&rt, sweep_section(rt.alloc(), &ONE_BYTE));
     is_well(&rt, sweep_section(rt.alloc(), &Own(NAME.as_bytes())));
 }

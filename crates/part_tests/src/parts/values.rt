@@ -1,33 +1,37 @@
-use crate::base::values::check;
+use crate::base::values::check_all;
 use std::alloc::Global;
 use sweeping::hexed::text;
 use wenc_base::{Fault, Lent, WithSize};
 
+const CONTENT: (u32, &str, bool) = (128, "a", false);
+
+const TRIPLES: &[((u32, &str, bool), &[u8])] = &[(CONTENT, &[0x80, 0x01, 0x01, 0x61, 0x00])];
+
+const NESTED: &[((&str, u32, Option<bool>), &[u8])] = &[(
+    ("b", 1, Some(true)),
+    &[0x01, 0x62, 0x01, 0x01, 0x01],
+)];
+
+const LENT: &[(Lent<'static, u32>, &[u8])] = &[(Lent(&128), &[0x80, 0x01])];
+
+const NO_SIZE: &[(WithSize<'static, ()>, &[u8])] = &[(WithSize(&()), &[0x00])];
+
+const SIZED: &[(WithSize<'static, &str>, &[u8])] = &[(WithSize(&"ab"), &[0x03, 0x02, 0x61, 0x62])];
+
+const SIZED_TRIPLES: &[(WithSize<'static, (u32, &str, bool)>, &[u8])] = &[(
+    WithSize(&CONTENT),
+    &[0x05, 0x80, 0x01, 0x01, 0x61, 0x00],
+)];
+
 #[test]
 fn triples_and_sizes(rt: HostRuntime) {
     let alloc = rt.alloc();
-    check(
-        &rt,
-        alloc,
-        &(128u32, "a", false),
-        &[0x80, 0x01, 0x01, 0x61, 0x00],
-    );
-    check(
-        &rt,
-        alloc,
-        &("b", 1u32, Some(true)),
-        &[0x01, 0x62, 0x01, 0x01, 0x01],
-    );
-    check(&rt, alloc, &Lent(&128u32), &[0x80, 0x01]);
-    check(&rt, alloc, &WithSize(&()), &[0x00]);
-    check(&rt, alloc, &WithSize(&"ab"), &[0x03, 0x02, 0x61, 0x62]);
-    let content = (128u32, "a", false);
-    check(
-        &rt,
-        alloc,
-        &WithSize(&content),
-        &[0x05, 0x80, 0x01, 0x01, 0x61, 0x00],
-    );
+    check_all(&rt, alloc, TRIPLES);
+    check_all(&rt, alloc, NESTED);
+    check_all(&rt, alloc, LENT);
+    check_all(&rt, alloc, NO_SIZE);
+    check_all(&rt, alloc, SIZED);
+    check_all(&rt, alloc, SIZED_TRIPLES);
 }
 
 // Behind 126 bytes and their number the size has one byte, and behind 127 it has two.
