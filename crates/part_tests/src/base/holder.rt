@@ -1,10 +1,12 @@
 //! Members of a holder.
 
 use crate::accepted::{all_are_well, ok};
-use crate::base::calls::{Lent, Listed, Member, Piece};
+use crate::base::calls::{Held, Lent, Listed, Member, Piece};
 use crate::base::refusals::LARGE;
 use crate::base::steps::{DONE, MANY, Step, UNFINISHED, first_wrong};
 use refusing::Refusing;
+use std::alloc::Global;
+use std::process::Abort;
 use wenc_base::{Fault, Holder, section_size};
 
 type Size = (u32, u64, Result<u32, Fault>);
@@ -327,6 +329,22 @@ const COPIES: &[(&[Step<'static>], &[Of<'static>])] = &[
     ),
 ];
 
+fn check_both(
+    rt: &impl Abort,
+    alloc: Global,
+    source: &mut Held<'_>,
+    copy: &mut Held<'_>,
+    steps: &[Of<'_>],
+) {
+    for of in steps {
+        let wrong = match of {
+            Of::Source(steps) => first_wrong(alloc, source, steps),
+            Of::Copy(steps) => first_wrong(alloc, copy, steps),
+        };
+        all_are_well(rt, "copied", wrong);
+    }
+}
+
 #[test]
 fn steps_with_copies(rt: HostRuntime) {
     let alloc = rt.alloc();
@@ -335,12 +353,6 @@ fn steps_with_copies(rt: HostRuntime) {
         let mut source = Holder::new(&heap);
         all_are_well(&rt, "before", first_wrong(alloc, &mut source, before));
         let mut copy = ok(&rt, source.clone());
-        for of in *then {
-            let wrong = match of {
-                Of::Source(steps) => first_wrong(alloc, &mut source, steps),
-                Of::Copy(steps) => first_wrong(alloc, &mut copy, steps),
-            };
-            all_are_well(&rt, "copied", wrong);
-        }
+        check_both(&rt, alloc, &mut source, &mut copy, then);
     }
 }

@@ -6,6 +6,7 @@ use crate::base::steps::{DONE, Step, first_wrong};
 use crate::swept::{check, check_call};
 use refusing::Refusing;
 use std::alloc::{Allocator, Global};
+use std::process::Abort;
 use sweeping::members::{Adds, Members, started, sweep_calls, sweep_clones};
 use sweeping::{Appends, LARGE, TEXT};
 use wenc_base::{Encode, Fault, Holder};
@@ -182,15 +183,26 @@ const NONE_IS_TAKEN: &[(u32, &[Step<'static>], &[Step<'static>])] = &[
     (8, BEGUN, EIGHT_ARE_LEFT),
 ];
 
+/// Takes the first steps with memory, and then the others without.
+fn check_steps(
+    rt: &impl Abort,
+    alloc: Global,
+    heap: &Refusing,
+    holder: &mut Held<'_>,
+    before: &[Step<'_>],
+    steps: &[Step<'_>],
+) {
+    all_are_well(rt, "before", first_wrong(alloc, holder, before));
+    heap.refuse_all();
+    all_are_well(rt, "then", first_wrong(alloc, holder, steps));
+    assert!(rt; heap.requests() == 0);
+}
+
 #[test]
 fn no_memory_is_taken(rt: HostRuntime) {
-    let alloc = rt.alloc();
     for (count, before, steps) in NONE_IS_TAKEN {
-        let heap = Refusing::new(alloc);
+        let heap = Refusing::new(rt.alloc());
         let mut members: Whole = ok(&rt, started(&heap, *count));
-        all_are_well(&rt, "before", first_wrong(alloc, &mut members.0, before));
-        heap.refuse_all();
-        all_are_well(&rt, "then", first_wrong(alloc, &mut members.0, steps));
-        assert!(rt; heap.requests() == 0);
+        check_steps(&rt, rt.alloc(), &heap, &mut members.0, before, steps);
     }
 }
