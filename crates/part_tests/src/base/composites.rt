@@ -353,21 +353,23 @@ fn new_functions(rt: HostRuntime) {
     assert!(rt; false);
 }
 
-/// Parameters, results, and what comes of the function without memory: one without types takes
-/// none.
-const WITHOUT_MEMORY: &[(&[ValType], &[ValType], Result<bool, Fault>)] = &[
-    (LARGE_PARAMS, LARGE_RESULTS, Err(REFUSED)),
-    (LARGE_PARAMS, &[], Err(REFUSED)),
-    (&[], LARGE_RESULTS, Err(REFUSED)),
-    (&[], &[], Ok(true)),
+/// Whether memory is refused, parameters, results, and what comes of the function. One without types
+/// takes no memory.
+const MADE: &[(bool, &[ValType], &[ValType], Result<bool, Fault>)] = &[
+    (false, PARAMS, RESULTS, Ok(true)),
+    (true, LARGE_PARAMS, LARGE_RESULTS, Err(REFUSED)),
+    (true, LARGE_PARAMS, &[], Err(REFUSED)),
+    (true, &[], LARGE_RESULTS, Err(REFUSED)),
+    (true, &[], &[], Ok(true)),
 ];
 
 #[test]
 fn types_of_functions(rt: HostRuntime) {
-    let heap = Refusing::new(rt.alloc());
-    assert!(rt; has_its_types(&heap, PARAMS, RESULTS) == Ok(true));
-    heap.refuse_all();
-    for (params, results, wanted) in WITHOUT_MEMORY {
+    for (is_refused, params, results, wanted) in MADE {
+        let heap = Refusing::new(rt.alloc());
+        if *is_refused {
+            heap.refuse_all();
+        }
         assert!(rt; has_its_types(&heap, params, results) == *wanted);
     }
 }

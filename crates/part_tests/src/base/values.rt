@@ -195,28 +195,25 @@ pub fn encode_copied(values: &[usize], sink: &mut Vec<u8>) -> Result<(), Fault> 
     Ok(())
 }
 
-// Three values in one sink.
-fn joined(alloc: Global) -> Result<Vec<u8>, Fault> {
-    let mut sink = encoded(alloc, &"f")?;
-    encode(&"", &mut sink)?;
-    encode(&[0xaau8].as_slice(), &mut sink)?;
-    Ok(sink)
+fn append_texts(sink: &mut Vec<u8>) -> Result<(), Fault> {
+    encode(&"", sink)?;
+    encode(&[0xaau8].as_slice(), sink)
 }
 
-fn of_iterators(alloc: Global) -> Result<Vec<u8>, Fault> {
-    let mut sink = begun(alloc)?;
-    encode_vector([1, 128, 3].to_vec(alloc)?, &mut sink)?;
-    encode_copied(&[], &mut sink)?;
-    Ok(sink)
+fn append_lists(alloc: Global, sink: &mut Vec<u8>) -> Result<(), Fault> {
+    encode_vector([1, 128, 3].to_vec(alloc)?, sink)?;
+    encode_copied(&[], sink)
 }
 
 const TWO_LISTS: &[u8] = &[0x99, 0x03, 0x01, 0x80, 0x01, 0x03, 0x00];
 
 #[test]
 fn in_one_sink(rt: HostRuntime) {
-    let sink = ok(&rt, joined(rt.alloc()));
-    are(&rt, sink.as_slice(), &[0x01, 0x66, 0x00, 0x01, 0xaa]);
-    let lists = ok(&rt, of_iterators(rt.alloc()));
+    let mut texts = ok(&rt, encoded(rt.alloc(), &"f"));
+    ok(&rt, append_texts(&mut texts));
+    are(&rt, texts.as_slice(), &[0x01, 0x66, 0x00, 0x01, 0xaa]);
+    let mut lists = ok(&rt, begun(rt.alloc()));
+    ok(&rt, append_lists(rt.alloc(), &mut lists));
     are(&rt, lists.as_slice(), TWO_LISTS);
 }
 

@@ -108,17 +108,10 @@ fn resource_drop(section: &mut CanonicalFunctionSection) -> Result<(), Fault> {
     section.resource_drop(0)
 }
 
-/// What the section's holder is made of: all bytes, how many of them are kept, its number of rows,
-/// and whether it is finished.
-fn parts(section: CanonicalFunctionSection) -> (Vec<u8>, usize, u32, bool) {
-    section.into_holder().into_parts()
-}
-
-/// The holder is finished, with two rows and these bytes, of which two are kept.
-fn gives_back(rt: &impl Abort, section: CanonicalFunctionSection, wanted: &[u8]) {
-    let (bytes, kept, count, is_finished) = parts(section);
-    assert!(rt; kept == 2 && count == 2 && is_finished);
-    assert!(rt; bytes.as_slice() == wanted);
+/// Whether the section's holder is finished, with two rows and these bytes, of which two are kept.
+fn gives_back(section: CanonicalFunctionSection, wanted: &[u8]) -> bool {
+    let (bytes, kept, count, is_finished) = section.into_holder().into_parts();
+    (bytes.as_slice(), kept, count, is_finished) == (wanted, 2, 2, true)
 }
 
 #[test]
@@ -128,5 +121,5 @@ fn behind_bytes_that_are_kept(rt: HostRuntime) {
     check(&rt, alloc, &section, &[0x02, 0x01, 0x05]);
     ok(&rt, resource_drop(&mut section));
     check(&rt, alloc, &section, &[0x04, 0x02, 0x05, 0x03, 0x00]);
-    gives_back(&rt, section, &[0xaa, 0xbb, 0x05, 0x03, 0x00]);
+    assert!(rt; gives_back(section, &[0xaa, 0xbb, 0x05, 0x03, 0x00]));
 }

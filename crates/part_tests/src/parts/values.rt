@@ -1,3 +1,4 @@
+use crate::accepted::ok;
 use crate::base::values::check_all;
 use std::alloc::Global;
 use sweeping::hexed::text;
@@ -39,20 +40,20 @@ const LONG: &[(usize, usize, &str)] = &[(126, 258, "ee7f7e0000"), (127, 262, "ee
 
 const ZEROS: [u8; 127] = [0; 127];
 
-// The text of so many bytes with their size, its length and its start.
-fn is_long(alloc: Global, count: usize, len: usize, start: &str) -> Result<bool, Fault> {
+// The text of so many bytes with their size.
+fn long(alloc: Global, count: usize) -> Result<String, Fault> {
     let content = ZEROS.as_slice().get(..count).unwrap_or(&[]);
-    let long = text(alloc, &WithSize(&content))?;
-    let long = long.as_str();
-    Ok(long.len() == len && long.get(..10).unwrap_or("") == start)
+    text(alloc, &WithSize(&content))
+}
+
+fn begins(text: &str, len: usize, start: &str) -> bool {
+    text.len() == len && text.starts_with(start)
 }
 
 #[test]
 fn long_sizes(rt: HostRuntime) {
     for (count, len, start) in LONG {
-        assert!(rt;
-            is_long(rt.alloc(), *count, *len, start) == Ok(true),
-            "{start}"
-        );
+        let text = ok(&rt, long(rt.alloc(), *count));
+        assert!(rt; begins(text.as_str(), *len, start), "{start}");
     }
 }
