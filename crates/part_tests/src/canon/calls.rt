@@ -9,32 +9,60 @@ use wenc_parts::ComponentValType;
 
 type Section<'a> = CanonicalFunctionSection<&'a Refusing>;
 
-/// Functions that are lifted or lowered, and those of resources.
+/// Functions that have options, without them.
 #[derive(Clone, Copy)]
-pub enum Function<'a> {
-    Lift(u32, u32, &'a [CanonicalOption]),
-    Lower(u32, &'a [CanonicalOption]),
-    ResourceNew(u32),
-    ResourceDrop(u32),
-    ResourceRep(u32),
+pub enum WithOptions {
+    Lift(u32, u32),
+    Lower(u32),
+    TaskReturn(Option<ComponentValType>),
+    StreamRead(u32),
+    StreamWrite(u32),
+    FutureRead(u32),
+    FutureWrite(u32),
+    ErrorContextNew,
+    ErrorContextDebugMessage,
 }
 
-fn add_function(to: &mut Section<'_>, call: Function<'_>) -> Result<(), Fault> {
+fn add_with_options(
+    to: &mut Section<'_>,
+    call: WithOptions,
+    options: &[CanonicalOption],
+) -> Result<(), Fault> {
+    let options = options.iter().copied();
     match call {
-        Function::Lift(function, ty, options) => to.lift(function, ty, options.iter().copied()),
-        Function::Lower(function, options) => to.lower(function, options.iter().copied()),
-        Function::ResourceNew(ty) => to.resource_new(ty),
-        Function::ResourceDrop(ty) => to.resource_drop(ty),
-        Function::ResourceRep(ty) => to.resource_rep(ty),
+        WithOptions::Lift(function, ty) => to.lift(function, ty, options),
+        WithOptions::Lower(function) => to.lower(function, options),
+        WithOptions::TaskReturn(ty) => to.task_return(ty, options),
+        WithOptions::StreamRead(ty) => to.stream_read(ty, options),
+        WithOptions::StreamWrite(ty) => to.stream_write(ty, options),
+        WithOptions::FutureRead(ty) => to.future_read(ty, options),
+        WithOptions::FutureWrite(ty) => to.future_write(ty, options),
+        WithOptions::ErrorContextNew => to.error_context_new(options),
+        WithOptions::ErrorContextDebugMessage => to.error_context_debug_message(options),
+    }
+}
+
+/// Those of resources.
+#[derive(Clone, Copy)]
+pub enum Resource {
+    New(u32),
+    Drop(u32),
+    Rep(u32),
+}
+
+fn add_resource(to: &mut Section<'_>, call: Resource) -> Result<(), Fault> {
+    match call {
+        Resource::New(ty) => to.resource_new(ty),
+        Resource::Drop(ty) => to.resource_drop(ty),
+        Resource::Rep(ty) => to.resource_rep(ty),
     }
 }
 
 /// Those of tasks and subtasks.
 #[derive(Clone, Copy)]
-pub enum Task<'a> {
+pub enum Task {
     BackpressureInc,
     BackpressureDec,
-    Return(Option<ComponentValType>, &'a [CanonicalOption]),
     Cancel,
     ContextGet(ValType, u32),
     ContextSet(ValType, u32),
@@ -42,11 +70,10 @@ pub enum Task<'a> {
     SubtaskCancel(bool),
 }
 
-fn add_task(to: &mut Section<'_>, call: Task<'_>) -> Result<(), Fault> {
+fn add_task(to: &mut Section<'_>, call: Task) -> Result<(), Fault> {
     match call {
         Task::BackpressureInc => to.backpressure_inc(),
         Task::BackpressureDec => to.backpressure_dec(),
-        Task::Return(ty, options) => to.task_return(ty, options.iter().copied()),
         Task::Cancel => to.task_cancel(),
         Task::ContextGet(ty, slot) => to.context_get(ty, slot),
         Task::ContextSet(ty, slot) => to.context_set(ty, slot),
@@ -57,10 +84,8 @@ fn add_task(to: &mut Section<'_>, call: Task<'_>) -> Result<(), Fault> {
 
 /// Those of streams.
 #[derive(Clone, Copy)]
-pub enum Stream<'a> {
+pub enum Stream {
     New(u32),
-    Read(u32, &'a [CanonicalOption]),
-    Write(u32, &'a [CanonicalOption]),
     Forward(u32),
     CancelRead(u32, bool),
     CancelWrite(u32, bool),
@@ -68,11 +93,9 @@ pub enum Stream<'a> {
     DropWritable(u32),
 }
 
-fn add_stream(to: &mut Section<'_>, call: Stream<'_>) -> Result<(), Fault> {
+fn add_stream(to: &mut Section<'_>, call: Stream) -> Result<(), Fault> {
     match call {
         Stream::New(ty) => to.stream_new(ty),
-        Stream::Read(ty, options) => to.stream_read(ty, options.iter().copied()),
-        Stream::Write(ty, options) => to.stream_write(ty, options.iter().copied()),
         Stream::Forward(ty) => to.stream_forward(ty),
         Stream::CancelRead(ty, waits) => to.stream_cancel_read(ty, waits),
         Stream::CancelWrite(ty, waits) => to.stream_cancel_write(ty, waits),
@@ -83,10 +106,8 @@ fn add_stream(to: &mut Section<'_>, call: Stream<'_>) -> Result<(), Fault> {
 
 /// Those of futures.
 #[derive(Clone, Copy)]
-pub enum Future<'a> {
+pub enum Future {
     New(u32),
-    Read(u32, &'a [CanonicalOption]),
-    Write(u32, &'a [CanonicalOption]),
     Forward(u32),
     CancelRead(u32, bool),
     CancelWrite(u32, bool),
@@ -94,11 +115,9 @@ pub enum Future<'a> {
     DropWritable(u32),
 }
 
-fn add_future(to: &mut Section<'_>, call: Future<'_>) -> Result<(), Fault> {
+fn add_future(to: &mut Section<'_>, call: Future) -> Result<(), Fault> {
     match call {
         Future::New(ty) => to.future_new(ty),
-        Future::Read(ty, options) => to.future_read(ty, options.iter().copied()),
-        Future::Write(ty, options) => to.future_write(ty, options.iter().copied()),
         Future::Forward(ty) => to.future_forward(ty),
         Future::CancelRead(ty, waits) => to.future_cancel_read(ty, waits),
         Future::CancelWrite(ty, waits) => to.future_cancel_write(ty, waits),
@@ -109,9 +128,7 @@ fn add_future(to: &mut Section<'_>, call: Future<'_>) -> Result<(), Fault> {
 
 /// Those of error contexts and of waitables.
 #[derive(Clone, Copy)]
-pub enum Waitable<'a> {
-    ErrorContextNew(&'a [CanonicalOption]),
-    ErrorContextDebugMessage(&'a [CanonicalOption]),
+pub enum Waitable {
     ErrorContextDrop,
     SetNew,
     SetWait(u32),
@@ -120,12 +137,8 @@ pub enum Waitable<'a> {
     Join,
 }
 
-fn add_waitable(to: &mut Section<'_>, call: Waitable<'_>) -> Result<(), Fault> {
+fn add_waitable(to: &mut Section<'_>, call: Waitable) -> Result<(), Fault> {
     match call {
-        Waitable::ErrorContextNew(options) => to.error_context_new(options.iter().copied()),
-        Waitable::ErrorContextDebugMessage(options) => {
-            to.error_context_debug_message(options.iter().copied())
-        }
         Waitable::ErrorContextDrop => to.error_context_drop(),
         Waitable::SetNew => to.waitable_set_new(),
         Waitable::SetWait(memory) => to.waitable_set_wait(memory),
@@ -172,18 +185,20 @@ fn add_thread(to: &mut Section<'_>, call: Thread) -> Result<(), Fault> {
 /// Any of these calls.
 #[derive(Clone, Copy)]
 pub enum Call<'a> {
-    Function(Function<'a>),
-    Task(Task<'a>),
-    Stream(Stream<'a>),
-    Future(Future<'a>),
-    Waitable(Waitable<'a>),
+    WithOptions(WithOptions, &'a [CanonicalOption]),
+    Resource(Resource),
+    Task(Task),
+    Stream(Stream),
+    Future(Future),
+    Waitable(Waitable),
     Thread(Thread),
 }
 
 impl<'a, 'b> Adds<Functions<'a>> for Call<'b> {
     fn add(&self, to: &mut Functions<'a>) -> Result<(), Fault> {
         match *self {
-            Call::Function(call) => add_function(&mut to.0, call),
+            Call::WithOptions(call, options) => add_with_options(&mut to.0, call, options),
+            Call::Resource(call) => add_resource(&mut to.0, call),
             Call::Task(call) => add_task(&mut to.0, call),
             Call::Stream(call) => add_stream(&mut to.0, call),
             Call::Future(call) => add_future(&mut to.0, call),

@@ -1,7 +1,7 @@
 //! Options and slots.
 
 use crate::base::values::check_all;
-use crate::canon::calls::{Call, Function, Task};
+use crate::canon::calls::{Call, Task, WithOptions};
 use crate::canon::rows::check_rows;
 use crate::swept::check_each;
 use sweeping::LARGE;
@@ -25,53 +25,53 @@ const OPTIONS: &[(CanonicalOption, &[u8])] = &[
 /// The row of a function that is lowered with this option.
 const LOWERED: &[(Call<'static>, &[u8])] = &[
     (
-        Call::Function(Function::Lower(0, &[CanonicalOption::UTF8])),
+        Call::WithOptions(WithOptions::Lower(0), &[CanonicalOption::UTF8]),
         &[0x01, 0x00, 0x08, 0x06, 0x01, 0x01, 0x00, 0x00, 0x01, 0x00],
     ),
     (
-        Call::Function(Function::Lower(0, &[CanonicalOption::UTF16])),
+        Call::WithOptions(WithOptions::Lower(0), &[CanonicalOption::UTF16]),
         &[0x01, 0x00, 0x08, 0x06, 0x01, 0x01, 0x00, 0x00, 0x01, 0x01],
     ),
     (
-        Call::Function(Function::Lower(0, &[CanonicalOption::CompactUTF16])),
+        Call::WithOptions(WithOptions::Lower(0), &[CanonicalOption::CompactUTF16]),
         &[0x01, 0x00, 0x08, 0x06, 0x01, 0x01, 0x00, 0x00, 0x01, 0x02],
     ),
     (
-        Call::Function(Function::Lower(0, &[CanonicalOption::Memory(128)])),
+        Call::WithOptions(WithOptions::Lower(0), &[CanonicalOption::Memory(128)]),
         &[
             0x01, 0x00, 0x08, 0x08, 0x01, 0x01, 0x00, 0x00, 0x01, 0x03, 0x80, 0x01,
         ],
     ),
     (
-        Call::Function(Function::Lower(0, &[CanonicalOption::Realloc(128)])),
+        Call::WithOptions(WithOptions::Lower(0), &[CanonicalOption::Realloc(128)]),
         &[
             0x01, 0x00, 0x08, 0x08, 0x01, 0x01, 0x00, 0x00, 0x01, 0x04, 0x80, 0x01,
         ],
     ),
     (
-        Call::Function(Function::Lower(0, &[CanonicalOption::PostReturn(128)])),
+        Call::WithOptions(WithOptions::Lower(0), &[CanonicalOption::PostReturn(128)]),
         &[
             0x01, 0x00, 0x08, 0x08, 0x01, 0x01, 0x00, 0x00, 0x01, 0x05, 0x80, 0x01,
         ],
     ),
     (
-        Call::Function(Function::Lower(0, &[CanonicalOption::Async])),
+        Call::WithOptions(WithOptions::Lower(0), &[CanonicalOption::Async]),
         &[0x01, 0x00, 0x08, 0x06, 0x01, 0x01, 0x00, 0x00, 0x01, 0x06],
     ),
     (
-        Call::Function(Function::Lower(0, &[CanonicalOption::Callback(128)])),
+        Call::WithOptions(WithOptions::Lower(0), &[CanonicalOption::Callback(128)]),
         &[
             0x01, 0x00, 0x08, 0x08, 0x01, 0x01, 0x00, 0x00, 0x01, 0x07, 0x80, 0x01,
         ],
     ),
     (
-        Call::Function(Function::Lower(0, &[CanonicalOption::CoreType(128)])),
+        Call::WithOptions(WithOptions::Lower(0), &[CanonicalOption::CoreType(128)]),
         &[
             0x01, 0x00, 0x08, 0x08, 0x01, 0x01, 0x00, 0x00, 0x01, 0x08, 0x80, 0x01,
         ],
     ),
     (
-        Call::Function(Function::Lower(0, &[CanonicalOption::Gc])),
+        Call::WithOptions(WithOptions::Lower(0), &[CanonicalOption::Gc]),
         &[0x01, 0x00, 0x08, 0x06, 0x01, 0x01, 0x00, 0x00, 0x01, 0x09],
     ),
 ];

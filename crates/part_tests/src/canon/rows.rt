@@ -3,7 +3,7 @@
 //! size that number once more.
 
 use crate::accepted::is_well;
-use crate::canon::calls::{Call, Function, Future, Stream, Task, Thread, Waitable};
+use crate::canon::calls::{Call, Future, Resource, Stream, Task, Thread, Waitable, WithOptions};
 use crate::canon::functions::{Functions, LONG};
 use refusing::Refusing;
 use std::alloc::Global;
@@ -26,37 +26,37 @@ const GC: &[CanonicalOption] = &[CanonicalOption::Gc];
 
 const FUNCTIONS: &[(Call<'static>, &[u8])] = &[
     (
-        Call::Function(Function::Lift(128, 10, BOTH)),
+        Call::WithOptions(WithOptions::Lift(128, 10), BOTH),
         &[
             0x01, 0x00, 0x08, 0x0a, 0x01, 0x00, 0x00, 0x80, 0x01, 0x02, 0x00, 0x03, 0x00, 0x0a,
         ],
     ),
     (
-        Call::Function(Function::Lower(128, WAITS)),
+        Call::WithOptions(WithOptions::Lower(128), WAITS),
         &[
             0x01, 0x00, 0x08, 0x08, 0x01, 0x01, 0x00, 0x80, 0x01, 0x02, 0x00, 0x06,
         ],
     ),
     (
-        Call::Function(Function::ResourceNew(128)),
+        Call::Resource(Resource::New(128)),
         &[0x01, 0x00, 0x08, 0x04, 0x01, 0x02, 0x80, 0x01],
     ),
     (
-        Call::Function(Function::ResourceDrop(128)),
+        Call::Resource(Resource::Drop(128)),
         &[0x01, 0x00, 0x08, 0x04, 0x01, 0x03, 0x80, 0x01],
     ),
     (
-        Call::Function(Function::ResourceRep(128)),
+        Call::Resource(Resource::Rep(128)),
         &[0x01, 0x00, 0x08, 0x04, 0x01, 0x04, 0x80, 0x01],
     ),
 ];
 
 const LONG_FUNCTIONS: &[Call<'static>] = &[
-    Call::Function(Function::Lift(LARGE, LARGE, LONG)),
-    Call::Function(Function::Lower(LARGE, LONG)),
-    Call::Function(Function::ResourceNew(LARGE)),
-    Call::Function(Function::ResourceDrop(LARGE)),
-    Call::Function(Function::ResourceRep(LARGE)),
+    Call::WithOptions(WithOptions::Lift(LARGE, LARGE), LONG),
+    Call::WithOptions(WithOptions::Lower(LARGE), LONG),
+    Call::Resource(Resource::New(LARGE)),
+    Call::Resource(Resource::Drop(LARGE)),
+    Call::Resource(Resource::Rep(LARGE)),
 ];
 
 const TASKS: &[(Call<'static>, &[u8])] = &[
@@ -69,7 +69,7 @@ const TASKS: &[(Call<'static>, &[u8])] = &[
         &[0x01, 0x00, 0x08, 0x02, 0x01, 0x25],
     ),
     (
-        Call::Task(Task::Return(STRING, BOTH)),
+        Call::WithOptions(WithOptions::TaskReturn(STRING), BOTH),
         &[
             0x01, 0x00, 0x08, 0x08, 0x01, 0x09, 0x00, 0x73, 0x02, 0x00, 0x03, 0x00,
         ],
@@ -99,8 +99,11 @@ const TASKS: &[(Call<'static>, &[u8])] = &[
 const LONG_TASKS: &[Call<'static>] = &[
     Call::Task(Task::BackpressureInc),
     Call::Task(Task::BackpressureDec),
-    Call::Task(Task::Return(Some(ComponentValType::Type(LARGE)), LONG)),
-    Call::Task(Task::Return(None, LONG)),
+    Call::WithOptions(
+        WithOptions::TaskReturn(Some(ComponentValType::Type(LARGE))),
+        LONG,
+    ),
+    Call::WithOptions(WithOptions::TaskReturn(None), LONG),
     Call::Task(Task::Cancel),
     Call::Task(Task::ContextGet(ValType::I32, LARGE)),
     Call::Task(Task::ContextSet(ValType::I32, LARGE)),
@@ -114,11 +117,11 @@ const STREAMS: &[(Call<'static>, &[u8])] = &[
         &[0x01, 0x00, 0x08, 0x04, 0x01, 0x0e, 0x80, 0x01],
     ),
     (
-        Call::Stream(Stream::Read(7, WAITS)),
+        Call::WithOptions(WithOptions::StreamRead(7), WAITS),
         &[0x01, 0x00, 0x08, 0x06, 0x01, 0x0f, 0x07, 0x02, 0x00, 0x06],
     ),
     (
-        Call::Stream(Stream::Write(7, WAITS)),
+        Call::WithOptions(WithOptions::StreamWrite(7), WAITS),
         &[0x01, 0x00, 0x08, 0x06, 0x01, 0x10, 0x07, 0x02, 0x00, 0x06],
     ),
     (
@@ -145,8 +148,8 @@ const STREAMS: &[(Call<'static>, &[u8])] = &[
 
 const LONG_STREAMS: &[Call<'static>] = &[
     Call::Stream(Stream::New(LARGE)),
-    Call::Stream(Stream::Read(LARGE, LONG)),
-    Call::Stream(Stream::Write(LARGE, LONG)),
+    Call::WithOptions(WithOptions::StreamRead(LARGE), LONG),
+    Call::WithOptions(WithOptions::StreamWrite(LARGE), LONG),
     Call::Stream(Stream::Forward(LARGE)),
     Call::Stream(Stream::CancelRead(LARGE, true)),
     Call::Stream(Stream::CancelWrite(LARGE, true)),
@@ -160,11 +163,11 @@ const FUTURES: &[(Call<'static>, &[u8])] = &[
         &[0x01, 0x00, 0x08, 0x04, 0x01, 0x15, 0x80, 0x01],
     ),
     (
-        Call::Future(Future::Read(7, WAITS)),
+        Call::WithOptions(WithOptions::FutureRead(7), WAITS),
         &[0x01, 0x00, 0x08, 0x06, 0x01, 0x16, 0x07, 0x02, 0x00, 0x06],
     ),
     (
-        Call::Future(Future::Write(7, WAITS)),
+        Call::WithOptions(WithOptions::FutureWrite(7), WAITS),
         &[0x01, 0x00, 0x08, 0x06, 0x01, 0x17, 0x07, 0x02, 0x00, 0x06],
     ),
     (
@@ -191,8 +194,8 @@ const FUTURES: &[(Call<'static>, &[u8])] = &[
 
 const LONG_FUTURES: &[Call<'static>] = &[
     Call::Future(Future::New(LARGE)),
-    Call::Future(Future::Read(LARGE, LONG)),
-    Call::Future(Future::Write(LARGE, LONG)),
+    Call::WithOptions(WithOptions::FutureRead(LARGE), LONG),
+    Call::WithOptions(WithOptions::FutureWrite(LARGE), LONG),
     Call::Future(Future::Forward(LARGE)),
     Call::Future(Future::CancelRead(LARGE, true)),
     Call::Future(Future::CancelWrite(LARGE, true)),
@@ -202,11 +205,11 @@ const LONG_FUTURES: &[Call<'static>] = &[
 
 const WAITABLES: &[(Call<'static>, &[u8])] = &[
     (
-        Call::Waitable(Waitable::ErrorContextNew(GC)),
+        Call::WithOptions(WithOptions::ErrorContextNew, GC),
         &[0x01, 0x00, 0x08, 0x04, 0x01, 0x1c, 0x01, 0x09],
     ),
     (
-        Call::Waitable(Waitable::ErrorContextDebugMessage(GC)),
+        Call::WithOptions(WithOptions::ErrorContextDebugMessage, GC),
         &[0x01, 0x00, 0x08, 0x04, 0x01, 0x1d, 0x01, 0x09],
     ),
     (
@@ -240,8 +243,8 @@ const WAITABLES: &[(Call<'static>, &[u8])] = &[
 ];
 
 const LONG_WAITABLES: &[Call<'static>] = &[
-    Call::Waitable(Waitable::ErrorContextNew(LONG)),
-    Call::Waitable(Waitable::ErrorContextDebugMessage(LONG)),
+    Call::WithOptions(WithOptions::ErrorContextNew, LONG),
+    Call::WithOptions(WithOptions::ErrorContextDebugMessage, LONG),
     Call::Waitable(Waitable::ErrorContextDrop),
     Call::Waitable(Waitable::SetNew),
     Call::Waitable(Waitable::SetWait(LARGE)),

@@ -6,7 +6,7 @@ ghost use Rattle.wenc_canon.specs.Canonicals.{canonical};
 
 use crate::accepted::{is_well, ok};
 use crate::base::values::check;
-use crate::canon::calls::{Call, Function, Task, Thread};
+use crate::canon::calls::{Call, Resource, Task, Thread, WithOptions};
 use crate::canon::functions::Functions;
 use crate::swept::grows;
 use refusing::Refusing;
@@ -19,7 +19,7 @@ use wenc_canon::{CanonicalFunctionSection, CanonicalOption};
 const NONE: &[u8] = &[0x00, 0x01, 0x08, 0x01, 0x00];
 
 const LIFTED: &[(Call<'static>, &[u8])] = &[(
-    Call::Function(Function::Lift(0, 0, &[CanonicalOption::UTF8])),
+    Call::WithOptions(WithOptions::Lift(0, 0), &[CanonicalOption::UTF8]),
     &[
         0x01, 0x00, 0x08, 0x07, 0x01, 0x00, 0x00, 0x00, 0x01, 0x00, 0x00,
     ],
@@ -31,7 +31,7 @@ const IN_THEIR_ORDER: &[(Call<'static>, &[u8])] = &[
         &[0x01, 0x00, 0x08, 0x04, 0x01, 0x0a, 0x7f, 0x00],
     ),
     (
-        Call::Task(Task::Return(None, &[])),
+        Call::WithOptions(WithOptions::TaskReturn(None), &[]),
         &[
             0x02, 0x00, 0x08, 0x08, 0x02, 0x0a, 0x7f, 0x00, 0x09, 0x01, 0x00, 0x00,
         ],
@@ -47,7 +47,7 @@ const IN_THEIR_ORDER: &[(Call<'static>, &[u8])] = &[
 
 const AND_A_CANCEL: &[(Call<'static>, &[u8])] = &[
     (
-        Call::Function(Function::ResourceNew(1)),
+        Call::Resource(Resource::New(1)),
         &[0x01, 0x00, 0x08, 0x03, 0x01, 0x02, 0x01],
     ),
     (
@@ -58,7 +58,7 @@ const AND_A_CANCEL: &[(Call<'static>, &[u8])] = &[
 
 const AND_A_DROP: &[(Call<'static>, &[u8])] = &[
     (
-        Call::Function(Function::ResourceNew(1)),
+        Call::Resource(Resource::New(1)),
         &[0x01, 0x00, 0x08, 0x03, 0x01, 0x02, 0x01],
     ),
     (

@@ -2,26 +2,13 @@
 //! turn.
 
 use crate::accepted::ok;
+use crate::canon::calls::WithOptions;
 use crate::swept;
 use std::alloc::Global;
 use std::process::Abort;
 use sweeping::hexed::text;
 use wenc_canon::{CanonTree, CanonicalOption};
 use wenc_parts::{ComponentValType, PrimitiveValType};
-
-/// A function that has options, without them.
-#[derive(Clone, Copy)]
-enum WithOptions {
-    Lift(u32, u32),
-    Lower(u32),
-    TaskReturn(Option<ComponentValType>),
-    StreamRead(u32),
-    StreamWrite(u32),
-    FutureRead(u32),
-    FutureWrite(u32),
-    ErrorContextNew,
-    ErrorContextDebugMessage,
-}
 
 impl WithOptions {
     /// The function with these options.
