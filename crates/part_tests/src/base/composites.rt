@@ -169,13 +169,6 @@ fn check_shape(rt: &impl Abort, alloc: Global, shape: Shape<'_>, wanted: Wanted<
     check_composite(rt, alloc, &ty, wanted);
 }
 
-#[test]
-fn composites(rt: HostRuntime) {
-    for (shape, wanted) in COMPOSITES {
-        check_shape(&rt, rt.alloc(), *shape, *wanted);
-    }
-}
-
 /// Whether it is final, the type that it extends, and what it is.
 type Sub<'a> = (bool, Option<u32>, Shape<'a>);
 
@@ -220,13 +213,6 @@ fn check_group_of_one(rt: &impl Abort, alloc: Global, row: &Sub<'_>, wanted: Wan
     check_as(rt, alloc, &group, wanted);
 }
 
-#[test]
-fn sub_types(rt: HostRuntime) {
-    for (row, wanted) in SUB_TYPES {
-        check_group_of_one(&rt, rt.alloc(), row, *wanted);
-    }
-}
-
 fn add<T: Drop>(rt: &impl Abort, to: &mut Vec<T>, ty: T) {
     ok(rt, to.push(ty));
 }
@@ -267,7 +253,13 @@ fn check_group(rt: &impl Abort, alloc: Global, rows: &[Sub<'_>], wanted: Wanted<
 }
 
 #[test]
-fn groups(rt: HostRuntime) {
+fn types_and_groups(rt: HostRuntime) {
+    for (shape, wanted) in COMPOSITES {
+        check_shape(&rt, rt.alloc(), *shape, *wanted);
+    }
+    for (row, wanted) in SUB_TYPES {
+        check_group_of_one(&rt, rt.alloc(), row, *wanted);
+    }
     for (rows, wanted) in GROUPS {
         check_group(&rt, rt.alloc(), rows, *wanted);
     }

@@ -40,19 +40,6 @@ const TABLES: &[(RefType, u64, Option<u64>, bool, &[u8])] = &[
     (CONCRETE, 1, None, false, &[0x01, 0x64, 0x05, 0x00, 0x01]),
 ];
 
-#[test]
-fn tables(rt: HostRuntime) {
-    for (element_type, minimum, maximum, table64, bytes) in TABLES {
-        let table = TableType {
-            element_type: *element_type,
-            table64: *table64,
-            minimum: *minimum,
-            maximum: *maximum,
-        };
-        check(&rt, rt.alloc(), &EntityType::Table(table), bytes);
-    }
-}
-
 // One by itself.
 const TABLE: &[(TableType, &[u8])] = &[(
     TableType {
@@ -75,20 +62,6 @@ const MEMORIES: &[(u64, Option<u64>, bool, bool, &[u8])] = &[
     (1, None, true, true, &[0x02, 0x06, 0x01]),
     (1, Some(2), true, true, &[0x02, 0x07, 0x01, 0x02]),
 ];
-
-// Every flag.
-#[test]
-fn memories(rt: HostRuntime) {
-    for (minimum, maximum, memory64, shared, bytes) in MEMORIES {
-        let memory = MemoryType {
-            minimum: *minimum,
-            maximum: *maximum,
-            memory64: *memory64,
-            shared: *shared,
-        };
-        check(&rt, rt.alloc(), &EntityType::Memory(memory), bytes);
-    }
-}
 
 // Sizes are numbers of 64 bits.
 const LARGE_MEMORIES: &[(MemoryType, &[u8])] = &[
@@ -203,6 +176,29 @@ const LARGE_ENTITIES: &[EntityType] = &[
     EntityType::Global(LARGE_GLOBAL),
     EntityType::Tag(LARGE_TAG),
 ];
+
+// Memories with every flag.
+#[test]
+fn tables_and_memories(rt: HostRuntime) {
+    for (element_type, minimum, maximum, table64, bytes) in TABLES {
+        let table = TableType {
+            element_type: *element_type,
+            table64: *table64,
+            minimum: *minimum,
+            maximum: *maximum,
+        };
+        check(&rt, rt.alloc(), &EntityType::Table(table), bytes);
+    }
+    for (minimum, maximum, memory64, shared, bytes) in MEMORIES {
+        let memory = MemoryType {
+            minimum: *minimum,
+            maximum: *maximum,
+            memory64: *memory64,
+            shared: *shared,
+        };
+        check(&rt, rt.alloc(), &EntityType::Memory(memory), bytes);
+    }
+}
 
 const LARGE_TABLES: &[TableType] = &[LARGE_TABLE, BOUNDED_TABLE];
 

@@ -35,15 +35,6 @@ const TWO_NUMBERS: &[(u32, &str, u32)] = &[(1, "abcd", LARGE)];
 
 const LENT: &[Lent<'static, &str>] = &[Lent(&NAME)];
 
-#[test]
-fn triples(rt: HostRuntime) {
-    let alloc = rt.alloc();
-    check_each(&rt, alloc, NUMBER_FIRST);
-    check_each(&rt, alloc, NUMBER_LAST);
-    check_each(&rt, alloc, TWO_NUMBERS);
-    check_each(&rt, alloc, LENT);
-}
-
 // Nothing of the first growth is left for the size of four letters.
 const SIZES: &[WithSize<'static, &str>] = &[WithSize(&NAME), WithSize(&"abcd")];
 
@@ -93,8 +84,13 @@ const LISTED: &[Listed<'static>] = &[
 ];
 
 #[test]
-fn listed_values(rt: HostRuntime) {
+fn triples_and_listed_values(rt: HostRuntime) {
+    let alloc = rt.alloc();
+    check_each(&rt, alloc, NUMBER_FIRST);
+    check_each(&rt, alloc, NUMBER_LAST);
+    check_each(&rt, alloc, TWO_NUMBERS);
+    check_each(&rt, alloc, LENT);
     for listed in LISTED {
-        check_call(&rt, rt.alloc(), listed);
+        check_call(&rt, alloc, listed);
     }
 }
