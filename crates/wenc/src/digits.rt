@@ -13,8 +13,8 @@ fn digit(number: u8) -> u8
     }
 }
 
-/// Writes bytes in hexadecimal into a text. Since it looks nothing up, the compiler takes many bytes
-/// at a time.
+/// Writes bytes in hexadecimal into a text. It looks nothing up, so the compiler takes many bytes at
+/// a time.
 pub fn encode(bytes: &[u8], text: &mut [u8])
     requires { length text.old ≡ 2 * length bytes.now }
     ensures { text.new ≡ encode_lower bytes.now }

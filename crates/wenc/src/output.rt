@@ -69,8 +69,8 @@ pub fn send<W: Write>(writer: &mut W, text: &[u8]) -> Result<(), Failure>
     writer.flush().map_err(|_| Failure::Transfer)
 }
 
-/// Writes lines, then one with the bytes in hexadecimal, and flushes. It takes no memory, and the first call that fails,
-/// or takes nothing, is the last.
+/// Writes lines, then one with the bytes in hexadecimal, and flushes. It takes no memory, and the
+/// first call that fails, or takes nothing, is the last.
 pub fn send_with_hex<W: Write>(writer: &mut W, lines: &[u8], bytes: &[u8]) -> Result<(), Failure>
     ensures ok { OnOk result (Appends (W.contents writer.old) (W.contents writer.new)
         (lines.now ++ line_of (encode_lower bytes.now))) }
