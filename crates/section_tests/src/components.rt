@@ -2,7 +2,7 @@
 
 use crate::accepted::ok;
 use crate::by_hand::by_hand;
-use crate::checks::{are, holds, module_holds, put, put_in};
+use crate::checks::{are, holds, module_holds, put, put_in, yes};
 use crate::own::{Large, Own};
 use std::alloc::Global;
 use std::process::Abort;
@@ -15,24 +15,6 @@ const COMPONENT: [u8; 8] = [0, 0x61, 0x73, 0x6d, 0x0d, 0, 1, 0];
 const MODULE: [u8; 8] = [0, 0x61, 0x73, 0x6d, 1, 0, 0, 0];
 
 const RAW: RawCustomSection<'static> = RawCustomSection(&[0xaa]);
-
-#[test]
-fn headers(rt: HostRuntime) {
-    assert!(rt; <Component>::HEADER == COMPONENT);
-    assert!(rt; <Module>::HEADER == MODULE);
-}
-
-/// Finished, the component has these bytes.
-fn finishes(rt: &impl Abort, alloc: Global, component: Component, wanted: &str) {
-    let bytes = component.finish();
-    are(rt, alloc, bytes.as_slice(), wanted);
-}
-
-/// Finished, the module has these bytes.
-fn module_finishes(rt: &impl Abort, alloc: Global, module: Module, wanted: &str) {
-    let bytes = module.finish();
-    are(rt, alloc, bytes.as_slice(), wanted);
-}
 
 /// The component has these bytes behind its header, and a section that is refused leaves nothing.
 fn refuses(rt: &impl Abort, alloc: Global, component: &mut Component, wanted: &str) {
@@ -72,8 +54,8 @@ fn module_takes(
     module_refuses(rt, alloc, module, wanted);
 }
 
-/// A copy of a component with one section of its own goes its own way.
-fn copy_goes_its_own_way(
+/// A copy of a component with one section of its own goes its own way. Another takes a second section of the same kind.
+fn copies_go_their_own_way(
     rt: &impl Abort,
     alloc: Global,
     component: &Component,
@@ -83,12 +65,23 @@ fn copy_goes_its_own_way(
     holds(rt, alloc, &copy, "632a");
     takes(rt, alloc, &mut copy, none, "632a060100");
     holds(rt, alloc, component, "632a");
-}
-
-/// The component takes a second section of the same kind.
-fn takes_own_again(rt: &impl Abort, alloc: Global, component: &Component) {
     let mut copy = ok(rt, component.clone());
     takes(rt, alloc, &mut copy, &Own, "632a632a");
+}
+
+/// The component takes these sections in their order.
+#[test]
+fn sections_stand_in_their_order(rt: HostRuntime) {
+    let none: ComponentAliasSection = ComponentAliasSection::new(rt.alloc());
+    let mut component = ok(&rt, Component::new(rt.alloc()));
+    refuses(&rt, rt.alloc(), &mut component, "");
+    takes(&rt, rt.alloc(), &mut component, &Own, "632a");
+    copies_go_their_own_way(&rt, rt.alloc(), &component, &none);
+    takes(&rt, rt.alloc(), &mut component, &none, "632a060100");
+    takes(&rt, rt.alloc(), &mut component, &RAW, "632a06010000aa");
+    takes(&rt, rt.alloc(), &mut component, &Own, "632a06010000aa632a");
+    let wanted = "0061736d0d000100632a06010000aa632a";
+    are(&rt, rt.alloc(), component.finish().as_slice(), "", wanted);
 }
 
 /// A copy of a module with one section of its own goes its own way.
@@ -99,65 +92,35 @@ fn module_copy_goes_its_own_way(rt: &impl Abort, alloc: Global, module: &Module)
     module_holds(rt, alloc, module, "622a");
 }
 
-/// The component takes these sections in their order.
-fn takes_each(
-    rt: &impl Abort,
-    alloc: Global,
-    component: &mut Component,
-    none: &ComponentAliasSection,
-) {
-    refuses(rt, alloc, component, "");
-    takes(rt, alloc, component, &Own, "632a");
-    copy_goes_its_own_way(rt, alloc, component, none);
-    takes_own_again(rt, alloc, component);
-    takes(rt, alloc, component, none, "632a060100");
-    takes(rt, alloc, component, &RAW, "632a06010000aa");
-    takes(rt, alloc, component, &Own, "632a06010000aa632a");
-}
-
-#[test]
-fn sections_stand_in_their_order(rt: HostRuntime) {
-    let none: ComponentAliasSection = ComponentAliasSection::new(rt.alloc());
-    let mut component = ok(&rt, Component::new(rt.alloc()));
-    takes_each(&rt, rt.alloc(), &mut component, &none);
-    let wanted = "0061736d0d000100632a06010000aa632a";
-    finishes(&rt, rt.alloc(), component, wanted);
-}
-
-/// The module takes its own section, a copy of it another, and it that of its own again.
-fn module_takes_own(rt: &impl Abort, alloc: Global, module: &mut Module) {
-    module_refuses(rt, alloc, module, "");
-    module_takes(rt, alloc, module, &Own, "622a");
-    module_copy_goes_its_own_way(rt, alloc, module);
-    module_takes(rt, alloc, module, &Own, "622a622a");
-}
-
-#[test]
-fn copies_of_modules_go_their_own_way(rt: HostRuntime) {
-    let mut module = ok(&rt, Module::new(rt.alloc()));
-    module_takes_own(&rt, rt.alloc(), &mut module);
-}
-
+/// The module takes its own section, a copy of it another, and it that of its own again. Another takes two in their
+/// order.
 #[test]
 fn sections_of_modules_stand_in_their_order(rt: HostRuntime) {
+    let mut module = ok(&rt, Module::new(rt.alloc()));
+    module_refuses(&rt, rt.alloc(), &mut module, "");
+    module_takes(&rt, rt.alloc(), &mut module, &Own, "622a");
+    module_copy_goes_its_own_way(&rt, rt.alloc(), &module);
+    module_takes(&rt, rt.alloc(), &mut module, &Own, "622a622a");
     let mut module = ok(&rt, Module::new(rt.alloc()));
     ok(&rt, put_in(&mut module, &RAW));
     module_takes(&rt, rt.alloc(), &mut module, &Own, "00aa622a");
     let wanted = "0061736d0100000000aa622a";
-    module_finishes(&rt, rt.alloc(), module, wanted);
+    are(&rt, rt.alloc(), module.finish().as_slice(), "", wanted);
 }
 
 #[test]
 fn without_sections(rt: HostRuntime) {
-    let component = ok(&rt, Component::new(rt.alloc()));
-    finishes(&rt, rt.alloc(), component, "0061736d0d000100");
-    let module = ok(&rt, Module::new(rt.alloc()));
-    module_finishes(&rt, rt.alloc(), module, "0061736d01000000");
+    yes(&rt, <Component>::HEADER == COMPONENT);
+    yes(&rt, <Module>::HEADER == MODULE);
+    let bytes = ok(&rt, Component::new(rt.alloc())).finish();
+    are(&rt, rt.alloc(), bytes.as_slice(), "", "0061736d0d000100");
+    let bytes = ok(&rt, Module::new(rt.alloc())).finish();
+    are(&rt, rt.alloc(), bytes.as_slice(), "", "0061736d01000000");
 }
 
 #[test]
 fn written_by_hand(rt: HostRuntime) {
     let bytes = ok(&rt, by_hand(rt.alloc()));
     let wanted = "0061736d0d0001000a0601000169050006060101000001660b0701000167010000";
-    are(&rt, rt.alloc(), bytes.as_slice(), wanted);
+    are(&rt, rt.alloc(), bytes.as_slice(), "", wanted);
 }

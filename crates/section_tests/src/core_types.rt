@@ -5,7 +5,7 @@ mod calls;
 mod declaring;
 mod encoders;
 mod lending;
-mod making;
+pub mod making;
 mod module_types;
 mod sections;
 mod unfinished;

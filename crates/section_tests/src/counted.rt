@@ -1,6 +1,7 @@
 //! Sections of items whose requests for memory can be refused.
 
 use crate::accepted::{is_well, ok};
+use crate::checks::{counts, row};
 use refusing::Refusing;
 use std::alloc::Global;
 use std::process::Abort;
@@ -61,8 +62,8 @@ impl<'a, K: Short> Sections<'a> for Items<'a, K> {
     }
 }
 
-/// Sweeps the section with none of these items, with the first, and so on.
-pub fn sweep_sections<'a, M: Sections<'a>, C: Adds<M>>(
+/// Sweeps the section with none of these members, with the first, and so on, the calls that add them, and copies.
+pub fn sweep_all<'a, M: Sections<'a>, C: Adds<M>>(
     rt: &impl Abort,
     alloc: Global,
     heap: &'a Refusing,
@@ -74,16 +75,23 @@ pub fn sweep_sections<'a, M: Sections<'a>, C: Adds<M>>(
         ok(rt, call.add(&mut members));
         is_well(rt, members.sweep(alloc));
     }
+    is_well(rt, sweep_calls::<M, C>(alloc, heap, calls));
+    is_well(rt, sweep_clones::<M>(alloc, heap, false));
 }
 
-/// Sweeps the sections with these items, the calls that add them, and copies.
-pub fn sweep_all<'a, M: Sections<'a>, C: Adds<M>>(
+/// What sections of these items are with no short item, with one and with two, and with those of each row. Those with
+/// the long ones are swept.
+pub fn check<'a, K: Short, C: Adds<Items<'a, K>>>(
     rt: &impl Abort,
     alloc: Global,
     heap: &'a Refusing,
-    calls: &[C],
+    states: &[&str; 3],
+    rows: &[(&[C], &str)],
+    long: &[C],
 ) {
-    sweep_sections::<M, C>(rt, alloc, heap, calls);
-    is_well(rt, sweep_calls::<M, C>(alloc, heap, calls));
-    is_well(rt, sweep_clones::<M>(alloc, heap, false));
+    counts::<Items<'a, K>>(rt, alloc, heap, states);
+    for (calls, wanted) in rows {
+        row::<Items<'a, K>, C>(rt, alloc, heap, calls, wanted);
+    }
+    sweep_all::<Items<'a, K>, C>(rt, alloc, heap, long);
 }

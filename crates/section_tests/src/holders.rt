@@ -5,7 +5,7 @@ ghost use Rattle.wenc_base.specs.Piece.{HasForm};
 ghost use Rattle.wenc_parts.specs.Aliases.{alias};
 
 use crate::accepted::ok;
-use crate::checks::{are, is_text, yes};
+use crate::checks::{are, is_refused, is_text, yes};
 use std::alloc::{AllocError, Global};
 use std::process::Abort;
 use wenc_base::{Fault, Holder};
@@ -32,7 +32,7 @@ fn opened(alloc: Global) -> Result<Holder, Fault>
     Ok(holder)
 }
 
-fn section(rt: &impl Abort, alloc: Global) -> ComponentAliasSection {
+fn over_one(rt: &impl Abort, alloc: Global) -> ComponentAliasSection {
     match over(alloc) {
         Ok(holder) => ComponentAliasSection::from_holder(holder),
         Err(_) => panic!(rt; "it is refused"),
@@ -55,13 +55,7 @@ fn outer_type(section: &mut ComponentAliasSection) -> Result<(), Fault> {
     })
 }
 
-/// What the section's holder is made of: all bytes, how many of them are kept, its number of items, and whether it is
-/// finished.
-fn parts(section: ComponentAliasSection) -> (Vec<u8>, usize, u32, bool) {
-    section.into_holder().into_parts()
-}
-
-/// The section's holder is made of these bytes, of which two are kept.
+/// The section's holder is made of these bytes, of which two are kept, has so many items, and is whole or not.
 fn gives_back(
     rt: &impl Abort,
     alloc: Global,
@@ -70,34 +64,26 @@ fn gives_back(
     wanted_count: u32,
     is_whole: bool,
 ) {
-    let (bytes, kept, count, is_finished) = parts(section);
+    let (bytes, kept, count, is_finished) = section.into_holder().into_parts();
     yes(
         rt,
         kept == 2 && count == wanted_count && is_finished == is_whole,
     );
-    are(rt, alloc, bytes.as_slice(), wanted);
+    are(rt, alloc, bytes.as_slice(), "", wanted);
 }
 
 /// In the section's text no byte is that is kept.
 #[test]
-fn one_more(rt: HostRuntime) {
-    let mut section = section(&rt, rt.alloc());
+fn sections_over_holders(rt: HostRuntime) {
+    let section = over_one(&rt, rt.alloc());
+    gives_back(&rt, rt.alloc(), section, "aabb0100000166", 1, true);
+    let mut section = over_one(&rt, rt.alloc());
     is_text(&rt, rt.alloc(), &section, "06010100000166");
     ok(&rt, outer_type(&mut section));
     is_text(&rt, rt.alloc(), &section, "0a02010000016603020001");
     let wanted = "aabb010000016603020001";
     gives_back(&rt, rt.alloc(), section, wanted, 2, true);
-}
-
-#[test]
-fn given_back(rt: HostRuntime) {
-    let section = section(&rt, rt.alloc());
-    gives_back(&rt, rt.alloc(), section, "aabb0100000166", 1, true);
-}
-
-#[test]
-fn being_written(rt: HostRuntime) {
     let mut section = unfinished(&rt, rt.alloc());
-    assert!(rt; outer_type(&mut section) == Err(Fault::Unfinished));
+    is_refused(&rt, outer_type(&mut section));
     gives_back(&rt, rt.alloc(), section, "aabb010000016603", 2, false);
 }

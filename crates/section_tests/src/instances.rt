@@ -1,39 +1,31 @@
-//! Sections of instances.
+//! Sections of instances, and trees of them: their bytes, and each request for memory refused in turn.
 
-use crate::checks::{counts, row};
-use crate::counted::{Items, Short, sweep_all};
-use crate::instance_trees::Core;
-use crate::named::Name;
+use crate::accepted::{is_well, ok};
+use crate::checks::is_text;
+use crate::counted::{Items, Short, check};
+use crate::named::{Name, owned};
 use refusing::Refusing;
 use std::alloc::Global;
 use std::process::Abort;
 use sweeping::members::Adds;
-use sweeping::{LARGE, NAME};
-use wenc_base::{ExportKind, Fault};
-use wenc_parts::{ComponentExportKind, ModuleArg};
+use sweeping::{LARGE, NAME, sweep_encode};
+use wenc_base::{Delimited, ExportKind, Fault};
+use wenc_parts::{ComponentExportKind, ModuleArg, NameTree};
 use wenc_sections::instances::{CoreInstances, Instances};
-use wenc_sections::{ComponentInstanceSection, InstanceSection};
+use wenc_sections::{CoreInstanceTree, InstanceTree};
 
-fn instantiate_core(
-    section: &mut InstanceSection<&Refusing>,
-    module: u32,
-    args: &[(&str, ModuleArg)],
-) -> Result<(), Fault> {
-    section.instantiate(module, args.iter().copied())
-}
-
-fn export_core(
-    section: &mut InstanceSection<&Refusing>,
-    exports: &[(&str, ExportKind, u32)],
-) -> Result<(), Fault> {
-    section.export_items(exports.iter().copied())
+/// A core instance, in a table.
+#[derive(Clone, Copy)]
+enum Core<'a> {
+    Instantiate(u32, &'a [(&'a str, ModuleArg)]),
+    Exports(&'a [(&'a str, ExportKind, u32)]),
 }
 
 impl<'a, 'b> Adds<Items<'a, CoreInstances>> for Core<'b> {
     fn add(&self, to: &mut Items<'a, CoreInstances>) -> Result<(), Fault> {
-        match self {
-            Core::Instantiate(module, args) => instantiate_core(&mut to.0, *module, args),
-            Core::Exports(exports) => export_core(&mut to.0, exports),
+        match *self {
+            Core::Instantiate(module, args) => to.0.instantiate(module, args.iter().copied()),
+            Core::Exports(exports) => to.0.export_items(exports.iter().copied()),
         }
     }
 }
@@ -44,12 +36,21 @@ impl Short for CoreInstances {
     }
 }
 
-const CORE: &[Core<'static>] = &[
-    Core::Exports(&[("foo", ExportKind::Func, 0)]),
-    Core::Instantiate(1, &[("foo", ModuleArg::Instance(0))]),
+const NO_CORE_AND_SHORT_ONES: &[&str; 3] = &[
+    "0001020100",
+    "0100020401000300",
+    "0200020702000300000300",
 ];
 
-pub const LONG_CORE: &[Core<'static>] = &[
+const CORE: &[(&[Core<'static>], &str)] = &[(
+    &[
+        Core::Exports(&[("foo", ExportKind::Func, 0)]),
+        Core::Instantiate(1, &[("foo", ModuleArg::Instance(0))]),
+    ],
+    "0200021202010103666f6f000000010103666f6f1200",
+)];
+
+const LONG_CORE: &[Core<'static>] = &[
     Core::Instantiate(
         LARGE,
         &[
@@ -65,88 +66,50 @@ pub const LONG_CORE: &[Core<'static>] = &[
     ]),
 ];
 
-/// The sections have these bytes, and are swept.
-fn check_core(rt: &impl Abort, alloc: Global, heap: &Refusing) {
-    let one = "0100020401000300";
-    let two = "0200020702000300000300";
-    counts::<Items<CoreInstances>>(rt, alloc, heap, "0001020100", one, two);
-    row::<Items<CoreInstances>, Core>(
-        rt,
-        alloc,
-        heap,
-        CORE,
-        "0200021202010103666f6f000000010103666f6f1200",
-    );
-    sweep_all::<Items<CoreInstances>, Core>(rt, alloc, heap, LONG_CORE);
-}
-
-#[test]
-fn core_instances(rt: HostRuntime) {
-    let heap = Refusing::new(rt.alloc());
-    check_core(&rt, rt.alloc(), &heap);
-}
-
-/// A call that adds an instance.
+/// An instance of a component, in a table.
 #[derive(Clone, Copy)]
-enum Call<'a> {
+enum Component<'a> {
     Instantiate(u32, &'a [(&'a str, ComponentExportKind, u32)]),
-    ExportOne(Name<'a>),
-    /// Three names, each with its options.
-    ExportThree,
+    Exports(&'a [(Name<'a>, ComponentExportKind, u32)]),
 }
 
-fn instantiate(
-    section: &mut ComponentInstanceSection<&Refusing>,
-    component: u32,
-    args: &[(&str, ComponentExportKind, u32)],
-) -> Result<(), Fault> {
-    section.instantiate(component, args.iter().copied())
-}
-
-fn export_one(
-    section: &mut ComponentInstanceSection<&Refusing>,
-    name: Name<'_>,
-) -> Result<(), Fault> {
-    let export = (name.borrowed(), ComponentExportKind::Func, 0);
-    section.export_items([export].into_iter())
-}
-
-fn export_three(section: &mut ComponentInstanceSection<&Refusing>) -> Result<(), Fault> {
-    let exports = [
-        (Name::Each("").borrowed(), ComponentExportKind::Func, 0),
-        (
-            Name::Each(NAME).borrowed(),
-            ComponentExportKind::Module,
-            LARGE,
-        ),
-        (Name::Each("a").borrowed(), ComponentExportKind::Type, LARGE),
-    ];
-    section.export_items(exports.into_iter())
-}
-
-impl<'a, 'b> Adds<Items<'a, Instances>> for Call<'b> {
+impl<'a, 'b> Adds<Items<'a, Instances>> for Component<'b> {
     fn add(&self, to: &mut Items<'a, Instances>) -> Result<(), Fault> {
-        match self {
-            Call::Instantiate(component, args) => instantiate(&mut to.0, *component, args),
-            Call::ExportOne(name) => export_one(&mut to.0, *name),
-            Call::ExportThree => export_three(&mut to.0),
+        match *self {
+            Component::Instantiate(component, args) => {
+                to.0.instantiate(component, args.iter().copied())
+            }
+            Component::Exports(exports) => to.0.export_items(
+                exports
+                    .iter()
+                    .map(|(name, kind, index)| (name.borrowed(), *kind, *index)),
+            ),
         }
     }
 }
 
 impl Short for Instances {
     fn add_short(to: &mut Items<'_, Instances>) -> Result<(), Fault> {
-        Call::Instantiate(3, &[]).add(to)
+        Component::Instantiate(3, &[]).add(to)
     }
 }
 
-const CALLS: &[Call<'static>] = &[
-    Call::ExportOne(Name::Plain("foo")),
-    Call::Instantiate(1, &[("foo", ComponentExportKind::Instance, 0)]),
+const NONE_AND_SHORT_ONES: &[&str; 3] = &[
+    "0001050100",
+    "0100050401000300",
+    "0200050702000300000300",
 ];
 
-const LONG_CALLS: &[Call<'static>] = &[
-    Call::Instantiate(
+const COMPONENTS: &[(&[Component<'static>], &str)] = &[(
+    &[
+        Component::Exports(&[(Name::Plain("foo"), ComponentExportKind::Func, 0)]),
+        Component::Instantiate(1, &[("foo", ComponentExportKind::Instance, 0)]),
+    ],
+    "020005130201010003666f6f010000010103666f6f0500",
+)];
+
+const LONG_COMPONENTS: &[Component<'static>] = &[
+    Component::Instantiate(
         LARGE,
         &[
             ("", ComponentExportKind::Func, 0),
@@ -154,26 +117,186 @@ const LONG_CALLS: &[Call<'static>] = &[
             ("a", ComponentExportKind::Type, LARGE),
         ],
     ),
-    Call::ExportThree,
+    Component::Exports(&[
+        (Name::Each(""), ComponentExportKind::Func, 0),
+        (Name::Each(NAME), ComponentExportKind::Module, LARGE),
+        (Name::Each("a"), ComponentExportKind::Type, LARGE),
+    ]),
 ];
 
-/// The sections have these bytes, and are swept.
-fn check(rt: &impl Abort, alloc: Global, heap: &Refusing) {
-    let one = "0100050401000300";
-    let two = "0200050702000300000300";
-    counts::<Items<Instances>>(rt, alloc, heap, "0001050100", one, two);
-    row::<Items<Instances>, Call>(
-        rt,
-        alloc,
-        heap,
-        CALLS,
-        "020005130201010003666f6f010000010103666f6f0500",
+#[test]
+fn sections(rt: HostRuntime) {
+    let heap = Refusing::new(rt.alloc());
+    check::<CoreInstances, Core>(
+        &rt,
+        rt.alloc(),
+        &heap,
+        NO_CORE_AND_SHORT_ONES,
+        CORE,
+        LONG_CORE,
     );
-    sweep_all::<Items<Instances>, Call>(rt, alloc, heap, LONG_CALLS);
+    check::<Instances, Component>(
+        &rt,
+        rt.alloc(),
+        &heap,
+        NONE_AND_SHORT_ONES,
+        COMPONENTS,
+        LONG_COMPONENTS,
+    );
+}
+
+fn module_args(
+    rt: &impl Abort,
+    alloc: Global,
+    rows: &[(&str, ModuleArg)],
+) -> Vec<(String, ModuleArg)> {
+    let mut args = Vec::new(alloc);
+    for (name, arg) in rows {
+        ok(rt, args.push((owned(rt, alloc, name), *arg)));
+    }
+    args
+}
+
+/// Names of their own, with kinds and indices.
+fn items<K: Copy>(
+    rt: &impl Abort,
+    alloc: Global,
+    rows: &[(&str, K, u32)],
+) -> Vec<(String, K, u32)> {
+    let mut items = Vec::new(alloc);
+    for (name, kind, index) in rows {
+        ok(rt, items.push((owned(rt, alloc, name), *kind, *index)));
+    }
+    items
+}
+
+fn exports(
+    rt: &impl Abort,
+    alloc: Global,
+    rows: &[(Name<'_>, ComponentExportKind, u32)],
+) -> Vec<(NameTree, ComponentExportKind, u32)> {
+    let mut exports = Vec::new(alloc);
+    for (name, kind, index) in rows {
+        ok(rt, exports.push((name.tree(rt, alloc), *kind, *index)));
+    }
+    exports
+}
+
+impl<'a> Core<'a> {
+    fn tree(self, rt: &impl Abort, alloc: Global) -> CoreInstanceTree {
+        match self {
+            Core::Instantiate(module, args) => CoreInstanceTree::Instantiate {
+                module,
+                args: module_args(rt, alloc, args),
+            },
+            Core::Exports(exports) => CoreInstanceTree::Exports(items(rt, alloc, exports)),
+        }
+    }
+}
+
+impl<'a> Component<'a> {
+    fn tree(self, rt: &impl Abort, alloc: Global) -> InstanceTree {
+        match self {
+            Component::Instantiate(component, args) => InstanceTree::Instantiate {
+                component,
+                args: items(rt, alloc, args),
+            },
+            Component::Exports(rows) => InstanceTree::Exports(exports(rt, alloc, rows)),
+        }
+    }
+}
+
+/// The tree has this text.
+fn is_tree(rt: &impl Abort, alloc: Global, tree: &impl Delimited, wanted: &str) {
+    tree.belongs();
+    is_text(rt, alloc, tree, wanted);
+}
+
+const CORE_TREES: &[(Core<'static>, &str)] = &[
+    (
+        Core::Exports(&[("foo", ExportKind::Func, 0)]),
+        "010103666f6f0000",
+    ),
+    (
+        Core::Instantiate(1, &[("foo", ModuleArg::Instance(0))]),
+        "00010103666f6f1200",
+    ),
+    (Core::Exports(&[]), "0100"),
+    (Core::Instantiate(3, &[]), "000300"),
+    (
+        Core::Exports(&[("", ExportKind::Tag, 128), ("é", ExportKind::Memory, 1)]),
+        "01020004800102c3a90201",
+    ),
+    (
+        Core::Instantiate(
+            128,
+            &[
+                ("", ModuleArg::Instance(0)),
+                ("a", ModuleArg::Instance(300)),
+            ],
+        ),
+        "00800102001200016112ac02",
+    ),
+];
+
+const TREES: &[(Component<'static>, &str)] = &[
+    (
+        Component::Exports(&[(Name::Plain("foo"), ComponentExportKind::Func, 0)]),
+        "01010003666f6f0100",
+    ),
+    (
+        Component::Instantiate(1, &[("foo", ComponentExportKind::Instance, 0)]),
+        "00010103666f6f0500",
+    ),
+    (Component::Exports(&[]), "0100"),
+    (Component::Instantiate(3, &[]), "000300"),
+    (
+        Component::Exports(&[(Name::Implements("a", "i"), ComponentExportKind::Func, 0)]),
+        "0101020161010001690100",
+    ),
+    (
+        Component::Exports(&[
+            (Name::Plain(""), ComponentExportKind::Module, 128),
+            (Name::Plain("b"), ComponentExportKind::Value, 1),
+        ]),
+        "01020000001180010001620201",
+    ),
+    (
+        Component::Instantiate(
+            128,
+            &[
+                ("", ComponentExportKind::Module, 0),
+                ("a", ComponentExportKind::Type, 300),
+            ],
+        ),
+        "0080010200001100016103ac02",
+    ),
+];
+
+const LONG_TREES: &[Component<'static>] = &[
+    Component::Instantiate(LARGE, &[(NAME, ComponentExportKind::Module, LARGE)]),
+    Component::Exports(&[
+        (Name::Each(NAME), ComponentExportKind::Module, LARGE),
+        (Name::Each(NAME), ComponentExportKind::Func, LARGE),
+    ]),
+];
+
+#[test]
+fn core_trees(rt: HostRuntime) {
+    for (row, wanted) in CORE_TREES {
+        is_tree(&rt, rt.alloc(), &row.tree(&rt, rt.alloc()), wanted);
+    }
+    for row in LONG_CORE {
+        is_well(&rt, sweep_encode(rt.alloc(), &row.tree(&rt, rt.alloc())));
+    }
 }
 
 #[test]
-fn instances(rt: HostRuntime) {
-    let heap = Refusing::new(rt.alloc());
-    check(&rt, rt.alloc(), &heap);
+fn trees(rt: HostRuntime) {
+    for (row, wanted) in TREES {
+        is_tree(&rt, rt.alloc(), &row.tree(&rt, rt.alloc()), wanted);
+    }
+    for row in LONG_TREES {
+        is_well(&rt, sweep_encode(rt.alloc(), &row.tree(&rt, rt.alloc())));
+    }
 }

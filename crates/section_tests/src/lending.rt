@@ -1,12 +1,16 @@
 //! What lends itself to the encoders of types: sections of types, and types with declarations.
 
 use crate::accepted::ok;
-use crate::checks::yes;
+use crate::checks::{alone, yes};
 use std::alloc::{Allocator, Global};
 use std::process::Abort;
 use sweeping::sweep_section;
 use wenc_base::{Encode, Fault};
 use wenc_sections::{Counted, LentKind};
+
+/// How many items or declarations there are, and the core types, types and instances that are counted. What isn't
+/// counted is none.
+pub type Counts = [u32; 4];
 
 /// What lends itself to the encoders of types.
 pub trait Lending: Encode + Drop + Sized {
@@ -22,14 +26,9 @@ pub trait Lending: Encode + Drop + Sized {
     /// Gives up the type that is being written, and says whether there was one.
     fn give_up(&mut self) -> bool;
 
-    /// How many items or declarations there are, and the core types, types and instances that are counted. What it
-    /// doesn't count is none.
-    fn counts(&self) -> [u32; 4];
-
-    /// Whether there are none. A module type says how many core types there are, and no more.
-    fn is_empty(&self) -> bool;
-
-    fn is_finished(&self) -> bool;
+    /// What is counted, whether there is none, and whether nothing is being written. A module type counts its core
+    /// types, and no more.
+    fn asked(&self) -> (Counts, bool, bool);
 
     /// The same once more.
     fn copy(&self) -> Result<Self, Fault>;
@@ -40,9 +39,6 @@ pub trait Lending: Encode + Drop + Sized {
 
 /// A call, or some of which the last one ends what they make.
 pub trait Makes<L> {
-    /// Whether an encoder makes the last of them.
-    fn is_lent(&self) -> bool;
-
     fn make(&self, to: &mut L) -> Result<(), Fault>;
 }
 
@@ -51,30 +47,16 @@ pub trait Makes<L> {
 pub struct Begin;
 
 impl<L: Lending> Makes<L> for Begin {
-    fn is_lent(&self) -> bool {
-        true
-    }
-
     fn make(&self, to: &mut L) -> Result<(), Fault> {
         to.begin()
     }
 }
 
-fn append(value: &impl Encode, state: &mut Vec<u8>) -> Result<(), Fault> {
-    value.encode(state)
-}
-
-fn append_each(counts: &[u32], state: &mut Vec<u8>) -> Result<(), Fault> {
-    for count in counts {
-        append(count, state)?;
-    }
-    Ok(())
-}
-
 fn append_state<L: Lending>(of: &L, state: &mut Vec<u8>) -> Result<(), Fault> {
-    append_each(of.counts().as_slice(), state)?;
-    append(&(of.is_empty(), of.is_finished()), state)?;
-    append(of, state)
+    let ([items, core_types, types, instances], is_empty, is_finished) = of.asked();
+    let counts = ((items, core_types), (types, instances));
+    (counts, (is_empty, is_finished)).encode(state)?;
+    of.encode(state)
 }
 
 /// All that can be asked of it, in bytes: what it counts, whether it is empty and finished, and its text.
@@ -91,9 +73,29 @@ pub fn is<L: Lending>(rt: &impl Abort, alloc: Global, of: &L, wanted: &[u8]) {
 }
 
 /// It counts this, and nothing is being written.
-pub fn has<L: Lending>(rt: &impl Abort, of: &L, counts: [u32; 4]) {
-    yes(rt, of.counts() == counts);
-    yes(rt, of.is_finished() && !of.is_empty());
+pub fn has<L: Lending>(rt: &impl Abort, of: &L, wanted: Counts) {
+    let (counts, is_empty, is_finished) = of.asked();
+    yes(rt, counts == wanted && !is_empty && is_finished);
+}
+
+/// Nothing is being written.
+pub fn is_finished<L: Lending>(of: &L) -> bool {
+    let (_, _, is_finished) = of.asked();
+    is_finished
+}
+
+/// Makes each of these.
+pub fn make_each<L, C: Makes<L>>(rt: &impl Abort, to: &mut L, calls: &[C]) {
+    for call in calls {
+        ok(rt, call.make(to));
+    }
+}
+
+/// Declares each of what a table tells of.
+pub fn declare<L, C: Makes<L>>(rt: &impl Abort, to: &mut L, rows: &[(C, &[u8], &[u8])]) {
+    for (declaration, _, _) in rows {
+        ok(rt, declaration.make(to));
+    }
 }
 
 /// A kind of section that has types.
@@ -118,16 +120,8 @@ impl<K: TypeKind, A: Allocator + Clone> Lending for Counted<K, A> {
         self.discard_unfinished()
     }
 
-    fn counts(&self) -> [u32; 4] {
-        [self.len(), 0, 0, 0]
-    }
-
-    fn is_empty(&self) -> bool {
-        Counted::is_empty(self)
-    }
-
-    fn is_finished(&self) -> bool {
-        Counted::is_finished(self)
+    fn asked(&self) -> (Counts, bool, bool) {
+        ([self.len(), 0, 0, 0], self.is_empty(), self.is_finished())
     }
 
     fn copy(&self) -> Result<Self, Fault> {
@@ -137,4 +131,17 @@ impl<K: TypeKind, A: Allocator + Clone> Lending for Counted<K, A> {
     fn sweep_text(&self, alloc: Global) -> Result<bool, Fault> {
         sweep_section(alloc, self)
     }
+}
+
+/// The call adds an item to a section, which then has these bytes.
+pub fn is_section<K: TypeKind, C: Makes<Counted<K>>>(
+    rt: &impl Abort,
+    alloc: Global,
+    call: &C,
+    wanted: &str,
+) {
+    let mut section: Counted<K> = Counted::new(alloc);
+    ok(rt, call.make(&mut section));
+    has(rt, &section, [1, 0, 0, 0]);
+    alone(rt, alloc, &section, wanted);
 }

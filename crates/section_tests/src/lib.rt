@@ -5,8 +5,6 @@
 #[cfg(test)]
 mod accepted;
 #[cfg(test)]
-mod aliases;
-#[cfg(test)]
 mod by_hand;
 #[cfg(test)]
 mod checks;
@@ -21,15 +19,11 @@ mod counted;
 #[cfg(test)]
 mod custom;
 #[cfg(test)]
-mod exports;
-#[cfg(test)]
 mod holders;
 #[cfg(test)]
-mod imports;
-#[cfg(test)]
-mod instance_trees;
-#[cfg(test)]
 mod instances;
+#[cfg(test)]
+mod items;
 #[cfg(test)]
 mod lending;
 #[cfg(test)]

@@ -16,54 +16,11 @@ pub enum Name<'a> {
     Each(&'a str),
 }
 
-fn plain<'a>(name: &'a str) -> ComponentExternName<'a> {
-    name.into()
-}
-
-fn implementing<'a>(name: &'a str, interface: &'a str) -> ComponentExternName<'a> {
-    ComponentExternName {
-        name: CowStr::Borrowed(name),
-        implements: Some(CowStr::Borrowed(interface)),
-        version_suffix: None,
-        external_id: None,
-    }
-}
-
-fn each<'a>(name: &'a str) -> ComponentExternName<'a> {
-    ComponentExternName {
-        name: CowStr::Borrowed(name),
-        implements: Some(CowStr::Borrowed(name)),
-        version_suffix: Some(CowStr::Borrowed(name)),
-        external_id: Some(CowStr::Borrowed(name)),
-    }
-}
-
-fn owned(rt: &impl Abort, alloc: Global, text: &str) -> String {
+pub fn owned(rt: &impl Abort, alloc: Global, text: &str) -> String {
     ok(rt, String::from_str(alloc, text))
 }
 
-fn plain_tree(rt: &impl Abort, alloc: Global, name: &str) -> NameTree {
-    NameTree::from(owned(rt, alloc, name))
-}
-
-fn implementing_tree(rt: &impl Abort, alloc: Global, name: &str, interface: &str) -> NameTree {
-    let options = NameOptions {
-        implements: Some(owned(rt, alloc, interface)),
-        version_suffix: None,
-        external_id: None,
-    };
-    NameTree {
-        name: owned(rt, alloc, name),
-        options: Some(ok(rt, Box::new(alloc, options))),
-    }
-}
-
-fn each_tree(rt: &impl Abort, alloc: Global, name: &str) -> NameTree {
-    let options = NameOptions {
-        implements: Some(owned(rt, alloc, name)),
-        version_suffix: Some(owned(rt, alloc, name)),
-        external_id: Some(owned(rt, alloc, name)),
-    };
+fn with_options(rt: &impl Abort, alloc: Global, name: &str, options: NameOptions) -> NameTree {
     NameTree {
         name: owned(rt, alloc, name),
         options: Some(ok(rt, Box::new(alloc, options))),
@@ -73,17 +30,41 @@ fn each_tree(rt: &impl Abort, alloc: Global, name: &str) -> NameTree {
 impl<'a> Name<'a> {
     pub fn borrowed(self) -> ComponentExternName<'a> {
         match self {
-            Name::Plain(name) => plain(name),
-            Name::Implements(name, interface) => implementing(name, interface),
-            Name::Each(name) => each(name),
+            Name::Plain(name) => name.into(),
+            Name::Implements(name, interface) => ComponentExternName {
+                name: CowStr::Borrowed(name),
+                implements: Some(CowStr::Borrowed(interface)),
+                version_suffix: None,
+                external_id: None,
+            },
+            Name::Each(name) => ComponentExternName {
+                name: CowStr::Borrowed(name),
+                implements: Some(CowStr::Borrowed(name)),
+                version_suffix: Some(CowStr::Borrowed(name)),
+                external_id: Some(CowStr::Borrowed(name)),
+            },
         }
     }
 
     pub fn tree(self, rt: &impl Abort, alloc: Global) -> NameTree {
         match self {
-            Name::Plain(name) => plain_tree(rt, alloc, name),
-            Name::Implements(name, interface) => implementing_tree(rt, alloc, name, interface),
-            Name::Each(name) => each_tree(rt, alloc, name),
+            Name::Plain(name) => NameTree::from(owned(rt, alloc, name)),
+            Name::Implements(name, interface) => {
+                let options = NameOptions {
+                    implements: Some(owned(rt, alloc, interface)),
+                    version_suffix: None,
+                    external_id: None,
+                };
+                with_options(rt, alloc, name, options)
+            }
+            Name::Each(name) => {
+                let options = NameOptions {
+                    implements: Some(owned(rt, alloc, name)),
+                    version_suffix: Some(owned(rt, alloc, name)),
+                    external_id: Some(owned(rt, alloc, name)),
+                };
+                with_options(rt, alloc, name, options)
+            }
         }
     }
 }

@@ -1,12 +1,12 @@
 //! Sections of names.
 
 use crate::accepted::{is_well, ok};
-use crate::checks::{alone, are, is_text};
-use crate::counted::{Sections, sweep_sections};
+use crate::checks::{alone, are, is_text, yes};
+use crate::counted::{Sections, sweep_all};
 use refusing::Refusing;
 use std::alloc::Global;
 use std::process::Abort;
-use sweeping::members::{Adds, Members, sweep_calls, sweep_clones};
+use sweeping::members::{Adds, Members, sweep_add};
 use sweeping::{LARGE, NAME, TEXT, sweep_encode, sweep_section};
 use wenc_base::{CustomSection, Encode, Fault, NameMap};
 use wenc_parts::ComponentSection;
@@ -74,24 +74,12 @@ enum Subsection<'a> {
     Raw(u8, &'a [u8]),
 }
 
-fn name_component(section: &mut ComponentNameSection<&Refusing>, name: &str) -> Result<(), Fault> {
-    section.component(name)
-}
-
-fn append_raw(
-    section: &mut ComponentNameSection<&Refusing>,
-    id: u8,
-    data: &[u8],
-) -> Result<(), Fault> {
-    section.raw(id, data)
-}
-
 impl<'a, 'b> Adds<Names<'a>> for Subsection<'b> {
     fn add(&self, to: &mut Names<'a>) -> Result<(), Fault> {
-        match self {
-            Subsection::Items(sort, names) => name_items(&mut to.0, *sort, names),
-            Subsection::Component(name) => name_component(&mut to.0, name),
-            Subsection::Raw(id, data) => append_raw(&mut to.0, *id, data),
+        match *self {
+            Subsection::Items(sort, names) => name_items(&mut to.0, sort, names),
+            Subsection::Component(name) => to.0.component(name),
+            Subsection::Raw(id, data) => to.0.raw(id, data),
         }
     }
 }
@@ -113,15 +101,11 @@ const SORTS: &[(Sort, &str)] = &[
     (Sort::Instance, "01050501000174"),
 ];
 
-fn map(rt: &impl Abort, alloc: Global, index: u32, name: &str) -> NameMap {
+fn map(rt: &impl Abort, alloc: Global, rows: &[(u32, &str)]) -> NameMap {
     let mut names = NameMap::new(alloc);
-    ok(rt, names.append(index, name));
-    names
-}
-
-fn long_names(rt: &impl Abort, alloc: Global) -> NameMap {
-    let mut names = map(rt, alloc, LARGE, NAME);
-    ok(rt, names.append(0, NAME));
+    for (index, name) in rows {
+        ok(rt, names.append(*index, name));
+    }
     names
 }
 
@@ -132,12 +116,13 @@ fn custom<'b>(names: &'b Names<'_>) -> CustomSection<'b> {
 
 /// The bytes behind the section's name are these.
 fn has_data(rt: &impl Abort, alloc: Global, names: &Names<'_>, wanted: &str) {
-    assert!(rt; names.0.is_empty() == wanted.is_empty());
-    are(rt, alloc, custom(names).data, wanted);
+    yes(rt, names.0.is_empty() == wanted.is_empty());
+    are(rt, alloc, custom(names).data, "", wanted);
 }
 
 /// A section of these subsections.
 fn made<'a>(rt: &impl Abort, heap: &'a Refusing, subsections: &[Subsection<'_>]) -> Names<'a> {
+    heap.refuse_none();
     let mut names = ok(rt, Names::empty(heap));
     for subsection in subsections {
         ok(rt, subsection.add(&mut names));
@@ -145,62 +130,28 @@ fn made<'a>(rt: &impl Abort, heap: &'a Refusing, subsections: &[Subsection<'_>])
     names
 }
 
-/// Behind the section's name stand the bytes of these subsections.
-fn made_has_data(
-    rt: &impl Abort,
-    alloc: Global,
-    heap: &Refusing,
-    subsections: &[Subsection<'_>],
-    wanted: &str,
-) {
-    let section = made(rt, heap, subsections);
-    has_data(rt, alloc, &section, wanted);
-}
-
 /// A subsection in a section, and by itself.
 fn check_sort(rt: &impl Abort, alloc: Global, heap: &Refusing, sort: Sort, wanted: &str) {
-    let names = map(rt, alloc, 0, "t");
-    let subsections = [Subsection::Items(sort, &names)];
-    made_has_data(rt, alloc, heap, subsections.as_slice(), wanted);
+    let names = map(rt, alloc, &[(0, "t")]);
+    let section = made(rt, heap, &[Subsection::Items(sort, &names)]);
+    has_data(rt, alloc, &section, wanted);
     is_text(rt, alloc, &NamesOf(sort, &names), wanted);
 }
 
-/// Sweeps the call of this sort, and its subsection by itself.
-fn sweep_sort(rt: &impl Abort, alloc: Global, sort: Sort, names: &NameMap) {
-    let heap = Refusing::new(alloc);
-    let items = [Subsection::Items(sort, names)];
-    is_well(
-        rt,
-        sweep_calls::<Names, Subsection>(alloc, &heap, items.as_slice()),
-    );
-    is_well(rt, sweep_encode(alloc, &NamesOf(sort, names)));
-}
-
+// The call of each sort is swept, and its subsection by itself.
 #[test]
 fn sorts(rt: HostRuntime) {
     let heap = Refusing::new(rt.alloc());
-    let long = long_names(&rt, rt.alloc());
+    let long = map(&rt, rt.alloc(), &[(LARGE, NAME), (0, NAME)]);
     for (sort, wanted) in SORTS {
         check_sort(&rt, rt.alloc(), &heap, *sort, wanted);
-        sweep_sort(&rt, rt.alloc(), *sort, &long);
+        let call = Subsection::Items(*sort, &long);
+        is_well(
+            &rt,
+            sweep_add::<Names, Subsection>(rt.alloc(), &heap, &call),
+        );
+        is_well(&rt, sweep_encode(rt.alloc(), &NamesOf(*sort, &long)));
     }
-}
-
-/// The bytes of the section, behind its id.
-fn made_is(
-    rt: &impl Abort,
-    alloc: Global,
-    heap: &Refusing,
-    subsections: &[Subsection<'_>],
-    wanted: &str,
-) {
-    let section = made(rt, heap, subsections);
-    alone(rt, alloc, &section.0, wanted);
-}
-
-fn has_name(rt: &impl Abort, heap: &Refusing) {
-    let section = ok(rt, Names::empty(heap));
-    assert!(rt; custom(&section).name == "component-name");
 }
 
 const NO_NAMES: &str = "000f0e636f6d706f6e656e742d6e616d65";
@@ -210,26 +161,18 @@ const NO_NAME: &str = "00120e636f6d706f6e656e742d6e616d65000100";
 #[test]
 fn without_names(rt: HostRuntime) {
     let heap = Refusing::new(rt.alloc());
-    has_name(&rt, &heap);
-    made_has_data(&rt, rt.alloc(), &heap, &[], "");
-    made_is(&rt, rt.alloc(), &heap, &[], NO_NAMES);
-    let empty = [Subsection::Component("")];
-    made_is(&rt, rt.alloc(), &heap, empty.as_slice(), NO_NAME);
+    let empty = made(&rt, &heap, &[]);
+    yes(&rt, custom(&empty).name == "component-name");
+    has_data(&rt, rt.alloc(), &empty, "");
+    alone(&rt, rt.alloc(), &empty.0, NO_NAMES);
+    let unnamed = &[Subsection::Component("")];
+    alone(&rt, rt.alloc(), &made(&rt, &heap, unnamed).0, NO_NAME);
 }
 
 /// Three kinds of subsections, behind the id of the section.
 const THREE_KINDS: &str = "001e0e636f6d706f6e656e742d6e616d650002016301060010010001740901aa";
 
-/// A copy has a subsection more, and what it was copied from hasn't.
-fn copy_names_more(rt: &impl Abort, alloc: Global, section: &Names<'_>) {
-    let mut copied = ok(rt, section.again());
-    alone(rt, alloc, &copied.0, THREE_KINDS);
-    ok(rt, Subsection::Raw(255, &[]).add(&mut copied));
-    has_data(rt, alloc, &copied, "0002016301060010010001740901aaff00");
-    alone(rt, alloc, &section.0, THREE_KINDS);
-}
-
-/// Three kinds of subsections, and a copy of them.
+/// Three kinds of subsections. A copy has a subsection more, and what it was copied from hasn't.
 fn three_kinds(rt: &impl Abort, alloc: Global, heap: &Refusing, names: &NameMap) {
     let kinds = [
         Subsection::Component("c"),
@@ -238,62 +181,36 @@ fn three_kinds(rt: &impl Abort, alloc: Global, heap: &Refusing, names: &NameMap)
     ];
     let section = made(rt, heap, kinds.as_slice());
     alone(rt, alloc, &section.0, THREE_KINDS);
-    copy_names_more(rt, alloc, &section);
-}
-
-#[test]
-fn kinds_of_subsections(rt: HostRuntime) {
-    let heap = Refusing::new(rt.alloc());
-    let names = map(&rt, rt.alloc(), 0, "t");
-    three_kinds(&rt, rt.alloc(), &heap, &names);
+    let mut copied = ok(rt, section.again());
+    alone(rt, alloc, &copied.0, THREE_KINDS);
+    ok(rt, Subsection::Raw(255, &[]).add(&mut copied));
+    has_data(rt, alloc, &copied, "0002016301060010010001740901aaff00");
+    alone(rt, alloc, &section.0, THREE_KINDS);
 }
 
 // Ids of names under `raw` too, and a size of two bytes.
-fn raw(rt: &impl Abort, alloc: Global, heap: &Refusing) {
-    let subsections = [Subsection::Raw(0, &[]), Subsection::Raw(1, &[0x07])];
-    let mut section = made(rt, heap, subsections.as_slice());
-    has_data(rt, alloc, &section, "0000010107");
-    ok(
-        rt,
-        Subsection::Raw(2, [0x00; 128].as_slice()).add(&mut section),
-    );
-    assert!(rt; custom(&section).data.len() == 136);
-}
-
 #[test]
-fn raw_subsections(rt: HostRuntime) {
+fn kinds_of_subsections(rt: HostRuntime) {
     let heap = Refusing::new(rt.alloc());
-    raw(&rt, rt.alloc(), &heap);
-}
-
-/// Sweeps the calls of other subsections.
-fn sweep_others(rt: &impl Abort, alloc: Global, heap: &Refusing) {
-    let others = [
-        Subsection::Component(""),
-        Subsection::Component(NAME),
-        Subsection::Raw(9, &[]),
-        Subsection::Raw(9, TEXT),
-    ];
-    is_well(
-        rt,
-        sweep_calls::<Names, Subsection>(alloc, heap, others.as_slice()),
-    );
-}
-
-/// Sweeps the section with no subsection, with one and so on.
-fn sweep_each(rt: &impl Abort, alloc: Global, heap: &Refusing) {
-    let names = [
-        Subsection::Component(""),
-        Subsection::Component(NAME),
-        Subsection::Component("a"),
-    ];
-    sweep_sections::<Names, Subsection>(rt, alloc, heap, names.as_slice());
+    let names = map(&rt, rt.alloc(), &[(0, "t")]);
+    three_kinds(&rt, rt.alloc(), &heap, &names);
+    let raw = [Subsection::Raw(0, &[]), Subsection::Raw(1, &[0x07])];
+    let mut section = made(&rt, &heap, raw.as_slice());
+    has_data(&rt, rt.alloc(), &section, "0000010107");
+    let long = Subsection::Raw(2, [0x00; 128].as_slice());
+    ok(&rt, long.add(&mut section));
+    yes(&rt, custom(&section).data.len() == 136);
 }
 
 #[test]
 fn sections_are_swept(rt: HostRuntime) {
     let heap = Refusing::new(rt.alloc());
-    sweep_each(&rt, rt.alloc(), &heap);
-    sweep_others(&rt, rt.alloc(), &heap);
-    is_well(&rt, sweep_clones::<Names>(rt.alloc(), &heap, false));
+    let calls = [
+        Subsection::Component(""),
+        Subsection::Component(NAME),
+        Subsection::Component("a"),
+        Subsection::Raw(9, &[]),
+        Subsection::Raw(9, TEXT),
+    ];
+    sweep_all::<Names, Subsection>(&rt, rt.alloc(), &heap, calls.as_slice());
 }

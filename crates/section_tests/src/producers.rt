@@ -9,29 +9,11 @@ use wenc_base::{Module, ProducersField, ProducersSection};
 /// The bytes of a section that says that "sdk" was "a" of version "1".
 const PRODUCED: &str = "00140970726f647563657273010373646b0101610131";
 
-fn tools(rt: &impl Abort, alloc: Global) -> ProducersField {
+/// Says that this was "a" of version "1".
+fn say(rt: &impl Abort, alloc: Global, section: &mut ProducersSection, name: &str) {
     let mut field = ProducersField::new(alloc);
     ok(rt, field.value("a", "1"));
-    field
-}
-
-/// Says that this was those tools.
-fn say(rt: &impl Abort, alloc: Global, section: &mut ProducersSection, name: &str) {
-    let field = tools(rt, alloc);
     ok(rt, section.field(name, &field));
-}
-
-fn produced(rt: &impl Abort, alloc: Global) -> ProducersSection {
-    let mut section = ProducersSection::new(alloc);
-    say(rt, alloc, &mut section, "sdk");
-    section
-}
-
-/// The section stands behind the header of a module.
-fn stands_in_a_module(rt: &impl Abort, alloc: Global, section: &ProducersSection) {
-    let mut module = ok(rt, Module::new(alloc));
-    ok(rt, put_in(&mut module, section));
-    module_holds(rt, alloc, &module, PRODUCED);
 }
 
 /// A copy of what was produced says more, and what it was copied from doesn't.
@@ -44,15 +26,13 @@ fn copy_says_more(rt: &impl Abort, alloc: Global, section: &ProducersSection) {
     alone(rt, alloc, section, PRODUCED);
 }
 
-fn without_fields(rt: &impl Abort, alloc: Global) {
-    let none: ProducersSection = ProducersSection::new(alloc);
-    alone(rt, alloc, &none, "000b0970726f64756365727300");
-}
-
 #[test]
 fn producers(rt: HostRuntime) {
-    without_fields(&rt, rt.alloc());
-    let section = produced(&rt, rt.alloc());
+    let mut section = ProducersSection::new(rt.alloc());
+    alone(&rt, rt.alloc(), &section, "000b0970726f64756365727300");
+    say(&rt, rt.alloc(), &mut section, "sdk");
     copy_says_more(&rt, rt.alloc(), &section);
-    stands_in_a_module(&rt, rt.alloc(), &section);
+    let mut module = ok(&rt, Module::new(rt.alloc()));
+    ok(&rt, put_in(&mut module, &section));
+    module_holds(&rt, rt.alloc(), &module, PRODUCED);
 }

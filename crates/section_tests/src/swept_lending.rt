@@ -2,7 +2,7 @@
 
 use crate::accepted::{is_well, ok};
 use crate::checks::{counts, yes};
-use crate::lending::{Lending, Makes, TypeKind, is, state};
+use crate::lending::{Lending, Makes, TypeKind, is, is_finished, state};
 use refusing::Refusing;
 use std::alloc::Global;
 use std::process::Abort;
@@ -44,39 +44,34 @@ impl<'a, L: OnHeap<'a>> Members<'a> for Swept<L> {
     }
 }
 
-/// Whether a type is being written, so that nothing is added.
-fn is_closed<L: Lending>(to: &mut L) -> bool {
-    !to.is_finished()
-        && to.begin() == Err(Fault::Unfinished)
-        && to.add_short() == Err(Fault::Unfinished)
-}
-
-/// Gives up the type that is being written. `TooMany` says that there was none.
+/// Gives up the type that is being written, so that nothing is added. `TooMany` says that there was none.
 fn give_up<L: Lending>(to: &mut L) -> Result<(), Fault> {
-    if is_closed(to) && to.give_up() {
+    let is_closed = !is_finished(to)
+        && to.begin() == Err(Fault::Unfinished)
+        && to.add_short() == Err(Fault::Unfinished);
+    if is_closed && to.give_up() {
         Ok(())
     } else {
         Err(Fault::TooMany)
     }
 }
 
-/// Gives up what the refused call of an encoder has left. Where the beginning asks for memory, it may have been that.
-fn take_back<L: Lending>(to: &mut L) -> Result<(), Fault> {
-    if L::BEGINNING_ASKS && to.is_finished() {
-        return Ok(());
-    }
-    give_up(to)
+/// What makes a member, and whether an encoder makes the last call of it.
+#[derive(Drop)]
+pub struct Made<C> {
+    pub call: C,
+    pub is_lent: bool,
 }
 
-/// What makes a member.
-#[derive(Clone, Copy)]
-pub struct Made<C>(pub C);
-
+/// Gives up what the refused call of an encoder has left. Where the beginning asks for memory, it may have been that.
 impl<L: Lending, C: Makes<L>> Adds<Swept<L>> for Made<C> {
     fn add(&self, to: &mut Swept<L>) -> Result<(), Fault> {
-        let outcome = self.0.make(&mut to.0);
-        if outcome.is_err() && self.0.is_lent() {
-            take_back(&mut to.0)?;
+        let outcome = self.call.make(&mut to.0);
+        if outcome.is_err() && self.is_lent {
+            let may_be_whole = L::BEGINNING_ASKS && is_finished(&to.0);
+            if !may_be_whole {
+                give_up(&mut to.0)?;
+            }
         }
         outcome
     }
@@ -90,8 +85,9 @@ fn is_made_of(state: &[u8], counted: &[u8], lead: &[u8], text: &[u8]) -> bool {
     }
 }
 
-/// With this call alone, this is all that can be asked. The text is swept.
-fn makes<'a, L: OnHeap<'a>, C: Makes<L>>(
+/// Sweeps a call, and the text that it makes. With it alone, this is all that can be asked: what is counted, and whether
+/// it is empty and finished; then what the text begins with, and what the call makes.
+pub fn sweep_made<'a, L: OnHeap<'a>, C: Makes<L>>(
     rt: &impl Abort,
     alloc: Global,
     heap: &'a Refusing,
@@ -105,45 +101,22 @@ fn makes<'a, L: OnHeap<'a>, C: Makes<L>>(
     let state = ok(rt, members.state(alloc));
     yes(rt, is_made_of(state.as_slice(), counted, lead, text));
     is_well(rt, members.0.sweep_text(alloc));
-}
-
-/// Sweeps a call, and the text that it makes. With it alone, this is all that can be asked: what is counted, and whether
-/// it is empty and finished; then what the text begins with, and what the call makes.
-pub fn sweep_made<'a, L: OnHeap<'a>, C: Makes<L> + Copy>(
-    rt: &impl Abort,
-    alloc: Global,
-    heap: &'a Refusing,
-    call: C,
-    counted: &[u8],
-    lead: &[u8],
-    text: &[u8],
-) {
-    let call = Made(call);
-    makes::<L, C>(rt, alloc, heap, &call, counted, lead, text);
-    is_well(rt, sweep_add::<Swept<L>, Made<C>>(alloc, heap, &call));
+    is_well(rt, sweep_add::<Swept<L>, Made<C>>(alloc, heap, call));
 }
 
 /// One item: the section isn't empty, and is finished.
 const AN_ITEM: &[u8] = &[1, 0, 0, 0, 0, 1];
 
-/// The size of a section with an item of this text, which takes one byte.
-fn size(text: &[u8]) -> u8 {
-    let mut size = 1u8;
-    for _ in text {
-        size = size.wrapping_add(1);
-    }
-    size
-}
-
-/// Sweeps a call that makes an item of this text, behind the section's size and number of items.
-pub fn sweep_item<'a, L: OnHeap<'a>, C: Makes<L> + Copy>(
+/// Sweeps a call that makes an item of this text, behind the section's size, which takes one byte, and number of items.
+pub fn sweep_item<'a, L: OnHeap<'a>, C: Makes<L>>(
     rt: &impl Abort,
     alloc: Global,
     heap: &'a Refusing,
-    call: C,
+    call: &Made<C>,
     text: &[u8],
 ) {
-    sweep_made::<L, C>(rt, alloc, heap, call, AN_ITEM, &[size(text), 1], text);
+    let size = ok(rt, u8::try_from(text.len() + 1));
+    sweep_made::<L, C>(rt, alloc, heap, call, AN_ITEM, &[size, 1], text);
 }
 
 /// Sweeps the text each time that a call has added to it.
@@ -160,15 +133,7 @@ pub fn sweep_texts<L: Lending, C: Makes<L>>(
     }
 }
 
-/// The last call is refused.
-fn is_refused<L: Lending, C: Makes<L>>(rt: &impl Abort, heap: &Refusing, to: &mut L, call: &C) {
-    heap.refuse_all();
-    yes(rt, call.make(to) == Err(REFUSED));
-    yes(rt, heap.requests() == 1);
-    ok(rt, give_up(to));
-}
-
-/// So it is where so many members leave room for the beginning of a type, and no more.
+/// The last call is refused, where so many members leave room for the beginning of a type, and no more.
 pub fn last_is_refused<'a, L: OnHeap<'a>, C: Makes<L>>(
     rt: &impl Abort,
     heap: &'a Refusing,
@@ -176,44 +141,34 @@ pub fn last_is_refused<'a, L: OnHeap<'a>, C: Makes<L>>(
     call: &C,
 ) {
     let mut members: Swept<L> = ok(rt, started(heap, count));
-    is_refused(rt, heap, &mut members.0, call);
+    heap.refuse_all();
+    yes(rt, call.make(&mut members.0) == Err(REFUSED));
+    yes(rt, heap.requests() == 1);
+    ok(rt, give_up(&mut members.0));
 }
 
 /// Nothing is in it, and nothing was asked for.
 fn is_new<L: Lending>(rt: &impl Abort, heap: &Refusing, new: &L) {
-    yes(rt, new.is_empty() && new.is_finished());
-    yes(rt, new.counts() == [0; 4]);
+    let (counts, is_empty, is_finished) = new.asked();
+    yes(rt, counts == [0; 4] && is_empty && is_finished);
     yes(rt, heap.requests() == 0);
 }
 
-/// What is new takes no memory, nor does a copy of it, and there is nothing to be given up.
-fn is_made<'a, L: OnHeap<'a>>(rt: &impl Abort, heap: &'a Refusing) {
+/// What is new takes no memory, nor does a copy of it, and there is nothing to be given up. Each beginning asks for
+/// memory, where any does, and changes nothing where it is refused.
+fn is_made<'a, L: OnHeap<'a>, B: Makes<L>>(rt: &impl Abort, heap: &'a Refusing, beginnings: &[B]) {
     heap.refuse_all();
     let mut new = L::empty(heap);
     yes(rt, !new.give_up());
     is_new(rt, heap, &new);
     is_new(rt, heap, &ok(rt, new.copy()));
-}
-
-/// A beginning that is refused changes nothing.
-fn is_not_begun<L: Lending, B: Makes<L>>(rt: &impl Abort, heap: &Refusing, to: &mut L, start: &B) {
-    heap.refuse_all();
-    yes(rt, start.make(to) == Err(REFUSED));
-    yes(rt, heap.requests() == 1);
-    heap.refuse_all();
-    is_new(rt, heap, to);
-}
-
-/// Each beginning asks for memory, where any does.
-fn begin_nothing<'a, L: OnHeap<'a>, B: Makes<L>>(
-    rt: &impl Abort,
-    heap: &'a Refusing,
-    beginnings: &[B],
-) {
-    let mut to = L::empty(heap);
-    for start in beginnings {
-        if L::BEGINNING_ASKS {
-            is_not_begun(rt, heap, &mut to, start);
+    if L::BEGINNING_ASKS {
+        for start in beginnings {
+            heap.refuse_all();
+            yes(rt, start.make(&mut new) == Err(REFUSED));
+            yes(rt, heap.requests() == 1);
+            heap.refuse_all();
+            is_new(rt, heap, &new);
         }
     }
 }
@@ -227,24 +182,7 @@ fn let_begin<L: Lending>(heap: &Refusing) {
     }
 }
 
-/// A type is begun in each way, and given up without memory.
-fn begin_each<L: Lending, B: Makes<L>>(
-    rt: &impl Abort,
-    heap: &Refusing,
-    to: &mut L,
-    beginnings: &[B],
-) {
-    for start in beginnings {
-        let_begin::<L>(heap);
-        ok(rt, start.make(to));
-        yes(rt, L::BEGINNING_ASKS || heap.requests() == 0);
-        heap.refuse_all();
-        ok(rt, give_up(to));
-        yes(rt, heap.requests() == 0);
-    }
-}
-
-/// Nothing is lost of so many members.
+/// A type is begun in each way, and given up without memory. Nothing is lost of so many members.
 fn keeps_members<'a, L: OnHeap<'a>, B: Makes<L>>(
     rt: &impl Abort,
     alloc: Global,
@@ -254,7 +192,14 @@ fn keeps_members<'a, L: OnHeap<'a>, B: Makes<L>>(
 ) {
     let mut members: Swept<L> = ok(rt, started(heap, count));
     let before = ok(rt, members.state(alloc));
-    begin_each(rt, heap, &mut members.0, beginnings);
+    for start in beginnings {
+        let_begin::<L>(heap);
+        ok(rt, start.make(&mut members.0));
+        yes(rt, L::BEGINNING_ASKS || heap.requests() == 0);
+        heap.refuse_all();
+        ok(rt, give_up(&mut members.0));
+        yes(rt, heap.requests() == 0);
+    }
     is_well(rt, is_as(alloc, &members, before.as_slice()));
 }
 
@@ -264,32 +209,17 @@ fn is_as_before<L: Lending>(rt: &impl Abort, alloc: Global, of: &mut L, before: 
     is(rt, alloc, of, before);
 }
 
-/// A copy of what is unfinished asks for memory once.
-fn is_not_copied<L: Lending>(rt: &impl Abort, heap: &Refusing, of: &L) {
-    heap.refuse_nth(1);
-    yes(rt, of.copy().err() == Some(REFUSED));
-    yes(rt, heap.requests() == 1);
-}
-
-/// A copy while a type is being written.
-fn is_copied<L: Lending>(
-    rt: &impl Abort,
-    alloc: Global,
-    heap: &Refusing,
-    of: &mut L,
-    before: &[u8],
-) {
-    ok(rt, of.begin());
-    is_not_copied(rt, heap, of);
-    is_as_before(rt, alloc, &mut ok(rt, of.copy()), before);
-    is_as_before(rt, alloc, of, before);
-}
-
-/// So it is with members before it.
+/// Copies, and one while a type is being written, with members before it: it asks for memory once.
 fn copies<'a, L: OnHeap<'a>>(rt: &impl Abort, alloc: Global, heap: &'a Refusing) {
     let mut members: Swept<L> = ok(rt, started(heap, 3));
     let before = ok(rt, members.state(alloc));
-    is_copied(rt, alloc, heap, &mut members.0, before.as_slice());
+    ok(rt, members.0.begin());
+    heap.refuse_nth(1);
+    yes(rt, members.0.copy().err() == Some(REFUSED));
+    yes(rt, heap.requests() == 1);
+    let mut copy = ok(rt, members.0.copy());
+    is_as_before(rt, alloc, &mut copy, before.as_slice());
+    is_as_before(rt, alloc, &mut members.0, before.as_slice());
     is_well(rt, sweep_clones::<Swept<L>>(alloc, heap, false));
 }
 
@@ -302,11 +232,9 @@ pub fn begun<'a, L: OnHeap<'a>, B: Makes<L>>(
     states: &[&str; 3],
     beginnings: &[B],
 ) {
-    let [none, one, two] = states;
-    counts::<Swept<L>>(rt, alloc, heap, none, one, two);
-    is_made::<L>(rt, heap);
+    counts::<Swept<L>>(rt, alloc, heap, states);
+    is_made::<L, B>(rt, heap, beginnings);
     copies::<L>(rt, alloc, heap);
-    begin_nothing::<L, B>(rt, heap, beginnings);
     for count in 0..9u32 {
         keeps_members::<L, B>(rt, alloc, heap, count, beginnings);
     }

@@ -1,15 +1,11 @@
-//! The last calls of an encoder of types. Each is made by a function of its own, since what a call promises is dear to
-//! the proof of a function that makes several.
+//! The last calls of an encoder of types.
 
 use crate::lending::Makes;
 use std::alloc::Allocator;
 use wenc_base::{Fault, Lender, ValType};
 use wenc_parts::{ComponentValType, PrimitiveValType};
 use wenc_sections::ComponentTypeSection;
-use wenc_types::{
-    ComponentDefinedTypeEncoder, ComponentType, ComponentTypeEncoder, Declarations, DeclaringKind,
-    InstanceType,
-};
+use wenc_types::{ComponentType, ComponentTypeEncoder, Declarations, DeclaringKind, InstanceType};
 
 /// What an encoder of types borrows.
 pub trait Lends {
@@ -17,11 +13,6 @@ pub trait Lends {
 
     /// Begins a type.
     fn encoder(&mut self) -> Result<ComponentTypeEncoder<'_, Self::Lent>, Fault>;
-
-    /// Begins a type of values.
-    fn values(&mut self) -> Result<ComponentDefinedTypeEncoder<'_, Self::Lent>, Fault> {
-        Ok(self.encoder()?.defined_type())
-    }
 }
 
 impl<K: DeclaringKind, A: Allocator> Lends for Declarations<K, A> {
@@ -48,15 +39,12 @@ pub enum Whole<'t> {
 }
 
 impl<'t, L: Lends> Makes<L> for Whole<'t> {
-    fn is_lent(&self) -> bool {
-        true
-    }
-
     /// Begins a type, and makes the call.
     fn make(&self, to: &mut L) -> Result<(), Fault> {
+        let encoder = to.encoder()?;
         match *self {
-            Whole::Component(ty) => component(to, ty),
-            Whole::Instance(ty) => instance(to, ty),
+            Whole::Component(ty) => encoder.component(ty),
+            Whole::Instance(ty) => encoder.instance(ty),
         }
     }
 }
@@ -85,148 +73,72 @@ pub enum Call<'t> {
 }
 
 impl<'t, L: Lends> Makes<L> for Call<'t> {
-    fn is_lent(&self) -> bool {
-        true
-    }
-
     /// Begins a type, and makes the call.
     fn make(&self, to: &mut L) -> Result<(), Fault> {
         match *self {
-            Call::Resource(rep, dtor) => resource(to, rep, dtor),
-            Call::Function(None, params, answer) => function(to, params, answer),
-            Call::Function(Some(is_async), params, answer) => {
-                tagged_function(to, is_async, params, answer)
-            }
-            _ => self.write_values(to),
-        }
-    }
-}
-
-impl<'t> Call<'t> {
-    /// The calls for types of values that are of one part.
-    fn write_values<L: Lends>(self, to: &mut L) -> Result<(), Fault> {
-        match self {
-            Call::Primitive(ty) => primitive(to, ty),
-            Call::List(ty) => list(to, ty),
-            Call::Option(ty) => option(to, ty),
-            Call::Own(index) => own(to, index),
-            Call::Borrow(index) => borrow(to, index),
-            Call::Future(payload) => future(to, payload),
-            Call::Stream(payload) => stream(to, payload),
+            Call::Resource(rep, dtor) => to.encoder()?.resource(rep, dtor),
+            Call::Function(is_async, params, answer) => function(to, is_async, params, answer),
+            Call::Primitive(_)
+            | Call::List(_)
+            | Call::Option(_)
+            | Call::Own(_)
+            | Call::Borrow(_)
+            | Call::Future(_)
+            | Call::Stream(_) => self.write_short(to),
             _ => self.write_several(to),
         }
     }
-
-    /// Those for types of several parts. `TooMany`: it is none of these.
-    fn write_several<L: Lends>(self, to: &mut L) -> Result<(), Fault> {
-        match self {
-            Call::Map(key, value) => map(to, key, value),
-            Call::FixedLengthList(ty, length) => fixed_length_list(to, ty, length),
-            Call::Result(ok, err) => result(to, ok, err),
-            Call::Record(fields) => record(to, fields),
-            Call::Variant(cases) => variant(to, cases),
-            Call::Tuple(types) => tuple(to, types),
-            Call::Flags(names) => flags(to, names),
-            Call::EnumType(cases) => enum_type(to, cases),
-            _ => Err(Fault::TooMany),
-        }
-    }
-}
-
-fn component<L: Lends>(to: &mut L, ty: &ComponentType) -> Result<(), Fault> {
-    to.encoder()?.component(ty)
-}
-
-fn instance<L: Lends>(to: &mut L, ty: &InstanceType) -> Result<(), Fault> {
-    to.encoder()?.instance(ty)
-}
-
-fn resource<L: Lends>(to: &mut L, rep: ValType, dtor: Option<u32>) -> Result<(), Fault> {
-    to.encoder()?.resource(rep, dtor)
 }
 
 fn function<L: Lends>(
     to: &mut L,
+    is_async: Option<bool>,
     params: &[(&str, ComponentValType)],
     answer: Option<ComponentValType>,
 ) -> Result<(), Fault> {
     let mut function = to.encoder()?.function();
+    if let Some(is_async) = is_async {
+        function.async_(is_async)?;
+    }
     function.params(params.iter().copied())?;
     function.result(answer)
 }
 
-fn tagged_function<L: Lends>(
-    to: &mut L,
-    is_async: bool,
-    params: &[(&str, ComponentValType)],
-    answer: Option<ComponentValType>,
-) -> Result<(), Fault> {
-    let mut function = to.encoder()?.function();
-    function.async_(is_async)?;
-    function.params(params.iter().copied())?;
-    function.result(answer)
-}
+impl<'t> Call<'t> {
+    /// The calls for types of values that are of one part. `TooMany`: it is none of these.
+    fn write_short<L: Lends>(&self, to: &mut L) -> Result<(), Fault> {
+        let values = to.encoder()?.defined_type();
+        match *self {
+            Call::Primitive(ty) => values.primitive(ty),
+            Call::List(ty) => values.list(ty),
+            Call::Option(ty) => values.option(ty),
+            Call::Borrow(index) => values.borrow(index),
+            Call::Future(payload) => values.future(payload),
+            Call::Stream(payload) => values.stream(payload),
+            Call::Own(index) => values.own(index),
+            _ => {
+                drop(values);
+                Err(Fault::TooMany)
+            }
+        }
+    }
 
-fn primitive<L: Lends>(to: &mut L, ty: PrimitiveValType) -> Result<(), Fault> {
-    to.values()?.primitive(ty)
-}
-
-fn list<L: Lends>(to: &mut L, ty: ComponentValType) -> Result<(), Fault> {
-    to.values()?.list(ty)
-}
-
-fn option<L: Lends>(to: &mut L, ty: ComponentValType) -> Result<(), Fault> {
-    to.values()?.option(ty)
-}
-
-fn own<L: Lends>(to: &mut L, index: u32) -> Result<(), Fault> {
-    to.values()?.own(index)
-}
-
-fn borrow<L: Lends>(to: &mut L, index: u32) -> Result<(), Fault> {
-    to.values()?.borrow(index)
-}
-
-fn future<L: Lends>(to: &mut L, payload: Option<ComponentValType>) -> Result<(), Fault> {
-    to.values()?.future(payload)
-}
-
-fn stream<L: Lends>(to: &mut L, payload: Option<ComponentValType>) -> Result<(), Fault> {
-    to.values()?.stream(payload)
-}
-
-fn map<L: Lends>(to: &mut L, key: ComponentValType, value: ComponentValType) -> Result<(), Fault> {
-    to.values()?.map(key, value)
-}
-
-fn fixed_length_list<L: Lends>(to: &mut L, ty: ComponentValType, length: u32) -> Result<(), Fault> {
-    to.values()?.fixed_length_list(ty, length)
-}
-
-fn result<L: Lends>(
-    to: &mut L,
-    ok: Option<ComponentValType>,
-    err: Option<ComponentValType>,
-) -> Result<(), Fault> {
-    to.values()?.result(ok, err)
-}
-
-fn record<L: Lends>(to: &mut L, fields: &[(&str, ComponentValType)]) -> Result<(), Fault> {
-    to.values()?.record(fields.iter().copied())
-}
-
-fn variant<L: Lends>(to: &mut L, cases: &[(&str, Option<ComponentValType>)]) -> Result<(), Fault> {
-    to.values()?.variant(cases.iter().copied())
-}
-
-fn tuple<L: Lends>(to: &mut L, types: &[ComponentValType]) -> Result<(), Fault> {
-    to.values()?.tuple(types.iter().copied())
-}
-
-fn flags<L: Lends>(to: &mut L, names: &[&str]) -> Result<(), Fault> {
-    to.values()?.flags(names.iter().copied())
-}
-
-fn enum_type<L: Lends>(to: &mut L, cases: &[&str]) -> Result<(), Fault> {
-    to.values()?.enum_type(cases.iter().copied())
+    /// Those for types of several parts. `TooMany`: it is none of these.
+    fn write_several<L: Lends>(&self, to: &mut L) -> Result<(), Fault> {
+        let values = to.encoder()?.defined_type();
+        match *self {
+            Call::Map(key, value) => values.map(key, value),
+            Call::FixedLengthList(ty, length) => values.fixed_length_list(ty, length),
+            Call::Result(ok, err) => values.result(ok, err),
+            Call::Record(fields) => values.record(fields.iter().copied()),
+            Call::Variant(cases) => values.variant(cases.iter().copied()),
+            Call::Tuple(types) => values.tuple(types.iter().copied()),
+            Call::Flags(names) => values.flags(names.iter().copied()),
+            Call::EnumType(cases) => values.enum_type(cases.iter().copied()),
+            _ => {
+                drop(values);
+                Err(Fault::TooMany)
+            }
+        }
+    }
 }

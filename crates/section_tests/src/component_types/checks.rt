@@ -1,14 +1,12 @@
 //! What the tests of component types share.
 
-use crate::component_types::lending::Item;
 use crate::lending::Makes;
-use crate::swept_lending::{OnHeap, sweep_item, sweep_made};
+use crate::swept_lending::{Made, OnHeap, sweep_made};
 use refusing::Refusing;
 use std::alloc::Global;
 use std::process::Abort;
 use sweeping::LARGE;
 use wenc_parts::{ComponentValType, PrimitiveValType};
-use wenc_sections::ComponentTypeSection;
 
 pub const STRING: ComponentValType = ComponentValType::Primitive(PrimitiveValType::String);
 
@@ -22,18 +20,13 @@ pub const LAST: ComponentValType = ComponentValType::Type(LARGE);
 pub const A_TYPE: &[u8] = &[1, 0, 1, 0, 0, 1];
 
 /// The call declares a type of this text, and is swept. The type that it is declared in begins with this byte.
-pub fn declares<'a, L: OnHeap<'a>, C: Makes<L> + Copy>(
+pub fn declares<'a, L: OnHeap<'a>, C: Makes<L>>(
     rt: &impl Abort,
     alloc: Global,
     heap: &'a Refusing,
     byte: u8,
-    call: C,
+    call: &Made<C>,
     text: &[u8],
 ) {
     sweep_made::<L, C>(rt, alloc, heap, call, A_TYPE, &[byte, 1, 1], text);
-}
-
-/// One call adds this item, which has this text, and is swept.
-pub fn is_item(rt: &impl Abort, alloc: Global, heap: &Refusing, item: Item<'_>, text: &[u8]) {
-    sweep_item::<ComponentTypeSection<&Refusing>, Item<'_>>(rt, alloc, heap, item, text);
 }

@@ -1,22 +1,21 @@
 //! Component types and instance types: their declarations, and what they count.
 
 use crate::accepted::{is_well, ok};
-use crate::checks::alone;
 use crate::component_types::calls::Call;
 use crate::component_types::checks::{A_TYPE, LAST, STRING};
-use crate::component_types::declaring::{CoreType, Declaration, Import, Kind, make_each};
-use crate::component_types::lending::Opening;
-use crate::lending::{Lending, Makes, has};
-use crate::swept_lending::{OnHeap, begun, sweep_made};
+use crate::component_types::declaring::{CoreType, Declaration, Import, Kind};
+use crate::component_types::lending::{Item, Opening, Start};
+use crate::core_types::making::{OPEN, subtype};
+use crate::lending::{Lending, Makes, declare, has, is_section, make_each};
+use crate::swept_lending::{Made, begun, sweep_made};
 use refusing::Refusing;
 use std::alloc::Global;
 use std::process::Abort;
 use sweeping::{LARGE, NAME};
-use wenc_base::{CompositeType, ExportKind, FuncType, GroupTree, SubType, ValType};
+use wenc_base::{ExportKind, GroupTree, ValType};
 use wenc_parts::{
     Alias, ComponentExportKind, ComponentOuterAliasKind, ComponentTypeRef, TypeBounds,
 };
-use wenc_sections::ComponentTypeSection;
 use wenc_types::component_type::ComponentTypes;
 use wenc_types::instance_type::InstanceTypes;
 use wenc_types::{ComponentType, CoreTypeTree, Declarations, InstanceType, ModuleType};
@@ -240,28 +239,6 @@ const LONG_IMPORT: &[(Import<'static>, &[u8], &[u8])] = &[(
     b"\x03\x00\x49a name that is longer than a first growth, by far: aaaaaaaaaaaaaaaaaaaaaa\x05\xff\xff\xff\xff\x0f",
 )];
 
-/// Sweeps declarations of a type that begins with this byte.
-fn sweep_declarations<'a, L: OnHeap<'a>, C: Makes<L> + Copy>(
-    rt: &impl Abort,
-    alloc: Global,
-    heap: &'a Refusing,
-    byte: u8,
-    rows: &[(C, &[u8], &[u8])],
-) {
-    for (call, counted, text) in rows {
-        sweep_made::<L, C>(rt, alloc, heap, *call, counted, &[byte, 1], text);
-    }
-}
-
-/// Adds them, and sweeps the text each time.
-fn sweep_texts<K: Kind>(rt: &impl Abort, alloc: Global, ty: &mut Declarations<K>) {
-    is_well(rt, ty.sweep_text(alloc));
-    for (call, _, _) in OTHERS {
-        ok(rt, call.make(ty));
-        is_well(rt, ty.sweep_text(alloc));
-    }
-}
-
 /// Sweeps what both kinds declare.
 fn sweep_declared<K: Kind>(
     rt: &impl Abort,
@@ -269,110 +246,111 @@ fn sweep_declared<K: Kind>(
     heap: &Refusing,
     rows: &[(Declaration<'_>, &[u8], &[u8])],
 ) {
-    let byte = K::LEAD;
-    sweep_declarations::<Declarations<K, &Refusing>, Declaration<'_>>(rt, alloc, heap, byte, rows);
+    let lead = &[K::LEAD, 1];
+    for (call, counted, text) in rows {
+        let call = Made {
+            call: *call,
+            is_lent: call.is_lent(),
+        };
+        sweep_made::<Declarations<K, &Refusing>, Declaration<'_>>(
+            rt, alloc, heap, &call, counted, lead, text,
+        );
+    }
 }
 
-fn sweep_kind<K: Kind>(rt: &impl Abort, alloc: Global, heap: &Refusing) {
+/// The same of core types that are made already.
+fn sweep_core_type<K: Kind>(
+    rt: &impl Abort,
+    alloc: Global,
+    heap: &Refusing,
+    call: CoreType<'_>,
+    text: &[u8],
+) {
+    let lead = &[K::LEAD, 1];
+    let call = Made {
+        call,
+        is_lent: true,
+    };
+    sweep_made::<Declarations<K, &Refusing>, CoreType<'_>>(
+        rt,
+        alloc,
+        heap,
+        &call,
+        A_CORE_TYPE,
+        lead,
+        text,
+    );
+}
+
+/// Sweeps the calls, and the text each time that one has added to it.
+fn sweep_kind<K: Kind>(
+    rt: &impl Abort,
+    alloc: Global,
+    heap: &Refusing,
+    function: &CoreTypeTree,
+    module: &ModuleType,
+) {
     sweep_declared::<K>(rt, alloc, heap, FIRST);
     sweep_declared::<K>(rt, alloc, heap, EXPORTS);
     sweep_declared::<K>(rt, alloc, heap, OTHERS);
+    let text = b"\x00\x00\x50\x00\x60\x00\x00";
+    sweep_core_type::<K>(rt, alloc, heap, CoreType::Tree(function), text);
+    let text = b"\x00\x50\x00";
+    sweep_core_type::<K>(rt, alloc, heap, CoreType::Module(module), text);
     let mut ty: Declarations<K> = Declarations::new(alloc);
-    sweep_texts(rt, alloc, &mut ty);
+    is_well(rt, ty.sweep_text(alloc));
+    for (call, _, _) in OTHERS {
+        ok(rt, call.make(&mut ty));
+        is_well(rt, ty.sweep_text(alloc));
+    }
+}
+
+/// A type of functions without parameters and results, that others may extend.
+fn open_function(rt: &impl Abort, alloc: Global) -> CoreTypeTree {
+    CoreTypeTree::Group(GroupTree::Sub(subtype(rt, alloc, &OPEN)))
+}
+
+fn sweep_imports(
+    rt: &impl Abort,
+    alloc: Global,
+    heap: &Refusing,
+    rows: &[(Import<'_>, &[u8], &[u8])],
+) {
+    let lead = &[0x41, 1];
+    for (call, counted, text) in rows {
+        let call = Made {
+            call: *call,
+            is_lent: false,
+        };
+        sweep_made::<ComponentType<&Refusing>, Import<'_>>(
+            rt, alloc, heap, &call, counted, lead, text,
+        );
+    }
 }
 
 #[test]
 fn added(rt: HostRuntime) {
     let heap = Refusing::new(rt.alloc());
-    sweep_kind::<ComponentTypes>(&rt, rt.alloc(), &heap);
-    sweep_kind::<InstanceTypes>(&rt, rt.alloc(), &heap);
-}
-
-fn sweep_imports(rt: &impl Abort, alloc: Global, rows: &[(Import<'_>, &[u8], &[u8])]) {
-    let heap = Refusing::new(alloc);
-    sweep_declarations::<ComponentType<&Refusing>, Import<'_>>(rt, alloc, &heap, 0x41, rows);
-}
-
-#[test]
-fn imports(rt: HostRuntime) {
-    sweep_imports(&rt, rt.alloc(), IMPORTS);
-    sweep_imports(&rt, rt.alloc(), LONG_IMPORT);
-}
-
-/// A type of functions that others may extend.
-fn open_function(ty: FuncType) -> CoreTypeTree {
-    CoreTypeTree::Group(GroupTree::Sub(SubType {
-        is_final: false,
-        supertype_idx: None,
-        composite_type: CompositeType::Func(ty),
-    }))
-}
-
-/// One without parameters and results.
-fn empty_function(rt: &impl Abort, alloc: Global) -> CoreTypeTree {
-    let ty = FuncType::new(alloc, [].iter().copied(), [].iter().copied());
-    open_function(ok(rt, ty))
-}
-
-/// Sweeps it and a module type as core types.
-fn sweep_core_types<'t, K: Kind>(
-    rt: &impl Abort,
-    alloc: Global,
-    function: &'t CoreTypeTree,
-    module: &'t ModuleType,
-) {
-    let heap = Refusing::new(alloc);
-    let function = (
-        CoreType::Tree(function),
-        A_CORE_TYPE,
-        b"\x00\x00\x50\x00\x60\x00\x00".as_slice(),
-    );
-    let module = (
-        CoreType::Module(module),
-        A_CORE_TYPE,
-        b"\x00\x50\x00".as_slice(),
-    );
-    let rows = &[function, module];
-    sweep_declarations::<Declarations<K, &Refusing>, CoreType<'_>>(rt, alloc, &heap, K::LEAD, rows);
-}
-
-#[test]
-fn core_types(rt: HostRuntime) {
-    let function = empty_function(&rt, rt.alloc());
+    let function = open_function(&rt, rt.alloc());
     let module = ModuleType::new(rt.alloc());
-    sweep_core_types::<ComponentTypes>(&rt, rt.alloc(), &function, &module);
-    sweep_core_types::<InstanceTypes>(&rt, rt.alloc(), &function, &module);
+    sweep_kind::<ComponentTypes>(&rt, rt.alloc(), &heap, &function, &module);
+    sweep_kind::<InstanceTypes>(&rt, rt.alloc(), &heap, &function, &module);
+    sweep_imports(&rt, rt.alloc(), &heap, IMPORTS);
+    sweep_imports(&rt, rt.alloc(), &heap, LONG_IMPORT);
 }
 
-/// Declares it as a core type.
-fn begin(rt: &impl Abort, ty: &mut ComponentType, alloc: Global) {
-    let function = empty_function(rt, alloc);
-    ok(rt, CoreType::Tree(&function).make(ty));
-}
-
-/// Declares each of what a table tells of.
-fn declare<C: Makes<ComponentType>>(
-    rt: &impl Abort,
-    ty: &mut ComponentType,
-    rows: &[(C, &[u8], &[u8])],
-) {
-    for (declaration, _, _) in rows {
-        ok(rt, declaration.make(ty));
-    }
-}
-
-/// The call adds an item to a section, which then has these bytes.
-fn is_item<C: Makes<ComponentTypeSection>>(rt: &impl Abort, alloc: Global, call: &C, wanted: &str) {
-    let mut section = ComponentTypeSection::new(alloc);
-    ok(rt, call.make(&mut section));
-    has(rt, &section, [1, 0, 0, 0]);
-    alone(rt, alloc, &section, wanted);
+/// A component type that declares such a function as a core type.
+fn begin(rt: &impl Abort, alloc: Global) -> ComponentType {
+    let mut ty = ComponentType::new(alloc);
+    let function = open_function(rt, alloc);
+    ok(rt, CoreType::Tree(&function).make(&mut ty));
+    ty
 }
 
 /// In a section the type alone has these bytes, where one call adds it, and where an encoder does.
 fn in_a_section<K: Kind>(rt: &impl Abort, alloc: Global, ty: &Declarations<K>, wanted: &str) {
-    is_item(rt, alloc, &K::item(ty), wanted);
-    is_item(rt, alloc, &K::call(ty), wanted);
+    is_section(rt, alloc, &Item::Whole(K::call(ty)), wanted);
+    is_section(rt, alloc, &K::call(ty), wanted);
 }
 
 const FULL: &str =
@@ -384,8 +362,7 @@ const FULL: &str =
 /// Upstream gives these counts, and this section.
 #[test]
 fn component_types(rt: HostRuntime) {
-    let mut ty = ComponentType::new(rt.alloc());
-    begin(&rt, &mut ty, rt.alloc());
+    let mut ty = begin(&rt, rt.alloc());
     declare(&rt, &mut ty, FIRST);
     declare(&rt, &mut ty, IMPORTS);
     has(&rt, &ty, [17, 2, 5, 2]);
@@ -394,14 +371,12 @@ fn component_types(rt: HostRuntime) {
     in_a_section(&rt, rt.alloc(), &ty, FULL);
 }
 
+const RESOURCE: Import<'static> = Import("r", ComponentTypeRef::Type(TypeBounds::SubResource));
+
 #[test]
 fn an_imported_resource(rt: HostRuntime) {
-    let mut ty = ComponentType::new(rt.alloc());
-    begin(&rt, &mut ty, rt.alloc());
-    ok(
-        &rt,
-        Import("r", ComponentTypeRef::Type(TypeBounds::SubResource)).make(&mut ty),
-    );
+    let mut ty = begin(&rt, rt.alloc());
+    ok(&rt, RESOURCE.make(&mut ty));
     ok(&rt, Declaration::Alias(CORE_TYPE_ALIAS).make(&mut ty));
     has(&rt, &ty, [3, 2, 1, 0]);
     let wanted = "071601410300005000600000030001720301020010020100";
@@ -430,60 +405,52 @@ const OPTION: &[Declaration<'static>] = &[
     Declaration::Export("t", ComponentTypeRef::Type(TypeBounds::Eq(0))),
 ];
 
-/// With these declarations an instance type has these counts, and in a section these bytes.
-fn check_instance_type(
-    rt: &impl Abort,
-    alloc: Global,
-    declarations: &[Declaration<'_>],
-    counts: [u32; 4],
-    wanted: &str,
-) {
-    let mut ty = InstanceType::new(alloc);
-    make_each(rt, &mut ty, declarations);
-    has(rt, &ty, counts);
-    in_a_section(rt, alloc, &ty, wanted);
-}
+/// Declarations, what they count, and a section of an instance type with them. Upstream gives these.
+const INSTANCE_TYPES: &[(&[Declaration<'static>], [u32; 4], &str)] = &[
+    (
+        SEVEN,
+        [7, 2, 2, 2],
+        "072a014207005e7801013f7e0103020500010169020010020100040001660106040001730301040001690508",
+    ),
+    (OPTION, [2, 0, 2, 0], "070d014202016b7304000174030000"),
+];
 
-/// Upstream gives these counts, and these sections.
 #[test]
 fn instance_types(rt: HostRuntime) {
-    let wanted =
-        "072a014207005e7801013f7e0103020500010169020010020100040001660106040001730301040001690508";
-    check_instance_type(&rt, rt.alloc(), SEVEN, [7, 2, 2, 2], wanted);
-    let wanted = "070d014202016b7304000174030000";
-    check_instance_type(&rt, rt.alloc(), OPTION, [2, 0, 2, 0], wanted);
+    for (declarations, counts, wanted) in INSTANCE_TYPES {
+        let mut ty = InstanceType::new(rt.alloc());
+        make_each(&rt, &mut ty, declarations);
+        has(&rt, &ty, *counts);
+        in_a_section(&rt, rt.alloc(), &ty, wanted);
+    }
 }
 
 /// How types are begun.
-const OPENINGS: &[Opening] = &[
-    Opening::Type,
-    Opening::Tagged,
-    Opening::CoreType,
-    Opening::Core,
+const STARTS: &[Start] = &[
+    Start::Type(Opening::Type),
+    Start::Type(Opening::Tagged),
+    Start::CoreType,
+    Start::Core,
 ];
 
-/// Beginnings, and copies, of which this is asked with no, one and two types.
-fn check_begun<K: Kind>(rt: &impl Abort, alloc: Global, states: &[&str; 3]) {
-    let heap = Refusing::new(alloc);
-    begun::<Declarations<K, &Refusing>, Opening>(rt, alloc, &heap, states, OPENINGS);
-}
+/// What is asked of a component type with no, one and two types.
+const COMPONENT_STATES: &[&str; 3] = &[
+    "0000000001014100",
+    "0100010000014101016900",
+    "0200020000014102016900016900",
+];
 
-#[test]
-fn begun_component_types(rt: HostRuntime) {
-    let states = &[
-        "0000000001014100",
-        "0100010000014101016900",
-        "0200020000014102016900016900",
-    ];
-    check_begun::<ComponentTypes>(&rt, rt.alloc(), states);
-}
+/// The same of an instance type.
+const INSTANCE_STATES: &[&str; 3] = &[
+    "0000000001014200",
+    "0100010000014201016900",
+    "0200020000014202016900016900",
+];
 
+/// Beginnings, and copies.
 #[test]
-fn begun_instance_types(rt: HostRuntime) {
-    let states = &[
-        "0000000001014200",
-        "0100010000014201016900",
-        "0200020000014202016900016900",
-    ];
-    check_begun::<InstanceTypes>(&rt, rt.alloc(), states);
+fn begun_ones(rt: HostRuntime) {
+    let heap = Refusing::new(rt.alloc());
+    begun::<ComponentType<&Refusing>, Start>(&rt, rt.alloc(), &heap, COMPONENT_STATES, STARTS);
+    begun::<InstanceType<&Refusing>, Start>(&rt, rt.alloc(), &heap, INSTANCE_STATES, STARTS);
 }

@@ -1,11 +1,9 @@
 //! Types of functions: how far each is written.
 
 use crate::accepted::ok;
-use crate::checks::alone;
+use crate::checks::{alone, yes};
 use crate::component_types::checks::STRING;
 use crate::lending::has;
-use std::alloc::Global;
-use std::process::Abort;
 use wenc_base::Fault;
 use wenc_parts::ComponentValType;
 use wenc_sections::ComponentTypeSection;
@@ -49,55 +47,37 @@ const ASYNCHRONOUS: &[FuncStage] = &[
     FuncStage::Done,
 ];
 
-fn are(rt: &impl Abort, given: &[FuncStage], wanted: &[FuncStage]) {
-    assert!(rt; given == wanted);
-}
-
-/// The section has a function alone, and these bytes.
-fn is_function(rt: &impl Abort, alloc: Global, section: &ComponentTypeSection, wanted: &str) {
-    has(rt, section, [1, 0, 0, 0]);
-    alone(rt, alloc, section, wanted);
-}
-
-fn check(rt: &impl Abort, alloc: Global, row: &Row<'_>) {
-    let mut section = ComponentTypeSection::new(alloc);
-    let stages = ok(rt, stages(&mut section, row));
-    are(rt, stages.as_slice(), row.stages);
-    is_function(rt, alloc, &section, row.bytes);
-}
-
-#[test]
-fn asynchronous_functions(rt: HostRuntime) {
-    let row = Row {
+const ROWS: &[Row<'static>] = &[
+    Row {
         is_async: true,
         params: &[],
         answer: None,
         stages: ASYNCHRONOUS,
         bytes: "07050143000100",
-    };
-    check(&rt, rt.alloc(), &row);
-}
-
-#[test]
-fn plain_functions(rt: HostRuntime) {
-    let row = Row {
+    },
+    Row {
         is_async: false,
         params: &[],
         answer: None,
         stages: PLAIN,
         bytes: "07050140000100",
-    };
-    check(&rt, rt.alloc(), &row);
-}
-
-#[test]
-fn functions_with_parameters(rt: HostRuntime) {
-    let row = Row {
+    },
+    Row {
         is_async: false,
         params: &[("a", STRING)],
         answer: Some(STRING),
         stages: PLAIN,
         bytes: "07080140010161730073",
-    };
-    check(&rt, rt.alloc(), &row);
+    },
+];
+
+#[test]
+fn functions(rt: HostRuntime) {
+    for row in ROWS {
+        let mut section = ComponentTypeSection::new(rt.alloc());
+        let stages = ok(&rt, stages(&mut section, row));
+        yes(&rt, stages.as_slice() == row.stages);
+        has(&rt, &section, [1, 0, 0, 0]);
+        alone(&rt, rt.alloc(), &section, row.bytes);
+    }
 }

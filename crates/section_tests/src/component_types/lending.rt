@@ -1,10 +1,10 @@
 //! What lends itself to the encoders of types: component types, instance types, and sections of types.
 
 use crate::checks::is_refused;
-use crate::component_types::calls::{Call, Lends};
+use crate::component_types::calls::{Call, Lends, Whole};
 use crate::component_types::checks::STRING;
-use crate::component_types::declaring::{Kind, core_type};
-use crate::lending::{Lending, Makes, TypeKind, is};
+use crate::component_types::declaring::Kind;
+use crate::lending::{Counts, Lending, Makes, TypeKind, is};
 use crate::swept_lending::OnHeap;
 use crate::unfinished::{NO_ITEMS, Taken, comes_to_nothing};
 use refusing::Refusing;
@@ -12,7 +12,7 @@ use std::alloc::{Allocator, Global};
 use std::process::Abort;
 use sweeping::sweep_encode;
 use wenc_base::{Fault, ValType};
-use wenc_parts::PrimitiveValType;
+use wenc_parts::{ComponentValType, PrimitiveValType};
 use wenc_sections::types::ComponentTypes;
 use wenc_sections::{ComponentTypeSection, Counted};
 use wenc_types::{ComponentType, Declarations, InstanceType};
@@ -32,45 +32,57 @@ impl TypeKind for ComponentTypes {
 /// An item that one call adds.
 #[derive(Clone, Copy)]
 pub enum Item<'t> {
-    Component(&'t ComponentType),
-    Instance(&'t InstanceType),
+    Whole(Whole<'t>),
     Resource(Option<u32>),
     /// One that is begun, and no more.
     Begun(Beginning),
 }
 
-fn component<A: Allocator>(
-    section: &mut ComponentTypeSection<A>,
-    ty: &ComponentType,
-) -> Result<(), Fault> {
-    section.component(ty)
-}
-
-fn instance<A: Allocator>(
-    section: &mut ComponentTypeSection<A>,
-    ty: &InstanceType,
-) -> Result<(), Fault> {
-    section.instance(ty)
-}
-
-fn resource<A: Allocator>(
-    section: &mut ComponentTypeSection<A>,
-    dtor: Option<u32>,
-) -> Result<(), Fault> {
-    section.resource(ValType::I32, dtor)
-}
-
 impl<'t, A: Allocator> Makes<ComponentTypeSection<A>> for Item<'t> {
-    fn is_lent(&self) -> bool {
-        false
-    }
-
     fn make(&self, to: &mut ComponentTypeSection<A>) -> Result<(), Fault> {
         match *self {
-            Item::Component(ty) => component(to, ty),
-            Item::Instance(ty) => instance(to, ty),
-            Item::Resource(dtor) => resource(to, dtor),
+            Item::Whole(Whole::Component(ty)) => to.component(ty),
+            Item::Whole(Whole::Instance(ty)) => to.instance(ty),
+            Item::Resource(dtor) => to.resource(ValType::I32, dtor),
             Item::Begun(start) => start.make(to),
+        }
+    }
+}
+
+/// The parameters of functions that are begun.
+const PARAMS: &[(&str, ComponentValType)] = &[("a", STRING)];
+
+/// How a type is begun.
+#[derive(Clone, Copy)]
+pub enum Opening {
+    Type,
+    /// A type of values.
+    Values,
+    Function,
+    /// A function that is said to be asynchronous.
+    Tagged,
+    /// A function with its parameters.
+    Listed,
+}
+
+impl<L: Lends> Makes<L> for Opening {
+    fn make(&self, to: &mut L) -> Result<(), Fault> {
+        let encoder = to.encoder()?;
+        match self {
+            Opening::Type => {
+                drop(encoder);
+                Ok(())
+            }
+            Opening::Values => {
+                encoder.defined_type();
+                Ok(())
+            }
+            Opening::Function => {
+                encoder.function();
+                Ok(())
+            }
+            Opening::Tagged => encoder.function().async_(true),
+            Opening::Listed => encoder.function().params(PARAMS.iter().copied()),
         }
     }
 }
@@ -78,10 +90,9 @@ impl<'t, A: Allocator> Makes<ComponentTypeSection<A>> for Item<'t> {
 /// How an item is begun in a section.
 #[derive(Clone, Copy)]
 pub enum Beginning {
-    Item,
-    /// A type of values, by the encoder of types.
-    Values,
-    /// The same, by one call.
+    /// By the encoder of types.
+    Encoder(Opening),
+    /// The others by a call of the section's own: a type of values.
     DefinedType,
     Function,
     /// A function that is said to be asynchronous.
@@ -90,42 +101,20 @@ pub enum Beginning {
     Listed,
 }
 
-fn begin_values<A: Allocator>(section: &mut ComponentTypeSection<A>) -> Result<(), Fault> {
-    section.values()?;
-    Ok(())
-}
-
-fn begin_defined_type<A: Allocator>(section: &mut ComponentTypeSection<A>) -> Result<(), Fault> {
-    section.defined_type()?;
-    Ok(())
-}
-
-fn begin_function<A: Allocator>(section: &mut ComponentTypeSection<A>) -> Result<(), Fault> {
-    section.function()?;
-    Ok(())
-}
-
-fn begin_tagged<A: Allocator>(section: &mut ComponentTypeSection<A>) -> Result<(), Fault> {
-    section.function()?.async_(true)
-}
-
-fn begin_listed<A: Allocator>(section: &mut ComponentTypeSection<A>) -> Result<(), Fault> {
-    section.function()?.params([("a", STRING)].iter().copied())
-}
-
 impl<A: Allocator> Makes<ComponentTypeSection<A>> for Beginning {
-    fn is_lent(&self) -> bool {
-        true
-    }
-
     fn make(&self, to: &mut ComponentTypeSection<A>) -> Result<(), Fault> {
         match self {
-            Beginning::Item => ComponentTypes::begin(to),
-            Beginning::Values => begin_values(to),
-            Beginning::DefinedType => begin_defined_type(to),
-            Beginning::Function => begin_function(to),
-            Beginning::Tagged => begin_tagged(to),
-            Beginning::Listed => begin_listed(to),
+            Beginning::Encoder(opening) => opening.make(to),
+            Beginning::DefinedType => {
+                to.defined_type()?;
+                Ok(())
+            }
+            Beginning::Function => {
+                to.function()?;
+                Ok(())
+            }
+            Beginning::Tagged => to.function()?.async_(true),
+            Beginning::Listed => to.function()?.params(PARAMS.iter().copied()),
         }
     }
 }
@@ -147,22 +136,11 @@ impl<K: Kind, A: Allocator + Clone> Lending for Declarations<K, A> {
         self.discard_unfinished()
     }
 
-    fn counts(&self) -> [u32; 4] {
+    fn asked(&self) -> (Counts, bool, bool) {
+        let items = self.len();
         let core_types = self.core_type_count();
-        [
-            self.len(),
-            core_types,
-            self.type_count(),
-            self.instance_count(),
-        ]
-    }
-
-    fn is_empty(&self) -> bool {
-        Declarations::is_empty(self)
-    }
-
-    fn is_finished(&self) -> bool {
-        Declarations::is_finished(self)
+        let counts = [items, core_types, self.type_count(), self.instance_count()];
+        (counts, self.is_empty(), self.is_finished())
     }
 
     fn copy(&self) -> Result<Self, Fault> {
@@ -182,64 +160,25 @@ impl<'a, K: Kind> OnHeap<'a> for Declarations<K, &'a Refusing> {
 
 /// How a type is begun in a type with declarations.
 #[derive(Clone, Copy)]
-pub enum Opening {
-    Type,
-    /// A type of values.
-    Values,
-    Function,
-    /// A function that is said to be asynchronous.
-    Tagged,
-    /// A function with its parameters.
-    Listed,
+pub enum Start {
+    Type(Opening),
     CoreType,
     /// A core type that is no module type.
     Core,
 }
 
-fn open_values<K: Kind, A: Allocator>(ty: &mut Declarations<K, A>) -> Result<(), Fault> {
-    ty.values()?;
-    Ok(())
-}
-
-fn open_function<K: Kind, A: Allocator>(ty: &mut Declarations<K, A>) -> Result<(), Fault> {
-    ty.encoder()?.function();
-    Ok(())
-}
-
-fn open_tagged<K: Kind, A: Allocator>(ty: &mut Declarations<K, A>) -> Result<(), Fault> {
-    ty.encoder()?.function().async_(true)
-}
-
-fn open_listed<K: Kind, A: Allocator>(ty: &mut Declarations<K, A>) -> Result<(), Fault> {
-    ty.encoder()?
-        .function()
-        .params([("a", STRING)].iter().copied())
-}
-
-fn open_core_type<K: Kind, A: Allocator>(ty: &mut Declarations<K, A>) -> Result<(), Fault> {
-    core_type(ty)?;
-    Ok(())
-}
-
-fn open_core<K: Kind, A: Allocator>(ty: &mut Declarations<K, A>) -> Result<(), Fault> {
-    core_type(ty)?.core();
-    Ok(())
-}
-
-impl<K: Kind, A: Allocator + Clone> Makes<Declarations<K, A>> for Opening {
-    fn is_lent(&self) -> bool {
-        true
-    }
-
+impl<K: Kind, A: Allocator> Makes<Declarations<K, A>> for Start {
     fn make(&self, to: &mut Declarations<K, A>) -> Result<(), Fault> {
         match self {
-            Opening::Type => to.begin(),
-            Opening::Values => open_values(to),
-            Opening::Function => open_function(to),
-            Opening::Tagged => open_tagged(to),
-            Opening::Listed => open_listed(to),
-            Opening::CoreType => open_core_type(to),
-            Opening::Core => open_core(to),
+            Start::Type(opening) => opening.make(to),
+            Start::CoreType => {
+                to.core_type()?;
+                Ok(())
+            }
+            Start::Core => {
+                to.core_type()?.core();
+                Ok(())
+            }
         }
     }
 }
@@ -247,42 +186,25 @@ impl<K: Kind, A: Allocator + Clone> Makes<Declarations<K, A>> for Opening {
 /// What a section with an unfinished item refuses, these types among it.
 pub fn items<'t>(component: &'t ComponentType, instance: &'t InstanceType) -> [Item<'t>; 5] {
     [
-        Item::Component(component),
-        Item::Instance(instance),
+        Item::Whole(Whole::Component(component)),
+        Item::Whole(Whole::Instance(instance)),
         Item::Resource(None),
         Item::Begun(Beginning::Function),
         Item::Begun(Beginning::DefinedType),
     ]
 }
 
-/// A refused call has left an item unfinished in the section, which comes to nothing.
-fn takes_nothing(
-    rt: &impl Abort,
-    alloc: Global,
-    section: &mut ComponentTypeSection,
-    component: &ComponentType,
-    instance: &InstanceType,
-) {
-    let items = items(component, instance);
-    comes_to_nothing(rt, alloc, section, items.as_slice());
-}
-
-/// One call leaves the section as it was. An encoder leaves its item unfinished.
-fn is_not_item<K: Kind>(
-    rt: &impl Abort,
-    alloc: Global,
-    ty: &Declarations<K>,
-    section: &mut ComponentTypeSection,
-) {
-    is_refused(rt, K::item(ty).make(section));
-    is(rt, alloc, section, NO_ITEMS);
-    is_refused(rt, K::call(ty).make(section));
-    let component = ComponentType::new(alloc);
-    takes_nothing(rt, alloc, section, &component, &InstanceType::new(alloc));
-}
-
+/// One call leaves the section as it was. An encoder leaves its item unfinished, which comes to nothing.
 impl<K: Kind> Taken for Declarations<K> {
     fn is_not_taken(&self, rt: &impl Abort, alloc: Global) {
-        is_not_item(rt, alloc, self, &mut ComponentTypeSection::new(alloc));
+        let mut section = ComponentTypeSection::new(alloc);
+        let call = K::call(self);
+        is_refused(rt, Item::Whole(call).make(&mut section));
+        is(rt, alloc, &section, NO_ITEMS);
+        is_refused(rt, call.make(&mut section));
+        let component = ComponentType::new(alloc);
+        let instance = InstanceType::new(alloc);
+        let items = items(&component, &instance);
+        comes_to_nothing(rt, alloc, &mut section, items.as_slice());
     }
 }

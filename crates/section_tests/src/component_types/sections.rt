@@ -2,17 +2,17 @@
 
 use crate::accepted::ok;
 use crate::checks::{alone, holds, put};
-use crate::component_types::calls::{Call, Lends, Whole};
-use crate::component_types::checks::{STRING, declares, is_item};
-use crate::component_types::declaring::{Declaration, Kind, make_each};
-use crate::component_types::lending::{Beginning, Item};
-use crate::lending::{Makes, has};
-use crate::swept_lending::{begun, sweep_item};
+use crate::component_types::calls::{Call, Whole};
+use crate::component_types::checks::{STRING, declares};
+use crate::component_types::declaring::{Declaration, Kind};
+use crate::component_types::lending::{Beginning, Item, Opening};
+use crate::lending::{Makes, has, is_section, make_each};
+use crate::swept_lending::{Made, begun, sweep_item};
 use refusing::Refusing;
 use std::alloc::Global;
 use std::process::Abort;
 use sweeping::{LARGE, NAME};
-use wenc_base::{Fault, ValType};
+use wenc_base::ValType;
 use wenc_parts::{ComponentTypeRef, ComponentValType, PrimitiveValType};
 use wenc_sections::{Component, ComponentImportSection, ComponentTypeSection};
 use wenc_types::component_type::ComponentTypes;
@@ -26,31 +26,6 @@ const FOUR: &[Call<'static>] = &[
     Call::Own(64),
 ];
 
-#[test]
-fn types_of_values(rt: HostRuntime) {
-    let mut section = ComponentTypeSection::new(rt.alloc());
-    make_each(&rt, &mut section, FOUR);
-    has(&rt, &section, [4, 0, 0, 0]);
-    alone(
-        &rt,
-        rt.alloc(),
-        &section,
-        "070e046a000173637379677d80016940",
-    );
-}
-
-/// A section of what one call adds has these bytes.
-fn is_section<C: Makes<ComponentTypeSection>>(
-    rt: &impl Abort,
-    alloc: Global,
-    call: &C,
-    wanted: &str,
-) {
-    let mut section = ComponentTypeSection::new(alloc);
-    ok(rt, call.make(&mut section));
-    alone(rt, alloc, &section, wanted);
-}
-
 /// Types, each with its section.
 const ALONE: &[(Call<'static>, &str)] = &[
     (Call::Record(&[]), "0703017200"),
@@ -58,168 +33,48 @@ const ALONE: &[(Call<'static>, &str)] = &[
 ];
 
 #[test]
-fn one_type(rt: HostRuntime) {
+fn types_of_values_and_resources(rt: HostRuntime) {
     for (call, wanted) in ALONE {
         is_section(&rt, rt.alloc(), call, wanted);
     }
-}
-
-#[test]
-fn one_resource(rt: HostRuntime) {
     is_section(&rt, rt.alloc(), &Item::Resource(None), "0704013f7f00");
+    let mut section = ComponentTypeSection::new(rt.alloc());
+    make_each(&rt, &mut section, FOUR);
+    has(&rt, &section, [4, 0, 0, 0]);
+    let wanted = "070e046a000173637379677d80016940";
+    alone(&rt, rt.alloc(), &section, wanted);
 }
 
-/// An encoder's call adds this item, and is swept.
-fn is_written(rt: &impl Abort, alloc: Global, heap: &Refusing, call: Whole<'_>, text: &[u8]) {
-    sweep_item::<ComponentTypeSection<&Refusing>, Whole<'_>>(rt, alloc, heap, call, text);
-}
-
-/// It declares such a type.
-fn is_declared<K: Kind>(
+/// A whole type makes this, wherever it is added: in a section by one call and by an encoder, and in types.
+fn check_whole<K: Kind>(
     rt: &impl Abort,
     alloc: Global,
     heap: &Refusing,
-    call: Whole<'_>,
+    ty: &Declarations<K>,
     text: &[u8],
 ) {
-    declares::<Declarations<K, &Refusing>, Whole<'_>>(rt, alloc, heap, K::LEAD, call, text);
+    let item = Made {
+        call: Item::Whole(K::call(ty)),
+        is_lent: false,
+    };
+    sweep_item::<ComponentTypeSection<&Refusing>, Item<'_>>(rt, alloc, heap, &item, text);
+    let call = Made {
+        call: K::call(ty),
+        is_lent: true,
+    };
+    sweep_item::<ComponentTypeSection<&Refusing>, Whole<'_>>(rt, alloc, heap, &call, text);
+    declares::<ComponentType<&Refusing>, Whole<'_>>(rt, alloc, heap, 0x41, &call, text);
+    declares::<InstanceType<&Refusing>, Whole<'_>>(rt, alloc, heap, 0x42, &call, text);
 }
 
-/// A whole type makes this, wherever it is added.
-fn check_whole<K: Kind>(rt: &impl Abort, alloc: Global, ty: &Declarations<K>, text: &[u8]) {
-    let heap = Refusing::new(alloc);
-    is_item(rt, alloc, &heap, K::item(ty), text);
-    is_written(rt, alloc, &heap, K::call(ty), text);
-    is_declared::<ComponentTypes>(rt, alloc, &heap, K::call(ty), text);
-    is_declared::<InstanceTypes>(rt, alloc, &heap, K::call(ty), text);
-}
+const LONG_EXPORT: Declaration<'static> = Declaration::Export(NAME, ComponentTypeRef::Func(LARGE));
 
 /// Without declarations, and with an export.
-fn check_kind<K: Kind>(rt: &impl Abort, alloc: Global, none: &[u8], one: &[u8]) {
+fn check_kind<K: Kind>(rt: &impl Abort, alloc: Global, heap: &Refusing, none: &[u8], one: &[u8]) {
     let mut ty: Declarations<K> = Declarations::new(alloc);
-    check_whole(rt, alloc, &ty, none);
-    ok(
-        rt,
-        Declaration::Export(NAME, ComponentTypeRef::Func(LARGE)).make(&mut ty),
-    );
-    check_whole(rt, alloc, &ty, one);
-}
-
-#[test]
-fn whole_component_types(rt: HostRuntime) {
-    let one = b"\x41\x01\x04\x00\
-            \x49a name that is longer than a first growth, by far: aaaaaaaaaaaaaaaaaaaaaa\x01\xff\xff\xff\xff\x0f";
-    check_kind::<ComponentTypes>(&rt, rt.alloc(), b"\x41\x00", one);
-}
-
-#[test]
-fn whole_instance_types(rt: HostRuntime) {
-    let one = b"\x42\x01\x04\x00\
-            \x49a name that is longer than a first growth, by far: aaaaaaaaaaaaaaaaaaaaaa\x01\xff\xff\xff\xff\x0f";
-    check_kind::<InstanceTypes>(&rt, rt.alloc(), b"\x42\x00", one);
-}
-
-/// An instance type with this one.
-fn around(rt: &impl Abort, alloc: Global, inner: &InstanceType) -> InstanceType {
-    let mut ty = InstanceType::new(alloc);
-    ok(rt, Whole::Instance(inner).make(&mut ty));
-    ty
-}
-
-#[test]
-fn nested_instance_types(rt: HostRuntime) {
-    let inner = InstanceType::new(rt.alloc());
-    let outer = around(&rt, rt.alloc(), &inner);
-    is_section(&rt, rt.alloc(), &Item::Instance(&outer), "0706014201014200");
-    check_whole(&rt, rt.alloc(), &outer, b"\x42\x01\x01\x42\x00");
-}
-
-/// An instance type with a type of functions.
-fn inner(rt: &impl Abort, alloc: Global) -> InstanceType {
-    let mut ty = InstanceType::new(alloc);
-    let function = Call::Function(None, &[("p", ComponentValType::Type(64))], None);
-    ok(rt, function.make(&mut ty));
-    ty
-}
-
-/// Adds it and an empty component type.
-fn add_inner(rt: &impl Abort, to: &mut impl Lends, inner: &InstanceType, alloc: Global) {
-    ok(rt, Whole::Instance(inner).make(to));
-    ok(rt, Whole::Component(&ComponentType::new(alloc)).make(to));
-}
-
-/// A component type with both.
-fn outer(rt: &impl Abort, alloc: Global, inner: &InstanceType) -> ComponentType {
-    let mut ty = ComponentType::new(alloc);
-    add_inner(rt, &mut ty, inner, alloc);
-    ty
-}
-
-/// Two resources, and a handle of one.
-fn add_resources(rt: &impl Abort, section: &mut ComponentTypeSection) {
-    ok(rt, Call::Resource(ValType::I32, None).make(section));
-    ok(rt, Call::Own(0).make(section));
-    ok(rt, Item::Resource(Some(3)).make(section));
-}
-
-/// Adds a component type and an instance type, and what is about resources.
-fn add_five(
-    rt: &impl Abort,
-    section: &mut ComponentTypeSection,
-    outer: &ComponentType,
-    inner: &InstanceType,
-) {
-    ok(rt, Whole::Component(outer).make(section));
-    ok(rt, Whole::Instance(inner).make(section));
-    add_resources(rt, section);
-}
-
-/// Upstream gives this section of both.
-fn five(rt: &impl Abort, alloc: Global, outer: &ComponentType, inner: &InstanceType) {
-    let mut section = ComponentTypeSection::new(alloc);
-    add_five(rt, &mut section, outer, inner);
-    let wanted = "07260541020142010140010170c000010001410042010140010170c00001003f7f0069003f7f0103";
-    has(rt, &section, [5, 0, 0, 0]);
-    alone(rt, alloc, &section, wanted);
-}
-
-fn with_inner(rt: &impl Abort, alloc: Global, inner: &InstanceType) {
-    let outer = outer(rt, alloc, inner);
-    five(rt, alloc, &outer, inner);
-}
-
-#[test]
-fn several(rt: HostRuntime) {
-    let inner = inner(&rt, rt.alloc());
-    with_inner(&rt, rt.alloc(), &inner);
-}
-
-/// Puts a type of functions.
-fn put_function(rt: &impl Abort, component: &mut Component, alloc: Global) {
-    let mut types = ComponentTypeSection::new(alloc);
-    let function = Call::Function(None, &[("a", STRING), ("b", STRING)], Some(STRING));
-    ok(rt, function.make(&mut types));
-    ok(rt, put(component, &types));
-}
-
-fn add_import(imports: &mut ComponentImportSection) -> Result<(), Fault> {
-    imports.import("f".into(), ComponentTypeRef::Func(0))
-}
-
-/// Puts an import of such a function.
-fn put_import(rt: &impl Abort, component: &mut Component, alloc: Global) {
-    let mut imports = ComponentImportSection::new(alloc);
-    ok(rt, add_import(&mut imports));
-    ok(rt, put(component, &imports));
-}
-
-#[test]
-fn an_imported_function(rt: HostRuntime) {
-    let mut component = ok(&rt, Component::new(rt.alloc()));
-    put_function(&rt, &mut component, rt.alloc());
-    put_import(&rt, &mut component, rt.alloc());
-    let wanted = "070b01400201617301627300730a06010001660100";
-    holds(&rt, rt.alloc(), &component, wanted);
+    check_whole(rt, alloc, heap, &ty, none);
+    ok(rt, LONG_EXPORT.make(&mut ty));
+    check_whole(rt, alloc, heap, &ty, one);
 }
 
 /// What is asked of one with no, one and two types.
@@ -231,15 +86,95 @@ const TYPES: &[&str; 3] = &[
 
 /// What takes no memory.
 const BEGINNINGS: &[Beginning] = &[
-    Beginning::Item,
-    Beginning::Values,
+    Beginning::Encoder(Opening::Type),
+    Beginning::Encoder(Opening::Values),
     Beginning::DefinedType,
     Beginning::Function,
 ];
 
-/// Beginnings, and copies.
+/// Beginnings and copies too.
 #[test]
-fn begun_ones(rt: HostRuntime) {
+fn swept(rt: HostRuntime) {
     let heap = Refusing::new(rt.alloc());
     begun::<ComponentTypeSection<&Refusing>, Beginning>(&rt, rt.alloc(), &heap, TYPES, BEGINNINGS);
+    let one = b"\x41\x01\x04\x00\
+            \x49a name that is longer than a first growth, by far: aaaaaaaaaaaaaaaaaaaaaa\x01\xff\xff\xff\xff\x0f";
+    check_kind::<ComponentTypes>(&rt, rt.alloc(), &heap, b"\x41\x00", one);
+    let one = b"\x42\x01\x04\x00\
+            \x49a name that is longer than a first growth, by far: aaaaaaaaaaaaaaaaaaaaaa\x01\xff\xff\xff\xff\x0f";
+    check_kind::<InstanceTypes>(&rt, rt.alloc(), &heap, b"\x42\x00", one);
+    let inner = InstanceType::new(rt.alloc());
+    check_nested(&rt, rt.alloc(), &heap, &inner);
+}
+
+/// An instance type in another.
+fn check_nested(rt: &impl Abort, alloc: Global, heap: &Refusing, inner: &InstanceType) {
+    let mut outer = InstanceType::new(alloc);
+    ok(rt, Whole::Instance(inner).make(&mut outer));
+    let item = Item::Whole(Whole::Instance(&outer));
+    is_section(rt, alloc, &item, "0706014201014200");
+    check_whole(rt, alloc, heap, &outer, b"\x42\x01\x01\x42\x00");
+}
+
+const FUNCTION: Call<'static> = Call::Function(None, &[("p", ComponentValType::Type(64))], None);
+
+/// A component type with this type and an empty component type.
+fn around(rt: &impl Abort, alloc: Global, inner: &InstanceType) -> ComponentType {
+    let mut ty = ComponentType::new(alloc);
+    ok(rt, Whole::Instance(inner).make(&mut ty));
+    let empty = ComponentType::new(alloc);
+    ok(rt, Whole::Component(&empty).make(&mut ty));
+    ty
+}
+
+/// A resource, and a handle of it.
+const RESOURCES: &[Call<'static>] = &[Call::Resource(ValType::I32, None), Call::Own(0)];
+
+/// Upstream gives this section: a component type and an instance type, two resources, and a handle of one.
+fn five(rt: &impl Abort, alloc: Global, outer: &ComponentType, inner: &InstanceType) {
+    let mut section = ComponentTypeSection::new(alloc);
+    ok(rt, Whole::Component(outer).make(&mut section));
+    ok(rt, Whole::Instance(inner).make(&mut section));
+    make_each(rt, &mut section, RESOURCES);
+    ok(rt, Item::Resource(Some(3)).make(&mut section));
+    has(rt, &section, [5, 0, 0, 0]);
+    let wanted = "07260541020142010140010170c000010001410042010140010170c00001003f7f0069003f7f0103";
+    alone(rt, alloc, &section, wanted);
+}
+
+#[test]
+fn several(rt: HostRuntime) {
+    let mut inner = InstanceType::new(rt.alloc());
+    ok(&rt, FUNCTION.make(&mut inner));
+    let outer = around(&rt, rt.alloc(), &inner);
+    five(&rt, rt.alloc(), &outer, &inner);
+}
+
+const OF_STRINGS: Call<'static> = Call::Function(
+    None,
+    &[("a", STRING), ("b", STRING)],
+    Some(STRING),
+);
+
+/// Puts a type of functions.
+fn put_function(rt: &impl Abort, component: &mut Component, alloc: Global) {
+    let mut types = ComponentTypeSection::new(alloc);
+    ok(rt, OF_STRINGS.make(&mut types));
+    ok(rt, put(component, &types));
+}
+
+/// Puts an import of such a function.
+fn put_import(rt: &impl Abort, component: &mut Component, alloc: Global) {
+    let mut imports = ComponentImportSection::new(alloc);
+    ok(rt, imports.import("f".into(), ComponentTypeRef::Func(0)));
+    ok(rt, put(component, &imports));
+}
+
+#[test]
+fn an_imported_function(rt: HostRuntime) {
+    let mut component = ok(&rt, Component::new(rt.alloc()));
+    put_function(&rt, &mut component, rt.alloc());
+    put_import(&rt, &mut component, rt.alloc());
+    let wanted = "070b01400201617301627300730a06010001660100";
+    holds(&rt, rt.alloc(), &component, wanted);
 }

@@ -1,9 +1,9 @@
 //! Each call that writes a type of values, a resource or a function, with each thing that can be borrowed.
 
 use crate::component_types::calls::{Call, Lends};
-use crate::component_types::checks::{INDEXED, LAST, STRING, declares, is_item};
+use crate::component_types::checks::{INDEXED, LAST, STRING, declares};
 use crate::component_types::lending::Item;
-use crate::swept_lending::{OnHeap, last_is_refused, sweep_item, sweep_texts};
+use crate::swept_lending::{Made, OnHeap, last_is_refused, sweep_item, sweep_texts};
 use refusing::Refusing;
 use std::alloc::Global;
 use std::process::Abort;
@@ -19,43 +19,30 @@ const U8: ComponentValType = ComponentValType::Primitive(PrimitiveValType::U8);
 
 const U32: ComponentValType = ComponentValType::Primitive(PrimitiveValType::U32);
 
-/// The call makes an item of this text.
-fn in_a_section<'a, L: OnHeap<'a> + Lends>(
-    rt: &impl Abort,
-    alloc: Global,
-    heap: &'a Refusing,
-    call: Call<'_>,
-    text: &[u8],
-) {
-    sweep_item::<L, Call<'_>>(rt, alloc, heap, call, text);
-    last_is_refused::<L, Call<'_>>(rt, heap, 8, &call);
-}
-
-/// It declares a type of this text, in one that begins with this byte.
+/// The call declares a type of this text, in one that begins with this byte.
 fn in_a_type<'a, L: OnHeap<'a> + Lends>(
     rt: &impl Abort,
     alloc: Global,
     heap: &'a Refusing,
     byte: u8,
-    call: Call<'_>,
+    call: &Made<Call<'_>>,
     text: &[u8],
 ) {
     declares::<L, Call<'_>>(rt, alloc, heap, byte, call, text);
-    last_is_refused::<L, Call<'_>>(rt, heap, 5, &call);
+    last_is_refused::<L, Call<'_>>(rt, heap, 5, &call.call);
 }
 
-/// So it does in each of both kinds.
-fn in_types(rt: &impl Abort, alloc: Global, heap: &Refusing, call: Call<'_>, text: &[u8]) {
-    in_a_type::<ComponentType<&Refusing>>(rt, alloc, heap, 0x41, call, text);
-    in_a_type::<InstanceType<&Refusing>>(rt, alloc, heap, 0x42, call, text);
-}
-
-/// The calls make types of these texts.
-fn check(rt: &impl Abort, alloc: Global, rows: &[(Call<'_>, &[u8])]) {
-    let heap = Refusing::new(alloc);
+/// The calls make types of these texts, as items and in types of both kinds.
+fn check(rt: &impl Abort, alloc: Global, heap: &Refusing, rows: &[(Call<'_>, &[u8])]) {
     for (call, text) in rows {
-        in_a_section::<ComponentTypeSection<&Refusing>>(rt, alloc, &heap, *call, text);
-        in_types(rt, alloc, &heap, *call, text);
+        let made = Made {
+            call: *call,
+            is_lent: true,
+        };
+        sweep_item::<ComponentTypeSection<&Refusing>, Call<'_>>(rt, alloc, heap, &made, text);
+        last_is_refused::<ComponentTypeSection<&Refusing>, Call<'_>>(rt, heap, 8, call);
+        in_a_type::<ComponentType<&Refusing>>(rt, alloc, heap, 0x41, &made, text);
+        in_a_type::<InstanceType<&Refusing>>(rt, alloc, heap, 0x42, &made, text);
     }
     sweep_texts(rt, alloc, &mut ComponentTypeSection::new(alloc), rows);
 }
@@ -173,26 +160,24 @@ const RESOURCES: &[(Option<u32>, &[u8])] = &[
     (Some(LARGE), b"\x3f\x7f\x01\xff\xff\xff\xff\x0f"),
 ];
 
-/// Upstream gives these texts, and those of the other tables.
+/// Upstream gives these texts.
 #[test]
-fn lists_of_values(rt: HostRuntime) {
-    check(&rt, rt.alloc(), LISTS);
-}
-
-#[test]
-fn types_of_values(rt: HostRuntime) {
-    check(&rt, rt.alloc(), OTHERS);
-}
-
-#[test]
-fn resources_and_functions(rt: HostRuntime) {
-    check(&rt, rt.alloc(), RESOURCES_AND_FUNCTIONS);
-}
-
-#[test]
-fn resources(rt: HostRuntime) {
+fn types(rt: HostRuntime) {
     let heap = Refusing::new(rt.alloc());
+    check(&rt, rt.alloc(), &heap, LISTS);
+    check(&rt, rt.alloc(), &heap, OTHERS);
+    check(&rt, rt.alloc(), &heap, RESOURCES_AND_FUNCTIONS);
     for (dtor, text) in RESOURCES {
-        is_item(&rt, rt.alloc(), &heap, Item::Resource(*dtor), text);
+        let item = Made {
+            call: Item::Resource(*dtor),
+            is_lent: false,
+        };
+        sweep_item::<ComponentTypeSection<&Refusing>, Item<'_>>(
+            &rt,
+            rt.alloc(),
+            &heap,
+            &item,
+            text,
+        );
     }
 }

@@ -4,8 +4,8 @@
 use crate::accepted::ok;
 use crate::component_types::calls::Call;
 use crate::component_types::declaring::{Declaration, Import, Kind};
-use crate::component_types::lending::{Beginning, Opening, items};
-use crate::lending::{Makes, is};
+use crate::component_types::lending::{Beginning, Opening, Start, items};
+use crate::lending::{Counts, Makes, is};
 use crate::unfinished::{NO_ITEMS, take_back_each};
 use std::alloc::Global;
 use std::process::Abort;
@@ -17,14 +17,14 @@ use wenc_types::instance_type::InstanceTypes;
 use wenc_types::{ComponentType, Declarations, InstanceType};
 
 /// What is counted when a type is begun in each way.
-const OPENINGS: &[(Opening, [u32; 4])] = &[
-    (Opening::Type, [1, 0, 1, 0]),
-    (Opening::Values, [1, 0, 1, 0]),
-    (Opening::Function, [1, 0, 1, 0]),
-    (Opening::Tagged, [1, 0, 1, 0]),
-    (Opening::Listed, [1, 0, 1, 0]),
-    (Opening::CoreType, [1, 1, 0, 0]),
-    (Opening::Core, [1, 1, 0, 0]),
+const STARTS: &[(Start, Counts)] = &[
+    (Start::Type(Opening::Type), [1, 0, 1, 0]),
+    (Start::Type(Opening::Values), [1, 0, 1, 0]),
+    (Start::Type(Opening::Function), [1, 0, 1, 0]),
+    (Start::Type(Opening::Tagged), [1, 0, 1, 0]),
+    (Start::Type(Opening::Listed), [1, 0, 1, 0]),
+    (Start::CoreType, [1, 1, 0, 0]),
+    (Start::Core, [1, 1, 0, 0]),
 ];
 
 const OUTER: Alias<'static> = Alias::Outer {
@@ -47,66 +47,47 @@ const IMPORTS: &[Import<'static>] = &[Import("f", FUNC)];
 /// Afterwards the type is as it was, and takes a declaration.
 fn goes_on<K: Kind>(rt: &impl Abort, alloc: Global, none: &[u8], one: &[u8]) {
     let mut ty: Declarations<K> = Declarations::new(alloc);
-    take_back_each(rt, alloc, &mut ty, OPENINGS, DECLARATIONS, none);
+    take_back_each(rt, alloc, &mut ty, STARTS, DECLARATIONS, none);
     ok(rt, Call::Own(64).make(&mut ty));
     is(rt, alloc, &ty, one);
 }
 
+/// Nor do component types declare imports meanwhile.
 #[test]
-fn component_types(rt: HostRuntime) {
+fn types_with_declarations(rt: HostRuntime) {
     let none = b"\x00\x00\x00\x00\x01\x01\x41\x00";
     let one = b"\x01\x00\x01\x00\x00\x01\x41\x01\x01\x69\x40";
     goes_on::<ComponentTypes>(&rt, rt.alloc(), none, one);
-}
-
-#[test]
-fn instance_types(rt: HostRuntime) {
+    let mut ty = ComponentType::new(rt.alloc());
+    take_back_each(&rt, rt.alloc(), &mut ty, STARTS, IMPORTS, none);
     let none = b"\x00\x00\x00\x00\x01\x01\x42\x00";
     let one = b"\x01\x00\x01\x00\x00\x01\x42\x01\x01\x69\x40";
     goes_on::<InstanceTypes>(&rt, rt.alloc(), none, one);
 }
 
-/// Nor do component types declare imports meanwhile.
-#[test]
-fn imports(rt: HostRuntime) {
-    let mut ty = ComponentType::new(rt.alloc());
-    let none = b"\x00\x00\x00\x00\x01\x01\x41\x00";
-    take_back_each(&rt, rt.alloc(), &mut ty, OPENINGS, IMPORTS, none);
-}
-
-const BEGINNINGS: &[(Beginning, [u32; 4])] = &[
-    (Beginning::Item, [1, 0, 0, 0]),
-    (Beginning::Values, [1, 0, 0, 0]),
+const BEGINNINGS: &[(Beginning, Counts)] = &[
+    (Beginning::Encoder(Opening::Type), [1, 0, 0, 0]),
+    (Beginning::Encoder(Opening::Values), [1, 0, 0, 0]),
     (Beginning::DefinedType, [1, 0, 0, 0]),
     (Beginning::Function, [1, 0, 0, 0]),
     (Beginning::Tagged, [1, 0, 0, 0]),
     (Beginning::Listed, [1, 0, 0, 0]),
 ];
 
-/// Each item that was begun is given up. Meanwhile the section takes neither of these types, nor anything else.
-fn gives_up<'t>(
-    rt: &impl Abort,
-    alloc: Global,
-    section: &mut ComponentTypeSection,
-    component: &'t ComponentType,
-    instance: &'t InstanceType,
-) {
-    let items = items(component, instance);
-    let refused = items.as_slice();
-    take_back_each(rt, alloc, section, BEGINNINGS, refused, NO_ITEMS);
-}
-
 /// Adds a handle by the call for types of values.
 fn add_own(section: &mut ComponentTypeSection) -> Result<(), Fault> {
     section.defined_type()?.own(64)
 }
 
+/// Each item that was begun is given up. Meanwhile the section takes neither types nor anything else.
 #[test]
 fn sections(rt: HostRuntime) {
     let mut section = ComponentTypeSection::new(rt.alloc());
     let component = ComponentType::new(rt.alloc());
     let instance = InstanceType::new(rt.alloc());
-    gives_up(&rt, rt.alloc(), &mut section, &component, &instance);
+    let items = items(&component, &instance);
+    let refused = items.as_slice();
+    take_back_each(&rt, rt.alloc(), &mut section, BEGINNINGS, refused, NO_ITEMS);
     ok(&rt, add_own(&mut section));
     let wanted = b"\x01\x00\x00\x00\x00\x01\x03\x01\x69\x40";
     is(&rt, rt.alloc(), &section, wanted);

@@ -1,5 +1,4 @@
-//! The last calls of an encoder of core types. Each is made by a function of its own, since what a call promises is dear
-//! to the proof of a function that makes several.
+//! The last calls of an encoder of core types.
 
 use crate::lending::Makes;
 use std::alloc::Allocator;
@@ -45,16 +44,15 @@ pub enum Composite<'t> {
 }
 
 impl<'t, L: Lends> Makes<L> for Composite<'t> {
-    fn is_lent(&self) -> bool {
-        true
-    }
-
     /// Begins a type, and makes the call.
     fn make(&self, to: &mut L) -> Result<(), Fault> {
+        let encoder = to.encoder()?;
         match *self {
-            Composite::Function(params, results) => function(to, params, results),
-            Composite::Array(ty, mutable) => array(to, &ty, mutable),
-            Composite::Struct(fields) => structure(to, fields),
+            Composite::Function(params, results) => {
+                encoder.function(params.iter().copied(), results.iter().copied())
+            }
+            Composite::Array(ty, mutable) => encoder.array(&ty, mutable),
+            Composite::Struct(fields) => encoder.struct_(fields.iter().copied()),
         }
     }
 }
@@ -74,47 +72,14 @@ pub enum Call<'t> {
 }
 
 impl<'t, L: Lends> Makes<L> for Call<'t> {
-    fn is_lent(&self) -> bool {
-        true
-    }
-
     /// Begins a type, and makes the call.
     fn make(&self, to: &mut L) -> Result<(), Fault> {
         match *self {
             Call::Composite(call) => call.make(to),
-            Call::FuncType(ty) => func_type(to, ty),
-            Call::Subtype(ty) => subtype(to, ty),
-            Call::Rec(types) => rec(to, types),
-            Call::Group(ty) => group(to, ty),
+            Call::FuncType(ty) => to.encoder()?.func_type(ty),
+            Call::Subtype(ty) => to.encoder()?.subtype(ty),
+            Call::Rec(types) => to.encoder()?.rec(types.iter()),
+            Call::Group(ty) => to.encoder()?.group(ty),
         }
     }
-}
-
-fn function<L: Lends>(to: &mut L, params: &[ValType], results: &[ValType]) -> Result<(), Fault> {
-    to.encoder()?
-        .function(params.iter().copied(), results.iter().copied())
-}
-
-fn func_type<L: Lends>(to: &mut L, ty: &FuncType) -> Result<(), Fault> {
-    to.encoder()?.func_type(ty)
-}
-
-fn array<L: Lends>(to: &mut L, ty: &StorageType, mutable: bool) -> Result<(), Fault> {
-    to.encoder()?.array(ty, mutable)
-}
-
-fn structure<L: Lends>(to: &mut L, fields: &[FieldType]) -> Result<(), Fault> {
-    to.encoder()?.struct_(fields.iter().copied())
-}
-
-fn subtype<L: Lends>(to: &mut L, ty: &SubType) -> Result<(), Fault> {
-    to.encoder()?.subtype(ty)
-}
-
-fn rec<L: Lends>(to: &mut L, types: &[SubType]) -> Result<(), Fault> {
-    to.encoder()?.rec(types.iter())
-}
-
-fn group<L: Lends>(to: &mut L, ty: &GroupTree) -> Result<(), Fault> {
-    to.encoder()?.group(ty)
 }

@@ -1,10 +1,8 @@
 //! What module types declare.
 
-use crate::accepted::ok;
 use crate::core_types::calls::Composite;
 use crate::lending::Makes;
 use std::alloc::Allocator;
-use std::process::Abort;
 use wenc_base::{EntityType, Fault};
 use wenc_types::ModuleType;
 
@@ -21,45 +19,23 @@ pub enum Declaration<'t> {
     Export(&'t str, EntityType),
 }
 
-impl<'t, A: Allocator> Makes<ModuleType<A>> for Declaration<'t> {
-    fn is_lent(&self) -> bool {
+impl<'t> Declaration<'t> {
+    /// Whether an encoder adds it.
+    pub fn is_lent(self) -> bool {
         match self {
             Declaration::Type(_) => true,
             _ => false,
         }
     }
+}
 
+impl<'t, A: Allocator> Makes<ModuleType<A>> for Declaration<'t> {
     fn make(&self, to: &mut ModuleType<A>) -> Result<(), Fault> {
         match *self {
-            Declaration::Import(module, name, what) => import(to, module, name, what),
+            Declaration::Import(module, name, what) => to.import(module, name, what),
             Declaration::Type(call) => call.make(to),
-            Declaration::Outer(count, index) => outer(to, count, index),
-            Declaration::Export(name, what) => export(to, name, what),
+            Declaration::Outer(count, index) => to.alias_outer_core_type(count, index),
+            Declaration::Export(name, what) => to.export(name, what),
         }
-    }
-}
-
-fn import<A: Allocator>(
-    ty: &mut ModuleType<A>,
-    module: &str,
-    name: &str,
-    what: EntityType,
-) -> Result<(), Fault> {
-    ty.import(module, name, what)
-}
-
-/// Declares an alias.
-pub fn outer<A: Allocator>(ty: &mut ModuleType<A>, count: u32, index: u32) -> Result<(), Fault> {
-    ty.alias_outer_core_type(count, index)
-}
-
-fn export<A: Allocator>(ty: &mut ModuleType<A>, name: &str, what: EntityType) -> Result<(), Fault> {
-    ty.export(name, what)
-}
-
-/// Declares each of what tables tell of.
-pub fn declare(rt: &impl Abort, ty: &mut ModuleType, rows: &[(Declaration<'_>, &[u8], &[u8])]) {
-    for (declaration, _, _) in rows {
-        ok(rt, declaration.make(ty));
     }
 }

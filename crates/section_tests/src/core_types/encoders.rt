@@ -5,12 +5,12 @@ use crate::accepted::ok;
 use crate::checks::yes;
 use crate::core_types::calls::{Call, Composite, Lends};
 use crate::core_types::making::{
-    ELEMENT, FIELD, I8, I16, I32, LONG_PARAMS, LONG_RESULTS, add, add_function, array, func_type,
-    function, long_function, pair, structure,
+    ELEMENT, FIELD, FINAL, FINAL_OF_ONE, I8, I32, LONG, LONG_PARAMS, LONG_RESULTS, OPEN, Sub,
+    func_type, subtype, subtypes,
 };
 use crate::core_types::module_types::A_TYPE;
 use crate::lending::Makes;
-use crate::swept_lending::{last_is_refused, sweep_item, sweep_made, sweep_texts};
+use crate::swept_lending::{Made, last_is_refused, sweep_item, sweep_made, sweep_texts};
 use refusing::Refusing;
 use std::alloc::Global;
 use std::process::Abort;
@@ -35,57 +35,55 @@ impl Lends for Held {
     }
 }
 
-fn is_one(holder: &Holder) -> bool {
-    holder.is_finished() && holder.len() == 1
-}
-
-/// The holder has one member, which is finished, with this text.
-fn is_held(rt: &impl Abort, holder: &Holder, text: &[u8]) {
-    yes(rt, is_one(holder));
-    yes(rt, holder.as_slice() == text);
-}
-
-/// The call adds this text to a holder, by an encoder with guards or without.
+/// The call adds this text alone to a holder, by an encoder with guards or without.
 fn in_a_holder(rt: &impl Abort, alloc: Global, guard: bool, call: Call<'_>, text: &[u8]) {
     let holder = Holder::new(alloc);
     let mut held = Held { holder, guard };
     ok(rt, call.make(&mut held));
-    is_held(rt, &held.holder, text);
-}
-
-/// The call adds this text to a module type.
-fn in_a_module_type(rt: &impl Abort, alloc: Global, heap: &Refusing, call: Call<'_>, text: &[u8]) {
-    let lead = &[0x50, 1, 1];
-    sweep_made::<ModuleType<&Refusing>, Call<'_>>(rt, alloc, heap, call, A_TYPE, lead, text);
-}
-
-/// It adds this text to a section.
-fn in_a_section(rt: &impl Abort, alloc: Global, heap: &Refusing, call: Call<'_>, text: &[u8]) {
-    sweep_item::<CoreTypeSection<&Refusing>, Call<'_>>(rt, alloc, heap, call, text);
+    yes(rt, held.holder.is_finished() && held.holder.len() == 1);
+    yes(rt, held.holder.as_slice() == text);
 }
 
 /// The call adds this text to what has no guards, and the guarded one to what has.
-fn check(rt: &impl Abort, alloc: Global, call: Call<'_>, text: &[u8], guarded: &[u8]) {
+fn check(
+    rt: &impl Abort,
+    alloc: Global,
+    heap: &Refusing,
+    call: Call<'_>,
+    text: &[u8],
+    guarded: &[u8],
+) {
     in_a_holder(rt, alloc, false, call, text);
     in_a_holder(rt, alloc, true, call, guarded);
-    let heap = Refusing::new(alloc);
-    in_a_module_type(rt, alloc, &heap, call, text);
-    in_a_section(rt, alloc, &heap, call, guarded);
-    last_is_refused::<ModuleType<&Refusing>, Call<'_>>(rt, &heap, 3, &call);
+    let made = Made {
+        call,
+        is_lent: true,
+    };
+    let lead = &[0x50, 1, 1];
+    sweep_made::<ModuleType<&Refusing>, Call<'_>>(rt, alloc, heap, &made, A_TYPE, lead, text);
+    sweep_item::<CoreTypeSection<&Refusing>, Call<'_>>(rt, alloc, heap, &made, guarded);
+    last_is_refused::<ModuleType<&Refusing>, Call<'_>>(rt, heap, 3, &call);
 }
 
 /// So do the calls for this subtype, and for the tree of it alone.
-fn check_subtype(rt: &impl Abort, alloc: Global, ty: SubType, text: &[u8], guarded: &[u8]) {
-    check(rt, alloc, Call::Subtype(&ty), text, guarded);
+fn check_subtype(
+    rt: &impl Abort,
+    alloc: Global,
+    heap: &Refusing,
+    ty: SubType,
+    text: &[u8],
+    guarded: &[u8],
+) {
+    check(rt, alloc, heap, Call::Subtype(&ty), text, guarded);
     let tree = GroupTree::Sub(ty);
-    check(rt, alloc, Call::Group(&tree), text, guarded);
+    check(rt, alloc, heap, Call::Group(&tree), text, guarded);
 }
 
 /// So do the calls for types that refer to each other, which have no guards.
-fn check_group(rt: &impl Abort, alloc: Global, types: Vec<SubType>, text: &[u8]) {
-    check(rt, alloc, Call::Rec(types.as_slice()), text, text);
+fn check_group(rt: &impl Abort, alloc: Global, heap: &Refusing, types: Vec<SubType>, text: &[u8]) {
+    check(rt, alloc, heap, Call::Rec(types.as_slice()), text, text);
     let tree = GroupTree::Rec(types);
-    check(rt, alloc, Call::Group(&tree), text, text);
+    check(rt, alloc, heap, Call::Group(&tree), text, text);
 }
 
 /// Functions with all long parameters and results.
@@ -95,6 +93,11 @@ const LONG_FUNCTION: &[u8] = b"\x60\x04\x64\xff\xff\xff\xff\x0f\x7f\x64\xff\xff\
 /// A type of such functions that is not final, behind its guard.
 const LONG_SUBTYPE: &[u8] =
     b"\x00\x50\x01\xff\xff\xff\xff\x0f\x60\x04\x64\xff\xff\xff\xff\x0f\x7f\x64\xff\xff\xff\xff\x0f\x7e\
+    \x04\x7c\x64\xff\xff\xff\xff\x0f\x7b\x64\xff\xff\xff\xff\x0f";
+
+/// The same without its guard.
+const UNGUARDED_LONG_SUBTYPE: &[u8] =
+    b"\x50\x01\xff\xff\xff\xff\x0f\x60\x04\x64\xff\xff\xff\xff\x0f\x7f\x64\xff\xff\xff\xff\x0f\x7e\
     \x04\x7c\x64\xff\xff\xff\xff\x0f\x7b\x64\xff\xff\xff\xff\x0f";
 
 /// That type and one of arrays, as a group.
@@ -132,135 +135,92 @@ const COMPOSITES: &[(Composite<'static>, &[u8])] = &[
     ),
 ];
 
-fn check_composites(rt: &impl Abort, alloc: Global) {
+/// What functions take and answer, and such a type.
+const FUNCTIONS: &[(&[ValType], &[ValType], &[u8])] = &[
+    (&[], &[], b"\x60\x00\x00"),
+    (LONG_PARAMS, LONG_RESULTS, LONG_FUNCTION),
+    (PARAMS, &[ValType::F32], b"\x60\x02\x7f\x7e\x01\x7d"),
+];
+
+/// Each call adds to the text of a section, and to that of a module type, which are swept each time.
+#[test]
+fn composites(rt: HostRuntime) {
+    sweep_texts(
+        &rt,
+        rt.alloc(),
+        &mut CoreTypeSection::new(rt.alloc()),
+        COMPOSITES,
+    );
+    sweep_texts(
+        &rt,
+        rt.alloc(),
+        &mut ModuleType::new(rt.alloc()),
+        COMPOSITES,
+    );
+    let heap = Refusing::new(rt.alloc());
     for (call, text) in COMPOSITES {
-        check(rt, alloc, Call::Composite(*call), text, text);
+        check(&rt, rt.alloc(), &heap, Call::Composite(*call), text, text);
     }
 }
 
-fn check_func_type(
-    rt: &impl Abort,
-    alloc: Global,
-    params: &[ValType],
-    results: &[ValType],
-    text: &[u8],
-) {
-    let ty = ok(rt, func_type(alloc, params, results));
-    check(rt, alloc, Call::FuncType(&ty), text, text);
-}
-
-#[test]
-fn composites(rt: HostRuntime) {
-    check_composites(&rt, rt.alloc());
-    check_func_type(&rt, rt.alloc(), &[], &[], b"\x60\x00\x00");
-    check_func_type(&rt, rt.alloc(), LONG_PARAMS, LONG_RESULTS, LONG_FUNCTION);
-    check_func_type(
-        &rt,
-        rt.alloc(),
-        PARAMS,
-        &[ValType::F32],
-        b"\x60\x02\x7f\x7e\x01\x7d",
-    );
-}
-
-#[test]
-fn functions(rt: HostRuntime) {
-    let ty = function(&rt, rt.alloc(), true, None, &[]);
-    check_subtype(&rt, rt.alloc(), ty, b"\x60\x00\x00", b"\x60\x00\x00");
-    let ty = function(&rt, rt.alloc(), false, None, &[]);
-    check_subtype(
-        &rt,
-        rt.alloc(),
-        ty,
-        b"\x50\x00\x60\x00\x00",
-        b"\x00\x50\x00\x60\x00\x00",
-    );
-    let ty = long_function(&rt, rt.alloc());
-    check_subtype(&rt, rt.alloc(), ty, &LONG_SUBTYPE[1..], LONG_SUBTYPE);
-}
-
-#[test]
-fn arrays_and_structures(rt: HostRuntime) {
-    let ty = array(true, Some(4), I16);
-    check_subtype(
-        &rt,
-        rt.alloc(),
-        ty,
+/// Subtypes, each without its guard and with it.
+const SUBTYPES: &[(Sub<'static>, &[u8], &[u8])] = &[
+    (FINAL, b"\x60\x00\x00", b"\x60\x00\x00"),
+    (OPEN, b"\x50\x00\x60\x00\x00", b"\x00\x50\x00\x60\x00\x00"),
+    (LONG, UNGUARDED_LONG_SUBTYPE, LONG_SUBTYPE),
+    (
+        Sub(true, Some(4), Composite::Array(StorageType::I16, false)),
         b"\x4f\x01\x04\x5e\x77\x00",
         b"\x4f\x01\x04\x5e\x77\x00",
-    );
-    let ty = array(false, Some(128), I16);
-    check_subtype(
-        &rt,
-        rt.alloc(),
-        ty,
+    ),
+    (
+        OPEN_ARRAY,
         b"\x50\x01\x80\x01\x5e\x77\x00",
         b"\x00\x50\x01\x80\x01\x5e\x77\x00",
-    );
-    let ty = array(true, Some(LARGE), FIELD);
-    let text = b"\x4f\x01\xff\xff\xff\xff\x0f\x5e\x64\xff\xff\xff\xff\x0f\x01";
-    check_subtype(&rt, rt.alloc(), ty, text, text);
-    let ty = structure(&rt, rt.alloc(), 0);
-    check_subtype(
-        &rt,
-        rt.alloc(),
-        ty,
+    ),
+    (
+        LONG_ARRAY,
+        b"\x4f\x01\xff\xff\xff\xff\x0f\x5e\x64\xff\xff\xff\xff\x0f\x01",
+        b"\x4f\x01\xff\xff\xff\xff\x0f\x5e\x64\xff\xff\xff\xff\x0f\x01",
+    ),
+    (
+        Sub(false, Some(0), Composite::Struct(&[I8])),
         b"\x50\x01\x00\x5f\x01\x78\x01",
         b"\x00\x50\x01\x00\x5f\x01\x78\x01",
-    );
-}
+    ),
+];
 
-/// A type of functions that is not final, and such a type of arrays.
-fn open_types(rt: &impl Abort, alloc: Global) -> Vec<SubType> {
-    let mut types = Vec::new(alloc);
-    add_function(rt, &mut types, alloc, false, &[]);
-    add(rt, &mut types, array(false, Some(128), I16));
-    types
-}
+const OPEN_ARRAY: Sub<'static> = Sub(false, Some(128), Composite::Array(StorageType::I16, false));
 
-/// A type of functions and one of arrays, which are long.
-fn long_types(rt: &impl Abort, alloc: Global) -> Vec<SubType> {
-    let mut types = Vec::new(alloc);
-    add(rt, &mut types, long_function(rt, alloc));
-    add(rt, &mut types, array(true, Some(LARGE), FIELD));
-    types
-}
+const LONG_ARRAY: Sub<'static> = Sub(true, Some(LARGE), Composite::Array(ELEMENT, true));
 
 #[test]
-fn groups(rt: HostRuntime) {
-    check_group(&rt, rt.alloc(), Vec::new(rt.alloc()), b"\x4e\x00");
-    let types = pair(&rt, rt.alloc(), true);
-    check_group(
-        &rt,
-        rt.alloc(),
-        types,
+fn types(rt: HostRuntime) {
+    let heap = Refusing::new(rt.alloc());
+    for (params, results, text) in FUNCTIONS {
+        let ty = func_type(&rt, rt.alloc(), params, results);
+        check(&rt, rt.alloc(), &heap, Call::FuncType(&ty), text, text);
+    }
+    for (sub, text, guarded) in SUBTYPES {
+        let ty = subtype(&rt, rt.alloc(), sub);
+        check_subtype(&rt, rt.alloc(), &heap, ty, text, guarded);
+    }
+    for (subs, text) in GROUPS {
+        let types = subtypes(&rt, rt.alloc(), subs);
+        check_group(&rt, rt.alloc(), &heap, types, text);
+    }
+}
+
+/// Types that refer to each other.
+const GROUPS: &[(&[Sub<'static>], &[u8])] = &[
+    (&[], b"\x4e\x00"),
+    (
+        &[FINAL, FINAL_OF_ONE],
         b"\x4e\x02\x60\x00\x00\x60\x01\x7f\x00",
-    );
-    let types = open_types(&rt, rt.alloc());
-    check_group(
-        &rt,
-        rt.alloc(),
-        types,
+    ),
+    (
+        &[OPEN, OPEN_ARRAY],
         b"\x4e\x02\x50\x00\x60\x00\x00\x50\x01\x80\x01\x5e\x77\x00",
-    );
-    let types = long_types(&rt, rt.alloc());
-    check_group(&rt, rt.alloc(), types, LONG_GROUP);
-}
-
-/// Each call adds to the text of a section, which is swept each time.
-fn texts_of_sections(rt: &impl Abort, alloc: Global) {
-    let mut section = CoreTypeSection::new(alloc);
-    sweep_texts(rt, alloc, &mut section, COMPOSITES);
-}
-
-/// So it is in a module type.
-fn texts_of_module_types(rt: &impl Abort, alloc: Global) {
-    let mut ty = ModuleType::new(alloc);
-    sweep_texts(rt, alloc, &mut ty, COMPOSITES);
-}
-
-#[test]
-fn texts(rt: HostRuntime) {
-    texts_of_sections(&rt, rt.alloc());
-    texts_of_module_types(&rt, rt.alloc());
-}
+    ),
+    (&[LONG, LONG_ARRAY], LONG_GROUP),
+];

@@ -2,8 +2,7 @@
 
 use crate::checks::is_refused;
 use crate::core_types::calls::{Composite, Lends};
-use crate::core_types::declaring::outer;
-use crate::lending::{Lending, Makes, TypeKind};
+use crate::lending::{Counts, Lending, Makes, TypeKind};
 use crate::swept_lending::OnHeap;
 use crate::unfinished::{Taken, comes_to_nothing};
 use refusing::Refusing;
@@ -35,21 +34,13 @@ pub enum Beginning {
     Core,
 }
 
-fn begin_core<A: Allocator>(section: &mut CoreTypeSection<A>) -> Result<(), Fault> {
-    section.encoder()?;
-    Ok(())
-}
-
 impl<A: Allocator> Makes<CoreTypeSection<A>> for Beginning {
-    fn is_lent(&self) -> bool {
-        true
-    }
-
     fn make(&self, to: &mut CoreTypeSection<A>) -> Result<(), Fault> {
-        match self {
-            Beginning::Item => CoreTypes::begin(to),
-            Beginning::Core => begin_core(to),
+        let encoder = to.ty()?;
+        if let Beginning::Core = self {
+            encoder.core();
         }
+        Ok(())
     }
 }
 
@@ -58,10 +49,6 @@ impl<A: Allocator> Makes<CoreTypeSection<A>> for Beginning {
 pub struct Module<'t>(pub &'t ModuleType);
 
 impl<'t, A: Allocator> Makes<CoreTypeSection<A>> for Module<'t> {
-    fn is_lent(&self) -> bool {
-        true
-    }
-
     fn make(&self, to: &mut CoreTypeSection<A>) -> Result<(), Fault> {
         to.ty()?.module(self.0)
     }
@@ -72,7 +59,7 @@ impl<A: Allocator + Clone> Lending for ModuleType<A> {
     const BEGINNING_ASKS: bool = true;
 
     fn add_short(&mut self) -> Result<(), Fault> {
-        outer(self, 0, 0)
+        self.alias_outer_core_type(0, 0)
     }
 
     fn begin(&mut self) -> Result<(), Fault> {
@@ -84,16 +71,9 @@ impl<A: Allocator + Clone> Lending for ModuleType<A> {
         self.discard_unfinished()
     }
 
-    fn counts(&self) -> [u32; 4] {
-        [0, self.type_count(), 0, 0]
-    }
-
-    fn is_empty(&self) -> bool {
-        self.type_count() == 0
-    }
-
-    fn is_finished(&self) -> bool {
-        ModuleType::is_finished(self)
+    fn asked(&self) -> (Counts, bool, bool) {
+        let count = self.type_count();
+        ([0, count, 0, 0], count == 0, self.is_finished())
     }
 
     fn copy(&self) -> Result<Self, Fault> {

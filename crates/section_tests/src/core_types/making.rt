@@ -1,22 +1,18 @@
 //! Core types of which the tests are made.
 
 use crate::accepted::ok;
+use crate::core_types::calls::Composite;
 use std::alloc::Global;
 use std::process::Abort;
 use sweeping::LARGE;
 use wenc_base::{
-    ArrayType, CompositeType, Fault, FieldType, FuncType, HeapType, RefType, StorageType,
-    StructType, SubType, ValType,
+    ArrayType, CompositeType, FieldType, FuncType, HeapType, RefType, StorageType, StructType,
+    SubType, ValType,
 };
 
 pub const I8: FieldType = FieldType {
     element_type: StorageType::I8,
     mutable: true,
-};
-
-pub const I16: FieldType = FieldType {
-    element_type: StorageType::I16,
-    mutable: false,
 };
 
 pub const I32: FieldType = FieldType {
@@ -41,80 +37,64 @@ pub const LONG_PARAMS: &[ValType] = &[REFERENCE, ValType::I32, REFERENCE, ValTyp
 
 pub const LONG_RESULTS: &[ValType] = &[ValType::F64, REFERENCE, ValType::V128, REFERENCE];
 
+/// A subtype, in a table: whether it is final, and its supertype.
+#[derive(Clone, Copy)]
+pub struct Sub<'t>(pub bool, pub Option<u32>, pub Composite<'t>);
+
+/// A type of functions that is not final.
+pub const OPEN: Sub<'static> = Sub(false, None, Composite::Function(&[], &[]));
+
+/// Types of functions with no parameters, and with one.
+pub const FINAL: Sub<'static> = Sub(true, None, Composite::Function(&[], &[]));
+
+pub const FINAL_OF_ONE: Sub<'static> = Sub(true, None, Composite::Function(&[ValType::I32], &[]));
+
+pub const OPEN_OF_ONE: Sub<'static> = Sub(false, None, Composite::Function(&[ValType::I32], &[]));
+
+/// A type of functions that is not final, with long lists.
+pub const LONG: Sub<'static> = Sub(
+    false,
+    Some(LARGE),
+    Composite::Function(LONG_PARAMS, LONG_RESULTS),
+);
+
 /// What functions take and answer.
 pub fn func_type(
+    rt: &impl Abort,
     alloc: Global,
     params: &[ValType],
     results: &[ValType],
-) -> Result<FuncType, Fault> {
-    FuncType::new(alloc, params.iter().copied(), results.iter().copied())
+) -> FuncType {
+    ok(
+        rt,
+        FuncType::new(alloc, params.iter().copied(), results.iter().copied()),
+    )
 }
 
-/// A type of functions.
-pub fn function(
-    rt: &impl Abort,
-    alloc: Global,
-    is_final: bool,
-    supertype_idx: Option<u32>,
-    params: &[ValType],
-) -> SubType {
-    let ty = ok(rt, func_type(alloc, params, &[]));
+pub fn subtype(rt: &impl Abort, alloc: Global, sub: &Sub<'_>) -> SubType {
+    let composite_type = match sub.2 {
+        Composite::Function(params, results) => {
+            CompositeType::Func(func_type(rt, alloc, params, results))
+        }
+        Composite::Array(element_type, mutable) => CompositeType::Array(ArrayType(FieldType {
+            element_type,
+            mutable,
+        })),
+        Composite::Struct(fields) => CompositeType::Struct(StructType {
+            fields: ok(rt, fields.to_vec(alloc)),
+        }),
+    };
     SubType {
-        is_final,
-        supertype_idx,
-        composite_type: CompositeType::Func(ty),
+        is_final: sub.0,
+        supertype_idx: sub.1,
+        composite_type,
     }
 }
 
-/// A type of functions that is not final, with long lists.
-pub fn long_function(rt: &impl Abort, alloc: Global) -> SubType {
-    let ty = ok(rt, func_type(alloc, LONG_PARAMS, LONG_RESULTS));
-    SubType {
-        is_final: false,
-        supertype_idx: Some(LARGE),
-        composite_type: CompositeType::Func(ty),
-    }
-}
-
-/// A type of arrays.
-pub fn array(is_final: bool, supertype_idx: Option<u32>, element: FieldType) -> SubType {
-    SubType {
-        is_final,
-        supertype_idx,
-        composite_type: CompositeType::Array(ArrayType(element)),
-    }
-}
-
-/// A type of structures of one field.
-pub fn structure(rt: &impl Abort, alloc: Global, supertype: u32) -> SubType {
-    let fields = ok(rt, [I8].to_vec(alloc));
-    SubType {
-        is_final: false,
-        supertype_idx: Some(supertype),
-        composite_type: CompositeType::Struct(StructType { fields }),
-    }
-}
-
-/// Adds a type.
-pub fn add(rt: &impl Abort, types: &mut Vec<SubType>, ty: SubType) {
-    ok(rt, types.push(ty));
-}
-
-/// Adds a type of functions.
-pub fn add_function(
-    rt: &impl Abort,
-    types: &mut Vec<SubType>,
-    alloc: Global,
-    is_final: bool,
-    params: &[ValType],
-) {
-    add(rt, types, function(rt, alloc, is_final, None, params));
-}
-
-/// A final type of functions with no parameters, and one with a parameter.
-pub fn pair(rt: &impl Abort, alloc: Global, is_final: bool) -> Vec<SubType> {
+pub fn subtypes(rt: &impl Abort, alloc: Global, subs: &[Sub<'_>]) -> Vec<SubType> {
     let mut types = Vec::new(alloc);
-    add_function(rt, &mut types, alloc, true, &[]);
-    add_function(rt, &mut types, alloc, is_final, &[ValType::I32]);
+    for sub in subs {
+        ok(rt, types.push(subtype(rt, alloc, sub)));
+    }
     types
 }

@@ -3,10 +3,10 @@
 use crate::accepted::ok;
 use crate::checks::is_text;
 use crate::core_types::calls::{Call, Composite, Lends};
-use crate::core_types::declaring::{Declaration, declare};
-use crate::core_types::making::{function, pair};
-use crate::lending::{Begin, Makes, has};
-use crate::swept_lending::{begun, sweep_made};
+use crate::core_types::declaring::Declaration;
+use crate::core_types::making::{FINAL, FINAL_OF_ONE, OPEN, Sub, subtype, subtypes};
+use crate::lending::{Begin, Makes, declare, has};
+use crate::swept_lending::{Made, begun, sweep_made};
 use refusing::Refusing;
 use std::alloc::Global;
 use std::process::Abort;
@@ -158,33 +158,40 @@ const LONG: &[(Declaration<'static>, &[u8], &[u8])] = &[
     ),
 ];
 
-/// Sweeps a declaration. With it alone a module type counts this, and has this text behind its lead.
-fn sweep_row(
+/// Sweeps each declaration. With it alone a module type counts this, and has this text behind its lead.
+fn sweep_declarations(
     rt: &impl Abort,
     alloc: Global,
     heap: &Refusing,
-    call: Declaration<'_>,
-    counted: &[u8],
-    text: &[u8],
+    rows: &[(Declaration<'_>, &[u8], &[u8])],
 ) {
     let lead = &[0x50, 1];
-    sweep_made::<ModuleType<&Refusing>, Declaration<'_>>(
-        rt, alloc, heap, call, counted, lead, text,
-    );
-}
-
-fn sweep_declarations(rt: &impl Abort, alloc: Global, rows: &[(Declaration<'_>, &[u8], &[u8])]) {
-    let heap = Refusing::new(alloc);
     for (call, counted, text) in rows {
-        sweep_row(rt, alloc, &heap, *call, counted, text);
+        let call = Made {
+            call: *call,
+            is_lent: call.is_lent(),
+        };
+        sweep_made::<ModuleType<&Refusing>, Declaration<'_>>(
+            rt, alloc, heap, &call, counted, lead, text,
+        );
     }
 }
 
+/// What is asked of one with no, one and two aliases.
+const ALIASES: &[&str; 3] = &[
+    "0000000001015000",
+    "00010000000150010210010000",
+    "000200000001500202100100000210010000",
+];
+
+/// Beginnings and copies too.
 #[test]
 fn added(rt: HostRuntime) {
-    sweep_declarations(&rt, rt.alloc(), ENTITIES);
-    sweep_declarations(&rt, rt.alloc(), THREE);
-    sweep_declarations(&rt, rt.alloc(), LONG);
+    let heap = Refusing::new(rt.alloc());
+    sweep_declarations(&rt, rt.alloc(), &heap, ENTITIES);
+    sweep_declarations(&rt, rt.alloc(), &heap, THREE);
+    sweep_declarations(&rt, rt.alloc(), &heap, LONG);
+    begun::<ModuleType<&Refusing>, Begin>(&rt, rt.alloc(), &heap, ALIASES, &[Begin]);
 }
 
 /// A module type with these declarations has so many types, and this text.
@@ -213,45 +220,26 @@ fn declarations(rt: HostRuntime) {
 
 /// Adds a subtype that is not final.
 pub fn add_open(rt: &impl Abort, to: &mut impl Lends, alloc: Global) {
-    let open = function(rt, alloc, false, None, &[]);
+    let open = subtype(rt, alloc, &OPEN);
     ok(rt, Call::Subtype(&open).make(to));
 }
 
-/// Adds a group of two types, of which the second is final or not.
-pub fn add_group(rt: &impl Abort, to: &mut impl Lends, alloc: Global, is_final: bool) {
-    let group = pair(rt, alloc, is_final);
+/// Adds a group of these types.
+pub fn add_group(rt: &impl Abort, to: &mut impl Lends, alloc: Global, subs: &[Sub<'_>]) {
+    let group = subtypes(rt, alloc, subs);
     ok(rt, Call::Rec(group.as_slice()).make(to));
-}
-
-/// Adds types by an encoder's calls, and an alias.
-fn add_types(rt: &impl Abort, ty: &mut ModuleType, alloc: Global) {
-    ok(rt, Composite::Function(&[ValType::I32], &[]).make(ty));
-    add_open(rt, ty, alloc);
-    ok(rt, Declaration::Outer(1, 0).make(ty));
-    add_group(rt, ty, alloc, true);
-    ok(rt, Composite::Array(StorageType::I8, true).make(ty));
 }
 
 /// Upstream gives these. A group is one type of what is counted.
 #[test]
 fn types(rt: HostRuntime) {
     let mut ty = ModuleType::new(rt.alloc());
-    add_types(&rt, &mut ty, rt.alloc());
+    ok(&rt, Composite::Function(&[ValType::I32], &[]).make(&mut ty));
+    add_open(&rt, &mut ty, rt.alloc());
+    ok(&rt, Declaration::Outer(1, 0).make(&mut ty));
+    add_group(&rt, &mut ty, rt.alloc(), &[FINAL, FINAL_OF_ONE]);
+    ok(&rt, Composite::Array(StorageType::I8, true).make(&mut ty));
     has(&rt, &ty, [0, 5, 0, 0]);
     let text = "50050160017f000150006000000210010100014e0260000060017f00015e7801";
     is_text(&rt, rt.alloc(), &ty, text);
-}
-
-/// What is asked of one with no, one and two aliases.
-const ALIASES: &[&str; 3] = &[
-    "0000000001015000",
-    "00010000000150010210010000",
-    "000200000001500202100100000210010000",
-];
-
-/// Beginnings, and copies.
-#[test]
-fn begun_ones(rt: HostRuntime) {
-    let heap = Refusing::new(rt.alloc());
-    begun::<ModuleType<&Refusing>, Begin>(&rt, rt.alloc(), &heap, ALIASES, &[Begin]);
 }

@@ -4,7 +4,7 @@ use crate::accepted::ok;
 use crate::core_types::calls::Composite;
 use crate::core_types::declaring::Declaration;
 use crate::core_types::lending::{Beginning, Module};
-use crate::lending::{Begin, Makes};
+use crate::lending::{Begin, Counts, Makes};
 use crate::unfinished::{NO_ITEMS, take_back_each};
 use std::alloc::Global;
 use std::process::Abort;
@@ -21,9 +21,9 @@ const DECLARATIONS: &[Declaration<'static>] = &[
     Declaration::Outer(1, 0),
 ];
 
-const FIRST: &[(Begin, [u32; 4])] = &[(Begin, [0, 1, 0, 0])];
+const FIRST: &[(Begin, Counts)] = &[(Begin, [0, 1, 0, 0])];
 
-const SECOND: &[(Begin, [u32; 4])] = &[(Begin, [0, 2, 0, 0])];
+const SECOND: &[(Begin, Counts)] = &[(Begin, [0, 2, 0, 0])];
 
 #[test]
 fn module_types(rt: HostRuntime) {
@@ -43,12 +43,12 @@ fn add_alias(rt: &impl Abort, section: &mut CoreTypeSection, alloc: Global) {
 }
 
 /// An item is begun behind this one too.
-const BEHIND_ONE: &[(Beginning, [u32; 4])] = &[
+const BEHIND_ONE: &[(Beginning, Counts)] = &[
     (Beginning::Item, [2, 0, 0, 0]),
     (Beginning::Core, [2, 0, 0, 0]),
 ];
 
-const ALONE: &[(Beginning, [u32; 4])] = &[
+const ALONE: &[(Beginning, Counts)] = &[
     (Beginning::Item, [1, 0, 0, 0]),
     (Beginning::Core, [1, 0, 0, 0]),
 ];
