@@ -14,21 +14,17 @@ pub fn yes(rt: &impl Abort, is_so: bool) {
     assert!(rt; is_so);
 }
 
-/// The text begins with this lead, and goes on with what is wanted.
-fn is_behind(rt: &impl Abort, text: &str, lead: &str, wanted: &str) {
-    assert!(rt; text.strip_prefix(lead) == Some(wanted));
-}
-
 /// The bytes are this lead and these, in hexadecimal.
 pub fn are(rt: &impl Abort, alloc: Global, bytes: &[u8], lead: &str, wanted: &str) {
     let text = ok(rt, hex::encode(alloc, bytes));
-    is_behind(rt, text.as_str(), lead, wanted);
+    yes(rt, text.strip_prefix(lead) == Some(wanted));
 }
 
-/// The value's text is this.
+/// The value's text is this, which it appends to a sink.
 pub fn is_text(rt: &impl Abort, alloc: Global, value: &impl Encode, wanted: &str) {
-    let text = ok(rt, sweeping::hexed::text(alloc, value));
-    is_behind(rt, text.as_str(), "ee", wanted);
+    let mut sink = ok(rt, [0xee].to_vec(alloc));
+    ok(rt, value.encode(&mut sink));
+    are(rt, alloc, sink.as_slice(), "ee", wanted);
 }
 
 /// The call was refused since something is unfinished.

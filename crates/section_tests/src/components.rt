@@ -55,33 +55,28 @@ fn module_takes(
 }
 
 /// A copy of a component with one section of its own goes its own way. Another takes a second section of the same kind.
-fn copies_go_their_own_way(
-    rt: &impl Abort,
-    alloc: Global,
-    component: &Component,
-    none: &ComponentAliasSection,
-) {
+fn copies_go_their_own_way(rt: &impl Abort, alloc: Global, component: &Component) {
     let mut copy = ok(rt, component.clone());
     holds(rt, alloc, &copy, "632a");
-    takes(rt, alloc, &mut copy, none, "632a060100");
+    takes_none(rt, alloc, &mut copy, "632a060100");
     holds(rt, alloc, component, "632a");
-    let mut copy = ok(rt, component.clone());
-    takes(rt, alloc, &mut copy, &Own, "632a632a");
+    takes(rt, alloc, &mut ok(rt, component.clone()), &Own, "632a632a");
+}
+
+/// It takes a section without aliases.
+fn takes_none(rt: &impl Abort, alloc: Global, component: &mut Component, wanted: &str) {
+    let none: ComponentAliasSection = ComponentAliasSection::new(alloc);
+    takes(rt, alloc, component, &none, wanted);
 }
 
 /// The component takes these sections in their order.
-#[test]
-fn sections_stand_in_their_order(rt: HostRuntime) {
-    let none: ComponentAliasSection = ComponentAliasSection::new(rt.alloc());
-    let mut component = ok(&rt, Component::new(rt.alloc()));
-    refuses(&rt, rt.alloc(), &mut component, "");
-    takes(&rt, rt.alloc(), &mut component, &Own, "632a");
-    copies_go_their_own_way(&rt, rt.alloc(), &component, &none);
-    takes(&rt, rt.alloc(), &mut component, &none, "632a060100");
-    takes(&rt, rt.alloc(), &mut component, &RAW, "632a06010000aa");
-    takes(&rt, rt.alloc(), &mut component, &Own, "632a06010000aa632a");
-    let wanted = "0061736d0d000100632a06010000aa632a";
-    are(&rt, rt.alloc(), component.finish().as_slice(), "", wanted);
+fn takes_each(rt: &impl Abort, alloc: Global, component: &mut Component) {
+    refuses(rt, alloc, component, "");
+    takes(rt, alloc, component, &Own, "632a");
+    copies_go_their_own_way(rt, alloc, component);
+    takes_none(rt, alloc, component, "632a060100");
+    takes(rt, alloc, component, &RAW, "632a06010000aa");
+    takes(rt, alloc, component, &Own, "632a06010000aa632a");
 }
 
 /// A copy of a module with one section of its own goes its own way.
@@ -92,35 +87,44 @@ fn module_copy_goes_its_own_way(rt: &impl Abort, alloc: Global, module: &Module)
     module_holds(rt, alloc, module, "622a");
 }
 
-/// The module takes its own section, a copy of it another, and it that of its own again. Another takes two in their
-/// order.
+/// The module takes its own section, a copy of it another, and it that of its own again.
+fn module_takes_own(rt: &impl Abort, alloc: Global, module: &mut Module) {
+    module_refuses(rt, alloc, module, "");
+    module_takes(rt, alloc, module, &Own, "622a");
+    module_copy_goes_its_own_way(rt, alloc, module);
+    module_takes(rt, alloc, module, &Own, "622a622a");
+}
+
 #[test]
-fn sections_of_modules_stand_in_their_order(rt: HostRuntime) {
-    let mut module = ok(&rt, Module::new(rt.alloc()));
-    module_refuses(&rt, rt.alloc(), &mut module, "");
-    module_takes(&rt, rt.alloc(), &mut module, &Own, "622a");
-    module_copy_goes_its_own_way(&rt, rt.alloc(), &module);
-    module_takes(&rt, rt.alloc(), &mut module, &Own, "622a622a");
-    let mut module = ok(&rt, Module::new(rt.alloc()));
+fn sections_stand_in_their_order(rt: HostRuntime) {
+    let alloc = rt.alloc();
+    let mut component = ok(&rt, Component::new(alloc));
+    takes_each(&rt, alloc, &mut component);
+    let wanted = "0061736d0d000100632a06010000aa632a";
+    are(&rt, alloc, component.finish().as_slice(), "", wanted);
+    module_takes_own(&rt, alloc, &mut ok(&rt, Module::new(alloc)));
+    let mut module = ok(&rt, Module::new(alloc));
     ok(&rt, put_in(&mut module, &RAW));
-    module_takes(&rt, rt.alloc(), &mut module, &Own, "00aa622a");
+    module_takes(&rt, alloc, &mut module, &Own, "00aa622a");
     let wanted = "0061736d0100000000aa622a";
-    are(&rt, rt.alloc(), module.finish().as_slice(), "", wanted);
+    are(&rt, alloc, module.finish().as_slice(), "", wanted);
 }
 
 #[test]
 fn without_sections(rt: HostRuntime) {
+    let alloc = rt.alloc();
     yes(&rt, <Component>::HEADER == COMPONENT);
     yes(&rt, <Module>::HEADER == MODULE);
-    let bytes = ok(&rt, Component::new(rt.alloc())).finish();
-    are(&rt, rt.alloc(), bytes.as_slice(), "", "0061736d0d000100");
-    let bytes = ok(&rt, Module::new(rt.alloc())).finish();
-    are(&rt, rt.alloc(), bytes.as_slice(), "", "0061736d01000000");
+    let bytes = ok(&rt, Component::new(alloc)).finish();
+    are(&rt, alloc, bytes.as_slice(), "", "0061736d0d000100");
+    let bytes = ok(&rt, Module::new(alloc)).finish();
+    are(&rt, alloc, bytes.as_slice(), "", "0061736d01000000");
 }
 
 #[test]
 fn written_by_hand(rt: HostRuntime) {
-    let bytes = ok(&rt, by_hand(rt.alloc()));
+    let alloc = rt.alloc();
+    let bytes = ok(&rt, by_hand(alloc));
     let wanted = "0061736d0d0001000a0601000169050006060101000001660b0701000167010000";
-    are(&rt, rt.alloc(), bytes.as_slice(), "", wanted);
+    are(&rt, alloc, bytes.as_slice(), "", wanted);
 }

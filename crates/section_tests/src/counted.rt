@@ -79,9 +79,9 @@ pub fn sweep_all<'a, M: Sections<'a>, C: Adds<M>>(
     is_well(rt, sweep_clones::<M>(alloc, heap, false));
 }
 
-/// What sections of these items are with no short item, with one and with two, and with those of each row. Those with
-/// the long ones are swept.
-pub fn check<'a, K: Short, C: Adds<Items<'a, K>>>(
+/// What sections are with no short member, with one and with two, and with those of each row. Those with the long ones
+/// are swept.
+pub fn check<'a, M: Sections<'a>, C: Adds<M>>(
     rt: &impl Abort,
     alloc: Global,
     heap: &'a Refusing,
@@ -89,9 +89,9 @@ pub fn check<'a, K: Short, C: Adds<Items<'a, K>>>(
     rows: &[(&[C], &str)],
     long: &[C],
 ) {
-    counts::<Items<'a, K>>(rt, alloc, heap, states);
+    counts::<M>(rt, alloc, heap, states);
     for (calls, wanted) in rows {
-        row::<Items<'a, K>, C>(rt, alloc, heap, calls, wanted);
+        row::<M, C>(rt, alloc, heap, calls, wanted);
     }
-    sweep_all::<Items<'a, K>, C>(rt, alloc, heap, long);
+    sweep_all::<M, C>(rt, alloc, heap, long);
 }

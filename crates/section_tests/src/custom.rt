@@ -17,9 +17,10 @@ const LAST: RawSection<'static> = RawSection {
 
 #[test]
 fn custom_and_raw_sections(rt: HostRuntime) {
-    is_text(&rt, rt.alloc(), &CUSTOM, "0904746573740b16212c");
-    alone(&rt, rt.alloc(), &CUSTOM, "000904746573740b16212c");
-    alone(&rt, rt.alloc(), &RawCustomSection(&[0xaa]), "00aa");
-    alone(&rt, rt.alloc(), &EMPTY, "0c00");
-    alone(&rt, rt.alloc(), &LAST, "ff01aa");
+    let alloc = rt.alloc();
+    is_text(&rt, alloc, &CUSTOM, "0904746573740b16212c");
+    alone(&rt, alloc, &CUSTOM, "000904746573740b16212c");
+    alone(&rt, alloc, &RawCustomSection(&[0xaa]), "00aa");
+    alone(&rt, alloc, &EMPTY, "0c00");
+    alone(&rt, alloc, &LAST, "ff01aa");
 }

@@ -75,15 +75,16 @@ fn gives_back(
 /// In the section's text no byte is that is kept.
 #[test]
 fn sections_over_holders(rt: HostRuntime) {
-    let section = over_one(&rt, rt.alloc());
-    gives_back(&rt, rt.alloc(), section, "aabb0100000166", 1, true);
-    let mut section = over_one(&rt, rt.alloc());
-    is_text(&rt, rt.alloc(), &section, "06010100000166");
+    let alloc = rt.alloc();
+    let section = over_one(&rt, alloc);
+    gives_back(&rt, alloc, section, "aabb0100000166", 1, true);
+    let mut section = over_one(&rt, alloc);
+    is_text(&rt, alloc, &section, "06010100000166");
     ok(&rt, outer_type(&mut section));
-    is_text(&rt, rt.alloc(), &section, "0a02010000016603020001");
+    is_text(&rt, alloc, &section, "0a02010000016603020001");
     let wanted = "aabb010000016603020001";
-    gives_back(&rt, rt.alloc(), section, wanted, 2, true);
-    let mut section = unfinished(&rt, rt.alloc());
+    gives_back(&rt, alloc, section, wanted, 2, true);
+    let mut section = unfinished(&rt, alloc);
     is_refused(&rt, outer_type(&mut section));
-    gives_back(&rt, rt.alloc(), section, "aabb010000016603", 2, false);
+    gives_back(&rt, alloc, section, "aabb010000016603", 2, false);
 }

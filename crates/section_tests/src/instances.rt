@@ -126,18 +126,12 @@ const LONG_COMPONENTS: &[Component<'static>] = &[
 
 #[test]
 fn sections(rt: HostRuntime) {
-    let heap = Refusing::new(rt.alloc());
-    check::<CoreInstances, Core>(
+    let alloc = rt.alloc();
+    let heap = Refusing::new(alloc);
+    check::<Items<CoreInstances>, Core>(&rt, alloc, &heap, NO_CORE_AND_SHORT_ONES, CORE, LONG_CORE);
+    check::<Items<Instances>, Component>(
         &rt,
-        rt.alloc(),
-        &heap,
-        NO_CORE_AND_SHORT_ONES,
-        CORE,
-        LONG_CORE,
-    );
-    check::<Instances, Component>(
-        &rt,
-        rt.alloc(),
+        alloc,
         &heap,
         NONE_AND_SHORT_ONES,
         COMPONENTS,
@@ -207,9 +201,13 @@ impl<'a> Component<'a> {
 }
 
 /// The tree has this text.
-fn is_tree(rt: &impl Abort, alloc: Global, tree: &impl Delimited, wanted: &str) {
+fn is_tree(rt: &impl Abort, alloc: Global, tree: impl Delimited + Drop, wanted: &str) {
     tree.belongs();
-    is_text(rt, alloc, tree, wanted);
+    is_text(rt, alloc, &tree, wanted);
+}
+
+fn is_swept(rt: &impl Abort, alloc: Global, tree: impl Delimited + Drop) {
+    is_well(rt, sweep_encode(alloc, &tree));
 }
 
 const CORE_TREES: &[(Core<'static>, &str)] = &[
@@ -282,21 +280,18 @@ const LONG_TREES: &[Component<'static>] = &[
 ];
 
 #[test]
-fn core_trees(rt: HostRuntime) {
+fn trees(rt: HostRuntime) {
+    let alloc = rt.alloc();
     for (row, wanted) in CORE_TREES {
-        is_tree(&rt, rt.alloc(), &row.tree(&rt, rt.alloc()), wanted);
+        is_tree(&rt, alloc, row.tree(&rt, alloc), wanted);
     }
     for row in LONG_CORE {
-        is_well(&rt, sweep_encode(rt.alloc(), &row.tree(&rt, rt.alloc())));
+        is_swept(&rt, alloc, row.tree(&rt, alloc));
     }
-}
-
-#[test]
-fn trees(rt: HostRuntime) {
     for (row, wanted) in TREES {
-        is_tree(&rt, rt.alloc(), &row.tree(&rt, rt.alloc()), wanted);
+        is_tree(&rt, alloc, row.tree(&rt, alloc), wanted);
     }
     for row in LONG_TREES {
-        is_well(&rt, sweep_encode(rt.alloc(), &row.tree(&rt, rt.alloc())));
+        is_swept(&rt, alloc, row.tree(&rt, alloc));
     }
 }

@@ -155,26 +155,27 @@ const LONG_EXPORTS: &[Export<'static>] = &[
 
 #[test]
 fn items(rt: HostRuntime) {
-    let heap = Refusing::new(rt.alloc());
-    check::<Aliases, Alias>(
+    let alloc = rt.alloc();
+    let heap = Refusing::new(alloc);
+    check::<Items<Aliases>, Alias>(
         &rt,
-        rt.alloc(),
+        alloc,
         &heap,
         NO_ALIAS_AND_SHORT_ONES,
         ALIASES,
         LONG_ALIASES,
     );
-    check::<Imports, Import>(
+    check::<Items<Imports>, Import>(
         &rt,
-        rt.alloc(),
+        alloc,
         &heap,
         NO_IMPORT_AND_SHORT_ONES,
         IMPORTS,
         LONG_IMPORTS,
     );
-    check::<Exports, Export>(
+    check::<Items<Exports>, Export>(
         &rt,
-        rt.alloc(),
+        alloc,
         &heap,
         NO_EXPORT_AND_SHORT_ONES,
         EXPORTS,

@@ -1,7 +1,7 @@
 //! What lends itself to the encoders of types: sections of types, and types with declarations.
 
 use crate::accepted::ok;
-use crate::checks::{alone, yes};
+use crate::checks::yes;
 use std::alloc::{Allocator, Global};
 use std::process::Abort;
 use sweeping::sweep_section;
@@ -131,17 +131,4 @@ impl<K: TypeKind, A: Allocator + Clone> Lending for Counted<K, A> {
     fn sweep_text(&self, alloc: Global) -> Result<bool, Fault> {
         sweep_section(alloc, self)
     }
-}
-
-/// The call adds an item to a section, which then has these bytes.
-pub fn is_section<K: TypeKind, C: Makes<Counted<K>>>(
-    rt: &impl Abort,
-    alloc: Global,
-    call: &C,
-    wanted: &str,
-) {
-    let mut section: Counted<K> = Counted::new(alloc);
-    ok(rt, call.make(&mut section));
-    has(rt, &section, [1, 0, 0, 0]);
-    alone(rt, alloc, &section, wanted);
 }

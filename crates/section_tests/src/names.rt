@@ -141,16 +141,14 @@ fn check_sort(rt: &impl Abort, alloc: Global, heap: &Refusing, sort: Sort, wante
 // The call of each sort is swept, and its subsection by itself.
 #[test]
 fn sorts(rt: HostRuntime) {
-    let heap = Refusing::new(rt.alloc());
-    let long = map(&rt, rt.alloc(), &[(LARGE, NAME), (0, NAME)]);
+    let alloc = rt.alloc();
+    let heap = Refusing::new(alloc);
+    let long = map(&rt, alloc, &[(LARGE, NAME), (0, NAME)]);
     for (sort, wanted) in SORTS {
-        check_sort(&rt, rt.alloc(), &heap, *sort, wanted);
+        check_sort(&rt, alloc, &heap, *sort, wanted);
         let call = Subsection::Items(*sort, &long);
-        is_well(
-            &rt,
-            sweep_add::<Names, Subsection>(rt.alloc(), &heap, &call),
-        );
-        is_well(&rt, sweep_encode(rt.alloc(), &NamesOf(*sort, &long)));
+        is_well(&rt, sweep_add::<Names, Subsection>(alloc, &heap, &call));
+        is_well(&rt, sweep_encode(alloc, &NamesOf(*sort, &long)));
     }
 }
 
@@ -158,15 +156,11 @@ const NO_NAMES: &str = "000f0e636f6d706f6e656e742d6e616d65";
 
 const NO_NAME: &str = "00120e636f6d706f6e656e742d6e616d65000100";
 
-#[test]
-fn without_names(rt: HostRuntime) {
-    let heap = Refusing::new(rt.alloc());
-    let empty = made(&rt, &heap, &[]);
-    yes(&rt, custom(&empty).name == "component-name");
-    has_data(&rt, rt.alloc(), &empty, "");
-    alone(&rt, rt.alloc(), &empty.0, NO_NAMES);
-    let unnamed = &[Subsection::Component("")];
-    alone(&rt, rt.alloc(), &made(&rt, &heap, unnamed).0, NO_NAME);
+/// It has no subsection.
+fn is_empty(rt: &impl Abort, alloc: Global, names: &Names<'_>) {
+    yes(rt, custom(names).name == "component-name");
+    has_data(rt, alloc, names, "");
+    alone(rt, alloc, &names.0, NO_NAMES);
 }
 
 /// Three kinds of subsections, behind the id of the section.
@@ -190,21 +184,10 @@ fn three_kinds(rt: &impl Abort, alloc: Global, heap: &Refusing, names: &NameMap)
 
 // Ids of names under `raw` too, and a size of two bytes.
 #[test]
-fn kinds_of_subsections(rt: HostRuntime) {
-    let heap = Refusing::new(rt.alloc());
-    let names = map(&rt, rt.alloc(), &[(0, "t")]);
-    three_kinds(&rt, rt.alloc(), &heap, &names);
-    let raw = [Subsection::Raw(0, &[]), Subsection::Raw(1, &[0x07])];
-    let mut section = made(&rt, &heap, raw.as_slice());
-    has_data(&rt, rt.alloc(), &section, "0000010107");
-    let long = Subsection::Raw(2, [0x00; 128].as_slice());
-    ok(&rt, long.add(&mut section));
-    yes(&rt, custom(&section).data.len() == 136);
-}
-
-#[test]
-fn sections_are_swept(rt: HostRuntime) {
-    let heap = Refusing::new(rt.alloc());
+fn sections(rt: HostRuntime) {
+    let alloc = rt.alloc();
+    let heap = Refusing::new(alloc);
+    is_empty(&rt, alloc, &made(&rt, &heap, &[]));
     let calls = [
         Subsection::Component(""),
         Subsection::Component(NAME),
@@ -212,5 +195,15 @@ fn sections_are_swept(rt: HostRuntime) {
         Subsection::Raw(9, &[]),
         Subsection::Raw(9, TEXT),
     ];
-    sweep_all::<Names, Subsection>(&rt, rt.alloc(), &heap, calls.as_slice());
+    alone(&rt, alloc, &made(&rt, &heap, &calls[..1]).0, NO_NAME);
+    sweep_all::<Names, Subsection>(&rt, alloc, &heap, calls.as_slice());
+    three_kinds(&rt, alloc, &heap, &map(&rt, alloc, &[(0, "t")]));
+    let raw = [
+        Subsection::Raw(0, &[]),
+        Subsection::Raw(1, &[0x07]),
+        Subsection::Raw(2, [0x00; 128].as_slice()),
+    ];
+    has_data(&rt, alloc, &made(&rt, &heap, &raw[..2]), "0000010107");
+    let size = custom(&made(&rt, &heap, raw.as_slice())).data.len();
+    yes(&rt, size == 136);
 }

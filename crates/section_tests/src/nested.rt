@@ -15,37 +15,31 @@ const NO_DATA: CustomSection<'static> = CustomSection {
 // It is swept with none, with one and with two sections.
 #[test]
 fn modules(rt: HostRuntime) {
-    let mut module = ok(&rt, Module::new(rt.alloc()));
-    alone(
-        &rt,
-        rt.alloc(),
-        &ModuleSection(&module),
-        "01080061736d01000000",
-    );
+    let alloc = rt.alloc();
+    let mut module = ok(&rt, Module::new(alloc));
+    alone(&rt, alloc, &ModuleSection(&module), "01080061736d01000000");
     ok(&rt, put_in(&mut module, &NO_DATA));
     let wanted = "010c0061736d0100000000020178";
-    alone(&rt, rt.alloc(), &ModuleSection(&module), wanted);
-    let mut module = ok(&rt, Module::new(rt.alloc()));
+    alone(&rt, alloc, &ModuleSection(&module), wanted);
+    let mut module = ok(&rt, Module::new(alloc));
     for _ in 0..3 {
-        is_well(&rt, sweep_section(rt.alloc(), &ModuleSection(&module)));
+        is_well(&rt, sweep_section(alloc, &ModuleSection(&module)));
         ok(&rt, put_in(&mut module, &RawCustomSection(TEXT)));
     }
 }
 
 #[test]
 fn nested_components(rt: HostRuntime) {
-    let mut inner = ok(&rt, Component::new(rt.alloc()));
+    let alloc = rt.alloc();
+    let mut inner = ok(&rt, Component::new(alloc));
     let wanted = "04080061736d0d000100";
-    alone(&rt, rt.alloc(), &NestedComponentSection(&inner), wanted);
+    alone(&rt, alloc, &NestedComponentSection(&inner), wanted);
     ok(&rt, put(&mut inner, &Own));
     let wanted = "040a0061736d0d000100632a";
-    alone(&rt, rt.alloc(), &NestedComponentSection(&inner), wanted);
-    let mut inner = ok(&rt, Component::new(rt.alloc()));
+    alone(&rt, alloc, &NestedComponentSection(&inner), wanted);
+    let mut inner = ok(&rt, Component::new(alloc));
     for _ in 0..3 {
-        is_well(
-            &rt,
-            sweep_section(rt.alloc(), &NestedComponentSection(&inner)),
-        );
+        is_well(&rt, sweep_section(alloc, &NestedComponentSection(&inner)));
         ok(&rt, put(&mut inner, &RawCustomSection(TEXT)));
     }
 }
@@ -54,23 +48,24 @@ const NONE: [u32; 0] = [];
 
 #[test]
 fn starts(rt: HostRuntime) {
+    let alloc = rt.alloc();
     let start = ComponentStartSection {
         function_index: 0,
         args: [0u32, 1],
         results: 1,
     };
-    alone(&rt, rt.alloc(), &start, "09050002000101");
+    alone(&rt, alloc, &start, "09050002000101");
     let start = ComponentStartSection {
         function_index: 128,
         args: NONE,
         results: 0,
     };
-    alone(&rt, rt.alloc(), &start, "090480010000");
-    is_well(&rt, sweep_section(rt.alloc(), &start));
+    alone(&rt, alloc, &start, "090480010000");
+    is_well(&rt, sweep_section(alloc, &start));
     let long = ComponentStartSection {
         function_index: LARGE,
         args: [LARGE; 30],
         results: LARGE,
     };
-    is_well(&rt, sweep_section(rt.alloc(), &long));
+    is_well(&rt, sweep_section(alloc, &long));
 }

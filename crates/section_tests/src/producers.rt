@@ -28,11 +28,12 @@ fn copy_says_more(rt: &impl Abort, alloc: Global, section: &ProducersSection) {
 
 #[test]
 fn producers(rt: HostRuntime) {
-    let mut section = ProducersSection::new(rt.alloc());
-    alone(&rt, rt.alloc(), &section, "000b0970726f64756365727300");
-    say(&rt, rt.alloc(), &mut section, "sdk");
-    copy_says_more(&rt, rt.alloc(), &section);
-    let mut module = ok(&rt, Module::new(rt.alloc()));
+    let alloc = rt.alloc();
+    let mut section = ProducersSection::new(alloc);
+    alone(&rt, alloc, &section, "000b0970726f64756365727300");
+    say(&rt, alloc, &mut section, "sdk");
+    copy_says_more(&rt, alloc, &section);
+    let mut module = ok(&rt, Module::new(alloc));
     ok(&rt, put_in(&mut module, &section));
-    module_holds(&rt, rt.alloc(), &module, PRODUCED);
+    module_holds(&rt, alloc, &module, PRODUCED);
 }

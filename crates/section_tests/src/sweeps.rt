@@ -68,11 +68,9 @@ const TEXTS: &[OwnText<'static>] = &[OwnText(""), OwnText(NAME)];
 
 #[test]
 fn components_are_swept(rt: HostRuntime) {
-    let heap = Refusing::new(rt.alloc());
-    is_well(&rt, sweep_new::<Sections>(rt.alloc(), &heap));
-    is_well(
-        &rt,
-        sweep_calls::<Sections, OwnText>(rt.alloc(), &heap, TEXTS),
-    );
-    is_well(&rt, sweep_clones::<Sections>(rt.alloc(), &heap, true));
+    let alloc = rt.alloc();
+    let heap = Refusing::new(alloc);
+    is_well(&rt, sweep_new::<Sections>(alloc, &heap));
+    is_well(&rt, sweep_calls::<Sections, OwnText>(alloc, &heap, TEXTS));
+    is_well(&rt, sweep_clones::<Sections>(alloc, &heap, true));
 }

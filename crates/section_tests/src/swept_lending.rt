@@ -173,16 +173,26 @@ fn is_made<'a, L: OnHeap<'a>, B: Makes<L>>(rt: &impl Abort, heap: &'a Refusing, 
     }
 }
 
-/// A beginning has the memory that it asks for.
-fn let_begin<L: Lending>(heap: &Refusing) {
+/// A type is begun with the memory that its beginning asks for, and given up without memory.
+fn comes_and_goes<L: Lending, B: Makes<L>>(
+    rt: &impl Abort,
+    heap: &Refusing,
+    to: &mut L,
+    start: &B,
+) {
     if L::BEGINNING_ASKS {
         heap.refuse_none();
     } else {
         heap.refuse_all();
     }
+    ok(rt, start.make(to));
+    yes(rt, L::BEGINNING_ASKS || heap.requests() == 0);
+    heap.refuse_all();
+    ok(rt, give_up(to));
+    yes(rt, heap.requests() == 0);
 }
 
-/// A type is begun in each way, and given up without memory. Nothing is lost of so many members.
+/// So it is in each of these ways, and nothing is lost of so many members.
 fn keeps_members<'a, L: OnHeap<'a>, B: Makes<L>>(
     rt: &impl Abort,
     alloc: Global,
@@ -193,12 +203,7 @@ fn keeps_members<'a, L: OnHeap<'a>, B: Makes<L>>(
     let mut members: Swept<L> = ok(rt, started(heap, count));
     let before = ok(rt, members.state(alloc));
     for start in beginnings {
-        let_begin::<L>(heap);
-        ok(rt, start.make(&mut members.0));
-        yes(rt, L::BEGINNING_ASKS || heap.requests() == 0);
-        heap.refuse_all();
-        ok(rt, give_up(&mut members.0));
-        yes(rt, heap.requests() == 0);
+        comes_and_goes(rt, heap, &mut members.0, start);
     }
     is_well(rt, is_as(alloc, &members, before.as_slice()));
 }

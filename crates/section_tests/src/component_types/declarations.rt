@@ -1,12 +1,13 @@
 //! Component types and instance types: their declarations, and what they count.
 
 use crate::accepted::{is_well, ok};
-use crate::component_types::calls::Call;
+use crate::checks::alone;
+use crate::component_types::calls::{Call, Whole};
 use crate::component_types::checks::{A_TYPE, LAST, STRING};
 use crate::component_types::declaring::{CoreType, Declaration, Import, Kind};
 use crate::component_types::lending::{Item, Opening, Start};
 use crate::core_types::making::{OPEN, subtype};
-use crate::lending::{Lending, Makes, declare, has, is_section, make_each};
+use crate::lending::{Lending, Makes, declare, has, make_each};
 use crate::swept_lending::{Made, begun, sweep_made};
 use refusing::Refusing;
 use std::alloc::Global;
@@ -16,6 +17,7 @@ use wenc_base::{ExportKind, GroupTree, ValType};
 use wenc_parts::{
     Alias, ComponentExportKind, ComponentOuterAliasKind, ComponentTypeRef, TypeBounds,
 };
+use wenc_sections::ComponentTypeSection;
 use wenc_types::component_type::ComponentTypes;
 use wenc_types::instance_type::InstanceTypes;
 use wenc_types::{ComponentType, CoreTypeTree, Declarations, InstanceType, ModuleType};
@@ -328,17 +330,6 @@ fn sweep_imports(
     }
 }
 
-#[test]
-fn added(rt: HostRuntime) {
-    let heap = Refusing::new(rt.alloc());
-    let function = open_function(&rt, rt.alloc());
-    let module = ModuleType::new(rt.alloc());
-    sweep_kind::<ComponentTypes>(&rt, rt.alloc(), &heap, &function, &module);
-    sweep_kind::<InstanceTypes>(&rt, rt.alloc(), &heap, &function, &module);
-    sweep_imports(&rt, rt.alloc(), &heap, IMPORTS);
-    sweep_imports(&rt, rt.alloc(), &heap, LONG_IMPORT);
-}
-
 /// A component type that declares such a function as a core type.
 fn begin(rt: &impl Abort, alloc: Global) -> ComponentType {
     let mut ty = ComponentType::new(alloc);
@@ -347,10 +338,18 @@ fn begin(rt: &impl Abort, alloc: Global) -> ComponentType {
     ty
 }
 
+/// The call adds an item to a section, which then has these bytes.
+fn is_item<C: Makes<ComponentTypeSection>>(rt: &impl Abort, alloc: Global, call: &C, wanted: &str) {
+    let mut section = ComponentTypeSection::new(alloc);
+    ok(rt, call.make(&mut section));
+    has(rt, &section, [1, 0, 0, 0]);
+    alone(rt, alloc, &section, wanted);
+}
+
 /// In a section the type alone has these bytes, where one call adds it, and where an encoder does.
-fn in_a_section<K: Kind>(rt: &impl Abort, alloc: Global, ty: &Declarations<K>, wanted: &str) {
-    is_section(rt, alloc, &Item::Whole(K::call(ty)), wanted);
-    is_section(rt, alloc, &K::call(ty), wanted);
+fn in_a_section(rt: &impl Abort, alloc: Global, call: Whole<'_>, wanted: &str) {
+    is_item(rt, alloc, &Item::Whole(call), wanted);
+    is_item(rt, alloc, &call, wanted);
 }
 
 const FULL: &str =
@@ -360,27 +359,31 @@ const FULL: &str =
     01730301040001690508040001630409";
 
 /// Upstream gives these counts, and this section.
-#[test]
-fn component_types(rt: HostRuntime) {
-    let mut ty = begin(&rt, rt.alloc());
-    declare(&rt, &mut ty, FIRST);
-    declare(&rt, &mut ty, IMPORTS);
-    has(&rt, &ty, [17, 2, 5, 2]);
-    declare(&rt, &mut ty, EXPORTS);
-    has(&rt, &ty, [24, 2, 7, 3]);
-    in_a_section(&rt, rt.alloc(), &ty, FULL);
+fn check_full(rt: &impl Abort, alloc: Global, ty: &mut ComponentType) {
+    declare(rt, ty, FIRST);
+    declare(rt, ty, IMPORTS);
+    has(rt, ty, [17, 2, 5, 2]);
+    declare(rt, ty, EXPORTS);
+    has(rt, ty, [24, 2, 7, 3]);
+    in_a_section(rt, alloc, Whole::Component(ty), FULL);
 }
 
 const RESOURCE: Import<'static> = Import("r", ComponentTypeRef::Type(TypeBounds::SubResource));
 
-#[test]
-fn an_imported_resource(rt: HostRuntime) {
-    let mut ty = begin(&rt, rt.alloc());
-    ok(&rt, RESOURCE.make(&mut ty));
-    ok(&rt, Declaration::Alias(CORE_TYPE_ALIAS).make(&mut ty));
-    has(&rt, &ty, [3, 2, 1, 0]);
+/// A resource is imported.
+fn check_resource(rt: &impl Abort, alloc: Global, ty: &mut ComponentType) {
+    ok(rt, RESOURCE.make(ty));
+    ok(rt, Declaration::Alias(CORE_TYPE_ALIAS).make(ty));
+    has(rt, ty, [3, 2, 1, 0]);
     let wanted = "071601410300005000600000030001720301020010020100";
-    in_a_section(&rt, rt.alloc(), &ty, wanted);
+    in_a_section(rt, alloc, Whole::Component(ty), wanted);
+}
+
+#[test]
+fn component_types(rt: HostRuntime) {
+    let alloc = rt.alloc();
+    check_full(&rt, alloc, &mut begin(&rt, alloc));
+    check_resource(&rt, alloc, &mut begin(&rt, alloc));
 }
 
 /// An alias that counts as an instance.
@@ -417,11 +420,12 @@ const INSTANCE_TYPES: &[(&[Declaration<'static>], [u32; 4], &str)] = &[
 
 #[test]
 fn instance_types(rt: HostRuntime) {
+    let alloc = rt.alloc();
     for (declarations, counts, wanted) in INSTANCE_TYPES {
-        let mut ty = InstanceType::new(rt.alloc());
+        let mut ty = InstanceType::new(alloc);
         make_each(&rt, &mut ty, declarations);
         has(&rt, &ty, *counts);
-        in_a_section(&rt, rt.alloc(), &ty, wanted);
+        in_a_section(&rt, alloc, Whole::Instance(&ty), wanted);
     }
 }
 
@@ -447,10 +451,17 @@ const INSTANCE_STATES: &[&str; 3] = &[
     "0200020000014202016900016900",
 ];
 
-/// Beginnings, and copies.
+/// Beginnings and copies too.
 #[test]
-fn begun_ones(rt: HostRuntime) {
-    let heap = Refusing::new(rt.alloc());
-    begun::<ComponentType<&Refusing>, Start>(&rt, rt.alloc(), &heap, COMPONENT_STATES, STARTS);
-    begun::<InstanceType<&Refusing>, Start>(&rt, rt.alloc(), &heap, INSTANCE_STATES, STARTS);
+fn added(rt: HostRuntime) {
+    let alloc = rt.alloc();
+    let heap = Refusing::new(alloc);
+    begun::<ComponentType<&Refusing>, Start>(&rt, alloc, &heap, COMPONENT_STATES, STARTS);
+    begun::<InstanceType<&Refusing>, Start>(&rt, alloc, &heap, INSTANCE_STATES, STARTS);
+    let function = open_function(&rt, alloc);
+    let module = ModuleType::new(alloc);
+    sweep_kind::<ComponentTypes>(&rt, alloc, &heap, &function, &module);
+    sweep_kind::<InstanceTypes>(&rt, alloc, &heap, &function, &module);
+    sweep_imports(&rt, alloc, &heap, IMPORTS);
+    sweep_imports(&rt, alloc, &heap, LONG_IMPORT);
 }

@@ -73,11 +73,12 @@ const ROWS: &[Row<'static>] = &[
 
 #[test]
 fn functions(rt: HostRuntime) {
+    let alloc = rt.alloc();
     for row in ROWS {
-        let mut section = ComponentTypeSection::new(rt.alloc());
+        let mut section = ComponentTypeSection::new(alloc);
         let stages = ok(&rt, stages(&mut section, row));
         yes(&rt, stages.as_slice() == row.stages);
         has(&rt, &section, [1, 0, 0, 0]);
-        alone(&rt, rt.alloc(), &section, row.bytes);
+        alone(&rt, alloc, &section, row.bytes);
     }
 }

@@ -195,16 +195,30 @@ pub fn items<'t>(component: &'t ComponentType, instance: &'t InstanceType) -> [I
 }
 
 /// One call leaves the section as it was. An encoder leaves its item unfinished, which comes to nothing.
+fn is_not_item(
+    rt: &impl Abort,
+    alloc: Global,
+    call: Whole<'_>,
+    section: &mut ComponentTypeSection,
+) {
+    is_refused(rt, Item::Whole(call).make(section));
+    is(rt, alloc, section, NO_ITEMS);
+    is_refused(rt, call.make(section));
+    comes_to_nothing(
+        rt,
+        alloc,
+        section,
+        items(&ComponentType::new(alloc), &InstanceType::new(alloc)).as_slice(),
+    );
+}
+
 impl<K: Kind> Taken for Declarations<K> {
     fn is_not_taken(&self, rt: &impl Abort, alloc: Global) {
-        let mut section = ComponentTypeSection::new(alloc);
-        let call = K::call(self);
-        is_refused(rt, Item::Whole(call).make(&mut section));
-        is(rt, alloc, &section, NO_ITEMS);
-        is_refused(rt, call.make(&mut section));
-        let component = ComponentType::new(alloc);
-        let instance = InstanceType::new(alloc);
-        let items = items(&component, &instance);
-        comes_to_nothing(rt, alloc, &mut section, items.as_slice());
+        is_not_item(
+            rt,
+            alloc,
+            K::call(self),
+            &mut ComponentTypeSection::new(alloc),
+        );
     }
 }

@@ -1,12 +1,12 @@
 //! Sections of types.
 
 use crate::accepted::ok;
-use crate::checks::{alone, holds, put};
+use crate::checks::alone;
 use crate::component_types::calls::{Call, Whole};
 use crate::component_types::checks::{STRING, declares};
 use crate::component_types::declaring::{Declaration, Kind};
 use crate::component_types::lending::{Beginning, Item, Opening};
-use crate::lending::{Makes, has, is_section, make_each};
+use crate::lending::{Makes, has, make_each};
 use crate::swept_lending::{Made, begun, sweep_item};
 use refusing::Refusing;
 use std::alloc::Global;
@@ -14,7 +14,7 @@ use std::process::Abort;
 use sweeping::{LARGE, NAME};
 use wenc_base::ValType;
 use wenc_parts::{ComponentTypeRef, ComponentValType, PrimitiveValType};
-use wenc_sections::{Component, ComponentImportSection, ComponentTypeSection};
+use wenc_sections::ComponentTypeSection;
 use wenc_types::component_type::ComponentTypes;
 use wenc_types::instance_type::InstanceTypes;
 use wenc_types::{ComponentType, Declarations, InstanceType};
@@ -26,23 +26,10 @@ const FOUR: &[Call<'static>] = &[
     Call::Own(64),
 ];
 
-/// Types, each with its section.
-const ALONE: &[(Call<'static>, &str)] = &[
-    (Call::Record(&[]), "0703017200"),
-    (Call::Resource(ValType::I32, None), "0704013f7f00"),
-];
-
-#[test]
-fn types_of_values_and_resources(rt: HostRuntime) {
-    for (call, wanted) in ALONE {
-        is_section(&rt, rt.alloc(), call, wanted);
-    }
-    is_section(&rt, rt.alloc(), &Item::Resource(None), "0704013f7f00");
-    let mut section = ComponentTypeSection::new(rt.alloc());
-    make_each(&rt, &mut section, FOUR);
-    has(&rt, &section, [4, 0, 0, 0]);
-    let wanted = "070e046a000173637379677d80016940";
-    alone(&rt, rt.alloc(), &section, wanted);
+fn check_four(rt: &impl Abort, alloc: Global, section: &mut ComponentTypeSection) {
+    make_each(rt, section, FOUR);
+    has(rt, section, [4, 0, 0, 0]);
+    alone(rt, alloc, section, "070e046a000173637379677d80016940");
 }
 
 /// A whole type makes this, wherever it is added: in a section by one call and by an encoder, and in types.
@@ -95,25 +82,22 @@ const BEGINNINGS: &[Beginning] = &[
 /// Beginnings and copies too.
 #[test]
 fn swept(rt: HostRuntime) {
-    let heap = Refusing::new(rt.alloc());
-    begun::<ComponentTypeSection<&Refusing>, Beginning>(&rt, rt.alloc(), &heap, TYPES, BEGINNINGS);
+    let alloc = rt.alloc();
+    let heap = Refusing::new(alloc);
+    begun::<ComponentTypeSection<&Refusing>, Beginning>(&rt, alloc, &heap, TYPES, BEGINNINGS);
     let one = b"\x41\x01\x04\x00\
             \x49a name that is longer than a first growth, by far: aaaaaaaaaaaaaaaaaaaaaa\x01\xff\xff\xff\xff\x0f";
-    check_kind::<ComponentTypes>(&rt, rt.alloc(), &heap, b"\x41\x00", one);
+    check_kind::<ComponentTypes>(&rt, alloc, &heap, b"\x41\x00", one);
     let one = b"\x42\x01\x04\x00\
             \x49a name that is longer than a first growth, by far: aaaaaaaaaaaaaaaaaaaaaa\x01\xff\xff\xff\xff\x0f";
-    check_kind::<InstanceTypes>(&rt, rt.alloc(), &heap, b"\x42\x00", one);
-    let inner = InstanceType::new(rt.alloc());
-    check_nested(&rt, rt.alloc(), &heap, &inner);
+    check_kind::<InstanceTypes>(&rt, alloc, &heap, b"\x42\x00", one);
+    check_nested(&rt, alloc, &heap, &mut InstanceType::new(alloc));
 }
 
 /// An instance type in another.
-fn check_nested(rt: &impl Abort, alloc: Global, heap: &Refusing, inner: &InstanceType) {
-    let mut outer = InstanceType::new(alloc);
-    ok(rt, Whole::Instance(inner).make(&mut outer));
-    let item = Item::Whole(Whole::Instance(&outer));
-    is_section(rt, alloc, &item, "0706014201014200");
-    check_whole(rt, alloc, heap, &outer, b"\x42\x01\x01\x42\x00");
+fn check_nested(rt: &impl Abort, alloc: Global, heap: &Refusing, outer: &mut InstanceType) {
+    ok(rt, Whole::Instance(&InstanceType::new(alloc)).make(outer));
+    check_whole(rt, alloc, heap, outer, b"\x42\x01\x01\x42\x00");
 }
 
 const FUNCTION: Call<'static> = Call::Function(None, &[("p", ComponentValType::Type(64))], None);
@@ -144,37 +128,9 @@ fn five(rt: &impl Abort, alloc: Global, outer: &ComponentType, inner: &InstanceT
 
 #[test]
 fn several(rt: HostRuntime) {
-    let mut inner = InstanceType::new(rt.alloc());
+    let alloc = rt.alloc();
+    check_four(&rt, alloc, &mut ComponentTypeSection::new(alloc));
+    let mut inner = InstanceType::new(alloc);
     ok(&rt, FUNCTION.make(&mut inner));
-    let outer = around(&rt, rt.alloc(), &inner);
-    five(&rt, rt.alloc(), &outer, &inner);
-}
-
-const OF_STRINGS: Call<'static> = Call::Function(
-    None,
-    &[("a", STRING), ("b", STRING)],
-    Some(STRING),
-);
-
-/// Puts a type of functions.
-fn put_function(rt: &impl Abort, component: &mut Component, alloc: Global) {
-    let mut types = ComponentTypeSection::new(alloc);
-    ok(rt, OF_STRINGS.make(&mut types));
-    ok(rt, put(component, &types));
-}
-
-/// Puts an import of such a function.
-fn put_import(rt: &impl Abort, component: &mut Component, alloc: Global) {
-    let mut imports = ComponentImportSection::new(alloc);
-    ok(rt, imports.import("f".into(), ComponentTypeRef::Func(0)));
-    ok(rt, put(component, &imports));
-}
-
-#[test]
-fn an_imported_function(rt: HostRuntime) {
-    let mut component = ok(&rt, Component::new(rt.alloc()));
-    put_function(&rt, &mut component, rt.alloc());
-    put_import(&rt, &mut component, rt.alloc());
-    let wanted = "070b01400201617301627300730a06010001660100";
-    holds(&rt, rt.alloc(), &component, wanted);
+    five(&rt, alloc, &around(&rt, alloc, &inner), &inner);
 }

@@ -141,9 +141,7 @@ fn component(rt: &impl Abort, alloc: Global) -> TypeTree {
 
 #[test]
 fn trees(rt: HostRuntime) {
-    is_well(
-        &rt,
-        sweep_each(rt.alloc(), values(&rt, rt.alloc()).as_slice()),
-    );
-    is_well(&rt, sweep_encode(rt.alloc(), &component(&rt, rt.alloc())));
+    let alloc = rt.alloc();
+    is_well(&rt, sweep_each(alloc, values(&rt, alloc).as_slice()));
+    is_well(&rt, sweep_encode(alloc, &component(&rt, alloc)));
 }

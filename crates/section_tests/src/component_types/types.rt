@@ -163,21 +163,16 @@ const RESOURCES: &[(Option<u32>, &[u8])] = &[
 /// Upstream gives these texts.
 #[test]
 fn types(rt: HostRuntime) {
-    let heap = Refusing::new(rt.alloc());
-    check(&rt, rt.alloc(), &heap, LISTS);
-    check(&rt, rt.alloc(), &heap, OTHERS);
-    check(&rt, rt.alloc(), &heap, RESOURCES_AND_FUNCTIONS);
+    let alloc = rt.alloc();
+    let heap = Refusing::new(alloc);
+    check(&rt, alloc, &heap, LISTS);
+    check(&rt, alloc, &heap, OTHERS);
+    check(&rt, alloc, &heap, RESOURCES_AND_FUNCTIONS);
     for (dtor, text) in RESOURCES {
         let item = Made {
             call: Item::Resource(*dtor),
             is_lent: false,
         };
-        sweep_item::<ComponentTypeSection<&Refusing>, Item<'_>>(
-            &rt,
-            rt.alloc(),
-            &heap,
-            &item,
-            text,
-        );
+        sweep_item::<ComponentTypeSection<&Refusing>, Item<'_>>(&rt, alloc, &heap, &item, text);
     }
 }

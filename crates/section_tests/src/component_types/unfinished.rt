@@ -52,19 +52,6 @@ fn goes_on<K: Kind>(rt: &impl Abort, alloc: Global, none: &[u8], one: &[u8]) {
     is(rt, alloc, &ty, one);
 }
 
-/// Nor do component types declare imports meanwhile.
-#[test]
-fn types_with_declarations(rt: HostRuntime) {
-    let none = b"\x00\x00\x00\x00\x01\x01\x41\x00";
-    let one = b"\x01\x00\x01\x00\x00\x01\x41\x01\x01\x69\x40";
-    goes_on::<ComponentTypes>(&rt, rt.alloc(), none, one);
-    let mut ty = ComponentType::new(rt.alloc());
-    take_back_each(&rt, rt.alloc(), &mut ty, STARTS, IMPORTS, none);
-    let none = b"\x00\x00\x00\x00\x01\x01\x42\x00";
-    let one = b"\x01\x00\x01\x00\x00\x01\x42\x01\x01\x69\x40";
-    goes_on::<InstanceTypes>(&rt, rt.alloc(), none, one);
-}
-
 const BEGINNINGS: &[(Beginning, Counts)] = &[
     (Beginning::Encoder(Opening::Type), [1, 0, 0, 0]),
     (Beginning::Encoder(Opening::Values), [1, 0, 0, 0]),
@@ -80,15 +67,31 @@ fn add_own(section: &mut ComponentTypeSection) -> Result<(), Fault> {
 }
 
 /// Each item that was begun is given up. Meanwhile the section takes neither types nor anything else.
-#[test]
-fn sections(rt: HostRuntime) {
-    let mut section = ComponentTypeSection::new(rt.alloc());
-    let component = ComponentType::new(rt.alloc());
-    let instance = InstanceType::new(rt.alloc());
-    let items = items(&component, &instance);
-    let refused = items.as_slice();
-    take_back_each(&rt, rt.alloc(), &mut section, BEGINNINGS, refused, NO_ITEMS);
-    ok(&rt, add_own(&mut section));
+fn check_section(rt: &impl Abort, alloc: Global, section: &mut ComponentTypeSection) {
+    take_back_each(
+        rt,
+        alloc,
+        section,
+        BEGINNINGS,
+        items(&ComponentType::new(alloc), &InstanceType::new(alloc)).as_slice(),
+        NO_ITEMS,
+    );
+    ok(rt, add_own(section));
     let wanted = b"\x01\x00\x00\x00\x00\x01\x03\x01\x69\x40";
-    is(&rt, rt.alloc(), &section, wanted);
+    is(rt, alloc, section, wanted);
+}
+
+/// Nor do component types declare imports meanwhile.
+#[test]
+fn given_up(rt: HostRuntime) {
+    let alloc = rt.alloc();
+    let none = b"\x00\x00\x00\x00\x01\x01\x41\x00";
+    let one = b"\x01\x00\x01\x00\x00\x01\x41\x01\x01\x69\x40";
+    goes_on::<ComponentTypes>(&rt, alloc, none, one);
+    let ty = &mut ComponentType::new(alloc);
+    take_back_each(&rt, alloc, ty, STARTS, IMPORTS, none);
+    let none = b"\x00\x00\x00\x00\x01\x01\x42\x00";
+    let one = b"\x01\x00\x01\x00\x00\x01\x42\x01\x01\x69\x40";
+    goes_on::<InstanceTypes>(&rt, alloc, none, one);
+    check_section(&rt, alloc, &mut ComponentTypeSection::new(alloc));
 }

@@ -74,12 +74,19 @@ pub enum Call<'t> {
 impl<'t, L: Lends> Makes<L> for Call<'t> {
     /// Begins a type, and makes the call.
     fn make(&self, to: &mut L) -> Result<(), Fault> {
+        if let Call::Composite(call) = self {
+            return call.make(to);
+        }
+        let encoder = to.encoder()?;
         match *self {
-            Call::Composite(call) => call.make(to),
-            Call::FuncType(ty) => to.encoder()?.func_type(ty),
-            Call::Subtype(ty) => to.encoder()?.subtype(ty),
-            Call::Rec(types) => to.encoder()?.rec(types.iter()),
-            Call::Group(ty) => to.encoder()?.group(ty),
+            Call::FuncType(ty) => encoder.func_type(ty),
+            Call::Subtype(ty) => encoder.subtype(ty),
+            Call::Rec(types) => encoder.rec(types.iter()),
+            Call::Group(ty) => encoder.group(ty),
+            Call::Composite(_) => {
+                drop(encoder);
+                Err(Fault::TooMany)
+            }
         }
     }
 }

@@ -145,21 +145,12 @@ const FUNCTIONS: &[(&[ValType], &[ValType], &[u8])] = &[
 /// Each call adds to the text of a section, and to that of a module type, which are swept each time.
 #[test]
 fn composites(rt: HostRuntime) {
-    sweep_texts(
-        &rt,
-        rt.alloc(),
-        &mut CoreTypeSection::new(rt.alloc()),
-        COMPOSITES,
-    );
-    sweep_texts(
-        &rt,
-        rt.alloc(),
-        &mut ModuleType::new(rt.alloc()),
-        COMPOSITES,
-    );
-    let heap = Refusing::new(rt.alloc());
+    let alloc = rt.alloc();
+    sweep_texts(&rt, alloc, &mut CoreTypeSection::new(alloc), COMPOSITES);
+    sweep_texts(&rt, alloc, &mut ModuleType::new(alloc), COMPOSITES);
+    let heap = Refusing::new(alloc);
     for (call, text) in COMPOSITES {
-        check(&rt, rt.alloc(), &heap, Call::Composite(*call), text, text);
+        check(&rt, alloc, &heap, Call::Composite(*call), text, text);
     }
 }
 
@@ -196,18 +187,19 @@ const LONG_ARRAY: Sub<'static> = Sub(true, Some(LARGE), Composite::Array(ELEMENT
 
 #[test]
 fn types(rt: HostRuntime) {
-    let heap = Refusing::new(rt.alloc());
+    let alloc = rt.alloc();
+    let heap = Refusing::new(alloc);
     for (params, results, text) in FUNCTIONS {
-        let ty = func_type(&rt, rt.alloc(), params, results);
-        check(&rt, rt.alloc(), &heap, Call::FuncType(&ty), text, text);
+        let ty = func_type(&rt, alloc, params, results);
+        check(&rt, alloc, &heap, Call::FuncType(&ty), text, text);
     }
     for (sub, text, guarded) in SUBTYPES {
-        let ty = subtype(&rt, rt.alloc(), sub);
-        check_subtype(&rt, rt.alloc(), &heap, ty, text, guarded);
+        let ty = subtype(&rt, alloc, sub);
+        check_subtype(&rt, alloc, &heap, ty, text, guarded);
     }
     for (subs, text) in GROUPS {
-        let types = subtypes(&rt, rt.alloc(), subs);
-        check_group(&rt, rt.alloc(), &heap, types, text);
+        let types = subtypes(&rt, alloc, subs);
+        check_group(&rt, alloc, &heap, types, text);
     }
 }
 

@@ -2,12 +2,12 @@
 
 use crate::accepted::ok;
 use crate::checks::alone;
-use crate::core_types::calls::{Call, Composite};
+use crate::core_types::calls::Composite;
 use crate::core_types::declaring::Declaration;
 use crate::core_types::lending::{Beginning, Module};
-use crate::core_types::making::{FINAL, I8, I32, OPEN_OF_ONE, Sub, subtype};
+use crate::core_types::making::{FINAL, I8, I32, OPEN_OF_ONE};
 use crate::core_types::module_types::{ENTITIES, add_group, add_open};
-use crate::lending::{Makes, declare, has, is_section, make_each};
+use crate::lending::{Makes, declare, has, make_each};
 use crate::swept_lending::{Made, begun, sweep_item};
 use refusing::Refusing;
 use std::alloc::Global;
@@ -37,27 +37,16 @@ const ARRAYS: &[&str; 3] = &[
 
 const BEGINNINGS: &[Beginning] = &[Beginning::Item, Beginning::Core];
 
-/// Module types: one without declarations, one with a type, and one with an export besides. Beginnings and copies too.
-#[test]
-fn swept(rt: HostRuntime) {
-    let heap = Refusing::new(rt.alloc());
-    begun::<CoreTypeSection<&Refusing>, Beginning>(&rt, rt.alloc(), &heap, ARRAYS, BEGINNINGS);
-    let mut ty = ModuleType::new(rt.alloc());
-    is_section(&rt, rt.alloc(), &Module(&ty), "0303015000");
-    check_array(&rt, rt.alloc());
-    sweep_module(&rt, rt.alloc(), &heap, &ty, b"\x50\x00");
-    add_open(&rt, &mut ty, rt.alloc());
-    sweep_module(
-        &rt,
-        rt.alloc(),
-        &heap,
-        &ty,
-        b"\x50\x01\x01\x50\x00\x60\x00\x00",
-    );
-    ok(&rt, EXPORT.make(&mut ty));
+/// A module type without declarations, then with a type, then with an export besides.
+fn check_module(rt: &impl Abort, alloc: Global, heap: &Refusing, ty: &mut ModuleType) {
+    sweep_module(rt, alloc, heap, ty, b"\x50\x00");
+    add_open(rt, ty, alloc);
+    let text = b"\x50\x01\x01\x50\x00\x60\x00\x00";
+    sweep_module(rt, alloc, heap, ty, text);
+    ok(rt, EXPORT.make(ty));
     let text = b"\x50\x02\x01\x50\x00\x60\x00\x00\x03\
             \x49a name that is longer than a first growth, by far: aaaaaaaaaaaaaaaaaaaaaa\x00\xff\xff\xff\xff\x0f";
-    sweep_module(&rt, rt.alloc(), &heap, &ty, text);
+    sweep_module(rt, alloc, heap, ty, text);
 }
 
 /// Adds a module type with an entity of each kind.
@@ -65,14 +54,6 @@ fn add_entities(rt: &impl Abort, section: &mut CoreTypeSection, alloc: Global) {
     let mut ty = ModuleType::new(alloc);
     declare(rt, &mut ty, ENTITIES);
     ok(rt, Module(&ty).make(section));
-}
-
-/// An array in a section.
-const ARRAY: Sub<'static> = Sub(true, Some(4), Composite::Array(StorageType::I16, false));
-
-fn check_array(rt: &impl Abort, alloc: Global) {
-    let ty = subtype(rt, alloc, &ARRAY);
-    is_section(rt, alloc, &Call::Subtype(&ty), "0307014f01045e7700");
 }
 
 /// An array and a structure.
@@ -83,21 +64,26 @@ const TWO: &[Composite<'static>] = &[
 
 /// A type of functions, a module type, a subtype that is not final, a group, an array and a structure. Upstream gives
 /// this section.
-#[test]
-fn several(rt: HostRuntime) {
-    let mut section = CoreTypeSection::new(rt.alloc());
-    ok(
-        &rt,
-        Composite::Function(&[ValType::I32], &[]).make(&mut section),
-    );
-    add_entities(&rt, &mut section, rt.alloc());
-    add_open(&rt, &mut section, rt.alloc());
-    add_group(&rt, &mut section, rt.alloc(), &[FINAL, OPEN_OF_ONE]);
-    make_each(&rt, &mut section, TWO);
-    has(&rt, &section, [6, 0, 0, 0]);
+fn check_six(rt: &impl Abort, alloc: Global, section: &mut CoreTypeSection) {
+    ok(rt, Composite::Function(&[ValType::I32], &[]).make(section));
+    add_entities(rt, section, alloc);
+    add_open(rt, section, alloc);
+    add_group(rt, section, alloc, &[FINAL, OPEN_OF_ONE]);
+    make_each(rt, section, TWO);
+    has(rt, section, [6, 0, 0, 0]);
     let text =
         "03580660017f00500700016d0166000000016d0174017000010160017f017e0000000205800180800402\
          10018001ffffffff0f030167037c01030165040080010050006000004e02600000500060017f005e78015f02\
          78017f00";
-    alone(&rt, rt.alloc(), &section, text);
+    alone(rt, alloc, section, text);
+}
+
+/// Beginnings and copies too.
+#[test]
+fn sections(rt: HostRuntime) {
+    let alloc = rt.alloc();
+    let heap = Refusing::new(alloc);
+    begun::<CoreTypeSection<&Refusing>, Beginning>(&rt, alloc, &heap, ARRAYS, BEGINNINGS);
+    check_module(&rt, alloc, &heap, &mut ModuleType::new(alloc));
+    check_six(&rt, alloc, &mut CoreTypeSection::new(alloc));
 }

@@ -25,14 +25,12 @@ const FIRST: &[(Begin, Counts)] = &[(Begin, [0, 1, 0, 0])];
 
 const SECOND: &[(Begin, Counts)] = &[(Begin, [0, 2, 0, 0])];
 
-#[test]
-fn module_types(rt: HostRuntime) {
-    let mut ty = ModuleType::new(rt.alloc());
+fn check_module_type(rt: &impl Abort, alloc: Global, ty: &mut ModuleType) {
     let wanted = b"\x00\x00\x00\x00\x01\x01\x50\x00";
-    take_back_each(&rt, rt.alloc(), &mut ty, FIRST, DECLARATIONS, wanted);
-    ok(&rt, Declaration::Outer(1, 0).make(&mut ty));
+    take_back_each(rt, alloc, ty, FIRST, DECLARATIONS, wanted);
+    ok(rt, Declaration::Outer(1, 0).make(ty));
     let wanted = b"\x00\x01\x00\x00\x00\x01\x50\x01\x02\x10\x01\x01\x00";
-    take_back_each(&rt, rt.alloc(), &mut ty, SECOND, DECLARATIONS, wanted);
+    take_back_each(rt, alloc, ty, SECOND, DECLARATIONS, wanted);
 }
 
 /// Adds a module type with an alias.
@@ -55,11 +53,16 @@ const ALONE: &[(Beginning, Counts)] = &[
 
 const STRUCT: &[Composite<'static>] = &[Composite::Struct(&[])];
 
-#[test]
-fn sections(rt: HostRuntime) {
-    let mut section = CoreTypeSection::new(rt.alloc());
-    take_back_each(&rt, rt.alloc(), &mut section, ALONE, STRUCT, NO_ITEMS);
-    add_alias(&rt, &mut section, rt.alloc());
+fn check_section(rt: &impl Abort, alloc: Global, section: &mut CoreTypeSection) {
+    take_back_each(rt, alloc, section, ALONE, STRUCT, NO_ITEMS);
+    add_alias(rt, section, alloc);
     let wanted = b"\x01\x00\x00\x00\x00\x01\x08\x01\x50\x01\x02\x10\x01\x01\x00";
-    take_back_each(&rt, rt.alloc(), &mut section, BEHIND_ONE, STRUCT, wanted);
+    take_back_each(rt, alloc, section, BEHIND_ONE, STRUCT, wanted);
+}
+
+#[test]
+fn given_up(rt: HostRuntime) {
+    let alloc = rt.alloc();
+    check_module_type(&rt, alloc, &mut ModuleType::new(alloc));
+    check_section(&rt, alloc, &mut CoreTypeSection::new(alloc));
 }
