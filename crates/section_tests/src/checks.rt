@@ -20,6 +20,13 @@ pub fn are(rt: &impl Abort, alloc: Global, bytes: &[u8], lead: &str, wanted: &st
     yes(rt, text.strip_prefix(lead) == Some(wanted));
 }
 
+/// What the value appends.
+pub fn bytes(alloc: Global, value: &impl Encode) -> Result<Vec<u8>, Fault> {
+    let mut bytes = Vec::new(alloc);
+    value.encode(&mut bytes)?;
+    Ok(bytes)
+}
+
 /// The value's text is this, which it appends to a sink.
 pub fn is_text(rt: &impl Abort, alloc: Global, value: &impl Encode, wanted: &str) {
     let mut sink = ok(rt, [0xee].to_vec(alloc));

@@ -1,5 +1,5 @@
-//! Component types, instance types and the section of types: worked types and sections, and sweeps, in which each request
-//! for memory of the calls that write types is refused in turn.
+//! Component types, instance types and the section of types: worked types and sections, and sweeps,
+//! in which each request for memory of the calls that write types is refused in turn.
 
 mod calls;
 mod checks;

@@ -54,7 +54,8 @@ fn module_takes(
     module_refuses(rt, alloc, module, wanted);
 }
 
-/// A copy of a component with one section of its own goes its own way. Another takes a second section of the same kind.
+/// A copy of a component with one section of its own goes its own way. Another takes a second
+/// section of the same kind.
 fn copies_go_their_own_way(rt: &impl Abort, alloc: Global, component: &Component) {
     let mut copy = ok(rt, component.clone());
     holds(rt, alloc, &copy, "632a");
@@ -111,7 +112,7 @@ fn sections_stand_in_their_order(rt: HostRuntime) {
 }
 
 #[test]
-fn without_sections(rt: HostRuntime) {
+fn without_sections_and_by_hand(rt: HostRuntime) {
     let alloc = rt.alloc();
     yes(&rt, <Component>::HEADER == COMPONENT);
     yes(&rt, <Module>::HEADER == MODULE);
@@ -119,11 +120,6 @@ fn without_sections(rt: HostRuntime) {
     are(&rt, alloc, bytes.as_slice(), "", "0061736d0d000100");
     let bytes = ok(&rt, Module::new(alloc)).finish();
     are(&rt, alloc, bytes.as_slice(), "", "0061736d01000000");
-}
-
-#[test]
-fn written_by_hand(rt: HostRuntime) {
-    let alloc = rt.alloc();
     let bytes = ok(&rt, by_hand(alloc));
     let wanted = "0061736d0d0001000a0601000169050006060101000001660b0701000167010000";
     are(&rt, alloc, bytes.as_slice(), "", wanted);

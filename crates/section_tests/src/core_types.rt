@@ -1,5 +1,5 @@
-//! Module types and the section of core types: worked types and sections, and sweeps, in which each request for memory
-//! of the calls that write core types is refused in turn.
+//! Module types and the section of core types: worked types and sections, and sweeps, in which each
+//! request for memory of the calls that write core types is refused in turn.
 
 mod calls;
 mod declaring;

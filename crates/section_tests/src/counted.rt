@@ -62,7 +62,8 @@ impl<'a, K: Short> Sections<'a> for Items<'a, K> {
     }
 }
 
-/// Sweeps the section with none of these members, with the first, and so on, the calls that add them, and copies.
+/// Sweeps the section with none of these members, with the first, and so on, the calls that add
+/// them, and copies.
 pub fn sweep_all<'a, M: Sections<'a>, C: Adds<M>>(
     rt: &impl Abort,
     alloc: Global,
@@ -79,8 +80,8 @@ pub fn sweep_all<'a, M: Sections<'a>, C: Adds<M>>(
     is_well(rt, sweep_clones::<M>(alloc, heap, false));
 }
 
-/// What sections are with no short member, with one and with two, and with those of each row. Those with the long ones
-/// are swept.
+/// What sections are with no short member, with one and with two, and with those of each row. Those
+/// with the long ones are swept.
 pub fn check<'a, M: Sections<'a>, C: Adds<M>>(
     rt: &impl Abort,
     alloc: Global,

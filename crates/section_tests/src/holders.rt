@@ -55,7 +55,8 @@ fn outer_type(section: &mut ComponentAliasSection) -> Result<(), Fault> {
     })
 }
 
-/// The section's holder is made of these bytes, of which two are kept, has so many items, and is whole or not.
+/// The section's holder is made of these bytes, of which two are kept, has so many items, and is
+/// whole or not.
 fn gives_back(
     rt: &impl Abort,
     alloc: Global,

@@ -1,4 +1,5 @@
-//! Sections of instances, and trees of them: their bytes, and each request for memory refused in turn.
+//! Sections of instances, and trees of them: their bytes, and each request for memory refused in
+//! turn.
 
 use crate::accepted::{is_well, ok};
 use crate::checks::is_text;
@@ -123,21 +124,6 @@ const LONG_COMPONENTS: &[Component<'static>] = &[
         (Name::Each("a"), ComponentExportKind::Type, LARGE),
     ]),
 ];
-
-#[test]
-fn sections(rt: HostRuntime) {
-    let alloc = rt.alloc();
-    let heap = Refusing::new(alloc);
-    check::<Items<CoreInstances>, Core>(&rt, alloc, &heap, NO_CORE_AND_SHORT_ONES, CORE, LONG_CORE);
-    check::<Items<Instances>, Component>(
-        &rt,
-        alloc,
-        &heap,
-        NONE_AND_SHORT_ONES,
-        COMPONENTS,
-        LONG_COMPONENTS,
-    );
-}
 
 fn module_args(
     rt: &impl Abort,
@@ -280,7 +266,7 @@ const LONG_TREES: &[Component<'static>] = &[
 ];
 
 #[test]
-fn trees(rt: HostRuntime) {
+fn sections_and_trees(rt: HostRuntime) {
     let alloc = rt.alloc();
     for (row, wanted) in CORE_TREES {
         is_tree(&rt, alloc, row.tree(&rt, alloc), wanted);
@@ -294,4 +280,14 @@ fn trees(rt: HostRuntime) {
     for row in LONG_TREES {
         is_swept(&rt, alloc, row.tree(&rt, alloc));
     }
+    let heap = Refusing::new(alloc);
+    check::<Items<CoreInstances>, Core>(&rt, alloc, &heap, NO_CORE_AND_SHORT_ONES, CORE, LONG_CORE);
+    check::<Items<Instances>, Component>(
+        &rt,
+        alloc,
+        &heap,
+        NONE_AND_SHORT_ONES,
+        COMPONENTS,
+        LONG_COMPONENTS,
+    );
 }

@@ -1,15 +1,15 @@
 //! What lends itself to the encoders of types: sections of types, and types with declarations.
 
 use crate::accepted::ok;
-use crate::checks::yes;
+use crate::checks::{bytes, yes};
 use std::alloc::{Allocator, Global};
 use std::process::Abort;
 use sweeping::sweep_section;
-use wenc_base::{Encode, Fault};
+use wenc_base::{Encode, Fault, Lent};
 use wenc_sections::{Counted, LentKind};
 
-/// How many items or declarations there are, and the core types, types and instances that are counted. What isn't
-/// counted is none.
+/// How many items or declarations there are, and the core types, types and instances that are
+/// counted. What isn't counted is none.
 pub type Counts = [u32; 4];
 
 /// What lends itself to the encoders of types.
@@ -26,8 +26,8 @@ pub trait Lending: Encode + Drop + Sized {
     /// Gives up the type that is being written, and says whether there was one.
     fn give_up(&mut self) -> bool;
 
-    /// What is counted, whether there is none, and whether nothing is being written. A module type counts its core
-    /// types, and no more.
+    /// What is counted, whether there is none, and whether nothing is being written. A module type
+    /// counts its core types, and no more.
     fn asked(&self) -> (Counts, bool, bool);
 
     /// The same once more.
@@ -52,18 +52,12 @@ impl<L: Lending> Makes<L> for Begin {
     }
 }
 
-fn append_state<L: Lending>(of: &L, state: &mut Vec<u8>) -> Result<(), Fault> {
+/// All that can be asked of it, in bytes: what it counts, whether it is empty and finished, and its
+/// text.
+pub fn state<L: Lending>(alloc: Global, of: &L) -> Result<Vec<u8>, Fault> {
     let ([items, core_types, types, instances], is_empty, is_finished) = of.asked();
     let counts = ((items, core_types), (types, instances));
-    (counts, (is_empty, is_finished)).encode(state)?;
-    of.encode(state)
-}
-
-/// All that can be asked of it, in bytes: what it counts, whether it is empty and finished, and its text.
-pub fn state<L: Lending>(alloc: Global, of: &L) -> Result<Vec<u8>, Fault> {
-    let mut state = Vec::new(alloc);
-    append_state(of, &mut state)?;
-    Ok(state)
+    bytes(alloc, &(counts, (is_empty, is_finished), Lent(of)))
 }
 
 /// This is all that can be asked of it.

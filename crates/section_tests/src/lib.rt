@@ -1,5 +1,5 @@
-//! Tests of `wenc_types` and `wenc_sections`: worked types, sections and components, each request for memory refused in turn, and a proved
-//! caller.
+//! Tests of `wenc_types` and `wenc_sections`: worked types, sections and components, each request
+//! for memory refused in turn, and a proved caller.
 #![tactic(auto)]
 
 #[cfg(test)]

@@ -1,14 +1,14 @@
 //! Sections of names.
 
 use crate::accepted::{is_well, ok};
-use crate::checks::{alone, are, is_text, yes};
+use crate::checks::{alone, are, bytes, is_text, yes};
 use crate::counted::{Sections, sweep_all};
 use refusing::Refusing;
 use std::alloc::Global;
 use std::process::Abort;
 use sweeping::members::{Adds, Members, sweep_add};
 use sweeping::{LARGE, NAME, TEXT, sweep_encode, sweep_section};
-use wenc_base::{CustomSection, Encode, Fault, NameMap};
+use wenc_base::{CustomSection, Fault, Lent, NameMap};
 use wenc_parts::ComponentSection;
 use wenc_sections::{ComponentNameSection, NamesOf, Sort};
 
@@ -30,10 +30,7 @@ impl<'a> Members<'a> for Names<'a> {
     }
 
     fn state(&self, alloc: Global) -> Result<Vec<u8>, Fault> {
-        let mut state = Vec::new(alloc);
-        self.0.is_empty().encode(&mut state)?;
-        self.0.encode(&mut state)?;
-        Ok(state)
+        bytes(alloc, &(self.0.is_empty(), Lent(&self.0)))
     }
 }
 

@@ -4,6 +4,7 @@ ghost use Rattle.wenc_base.specs.Fault.{text_cause};
 ghost use Rattle.wenc_base.specs.Forms.{name};
 
 use crate::accepted::is_well;
+use crate::checks::bytes;
 use refusing::Refusing;
 use std::alloc::{Allocator, Global};
 use sweeping::NAME;
@@ -52,9 +53,7 @@ impl<'a> Members<'a> for Sections<'a> {
     }
 
     fn state(&self, alloc: Global) -> Result<Vec<u8>, Fault> {
-        let mut state = Vec::new(alloc);
-        self.0.as_slice().encode(&mut state)?;
-        Ok(state)
+        bytes(alloc, &self.0.as_slice())
     }
 }
 

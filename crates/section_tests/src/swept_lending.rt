@@ -44,7 +44,8 @@ impl<'a, L: OnHeap<'a>> Members<'a> for Swept<L> {
     }
 }
 
-/// Gives up the type that is being written, so that nothing is added. `TooMany` says that there was none.
+/// Gives up the type that is being written, so that nothing is added. `TooMany` says that there was
+/// none.
 fn give_up<L: Lending>(to: &mut L) -> Result<(), Fault> {
     let is_closed = !is_finished(to)
         && to.begin() == Err(Fault::Unfinished)
@@ -63,7 +64,8 @@ pub struct Made<C> {
     pub is_lent: bool,
 }
 
-/// Gives up what the refused call of an encoder has left. Where the beginning asks for memory, it may have been that.
+/// Gives up what the refused call of an encoder has left. Where the beginning asks for memory, it
+/// may have been that.
 impl<L: Lending, C: Makes<L>> Adds<Swept<L>> for Made<C> {
     fn add(&self, to: &mut Swept<L>) -> Result<(), Fault> {
         let outcome = self.call.make(&mut to.0);
@@ -85,8 +87,9 @@ fn is_made_of(state: &[u8], counted: &[u8], lead: &[u8], text: &[u8]) -> bool {
     }
 }
 
-/// Sweeps a call, and the text that it makes. With it alone, this is all that can be asked: what is counted, and whether
-/// it is empty and finished; then what the text begins with, and what the call makes.
+/// Sweeps a call, and the text that it makes. With it alone, this is all that can be asked: what is
+/// counted, and whether it is empty and finished; then what the text begins with, and what the call
+/// makes.
 pub fn sweep_made<'a, L: OnHeap<'a>, C: Makes<L>>(
     rt: &impl Abort,
     alloc: Global,
@@ -107,7 +110,8 @@ pub fn sweep_made<'a, L: OnHeap<'a>, C: Makes<L>>(
 /// One item: the section isn't empty, and is finished.
 const AN_ITEM: &[u8] = &[1, 0, 0, 0, 0, 1];
 
-/// Sweeps a call that makes an item of this text, behind the section's size, which takes one byte, and number of items.
+/// Sweeps a call that makes an item of this text, behind the section's size, which takes one byte,
+/// and number of items.
 pub fn sweep_item<'a, L: OnHeap<'a>, C: Makes<L>>(
     rt: &impl Abort,
     alloc: Global,
@@ -133,7 +137,8 @@ pub fn sweep_texts<L: Lending, C: Makes<L>>(
     }
 }
 
-/// The last call is refused, where so many members leave room for the beginning of a type, and no more.
+/// The last call is refused, where so many members leave room for the beginning of a type, and no
+/// more.
 pub fn last_is_refused<'a, L: OnHeap<'a>, C: Makes<L>>(
     rt: &impl Abort,
     heap: &'a Refusing,
@@ -154,8 +159,8 @@ fn is_new<L: Lending>(rt: &impl Abort, heap: &Refusing, new: &L) {
     yes(rt, heap.requests() == 0);
 }
 
-/// What is new takes no memory, nor does a copy of it, and there is nothing to be given up. Each beginning asks for
-/// memory, where any does, and changes nothing where it is refused.
+/// What is new takes no memory, nor does a copy of it, and there is nothing to be given up. Each
+/// beginning asks for memory, where any does, and changes nothing where it is refused.
 fn is_made<'a, L: OnHeap<'a>, B: Makes<L>>(rt: &impl Abort, heap: &'a Refusing, beginnings: &[B]) {
     heap.refuse_all();
     let mut new = L::empty(heap);
@@ -228,8 +233,8 @@ fn copies<'a, L: OnHeap<'a>>(rt: &impl Abort, alloc: Global, heap: &'a Refusing)
     is_well(rt, sweep_clones::<Swept<L>>(alloc, heap, false));
 }
 
-/// What is asked of one with no, one and two members. Then new ones, copies, and types that are begun in each of these
-/// ways and given up.
+/// What is asked of one with no, one and two members. Then new ones, copies, and types that are
+/// begun in each of these ways and given up.
 pub fn begun<'a, L: OnHeap<'a>, B: Makes<L>>(
     rt: &impl Abort,
     alloc: Global,

@@ -22,8 +22,8 @@ impl<K: TypeKind> Taken for Counted<K> {
     }
 }
 
-/// A type is being written. Nothing is made of what it is in, and each of these calls is refused. The type is given up,
-/// once, and all is as it was before.
+/// A type is being written. Nothing is made of what it is in, and each of these calls is refused.
+/// The type is given up, once, and all is as it was before.
 pub fn takes_back<L: Taken, C: Makes<L>>(
     rt: &impl Abort,
     alloc: Global,
@@ -63,8 +63,8 @@ fn counts_so_many<L: Lending>(rt: &impl Abort, of: &L, wanted: Counts) {
     yes(rt, counts == wanted);
 }
 
-/// A type is begun in each of these ways, with what is counted then, and given up, in a copy first. Meanwhile no other
-/// is begun. This is all that can be asked afterwards.
+/// A type is begun in each of these ways, with what is counted then, and given up, in a copy first.
+/// Meanwhile no other is begun. This is all that can be asked afterwards.
 pub fn take_back_each<L: Taken, B: Makes<L>, C: Makes<L>>(
     rt: &impl Abort,
     alloc: Global,

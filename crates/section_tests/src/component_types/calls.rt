@@ -49,11 +49,13 @@ impl<'t, L: Lends> Makes<L> for Whole<'t> {
     }
 }
 
-/// A call that ends a type with a resource, a function, or a type of values. Tables can be made of these.
+/// A call that ends a type with a resource, a function, or a type of values. Tables can be made of
+/// these.
 #[derive(Clone, Copy)]
 pub enum Call<'t> {
     Resource(ValType, Option<u32>),
-    /// A function: whether it is said to be asynchronous or not, its parameters, and what it answers.
+    /// A function: whether it is said to be asynchronous or not, its parameters, and what it
+    /// answers.
     Function(Option<bool>, &'t [(&'t str, ComponentValType)], Option<ComponentValType>),
     Primitive(PrimitiveValType),
     Record(&'t [(&'t str, ComponentValType)]),

@@ -7,7 +7,7 @@ use crate::component_types::checks::{A_TYPE, LAST, STRING};
 use crate::component_types::declaring::{CoreType, Declaration, Import, Kind};
 use crate::component_types::lending::{Item, Opening, Start};
 use crate::core_types::making::{OPEN, subtype};
-use crate::lending::{Lending, Makes, declare, has, make_each};
+use crate::lending::{Counts, Lending, Makes, declare, has, make_each};
 use crate::swept_lending::{Made, begun, sweep_made};
 use refusing::Refusing;
 use std::alloc::Global;
@@ -22,7 +22,8 @@ use wenc_types::component_type::ComponentTypes;
 use wenc_types::instance_type::InstanceTypes;
 use wenc_types::{ComponentType, CoreTypeTree, Declarations, InstanceType, ModuleType};
 
-/// What is asked of one with a declaration that counts as none of these: it isn't empty, and is finished.
+/// What is asked of one with a declaration that counts as none of these: it isn't empty, and is
+/// finished.
 const NOTHING: &[u8] = &[1, 0, 0, 0, 0, 1];
 
 /// The same of one that counts as a core type.
@@ -31,8 +32,8 @@ const A_CORE_TYPE: &[u8] = &[1, 1, 0, 0, 0, 1];
 /// The same of one that counts as an instance.
 const AN_INSTANCE: &[u8] = &[1, 0, 0, 1, 0, 1];
 
-/// An option, then aliases that count as a type, an instance, nothing, nothing, a core type, a type, nothing, nothing.
-/// Beside each stand what it counts as, and its text, as upstream gives it.
+/// An option, then aliases that count as a type, an instance, nothing, nothing, a core type, a
+/// type, nothing, nothing. Beside each stand what it counts as, and its text, as upstream gives it.
 const FIRST: &[(Declaration<'static>, &[u8], &[u8])] = &[
     (
         Declaration::Type(Call::Option(STRING)),
@@ -379,13 +380,6 @@ fn check_resource(rt: &impl Abort, alloc: Global, ty: &mut ComponentType) {
     in_a_section(rt, alloc, Whole::Component(ty), wanted);
 }
 
-#[test]
-fn component_types(rt: HostRuntime) {
-    let alloc = rt.alloc();
-    check_full(&rt, alloc, &mut begin(&rt, alloc));
-    check_resource(&rt, alloc, &mut begin(&rt, alloc));
-}
-
 /// An alias that counts as an instance.
 const INSTANCE_ALIAS: Alias<'static> = Alias::InstanceExport {
     instance: 1,
@@ -408,8 +402,9 @@ const OPTION: &[Declaration<'static>] = &[
     Declaration::Export("t", ComponentTypeRef::Type(TypeBounds::Eq(0))),
 ];
 
-/// Declarations, what they count, and a section of an instance type with them. Upstream gives these.
-const INSTANCE_TYPES: &[(&[Declaration<'static>], [u32; 4], &str)] = &[
+/// Declarations, what they count, and a section of an instance type with them. Upstream gives
+/// these.
+const INSTANCE_TYPES: &[(&[Declaration<'static>], Counts, &str)] = &[
     (
         SEVEN,
         [7, 2, 2, 2],
@@ -418,15 +413,17 @@ const INSTANCE_TYPES: &[(&[Declaration<'static>], [u32; 4], &str)] = &[
     (OPTION, [2, 0, 2, 0], "070d014202016b7304000174030000"),
 ];
 
-#[test]
-fn instance_types(rt: HostRuntime) {
-    let alloc = rt.alloc();
-    for (declarations, counts, wanted) in INSTANCE_TYPES {
-        let mut ty = InstanceType::new(alloc);
-        make_each(&rt, &mut ty, declarations);
-        has(&rt, &ty, *counts);
-        in_a_section(&rt, alloc, Whole::Instance(&ty), wanted);
-    }
+fn check_instance_type(
+    rt: &impl Abort,
+    alloc: Global,
+    ty: &mut InstanceType,
+    declarations: &[Declaration<'_>],
+    counts: Counts,
+    wanted: &str,
+) {
+    make_each(rt, ty, declarations);
+    has(rt, ty, counts);
+    in_a_section(rt, alloc, Whole::Instance(ty), wanted);
 }
 
 /// How types are begun.
@@ -453,15 +450,21 @@ const INSTANCE_STATES: &[&str; 3] = &[
 
 /// Beginnings and copies too.
 #[test]
-fn added(rt: HostRuntime) {
+fn declarations(rt: HostRuntime) {
     let alloc = rt.alloc();
+    for (declarations, counts, wanted) in INSTANCE_TYPES {
+        let ty = &mut InstanceType::new(alloc);
+        check_instance_type(&rt, alloc, ty, declarations, *counts, wanted);
+    }
+    check_full(&rt, alloc, &mut begin(&rt, alloc));
+    check_resource(&rt, alloc, &mut begin(&rt, alloc));
     let heap = Refusing::new(alloc);
     begun::<ComponentType<&Refusing>, Start>(&rt, alloc, &heap, COMPONENT_STATES, STARTS);
     begun::<InstanceType<&Refusing>, Start>(&rt, alloc, &heap, INSTANCE_STATES, STARTS);
+    sweep_imports(&rt, alloc, &heap, IMPORTS);
+    sweep_imports(&rt, alloc, &heap, LONG_IMPORT);
     let function = open_function(&rt, alloc);
     let module = ModuleType::new(alloc);
     sweep_kind::<ComponentTypes>(&rt, alloc, &heap, &function, &module);
     sweep_kind::<InstanceTypes>(&rt, alloc, &heap, &function, &module);
-    sweep_imports(&rt, alloc, &heap, IMPORTS);
-    sweep_imports(&rt, alloc, &heap, LONG_IMPORT);
 }

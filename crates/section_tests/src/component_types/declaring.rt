@@ -67,7 +67,8 @@ impl Kind for InstanceTypes {
     }
 }
 
-/// A declaration that one call, or an encoder, adds. Both kinds have these, and tables can be made of them.
+/// A declaration that one call, or an encoder, adds. Both kinds have these, and tables can be made
+/// of them.
 #[derive(Clone, Copy)]
 pub enum Declaration<'t> {
     /// A core type: an array of mutable 8-bit integers.

@@ -4,12 +4,15 @@ use crate::accepted::ok;
 use crate::checks::{alone, yes};
 use crate::component_types::checks::STRING;
 use crate::lending::has;
+use std::alloc::Global;
+use std::process::Abort;
 use wenc_base::Fault;
 use wenc_parts::ComponentValType;
 use wenc_sections::ComponentTypeSection;
 use wenc_types::FuncStage;
 
-/// A function, which may be said to be asynchronous, the stages in which it is written, and a section of it alone.
+/// A function, which may be said to be asynchronous, the stages in which it is written, and a
+/// section of it alone.
 #[derive(Clone, Copy)]
 struct Row<'a> {
     is_async: bool,
@@ -71,14 +74,18 @@ const ROWS: &[Row<'static>] = &[
     },
 ];
 
+/// A section of the function alone.
+fn check(rt: &impl Abort, alloc: Global, section: &mut ComponentTypeSection, row: &Row<'_>) {
+    let stages = ok(rt, stages(section, row));
+    yes(rt, stages.as_slice() == row.stages);
+    has(rt, section, [1, 0, 0, 0]);
+    alone(rt, alloc, section, row.bytes);
+}
+
 #[test]
 fn functions(rt: HostRuntime) {
     let alloc = rt.alloc();
     for row in ROWS {
-        let mut section = ComponentTypeSection::new(alloc);
-        let stages = ok(&rt, stages(&mut section, row));
-        yes(&rt, stages.as_slice() == row.stages);
-        has(&rt, &section, [1, 0, 0, 0]);
-        alone(&rt, alloc, &section, row.bytes);
+        check(&rt, alloc, &mut ComponentTypeSection::new(alloc), row);
     }
 }

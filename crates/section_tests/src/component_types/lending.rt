@@ -1,4 +1,5 @@
-//! What lends itself to the encoders of types: component types, instance types, and sections of types.
+//! What lends itself to the encoders of types: component types, instance types, and sections of
+//! types.
 
 use crate::checks::is_refused;
 use crate::component_types::calls::{Call, Lends, Whole};
@@ -194,7 +195,8 @@ pub fn items<'t>(component: &'t ComponentType, instance: &'t InstanceType) -> [I
     ]
 }
 
-/// One call leaves the section as it was. An encoder leaves its item unfinished, which comes to nothing.
+/// One call leaves the section as it was. An encoder leaves its item unfinished, which comes to
+/// nothing.
 fn is_not_item(
     rt: &impl Abort,
     alloc: Global,

@@ -3,11 +3,11 @@
 use crate::accepted::ok;
 use crate::checks::alone;
 use crate::component_types::calls::{Call, Whole};
-use crate::component_types::checks::{STRING, declares};
+use crate::component_types::checks::{A_TYPE, STRING};
 use crate::component_types::declaring::{Declaration, Kind};
 use crate::component_types::lending::{Beginning, Item, Opening};
 use crate::lending::{Makes, has, make_each};
-use crate::swept_lending::{Made, begun, sweep_item};
+use crate::swept_lending::{Made, begun, sweep_item, sweep_made};
 use refusing::Refusing;
 use std::alloc::Global;
 use std::process::Abort;
@@ -32,7 +32,20 @@ fn check_four(rt: &impl Abort, alloc: Global, section: &mut ComponentTypeSection
     alone(rt, alloc, section, "070e046a000173637379677d80016940");
 }
 
-/// A whole type makes this, wherever it is added: in a section by one call and by an encoder, and in types.
+/// The call declares a type of this text, in one of this kind.
+fn is_declared<K: Kind>(
+    rt: &impl Abort,
+    alloc: Global,
+    heap: &Refusing,
+    call: &Made<Whole<'_>>,
+    text: &[u8],
+) {
+    let lead = &[K::LEAD, 1, 1];
+    sweep_made::<Declarations<K, &Refusing>, Whole<'_>>(rt, alloc, heap, call, A_TYPE, lead, text);
+}
+
+/// A whole type makes this, wherever it is added: in a section by one call and by an encoder, and
+/// in types.
 fn check_whole<K: Kind>(
     rt: &impl Abort,
     alloc: Global,
@@ -50,8 +63,8 @@ fn check_whole<K: Kind>(
         is_lent: true,
     };
     sweep_item::<ComponentTypeSection<&Refusing>, Whole<'_>>(rt, alloc, heap, &call, text);
-    declares::<ComponentType<&Refusing>, Whole<'_>>(rt, alloc, heap, 0x41, &call, text);
-    declares::<InstanceType<&Refusing>, Whole<'_>>(rt, alloc, heap, 0x42, &call, text);
+    is_declared::<ComponentTypes>(rt, alloc, heap, &call, text);
+    is_declared::<InstanceTypes>(rt, alloc, heap, &call, text);
 }
 
 const LONG_EXPORT: Declaration<'static> = Declaration::Export(NAME, ComponentTypeRef::Func(LARGE));
@@ -79,21 +92,6 @@ const BEGINNINGS: &[Beginning] = &[
     Beginning::Function,
 ];
 
-/// Beginnings and copies too.
-#[test]
-fn swept(rt: HostRuntime) {
-    let alloc = rt.alloc();
-    let heap = Refusing::new(alloc);
-    begun::<ComponentTypeSection<&Refusing>, Beginning>(&rt, alloc, &heap, TYPES, BEGINNINGS);
-    let one = b"\x41\x01\x04\x00\
-            \x49a name that is longer than a first growth, by far: aaaaaaaaaaaaaaaaaaaaaa\x01\xff\xff\xff\xff\x0f";
-    check_kind::<ComponentTypes>(&rt, alloc, &heap, b"\x41\x00", one);
-    let one = b"\x42\x01\x04\x00\
-            \x49a name that is longer than a first growth, by far: aaaaaaaaaaaaaaaaaaaaaa\x01\xff\xff\xff\xff\x0f";
-    check_kind::<InstanceTypes>(&rt, alloc, &heap, b"\x42\x00", one);
-    check_nested(&rt, alloc, &heap, &mut InstanceType::new(alloc));
-}
-
 /// An instance type in another.
 fn check_nested(rt: &impl Abort, alloc: Global, heap: &Refusing, outer: &mut InstanceType) {
     ok(rt, Whole::Instance(&InstanceType::new(alloc)).make(outer));
@@ -114,7 +112,8 @@ fn around(rt: &impl Abort, alloc: Global, inner: &InstanceType) -> ComponentType
 /// A resource, and a handle of it.
 const RESOURCES: &[Call<'static>] = &[Call::Resource(ValType::I32, None), Call::Own(0)];
 
-/// Upstream gives this section: a component type and an instance type, two resources, and a handle of one.
+/// Upstream gives this section: a component type and an instance type, two resources, and a handle
+/// of one.
 fn five(rt: &impl Abort, alloc: Global, outer: &ComponentType, inner: &InstanceType) {
     let mut section = ComponentTypeSection::new(alloc);
     ok(rt, Whole::Component(outer).make(&mut section));
@@ -126,10 +125,20 @@ fn five(rt: &impl Abort, alloc: Global, outer: &ComponentType, inner: &InstanceT
     alone(rt, alloc, &section, wanted);
 }
 
+/// Beginnings and copies too.
 #[test]
-fn several(rt: HostRuntime) {
+fn sections(rt: HostRuntime) {
     let alloc = rt.alloc();
     check_four(&rt, alloc, &mut ComponentTypeSection::new(alloc));
+    let heap = Refusing::new(alloc);
+    begun::<ComponentTypeSection<&Refusing>, Beginning>(&rt, alloc, &heap, TYPES, BEGINNINGS);
+    let one = b"\x41\x01\x04\x00\
+            \x49a name that is longer than a first growth, by far: aaaaaaaaaaaaaaaaaaaaaa\x01\xff\xff\xff\xff\x0f";
+    check_kind::<ComponentTypes>(&rt, alloc, &heap, b"\x41\x00", one);
+    let one = b"\x42\x01\x04\x00\
+            \x49a name that is longer than a first growth, by far: aaaaaaaaaaaaaaaaaaaaaa\x01\xff\xff\xff\xff\x0f";
+    check_kind::<InstanceTypes>(&rt, alloc, &heap, b"\x42\x00", one);
+    check_nested(&rt, alloc, &heap, &mut InstanceType::new(alloc));
     let mut inner = InstanceType::new(alloc);
     ok(&rt, FUNCTION.make(&mut inner));
     five(&rt, alloc, &around(&rt, alloc, &inner), &inner);

@@ -1,9 +1,11 @@
-//! Each call that writes a type of values, a resource or a function, with each thing that can be borrowed.
+//! Each call that writes a type of values, a resource or a function, with each thing that can be
+//! borrowed.
 
-use crate::component_types::calls::{Call, Lends};
-use crate::component_types::checks::{INDEXED, LAST, STRING, declares};
+use crate::component_types::calls::Call;
+use crate::component_types::checks::{A_TYPE, INDEXED, LAST, STRING};
+use crate::component_types::declaring::Kind;
 use crate::component_types::lending::Item;
-use crate::swept_lending::{Made, OnHeap, last_is_refused, sweep_item, sweep_texts};
+use crate::swept_lending::{Made, last_is_refused, sweep_item, sweep_made, sweep_texts};
 use refusing::Refusing;
 use std::alloc::Global;
 use std::process::Abort;
@@ -11,7 +13,9 @@ use sweeping::{LARGE, NAME};
 use wenc_base::ValType;
 use wenc_parts::{ComponentValType, PrimitiveValType};
 use wenc_sections::ComponentTypeSection;
-use wenc_types::{ComponentType, InstanceType};
+use wenc_types::Declarations;
+use wenc_types::component_type::ComponentTypes;
+use wenc_types::instance_type::InstanceTypes;
 
 const BOOL: ComponentValType = ComponentValType::Primitive(PrimitiveValType::Bool);
 
@@ -19,17 +23,17 @@ const U8: ComponentValType = ComponentValType::Primitive(PrimitiveValType::U8);
 
 const U32: ComponentValType = ComponentValType::Primitive(PrimitiveValType::U32);
 
-/// The call declares a type of this text, in one that begins with this byte.
-fn in_a_type<'a, L: OnHeap<'a> + Lends>(
+/// The call declares a type of this text, in one of this kind.
+fn in_a_type<K: Kind>(
     rt: &impl Abort,
     alloc: Global,
-    heap: &'a Refusing,
-    byte: u8,
+    heap: &Refusing,
     call: &Made<Call<'_>>,
     text: &[u8],
 ) {
-    declares::<L, Call<'_>>(rt, alloc, heap, byte, call, text);
-    last_is_refused::<L, Call<'_>>(rt, heap, 5, &call.call);
+    let lead = &[K::LEAD, 1, 1];
+    sweep_made::<Declarations<K, &Refusing>, Call<'_>>(rt, alloc, heap, call, A_TYPE, lead, text);
+    last_is_refused::<Declarations<K, &Refusing>, Call<'_>>(rt, heap, 5, &call.call);
 }
 
 /// The calls make types of these texts, as items and in types of both kinds.
@@ -41,8 +45,8 @@ fn check(rt: &impl Abort, alloc: Global, heap: &Refusing, rows: &[(Call<'_>, &[u
         };
         sweep_item::<ComponentTypeSection<&Refusing>, Call<'_>>(rt, alloc, heap, &made, text);
         last_is_refused::<ComponentTypeSection<&Refusing>, Call<'_>>(rt, heap, 8, call);
-        in_a_type::<ComponentType<&Refusing>>(rt, alloc, heap, 0x41, &made, text);
-        in_a_type::<InstanceType<&Refusing>>(rt, alloc, heap, 0x42, &made, text);
+        in_a_type::<ComponentTypes>(rt, alloc, heap, &made, text);
+        in_a_type::<InstanceTypes>(rt, alloc, heap, &made, text);
     }
     sweep_texts(rt, alloc, &mut ComponentTypeSection::new(alloc), rows);
 }

@@ -1,5 +1,5 @@
-//! Component types, instance types and sections of types in which a type is being written, which is given up and done
-//! again.
+//! Component types, instance types and sections of types in which a type is being written, which is
+//! given up and done again.
 
 use crate::accepted::ok;
 use crate::component_types::calls::Call;
@@ -66,7 +66,8 @@ fn add_own(section: &mut ComponentTypeSection) -> Result<(), Fault> {
     section.defined_type()?.own(64)
 }
 
-/// Each item that was begun is given up. Meanwhile the section takes neither types nor anything else.
+/// Each item that was begun is given up. Meanwhile the section takes neither types nor anything
+/// else.
 fn check_section(rt: &impl Abort, alloc: Global, section: &mut ComponentTypeSection) {
     take_back_each(
         rt,

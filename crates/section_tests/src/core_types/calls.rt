@@ -32,7 +32,8 @@ impl<A: Allocator> Lends for CoreTypeSection<A> {
     }
 }
 
-/// A last call of an encoder of core types, for a function, an array or a structure. Tables can be made of these.
+/// A last call of an encoder of core types, for a function, an array or a structure. Tables can be
+/// made of these.
 #[derive(Clone, Copy)]
 pub enum Composite<'t> {
     /// A function with these parameters and results.

@@ -1,5 +1,5 @@
-//! Each call of an encoder, with each thing that it can borrow, and with guards and without. All but those into holders
-//! are swept.
+//! Each call of an encoder, with each thing that it can borrow, and with guards and without. All
+//! but those into holders are swept.
 
 use crate::accepted::ok;
 use crate::checks::yes;
@@ -142,7 +142,8 @@ const FUNCTIONS: &[(&[ValType], &[ValType], &[u8])] = &[
     (PARAMS, &[ValType::F32], b"\x60\x02\x7f\x7e\x01\x7d"),
 ];
 
-/// Each call adds to the text of a section, and to that of a module type, which are swept each time.
+/// Each call adds to the text of a section, and to that of a module type, which are swept each
+/// time.
 #[test]
 fn composites(rt: HostRuntime) {
     let alloc = rt.alloc();

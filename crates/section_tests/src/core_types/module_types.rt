@@ -63,7 +63,8 @@ const NO_TYPE: &[u8] = &[0, 0, 0, 0, 1, 1];
 /// The same of one that counts a type.
 pub const A_TYPE: &[u8] = &[0, 1, 0, 0, 0, 1];
 
-/// Upstream gives these texts. Between a declaration and its text stands whether it counts as a type.
+/// Upstream gives these texts. Between a declaration and its text stands whether it counts as a
+/// type.
 pub const ENTITIES: &[(Declaration<'static>, &[u8], &[u8])] = &[
     (
         Declaration::Import("m", "f", EntityType::Function(0)),
@@ -158,7 +159,8 @@ const LONG: &[(Declaration<'static>, &[u8], &[u8])] = &[
     ),
 ];
 
-/// Sweeps each declaration. With it alone a module type counts this, and has this text behind its lead.
+/// Sweeps each declaration. With it alone a module type counts this, and has this text behind its
+/// lead.
 fn sweep_declarations(
     rt: &impl Abort,
     alloc: Global,
@@ -183,17 +185,6 @@ const ALIASES: &[&str; 3] = &[
     "00010000000150010210010000",
     "000200000001500202100100000210010000",
 ];
-
-/// Beginnings and copies too.
-#[test]
-fn added(rt: HostRuntime) {
-    let alloc = rt.alloc();
-    let heap = Refusing::new(alloc);
-    sweep_declarations(&rt, alloc, &heap, ENTITIES);
-    sweep_declarations(&rt, alloc, &heap, THREE);
-    sweep_declarations(&rt, alloc, &heap, LONG);
-    begun::<ModuleType<&Refusing>, Begin>(&rt, alloc, &heap, ALIASES, &[Begin]);
-}
 
 /// A module type with these declarations has so many types, and this text.
 fn check(
@@ -233,9 +224,9 @@ fn check_types(rt: &impl Abort, alloc: Global, ty: &mut ModuleType) {
     is_text(rt, alloc, ty, text);
 }
 
-/// Upstream gives the second.
+/// Upstream gives the last text. Beginnings and copies too.
 #[test]
-fn worked(rt: HostRuntime) {
+fn module_types(rt: HostRuntime) {
     let alloc = rt.alloc();
     let text = "500300016d016e020301020210010100030174040000";
     check(&rt, alloc, THREE, 1, text);
@@ -243,4 +234,9 @@ fn worked(rt: HostRuntime) {
          10018001ffffffff0f030167037c0103016504008001";
     check(&rt, alloc, ENTITIES, 2, text);
     check_types(&rt, alloc, &mut ModuleType::new(alloc));
+    let heap = Refusing::new(alloc);
+    sweep_declarations(&rt, alloc, &heap, ENTITIES);
+    sweep_declarations(&rt, alloc, &heap, THREE);
+    sweep_declarations(&rt, alloc, &heap, LONG);
+    begun::<ModuleType<&Refusing>, Begin>(&rt, alloc, &heap, ALIASES, &[Begin]);
 }

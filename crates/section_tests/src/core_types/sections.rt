@@ -62,8 +62,8 @@ const TWO: &[Composite<'static>] = &[
     Composite::Struct(&[I8, I32]),
 ];
 
-/// A type of functions, a module type, a subtype that is not final, a group, an array and a structure. Upstream gives
-/// this section.
+/// A type of functions, a module type, a subtype that is not final, a group, an array and a
+/// structure. Upstream gives this section.
 fn check_six(rt: &impl Abort, alloc: Global, section: &mut CoreTypeSection) {
     ok(rt, Composite::Function(&[ValType::I32], &[]).make(section));
     add_entities(rt, section, alloc);
