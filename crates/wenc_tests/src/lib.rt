@@ -6,8 +6,6 @@ mod accepted;
 #[cfg(test)]
 mod callers;
 #[cfg(test)]
-mod expected;
-#[cfg(test)]
 mod lines;
 #[cfg(test)]
 mod lister;
@@ -16,11 +14,11 @@ mod listing;
 #[cfg(test)]
 mod memory;
 #[cfg(test)]
+mod outcome;
+#[cfg(test)]
 mod pieces;
 #[cfg(test)]
 mod reading;
-#[cfg(test)]
-mod runs;
 #[cfg(test)]
 mod streams;
 #[cfg(test)]

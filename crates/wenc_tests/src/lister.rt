@@ -1,13 +1,12 @@
 //! Tests of `wenc_list`: worked components, spellings that are read and such as are not, components of which each byte
 //! is changed, each request for memory refused in turn, and what `build` makes.
 
-mod built;
+pub mod built;
 mod changed;
 mod checks;
 mod depth;
 mod faults;
 pub mod items;
-mod memory;
 mod rows;
 mod unfilled;
 mod widened;

@@ -1,4 +1,4 @@
-//! Readers and writers that count their calls, move few bytes, and fail when they are told to.
+//! What a run reads and writes: each call is counted, moves few bytes, and fails where it is told to.
 
 use std::alloc::Global;
 use std::io;
@@ -11,17 +11,6 @@ pub struct Source<'a> {
     pub step: usize,
     pub calls: usize,
     pub failing: usize,
-}
-
-impl<'a> Source<'a> {
-    pub fn new(rest: &'a [u8]) -> Source<'a> {
-        Source {
-            rest,
-            step: usize::MAX,
-            calls: 0,
-            failing: 0,
-        }
-    }
 }
 
 impl Read for Source<'_> {
@@ -48,22 +37,18 @@ pub struct Sink {
 }
 
 impl Sink {
-    pub fn new(alloc: Global) -> Sink {
+    pub fn new(alloc: Global, step: usize, failing: usize) -> Sink {
         Sink {
             text: Vec::new(alloc),
-            step: usize::MAX,
-            calls: 0,
-            failing: 0,
-        }
-    }
-
-    pub fn failing_at(alloc: Global, failing: usize) -> Sink {
-        Sink {
-            text: Vec::new(alloc),
-            step: 1,
+            step,
             calls: 0,
             failing,
         }
+    }
+
+    /// This was written. Where it is nothing, there was no call.
+    pub fn has(&self, text: &[u8]) -> bool {
+        self.text.as_slice() == text && (self.calls == 0) == text.is_empty()
     }
 }
 

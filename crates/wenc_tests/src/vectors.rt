@@ -1,18 +1,18 @@
-//! Outside answers: scripts, and what has to come out of them, made with the Rust crate
+//! Scripts, and what has to come out of them. But for those by hand they are outside answers, made with the Rust crate
 //! `wasm-encoder` 0.263.0.
 
-use crate::expected::expect;
-use std::process::Abort;
+use crate::lister::built::is_listed;
+use crate::outcome::expect;
 
 mod bad;
-pub mod edges;
-pub mod long;
-pub mod long_words;
-pub mod short;
-pub mod words;
+mod by_hand;
+mod edges;
+mod long;
+mod long_words;
+mod short;
+mod words;
 
 /// A script, and the status, the standard output and the standard error of its run.
-#[derive(Clone, Copy)]
 pub struct Vector {
     pub name: &'static str,
     pub script: &'static [u8],
@@ -21,41 +21,23 @@ pub struct Vector {
     pub err: &'static [u8],
 }
 
-fn replay<R: Abort + AllocGlobal>(rt: &R, vectors: &[Vector]) {
-    for vector in vectors {
-        expect(
-            rt,
-            vector.name,
-            vector.script,
-            vector.status,
-            vector.out,
-            vector.err,
-        );
+#[test]
+fn scripts(rt: HostRuntime) {
+    for vectors in [
+        bad::VECTORS,
+        by_hand::VECTORS,
+        edges::VECTORS,
+        short::VECTORS,
+        long::VECTORS,
+        words::VECTORS,
+        long_words::VECTORS,
+    ] {
+        for vector in vectors {
+            let end = (vector.status, vector.out, vector.err);
+            expect(&rt, rt.alloc(), vector.name, &[], vector.script, &end);
+            if vector.status != 1 {
+                is_listed(&rt, rt.alloc(), vector.script);
+            }
+        }
     }
-}
-
-#[test]
-fn bad_scripts_are_refused(rt: HostRuntime) {
-    replay(&rt, bad::VECTORS);
-}
-
-#[test]
-fn scripts_at_limits_are_built(rt: HostRuntime) {
-    replay(&rt, edges::VECTORS);
-}
-
-#[test]
-fn short_scripts_are_built(rt: HostRuntime) {
-    replay(&rt, short::VECTORS);
-}
-
-#[test]
-fn long_scripts_are_built(rt: HostRuntime) {
-    replay(&rt, long::VECTORS);
-}
-
-#[test]
-fn scripts_of_all_words_are_built(rt: HostRuntime) {
-    replay(&rt, words::VECTORS);
-    replay(&rt, long_words::VECTORS);
 }

@@ -1,10 +1,10 @@
 //! Components that are cut, or have a byte changed: no such bytes are too bad to be answered, and what is listed of them
 //! can be encoded and listed again.
 
-use super::checks::{component, encoded, read_again};
+use super::checks::{component, encoded, is_read_as};
 use super::rows::{EACH_KIND, ROWS, Row};
 use crate::accepted::ok;
-use std::alloc::{AllocError, Global};
+use std::alloc::Global;
 use std::process::Abort;
 use wenc_list::{ListFault, Listing, list};
 
@@ -55,39 +55,46 @@ fn is_answered(rt: &impl Abort, alloc: Global, bytes: &[u8], begin: usize) {
     }
 }
 
-/// The same bytes with this one at this place.
-fn changed(alloc: Global, bytes: &[u8], at: usize, value: u8) -> Result<Vec<u8>, AllocError> {
-    let mut changed = bytes.to_vec(alloc)?;
-    if let Some(byte) = changed.get_mut(at) {
-        *byte = value;
-    }
-    Ok(changed)
-}
-
-/// Whether a byte is made that one: any other where `all` says so, else those with one bit turned, those beside it, and
-/// the ends.
+/// Whether a byte is made that one: any where `all` says so, else those with one bit turned, those beside it, and the
+/// ends.
 fn is_tried(all: bool, old: u8, value: u8) -> bool {
-    all || matches!(old ^ value, 1 | 2 | 4 | 8 | 16 | 32 | 64 | 128)
-        || value == old.wrapping_add(1)
-        || value == old.wrapping_sub(1)
-        || matches!(value, 0 | 255)
+    all || (old ^ value).is_power_of_two() || old.abs_diff(value) == 1 || matches!(value, 0 | 255)
 }
 
 /// The byte at this place is made other ones.
 fn change(rt: &impl Abort, alloc: Global, bytes: &[u8], at: usize, begin: usize, all: bool) {
+    let mut changed = ok(rt, bytes.to_vec(alloc));
     for value in 0..=255u8 {
-        if bytes.get(at).is_some_and(|old| is_tried(all, *old, value)) {
-            let changed = ok(rt, changed(alloc, bytes, at, value));
-            is_answered(rt, alloc, changed.as_slice(), begin);
+        if let (Some(old), Some(byte)) = (bytes.get(at), changed.get_mut(at)) {
+            *byte = value;
+            if is_tried(all, *old, value) {
+                is_answered(rt, alloc, changed.as_slice(), begin);
+            }
         }
     }
 }
 
+/// A front of a component is listed where a section begins behind it, and is else refused at the section that is cut,
+/// which begins at this place.
+fn is_cut(rt: &impl Abort, alloc: Global, front: &[u8], begin: usize) {
+    let wanted = if front.len() < 8 {
+        Err(ListFault::NotAComponent { place: 0 })
+    } else if front.len() == begin {
+        Ok(front)
+    } else {
+        Err(ListFault::BadSection { place: begin })
+    };
+    is_read_as(rt, alloc, front, wanted);
+}
+
+/// The component is cut at each place, and each byte is changed.
 fn change_each(rt: &impl Abort, alloc: Global, row: &Row<'_>, all: bool) {
     let bytes = component(rt, alloc, row.sections);
     let listing = ok(rt, list(alloc, bytes.as_slice()));
     for at in 0..bytes.len() {
-        change(rt, alloc, bytes.as_slice(), at, begin_of(&listing, at), all);
+        let begin = begin_of(&listing, at);
+        is_cut(rt, alloc, &bytes[..at], begin);
+        change(rt, alloc, bytes.as_slice(), at, begin, all);
     }
 }
 
@@ -101,33 +108,4 @@ fn each_byte(rt: HostRuntime) {
 #[test]
 fn each_byte_made_each_other(rt: HostRuntime) {
     change_each(&rt, rt.alloc(), &EACH_KIND, true);
-}
-
-/// A front of a component is listed where a section begins behind it, and is else refused at the section that is cut,
-/// which begins at this place.
-fn is_cut(rt: &impl Abort, alloc: Global, front: &[u8], begin: usize) {
-    if front.len() < 8 {
-        let fault = list(alloc, front).err();
-        assert!(rt; fault == Some(ListFault::NotAComponent { place: 0 }));
-    } else if front.len() == begin {
-        assert!(rt; read_again(rt, alloc, front).as_slice() == front);
-    } else {
-        let fault = list(alloc, front).err();
-        assert!(rt; fault == Some(ListFault::BadSection { place: begin }));
-    }
-}
-
-fn cut_each(rt: &impl Abort, alloc: Global, row: &Row<'_>) {
-    let bytes = component(rt, alloc, row.sections);
-    let listing = ok(rt, list(alloc, bytes.as_slice()));
-    for end in 0..bytes.len() {
-        is_cut(rt, alloc, &bytes[..end], begin_of(&listing, end));
-    }
-}
-
-#[test]
-fn each_front(rt: HostRuntime) {
-    for row in ROWS {
-        cut_each(&rt, rt.alloc(), row);
-    }
 }

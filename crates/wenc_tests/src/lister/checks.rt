@@ -4,7 +4,7 @@ use crate::accepted::ok;
 use std::alloc::{Allocator, Global};
 use std::process::Abort;
 use wasm_encoder::{Encode, Fault, Verbatim};
-use wenc_list::{ItemTree, ListedSection, Listing, list};
+use wenc_list::{ItemTree, ListFault, Listing, list};
 
 /// The bytes in front of the first section.
 const HEADER: &[u8] = b"\x00asm\x0d\x00\x01\x00";
@@ -43,39 +43,31 @@ fn encode_item<A: Allocator>(item: &ItemTree<A>, sink: &mut Vec<u8>) -> Result<(
     }
 }
 
-/// Appends what is inside a section: its items, behind their number where there may be several.
-fn encode_items<A: Allocator>(rt: &impl Abort, section: &ListedSection<A>, sink: &mut Vec<u8>) {
-    if !matches!(section.id, 0 | 1 | 4 | 9) {
-        ok(rt, section.items.len().encode(sink));
-    }
-    for item in &section.items {
-        ok(rt, encode_item(item, sink));
-    }
-}
-
-fn encode_section<A: Allocator>(
-    rt: &impl Abort,
-    alloc: Global,
-    section: &ListedSection<A>,
-    sink: &mut Vec<u8>,
-) {
-    let mut content = Vec::new(alloc);
-    encode_items(rt, section, &mut content);
-    ok(rt, sink.push(section.id));
-    ok(rt, content.as_slice().encode(sink));
-}
-
 /// The component that has what was listed.
 pub fn encoded<A: Allocator>(rt: &impl Abort, alloc: Global, listing: &Listing<A>) -> Vec<u8> {
     let mut bytes = ok(rt, HEADER.to_vec(alloc));
+    let mut content = Vec::new(alloc);
     for section in &listing.sections {
-        encode_section(rt, alloc, section, &mut bytes);
+        content.clear();
+        // The number of items stands where there may be several.
+        if !matches!(section.id, 0 | 1 | 4 | 9) {
+            ok(rt, section.items.len().encode(&mut content));
+        }
+        for item in &section.items {
+            ok(rt, encode_item(item, &mut content));
+        }
+        ok(rt, bytes.push(section.id));
+        ok(rt, content.as_slice().encode(&mut bytes));
     }
     bytes
 }
 
-/// The component that has what is listed of these bytes.
-pub fn read_again(rt: &impl Abort, alloc: Global, bytes: &[u8]) -> Vec<u8> {
-    let listing = ok(rt, list(alloc, bytes));
-    encoded(rt, alloc, &listing)
+/// The bytes are listed, and what is listed has these bytes; or they have this fault.
+pub fn is_read_as(rt: &impl Abort, alloc: Global, bytes: &[u8], wanted: Result<&[u8], ListFault>) {
+    match list(alloc, bytes) {
+        Ok(listing) => {
+            assert!(rt; wanted == Ok(encoded(rt, alloc, &listing).as_slice()));
+        }
+        Err(fault) => assert!(rt; wanted == Err(fault)),
+    }
 }

@@ -1,10 +1,10 @@
 //! Bytes that are not read, each with its fault.
 
-use super::checks::component;
+use super::checks::{component, is_read_as};
 use crate::accepted::ok;
 use std::alloc::Global;
 use std::process::Abort;
-use wenc_list::{ListFault, list};
+use wenc_list::ListFault;
 
 /// Sections whose content is not what their id and size say.
 const BAD_ITEMS: &[&str] = &[
@@ -171,12 +171,29 @@ const FIRST: &[(&str, ListFault)] = &[
     ("010001000109", ListFault::BadSection { place: 12 }),
 ];
 
-fn is_refused(rt: &impl Abort, alloc: Global, sections: &str, wanted: ListFault) {
+/// Bytes that do not begin as a component does. The third ones begin a core module.
+const NO_COMPONENTS: &[&[u8]] = &[
+    b"",
+    b"\x00asm\x0d\x00\x01",
+    b"\x00asm\x01\x00\x00\x00",
+    b"\x00asm\x0d\x00\x00\x00",
+    b"\x01asm\x0d\x00\x01\x00\x06\x01\x00",
+];
+
+const TEXTS: &[(ListFault, &str)] = &[
+    (ListFault::Memory, "Memory"),
+    (ListFault::NotAComponent { place: 0 }, "NotAComponent at 0"),
+    (ListFault::BadSection { place: 16 }, "BadSection at 16"),
+    (ListFault::BadItem { place: 8 }, "BadItem at 8"),
+    (
+        ListFault::TooDeep { place: 4294967296 },
+        "TooDeep at 4294967296",
+    ),
+];
+
+fn is_refused(rt: &impl Abort, alloc: Global, sections: &str, fault: ListFault) {
     let bytes = component(rt, alloc, sections);
-    assert!(rt;
-        list(alloc, bytes.as_slice()).err() == Some(wanted),
-        "{sections}"
-    );
+    is_read_as(rt, alloc, bytes.as_slice(), Err(fault));
 }
 
 #[test]
@@ -195,35 +212,15 @@ fn what_is_not_read(rt: HostRuntime) {
     for (sections, fault) in FIRST {
         is_refused(&rt, rt.alloc(), sections, *fault);
     }
-}
-
-/// Bytes that do not begin as a component does. The third ones begin a core module.
-const NO_COMPONENTS: &[&[u8]] = &[
-    b"",
-    b"\x00asm\x0d\x00\x01",
-    b"\x00asm\x01\x00\x00\x00",
-    b"\x00asm\x0d\x00\x00\x00",
-    b"\x01asm\x0d\x00\x01\x00\x06\x01\x00",
-];
-
-#[test]
-fn other_headers(rt: HostRuntime) {
     for bytes in NO_COMPONENTS {
-        let fault = list(rt.alloc(), bytes).err();
-        assert!(rt; fault == Some(ListFault::NotAComponent { place: 0 }));
+        is_read_as(
+            &rt,
+            rt.alloc(),
+            bytes,
+            Err(ListFault::NotAComponent { place: 0 }),
+        );
     }
 }
-
-const TEXTS: &[(ListFault, &str)] = &[
-    (ListFault::Memory, "Memory"),
-    (ListFault::NotAComponent { place: 0 }, "NotAComponent at 0"),
-    (ListFault::BadSection { place: 16 }, "BadSection at 16"),
-    (ListFault::BadItem { place: 8 }, "BadItem at 8"),
-    (
-        ListFault::TooDeep { place: 4294967296 },
-        "TooDeep at 4294967296",
-    ),
-];
 
 #[test]
 fn texts_of_faults(rt: HostRuntime) {

@@ -3,132 +3,80 @@
 use crate::accepted::ok;
 use std::alloc::Global;
 use std::process::Abort;
-use wasm_encoder::{
-    Alias, AliasTree, CanonTree, Command, ComponentExportKind, ComponentTypeRef, Fault, NameTree,
-};
+use wasm_encoder::{AliasTree, Command, Fault, NameTree};
+use wenc_builder::Space;
 use wenc_list::{ItemTree, Listing};
 
-fn is_module(item: &ItemTree, wanted: &[u8]) -> bool {
-    match item {
-        ItemTree::Module(bytes) => bytes.as_slice() == wanted,
-        _ => false,
-    }
-}
-
-/// The aliases are of the same item.
-pub fn are_of_one(one: Alias<'_>, other: Alias<'_>) -> bool {
-    match (one, other) {
-        (
-            Alias::InstanceExport {
-                instance,
-                kind,
-                name,
-            },
-            Alias::InstanceExport {
-                instance: i,
-                kind: k,
-                name: n,
-            },
-        ) => (instance, kind, name) == (i, k, n),
-        (
-            Alias::CoreInstanceExport {
-                instance,
-                kind,
-                name,
-            },
-            Alias::CoreInstanceExport {
-                instance: i,
-                kind: k,
-                name: n,
-            },
-        ) => (instance, kind, name) == (i, k, n),
-        (
-            Alias::Outer { kind, count, index },
-            Alias::Outer {
-                kind: k,
-                count: c,
-                index: i,
-            },
-        ) => (kind, count, index) == (k, c, i),
-        _ => false,
-    }
-}
-
-fn is_alias(item: &ItemTree, wanted: &AliasTree) -> bool {
-    match item {
-        ItemTree::Alias(alias) => are_of_one(alias.as_alias(), wanted.as_alias()),
-        _ => false,
-    }
-}
-
-fn is_function(item: &ItemTree, wanted: &CanonTree) -> bool {
-    match item {
-        ItemTree::Canon(canon) => canon == wanted,
-        _ => false,
-    }
-}
-
-fn is_start(item: &ItemTree, wanted: u32, given: &[u32], answered: u32) -> bool {
-    match item {
-        ItemTree::Start {
-            function,
-            args,
-            results,
-        } => *function == wanted && args.as_slice() == given && *results == answered,
-        _ => false,
-    }
-}
-
-/// The names are the same, with their options.
+/// The names are the same, without options, since a script gives none.
 fn are_same(one: &NameTree, other: &NameTree) -> bool {
-    let (one, other) = (one.as_name(), other.as_name());
-    one.name == other.name
-        && one.implements == other.implements
-        && one.version_suffix == other.version_suffix
-        && one.external_id == other.external_id
+    one.name == other.name && one.options.is_none() && other.options.is_none()
 }
 
-fn is_import(item: &ItemTree, wanted: &NameTree, what: ComponentTypeRef) -> bool {
-    match item {
-        ItemTree::Import { name, ty } => are_same(name, wanted) && *ty == what,
-        _ => false,
-    }
-}
-
-/// What is exported: its kind, its index, and the type that it is ascribed.
-type Exported = (ComponentExportKind, u32, Option<ComponentTypeRef>);
-
-fn is_export(item: &ItemTree, wanted: &NameTree, what: Exported) -> bool {
-    match item {
-        ItemTree::Export {
-            name,
-            kind,
-            index,
-            ty,
-        } => are_same(name, wanted) && (*kind, *index, *ty) == what,
-        _ => false,
-    }
-}
-
-/// The item is what the command adds; of the commands that a script has.
-fn is_of(command: &Command, item: &ItemTree) -> bool {
-    match command {
-        Command::CoreModule { bytes, .. } => is_module(item, bytes),
-        Command::Alias { alias, .. } => is_alias(item, alias),
-        Command::Canon { canon, .. } => is_function(item, canon),
-        Command::Start {
-            function,
-            args,
-            results,
-        } => is_start(item, *function, args, *results),
-        Command::Import { name, ty } => is_import(item, name, *ty),
-        Command::Export {
-            name,
-            kind,
-            index,
-            ty,
-        } => is_export(item, name, (*kind, *index, *ty)),
-        _ => false,
+/// Whether the item is what the command adds, the space in which it takes places, and how many; of the commands that a
+/// script has.
+fn added(command: &Command, item: &ItemTree) -> (bool, Space, u32) {
+    match (command, item) {
+        (Command::CoreModule { bytes, .. }, ItemTree::Module(found)) => {
+            (found == bytes, Space::CoreModules, 1)
+        }
+        (
+            Command::Alias {
+                alias: AliasTree::InstanceExport {
+                    instance,
+                    kind,
+                    name,
+                },
+                ..
+            },
+            ItemTree::Alias(
+                AliasTree::InstanceExport {
+                    instance: i,
+                    kind: k,
+                    name: n,
+                },
+            ),
+        ) => ((instance, kind, name) == (i, k, n), Space::from(*kind), 1),
+        (Command::Canon { canon, .. }, ItemTree::Canon(found)) => {
+            (found == canon, Space::CoreFuncs, 1)
+        }
+        (
+            Command::Start {
+                function,
+                args,
+                results,
+            },
+            ItemTree::Start {
+                function: f,
+                args: a,
+                results: r,
+            },
+        ) => (
+            (function, args, results) == (f, a, r),
+            Space::Values,
+            *results,
+        ),
+        (Command::Import { name, ty }, ItemTree::Import { name: n, ty: t }) => {
+            (are_same(name, n) && ty == t, Space::from(ty.kind()), 1)
+        }
+        (
+            Command::Export {
+                name,
+                kind,
+                index,
+                ty,
+            },
+            ItemTree::Export {
+                name: n,
+                kind: k,
+                index: i,
+                ty: t,
+            },
+        ) => (
+            are_same(name, n) && (kind, index, ty) == (k, i, t),
+            Space::from(*kind),
+            1,
+        ),
+        _ => (false, Space::Types, 0),
     }
 }
 
@@ -137,7 +85,7 @@ pub fn items<'a>(rt: &impl Abort, alloc: Global, listing: &'a Listing) -> Vec<&'
     let mut found = Vec::new(alloc);
     for section in &listing.sections {
         for item in &section.items {
-            if !matches!(item, ItemTree::Custom { .. }) {
+            if section.id != 0 {
                 ok(rt, found.push(item));
             }
         }
@@ -145,20 +93,25 @@ pub fn items<'a>(rt: &impl Abort, alloc: Global, listing: &'a Listing) -> Vec<&'
     found
 }
 
-/// The items are those of the commands that were answered with a place, one after the other.
-pub fn are_of(
+/// How many places are taken in each space, by the last answer there. The items are those of the commands that were
+/// answered with a place, one after the other.
+pub fn counts(
+    rt: &impl Abort,
     items: &[&ItemTree],
     commands: &[Command],
     answers: &[Result<Option<u32>, Fault>],
-) -> bool {
+) -> [u128; 13] {
+    let mut counts = [0; 13];
     let mut rest = items;
     for (command, answer) in commands.iter().zip(answers) {
-        if let Ok(Some(_)) = answer {
-            match rest {
-                [item, behind @ ..] if is_of(command, item) => rest = behind,
-                _ => return false,
-            }
+        if let Ok(Some(index)) = answer {
+            let (item, behind) = rest.split_first().expect(rt, "an item");
+            let (is_same, space, number) = added(command, item);
+            assert!(rt; is_same);
+            counts[space.number()] = u128::from(*index) + u128::from(number);
+            rest = behind;
         }
     }
-    rest.is_empty()
+    assert!(rt; rest.is_empty());
+    counts
 }

@@ -1,12 +1,13 @@
 //! Worked components, with what is listed of them.
 
-use super::checks::{component, encoded};
+use super::checks::{component, encoded, is_read_as};
 use crate::accepted::ok;
+use refusing::Refusing;
+use std::alloc::Global;
 use std::process::Abort;
-use wenc_list::{ItemTree, Listing, list};
+use wenc_list::{ItemTree, ListFault, Listing, list};
 
 /// What a listing is to be. The bytes are those that an encoder writes.
-#[derive(Clone, Copy)]
 pub struct Row<'a> {
     /// The sections, in hexadecimal.
     pub sections: &'a str,
@@ -229,8 +230,8 @@ fn id_of(item: &ItemTree) -> u8 {
     }
 }
 
-/// It is what the row says, and each item is of its section's kind.
-pub fn is_listed(rt: &impl Abort, listing: &Listing, row: &Row<'_>) {
+/// What is listed is what the row says, and each item is of its section's kind.
+fn is_as_said(rt: &impl Abort, listing: &Listing, row: &Row<'_>) {
     assert!(rt; listing.counts == row.counts, "{}", row.sections);
     assert!(rt; listing.sections.len() == row.listed.len());
     for (section, wanted) in listing.sections.iter().zip(row.listed) {
@@ -241,13 +242,46 @@ pub fn is_listed(rt: &impl Abort, listing: &Listing, row: &Row<'_>) {
     }
 }
 
+/// The row's sections are listed so.
+pub fn is_listed(rt: &impl Abort, alloc: Global, row: &Row<'_>) {
+    let bytes = component(rt, alloc, row.sections);
+    let listing = ok(rt, list(alloc, bytes.as_slice()));
+    is_as_said(rt, &listing, row);
+}
+
+/// Each request for memory is refused in turn, until none is left, and then what is listed has the same bytes. A
+/// component without sections takes no memory.
+fn sweep(rt: &impl Abort, alloc: Global, heap: &Refusing, bytes: &[u8], asks: bool) {
+    for n in 1..1000u64 {
+        heap.refuse_nth(n);
+        match list(heap, bytes) {
+            Ok(listing) => {
+                assert!(rt; !heap.was_refused() && (n > 1) == asks);
+                assert!(rt; encoded(rt, alloc, &listing).as_slice() == bytes);
+                return;
+            }
+            Err(fault) => {
+                assert!(rt; fault == ListFault::Memory && heap.was_refused());
+                assert!(rt; heap.requests() == n);
+            }
+        }
+    }
+    panic!(rt; "there is no end")
+}
+
 #[test]
 fn worked_components(rt: HostRuntime) {
+    let heap = Refusing::new(rt.alloc());
     for row in ROWS {
+        is_listed(&rt, rt.alloc(), row);
         let bytes = component(&rt, rt.alloc(), row.sections);
-        let listing = ok(&rt, list(rt.alloc(), bytes.as_slice()));
-        is_listed(&rt, &listing, row);
-        let again = encoded(&rt, rt.alloc(), &listing);
-        assert!(rt; again.as_slice() == bytes.as_slice(), "{}", row.sections);
+        is_read_as(&rt, rt.alloc(), bytes.as_slice(), Ok(bytes.as_slice()));
+        sweep(
+            &rt,
+            rt.alloc(),
+            &heap,
+            bytes.as_slice(),
+            !row.listed.is_empty(),
+        );
     }
 }

@@ -199,4 +199,18 @@ pub const VECTORS: &[Vector] = &[
         out: b"",
         err: b"line 1\n",
     },
+    Vector {
+        name: "a bad third line",
+        script: b"import f func 0\n\nimport g func",
+        status: 1,
+        out: b"",
+        err: b"line 3\n",
+    },
+    Vector {
+        name: "a word that is none",
+        script: b"stream.read 1",
+        status: 1,
+        out: b"",
+        err: b"line 1\n",
+    },
 ];

@@ -1,0 +1,85 @@
+//! Runs of the program, and how they end.
+
+use crate::accepted::ok;
+use crate::streams::{Sink, Source};
+use refusing::Refusing;
+use std::alloc::Global;
+use std::process::Abort;
+use wenc::program::run_with_allocators;
+use wenc::run;
+
+/// How a run ends: its status, and what its output and its standard error get.
+pub type End = (u8, &'static [u8], &'static [u8]);
+
+/// How a run with other arguments ends. Nothing is read then.
+pub const USAGE: End = (1, b"", b"usage\n");
+
+/// A run, and what it read and wrote.
+#[derive(Drop)]
+pub struct Outcome<'a> {
+    pub status: u8,
+    pub input: Source<'a>,
+    pub out: Sink,
+    pub err: Sink,
+}
+
+impl Outcome<'_> {
+    /// The run ended so.
+    pub fn is(&self, end: &End) -> bool {
+        let (status, out, err) = *end;
+        let is_read = *end != USAGE;
+        self.status == status
+            && self.out.has(out)
+            && self.err.has(err)
+            && (self.input.calls > 0) == is_read
+    }
+}
+
+fn words(rt: &impl Abort, alloc: Global, args: &[&str]) -> Vec<String> {
+    let mut words = Vec::new(alloc);
+    for word in args {
+        let word = ok(rt, String::from_str(alloc, word));
+        ok(rt, words.push(word));
+    }
+    words
+}
+
+/// Runs the program, where there is a `heap` with its memory, but for the names of the commands. Each read and write
+/// moves at most so many bytes. The calls with these numbers fail, of the input, the output and the standard error.
+pub fn run_program<'a>(
+    rt: &impl Abort,
+    alloc: Global,
+    heap: Option<&Refusing>,
+    args: &[&str],
+    text: &'a [u8],
+    step: usize,
+    failing: [usize; 3],
+) -> Outcome<'a> {
+    let [read, write, report] = failing;
+    let mut ran = Outcome {
+        status: 0,
+        input: Source {
+            rest: text,
+            step,
+            calls: 0,
+            failing: read,
+        },
+        out: Sink::new(alloc, step, write),
+        err: Sink::new(alloc, step, report),
+    };
+    let (input, out, err) = (&mut ran.input, &mut ran.out, &mut ran.err);
+    let words = words(rt, alloc, args);
+    ran.status = match heap {
+        None => run(alloc, words.as_slice(), input, out, err),
+        Some(heap) => run_with_allocators(heap, alloc, words.as_slice(), input, out, err),
+    };
+    ran
+}
+
+/// The run ends so, whether much or little is moved at once.
+pub fn expect(rt: &impl Abort, alloc: Global, name: &str, args: &[&str], text: &[u8], end: &End) {
+    for step in [1, usize::MAX] {
+        let ran = run_program(rt, alloc, None, args, text, step, [0; 3]);
+        assert!(rt; ran.is(end), "{name}");
+    }
+}
