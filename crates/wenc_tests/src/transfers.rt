@@ -49,7 +49,7 @@ fn fails(
 #[test]
 fn each_call_fails(rt: HostRuntime) {
     for (args, text, stream, calls) in FAILING {
-        for n in 1..*calls + 1 {
+        for n in 1..=*calls {
             let failing = match stream {
                 Stream::Input => [n, 0, 0],
                 Stream::Output => [0, n, 0],
