@@ -55,25 +55,26 @@ pub fn run_program<'a>(
     step: usize,
     failing: [usize; 3],
 ) -> Outcome<'a> {
-    let [read, write, report] = failing;
-    let mut ran = Outcome {
-        status: 0,
-        input: Source {
-            rest: text,
-            step,
-            calls: 0,
-            failing: read,
-        },
-        out: Sink::new(alloc, step, write),
-        err: Sink::new(alloc, step, report),
-    };
-    let (input, out, err) = (&mut ran.input, &mut ran.out, &mut ran.err);
     let words = words(rt, alloc, args);
-    ran.status = match heap {
-        None => run(alloc, words.as_slice(), input, out, err),
-        Some(heap) => run_with_allocators(heap, alloc, words.as_slice(), input, out, err),
+    let words = words.as_slice();
+    let mut input = Source {
+        rest: text,
+        step,
+        calls: 0,
+        failing: failing[0],
     };
-    ran
+    let mut out = Sink::new(alloc, step, failing[1]);
+    let mut err = Sink::new(alloc, step, failing[2]);
+    let status = match heap {
+        None => run(alloc, words, &mut input, &mut out, &mut err),
+        Some(heap) => run_with_allocators(heap, alloc, words, &mut input, &mut out, &mut err),
+    };
+    Outcome {
+        status,
+        input,
+        out,
+        err,
+    }
 }
 
 /// The run ends so, whether much or little is moved at once.

@@ -231,22 +231,22 @@ fn id_of(item: &ItemTree) -> u8 {
 }
 
 /// What is listed is what the row says, and each item is of its section's kind.
-fn is_as_said(rt: &impl Abort, listing: &Listing, row: &Row<'_>) {
-    assert!(rt; listing.counts == row.counts, "{}", row.sections);
-    assert!(rt; listing.sections.len() == row.listed.len());
+fn is_as_said(listing: &Listing, row: &Row<'_>) -> bool {
+    let mut same = listing.counts == row.counts && listing.sections.len() == row.listed.len();
     for (section, wanted) in listing.sections.iter().zip(row.listed) {
-        assert!(rt; (section.id, section.place, section.items.len()) == *wanted);
+        same &= (section.id, section.place, section.items.len()) == *wanted;
         for item in &section.items {
-            assert!(rt; id_of(item) == section.id);
+            same &= id_of(item) == section.id;
         }
     }
+    same
 }
 
 /// The row's sections are listed so.
 pub fn is_listed(rt: &impl Abort, alloc: Global, row: &Row<'_>) {
     let bytes = component(rt, alloc, row.sections);
     let listing = ok(rt, list(alloc, bytes.as_slice()));
-    is_as_said(rt, &listing, row);
+    assert!(rt; is_as_said(&listing, row), "{}", row.sections);
 }
 
 /// Each request for memory is refused in turn, until none is left, and then what is listed has the same bytes. A
@@ -256,13 +256,13 @@ fn sweep(rt: &impl Abort, alloc: Global, heap: &Refusing, bytes: &[u8], asks: bo
         heap.refuse_nth(n);
         match list(heap, bytes) {
             Ok(listing) => {
-                assert!(rt; !heap.was_refused() && (n > 1) == asks);
-                assert!(rt; encoded(rt, alloc, &listing).as_slice() == bytes);
+                let again = encoded(rt, alloc, &listing);
+                assert!(rt; !heap.was_refused() && (n > 1) == asks && again.as_slice() == bytes);
                 return;
             }
             Err(fault) => {
-                assert!(rt; fault == ListFault::Memory && heap.was_refused());
-                assert!(rt; heap.requests() == n);
+                let requests = heap.requests();
+                assert!(rt; (fault, requests) == (ListFault::Memory, n) && heap.was_refused());
             }
         }
     }
