@@ -1,4 +1,5 @@
-//! Each word of a script with one word too many, one too few, a number past its range, and a flag that is none.
+//! Each word of a script with one word too many, one too few, a number past its range, and a flag
+//! that is none.
 
 use crate::outcome::expect;
 use facts::callers::accepted_text;

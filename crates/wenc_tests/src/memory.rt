@@ -13,7 +13,8 @@ const FAULT: End = (2, b"", b"fault 1\n");
 
 const UNLISTED: End = (3, b"", b"Memory\n");
 
-/// Runs, by their arguments and texts, and how they end with no memory at all. Only one request is made.
+/// Runs, by their arguments and texts, and how they end with no memory at all. Only one request is
+/// made.
 const WITHOUT: &[(&[&str], &[u8], End)] = &[
     (&[], b"", FAULT),
     (&[], b"import f func 0\nexport g func 0\n", FAULT),

@@ -44,8 +44,9 @@ fn words(rt: &impl Abort, alloc: Global, args: &[&str]) -> Vec<String> {
     words
 }
 
-/// Runs the program, where there is a `heap` with its memory, but for the names of the commands. Each read and write
-/// moves at most so many bytes. The calls with these numbers fail, of the input, the output and the standard error.
+/// Runs the program, where there is a `heap` with its memory, but for the names of the commands.
+/// Each read and write moves at most so many bytes. The calls with these numbers fail, of the
+/// input, the output and the standard error.
 pub fn run_program<'a>(
     rt: &impl Abort,
     alloc: Global,

@@ -21,14 +21,17 @@ fn names(rt: HostRuntime) {
     assert!(rt; name.as_str() == "test" && rest == [11, 22, 33, 44].as_slice());
 }
 
-/// A name of an import or an export: its bytes and those behind it, the name, and its options.
+/// A name of an import or an export: its bytes and those behind it, the name, and its options: what
+/// it implements, the suffix of its version, and its external id.
 struct Named {
     bytes: &'static [u8],
     behind: &'static [u8],
     name: &'static str,
-    implements: Option<&'static str>,
-    version_suffix: Option<&'static str>,
-    external_id: Option<&'static str>,
+    options: (
+        Option<&'static str>,
+        Option<&'static str>,
+        Option<&'static str>,
+    ),
 }
 
 /// Two of the options.
@@ -39,42 +42,38 @@ const NAMES: &[Named] = &[
         bytes: b"\x00\x01\x66\x01\x00",
         behind: &[1, 0],
         name: "f",
-        implements: None,
-        version_suffix: None,
-        external_id: None,
+        options: (None, None, None),
     },
     Named {
         bytes: b"\x01\x01\x66",
         behind: b"",
         name: "f",
-        implements: None,
-        version_suffix: None,
-        external_id: None,
+        options: (None, None, None),
     },
     Named {
         bytes: OPTIONS,
         behind: b"",
         name: "a",
-        implements: Some("i"),
-        version_suffix: None,
-        external_id: Some(""),
+        options: (Some("i"), None, Some("")),
     },
     Named {
         bytes: b"\x02\x01\x6e\x02\x01\x01\x31\x02\x01\x78",
         behind: b"",
         name: "n",
-        implements: None,
-        version_suffix: Some("1"),
-        external_id: Some("x"),
+        options: (None, Some("1"), Some("x")),
     },
 ];
 
 fn is_name(tree: &NameTree, wanted: &Named) -> bool {
-    let name = tree.as_name();
-    name.name.as_str() == wanted.name
-        && name.implements.as_deref() == wanted.implements
-        && name.version_suffix.as_deref() == wanted.version_suffix
-        && name.external_id.as_deref() == wanted.external_id
+    let options = match &tree.options {
+        None => (None, None, None),
+        Some(options) => (
+            options.implements.as_deref(),
+            options.version_suffix.as_deref(),
+            options.external_id.as_deref(),
+        ),
+    };
+    tree.name.as_str() == wanted.name && options == wanted.options
 }
 
 #[test]
@@ -107,27 +106,32 @@ fn are_declared(decls: &[InstanceDecl]) -> bool {
     }
 }
 
+fn is_instance(ty: &TypeTree) -> bool {
+    match ty {
+        TypeTree::Instance(decls) => are_declared(decls),
+        _ => false,
+    }
+}
+
 #[test]
 fn instance_types(rt: HostRuntime) {
-    let (ty, rest) = ok(&rt, type_of(rt.alloc(), 1, INSTANCE));
-    assert!(rt; matches!(&ty, TypeTree::Instance(decls) if are_declared(decls)));
-    assert!(rt; rest == [0xee].as_slice());
     assert!(rt; type_of(rt.alloc(), 0, INSTANCE).err() == Some(Refusal::TooDeep));
+    let (ty, rest) = ok(&rt, type_of(rt.alloc(), 1, INSTANCE));
+    assert!(rt; is_instance(&ty) && rest == [0xee].as_slice());
+}
+
+/// The type is a resource with this destructor.
+fn is_resource(ty: &TypeTree, wanted: u32) -> bool {
+    match ty {
+        TypeTree::Resource { rep, dtor } => *rep == ValType::I32 && *dtor == Some(wanted),
+        _ => false,
+    }
 }
 
 #[test]
 fn resources(rt: HostRuntime) {
     let (ty, rest) = ok(&rt, type_of(rt.alloc(), 0, b"\x3f\x7f\x01\x03"));
-    assert!(rt;
-        matches!(
-            ty,
-            TypeTree::Resource {
-                rep: ValType::I32,
-                dtor: Some(3)
-            }
-        )
-    );
-    assert!(rt; rest.is_empty());
+    assert!(rt; is_resource(&ty, 3) && rest.is_empty());
 }
 
 /// The bytes are this value, and what is behind it.

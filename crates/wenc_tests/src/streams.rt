@@ -1,4 +1,5 @@
-//! What a run reads and writes: each call is counted, moves few bytes, and fails where it is told to.
+//! What a run reads and writes: each call is counted, moves few bytes, and fails where it is told
+//! to.
 
 use std::alloc::Global;
 use std::io;

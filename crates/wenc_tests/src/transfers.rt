@@ -30,8 +30,8 @@ const FAILING: &[(&[&str], &[u8], Stream, usize)] = &[
     (&["list"], b"x", Stream::Report, 8),
 ];
 
-/// The run fails. The calls with these numbers fail, and so many come, of the input, the output and the standard error;
-/// 0 reads are any number.
+/// The run fails. The calls with these numbers fail, and so many come, of the input, the output and
+/// the standard error; 0 reads are any number.
 fn fails(
     rt: &impl Abort,
     alloc: Global,
@@ -60,7 +60,8 @@ fn each_call_fails(rt: HostRuntime) {
     }
 }
 
-/// There are as many bytes as there may be reads: the read that finds the end would be one too many.
+/// There are as many bytes as there may be reads: the read that finds the end would be one too
+/// many.
 fn ends_too_late(rt: &impl Abort, alloc: Global, args: &[&str]) {
     let text = ok(rt, "\n".repeat(alloc, 16777216));
     fails(rt, alloc, args, text.as_bytes(), [0; 3], [16777216, 0, 0]);

@@ -1,5 +1,5 @@
-//! Scripts, and what has to come out of them. But for those by hand they are outside answers, made with the Rust crate
-//! `wasm-encoder` 0.263.0.
+//! Scripts, and what has to come out of them. But for those by hand they are outside answers, made
+//! with the Rust crate `wasm-encoder` 0.263.0.
 
 use crate::lister::built::is_listed;
 use crate::outcome::expect;

@@ -9,7 +9,8 @@ use wasm_encoder::{Built, Command, build};
 use wenc::script::parse;
 use wenc_list::list;
 
-/// The component is listed with the counts and the items of the accepted commands, and encoded again it is the same.
+/// The component is listed with the counts and the items of the accepted commands, and encoded
+/// again it is the same.
 fn is_of(rt: &impl Abort, alloc: Global, built: &Built, commands: &[Command]) {
     let listing = ok(rt, list(alloc, built.bytes.as_slice()));
     let items = items(rt, alloc, &listing);

@@ -1,5 +1,5 @@
-//! Components that are cut, or have a byte changed: no such bytes are too bad to be answered, and what is listed of them
-//! can be encoded and listed again.
+//! Components that are cut, or have a byte changed: no such bytes are too bad to be answered, and
+//! what is listed of them can be encoded and listed again.
 
 use super::checks::{component, encoded, is_read_as};
 use super::rows::{EACH_KIND, ROWS, Row};
@@ -55,8 +55,8 @@ fn is_answered(rt: &impl Abort, alloc: Global, bytes: &[u8], begin: usize) {
     }
 }
 
-/// Whether a byte is made that one: any where `all` says so, else those with one bit turned, those beside it, and the
-/// ends.
+/// Whether a byte is made that one: any where `all` says so, else those with one bit turned, those
+/// beside it, and the ends.
 fn is_tried(all: bool, old: u8, value: u8) -> bool {
     all || (old ^ value).is_power_of_two() || old.abs_diff(value) == 1 || matches!(value, 0 | 255)
 }
@@ -74,16 +74,16 @@ fn change(rt: &impl Abort, alloc: Global, bytes: &[u8], at: usize, begin: usize,
     }
 }
 
-/// A front of a component is listed where a section begins behind it, and is else refused at the section that is cut,
-/// which begins at this place.
+/// A front of a component is listed where a section begins behind it, and is else refused at the
+/// section that is cut, which begins at this place.
 fn is_cut(rt: &impl Abort, alloc: Global, front: &[u8], begin: usize) {
-    let wanted = if front.len() < 8 {
-        Err(ListFault::NotAComponent { place: 0 })
-    } else if front.len() == begin {
-        Ok(front)
+    let fault = if front.len() < 8 {
+        ListFault::NotAComponent { place: 0 }
     } else {
-        Err(ListFault::BadSection { place: begin })
+        ListFault::BadSection { place: begin }
     };
+    let is_whole = begin > 0 && front.len() == begin;
+    let wanted = if is_whole { Ok(front) } else { Err(&fault) };
     is_read_as(rt, alloc, front, wanted);
 }
 

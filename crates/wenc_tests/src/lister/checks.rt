@@ -62,12 +62,20 @@ pub fn encoded<A: Allocator>(rt: &impl Abort, alloc: Global, listing: &Listing<A
     bytes
 }
 
-/// The bytes are listed, and what is listed has these bytes; or they have this fault.
-pub fn is_read_as(rt: &impl Abort, alloc: Global, bytes: &[u8], wanted: Result<&[u8], ListFault>) {
-    match list(alloc, bytes) {
-        Ok(listing) => {
-            assert!(rt; wanted == Ok(encoded(rt, alloc, &listing).as_slice()));
-        }
-        Err(fault) => assert!(rt; wanted == Err(fault)),
-    }
+/// The component that has what is listed of these bytes, or their fault. The listing is in the
+/// memory of `heap`.
+pub fn written_again<A: Allocator + Copy>(
+    rt: &impl Abort,
+    alloc: Global,
+    heap: A,
+    bytes: &[u8],
+) -> Result<Vec<u8>, ListFault> {
+    let listing = list(heap, bytes)?;
+    Ok(encoded(rt, alloc, &listing))
+}
+
+/// What is listed of the bytes has these bytes; or they have this fault.
+pub fn is_read_as(rt: &impl Abort, alloc: Global, bytes: &[u8], wanted: Result<&[u8], &ListFault>) {
+    let again = written_again(rt, alloc, alloc, bytes);
+    assert!(rt; again.as_deref() == wanted);
 }

@@ -6,7 +6,8 @@ use std::alloc::Global;
 use std::process::Abort;
 use wenc_list::ListFault;
 
-/// The front of a section with one type, what stands around another type, how often, the innermost ones, and the fault.
+/// The front of a section with one type, what stands around another type, how often, the innermost
+/// ones, and the fault.
 type Nested = (
     &'static str,
     &'static str,
@@ -40,7 +41,7 @@ fn nested(rt: &impl Abort, alloc: Global, types: &Nested) -> Vec<u8> {
 fn deep_types(rt: HostRuntime) {
     for types in NESTED {
         let bytes = nested(&rt, rt.alloc(), types);
-        let wanted = match types.4 {
+        let wanted = match &types.4 {
             None => Ok(bytes.as_slice()),
             Some(fault) => Err(fault),
         };

@@ -97,7 +97,8 @@ const BAD_ITEMS: &[&str] = &[
     "07050140000200",
     "08050109010100",
     "0309015001030165040100",
-    // A final type written as if it extended another, guards that are wanting, and such as are too many.
+    // A final type written as if it extended another, guards that are wanting, and such as are too
+    // many.
     "0306014f00600000",
     "0306015000600000",
     "03050100600000",
@@ -191,7 +192,7 @@ const TEXTS: &[(ListFault, &str)] = &[
     ),
 ];
 
-fn is_refused(rt: &impl Abort, alloc: Global, sections: &str, fault: ListFault) {
+fn is_refused(rt: &impl Abort, alloc: Global, sections: &str, fault: &ListFault) {
     let bytes = component(rt, alloc, sections);
     is_read_as(rt, alloc, bytes.as_slice(), Err(fault));
 }
@@ -199,25 +200,25 @@ fn is_refused(rt: &impl Abort, alloc: Global, sections: &str, fault: ListFault) 
 #[test]
 fn what_is_not_read(rt: HostRuntime) {
     for sections in BAD_ITEMS {
-        is_refused(&rt, rt.alloc(), sections, ListFault::BadItem { place: 8 });
+        is_refused(&rt, rt.alloc(), sections, &ListFault::BadItem { place: 8 });
     }
     for sections in BAD_SECTIONS {
         is_refused(
             &rt,
             rt.alloc(),
             sections,
-            ListFault::BadSection { place: 8 },
+            &ListFault::BadSection { place: 8 },
         );
     }
     for (sections, fault) in FIRST {
-        is_refused(&rt, rt.alloc(), sections, *fault);
+        is_refused(&rt, rt.alloc(), sections, fault);
     }
     for bytes in NO_COMPONENTS {
         is_read_as(
             &rt,
             rt.alloc(),
             bytes,
-            Err(ListFault::NotAComponent { place: 0 }),
+            Err(&ListFault::NotAComponent { place: 0 }),
         );
     }
 }

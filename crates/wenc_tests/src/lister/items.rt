@@ -12,8 +12,8 @@ fn are_same(one: &NameTree, other: &NameTree) -> bool {
     one.name == other.name && one.options.is_none() && other.options.is_none()
 }
 
-/// Whether the item is what the command adds, the space in which it takes places, and how many; of the commands that a
-/// script has.
+/// Whether the item is what the command adds, the space in which it takes places, and how many; of
+/// the commands that a script has.
 fn added(command: &Command, item: &ItemTree) -> (bool, Space, u32) {
     match (command, item) {
         (Command::CoreModule { bytes, .. }, ItemTree::Module(found)) => {
@@ -93,8 +93,8 @@ pub fn items<'a>(rt: &impl Abort, alloc: Global, listing: &'a Listing) -> Vec<&'
     found
 }
 
-/// How many places are taken in each space, by the last answer there. The items are those of the commands that were
-/// answered with a place, one after the other.
+/// How many places are taken in each space, by the last answer there. The items are those of the
+/// commands that were answered with a place, one after the other.
 pub fn counts(
     rt: &impl Abort,
     items: &[&ItemTree],
@@ -105,11 +105,15 @@ pub fn counts(
     let mut rest = items;
     for (command, answer) in commands.iter().zip(answers) {
         if let Ok(Some(index)) = answer {
-            let (item, behind) = rest.split_first().expect(rt, "an item");
-            let (is_same, space, number) = added(command, item);
-            assert!(rt; is_same);
-            counts[space.number()] = u128::from(*index) + u128::from(number);
-            rest = behind;
+            match rest {
+                [item, behind @ ..] => {
+                    let (is_same, space, number) = added(command, item);
+                    assert!(rt; is_same);
+                    counts[space.number()] = u128::from(*index) + u128::from(number);
+                    rest = behind;
+                }
+                [] => panic!(rt; "an item is not listed"),
+            }
         }
     }
     assert!(rt; rest.is_empty());

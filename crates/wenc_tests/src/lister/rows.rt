@@ -1,6 +1,6 @@
 //! Worked components, with what is listed of them.
 
-use super::checks::{component, encoded, is_read_as};
+use super::checks::{component, is_read_as, written_again};
 use crate::accepted::ok;
 use refusing::Refusing;
 use std::alloc::Global;
@@ -150,7 +150,8 @@ pub const ROWS: &[Row<'static>] = &[
         listed: &[(4, 8, 1), (4, 22, 1)],
         counts: [0, 0, 0, 0, 0, 0, 0, 0, 0, 0, 0, 2, 0],
     },
-    // Instances, by arguments and exports of each kind, and by exports that have names with options.
+    // Instances, by arguments and exports of each kind, and by exports that have names with
+    // options.
     Row {
         sections: "054d0701010003666f6f010000010103666f6f05000100000300010102016101000169010001020000001180010001620201\
             00800106000011000161010101620202016303ac020164050301650404",
@@ -249,22 +250,17 @@ pub fn is_listed(rt: &impl Abort, alloc: Global, row: &Row<'_>) {
     assert!(rt; is_as_said(&listing, row), "{}", row.sections);
 }
 
-/// Each request for memory is refused in turn, until none is left, and then what is listed has the same bytes. A
-/// component without sections takes no memory.
+/// Each request for memory is refused in turn, until none is left, and then what is listed has the
+/// same bytes. A component without sections takes no memory.
 fn sweep(rt: &impl Abort, alloc: Global, heap: &Refusing, bytes: &[u8], asks: bool) {
     for n in 1..1000u64 {
         heap.refuse_nth(n);
-        match list(heap, bytes) {
-            Ok(listing) => {
-                let again = encoded(rt, alloc, &listing);
-                assert!(rt; !heap.was_refused() && (n > 1) == asks && again.as_slice() == bytes);
-                return;
-            }
-            Err(fault) => {
-                let requests = heap.requests();
-                assert!(rt; (fault, requests) == (ListFault::Memory, n) && heap.was_refused());
-            }
+        let again = written_again(rt, alloc, heap, bytes);
+        if !heap.was_refused() {
+            assert!(rt; again.as_deref() == Ok(bytes) && (n > 1) == asks);
+            return;
         }
+        assert!(rt; again.as_deref() == Err(&ListFault::Memory) && heap.requests() == n);
     }
     panic!(rt; "there is no end")
 }

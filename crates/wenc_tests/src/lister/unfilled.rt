@@ -25,7 +25,8 @@ const IN_AN_ITEM: &[&str] = &[
     "02070101ffffffff0f",
     "0508010000ffffffff0f",
     "05070101ffffffff0f",
-    // Parameters, results and fields of core types, types of a group, and declarations of a module type.
+    // Parameters, results and fields of core types, types of a group, and declarations of a module
+    // type.
     "03070160ffffffff0f",
     "0308016000ffffffff0f",
     "0307015fffffffff0f",

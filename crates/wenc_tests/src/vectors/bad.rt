@@ -2,7 +2,7 @@
 
 use super::Vector;
 
-pub const VECTORS: &[Vector] = &[
+pub static VECTORS: &[Vector] = &[
     Vector {
         name: "bad-01",
         script: b"import f func",

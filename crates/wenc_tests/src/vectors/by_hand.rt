@@ -2,7 +2,7 @@
 
 use super::Vector;
 
-pub const VECTORS: &[Vector] = &[
+pub static VECTORS: &[Vector] = &[
     Vector {
         name: "a start",
         script: b"start 7 1 0 1",

@@ -2,7 +2,7 @@
 
 use super::Vector;
 
-pub const VECTORS: &[Vector] = &[
+pub static VECTORS: &[Vector] = &[
     Vector {
         name: "edge-01",
         script: b"",

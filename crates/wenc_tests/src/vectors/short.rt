@@ -2,7 +2,7 @@
 
 use super::Vector;
 
-pub const VECTORS: &[Vector] = &[
+pub static VECTORS: &[Vector] = &[
     Vector {
         name: "01",
         script: b"alias-export 622965 instance BY3j3rzs54\n",
