@@ -76,7 +76,10 @@ fn answers_have_lines(rt: HostRuntime) {
         Err(Fault::TooLarge),
     ];
     let lines = ok(&rt, answer_lines(rt.alloc(), &answers));
-    assert_eq!(rt; lines.as_slice(), b"0\n4294967295\n-\nrefused 3\n".as_slice());
+    assert_eq!(rt;
+        lines.as_slice(),
+        b"0\n4294967295\n-\nrefused 3\n".as_slice()
+    );
 }
 
 /// The bytes that a word says, if it says any.
