@@ -2,8 +2,7 @@
 ghost use Rattle.std.specs.Prelude.{◌≡◌, ◌++◌, ℕ, List, true};
 ghost use Rattle.std.specs.Cmp.Lexicographic.{pointwise};
 ghost use Rattle.std.specs.Option.{option_eq};
-ghost use Rattle.wenc_base.specs.Delimited.{NoCause};
-ghost use Rattle.wenc_base.specs.Fault.{list_cause};
+ghost use Rattle.wenc_base.specs.Fault.{list_cause, NoCause};
 ghost use Rattle.wenc_base.specs.Forms.{list_text, option_text};
 ghost use Rattle.sweeping.specs.Own.{light};
 

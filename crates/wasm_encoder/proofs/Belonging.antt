@@ -5,8 +5,8 @@ use Rattle.std.proofs.lemmas.Str.{IsUtf8-from_ascii}
 use Rattle.std.specs.List.{AllByRecursion}
 use Rattle.std.specs.Prelude.{IsUtf8, slice_index}
 use Rattle.wenc_base.specs.Custom.{Custom}
-use Rattle.wenc_base.specs.Delimited.{NoCause, FreeFits, option_seen}
-use Rattle.wenc_base.specs.Fault.{text_cause, list_cause}
+use Rattle.wenc_base.specs.Delimited.{FreeFits, option_seen}
+use Rattle.wenc_base.specs.Fault.{text_cause, list_cause, NoCause}
 use Rattle.wenc_base.specs.Forms.{AreBytes, name}
 use Rattle.wenc_base.specs.Number.{unsigned_text}
 use Rattle.wenc_base.specs.declared.fault.Fault.{Fault}

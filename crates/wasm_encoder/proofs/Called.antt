@@ -3,8 +3,7 @@ use Rattle.std.proofs.Common.{◌≡◌, ℕ, List, [], ◌∷◌, ◌++◌, Res
 use Rattle.std.proofs.lemmas.Option.{same_Some}
 use Rattle.std.specs.Option.{MatchOption}
 use Rattle.std.specs.Result.{MatchResult}
-use Rattle.wenc_base.specs.Delimited.{NoCause}
-use Rattle.wenc_base.specs.Fault.{IsWarranted, IsMemory}
+use Rattle.wenc_base.specs.Fault.{IsWarranted, IsMemory, NoCause}
 use Rattle.wenc_base.specs.declared.fault.Fault.{Fault}
 use Rattle.wenc_base.specs.declared.fault.Fault.TheVariants.{Memory, TooMany, TooLarge, Unfinished}
 use Rattle.wenc_base.specs.laws.Causes.{SameCause, same_cause, still_warranted}

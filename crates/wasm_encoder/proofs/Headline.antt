@@ -2,7 +2,7 @@
 use Rattle.std.proofs.Common.{◌≡◌, ◌↔◌, ℕ, List, [], ◌∷◌, ◌++◌, length, Result, Ok, Err, Option, Some, None, inl, inr, refl, sym, subst, ◌∙◌, append-nil}
 use Rattle.std.proofs.lemmas.List.{map-append}
 use Rattle.std.specs.List.{flat_map, AllByRecursion}
-use Rattle.wenc_base.specs.Delimited.{NoCause}
+use Rattle.wenc_base.specs.Fault.{NoCause}
 use Rattle.wenc_base.specs.Forms.{AreBytes}
 use Rattle.wenc_base.specs.Number.{unsigned_text}
 use Rattle.wenc_base.specs.Piece.{Spelling}

@@ -1,7 +1,7 @@
 -- A nested component: its commands on a builder of their own, step by step.
 use Rattle.std.proofs.Common.{◌≡◌, ℕ, List, [], ◌++◌, Ok, Err, Result, Option, inl, inr, refl, ap, ◌∙◌, Vec, String}
 use mathlib.Core.Former.{Count}
-use Rattle.wenc_base.specs.Delimited.{NoCause}
+use Rattle.wenc_base.specs.Fault.{NoCause}
 use Rattle.wenc_base.specs.declared.fault.Fault.{Fault}
 use Rattle.wenc_base.specs.laws.Causes.{SameCause}
 use Rattle.wenc_builder.specs.Builder.{State}

@@ -2,7 +2,7 @@
 use Rattle.std.proofs.Common.{◌≡◌, ℕ, List, [], ◌∷◌, ◌++◌, Option, Result, Ok, Err, refl, sym, inl, inr}
 use Rattle.std.specs.List.{AllByRecursion}
 use Rattle.std.specs.Prelude.{IsOk}
-use Rattle.wenc_base.specs.Delimited.{NoCause}
+use Rattle.wenc_base.specs.Fault.{NoCause}
 use Rattle.wenc_base.specs.declared.fault.Fault.{Fault}
 use Rattle.wenc_builder.specs.Entry.{Entry}
 use Rattle.wasm_encoder.specs.Cause.{added, answer_of, led, cause, first_cause}

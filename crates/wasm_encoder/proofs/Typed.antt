@@ -1,8 +1,6 @@
 -- A type that is begun on a builder and written by an encoder.
 use Rattle.std.proofs.Common.{◌≡◌, ℕ, List, [], ◌∷◌, Ok, Err, Option, Some, refl, sym, ap, subst, ◌∙◌}
-use Rattle.wenc_base.specs.Delimited.{NoCause}
-use Rattle.wenc_base.specs.Fault.{IsWarranted}
-use Rattle.wenc_base.specs.Lender.{either}
+use Rattle.wenc_base.specs.Fault.{IsWarranted, either, NoCause}
 use Rattle.wenc_base.specs.declared.fault.Fault.{Fault}
 use Rattle.wenc_base.specs.laws.Causes.{SameCause, same_cause, still_warranted}
 use Rattle.wenc_builder.specs.Builder.{State, content_of, Draft, draft_place, begun_with, appended, ended}

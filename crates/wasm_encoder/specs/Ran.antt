@@ -1,7 +1,6 @@
 -- What a run of commands is, and what stops one.
 use Rattle.std.specs.Prelude.{◌≡◌, ℕ, List, [], ◌∷◌, ◌++◌, Result, Ok, Err, Option}
-use Rattle.wenc_base.specs.Delimited.{NoCause}
-use Rattle.wenc_base.specs.Fault.{IsWarranted}
+use Rattle.wenc_base.specs.Fault.{IsWarranted, NoCause}
 use Rattle.wenc_base.specs.declared.fault.Fault.{Fault}
 use Rattle.wenc_base.specs.declared.fault.Fault.TheVariants.{Unfinished}
 use Rattle.wenc_builder.specs.Entry.{Entry}

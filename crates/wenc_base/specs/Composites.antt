@@ -4,8 +4,6 @@ use Rattle.wenc_base.specs.Piece.{Piece, Form, byte, ◌▸◌, ◌⨾◌}
 use Rattle.wenc_base.specs.Number.{u32}
 use Rattle.wenc_base.specs.Forms.{flag, list, option}
 use Rattle.wenc_base.specs.Types.{val_type}
-use Rattle.wenc_base.specs.Fault.{first_of, list_cause}
-use Rattle.wenc_base.specs.declared.fault.Fault.{Fault}
 use Rattle.wenc_base.specs.declared.types.ValType.{ValType}
 use Rattle.wenc_base.specs.declared.types.storage.StorageType.{StorageType}
 use Rattle.wenc_base.specs.declared.types.storage.StorageType.TheVariants.{I8, I16, Val}
@@ -81,24 +79,6 @@ abbrev pub standing : Bool → Form Group
 standing true (Single s) = guarded s
 standing true (Rec types) = group (Rec types)
 standing false g = group g
-
--- ---- why a type can't be encoded: the first of its lists that is too long
-
--- of a list whose members have no cause
-abbrev pub length_cause : {A : Type 0} → List A → Fault → Type 0
-length_cause = list_cause (λ v fault. ⊥)
-
-abbrev pub composite_cause : Composite → Fault → Type 0
-composite_cause (Func params results) = first_of (length_cause params) (length_cause results)
-composite_cause (Array element) = λ fault. ⊥
-composite_cause (Struct fields) = length_cause fields
-
-abbrev pub sub_cause : Sub → Fault → Type 0
-sub_cause s = composite_cause s.composite
-
-abbrev pub group_cause : Group → Fault → Type 0
-group_cause (Single s) = sub_cause s
-group_cause (Rec types) = list_cause sub_cause types
 
 -- ---- the code's types as pure ones
 

@@ -1,28 +1,16 @@
 -- What it is that a text tells which value it is: a form, what is seen of a value, and what ties both to its encoding.
-use Rattle.std.specs.Prelude.{◌≡◌, ℕ, Bool, true, List, Option, Some, None}
+use Rattle.std.specs.Prelude.{◌≡◌, ℕ, Bool, true, Option, Some, None}
+use Rattle.wenc_base.specs.Encode.{Serves}
 use Rattle.wenc_base.specs.Piece.{Form, ◌⨾◌}
 use Rattle.wenc_base.specs.laws.Lawful.{Reader, LawfulForm}
-use Rattle.wenc_base.specs.declared.fault.Fault.{Fault}
-
--- nothing stands against encoding it
-abbrev pub NoCause : (Fault → Type 0) → Type 0
-NoCause cause = (fault : Fault) → cause fault → ⊥
 
 -- one reader finds each value of the form where its piece is
 abbrev pub IsReadable : {A : Type 0} → Form A → Type 0
 IsReadable {A} form = (read : ℕ → Reader A) × LawfulForm form read
 
--- the text is that of the form
-abbrev pub IsTextOf : {A S : Type 0} → (A → List ℕ) → (A → S) → Form S → Type 0
-IsTextOf {A} text seen form = (v : A) → text v ≡ (form (seen v)).text
-
--- what fits has no cause
-abbrev pub FittingIsFree : {A S : Type 0} → (A → Fault → Type 0) → (A → S) → Form S → Type 0
-FittingIsFree {A} cause seen form = (v : A) → (form (seen v)).Fits → NoCause (cause v)
-
--- where it has no cause it fits
-abbrev pub FreeFits : {A S : Type 0} → (A → Fault → Type 0) → (A → S) → Form S → A → Type 0
-FreeFits cause seen form v = NoCause (cause v) → (form (seen v)).Fits
+-- each value is written as the form says of what is seen of it
+abbrev pub IsWritten : {A S : Type 0} → Form A → (A → S) → Form S → Type 0
+IsWritten {A} piece seen form = (v : A) → Serves (piece v) (form (seen v))
 
 -- values that are seen alike are equal
 abbrev pub AlikeIsEqual : {A S : Type 0} → (A → A → Bool) → (A → S) → Type 0

@@ -1,7 +1,9 @@
 -- What it is to append a text.
-use Rattle.std.specs.Prelude.{◌≡◌, ℕ, List, ◌++◌, Result, Err, OnOk, OnErr, IfErr}
-use Rattle.std.specs.List.{flat_map}
-use Rattle.wenc_base.specs.Fault.{IsWarranted, member_cause}
+use Rattle.std.specs.List.{flat_map, AllByRecursion}
+use Rattle.std.specs.Prelude.{◌≡◌, ℕ, List, length, ◌++◌, Result, Err, OnOk, OnErr, IfErr}
+use Rattle.wenc_base.specs.Fault.{IsWarranted, NoCause, size_cause, first_of, member_cause, list_cause, drawn_cause}
+use Rattle.wenc_base.specs.Forms.{list, sized}
+use Rattle.wenc_base.specs.Piece.{Piece, Form, ◌⨾◌, refused_for, all_of}
 use Rattle.wenc_base.specs.declared.fault.Fault.{Fault}
 use Rattle.wenc_base.specs.declared.fault.Fault.TheVariants.{Unfinished}
 
@@ -14,8 +16,40 @@ pub record Appends (text : List ℕ) (cause : Fault → Type 0) (unfinished : Ty
   pub warranted : IfErr outcome (IsWarranted cause)
   pub unfinished_first : unfinished → outcome ≡ Err Unfinished
 
--- Behind what stood there at the start come the texts of these values, which have no cause.
-pub record Written {A : Type 0} (text : A → List ℕ) (cause : A → Fault → Type 0) (start : List ℕ)
-    (vs : List A) (now : List ℕ) : Type 0 where
-  pub items : now ≡ start ++ flat_map text vs
-  pub no_cause : (fault : Fault) → member_cause cause vs fault → ⊥
+-- ---- what is asked first is answered first
+
+-- one piece, then another
+abbrev pub in_order : Piece → Piece → Piece
+in_order p q = refused_for (first_of p.Cause q.Cause) (p ⨾ q)
+
+-- how many values there are, then each
+abbrev pub list_in_order : {A : Type 0} → Form A → Form (List A)
+list_in_order form vs = refused_for (list_cause (λ v. (form v).Cause) vs) (list form vs)
+
+-- the same of values that come one by one, whose number is known last
+abbrev pub drawn_in_order : {A : Type 0} → Form A → Form (List A)
+drawn_in_order form vs = refused_for (drawn_cause (λ v. (form v).Cause) vs) (list form vs)
+
+-- a piece behind its size, which is known last
+abbrev pub sized_in_order : Piece → Piece
+sized_in_order p =
+    refused_for (first_of p.Cause (size_cause (length p.text))) (sized (all_of p))
+
+-- ---- one piece for another
+
+-- Who writes p writes q: the text is the same, what fits still fits, each cause of p is one of q, and where p has
+-- none, q has none.
+pub record Serves (p q : Piece) : Type 0 where
+  pub text : p.text ≡ q.text
+  pub fits : p.Fits → q.Fits
+  pub among : (fault : Fault) → p.Cause fault → q.Cause fault
+  pub free : NoCause p.Cause → NoCause q.Cause
+
+-- ---- one value after the other
+
+-- Behind what stood there at the start come the texts of these values, which fit and have no cause.
+pub record Written {A : Type 0} (form : Form A) (start : List ℕ) (vs : List A)
+    (now : List ℕ) : Type 0 where
+  pub items : now ≡ start ++ flat_map (λ v. (form v).text) vs
+  pub fit : AllByRecursion (λ v. (form v).Fits) vs
+  pub no_cause : NoCause (member_cause (λ v. (form v).Cause) vs)

@@ -16,12 +16,20 @@ IsWarranted cause TooMany = cause TooMany
 IsWarranted cause TooLarge = cause TooLarge
 IsWarranted cause Unfinished = cause Unfinished
 
--- why a text or a list of bytes can't be encoded: its length isn't a number of 32 bits
-abbrev pub text_cause : List ℕ → Fault → Type 0
-text_cause bytes (Memory e) = ⊥
-text_cause bytes TooMany = ⊥
-text_cause bytes TooLarge = 2 ^ 32 ≤ length bytes
-text_cause bytes Unfinished = ⊥
+-- nothing stands against it
+abbrev pub NoCause : (Fault → Type 0) → Type 0
+NoCause cause = (fault : Fault) → cause fault → ⊥
+
+-- one cause, or another
+abbrev pub either : (Fault → Type 0) → (Fault → Type 0) → Fault → Type 0
+either one other fault = one fault ⊎ other fault
+
+-- why so many bytes can't be a text, or what a size is of: their number isn't one of 32 bits
+abbrev pub size_cause : ℕ → Fault → Type 0
+size_cause n (Memory e) = ⊥
+size_cause n TooMany = ⊥
+size_cause n TooLarge = 2 ^ 32 ≤ n
+size_cause n Unfinished = ⊥
 
 -- why so many values can't be a list: their number isn't one of 32 bits
 abbrev pub count_cause : ℕ → Fault → Type 0
@@ -32,7 +40,7 @@ count_cause n Unfinished = ⊥
 
 -- the cause of one thing or, where that has none, of the next: what is asked first is answered first
 abbrev pub first_of : (Fault → Type 0) → (Fault → Type 0) → Fault → Type 0
-first_of one next fault = one fault ⊎ (((other : Fault) → one other → ⊥) × next fault)
+first_of one next fault = one fault ⊎ (NoCause one × next fault)
 
 -- the cause of the first of the values that has one
 abbrev pub member_cause : {A : Type 0} → (A → Fault → Type 0) → List A → Fault → Type 0

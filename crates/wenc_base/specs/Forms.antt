@@ -1,20 +1,24 @@
 -- Forms made of others (component model, binary format; WebAssembly 3.0, binary format, "Conventions" and "Values").
-use Rattle.std.specs.Prelude.{◌≡◌, ℕ, ◌^◌, ◌<◌, List, [], ◌∷◌, ◌++◌, length, Bool, true, false, Option, Some, None, IsUtf8}
+use Rattle.std.specs.Prelude.{◌≡◌, ◌⊎◌, ℕ, ◌^◌, ◌<◌, List, [], ◌∷◌, ◌++◌, length, Bool, true, false, Option, Some, None, IsUtf8}
+use Rattle.wenc_base.specs.Fault.{size_cause}
 use Rattle.wenc_base.specs.Piece.{Piece, Whole, Form, byte, ◌▸◌, ◌⨾◌, each, all_of, raw}
-use Rattle.wenc_base.specs.Number.{unsigned_text, u32}
+use Rattle.wenc_base.specs.Number.{unsigned_text, u32, count, size}
 use Rattle.std.specs.List.{flat_map, AllByRecursion}
 
 -- whether it holds
+abbrev pub flag_byte : Bool → ℕ
+flag_byte false = 0x00
+flag_byte true = 0x01
+
 abbrev pub flag : Form Bool
-flag false = byte 0x00
-flag true = byte 0x01
+flag holds = byte (flag_byte holds)
 
 -- how many, then the text of each
 abbrev pub list_text : {A : Type 0} → (A → List ℕ) → List A → List ℕ
 list_text text vs = unsigned_text (length vs) ++ flat_map text vs
 
 abbrev pub list : {A : Type 0} → Form A → Form (List A)
-list form vs = u32 (length vs) ⨾ each form vs
+list form vs = count (length vs) ⨾ each form vs
 
 -- a byte that says whether there is a value, then the value
 abbrev pub option_text : {A : Type 0} → (A → List ℕ) → Option A → List ℕ
@@ -29,13 +33,14 @@ option form (Some v) = 0x01 ▸ form v
 abbrev pub utf8 : Form (List ℕ)
 utf8 bs = record {
   Fits = IsUtf8 bs;
+  Cause = λ fault. ⊥;
   text = bs;
   Reads = λ mode bytes rest. IsUtf8 bs × (bytes ≡ bs ++ rest);
 }
 
 -- how many bytes, then a text of so many
 abbrev pub name : Form (List ℕ)
-name bs = u32 (length bs) ⨾ utf8 bs
+name bs = size (length bs) ⨾ utf8 bs
 
 abbrev pub AreBytes : List ℕ → Type 0
 AreBytes = AllByRecursion (λ b. b < 256)
@@ -44,6 +49,7 @@ AreBytes = AllByRecursion (λ b. b < 256)
 abbrev pub sized : Whole → Piece
 sized w = record {
   Fits = (length w.text < 2 ^ 32) × w.Fits;
+  Cause = λ fault. size_cause (length w.text) fault ⊎ w.Cause fault;
   text = (u32 (length w.text)).text ++ w.text;
   Reads = λ mode bytes rest. (content : List ℕ) ×
       (u32 (length content)).Reads mode bytes (content ++ rest) × w.ReadsAll mode content;

@@ -1,10 +1,11 @@
 -- What counted sections and types keep: how many members, and their texts.
-use Rattle.std.specs.Prelude.{◌≡◌, ℕ, ◌+◌, ◌<◌, ◌≤◌, ◌^◌, ◌⊎◌, Bool, true, false, is_none, List, [], ◌∷◌, ◌++◌, length, take, drop, Option, Some, None, Result, Err, OnOk, OnErr, IfErr}
+use Rattle.std.specs.Prelude.{◌≡◌, ℕ, ◌+◌, ◌<◌, ◌≤◌, ◌^◌, ◌⊎◌, Bool, true, false, is_none, List, [], ◌++◌, length, take, drop, Option, Some, None, Result, Err, OnOk, OnErr, IfErr}
 use Rattle.std.specs.Iterator.Runs.{SomeRun, WholeRun}
 use Rattle.std.specs.List.{flat_map, AllByRecursion}
 use Rattle.wenc_base.specs.Number.{unsigned_text, number_size}
-use Rattle.wenc_base.specs.Fault.{IsWarranted, first_of, drawn_cause}
-use Rattle.wenc_base.specs.Forms.{list_text}
+use Rattle.wenc_base.specs.Fault.{IsWarranted, NoCause}
+use Rattle.wenc_base.specs.Forms.{list}
+use Rattle.wenc_base.specs.Piece.{Piece, Form, refused_for, verbatim, ◌⨾◌}
 use Rattle.wenc_base.specs.declared.fault.Fault.{Fault}
 use Rattle.wenc_base.specs.declared.fault.Fault.TheVariants.{Memory, TooMany, TooLarge, Unfinished}
 use Rattle.wenc_base.specs.declared.holder.openings.Opening.{Opening}
@@ -61,20 +62,17 @@ gone_back h kept len count =
 abbrev pub filled : List ℕ → ℕ → ℕ → List ℕ → List ℕ
 filled bytes start end head = take start bytes ++ (head ++ drop end bytes)
 
--- It has just these members, each with its text.
-pub record Contains {A : Type 0} (text : A → List ℕ) (h : Held) (members : List A) : Type 0 where
+-- It has just these members, each with its text, and they can be encoded.
+pub record Contains {A : Type 0} (form : Form A) (h : Held) (members : List A) : Type 0 where
   pub finished : is_finished h ≡ true
   pub count : length members ≡ h.count
-  pub body : h.body ≡ flat_map text members
-
--- the bytes as they are
-abbrev pub as_they_are : List ℕ → List ℕ
-as_they_are bytes = bytes
+  pub body : h.body ≡ flat_map (λ v. (form v).text) members
+  pub fit : AllByRecursion (λ v. (form v).Fits) members
 
 -- It has some members, each of which is such a text.
 pub record ContainsSome (IsMember : List ℕ → Type 0) (h : Held) : Type 0 where
   pub members : List (List ℕ)
-  pub contained : Contains as_they_are h members
+  pub contained : Contains verbatim h members
   pub each : AllByRecursion IsMember members
 
 -- how many bytes stand behind a section's size: those of the count, and those of the members
@@ -109,39 +107,38 @@ AddCause h text cause fault =
     (CountCause h.count (length (h.body ++ text)) fault ⊎
     ((fault ≡ Unfinished) × (is_finished h ≡ false)))
 
--- A member was added, and nothing stood against it.
-pub record Accepted {A : Type 0} (text : A → List ℕ) (old new : Held) (cause : Fault → Type 0)
-    (member : A) : Type 0 where
-  pub state : new ≡ with_member old (text member)
-  pub contained : (members : List A) → Contains text old members
-      → Contains text new (members ++ member ∷ [])
-  pub free : (fault : Fault) → AddCause old (text member) cause fault → ⊥
+-- This piece was added as a member, fits, and nothing stood against it.
+pub record Accepted (p : Piece) (old new : Held) : Type 0 where
+  pub state : new ≡ with_member old p.text
+  pub fits : p.Fits
+  pub free : NoCause (AddCause old p.text p.Cause)
 
--- A call adds this member, or is refused for a cause and changes nothing.
-pub record AddsMember {A : Type 0} (text : A → List ℕ) (old new : Held)
-    (outcome : Result (Unit {0}) Fault) (cause : Fault → Type 0) (member : A) : Type 0 where
-  pub ok : OnOk outcome (Accepted text old new cause member)
+-- A call adds this piece as a member, or is refused for a cause and changes nothing.
+pub record AddsMember (p : Piece) (old new : Held) (outcome : Result (Unit {0}) Fault) : Type 0 where
+  pub ok : OnOk outcome (Accepted p old new)
   pub err : OnErr outcome (new ≡ old)
-  pub warranted : IfErr outcome (IsWarranted (AddCause old (text member) cause))
+  pub warranted : IfErr outcome (IsWarranted (AddCause old p.text p.Cause))
   pub unfinished_first : is_finished old ≡ false → outcome ≡ Err Unfinished
 
--- The same where the member is made of the values that an iterator gives.
-pub record AddsListed {S A B : Type 0} (steps : S → Option B → S → Type 0) (values : S)
-    (text : A → List ℕ) (old new : Held) (outcome : Result (Unit {0}) Fault)
-    (cause : List B → Fault → Type 0) (member : List B → A) : Type 0 where
+-- The same where the piece is made of the values that an iterator gives.
+pub record AddsListed {S B : Type 0} (steps : S → Option B → S → Type 0) (values : S)
+    (piece : List B → Piece) (old new : Held) (outcome : Result (Unit {0}) Fault) : Type 0 where
   pub ok : OnOk outcome
-      (WholeRun steps values (λ run. Accepted text old new (cause run.items) (member run.items)))
+      (WholeRun steps values (λ run. Accepted (piece run.items) old new))
   pub err : OnErr outcome (new ≡ old)
   pub warranted : IfErr outcome
-      (λ fault. SomeRun steps values
-      (λ run. IsWarranted (AddCause old (text (member run.items)) (cause run.items)) fault))
+      (λ fault. SomeRun steps values (λ run.
+      IsWarranted (AddCause old (piece run.items).text (piece run.items).Cause) fault))
   pub unfinished_first : is_finished old ≡ false → outcome ≡ Err Unfinished
 
--- a text, a list of values, another text
-abbrev pub listed_text : {A : Type 0} → List ℕ → (A → List ℕ) → List ℕ → List A → List ℕ
-listed_text lead text tail vs = lead ++ (list_text text vs ++ tail)
+-- a piece, a list of values, another piece
+abbrev pub listed : {A : Type 0} → Piece → Form A → Piece → Form (List A)
+listed lead form tail vs = lead ⨾ list form vs ⨾ tail
 
--- the causes of these, in their order
-abbrev pub listed_cause : {A : Type 0} → (Fault → Type 0) → (A → Fault → Type 0) → (Fault → Type 0)
-    → List A → Fault → Type 0
-listed_cause lead cause tail vs = first_of lead (first_of (drawn_cause cause vs) tail)
+-- how many members, then the members, which are taken as they are
+abbrev pub held : Held → Piece
+held h = refused_for (EncodeCause h) (verbatim (held_text h))
+
+-- the section of the members, which are taken as they are
+abbrev pub held_section : Held → Piece
+held_section h = refused_for (EncodeCause h) (verbatim (section_text h))

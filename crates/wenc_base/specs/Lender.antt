@@ -1,55 +1,57 @@
 -- What an encoder does to what it was lent.
-use Rattle.std.specs.Prelude.{◌≡◌, ℕ, List, ◌++◌, Option, Bool, false, IsTrue, ◌↔◌, ◌⊎◌, Result, Err, OnOk, OnErr, IfOk, IfErr}
+use Rattle.std.specs.Prelude.{◌≡◌, ℕ, List, Option, Bool, false, IsTrue, ◌↔◌, ◌⊎◌, Result, Err, OnOk, OnErr, IfOk, IfErr}
 use Rattle.std.specs.Iterator.Runs.{SomeRun, WholeRun}
-use Rattle.wenc_base.specs.Fault.{IsWarranted}
+use Rattle.wenc_base.specs.Fault.{IsWarranted, NoCause, either}
+use Rattle.wenc_base.specs.Piece.{Piece}
 use Rattle.wenc_base.specs.declared.fault.Fault.{Fault}
 use Rattle.wenc_base.specs.declared.fault.Fault.TheVariants.{Unfinished}
 
--- the cause of a value, or its lender's
-abbrev pub either : (Fault → Type 0) → (Fault → Type 0) → Fault → Type 0
-either one other fault = one fault ⊎ other fault
-
--- A call leaves this, or is refused for a cause and changes nothing.
-pub record Extends {T : Type 0} (old new next : T) (outcome : Result (Unit {0}) Fault)
-    (cause : Fault → Type 0) : Type 0 where
+-- A call adds this piece and leaves `next`, or is refused, for the piece's cause or for `refuses`, and changes
+-- nothing.
+pub record Extends {T : Type 0} (old new next : T) (outcome : Result (Unit {0}) Fault) (p : Piece)
+    (refuses : Fault → Type 0) : Type 0 where
   pub ok : OnOk outcome (new ≡ next)
-  pub free : OnOk outcome ((fault : Fault) → cause fault → ⊥)
+  pub fits : OnOk outcome p.Fits
+  pub free : OnOk outcome (NoCause (either p.Cause refuses))
   pub err : OnErr outcome (new ≡ old)
-  pub warranted : IfErr outcome (IsWarranted cause)
+  pub warranted : IfErr outcome (IsWarranted (either p.Cause refuses))
 
--- The same where what is added is made of the values that an iterator gives. `next` is what more bytes leave,
--- `refuses` why there is no room for them.
+-- This piece was added, which left `next`; it fits, and nothing stood against it.
+pub record Extended {T : Type 0} (new : T) (next : List ℕ → T)
+    (refuses : List ℕ → Fault → Type 0) (p : Piece) : Type 0 where
+  pub state : new ≡ next p.text
+  pub fits : p.Fits
+  pub free : NoCause (either p.Cause (refuses p.text))
+
+-- The same as `Extends` where the piece is made of the values that an iterator gives. `next` is what more bytes
+-- leave, `refuses` why there is no room for them.
 pub record ExtendsListed {T S B : Type 0} (steps : S → Option B → S → Type 0) (values : S)
     (old new : T) (outcome : Result (Unit {0}) Fault)
-    (next : List ℕ → T) (refuses : List ℕ → Fault → Type 0) (cause : List B → Fault → Type 0)
-    (text : List B → List ℕ) : Type 0 where
+    (next : List ℕ → T) (refuses : List ℕ → Fault → Type 0) (piece : List B → Piece) : Type 0 where
   pub ok : OnOk outcome
-      (WholeRun steps values
-      (λ run. (new ≡ next (text run.items)) ×
-      ((fault : Fault) → either (cause run.items) (refuses (text run.items)) fault → ⊥)))
+      (WholeRun steps values (λ run. Extended new next refuses (piece run.items)))
   pub err : OnErr outcome (new ≡ old)
   pub warranted : IfErr outcome
-      (λ fault. SomeRun steps values
-      (λ run. IsWarranted (either (cause run.items) (refuses (text run.items))) fault))
+      (λ fault. SomeRun steps values (λ run.
+      IsWarranted (either (piece run.items).Cause (refuses (piece run.items).text)) fault))
 
--- With this text more, what is being written is a whole member.
-abbrev pub MakesWhole : {T : Type 0} → (T → Type 0) → (T → List ℕ → T) → T → List ℕ → Type 0
-MakesWhole is_whole written lender text = ∥ is_whole (written lender text) ∥₁
+-- With this piece more, if it fits, what is being written is a whole member.
+abbrev pub MakesWhole : {T : Type 0} → (T → Type 0) → (T → List ℕ → T) → T → Piece → Type 0
+MakesWhole is_whole written lender p = p.Fits → ∥ is_whole (written lender p.text) ∥₁
 
--- A last call adds this text to the member and ends it, or is refused for a cause and changes nothing.
+-- A last call adds this piece to the member and ends it, or is refused for a cause and changes nothing.
 abbrev pub Ends : {T : Type 0} → (T → List ℕ → T) → (T → T) → (T → List ℕ → Fault → Type 0) → T → T
-    → Result (Unit {0}) Fault → (Fault → Type 0) → List ℕ → Type 0
-Ends written ended refuses old new outcome cause text =
-    Extends old new (ended (written old text)) outcome (either cause (refuses old text))
+    → Result (Unit {0}) Fault → Piece → Type 0
+Ends written ended refuses old new outcome p =
+    Extends old new (ended (written old p.text)) outcome p (refuses old p.text)
 
--- The same where the text is made of the values that an iterator gives.
+-- The same where the piece is made of the values that an iterator gives.
 abbrev pub EndsListed : {T S B : Type 0} → (T → List ℕ → T) → (T → T)
     → (T → List ℕ → Fault → Type 0) → (S → Option B → S → Type 0) → S → T → T
-    → Result (Unit {0}) Fault
-    → (List B → Fault → Type 0) → (List B → List ℕ) → Type 0
-EndsListed written ended refuses steps values old new outcome cause text =
+    → Result (Unit {0}) Fault → (List B → Piece) → Type 0
+EndsListed written ended refuses steps values old new outcome piece =
     ExtendsListed steps values old new outcome (λ bytes. ended (written old bytes)) (refuses old)
-    cause text
+    piece
 
 -- The same of two lists, of which the second comes when the first is added. A call that is refused may have added
 -- the first.
@@ -57,29 +59,29 @@ pub record EndsLists {T S R B C : Type 0} (written : T → List ℕ → T) (ende
     (refuses : T → List ℕ → Fault → Type 0)
     (steps : S → Option B → S → Type 0) (values : S) (more_steps : R → Option C → R → Type 0)
     (more : R) (old new : T) (outcome : Result (Unit {0}) Fault)
-    (cause : List B → Fault → Type 0) (text : List B → List ℕ)
-    (more_cause : List C → Fault → Type 0) (more_text : List C → List ℕ) : Type 0 where
+    (piece : List B → Piece) (more_piece : List C → Piece) : Type 0 where
   pub ok : OnOk outcome (WholeRun steps values (λ run. WholeRun more_steps more (λ last.
-      (new ≡ ended (written old (text run.items ++ more_text last.items)))
-      × ((fault : Fault) → either (cause run.items) (refuses old (text run.items)) fault → ⊥)
-      × ((fault : Fault)
-      → either (more_cause last.items)
-      (refuses (written old (text run.items)) (more_text last.items)) fault → ⊥))))
+      let between = written old (piece run.items).text in
+      (new ≡ ended (written between (more_piece last.items).text))
+      × (piece run.items).Fits × (more_piece last.items).Fits
+      × NoCause (either (piece run.items).Cause (refuses old (piece run.items).text))
+      × NoCause
+      (either (more_piece last.items).Cause (refuses between (more_piece last.items).text)))))
   pub err : OnErr outcome
-      ((new ≡ old) ⊎ WholeRun steps values (λ run. new ≡ written old (text run.items)))
+      ((new ≡ old) ⊎ WholeRun steps values (λ run. new ≡ written old (piece run.items).text))
   pub warranted : IfErr outcome
-      (λ fault. SomeRun steps values
-      (λ run. IsWarranted (either (cause run.items) (refuses old (text run.items))) fault)
+      (λ fault. SomeRun steps values (λ run.
+      IsWarranted (either (piece run.items).Cause (refuses old (piece run.items).text)) fault)
       ⊎ WholeRun steps values (λ run. SomeRun more_steps more (λ last.
       IsWarranted
-      (either (more_cause last.items)
-      (refuses (written old (text run.items)) (more_text last.items))) fault)))
+      (either (more_piece last.items).Cause
+      (refuses (written old (piece run.items).text) (more_piece last.items).text)) fault)))
 
 -- A call begins a member and lends what has it to an encoder, or is refused for a cause.
 pub record Lends {T E : Type 0} (lent : E → T) (next : T) (finished : Bool)
     (outcome : Result E Fault) (cause : Fault → Type 0) : Type 0 where
   pub begun : IfOk outcome (λ e. lent e ≡ next)
-  pub free : OnOk outcome ((fault : Fault) → cause fault → ⊥)
+  pub free : OnOk outcome (NoCause cause)
   pub warranted : IfErr outcome (IsWarranted cause)
   pub unfinished_first : finished ≡ false → outcome ≡ Err Unfinished
 

@@ -15,12 +15,9 @@ pub record Named : Type 0 where
 abbrev pub named : Form Named
 named n = u32 n.place ⨾ name_form n.name
 
-abbrev pub named_text : Named → List ℕ
-named_text n = (named n).text
-
 -- names one behind the other
 abbrev pub names_text : List Named → List ℕ
-names_text ns = flat_map named_text ns
+names_text ns = flat_map (λ n. (named n).text) ns
 
 -- how many names, then each
 abbrev pub name_map : Form (List Named)

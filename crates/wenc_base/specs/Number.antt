@@ -1,7 +1,8 @@
 -- Numbers in groups of seven bits, the lowest first (LEB128: WebAssembly 3.0, binary format, "Integers").
 use Rattle.std.specs.Prelude.{◌≡◌, ℕ, ℤ, pos, negsuc, ◌-ℤ◌, zero, suc, ◌+◌, ◌-◌, ◌*◌, ◌/◌, ◌%◌, ◌^◌, ◌<◌, ◌≤◌, nat_lt, if◌then◌else◌, slice_index, Bool, true, false, length, List, [], ◌∷◌, ◌++◌, map, FitsSigned}
 use Rattle.std.specs.Int.{w64}
-use Rattle.wenc_base.specs.Piece.{Form, Spelling, Strict, Wide}
+use Rattle.wenc_base.specs.Fault.{count_cause, size_cause}
+use Rattle.wenc_base.specs.Piece.{Form, Spelling, Strict, Wide, refused_for}
 
 -- A number below top is one byte. Another has its low seven bits first, in a byte from 128 on.
 -- At most `room` bytes come before the last.
@@ -47,14 +48,24 @@ pub data ReadsGroups (mode : Spelling) (top : ℕ) : ℕ → ℕ → List ℕ �
 abbrev pub u32 : Form ℕ
 u32 n = record {
   Fits = n < 2 ^ 32;
+  Cause = λ fault. ⊥;
   text = unsigned_text n;
   Reads = λ mode bytes rest. (n < 2 ^ 32) × ReadsGroups mode 128 4 n bytes rest;
 }
+
+-- how many values there are
+abbrev pub count : Form ℕ
+count n = refused_for (count_cause n) (u32 n)
+
+-- how many bytes there are
+abbrev pub size : Form ℕ
+size n = refused_for (size_cause n) (u32 n)
 
 -- a number of 64 bits in at most ten bytes
 abbrev pub u64 : Form ℕ
 u64 n = record {
   Fits = n < 2 ^ 64;
+  Cause = λ fault. ⊥;
   text = unsigned_text n;
   Reads = λ mode bytes rest. (n < 2 ^ 64) × ReadsGroups mode 128 9 n bytes rest;
 }
@@ -63,6 +74,7 @@ u64 n = record {
 abbrev pub index : Form ℕ
 index n = record {
   Fits = n < 2 ^ 32;
+  Cause = λ fault. ⊥;
   text = signed_text (pos n);
   Reads = λ mode bytes rest. (n < 2 ^ 32) × ReadsGroups mode 64 4 n bytes rest;
 }
@@ -77,6 +89,7 @@ ReadsSigned (negsuc n) bytes rest =
 abbrev pub i64 : Form ℤ
 i64 z = record {
   Fits = FitsSigned w64 z;
+  Cause = λ fault. ⊥;
   text = signed_text z;
   Reads = λ mode bytes rest. FitsSigned w64 z × ReadsSigned z bytes rest;
 }

@@ -1,8 +1,9 @@
 -- A member that is written piece by piece into a holder: its opening, what is added to it, and its end.
 use Rattle.std.specs.Prelude.{◌≡◌, ◌==◌, Bool, ℕ, ◌+◌, ◌-◌, ◌≤◌, ◌^◌, false, [], ◌++◌, List, length, take, drop, Option, Some, None, Result, Err, OnOk, OnErr, IfErr}
-use Rattle.wenc_base.specs.Fault.{IsWarranted}
+use Rattle.wenc_base.specs.Fault.{IsWarranted, NoCause}
+use Rattle.wenc_base.specs.Piece.{Piece}
 use Rattle.wenc_base.specs.Holder.{Held, is_finished, holding, content_size, AddCause, ContainsSome}
-use Rattle.wenc_base.specs.Lender.{either, Extends}
+use Rattle.wenc_base.specs.Lender.{Extends}
 use Rattle.wenc_base.specs.declared.fault.Fault.{Fault}
 use Rattle.wenc_base.specs.declared.fault.Fault.TheVariants.{TooLarge, Unfinished}
 use Rattle.wenc_base.specs.declared.holder.openings.Opening.{Opening}
@@ -63,7 +64,7 @@ pub record HasMembers (IsMember : List ℕ → Type 0) (h : Held) : Type 0 where
 pub record OpensMember (old new : Held) (outcome : Result (Unit {0}) Fault)
     (lead : List ℕ) : Type 0 where
   pub ok : OnOk outcome (new ≡ opened_with old lead)
-  pub free : OnOk outcome ((fault : Fault) → AddCause old lead (λ _. ⊥) fault → ⊥)
+  pub free : OnOk outcome (NoCause (AddCause old lead (λ _. ⊥)))
   pub err : OnErr outcome (new ≡ old)
   pub warranted : IfErr outcome (IsWarranted (AddCause old lead (λ _. ⊥)))
   pub unfinished_first : is_finished old ≡ false → outcome ≡ Err Unfinished
@@ -73,11 +74,6 @@ abbrev pub no_room : Held → List ℕ → Fault → Type 0
 no_room h text fault =
     (fault ≡ TooLarge) × (2 ^ 32 ≤ content_size h.count (length (h.body ++ text)))
 
--- why no more can be added to a member: for its own cause, or for the size
-abbrev pub MoreCause : Held → List ℕ → (Fault → Type 0) → Fault → Type 0
-MoreCause h text cause = either cause (no_room h text)
-
--- A call adds this to a member and leaves it so, or is refused for a cause and changes nothing.
-abbrev pub Lengthens : Held → Held → Held → Result (Unit {0}) Fault → (Fault → Type 0) → List ℕ
-    → Type 0
-Lengthens old new next outcome cause text = Extends old new next outcome (MoreCause old text cause)
+-- A call adds this piece to a member and leaves it so, or is refused for a cause and changes nothing.
+abbrev pub Lengthens : Held → Held → Held → Result (Unit {0}) Fault → Piece → Type 0
+Lengthens old new next outcome p = Extends old new next outcome p (no_room old p.text)

@@ -1,6 +1,7 @@
--- One thing that is written: its text, and what it is to read it.
+-- One thing that is written: its text, why it can't be encoded, and what it is to read it.
 use Rattle.std.specs.List.{flat_map, AllByRecursion}
 use Rattle.std.specs.Prelude.{◌≡◌, ℕ, ◌⊎◌, List, [], ◌∷◌, ◌++◌}
+use Rattle.wenc_base.specs.declared.fault.Fault.{Fault}
 
 -- Strict: only the text that is written. Wide: also the other spellings that are allowed.
 pub data Spelling : Type 0 where
@@ -11,9 +12,11 @@ abbrev pub IsWide : Spelling → Type 0
 IsWide Strict = ⊥
 IsWide Wide = Unit {0}
 
--- `Fits`: it has a text. `Reads mode bytes rest`: the bytes begin with a spelling of it, and rest remains.
+-- `Fits`: it has a text. `Cause`: why it can't be encoded. `Reads mode bytes rest`: the bytes begin with a
+-- spelling of it, and rest remains.
 pub record Piece : Type 1 where
   pub Fits : Type 0
+  pub Cause : Fault → Type 0
   pub text : List ℕ
   pub Reads : Spelling → List ℕ → List ℕ → Type 0
 
@@ -24,6 +27,7 @@ Form A = A → Piece
 -- What has no end of its own: it is all of the bytes that it is given.
 pub record Whole : Type 1 where
   pub Fits : Type 0
+  pub Cause : Fault → Type 0
   pub text : List ℕ
   pub ReadsAll : Spelling → List ℕ → Type 0
 
@@ -33,6 +37,7 @@ pub record Whole : Type 1 where
 abbrev pub nothing : Piece
 nothing = record {
   Fits = Unit {0};
+  Cause = λ fault. ⊥;
   text = [];
   Reads = λ mode bytes rest. bytes ≡ rest;
 }
@@ -41,8 +46,18 @@ nothing = record {
 abbrev pub byte : ℕ → Piece
 byte b = record {
   Fits = Unit {0};
+  Cause = λ fault. ⊥;
   text = b ∷ [];
   Reads = λ mode bytes rest. bytes ≡ b ∷ rest;
+}
+
+-- these bytes, whatever they are
+abbrev pub verbatim : List ℕ → Piece
+verbatim bs = record {
+  Fits = Unit {0};
+  Cause = λ fault. ⊥;
+  text = bs;
+  Reads = λ mode bytes rest. bytes ≡ bs ++ rest;
 }
 
 -- a byte that says what comes, then that
@@ -50,14 +65,21 @@ infixr 60 ◌▸◌
 abbrev pub ◌▸◌ : ℕ → Piece → Piece
 b ▸ p = record {
   Fits = p.Fits;
+  Cause = p.Cause;
   text = b ∷ p.text;
   Reads = λ mode bytes rest. (middle : List ℕ) × (bytes ≡ b ∷ middle) × p.Reads mode middle rest;
 }
 
--- the same, with another byte that is read widely
+-- bytes that say what comes, then that
+abbrev pub behind_bytes : List ℕ → Piece → Piece
+behind_bytes [] p = p
+behind_bytes (b ∷ bs) p = b ▸ behind_bytes bs p
+
+-- a byte that says what comes, or another that is read widely, then that
 abbrev pub also : ℕ → ℕ → Piece → Piece
 also b other p = record {
   Fits = p.Fits;
+  Cause = p.Cause;
   text = b ∷ p.text;
   Reads = λ mode bytes rest. (middle : List ℕ) ×
       ((bytes ≡ b ∷ middle) ⊎ (IsWide mode × (bytes ≡ other ∷ middle))) × p.Reads mode middle rest;
@@ -67,6 +89,7 @@ also b other p = record {
 abbrev pub or_widely : Piece → Piece → Piece
 or_widely p q = record {
   Fits = p.Fits;
+  Cause = p.Cause;
   text = p.text;
   Reads = λ mode bytes rest. p.Reads mode bytes rest ⊎ (IsWide mode × q.Reads mode bytes rest);
 }
@@ -76,6 +99,7 @@ infixr 60 ◌⨾◌
 abbrev pub ◌⨾◌ : Piece → Piece → Piece
 p ⨾ q = record {
   Fits = p.Fits × q.Fits;
+  Cause = λ fault. p.Cause fault ⊎ q.Cause fault;
   text = p.text ++ q.text;
   Reads = λ mode bytes rest. (middle : List ℕ) × p.Reads mode bytes middle ×
       q.Reads mode middle rest;
@@ -85,8 +109,18 @@ p ⨾ q = record {
 abbrev pub only_where : Type 0 → Piece → Piece
 only_where P p = record {
   Fits = P × p.Fits;
+  Cause = p.Cause;
   text = p.text;
   Reads = λ mode bytes rest. P × p.Reads mode bytes rest;
+}
+
+-- the same piece, refused for this
+abbrev pub refused_for : (Fault → Type 0) → Piece → Piece
+refused_for cause p = record {
+  Fits = p.Fits;
+  Cause = cause;
+  text = p.text;
+  Reads = p.Reads;
 }
 
 -- what is read for each value, one after the other
@@ -96,10 +130,16 @@ ReadsEach Reads [] bytes rest = bytes ≡ rest
 ReadsEach Reads (v ∷ vs) bytes rest =
     (middle : List ℕ) × Reads v bytes middle × ReadsEach Reads vs middle rest
 
+-- what stands against one of the values
+abbrev pub AnyCause : {A : Type 0} → (A → Fault → Type 0) → List A → Fault → Type 0
+AnyCause cause [] fault = ⊥
+AnyCause cause (v ∷ vs) fault = cause v fault ⊎ AnyCause cause vs fault
+
 -- a piece for each value, one after the other
 abbrev pub each : {A : Type 0} → Form A → Form (List A)
 each form vs = record {
   Fits = AllByRecursion (λ v. (form v).Fits) vs;
+  Cause = AnyCause (λ v. (form v).Cause) vs;
   text = flat_map (λ v. (form v).text) vs;
   Reads = λ mode. ReadsEach (λ v. (form v).Reads mode) vs;
 }
@@ -110,6 +150,7 @@ each form vs = record {
 abbrev pub all_of : Piece → Whole
 all_of p = record {
   Fits = p.Fits;
+  Cause = p.Cause;
   text = p.text;
   ReadsAll = λ mode bytes. p.Reads mode bytes [];
 }
@@ -118,6 +159,7 @@ all_of p = record {
 abbrev pub end : Whole
 end = record {
   Fits = Unit {0};
+  Cause = λ fault. ⊥;
   text = [];
   ReadsAll = λ mode bytes. bytes ≡ [];
 }
@@ -126,6 +168,7 @@ end = record {
 abbrev pub raw : (List ℕ → Type 0) → List ℕ → Whole
 raw P bs = record {
   Fits = P bs;
+  Cause = λ fault. ⊥;
   text = bs;
   ReadsAll = λ mode bytes. P bs × (bytes ≡ bs);
 }
@@ -135,13 +178,15 @@ infixr 60 ◌⨾⨾◌
 abbrev pub ◌⨾⨾◌ : Piece → Whole → Whole
 p ⨾⨾ w = record {
   Fits = p.Fits × w.Fits;
+  Cause = λ fault. p.Cause fault ⊎ w.Cause fault;
   text = p.text ++ w.text;
   ReadsAll = λ mode bytes. (middle : List ℕ) × p.Reads mode bytes middle × w.ReadsAll mode middle;
 }
 
 -- ---- texts
 
--- These bytes have this form: they are the text of a value.
+-- These bytes have this form: they are the text of a value that has one.
 pub record HasForm {A : Type 0} (form : Form A) (bytes : List ℕ) : Type 0 where
   pub value : A
+  pub fits : (form value).Fits
   pub is : bytes ≡ (form value).text

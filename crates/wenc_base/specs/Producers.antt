@@ -1,10 +1,9 @@
 -- Producers sections (tool conventions, "Producers Section").
-use Rattle.std.specs.Prelude.{◌≡◌, ℕ, ◌+◌, ◌≤◌, ◌^◌, ◌⊎◌, List, [], ◌∷◌, ◌++◌, length}
-use Rattle.wenc_base.specs.Piece.{Form, ◌⨾◌, all_of, ◌⨾⨾◌}
-use Rattle.wenc_base.specs.Number.{unsigned_text}
+use Rattle.std.specs.Prelude.{◌≡◌, ℕ, ◌+◌, ◌≤◌, ◌^◌, List, [], ◌∷◌, ◌++◌, length}
+use Rattle.wenc_base.specs.Piece.{Piece, Form, refused_for, ◌⨾◌, all_of, ◌⨾⨾◌}
 use Rattle.wenc_base.specs.Forms.{name, list, sized}
-use Rattle.wenc_base.specs.Fault.{first_of, text_cause}
-use Rattle.wenc_base.specs.Holder.{Held, held_text, content_size, EncodeCause}
+use Rattle.wenc_base.specs.Fault.{either}
+use Rattle.wenc_base.specs.Holder.{Held, held, content_size, EncodeCause}
 use Rattle.wenc_base.specs.declared.fault.Fault.{Fault}
 use Rattle.wenc_base.specs.declared.fault.Fault.TheVariants.{TooLarge}
 
@@ -16,12 +15,6 @@ pub record Producer : Type 0 where
 abbrev pub producer : Form Producer
 producer p = name p.tool ⨾ name p.version
 
-abbrev pub producer_text : Producer → List ℕ
-producer_text p = (producer p).text
-
-abbrev pub producer_cause : Producer → Fault → Type 0
-producer_cause p = first_of (text_cause p.tool) (text_cause p.version)
-
 -- what the tools did, and the tools
 pub record Producers : Type 0 where
   pub field : List ℕ
@@ -29,9 +22,6 @@ pub record Producers : Type 0 where
 
 abbrev pub producers_field : Form Producers
 producers_field f = name f.field ⨾ list producer f.tools
-
-abbrev pub field_text : Producers → List ℕ
-field_text f = (producers_field f).text
 
 -- "producers"
 abbrev pub producers_label : List ℕ
@@ -41,19 +31,15 @@ producers_label = 0x70 ∷ 0x72 ∷ 0x6f ∷ 0x64 ∷ 0x75 ∷ 0x63 ∷ 0x65 ∷
 abbrev pub producers_section : Form (List Producers)
 producers_section fields = sized (name producers_label ⨾⨾ all_of (list producers_field fields))
 
--- its text, where its fields are held
-abbrev pub producers_text : Held → List ℕ
-producers_text h =
-    unsigned_text (10 + content_size h.count (length h.body)) ++
-    ((name producers_label).text ++ held_text h)
+-- the same section, where its fields are held
+abbrev pub producers_held : Held → Piece
+producers_held h = refused_for (EncodeCause h) (sized (name producers_label ⨾⨾ all_of (held h)))
 
 -- a field with the tools that are held
-abbrev pub field_bytes : List ℕ → Held → List ℕ
-field_bytes field tools = (name field).text ++ held_text tools
+abbrev pub held_field : List ℕ → Held → Piece
+held_field field tools = name field ⨾ held tools
 
--- Why such a field can't be added: since the tools are unfinished, for its name, or since the section's size would
--- be no number of 32 bits.
+-- Why such a field can't be added: for its own cause, or since the section's size would be no number of 32 bits.
 abbrev pub FieldCause : Held → List ℕ → Held → Fault → Type 0
-FieldCause h field tools fault = EncodeCause tools fault ⊎ (text_cause field fault
-    ⊎ ((fault ≡ TooLarge) ×
-    (2 ^ 32 ≤ 10 + content_size (h.count + 1) (length (h.body ++ field_bytes field tools)))))
+FieldCause h field tools = either (held_field field tools).Cause (λ fault. (fault ≡ TooLarge) ×
+    (2 ^ 32 ≤ 10 + content_size (h.count + 1) (length (h.body ++ (held_field field tools).text))))

@@ -11,7 +11,7 @@ pub mod Types
 pub mod Composites
 pub mod Entities
 pub mod Sections
-pub mod Causes
+pub mod Serves
 pub mod Holders
 pub mod Members
 pub mod Names

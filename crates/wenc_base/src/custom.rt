@@ -1,4 +1,3 @@
-ghost use Rattle.std.specs.Prelude.{◌≡◌};
 
 use crate::encode::{Encode, Verbatim, extend_in_room};
 use crate::fault::Fault;
@@ -22,11 +21,9 @@ pub struct CustomSection<'a> {
 }
 
 impl<'a> Encode for CustomSection<'a> {
-    ghost use Rattle.wenc_base.specs.Custom.{custom, custom_cause};
+    ghost use Rattle.wenc_base.specs.Custom.{custom};
 
-    ghost text = { λ s. (custom (record { label = s.name.now; bytes = s.data.now })).text };
-
-    ghost cause = { λ s. custom_cause (record { label = s.name.now; bytes = s.data.now }) };
+    ghost piece = { λ s. custom (record { label = s.name.now; bytes = s.data.now }) };
 
     #[tactic(auto, using(crate::proofs::Groups::size_of_u32))]
     fn encode<A: Allocator>(&self, sink: &mut Vec<u8, A>) -> Result<(), Fault> {
@@ -61,9 +58,9 @@ impl<'a> Section for CustomSection<'a> {
 pub struct RawCustomSection<'a>(pub &'a [u8]);
 
 impl<'a> Encode for RawCustomSection<'a> {
-    ghost text = { λ s. s.0.now };
+    ghost use Rattle.wenc_base.specs.Piece.{verbatim};
 
-    ghost cause = { λ _ _. ⊥ };
+    ghost piece = { λ s. verbatim s.0.now };
 
     fn encode<A: Allocator>(&self, sink: &mut Vec<u8, A>) -> Result<(), Fault> {
         Verbatim(self.0).encode(sink)

@@ -1,8 +1,8 @@
-ghost use Rattle.std.specs.Prelude.{◌≡◌, ℕ, ◌+◌, ◌<◌, ◌≤◌, ◌++◌, ◌∷◌, [], List, length, vec_len, vec_capacity};
+ghost use Rattle.std.specs.Prelude.{◌≡◌, ◌+◌, ◌<◌, ◌≤◌, ◌++◌, ◌∷◌, [], length, vec_len, vec_capacity, OnOk};
 ghost use Rattle.wenc_base.specs.Encode.{Appends};
-ghost use Rattle.wenc_base.specs.Fault.{text_cause};
+ghost use Rattle.wenc_base.specs.Fault.{size_cause};
 ghost use Rattle.wenc_base.specs.Number.{number_size, unsigned_text, signed_text};
-ghost use Rattle.wenc_base.specs.declared.fault.Fault.{Fault as FaultSpec};
+ghost use Rattle.wenc_base.specs.Piece.{Piece};
 
 mod front;
 mod lists;
@@ -23,27 +23,25 @@ use std::alloc::Allocator;
 /// [1u32, 2].as_slice().encode(&mut sink)?;
 /// ```
 pub trait Encode {
-    /// The bytes of the value.
-    ghost text: { Self → List ℕ };
-
-    /// Why the value can't be encoded.
-    ghost cause: { Self → FaultSpec → Type 0 };
+    /// The bytes of the value, and why it can't be encoded.
+    ghost piece: { Self → Piece };
 
     /// The value has something in it that was begun and not ended, which is reported before all else.
     ghost unfinished: { Self → Type 0 } = { λ _. ⊥ };
 
     /// Appends the text to the sink. It is refused for want of memory, or where the value has a cause,
-    /// and then the sink stays as it was.
+    /// and then the sink stays as it was. Where it is accepted the value fits.
     fn encode<A: Allocator>(&self, sink: &mut Vec<u8, A>) -> Result<(), Fault>
-        ensures { Appends (text self.now) (cause self.now) (unfinished self.now)
-            sink.old.items sink.new.items result };
+        ensures appended { Appends (piece self.now).text (piece self.now).Cause
+            (unfinished self.now) sink.old.items sink.new.items result }
+        ensures fits { OnOk result (piece self.now).Fits };
 }
 
 /// Nothing: no byte.
 impl Encode for () {
-    ghost text = { λ _. [] };
+    ghost use Rattle.wenc_base.specs.Piece.{nothing};
 
-    ghost cause = { λ _ _. ⊥ };
+    ghost piece = { λ _. nothing };
 
     fn encode<A: Allocator>(&self, _sink: &mut Vec<u8, A>) -> Result<(), Fault> {
         Ok(())
@@ -53,9 +51,7 @@ impl Encode for () {
 impl Encode for bool {
     ghost use Rattle.wenc_base.specs.Forms.{flag};
 
-    ghost text = { λ b. (flag b).text };
-
-    ghost cause = { λ _ _. ⊥ };
+    ghost piece = { λ b. flag b };
 
     fn encode<A: Allocator>(&self, sink: &mut Vec<u8, A>) -> Result<(), Fault> {
         sink.push(u8::from(*self))?;
@@ -66,9 +62,7 @@ impl Encode for bool {
 impl Encode for u32 {
     ghost use Rattle.wenc_base.specs.Number.{u32 as number};
 
-    ghost text = { λ n. (number n).text };
-
-    ghost cause = { λ _ _. ⊥ };
+    ghost piece = { λ n. number n };
 
     fn encode<A: Allocator>(&self, sink: &mut Vec<u8, A>) -> Result<(), Fault> {
         encode_number(u64::from(*self), sink)
@@ -78,9 +72,7 @@ impl Encode for u32 {
 impl Encode for u64 {
     ghost use Rattle.wenc_base.specs.Number.{u64 as long_number};
 
-    ghost text = { λ n. (long_number n).text };
-
-    ghost cause = { λ _ _. ⊥ };
+    ghost piece = { λ n. long_number n };
 
     fn encode<A: Allocator>(&self, sink: &mut Vec<u8, A>) -> Result<(), Fault> {
         encode_number(*self, sink)
@@ -89,12 +81,9 @@ impl Encode for u64 {
 
 /// A number of 32 bits. Another is refused with `TooMany`.
 impl Encode for usize {
-    ghost use Rattle.wenc_base.specs.Number.{u32 as number};
-    ghost use Rattle.wenc_base.specs.Fault.{count_cause};
+    ghost use Rattle.wenc_base.specs.Number.{count};
 
-    ghost text = { λ n. (number n).text };
-
-    ghost cause = { count_cause };
+    ghost piece = { count };
 
     fn encode<A: Allocator>(&self, sink: &mut Vec<u8, A>) -> Result<(), Fault> {
         match u32::try_from(*self) {
@@ -105,11 +94,9 @@ impl Encode for usize {
 }
 
 impl Encode for i64 {
-    ghost use Rattle.wenc_base.specs.Number.{signed_text};
+    ghost use Rattle.wenc_base.specs.Number.{i64 as signed_number};
 
-    ghost text = { signed_text };
-
-    ghost cause = { λ _ _. ⊥ };
+    ghost piece = { signed_number };
 
     #[tactic(auto, using(crate::proofs::Groups::signed_below, crate::proofs::Groups::signed_2, crate::proofs::Groups::signed_3))]
     fn encode<A: Allocator>(&self, sink: &mut Vec<u8, A>) -> Result<(), Fault> {
@@ -152,11 +139,8 @@ fn encode_long_signed<A: Allocator>(n: i64, sink: &mut Vec<u8, A>) -> Result<(),
 
 impl Encode for &str {
     ghost use Rattle.wenc_base.specs.Forms.{name};
-    ghost use Rattle.wenc_base.specs.Fault.{text_cause};
 
-    ghost text = { λ s. (name s.now).text };
-
-    ghost cause = { λ s. text_cause s.now };
+    ghost piece = { λ s. name s.now };
 
     fn encode<A: Allocator>(&self, sink: &mut Vec<u8, A>) -> Result<(), Fault> {
         encode_bytes(self.as_bytes(), sink)
@@ -167,9 +151,7 @@ impl<A: Allocator> Encode for String<A> {
     ghost use Rattle.std.specs.String.{string_bytes};
     ghost use Rattle.wenc_base.specs.Forms.{name};
 
-    ghost text = { λ s. (name (string_bytes s)).text };
-
-    ghost cause = { λ s. text_cause (string_bytes s) };
+    ghost piece = { λ s. name (string_bytes s) };
 
     fn encode<B: Allocator>(&self, sink: &mut Vec<u8, B>) -> Result<(), Fault> {
         self.as_str().encode(sink)
@@ -178,11 +160,8 @@ impl<A: Allocator> Encode for String<A> {
 
 impl Encode for &[u8] {
     ghost use Rattle.wenc_base.specs.Forms.{byte_list};
-    ghost use Rattle.wenc_base.specs.Fault.{text_cause};
 
-    ghost text = { λ bytes. (byte_list bytes.now).text };
-
-    ghost cause = { λ bytes. text_cause bytes.now };
+    ghost piece = { λ bytes. byte_list bytes.now };
 
     fn encode<A: Allocator>(&self, sink: &mut Vec<u8, A>) -> Result<(), Fault> {
         encode_bytes(self, sink)
@@ -192,8 +171,8 @@ impl Encode for &[u8] {
 /// Appends the number of bytes, and the bytes, in one growth.
 #[tactic(auto, using(crate::proofs::Groups::groups_below))]
 fn encode_bytes<A: Allocator>(bytes: &[u8], sink: &mut Vec<u8, A>) -> Result<(), Fault>
-    ensures { Appends (unsigned_text (length bytes.now) ++ bytes.now) (text_cause bytes.now) ⊥
-        sink.old.items sink.new.items result }
+    ensures { Appends (unsigned_text (length bytes.now) ++ bytes.now) (size_cause (length bytes.now))
+        ⊥ sink.old.items sink.new.items result }
 {
     if let [byte] = bytes {
         sink.extend_from_slice(&[1, *byte])?;
@@ -212,8 +191,8 @@ fn encode_bytes<A: Allocator>(bytes: &[u8], sink: &mut Vec<u8, A>) -> Result<(),
 #[cold]
 #[inline(never)]
 fn encode_long_bytes<A: Allocator>(bytes: &[u8], sink: &mut Vec<u8, A>) -> Result<(), Fault>
-    ensures { Appends (unsigned_text (length bytes.now) ++ bytes.now) (text_cause bytes.now) ⊥
-        sink.old.items sink.new.items result }
+    ensures { Appends (unsigned_text (length bytes.now) ++ bytes.now) (size_cause (length bytes.now))
+        ⊥ sink.old.items sink.new.items result }
 {
     let Ok(len) = u32::try_from(bytes.len()) else {
         return Err(Fault::TooLarge);
@@ -345,9 +324,9 @@ pub struct Tagged<'a, T>(pub u8, pub &'a T);
 /// The value's own refusal comes before that of the byte, so that an unfinished value is always
 /// answered as such: where the sink is full, the value is written first.
 impl<'a, T: Encode> Encode for Tagged<'a, T> {
-    ghost text = { λ t. t.0 ∷ T.text t.1.now };
+    ghost use Rattle.wenc_base.specs.Piece.{◌▸◌};
 
-    ghost cause = { λ t. T.cause t.1.now };
+    ghost piece = { λ t. t.0 ▸ T.piece t.1.now };
 
     ghost unfinished = { λ t. T.unfinished t.1.now };
 
@@ -371,11 +350,9 @@ impl<'a, T: Encode> Encode for Tagged<'a, T> {
 /// A byte `00`, or a byte `01` and a value.
 impl<T: Encode> Encode for Option<T> {
     ghost use Rattle.std.specs.Prelude.{Some};
-    ghost use Rattle.wenc_base.specs.Forms.{option_text};
+    ghost use Rattle.wenc_base.specs.Forms.{option};
 
-    ghost text = { option_text T.text };
-
-    ghost cause = { λ o fault. (x : T) × (o ≡ Some x) × T.cause x fault };
+    ghost piece = { option T.piece };
 
     ghost unfinished = { λ o. (x : T) × (o ≡ Some x) × T.unfinished x };
 
@@ -392,11 +369,9 @@ impl<T: Encode> Encode for Option<T> {
 
 /// One value, then another. The first refusal that is met is answered.
 impl<T: Encode, U: Encode> Encode for (T, U) {
-    ghost use Rattle.wenc_base.specs.Fault.{first_of};
+    ghost use Rattle.wenc_base.specs.Encode.{in_order};
 
-    ghost text = { λ p. T.text p.0 ++ U.text p.1 };
-
-    ghost cause = { λ p. first_of (T.cause p.0) (U.cause p.1) };
+    ghost piece = { λ p. in_order (T.piece p.0) (U.piece p.1) };
 
     ghost unfinished = { λ p. T.unfinished p.0 };
 
@@ -415,11 +390,9 @@ impl<T: Encode, U: Encode> Encode for (T, U) {
 
 /// Three values, one after the other. The first refusal that is met is answered.
 impl<T: Encode, U: Encode, V: Encode> Encode for (T, U, V) {
-    ghost use Rattle.wenc_base.specs.Fault.{first_of};
+    ghost use Rattle.wenc_base.specs.Encode.{in_order};
 
-    ghost text = { λ t. T.text t.0 ++ (U.text t.1 ++ V.text t.2) };
-
-    ghost cause = { λ t. first_of (T.cause t.0) (first_of (U.cause t.1) (V.cause t.2)) };
+    ghost piece = { λ t. in_order (T.piece t.0) (in_order (U.piece t.1) (V.piece t.2)) };
 
     ghost unfinished = { λ t. T.unfinished t.0 };
 
@@ -433,9 +406,7 @@ impl<T: Encode, U: Encode, V: Encode> Encode for (T, U, V) {
 pub struct Lent<'a, T>(pub &'a T);
 
 impl<'a, T: Encode> Encode for Lent<'a, T> {
-    ghost text = { λ l. T.text l.0.now };
-
-    ghost cause = { λ l. T.cause l.0.now };
+    ghost piece = { λ l. T.piece l.0.now };
 
     ghost unfinished = { λ l. T.unfinished l.0.now };
 
@@ -449,9 +420,9 @@ impl<'a, T: Encode> Encode for Lent<'a, T> {
 pub struct Verbatim<'a>(pub &'a [u8]);
 
 impl<'a> Encode for Verbatim<'a> {
-    ghost text = { λ v. v.0.now };
+    ghost use Rattle.wenc_base.specs.Piece.{verbatim};
 
-    ghost cause = { λ _ _. ⊥ };
+    ghost piece = { λ v. verbatim v.0.now };
 
     fn encode<A: Allocator>(&self, sink: &mut Vec<u8, A>) -> Result<(), Fault> {
         sink.extend_from_slice(self.0)?;

@@ -1,6 +1,7 @@
-ghost use Rattle.std.specs.Prelude.{◌≡◌, refl};
+ghost use Rattle.std.specs.Prelude.{◌≡◌};
 ghost use Rattle.wenc_base.specs.Exports.{export_kind_byte};
 ghost use Rattle.wenc_base.specs.laws.Delimited.{itself};
+ghost use Rattle.wenc_base.specs.laws.Serves.{serves_itself};
 
 use crate::delimited::{Delimited, DelimitedEq};
 use crate::encode::Encode;
@@ -33,9 +34,7 @@ fn kind_byte(kind: ExportKind) -> u8
 impl Encode for ExportKind {
     ghost use Rattle.wenc_base.specs.Exports.{export_kind};
 
-    ghost text = { λ kind. (export_kind kind).text };
-
-    ghost cause = { λ _ _. ⊥ };
+    ghost piece = { λ kind. export_kind kind };
 
     fn encode<A: Allocator>(&self, sink: &mut Vec<u8, A>) -> Result<(), Fault> {
         sink.push(kind_byte(*self))?;
@@ -54,13 +53,9 @@ impl Delimited for ExportKind {
 
     ghost form = { export_kind };
 
-    fn belongs(&self) {}
-
     ghost readable = { ((λ fuel. read_export_kind), export_kind_lawful) };
 
-    ghost text_of = { λ kind. refl };
-
-    ghost free = { λ kind h fault cause. cause };
+    ghost written = { λ _. serves_itself };
 }
 
 impl DelimitedEq for ExportKind {

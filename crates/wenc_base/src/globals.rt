@@ -1,5 +1,5 @@
-ghost use Rattle.std.specs.Prelude.{◌≡◌, refl};
 ghost use Rattle.wenc_base.specs.laws.Delimited.{itself};
+ghost use Rattle.wenc_base.specs.laws.Serves.{serves_itself};
 
 use crate::delimited::{Delimited, DelimitedEq};
 use crate::encode::Encode;
@@ -19,9 +19,7 @@ pub struct GlobalType {
 impl Encode for GlobalType {
     ghost use Rattle.wenc_base.specs.Entities.{global_type};
 
-    ghost text = { λ g. (global_type g).text };
-
-    ghost cause = { λ _ _. ⊥ };
+    ghost piece = { λ g. global_type g };
 
     fn encode<A: Allocator>(&self, sink: &mut Vec<u8, A>) -> Result<(), Fault> {
         (self.val_type, self.mutable).encode(sink)
@@ -39,16 +37,9 @@ impl Delimited for GlobalType {
 
     ghost form = { global_type };
 
-    fn belongs(&self) {
-        self.val_type.belongs();
-        self.mutable.belongs();
-    }
-
     ghost readable = { ((λ fuel. read_global_type), global_type_lawful) };
 
-    ghost text_of = { λ x. refl };
-
-    ghost free = { λ x h fault cause. cause };
+    ghost written = { λ _. serves_itself };
 }
 
 impl DelimitedEq for GlobalType {

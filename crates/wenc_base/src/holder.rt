@@ -3,7 +3,9 @@ ghost use Rattle.std.specs.Iterator.{IsFinite};
 ghost use Rattle.std.specs.Iterator.Runs.{SomeRun, WholeRun};
 ghost use Rattle.wenc_base.specs.Encode.{Appends};
 ghost use Rattle.wenc_base.specs.Fault.{IsWarranted, IsMemory};
-ghost use Rattle.wenc_base.specs.Holder.{no_members, all_bytes, holding, is_finished, as_they_are, content_size, section_text, held_text, cut_to, CountCause, AddsMember, AddsListed, listed_text, listed_cause, EncodeCause};
+ghost use Rattle.wenc_base.specs.Holder.{no_members, all_bytes, holding, is_finished, content_size, section_text, cut_to, CountCause, AddsMember, AddsListed, listed, held, EncodeCause};
+ghost use Rattle.wenc_base.specs.Lender.{Extended};
+ghost use Rattle.wenc_base.specs.Piece.{verbatim};
 ghost use Rattle.wenc_base.specs.declared.fault.Fault.{Fault as FaultSpec};
 ghost use Rattle.wenc_base.specs.declared.fault.Fault.TheVariants.{TooLarge, Unfinished};
 
@@ -160,15 +162,14 @@ impl<A: Allocator> Holder<A> {
     /// Adds one member with this text, as it is. It is refused where there would be too many members
     /// (`TooMany`), or too many bytes with those of their number (`TooLarge`).
     pub fn add(&mut self, text: &[u8]) -> Result<(), Fault>
-        ensures { AddsMember as_they_are self.old self.new result (λ _. ⊥) text.now }
+        ensures { AddsMember (verbatim text.now) self.old self.new result }
     {
         self.add_encoded(&Verbatim(text))
     }
 
     /// Adds one member with the text of this value. It is refused as `add` is, or as the value is.
     pub fn add_encoded<E: Encode>(&mut self, value: &E) -> Result<(), Fault>
-        ensures added { AddsMember as_they_are self.old self.new result
-            (E.cause value.now) (E.text value.now) }
+        ensures added { AddsMember (E.piece value.now) self.old self.new result }
         ensures unfinished_value { E.unfinished value.now → result ≡ Err Unfinished }
     {
         if !self.is_finished() {
@@ -190,9 +191,8 @@ impl<A: Allocator> Holder<A> {
     ) -> Result<(), Fault>
         requires can { I.can_next values }
         requires ends { IsFinite (I.remaining values) }
-        ensures added { AddsListed I.next_gives values as_they_are self.old self.new result
-            (listed_cause (E.cause lead.now) T.cause (F.cause tail.now))
-            (listed_text (E.text lead.now) T.text (F.text tail.now)) }
+        ensures added { AddsListed I.next_gives values
+            (listed (E.piece lead.now) T.piece (F.piece tail.now)) self.old self.new result }
         ensures unfinished_lead { E.unfinished lead.now → result ≡ Err Unfinished }
     {
         if !self.is_finished() {
@@ -240,9 +240,7 @@ impl<A: Allocator> Holder<A> {
 
 /// The number of members, and their texts. A finished one is refused for want of memory alone.
 impl<A: Allocator> Encode for Holder<A> {
-    ghost text = { λ h. held_text h };
-
-    ghost cause = { λ h. EncodeCause h };
+    ghost piece = { held };
 
     ghost unfinished = { λ h. is_finished h ≡ false };
 
@@ -264,13 +262,12 @@ fn encode_listed<
 >(lead: &E, values: I, tail: &F, sink: &mut Vec<u8, A>) -> Result<(), Fault>
     requires can { I.can_next values }
     requires ends { IsFinite (I.remaining values) }
-    ensures ok { OnOk result (WholeRun I.next_gives values (λ run. (sink.new.items
-        ≡ sink.old.items ++ listed_text (E.text lead.now) T.text (F.text tail.now) run.items)
-        × ((fault : FaultSpec)
-        → listed_cause (E.cause lead.now) T.cause (F.cause tail.now) run.items fault → ⊥))) }
+    ensures ok { OnOk result (WholeRun I.next_gives values (λ run.
+        Extended sink.new.items (λ bytes. sink.old.items ++ bytes) (λ _ _. ⊥)
+        (listed (E.piece lead.now) T.piece (F.piece tail.now) run.items))) }
     ensures err { OnErr result (sink.new.items ≡ sink.old.items) }
-    ensures warranted { IfErr result (λ fault. SomeRun I.next_gives values (λ run.
-        IsWarranted (listed_cause (E.cause lead.now) T.cause (F.cause tail.now) run.items) fault)) }
+    ensures warranted { IfErr result (λ fault. SomeRun I.next_gives values (λ run. IsWarranted
+        (listed (E.piece lead.now) T.piece (F.piece tail.now) run.items).Cause fault)) }
     ensures unfinished_first { E.unfinished lead.now → result ≡ Err Unfinished }
 {
     let start = sink.len();

@@ -1,5 +1,5 @@
-ghost use Rattle.std.specs.Prelude.{◌≡◌, refl};
 ghost use Rattle.wenc_base.specs.laws.Delimited.{itself};
+ghost use Rattle.wenc_base.specs.laws.Serves.{serves_itself};
 
 use crate::delimited::{Delimited, DelimitedEq};
 use crate::encode::{Encode, Tagged};
@@ -28,9 +28,7 @@ pub enum EntityType {
 impl Encode for EntityType {
     ghost use Rattle.wenc_base.specs.Entities.{entity_type};
 
-    ghost text = { λ e. (entity_type e).text };
-
-    ghost cause = { λ _ _. ⊥ };
+    ghost piece = { λ e. entity_type e };
 
     fn encode<A: Allocator>(&self, sink: &mut Vec<u8, A>) -> Result<(), Fault> {
         match self {
@@ -54,21 +52,9 @@ impl Delimited for EntityType {
 
     ghost form = { entity_type };
 
-    fn belongs(&self) {
-        match self {
-            EntityType::Function(index) => index.belongs(),
-            EntityType::Table(ty) => ty.belongs(),
-            EntityType::Memory(ty) => ty.belongs(),
-            EntityType::Global(ty) => ty.belongs(),
-            EntityType::Tag(ty) => ty.belongs(),
-        }
-    }
-
     ghost readable = { ((λ fuel. read_entity_type), entity_type_lawful) };
 
-    ghost text_of = { λ x. refl };
-
-    ghost free = { λ x h fault cause. cause };
+    ghost written = { λ _. serves_itself };
 }
 
 impl DelimitedEq for EntityType {

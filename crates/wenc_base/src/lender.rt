@@ -1,9 +1,9 @@
 //! What encoders borrow: a holder, or a type, a section or a builder that has one.
 ghost use Rattle.std.specs.Iterator.{IsFinite};
 ghost use Rattle.std.specs.Prelude.{◌≡◌, ℕ, List, ◌++◌, Bool, true, false};
-ghost use Rattle.wenc_base.specs.Fault.{drawn_cause};
-ghost use Rattle.wenc_base.specs.Forms.{list_text};
-ghost use Rattle.wenc_base.specs.Lender.{either, Extends, ExtendsListed, Ends, EndsListed, MakesWhole};
+ghost use Rattle.wenc_base.specs.Forms.{list};
+ghost use Rattle.wenc_base.specs.Lender.{Extends, ExtendsListed, Ends, EndsListed, MakesWhole};
+ghost use Rattle.wenc_base.specs.Piece.{behind_bytes};
 ghost use Rattle.wenc_base.specs.declared.fault.Fault.{Fault as FaultSpec};
 ghost use Rattle.wenc_base.specs.declared.fault.Fault.TheVariants.{Unfinished};
 
@@ -47,8 +47,8 @@ pub trait Lender {
     /// Adds the text of a value to the member. A refused call changes nothing.
     fn append_value<E: Encode>(&mut self, value: &E) -> Result<(), Fault>
         requires { finished self.old ≡ false }
-        ensures appended { Extends self.old self.new (written self.old (E.text value.now)) result
-            (either (E.cause value.now) (refuses self.old (E.text value.now))) }
+        ensures appended { Extends self.old self.new (written self.old (E.piece value.now).text) result
+            (E.piece value.now) (refuses self.old (E.piece value.now).text) }
         ensures unfinished_value { E.unfinished value.now → result ≡ Err Unfinished };
 
     /// Adds these bytes to the member, then the values as a list. A refused call changes nothing.
@@ -61,7 +61,7 @@ pub trait Lender {
         requires can { I.can_next values }
         requires ends { IsFinite (I.remaining values) }
         ensures { ExtendsListed I.next_gives values self.old self.new result (written self.old)
-            (refuses self.old) (drawn_cause T.cause) (λ vs. lead.now ++ list_text T.text vs) };
+            (refuses self.old) (λ vs. behind_bytes lead.now (list T.piece vs)) };
 
     /// Ends the member, which is whole. It takes no memory.
     fn end_member(&mut self)
@@ -71,9 +71,9 @@ pub trait Lender {
     /// Adds the text of a value to the member, which is whole then, and ends it. A refused call changes nothing.
     fn end_with<E: Encode>(&mut self, value: &E) -> Result<(), Fault>
         requires unfinished { finished self.old ≡ false }
-        requires whole { MakesWhole is_whole written self.old (E.text value.now) }
+        requires whole { MakesWhole is_whole written self.old (E.piece value.now) }
         ensures ended { Ends written Self.ended refuses self.old self.new result
-            (E.cause value.now) (E.text value.now) }
+            (E.piece value.now) }
         ensures unfinished_value { E.unfinished value.now → result ≡ Err Unfinished }
     {
         self.append_value(value)?;
@@ -90,11 +90,11 @@ pub trait Lender {
     ) -> Result<(), Fault>
         requires unfinished { finished self.old ≡ false }
         requires whole { (vs : List T)
-            → MakesWhole is_whole written self.old (lead.now ++ list_text T.text vs) }
+            → MakesWhole is_whole written self.old (behind_bytes lead.now (list T.piece vs)) }
         requires can { I.can_next values }
         requires ends { IsFinite (I.remaining values) }
         ensures { EndsListed written Self.ended refuses I.next_gives values self.old self.new
-            result (drawn_cause T.cause) (λ vs. lead.now ++ list_text T.text vs) }
+            result (λ vs. behind_bytes lead.now (list T.piece vs)) }
     {
         self.append_list(lead, values)?;
         self.end_member();

@@ -22,9 +22,7 @@ pub struct Limits {
 impl Encode for Limits {
     ghost use Rattle.wenc_base.specs.Entities.{limits};
 
-    ghost text = { λ l. (limits l.is_shared l.is_long l.minimum l.maximum).text };
-
-    ghost cause = { λ _ _. ⊥ };
+    ghost piece = { λ l. limits l.is_shared l.is_long l.minimum l.maximum };
 
     fn encode<A: Allocator>(&self, sink: &mut Vec<u8, A>) -> Result<(), Fault> {
         match self.maximum {

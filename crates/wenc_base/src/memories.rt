@@ -1,5 +1,5 @@
-ghost use Rattle.std.specs.Prelude.{◌≡◌, refl};
 ghost use Rattle.wenc_base.specs.laws.Delimited.{itself};
+ghost use Rattle.wenc_base.specs.laws.Serves.{serves_itself};
 
 use crate::delimited::{Delimited, DelimitedEq};
 use crate::encode::Encode;
@@ -23,9 +23,7 @@ pub struct MemoryType {
 impl Encode for MemoryType {
     ghost use Rattle.wenc_base.specs.Entities.{memory_type};
 
-    ghost text = { λ m. (memory_type m).text };
-
-    ghost cause = { λ _ _. ⊥ };
+    ghost piece = { λ m. memory_type m };
 
     fn encode<A: Allocator>(&self, sink: &mut Vec<u8, A>) -> Result<(), Fault> {
         let limits = Limits {
@@ -49,19 +47,9 @@ impl Delimited for MemoryType {
 
     ghost form = { memory_type };
 
-    #[tactic(auto, using(crate::specs::laws::Entities::limits_fit))]
-    fn belongs(&self) {
-        self.minimum.belongs();
-        if let Some(maximum) = self.maximum {
-            maximum.belongs();
-        }
-    }
-
     ghost readable = { ((λ fuel. read_memory_type), memory_type_lawful) };
 
-    ghost text_of = { λ x. refl };
-
-    ghost free = { λ x h fault cause. cause };
+    ghost written = { λ _. serves_itself };
 }
 
 impl DelimitedEq for MemoryType {

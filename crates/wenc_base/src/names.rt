@@ -1,7 +1,7 @@
 ghost use Rattle.std.specs.Prelude.{◌≡◌, ◌==◌, ◌<◌, ◌≤◌, ◌^◌, [], length, IfOk, IfErr};
-ghost use Rattle.wenc_base.specs.Fault.{IsMemory, text_cause};
+ghost use Rattle.wenc_base.specs.Fault.{IsMemory};
 ghost use Rattle.wenc_base.specs.Holder.{no_members, holding, held_text, cut_to, AddsMember};
-ghost use Rattle.wenc_base.specs.Names.{Named, named_text};
+ghost use Rattle.wenc_base.specs.Names.{Named, named};
 
 use crate::encode::{Encode, Verbatim, extend_in_room, number_in_room, short_number_in_room};
 use crate::fault::Fault;
@@ -56,7 +56,7 @@ impl<A: Allocator> NameMap<A> {
     #[tactic(auto, using(crate::proofs::Groups::size_of_u32))]
     pub fn append(&mut self, idx: u32, name: &str) -> Result<(), Fault>
         ensures { let entry : Named = record { place = idx; name = name.now } in
-            AddsMember named_text self.old self.new result (text_cause name.now) entry }
+            AddsMember (named entry) self.old self.new result }
     {
         if name.len() < 1 << 7 && self.names.len() < NEARLY_FULL && self.count < u32::MAX {
             self.names.try_reserve(6 + name.len())?;
@@ -75,7 +75,7 @@ impl<A: Allocator> NameMap<A> {
     #[inline(never)]
     fn append_long(&mut self, idx: u32, name: &str) -> Result<(), Fault>
         ensures { let entry : Named = record { place = idx; name = name.now } in
-            AddsMember named_text self.old self.new result (text_cause name.now) entry }
+            AddsMember (named entry) self.old self.new result }
     {
         let body = self.names.len();
         let Ok(len) = u32::try_from(name.len()) else {
@@ -150,11 +150,10 @@ impl<A: Allocator> NameMap<A> {
 
 /// How many names there are, then each behind its index. It is refused for want of memory alone.
 impl<A: Allocator> Encode for NameMap<A> {
-    ghost text = { λ m. held_text m };
+    ghost use Rattle.wenc_base.specs.Piece.{verbatim};
 
-    ghost cause = { λ _ _. ⊥ };
+    ghost piece = { λ m. verbatim (held_text m) };
 
-    #[tactic(auto, using(crate::specs::laws::Causes::behind))]
     fn encode<B: Allocator>(&self, sink: &mut Vec<u8, B>) -> Result<(), Fault> {
         (self.count, Verbatim(self.names.as_slice())).encode(sink)
     }

@@ -1,8 +1,9 @@
 ghost use Rattle.std.specs.Prelude.{◌≡◌, ◌<◌, ◌+◌, ◌^◌, List, false, length, IfOk, IfErr};
 ghost use Rattle.wenc_base.specs.Fault.{IsMemory};
-ghost use Rattle.wenc_base.specs.Holder.{no_members, is_finished, held_text, EncodeCause, Contains, AddsMember, as_they_are};
+ghost use Rattle.wenc_base.specs.Holder.{no_members, is_finished, held, Contains, AddsMember};
+ghost use Rattle.wenc_base.specs.Piece.{refused_for};
 ghost use Rattle.wenc_base.specs.declared.fault.Fault.TheVariants.{Unfinished};
-ghost use Rattle.wenc_base.specs.Producers.{Producer, producer_text, producer_cause, field_text, producers_text, FieldCause, field_bytes};
+ghost use Rattle.wenc_base.specs.Producers.{Producer, producer, producers_field, producers_held, FieldCause, held_field};
 
 use crate::encode::{Encode, Lent};
 use crate::fault::Fault;
@@ -44,7 +45,7 @@ impl<A: Allocator> ProducersField<A> {
     #[tactic(auto, using(crate::specs::laws::Holders::adds_as))]
     pub fn value(&mut self, name: &str, version: &str) -> Result<(), Fault>
         ensures { let tool : Producer = record { tool = name.now; version = version.now } in
-            AddsMember producer_text self.old self.new result (producer_cause tool) tool }
+            AddsMember (producer tool) self.old self.new result }
     {
         self.values.add_encoded(&(name, version))
     }
@@ -63,9 +64,7 @@ impl<A: Allocator> ProducersField<A> {
 
 /// The number of tools, and each. A finished one is refused for want of memory alone.
 impl<A: Allocator> Encode for ProducersField<A> {
-    ghost text = { λ f. held_text f };
-
-    ghost cause = { λ f. EncodeCause f };
+    ghost piece = { held };
 
     ghost unfinished = { λ f. is_finished f ≡ false };
 
@@ -118,11 +117,12 @@ impl<A: Allocator> ProducersSection<A> {
         name: &str,
         field: &ProducersField<B>,
     ) -> Result<(), Fault>
-        ensures added { (tools : List Producer) → Contains producer_text field.now tools
-            → AddsMember field_text self.old self.new result
-            (FieldCause self.old name.now field.now) (record { field = name.now; tools = tools }) }
-        ensures bytes { AddsMember as_they_are self.old self.new result
-            (FieldCause self.old name.now field.now) (field_bytes name.now field.now) }
+        ensures added { (tools : List Producer) → Contains producer field.now tools
+            → AddsMember (refused_for (FieldCause self.old name.now field.now)
+            (producers_field (record { field = name.now; tools = tools })))
+            self.old self.new result }
+        ensures bytes { AddsMember (refused_for (FieldCause self.old name.now field.now)
+            (held_field name.now field.now)) self.old self.new result }
         ensures unfinished_field { is_finished field.now ≡ false → result ≡ Err Unfinished }
     {
         self.add_field(name, field)
@@ -133,8 +133,8 @@ impl<A: Allocator> ProducersSection<A> {
         name: &str,
         field: &ProducersField<B>,
     ) -> Result<(), Fault>
-        ensures added { AddsMember as_they_are self.old self.new result
-            (FieldCause self.old name.now field.now) (field_bytes name.now field.now) }
+        ensures added { AddsMember (refused_for (FieldCause self.old name.now field.now)
+            (held_field name.now field.now)) self.old self.new result }
         ensures unfinished_field { is_finished field.now ≡ false → result ≡ Err Unfinished }
     {
         if !field.values.is_finished() {
@@ -165,9 +165,7 @@ impl<A: Allocator> ProducersSection<A> {
 
 /// A finished one is refused for want of memory alone.
 impl<A: Allocator> Encode for ProducersSection<A> {
-    ghost text = { λ s. producers_text s };
-
-    ghost cause = { λ s. EncodeCause s };
+    ghost piece = { producers_held };
 
     ghost unfinished = { λ s. is_finished s ≡ false };
 

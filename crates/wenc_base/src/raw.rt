@@ -1,4 +1,3 @@
-ghost use Rattle.std.specs.Prelude.{◌≡◌};
 
 use crate::encode::Encode;
 use crate::fault::Fault;
@@ -17,11 +16,8 @@ pub struct RawSection<'a> {
 
 impl<'a> Encode for RawSection<'a> {
     ghost use Rattle.wenc_base.specs.Forms.{byte_list};
-    ghost use Rattle.wenc_base.specs.Fault.{text_cause};
 
-    ghost text = { λ s. (byte_list s.data.now).text };
-
-    ghost cause = { λ s. text_cause s.data.now };
+    ghost piece = { λ s. byte_list s.data.now };
 
     fn encode<A: Allocator>(&self, sink: &mut Vec<u8, A>) -> Result<(), Fault> {
         self.data.encode(sink)

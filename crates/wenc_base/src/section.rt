@@ -1,5 +1,6 @@
-ghost use Rattle.std.specs.Prelude.{◌≡◌, ℕ, ◌∷◌};
+ghost use Rattle.std.specs.Prelude.{◌≡◌, ℕ, OnOk};
 ghost use Rattle.wenc_base.specs.Encode.{Appends};
+ghost use Rattle.wenc_base.specs.Piece.{◌▸◌};
 
 use crate::encode::{Encode, Tagged};
 use crate::fault::Fault;
@@ -20,8 +21,10 @@ pub trait Section: Encode {
     fn append_to<A: Allocator>(&self, sink: &mut Vec<u8, A>) -> Result<(), Fault>
     where
         Self: Sized,
-        ensures { Appends (section_id self.now ∷ Self.text self.now) (Self.cause self.now)
-            (Self.unfinished self.now) sink.old.items sink.new.items result }
+        ensures appended { Appends (section_id self.now ▸ Self.piece self.now).text
+            (Self.piece self.now).Cause (Self.unfinished self.now)
+            sink.old.items sink.new.items result }
+        ensures fits { OnOk result (Self.piece self.now).Fits }
     {
         Tagged(self.id(), self).encode(sink)
     }

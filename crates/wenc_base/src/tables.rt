@@ -1,5 +1,5 @@
-ghost use Rattle.std.specs.Prelude.{◌≡◌, refl};
 ghost use Rattle.wenc_base.specs.laws.Delimited.{itself};
+ghost use Rattle.wenc_base.specs.laws.Serves.{serves_itself};
 
 use crate::delimited::{Delimited, DelimitedEq};
 use crate::encode::Encode;
@@ -24,9 +24,7 @@ pub struct TableType {
 impl Encode for TableType {
     ghost use Rattle.wenc_base.specs.Entities.{table_type};
 
-    ghost text = { λ t. (table_type t).text };
-
-    ghost cause = { λ _ _. ⊥ };
+    ghost piece = { λ t. table_type t };
 
     fn encode<A: Allocator>(&self, sink: &mut Vec<u8, A>) -> Result<(), Fault> {
         let limits = Limits {
@@ -50,20 +48,9 @@ impl Delimited for TableType {
 
     ghost form = { table_type };
 
-    #[tactic(auto, using(crate::specs::laws::Entities::limits_fit))]
-    fn belongs(&self) {
-        self.element_type.belongs();
-        self.minimum.belongs();
-        if let Some(maximum) = self.maximum {
-            maximum.belongs();
-        }
-    }
-
     ghost readable = { ((λ fuel. read_table_type), table_type_lawful) };
 
-    ghost text_of = { λ x. refl };
-
-    ghost free = { λ x h fault cause. cause };
+    ghost written = { λ _. serves_itself };
 }
 
 impl DelimitedEq for TableType {

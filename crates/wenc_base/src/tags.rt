@@ -1,5 +1,5 @@
-ghost use Rattle.std.specs.Prelude.{◌≡◌, refl};
 ghost use Rattle.wenc_base.specs.laws.Delimited.{itself};
+ghost use Rattle.wenc_base.specs.laws.Serves.{serves_itself};
 
 use crate::delimited::{Delimited, DelimitedEq};
 use crate::encode::{Encode, Tagged};
@@ -16,9 +16,7 @@ pub struct TagType {
 impl Encode for TagType {
     ghost use Rattle.wenc_base.specs.Entities.{tag_type};
 
-    ghost text = { λ t. (tag_type t).text };
-
-    ghost cause = { λ _ _. ⊥ };
+    ghost piece = { λ t. tag_type t };
 
     fn encode<A: Allocator>(&self, sink: &mut Vec<u8, A>) -> Result<(), Fault> {
         Tagged(0x00, &self.func_type_idx).encode(sink)
@@ -36,15 +34,9 @@ impl Delimited for TagType {
 
     ghost form = { tag_type };
 
-    fn belongs(&self) {
-        self.func_type_idx.belongs();
-    }
-
     ghost readable = { ((λ fuel. read_tag_type), tag_type_lawful) };
 
-    ghost text_of = { λ x. refl };
-
-    ghost free = { λ x h fault cause. cause };
+    ghost written = { λ _. serves_itself };
 }
 
 impl DelimitedEq for TagType {

@@ -1,5 +1,6 @@
-ghost use Rattle.std.specs.Prelude.{◌≡◌, refl};
+ghost use Rattle.std.specs.Prelude.{◌≡◌};
 ghost use Rattle.wenc_base.specs.laws.Delimited.{itself};
+ghost use Rattle.wenc_base.specs.laws.Serves.{serves_itself};
 
 pub mod composite;
 pub mod encoder;
@@ -39,9 +40,7 @@ pub enum ValType {
 impl Encode for ValType {
     ghost use Rattle.wenc_base.specs.Types.{val_type};
 
-    ghost text = { λ t. (val_type t).text };
-
-    ghost cause = { λ _ _. ⊥ };
+    ghost piece = { λ t. val_type t };
 
     fn encode<A: Allocator>(&self, sink: &mut Vec<u8, A>) -> Result<(), Fault> {
         let byte = match self {
@@ -68,17 +67,9 @@ impl Delimited for ValType {
 
     ghost form = { val_type };
 
-    fn belongs(&self) {
-        if let ValType::Ref(reference) = self {
-            reference.belongs();
-        }
-    }
-
     ghost readable = { ((λ fuel. read_val_type), val_type_lawful) };
 
-    ghost text_of = { λ x. refl };
-
-    ghost free = { λ x h fault cause. cause };
+    ghost written = { λ _. serves_itself };
 }
 
 impl DelimitedEq for ValType {
@@ -97,9 +88,7 @@ pub struct RefType {
 impl Encode for RefType {
     ghost use Rattle.wenc_base.specs.Types.{reference};
 
-    ghost text = { λ r. (reference r).text };
-
-    ghost cause = { λ _ _. ⊥ };
+    ghost piece = { λ r. reference r };
 
     fn encode<A: Allocator>(&self, sink: &mut Vec<u8, A>) -> Result<(), Fault> {
         if !self.nullable {
@@ -125,16 +114,9 @@ impl Delimited for RefType {
 
     ghost form = { reference };
 
-    #[tactic(auto, using(crate::specs::laws::Types::reference_fits))]
-    fn belongs(&self) {
-        self.heap_type.belongs();
-    }
-
     ghost readable = { ((λ fuel. read_reference), reference_lawful) };
 
-    ghost text_of = { λ x. refl };
-
-    ghost free = { λ x h fault cause. cause };
+    ghost written = { λ _. serves_itself };
 }
 
 impl DelimitedEq for RefType {
@@ -153,9 +135,7 @@ pub enum HeapType {
 impl Encode for HeapType {
     ghost use Rattle.wenc_base.specs.Types.{heap_type};
 
-    ghost text = { λ h. (heap_type h).text };
-
-    ghost cause = { λ _ _. ⊥ };
+    ghost piece = { λ h. heap_type h };
 
     fn encode<A: Allocator>(&self, sink: &mut Vec<u8, A>) -> Result<(), Fault> {
         match self {
@@ -176,17 +156,9 @@ impl Delimited for HeapType {
 
     ghost form = { heap_type };
 
-    fn belongs(&self) {
-        if let HeapType::Concrete(index) = self {
-            index.belongs();
-        }
-    }
-
     ghost readable = { ((λ fuel. read_heap_type), heap_type_lawful) };
 
-    ghost text_of = { λ x. refl };
-
-    ghost free = { λ x h fault cause. cause };
+    ghost written = { λ _. serves_itself };
 }
 
 impl DelimitedEq for HeapType {
@@ -248,9 +220,7 @@ impl AbstractHeapType {
 impl Encode for AbstractHeapType {
     ghost use Rattle.wenc_base.specs.Types.{abstract_type};
 
-    ghost text = { λ t. (abstract_type t).text };
-
-    ghost cause = { λ _ _. ⊥ };
+    ghost piece = { λ t. abstract_type t };
 
     fn encode<A: Allocator>(&self, sink: &mut Vec<u8, A>) -> Result<(), Fault> {
         sink.push(self.byte())?;
@@ -269,13 +239,9 @@ impl Delimited for AbstractHeapType {
 
     ghost form = { abstract_type };
 
-    fn belongs(&self) {}
-
     ghost readable = { ((λ fuel. read_abstract), abstract_type_lawful) };
 
-    ghost text_of = { λ x. refl };
-
-    ghost free = { λ x h fault cause. cause };
+    ghost written = { λ _. serves_itself };
 }
 
 impl DelimitedEq for AbstractHeapType {

@@ -4,12 +4,10 @@ use Rattle.std.proofs.lemmas.Bool.{cases_lt}
 use Rattle.std.specs.Result.{IfOk, IfErr, OnOk}
 use Rattle.wenc_base.specs.Holder.{Held, is_finished, EncodeCause}
 use Rattle.wenc_base.specs.Number.{unsigned_text}
-use Rattle.wenc_base.specs.Fault.{IsWarranted, first_of, text_cause, count_cause, member_cause}
+use Rattle.wenc_base.specs.Fault.{IsWarranted, first_of, text_cause, count_cause, member_cause, either, NoCause}
 use Rattle.wenc_base.specs.Forms.{option_text}
-use Rattle.wenc_base.specs.Lender.{either}
 use Rattle.wenc_base.specs.declared.fault.Fault.{Fault}
 use Rattle.wenc_base.specs.declared.fault.Fault.TheVariants.{Memory, TooMany, TooLarge, Unfinished}
-use Rattle.wenc_base.specs.Delimited.{NoCause}
 use Rattle.wenc_base.specs.laws.Causes.{SameCause, still_warranted, alone, never}
 use Rattle.wenc_parts.specs.declared.exports.ComponentExportKind.{ComponentExportKind}
 use Rattle.wenc_parts.specs.declared.imports.ComponentTypeRef.{ComponentTypeRef}

@@ -5,7 +5,8 @@ use Rattle.std.proofs.lemmas.Bool.{ne_eqb, eq-eqb}
 use Rattle.std.specs.Result.{OnOk, IfErr}
 use Rattle.wenc_base.specs.Number.{number_size}
 use Rattle.wenc_base.specs.Holder.{Held, is_finished, holding, all_bytes, with_kept, content_size, AddCause}
-use Rattle.wenc_base.specs.Lender.{either, Extends, ExtendsListed}
+use Rattle.wenc_base.specs.Lender.{Extends, ExtendsListed}
+use Rattle.wenc_base.specs.Fault.{either}
 use Rattle.wenc_base.specs.Openings.{opened_with, lengthened, OpensMember, no_room, MoreCause}
 use Rattle.wenc_base.specs.laws.Causes.{still_warranted}
 use Rattle.wenc_base.specs.declared.holder.openings.Opening.{Opening}

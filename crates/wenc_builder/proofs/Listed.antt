@@ -2,11 +2,10 @@
 use Rattle.std.proofs.Common.{◌≡◌, ℕ, inl, inr, List, [], ◌∷◌, ◌++◌, length, map, append_assoc, Option, None, Some, Result, Ok, Err, OnOk, OnErr, false, refl, sym, ◌∙◌, ap, subst}
 use Rattle.std.proofs.lemmas.List.{append-nil, length-map}
 use Rattle.std.specs.Iterator.Runs.{SomeRun, WholeRun}
-use Rattle.wenc_base.specs.Delimited.{NoCause}
-use Rattle.wenc_base.specs.Fault.{IsWarranted, count_cause, member_cause, drawn_cause}
+use Rattle.wenc_base.specs.Fault.{IsWarranted, count_cause, member_cause, drawn_cause, either, NoCause}
 use Rattle.wenc_base.specs.Forms.{list, list_text}
 use Rattle.wenc_base.specs.Holder.{listed_text, listed_cause}
-use Rattle.wenc_base.specs.Lender.{either, Extends, ExtendsListed}
+use Rattle.wenc_base.specs.Lender.{Extends, ExtendsListed}
 use Rattle.wenc_base.specs.declared.fault.Fault.{Fault}
 use Rattle.wenc_base.specs.declared.fault.Fault.TheVariants.{TooLarge}
 use Rattle.wenc_base.specs.laws.Causes.{SameCause, still_warranted, never}

@@ -8,9 +8,8 @@ use Rattle.std.proofs.lemmas.List.Folds.{flat_map-map}
 use Rattle.std.specs.List.{flat_map}
 use Rattle.std.specs.Option.{MatchOption}
 use Rattle.wenc_base.specs.Custom.{Custom, custom_cause}
-use Rattle.wenc_base.specs.Delimited.{NoCause}
 use Rattle.std.specs.Result.{IfErr, OnOk, OnErr}
-use Rattle.wenc_base.specs.Fault.{IsWarranted, text_cause, first_of, member_cause}
+use Rattle.wenc_base.specs.Fault.{IsWarranted, text_cause, first_of, member_cause, NoCause}
 use Rattle.wenc_base.specs.Forms.{name as name_form}
 use Rattle.wenc_base.specs.Holder.{Held, holding}
 use Rattle.wenc_base.specs.Names.{Named, names_text}

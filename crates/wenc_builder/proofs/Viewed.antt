@@ -1,6 +1,7 @@
 -- A builder's state, by those of its buffer and its spaces.
 use Rattle.std.proofs.Common.{◌≡◌, List, ℕ, false, is_none, Option, Some, None, Result, Ok, Err, refl, ap, sym, subst, ◌∙◌}
-use Rattle.wenc_base.specs.Lender.{either, Extends, ExtendsListed}
+use Rattle.wenc_base.specs.Lender.{Extends, ExtendsListed}
+use Rattle.wenc_base.specs.Fault.{either}
 use Rattle.wenc_base.specs.declared.fault.Fault.{Fault}
 use Rattle.wenc_base.specs.laws.Causes.{still_warranted}
 use Rattle.wenc_builder.specs.Builder.{Sections, Content, State, builder_is_finished, content_of, appended, ended}

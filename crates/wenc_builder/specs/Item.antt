@@ -1,9 +1,8 @@
 -- Items: what the calls of a builder add to a component.
 use Rattle.std.specs.Prelude.{ℕ, List, ◌∷◌, length, Option, Some, None}
 use Rattle.wenc_base.specs.Custom.{Custom, custom, custom_cause}
-use Rattle.wenc_base.specs.Fault.{text_cause, count_cause, member_cause}
+use Rattle.wenc_base.specs.Fault.{text_cause, count_cause, member_cause, either}
 use Rattle.wenc_base.specs.Forms.{byte_list}
-use Rattle.wenc_base.specs.Lender.{either}
 use Rattle.wenc_base.specs.Piece.{Piece, Form, ◌▸◌}
 use Rattle.wenc_base.specs.declared.fault.Fault.{Fault}
 use Rattle.wenc_parts.specs.declared.component.ComponentSectionId.TheVariants as ids

@@ -6,8 +6,7 @@ use Rattle.wenc_base.specs.Number.{unsigned_text, number_size}
 use Rattle.wenc_base.specs.Holder.{Held, content_size}
 use Rattle.wenc_base.specs.declared.holder.openings.Opening.{Opening}
 use Rattle.wenc_base.specs.declared.fault.Fault.{Fault}
-use Rattle.wenc_base.specs.Fault.{text_cause}
-use Rattle.wenc_base.specs.Lender.{either}
+use Rattle.wenc_base.specs.Fault.{text_cause, either}
 use Rattle.wenc_base.specs.declared.fault.Fault.TheVariants.{TooLarge, Unfinished}
 use Rattle.wenc_parts.specs.declared.component.ComponentSectionId.TheVariants as ids
 use Rattle.wenc_parts.specs.SectionIds.{section_number}

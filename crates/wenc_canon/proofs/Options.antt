@@ -1,8 +1,7 @@
 -- Canonical functions with options, which an iterator gives.
 use Rattle.std.proofs.Common.{ℕ, List, [], ◌∷◌, ◌++◌, length, Option, Result, ap, inl, inr}
 use Rattle.std.proofs.lemmas.List.{append-nil}
-use Rattle.wenc_base.specs.Fault.{count_cause}
-use Rattle.wenc_base.specs.Delimited.{NoCause}
+use Rattle.wenc_base.specs.Fault.{count_cause, NoCause}
 use Rattle.wenc_base.specs.Forms.{list}
 use Rattle.wenc_base.specs.Holder.{Held, as_they_are, AddsListed, listed_text, listed_cause}
 use Rattle.wenc_base.specs.laws.Causes.{SameCause, never, no_member}

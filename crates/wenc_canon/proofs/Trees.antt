@@ -1,8 +1,7 @@
 -- Trees of canonical functions: only the number of options can keep one from being encoded.
 use Rattle.std.proofs.Common.{ℕ, List, length, Result, inl, inr}
-use Rattle.wenc_base.specs.Delimited.{NoCause}
 use Rattle.wenc_base.specs.Encode.{Appends}
-use Rattle.wenc_base.specs.Fault.{first_of, count_cause, list_cause}
+use Rattle.wenc_base.specs.Fault.{first_of, count_cause, list_cause, NoCause}
 use Rattle.wenc_base.specs.laws.Causes.{SameCause, never, no_member}
 use Rattle.wenc_base.specs.declared.fault.Fault.{Fault}
 use Rattle.wenc_canon.specs.declared.canonicals.CanonicalOption.{CanonicalOption}

@@ -1,7 +1,6 @@
 ghost use Rattle.std.specs.Prelude.{length, refl};
-ghost use Rattle.wenc_base.specs.Delimited.{NoCause};
 ghost use Rattle.wenc_base.specs.Encode.{Appends};
-ghost use Rattle.wenc_base.specs.Fault.{count_cause};
+ghost use Rattle.wenc_base.specs.Fault.{count_cause, NoCause};
 ghost use Rattle.wenc_base.specs.Forms.{list};
 ghost use Rattle.wenc_canon.specs.Canonicals.{Lift, canonical_option, canonical_text, text_with_options};
 
@@ -206,9 +205,7 @@ impl<A: Allocator> Encode for CanonTree<A> {
     ghost use Rattle.wenc_canon.specs.Canonicals.{canonical_text, canonical_cause};
     ghost use Rattle.wenc_canon.specs.CanonTrees.{canon_view};
 
-    ghost text = { λ t. canonical_text (canon_view t) };
-
-    ghost cause = { λ t. canonical_cause (canon_view t) };
+    ghost piece = { TODO text = λ t. canonical_text (canon_view t) cause = λ t. canonical_cause (canon_view t) };
 
     fn encode<B: Allocator>(&self, sink: &mut Vec<u8, B>) -> Result<(), Fault> {
         match self {
@@ -375,91 +372,9 @@ impl<A: Allocator> Delimited for CanonTree<A> {
 
     ghost form = { canonical };
 
-    fn belongs(&self) {
-        match self {
-            CanonTree::Lift {
-                core_func,
-                ty,
-                options,
-            } => {
-                core_func.belongs();
-                options_belong(options);
-                ty.belongs();
-            }
-            CanonTree::Lower { func, options } => {
-                func.belongs();
-                options_belong(options);
-            }
-            CanonTree::TaskReturn { ty, options } => {
-                ResultList(*ty).belongs();
-                options_belong(options);
-            }
-            CanonTree::StreamRead { ty, options }
-            | CanonTree::StreamWrite { ty, options }
-            | CanonTree::FutureRead { ty, options }
-            | CanonTree::FutureWrite { ty, options } => {
-                ty.belongs();
-                options_belong(options);
-            }
-            CanonTree::ErrorContextNew(options) | CanonTree::ErrorContextDebugMessage(options) => {
-                options_belong(options)
-            }
-            CanonTree::ContextGet { ty, slot } | CanonTree::ContextSet { ty, slot } => {
-                ty.belongs();
-                slot.belongs();
-            }
-            CanonTree::ThreadNewIndirect { ty, table }
-            | CanonTree::ThreadSpawnIndirect { ty, table } => {
-                ty.belongs();
-                table.belongs();
-            }
-            CanonTree::SubtaskCancel(async_) => async_.belongs(),
-            CanonTree::StreamCancelRead { ty, async_ }
-            | CanonTree::StreamCancelWrite { ty, async_ }
-            | CanonTree::FutureCancelRead { ty, async_ }
-            | CanonTree::FutureCancelWrite { ty, async_ } => {
-                ty.belongs();
-                async_.belongs();
-            }
-            CanonTree::ResourceNew(index)
-            | CanonTree::ResourceDrop(index)
-            | CanonTree::ResourceRep(index)
-            | CanonTree::StreamNew(index)
-            | CanonTree::StreamDropReadable(index)
-            | CanonTree::StreamDropWritable(index)
-            | CanonTree::FutureNew(index)
-            | CanonTree::FutureDropReadable(index)
-            | CanonTree::FutureDropWritable(index)
-            | CanonTree::WaitableSetWait(index)
-            | CanonTree::WaitableSetPoll(index)
-            | CanonTree::StreamForward(index)
-            | CanonTree::FutureForward(index)
-            | CanonTree::ThreadSpawnRef(index) => index.belongs(),
-            CanonTree::TaskCancel
-            | CanonTree::ThreadYield
-            | CanonTree::SubtaskDrop
-            | CanonTree::ErrorContextDrop
-            | CanonTree::WaitableSetNew
-            | CanonTree::WaitableSetDrop
-            | CanonTree::WaitableJoin
-            | CanonTree::BackpressureInc
-            | CanonTree::BackpressureDec
-            | CanonTree::ThreadIndex
-            | CanonTree::ThreadResumeLater
-            | CanonTree::ThreadSuspend
-            | CanonTree::ThreadSuspendThenResume
-            | CanonTree::ThreadYieldThenResume
-            | CanonTree::ThreadSuspendThenPromote
-            | CanonTree::ThreadYieldThenPromote
-            | CanonTree::ThreadAvailableParallelism => {}
-        }
-    }
-
     ghost readable = { ((λ fuel. read_canonical), canonical_lawful) };
 
-    ghost text_of = { λ t. refl };
-
-    ghost free = { λ t. canonical_free (canon_view t) };
+    ghost written = { λ _. serves_itself };
 }
 
 /// Options that aren't too many have a text in the form of a list. The call does nothing.

@@ -1,7 +1,6 @@
 ghost use Rattle.std.specs.Prelude.{◌≡◌, ◌==◌, ◌∷◌, false, List, OnOk, IfOk, IfErr, length, refl};
 ghost use Rattle.std.specs.Iterator.{IsFinite};
-ghost use Rattle.wenc_base.specs.Fault.{IsMemory, count_cause};
-ghost use Rattle.wenc_base.specs.Delimited.{NoCause};
+ghost use Rattle.wenc_base.specs.Fault.{IsMemory, count_cause, NoCause};
 ghost use Rattle.wenc_base.specs.Encode.{Appends};
 ghost use Rattle.wenc_base.specs.Holder.{no_members, is_finished, section_text, as_they_are, ContainsSome, AddsMember, AddsListed, EncodeCause};
 ghost use Rattle.wenc_base.specs.Openings.{HasMembers};
@@ -49,9 +48,7 @@ pub enum CanonicalOption {
 impl Encode for CanonicalOption {
     ghost use Rattle.wenc_canon.specs.Canonicals.{canonical_option};
 
-    ghost text = { λ o. (canonical_option o).text };
-
-    ghost cause = { λ _ _. ⊥ };
+    ghost piece = { λ o. canonical_option o };
 
     fn encode<A: Allocator>(&self, sink: &mut Vec<u8, A>) -> Result<(), Fault> {
         match self {
@@ -80,22 +77,9 @@ impl Delimited for CanonicalOption {
 
     ghost form = { canonical_option };
 
-    fn belongs(&self) {
-        match self {
-            CanonicalOption::Memory(index)
-            | CanonicalOption::Realloc(index)
-            | CanonicalOption::PostReturn(index)
-            | CanonicalOption::Callback(index)
-            | CanonicalOption::CoreType(index) => index.belongs(),
-            _ => {}
-        }
-    }
-
     ghost readable = { ((λ fuel. read_option), canonical_option_lawful) };
 
-    ghost text_of = { λ o. refl };
-
-    ghost free = { λ o h fault cause. cause };
+    ghost written = { λ _. serves_itself };
 }
 
 impl DelimitedEq for CanonicalOption {
@@ -260,9 +244,7 @@ impl<A: Allocator> CanonicalFunctionSection<A> {
 /// A finished section is refused for want of memory alone. What is written has some functions, whoever made which
 /// calls.
 impl<A: Allocator> Encode for CanonicalFunctionSection<A> {
-    ghost text = { λ s. section_text s };
-
-    ghost cause = { λ s. EncodeCause s };
+    ghost piece = { TODO text = λ s. section_text s cause = λ s. EncodeCause s };
 
     ghost unfinished = { λ s. is_finished s ≡ false };
 

@@ -1,5 +1,5 @@
 ghost use Rattle.std.specs.Prelude.{◌≡◌, List, refl};
-ghost use Rattle.wenc_base.specs.Delimited.{NoCause};
+ghost use Rattle.wenc_base.specs.Fault.{NoCause};
 ghost use Rattle.wenc_canon.specs.Canonicals.{Field, Values, fields, fields_cause};
 
 use std::alloc::Allocator;
@@ -31,9 +31,7 @@ pub struct NotCancellable;
 impl Encode for NotCancellable {
     ghost use Rattle.std.specs.Prelude.{◌∷◌, []};
 
-    ghost text = { λ _. 0x00 ∷ [] };
-
-    ghost cause = { λ _ _. ⊥ };
+    ghost piece = { TODO text = λ _. 0x00 ∷ [] cause = λ _ _. ⊥ };
 
     fn encode<A: Allocator>(&self, sink: &mut Vec<u8, A>) -> Result<(), Fault> {
         sink.push(0x00)?;

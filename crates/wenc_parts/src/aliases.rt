@@ -23,9 +23,7 @@ pub enum ComponentOuterAliasKind {
 impl Encode for ComponentOuterAliasKind {
     ghost use Rattle.wenc_parts.specs.Aliases.{outer_kind};
 
-    ghost text = { λ k. (outer_kind k).text };
-
-    ghost cause = { λ _ _. ⊥ };
+    ghost piece = { λ k. outer_kind k };
 
     fn encode<A: Allocator>(&self, sink: &mut Vec<u8, A>) -> Result<(), Fault> {
         let sort: &[u8] = match self {
@@ -50,14 +48,9 @@ impl Delimited for ComponentOuterAliasKind {
 
     ghost form = { outer_kind };
 
-    #[tactic(auto, using(crate::specs::laws::Aliases::outer_kind_fits))]
-    fn belongs(&self) {}
-
     ghost readable = { ((λ fuel. read_outer_kind), outer_kind_lawful) };
 
-    ghost text_of = { λ x. refl };
-
-    ghost free = { λ x h fault cause. cause };
+    ghost written = { λ _. serves_itself };
 }
 
 impl DelimitedEq for ComponentOuterAliasKind {
@@ -103,9 +96,7 @@ pub enum Alias<'a> {
 impl<'a> Encode for Alias<'a> {
     ghost use Rattle.wenc_parts.specs.Aliases.{alias, alias_view, alias_cause};
 
-    ghost text = { λ a. (alias (alias_view a)).text };
-
-    ghost cause = { λ a. alias_cause (alias_view a) };
+    ghost piece = { λ a. alias (alias_view a) };
 
     fn encode<A: Allocator>(&self, sink: &mut Vec<u8, A>) -> Result<(), Fault> {
         match self {
@@ -136,29 +127,9 @@ impl<'a> Delimited for Alias<'a> {
 
     ghost form = { alias };
 
-    #[tactic(auto, using(crate::specs::laws::Aliases::alias_fits))]
-    fn belongs(&self) {
-        match self {
-            Alias::InstanceExport { instance, name, .. } => {
-                instance.belongs();
-                name.belongs();
-            }
-            Alias::CoreInstanceExport { instance, name, .. } => {
-                instance.belongs();
-                name.belongs();
-            }
-            Alias::Outer { count, index, .. } => {
-                count.belongs();
-                index.belongs();
-            }
-        }
-    }
-
     ghost readable = { ((λ fuel. read_alias), alias_lawful) };
 
-    ghost text_of = { λ a. refl };
-
-    ghost free = { λ a. alias_free (alias_view a) };
+    ghost written = { λ _. serves_itself };
 }
 
 /// An alias that owns its text, for commands.

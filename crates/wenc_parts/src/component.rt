@@ -126,9 +126,7 @@ impl From<ComponentSectionId> for u8 {
 impl Encode for ComponentSectionId {
     ghost use Rattle.wenc_parts.specs.SectionIds.{section_id};
 
-    ghost text = { λ id. (section_id id).text };
-
-    ghost cause = { λ _ _. ⊥ };
+    ghost piece = { λ id. section_id id };
 
     fn encode<A: Allocator>(&self, sink: &mut Vec<u8, A>) -> Result<(), Fault> {
         sink.push(u8::from(*self))?;
@@ -147,13 +145,9 @@ impl Delimited for ComponentSectionId {
 
     ghost form = { section_id };
 
-    fn belongs(&self) {}
-
     ghost readable = { ((λ fuel. read_section), section_lawful) };
 
-    ghost text_of = { λ x. refl };
-
-    ghost free = { λ x h fault cause. cause };
+    ghost written = { λ _. serves_itself };
 }
 
 impl DelimitedEq for ComponentSectionId {

@@ -28,9 +28,7 @@ pub enum ComponentExportKind {
 impl Encode for ComponentExportKind {
     ghost use Rattle.wenc_parts.specs.Exports.{export_kind};
 
-    ghost text = { λ k. (export_kind k).text };
-
-    ghost cause = { λ _ _. ⊥ };
+    ghost piece = { λ k. export_kind k };
 
     fn encode<A: Allocator>(&self, sink: &mut Vec<u8, A>) -> Result<(), Fault> {
         let sort: &[u8] = match self {
@@ -57,14 +55,9 @@ impl Delimited for ComponentExportKind {
 
     ghost form = { export_kind };
 
-    #[tactic(auto, using(crate::specs::laws::Exports::export_kind_fits))]
-    fn belongs(&self) {}
-
     ghost readable = { ((λ fuel. read_export_kind), export_kind_lawful) };
 
-    ghost text_of = { λ x. refl };
-
-    ghost free = { λ x h fault cause. cause };
+    ghost written = { λ _. serves_itself };
 }
 
 impl DelimitedEq for ComponentExportKind {

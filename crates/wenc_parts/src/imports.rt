@@ -1,7 +1,6 @@
 ghost use Rattle.std.specs.Prelude.{◌≡◌, ◌++◌, ℕ, List, refl, length, IfOk, IfErr};
 ghost use Rattle.wenc_base.specs.laws.Delimited.{itself};
-ghost use Rattle.wenc_base.specs.Fault.{IsMemory};
-ghost use Rattle.wenc_base.specs.Delimited.{NoCause};
+ghost use Rattle.wenc_base.specs.Fault.{IsMemory, NoCause};
 ghost use Rattle.wenc_parts.specs.Imports.{text_option, string_option, option_cause, OptionFits};
 
 use crate::exports::ComponentExportKind;
@@ -22,9 +21,7 @@ pub enum TypeBounds {
 impl Encode for TypeBounds {
     ghost use Rattle.wenc_parts.specs.Imports.{type_bounds};
 
-    ghost text = { λ b. (type_bounds b).text };
-
-    ghost cause = { λ _ _. ⊥ };
+    ghost piece = { λ b. type_bounds b };
 
     fn encode<A: Allocator>(&self, sink: &mut Vec<u8, A>) -> Result<(), Fault> {
         match self {
@@ -48,17 +45,9 @@ impl Delimited for TypeBounds {
 
     ghost form = { type_bounds };
 
-    fn belongs(&self) {
-        if let TypeBounds::Eq(index) = self {
-            index.belongs();
-        }
-    }
-
     ghost readable = { ((λ fuel. read_type_bounds), type_bounds_lawful) };
 
-    ghost text_of = { λ x. refl };
-
-    ghost free = { λ x h fault cause. cause };
+    ghost written = { λ _. serves_itself };
 }
 
 impl DelimitedEq for TypeBounds {
@@ -107,9 +96,7 @@ impl ComponentTypeRef {
 impl Encode for ComponentTypeRef {
     ghost use Rattle.wenc_parts.specs.Imports.{type_reference};
 
-    ghost text = { λ r. (type_reference r).text };
-
-    ghost cause = { λ _ _. ⊥ };
+    ghost piece = { λ r. type_reference r };
 
     fn encode<A: Allocator>(&self, sink: &mut Vec<u8, A>) -> Result<(), Fault> {
         let kind = self.kind();
@@ -135,22 +122,9 @@ impl Delimited for ComponentTypeRef {
 
     ghost form = { type_reference };
 
-    fn belongs(&self) {
-        match self {
-            ComponentTypeRef::Module(index)
-            | ComponentTypeRef::Func(index)
-            | ComponentTypeRef::Instance(index)
-            | ComponentTypeRef::Component(index) => index.belongs(),
-            ComponentTypeRef::Value(ty) => ty.belongs(),
-            ComponentTypeRef::Type(bounds) => bounds.belongs(),
-        }
-    }
-
     ghost readable = { ((λ fuel. read_type_reference), type_reference_lawful) };
 
-    ghost text_of = { λ x. refl };
-
-    ghost free = { λ x h fault cause. cause };
+    ghost written = { λ _. serves_itself };
 }
 
 impl DelimitedEq for ComponentTypeRef {
@@ -206,9 +180,7 @@ impl<'a, A: Allocator> ComponentExternName<'a, A> {
 impl<'a, A: Allocator> Encode for ComponentExternName<'a, A> {
     ghost use Rattle.wenc_parts.specs.Imports.{extern_name, extern_name_view, extern_name_cause};
 
-    ghost text = { λ n. (extern_name (extern_name_view n)).text };
-
-    ghost cause = { λ n. extern_name_cause (extern_name_view n) };
+    ghost piece = { λ n. extern_name (extern_name_view n) };
 
     #[tactic(auto, using(crate::proofs::Names::plain_text, crate::proofs::Names::optioned_text))]
     fn encode<B: Allocator>(&self, sink: &mut Vec<u8, B>) -> Result<(), Fault> {
@@ -235,19 +207,9 @@ impl<'a, A: Allocator> Delimited for ComponentExternName<'a, A> {
 
     ghost form = { extern_name };
 
-    #[tactic(auto, using(crate::specs::laws::Imports::extern_name_fits))]
-    fn belongs(&self) {
-        self.name.as_str().belongs();
-        option_belongs(&self.implements);
-        option_belongs(&self.version_suffix);
-        option_belongs(&self.external_id);
-    }
-
     ghost readable = { ((λ fuel. read_extern_name), extern_name_lawful) };
 
-    ghost text_of = { λ n. refl };
-
-    ghost free = { λ n. extern_name_free (extern_name_view n) };
+    ghost written = { λ _. serves_itself };
 }
 
 /// A text that nothing keeps from being encoded has one in its form. The call does nothing.
@@ -266,9 +228,7 @@ struct OptionEntry<'a, 'b, A: Allocator>(u8, &'b Option<CowStr<'a, A>>);
 impl<'a, 'b, A: Allocator> Encode for OptionEntry<'a, 'b, A> {
     ghost use Rattle.wenc_parts.specs.Imports.{option_entry_text, option_cause, text_option};
 
-    ghost text = { λ o. option_entry_text o.0 (text_option o.1.now) };
-
-    ghost cause = { λ o. option_cause (text_option o.1.now) };
+    ghost piece = { TODO text = λ o. option_entry_text o.0 (text_option o.1.now) cause = λ o. option_cause (text_option o.1.now) };
 
     fn encode<B: Allocator>(&self, sink: &mut Vec<u8, B>) -> Result<(), Fault> {
         match self.1 {

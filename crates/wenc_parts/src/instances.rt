@@ -16,9 +16,7 @@ pub enum ModuleArg {
 impl Encode for ModuleArg {
     ghost use Rattle.wenc_parts.specs.Instances.{module_argument};
 
-    ghost text = { λ a. (module_argument a).text };
-
-    ghost cause = { λ _ _. ⊥ };
+    ghost piece = { λ a. module_argument a };
 
     fn encode<A: Allocator>(&self, sink: &mut Vec<u8, A>) -> Result<(), Fault> {
         match self {
@@ -38,17 +36,9 @@ impl Delimited for ModuleArg {
 
     ghost form = { module_argument };
 
-    fn belongs(&self) {
-        match self {
-            ModuleArg::Instance(index) => index.belongs(),
-        }
-    }
-
     ghost readable = { ((λ fuel. read_module_argument), module_argument_lawful) };
 
-    ghost text_of = { λ x. refl };
-
-    ghost free = { λ x h fault cause. cause };
+    ghost written = { λ _. serves_itself };
 }
 
 impl DelimitedEq for ModuleArg {

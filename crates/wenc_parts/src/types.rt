@@ -65,9 +65,7 @@ impl PrimitiveValType {
 impl Encode for PrimitiveValType {
     ghost use Rattle.wenc_parts.specs.Types.{primitive};
 
-    ghost text = { λ p. (primitive p).text };
-
-    ghost cause = { λ _ _. ⊥ };
+    ghost piece = { λ p. primitive p };
 
     fn encode<A: Allocator>(&self, sink: &mut Vec<u8, A>) -> Result<(), Fault> {
         sink.push(self.byte())?;
@@ -86,13 +84,9 @@ impl Delimited for PrimitiveValType {
 
     ghost form = { primitive };
 
-    fn belongs(&self) {}
-
     ghost readable = { ((λ fuel. read_primitive), primitive_lawful) };
 
-    ghost text_of = { λ x. refl };
-
-    ghost free = { λ x h fault cause. cause };
+    ghost written = { λ _. serves_itself };
 }
 
 impl DelimitedEq for PrimitiveValType {
@@ -111,9 +105,7 @@ pub enum ComponentValType {
 impl Encode for ComponentValType {
     ghost use Rattle.wenc_parts.specs.Types.{value_type};
 
-    ghost text = { λ t. (value_type t).text };
-
-    ghost cause = { λ _ _. ⊥ };
+    ghost piece = { λ t. value_type t };
 
     fn encode<A: Allocator>(&self, sink: &mut Vec<u8, A>) -> Result<(), Fault> {
         match self {
@@ -134,17 +126,9 @@ impl Delimited for ComponentValType {
 
     ghost form = { value_type };
 
-    fn belongs(&self) {
-        if let ComponentValType::Type(index) = self {
-            index.belongs();
-        }
-    }
-
     ghost readable = { ((λ fuel. read_value_type), value_type_lawful) };
 
-    ghost text_of = { λ x. refl };
-
-    ghost free = { λ x h fault cause. cause };
+    ghost written = { λ _. serves_itself };
 }
 
 impl DelimitedEq for ComponentValType {
@@ -158,9 +142,7 @@ pub struct ResultList(pub Option<ComponentValType>);
 impl Encode for ResultList {
     ghost use Rattle.wenc_parts.specs.Types.{result_list};
 
-    ghost text = { λ r. (result_list r.0).text };
-
-    ghost cause = { λ _ _. ⊥ };
+    ghost piece = { λ r. result_list r.0 };
 
     fn encode<A: Allocator>(&self, sink: &mut Vec<u8, A>) -> Result<(), Fault> {
         match self.0 {
@@ -182,17 +164,9 @@ impl Delimited for ResultList {
 
     ghost form = { result_list };
 
-    fn belongs(&self) {
-        if let Some(ty) = self.0 {
-            ty.belongs();
-        }
-    }
-
     ghost readable = { ((λ fuel. read_result_list), result_list_lawful) };
 
-    ghost text_of = { λ x. refl };
-
-    ghost free = { λ x h fault cause. cause };
+    ghost written = { λ _. serves_itself };
 }
 
 impl DelimitedEq for ResultList {

@@ -1,9 +1,8 @@
 -- What the section of names takes.
 use Rattle.std.proofs.Common.{ℕ, ◌+◌, ◌<◌, ◌^◌, List, ◌∷◌, ◌++◌, length, Result, refl, inl, inr, arith, length-append}
 use Rattle.wenc_base.specs.Custom.{custom_cause}
-use Rattle.wenc_base.specs.Delimited.{NoCause}
 use Rattle.wenc_base.specs.Encode.{Appends}
-use Rattle.wenc_base.specs.Fault.{text_cause, first_of}
+use Rattle.wenc_base.specs.Fault.{text_cause, first_of, NoCause}
 use Rattle.wenc_base.specs.Forms.{name, byte_list}
 use Rattle.wenc_base.specs.Holder.{Held}
 use Rattle.wenc_base.specs.Number.{groups, unsigned_text}

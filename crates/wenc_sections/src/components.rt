@@ -18,9 +18,7 @@ impl<'a, A: Allocator> Encode for NestedComponentSection<'a, A> {
     ghost use Rattle.wenc_base.specs.Forms.{byte_list};
     ghost use Rattle.wenc_base.specs.Fault.{text_cause};
 
-    ghost text = { λ s. (byte_list s.0.now).text };
-
-    ghost cause = { λ s. text_cause s.0.now };
+    ghost piece = { λ s. byte_list s.0.now };
 
     fn encode<B: Allocator>(&self, sink: &mut Vec<u8, B>) -> Result<(), Fault> {
         self.0.as_slice().encode(sink)
@@ -39,15 +37,9 @@ impl<'a, A: Allocator> Delimited for NestedComponentSection<'a, A> {
 
     ghost form = { byte_list };
 
-    fn belongs(&self) {
-        self.0.as_slice().belongs();
-    }
-
     ghost readable = { ((λ fuel. read_byte_list), byte_list_lawful) };
 
-    ghost text_of = { λ s. refl };
-
-    ghost free = { λ s. byte_list_free s.0.now };
+    ghost written = { λ _. serves_itself };
 }
 
 impl<'a, A: Allocator> ComponentSection for NestedComponentSection<'a, A> {

@@ -125,9 +125,7 @@ impl<K: CountedKind, A: Allocator> Counted<K, A> {
 
 /// A finished section is refused for want of memory alone. What is written has some items, whoever made which calls.
 impl<K: CountedKind, A: Allocator> Encode for Counted<K, A> {
-    ghost text = { λ s. section_text s };
-
-    ghost cause = { λ s. EncodeCause s };
+    ghost piece = { TODO text = λ s. section_text s cause = λ s. EncodeCause s };
 
     ghost unfinished = { λ s. is_finished s ≡ false };
 

@@ -41,9 +41,7 @@ impl<A: Allocator> Encode for CoreInstanceTree<A> {
     ghost use Rattle.wenc_sections.specs.InstanceTrees.{core_instance_tree_view};
     ghost use Rattle.wenc_sections.specs.Instances.{core_instance, core_instance_cause};
 
-    ghost text = { λ t. (core_instance (core_instance_tree_view t)).text };
-
-    ghost cause = { λ t. core_instance_cause (core_instance_tree_view t) };
+    ghost piece = { λ t. core_instance (core_instance_tree_view t) };
 
     fn encode<B: Allocator>(&self, sink: &mut Vec<u8, B>) -> Result<(), Fault> {
         match self {
@@ -69,21 +67,9 @@ impl<A: Allocator> Delimited for CoreInstanceTree<A> {
 
     ghost form = { core_instance };
 
-    fn belongs(&self) {
-        match self {
-            CoreInstanceTree::Instantiate { module, args } => {
-                module.belongs();
-                args.as_slice().belongs();
-            }
-            CoreInstanceTree::Exports(exports) => exports.as_slice().belongs(),
-        }
-    }
-
     ghost readable = { ((λ fuel. read_core_instance), core_instance_lawful) };
 
-    ghost text_of = { λ x. refl };
-
-    ghost free = { λ x. core_instance_free (core_instance_tree_view x) };
+    ghost written = { λ _. serves_itself };
 }
 
 /// An instance of a component that owns its texts, for commands (component model, binary format, `instanceexpr`).
@@ -111,9 +97,7 @@ impl<A: Allocator> Encode for InstanceTree<A> {
     ghost use Rattle.wenc_sections.specs.InstanceTrees.{instance_tree_view};
     ghost use Rattle.wenc_sections.specs.Instances.{instance, instance_cause};
 
-    ghost text = { λ t. (instance (instance_tree_view t)).text };
-
-    ghost cause = { λ t. instance_cause (instance_tree_view t) };
+    ghost piece = { λ t. instance (instance_tree_view t) };
 
     fn encode<B: Allocator>(&self, sink: &mut Vec<u8, B>) -> Result<(), Fault> {
         match self {
@@ -139,21 +123,9 @@ impl<A: Allocator> Delimited for InstanceTree<A> {
 
     ghost form = { instance };
 
-    fn belongs(&self) {
-        match self {
-            InstanceTree::Instantiate { component, args } => {
-                component.belongs();
-                args.as_slice().belongs();
-            }
-            InstanceTree::Exports(exports) => exports_belong(exports.as_slice()),
-        }
-    }
-
     ghost readable = { ((λ fuel. read_instance), instance_lawful) };
 
-    ghost text_of = { λ x. refl };
-
-    ghost free = { λ x. instance_free (instance_tree_view x) };
+    ghost written = { λ _. serves_itself };
 }
 
 /// How many exports, then each. The first refusal that is met is answered.
@@ -161,9 +133,7 @@ impl<A: Allocator> Delimited for InstanceTree<A> {
 struct ExportList<'a, A: Allocator>(&'a [(NameTree<A>, ComponentExportKind, u32)]);
 
 impl<'a, A: Allocator> Encode for ExportList<'a, A> {
-    ghost text = { λ l. list_text exported_tree_text l.0.now };
-
-    ghost cause = { λ l. list_cause exported_tree_cause l.0.now };
+    ghost piece = { TODO text = λ l. list_text exported_tree_text l.0.now cause = λ l. list_cause exported_tree_cause l.0.now };
 
     fn encode<B: Allocator>(&self, sink: &mut Vec<u8, B>) -> Result<(), Fault> {
         let start = sink.len();

@@ -88,9 +88,7 @@ impl<'a, A: Allocator> Encode for NamesOf<'a, A> {
     ghost use Rattle.wenc_base.specs.Fault.{text_cause};
     ghost use Rattle.wenc_sections.specs.Names.{RawNames, subsection, items_content};
 
-    ghost text = { λ n. (subsection (RawNames 0x01 (items_content n.0 n.1.now))).text };
-
-    ghost cause = { λ n. text_cause (items_content n.0 n.1.now) };
+    ghost piece = { λ n. subsection (RawNames 0x01 (items_content n.0 n.1.now)) };
 
     fn encode<B: Allocator>(&self, sink: &mut Vec<u8, B>) -> Result<(), Fault> {
         let sort = sort_bytes(self.0);
@@ -306,9 +304,7 @@ impl<A: Allocator> ComponentNameSection<A> {
 impl<A: Allocator> Encode for ComponentNameSection<A> {
     ghost use Rattle.wenc_sections.specs.Names.{names_section};
 
-    ghost text = { λ s. (names_section s).text };
-
-    ghost cause = { λ _ _. ⊥ };
+    ghost piece = { λ s. names_section s };
 
     fn encode<B: Allocator>(&self, sink: &mut Vec<u8, B>) -> Result<(), Fault> {
         self.as_custom().encode(sink)
@@ -326,17 +322,9 @@ impl<A: Allocator> Delimited for ComponentNameSection<A> {
 
     ghost form = { names_section };
 
-    fn belongs(&self) {
-        let custom = self.as_custom();
-        custom.name.belongs();
-        custom.data.belongs();
-    }
-
     ghost readable = { ((λ fuel. read_names_section), names_section_lawful) };
 
-    ghost text_of = { λ s. refl };
-
-    ghost free = { λ s h fault cause. cause };
+    ghost written = { λ _. serves_itself };
 }
 
 impl<A: Allocator> ComponentSection for ComponentNameSection<A> {

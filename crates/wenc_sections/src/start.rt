@@ -30,9 +30,7 @@ pub struct ComponentStartSection<A> {
 impl<A: AsSlice<u32>> Encode for ComponentStartSection<A> {
     ghost use Rattle.wenc_sections.specs.Start.{started, start, start_cause};
 
-    ghost text = { λ s. (start (started s.function_index (A.items s.args) s.results)).text };
-
-    ghost cause = { λ s. start_cause (started s.function_index (A.items s.args) s.results) };
+    ghost piece = { λ s. start (started s.function_index (A.items s.args) s.results) };
 
     fn encode<B: Allocator>(&self, sink: &mut Vec<u8, B>) -> Result<(), Fault> {
         let content = (self.function_index, (self.args.as_slice(), self.results));
@@ -52,18 +50,9 @@ impl<A: AsSlice<u32>> Delimited for ComponentStartSection<A> {
 
     ghost form = { start };
 
-    #[tactic(auto, using(crate::specs::laws::Start::start_fits))]
-    fn belongs(&self) {
-        self.function_index.belongs();
-        self.args.as_slice().belongs();
-        self.results.belongs();
-    }
-
     ghost readable = { ((λ fuel. read_start), start_lawful) };
 
-    ghost text_of = { λ s. refl };
-
-    ghost free = { λ s. start_free (started s.function_index (A.items s.args) s.results) };
+    ghost written = { λ _. serves_itself };
 }
 
 impl<A: AsSlice<u32>> ComponentSection for ComponentStartSection<A> {

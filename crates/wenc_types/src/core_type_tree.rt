@@ -36,9 +36,7 @@ impl<A: Allocator> Encode for CoreTypeTree<A> {
     ghost use Rattle.wenc_types.specs.CoreTypes.{core_type};
     ghost use Rattle.wenc_types.specs.CoreTypeTrees.{core_type_cause, core_type_view};
 
-    ghost text = { λ t. (core_type (core_type_view t)).text };
-
-    ghost cause = { λ t. core_type_cause (core_type_view t) };
+    ghost piece = { λ t. core_type (core_type_view t) };
 
     fn encode<B: Allocator>(&self, sink: &mut Vec<u8, B>) -> Result<(), Fault> {
         match self {
@@ -59,18 +57,9 @@ impl<A: Allocator> Delimited for CoreTypeTree<A> {
 
     ghost form = { core_type };
 
-    fn belongs(&self) {
-        match self {
-            CoreTypeTree::Group(group) => group.belongs(),
-            CoreTypeTree::Module(decls) => decls.as_slice().belongs(),
-        }
-    }
-
     ghost readable = { ((λ fuel. read_core_type), core_type_lawful) };
 
-    ghost text_of = { λ x. refl };
-
-    ghost free = { λ x. core_type_free (core_type_view x) };
+    ghost written = { λ _. serves_itself };
 }
 
 impl<A: Allocator> DelimitedEq for CoreTypeTree<A> {
@@ -123,9 +112,7 @@ impl<A: Allocator> Encode for ModuleDecl<A> {
     ghost use Rattle.wenc_types.specs.CoreTypeTrees.{module_declaration_view};
     ghost use Rattle.wenc_types.specs.ModuleTypes.{declaration_cause};
 
-    ghost text = { λ d. (module_declaration (module_declaration_view d)).text };
-
-    ghost cause = { λ d. declaration_cause (module_declaration_view d) };
+    ghost piece = { λ d. module_declaration (module_declaration_view d) };
 
     fn encode<B: Allocator>(&self, sink: &mut Vec<u8, B>) -> Result<(), Fault> {
         match self {
@@ -153,30 +140,9 @@ impl<A: Allocator> Delimited for ModuleDecl<A> {
 
     ghost form = { module_declaration };
 
-    fn belongs(&self) {
-        match self {
-            ModuleDecl::Import { module, name, ty } => {
-                module.as_str().belongs();
-                name.as_str().belongs();
-                ty.belongs();
-            }
-            ModuleDecl::Type(group) => group.belongs(),
-            ModuleDecl::Alias { count, index } => {
-                count.belongs();
-                index.belongs();
-            }
-            ModuleDecl::Export { name, ty } => {
-                name.as_str().belongs();
-                ty.belongs();
-            }
-        }
-    }
-
     ghost readable = { ((λ fuel. read_module_declaration), module_declaration_lawful) };
 
-    ghost text_of = { λ x. refl };
-
-    ghost free = { λ x. declaration_free (module_declaration_view x) };
+    ghost written = { λ _. serves_itself };
 }
 
 impl<A: Allocator> DelimitedEq for ModuleDecl<A> {

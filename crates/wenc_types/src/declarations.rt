@@ -237,9 +237,7 @@ impl<K: DeclaringKind, A: Allocator> Declarations<K, A> {
 /// A byte, then the number of declarations, then these. A finished one is refused for want of memory alone. What is
 /// written has some declarations, whoever made which calls.
 impl<K: DeclaringKind, A: Allocator> Encode for Declarations<K, A> {
-    ghost text = { λ t. K.LEAD ∷ held_text t.held };
-
-    ghost cause = { λ t. EncodeCause t.held };
+    ghost piece = { TODO text = λ t. K.LEAD ∷ held_text t.held cause = λ t. EncodeCause t.held };
 
     ghost unfinished = { λ t. is_finished t.held ≡ false };
 

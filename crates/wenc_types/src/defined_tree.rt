@@ -67,9 +67,7 @@ impl<A: Allocator> Encode for DefinedTree<A> {
     ghost use Rattle.wenc_types.specs.DefinedTypes.{defined_type, defined_cause};
     ghost use Rattle.wenc_types.specs.TypeTrees.{defined_view};
 
-    ghost text = { λ t. (defined_type (defined_view t)).text };
-
-    ghost cause = { λ t. defined_cause (defined_view t) };
+    ghost piece = { λ t. defined_type (defined_view t) };
 
     fn encode<B: Allocator>(&self, sink: &mut Vec<u8, B>) -> Result<(), Fault> {
         match self {
@@ -106,37 +104,9 @@ impl<A: Allocator> Delimited for DefinedTree<A> {
 
     ghost form = { defined_type };
 
-    fn belongs(&self) {
-        match self {
-            DefinedTree::Primitive(ty) => ty.belongs(),
-            DefinedTree::Record(fields) => fields.as_slice().belongs(),
-            DefinedTree::Variant(cases) => cases.as_slice().belongs(),
-            DefinedTree::Tuple(elements) => elements.as_slice().belongs(),
-            DefinedTree::Flags(names) => names.as_slice().belongs(),
-            DefinedTree::Enum(names) => names.as_slice().belongs(),
-            DefinedTree::List(ty) | DefinedTree::Option(ty) => ty.belongs(),
-            DefinedTree::Future(ty) | DefinedTree::Stream(ty) => ty.belongs(),
-            DefinedTree::Own(index) | DefinedTree::Borrow(index) => index.belongs(),
-            DefinedTree::Map { key, value } => {
-                key.belongs();
-                value.belongs();
-            }
-            DefinedTree::FixedLengthList { element, length } => {
-                element.belongs();
-                length.belongs();
-            }
-            DefinedTree::Result { ok, err } => {
-                ok.belongs();
-                err.belongs();
-            }
-        }
-    }
-
     ghost readable = { ((λ fuel. read_defined), defined_type_lawful) };
 
-    ghost text_of = { λ x. refl };
-
-    ghost free = { λ x. defined_free (defined_view x) };
+    ghost written = { λ _. serves_itself };
 }
 
 impl<A: Allocator> DelimitedEq for DefinedTree<A> {
@@ -168,9 +138,7 @@ impl<A: Allocator> Encode for CaseTree<A> {
     ghost use Rattle.wenc_types.specs.DefinedTypes.{case, case_cause};
     ghost use Rattle.wenc_types.specs.TypeTrees.{case_view};
 
-    ghost text = { λ c. (case (case_view c)).text };
-
-    ghost cause = { λ c. case_cause (case_view c) };
+    ghost piece = { λ c. case (case_view c) };
 
     fn encode<B: Allocator>(&self, sink: &mut Vec<u8, B>) -> Result<(), Fault> {
         // the byte would say which case this one refines
@@ -190,16 +158,9 @@ impl<A: Allocator> Delimited for CaseTree<A> {
 
     ghost form = { case };
 
-    fn belongs(&self) {
-        self.name.belongs();
-        self.ty.belongs();
-    }
-
     ghost readable = { ((λ fuel. read_case), case_lawful) };
 
-    ghost text_of = { λ x. refl };
-
-    ghost free = { λ x. case_free (case_view x) };
+    ghost written = { λ _. serves_itself };
 }
 
 impl<A: Allocator> DelimitedEq for CaseTree<A> {

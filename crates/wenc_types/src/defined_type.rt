@@ -211,9 +211,7 @@ struct Case<'a> {
 impl<'a> Encode for Case<'a> {
     ghost use Rattle.wenc_types.specs.DefinedTypes.{case};
 
-    ghost text = { λ c. (case (record { name = c.name.now; ty = c.ty })).text };
-
-    ghost cause = { λ c. case_cause (record { name = c.name.now; ty = c.ty }) };
+    ghost piece = { λ c. case (record { name = c.name.now; ty = c.ty }) };
 
     /// The byte behind says that it refines no other case.
     fn encode<A: Allocator>(&self, sink: &mut Vec<u8, A>) -> Result<(), Fault> {

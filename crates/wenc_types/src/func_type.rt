@@ -1,8 +1,8 @@
 ghost use Rattle.std.specs.Iterator.{IsFinite};
 ghost use Rattle.std.specs.Prelude.{◌≡◌, ◌∷◌, ◌++◌, [], ℕ, List, true, false, map, OnOk, OnErr};
-ghost use Rattle.wenc_base.specs.Fault.{drawn_cause};
+ghost use Rattle.wenc_base.specs.Fault.{drawn_cause, either};
 ghost use Rattle.wenc_base.specs.Forms.{list};
-ghost use Rattle.wenc_base.specs.Lender.{either, Extends, ExtendsListed, MakesWhole};
+ghost use Rattle.wenc_base.specs.Lender.{Extends, ExtendsListed, MakesWhole};
 ghost use Rattle.wenc_parts.specs.Types.{result_list};
 ghost use Rattle.wenc_types.specs.DefinedTypes.{Function, function_type, named, named_cause, lent_named};
 ghost use Rattle.wenc_types.specs.FuncStages.{async_byte, BeforeParams, lead_from, goes_on, Remains};

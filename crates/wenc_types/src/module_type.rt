@@ -161,9 +161,7 @@ impl<A: Allocator> Encode for ModuleType<A> {
     ghost use Rattle.std.specs.Prelude.{◌∷◌};
     ghost use Rattle.wenc_base.specs.Holder.{held_text, EncodeCause};
 
-    ghost text = { λ t. 0x50 ∷ held_text t.held };
-
-    ghost cause = { λ t. EncodeCause t.held };
+    ghost piece = { TODO text = λ t. 0x50 ∷ held_text t.held cause = λ t. EncodeCause t.held };
 
     ghost unfinished = { λ t. is_finished t.held ≡ false };
 

@@ -1,7 +1,7 @@
 ghost use Rattle.std.specs.Prelude.{◌∷◌, map, refl};
-ghost use Rattle.wenc_base.specs.Delimited.{NoCause, FreeFits};
+ghost use Rattle.wenc_base.specs.Delimited.{FreeFits};
 ghost use Rattle.wenc_base.specs.Encode.{Appends};
-ghost use Rattle.wenc_base.specs.Fault.{list_cause};
+ghost use Rattle.wenc_base.specs.Fault.{list_cause, NoCause};
 ghost use Rattle.wenc_base.specs.Forms.{list_text, list};
 ghost use Rattle.wenc_base.specs.Piece.{◌⨾◌};
 ghost use Rattle.wenc_parts.specs.Imports.{extern_name, extern_name_cause, name_tree_view, type_reference};
@@ -90,9 +90,7 @@ impl<A: Allocator> Encode for TypeTree<A> {
     ghost use Rattle.wenc_types.specs.ComponentTypes.{type_of};
     ghost use Rattle.wenc_types.specs.TypeTrees.{type_cause, type_view};
 
-    ghost text = { λ t. (type_of (type_view t)).text };
-
-    ghost cause = { λ t. type_cause (type_view t) };
+    ghost piece = { λ t. type_of (type_view t) };
 
     #[cycle(encode)]
     fn encode<B: Allocator>(&self, sink: &mut Vec<u8, B>) -> Result<(), Fault> {
@@ -114,9 +112,7 @@ impl<A: Allocator> Encode for InstanceDecl<A> {
     ghost use Rattle.wenc_types.specs.ComponentTypes.{instance_declaration};
     ghost use Rattle.wenc_types.specs.TypeTrees.{instance_declaration_cause, instance_declaration_view};
 
-    ghost text = { λ d. (instance_declaration (instance_declaration_view d)).text };
-
-    ghost cause = { λ d. instance_declaration_cause (instance_declaration_view d) };
+    ghost piece = { λ d. instance_declaration (instance_declaration_view d) };
 
     #[cycle(encode)]
     fn encode<B: Allocator>(&self, sink: &mut Vec<u8, B>) -> Result<(), Fault> {
@@ -133,9 +129,7 @@ impl<A: Allocator> Encode for ComponentDecl<A> {
     ghost use Rattle.wenc_types.specs.ComponentTypes.{component_declaration};
     ghost use Rattle.wenc_types.specs.TypeTrees.{component_declaration_cause, component_declaration_view};
 
-    ghost text = { λ d. (component_declaration (component_declaration_view d)).text };
-
-    ghost cause = { λ d. component_declaration_cause (component_declaration_view d) };
+    ghost piece = { λ d. component_declaration (component_declaration_view d) };
 
     #[cycle(encode)]
     fn encode<B: Allocator>(&self, sink: &mut Vec<u8, B>) -> Result<(), Fault> {
@@ -159,28 +153,10 @@ impl<A: Allocator> Delimited for TypeTree<A> {
     ghost form = { type_of };
 
     #[cycle(belongs)]
-    fn belongs(&self) {
-        match self {
-            TypeTree::Defined(ty) => ty.belongs(),
-            TypeTree::Func {
-                is_async,
-                params,
-                result,
-            } => function_belongs(*is_async, params, *result),
-            TypeTree::Component(decls) => members_belong(decls),
-            TypeTree::Instance(decls) => members_belong(decls),
-            TypeTree::Resource { rep, dtor } => {
-                rep.belongs();
-                dtor.belongs();
-            }
-        }
-    }
 
     ghost readable = { (read_type, type_lawful) };
 
-    ghost text_of = { λ x. refl };
-
-    ghost free = { λ x. type_free (type_view x) };
+    ghost written = { λ _. serves_itself };
 }
 
 impl<A: Allocator> Delimited for InstanceDecl<A> {
@@ -196,23 +172,13 @@ impl<A: Allocator> Delimited for InstanceDecl<A> {
     ghost form = { instance_declaration };
 
     #[cycle(belongs)]
-    fn belongs(&self) {
-        match self {
-            InstanceDecl::CoreType(ty) => ty.belongs(),
-            InstanceDecl::Type(ty) => ty.belongs(),
-            InstanceDecl::Alias(alias) => alias.as_alias().belongs(),
-            InstanceDecl::Export { name, ty } => extern_belongs(name, *ty),
-        }
-    }
 
     ghost readable = { (
       (λ fuel. read_instance_declaration (read_type fuel)),
       instance_declaration_lawful,
     ) };
 
-    ghost text_of = { λ x. refl };
-
-    ghost free = { λ x. instance_declaration_free (instance_declaration_view x) };
+    ghost written = { λ _. serves_itself };
 }
 
 impl<A: Allocator> Delimited for ComponentDecl<A> {
@@ -228,21 +194,13 @@ impl<A: Allocator> Delimited for ComponentDecl<A> {
     ghost form = { component_declaration };
 
     #[cycle(belongs)]
-    fn belongs(&self) {
-        match self {
-            ComponentDecl::Import { name, ty } => extern_belongs(name, *ty),
-            ComponentDecl::Decl(decl) => decl.belongs(),
-        }
-    }
 
     ghost readable = { (
       (λ fuel. read_component_declaration (read_type fuel)),
       component_declaration_lawful,
     ) };
 
-    ghost text_of = { λ x. refl };
-
-    ghost free = { λ x. component_declaration_free (component_declaration_view x) };
+    ghost written = { λ _. serves_itself };
 }
 
 /// A byte, then a value.

@@ -1,16 +1,11 @@
 -- The laws of types that core modules define.
 use Rattle.std.specs.Cmp.Lexicographic.{pointwise}
-use Rattle.std.proofs.Common.{Vec, ◌&&◌, ℕ, ◌<◌, ◌^◌, Bool, true, false, List, [], ◌∷◌, ◌++◌, length, map, Option, Some, None, refl, sym, ap, subst, ◌≡◌}
-use Rattle.std.proofs.lemmas.List.{map-id}
-use Rattle.wenc_base.specs.Delimited.{NoCause, FreeFits, AlikeIsEqual}
-use Rattle.wenc_base.specs.declared.fault.Fault.{Fault}
-use Rattle.wenc_base.specs.Fault.{list_cause}
+use Rattle.std.proofs.Common.{Vec, ◌&&◌, ℕ, Bool, true, false, List, [], ◌∷◌, ◌++◌, Option, Some, None, refl, ap, ◌≡◌}
+use Rattle.wenc_base.specs.Delimited.{AlikeIsEqual}
 use Rattle.wenc_base.specs.Forms.{list, option}
 use Rattle.wenc_base.specs.Number.{u32}
 use Rattle.wenc_base.specs.Piece.{Form, Wide, ◌▸◌, ◌⨾◌}
-use Rattle.wenc_base.specs.Types.{val_type}
-use Rattle.wenc_base.specs.laws.Causes.{no_member, seen_cause}
-use Rattle.wenc_base.specs.laws.Delimited.{count_free, pair_cause_free, first_free, second_free, list_free, list_equal}
+use Rattle.wenc_base.specs.laws.Delimited.{list_equal}
 use Rattle.wenc_base.specs.laws.Lawful.{Lawful, Reader, ◌>>=◌, give, nowhere, choose, row, row_byte, first_of_two, then, last}
 use Rattle.wenc_base.specs.laws.Sound.{Sound, behind, RowsAreSound, both_tables, give_sound, last_sound, then_sound, nowhere_sound, choose_sound}
 use Rattle.wenc_base.specs.laws.Numbers.{read_u32, u32_lawful, u32_sound}
@@ -28,7 +23,7 @@ use Rattle.wenc_base.specs.declared.types.groups.GroupTree.TheVariants as groups
 use Rattle.wenc_base.specs.declared.types.storage.StorageType.{StorageType}
 use Rattle.wenc_base.specs.declared.types.storage.StorageType.TheVariants.{I8, I16, Val}
 use Rattle.wenc_base.specs.declared.types.storage.FieldType.{FieldType}
-use Rattle.wenc_base.specs.Composites.{storage_type, field_type, Composite, Func, Array, Struct, composite_type, Sub, sub_type_of, sub_type, final, Group, Single, Rec, group, length_cause, composite_cause, sub_cause, group_cause, params_of, results_of, function_view, array_view, structure_view, composite_view, sub_view, group_view}
+use Rattle.wenc_base.specs.Composites.{storage_type, field_type, Composite, Func, Array, Struct, composite_type, Sub, sub_type_of, sub_type, final, Group, Single, Rec, group, params_of, results_of, function_view, array_view, structure_view, composite_view, sub_view, group_view}
 
 -- ---- fields
 
@@ -196,48 +191,6 @@ group_lawful g = group_row (λ h. h) (λ fuel. []) _ g
 
 pub group_sound : Sound group read_group
 group_sound = choose_sound _ _ (group_rows_sound group (λ g. g) (λ g bytes rest r. r)) nowhere_sound
-
--- ---- what can be encoded
-
-length_free : {A : Type 0} (vs : List A) → length vs < 2 ^ 32 → NoCause (length_cause vs)
-length_free vs h = pair_cause_free _ _ (count_free (length vs) h) (no_member vs)
-
--- what fits has no cause
-pub composite_free : (c : Composite) → (composite_type c).Fits → NoCause (composite_cause c)
-composite_free (Func params results) h = pair_cause_free _ _ (length_free params h.0.0) (length_free results h.1.0)
-composite_free (Array f) h = λ fault cause. cause
-composite_free (Struct fields) h = length_free fields h.0
-
-pub sub_free : (s : Sub) → (sub_type s).Fits → NoCause (sub_cause s)
-sub_free s = of s.is_final s.supertype s.composite
-  where
-    of : (is_final : Bool) (supertype : Option ℕ) (c : Composite) → (sub_type_of is_final supertype c).Fits → NoCause (composite_cause c)
-    of true None c h = composite_free c h
-    of true (Some n) c h = composite_free c h.1
-    of false supertype c h = composite_free c h.1
-
-pub group_free : (g : Group) → (group g).Fits → NoCause (group_cause g)
-group_free (Single s) h = sub_free s h
-group_free (Rec types) h = list_free sub_cause (λ s. s) sub_type sub_free types (rw (map-id types) h)
-
--- lists that fit where they have no cause
-pub function_fits : (params results : List ValType) → FreeFits length_cause (map (λ t. t)) (list val_type) params → FreeFits length_cause (map (λ t. t)) (list val_type) results
-    → FreeFits composite_cause (λ c. c) composite_type (Func params results)
-function_fits params results one two none = (rw (map-id params) at (one (first_free _ _ none)), rw (map-id results) at (two (second_free _ _ none)))
-
-pub structure_fits : (fields : List FieldType) → FreeFits length_cause (map (λ f. f)) (list field_type) fields → FreeFits composite_cause (λ c. c) composite_type (Struct fields)
-structure_fits fields one none = rw (map-id fields) at (one none)
-
-pub sub_fits : (is_final : Bool) (supertype : Option ℕ) (c : Composite) → (option u32 supertype).Fits → (composite_type c).Fits → (sub_type_of is_final supertype c).Fits
-sub_fits true None c h k = k
-sub_fits true (Some n) c h k = (h, k)
-sub_fits false supertype c h k = (h, k)
-
-pub types_fit : {A : Type 0} (types : List (SubType A)) → FreeFits (list_cause (λ s. sub_cause (sub_view s))) (map sub_view) (list sub_type) types
-    → FreeFits group_cause (λ g. g) group (Rec (map sub_view types))
-types_fit types one none =
-    let P : (Fault → Type 0) → Type 0 = NoCause in
-    one (subst P (sym (seen_cause sub_view sub_cause types)) none)
 
 -- ---- equal types
 

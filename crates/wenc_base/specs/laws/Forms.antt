@@ -1,16 +1,15 @@
 -- The laws of forms made of others.
-use Rattle.std.proofs.Common.{◌≡◌, ℕ, ◌≤◌, ◌^◌, Bool, true, false, true≢false, cond, List, [], ◌∷◌, ◌++◌, length, take, drop, Option, Some, None, refl, sym, ◌∙◌, append_assoc, arith, inl, inr}
+use Rattle.std.proofs.Common.{◌≡◌, ℕ, ◌≤◌, ◌^◌, Bool, true, false, cond, List, [], ◌∷◌, ◌++◌, length, take, drop, Option, Some, None, refl, sym, ◌∙◌, append_assoc, arith, inl, inr}
 use Rattle.std.specs.Prelude.{nat_lt}
 use Rattle.std.specs.Str.{is_utf8}
-use Rattle.std.proofs.lemmas.Bool.{cases_lt, lt-ltb, le-ltb}
-use Rattle.std.proofs.lemmas.List.{take_at, drop_at, take-append-drop, length-take-le, length-append}
-use Rattle.std.proofs.lemmas.Str.{IsUtf8-from_is_utf8, is_utf8-from_IsUtf8}
+use Rattle.std.proofs.lemmas.Bool.{cases_lt}
+use Rattle.std.proofs.lemmas.List.{take_at, drop_at}
 use Rattle.wenc_base.specs.Number.{u32}
 use Rattle.wenc_base.specs.Piece.{Whole, Form, Wide, each, raw}
 use Rattle.wenc_base.specs.laws.Sound.{Then, Sound, ThenAll, SoundWhole, weaken, behind_value, then_sound, last_sound, give_sound, nowhere_sound, choose_sound, times_sound, whole_sound}
 use Rattle.wenc_base.specs.Forms.{flag, list, option, option_text, utf8, name, AreBytes, sized, byte_list, counted}
 use Rattle.wenc_base.specs.laws.Lawful.{Lawful, LawfulWhole, Reader, ◌>>=◌, give, nowhere, times, choose, row, row_byte, then, last, done, each_lawful, whole_lawful, raw_lawful}
-use Rattle.wenc_base.specs.laws.Numbers.{read_u32, u32_lawful, u32_sound, groups_are_read}
+use Rattle.wenc_base.specs.laws.Numbers.{read_u32, u32_lawful, count_lawful, size_lawful, size_free, u32_sound, groups_are_read}
 
 -- ---- flags
 
@@ -24,17 +23,13 @@ flag_lawful true = row_byte _ _ 1 (λ fuel rest. refl)
 pub flag_sound : Sound flag read_flag
 flag_sound = choose_sound _ _ (give_sound false (λ bytes. refl), (give_sound true (λ bytes. refl), tt)) nowhere_sound
 
-pub flag_fits : (b : Bool) → (flag b).Fits
-flag_fits false = tt
-flag_fits true = tt
-
 -- ---- lists
 
 abbrev pub read_list : {A : Type 0} → Reader A → Reader (List A)
 read_list read = read_u32 >>= times read
 
 pub list_lawful : {A : Type 0} {form : Form A} {read : ℕ → Reader A} → ((v : A) → Lawful (form v) read v) → (vs : List A) → Lawful (list form vs) (λ fuel. read_list (read fuel)) vs
-list_lawful laws vs = then _ (u32_lawful (length vs)) (each_lawful laws vs)
+list_lawful laws vs = then _ (count_lawful (length vs)) (each_lawful laws vs)
 
 pub list_sound : {A : Type 0} {form : Form A} {read : Reader A} → Sound form read → Sound (list form) (read_list read)
 list_sound {form = form} {read = read} s =
@@ -69,6 +64,8 @@ utf8_lawful bs = record {
   text_is_read = λ mode rest h. (h, refl);
   strict_is_text = λ bytes rest r. r.1;
   fits = λ bytes rest r. r.0;
+  free = λ h fault c. c;
+  never = λ c. c;
   depth = 0;
   finds = λ fuel le mode bytes rest r. rw (r.1, le-ltb (length (bs ++ rest)) (length bs) (omega (arith, length-append bs rest)), take_at bs rest (length bs) refl, drop_at bs rest (length bs) refl, is_utf8-from_IsUtf8 bs r.0) refl;
 }
@@ -89,7 +86,7 @@ abbrev pub read_name : Reader (List ℕ)
 read_name = read_u32 >>= read_text
 
 pub name_lawful : (bs : List ℕ) → Lawful (name bs) (λ fuel. read_name) bs
-name_lawful bs = then _ (u32_lawful (length bs)) (utf8_lawful bs)
+name_lawful bs = then _ (size_lawful (length bs)) (utf8_lawful bs)
 
 pub name_sound : Sound name read_name
 name_sound = then_sound _ u32_sound (λ n. record {
@@ -116,6 +113,8 @@ sized_lawful {w = w} a = record {
       (let whole : r.0 ≡ w.text = a.strict_is_text r.0 r.2 in
       (u32_lawful (length r.0)).strict_is_text bytes (r.0 ++ rest) r.1 ∙ rw whole (sym (append_assoc _ w.text rest)));
   fits = λ bytes rest r. (rw (a.strict_is_text r.0 r.2) at ((u32_lawful (length r.0)).fits bytes (r.0 ++ rest) r.1), a.fits r.0 r.2);
+  free = λ h fault c. elim c [ inl large ↦ size_free (length w.text) h.0 fault large | inr own ↦ a.free h.1 fault own ];
+  never = λ c. elim c [ inl large ↦ large | inr own ↦ a.never own ];
   depth = a.depth;
   finds = λ fuel le mode bytes rest r.
       rw (groups_are_read mode 128 (2 ^ 32) 4 (length r.0) bytes (r.0 ++ rest) (omega arith) r.1.0 r.1.1, le-ltb (length (r.0 ++ rest)) (length r.0) (omega (arith, length-append r.0 rest)), take_at r.0 rest (length r.0) refl, drop_at r.0 rest (length r.0) refl, a.finds fuel le mode r.0 r.2) refl;

@@ -1,6 +1,5 @@
 -- Groups of seven bits, below the largest last one and from it on.
 use Rattle.std.proofs.Common.{◌≡◌, ℕ, zero, suc, ◌+◌, ◌*◌, ◌/◌, ◌%◌, ◌<◌, ◌≤◌, [], ◌∷◌, refl}
-use Rattle.std.proofs.lemmas.Bool.{le-ltb, lt-ltb}
 use Rattle.wenc_base.specs.Number.{groups}
 
 -- what a number is below, that is written with so many bytes before the last

@@ -1,10 +1,12 @@
 -- The laws of a piece and of its reader, and what follows from them.
 use Rattle.std.proofs.Common.{◌≡◌, ℕ, zero, suc, ◌+◌, ◌≤◌, ◌≢◌, Bool, true, false, cond, eqb, List, [], ◌∷◌, ◌++◌, length, Option, Some, None, refl, sym, ap, ◌∙◌, append_assoc, arith, inl, inr}
-use Rattle.std.proofs.lemmas.List.{append-nil}
 use Rattle.std.proofs.lemmas.Option.{some_pair_parts, same_Some}
 use Rattle.std.proofs.lemmas.Bool.Decides.{nat_tests}
 use Rattle.wenc_base.specs.FormLaws.{FormLaws}
-use Rattle.wenc_base.specs.Piece.{Piece, Whole, Form, Spelling, Strict, Wide, nothing, byte, ◌▸◌, also, or_widely, ◌⨾◌, only_where, each, all_of, end, raw, ◌⨾⨾◌}
+use Rattle.wenc_base.specs.Fault.{NoCause}
+use Rattle.wenc_base.specs.declared.fault.Fault.{Fault}
+use Rattle.wenc_base.specs.declared.fault.Fault.TheVariants.{Unfinished}
+use Rattle.wenc_base.specs.Piece.{Piece, Whole, Form, Spelling, Strict, Wide, nothing, byte, refused_for, ◌▸◌, also, or_widely, ◌⨾◌, only_where, each, all_of, end, raw, ◌⨾⨾◌}
 
 -- ---- readers
 
@@ -47,6 +49,8 @@ pub record Lawful {A : Type 0} (p : Piece) (read : ℕ → Reader A) (v : A) : T
   pub text_is_read : (mode : Spelling) (rest : List ℕ) → p.Fits → p.Reads mode (p.text ++ rest) rest
   pub strict_is_text : (bytes rest : List ℕ) → p.Reads Strict bytes rest → bytes ≡ p.text ++ rest
   pub fits : (bytes rest : List ℕ) → p.Reads Strict bytes rest → p.Fits
+  pub free : p.Fits → NoCause p.Cause
+  pub never : p.Cause Unfinished → ⊥
   pub depth : ℕ
   pub finds : (fuel : ℕ) → depth ≤ fuel → (mode : Spelling) (bytes rest : List ℕ) → p.Reads mode bytes rest → read fuel bytes ≡ Some (v, rest)
 
@@ -54,6 +58,8 @@ pub record LawfulWhole {A : Type 0} (w : Whole) (read : ℕ → List ℕ → Opt
   pub text_is_read : (mode : Spelling) → w.Fits → w.ReadsAll mode w.text
   pub strict_is_text : (bytes : List ℕ) → w.ReadsAll Strict bytes → bytes ≡ w.text
   pub fits : (bytes : List ℕ) → w.ReadsAll Strict bytes → w.Fits
+  pub free : w.Fits → NoCause w.Cause
+  pub never : w.Cause Unfinished → ⊥
   pub depth : ℕ
   pub finds : (fuel : ℕ) → depth ≤ fuel → (mode : Spelling) (bytes : List ℕ) → w.ReadsAll mode bytes → read fuel bytes ≡ Some v
 
@@ -110,6 +116,8 @@ nothing_lawful v = record {
   text_is_read = λ mode rest h. refl;
   strict_is_text = λ bytes rest r. r;
   fits = λ bytes rest r. tt;
+  free = λ h fault c. c;
+  never = λ c. c;
   depth = 0;
   finds = λ fuel le mode bytes rest r. rw r refl;
 }
@@ -121,8 +129,22 @@ row_byte table other b e = record {
   text_is_read = λ mode rest h. refl;
   strict_is_text = λ bytes rest r. r;
   fits = λ bytes rest r. tt;
+  free = λ h fault c. c;
+  never = λ c. c;
   depth = 0;
   finds = λ fuel le mode bytes rest r. rw r (e fuel rest);
+}
+
+-- a piece that is refused for another cause
+pub refused_lawful : {A : Type 0} {p : Piece} {read : ℕ → Reader A} {v : A} (cause : Fault → Type 0) → Lawful p read v → (p.Fits → NoCause cause) → (cause Unfinished → ⊥) → Lawful (refused_for cause p) read v
+refused_lawful cause l free never = record {
+  text_is_read = l.text_is_read;
+  strict_is_text = l.strict_is_text;
+  fits = l.fits;
+  free = free;
+  never = never;
+  depth = l.depth;
+  finds = l.finds;
 }
 
 -- ---- choices by the first byte
@@ -134,6 +156,8 @@ row {p = p} table other b l = record {
   text_is_read = λ mode rest h. (p.text ++ rest, refl, l.text_is_read mode rest h);
   strict_is_text = λ bytes rest r. r.1 ∙ ap (λ (t : List ℕ). b ∷ t) (l.strict_is_text r.0 rest r.2);
   fits = λ bytes rest r. l.fits r.0 rest r.2;
+  free = l.free;
+  never = l.never;
   depth = l.depth;
   finds = λ fuel le mode bytes rest r. rw r.1 (l.finds fuel le mode r.0 rest r.2);
 }
@@ -145,6 +169,8 @@ row_also {p = p} {v = v} table other b c l k = record {
   text_is_read = λ mode rest h. (p.text ++ rest, inl refl, l.text_is_read mode rest h);
   strict_is_text = λ bytes rest r. elim r.1 [ inl e ↦ e ∙ ap (λ (t : List ℕ). b ∷ t) (l.strict_is_text r.0 rest r.2) | inr w ↦ absurd w.0 ];
   fits = λ bytes rest r. l.fits r.0 rest r.2;
+  free = l.free;
+  never = l.never;
   depth = l.depth + k.depth;
   finds = λ fuel le mode bytes rest r. elim r.1 [ inl e ↦ rw e (l.finds fuel (omega arith) mode r.0 rest r.2) | inr w ↦ rw w.1 (k.finds fuel (omega arith) mode r.0 rest r.2) ];
 }
@@ -158,6 +184,8 @@ first_byte table other b l =
       text_is_read = λ mode rest h. r.text_is_read mode rest h.1;
       strict_is_text = r.strict_is_text;
       fits = λ bytes rest reads. (tt, r.fits bytes rest reads);
+      free = λ h fault c. elim c [ inl k ↦ k | inr k ↦ r.free h.1 fault k ];
+      never = λ c. elim c [ inl k ↦ k | inr k ↦ r.never k ];
       depth = r.depth;
       finds = r.finds;
     }
@@ -171,6 +199,8 @@ first_of_two p q table other b l =
       text_is_read = λ mode rest h. (let s = r.text_is_read mode rest h in (s.2.0, (s.0, s.1, s.2.1), s.2.2));
       strict_is_text = λ bytes rest s. r.strict_is_text bytes rest (s.1.0, s.1.1, (s.0, s.1.2, s.2));
       fits = λ bytes rest s. r.fits bytes rest (s.1.0, s.1.1, (s.0, s.1.2, s.2));
+      free = r.free;
+      never = r.never;
       depth = r.depth;
       finds = λ fuel le mode bytes rest s. r.finds fuel le mode bytes rest (s.1.0, s.1.1, (s.0, s.1.2, s.2));
     }
@@ -181,6 +211,8 @@ or_widely_lawful a b = record {
   text_is_read = λ mode rest h. inl (a.text_is_read mode rest h);
   strict_is_text = λ bytes rest r. elim r [ inl e ↦ a.strict_is_text bytes rest e | inr w ↦ absurd w.0 ];
   fits = λ bytes rest r. elim r [ inl e ↦ a.fits bytes rest e | inr w ↦ absurd w.0 ];
+  free = a.free;
+  never = a.never;
   depth = a.depth + b.depth;
   finds = λ fuel le mode bytes rest r. elim r [ inl e ↦ a.finds fuel (omega arith) mode bytes rest e | inr w ↦ b.finds fuel (omega arith) mode bytes rest w.1 ];
 }
@@ -208,6 +240,8 @@ past table other begins l = record {
   text_is_read = l.text_is_read;
   strict_is_text = l.strict_is_text;
   fits = l.fits;
+  free = l.free;
+  never = l.never;
   depth = l.depth;
   finds = λ fuel le mode bytes rest r.
       (let s = (begins fuel).starts mode bytes rest r in
@@ -221,6 +255,8 @@ then {p = p} {q = q} next a b = record {
   text_is_read = λ mode rest h. (q.text ++ rest, rw append_assoc (a.text_is_read mode (q.text ++ rest) h.0), b.text_is_read mode rest h.1);
   strict_is_text = λ bytes rest r. a.strict_is_text bytes r.0 r.1 ∙ ap (λ (t : List ℕ). p.text ++ t) (b.strict_is_text r.0 rest r.2) ∙ sym (append_assoc p.text q.text rest);
   fits = λ bytes rest r. (a.fits bytes r.0 r.1, b.fits r.0 rest r.2);
+  free = λ h fault c. elim c [ inl k ↦ a.free h.0 fault k | inr k ↦ b.free h.1 fault k ];
+  never = λ c. elim c [ inl k ↦ a.never k | inr k ↦ b.never k ];
   depth = a.depth + b.depth;
   finds = λ fuel le mode bytes rest r. rw (a.finds fuel (omega arith) mode bytes r.0 r.1) (b.finds fuel (omega arith) mode r.0 rest r.2);
 }
@@ -231,6 +267,8 @@ last make a = record {
   text_is_read = a.text_is_read;
   strict_is_text = a.strict_is_text;
   fits = a.fits;
+  free = a.free;
+  never = a.never;
   depth = a.depth;
   finds = λ fuel le mode bytes rest r. rw (a.finds fuel le mode bytes rest r) refl;
 }
@@ -241,6 +279,8 @@ only_where_lawful P a = record {
   text_is_read = λ mode rest h. (h.0, a.text_is_read mode rest h.1);
   strict_is_text = λ bytes rest r. a.strict_is_text bytes rest r.1;
   fits = λ bytes rest r. (r.0, a.fits bytes rest r.1);
+  free = λ h. a.free h.1;
+  never = a.never;
   depth = a.depth;
   finds = λ fuel le mode bytes rest r. a.finds fuel le mode bytes rest r.1;
 }
@@ -256,6 +296,8 @@ deeper {p = p} {read = read} {v = v} a = record {
   text_is_read = a.text_is_read;
   strict_is_text = a.strict_is_text;
   fits = a.fits;
+  free = a.free;
+  never = a.never;
   depth = suc a.depth;
   finds = finds;
 }
@@ -280,6 +322,8 @@ whole_lawful {p = p} a = record {
   text_is_read = λ mode h. rw append-nil at (a.text_is_read mode [] h);
   strict_is_text = λ bytes r. a.strict_is_text bytes [] r ∙ append-nil p.text;
   fits = λ bytes r. a.fits bytes [] r;
+  free = a.free;
+  never = a.never;
   depth = a.depth;
   finds = λ fuel le mode bytes r. rw (a.finds fuel le mode bytes [] r) refl;
 }
@@ -291,6 +335,8 @@ raw_lawful P is_so bs make test = record {
   text_is_read = λ mode h. (h, refl);
   strict_is_text = λ bytes r. r.1;
   fits = λ bytes r. r.0;
+  free = λ h fault c. c;
+  never = λ c. c;
   depth = 0;
   finds = λ fuel le mode bytes r. rw (r.1, test r.0) refl;
 }
@@ -300,6 +346,8 @@ then_whole {p = p} {q = q} next a b = record {
   text_is_read = λ mode h. (q.text, a.text_is_read mode q.text h.0, b.text_is_read mode h.1);
   strict_is_text = λ bytes r. a.strict_is_text bytes r.0 r.1 ∙ ap (λ (t : List ℕ). p.text ++ t) (b.strict_is_text r.0 r.2);
   fits = λ bytes r. (a.fits bytes r.0 r.1, b.fits r.0 r.2);
+  free = λ h fault c. elim c [ inl k ↦ a.free h.0 fault k | inr k ↦ b.free h.1 fault k ];
+  never = λ c. elim c [ inl k ↦ a.never k | inr k ↦ b.never k ];
   depth = a.depth + b.depth;
   finds = λ fuel le mode bytes r. rw (a.finds fuel (omega arith) mode bytes r.0 r.1) (b.finds fuel (omega arith) mode r.0 r.2);
 }
@@ -313,6 +361,8 @@ last_whole make a = record {
   text_is_read = a.text_is_read;
   strict_is_text = a.strict_is_text;
   fits = a.fits;
+  free = a.free;
+  never = a.never;
   depth = a.depth;
   finds = λ fuel le mode bytes r. rw (a.finds fuel le mode bytes r) refl;
 }
@@ -330,6 +380,8 @@ at_end none read next = record {
   text_is_read = λ mode h. refl;
   strict_is_text = λ bytes r. r;
   fits = λ bytes r. tt;
+  free = λ h fault c. c;
+  never = λ c. c;
   depth = 0;
   finds = λ fuel le mode bytes r. rw r refl;
 }
@@ -347,6 +399,8 @@ before_end {v = v} none read next some a b =
       text_is_read = l.text_is_read;
       strict_is_text = l.strict_is_text;
       fits = l.fits;
+      free = l.free;
+      never = l.never;
       depth = a.depth + l.depth;
       finds = λ fuel le mode bytes r. some_left none (read fuel) (next fuel) bytes (v, r.0) (some fuel) (a.finds fuel (omega arith) mode bytes r.0 r.1) ∙ l.finds fuel (omega arith) mode bytes r;
     }
@@ -356,6 +410,8 @@ deeper_whole {p = p} {read = read} {v = v} a = record {
   text_is_read = a.text_is_read;
   strict_is_text = a.strict_is_text;
   fits = a.fits;
+  free = a.free;
+  never = a.never;
   depth = suc a.depth;
   finds = finds;
 }

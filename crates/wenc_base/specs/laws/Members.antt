@@ -1,16 +1,15 @@
 -- What a holder whose members are texts of one kind stays through all calls.
-use Rattle.std.proofs.Common.{◌≡◌, ℕ, ◌+◌, ◌-◌, Bool, true, false, is_none, Option, Some, None, Result, Ok, Err, ◌⊎◌, inl, inr, ◌↔◌, append_assoc, List, [], ◌∷◌, ◌++◌, length, map, refl, sym, ap, ◌∙◌, arith, length-append, subst}
+use Rattle.std.proofs.Common.{◌≡◌, ℕ, ◌+◌, ◌-◌, Bool, true, false, is_none, Option, Some, None, Result, Ok, Err, ◌⊎◌, inl, inr, ◌↔◌, append_assoc, List, [], ◌∷◌, ◌++◌, length, refl, sym, ◌∙◌, arith, subst}
 use Rattle.std.proofs.Math.Logic.{∥∥₁_map₂, ∥∥₁_elim, ∥∥₁_prop}
-use Rattle.std.proofs.Math.Seq.{drop-append_seam}
-use Rattle.std.proofs.lemmas.List.{append-nil, take_at, take-append-drop, take-append-le}
+use Rattle.std.proofs.lemmas.List.{take_at}
 use Rattle.std.specs.List.{flat_map, AllByRecursion}
 use Rattle.std.specs.Prelude.{IsTrue}
-use Rattle.wenc_base.specs.Piece.{Form, HasForm}
-use Rattle.wenc_base.specs.Forms.{list_text}
-use Rattle.wenc_base.specs.Holder.{Held, is_finished, with_member, holding, as_they_are, Contains, ContainsSome, AddsMember, AddsListed, listed_text}
+use Rattle.wenc_base.specs.Encode.{Serves}
+use Rattle.wenc_base.specs.Piece.{Piece, Form, HasForm, verbatim}
+use Rattle.wenc_base.specs.Holder.{Held, is_finished, with_member, holding, Contains, ContainsSome, AddsMember, AddsListed}
 use Rattle.wenc_base.specs.Lender.{Extends, ExtendsListed, MakesWhole}
 use Rattle.wenc_base.specs.Openings.{opened_with, lengthened, closed, given_up, member_text, OpeningIsIn, HasMembers}
-use Rattle.wenc_base.specs.laws.Holders.{contains_next, list_text_map}
+use Rattle.wenc_base.specs.laws.Holders.{contains_next, all_more}
 use Rattle.wenc_base.specs.declared.fault.Fault.{Fault}
 use Rattle.wenc_base.specs.declared.fault.Fault.TheVariants.{Unfinished}
 use Rattle.wenc_base.specs.declared.holder.openings.Opening.{Opening}
@@ -84,14 +83,14 @@ was_finished h x refused = at (is_finished h) refused
 abbrev pub IsLonger : Held → Held → Type 0
 IsLonger old new = (new ≡ old) ⊎ ((text : List ℕ) × (new ≡ lengthened old text))
 
-pub extended : (old new : Held) (outcome : Result (Unit {0}) Fault) (text : List ℕ) (cause : Fault → Type 0) → Extends old new (lengthened old text) outcome cause → IsLonger old new
-extended old new (Ok u) text cause e = inr (text, e.ok)
-extended old new (Err f) text cause e = inl e.err
+pub extended : (p : Piece) (old new : Held) (outcome : Result (Unit {0}) Fault) (refuses : Fault → Type 0) → Extends old new (lengthened old p.text) outcome p refuses → IsLonger old new
+extended p old new (Ok u) refuses e = inr (p.text, e.ok)
+extended p old new (Err f) refuses e = inl e.err
 
 pub extended_list : {S B : Type 0} (steps : S → Option B → S → Type 0) (values : S) (old new : Held) (outcome : Result (Unit {0}) Fault) (refuses : List ℕ → Fault → Type 0)
-    (cause : List B → Fault → Type 0) (text : List B → List ℕ) → ExtendsListed steps values old new outcome (lengthened old) refuses cause text → IsLonger old new
-extended_list steps values old new (Ok u) refuses cause text e = inr (text e.ok.0.items, e.ok.3.0)
-extended_list steps values old new (Err f) refuses cause text e = inl e.err
+    (piece : List B → Piece) → ExtendsListed steps values old new outcome (lengthened old) refuses piece → IsLonger old new
+extended_list steps values old new (Ok u) refuses piece e = inr ((piece e.ok.0.items).text, e.ok.3.state)
+extended_list steps values old new (Err f) refuses piece e = inl e.err
 
 -- a holder that gave up nothing was finished
 pub told_finished : (h : Held) (was : Bool) → (IsTrue was ↔ (is_finished h ≡ false)) → was ≡ false → is_finished h ≡ true
@@ -129,22 +128,17 @@ within_back h = at h.opening
 
 -- ---- members of one kind
 
--- one more, of which it holds too
-pub all_more : {A : Type 0} (P : A → Type 0) (xs : List A) (x : A) → AllByRecursion P xs → P x → AllByRecursion P (xs ++ x ∷ [])
-all_more P [] x all one = (one, tt)
-all_more P (y ∷ ys) x all one = (all.0, all_more P ys x all.1 one)
-
 module _ (P : List ℕ → Type 0) where
   pub keeps_none : (kept : List ℕ) → HasMembers P (holding kept 0 [])
   keeps_none kept = record {
-    settled = ∣ record { members = []; contained = record { finished = refl; count = refl; body = refl }; each = tt } ∣₁;
+    settled = ∣ record { members = []; contained = record { finished = refl; count = refl; body = refl; fit = tt }; each = tt } ∣₁;
     opening = tt;
   }
 
   some_more : (h : Held) (text : List ℕ) → ContainsSome P h → P text → ContainsSome P (with_member h text)
   some_more h text s one = record {
     members = s.members ++ text ∷ [];
-    contained = contains_next as_they_are h (with_member h text) text s.members refl s.contained;
+    contained = contains_next verbatim h (with_member h text) text s.members refl tt s.contained;
     each = all_more P s.members text s.each one;
   }
 
@@ -161,17 +155,15 @@ module _ (P : List ℕ → Type 0) where
   keeps_more h text finished one k = keeps_some (with_member h text) finished (∥∥₁_map₂ (contains_some h finished k) one (λ s p. some_more h text s p))
 
   -- or the same of a call that may be refused
-  pub keeps_took : {A : Type 0} (text : A → List ℕ) (old new : Held) (outcome : Result (Unit {0}) Fault) (cause : Fault → Type 0) (member : A) → ∥ P (text member) ∥₁
-      → AddsMember text old new outcome cause member → HasMembers P old → HasMembers P new
-  keeps_took text old new (Ok u) cause member one a k = rw a.ok.state (keeps_more old (text member) (was_finished old u a.unfinished_first) one k)
-  keeps_took text old new (Err f) cause member one a k = rw a.err k
+  pub keeps_took : (p : Piece) (old new : Held) (outcome : Result (Unit {0}) Fault) → (p.Fits → ∥ P p.text ∥₁) → AddsMember p old new outcome → HasMembers P old → HasMembers P new
+  keeps_took p old new (Ok u) one a k = rw a.ok.state (keeps_more old p.text (was_finished old u a.unfinished_first) (one a.ok.fits) k)
+  keeps_took p old new (Err f) one a k = rw a.err k
 
-  pub keeps_list : {S A B : Type 0} (steps : S → Option B → S → Type 0) (values : S) (text : A → List ℕ) (old new : Held) (outcome : Result (Unit {0}) Fault)
-      (cause : List B → Fault → Type 0) (member : List B → A) → ((vs : List B) → ∥ P (text (member vs)) ∥₁)
-      → AddsListed steps values text old new outcome cause member → HasMembers P old → HasMembers P new
-  keeps_list steps values text old new (Ok u) cause member each a k =
-      rw a.ok.3.state (keeps_more old (text (member a.ok.0.items)) (was_finished old u a.unfinished_first) (each a.ok.0.items) k)
-  keeps_list steps values text old new (Err f) cause member each a k = rw a.err k
+  pub keeps_list : {S B : Type 0} (steps : S → Option B → S → Type 0) (values : S) (piece : List B → Piece) (old new : Held) (outcome : Result (Unit {0}) Fault)
+      → ((vs : List B) → (piece vs).Fits → ∥ P (piece vs).text ∥₁) → AddsListed steps values piece old new outcome → HasMembers P old → HasMembers P new
+  keeps_list steps values piece old new (Ok u) each a k =
+      rw a.ok.3.state (keeps_more old (piece a.ok.0.items).text (was_finished old u a.unfinished_first) (each a.ok.0.items a.ok.3.fits) k)
+  keeps_list steps values piece old new (Err f) each a k = rw a.err k
 
   -- one is opened
   pub keeps_opened : (h : Held) (lead : List ℕ) → is_finished h ≡ true → HasMembers P h → HasMembers P (opened_with h lead)
@@ -212,51 +204,41 @@ module _ (P : List ℕ → Type 0) where
 -- ---- members that are texts of a form
 
 module _ {A : Type 0} (form : Form A) where
-  pub has_form : (v : A) → ∥ HasForm form (form v).text ∥₁
-  has_form v = ∣ record { value = v; is = refl } ∣₁
+  pub has_form : (v : A) → (form v).Fits → ∥ HasForm form (form v).text ∥₁
+  has_form v fits = ∣ record { value = v; fits = fits; is = refl } ∣₁
+
+  -- what serves as a value has the form
+  pub serves_form : {p : Piece} (v : A) → Serves p (form v) → p.Fits → ∥ HasForm form p.text ∥₁
+  serves_form v s fits = ∣ record { value = v; fits = s.fits fits; is = s.text } ∣₁
 
   -- a call that adds a value of the form
-  pub keeps_added : (old new : Held) (outcome : Result (Unit {0}) Fault) (cause : Fault → Type 0) (member : A)
-      → AddsMember (λ m. (form m).text) old new outcome cause member → HasMembers (HasForm form) old → HasMembers (HasForm form) new
-  keeps_added old new outcome cause member = keeps_took (HasForm form) (λ m. (form m).text) old new outcome cause member (has_form member)
+  pub keeps_added : (old new : Held) (outcome : Result (Unit {0}) Fault) (member : A) → AddsMember (form member) old new outcome → HasMembers (HasForm form) old → HasMembers (HasForm form) new
+  keeps_added old new outcome member = keeps_took (HasForm form) (form member) old new outcome (has_form member)
 
-  pub keeps_listed : {S B : Type 0} (steps : S → Option B → S → Type 0) (values : S) (old new : Held) (outcome : Result (Unit {0}) Fault)
-      (cause : List B → Fault → Type 0) (member : List B → A)
-      → AddsListed steps values (λ m. (form m).text) old new outcome cause member → HasMembers (HasForm form) old → HasMembers (HasForm form) new
-  keeps_listed steps values old new outcome cause member =
-      keeps_list (HasForm form) steps values (λ m. (form m).text) old new outcome cause member (λ vs. has_form (member vs))
+  pub keeps_listed : {S B : Type 0} (steps : S → Option B → S → Type 0) (values : S) (old new : Held) (outcome : Result (Unit {0}) Fault) (member : List B → A)
+      → AddsListed steps values (λ vs. form (member vs)) old new outcome → HasMembers (HasForm form) old → HasMembers (HasForm form) new
+  keeps_listed steps values old new outcome member = keeps_list (HasForm form) steps values (λ vs. form (member vs)) old new outcome (λ vs. has_form (member vs))
 
-  -- a list behind its lead, by what its values stand for
-  pub listed_has_form : {B C : Type 0} (value_text : C → List ℕ) (view : B → C) (lead : List ℕ) (member : List C → A)
-      → ((cs : List C) → lead ++ list_text value_text cs ≡ (form (member cs)).text)
-      → (vs : List B) → ∥ HasForm form (listed_text lead (λ v. value_text (view v)) [] vs) ∥₁
-  listed_has_form value_text view lead member e vs = ∣ record {
-    value = member (map view vs);
-    is = ap (λ (t : List ℕ). lead ++ t) (append-nil (list_text (λ v. value_text (view v)) vs) ∙ list_text_map value_text view vs) ∙ e (map view vs);
-  } ∣₁
-
-  -- a value makes whole what was opened without a lead
-  pub opened_whole : (h lender : Held) → lender ≡ opened_with h [] → (v : A) → ∥ HasForm form (member_text (lengthened lender (form v).text)) ∥₁
-  opened_whole h lender e v =
-      let text : List ℕ = (form v).text in
-      rw (e, written_text h [] text) (has_form v)
+  -- a piece that serves as a value makes whole what was opened without a lead
+  pub opened_whole : {p : Piece} (h lender : Held) → lender ≡ opened_with h [] → (v : A) → Serves p (form v) → p.Fits → ∥ HasForm form (member_text (lengthened lender p.text)) ∥₁
+  opened_whole {p} h lender e v s fits = rw (e, written_text h [] p.text) (serves_form v s fits)
 
   -- bytes that have the form make a member whole, where each value does
-  pub form_ends : {T : Type 0} (is_whole : T → Type 0) (written : T → List ℕ → T) (x : T) → ((v : A) → MakesWhole is_whole written x (form v).text)
-      → (bytes : List ℕ) → ∥ HasForm form bytes ∥₁ → MakesWhole is_whole written x bytes
-  form_ends is_whole written x whole bytes some = ∥∥₁_elim some ∥∥₁_prop (λ f. rw f.is (whole f.value))
+  pub form_ends : {T : Type 0} (is_whole : T → Type 0) (written : T → List ℕ → T) (x : T) → ((v : A) → MakesWhole is_whole written x (form v))
+      → (bytes : List ℕ) → ∥ HasForm form bytes ∥₁ → ∥ is_whole (written x bytes) ∥₁
+  form_ends is_whole written x whole bytes some = ∥∥₁_elim some ∥∥₁_prop (λ f. rw f.is (whole f.value f.fits))
 
 -- members that are texts of a form are values of it
 
 values_of : {A : Type 0} (form : Form A) (members : List (List ℕ)) → AllByRecursion (HasForm form) members
-    → (xs : List A) × (length xs ≡ length members) × (flat_map as_they_are members ≡ flat_map (λ x. (form x).text) xs)
-values_of form [] each = ([], refl, refl)
+    → (xs : List A) × (length xs ≡ length members) × (flat_map (λ m. (verbatim m).text) members ≡ flat_map (λ x. (form x).text) xs) × AllByRecursion (λ x. (form x).Fits) xs
+values_of form [] each = ([], refl, refl, tt)
 values_of form (m ∷ ms) each =
     let more = values_of form ms each.1 in
     let one = each.0 in
-    (one.value ∷ more.0, omega (arith, more.1), rw (one.is, more.2) refl)
+    (one.value ∷ more.0, omega (arith, more.1), rw (one.is, more.2) refl, (one.fits, more.3))
 
-pub contains_values : {A : Type 0} (form : Form A) (h : Held) → ContainsSome (HasForm form) h → (xs : List A) × Contains (λ x. (form x).text) h xs
+pub contains_values : {A : Type 0} (form : Form A) (h : Held) → ContainsSome (HasForm form) h → (xs : List A) × Contains form h xs
 contains_values form h s =
     let all = values_of form s.members s.each in
-    (all.0, record { finished = s.contained.finished; count = all.1 ∙ s.contained.count; body = s.contained.body ∙ all.2 })
+    (all.0, record { finished = s.contained.finished; count = all.1 ∙ s.contained.count; body = s.contained.body ∙ all.2; fit = all.3 })

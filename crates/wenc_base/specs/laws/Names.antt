@@ -1,7 +1,7 @@
 -- The laws of name maps.
 use Rattle.std.proofs.Common.{◌≡◌, ℕ, List, refl}
 use Rattle.wenc_base.specs.Holder.{Held, held_text, Contains}
-use Rattle.wenc_base.specs.Names.{Named, named, named_text, name_map}
+use Rattle.wenc_base.specs.Names.{Named, named, name_map}
 use Rattle.wenc_base.specs.laws.Forms.{read_name, name_lawful, read_list, list_lawful}
 use Rattle.wenc_base.specs.laws.Lawful.{Lawful, Reader, ◌>>=◌, give, then, last}
 use Rattle.wenc_base.specs.laws.Numbers.{read_u32, u32_lawful}
@@ -22,5 +22,5 @@ pub name_map_lawful : (ns : List Named) → Lawful (name_map ns) (λ fuel. read_
 name_map_lawful ns = list_lawful named_lawful ns
 
 -- what is held of these names is their map
-pub held_names : (held : Held) (ns : List Named) → Contains named_text held ns → held_text held ≡ (name_map ns).text
+pub held_names : (held : Held) (ns : List Named) → Contains named held ns → held_text held ≡ (name_map ns).text
 held_names held ns holds = rw (← holds.count, holds.body) refl

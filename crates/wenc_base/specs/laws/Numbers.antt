@@ -1,12 +1,13 @@
 -- The laws of the forms of numbers.
 use Rattle.std.proofs.Common.{◌≡◌, ℕ, ℤ, pos, negsuc, zero, suc, ◌+◌, ◌*◌, ◌/◌, ◌%◌, ◌-◌, ◌^◌, ◌<◌, ◌≤◌, cond, ltb, List, [], ◌∷◌, ◌++◌, map, Option, Some, None, refl, ap, ◌∙◌, arith, inl, inr}
 use Rattle.std.specs.Prelude.{if◌then◌else◌, nat_lt}
-use Rattle.std.proofs.lemmas.Bool.{cases_lt, le-ltb, lt-ltb}
-use Rattle.std.proofs.lemmas.List.{append-nil}
+use Rattle.std.proofs.lemmas.Bool.{cases_lt}
 use Rattle.wenc_base.specs.Piece.{Piece, Spelling, Strict, Wide}
-use Rattle.wenc_base.specs.Number.{groups, MayGoOn, complement, ReadsGroups, last, more, u32, u64, i64, index}
+use Rattle.wenc_base.specs.Number.{groups, MayGoOn, complement, ReadsGroups, last, more, u32, count, size, u64, i64, index}
 use Rattle.wenc_base.specs.laws.Groups.{limit, groups_below, groups_from}
-use Rattle.wenc_base.specs.laws.Lawful.{Lawful, Reader, Starts}
+use Rattle.wenc_base.specs.Fault.{NoCause, count_cause, size_cause}
+use Rattle.wenc_base.specs.declared.fault.Fault.TheVariants.{Memory, TooMany, TooLarge, Unfinished}
+use Rattle.wenc_base.specs.laws.Lawful.{Lawful, Reader, Starts, refused_lawful}
 use Rattle.wenc_base.specs.laws.Sound.{Then, Sound}
 
 may_go_on : (mode : Spelling) (top n : ℕ) → top ≤ n → MayGoOn mode top n
@@ -102,6 +103,7 @@ groups_sound top bound (suc room) (b ∷ bytes) le =
 abbrev number : ℕ → ℕ → ℕ → ℕ → ℕ → Piece
 number top room larger bound n = record {
   Fits = n < bound;
+  Cause = λ fault. ⊥;
   text = groups top larger n;
   Reads = λ mode bytes rest. (n < bound) × ReadsGroups mode top room n bytes rest;
 }
@@ -112,6 +114,8 @@ number_lawful top room larger bound n small le below = record {
   text_is_read = λ mode rest h. (h, rw (same h) (groups_read mode top room n rest (omega arith)));
   strict_is_text = λ bytes rest r. rw (same r.0) (strict_groups top room n bytes rest r.1);
   fits = λ bytes rest r. r.0;
+  free = λ h fault c. c;
+  never = λ c. c;
   depth = 0;
   finds = λ fuel le mode bytes rest r. groups_are_read mode top bound room n bytes rest small r.0 r.1;
 }
@@ -124,6 +128,32 @@ read_u32 = read_groups 128 (2 ^ 32) 4
 
 pub u32_lawful : (n : ℕ) → Lawful (u32 n) (λ fuel. read_u32) n
 u32_lawful n = number_lawful 128 4 9 (2 ^ 32) n (omega arith) (omega arith) (omega arith)
+
+-- ---- counts and sizes
+
+pub count_free : (n : ℕ) → n < 2 ^ 32 → NoCause (count_cause n)
+count_free n h (Memory e) c = c
+count_free n h TooMany c = absurd (omega (arith, h, c))
+count_free n h TooLarge c = c
+count_free n h Unfinished c = c
+
+pub size_free : (n : ℕ) → n < 2 ^ 32 → NoCause (size_cause n)
+size_free n h (Memory e) c = c
+size_free n h TooMany c = c
+size_free n h TooLarge c = absurd (omega (arith, h, c))
+size_free n h Unfinished c = c
+
+pub free_count : (n : ℕ) → NoCause (count_cause n) → n < 2 ^ 32
+free_count n none = elim (cases_lt n (2 ^ 32)) [ inl lt ↦ lt | inr ge ↦ absurd (none TooMany ge) ]
+
+pub free_size : (n : ℕ) → NoCause (size_cause n) → n < 2 ^ 32
+free_size n none = elim (cases_lt n (2 ^ 32)) [ inl lt ↦ lt | inr ge ↦ absurd (none TooLarge ge) ]
+
+pub count_lawful : (n : ℕ) → Lawful (count n) (λ fuel. read_u32) n
+count_lawful n = refused_lawful (count_cause n) (u32_lawful n) (count_free n) (λ c. c)
+
+pub size_lawful : (n : ℕ) → Lawful (size n) (λ fuel. read_u32) n
+size_lawful n = refused_lawful (size_cause n) (u32_lawful n) (size_free n) (λ c. c)
 
 pub u32_sound : Sound u32 read_u32
 u32_sound = record { reads = λ bytes. groups_sound 128 (2 ^ 32) 4 bytes (omega arith) }
@@ -193,6 +223,8 @@ i64_lawful (pos n) = record {
   text_is_read = λ mode rest h. (h, (let fits : n < 2 ^ 63 = h.sfits in groups_read Strict 64 9 n rest (omega arith)));
   strict_is_text = λ bytes rest r. strict_groups 64 9 n bytes rest r.1;
   fits = λ bytes rest r. r.0;
+  free = λ h fault c. c;
+  never = λ c. c;
   depth = 0;
   finds = λ fuel le mode bytes rest r. pos_is_read 9 n bytes rest r.1;
 }
@@ -201,6 +233,8 @@ i64_lawful (negsuc n) = record {
   strict_is_text = λ bytes rest r. (let same : r.1.0 ≡ groups 64 9 n = strict_groups 64 9 n r.1.0 [] r.1.2 ∙ append-nil (groups 64 9 n) in
       r.1.1 ∙ ap (λ (front : List ℕ). map complement front ++ rest) same);
   fits = λ bytes rest r. r.0;
+  free = λ h fault c. c;
+  never = λ c. c;
   depth = 0;
   finds = λ fuel le mode bytes rest r. rw r.1.1 (negsuc_is_read 9 n r.1.0 [] rest r.1.2);
 }

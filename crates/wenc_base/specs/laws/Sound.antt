@@ -1,6 +1,5 @@
 -- What a reader finds is read: the other way round of `finds`.
 use Rattle.std.proofs.Common.{◌≡◌, ℕ, zero, suc, true, false, eqb, List, [], ◌∷◌, ◌++◌, length, map, Option, Some, None, refl, sym, ap, subst, inl, inr, ◌⊎◌}
-use Rattle.std.proofs.lemmas.Bool.{eqb-true}
 use Rattle.wenc_base.specs.Piece.{Form, Whole, Wide, each, all_of}
 use Rattle.wenc_base.specs.laws.Lawful.{Reader, go_on, ◌>>=◌, give, nowhere, times, pick, choose, done, all_read}
 
@@ -35,6 +34,7 @@ weaken P Q (Some x) k h = k x.0 x.1 h
 abbrev pub behind_value : {A B : Type 0} → Form A → A → Form B → Form B
 behind_value part v form w = record {
   Fits = (form w).Fits;
+  Cause = (form w).Cause;
   text = (form w).text;
   Reads = λ mode middle rest. (bytes : List ℕ) → (part v).Reads mode bytes middle → (form w).Reads mode bytes rest;
 }
@@ -66,6 +66,7 @@ nowhere_sound = record { reads = λ bytes. tt }
 abbrev pub behind : {A : Type 0} → ℕ → Form A → Form A
 behind b form v = record {
   Fits = (form v).Fits;
+  Cause = (form v).Cause;
   text = (form v).text;
   Reads = λ mode bytes rest. (form v).Reads mode (b ∷ bytes) rest;
 }

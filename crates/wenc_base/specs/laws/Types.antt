@@ -162,13 +162,3 @@ val_type_rows_sound form make k = both_tables form (reference_rows (λ r. make (
 pub val_type_sound : Sound val_type read_val_type
 val_type_sound = choose_sound _ _ (val_type_rows_sound val_type (λ t. t) (λ t bytes rest r. r)) nowhere_sound
 
--- a reference to what fits
-pub reference_fits : (r : RefType) → (heap_type r.heap_type).Fits → (reference r).Fits
-reference_fits r h = fits r.nullable r.heap_type h
-  where
-    fits : (is_nullable : Bool) (t : HeapType) → (heap_type t).Fits → (reference_to is_nullable t).Fits
-    fits false t h = h
-    fits true (Concrete n) h = h
-    fits true (Abstract Func) h = tt
-    fits true (Abstract Extern) h = tt
-    fits true (Abstract t) h = tt

@@ -1,12 +1,12 @@
-ghost use Rattle.std.specs.Prelude.{All, Option as Optional, List, map};
-ghost use Rattle.wenc_base.specs.Delimited.{FreeFits};
+ghost use Rattle.std.specs.Prelude.{Option as Optional, List, map};
+ghost use Rattle.wenc_base.specs.laws.Serves.{option_serves, list_serves, order_serves};
 
 use super::{Delimited, DelimitedEq};
 
 impl<T: Delimited> Delimited for Option<T> {
     ghost use Rattle.wenc_base.specs.Delimited.{option_seen};
     ghost use Rattle.wenc_base.specs.Forms.{option};
-    ghost use Rattle.wenc_base.specs.laws.Delimited.{option_readable, option_text_of, option_free};
+    ghost use Rattle.wenc_base.specs.laws.Delimited.{option_readable};
 
     ghost Seen = { Optional T.Seen };
 
@@ -14,17 +14,9 @@ impl<T: Delimited> Delimited for Option<T> {
 
     ghost form = { option T.form };
 
-    fn belongs(&self) {
-        if let Some(value) = self {
-            value.belongs();
-        }
-    }
-
     ghost readable = { option_readable T.form T.readable };
 
-    ghost text_of = { option_text_of T.text T.seen T.form T.text_of };
-
-    ghost free = { option_free T.cause T.seen T.form T.free };
+    ghost written = { option_serves T.piece T.seen T.form T.written };
 }
 
 impl<T: DelimitedEq> DelimitedEq for Option<T> {
@@ -35,7 +27,7 @@ impl<T: DelimitedEq> DelimitedEq for Option<T> {
 
 impl<T: Delimited> Delimited for &[T] {
     ghost use Rattle.wenc_base.specs.Forms.{list};
-    ghost use Rattle.wenc_base.specs.laws.Delimited.{list_readable, list_text_of, list_free};
+    ghost use Rattle.wenc_base.specs.laws.Delimited.{list_readable};
 
     ghost Seen = { List T.Seen };
 
@@ -43,15 +35,9 @@ impl<T: Delimited> Delimited for &[T] {
 
     ghost form = { list T.form };
 
-    fn belongs(&self) {
-        each_belongs(self);
-    }
-
     ghost readable = { list_readable T.form T.readable };
 
-    ghost text_of = { λ values. list_text_of T.text T.seen T.form T.text_of values.now };
-
-    ghost free = { λ values. list_free T.cause T.seen T.form T.free values.now };
+    ghost written = { λ values. list_serves T.piece T.seen T.form T.written values.now };
 }
 
 impl<T: DelimitedEq> DelimitedEq for &[T] {
@@ -62,7 +48,7 @@ impl<T: DelimitedEq> DelimitedEq for &[T] {
 
 impl<T: Delimited, U: Delimited> Delimited for (T, U) {
     ghost use Rattle.wenc_base.specs.Delimited.{pair};
-    ghost use Rattle.wenc_base.specs.laws.Delimited.{pair_readable, pair_text_of, pair_cause_free};
+    ghost use Rattle.wenc_base.specs.laws.Delimited.{pair_readable};
 
     ghost Seen = { T.Seen × U.Seen };
 
@@ -70,16 +56,9 @@ impl<T: Delimited, U: Delimited> Delimited for (T, U) {
 
     ghost form = { pair T.form U.form };
 
-    fn belongs(&self) {
-        self.0.belongs();
-        self.1.belongs();
-    }
-
     ghost readable = { pair_readable T.form U.form T.readable U.readable };
 
-    ghost text_of = { λ p. pair_text_of (T.text_of p.0) (U.text_of p.1) };
-
-    ghost free = { λ p h. pair_cause_free _ _ (T.free p.0 h.0) (U.free p.1 h.1) };
+    ghost written = { λ p. order_serves (T.written p.0) (U.written p.1) };
 }
 
 impl<T: DelimitedEq, U: DelimitedEq> DelimitedEq for (T, U) {
@@ -91,7 +70,7 @@ impl<T: DelimitedEq, U: DelimitedEq> DelimitedEq for (T, U) {
 
 impl<T: Delimited, U: Delimited, V: Delimited> Delimited for (T, U, V) {
     ghost use Rattle.wenc_base.specs.Delimited.{pair};
-    ghost use Rattle.wenc_base.specs.laws.Delimited.{pair_readable, pair_text_of, pair_cause_free};
+    ghost use Rattle.wenc_base.specs.laws.Delimited.{pair_readable};
 
     ghost Seen = { T.Seen × (U.Seen × V.Seen) };
 
@@ -99,26 +78,9 @@ impl<T: Delimited, U: Delimited, V: Delimited> Delimited for (T, U, V) {
 
     ghost form = { pair T.form (pair U.form V.form) };
 
-    fn belongs(&self) {
-        self.0.belongs();
-        self.1.belongs();
-        self.2.belongs();
-    }
-
     ghost readable = { pair_readable T.form (pair U.form V.form)
         T.readable (pair_readable U.form V.form U.readable V.readable) };
 
-    ghost text_of = { λ t. pair_text_of (T.text_of t.0)
-        (pair_text_of (U.text_of t.1) (V.text_of t.2)) };
-
-    ghost free = { λ t h. pair_cause_free _ _ (T.free t.0 h.0)
-        (pair_cause_free _ _ (U.free t.1 h.1.0) (V.free t.2 h.1.1)) };
-}
-
-fn each_belongs<T: Delimited>(values: &[T])
-    ensures { All (FreeFits T.cause T.seen T.form) values.now }
-{
-    for value in values {
-        value.belongs();
-    }
+    ghost written = { λ t. order_serves (T.written t.0)
+        (order_serves (U.written t.1) (V.written t.2)) };
 }

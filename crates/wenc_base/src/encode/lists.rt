@@ -1,11 +1,9 @@
-ghost use Rattle.std.specs.Prelude.{◌≡◌, ℕ, ◌<◌, ◌++◌, List, length, ◌^◌, OnOk, OnErr, IfOk, IfErr};
+ghost use Rattle.std.specs.Prelude.{◌≡◌, ◌<◌, ◌++◌, List, ℕ, length, ◌^◌, OnOk, OnErr, IfOk, IfErr};
 ghost use Rattle.std.specs.Iterator.{IsFinite};
 ghost use Rattle.std.specs.Iterator.Runs.{SomeRun, WholeRun};
-ghost use Rattle.std.specs.List.{flat_map};
-ghost use Rattle.wenc_base.specs.Fault.{IsWarranted, member_cause, list_cause, drawn_cause};
-ghost use Rattle.wenc_base.specs.Forms.{list_text};
-ghost use Rattle.wenc_base.specs.Encode.{Written};
-ghost use Rattle.wenc_base.specs.declared.fault.Fault.{Fault as FaultSpec};
+ghost use Rattle.wenc_base.specs.Encode.{Written, list_in_order, drawn_in_order};
+ghost use Rattle.wenc_base.specs.Fault.{IsWarranted, member_cause};
+ghost use Rattle.wenc_base.specs.Lender.{Extended};
 
 use super::front::put_number_over;
 use crate::encode::Encode;
@@ -14,9 +12,7 @@ use std::alloc::Allocator;
 
 /// How many values, then each. The first refusal that is met is answered.
 impl<T: Encode> Encode for &[T] {
-    ghost text = { λ vs. list_text T.text vs.now };
-
-    ghost cause = { λ vs. list_cause T.cause vs.now };
+    ghost piece = { λ vs. list_in_order T.piece vs.now };
 
     fn encode<A: Allocator>(&self, sink: &mut Vec<u8, A>) -> Result<(), Fault> {
         let start = sink.len();
@@ -33,11 +29,10 @@ impl<T: Encode> Encode for &[T] {
 
 /// Appends the text of each value, up to the first that is refused.
 fn encode_each<T: Encode, A: Allocator>(values: &[T], sink: &mut Vec<u8, A>) -> Result<(), Fault>
-    ensures ok { OnOk result (sink.new.items ≡ sink.old.items ++ flat_map T.text values.now) }
-    ensures encodable { (fault : FaultSpec)
-        → member_cause T.cause values.now fault → OnOk result ⊥ }
+    ensures ok { OnOk result (Written T.piece sink.old.items values.now sink.new.items) }
     ensures err { OnErr result ((more : List ℕ) × (sink.new.items ≡ sink.old.items ++ more)) }
-    ensures warranted { IfErr result (IsWarranted (member_cause T.cause values.now)) }
+    ensures warranted { IfErr result
+        (IsWarranted (member_cause (λ v. (T.piece v).Cause) values.now)) }
 {
     for value in values {
         value.encode(sink)?;
@@ -54,11 +49,11 @@ pub fn encode_list<T: Encode + Drop, I: Iterator<Item = T> + Drop, A: Allocator>
     requires can { I.can_next values }
     requires ends { IsFinite (I.remaining values) }
     ensures ok { OnOk result (WholeRun I.next_gives values (λ run.
-        (sink.new.items ≡ sink.old.items ++ list_text T.text run.items)
-        × ((fault : FaultSpec) → drawn_cause T.cause run.items fault → ⊥))) }
+        Extended sink.new.items (λ bytes. sink.old.items ++ bytes) (λ _ _. ⊥)
+        (drawn_in_order T.piece run.items))) }
     ensures err { OnErr result (sink.new.items ≡ sink.old.items) }
     ensures warranted { IfErr result (λ fault. SomeRun I.next_gives values (λ run.
-        IsWarranted (drawn_cause T.cause run.items) fault)) }
+        IsWarranted (drawn_in_order T.piece run.items).Cause fault)) }
 {
     let start = sink.len();
     sink.push(0)?;
@@ -81,10 +76,10 @@ fn encode_all<T: Encode + Drop, I: Iterator<Item = T> + Drop, A: Allocator>(
     requires ends { IsFinite (I.remaining values) }
     ensures ok { IfOk result (λ count. WholeRun I.next_gives values (λ run.
         (length run.items ≡ count) × (count < 2 ^ 32)
-        × Written T.text T.cause sink.old.items run.items sink.new.items)) }
+        × Written T.piece sink.old.items run.items sink.new.items)) }
     ensures err { OnErr result ((more : List ℕ) × (sink.new.items ≡ sink.old.items ++ more)) }
     ensures warranted { IfErr result (λ fault. SomeRun I.next_gives values (λ run.
-        IsWarranted (drawn_cause T.cause run.items) fault)) }
+        IsWarranted (drawn_in_order T.piece run.items).Cause fault)) }
 {
     let mut count: u32 = 0;
     for value in values {

@@ -1,6 +1,4 @@
-ghost use Rattle.std.specs.Prelude.{◌≡◌, ◌++◌, length};
-ghost use Rattle.wenc_base.specs.Fault.{first_of, text_cause};
-ghost use Rattle.wenc_base.specs.Number.{unsigned_text};
+ghost use Rattle.wenc_base.specs.Encode.{sized_in_order};
 
 use super::Encode;
 use super::front::put_number;
@@ -13,9 +11,7 @@ use std::alloc::Allocator;
 pub struct WithSize<'a, T>(pub &'a T);
 
 impl<'a, T: Encode> Encode for WithSize<'a, T> {
-    ghost text = { λ s. unsigned_text (length (T.text s.0.now)) ++ T.text s.0.now };
-
-    ghost cause = { λ s. first_of (T.cause s.0.now) (text_cause (T.text s.0.now)) };
+    ghost piece = { λ s. sized_in_order (T.piece s.0.now) };
 
     ghost unfinished = { λ s. T.unfinished s.0.now };
 

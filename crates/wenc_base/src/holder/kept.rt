@@ -1,8 +1,6 @@
 ghost use Rattle.std.specs.Prelude.{◌≡◌, ◌+◌, ◌-◌, ◌<◌, ◌≤◌, ◌^◌, ◌++◌, [], true, false, length, take, drop, OnOk, OnErr, IfOk, IfErr};
-ghost use Rattle.wenc_base.specs.Delimited.{NoCause};
-ghost use Rattle.wenc_base.specs.Fault.{IsWarranted};
+ghost use Rattle.wenc_base.specs.Fault.{IsWarranted, either, NoCause};
 ghost use Rattle.wenc_base.specs.Holder.{is_finished, holding, gone_back, content_size, all_bytes, with_kept, filled, EncodeCause};
-ghost use Rattle.wenc_base.specs.Lender.{either};
 ghost use Rattle.wenc_base.specs.declared.fault.Fault.TheVariants.{Unfinished};
 
 use super::Holder;
@@ -29,13 +27,14 @@ impl<A: Allocator> Holder<A> {
     /// Keeps the members too, with this value's text behind them, and has no members then. Answers how many bytes
     /// there were. A finished holder is refused for the value's own cause alone.
     pub fn keep_all<E: Encode>(&mut self, more: &E) -> Result<usize, Fault>
-        ensures ok { OnOk result (self.new ≡ holding (all_bytes self.old ++ E.text more.now) 0 []) }
+        ensures ok { OnOk result (self.new ≡ holding (all_bytes self.old ++ (E.piece more.now).text) 0 []) }
+        ensures fits { OnOk result (E.piece more.now).Fits }
         ensures before { IfOk result (λ len. len ≡ length (all_bytes self.old)) }
         ensures finished { OnOk result (is_finished self.old ≡ true) }
-        ensures free { OnOk result (NoCause (E.cause more.now)) }
+        ensures free { OnOk result (NoCause (E.piece more.now).Cause) }
         ensures err { OnErr result (self.new ≡ self.old) }
         ensures warranted { IfErr result (IsWarranted
-            (either (E.cause more.now) (EncodeCause self.old))) }
+            (either (E.piece more.now).Cause (EncodeCause self.old))) }
         ensures unfinished_first { is_finished self.old ≡ false → result ≡ Err Unfinished }
     {
         if !self.is_finished() {

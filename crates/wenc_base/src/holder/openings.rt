@@ -1,8 +1,8 @@
-ghost use Rattle.std.specs.Prelude.{◌≡◌, ◌++◌, ◌≤◌, ◌<◌, ◌^◌, [], false, length, take, drop, OnOk, OnErr, IfErr};
+ghost use Rattle.std.specs.Prelude.{◌≡◌, ◌≤◌, ◌<◌, ◌^◌, [], false, length, take, drop, OnOk, OnErr, IfErr};
 ghost use Rattle.wenc_base.specs.declared.fault.Fault.TheVariants.{TooLarge, Unfinished};
 ghost use Rattle.std.specs.Iterator.{IsFinite};
-ghost use Rattle.wenc_base.specs.Fault.{drawn_cause};
-ghost use Rattle.wenc_base.specs.Forms.{list_text};
+ghost use Rattle.wenc_base.specs.Forms.{list};
+ghost use Rattle.wenc_base.specs.Piece.{verbatim, behind_bytes};
 ghost use Rattle.wenc_base.specs.Holder.{is_finished, content_size, AddCause};
 ghost use Rattle.wenc_base.specs.Lender.{ExtendsListed, GivesUp};
 ghost use Rattle.wenc_base.specs.Openings.{lengthened, closed, given_up, no_room, is_opened, OpensMember, Lengthens};
@@ -61,7 +61,7 @@ impl<A: Allocator> Holder<A> {
     pub fn append(&mut self, text: &[u8]) -> Result<(), Fault>
         requires { is_finished self.old ≡ false }
         ensures { Lengthens self.old self.new (lengthened self.old text.now) result
-            (λ _. ⊥) text.now }
+            (verbatim text.now) }
     {
         self.append_encoded(&Verbatim(text))
     }
@@ -71,7 +71,7 @@ impl<A: Allocator> Holder<A> {
     pub fn append_encoded<E: Encode>(&mut self, value: &E) -> Result<(), Fault>
         requires { is_finished self.old ≡ false }
         ensures lengthened { Lengthens self.old self.new
-            (lengthened self.old (E.text value.now)) result (E.cause value.now) (E.text value.now) }
+            (lengthened self.old (E.piece value.now).text) result (E.piece value.now) }
         ensures unfinished_value { E.unfinished value.now → result ≡ Err Unfinished }
     {
         let start = self.bytes.len();
@@ -91,7 +91,7 @@ impl<A: Allocator> Holder<A> {
         requires ends { IsFinite (I.remaining values) }
         ensures { ExtendsListed I.next_gives values self.old self.new result
             (lengthened self.old) (no_room self.old)
-            (drawn_cause T.cause) (λ vs. lead.now ++ list_text T.text vs) }
+            (λ vs. behind_bytes lead.now (list T.piece vs)) }
     {
         let start = self.bytes.len();
         encode_listed(&Verbatim(lead), values, &(), &mut self.bytes)?;
@@ -103,7 +103,7 @@ impl<A: Allocator> Holder<A> {
     pub fn close(&mut self, text: &[u8]) -> Result<(), Fault>
         requires { is_finished self.old ≡ false }
         ensures { Lengthens self.old self.new (closed (lengthened self.old text.now)) result
-            (λ _. ⊥) text.now }
+            (verbatim text.now) }
     {
         self.append(text)?;
         self.finish_member();

@@ -3,6 +3,7 @@ ghost use Rattle.std.specs.Iterator.{IsFinite};
 ghost use Rattle.std.specs.Iterator.Runs.{WholeRun};
 ghost use Rattle.wenc_base.specs.Composites.{params_of, results_of};
 ghost use Rattle.wenc_base.specs.Fault.{IsMemory};
+ghost use Rattle.wenc_base.specs.laws.Serves.{serves_itself};
 
 use super::ValType;
 use super::storage::FieldType;
@@ -68,11 +69,9 @@ impl<A: Allocator> FuncType<A> {
 
 /// As a composite type.
 impl<A: Allocator> Encode for FuncType<A> {
-    ghost use Rattle.wenc_base.specs.Composites.{composite_type, composite_cause, function_view};
+    ghost use Rattle.wenc_base.specs.Composites.{composite_type, function_view};
 
-    ghost text = { λ f. (composite_type (function_view f)).text };
-
-    ghost cause = { λ f. composite_cause (function_view f) };
+    ghost piece = { λ f. composite_type (function_view f) };
 
     fn encode<B: Allocator>(&self, sink: &mut Vec<u8, B>) -> Result<(), Fault> {
         Tagged(0x60, &(self.params(), self.results())).encode(sink)
@@ -81,7 +80,7 @@ impl<A: Allocator> Encode for FuncType<A> {
 
 impl<A: Allocator> Delimited for FuncType<A> {
     ghost use Rattle.wenc_base.specs.Composites.{Composite, composite_type, function_view};
-    ghost use Rattle.wenc_base.specs.laws.Composites.{read_composite, composite_type_lawful, composite_free};
+    ghost use Rattle.wenc_base.specs.laws.Composites.{read_composite, composite_type_lawful};
 
     ghost Seen = { Composite };
 
@@ -89,16 +88,9 @@ impl<A: Allocator> Delimited for FuncType<A> {
 
     ghost form = { composite_type };
 
-    fn belongs(&self) {
-        self.params().belongs();
-        self.results().belongs();
-    }
-
     ghost readable = { ((λ fuel. read_composite), composite_type_lawful) };
 
-    ghost text_of = { λ x. refl };
-
-    ghost free = { λ x. composite_free (function_view x) };
+    ghost written = { λ _. serves_itself };
 }
 
 impl<A: Allocator> DelimitedEq for FuncType<A> {
@@ -115,9 +107,7 @@ pub struct ArrayType(pub FieldType);
 impl Encode for ArrayType {
     ghost use Rattle.wenc_base.specs.Composites.{composite_type, array_view};
 
-    ghost text = { λ a. (composite_type (array_view a)).text };
-
-    ghost cause = { λ _ _. ⊥ };
+    ghost piece = { λ a. composite_type (array_view a) };
 
     fn encode<A: Allocator>(&self, sink: &mut Vec<u8, A>) -> Result<(), Fault> {
         Tagged(0x5e, &self.0).encode(sink)
@@ -126,7 +116,7 @@ impl Encode for ArrayType {
 
 impl Delimited for ArrayType {
     ghost use Rattle.wenc_base.specs.Composites.{Composite, composite_type, array_view};
-    ghost use Rattle.wenc_base.specs.laws.Composites.{read_composite, composite_type_lawful, composite_free};
+    ghost use Rattle.wenc_base.specs.laws.Composites.{read_composite, composite_type_lawful};
 
     ghost Seen = { Composite };
 
@@ -134,15 +124,9 @@ impl Delimited for ArrayType {
 
     ghost form = { composite_type };
 
-    fn belongs(&self) {
-        self.0.belongs();
-    }
-
     ghost readable = { ((λ fuel. read_composite), composite_type_lawful) };
 
-    ghost text_of = { λ x. refl };
-
-    ghost free = { λ x. composite_free (array_view x) };
+    ghost written = { λ _. serves_itself };
 }
 
 impl DelimitedEq for ArrayType {
@@ -161,11 +145,9 @@ pub struct StructType<A: Allocator = Global> {
 
 /// As a composite type.
 impl<A: Allocator> Encode for StructType<A> {
-    ghost use Rattle.wenc_base.specs.Composites.{composite_type, composite_cause, structure_view};
+    ghost use Rattle.wenc_base.specs.Composites.{composite_type, structure_view};
 
-    ghost text = { λ s. (composite_type (structure_view s)).text };
-
-    ghost cause = { λ s. composite_cause (structure_view s) };
+    ghost piece = { λ s. composite_type (structure_view s) };
 
     fn encode<B: Allocator>(&self, sink: &mut Vec<u8, B>) -> Result<(), Fault> {
         Tagged(0x5f, &self.fields.as_slice()).encode(sink)
@@ -174,7 +156,7 @@ impl<A: Allocator> Encode for StructType<A> {
 
 impl<A: Allocator> Delimited for StructType<A> {
     ghost use Rattle.wenc_base.specs.Composites.{Composite, composite_type, structure_view};
-    ghost use Rattle.wenc_base.specs.laws.Composites.{read_composite, composite_type_lawful, composite_free};
+    ghost use Rattle.wenc_base.specs.laws.Composites.{read_composite, composite_type_lawful};
 
     ghost Seen = { Composite };
 
@@ -182,15 +164,9 @@ impl<A: Allocator> Delimited for StructType<A> {
 
     ghost form = { composite_type };
 
-    fn belongs(&self) {
-        self.fields.as_slice().belongs();
-    }
-
     ghost readable = { ((λ fuel. read_composite), composite_type_lawful) };
 
-    ghost text_of = { λ x. refl };
-
-    ghost free = { λ x. composite_free (structure_view x) };
+    ghost written = { λ _. serves_itself };
 }
 
 impl<A: Allocator> DelimitedEq for StructType<A> {
@@ -212,11 +188,9 @@ pub enum CompositeType<A: Allocator = Global> {
 }
 
 impl<A: Allocator> Encode for CompositeType<A> {
-    ghost use Rattle.wenc_base.specs.Composites.{composite_type, composite_cause, composite_view};
+    ghost use Rattle.wenc_base.specs.Composites.{composite_type, composite_view};
 
-    ghost text = { λ c. (composite_type (composite_view c)).text };
-
-    ghost cause = { λ c. composite_cause (composite_view c) };
+    ghost piece = { λ c. composite_type (composite_view c) };
 
     fn encode<B: Allocator>(&self, sink: &mut Vec<u8, B>) -> Result<(), Fault> {
         match self {
@@ -229,7 +203,7 @@ impl<A: Allocator> Encode for CompositeType<A> {
 
 impl<A: Allocator> Delimited for CompositeType<A> {
     ghost use Rattle.wenc_base.specs.Composites.{Composite, composite_type, composite_view};
-    ghost use Rattle.wenc_base.specs.laws.Composites.{read_composite, composite_type_lawful, composite_free};
+    ghost use Rattle.wenc_base.specs.laws.Composites.{read_composite, composite_type_lawful};
 
     ghost Seen = { Composite };
 
@@ -237,19 +211,9 @@ impl<A: Allocator> Delimited for CompositeType<A> {
 
     ghost form = { composite_type };
 
-    fn belongs(&self) {
-        match self {
-            CompositeType::Func(ty) => ty.belongs(),
-            CompositeType::Array(ty) => ty.belongs(),
-            CompositeType::Struct(ty) => ty.belongs(),
-        }
-    }
-
     ghost readable = { ((λ fuel. read_composite), composite_type_lawful) };
 
-    ghost text_of = { λ x. refl };
-
-    ghost free = { λ x. composite_free (composite_view x) };
+    ghost written = { λ _. serves_itself };
 }
 
 impl<A: Allocator> DelimitedEq for CompositeType<A> {

@@ -1,9 +1,9 @@
 ghost use Rattle.std.specs.Iterator.{IsFinite};
-ghost use Rattle.std.specs.Prelude.{◌≡◌, ◌∷◌, true, false, map};
-ghost use Rattle.wenc_base.specs.Composites.{Group, Single, Rec, Struct, Array, composite_type, composite_cause, function_view, sub_cause, sub_view, group, group_cause, group_view, standing};
-ghost use Rattle.wenc_base.specs.Fault.{drawn_cause};
+ghost use Rattle.std.specs.Prelude.{◌≡◌, true, false, map};
+ghost use Rattle.wenc_base.specs.Composites.{Group, Single, Rec, Struct, Array, composite_type, function_view, sub_view, group, group_view, standing};
 ghost use Rattle.wenc_base.specs.Forms.{list};
 ghost use Rattle.wenc_base.specs.Lender.{Ends, EndsListed, EndsLists, MakesWhole};
+ghost use Rattle.wenc_base.specs.Piece.{◌▸◌};
 ghost use Rattle.wenc_base.specs.Types.{val_type};
 
 use super::guard::Guarded;
@@ -31,7 +31,7 @@ pub struct CoreTypeEncoder<'a, L: Lender> {
     guard: bool,
     ghost unfinished: { L.finished lender.now ≡ false },
     ghost whole: { (g : Group)
-        → MakesWhole L.is_whole L.written lender.now (standing guard g).text },
+        → MakesWhole L.is_whole L.written lender.now (standing guard g) },
 }
 
 impl<'a, L: Lender> CoreTypeEncoder<'a, L> {
@@ -40,7 +40,7 @@ impl<'a, L: Lender> CoreTypeEncoder<'a, L> {
     pub fn new(lender: &'a mut L, guard: bool) -> Self
         requires opened { L.opened lender.old ≡ true }
         requires whole { (g : Group)
-            → MakesWhole L.is_whole L.written lender.old (standing guard g).text }
+            → MakesWhole L.is_whole L.written lender.old (standing guard g) }
         ensures same_reference { result.lender.ghost_name ≡ lender.entry.ghost_name }
         ensures now { result.lender.now ≡ lender.old }
         ensures guard { result.guard ≡ guard }
@@ -59,8 +59,7 @@ impl<'a, L: Lender> CoreTypeEncoder<'a, L> {
         requires results_end { IsFinite (R.remaining results) }
         ensures { EndsLists L.written L.ended L.refuses P.next_gives params R.next_gives results
             self.entry.lender.now self.exit.0.now result
-            (drawn_cause (λ _ _. ⊥)) (λ ts. 0x60 ∷ (list val_type ts).text)
-            (drawn_cause (λ _ _. ⊥)) (λ ts. (list val_type ts).text) }
+            (λ ts. 0x60 ▸ list val_type ts) (list val_type) }
     {
         self.lender.append_list(&[0x60], params)?;
         self.lender.end_with_list(&[], results)
@@ -69,7 +68,7 @@ impl<'a, L: Lender> CoreTypeEncoder<'a, L> {
     /// This function type, which is final.
     pub fn func_type<A: Allocator>(self, ty: &FuncType<A>) -> Result<(), Fault>
         ensures { Ends L.written L.ended L.refuses self.entry.lender.now self.exit.0.now result
-            (composite_cause (function_view ty.now)) (composite_type (function_view ty.now)).text }
+            (composite_type (function_view ty.now)) }
     {
         self.lender.end_with(ty)
     }
@@ -77,8 +76,7 @@ impl<'a, L: Lender> CoreTypeEncoder<'a, L> {
     /// A final array type, whose elements are stored so, and can be changed or not.
     pub fn array(self, ty: &StorageType, mutable: bool) -> Result<(), Fault>
         ensures { Ends L.written L.ended L.refuses self.entry.lender.now self.exit.0.now result
-            (λ _. ⊥)
-            (composite_type (Array (record { element_type = ty.now; mutable = mutable }))).text }
+            (composite_type (Array (record { element_type = ty.now; mutable = mutable }))) }
     {
         let element_type = *ty;
         self.lender.end_with(&ArrayType(FieldType {
@@ -93,7 +91,7 @@ impl<'a, L: Lender> CoreTypeEncoder<'a, L> {
         requires ends { IsFinite (I.remaining fields) }
         ensures { EndsListed L.written L.ended L.refuses I.next_gives fields
             self.entry.lender.now self.exit.0.now result
-            (drawn_cause (λ _ _. ⊥)) (λ fs. (composite_type (Struct fs)).text) }
+            (λ fs. composite_type (Struct fs)) }
     {
         self.lender.end_with_list(&[0x5f], fields)
     }
@@ -101,8 +99,7 @@ impl<'a, L: Lender> CoreTypeEncoder<'a, L> {
     /// This type.
     pub fn subtype<A: Allocator>(self, ty: &SubType<A>) -> Result<(), Fault>
         ensures { Ends L.written L.ended L.refuses self.entry.lender.now self.exit.0.now result
-            (sub_cause (sub_view ty.now))
-            (standing self.entry.guard (Single (sub_view ty.now))).text }
+            (standing self.entry.guard (Single (sub_view ty.now))) }
     {
         let guard = self.guard;
         self.lender.end_with(&Guarded(guard, ty))
@@ -116,8 +113,7 @@ impl<'a, L: Lender> CoreTypeEncoder<'a, L> {
         requires ends { IsFinite (I.remaining types) }
         ensures { EndsListed L.written L.ended L.refuses I.next_gives types
             self.entry.lender.now self.exit.0.now result
-            (drawn_cause (λ s. sub_cause (sub_view s.now)))
-            (λ ts. (group (Rec (map (λ s. sub_view s.now) ts))).text) }
+            (λ ts. group (Rec (map (λ s. sub_view s.now) ts))) }
     {
         self.lender.end_with_list(&[0x4e], types)
     }
@@ -125,7 +121,7 @@ impl<'a, L: Lender> CoreTypeEncoder<'a, L> {
     /// The type or types of this tree.
     pub fn group<A: Allocator>(self, ty: &GroupTree<A>) -> Result<(), Fault>
         ensures { Ends L.written L.ended L.refuses self.entry.lender.now self.exit.0.now result
-            (group_cause (group_view ty.now)) (standing self.entry.guard (group_view ty.now)).text }
+            (standing self.entry.guard (group_view ty.now)) }
     {
         let guard = self.guard;
         self.lender.end_with(&Guarded(guard, ty))

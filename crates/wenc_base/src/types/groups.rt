@@ -1,4 +1,5 @@
 ghost use Rattle.std.specs.Prelude.{refl};
+ghost use Rattle.wenc_base.specs.laws.Serves.{serves_itself};
 
 use super::sub::SubType;
 use crate::delimited::{Delimited, DelimitedEq};
@@ -17,11 +18,9 @@ pub enum GroupTree<A: Allocator = Global> {
 }
 
 impl<A: Allocator> Encode for GroupTree<A> {
-    ghost use Rattle.wenc_base.specs.Composites.{group, group_cause, group_view};
+    ghost use Rattle.wenc_base.specs.Composites.{group, group_view};
 
-    ghost text = { λ g. (group (group_view g)).text };
-
-    ghost cause = { λ g. group_cause (group_view g) };
+    ghost piece = { λ g. group (group_view g) };
 
     fn encode<B: Allocator>(&self, sink: &mut Vec<u8, B>) -> Result<(), Fault> {
         match self {
@@ -33,7 +32,7 @@ impl<A: Allocator> Encode for GroupTree<A> {
 
 impl<A: Allocator> Delimited for GroupTree<A> {
     ghost use Rattle.wenc_base.specs.Composites.{Group, group, group_view};
-    ghost use Rattle.wenc_base.specs.laws.Composites.{read_group, group_lawful, group_free};
+    ghost use Rattle.wenc_base.specs.laws.Composites.{read_group, group_lawful};
 
     ghost Seen = { Group };
 
@@ -41,22 +40,12 @@ impl<A: Allocator> Delimited for GroupTree<A> {
 
     ghost form = { group };
 
-    fn belongs(&self) {
-        match self {
-            GroupTree::Sub(ty) => ty.belongs(),
-            GroupTree::Rec(types) => types.as_slice().belongs(),
-        }
-    }
-
     ghost readable = { ((λ fuel. read_group), group_lawful) };
 
-    ghost text_of = { λ x. refl };
-
-    ghost free = { λ x. group_free (group_view x) };
+    ghost written = { λ _. serves_itself };
 }
 
 impl<A: Allocator> DelimitedEq for GroupTree<A> {
-    ghost use Rattle.wenc_base.specs.Composites.{sub_view};
     ghost use Rattle.wenc_base.specs.declared.types.composite.CompositeType.TheVariants as composites;
     ghost use Rattle.wenc_base.specs.declared.types.groups.GroupTree.TheVariants as groups;
     ghost use Rattle.wenc_base.specs.laws.Composites.{by_group, by_parts, by_kind, plain, same_params, same_results, same_element, same_fields, last_of_three};

@@ -1,4 +1,4 @@
-ghost use Rattle.wenc_base.specs.Composites.{Single, standing, sub_cause, sub_view, group_cause, group_view};
+ghost use Rattle.wenc_base.specs.Composites.{Single, standing, sub_view, group_view};
 
 use super::{GroupTree, SubType};
 use crate::encode::{Encode, Tagged};
@@ -11,9 +11,7 @@ use std::alloc::Allocator;
 pub struct Guarded<'a, T>(pub bool, pub &'a T);
 
 impl<'a, A: Allocator> Encode for Guarded<'a, SubType<A>> {
-    ghost text = { λ g. (standing g.0 (Single (sub_view g.1.now))).text };
-
-    ghost cause = { λ g. sub_cause (sub_view g.1.now) };
+    ghost piece = { λ g. standing g.0 (Single (sub_view g.1.now)) };
 
     fn encode<B: Allocator>(&self, sink: &mut Vec<u8, B>) -> Result<(), Fault> {
         if self.0 && !self.1.is_final {
@@ -24,9 +22,7 @@ impl<'a, A: Allocator> Encode for Guarded<'a, SubType<A>> {
 }
 
 impl<'a, A: Allocator> Encode for Guarded<'a, GroupTree<A>> {
-    ghost text = { λ g. (standing g.0 (group_view g.1.now)).text };
-
-    ghost cause = { λ g. group_cause (group_view g.1.now) };
+    ghost piece = { λ g. standing g.0 (group_view g.1.now) };
 
     fn encode<B: Allocator>(&self, sink: &mut Vec<u8, B>) -> Result<(), Fault> {
         match self.1 {

@@ -1,5 +1,5 @@
-ghost use Rattle.std.specs.Prelude.{◌≡◌, refl};
 ghost use Rattle.wenc_base.specs.laws.Delimited.{itself};
+ghost use Rattle.wenc_base.specs.laws.Serves.{serves_itself};
 
 use super::ValType;
 use crate::delimited::{Delimited, DelimitedEq};
@@ -22,9 +22,7 @@ pub enum StorageType {
 impl Encode for StorageType {
     ghost use Rattle.wenc_base.specs.Composites.{storage_type};
 
-    ghost text = { λ t. (storage_type t).text };
-
-    ghost cause = { λ _ _. ⊥ };
+    ghost piece = { λ t. storage_type t };
 
     fn encode<A: Allocator>(&self, sink: &mut Vec<u8, A>) -> Result<(), Fault> {
         let byte = match self {
@@ -48,17 +46,9 @@ impl Delimited for StorageType {
 
     ghost form = { storage_type };
 
-    fn belongs(&self) {
-        if let StorageType::Val(ty) = self {
-            ty.belongs();
-        }
-    }
-
     ghost readable = { ((λ fuel. read_storage_type), storage_type_lawful) };
 
-    ghost text_of = { λ x. refl };
-
-    ghost free = { λ x h fault cause. cause };
+    ghost written = { λ _. serves_itself };
 }
 
 impl DelimitedEq for StorageType {
@@ -78,9 +68,7 @@ pub struct FieldType {
 impl Encode for FieldType {
     ghost use Rattle.wenc_base.specs.Composites.{field_type};
 
-    ghost text = { λ f. (field_type f).text };
-
-    ghost cause = { λ _ _. ⊥ };
+    ghost piece = { λ f. field_type f };
 
     fn encode<A: Allocator>(&self, sink: &mut Vec<u8, A>) -> Result<(), Fault> {
         (self.element_type, self.mutable).encode(sink)
@@ -98,16 +86,9 @@ impl Delimited for FieldType {
 
     ghost form = { field_type };
 
-    fn belongs(&self) {
-        self.element_type.belongs();
-        self.mutable.belongs();
-    }
-
     ghost readable = { ((λ fuel. read_field_type), field_type_lawful) };
 
-    ghost text_of = { λ x. refl };
-
-    ghost free = { λ x h fault cause. cause };
+    ghost written = { λ _. serves_itself };
 }
 
 impl DelimitedEq for FieldType {

@@ -1,6 +1,6 @@
-ghost use Rattle.std.specs.Prelude.{◌++◌, ◌∷◌, refl};
+ghost use Rattle.std.specs.Prelude.{refl};
 ghost use Rattle.wenc_base.specs.Encode.{Appends};
-ghost use Rattle.wenc_base.specs.Number.{unsigned_text};
+ghost use Rattle.wenc_base.specs.laws.Serves.{serves_itself};
 
 use super::composite::CompositeType;
 use crate::delimited::{Delimited, DelimitedEq};
@@ -22,11 +22,9 @@ pub struct SubType<A: Allocator = Global> {
 }
 
 impl<A: Allocator> Encode for SubType<A> {
-    ghost use Rattle.wenc_base.specs.Composites.{sub_type, sub_cause, sub_view};
+    ghost use Rattle.wenc_base.specs.Composites.{sub_type, sub_view};
 
-    ghost text = { λ s. (sub_type (sub_view s)).text };
-
-    ghost cause = { λ s. sub_cause (sub_view s) };
+    ghost piece = { λ s. sub_type (sub_view s) };
 
     fn encode<B: Allocator>(&self, sink: &mut Vec<u8, B>) -> Result<(), Fault> {
         let ty = &self.composite_type;
@@ -41,7 +39,7 @@ impl<A: Allocator> Encode for SubType<A> {
 
 impl<A: Allocator> Delimited for SubType<A> {
     ghost use Rattle.wenc_base.specs.Composites.{Sub, sub_type, sub_view};
-    ghost use Rattle.wenc_base.specs.laws.Composites.{read_sub_type, sub_type_lawful, sub_free};
+    ghost use Rattle.wenc_base.specs.laws.Composites.{read_sub_type, sub_type_lawful};
 
     ghost Seen = { Sub };
 
@@ -49,19 +47,9 @@ impl<A: Allocator> Delimited for SubType<A> {
 
     ghost form = { sub_type };
 
-    #[tactic(auto, using(crate::specs::laws::Composites::sub_fits))]
-    fn belongs(&self) {
-        if let Some(index) = self.supertype_idx {
-            index.belongs();
-        }
-        self.composite_type.belongs();
-    }
-
     ghost readable = { ((λ fuel. read_sub_type), sub_type_lawful) };
 
-    ghost text_of = { λ x. refl };
-
-    ghost free = { λ x. sub_free (sub_view x) };
+    ghost written = { λ _. serves_itself };
 }
 
 impl<A: Allocator> DelimitedEq for SubType<A> {
@@ -79,25 +67,23 @@ impl<A: Allocator> DelimitedEq for SubType<A> {
 }
 
 /// A byte, the type that is extended, and a type.
-#[tactic(auto, using(crate::specs::laws::Causes::behind))]
 fn encode_extension<T: Encode, A: Allocator>(
     tag: u8,
     index: u32,
     ty: &T,
     sink: &mut Vec<u8, A>,
 ) -> Result<(), Fault>
-    ensures { Appends (tag ∷ 0x01 ∷ (unsigned_text index ++ T.text ty.now)) (T.cause ty.now) ⊥
-        sink.old.items sink.new.items result }
+    ensures appended { let extension = tag ▸ (option u32 (Some index) ⨾ T.piece ty.now) in
+        Appends extension.text extension.Cause ⊥ sink.old.items sink.new.items result }
+    ensures fits { OnOk result (tag ▸ (option u32 (Some index) ⨾ T.piece ty.now)).Fits }
 {
     Tagged(tag, &Tagged(0x01, &(index, Lent(ty)))).encode(sink)
 }
 
 impl<A: Allocator> Encode for &SubType<A> {
-    ghost use Rattle.wenc_base.specs.Composites.{sub_type, sub_cause, sub_view};
+    ghost use Rattle.wenc_base.specs.Composites.{sub_type, sub_view};
 
-    ghost text = { λ s. (sub_type (sub_view s.now)).text };
-
-    ghost cause = { λ s. sub_cause (sub_view s.now) };
+    ghost piece = { λ s. sub_type (sub_view s.now) };
 
     fn encode<B: Allocator>(&self, sink: &mut Vec<u8, B>) -> Result<(), Fault> {
         Lent(*self).encode(sink)

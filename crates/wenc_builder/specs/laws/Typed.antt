@@ -1,6 +1,6 @@
 -- What an item that is begun and then written owes to its entry's cause.
 use Rattle.std.proofs.Common.{◌≡◌, ℕ, List, [], Option, Some, refl, sym, ap, subst}
-use Rattle.wenc_base.specs.Lender.{either}
+use Rattle.wenc_base.specs.Fault.{either}
 use Rattle.wenc_base.specs.declared.fault.Fault.{Fault}
 use Rattle.wenc_types.specs.ComponentTypes.{TypeOf}
 use Rattle.wenc_types.specs.CoreTypes.{CoreType}

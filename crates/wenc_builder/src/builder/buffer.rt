@@ -1,9 +1,8 @@
 ghost use Rattle.std.specs.Prelude.{◌≡◌, ◌++◌, OnOk, OnErr, IfOk, IfErr, is_none, None, Err, false};
 ghost use Rattle.std.specs.Iterator.{IsFinite};
-ghost use Rattle.wenc_base.specs.Delimited.{NoCause};
 ghost use Rattle.wenc_base.specs.Encode.{Appends};
 ghost use Rattle.wenc_base.specs.Forms.{byte_list, list_text};
-ghost use Rattle.wenc_base.specs.Fault.{IsMemory, IsWarranted, drawn_cause};
+ghost use Rattle.wenc_base.specs.Fault.{IsMemory, IsWarranted, drawn_cause, NoCause};
 ghost use Rattle.wenc_base.specs.Lender.{Extends, ExtendsListed};
 ghost use Rattle.wenc_base.specs.declared.fault.Fault.TheVariants.{Unfinished};
 ghost use Rattle.wenc_base.specs.declared.fault.Fault.{Fault as FaultSpec};

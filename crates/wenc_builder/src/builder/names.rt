@@ -14,9 +14,7 @@ use wenc_sections::{NamesOf, Sort};
 pub struct SpaceNames<'a, A: Allocator = Global>(pub Sort, pub &'a NameMap<A>);
 
 impl<'a, A: Allocator> Encode for SpaceNames<'a, A> {
-    ghost text = { λ n. space_names (n.0, n.1.now) };
-
-    ghost cause = { λ n. space_names_cause (n.0, n.1.now) };
+    ghost piece = { TODO text = λ n. space_names (n.0, n.1.now) cause = λ n. space_names_cause (n.0, n.1.now) };
 
     fn encode<B: Allocator>(&self, sink: &mut Vec<u8, B>) -> Result<(), Fault> {
         if self.1.is_empty() {
@@ -31,9 +29,7 @@ impl<'a, A: Allocator> Encode for SpaceNames<'a, A> {
 pub struct Subsections<'a, A: Allocator = Global>(pub [SpaceNames<'a, A>; SPACES]);
 
 impl<'a, A: Allocator> Encode for Subsections<'a, A> {
-    ghost text = { λ s. flat_map (λ n. space_names (n.0, n.1.now)) s.0 };
-
-    ghost cause = { λ s. member_cause (λ n. space_names_cause (n.0, n.1.now)) s.0 };
+    ghost piece = { TODO text = λ s. flat_map (λ n. space_names (n.0, n.1.now)) s.0 cause = λ s. member_cause (λ n. space_names_cause (n.0, n.1.now)) s.0 };
 
     fn encode<B: Allocator>(&self, sink: &mut Vec<u8, B>) -> Result<(), Fault> {
         let start = sink.len();

@@ -12,9 +12,7 @@ impl<'a, A: Allocator> Encode for Nested<'a, A> {
     ghost use Rattle.wenc_builder.specs.Builder.{sections_text};
     ghost use Rattle.wenc_builder.specs.Layout.{NestCause};
 
-    ghost text = { λ n. (byte_list (sections_text n.0.now.settled)).text };
-
-    ghost cause = { λ n. NestCause n.0.now };
+    ghost piece = { λ n. byte_list (sections_text n.0.now.settled) };
 
     ghost unfinished = { λ n. is_none n.0.now.writing ≡ false };
 

@@ -1,8 +1,8 @@
 -- A canonical function has no cause exactly where its piece fits.
 use Rattle.std.proofs.Common.{List, [], ◌∷◌, length, map}
 use Rattle.std.proofs.lemmas.List.{map-id}
-use Rattle.wenc_base.specs.Delimited.{NoCause, FreeFits}
-use Rattle.wenc_base.specs.Fault.{count_cause, list_cause}
+use Rattle.wenc_base.specs.Delimited.{FreeFits}
+use Rattle.wenc_base.specs.Fault.{count_cause, list_cause, NoCause}
 use Rattle.wenc_base.specs.Forms.{list}
 use Rattle.wenc_base.specs.laws.Causes.{never, no_member}
 use Rattle.wenc_base.specs.laws.Delimited.{count_free, pair_cause_free}

@@ -1,6 +1,6 @@
 -- The intrinsic that an opcode and values say is written as these, where the opcode's row takes such values.
 use Rattle.std.proofs.Common.{◌≡◌, ℕ, List, [], ◌∷◌, Option, refl, subst, sym}
-use Rattle.wenc_base.specs.Delimited.{NoCause}
+use Rattle.wenc_base.specs.Fault.{NoCause}
 use Rattle.wenc_base.specs.Number.{u32}
 use Rattle.wenc_base.specs.Piece.{HasForm}
 use Rattle.wenc_base.specs.laws.Holders.{adds_as, adds_listed_as}

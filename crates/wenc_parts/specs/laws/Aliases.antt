@@ -13,7 +13,7 @@ use Rattle.wenc_parts.specs.declared.exports.ComponentExportKind.{ComponentExpor
 use Rattle.wenc_parts.specs.declared.exports.ComponentExportKind.TheVariants as kinds
 use Rattle.wenc_parts.specs.declared.aliases.ComponentOuterAliasKind.{ComponentOuterAliasKind}
 use Rattle.wenc_parts.specs.declared.aliases.ComponentOuterAliasKind.TheVariants as outers
-use Rattle.wenc_base.specs.Delimited.{NoCause}
+use Rattle.wenc_base.specs.Fault.{NoCause}
 use Rattle.wenc_base.specs.laws.Delimited.{name_free}
 use Rattle.wenc_base.specs.Exports.{export_kind_byte}
 use Rattle.wenc_parts.specs.Exports.{export_kind}

@@ -2,8 +2,8 @@
 use Rattle.std.specs.Prelude.{nat_lt}
 use Rattle.std.proofs.Common.{◌≡◌, ℕ, suc, Bool, true, false, true≢false, cond, ◌<◌, ◌≤◌, ◌^◌, ◌++◌, List, [], ◌∷◌, length, length-append, Option, Some, None, refl, sym, ap, subst, inl, inr, lit≤, arith}
 use Rattle.std.specs.List.{AllByRecursion}
-use Rattle.wenc_base.specs.Delimited.{NoCause, FreeFits}
-use Rattle.wenc_base.specs.Fault.{text_cause}
+use Rattle.wenc_base.specs.Delimited.{FreeFits}
+use Rattle.wenc_base.specs.Fault.{text_cause, NoCause}
 use Rattle.wenc_base.specs.Forms.{name, list}
 use Rattle.wenc_base.specs.laws.Delimited.{name_free}
 use Rattle.wenc_parts.specs.Exports.{export_kind}

@@ -1,6 +1,7 @@
 -- An import and an export have no cause exactly where their pieces fit.
 use Rattle.std.proofs.Common.{◌^◌, ◌<◌}
-use Rattle.wenc_base.specs.Delimited.{NoCause, FreeFits}
+use Rattle.wenc_base.specs.Delimited.{FreeFits}
+use Rattle.wenc_base.specs.Fault.{NoCause}
 use Rattle.wenc_base.specs.Forms.{option}
 use Rattle.wenc_parts.specs.Imports.{extern_name, extern_name_cause, type_reference}
 use Rattle.wenc_parts.specs.laws.Exports.{export_kind_fits}

@@ -4,10 +4,10 @@ use Rattle.std.proofs.lemmas.List.{map-id}
 use Rattle.std.proofs.lemmas.List.Elements.{recursion_from_All}
 use Rattle.std.specs.List.{All}
 use Rattle.std.specs.String.{string_bytes}
-use Rattle.wenc_base.specs.Delimited.{NoCause, FreeFits, IsTextOf, pair}
+use Rattle.wenc_base.specs.Delimited.{FreeFits, IsTextOf, pair}
 use Rattle.wenc_base.specs.Encode.{Appends}
 use Rattle.wenc_base.specs.Exports.{export_kind as core_kind}
-use Rattle.wenc_base.specs.Fault.{text_cause, first_of, list_cause}
+use Rattle.wenc_base.specs.Fault.{text_cause, first_of, list_cause, NoCause}
 use Rattle.wenc_base.specs.Forms.{name as name_form, list, list_text}
 use Rattle.wenc_base.specs.Number.{u32}
 use Rattle.wenc_base.specs.Piece.{Form}

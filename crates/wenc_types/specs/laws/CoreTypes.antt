@@ -13,10 +13,10 @@ use Rattle.wenc_base.specs.declared.types.groups.GroupTree.TheVariants as groups
 use Rattle.wenc_base.specs.declared.types.storage.FieldType.{FieldType}
 use Rattle.wenc_base.specs.declared.types.sub.SubType.{SubType}
 use Rattle.wenc_base.specs.Composites.{params_of, results_of, composite_view, sub_view, group_view, Sub, sub_type_of, Group, Single, Rec, group, guard_before, standing, Composite}
-use Rattle.wenc_base.specs.Delimited.{NoCause, FreeFits, AlikeIsEqual}
+use Rattle.wenc_base.specs.Delimited.{FreeFits, AlikeIsEqual}
 use Rattle.wenc_base.specs.Encode.{Appends}
 use Rattle.wenc_base.specs.Entities.{entity_type}
-use Rattle.wenc_base.specs.Fault.{text_cause, list_cause}
+use Rattle.wenc_base.specs.Fault.{text_cause, list_cause, NoCause}
 use Rattle.wenc_base.specs.Forms.{list, list_text, name as name_form}
 use Rattle.wenc_base.specs.Holder.{held_text}
 use Rattle.wenc_base.specs.declared.fault.Fault.{Fault}

@@ -3,10 +3,9 @@ use Rattle.std.proofs.Common.{ℕ, ◌<◌, ◌≤◌, ◌^◌, ◌⊎◌, Bool,
 use Rattle.std.specs.List.{flat_map}
 use Rattle.wenc_base.proofs.Groups.{groups_some}
 use Rattle.wenc_base.specs.Composites.{storage_type, field_type, Composite, Func, Array, Struct, composite_type, sub_type_of, sub_type, Single, Rec, group, guard_before, standing, length_cause, composite_cause, sub_cause, group_cause}
-use Rattle.wenc_base.specs.Delimited.{NoCause}
 use Rattle.wenc_base.specs.Entities.{entity_type}
 use Rattle.wenc_base.specs.Exports.{export_kind as core_kind}
-use Rattle.wenc_base.specs.Fault.{text_cause, count_cause, first_of, member_cause, list_cause}
+use Rattle.wenc_base.specs.Fault.{text_cause, count_cause, first_of, member_cause, list_cause, NoCause}
 use Rattle.wenc_base.specs.Forms.{flag, list, option, name as name_form}
 use Rattle.wenc_base.specs.Number.{unsigned_text, u32}
 use Rattle.wenc_base.specs.Piece.{Piece, Form, byte, ◌⨾◌}

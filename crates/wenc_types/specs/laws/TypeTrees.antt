@@ -4,9 +4,9 @@ use Rattle.std.proofs.lemmas.List.{length-map, map-id}
 use Rattle.std.proofs.lemmas.List.Folds.{flat_map-map}
 use Rattle.std.specs.List.{flat_map, AllByRecursion}
 use Rattle.std.specs.String.{string_bytes}
-use Rattle.wenc_base.specs.Delimited.{NoCause, IsTextOf, FreeFits, pair}
+use Rattle.wenc_base.specs.Delimited.{IsTextOf, FreeFits, pair}
 use Rattle.wenc_base.specs.Encode.{Appends}
-use Rattle.wenc_base.specs.Fault.{text_cause, first_of, member_cause, list_cause}
+use Rattle.wenc_base.specs.Fault.{text_cause, first_of, member_cause, list_cause, NoCause}
 use Rattle.wenc_base.specs.Forms.{list, list_text, name as name_form}
 use Rattle.wenc_base.specs.Piece.{Form, ◌⨾◌}
 use Rattle.wenc_base.specs.declared.fault.Fault.{Fault}

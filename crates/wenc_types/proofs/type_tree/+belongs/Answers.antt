@@ -1,5 +1,5 @@
 use Rattle.std.proofs.Common.{subst}
-use Rattle.wenc_base.specs.Delimited.{NoCause}
+use Rattle.wenc_base.specs.Fault.{NoCause}
 use Rattle.wenc_parts.specs.Aliases.{AliasOf, alias, alias_cause}
 use Rattle.wenc_types.specs.laws.TypeTrees.{view_defined, view_function, view_core, view_type, view_alias, view_exported, view_imported, view_declared, components_fit, instances_fit}
 use Rattle.wenc_types.proofs.type_tree.+belongs.Goals as goal

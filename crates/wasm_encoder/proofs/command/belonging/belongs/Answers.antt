@@ -1,6 +1,6 @@
 use Rattle.std.proofs.Common.{Option, sym, subst}
 use Rattle.wenc_base.specs.Forms.{option}
-use Rattle.wenc_base.specs.Delimited.{NoCause}
+use Rattle.wenc_base.specs.Fault.{NoCause}
 use Rattle.wenc_parts.specs.Aliases.{AliasOf, alias, alias_cause}
 use Rattle.wenc_parts.specs.declared.imports.ComponentTypeRef.{ComponentTypeRef}
 use Rattle.wenc_parts.specs.Imports.{type_reference, ExternName, extern_name, extern_name_cause}

@@ -1,5 +1,5 @@
 use Rattle.wenc_base.specs.Holder.{Held}
-use Rattle.wenc_base.specs.Lender.{either}
+use Rattle.wenc_base.specs.Fault.{either}
 use Rattle.wenc_base.specs.Openings.{lengthened, no_room}
 use Rattle.wenc_base.specs.laws.Lenders.{carried}
 use Rattle.wenc_types.specs.Declarations.{Declaring}

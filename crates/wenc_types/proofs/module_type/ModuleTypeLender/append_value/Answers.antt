@@ -1,7 +1,7 @@
 use Rattle.wenc_base.specs.laws.Members.{extended}
 use Rattle.wenc_types.specs.laws.ModuleDeclaring.{declaring_longer}
 use Rattle.wenc_base.specs.Holder.{Held}
-use Rattle.wenc_base.specs.Lender.{either}
+use Rattle.wenc_base.specs.Fault.{either}
 use Rattle.wenc_base.specs.Openings.{lengthened, no_room}
 use Rattle.wenc_base.specs.laws.Lenders.{carried}
 use Rattle.wenc_types.specs.ModuleTypes.{Declared}
