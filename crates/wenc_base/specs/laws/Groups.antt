@@ -1,6 +1,7 @@
 -- Groups of seven bits, below the largest last one and from it on.
 use Rattle.std.proofs.Common.{◌≡◌, ℕ, zero, suc, ◌+◌, ◌*◌, ◌/◌, ◌%◌, ◌<◌, ◌≤◌, [], ◌∷◌, refl}
 use Rattle.wenc_base.specs.Number.{groups}
+use Rattle.std.proofs.lemmas.Bool.{le-ltb, lt-ltb}
 
 -- what a number is below, that is written with so many bytes before the last
 abbrev pub limit : ℕ → ℕ → ℕ

@@ -1,6 +1,6 @@
 -- What follows where a holder took a member.
 use Rattle.std.proofs.Common.{◌≡◌, ℕ, ◌+◌, ◌-◌, true, false, is_none, Some, None, append_assoc, List, [], ◌∷◌, ◌++◌, Option, Result, Ok, Err, sym, ap, ◌∙◌, arith, inl, inr, refl, length}
-use Rattle.std.proofs.lemmas.List.{take_at}
+use Rattle.std.proofs.lemmas.List.{take_at, append-nil, length-append}
 use Rattle.std.specs.List.{flat_map, AllByRecursion}
 use Rattle.wenc_base.specs.Encode.{Serves}
 use Rattle.wenc_base.specs.Fault.{NoCause}
@@ -12,6 +12,7 @@ use Rattle.wenc_base.specs.laws.Serves.{still_warranted, either_free, left_free,
 use Rattle.wenc_base.specs.Openings.{opened_with, lengthened, closed, given_up, is_opened, is_opened_at}
 use Rattle.wenc_base.specs.declared.holder.openings.Opening.{Opening}
 use Rattle.wenc_base.specs.declared.fault.Fault.{Fault}
+use Rattle.std.proofs.lemmas.Grind.{flat_map-append}
 
 -- one more, of which it holds too
 pub all_more : {A : Type 0} (P : A → Type 0) (xs : List A) (x : A) → AllByRecursion P xs → P x → AllByRecursion P (xs ++ x ∷ [])

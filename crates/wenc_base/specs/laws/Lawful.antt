@@ -7,6 +7,7 @@ use Rattle.wenc_base.specs.Fault.{NoCause}
 use Rattle.wenc_base.specs.declared.fault.Fault.{Fault}
 use Rattle.wenc_base.specs.declared.fault.Fault.TheVariants.{Unfinished}
 use Rattle.wenc_base.specs.Piece.{Piece, Whole, Form, Spelling, Strict, Wide, nothing, byte, refused_for, ◌▸◌, also, or_widely, ◌⨾◌, only_where, each, all_of, end, raw, ◌⨾⨾◌}
+use Rattle.std.proofs.lemmas.List.{append-nil}
 
 -- ---- readers
 

@@ -1,7 +1,7 @@
 -- What a holder whose members are texts of one kind stays through all calls.
-use Rattle.std.proofs.Common.{◌≡◌, ℕ, ◌+◌, ◌-◌, Bool, true, false, is_none, Option, Some, None, Result, Ok, Err, ◌⊎◌, inl, inr, ◌↔◌, append_assoc, List, [], ◌∷◌, ◌++◌, length, refl, sym, ◌∙◌, arith, subst}
+use Rattle.std.proofs.Common.{◌≡◌, ℕ, ◌+◌, ◌-◌, Bool, true, false, is_none, Option, Some, None, Result, Ok, Err, ◌⊎◌, inl, inr, ◌↔◌, append_assoc, List, [], ◌∷◌, ◌++◌, length, refl, sym, ◌∙◌, arith, subst, length-append}
 use Rattle.std.proofs.Math.Logic.{∥∥₁_map₂, ∥∥₁_elim, ∥∥₁_prop}
-use Rattle.std.proofs.lemmas.List.{take_at}
+use Rattle.std.proofs.lemmas.List.{take_at, take-append-drop, take-append-le}
 use Rattle.std.specs.List.{flat_map, AllByRecursion}
 use Rattle.std.specs.Prelude.{IsTrue}
 use Rattle.wenc_base.specs.Encode.{Serves}
@@ -13,6 +13,7 @@ use Rattle.wenc_base.specs.laws.Holders.{contains_next, all_more}
 use Rattle.wenc_base.specs.declared.fault.Fault.{Fault}
 use Rattle.wenc_base.specs.declared.fault.Fault.TheVariants.{Unfinished}
 use Rattle.wenc_base.specs.declared.holder.openings.Opening.{Opening}
+use Rattle.std.proofs.Math.Seq.{drop-append_seam}
 
 -- ---- what is given up
 

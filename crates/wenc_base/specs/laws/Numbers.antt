@@ -1,7 +1,7 @@
 -- The laws of the forms of numbers.
 use Rattle.std.proofs.Common.{◌≡◌, ℕ, ℤ, pos, negsuc, zero, suc, ◌+◌, ◌*◌, ◌/◌, ◌%◌, ◌-◌, ◌^◌, ◌<◌, ◌≤◌, cond, ltb, List, [], ◌∷◌, ◌++◌, map, Option, Some, None, refl, ap, ◌∙◌, arith, inl, inr}
 use Rattle.std.specs.Prelude.{if◌then◌else◌, nat_lt}
-use Rattle.std.proofs.lemmas.Bool.{cases_lt}
+use Rattle.std.proofs.lemmas.Bool.{cases_lt, le-ltb, lt-ltb}
 use Rattle.wenc_base.specs.Piece.{Piece, Spelling, Strict, Wide}
 use Rattle.wenc_base.specs.Number.{groups, MayGoOn, complement, ReadsGroups, last, more, u32, count, size, u64, i64, index}
 use Rattle.wenc_base.specs.laws.Groups.{limit, groups_below, groups_from}
@@ -9,6 +9,7 @@ use Rattle.wenc_base.specs.Fault.{NoCause, count_cause, size_cause}
 use Rattle.wenc_base.specs.declared.fault.Fault.TheVariants.{Memory, TooMany, TooLarge, Unfinished}
 use Rattle.wenc_base.specs.laws.Lawful.{Lawful, Reader, Starts, refused_lawful}
 use Rattle.wenc_base.specs.laws.Sound.{Then, Sound}
+use Rattle.std.proofs.lemmas.List.{append-nil}
 
 may_go_on : (mode : Spelling) (top n : ℕ) → top ≤ n → MayGoOn mode top n
 may_go_on Strict top n h = h

@@ -8,6 +8,7 @@ use Rattle.wenc_base.specs.Piece.{Piece, Form, AnyCause, ◌▸◌, ◌⨾◌, v
 use Rattle.wenc_base.specs.declared.fault.Fault.{Fault}
 use Rattle.wenc_base.specs.declared.fault.Fault.TheVariants.{Memory, TooMany, TooLarge, Unfinished}
 use Rattle.wenc_base.specs.Delimited.{option_seen}
+use Rattle.std.proofs.lemmas.List.{length-map}
 
 -- ---- causes
 

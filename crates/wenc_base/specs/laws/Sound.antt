@@ -2,6 +2,7 @@
 use Rattle.std.proofs.Common.{◌≡◌, ℕ, zero, suc, true, false, eqb, List, [], ◌∷◌, ◌++◌, length, map, Option, Some, None, refl, sym, ap, subst, inl, inr, ◌⊎◌}
 use Rattle.wenc_base.specs.Piece.{Form, Whole, Wide, each, all_of}
 use Rattle.wenc_base.specs.laws.Lawful.{Reader, go_on, ◌>>=◌, give, nowhere, times, pick, choose, done, all_read}
+use Rattle.std.proofs.lemmas.Bool.{eqb-true}
 
 -- P of what was found, if anything was
 abbrev pub Then : {A : Type 0} → (A → List ℕ → Type 0) → Option (A × List ℕ) → Type 0

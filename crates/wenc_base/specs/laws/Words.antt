@@ -1,10 +1,13 @@
 -- The numbers' texts, in words.
 use Rattle.std.proofs.Common.{◌≡◌, ℕ, ℤ, pos, negsuc, ◌-ℤ◌, zero, suc, ◌+◌, ◌-◌, ◌*◌, ◌/◌, ◌%◌, ◌^◌, ◌<◌, ◌≤◌, List, [], ◌∷◌, length, map, get_or, refl, sym, ap, ◌∙◌, arith, inl, inr, w64, FitsSigned}
-use Rattle.std.proofs.lemmas.Bool.{cases_lt}
+use Rattle.std.proofs.lemmas.Bool.{cases_lt, le-ltb, lt-ltb}
 use Rattle.std.proofs.lemmas.Int.{ints}
 use Rattle.wenc_base.specs.Piece.{Spelling}
 use Rattle.wenc_base.specs.Number.{groups, complement, unsigned_text, signed_text, sum_from, last_of, signed_sum, AreGroups, IsUnsignedText, IsSignedText, ReadsGroups, last, more}
 use Rattle.wenc_base.specs.laws.Groups.{limit, groups_below, groups_from}
+use Rattle.std.proofs.Math.Nat.{pow-suc}
+use Rattle.std.proofs.Math.IntN.{pos-ne-negsuc}
+use Rattle.std.proofs.lemmas.List.{length-map}
 
 -- ---- the relations by recursion
 

@@ -1,5 +1,9 @@
 ghost use Rattle.std.specs.Prelude.{refl};
+ghost use Rattle.std.specs.Prelude.{OnOk, Some};
 ghost use Rattle.wenc_base.specs.Encode.{Appends};
+ghost use Rattle.wenc_base.specs.Forms.{option};
+ghost use Rattle.wenc_base.specs.Number.{u32 as number};
+ghost use Rattle.wenc_base.specs.Piece.{◌▸◌, ◌⨾◌};
 ghost use Rattle.wenc_base.specs.laws.Serves.{serves_itself};
 
 use super::composite::CompositeType;
@@ -73,9 +77,9 @@ fn encode_extension<T: Encode, A: Allocator>(
     ty: &T,
     sink: &mut Vec<u8, A>,
 ) -> Result<(), Fault>
-    ensures appended { let extension = tag ▸ (option u32 (Some index) ⨾ T.piece ty.now) in
+    ensures appended { let extension = tag ▸ (option number (Some index) ⨾ T.piece ty.now) in
         Appends extension.text extension.Cause ⊥ sink.old.items sink.new.items result }
-    ensures fits { OnOk result (tag ▸ (option u32 (Some index) ⨾ T.piece ty.now)).Fits }
+    ensures fits { OnOk result (tag ▸ (option number (Some index) ⨾ T.piece ty.now)).Fits }
 {
     Tagged(tag, &Tagged(0x01, &(index, Lent(ty)))).encode(sink)
 }
