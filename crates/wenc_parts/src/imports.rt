@@ -183,7 +183,7 @@ impl<'a, A: Allocator> Encode for ComponentExternName<'a, A> {
 
     ghost piece = { λ n. extern_name (extern_name_view n) };
 
-    #[tactic(auto, using(crate::proofs::Names::plain_text, crate::proofs::Names::optioned_text))]
+    #[tactic(auto, using(crate::proofs::Names::plain_serves, crate::proofs::Names::optioned_serves))]
     fn encode<B: Allocator>(&self, sink: &mut Vec<u8, B>) -> Result<(), Fault> {
         let name = self.name.as_str();
         let count = self.option_count();
