@@ -1,0 +1,39 @@
+-- What is written of an import, an export and a start serves as their forms.
+use Rattle.std.proofs.Common.{◌≡◌, ℕ, List, Option, subst}
+use Rattle.wenc_base.specs.Encode.{Serves, in_order, list_in_order, sized_in_order}
+use Rattle.wenc_base.specs.Forms.{option}
+use Rattle.wenc_base.specs.Number.{u32}
+use Rattle.wenc_base.specs.laws.Serves.{serves_itself, order_serves, list_is_list, sized_serves}
+use Rattle.wenc_parts.specs.Exports.{export_kind}
+use Rattle.wenc_parts.specs.Imports.{ExternName, extern_name, type_reference}
+use Rattle.wenc_parts.specs.declared.exports.ComponentExportKind.{ComponentExportKind}
+use Rattle.wenc_parts.specs.declared.imports.ComponentTypeRef.{ComponentTypeRef}
+use Rattle.wenc_sections.specs.Exports.{Export, export_item}
+use Rattle.wenc_sections.specs.Imports.{Import, import_item}
+use Rattle.wenc_sections.specs.Instances.{exported}
+use Rattle.wenc_sections.specs.Start.{started, start}
+use Rattle.wenc_sections.specs.laws.Instances.{two_serve, three_serve}
+
+abbrev pub imported : ExternName → ComponentTypeRef → Import
+imported name what = record { name = name; what = what }
+
+pub import_serves : (name : ExternName) (what : ComponentTypeRef) → Serves (in_order (extern_name name) (type_reference what)) (import_item (imported name what))
+import_serves name what = two_serve (extern_name name) (type_reference what)
+
+abbrev pub ascribed : ExternName → ComponentExportKind → ℕ → Option ComponentTypeRef → Export
+ascribed name kind index what = record { name = name; kind = kind; index = index; what = what }
+
+pub export_serves : (name : ExternName) (kind : ComponentExportKind) (index : ℕ) (what : Option ComponentTypeRef)
+    → Serves (in_order (extern_name name) (in_order (export_kind kind) (in_order (u32 index) (option type_reference what)))) (export_item (ascribed name kind index what))
+export_serves name kind index what = order_serves (serves_itself {p = extern_name name}) (three_serve (export_kind kind) (u32 index) (option type_reference what))
+
+-- an export of an instance, by another spelling of its name
+pub exported_serves : (seen name : ExternName) → seen ≡ name → (kind : ComponentExportKind) (index : ℕ)
+    → Serves (in_order (extern_name seen) (in_order (export_kind kind) (u32 index))) (exported (record { name = name; kind = kind; index = index }))
+exported_serves seen name e kind index =
+    subst (λ (n : ExternName). Serves (in_order (extern_name seen) (in_order (export_kind kind) (u32 index))) (exported (record { name = n; kind = kind; index = index }))) e
+    (three_serve (extern_name seen) (export_kind kind) (u32 index))
+
+pub start_serves : (function : ℕ) (arguments : List ℕ) (results : ℕ)
+    → Serves (sized_in_order (in_order (u32 function) (in_order (list_in_order u32 arguments) (u32 results)))) (start (started function arguments results))
+start_serves function arguments results = sized_serves (order_serves (serves_itself {p = u32 function}) (order_serves (list_is_list u32 arguments) (serves_itself {p = u32 results})))
