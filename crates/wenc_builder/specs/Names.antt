@@ -60,7 +60,7 @@ unless_empty false p = p
 -- the subsection of names that are kept, where there are some
 abbrev pub space_names : Form (Sort × Held)
 space_names p =
-    unless_empty (nat_eq p.1.count 0) (subsection (RawNames 0x01 (items_content p.0 p.1)))
+    unless_empty (nat_eq p.1.count 0) (held_subsection p.0 p.1)
 
 -- there is no name at all
 abbrev pub none_named : List (Sort × Held) → Bool
