@@ -1,9 +1,9 @@
 pub mod Runs
 pub mod Step
-pub mod Never
 pub mod Caused
 pub mod Answered
 pub mod Held
 pub mod Lent
 pub mod Typed
 pub mod Fits
+pub mod Reading

@@ -15,7 +15,7 @@ use Rattle.wenc_parts.specs.laws.Aliases.{read_alias, alias_lawful}
 use Rattle.wenc_sections.specs.laws.Items.{read_import, import_lawful, read_export, export_lawful, read_core_instance, core_instance_lawful, read_instance, instance_lawful, read_start, start_lawful}
 use Rattle.wenc_types.specs.laws.ComponentTypes.{read_type, type_lawful}
 use Rattle.wenc_types.specs.laws.CoreTypes.{read_core_type, core_type_lawful}
-use Rattle.wasm_encoder.specs.Raw.{IsNoRaw, HasNoRaw, SectionsHaveNoRaw, AreEncodable, IsEncodable}
+use Rattle.wenc_builder.specs.Raw.{IsNoRaw, HasNoRaw, SectionsHaveNoRaw, AreEncodable, IsEncodable}
 
 -- what is never allowed is lawful
 vacuous : {A : Type 0} {P : Type 0} {p : Piece} {read : ℕ → Reader A} {v : A} → (P → ⊥) → Lawful (only_where P p) read v
