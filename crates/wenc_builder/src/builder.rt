@@ -11,14 +11,15 @@ ghost use Rattle.wenc_parts.specs.Aliases.{alias_view};
 ghost use Rattle.wenc_canon.specs.Canonicals.{canonical_option, ◌takes◌};
 ghost use Rattle.wenc_canon.specs.Rows.{row_with, provided_by};
 ghost use Rattle.wenc_canon.specs.CanonTrees.{canon_view};
-ghost use Rattle.wenc_builder.specs.Sections.{whole};
+ghost use Rattle.wenc_builder.specs.Sections.{Section, runs, Reading, whole};
 ghost use Rattle.wenc_builder.specs.Entry.{Entry, items, module_entry, component_entry, canonical_entry, start_entry, custom_entry, raw_entry};
 ghost use Rattle.wenc_builder.specs.Entry.{import_entry, export_entry, alias_entry, alias_export_entry, core_alias_export_entry};
 ghost use Rattle.wenc_builder.specs.Builder.{builder_is_finished, sections_text, count_in, begun_with, ended, builder_given_up};
 ghost use Rattle.wenc_builder.specs.Holds.{Holds};
 ghost use Rattle.wenc_builder.specs.Enters.{Enters, EntersPlaceless, Takes, TakesDraft, TakesAlone, TakesNoPlace, AppendsListed, TakesListed};
 ghost use Rattle.wenc_builder.specs.Space.{defined_as, some_in, canonical_space};
-ghost use Rattle.wenc_builder.specs.Lent.{IsItemText, is_whole};
+ghost use Rattle.wenc_builder.specs.Lent.{IsItemPiece, is_whole};
+ghost use Rattle.wenc_builder.specs.Raw.{HasNoRaw};
 ghost use Rattle.wenc_canon.specs.declared.canonicals.CanonicalOption.{CanonicalOption as CanonicalOptionSpec};
 ghost use Rattle.wenc_builder.specs.Layout.{draft_of, kind_id};
 ghost use Rattle.wenc_builder.specs.Names.{AddsNames};
@@ -683,6 +684,10 @@ impl<A: Allocator> ComponentBuilder<A> {
             → IfOk result (λ v. v.items ≡ whole (items es)) }
         ensures some { IfOk result (λ v.
             ∥ ((es : List Entry) × Holds self es × (v.items ≡ whole (items es))) ∥₁) }
+        // Where no item is raw they have one reading, strictly and widely: the sections into which the items are cut.
+        ensures one_reading { IfOk result (λ v. (es : List Entry) → Holds self es
+            → HasNoRaw (items es) → (mode : Spelling) (ss : List Section)
+            → Reading mode v.items ss ↔ (ss ≡ runs (items es))) }
         ensures ok { IsOk result ↔ IsTrue (builder_is_finished self) }
         ensures fault { IfErr result (λ fault. fault ≡ Fault.Unfinished) }
     {
