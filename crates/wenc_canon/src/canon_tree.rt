@@ -1,11 +1,11 @@
-ghost use Rattle.std.specs.Prelude.{length, refl};
+ghost use Rattle.std.specs.Prelude.{OnOk};
 ghost use Rattle.wenc_base.specs.Encode.{Appends};
-ghost use Rattle.wenc_base.specs.Fault.{count_cause, NoCause};
-ghost use Rattle.wenc_base.specs.Forms.{list};
-ghost use Rattle.wenc_canon.specs.Canonicals.{Lift, canonical_option, canonical_text, text_with_options};
+ghost use Rattle.wenc_base.specs.laws.Serves.{serves_itself};
+ghost use Rattle.wenc_canon.specs.Canonicals.{Lift, Lower, canonical};
+ghost use Rattle.wenc_canon.specs.Rows.{row_then};
 
 use crate::canonicals::CanonicalOption;
-use crate::fields::NotCancellable;
+use crate::fields::{Fields, NotCancellable};
 use crate::opcodes;
 use std::alloc::{Allocator, Global};
 use wenc_base::{Delimited, Encode, Fault, Tagged, ValType};
@@ -202,10 +202,9 @@ pub enum CanonTree<A: Allocator = Global> {
 }
 
 impl<A: Allocator> Encode for CanonTree<A> {
-    ghost use Rattle.wenc_canon.specs.Canonicals.{canonical_text, canonical_cause};
     ghost use Rattle.wenc_canon.specs.CanonTrees.{canon_view};
 
-    ghost piece = { TODO text = λ t. canonical_text (canon_view t) cause = λ t. canonical_cause (canon_view t) };
+    ghost piece = { λ t. canonical (canon_view t) };
 
     fn encode<B: Allocator>(&self, sink: &mut Vec<u8, B>) -> Result<(), Fault> {
         match self {
@@ -213,10 +212,8 @@ impl<A: Allocator> Encode for CanonTree<A> {
                 core_func,
                 ty,
                 options,
-            } => with_type(core_func, *ty, options, sink),
-            CanonTree::Lower { func, options } => {
-                with_options(opcodes::LOWER, &Tagged(opcodes::PLAIN, func), options, sink)
-            }
+            } => lifted(core_func, *ty, options, sink),
+            CanonTree::Lower { func, options } => lowered(func, options, sink),
             CanonTree::ResourceNew(ty) => Tagged(opcodes::RESOURCE_NEW, ty).encode(sink),
             CanonTree::ResourceDrop(ty) => Tagged(opcodes::RESOURCE_DROP, ty).encode(sink),
             CanonTree::ResourceRep(ty) => Tagged(opcodes::RESOURCE_REP, ty).encode(sink),
@@ -361,10 +358,9 @@ impl<A: Allocator> Encode for CanonTree<A> {
 }
 
 impl<A: Allocator> Delimited for CanonTree<A> {
-    ghost use Rattle.wenc_canon.specs.Canonicals.{Canonical, canonical};
+    ghost use Rattle.wenc_canon.specs.Canonicals.{Canonical};
     ghost use Rattle.wenc_canon.specs.CanonTrees.{canon_view};
     ghost use Rattle.wenc_canon.specs.laws.Canonicals.{read_canonical, canonical_lawful};
-    ghost use Rattle.wenc_canon.specs.laws.CanonTrees.{canonical_free};
 
     ghost Seen = { Canonical };
 
@@ -377,39 +373,46 @@ impl<A: Allocator> Delimited for CanonTree<A> {
     ghost written = { λ _. serves_itself };
 }
 
-/// Options that aren't too many have a text in the form of a list. The call does nothing.
-fn options_belong<A: Allocator>(options: &Vec<CanonicalOption, A>)
-    ensures { NoCause (count_cause (length options.now.items))
-        → (list canonical_option options.now.items).Fits }
-{
-    options.as_slice().belongs();
-}
-
-/// Writes what begins with this opcode and these fields, against which nothing stands, and ends
-/// with options.
-fn with_options<E: Encode, A: Allocator, B: Allocator>(
+/// Writes what begins with this opcode and has these fields, and options behind them.
+fn with_options<F: Fields, A: Allocator, B: Allocator>(
     opcode: u8,
-    fields: &E,
+    fields: &F,
     options: &Vec<CanonicalOption, A>,
     sink: &mut Vec<u8, B>,
 ) -> Result<(), Fault>
-    requires free { NoCause (E.cause fields.now) }
-    ensures { Appends (text_with_options opcode (E.text fields.now) options.now.items)
-        (count_cause (length options.now.items)) ⊥ sink.old.items sink.new.items result }
+    ensures appended { let row = row_then opcode F.kinds (F.values fields.now) options.now.items in
+        Appends row.text row.Cause (F.unfinished fields.now) sink.old.items sink.new.items result }
+    ensures fits { OnOk result
+        (row_then opcode F.kinds (F.values fields.now) options.now.items).Fits }
 {
     (Tagged(opcode, fields), options.as_slice()).encode(sink)
 }
 
 /// Writes a function that is lifted: its options stand in front of its type.
-fn with_type<A: Allocator, B: Allocator>(
+fn lifted<A: Allocator, B: Allocator>(
     core_func: &u32,
     ty: u32,
     options: &Vec<CanonicalOption, A>,
     sink: &mut Vec<u8, B>,
 ) -> Result<(), Fault>
-    ensures { Appends (canonical_text (Lift core_func.now options.now.items ty))
-        (count_cause (length options.now.items)) ⊥ sink.old.items sink.new.items result }
+    ensures appended { let function = canonical (Lift core_func.now options.now.items ty) in
+        Appends function.text function.Cause ⊥ sink.old.items sink.new.items result }
+    ensures fits { OnOk result (canonical (Lift core_func.now options.now.items ty)).Fits }
 {
     let lead = Tagged(opcodes::PLAIN, core_func);
     (Tagged(opcodes::LIFT, &lead), options.as_slice(), ty).encode(sink)
+}
+
+/// Writes a function that is lowered.
+fn lowered<A: Allocator, B: Allocator>(
+    func: &u32,
+    options: &Vec<CanonicalOption, A>,
+    sink: &mut Vec<u8, B>,
+) -> Result<(), Fault>
+    ensures appended { let function = canonical (Lower func.now options.now.items) in
+        Appends function.text function.Cause ⊥ sink.old.items sink.new.items result }
+    ensures fits { OnOk result (canonical (Lower func.now options.now.items)).Fits }
+{
+    let lead = Tagged(opcodes::PLAIN, func);
+    (Tagged(opcodes::LOWER, &lead), options.as_slice()).encode(sink)
 }
