@@ -1,41 +1,21 @@
 -- What the section of names takes.
-use Rattle.std.proofs.Common.{◌≡◌, ℕ, suc, ◌+◌, ◌≤◌, ◌<◌, ◌^◌, List, [], ◌∷◌, ◌++◌, length, Result, Ok, Err, OnOk, refl, inl, inr, arith, length-append}
-use Rattle.std.specs.List.{flat_map}
+use Rattle.std.proofs.Common.{ℕ, ◌+◌, ◌≤◌, ◌<◌, ◌^◌, List, [], ◌∷◌, ◌++◌, length, Result, Ok, Err, OnOk, refl, inl, inr, arith, length-append}
 use Rattle.wenc_base.proofs.Groups.{groups_some}
 use Rattle.wenc_base.specs.Custom.{custom}
-use Rattle.wenc_base.specs.Encode.{Serves, in_order, sized_in_order}
+use Rattle.wenc_base.specs.Encode.{Serves, sized_in_order}
 use Rattle.wenc_base.specs.Fault.{size_cause}
 use Rattle.wenc_base.specs.Forms.{name, byte_list}
-use Rattle.wenc_base.specs.Holder.{Held, held_text, Contains}
+use Rattle.wenc_base.specs.Holder.{Held, Contains}
 use Rattle.wenc_base.specs.Names.{Named, named, names_text, name_map}
-use Rattle.wenc_base.specs.Number.{groups, unsigned_text, u32}
-use Rattle.wenc_base.specs.Piece.{◌▸◌, verbatim}
+use Rattle.wenc_base.specs.Number.{groups, unsigned_text}
+use Rattle.wenc_base.specs.Piece.{◌▸◌}
 use Rattle.wenc_base.specs.laws.Names.{held_names}
 use Rattle.wenc_base.specs.laws.Numbers.{size_free}
 use Rattle.wenc_base.specs.declared.fault.Fault.{Fault}
 use Rattle.wenc_base.specs.declared.fault.Fault.TheVariants.{Memory, TooMany, TooLarge, Unfinished}
 use Rattle.wenc_sections.specs.declared.names.Sort.{Sort}
-use Rattle.wenc_sections.specs.declared.names.Sort.TheVariants as sorts
 use Rattle.wenc_sections.specs.Names.{item_sort, ItemNames, subsection, held_subsection, names_label, names_custom, names_section, RoomCause, AppendsSubsection, AppendsNames}
-use Rattle.wenc_sections.specs.laws.Names.{sort_lawful, held_subsection_is}
-
--- ---- sorts
-
--- each sort fits, and none is refused
-pub sort_fits : (sort : Sort) → (item_sort sort).Fits
-sort_fits sorts.CoreFunc = tt
-sort_fits sorts.CoreTable = tt
-sort_fits sorts.CoreMemory = tt
-sort_fits sorts.CoreGlobal = tt
-sort_fits sorts.CoreTag = tt
-sort_fits sorts.CoreType = tt
-sort_fits sorts.CoreModule = tt
-sort_fits sorts.CoreInstance = tt
-sort_fits sorts.Func = tt
-sort_fits sorts.Value = tt
-sort_fits sorts.«Type» = tt
-sort_fits sorts.Component = tt
-sort_fits sorts.Instance = tt
+use Rattle.wenc_sections.specs.laws.Names.{held_subsection_is}
 
 -- ---- no room
 
@@ -53,18 +33,11 @@ no_room_behind before content id TooLarge c =
     (refl, omega (arith, c, length-append before (id ∷ (unsigned_text (length content) ++ content)), length-append (unsigned_text (length content)) content))
 no_room_behind before content id Unfinished c = absurd c
 
--- so it is with bytes
+-- bytes
 pub no_room : (before : List ℕ) (id : ℕ) (content : List ℕ) (fault : Fault) → (id ▸ byte_list content).Cause fault → RoomCause before (id ▸ byte_list content).text fault
 no_room before id content fault c = elim c [ inl large ↦ no_room_behind before content id fault large | inr none ↦ absurd none ]
 
--- with names of items
-pub no_room_for_names : (before : List ℕ) (sort : Sort) (held : Held) (fault : Fault) → (held_subsection sort held).Cause fault → RoomCause before (held_subsection sort held).text fault
-no_room_for_names before sort held fault c = elim c [
-  | inl large ↦ no_room_behind before ((item_sort sort).text ++ held_text held) 0x01 fault large
-  | inr own ↦ elim own [ inl none ↦ absurd ((sort_lawful sort).free (sort_fits sort) fault none) | inr none ↦ absurd none ]
-]
-
--- and with a name, which may be too long by itself
+-- and a name, which may be too long by itself
 pub no_room_for_name : (before text : List ℕ) (fault : Fault) → (0x00 ▸ sized_in_order (name text)).Cause fault → RoomCause before (0x00 ▸ sized_in_order (name text)).text fault
 no_room_for_name before text fault c = no_room_behind before (name text).text 0x00 fault (elim c [
   | inl own ↦ elim own [ inl large ↦ size_among (length text) (length (name text).text) (omega (arith, length-append (unsigned_text (length text)) text)) fault large | inr none ↦ absurd none ]
@@ -72,22 +45,6 @@ no_room_for_name before text fault c = no_room_behind before (name text).text 0x
 ])
 
 -- ---- names that are held
-
--- what is written of them is their subsection
-pub names_serve : (size : ℕ) (sort : Sort) (held : Held) → size ≡ length ((item_sort sort).text ++ held_text held) → size < 2 ^ 32
-    → Serves (0x01 ▸ in_order (u32 size) (in_order (verbatim (item_sort sort).text) (verbatim (held_text held)))) (held_subsection sort held)
-names_serve size sort held e small = record {
-  text = rw e refl;
-  fits = λ h. fit;
-  among = λ fault c. elim c [ inl none ↦ absurd none | inr p ↦ elim p.1 [ inl none ↦ absurd none | inr q ↦ absurd q.1 ] ];
-  free = λ none fault c. elim c [
-    | inl large ↦ size_free _ fit.0 fault large
-    | inr own ↦ elim own [ inl c ↦ (sort_lawful sort).free (sort_fits sort) fault c | inr none ↦ none ]
-  ];
-}
-  where
-    fit : (held_subsection sort held).Fits
-    fit = (rw e at small, (sort_fits sort, tt))
 
 -- no name is empty, with its place
 some_bytes : (ns : List Named) → length ns ≤ length (names_text ns)
@@ -98,7 +55,7 @@ names_fit : (sort : Sort) (held : Held) (ns : List Named) → Contains named hel
 names_fit sort held ns holds h =
     let size : length ((item_sort sort).text ++ (name_map ns).text) < 2 ^ 32 = rw (held_names held ns holds) at h.0 in
     let few : length ns < 2 ^ 32 = omega (arith, size, some_bytes ns, length-append (item_sort sort).text (name_map ns).text, length-append (unsigned_text (length ns)) (names_text ns)) in
-    (size, (sort_fits sort, (few, holds.fit)))
+    (size, (h.1.0, (few, holds.fit)))
 
 pub names_appended : (sort : Sort) (held : Held) (old new : List ℕ) (outcome : Result (Unit {0}) Fault) → AppendsSubsection (held_subsection sort held) old new outcome → AppendsNames sort held old new outcome
 names_appended sort held old new outcome a = record {

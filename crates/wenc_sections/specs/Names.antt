@@ -79,7 +79,7 @@ names_section bytes = refused_for (λ fault. ⊥) (custom (names_custom bytes))
 abbrev pub RoomCause : List ℕ → List ℕ → Fault → Type 0
 RoomCause before text fault = (fault ≡ TooLarge) × (2 ^ 32 ≤ 15 + length (before ++ text))
 
--- A call appends this subsection, which fits, or is refused for a cause and changes nothing.
+-- A call appends this subsection, which fits, or is refused for want of room or memory and changes nothing.
 pub record AppendsSubsection (p : Piece) (old new : List ℕ)
     (outcome : Result (Unit {0}) Fault) : Type 0 where
   pub appended : Appends p.text (RoomCause old p.text) ⊥ old new outcome

@@ -6,7 +6,7 @@ use Rattle.wenc_base.specs.Forms.{name, list}
 use Rattle.wenc_base.specs.Holder.{listed}
 use Rattle.wenc_base.specs.Number.{u32}
 use Rattle.wenc_base.specs.Piece.{Piece, Form, nothing, ◌▸◌, ◌⨾◌}
-use Rattle.wenc_base.specs.laws.Serves.{serves_itself, serves_then, tagged_serves, both_serve, order_serves, with_nothing, left_free, right_free, list_serves, lists_serve}
+use Rattle.wenc_base.specs.laws.Serves.{serves_itself, serves_then, tagged_serves, both_serve, order_serves, with_nothing, right_free, list_serves, lists_serve}
 use Rattle.wenc_parts.specs.Exports.{export_kind}
 use Rattle.wenc_parts.specs.Imports.{extern_name}
 use Rattle.wenc_parts.specs.Instances.{module_argument}
@@ -86,7 +86,7 @@ module _ {A : Type 0} (seen : A → Exported) where
   abbrev pub exported_written : Form A
   exported_written e = in_order (extern_name (seen e).name) (in_order (export_kind (seen e).kind) (u32 (seen e).index))
 
-  pub exported_serves : (e : A) → Serves (exported_written e) (exported (seen e))
+  exported_serves : (e : A) → Serves (exported_written e) (exported (seen e))
   exported_serves e = three_serve (extern_name (seen e).name) (export_kind (seen e).kind) (u32 (seen e).index)
 
   pub exports_listed : (vs : List A) → Serves (listed (0x01 ▸ nothing) exported_written nothing vs) (instance (Exports (map seen vs)))
