@@ -2,7 +2,7 @@
 ghost use Rattle.std.specs.Prelude.{◌≡◌, ◌⊎◌, ℕ, List, Option, Result, IfSome, MatchResult, map};
 ghost use Rattle.wasm_encoder.specs.Command.{CommandTree, command_view};
 ghost use Rattle.wasm_encoder.specs.Ran.{Ran};
-ghost use Rattle.wasm_encoder.specs.Raw.{HasNoRaw, IsEncodable};
+ghost use Rattle.wenc_builder.specs.Raw.{HasNoRaw, IsEncodable};
 ghost use Rattle.wenc_base.specs.declared.fault.Fault.{Fault};
 ghost use Rattle.wenc_builder.specs.Entry.{Entry, items as items_of};
 ghost use Rattle.wenc_builder.specs.Sections.{runs, whole};

@@ -20,10 +20,10 @@ use Rattle.wasm_encoder.specs.Belongs.{Belongs, AddsWhatBelongs, TextsAreBytes}
 use Rattle.wasm_encoder.specs.Cause.{one_or_none, added, added_cause, cause}
 use Rattle.wasm_encoder.specs.Command.{CommandTree, Component, AppendNames}
 use Rattle.wasm_encoder.specs.Ran.{entries_after, RanFrom, Ran}
-use Rattle.wasm_encoder.specs.Raw.{HasNoRaw, IsEncodable}
+use Rattle.wenc_builder.specs.Raw.{HasNoRaw, IsEncodable}
 use Rattle.wasm_encoder.proofs.Belonging.{all_front, all_behind, all_both, bytes_behind}
 use Rattle.wasm_encoder.proofs.Run.{RanAll}
-use Rattle.wasm_encoder.proofs.Reading.{runs_members, of_items, of_bytes}
+use Rattle.wenc_builder.specs.laws.Reading.{runs_members, of_items, of_bytes}
 
 -- ---- a run leads to one list of entries
 

@@ -32,7 +32,7 @@ ghost use Rattle.wenc_types.specs.declared.counts.Sort.{Sort};
 ghost use Rattle.wasm_encoder.specs.AllForms.{FormName, value_of, form_of};
 ghost use Rattle.wasm_encoder.specs.Command.{CommandTree};
 ghost use Rattle.wasm_encoder.specs.Ran.{Ran};
-ghost use Rattle.wasm_encoder.specs.Raw.{HasNoRaw, SectionsHaveNoRaw, AreEncodable, IsEncodable};
+ghost use Rattle.wenc_builder.specs.Raw.{HasNoRaw, SectionsHaveNoRaw, AreEncodable, IsEncodable};
 
 mod of_builders;
 mod of_holders;

@@ -2,10 +2,11 @@
 use Rattle.std.proofs.Common.{◌≡◌, ℕ, ◌+◌, ◌-◌, ◌≤◌, true, false, List, ◌++◌, length, take, drop, Option, Some, None, Result, Ok, Err, IsErrAnd, refl, ◌∙◌, inl, inr, arith, ◌^◌, ◌<◌, min}
 use Rattle.std.proofs.lemmas.List.{take-append-le, drop-append-le, drop-take, length-take, take-take}
 use Rattle.std.specs.Iterator.Runs.{SomeRun, WholeRun}
-use Rattle.wenc_base.specs.Fault.{IsWarranted}
-use Rattle.wenc_base.specs.Holder.{Held, is_finished, holding, with_member, as_they_are, content_size, CountCause, AddCause, AddsListed}
+use Rattle.wenc_base.specs.Encode.{Appended}
+use Rattle.wenc_base.specs.Fault.{IsWarranted, NoCause}
+use Rattle.wenc_base.specs.Piece.{Piece}
+use Rattle.wenc_base.specs.Holder.{Held, is_finished, holding, content_size, CountCause, AddCause, AddsListed}
 use Rattle.wenc_base.specs.Openings.{given_up}
-use Rattle.wenc_base.specs.laws.Holders.{contains_next}
 use Rattle.wenc_base.specs.declared.fault.Fault.{Fault}
 use Rattle.wenc_base.specs.declared.fault.Fault.TheVariants.{Memory, TooMany, TooLarge, Unfinished}
 use Rattle.wenc_base.specs.declared.holder.openings.Opening.{Opening}
@@ -23,59 +24,67 @@ count_cause old text cause TooMany h = inr (inl h)
 count_cause old text cause TooLarge h = inr (inl h)
 count_cause old text cause Unfinished h = inr (inl h)
 
-module _ {S B : Type 0} (steps : S → Option B → S → Type 0) (s : S) (member : List B → List ℕ) (cause : List B → Fault → Type 0) (old new : Held) where
+module _ {S B : Type 0} (steps : S → Option B → S → Type 0) (s : S) (piece : List B → Piece) (old new : Held) where
   abbrev Adds : Result (Unit {0}) Fault → Type 0
-  Adds outcome = AddsListed steps s as_they_are old new outcome cause member
+  Adds outcome = AddsListed steps s piece old new outcome
 
   -- what was written behind the body
   abbrev Came : List ℕ → Type 0
-  Came body = WholeRun steps s (λ p. (body ≡ old.body ++ member p.items) × ((fault : Fault) → cause p.items fault → ⊥))
+  Came body = WholeRun steps s (λ p. Appended old.body (piece p.items) body)
 
   -- a call that is refused
   refused : (outcome : Result (Unit {0}) Fault) (fault : Fault) → IsErrAnd outcome (λ e. e ≡ fault) → new ≡ old
-      → SomeRun steps s (λ p. IsWarranted (AddCause old (member p.items) (cause p.items)) fault) → (is_finished old ≡ false → fault ≡ Unfinished) → Adds outcome
+      → SomeRun steps s (λ p. IsWarranted (AddCause old (piece p.items).text (piece p.items).Cause) fault) → (is_finished old ≡ false → fault ≡ Unfinished) → Adds outcome
   refused (Ok u) fault e same h first = absurd e
   refused (Err other) fault e same h first = rw e (record { ok = tt; err = same; warranted = h; unfinished_first = λ f. rw (first f) refl })
 
   pub unfinished_listed : is_finished old ≡ false → new ≡ old → Adds (Err Unfinished)
-  unfinished_listed f same = refused (Err Unfinished) Unfinished refl same (no_run steps s (λ vs. AddCause old (member vs) (cause vs) Unfinished) (inr (inr (refl, f)))) (λ g. refl)
+  unfinished_listed f same =
+      refused (Err Unfinished) Unfinished refl same (no_run steps s (λ vs. AddCause old (piece vs).text (piece vs).Cause Unfinished) (inr (inr (refl, f)))) (λ g. refl)
 
   -- for a cause of its own
   pub refused_listed : (outcome : Result (Unit {0}) Fault) (fault : Fault) → IsErrAnd outcome (λ e. e ≡ fault) → new ≡ old → is_finished old ≡ true
-      → SomeRun steps s (λ p. IsWarranted (cause p.items) fault) → Adds outcome
-  refused_listed outcome fault e same f h = refused outcome fault e same (h.0, h.1, own_cause old (member h.0.items) (cause h.0.items) fault h.2) (λ g. absurd cc)
+      → SomeRun steps s (λ p. IsWarranted (piece p.items).Cause fault) → Adds outcome
+  refused_listed outcome fault e same f h =
+      refused outcome fault e same (h.0, h.1, own_cause old (piece h.0.items).text (piece h.0.items).Cause fault h.2) (λ g. absurd cc)
 
   -- for the number of members, or their size
   pub uncounted_listed : (outcome : Result (Unit {0}) Fault) (fault : Fault) (body : List ℕ) → IsErrAnd outcome (λ e. e ≡ fault) → new ≡ old → is_finished old ≡ true
       → Came body → CountCause old.count (length body) fault → Adds outcome
   uncounted_listed outcome fault body e same f came h =
-      refused outcome fault e same (came.0, came.1, count_cause old (member came.0.items) (cause came.0.items) fault (rw came.3.0 at h)) (λ g. absurd cc)
+      refused outcome fault e same (came.0, came.1, count_cause old (piece came.0.items).text (piece came.0.items).Cause fault (rw came.3.items at h)) (λ g. absurd cc)
 
   -- a call that is accepted
   pub counted_listed : (body : List ℕ) → new ≡ record { kept = old.kept; count = old.count + 1; body = body; opening = old.opening } → is_finished old ≡ true → Came body
       → ((fault : Fault) → CountCause old.count (length body) fault → ⊥) → Adds (Ok tt)
   counted_listed body e f came free = record {
-    ok = (came.0, came.1, came.2, record { state = state; contained = λ members c. contains_next as_they_are old new (member came.0.items) members state c; free = none });
+    ok = (came.0, came.1, came.2, record { state = e ∙ rw came.3.items refl; fits = came.3.fits; free = none });
     err = tt;
     warranted = tt;
     unfinished_first = λ g. absurd cc;
   }
     where
-      state : new ≡ with_member old (member came.0.items)
-      state = e ∙ rw came.3.0 refl
-
-      none : (fault : Fault) → AddCause old (member came.0.items) (cause came.0.items) fault → ⊥
-      none fault h = elim h [ inl own ↦ came.3.1 fault own | inr more ↦ elim more [ inl count ↦ free fault (rw came.3.0 count) | inr stopped ↦ absurd cc ] ]
+      none : NoCause (AddCause old (piece came.0.items).text (piece came.0.items).Cause)
+      none fault h = elim h [ inl own ↦ came.3.no_cause fault own | inr more ↦ elim more [ inl count ↦ free fault (rw came.3.items count) | inr stopped ↦ absurd cc ] ]
 
 -- what stands before the written bytes
-pub came_after : {S B : Type 0} (steps : S → Option B → S → Type 0) (s : S) (member : List B → List ℕ) (P : List B → Type 0) (kept : ℕ) (before after : List ℕ) → kept ≤ length before
-    → WholeRun steps s (λ p. (after ≡ before ++ member p.items) × P p.items) → take kept after ≡ take kept before
-came_after steps s member P kept before after le came = rw came.3.0 (take-append-le kept before (member came.0.items) le)
+pub came_after : {S B : Type 0} (steps : S → Option B → S → Type 0) (s : S) (piece : List B → Piece) (kept : ℕ) (before after : List ℕ) → kept ≤ length before
+    → WholeRun steps s (λ p. Appended before (piece p.items) after) → take kept after ≡ take kept before
+came_after steps s piece kept before after le came = rw came.3.items (take-append-le kept before (piece came.0.items).text le)
 
 -- what stands behind the first bytes, where more was written
-pub came_behind : {S B : Type 0} (steps : S → Option B → S → Type 0) (s : S) (member : List B → List ℕ) (P : List B → Type 0) (kept : ℕ) (before after : List ℕ) → kept ≤ length before
-    → WholeRun steps s (λ p. (after ≡ before ++ member p.items) × P p.items) → WholeRun steps s (λ p. (drop kept after ≡ drop kept before ++ member p.items) × P p.items)
-came_behind steps s member P kept before after le came = (came.0, came.1, came.2, (rw came.3.0 (drop-append-le kept before (member came.0.items) le), came.3.1))
+pub came_behind : {S B : Type 0} (steps : S → Option B → S → Type 0) (s : S) (piece : List B → Piece) (kept : ℕ) (before after : List ℕ) → kept ≤ length before
+    → WholeRun steps s (λ p. Appended before (piece p.items) after) → WholeRun steps s (λ p. Appended (drop kept before) (piece p.items) (drop kept after))
+came_behind steps s piece kept before after le came = (
+  came.0,
+  came.1,
+  came.2,
+  record {
+    items = rw came.3.items (drop-append-le kept before (piece came.0.items).text le);
+    fits = came.3.fits;
+    no_cause = came.3.no_cause;
+  },
+)
 
 -- the first bytes of the body, behind those that are kept
 module _ (before after : List ℕ) (kept : ℕ) where

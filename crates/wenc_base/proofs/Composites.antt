@@ -1,17 +1,21 @@
--- What appends a group of types, by their views.
-use Rattle.std.proofs.Common.{ℕ, List, ◌∷◌, refl, Vec, Result}
-use Rattle.wenc_base.specs.Composites.{sub_type, group, sub_cause, group_cause, sub_view, group_view}
-use Rattle.wenc_base.specs.Encode.{Appends}
-use Rattle.wenc_base.specs.Fault.{list_cause}
-use Rattle.wenc_base.specs.Forms.{list_text}
-use Rattle.wenc_base.specs.declared.fault.Fault.{Fault}
-use Rattle.wenc_base.specs.declared.types.groups.GroupTree.TheVariants.{Rec}
+-- What the code writes of composite types serves as their forms.
+use Rattle.std.proofs.Common.{ℕ, List, [], ◌∷◌, Bool, true, false, Option, Some, None}
+use Rattle.wenc_base.specs.Composites.{Func, Struct, composite_type, sub_type, Rec, group, sub_view}
+use Rattle.wenc_base.specs.Encode.{Serves, in_order, list_in_order}
+use Rattle.wenc_base.specs.Piece.{◌▸◌}
+use Rattle.wenc_base.specs.Types.{val_type}
+use Rattle.wenc_base.specs.Composites.{field_type}
+use Rattle.wenc_base.specs.declared.types.ValType.{ValType}
+use Rattle.wenc_base.specs.declared.types.storage.FieldType.{FieldType}
 use Rattle.wenc_base.specs.declared.types.sub.SubType.{SubType}
-use Rattle.wenc_base.specs.laws.Causes.{seen_cause}
-use Rattle.wenc_base.specs.laws.Delimited.{list_text_of}
+use Rattle.wenc_base.specs.laws.Serves.{tagged_serves, order_serves, list_is_list, list_serves, serves_itself}
+use Rattle.std.proofs.Common.{map}
 
-pub group_appends : {A : Type 0} (types : Vec (SubType A) A) (old new : List ℕ) (outcome : Result (Unit {0}) Fault)
-    → Appends (0x4e ∷ list_text (λ s. (sub_type (sub_view s)).text) types.items) (list_cause (λ s. sub_cause (sub_view s)) types.items) ⊥ old new outcome
-    → Appends (group (group_view (Rec types))).text (group_cause (group_view (Rec types))) ⊥ old new outcome
-group_appends types old new outcome a =
-    rw (list_text_of (λ s. (sub_type (sub_view s)).text) sub_view sub_type (λ s. refl) types.items, seen_cause sub_view sub_cause types.items) at a
+pub function_serves : (params results : List ValType) → Serves (0x60 ▸ in_order (list_in_order val_type params) (list_in_order val_type results)) (composite_type (Func params results))
+function_serves params results = tagged_serves 0x60 (order_serves (list_is_list val_type params) (list_is_list val_type results))
+
+pub structure_serves : (fields : List FieldType) → Serves (0x5f ▸ list_in_order field_type fields) (composite_type (Struct fields))
+structure_serves fields = tagged_serves 0x5f (list_is_list field_type fields)
+
+pub group_serves : {A : Type 0} (types : List (SubType A)) → Serves (0x4e ▸ list_in_order (λ s. sub_type (sub_view s)) types) (group (Rec (map sub_view types)))
+group_serves types = tagged_serves 0x4e (list_serves (λ s. sub_type (sub_view s)) sub_view sub_type (λ s. serves_itself) types)

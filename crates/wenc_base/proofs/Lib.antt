@@ -8,3 +8,4 @@ pub mod Kept
 pub mod Produced
 mod Composites
 pub mod Named
+pub mod Bytes

@@ -1,26 +1,26 @@
 -- A short name that is appended to a map which is far from full.
 use Rattle.std.proofs.Common.{◌≡◌, ◌+◌, ◌<◌, ◌≤◌, ◌^◌, true, ◌++◌, length, length-append, Ok, arith, inl, inr}
-use Rattle.wenc_base.specs.Fault.{text_cause}
+use Rattle.std.specs.Prelude.{IsUtf8}
+use Rattle.wenc_base.specs.Fault.{NoCause}
 use Rattle.wenc_base.specs.Holder.{Held, is_finished, with_member, CountCause, AddCause, AddsMember}
-use Rattle.wenc_base.specs.Names.{Named, named_text}
+use Rattle.wenc_base.specs.Names.{Named, named}
 use Rattle.wenc_base.specs.Number.{unsigned_text}
-use Rattle.wenc_base.specs.laws.Delimited.{text_free}
-use Rattle.wenc_base.specs.laws.Holders.{contains_next}
+use Rattle.wenc_base.specs.laws.Names.{named_lawful}
 use Rattle.wenc_base.specs.declared.fault.Fault.{Fault}
 use Rattle.wenc_base.specs.declared.fault.Fault.TheVariants.{Memory, TooMany, TooLarge, Unfinished}
 use Rattle.wenc_base.proofs.Groups.{size_1, size_of_u32}
 
-pub short_name_added : (old new : Held) (entry : Named) → new ≡ with_member old (named_text entry) → is_finished old ≡ true
+pub short_name_added : (old new : Held) (entry : Named) → new ≡ with_member old (named entry).text → is_finished old ≡ true
     → old.count < 4294967295 → length old.body < 4294967040 → length entry.name < 128 → entry.place < 2 ^ 32
-    → AddsMember named_text old new (Ok tt) (text_cause entry.name) entry
-short_name_added old new entry state finished few small short place = record {
-  ok = record { state = state; contained = λ members c. contains_next named_text old new entry members state c; free = none };
+    → IsUtf8 entry.name → AddsMember (named entry) old new (Ok tt)
+short_name_added old new entry state finished few small short place utf8 = record {
+  ok = record { state = state; fits = fits; free = none };
   err = tt;
   warranted = tt;
   unfinished_first = λ g. absurd cc;
 }
   where
-    size : length (named_text entry) ≤ 133
+    size : length (named entry).text ≤ 133
     size =
         omega (
           arith,
@@ -31,11 +31,14 @@ short_name_added old new entry state finished few small short place = record {
           length-append (unsigned_text (length entry.name)) entry.name,
         )
 
-    uncounted : (fault : Fault) → CountCause old.count (length (old.body ++ named_text entry)) fault → ⊥
+    uncounted : (fault : Fault) → CountCause old.count (length (old.body ++ (named entry).text)) fault → ⊥
     uncounted (Memory e) h = h
     uncounted TooMany h = omega (arith, h, few)
-    uncounted TooLarge h = omega (arith, h, small, size, size_of_u32 (old.count + 1) (omega (arith, few)), length-append old.body (named_text entry))
+    uncounted TooLarge h = omega (arith, h, small, size, size_of_u32 (old.count + 1) (omega (arith, few)), length-append old.body (named entry).text)
     uncounted Unfinished h = h
 
-    none : (fault : Fault) → AddCause old (named_text entry) (text_cause entry.name) fault → ⊥
-    none fault h = elim h [ inl own ↦ text_free entry.name (omega (arith, short)) fault own | inr more ↦ elim more [ inl count ↦ uncounted fault count | inr stopped ↦ absurd cc ] ]
+    fits : (named entry).Fits
+    fits = (place, (omega (arith, short), utf8))
+
+    none : NoCause (AddCause old (named entry).text (named entry).Cause)
+    none fault h = elim h [ inl own ↦ (named_lawful entry).free fits fault own | inr more ↦ elim more [ inl count ↦ uncounted fault count | inr stopped ↦ absurd cc ] ]

@@ -1,47 +1,82 @@
 -- A field that the producers section took.
-use Rattle.std.proofs.Common.{◌≡◌, ℕ, ◌+◌, ◌^◌, ◌<◌, true, List, ◌++◌, length, Result, Ok, refl, inl, inr, arith}
-use Rattle.wenc_base.specs.Fault.{first_of, text_cause}
-use Rattle.wenc_base.specs.Holder.{Held, is_finished, as_they_are, content_size, EncodeCause, AddCause, Accepted, AddsMember, Contains}
+use Rattle.std.proofs.Common.{◌≡◌, ℕ, ◌+◌, ◌^◌, ◌<◌, true, List, ◌++◌, length, Result, Ok, refl, sym, ◌∙◌, inl, inr, arith}
 use Rattle.std.proofs.lemmas.List.{length-append}
 use Rattle.std.specs.List.{flat_map}
-use Rattle.wenc_base.specs.Number.{groups, unsigned_text}
-use Rattle.wenc_base.specs.Forms.{name, list_text}
+use Rattle.wenc_base.specs.Encode.{Serves, in_order}
+use Rattle.wenc_base.specs.Fault.{NoCause}
+use Rattle.wenc_base.specs.Forms.{name, list}
+use Rattle.wenc_base.specs.Holder.{Held, is_finished, content_size, held, AddCause, Accepted, AddsMember, Contains}
+use Rattle.wenc_base.specs.Number.{groups, unsigned_text, u32}
+use Rattle.wenc_base.specs.Piece.{Piece, refused_for}
+use Rattle.wenc_base.specs.Producers.{Producer, producer, Producers, producers_field, held_field, FieldCause, producers_label, producers_section, producers_held}
 use Rattle.wenc_base.specs.laws.Holders.{adds_as}
-use Rattle.wenc_base.specs.Producers.{Producer, producer_text, Producers, field_text, field_bytes, FieldCause, producers_label, producers_section, producers_text}
+use Rattle.wenc_base.specs.laws.Numbers.{size_free}
 use Rattle.wenc_base.specs.declared.fault.Fault.{Fault}
 use Rattle.wenc_base.specs.declared.fault.Fault.TheVariants.{Unfinished}
 
-pub field_added : (old new : Held) (field : List ℕ) (tools : Held) → Accepted as_they_are old new (first_of (text_cause field) (EncodeCause tools)) (field_bytes field tools)
-    → 10 + content_size new.count (length new.body) < 2 ^ 32 → is_finished tools ≡ true → AddsMember as_they_are old new (Ok tt) (FieldCause old field tools) (field_bytes field tools)
+pub field_added : (old new : Held) (field : List ℕ) (tools : Held) → Accepted (in_order (name field) (held tools)) old new
+    → 10 + content_size new.count (length new.body) < 2 ^ 32 → is_finished tools ≡ true → AddsMember (refused_for (FieldCause old field tools) (held_field field tools)) old new (Ok tt)
 field_added old new field tools a small finished = record {
-  ok = record { state = a.state; contained = a.contained; free = free };
+  ok = record { state = a.state; fits = a.fits; free = free };
   err = tt;
   warranted = tt;
   unfinished_first = λ f. absurd (a.free Unfinished (inr (inr (refl, f))));
 }
   where
-    within : 10 + content_size (old.count + 1) (length (old.body ++ field_bytes field tools)) < 2 ^ 32
+    within : 10 + content_size (old.count + 1) (length (old.body ++ (held_field field tools).text)) < 2 ^ 32
     within = rw a.state at small
 
-    free : (fault : Fault) → AddCause old (field_bytes field tools) (FieldCause old field tools) fault → ⊥
+    free : NoCause (AddCause old (held_field field tools).text (FieldCause old field tools))
     free fault h = elim h [
       | inl own ↦ elim own [
-        | inl tools ↦ absurd cc
-        | inr more ↦ elim more [ inl one ↦ a.free fault (inl (inl one)) | inr large ↦ absurd (omega (arith, large.1, within)) ]
+        | inl part ↦ elim part [ inl one ↦ a.free fault (inl (inl one)) | inr stopped ↦ absurd cc ]
+        | inr large ↦ absurd (omega (arith, large.1, within))
       ]
       | inr more ↦ a.free fault (inr more)
     ]
 
 -- the same of the tools that are held
-pub typed_field : (old new : Held) (outcome : Result (Unit {0}) Fault) (field : List ℕ) (held : Held) (tools : List Producer) → Contains producer_text held tools
-    → AddsMember as_they_are old new outcome (FieldCause old field held) (field_bytes field held) → AddsMember field_text old new outcome (FieldCause old field held) (record { field = field; tools = tools })
-typed_field old new outcome field held tools holds a =
-    let written : Producers = record { field = field; tools = tools } in
-    let e : field_bytes field held ≡ field_text written = rw (← holds.count, holds.body) refl in
-    adds_as field_text old new outcome (FieldCause old field held) (FieldCause old field held) written ((λ fault h. h), λ fault h. h) (rw e at a)
+pub typed_field : (old new : Held) (outcome : Result (Unit {0}) Fault) (field : List ℕ) (tools : Held) (each : List Producer) → Contains producer tools each
+    → AddsMember (refused_for (FieldCause old field tools) (held_field field tools)) old new outcome
+    → AddsMember (refused_for (FieldCause old field tools) (producers_field (record { field = field; tools = each }))) old new outcome
+typed_field old new outcome field tools each holds a = adds_as old new outcome serves a
+  where
+    written : Producers
+    written = record { field = field; tools = each }
+
+    counted : (held_field field tools).Fits → (producers_field written).Fits
+    counted h = (h.0, (rw holds.count h.1.0, holds.fit))
+
+    serves : Serves (refused_for (FieldCause old field tools) (held_field field tools)) (refused_for (FieldCause old field tools) (producers_field written))
+    serves = record { text = rw (← holds.count, holds.body) refl; fits = counted; among = λ fault c. c; free = λ none. none }
+
+-- how many bytes stand behind the section's size
+label_size : (h : Held) → length ((name producers_label).text ++ (held h).text) ≡ 10 + content_size h.count (length h.body)
+unfolding groups
+label_size h = omega (arith, length-append (unsigned_text h.count) h.body)
+
+-- the section's parts serve as it
+pub section_serves : (h : Held) (size : ℕ) → size ≡ 10 + content_size h.count (length h.body) → size < 2 ^ 32 → Serves (in_order (u32 size) (in_order (name producers_label) (held h))) (producers_held h)
+section_serves h size e small = record {
+  text = rw (← bytes) refl;
+  fits = λ fits. (rw bytes at small, (fits.1.0, fits.1.1));
+  among = among;
+  free = λ none fault c. none fault (inr ((λ f n. n), inr (label_free, c)));
+}
+  where
+    bytes : size ≡ length ((name producers_label).text ++ (held h).text)
+    bytes = e ∙ sym (label_size h)
+
+    label_free : NoCause (name producers_label).Cause
+    label_free fault (inl c) = size_free 9 (omega arith) fault c
+    label_free fault (inr c) = c
+
+    among : (fault : Fault) → (in_order (u32 size) (in_order (name producers_label) (held h))).Cause fault → (producers_held h).Cause fault
+    among fault (inl none) = absurd none
+    among fault (inr (none, inl c)) = absurd (label_free fault c)
+    among fault (inr (none, inr c)) = c.1
 
 -- a section that has these fields
-pub section_of_fields : (section : Held) (fields : List Producers) → Contains field_text section fields → producers_text section ≡ (producers_section fields).text
+pub section_of_fields : (section : Held) (fields : List Producers) → Contains producers_field section fields → (producers_held section).text ≡ (producers_section fields).text
 unfolding groups
-section_of_fields section fields holds =
-    rw (← holds.count, holds.body, length-append (name producers_label).text (list_text field_text fields), length-append (unsigned_text (length fields)) (flat_map field_text fields)) refl
+section_of_fields section fields holds = rw (← holds.count, holds.body) refl

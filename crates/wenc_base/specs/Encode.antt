@@ -16,6 +16,12 @@ pub record Appends (text : List ℕ) (cause : Fault → Type 0) (unfinished : Ty
   pub warranted : IfErr outcome (IsWarranted cause)
   pub unfinished_first : unfinished → outcome ≡ Err Unfinished
 
+-- The text of this piece was appended; it fits, and nothing stands against it.
+pub record Appended (old : List ℕ) (p : Piece) (new : List ℕ) : Type 0 where
+  pub items : new ≡ old ++ p.text
+  pub fits : p.Fits
+  pub no_cause : NoCause p.Cause
+
 -- ---- what is asked first is answered first
 
 -- one piece, then another

@@ -2,7 +2,7 @@
 use Rattle.std.specs.Prelude.{◌≡◌, ℕ, ◌+◌, ◌<◌, ◌≤◌, ◌^◌, ◌⊎◌, Bool, true, false, is_none, List, [], ◌++◌, length, take, drop, Option, Some, None, Result, Err, OnOk, OnErr, IfErr}
 use Rattle.std.specs.Iterator.Runs.{SomeRun, WholeRun}
 use Rattle.std.specs.List.{flat_map, AllByRecursion}
-use Rattle.wenc_base.specs.Number.{unsigned_text, number_size}
+use Rattle.wenc_base.specs.Number.{unsigned_text, number_size, u32}
 use Rattle.wenc_base.specs.Fault.{IsWarranted, NoCause}
 use Rattle.wenc_base.specs.Forms.{list}
 use Rattle.wenc_base.specs.Piece.{Piece, Form, refused_for, verbatim, ◌⨾◌}
@@ -137,7 +137,7 @@ listed lead form tail vs = lead ⨾ list form vs ⨾ tail
 
 -- how many members, then the members, which are taken as they are
 abbrev pub held : Held → Piece
-held h = refused_for (EncodeCause h) (verbatim (held_text h))
+held h = refused_for (EncodeCause h) (u32 h.count ⨾ verbatim h.body)
 
 -- the section of the members, which are taken as they are
 abbrev pub held_section : Held → Piece

@@ -1,4 +1,3 @@
-
 use crate::encode::{Encode, Verbatim, extend_in_room};
 use crate::fault::Fault;
 use crate::holder::section_size;

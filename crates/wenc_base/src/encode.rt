@@ -1,6 +1,7 @@
-ghost use Rattle.std.specs.Prelude.{◌≡◌, ◌+◌, ◌<◌, ◌≤◌, ◌++◌, ◌∷◌, [], length, vec_len, vec_capacity, OnOk};
+ghost use Rattle.std.specs.Prelude.{◌≡◌, ◌+◌, ◌<◌, ◌≤◌, ◌^◌, ◌++◌, ◌∷◌, [], length, vec_len, vec_capacity, OnOk};
 ghost use Rattle.wenc_base.specs.Encode.{Appends};
 ghost use Rattle.wenc_base.specs.Fault.{size_cause};
+ghost use Rattle.wenc_base.specs.Forms.{AreBytes};
 ghost use Rattle.wenc_base.specs.Number.{number_size, unsigned_text, signed_text};
 ghost use Rattle.wenc_base.specs.Piece.{Piece};
 
@@ -171,8 +172,9 @@ impl Encode for &[u8] {
 /// Appends the number of bytes, and the bytes, in one growth.
 #[tactic(auto, using(crate::proofs::Groups::groups_below))]
 fn encode_bytes<A: Allocator>(bytes: &[u8], sink: &mut Vec<u8, A>) -> Result<(), Fault>
-    ensures { Appends (unsigned_text (length bytes.now) ++ bytes.now) (size_cause (length bytes.now))
+    ensures appended { Appends (unsigned_text (length bytes.now) ++ bytes.now) (size_cause (length bytes.now))
         ⊥ sink.old.items sink.new.items result }
+    ensures fits { OnOk result ((length bytes.now < 2 ^ 32) × AreBytes bytes.now) }
 {
     if let [byte] = bytes {
         sink.extend_from_slice(&[1, *byte])?;
@@ -191,8 +193,9 @@ fn encode_bytes<A: Allocator>(bytes: &[u8], sink: &mut Vec<u8, A>) -> Result<(),
 #[cold]
 #[inline(never)]
 fn encode_long_bytes<A: Allocator>(bytes: &[u8], sink: &mut Vec<u8, A>) -> Result<(), Fault>
-    ensures { Appends (unsigned_text (length bytes.now) ++ bytes.now) (size_cause (length bytes.now))
+    ensures appended { Appends (unsigned_text (length bytes.now) ++ bytes.now) (size_cause (length bytes.now))
         ⊥ sink.old.items sink.new.items result }
+    ensures fits { OnOk result ((length bytes.now < 2 ^ 32) × AreBytes bytes.now) }
 {
     let Ok(len) = u32::try_from(bytes.len()) else {
         return Err(Fault::TooLarge);

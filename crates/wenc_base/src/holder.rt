@@ -1,10 +1,9 @@
-ghost use Rattle.std.specs.Prelude.{◌≡◌, ◌+◌, ◌-◌, ◌<◌, ◌≤◌, ◌^◌, ◌++◌, length, OnOk, OnErr, IfOk, IfErr, true, false, take, drop};
+ghost use Rattle.std.specs.Prelude.{◌≡◌, ◌+◌, ◌-◌, ◌<◌, ◌≤◌, ◌^◌, length, OnOk, OnErr, IfOk, IfErr, true, false, take, drop};
 ghost use Rattle.std.specs.Iterator.{IsFinite};
 ghost use Rattle.std.specs.Iterator.Runs.{SomeRun, WholeRun};
-ghost use Rattle.wenc_base.specs.Encode.{Appends};
+ghost use Rattle.wenc_base.specs.Encode.{Appends, Appended};
 ghost use Rattle.wenc_base.specs.Fault.{IsWarranted, IsMemory};
 ghost use Rattle.wenc_base.specs.Holder.{no_members, all_bytes, holding, is_finished, content_size, section_text, cut_to, CountCause, AddsMember, AddsListed, listed, held, EncodeCause};
-ghost use Rattle.wenc_base.specs.Lender.{Extended};
 ghost use Rattle.wenc_base.specs.Piece.{verbatim};
 ghost use Rattle.wenc_base.specs.declared.fault.Fault.{Fault as FaultSpec};
 ghost use Rattle.wenc_base.specs.declared.fault.Fault.TheVariants.{TooLarge, Unfinished};
@@ -263,8 +262,8 @@ fn encode_listed<
     requires can { I.can_next values }
     requires ends { IsFinite (I.remaining values) }
     ensures ok { OnOk result (WholeRun I.next_gives values (λ run.
-        Extended sink.new.items (λ bytes. sink.old.items ++ bytes) (λ _ _. ⊥)
-        (listed (E.piece lead.now) T.piece (F.piece tail.now) run.items))) }
+        Appended sink.old.items (listed (E.piece lead.now) T.piece (F.piece tail.now) run.items)
+        sink.new.items)) }
     ensures err { OnErr result (sink.new.items ≡ sink.old.items) }
     ensures warranted { IfErr result (λ fault. SomeRun I.next_gives values (λ run. IsWarranted
         (listed (E.piece lead.now) T.piece (F.piece tail.now) run.items).Cause fault)) }

@@ -1,4 +1,3 @@
-
 use crate::encode::Encode;
 use crate::fault::Fault;
 use crate::section::Section;

@@ -4,7 +4,7 @@ use Rattle.wenc_base.specs.Number.{number_size}
 use Rattle.wenc_base.specs.Holder.{content_size}
 use Rattle.wenc_base.specs.declared.fault.Fault.{Fault}
 use Rattle.wenc_base.specs.declared.fault.Fault.TheVariants.{Memory, TooMany, TooLarge, Unfinished}
-use Rattle.wenc_builder.specs.Item.{item_cause}
+use Rattle.wenc_builder.specs.Item.{item}
 use Rattle.wenc_builder.specs.Sections.{runs}
 use Rattle.wenc_builder.specs.Space.{Defined, defines}
 use Rattle.wenc_builder.specs.Entry.{Entry, items}
@@ -50,10 +50,10 @@ CallCause old cause after places fault =
 
 -- the same of a call that adds this entry
 abbrev pub EnterCause : State → Entry → Fault → Type 0
-EnterCause old x = CallCause old (item_cause x.item) (with_entry old.settled x) (defines x.item)
+EnterCause old x = CallCause old (item x.item).Cause (with_entry old.settled x) (defines x.item)
 
 -- the cause that x has after these entries
 abbrev pub EntryCause : List Entry → Entry → Fault → Type 0
 EntryCause es x =
-    AddingCause (item_cause x.item) (namespace_of (es ++ x ∷ [])) (defines x.item)
+    AddingCause (item x.item).Cause (namespace_of (es ++ x ∷ [])) (defines x.item)
     (open_of (runs (items (es ++ x ∷ []))))

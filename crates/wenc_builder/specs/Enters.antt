@@ -1,9 +1,12 @@
 -- What a call of a builder does.
 use Rattle.std.specs.Prelude.{◌≡◌, ◌↔◌, ℕ, List, [], ◌∷◌, ◌++◌, Option, Some, None, false, Result, Err, IfOk, OnOk, OnErr, IfErr}
 use Rattle.std.specs.Iterator.Runs.{SomeRun, WholeRun}
-use Rattle.wenc_base.specs.Fault.{IsWarranted, either}
+use Rattle.wenc_base.specs.Fault.{IsWarranted, NoCause, either}
+use Rattle.wenc_base.specs.Lender.{Extended}
+use Rattle.wenc_base.specs.Piece.{Piece}
 use Rattle.wenc_base.specs.declared.fault.Fault.{Fault}
 use Rattle.wenc_base.specs.declared.fault.Fault.TheVariants.{Unfinished}
+use Rattle.wenc_builder.specs.Item.{item}
 use Rattle.wenc_builder.specs.Space.{Defined, defines, IsPlaceOf, place}
 use Rattle.wenc_builder.specs.Entry.{Entry, items}
 use Rattle.wenc_builder.specs.Builder.{Content, State, step, settled_in, with_alone, builder_is_finished, namespace_at, Draft, draft_place, begun_with, content_of, appended, ended}
@@ -25,7 +28,8 @@ pub record EntersWith {R : Type 0} (old new : State) (result : Result R Fault) (
       → IfOk result (λ r. Holds new (es ++ x ∷ []) × Told es r)
   pub state : OnOk result (new ≡ step old x)
   pub counted : IfOk result (Counted (defines x.item))
-  pub free : OnOk result ((fault : Fault) → EnterCause old x fault → ⊥)
+  pub fits : OnOk result (item x.item).Fits
+  pub free : OnOk result (NoCause (EnterCause old x))
   pub err : OnErr result (new ≡ old)
   pub warranted : IfErr result (IsWarranted (EnterCause old x))
   pub unfinished : (builder_is_finished old ≡ false) ↔ (result ≡ Err Unfinished)
@@ -54,78 +58,69 @@ pub record Begins {E : Type 0} (index : E → ℕ) (lent : E → State) (old : S
   pub placed : IfOk result
       (λ e. (es : List Entry) → Holds old es → index e ≡ place (items es) d.space)
   pub free : OnOk result
-      ((fault : Fault)
-      → CallCause old (λ _. ⊥) (content_of (begun_with old d)) (Some (draft_place d)) fault → ⊥)
+      (NoCause (CallCause old (λ _. ⊥) (content_of (begun_with old d)) (Some (draft_place d))))
   pub warranted : IfErr result
       (IsWarranted (CallCause old (λ _. ⊥) (content_of (begun_with old d)) (Some (draft_place d))))
   pub unfinished_first : builder_is_finished old ≡ false → result ≡ Err Unfinished
 
--- A call takes these places or none, which leaves `next` and would leave this content when it is done, and says this of
--- its answer; or it is refused for a cause and changes nothing.
+-- A call that writes this piece takes these places or none, which leaves `next` and would leave this content when it
+-- is done, and says this of its answer; or it is refused for a cause and changes nothing.
 pub record TakesWith {R : Type 0} (old new next : State) (result : Result R Fault)
-    (after : Content) (places : Option Defined) (cause : Fault → Type 0)
-    (Told : R → Type 0) : Type 0 where
+    (after : Content) (places : Option Defined) (p : Piece) (Told : R → Type 0) : Type 0 where
   pub told : IfOk result Told
   pub ok : OnOk result (new ≡ next)
-  pub free : OnOk result ((fault : Fault) → CallCause old cause after places fault → ⊥)
+  pub fits : OnOk result p.Fits
+  pub free : OnOk result (NoCause (CallCause old p.Cause after places))
   pub err : OnErr result (new ≡ old)
-  pub warranted : IfErr result (IsWarranted (CallCause old cause after places))
+  pub warranted : IfErr result (IsWarranted (CallCause old p.Cause after places))
   pub unfinished_first : builder_is_finished old ≡ false → result ≡ Err Unfinished
 
 -- The same where the answer is the number of items in the places' space.
-abbrev pub TakesPlaces : State → State → State → Result ℕ Fault → Content → Defined
-    → (Fault → Type 0) → Type 0
-TakesPlaces old new next result after d cause =
-    TakesWith old new next result after (Some d) cause
+abbrev pub TakesPlaces : State → State → State → Result ℕ Fault → Content → Defined → Piece
+    → Type 0
+TakesPlaces old new next result after d p =
+    TakesWith old new next result after (Some d) p
     (λ i. i ≡ (namespace_at old.settled.spaces d.space).count)
 
 -- The same of the place of a draft.
-abbrev pub Takes : State → State → State → Result ℕ Fault → Draft → (Fault → Type 0) → Type 0
-Takes old new next result d cause =
-    TakesPlaces old new next result (content_of (begun_with old d)) (draft_place d) cause
+abbrev pub Takes : State → State → State → Result ℕ Fault → Draft → Piece → Type 0
+Takes old new next result d p =
+    TakesPlaces old new next result (content_of (begun_with old d)) (draft_place d) p
 
 -- The same of an item that is written and ended too.
-abbrev pub TakesDraft : State → State → Result ℕ Fault → Draft → (Fault → Type 0) → Type 0
-TakesDraft old new result d cause = Takes old new (ended (begun_with old d)) result d cause
+abbrev pub TakesDraft : State → State → Result ℕ Fault → (List ℕ → Draft) → Piece → Type 0
+TakesDraft old new result d p =
+    Takes old new (ended (begun_with old (d p.text))) result (d p.text) p
 
 -- The same of what stands alone.
-abbrev pub TakesAlone : State → State → Result ℕ Fault → Defined → Option (List ℕ) → List ℕ
-    → (Fault → Type 0) → Type 0
-TakesAlone old new result d name text cause =
-    TakesPlaces old new (settled_in (with_alone old.settled (Some d) name text)) result
-    (with_alone old.settled (Some d) name text) d cause
+abbrev pub TakesAlone : State → State → Result ℕ Fault → Defined → Option (List ℕ) → Piece → Type 0
+TakesAlone old new result d name p =
+    TakesPlaces old new (settled_in (with_alone old.settled (Some d) name p.text)) result
+    (with_alone old.settled (Some d) name p.text) d p
 
 -- The same of what stands alone and has no place.
-abbrev pub TakesNoPlace : State → State → Result (Unit {0}) Fault → List ℕ → (Fault → Type 0)
-    → Type 0
-TakesNoPlace old new result text cause =
-    TakesWith old new (settled_in (with_alone old.settled None None text)) result
-    (with_alone old.settled None None text) None cause (λ r. Unit {0})
+abbrev pub TakesNoPlace : State → State → Result (Unit {0}) Fault → Piece → Type 0
+TakesNoPlace old new result p =
+    TakesWith old new (settled_in (with_alone old.settled None None p.text)) result
+    (with_alone old.settled None None p.text) None p (λ r. Unit {0})
 
--- A call appends a text to the item that is being written, which is made of the values that an iterator gives; where it
--- is refused, it may have appended a part.
+-- A call appends a piece to the item that is being written, which is made of the values that an iterator gives; where
+-- it is refused, it may have appended a part.
 pub record AppendsListed {S B : Type 0} (steps : S → Option B → S → Type 0) (values : S)
-    (old new : State) (outcome : Result (Unit {0}) Fault) (cause : List B → Fault → Type 0)
-    (text : List B → List ℕ) : Type 0 where
+    (old new : State) (outcome : Result (Unit {0}) Fault) (piece : List B → Piece) : Type 0 where
   pub ok : OnOk outcome
-      (WholeRun steps values
-      (λ run. (new ≡ appended old (text run.items)) ×
-      ((fault : Fault) → either (cause run.items) (no_room old (text run.items)) fault → ⊥)))
+      (WholeRun steps values (λ run. Extended new (appended old) (no_room old) (piece run.items)))
   pub settled : OnErr outcome (new.settled ≡ old.settled)
   pub still : builder_is_finished new ≡ false
   pub warranted : IfErr outcome
-      (λ fault. SomeRun steps values
-      (λ run. IsWarranted (either (cause run.items) (no_room old (text run.items))) fault))
+      (λ fault. SomeRun steps values (λ run.
+      IsWarranted (either (piece run.items).Cause (no_room old (piece run.items).text)) fault))
 
--- The same of a draft whose text is made of the values that an iterator gives.
+-- The same of an item whose text is made of the values that an iterator gives.
 pub record TakesListed {S B : Type 0} (steps : S → Option B → S → Type 0) (values : S)
     (old new : State) (result : Result ℕ Fault) (d : List ℕ → Draft)
-    (cause : List B → Fault → Type 0) (text : List B → List ℕ) : Type 0 where
+    (piece : List B → Piece) : Type 0 where
   pub ok : OnOk result
-      (WholeRun steps values
-      (λ run. Takes old new (ended (begun_with old (d (text run.items)))) result
-      (d (text run.items)) (cause run.items)))
+      (WholeRun steps values (λ run. TakesDraft old new result d (piece run.items)))
   pub refused : OnErr result
-      (SomeRun steps values
-      (λ run. Takes old new (ended (begun_with old (d (text run.items)))) result
-      (d (text run.items)) (cause run.items)))
+      (SomeRun steps values (λ run. TakesDraft old new result d (piece run.items)))

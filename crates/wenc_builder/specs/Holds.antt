@@ -6,6 +6,7 @@ use Rattle.wenc_builder.specs.Sections.{Section, Run, Alone, runs, whole}
 use Rattle.wenc_builder.specs.Space.{place}
 use Rattle.wenc_base.specs.Names.{names_text}
 use Rattle.wenc_builder.specs.Entry.{Entry, items, names}
+use Rattle.wenc_builder.specs.Raw.{IsEncodable}
 use Rattle.wenc_builder.specs.Builder.{OpenSection, Sections, sections_text, Namespace, namespace_at, namespace_with, Content, Begun, State, settled_in}
 
 -- the open section that the last section is, where it collects items
@@ -33,21 +34,10 @@ pub record SpacesHold (spaces : List Namespace) (es : List Entry) : Type 0 where
   pub all : length spaces ≡ 13
   pub each : (k : ℕ) → k < 13 → namespace_at spaces k ≡ namespace_of es k
 
--- The bytes are those of the entries' items, the open section is the last one, and each space has what
--- they define, with their names.
+-- The bytes are those of the entries' items, the open section is the last one, each space has what they
+-- define, with their names, and the items can be encoded.
 pub record Holds (s : State) (es : List Entry) : Type 0 where
   pub finished : s.begun ≡ None
   pub sections : SectionsHold s.settled.sections (items es)
   pub spaces : SpacesHold s.settled.spaces es
-
--- an item that is being written takes one place more of its space, with a name or none
-abbrev pub IsPlaced : Content → Option Begun → Type 0
-IsPlaced c None = Unit {0}
-IsPlaced c (Some b) =
-    ∥ ((name : Option (List ℕ)) ×
-    (b.after ≡ namespace_with (namespace_at c.spaces b.space) 1 name)) ∥₁
-
--- It holds some entries, but for an item that is being written.
-pub record HoldsSome (s : State) : Type 0 where
-  pub settled : ∥ ((es : List Entry) × Holds (settled_in s.settled) es) ∥₁
-  pub placed : IsPlaced s.settled s.begun
+  pub fits : IsEncodable (items es)

@@ -6,7 +6,9 @@ use Rattle.wenc_base.specs.Number.{unsigned_text, number_size}
 use Rattle.wenc_base.specs.Holder.{Held, content_size}
 use Rattle.wenc_base.specs.declared.holder.openings.Opening.{Opening}
 use Rattle.wenc_base.specs.declared.fault.Fault.{Fault}
-use Rattle.wenc_base.specs.Fault.{text_cause, either}
+use Rattle.wenc_base.specs.Fault.{either}
+use Rattle.wenc_base.specs.Forms.{byte_list}
+use Rattle.wenc_base.specs.Piece.{Piece, refused_for}
 use Rattle.wenc_base.specs.declared.fault.Fault.TheVariants.{TooLarge, Unfinished}
 use Rattle.wenc_parts.specs.declared.component.ComponentSectionId.TheVariants as ids
 use Rattle.wenc_parts.specs.SectionIds.{section_number}
@@ -202,16 +204,13 @@ kept_with kept e = closed_with kept e ++ drop e.items_end kept
 
 -- ---- why the buffer refuses
 
--- why all bytes can't be those of a nested component: there are too many, or an item is being written
-abbrev pub NestCause : Buffered → Fault → Type 0
-NestCause b =
-    either (text_cause (sections_text b.settled))
-    (λ fault. (fault ≡ Unfinished) × (is_none b.writing ≡ false))
+-- all bytes as those of a nested component: refused where there are too many, or while an item is being written
+abbrev pub nested : Buffered → Piece
+nested b =
+    let bytes = byte_list (sections_text b.settled) in
+    refused_for (either bytes.Cause (λ fault. (fault ≡ Unfinished) × (is_none b.writing ≡ false)))
+    bytes
 
 -- The open section, as it would be, is too large.
 abbrev pub NoRoom : Option OpenSection → Fault → Type 0
 NoRoom current fault = (fault ≡ TooLarge) × SectionCause current TooLarge
-
--- why no more can be added to an item: for its own cause, or for the section that this would leave
-abbrev pub AppendCause : (Fault → Type 0) → Option OpenSection → Fault → Type 0
-AppendCause cause current = either cause (NoRoom current)

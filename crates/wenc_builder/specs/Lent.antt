@@ -1,5 +1,6 @@
 -- A builder as what encoders are lent.
 use Rattle.std.specs.Prelude.{◌≡◌, ℕ, Bool, false, List, length, nat_eq, Option, Some, None}
+use Rattle.wenc_base.specs.Piece.{Piece}
 use Rattle.wenc_base.specs.declared.fault.Fault.{Fault}
 use Rattle.wenc_builder.specs.Builder.{Begun, State, content_of, appended}
 use Rattle.wenc_builder.specs.Item.{Item, collected, item}
@@ -24,7 +25,12 @@ pub record IsItemText (section : Option ℕ) (places : Option Defined) (bytes : 
   pub value : Item
   pub collects : collected value ≡ section
   pub takes : defines value ≡ places
+  pub fits : (item value).Fits
   pub is : bytes ≡ (item value).text
+
+-- If it fits, this piece is such an item.
+abbrev pub IsItemPiece : Option ℕ → Option Defined → Piece → Type 0
+IsItemPiece section places p = p.Fits → ∥ IsItemText section places p.text ∥₁
 
 -- what is being written is a whole item of its section, which takes one place in its space
 abbrev pub IsWhole : Option Begun → Type 0

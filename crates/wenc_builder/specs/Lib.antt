@@ -4,6 +4,7 @@ pub mod Space
 pub mod CanonicalNames
 pub mod Entry
 pub mod Builder
+pub mod Raw
 pub mod Holds
 pub mod Cause
 pub mod Enters
@@ -13,4 +14,5 @@ pub mod Names
 pub mod Naming
 pub mod Spaces
 pub mod View
+pub mod inside
 pub mod laws

@@ -1,8 +1,7 @@
 -- The section of debug names that a builder adds (component model, binary format, "Name Section").
 use Rattle.std.specs.Prelude.{◌≡◌, ◌↔◌, ℕ, List, [], ◌∷◌, map, nat_eq, if◌then◌else◌, Bool, true, false, Option, Some, None, Result, Ok, Err, OnErr}
 use Rattle.std.specs.Option.{MatchOption}
-use Rattle.std.specs.List.{flat_map}
-use Rattle.wenc_base.specs.Fault.{text_cause, member_cause}
+use Rattle.wenc_base.specs.Piece.{Piece, Form, nothing, each}
 use Rattle.wenc_base.specs.Holder.{Held, holding}
 use Rattle.wenc_base.specs.declared.fault.Fault.{Fault}
 use Rattle.wenc_base.specs.declared.fault.Fault.TheVariants.{Unfinished}
@@ -53,20 +52,15 @@ names_entry es = named_entry (name_subsections (by_sort (names es)))
 abbrev pub names_held : Namespace → Held
 names_held s = holding [] s.named s.names
 
+-- a piece, where there is something in it
+abbrev pub unless_empty : Bool → Piece → Piece
+unless_empty true p = nothing
+unless_empty false p = p
+
 -- the subsection of names that are kept, where there are some
-abbrev pub space_names : Sort × Held → List ℕ
+abbrev pub space_names : Form (Sort × Held)
 space_names p =
-    if nat_eq p.1.count 0 then [] else (subsection (RawNames 0x01 (items_content p.0 p.1))).text
-
--- why it can't be encoded
-abbrev pub space_names_cause : Sort × Held → Fault → Type 0
-space_names_cause p fault = (nat_eq p.1.count 0 ≡ false) × text_cause (items_content p.0 p.1) fault
-
-abbrev pub all_names : List (Sort × Held) → List ℕ
-all_names ps = flat_map space_names ps
-
-abbrev pub all_names_cause : List (Sort × Held) → Fault → Type 0
-all_names_cause ps = member_cause space_names_cause ps
+    unless_empty (nat_eq p.1.count 0) (held_subsection p.0 p.1)
 
 -- there is no name at all
 abbrev pub none_named : List (Sort × Held) → Bool
@@ -87,6 +81,6 @@ pub record AddsNames (old new : State) (result : Result (Unit {0}) Fault) : Type
   pub none : none_named (kept_names old) ≡ true → builder_is_finished old ≡ true
       → (result ≡ Ok tt) × (new ≡ old)
   pub some : none_named (kept_names old) ≡ false
-      → EntersPlaceless old new result (custom_entry names_label (all_names (kept_names old)))
+      → EntersPlaceless old new result (custom_entry names_label (each space_names (kept_names old)).text)
   pub err : OnErr result (new ≡ old)
   pub unfinished : (builder_is_finished old ≡ false) ↔ (result ≡ Err Unfinished)

@@ -7,3 +7,4 @@ pub mod Held
 pub mod Lent
 pub mod Typed
 pub mod Fits
+pub mod Reading

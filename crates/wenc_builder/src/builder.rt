@@ -2,8 +2,8 @@ ghost use Rattle.std.specs.Prelude.{◌≡◌, ◌↔◌, ◌∷◌, [], List, I
 ghost use Rattle.std.specs.Iterator.{IsFinite};
 ghost use Rattle.std.specs.Option.{option_copied};
 ghost use Rattle.wenc_base.specs.Fault.{IsMemory, IsWarranted};
-ghost use Rattle.wenc_base.specs.Holder.{listed_text, listed_cause};
-ghost use Rattle.wenc_base.specs.laws.Causes.{never};
+ghost use Rattle.wenc_base.specs.Holder.{listed};
+ghost use Rattle.wenc_base.specs.Piece.{nothing, ◌▸◌, Spelling};
 ghost use Rattle.wenc_base.specs.Lender.{GivesUp};
 ghost use Rattle.wenc_base.specs.declared.fault.Fault.TheVariants.{Unfinished};
 ghost use Rattle.wenc_parts.specs.Imports.{extern_name_view};
@@ -11,14 +11,15 @@ ghost use Rattle.wenc_parts.specs.Aliases.{alias_view};
 ghost use Rattle.wenc_canon.specs.Canonicals.{canonical_option, ◌takes◌};
 ghost use Rattle.wenc_canon.specs.Rows.{row_with, provided_by};
 ghost use Rattle.wenc_canon.specs.CanonTrees.{canon_view};
-ghost use Rattle.wenc_builder.specs.Sections.{whole};
+ghost use Rattle.wenc_builder.specs.Sections.{Section, runs, Reading, whole};
 ghost use Rattle.wenc_builder.specs.Entry.{Entry, items, module_entry, component_entry, canonical_entry, start_entry, custom_entry, raw_entry};
 ghost use Rattle.wenc_builder.specs.Entry.{import_entry, export_entry, alias_entry, alias_export_entry, core_alias_export_entry};
 ghost use Rattle.wenc_builder.specs.Builder.{builder_is_finished, sections_text, count_in, begun_with, ended, builder_given_up};
 ghost use Rattle.wenc_builder.specs.Holds.{Holds};
 ghost use Rattle.wenc_builder.specs.Enters.{Enters, EntersPlaceless, Takes, TakesDraft, TakesAlone, TakesNoPlace, AppendsListed, TakesListed};
 ghost use Rattle.wenc_builder.specs.Space.{defined_as, some_in, canonical_space};
-ghost use Rattle.wenc_builder.specs.Lent.{IsItemText, is_whole};
+ghost use Rattle.wenc_builder.specs.Lent.{IsItemPiece, is_whole};
+ghost use Rattle.wenc_builder.specs.Raw.{HasNoRaw};
 ghost use Rattle.wenc_canon.specs.declared.canonicals.CanonicalOption.{CanonicalOption as CanonicalOptionSpec};
 ghost use Rattle.wenc_builder.specs.Layout.{draft_of, kind_id};
 ghost use Rattle.wenc_builder.specs.Names.{AddsNames};
@@ -196,7 +197,7 @@ impl<A: Allocator> ComponentBuilder<A> {
     fn begin(&mut self, kind: Kind, space: Space, name: Option<&str>) -> Result<u32, Fault>
         ensures { Takes self.old self.new
             (begun_with self.old (draft_of kind space (option_copied name.entry) []))
-            result (draft_of kind space (option_copied name.entry) []) (λ _. ⊥) }
+            result (draft_of kind space (option_copied name.entry) []) nothing }
     {
         if !self.buffer.is_finished() {
             return Err(Fault::Unfinished);
@@ -240,10 +241,9 @@ impl<A: Allocator> ComponentBuilder<A> {
         name: Option<&str>,
         item: &E,
     ) -> Result<u32, Fault>
-        requires { ∥ IsItemText (Some (kind_id kind)) (some_in space 1) (E.text item.now) ∥₁ }
+        requires { IsItemPiece (Some (kind_id kind)) (some_in space 1) (E.piece item.now) }
         ensures { TakesDraft self.old self.new result
-            (draft_of kind space (option_copied name.entry) (E.text item.now))
-            (E.cause item.now) }
+            (draft_of kind space (option_copied name.entry)) (E.piece item.now) }
     {
         let index = match self.begin(kind, space, name) {
             Ok(index) => index,
@@ -273,8 +273,7 @@ impl<A: Allocator> ComponentBuilder<A> {
         requires can { I.can_next values }
         requires ends { IsFinite (I.remaining values) }
         ensures { AppendsListed I.next_gives values self.old self.new result
-            (listed_cause (E.cause lead.now) T.cause (F.cause tail.now))
-            (listed_text (E.text lead.now) T.text (F.text tail.now)) }
+            (listed (E.piece lead.now) T.piece (F.piece tail.now)) }
     {
         if let Err(fault) = self.append_value(lead) {
             return Err(fault);
@@ -297,12 +296,11 @@ impl<A: Allocator> ComponentBuilder<A> {
     ) -> Result<u32, Fault>
         requires can { I.can_next values }
         requires ends { IsFinite (I.remaining values) }
-        requires whole { (vs : List T) → ∥ IsItemText (Some (kind_id kind)) (some_in space 1)
-            (listed_text (E.text lead.now) T.text (F.text tail.now) vs) ∥₁ }
+        requires whole { (vs : List T) → IsItemPiece (Some (kind_id kind)) (some_in space 1)
+            (listed (E.piece lead.now) T.piece (F.piece tail.now) vs) }
         ensures { TakesListed I.next_gives values self.old self.new result
             (draft_of kind space (option_copied name.entry))
-            (listed_cause (E.cause lead.now) T.cause (F.cause tail.now))
-            (listed_text (E.text lead.now) T.text (F.text tail.now)) }
+            (listed (E.piece lead.now) T.piece (F.piece tail.now)) }
     {
         let index = match self.begin(kind, space, name) {
             Ok(index) => index,
@@ -329,9 +327,9 @@ impl<A: Allocator> ComponentBuilder<A> {
         name: Option<&str>,
         section: &E,
     ) -> Result<u32, Fault>
-        requires { ∥ IsItemText None (some_in space number) (E.text section.now) ∥₁ }
+        requires { IsItemPiece None (some_in space number) (E.piece section.now) }
         ensures { TakesAlone self.old self.new result (defined_as space number)
-            (option_copied name.entry) (E.text section.now) (E.cause section.now) }
+            (option_copied name.entry) (E.piece section.now) }
     {
         if !self.buffer.is_finished() {
             return Err(Fault::Unfinished);
@@ -353,8 +351,8 @@ impl<A: Allocator> ComponentBuilder<A> {
 
     /// Adds what stands alone and has no place.
     fn place_nowhere<E: Encode>(&mut self, section: &E) -> Result<(), Fault>
-        requires { ∥ IsItemText None None (E.text section.now) ∥₁ }
-        ensures { TakesNoPlace self.old self.new result (E.text section.now) (E.cause section.now) }
+        requires { IsItemPiece None None (E.piece section.now) }
+        ensures { TakesNoPlace self.old self.new result (E.piece section.now) }
     {
         if !self.buffer.is_finished() {
             return Err(Fault::Unfinished);
@@ -374,12 +372,11 @@ impl<A: Allocator> ComponentBuilder<A> {
         requires can { I.can_next options }
         requires ends { IsFinite (I.remaining options) }
         requires whole { (os : List CanonicalOptionSpec)
-            → ∥ IsItemText (Some (kind_id Kind.CanonicalFunction)) (some_in Space.CoreFuncs 1)
-            (listed_text (opcode ∷ E.text fields.now) (λ o. (canonical_option o).text) [] os) ∥₁ }
+            → IsItemPiece (Some (kind_id Kind.CanonicalFunction)) (some_in Space.CoreFuncs 1)
+            (listed (opcode ▸ E.piece fields.now) canonical_option nothing os) }
         ensures { TakesListed I.next_gives options self.old self.new result
             (draft_of Kind.CanonicalFunction Space.CoreFuncs (option_copied name.entry))
-            (listed_cause (E.cause fields.now) (λ _. never) never)
-            (listed_text (opcode ∷ E.text fields.now) (λ o. (canonical_option o).text) []) }
+            (listed (opcode ▸ E.piece fields.now) canonical_option nothing) }
     {
         self.add_listed(
             Kind::CanonicalFunction,
@@ -687,6 +684,10 @@ impl<A: Allocator> ComponentBuilder<A> {
             → IfOk result (λ v. v.items ≡ whole (items es)) }
         ensures some { IfOk result (λ v.
             ∥ ((es : List Entry) × Holds self es × (v.items ≡ whole (items es))) ∥₁) }
+        // Where no item is raw they have one reading, strictly and widely: the sections into which the items are cut.
+        ensures one_reading { IfOk result (λ v. (es : List Entry) → Holds self es
+            → HasNoRaw (items es) → (mode : Spelling) (ss : List Section)
+            → Reading mode v.items ss ↔ (ss ≡ runs (items es))) }
         ensures ok { IsOk result ↔ IsTrue (builder_is_finished self) }
         ensures fault { IfErr result (λ fault. fault ≡ Fault.Unfinished) }
     {

@@ -1,38 +1,85 @@
--- The text of a name, piece by piece.
-use Rattle.std.proofs.Common.{◌≡◌, ℕ, ◌≢◌, List, [], ◌∷◌, ◌++◌, length, Option, Some, None, refl, ap, arith, flat_map}
+-- What the code writes of a name, for the name's form.
+use Rattle.std.proofs.Common.{◌≡◌, ℕ, ◌≢◌, ◌<◌, ◌≤◌, ◌^◌, List, [], ◌∷◌, ◌++◌, length, length-append, Option, Some, None, refl, sym, inl, inr, lit≤, arith}
 use Rattle.std.proofs.lemmas.List.{append-nil}
-use Rattle.wenc_base.specs.Number.{u32}
-use Rattle.wenc_base.specs.Forms.{name}
-use Rattle.wenc_parts.specs.Imports.{ExternName, NameOption, Implements, VersionSuffix, ExternalId, name_option, name_options, name_with, present, extern_name, option_entry_text}
+use Rattle.wenc_base.specs.Encode.{Serves, in_order}
+use Rattle.wenc_base.specs.Fault.{NoCause, count_cause}
+use Rattle.wenc_base.specs.Forms.{name, list}
+use Rattle.wenc_base.specs.Number.{u32, count}
+use Rattle.wenc_base.specs.Piece.{Piece, ◌▸◌, ◌⨾◌, each}
+use Rattle.wenc_base.specs.declared.fault.Fault.TheVariants.{Memory, TooMany, TooLarge, Unfinished}
+use Rattle.wenc_base.specs.laws.Serves.{serves_itself, serves_then, tagged_serves, order_serves, either_free}
+use Rattle.wenc_parts.specs.Imports.{ExternName, NameOption, Implements, VersionSuffix, ExternalId, name_option, name_options, name_with, present, extern_name, option_entry}
 
-abbrev all_options : Option (List ℕ) → Option (List ℕ) → Option (List ℕ) → List NameOption
-all_options a b c = present Implements a ++ (present VersionSuffix b ++ present ExternalId c)
+-- ---- options
 
-abbrev entries : Option (List ℕ) → Option (List ℕ) → Option (List ℕ) → List ℕ
-entries a b c = option_entry_text 0x00 a ++ (option_entry_text 0x01 b ++ option_entry_text 0x02 c)
+-- an option, or none, then others
+entry_serves : (number : ℕ) (make : List ℕ → NameOption) (o : Option (List ℕ)) {p : Piece} (others : List NameOption) → ((text : List ℕ) → Serves (number ▸ name text) (name_option (make text)))
+    → Serves p (each name_option others) → Serves (in_order (option_entry number o) p) (each name_option (present make o ++ others))
+entry_serves number make None others one s = record {
+  text = s.text;
+  fits = λ h. s.fits h.1;
+  among = λ fault c. elim c [ inl none ↦ absurd none | inr k ↦ s.among fault k.1 ];
+  free = λ none. s.free (λ fault k. none fault (inr ((λ f c. c), k)));
+}
+entry_serves number make (Some text) others one s = order_serves (one text) s
 
-last_entry : (c : Option (List ℕ)) → flat_map (λ o. (name_option o).text) (present ExternalId c) ≡ option_entry_text 0x02 c
-last_entry None = refl
-last_entry (Some text) = append-nil (0x02 ∷ (name text).text)
+last_serves : (o : Option (List ℕ)) → Serves (option_entry 0x02 o) (each name_option (present ExternalId o))
+last_serves None = serves_itself
+last_serves (Some text) = record {
+  text = sym (append-nil (0x02 ∷ (name text).text));
+  fits = λ h. (h, tt);
+  among = λ fault c. inl c;
+  free = λ none. either_free none (λ fault c. c);
+}
 
-options_text : (a b c : Option (List ℕ)) → flat_map (λ o. (name_option o).text) (all_options a b c) ≡ entries a b c
-options_text None None c = last_entry c
-options_text None (Some v) c = ap (λ (t : List ℕ). (0x01 ∷ (name v).text) ++ t) (last_entry c)
-options_text (Some i) None c = ap (λ (t : List ℕ). (0x00 ∷ (name i).text) ++ t) (last_entry c)
-options_text (Some i) (Some v) c = ap (λ (t : List ℕ). (0x00 ∷ (name i).text) ++ ((0x01 ∷ (name v).text) ++ t)) (last_entry c)
+-- ---- their number
 
-plain_with : (text : List ℕ) (options : List NameOption) → length options ≡ 0 → (name_with text options).text ≡ 0x00 ∷ (name text).text
-plain_with text [] h = refl
-plain_with text (o ∷ options) h = absurd (omega (arith, h))
+at_most_one : (make : List ℕ → NameOption) (o : Option (List ℕ)) → length (present make o) ≤ 1
+at_most_one make None = lit≤ tt
+at_most_one make (Some text) = lit≤ tt
 
-optioned_with : (text : List ℕ) (options : List NameOption) → length options ≢ 0
-    → (name_with text options).text ≡ 0x02 ∷ ((name text).text ++ ((u32 (length options)).text ++ flat_map (λ o. (name_option o).text) options))
-optioned_with text [] h = absurd (h refl)
-optioned_with text (o ∷ options) h = refl
+few_options : (n : ExternName) → length (name_options n) < 2 ^ 32
+few_options n =
+    let tail : List NameOption = present VersionSuffix n.version_suffix ++ present ExternalId n.external_id in
+    omega (
+      arith,
+      length-append (present Implements n.implements) tail,
+      length-append (present VersionSuffix n.version_suffix) (present ExternalId n.external_id),
+      at_most_one Implements n.implements,
+      at_most_one VersionSuffix n.version_suffix,
+      at_most_one ExternalId n.external_id,
+    )
 
-pub plain_text : (n : ExternName) → length (name_options n) ≡ 0 → (extern_name n).text ≡ 0x00 ∷ (name n.name).text
-plain_text n h = plain_with n.name (name_options n) h
+-- a number of 32 bits, as a count
+count_serves : (k : ℕ) → k < 2 ^ 32 → Serves (u32 k) (count k)
+count_serves k few = record { text = refl; fits = λ h. h; among = λ fault c. absurd c; free = λ none. free }
+  where
+    free : NoCause (count_cause k)
+    free (Memory e) c = c
+    free TooMany c = absurd (omega (arith, few, c))
+    free TooLarge c = c
+    free Unfinished c = c
 
-pub optioned_text : (n : ExternName) → length (name_options n) ≢ 0 → (extern_name n).text
-    ≡ 0x02 ∷ ((name n.name).text ++ ((u32 (length (name_options n))).text ++ entries n.implements n.version_suffix n.external_id))
-optioned_text n h = rw (options_text n.implements n.version_suffix n.external_id) at (optioned_with n.name (name_options n) h)
+-- ---- names
+
+plain_with : (text : List ℕ) (options : List NameOption) → length options ≡ 0 → Serves (0x00 ▸ name text) (name_with text options)
+plain_with text [] none = record { text = refl; fits = λ h. h; among = λ fault c. c; free = λ none. none }
+plain_with text (o ∷ options) none = absurd (omega (arith, none))
+
+optioned_with : (text : List ℕ) (options : List NameOption) → length options ≢ 0 → Serves (0x02 ▸ name text ⨾ list name_option options) (name_with text options)
+optioned_with text [] some = absurd (some refl)
+optioned_with text (o ∷ options) some = serves_itself
+
+pub plain_serves : (n : ExternName) → length (name_options n) ≡ 0 → Serves (0x00 ▸ name n.name) (extern_name n)
+plain_serves n none = plain_with n.name (name_options n) none
+
+abbrev pub entries : ExternName → Piece
+entries n = in_order (option_entry 0x00 n.implements) (in_order (option_entry 0x01 n.version_suffix) (option_entry 0x02 n.external_id))
+
+pub optioned_serves : (n : ExternName) → length (name_options n) ≢ 0 → Serves (0x02 ▸ in_order (name n.name) (in_order (u32 (length (name_options n))) (entries n))) (extern_name n)
+optioned_serves n some =
+    let last = last_serves n.external_id in
+    let two = entry_serves 0x01 VersionSuffix n.version_suffix (present ExternalId n.external_id) (λ text. serves_itself) last in
+    let three = entry_serves 0x00 Implements n.implements _ (λ text. serves_itself) two in
+    let counted = order_serves (count_serves (length (name_options n)) (few_options n)) three in
+    serves_then (tagged_serves 0x02 (order_serves serves_itself counted)) (optioned_with n.name (name_options n) some)

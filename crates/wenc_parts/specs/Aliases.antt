@@ -4,8 +4,6 @@ use Rattle.wenc_base.specs.Piece.{Form, byte, ◌▸◌, ◌⨾◌}
 use Rattle.wenc_base.specs.Number.{u32}
 use Rattle.wenc_base.specs.Forms.{name as name_form}
 use Rattle.std.specs.String.{string_bytes}
-use Rattle.wenc_base.specs.Fault.{text_cause}
-use Rattle.wenc_base.specs.declared.fault.Fault.{Fault}
 use Rattle.wenc_base.specs.declared.exports.ExportKind.{ExportKind}
 use Rattle.wenc_base.specs.Exports.{export_kind as core_kind}
 use Rattle.wenc_parts.specs.declared.exports.ComponentExportKind.{ComponentExportKind}
@@ -40,12 +38,6 @@ alias (Outer kind count number) = outer_kind kind ⨾ 0x02 ▸ u32 count ⨾ u32
 
 abbrev pub alias_text : AliasOf → List ℕ
 alias_text a = (alias a).text
-
--- why an alias can't be encoded
-abbrev pub alias_cause : AliasOf → Fault → Type 0
-alias_cause (InstanceExport instance kind name) fault = text_cause name fault
-alias_cause (CoreInstanceExport instance kind name) fault = text_cause name fault
-alias_cause (Outer kind count number) fault = ⊥
 
 -- ---- the code's aliases as pure ones
 

@@ -1,11 +1,9 @@
 -- What an import or an export refers to, and its name (component model, binary format, "Import and Export
 -- Definitions").
-use Rattle.std.specs.Prelude.{ℕ, List, [], ◌∷◌, ◌++◌, ◌⊎◌, Option, Some, None, String, Box}
-use Rattle.wenc_base.specs.Piece.{Piece, Form, byte, ◌▸◌, ◌⨾◌, also}
+use Rattle.std.specs.Prelude.{ℕ, List, [], ◌∷◌, ◌++◌, Option, Some, None, String, Box}
+use Rattle.wenc_base.specs.Piece.{Piece, Form, nothing, byte, ◌▸◌, ◌⨾◌, also}
 use Rattle.wenc_base.specs.Number.{u32}
 use Rattle.wenc_base.specs.Forms.{name, list}
-use Rattle.wenc_base.specs.Fault.{text_cause}
-use Rattle.wenc_base.specs.declared.fault.Fault.{Fault}
 use Rattle.wenc_parts.specs.Types.{value_type}
 use Rattle.std.specs.String.{string_bytes}
 use Rattle.std.specs.Cow.{cow_str_bytes}
@@ -80,22 +78,6 @@ name_with text (option ∷ options) = 0x02 ▸ name text ⨾ list name_option (o
 abbrev pub extern_name : Form ExternName
 extern_name n = name_with n.name (name_options n)
 
--- why a name can't be encoded: one of its texts can't
-abbrev pub option_cause : Option (List ℕ) → Fault → Type 0
-option_cause None fault = ⊥
-option_cause (Some text) fault = text_cause text fault
-
--- one that is there fits
-abbrev pub OptionFits : Option (List ℕ) → Type 0
-OptionFits None = Unit {0}
-OptionFits (Some text) = (name text).Fits
-
-abbrev pub extern_name_cause : ExternName → Fault → Type 0
-extern_name_cause n fault =
-    text_cause n.name fault ⊎
-    (option_cause n.implements fault ⊎
-    (option_cause n.version_suffix fault ⊎ option_cause n.external_id fault))
-
 -- ---- the code's names as pure ones
 
 abbrev pub text_option : {A : Type 0} → Option (CowStr A) → Option (List ℕ)
@@ -131,7 +113,7 @@ boxed_view name (Some options) = options_view name options.value
 abbrev pub name_tree_view : {A : Type 0} → NameTree A → ExternName
 name_tree_view n = boxed_view (string_bytes n.name) n.options
 
--- the text of an option that begins with this number; none where it isn't there
-abbrev pub option_entry_text : ℕ → Option (List ℕ) → List ℕ
-option_entry_text number None = []
-option_entry_text number (Some text) = number ∷ (name text).text
+-- an option behind the number that it begins with, or nothing where it isn't there
+abbrev pub option_entry : ℕ → Form (Option (List ℕ))
+option_entry number None = nothing
+option_entry number (Some text) = number ▸ name text

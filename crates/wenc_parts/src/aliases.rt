@@ -1,5 +1,6 @@
-ghost use Rattle.std.specs.Prelude.{◌≡◌, refl};
+ghost use Rattle.std.specs.Prelude.{◌≡◌};
 ghost use Rattle.wenc_base.specs.laws.Delimited.{itself};
+ghost use Rattle.wenc_base.specs.laws.Serves.{serves_itself};
 
 use crate::component::{COMPONENT_SORT, CORE_MODULE_SORT, CORE_SORT, CORE_TYPE_SORT, TYPE_SORT};
 use crate::exports::ComponentExportKind;
@@ -94,7 +95,7 @@ pub enum Alias<'a> {
 }
 
 impl<'a> Encode for Alias<'a> {
-    ghost use Rattle.wenc_parts.specs.Aliases.{alias, alias_view, alias_cause};
+    ghost use Rattle.wenc_parts.specs.Aliases.{alias, alias_view};
 
     ghost piece = { λ a. alias (alias_view a) };
 
@@ -119,7 +120,7 @@ impl<'a> Encode for Alias<'a> {
 
 impl<'a> Delimited for Alias<'a> {
     ghost use Rattle.wenc_parts.specs.Aliases.{AliasOf, alias, alias_view};
-    ghost use Rattle.wenc_parts.specs.laws.Aliases.{read_alias, alias_lawful, alias_free};
+    ghost use Rattle.wenc_parts.specs.laws.Aliases.{read_alias, alias_lawful};
 
     ghost Seen = { AliasOf };
 

@@ -1,8 +1,10 @@
-ghost use Rattle.std.specs.Prelude.{◌≡◌, refl, ℕ, ◌∷◌};
+ghost use Rattle.std.specs.Prelude.{◌≡◌, ℕ, OnOk};
 ghost use Rattle.wenc_base.specs.laws.Delimited.{itself};
 ghost use Rattle.wenc_base.specs.Encode.{Appends};
+ghost use Rattle.wenc_base.specs.Piece.{◌▸◌};
 ghost use Rattle.wenc_parts.specs.SectionIds.{section_number};
 ghost use Rattle.wenc_parts.specs.declared.component.ComponentSectionId.TheVariants.{CoreCustom};
+ghost use Rattle.wenc_base.specs.laws.Serves.{serves_itself};
 
 use std::alloc::Allocator;
 use wenc_base::{
@@ -45,8 +47,10 @@ pub trait ComponentSection: Encode {
     fn append_to_component<A: Allocator>(&self, sink: &mut Vec<u8, A>) -> Result<(), Fault>
     where
         Self: Sized,
-        ensures { Appends (section_id self.now ∷ Self.text self.now) (Self.cause self.now)
-            (Self.unfinished self.now) sink.old.items sink.new.items result }
+        ensures appended { Appends (section_id self.now ▸ Self.piece self.now).text
+            (Self.piece self.now).Cause (Self.unfinished self.now)
+            sink.old.items sink.new.items result }
+        ensures fits { OnOk result (Self.piece self.now).Fits }
     {
         Tagged(self.id(), self).encode(sink)
     }

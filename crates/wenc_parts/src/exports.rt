@@ -1,5 +1,5 @@
-ghost use Rattle.std.specs.Prelude.{◌≡◌, refl};
 ghost use Rattle.wenc_base.specs.laws.Delimited.{itself};
+ghost use Rattle.wenc_base.specs.laws.Serves.{serves_itself};
 
 use crate::component::{
     COMPONENT_SORT, CORE_MODULE_SORT, CORE_SORT, FUNCTION_SORT, INSTANCE_SORT, TYPE_SORT,

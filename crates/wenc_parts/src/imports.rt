@@ -1,7 +1,8 @@
-ghost use Rattle.std.specs.Prelude.{◌≡◌, ◌++◌, ℕ, List, refl, length, IfOk, IfErr};
+ghost use Rattle.std.specs.Prelude.{◌≡◌, ◌++◌, ℕ, List, length, IfOk, IfErr};
 ghost use Rattle.wenc_base.specs.laws.Delimited.{itself};
-ghost use Rattle.wenc_base.specs.Fault.{IsMemory, NoCause};
-ghost use Rattle.wenc_parts.specs.Imports.{text_option, string_option, option_cause, OptionFits};
+ghost use Rattle.wenc_base.specs.Fault.{IsMemory};
+ghost use Rattle.wenc_parts.specs.Imports.{text_option, string_option};
+ghost use Rattle.wenc_base.specs.laws.Serves.{serves_itself};
 
 use crate::exports::ComponentExportKind;
 use crate::types::ComponentValType;
@@ -178,11 +179,11 @@ impl<'a, A: Allocator> ComponentExternName<'a, A> {
 }
 
 impl<'a, A: Allocator> Encode for ComponentExternName<'a, A> {
-    ghost use Rattle.wenc_parts.specs.Imports.{extern_name, extern_name_view, extern_name_cause};
+    ghost use Rattle.wenc_parts.specs.Imports.{extern_name, extern_name_view};
 
     ghost piece = { λ n. extern_name (extern_name_view n) };
 
-    #[tactic(auto, using(crate::proofs::Names::plain_text, crate::proofs::Names::optioned_text))]
+    #[tactic(auto, using(crate::proofs::Names::plain_serves, crate::proofs::Names::optioned_serves))]
     fn encode<B: Allocator>(&self, sink: &mut Vec<u8, B>) -> Result<(), Fault> {
         let name = self.name.as_str();
         let count = self.option_count();
@@ -199,7 +200,7 @@ impl<'a, A: Allocator> Encode for ComponentExternName<'a, A> {
 
 impl<'a, A: Allocator> Delimited for ComponentExternName<'a, A> {
     ghost use Rattle.wenc_parts.specs.Imports.{ExternName, extern_name, extern_name_view};
-    ghost use Rattle.wenc_parts.specs.laws.Imports.{read_extern_name, extern_name_lawful, extern_name_free};
+    ghost use Rattle.wenc_parts.specs.laws.Imports.{read_extern_name, extern_name_lawful};
 
     ghost Seen = { ExternName };
 
@@ -212,23 +213,14 @@ impl<'a, A: Allocator> Delimited for ComponentExternName<'a, A> {
     ghost written = { λ _. serves_itself };
 }
 
-/// A text that nothing keeps from being encoded has one in its form. The call does nothing.
-fn option_belongs<A: Allocator>(text: &Option<CowStr<'_, A>>)
-    ensures { NoCause (option_cause (text_option text.now)) → OptionFits (text_option text.now) }
-{
-    if let Some(text) = text {
-        text.as_str().belongs();
-    }
-}
-
 /// An option of a name behind the byte that it begins with, or nothing where it isn't there.
 #[derive(Drop)]
 struct OptionEntry<'a, 'b, A: Allocator>(u8, &'b Option<CowStr<'a, A>>);
 
 impl<'a, 'b, A: Allocator> Encode for OptionEntry<'a, 'b, A> {
-    ghost use Rattle.wenc_parts.specs.Imports.{option_entry_text, option_cause, text_option};
+    ghost use Rattle.wenc_parts.specs.Imports.{option_entry, text_option};
 
-    ghost piece = { TODO text = λ o. option_entry_text o.0 (text_option o.1.now) cause = λ o. option_cause (text_option o.1.now) };
+    ghost piece = { λ o. option_entry o.0 (text_option o.1.now) };
 
     fn encode<B: Allocator>(&self, sink: &mut Vec<u8, B>) -> Result<(), Fault> {
         match self.1 {

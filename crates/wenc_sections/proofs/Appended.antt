@@ -1,63 +1,84 @@
 -- What the section of names takes.
-use Rattle.std.proofs.Common.{ℕ, ◌+◌, ◌<◌, ◌^◌, List, ◌∷◌, ◌++◌, length, Result, refl, inl, inr, arith, length-append}
-use Rattle.wenc_base.specs.Custom.{custom_cause}
-use Rattle.wenc_base.specs.Encode.{Appends}
-use Rattle.wenc_base.specs.Fault.{text_cause, first_of, NoCause}
+use Rattle.std.proofs.Common.{ℕ, ◌+◌, ◌≤◌, ◌<◌, ◌^◌, List, [], ◌∷◌, ◌++◌, length, Result, Ok, Err, OnOk, refl, inl, inr, arith, length-append}
+use Rattle.wenc_base.proofs.Groups.{groups_some}
+use Rattle.wenc_base.specs.Custom.{custom}
+use Rattle.wenc_base.specs.Encode.{Serves, sized_in_order}
+use Rattle.wenc_base.specs.Fault.{size_cause}
 use Rattle.wenc_base.specs.Forms.{name, byte_list}
-use Rattle.wenc_base.specs.Holder.{Held}
+use Rattle.wenc_base.specs.Holder.{Held, Contains}
+use Rattle.wenc_base.specs.Names.{Named, named, names_text, name_map}
 use Rattle.wenc_base.specs.Number.{groups, unsigned_text}
-use Rattle.wenc_base.specs.laws.Causes.{never, appends_as}
-use Rattle.wenc_base.specs.laws.Delimited.{text_free}
+use Rattle.wenc_base.specs.Piece.{◌▸◌}
+use Rattle.wenc_base.specs.laws.Names.{held_names}
+use Rattle.wenc_base.specs.laws.Numbers.{size_free}
 use Rattle.wenc_base.specs.declared.fault.Fault.{Fault}
 use Rattle.wenc_base.specs.declared.fault.Fault.TheVariants.{Memory, TooMany, TooLarge, Unfinished}
 use Rattle.wenc_sections.specs.declared.names.Sort.{Sort}
-use Rattle.wenc_sections.specs.Names.{RawNames, items_content, names_label, names_custom, names_section, RoomCause, AppendsSubsection, AppendsNames}
-use Rattle.wenc_sections.specs.laws.Names.{held_subsection}
+use Rattle.wenc_sections.specs.Names.{item_sort, ItemNames, subsection, held_subsection, names_label, names_custom, names_section, RoomCause, AppendsSubsection, AppendsNames}
+use Rattle.wenc_sections.specs.laws.Names.{held_subsection_is}
 
--- names that are held
-pub names_appended : (sort : Sort) (held : Held) (old new : List ℕ) (outcome : Result (Unit {0}) Fault)
-    → AppendsSubsection (RawNames 0x01 (items_content sort held)) old new outcome → AppendsNames sort held old new outcome
-names_appended sort held old new outcome a = record {
-  bytes = a;
-  named = λ names holds. rw (held_subsection sort held names holds) at a;
-}
+-- ---- no room
+
+size_among : (m n : ℕ) → m ≤ n → (fault : Fault) → size_cause m fault → size_cause n fault
+size_among m n le (Memory e) c = c
+size_among m n le TooMany c = c
+size_among m n le TooLarge c = omega (arith, le, c)
+size_among m n le Unfinished c = c
 
 -- what has too many bytes behind its size has no room
-pub no_room : (before : List ℕ) (id : ℕ) (content : List ℕ) (fault : Fault) → text_cause content fault → RoomCause before (id ∷ (unsigned_text (length content) ++ content)) fault
-no_room before id content (Memory e) h = absurd h
-no_room before id content TooMany h = absurd h
-no_room before id content TooLarge h =
-    (refl, omega (arith, h, length-append before (id ∷ (unsigned_text (length content) ++ content)), length-append (unsigned_text (length content)) content))
-no_room before id content Unfinished h = absurd h
+no_room_behind : (before content : List ℕ) (id : ℕ) (fault : Fault) → size_cause (length content) fault → RoomCause before (id ∷ (unsigned_text (length content) ++ content)) fault
+no_room_behind before content id (Memory e) c = absurd c
+no_room_behind before content id TooMany c = absurd c
+no_room_behind before content id TooLarge c =
+    (refl, omega (arith, c, length-append before (id ∷ (unsigned_text (length content) ++ content)), length-append (unsigned_text (length content)) content))
+no_room_behind before content id Unfinished c = absurd c
 
--- nor has a name that is too long
-pub no_room_for_name : (before text : List ℕ) (fault : Fault) → first_of (text_cause text) (text_cause (name text).text) fault
-    → RoomCause before (0x00 ∷ (unsigned_text (length (name text).text) ++ (name text).text)) fault
-no_room_for_name before text fault h = elim h [ inl c ↦ no_room before 0x00 (name text).text fault (longer fault c) | inr p ↦ no_room before 0x00 (name text).text fault p.1 ]
+-- bytes
+pub no_room : (before : List ℕ) (id : ℕ) (content : List ℕ) (fault : Fault) → (id ▸ byte_list content).Cause fault → RoomCause before (id ▸ byte_list content).text fault
+no_room before id content fault c = elim c [ inl large ↦ no_room_behind before content id fault large | inr none ↦ absurd none ]
+
+-- and a name, which may be too long by itself
+pub no_room_for_name : (before text : List ℕ) (fault : Fault) → (0x00 ▸ sized_in_order (name text)).Cause fault → RoomCause before (0x00 ▸ sized_in_order (name text)).text fault
+no_room_for_name before text fault c = no_room_behind before (name text).text 0x00 fault (elim c [
+  | inl own ↦ elim own [ inl large ↦ size_among (length text) (length (name text).text) (omega (arith, length-append (unsigned_text (length text)) text)) fault large | inr none ↦ absurd none ]
+  | inr p ↦ p.1
+])
+
+-- ---- names that are held
+
+-- no name is empty, with its place
+some_bytes : (ns : List Named) → length ns ≤ length (names_text ns)
+some_bytes [] = omega arith
+some_bytes (n ∷ ns) = omega (arith, some_bytes ns, groups_some 128 9 n.place, length-append (named n).text (names_text ns), length-append (unsigned_text n.place) (name n.name).text)
+
+names_fit : (sort : Sort) (held : Held) (ns : List Named) → Contains named held ns → (held_subsection sort held).Fits → (subsection (ItemNames sort ns)).Fits
+names_fit sort held ns holds h =
+    let size : length ((item_sort sort).text ++ (name_map ns).text) < 2 ^ 32 = rw (held_names held ns holds) at h.0 in
+    let few : length ns < 2 ^ 32 = omega (arith, size, some_bytes ns, length-append (item_sort sort).text (name_map ns).text, length-append (unsigned_text (length ns)) (names_text ns)) in
+    (size, (h.1.0, (few, holds.fit)))
+
+pub names_appended : (sort : Sort) (held : Held) (old new : List ℕ) (outcome : Result (Unit {0}) Fault) → AppendsSubsection (held_subsection sort held) old new outcome → AppendsNames sort held old new outcome
+names_appended sort held old new outcome a = record {
+  bytes = a;
+  names = λ ns holds. record {
+    appended = rw (held_subsection_is sort held ns holds) at a.appended;
+    fits = fits outcome ns holds a.fits;
+  };
+}
   where
-    longer : (fault : Fault) → text_cause text fault → text_cause (name text).text fault
-    longer (Memory e) h = h
-    longer TooMany h = h
-    longer TooLarge h = omega (arith, h, length-append (unsigned_text (length text)) text)
-    longer Unfinished h = h
+    fits : (outcome : Result (Unit {0}) Fault) (ns : List Named) → Contains named held ns → OnOk outcome (held_subsection sort held).Fits → OnOk outcome (subsection (ItemNames sort ns)).Fits
+    fits (Ok u) ns holds h = names_fit sort held ns holds h
+    fits (Err fault) ns holds h = tt
+
+-- ---- the section
 
 -- what is kept in room is never refused
-pub never_refused : (bytes old new : List ℕ) (outcome : Result (Unit {0}) Fault) → 15 + length bytes < 2 ^ 32
-    → Appends (names_section bytes).text (custom_cause (names_custom bytes)) ⊥ old new outcome → Appends (names_section bytes).text (λ fault. ⊥) ⊥ old new outcome
+pub section_serves : (bytes : List ℕ) → 15 + length bytes < 2 ^ 32 → Serves (custom (names_custom bytes)) (names_section bytes)
 unfolding groups
-never_refused bytes old new outcome small a = appends_as (names_section bytes).text (custom_cause (names_custom bytes)) never ⊥ old new outcome (none, λ fault h. absurd h) a
+section_serves bytes small = record { text = refl; fits = λ h. h; among = none; free = λ none fault c. c }
   where
-    none : (fault : Fault) → custom_cause (names_custom bytes) fault → never fault
-    none (Memory e) h = h
-    none TooMany h = h
-    none TooLarge h = absurd (omega (arith, h, small, length-append (name names_label).text bytes))
-    none Unfinished h = h
-
--- and fits, if it has bytes alone
-pub names_fit : (bytes : List ℕ) → 15 + length bytes < 2 ^ 32 → (NoCause (text_cause names_label) → (name names_label).Fits) → (NoCause (text_cause bytes) → (byte_list bytes).Fits)
-    → (names_section bytes).Fits
-unfolding groups
-names_fit bytes small label data_fits =
-    let short : length names_label < 2 ^ 32 = omega arith in
-    let large : length ((name names_label).text ++ bytes) < 2 ^ 32 = omega (arith, small, length-append (name names_label).text bytes) in
-    (large, (label (text_free names_label short), (data_fits (text_free bytes (omega (arith, small)))).1))
+    none : (fault : Fault) → (custom (names_custom bytes)).Cause fault → ⊥
+    none fault c = elim c [
+      | inl large ↦ size_free _ (omega (arith, small, length-append (name names_label).text bytes)) fault large
+      | inr own ↦ elim own [ inl label ↦ elim label [ inl long ↦ size_free 14 (omega arith) fault long | inr never ↦ never ] | inr never ↦ never ]
+    ]

@@ -1,13 +1,13 @@
 -- The code's trees of instances as pure instances.
-use Rattle.std.specs.Prelude.{ℕ, List, String, map}
+use Rattle.std.specs.Prelude.{ℕ, String, map}
 use Rattle.std.specs.String.{string_bytes}
 use Rattle.wenc_base.specs.declared.exports.ExportKind.{ExportKind}
-use Rattle.wenc_base.specs.declared.fault.Fault.{Fault}
+use Rattle.wenc_base.specs.Piece.{Form}
 use Rattle.wenc_parts.specs.Imports.{name_tree_view}
 use Rattle.wenc_parts.specs.declared.exports.ComponentExportKind.{ComponentExportKind}
 use Rattle.wenc_parts.specs.declared.imports.NameTree.{NameTree}
 use Rattle.wenc_parts.specs.declared.instances.ModuleArg.{ModuleArg}
-use Rattle.wenc_sections.specs.Instances.{Argument, CoreExport, CoreInstance, CoreInstantiate, CoreExports, Given, Exported, exported, exported_cause, Instance, Instantiate, Exports}
+use Rattle.wenc_sections.specs.Instances.{Argument, CoreExport, CoreInstance, CoreInstantiate, CoreExports, Given, Exported, exported, Instance, Instantiate, Exports}
 use Rattle.wenc_sections.specs.declared.instance_trees.CoreInstanceTree.{CoreInstanceTree}
 use Rattle.wenc_sections.specs.declared.instance_trees.CoreInstanceTree.TheVariants as core_trees
 use Rattle.wenc_sections.specs.declared.instance_trees.InstanceTree.{InstanceTree}
@@ -40,10 +40,6 @@ instance_tree_view (trees.Instantiate index args) =
     Instantiate index (map given_tree_view args.items)
 instance_tree_view (trees.Exports exports) = Exports (map exported_tree_view exports.items)
 
--- the text of an export of a tree, and why it can't be encoded
-abbrev pub exported_tree_text : {A : Type 0} → NameTree A × ComponentExportKind × ℕ → List ℕ
-exported_tree_text e = (exported (exported_tree_view e)).text
-
-abbrev pub exported_tree_cause : {A : Type 0} → NameTree A × ComponentExportKind × ℕ → Fault
-    → Type 0
-exported_tree_cause e = exported_cause (exported_tree_view e)
+-- the exports of trees
+abbrev pub exported_tree : {A : Type 0} → Form (NameTree A × ComponentExportKind × ℕ)
+exported_tree e = exported (exported_tree_view e)

@@ -4,15 +4,13 @@ use Rattle.std.specs.Prelude.{ℕ, List}
 use Rattle.wenc_base.specs.Piece.{Form, ◌▸◌, ◌⨾◌}
 use Rattle.wenc_base.specs.Number.{u32}
 use Rattle.wenc_base.specs.Forms.{name, list}
-use Rattle.wenc_base.specs.Fault.{text_cause, list_cause}
 use Rattle.wenc_base.specs.Exports.{export_kind as core_kind}
 use Rattle.wenc_base.specs.declared.exports.ExportKind.{ExportKind}
-use Rattle.wenc_base.specs.declared.fault.Fault.{Fault}
 use Rattle.wenc_parts.specs.declared.exports.ComponentExportKind.{ComponentExportKind}
 use Rattle.wenc_parts.specs.declared.imports.ComponentExternName.{ComponentExternName}
 use Rattle.wenc_parts.specs.declared.instances.ModuleArg.{ModuleArg}
 use Rattle.wenc_parts.specs.Exports.{export_kind}
-use Rattle.wenc_parts.specs.Imports.{ExternName, extern_name, extern_name_cause, extern_name_view}
+use Rattle.wenc_parts.specs.Imports.{ExternName, extern_name, extern_name_view}
 use Rattle.wenc_parts.specs.Instances.{module_argument}
 
 -- ---- of core modules
@@ -44,9 +42,6 @@ core_instance (CoreInstantiate module_index arguments) =
     0x00 ▸ u32 module_index ⨾ list argument arguments
 core_instance (CoreExports exports) = 0x01 ▸ list core_export exports
 
-abbrev pub core_instance_text : CoreInstance → List ℕ
-core_instance_text i = (core_instance i).text
-
 -- ---- of components
 
 -- what a component is given under a name
@@ -75,31 +70,6 @@ pub data Instance : Type 0 where
 abbrev pub instance : Form Instance
 instance (Instantiate component_index arguments) = 0x00 ▸ u32 component_index ⨾ list given arguments
 instance (Exports exports) = 0x01 ▸ list exported exports
-
-abbrev pub instance_text : Instance → List ℕ
-instance_text i = (instance i).text
-
--- ---- why an instance can't be encoded, whatever it is added to
-
-abbrev pub argument_cause : Argument → Fault → Type 0
-argument_cause a = text_cause a.name
-
-abbrev pub core_export_cause : CoreExport → Fault → Type 0
-core_export_cause e = text_cause e.name
-
-abbrev pub core_instance_cause : CoreInstance → Fault → Type 0
-core_instance_cause (CoreInstantiate module_index arguments) = list_cause argument_cause arguments
-core_instance_cause (CoreExports exports) = list_cause core_export_cause exports
-
-abbrev pub given_cause : Given → Fault → Type 0
-given_cause g = text_cause g.name
-
-abbrev pub exported_cause : Exported → Fault → Type 0
-exported_cause e = extern_name_cause e.name
-
-abbrev pub instance_cause : Instance → Fault → Type 0
-instance_cause (Instantiate component_index arguments) = list_cause given_cause arguments
-instance_cause (Exports exports) = list_cause exported_cause exports
 
 -- ---- what an iterator gives, as pure values
 

@@ -1,12 +1,12 @@
 -- The section of names (component model, binary format, "Name Section").
-use Rattle.std.specs.Prelude.{◌≡◌, ℕ, ◌+◌, ◌≤◌, ◌^◌, List, [], ◌∷◌, ◌++◌, length, Result}
+use Rattle.std.specs.Prelude.{◌≡◌, ℕ, ◌+◌, ◌≤◌, ◌^◌, List, [], ◌∷◌, ◌++◌, length, Result, OnOk}
 use Rattle.std.specs.List.{flat_map}
-use Rattle.wenc_base.specs.Piece.{Form, byte, ◌▸◌, ◌⨾◌, all_of}
+use Rattle.wenc_base.specs.Piece.{Piece, Form, byte, ◌▸◌, ◌⨾◌, all_of, verbatim, refused_for}
 use Rattle.wenc_base.specs.Forms.{name, sized, byte_list}
 use Rattle.wenc_base.specs.Custom.{Custom, custom}
 use Rattle.wenc_base.specs.Encode.{Appends}
 use Rattle.wenc_base.specs.Holder.{Held, held_text, Contains}
-use Rattle.wenc_base.specs.Names.{Named, named_text, name_map}
+use Rattle.wenc_base.specs.Names.{Named, named, name_map}
 use Rattle.wenc_base.specs.declared.fault.Fault.{Fault}
 use Rattle.wenc_base.specs.declared.fault.Fault.TheVariants.{TooLarge}
 use Rattle.wenc_sections.specs.declared.names.Sort.{Sort}
@@ -46,9 +46,9 @@ subsection (RawNames id bytes) = id ▸ byte_list bytes
 abbrev pub subsections_text : List Subsection → List ℕ
 subsections_text ss = flat_map (λ s. (subsection s).text) ss
 
--- what a subsection of names has behind its size, where the names are held
-abbrev pub items_content : Sort → Held → List ℕ
-items_content sort held = (item_sort sort).text ++ held_text held
+-- the names of a sort that are held, which are taken as they are
+abbrev pub held_subsection : Sort → Held → Piece
+held_subsection sort held = 0x01 ▸ sized (all_of (item_sort sort ⨾ verbatim (held_text held)))
 
 -- the names of a sort, where it has some
 abbrev pub item_names : Sort → List Named → List Subsection
@@ -71,21 +71,23 @@ names_label =
 abbrev pub names_custom : List ℕ → Custom
 names_custom bytes = record { label = names_label; bytes = bytes }
 
+-- It is never refused, since the code keeps as many bytes as have room.
 abbrev pub names_section : Form (List ℕ)
-names_section bytes = custom (names_custom bytes)
+names_section bytes = refused_for (λ fault. ⊥) (custom (names_custom bytes))
 
 -- Why these bytes can't come behind those: with its name, which has 15 bytes, the section would be too large.
 abbrev pub RoomCause : List ℕ → List ℕ → Fault → Type 0
 RoomCause before text fault = (fault ≡ TooLarge) × (2 ^ 32 ≤ 15 + length (before ++ text))
 
--- A call appends this subsection, or is refused for a cause and changes nothing.
-abbrev pub AppendsSubsection : Subsection → List ℕ → List ℕ → Result (Unit {0}) Fault → Type 0
-AppendsSubsection s old new outcome =
-    Appends (subsection s).text (RoomCause old (subsection s).text) ⊥ old new outcome
+-- A call appends this subsection, which fits, or is refused for want of room or memory and changes nothing.
+pub record AppendsSubsection (p : Piece) (old new : List ℕ)
+    (outcome : Result (Unit {0}) Fault) : Type 0 where
+  pub appended : Appends p.text (RoomCause old p.text) ⊥ old new outcome
+  pub fits : OnOk outcome p.Fits
 
--- A call appends the names of a sort that are held: as bytes and, whatever names these are, as their subsection.
+-- A call appends the names of a sort that are held: as they are and, whatever names these are, as their subsection.
 pub record AppendsNames (sort : Sort) (held : Held) (old new : List ℕ)
     (outcome : Result (Unit {0}) Fault) : Type 0 where
-  pub bytes : AppendsSubsection (RawNames 0x01 (items_content sort held)) old new outcome
-  pub named : (names : List Named) → Contains named_text held names
-      → AppendsSubsection (ItemNames sort names) old new outcome
+  pub bytes : AppendsSubsection (held_subsection sort held) old new outcome
+  pub names : (ns : List Named) → Contains named held ns
+      → AppendsSubsection (subsection (ItemNames sort ns)) old new outcome

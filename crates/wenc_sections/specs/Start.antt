@@ -1,10 +1,8 @@
 -- Starts (component model, binary format, "Start Definitions").
-use Rattle.std.specs.Prelude.{ℕ, List, length}
+use Rattle.std.specs.Prelude.{ℕ, List}
 use Rattle.wenc_base.specs.Piece.{Form, ◌⨾◌, all_of}
 use Rattle.wenc_base.specs.Number.{u32}
 use Rattle.wenc_base.specs.Forms.{list, sized}
-use Rattle.wenc_base.specs.Fault.{first_of, count_cause, text_cause}
-use Rattle.wenc_base.specs.declared.fault.Fault.{Fault}
 
 -- a function that is called with these arguments when the component is instantiated, and how many results it has
 pub record Start : Type 0 where
@@ -22,7 +20,3 @@ start_content s = u32 s.function ⨾ list u32 s.arguments ⨾ u32 s.results
 -- behind its id: how many bytes, then these
 abbrev pub start : Form Start
 start s = sized (all_of (start_content s))
-
--- why it can't be encoded: for its number of arguments, or its size
-abbrev pub start_cause : Start → Fault → Type 0
-start_cause s = first_of (count_cause (length s.arguments)) (text_cause (start_content s).text)

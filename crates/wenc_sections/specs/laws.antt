@@ -1,6 +1,4 @@
 -- Why the laws of the forms hold: for proofs, here and in the crates above.
-pub mod Externs
 pub mod Instances
 pub mod Items
-pub mod Start
 pub mod Names

@@ -1,5 +1,5 @@
 ghost use Rattle.wenc_base.specs.Holder.{AddsMember};
-ghost use Rattle.wenc_parts.specs.Aliases.{alias_view, alias_cause, alias_text};
+ghost use Rattle.wenc_parts.specs.Aliases.{alias as alias_form, alias_view};
 
 use crate::counted::{Counted, CountedKind};
 use std::alloc::{Allocator, Global};
@@ -37,10 +37,8 @@ pub type ComponentAliasSection<A = Global> = Counted<Aliases, A>;
 impl<A: Allocator> Counted<Aliases, A> {
     /// Adds an alias. It is refused where there would be too many of them (`TooMany`), or too many bytes in the
     /// section or in the alias's name (`TooLarge`).
-    #[tactic(auto, using(wenc_base::specs::laws::Holders::adds_as))]
     pub fn alias(&mut self, alias: Alias<'_>) -> Result<(), Fault>
-        ensures { AddsMember alias_text self.old self.new result
-            (alias_cause (alias_view alias.entry)) (alias_view alias.entry) }
+        ensures { AddsMember (alias_form (alias_view alias.entry)) self.old self.new result }
     {
         self.items.add_encoded(&alias)
     }

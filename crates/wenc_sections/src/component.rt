@@ -1,6 +1,7 @@
-ghost use Rattle.std.specs.Prelude.{◌≡◌, ◌∷◌, IfOk, IfErr};
+ghost use Rattle.std.specs.Prelude.{◌≡◌, IfOk, IfErr, OnOk};
 ghost use Rattle.wenc_base.specs.Encode.{Appends};
 ghost use Rattle.wenc_base.specs.Fault.{IsMemory};
+ghost use Rattle.wenc_base.specs.Piece.{◌▸◌};
 ghost use Rattle.wenc_sections.specs.Component.{preamble};
 
 use std::alloc::{Allocator, Global};
@@ -50,8 +51,9 @@ impl<A: Allocator> Component<A> {
 
     /// Appends a section. It is refused as the section's `encode` is, and then the component stays as it was.
     pub fn section<S: ComponentSection>(&mut self, section: &S) -> Result<(), Fault>
-        ensures { Appends (S.section_id section.now ∷ S.text section.now) (S.cause section.now)
-            (S.unfinished section.now) self.old self.new result }
+        ensures appended { Appends (S.section_id section.now ▸ S.piece section.now).text
+            (S.piece section.now).Cause (S.unfinished section.now) self.old self.new result }
+        ensures fits { OnOk result (S.piece section.now).Fits }
     {
         section.append_to_component(&mut self.bytes)
     }

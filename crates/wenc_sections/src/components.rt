@@ -1,3 +1,5 @@
+ghost use Rattle.wenc_base.specs.laws.Serves.{serves_itself};
+
 use crate::component::Component;
 use std::alloc::{Allocator, Global};
 use wenc_base::{Delimited, Encode, Fault};
@@ -16,7 +18,6 @@ pub struct NestedComponentSection<'a, A: Allocator = Global>(pub &'a Component<A
 
 impl<'a, A: Allocator> Encode for NestedComponentSection<'a, A> {
     ghost use Rattle.wenc_base.specs.Forms.{byte_list};
-    ghost use Rattle.wenc_base.specs.Fault.{text_cause};
 
     ghost piece = { λ s. byte_list s.0.now };
 
@@ -26,9 +27,8 @@ impl<'a, A: Allocator> Encode for NestedComponentSection<'a, A> {
 }
 
 impl<'a, A: Allocator> Delimited for NestedComponentSection<'a, A> {
-    ghost use Rattle.std.specs.Prelude.{refl, List, ℕ};
+    ghost use Rattle.std.specs.Prelude.{List, ℕ};
     ghost use Rattle.wenc_base.specs.Forms.{byte_list};
-    ghost use Rattle.wenc_base.specs.laws.Delimited.{byte_list_free};
     ghost use Rattle.wenc_base.specs.laws.Forms.{read_byte_list, byte_list_lawful};
 
     ghost Seen = { List ℕ };

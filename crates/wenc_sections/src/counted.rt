@@ -1,7 +1,7 @@
 ghost use Rattle.std.specs.Prelude.{◌≡◌, ◌==◌, ℕ, List, false, OnOk, IfOk, IfErr};
 ghost use Rattle.wenc_base.specs.Encode.{Appends};
 ghost use Rattle.wenc_base.specs.Fault.{IsMemory};
-ghost use Rattle.wenc_base.specs.Holder.{no_members, is_finished, section_text, ContainsSome, EncodeCause};
+ghost use Rattle.wenc_base.specs.Holder.{no_members, is_finished, held_section, ContainsSome};
 ghost use Rattle.wenc_base.specs.Openings.{HasMembers};
 ghost use Rattle.wenc_parts.specs.SectionIds.{section_number};
 ghost use Rattle.wenc_parts.specs.declared.component.ComponentSectionId.{ComponentSectionId};
@@ -125,13 +125,14 @@ impl<K: CountedKind, A: Allocator> Counted<K, A> {
 
 /// A finished section is refused for want of memory alone. What is written has some items, whoever made which calls.
 impl<K: CountedKind, A: Allocator> Encode for Counted<K, A> {
-    ghost piece = { TODO text = λ s. section_text s cause = λ s. EncodeCause s };
+    ghost piece = { held_section };
 
     ghost unfinished = { λ s. is_finished s ≡ false };
 
     fn encode<B: Allocator>(&self, sink: &mut Vec<u8, B>) -> Result<(), Fault>
-        ensures appended { Appends (section_text self.now) (EncodeCause self.now)
+        ensures appended { Appends (held_section self.now).text (held_section self.now).Cause
             (is_finished self.now ≡ false) sink.old.items sink.new.items result }
+        ensures fits { OnOk result (held_section self.now).Fits }
         ensures items { OnOk result (∥ ContainsSome K.is_item self.now ∥₁) }
     {
         self.items.encode_section(sink)

@@ -1,6 +1,6 @@
 ghost use Rattle.wenc_base.specs.Holder.{AddsMember};
-ghost use Rattle.wenc_parts.specs.Imports.{extern_name_view, extern_name_cause};
-ghost use Rattle.wenc_sections.specs.Exports.{export_text};
+ghost use Rattle.wenc_parts.specs.Imports.{extern_name_view};
+ghost use Rattle.wenc_sections.specs.Exports.{export_item};
 
 use crate::counted::{Counted, CountedKind};
 use std::alloc::{Allocator, Global};
@@ -13,7 +13,6 @@ pub struct Exports;
 impl CountedKind for Exports {
     ghost use Rattle.wenc_base.specs.Piece.{HasForm};
     ghost use Rattle.wenc_parts.specs.declared.component.ComponentSectionId.{ComponentSectionId};
-    ghost use Rattle.wenc_sections.specs.Exports.{export_item};
 
     ghost ID = { ComponentSectionId.Export };
 
@@ -42,9 +41,12 @@ impl<A: Allocator> Counted<Exports, A> {
         index: u32,
         ty: Option<ComponentTypeRef>,
     ) -> Result<(), Fault>
-        ensures { AddsMember export_text self.old self.new result
-            (extern_name_cause (extern_name_view name.entry))
-            (record { name = extern_name_view name.entry; kind = kind; index = index; what = ty }) }
+        ensures { AddsMember (export_item (record {
+          name = extern_name_view name.entry;
+          kind = kind;
+          index = index;
+          what = ty;
+        })) self.old self.new result }
     {
         self.items.add_encoded(&(name, (kind, (index, ty))))
     }

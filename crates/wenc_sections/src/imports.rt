@@ -1,6 +1,6 @@
 ghost use Rattle.wenc_base.specs.Holder.{AddsMember};
-ghost use Rattle.wenc_parts.specs.Imports.{extern_name_view, extern_name_cause};
-ghost use Rattle.wenc_sections.specs.Imports.{import_text};
+ghost use Rattle.wenc_parts.specs.Imports.{extern_name_view};
+ghost use Rattle.wenc_sections.specs.Imports.{import_item};
 
 use crate::counted::{Counted, CountedKind};
 use std::alloc::{Allocator, Global};
@@ -13,7 +13,6 @@ pub struct Imports;
 impl CountedKind for Imports {
     ghost use Rattle.wenc_base.specs.Piece.{HasForm};
     ghost use Rattle.wenc_parts.specs.declared.component.ComponentSectionId.{ComponentSectionId};
-    ghost use Rattle.wenc_sections.specs.Imports.{import_item};
 
     ghost ID = { ComponentSectionId.Import };
 
@@ -39,9 +38,10 @@ impl<A: Allocator> Counted<Imports, A> {
         name: ComponentExternName<'_, B>,
         ty: ComponentTypeRef,
     ) -> Result<(), Fault>
-        ensures { AddsMember import_text self.old self.new result
-            (extern_name_cause (extern_name_view name.entry))
-            (record { name = extern_name_view name.entry; what = ty }) }
+        ensures { AddsMember (import_item (record {
+          name = extern_name_view name.entry;
+          what = ty;
+        })) self.old self.new result }
     {
         self.items.add_encoded(&(name, ty))
     }

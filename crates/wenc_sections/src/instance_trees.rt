@@ -1,13 +1,8 @@
-ghost use Rattle.std.specs.List.{flat_map};
-ghost use Rattle.std.specs.Prelude.{◌≡◌, ◌++◌, ℕ, List, All, refl, OnOk, OnErr, IfErr};
-ghost use Rattle.wenc_base.specs.Delimited.{FreeFits};
-ghost use Rattle.wenc_base.specs.Encode.{Appends};
-ghost use Rattle.wenc_base.specs.Fault.{IsWarranted, list_cause, member_cause};
-ghost use Rattle.wenc_base.specs.Forms.{list_text};
-ghost use Rattle.wenc_base.specs.declared.fault.Fault.{Fault as FaultSpec};
-ghost use Rattle.wenc_sections.specs.Instances.{exported};
-ghost use Rattle.wenc_sections.specs.InstanceTrees.{exported_tree_view, exported_tree_text};
-ghost use Rattle.wenc_sections.specs.InstanceTrees.{exported_tree_cause};
+ghost use Rattle.std.specs.Prelude.{◌≡◌, ◌++◌, ℕ, List, OnOk, OnErr, IfErr};
+ghost use Rattle.wenc_base.specs.Encode.{Appends, Written, list_in_order};
+ghost use Rattle.wenc_base.specs.Fault.{IsWarranted, member_cause};
+ghost use Rattle.wenc_base.specs.laws.Serves.{serves_itself};
+ghost use Rattle.wenc_sections.specs.InstanceTrees.{exported_tree};
 
 use crate::instances::{CORE_EXPORTS, CORE_INSTANTIATE, EXPORTS, INSTANTIATE};
 use std::alloc::{Allocator, Global};
@@ -39,7 +34,7 @@ pub enum CoreInstanceTree<A: Allocator = Global> {
 
 impl<A: Allocator> Encode for CoreInstanceTree<A> {
     ghost use Rattle.wenc_sections.specs.InstanceTrees.{core_instance_tree_view};
-    ghost use Rattle.wenc_sections.specs.Instances.{core_instance, core_instance_cause};
+    ghost use Rattle.wenc_sections.specs.Instances.{core_instance};
 
     ghost piece = { λ t. core_instance (core_instance_tree_view t) };
 
@@ -58,7 +53,6 @@ impl<A: Allocator> Encode for CoreInstanceTree<A> {
 impl<A: Allocator> Delimited for CoreInstanceTree<A> {
     ghost use Rattle.wenc_sections.specs.InstanceTrees.{core_instance_tree_view};
     ghost use Rattle.wenc_sections.specs.Instances.{CoreInstance, core_instance};
-    ghost use Rattle.wenc_sections.specs.laws.Instances.{core_instance_free};
     ghost use Rattle.wenc_sections.specs.laws.Items.{read_core_instance, core_instance_lawful};
 
     ghost Seen = { CoreInstance };
@@ -95,7 +89,7 @@ pub enum InstanceTree<A: Allocator = Global> {
 
 impl<A: Allocator> Encode for InstanceTree<A> {
     ghost use Rattle.wenc_sections.specs.InstanceTrees.{instance_tree_view};
-    ghost use Rattle.wenc_sections.specs.Instances.{instance, instance_cause};
+    ghost use Rattle.wenc_sections.specs.Instances.{instance};
 
     ghost piece = { λ t. instance (instance_tree_view t) };
 
@@ -114,7 +108,6 @@ impl<A: Allocator> Encode for InstanceTree<A> {
 impl<A: Allocator> Delimited for InstanceTree<A> {
     ghost use Rattle.wenc_sections.specs.InstanceTrees.{instance_tree_view};
     ghost use Rattle.wenc_sections.specs.Instances.{Instance, instance};
-    ghost use Rattle.wenc_sections.specs.laws.Instances.{instance_free};
     ghost use Rattle.wenc_sections.specs.laws.Items.{read_instance, instance_lawful};
 
     ghost Seen = { Instance };
@@ -133,7 +126,7 @@ impl<A: Allocator> Delimited for InstanceTree<A> {
 struct ExportList<'a, A: Allocator>(&'a [(NameTree<A>, ComponentExportKind, u32)]);
 
 impl<'a, A: Allocator> Encode for ExportList<'a, A> {
-    ghost piece = { TODO text = λ l. list_text exported_tree_text l.0.now cause = λ l. list_cause exported_tree_cause l.0.now };
+    ghost piece = { λ l. list_in_order exported_tree l.0.now };
 
     fn encode<B: Allocator>(&self, sink: &mut Vec<u8, B>) -> Result<(), Fault> {
         let start = sink.len();
@@ -153,12 +146,10 @@ fn encode_exports<A: Allocator, B: Allocator>(
     exports: &[(NameTree<A>, ComponentExportKind, u32)],
     sink: &mut Vec<u8, B>,
 ) -> Result<(), Fault>
-    ensures ok { OnOk result
-        (sink.new.items ≡ sink.old.items ++ flat_map exported_tree_text exports.now) }
-    ensures encodable { (fault : FaultSpec)
-        → member_cause exported_tree_cause exports.now fault → OnOk result ⊥ }
+    ensures ok { OnOk result (Written exported_tree sink.old.items exports.now sink.new.items) }
     ensures err { OnErr result ((more : List ℕ) × (sink.new.items ≡ sink.old.items ++ more)) }
-    ensures warranted { IfErr result (IsWarranted (member_cause exported_tree_cause exports.now)) }
+    ensures warranted { IfErr result
+        (IsWarranted (member_cause (λ e. (exported_tree e).Cause) exports.now)) }
 {
     for export in exports {
         encode_export(export, sink)?;
@@ -171,26 +162,9 @@ fn encode_export<A: Allocator, B: Allocator>(
     export: &(NameTree<A>, ComponentExportKind, u32),
     sink: &mut Vec<u8, B>,
 ) -> Result<(), Fault>
-    ensures { Appends (exported_tree_text export.now) (exported_tree_cause export.now) ⊥
+    ensures appended { Appends (exported_tree export.now).text (exported_tree export.now).Cause ⊥
         sink.old.items sink.new.items result }
+    ensures fits { OnOk result (exported_tree export.now).Fits }
 {
     (export.0.as_name(), export.1, export.2).encode(sink)
-}
-
-/// Exports that nothing keeps from being encoded have a text in their form. The call does nothing.
-fn exports_belong<A: Allocator>(exports: &[(NameTree<A>, ComponentExportKind, u32)])
-    ensures { All (FreeFits exported_tree_cause exported_tree_view exported) exports.now }
-{
-    for export in exports {
-        export_belongs(export);
-    }
-}
-
-/// An export that nothing keeps from being encoded has a text in its form. The call does nothing.
-fn export_belongs<A: Allocator>(export: &(NameTree<A>, ComponentExportKind, u32))
-    ensures { FreeFits exported_tree_cause exported_tree_view exported export.now }
-{
-    export.0.as_name().belongs();
-    export.1.belongs();
-    export.2.belongs();
 }

@@ -1,11 +1,9 @@
 ghost use Rattle.std.specs.Prelude.{map};
 ghost use Rattle.std.specs.Iterator.{IsFinite};
-ghost use Rattle.wenc_base.specs.Fault.{text_cause, drawn_cause};
 ghost use Rattle.wenc_base.specs.Holder.{AddsListed};
-ghost use Rattle.wenc_parts.specs.Imports.{extern_name_view, extern_name_cause};
-ghost use Rattle.wenc_sections.specs.Instances.{CoreInstantiate, CoreExports, core_instance_text};
+ghost use Rattle.wenc_sections.specs.Instances.{CoreInstantiate, CoreExports, core_instance};
 ghost use Rattle.wenc_sections.specs.Instances.{argument_view, core_export_view};
-ghost use Rattle.wenc_sections.specs.Instances.{Instantiate, Exports, instance_text, given_view, exported_view};
+ghost use Rattle.wenc_sections.specs.Instances.{Instantiate, Exports, instance, given_view, exported_view};
 
 use crate::counted::{Counted, CountedKind};
 use std::alloc::{Allocator, Global};
@@ -30,7 +28,6 @@ pub struct CoreInstances;
 impl CountedKind for CoreInstances {
     ghost use Rattle.wenc_base.specs.Piece.{HasForm};
     ghost use Rattle.wenc_parts.specs.declared.component.ComponentSectionId.{ComponentSectionId};
-    ghost use Rattle.wenc_sections.specs.Instances.{core_instance};
 
     ghost ID = { ComponentSectionId.CoreInstance };
 
@@ -60,9 +57,9 @@ impl<A: Allocator> Counted<CoreInstances, A> {
     ) -> Result<(), Fault>
         requires can { I.can_next args }
         requires ends { IsFinite (I.remaining args) }
-        ensures { AddsListed I.next_gives args core_instance_text self.old self.new result
-            (drawn_cause (λ a. text_cause a.0.now))
-            (λ items. CoreInstantiate module_index (map argument_view items)) }
+        ensures { AddsListed I.next_gives args
+            (λ vs. core_instance (CoreInstantiate module_index (map argument_view vs)))
+            self.old self.new result }
     {
         let lead = Tagged(CORE_INSTANTIATE, &module_index);
         self.items.add_listed(&lead, args, &())
@@ -75,9 +72,8 @@ impl<A: Allocator> Counted<CoreInstances, A> {
     ) -> Result<(), Fault>
         requires can { I.can_next exports }
         requires ends { IsFinite (I.remaining exports) }
-        ensures { AddsListed I.next_gives exports core_instance_text self.old self.new result
-            (drawn_cause (λ e. text_cause e.0.now))
-            (λ items. CoreExports (map core_export_view items)) }
+        ensures { AddsListed I.next_gives exports
+            (λ vs. core_instance (CoreExports (map core_export_view vs))) self.old self.new result }
     {
         let lead = Tagged(CORE_EXPORTS, &());
         self.items.add_listed(&lead, exports, &())
@@ -90,7 +86,6 @@ pub struct Instances;
 impl CountedKind for Instances {
     ghost use Rattle.wenc_base.specs.Piece.{HasForm};
     ghost use Rattle.wenc_parts.specs.declared.component.ComponentSectionId.{ComponentSectionId};
-    ghost use Rattle.wenc_sections.specs.Instances.{instance};
 
     ghost ID = { ComponentSectionId.Instance };
 
@@ -121,9 +116,9 @@ impl<A: Allocator> Counted<Instances, A> {
     ) -> Result<(), Fault>
         requires can { I.can_next args }
         requires ends { IsFinite (I.remaining args) }
-        ensures { AddsListed I.next_gives args instance_text self.old self.new result
-            (drawn_cause (λ a. text_cause a.0.now))
-            (λ items. Instantiate component_index (map given_view items)) }
+        ensures { AddsListed I.next_gives args
+            (λ vs. instance (Instantiate component_index (map given_view vs)))
+            self.old self.new result }
     {
         let lead = Tagged(INSTANTIATE, &component_index);
         self.items.add_listed(&lead, args, &())
@@ -138,9 +133,8 @@ impl<A: Allocator> Counted<Instances, A> {
     >(&mut self, exports: I) -> Result<(), Fault>
         requires can { I.can_next exports }
         requires ends { IsFinite (I.remaining exports) }
-        ensures { AddsListed I.next_gives exports instance_text self.old self.new result
-            (drawn_cause (λ e. extern_name_cause (extern_name_view e.0)))
-            (λ items. Exports (map exported_view items)) }
+        ensures { AddsListed I.next_gives exports
+            (λ vs. instance (Exports (map exported_view vs))) self.old self.new result }
     {
         let lead = Tagged(EXPORTS, &());
         self.items.add_listed(&lead, exports, &())

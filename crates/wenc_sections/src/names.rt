@@ -2,7 +2,8 @@ ghost use Rattle.std.specs.Prelude.{◌≡◌, ◌==◌, ◌+◌, ◌<◌, ◌^�
 ghost use Rattle.wenc_base.specs.Encode.{Appends};
 ghost use Rattle.wenc_base.specs.Fault.{IsMemory};
 ghost use Rattle.wenc_base.specs.declared.fault.Fault.{Fault as FaultSpec};
-ghost use Rattle.wenc_sections.specs.Names.{item_sort, ComponentName, RawNames, names_label, RoomCause, AppendsSubsection, AppendsNames};
+ghost use Rattle.wenc_sections.specs.Names.{item_sort, ComponentName, RawNames, subsection, names_label, RoomCause, AppendsSubsection, AppendsNames};
+ghost use Rattle.wenc_base.specs.laws.Serves.{serves_itself};
 
 use std::alloc::{Allocator, Global};
 use std::marker::Model;
@@ -85,10 +86,9 @@ fn sort_bytes(sort: Sort) -> &'static [u8]
 pub struct NamesOf<'a, A: Allocator = Global>(pub Sort, pub &'a NameMap<A>);
 
 impl<'a, A: Allocator> Encode for NamesOf<'a, A> {
-    ghost use Rattle.wenc_base.specs.Fault.{text_cause};
-    ghost use Rattle.wenc_sections.specs.Names.{RawNames, subsection, items_content};
+    ghost use Rattle.wenc_sections.specs.Names.{held_subsection};
 
-    ghost piece = { λ n. subsection (RawNames 0x01 (items_content n.0 n.1.now)) };
+    ghost piece = { λ n. held_subsection n.0 n.1.now };
 
     fn encode<B: Allocator>(&self, sink: &mut Vec<u8, B>) -> Result<(), Fault> {
         let sort = sort_bytes(self.0);
@@ -139,7 +139,7 @@ impl<A: Allocator> ComponentNameSection<A> {
     /// Names the component itself. It is refused, as each call here that names something, where there would be too
     /// many bytes behind the section's size (`TooLarge`).
     pub fn component(&mut self, name: &str) -> Result<(), Fault>
-        ensures { AppendsSubsection (ComponentName name.now) self.old self.new result }
+        ensures { AppendsSubsection (subsection (ComponentName name.now)) self.old self.new result }
     {
         self.append(&Tagged(COMPONENT_NAME, &WithSize(&name)))
     }
@@ -238,7 +238,7 @@ impl<A: Allocator> ComponentNameSection<A> {
     /// Appends a subsection with this id and these bytes, as they are.
     #[tactic(auto, using(crate::proofs::Appended::no_room))]
     pub fn raw(&mut self, id: u8, data: &[u8]) -> Result<(), Fault>
-        ensures { AppendsSubsection (RawNames id «data».now) self.old self.new result }
+        ensures { AppendsSubsection (subsection (RawNames id «data».now)) self.old self.new result }
     {
         self.append(&Tagged(id, &data))
     }
@@ -252,12 +252,11 @@ impl<A: Allocator> ComponentNameSection<A> {
     }
 
     /// Appends a subsection, or cuts it off where the section would be too large.
-    #[tactic(auto, using(wenc_base::specs::laws::Causes::still_warranted))]
+    #[tactic(auto, using(wenc_base::specs::laws::Serves::still_warranted))]
     fn append<E: Encode>(&mut self, subsection: &E) -> Result<(), Fault>
-        requires { (fault : FaultSpec) → E.cause subsection.now fault
-            → RoomCause self.old (E.text subsection.now) fault }
-        ensures { Appends (E.text subsection.now) (RoomCause self.old (E.text subsection.now)) ⊥
-            self.old self.new result }
+        requires { (fault : FaultSpec) → (E.piece subsection.now).Cause fault
+            → RoomCause self.old (E.piece subsection.now).text fault }
+        ensures { AppendsSubsection (E.piece subsection.now) self.old self.new result }
     {
         let start = self.bytes.len();
         subsection.encode(&mut self.bytes)?;
@@ -312,7 +311,7 @@ impl<A: Allocator> Encode for ComponentNameSection<A> {
 }
 
 impl<A: Allocator> Delimited for ComponentNameSection<A> {
-    ghost use Rattle.std.specs.Prelude.{refl, List, ℕ};
+    ghost use Rattle.std.specs.Prelude.{List, ℕ};
     ghost use Rattle.wenc_sections.specs.Names.{names_section};
     ghost use Rattle.wenc_sections.specs.laws.Names.{read_names_section, names_section_lawful};
 

@@ -1,4 +1,4 @@
-ghost use Rattle.std.specs.Prelude.{◌≡◌};
+ghost use Rattle.wenc_base.specs.laws.Serves.{serves_itself};
 
 use std::alloc::Allocator;
 use std::convert::AsSlice;
@@ -28,7 +28,7 @@ pub struct ComponentStartSection<A> {
 }
 
 impl<A: AsSlice<u32>> Encode for ComponentStartSection<A> {
-    ghost use Rattle.wenc_sections.specs.Start.{started, start, start_cause};
+    ghost use Rattle.wenc_sections.specs.Start.{started, start};
 
     ghost piece = { λ s. start (started s.function_index (A.items s.args) s.results) };
 
@@ -39,10 +39,8 @@ impl<A: AsSlice<u32>> Encode for ComponentStartSection<A> {
 }
 
 impl<A: AsSlice<u32>> Delimited for ComponentStartSection<A> {
-    ghost use Rattle.std.specs.Prelude.{refl};
     ghost use Rattle.wenc_sections.specs.Start.{Start, started, start};
     ghost use Rattle.wenc_sections.specs.laws.Items.{read_start, start_lawful};
-    ghost use Rattle.wenc_sections.specs.laws.Start.{start_free};
 
     ghost Seen = { Start };
 

@@ -1,10 +1,11 @@
 ghost use Rattle.std.specs.Borrow.{sem, RestsIfErr};
-ghost use Rattle.std.specs.Prelude.{◌≡◌, ◌∷◌, [], List, false, IfOk, IfErr, Err};
-ghost use Rattle.wenc_base.specs.Holder.{is_finished, as_they_are, held_text, AddCause, AddsMember, EncodeCause};
+ghost use Rattle.std.specs.Prelude.{◌≡◌, [], List, false, IfOk, IfErr, Err};
+ghost use Rattle.wenc_base.specs.Holder.{is_finished, held, AddCause, AddsMember, EncodeCause};
 ghost use Rattle.wenc_base.specs.Lender.{Lends};
-ghost use Rattle.wenc_base.specs.Openings.{opened_with, OpensMember};
+ghost use Rattle.wenc_base.specs.Openings.{opened_with};
+ghost use Rattle.wenc_base.specs.Piece.{◌▸◌, refused_for};
 ghost use Rattle.wenc_base.specs.declared.fault.Fault.TheVariants.{Unfinished};
-ghost use Rattle.wenc_types.specs.ComponentTypes.{InstanceDeclaration, ComponentDeclaration, ComponentType as ComponentTypeSpec, InstanceType as InstanceTypeSpec, ResourceType, components_of, instances_of, type_text};
+ghost use Rattle.wenc_types.specs.ComponentTypes.{InstanceDeclaration, ComponentDeclaration, ComponentType as ComponentTypeSpec, InstanceType as InstanceTypeSpec, ResourceType, components_of, instances_of, type_of};
 ghost use Rattle.wenc_types.specs.Declarations.{ComponentDeclares, InstanceDeclares};
 ghost use Rattle.wenc_types.specs.declared.func_type.FuncStage.TheVariants as stages;
 
@@ -71,7 +72,6 @@ pub struct ComponentTypes;
 impl CountedKind for ComponentTypes {
     ghost use Rattle.wenc_base.specs.Piece.{HasForm};
     ghost use Rattle.wenc_parts.specs.declared.component.ComponentSectionId.{ComponentSectionId};
-    ghost use Rattle.wenc_types.specs.ComponentTypes.{type_of};
 
     ghost ID = { ComponentSectionId.«Type» };
 
@@ -149,11 +149,10 @@ impl<A: Allocator> Counted<ComponentTypes, A> {
     /// Adds this component type. It is refused with `Unfinished` where either is unfinished, where there would be too
     /// many types (`TooMany`), or too many bytes in the section (`TooLarge`).
     pub fn component<B: Allocator>(&mut self, ty: &ComponentType<B>) -> Result<(), Fault>
-        ensures added { AddsMember as_they_are self.old self.new result
-            (EncodeCause ty.now.held) (0x41 ∷ held_text ty.now.held) }
+        ensures added { AddsMember (0x41 ▸ held ty.now.held) self.old self.new result }
         ensures declared { (ds : List ComponentDeclaration) → ComponentDeclares ty.now ds
-            → AddsMember type_text self.old self.new result (EncodeCause ty.now.held)
-            (ComponentTypeSpec (components_of ds)) }
+            → AddsMember (refused_for (EncodeCause ty.now.held)
+            (type_of (ComponentTypeSpec (components_of ds)))) self.old self.new result }
         ensures unfinished { is_finished ty.now.held ≡ false → result ≡ Err Unfinished }
     {
         if !ty.is_finished() {
@@ -164,11 +163,10 @@ impl<A: Allocator> Counted<ComponentTypes, A> {
 
     /// Adds this instance type. It is refused as `component` is.
     pub fn instance<B: Allocator>(&mut self, ty: &InstanceType<B>) -> Result<(), Fault>
-        ensures added { AddsMember as_they_are self.old self.new result
-            (EncodeCause ty.now.held) (0x42 ∷ held_text ty.now.held) }
+        ensures added { AddsMember (0x42 ▸ held ty.now.held) self.old self.new result }
         ensures declared { (ds : List InstanceDeclaration) → InstanceDeclares ty.now ds
-            → AddsMember type_text self.old self.new result (EncodeCause ty.now.held)
-            (InstanceTypeSpec (instances_of ds)) }
+            → AddsMember (refused_for (EncodeCause ty.now.held)
+            (type_of (InstanceTypeSpec (instances_of ds)))) self.old self.new result }
         ensures unfinished { is_finished ty.now.held ≡ false → result ≡ Err Unfinished }
     {
         if !ty.is_finished() {
@@ -181,7 +179,7 @@ impl<A: Allocator> Counted<ComponentTypes, A> {
     /// one is dropped, where there is such a function. It is refused where there would be too many types (`TooMany`),
     /// or too many bytes in the section (`TooLarge`).
     pub fn resource(&mut self, rep: ValType, dtor: Option<u32>) -> Result<(), Fault>
-        ensures { AddsMember type_text self.old self.new result (λ _. ⊥) (ResourceType rep dtor) }
+        ensures { AddsMember (type_of (ResourceType rep dtor)) self.old self.new result }
     {
         self.items.add_encoded(&Tagged(0x3f, &(rep, dtor)))
     }

@@ -1,7 +1,7 @@
 -- Types that components define (component model, binary format, "Type Definitions").
 use Rattle.std.specs.Prelude.{ℕ, suc, max, List, [], ◌∷◌, Option}
 use Rattle.wenc_base.specs.Piece.{Piece, nothing, ◌▸◌, ◌⨾◌}
-use Rattle.wenc_base.specs.Number.{u32}
+use Rattle.wenc_base.specs.Number.{u32, count}
 use Rattle.wenc_base.specs.Forms.{option}
 use Rattle.wenc_base.specs.Types.{val_type}
 use Rattle.wenc_base.specs.declared.types.ValType.{ValType}
@@ -66,8 +66,8 @@ abbrev mutual
   pub type_of : TypeOf → Piece
   type_of (DefinedType ty) = defined_type ty
   type_of (FunctionType ty) = function_type ty
-  type_of (ComponentType ds) = 0x41 ▸ (u32 (component_count ds) ⨾ each_component ds)
-  type_of (InstanceType ds) = 0x42 ▸ (u32 (instance_count ds) ⨾ each_instance ds)
+  type_of (ComponentType ds) = 0x41 ▸ (count (component_count ds) ⨾ each_component ds)
+  type_of (InstanceType ds) = 0x42 ▸ (count (instance_count ds) ⨾ each_instance ds)
   type_of (ResourceType rep dtor) = 0x3f ▸ (val_type rep ⨾ option u32 dtor)
 
   pub instance_declaration : InstanceDeclaration → Piece
@@ -87,9 +87,6 @@ abbrev mutual
   pub each_component : ComponentDeclarations → Piece
   each_component no_component = nothing
   each_component (and_component first others) = component_declaration first ⨾ each_component others
-
-abbrev pub type_text : TypeOf → List ℕ
-type_text t = (type_of t).text
 
 -- ---- how deep component and instance types nest: 1 in a section, and one more in a declaration
 

@@ -32,6 +32,3 @@ pub data CoreType : Type 0 where
 abbrev pub core_type : Form CoreType
 core_type (Grouped g) = standing true g
 core_type (Module ds) = module_type ds
-
-abbrev pub core_type_text : CoreType → List ℕ
-core_type_text t = (core_type t).text

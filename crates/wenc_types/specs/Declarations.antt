@@ -2,6 +2,7 @@
 use Rattle.std.specs.List.{AllByRecursion}
 use Rattle.std.specs.Prelude.{◌≡◌, ℕ, ◌+◌, ◌-◌, ◌≤◌, List, [], ◌∷◌, ◌++◌, length, Option, Some, None, Result, OnOk, OnErr, true}
 use Rattle.wenc_base.specs.Holder.{Held, no_members, is_finished, Contains, AddsMember}
+use Rattle.wenc_base.specs.Piece.{Form, verbatim}
 use Rattle.wenc_base.specs.Openings.{opened_with, lengthened, closed, given_up, OpeningIsIn}
 use Rattle.wenc_base.specs.declared.fault.Fault.{Fault}
 use Rattle.wenc_base.specs.declared.holder.openings.Opening.{Opening}
@@ -15,12 +16,6 @@ use Rattle.wenc_types.specs.ComponentTypes.{InstanceDeclaration, CoreTyped, Type
 use Rattle.wenc_types.specs.declared.counts.Counts.{Counts}
 use Rattle.wenc_types.specs.declared.counts.Sort.{Sort}
 use Rattle.wenc_types.specs.declared.counts.Sort.TheVariants.{CoreType, «Type» as TypeSort, Instance}
-
-abbrev pub instance_text : InstanceDeclaration → List ℕ
-instance_text d = (instance_declaration d).text
-
-abbrev pub component_text : ComponentDeclaration → List ℕ
-component_text d = (component_declaration d).text
 
 -- ---- what a declaration counts as: a core type, a type, an instance, or nothing
 
@@ -88,48 +83,48 @@ pub record Settled (t : Declaring) : Type 0 where
   pub none_begun : t.begun ≡ None
 
 -- It has just these declarations, each with its text, and counts them.
-pub record Declares {D : Type 0} (text : D → List ℕ) (sort : D → Option Sort) (t : Declaring)
+pub record Declares {D : Type 0} (form : Form D) (sort : D → Option Sort) (t : Declaring)
     (ds : List D) : Type 0 where
-  pub contained : Contains text t.held ds
+  pub contained : Contains form t.held ds
   pub counts : t.counts ≡ counts_of sort ds
 
 abbrev pub InstanceDeclares : Declaring → List InstanceDeclaration → Type 0
-InstanceDeclares = Declares instance_text instance_sort
+InstanceDeclares = Declares instance_declaration instance_sort
 
 abbrev pub ComponentDeclares : Declaring → List ComponentDeclaration → Type 0
-ComponentDeclares = Declares component_text component_sort
+ComponentDeclares = Declares component_declaration component_sort
 
--- These bytes are the text of a declaration that counts as this.
-pub record IsDeclaration {D : Type 0} (text : D → List ℕ) (sort : D → Option Sort) (bytes : List ℕ)
+-- These bytes are the text of a declaration that fits and counts as this.
+pub record IsDeclaration {D : Type 0} (form : Form D) (sort : D → Option Sort) (bytes : List ℕ)
     (counts_as : Option Sort) : Type 0 where
   pub declaration : D
-  pub text_is : bytes ≡ text declaration
+  pub fits : (form declaration).Fits
+  pub text_is : bytes ≡ (form declaration).text
   pub sort_is : counts_as ≡ sort declaration
 
 -- It has some declarations, each of which has such a text and counts as such a sort.
 pub record DeclaresSome (IsSuch : List ℕ → Option Sort → Type 0) (t : Declaring) : Type 0 where
   pub declarations : List (List ℕ × Option Sort)
-  pub declared : Declares (λ d. d.0) (λ d. d.1) t declarations
+  pub declared : Declares (λ d. verbatim d.0) (λ d. d.1) t declarations
   pub each : AllByRecursion (λ d. IsSuch d.0 d.1) declarations
 
 -- A call adds this declaration, or is refused for a cause and changes nothing.
-pub record AddsDeclaration {D : Type 0} (text : D → List ℕ) (sort : D → Option Sort)
-    (old new : Declaring) (outcome : Result (Unit {0}) Fault) (cause : Fault → Type 0)
-    (d : D) : Type 0 where
-  pub added : AddsMember text old.held new.held outcome cause d
+pub record AddsDeclaration {D : Type 0} (form : Form D) (sort : D → Option Sort)
+    (old new : Declaring) (outcome : Result (Unit {0}) Fault) (d : D) : Type 0 where
+  pub added : AddsMember (form d) old.held new.held outcome
   pub counts : OnOk outcome (new.counts ≡ counted (sort d) old.counts)
   pub begun : OnOk outcome (new.begun ≡ old.begun)
   pub declared : OnOk outcome
-      ((ds : List D) → Declares text sort old ds → Declares text sort new (ds ++ d ∷ []))
+      ((ds : List D) → Declares form sort old ds → Declares form sort new (ds ++ d ∷ []))
   pub err : OnErr outcome (new ≡ old)
 
-abbrev pub AddsToInstance : Declaring → Declaring → Result (Unit {0}) Fault → (Fault → Type 0)
-    → InstanceDeclaration → Type 0
-AddsToInstance = AddsDeclaration instance_text instance_sort
+abbrev pub AddsToInstance : Declaring → Declaring → Result (Unit {0}) Fault → InstanceDeclaration
+    → Type 0
+AddsToInstance = AddsDeclaration instance_declaration instance_sort
 
-abbrev pub AddsToComponent : Declaring → Declaring → Result (Unit {0}) Fault → (Fault → Type 0)
+abbrev pub AddsToComponent : Declaring → Declaring → Result (Unit {0}) Fault
     → ComponentDeclaration → Type 0
-AddsToComponent = AddsDeclaration component_text component_sort
+AddsToComponent = AddsDeclaration component_declaration component_sort
 
 -- ---- a type that is written by an encoder
 

@@ -3,9 +3,7 @@ use Rattle.std.specs.Prelude.{ℕ, Bool, true, false, List, Option}
 use Rattle.std.specs.Borrow.{Bor}
 use Rattle.wenc_base.specs.Piece.{Form, byte, ◌▸◌, ◌⨾◌}
 use Rattle.wenc_base.specs.Number.{u32}
-use Rattle.wenc_base.specs.Fault.{text_cause, list_cause}
 use Rattle.wenc_base.specs.Forms.{list, option, name as name_form}
-use Rattle.wenc_base.specs.declared.fault.Fault.{Fault}
 use Rattle.wenc_parts.specs.Types.{primitive, value_type, result_list}
 use Rattle.wenc_parts.specs.declared.types.PrimitiveValType.{PrimitiveValType}
 use Rattle.wenc_parts.specs.declared.types.ComponentValType.{ComponentValType}
@@ -73,34 +71,6 @@ function_type_of true params answer = 0x43 ▸ (list named params ⨾ result_lis
 
 abbrev pub function_type : Form Function
 function_type f = function_type_of f.is_async f.params f.answer
-
--- ---- why one can't be encoded
-
-abbrev pub named_cause : Named → Fault → Type 0
-named_cause f = text_cause f.name
-
-abbrev pub case_cause : Case → Fault → Type 0
-case_cause c = text_cause c.name
-
-abbrev pub defined_cause : Defined → Fault → Type 0
-defined_cause (Primitive p) = λ fault. ⊥
-defined_cause (Record fields) = list_cause named_cause fields
-defined_cause (Variant cases) = list_cause case_cause cases
-defined_cause (ListOf element) = λ fault. ⊥
-defined_cause (MapOf key value) = λ fault. ⊥
-defined_cause (FixedLengthList element length) = λ fault. ⊥
-defined_cause (Tuple elements) = list_cause (λ ty fault. ⊥) elements
-defined_cause (Flags names) = list_cause text_cause names
-defined_cause (Enumeration names) = list_cause text_cause names
-defined_cause (OptionOf ty) = λ fault. ⊥
-defined_cause (ResultOf ok error) = λ fault. ⊥
-defined_cause (Own number) = λ fault. ⊥
-defined_cause (Borrow number) = λ fault. ⊥
-defined_cause (Future ty) = λ fault. ⊥
-defined_cause (Stream ty) = λ fault. ⊥
-
-abbrev pub function_cause : Function → Fault → Type 0
-function_cause f = list_cause named_cause f.params
 
 -- ---- what an iterator gives, as pure values
 

@@ -1,7 +1,7 @@
 -- How far the type of a function is written (component model, binary format, "Type Definitions").
 use Rattle.std.specs.Prelude.{ℕ, Bool, true, false, not, List, [], ◌∷◌, Option}
 use Rattle.wenc_base.specs.Forms.{list}
-use Rattle.wenc_base.specs.Piece.{Form, ◌⨾◌, HasForm}
+use Rattle.wenc_base.specs.Piece.{Form, ◌⨾◌, behind_bytes, HasForm}
 use Rattle.wenc_parts.specs.Types.{result_list}
 use Rattle.wenc_parts.specs.declared.types.ComponentValType.{ComponentValType}
 use Rattle.wenc_types.specs.DefinedTypes.{Named, named, function_type}
@@ -27,6 +27,10 @@ lead_from Tagged = []
 lead_from Params = []
 lead_from Done = []
 
+-- the parameters behind that
+abbrev pub params_from : FuncStage → Form (List Named)
+params_from stage params = behind_bytes (lead_from stage) (list named params)
+
 -- the type is still being written, or it is done
 abbrev pub goes_on : FuncStage → Bool → Bool
 goes_on Start finished = not finished
@@ -44,3 +48,8 @@ Remains Start bytes = HasForm function_type bytes
 Remains Tagged bytes = HasForm params_and_answer bytes
 Remains Params bytes = HasForm result_list bytes
 Remains Done bytes = ⊥
+
+-- from this stage on, what remains makes the type whole
+abbrev pub RestMakesWhole : {T : Type 0} → (T → Type 0) → (T → List ℕ → T) → FuncStage → T → Type 0
+RestMakesWhole is_whole written stage lender =
+    (bytes : List ℕ) → Remains stage bytes → ∥ is_whole (written lender bytes) ∥₁

@@ -1,22 +1,11 @@
 -- Module types: their declarations, one by one.
 use Rattle.std.specs.Prelude.{◌≡◌, ℕ, ◌+◌, ◌-◌, ◌≤◌, List, [], ◌∷◌, ◌++◌, length, Option, Some, None, Result, OnOk, OnErr}
-use Rattle.wenc_base.specs.Composites.{Group, group_cause}
-use Rattle.wenc_base.specs.Fault.{text_cause, first_of}
+use Rattle.wenc_base.specs.Composites.{Group}
 use Rattle.wenc_base.specs.Holder.{Held, no_members, Contains, AddsMember}
 use Rattle.wenc_base.specs.Openings.{opened_with, lengthened, closed, given_up, member_text, OpeningIsIn}
 use Rattle.wenc_base.specs.declared.fault.Fault.{Fault}
 use Rattle.wenc_base.specs.declared.holder.openings.Opening.{Opening}
 use Rattle.wenc_types.specs.CoreTypes.{ModuleDeclaration, Import, Defined, Outer, Export, module_declaration}
-
-abbrev pub declaration_text : ModuleDeclaration → List ℕ
-declaration_text d = (module_declaration d).text
-
--- why a declaration can't be encoded
-abbrev pub declaration_cause : ModuleDeclaration → Fault → Type 0
-declaration_cause (Import from name ty) = first_of (text_cause from) (text_cause name)
-declaration_cause (Defined g) = group_cause g
-declaration_cause (Outer count number) = λ fault. ⊥
-declaration_cause (Export name ty) = text_cause name
 
 -- how many types a declaration adds
 abbrev pub types_of : ModuleDeclaration → ℕ
@@ -39,13 +28,13 @@ no_declarations = record { held = no_members; types = 0 }
 
 -- It has just these declarations, each with its text, and counts their types.
 pub record Declares (t : Declared) (ds : List ModuleDeclaration) : Type 0 where
-  pub contained : Contains declaration_text t.held ds
+  pub contained : Contains module_declaration t.held ds
   pub types : t.types ≡ type_count ds
 
 -- A call adds this declaration, or is refused for a cause and changes nothing.
 pub record AddsDeclaration (old new : Declared) (outcome : Result (Unit {0}) Fault)
     (d : ModuleDeclaration) : Type 0 where
-  pub added : AddsMember declaration_text old.held new.held outcome (declaration_cause d) d
+  pub added : AddsMember (module_declaration d) old.held new.held outcome
   pub types : OnOk outcome (new.types ≡ old.types + types_of d)
   pub declared : OnOk outcome
       ((ds : List ModuleDeclaration) → Declares old ds → Declares new (ds ++ d ∷ []))
@@ -76,10 +65,11 @@ types_before (Some o) n = n - 1
 abbrev pub taken_back : Declared → Declared
 taken_back t = record { held = given_up t.held; types = types_before t.held.opening t.types }
 
--- What is being written is a whole declaration of a type.
+-- What is being written is a whole declaration of a type, which fits.
 pub record IsWhole (t : Declared) : Type 0 where
   pub ty : Group
-  pub is : member_text t.held ≡ declaration_text (Defined ty)
+  pub fits : (module_declaration (Defined ty)).Fits
+  pub is : member_text t.held ≡ (module_declaration (Defined ty)).text
 
 -- ---- what is always so
 

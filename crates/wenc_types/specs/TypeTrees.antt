@@ -1,14 +1,12 @@
--- Types that components define, with all that is in them: why one can't be encoded, and the code's as pure ones.
+-- Types that components define, with all that is in them: the code's trees as pure ones.
 use Rattle.std.specs.Prelude.{Bool, List, map, Option, String}
 use Rattle.std.specs.String.{string_bytes}
-use Rattle.wenc_base.specs.Fault.{count_cause, first_of}
-use Rattle.wenc_base.specs.declared.fault.Fault.{Fault}
-use Rattle.wenc_parts.specs.Aliases.{alias_cause, alias_tree_view}
-use Rattle.wenc_parts.specs.Imports.{extern_name_cause, name_tree_view}
+use Rattle.wenc_parts.specs.Aliases.{alias_tree_view}
+use Rattle.wenc_parts.specs.Imports.{name_tree_view}
 use Rattle.wenc_parts.specs.declared.types.ComponentValType.{ComponentValType}
-use Rattle.wenc_types.specs.ComponentTypes.{TypeOf, DefinedType, FunctionType, ComponentType, InstanceType, ResourceType, InstanceDeclaration, CoreTyped, Typed, Aliased, Exported, ComponentDeclaration, Imported, Declared, InstanceDeclarations, no_instance, and_instance, ComponentDeclarations, no_component, and_component, instance_count, component_count, instances_of, components_of}
-use Rattle.wenc_types.specs.CoreTypeTrees.{core_type_cause, core_type_view}
-use Rattle.wenc_types.specs.DefinedTypes.{Named, Case, Defined, Function, defined_cause, function_cause}
+use Rattle.wenc_types.specs.ComponentTypes.{TypeOf, DefinedType, FunctionType, ComponentType, InstanceType, ResourceType, InstanceDeclaration, CoreTyped, Typed, Aliased, Exported, ComponentDeclaration, Imported, Declared, instances_of, components_of}
+use Rattle.wenc_types.specs.CoreTypeTrees.{core_type_view}
+use Rattle.wenc_types.specs.DefinedTypes.{Named, Case, Defined, Function}
 use Rattle.wenc_types.specs.DefinedTypes as pure
 use Rattle.wenc_types.specs.declared.defined_tree.CaseTree.{CaseTree}
 use Rattle.wenc_types.specs.declared.defined_tree.DefinedTree.{DefinedTree}
@@ -17,39 +15,6 @@ use Rattle.wenc_types.specs.declared.type_tree.TypeTree.{TypeTree, fold-TypeTree
 use Rattle.wenc_types.specs.declared.type_tree.InstanceDecl.{InstanceDecl, fold-InstanceDecl}
 use Rattle.wenc_types.specs.declared.type_tree.ComponentDecl.{ComponentDecl, fold-ComponentDecl}
 use Rattle.wenc_types.specs.declared.type_tree.ComponentDecl.TheOpen.{TypeTree-F, InstanceDecl-F, ComponentDecl-F}
-
--- ---- why a type can't be encoded: the first thing in it that can't
-
-abbrev mutual
-  pub type_cause : TypeOf → Fault → Type 0
-  type_cause (DefinedType ty) = defined_cause ty
-  type_cause (FunctionType ty) = function_cause ty
-  type_cause (ComponentType ds) =
-      first_of (count_cause (component_count ds)) (each_component_cause ds)
-  type_cause (InstanceType ds) = first_of (count_cause (instance_count ds)) (each_instance_cause ds)
-  type_cause (ResourceType rep dtor) = λ fault. ⊥
-
-  pub instance_declaration_cause : InstanceDeclaration → Fault → Type 0
-  instance_declaration_cause (CoreTyped ty) = core_type_cause ty
-  instance_declaration_cause (Typed ty) = type_cause ty
-  instance_declaration_cause (Aliased to) = alias_cause to
-  instance_declaration_cause (Exported name ty) = extern_name_cause name
-
-  pub component_declaration_cause : ComponentDeclaration → Fault → Type 0
-  component_declaration_cause (Imported name ty) = extern_name_cause name
-  component_declaration_cause (Declared d) = instance_declaration_cause d
-
-  pub each_instance_cause : InstanceDeclarations → Fault → Type 0
-  each_instance_cause no_instance = λ fault. ⊥
-  each_instance_cause (and_instance first others) =
-      first_of (instance_declaration_cause first) (each_instance_cause others)
-
-  pub each_component_cause : ComponentDeclarations → Fault → Type 0
-  each_component_cause no_component = λ fault. ⊥
-  each_component_cause (and_component first others) =
-      first_of (component_declaration_cause first) (each_component_cause others)
-
--- ---- the code's trees as pure ones
 
 abbrev pub named_view : {A : Type 0} → String A × ComponentValType → Named
 named_view f = record { name = string_bytes f.0; ty = f.1 }

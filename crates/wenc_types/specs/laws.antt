@@ -8,4 +8,3 @@ pub mod DefinedTypes
 pub mod FuncStages
 pub mod ComponentTypes
 pub mod TypeTrees
-pub mod Sizes

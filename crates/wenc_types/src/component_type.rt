@@ -1,5 +1,5 @@
-ghost use Rattle.wenc_parts.specs.Aliases.{alias_view, alias_cause};
-ghost use Rattle.wenc_parts.specs.Imports.{extern_name_view, extern_name_cause};
+ghost use Rattle.wenc_parts.specs.Aliases.{alias_view};
+ghost use Rattle.wenc_parts.specs.Imports.{extern_name_view};
 ghost use Rattle.wenc_types.specs.ComponentTypes.{Imported, Declared, Aliased, Exported};
 ghost use Rattle.wenc_types.specs.Declarations.{AddsToComponent};
 
@@ -14,23 +14,25 @@ pub struct ComponentTypes;
 
 impl DeclaringKind for ComponentTypes {
     ghost use Rattle.std.proofs.Common.{refl};
-    ghost use Rattle.wenc_types.specs.ComponentTypes.{Declared, CoreTyped, Typed};
-    ghost use Rattle.wenc_types.specs.Declarations.{IsDeclaration, component_text, component_sort};
+    ghost use Rattle.wenc_types.specs.ComponentTypes.{Declared, CoreTyped, Typed, component_declaration};
+    ghost use Rattle.wenc_types.specs.Declarations.{IsDeclaration, component_sort};
 
     ghost LEAD = { 0x41 };
 
     const LEAD: u8 = 0x41;
 
-    ghost is_declaration = { IsDeclaration component_text component_sort };
+    ghost is_declaration = { IsDeclaration component_declaration component_sort };
 
-    ghost has_core_types = { λ t. record {
+    ghost has_core_types = { λ t fits. record {
       declaration = Declared (CoreTyped t);
+      fits = fits;
       text_is = refl;
       sort_is = refl;
     } };
 
-    ghost has_types = { λ t. record {
+    ghost has_types = { λ t fits. record {
       declaration = Declared (Typed t);
+      fits = fits;
       text_is = refl;
       sort_is = refl;
     } };
@@ -51,7 +53,7 @@ impl<A: Allocator> Declarations<ComponentTypes, A> {
     /// Declares an alias. It is refused where there would be too many declarations (`TooMany`), or too many bytes in
     /// them or in the alias's name (`TooLarge`).
     pub fn alias(&mut self, alias: Alias<'_>) -> Result<(), Fault>
-        ensures { AddsToComponent self.old self.new result (alias_cause (alias_view alias.entry))
+        ensures { AddsToComponent self.old self.new result
             (Declared (Aliased (alias_view alias.entry))) }
     {
         let sort = sort_of_alias(&alias);
@@ -65,7 +67,6 @@ impl<A: Allocator> Declarations<ComponentTypes, A> {
         ty: ComponentTypeRef,
     ) -> Result<(), Fault>
         ensures { AddsToComponent self.old self.new result
-            (extern_name_cause (extern_name_view name.entry))
             (Imported (extern_name_view name.entry) ty) }
     {
         self.add(&Tagged(0x03, &(name, ty)), sort_of_kind(ty.kind()))
@@ -78,7 +79,6 @@ impl<A: Allocator> Declarations<ComponentTypes, A> {
         ty: ComponentTypeRef,
     ) -> Result<(), Fault>
         ensures { AddsToComponent self.old self.new result
-            (extern_name_cause (extern_name_view name.entry))
             (Declared (Exported (extern_name_view name.entry) ty)) }
     {
         self.add(&Tagged(0x04, &(name, ty)), sort_of_kind(ty.kind()))

@@ -1,9 +1,10 @@
-ghost use Rattle.std.specs.Prelude.{◌≡◌, ◌∷◌, List, true, false, Err};
-ghost use Rattle.wenc_base.specs.Holder.{is_finished, held_text, EncodeCause};
+ghost use Rattle.std.specs.Prelude.{◌≡◌, List, true, false, Err};
+ghost use Rattle.wenc_base.specs.Holder.{is_finished, held, EncodeCause};
 ghost use Rattle.wenc_base.specs.Lender.{Ends, MakesWhole};
+ghost use Rattle.wenc_base.specs.Piece.{◌▸◌, refused_for};
 ghost use Rattle.wenc_base.specs.declared.fault.Fault.TheVariants.{Unfinished};
-ghost use Rattle.wenc_types.specs.CoreTypes.{CoreType, ModuleDeclaration, Module, core_type, core_type_text};
-ghost use Rattle.wenc_types.specs.CoreTypeTrees.{core_type_cause, core_type_view};
+ghost use Rattle.wenc_types.specs.CoreTypes.{CoreType, ModuleDeclaration, Module, core_type};
+ghost use Rattle.wenc_types.specs.CoreTypeTrees.{core_type_view};
 ghost use Rattle.wenc_types.specs.ModuleTypes.{Declares};
 
 use crate::core_type_tree::CoreTypeTree;
@@ -25,7 +26,7 @@ pub struct ComponentCoreTypeEncoder<'a, L: Lender> {
     lender: &'a mut L,
     ghost opened: { L.opened lender.now ≡ true },
     ghost whole: { (t : CoreType)
-        → MakesWhole L.is_whole L.written lender.now (core_type_text t) },
+        → MakesWhole L.is_whole L.written lender.now (core_type t) },
 }
 
 impl<'a, L: Lender> ComponentCoreTypeEncoder<'a, L> {
@@ -33,7 +34,7 @@ impl<'a, L: Lender> ComponentCoreTypeEncoder<'a, L> {
     pub fn new(lender: &'a mut L) -> Self
         requires opened { L.opened lender.old ≡ true }
         requires whole { (t : CoreType)
-            → MakesWhole L.is_whole L.written lender.old (core_type_text t) }
+            → MakesWhole L.is_whole L.written lender.old (core_type t) }
         ensures same_reference { result.lender.ghost_name ≡ lender.entry.ghost_name }
         ensures now { result.lender.now ≡ lender.old }
     {
@@ -45,10 +46,10 @@ impl<'a, L: Lender> ComponentCoreTypeEncoder<'a, L> {
     pub fn module<A: Allocator>(self, ty: &ModuleType<A>) -> Result<(), Fault>
         ensures ended { Ends L.written L.ended L.refuses
             self.entry.lender.now self.exit.0.now result
-            (EncodeCause ty.now.held) (0x50 ∷ held_text ty.now.held) }
+            (0x50 ▸ held ty.now.held) }
         ensures declared { (ds : List ModuleDeclaration) → Declares ty.now ds
             → Ends L.written L.ended L.refuses self.entry.lender.now self.exit.0.now result
-            (EncodeCause ty.now.held) (core_type_text (Module ds)) }
+            (refused_for (EncodeCause ty.now.held) (core_type (Module ds))) }
         ensures unfinished { is_finished ty.now.held ≡ false → result ≡ Err Unfinished }
     {
         if !ty.is_finished() {
@@ -61,7 +62,7 @@ impl<'a, L: Lender> ComponentCoreTypeEncoder<'a, L> {
     /// there would be too many bytes (`TooLarge`).
     pub fn tree<A: Allocator>(self, ty: &CoreTypeTree<A>) -> Result<(), Fault>
         ensures { Ends L.written L.ended L.refuses self.entry.lender.now self.exit.0.now result
-            (core_type_cause (core_type_view ty.now)) (core_type (core_type_view ty.now)).text }
+            (core_type (core_type_view ty.now)) }
     {
         self.lender.end_with(ty)
     }

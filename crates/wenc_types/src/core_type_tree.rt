@@ -1,4 +1,5 @@
 ghost use Rattle.std.specs.Prelude.{refl};
+ghost use Rattle.wenc_base.specs.laws.Serves.{serves_itself};
 
 use std::alloc::{Allocator, Global};
 use wenc_base::{
@@ -34,7 +35,7 @@ pub enum CoreTypeTree<A: Allocator = Global> {
 
 impl<A: Allocator> Encode for CoreTypeTree<A> {
     ghost use Rattle.wenc_types.specs.CoreTypes.{core_type};
-    ghost use Rattle.wenc_types.specs.CoreTypeTrees.{core_type_cause, core_type_view};
+    ghost use Rattle.wenc_types.specs.CoreTypeTrees.{core_type_view};
 
     ghost piece = { λ t. core_type (core_type_view t) };
 
@@ -49,7 +50,7 @@ impl<A: Allocator> Encode for CoreTypeTree<A> {
 impl<A: Allocator> Delimited for CoreTypeTree<A> {
     ghost use Rattle.wenc_types.specs.CoreTypes.{CoreType, core_type};
     ghost use Rattle.wenc_types.specs.CoreTypeTrees.{core_type_view};
-    ghost use Rattle.wenc_types.specs.laws.CoreTypes.{read_core_type, core_type_lawful, core_type_free};
+    ghost use Rattle.wenc_types.specs.laws.CoreTypes.{read_core_type, core_type_lawful};
 
     ghost Seen = { CoreType };
 
@@ -110,7 +111,6 @@ pub enum ModuleDecl<A: Allocator = Global> {
 impl<A: Allocator> Encode for ModuleDecl<A> {
     ghost use Rattle.wenc_types.specs.CoreTypes.{module_declaration};
     ghost use Rattle.wenc_types.specs.CoreTypeTrees.{module_declaration_view};
-    ghost use Rattle.wenc_types.specs.ModuleTypes.{declaration_cause};
 
     ghost piece = { λ d. module_declaration (module_declaration_view d) };
 
@@ -132,7 +132,7 @@ impl<A: Allocator> Encode for ModuleDecl<A> {
 impl<A: Allocator> Delimited for ModuleDecl<A> {
     ghost use Rattle.wenc_types.specs.CoreTypes.{ModuleDeclaration, module_declaration};
     ghost use Rattle.wenc_types.specs.CoreTypeTrees.{module_declaration_view};
-    ghost use Rattle.wenc_types.specs.laws.CoreTypes.{read_module_declaration, module_declaration_lawful, declaration_free};
+    ghost use Rattle.wenc_types.specs.laws.CoreTypes.{read_module_declaration, module_declaration_lawful};
 
     ghost Seen = { ModuleDeclaration };
 

@@ -1,13 +1,13 @@
 ghost use Rattle.std.specs.Borrow.{sem, RestsIfErr};
 ghost use Rattle.std.specs.Prelude.{◌≡◌, ◌==◌, ◌∷◌, ℕ, [], List, Option as Optional, Some, OnOk, OnErr, IfOk, IfErr, true, false};
 ghost use Rattle.wenc_base.specs.Encode.{Appends};
-ghost use Rattle.wenc_base.specs.Fault.{IsMemory, IsWarranted};
-ghost use Rattle.wenc_base.specs.Holder.{is_finished, as_they_are, held_text, EncodeCause, AddCause, AddsMember};
+ghost use Rattle.wenc_base.specs.Fault.{IsMemory, IsWarranted, NoCause};
+ghost use Rattle.wenc_base.specs.Holder.{is_finished, held, held_text, EncodeCause, AddCause, AddsMember};
 ghost use Rattle.wenc_base.specs.Lender.{Lends, GivesUp};
+ghost use Rattle.wenc_base.specs.Piece.{◌▸◌};
 ghost use Rattle.wenc_base.specs.declared.fault.Fault.TheVariants.{Unfinished};
-ghost use Rattle.wenc_base.specs.declared.fault.Fault.{Fault as FaultSpec};
-ghost use Rattle.wenc_types.specs.ComponentTypes.{TypeOf, type_text};
-ghost use Rattle.wenc_types.specs.CoreTypes.{CoreType, core_type_text};
+ghost use Rattle.wenc_types.specs.ComponentTypes.{TypeOf, type_of};
+ghost use Rattle.wenc_types.specs.CoreTypes.{CoreType, core_type};
 ghost use Rattle.wenc_types.specs.Declarations.{counted, no_declarations, lead_of, begun, taken_back, Settled, DeclaresSome};
 ghost use Rattle.wenc_types.specs.declared.counts.Sort.{Sort as SortSpec};
 ghost use Rattle.wenc_types.specs.declared.counts.Sort.TheVariants as sorts;
@@ -31,12 +31,13 @@ pub trait DeclaringKind {
     /// These bytes are the text of a declaration of such a type, which counts as this.
     ghost is_declaration: { List ℕ → Optional SortSpec → Type 0 };
 
-    /// Such a type may declare each core type.
-    ghost has_core_types: { (t : CoreType)
-        → is_declaration (0x00 ∷ core_type_text t) (Some sorts.CoreType) };
+    /// Such a type may declare each core type that fits.
+    ghost has_core_types: { (t : CoreType) → (core_type t).Fits
+        → is_declaration (0x00 ∷ (core_type t).text) (Some sorts.CoreType) };
 
     /// And each type.
-    ghost has_types: { (t : TypeOf) → is_declaration (0x01 ∷ type_text t) (Some sorts.«Type») };
+    ghost has_types: { (t : TypeOf) → (type_of t).Fits
+        → is_declaration (0x01 ∷ (type_of t).text) (Some sorts.«Type») };
 }
 
 /// The type of a component or of an instance, by its declarations. Each kind has a name of its own for it:
@@ -62,7 +63,6 @@ pub struct Declarations<K: DeclaringKind, A: Allocator = Global> {
 }
 
 impl<K: DeclaringKind, A: Allocator> Model for Declarations<K, A> {
-    ghost use Rattle.std.specs.Prelude.{◌≤◌};
     ghost use Rattle.wenc_types.specs.Declarations.{Declaring, IsDeclaring};
 
     ghost Value = { Declaring };
@@ -94,9 +94,9 @@ impl<K: DeclaringKind, A: Allocator> Declarations<K, A> {
         declaration: &E,
         sort: Option<Sort>,
     ) -> Result<(), Fault>
-        requires { K.is_declaration (E.text declaration.now) sort }
-        ensures added { AddsMember as_they_are self.old.held self.new.held result
-            (E.cause declaration.now) (E.text declaration.now) }
+        requires { (E.piece declaration.now).Fits
+            → K.is_declaration (E.piece declaration.now).text sort }
+        ensures added { AddsMember (E.piece declaration.now) self.old.held self.new.held result }
         ensures counts { OnOk result (self.new.counts ≡ counted sort self.old.counts) }
         ensures begun { OnOk result (self.new.begun ≡ self.old.begun) }
         ensures err { OnErr result (self.new ≡ self.old) }
@@ -112,8 +112,7 @@ impl<K: DeclaringKind, A: Allocator> Declarations<K, A> {
         requires { lead_of sort ≡ lead ∷ [] }
         ensures ok { OnOk result (self.new ≡ begun sort self.old) }
         ensures settled { OnOk result (Settled self.old) }
-        ensures free { OnOk result ((fault : FaultSpec)
-            → AddCause self.old.held (lead_of sort) (λ _. ⊥) fault → ⊥) }
+        ensures free { OnOk result (NoCause (AddCause self.old.held (lead_of sort) (λ _. ⊥))) }
         ensures err { OnErr result (self.new ≡ self.old) }
         ensures warranted { IfErr result (IsWarranted
             (AddCause self.old.held (lead_of sort) (λ _. ⊥))) }
@@ -237,13 +236,14 @@ impl<K: DeclaringKind, A: Allocator> Declarations<K, A> {
 /// A byte, then the number of declarations, then these. A finished one is refused for want of memory alone. What is
 /// written has some declarations, whoever made which calls.
 impl<K: DeclaringKind, A: Allocator> Encode for Declarations<K, A> {
-    ghost piece = { TODO text = λ t. K.LEAD ∷ held_text t.held cause = λ t. EncodeCause t.held };
+    ghost piece = { λ t. K.LEAD ▸ held t.held };
 
     ghost unfinished = { λ t. is_finished t.held ≡ false };
 
     fn encode<B: Allocator>(&self, sink: &mut Vec<u8, B>) -> Result<(), Fault>
         ensures appended { Appends (K.LEAD ∷ held_text self.now.held) (EncodeCause self.now.held)
             (is_finished self.now.held ≡ false) sink.old.items sink.new.items result }
+        ensures fits { OnOk result (K.LEAD ▸ held self.now.held).Fits }
         ensures declares { OnOk result (∥ DeclaresSome K.is_declaration self.now ∥₁) }
     {
         Tagged(K::LEAD, &self.held).encode(sink)

@@ -1,4 +1,5 @@
 ghost use Rattle.std.specs.Prelude.{refl};
+ghost use Rattle.wenc_base.specs.laws.Serves.{serves_itself};
 
 use std::alloc::{Allocator, Global};
 use wenc_base::{Delimited, DelimitedEq, Encode, Fault, Tagged};
@@ -64,7 +65,7 @@ pub enum DefinedTree<A: Allocator = Global> {
 }
 
 impl<A: Allocator> Encode for DefinedTree<A> {
-    ghost use Rattle.wenc_types.specs.DefinedTypes.{defined_type, defined_cause};
+    ghost use Rattle.wenc_types.specs.DefinedTypes.{defined_type};
     ghost use Rattle.wenc_types.specs.TypeTrees.{defined_view};
 
     ghost piece = { λ t. defined_type (defined_view t) };
@@ -96,7 +97,6 @@ impl<A: Allocator> Delimited for DefinedTree<A> {
     ghost use Rattle.wenc_types.specs.DefinedTypes.{Defined, defined_type};
     ghost use Rattle.wenc_types.specs.TypeTrees.{defined_view};
     ghost use Rattle.wenc_types.specs.laws.DefinedTypes.{read_defined, defined_type_lawful};
-    ghost use Rattle.wenc_types.specs.laws.TypeTrees.{defined_free};
 
     ghost Seen = { Defined };
 
@@ -135,7 +135,7 @@ pub struct CaseTree<A: Allocator = Global> {
 }
 
 impl<A: Allocator> Encode for CaseTree<A> {
-    ghost use Rattle.wenc_types.specs.DefinedTypes.{case, case_cause};
+    ghost use Rattle.wenc_types.specs.DefinedTypes.{case};
     ghost use Rattle.wenc_types.specs.TypeTrees.{case_view};
 
     ghost piece = { λ c. case (case_view c) };
@@ -150,7 +150,6 @@ impl<A: Allocator> Delimited for CaseTree<A> {
     ghost use Rattle.wenc_types.specs.DefinedTypes.{Case, case};
     ghost use Rattle.wenc_types.specs.TypeTrees.{case_view};
     ghost use Rattle.wenc_types.specs.laws.DefinedTypes.{read_case, case_lawful};
-    ghost use Rattle.wenc_types.specs.laws.TypeTrees.{case_free};
 
     ghost Seen = { Case };
 

@@ -1,8 +1,7 @@
 ghost use Rattle.std.specs.Iterator.{IsFinite};
 ghost use Rattle.std.specs.Prelude.{◌≡◌, true, false, map};
-ghost use Rattle.wenc_base.specs.Fault.{drawn_cause, text_cause};
 ghost use Rattle.wenc_base.specs.Lender.{Ends, EndsListed, MakesWhole};
-ghost use Rattle.wenc_types.specs.DefinedTypes.{Defined, Primitive, Record, Variant, ListOf, MapOf, FixedLengthList, Tuple, Flags, Enumeration, OptionOf, ResultOf, Own, Borrow, Future, Stream, defined_cause, defined_type, named_cause, lent_named, case_cause, lent_case};
+ghost use Rattle.wenc_types.specs.DefinedTypes.{Defined, Primitive, Record, Variant, ListOf, MapOf, FixedLengthList, Tuple, Flags, Enumeration, OptionOf, ResultOf, Own, Borrow, Future, Stream, defined_type, lent_named, lent_case};
 ghost use Rattle.wenc_types.specs.TypeTrees.{defined_view};
 
 use crate::defined_tree::DefinedTree;
@@ -27,7 +26,7 @@ pub struct ComponentDefinedTypeEncoder<'a, L: Lender> {
     lender: &'a mut L,
     ghost unfinished: { L.finished lender.now ≡ false },
     ghost whole: { (t : Defined)
-        → MakesWhole L.is_whole L.written lender.now (defined_type t).text },
+        → MakesWhole L.is_whole L.written lender.now (defined_type t) },
 }
 
 impl<'a, L: Lender> ComponentDefinedTypeEncoder<'a, L> {
@@ -35,7 +34,7 @@ impl<'a, L: Lender> ComponentDefinedTypeEncoder<'a, L> {
     pub fn new(lender: &'a mut L) -> Self
         requires opened { L.opened lender.old ≡ true }
         requires whole { (t : Defined)
-            → MakesWhole L.is_whole L.written lender.old (defined_type t).text }
+            → MakesWhole L.is_whole L.written lender.old (defined_type t) }
         ensures same_reference { result.lender.ghost_name ≡ lender.entry.ghost_name }
         ensures now { result.lender.now ≡ lender.old }
     {
@@ -45,7 +44,7 @@ impl<'a, L: Lender> ComponentDefinedTypeEncoder<'a, L> {
     /// The type of this tree.
     pub fn tree<A: Allocator>(self, ty: &DefinedTree<A>) -> Result<(), Fault>
         ensures { Ends L.written L.ended L.refuses self.entry.lender.now self.exit.0.now result
-            (defined_cause (defined_view ty.now)) (defined_type (defined_view ty.now)).text }
+            (defined_type (defined_view ty.now)) }
     {
         self.lender.end_with(ty)
     }
@@ -53,7 +52,7 @@ impl<'a, L: Lender> ComponentDefinedTypeEncoder<'a, L> {
     /// A primitive type.
     pub fn primitive(self, ty: PrimitiveValType) -> Result<(), Fault>
         ensures { Ends L.written L.ended L.refuses self.entry.lender.now self.exit.0.now result
-            (λ _. ⊥) (defined_type (Primitive ty)).text }
+            (defined_type (Primitive ty)) }
     {
         self.lender.end_with(&ty)
     }
@@ -66,8 +65,7 @@ impl<'a, L: Lender> ComponentDefinedTypeEncoder<'a, L> {
         requires ends { IsFinite (F.remaining fields) }
         ensures { EndsListed L.written L.ended L.refuses F.next_gives fields
             self.entry.lender.now self.exit.0.now result
-            (drawn_cause (λ f. named_cause (lent_named f)))
-            (λ fs. (defined_type (Record (map lent_named fs))).text) }
+            (λ fs. defined_type (Record (map lent_named fs))) }
     {
         self.lender.end_with_list(&[0x72], fields)
     }
@@ -80,8 +78,7 @@ impl<'a, L: Lender> ComponentDefinedTypeEncoder<'a, L> {
         requires ends { IsFinite (C.remaining cases) }
         ensures { EndsListed L.written L.ended L.refuses C.next_gives cases
             self.entry.lender.now self.exit.0.now result
-            (drawn_cause (λ c. case_cause (lent_case c)))
-            (λ cs. (defined_type (Variant (map lent_case cs))).text) }
+            (λ cs. defined_type (Variant (map lent_case cs))) }
     {
         self.lender
             .end_with_list(&[0x71], cases.map(|(name, ty)| Case { name, ty }))
@@ -90,7 +87,7 @@ impl<'a, L: Lender> ComponentDefinedTypeEncoder<'a, L> {
     /// A list of any length.
     pub fn list(self, ty: ComponentValType) -> Result<(), Fault>
         ensures { Ends L.written L.ended L.refuses self.entry.lender.now self.exit.0.now result
-            (λ _. ⊥) (defined_type (ListOf ty)).text }
+            (defined_type (ListOf ty)) }
     {
         self.lender.end_with(&Tagged(0x70, &ty))
     }
@@ -98,7 +95,7 @@ impl<'a, L: Lender> ComponentDefinedTypeEncoder<'a, L> {
     /// A map from keys to values.
     pub fn map(self, key: ComponentValType, value: ComponentValType) -> Result<(), Fault>
         ensures { Ends L.written L.ended L.refuses self.entry.lender.now self.exit.0.now result
-            (λ _. ⊥) (defined_type (MapOf key value)).text }
+            (defined_type (MapOf key value)) }
     {
         self.lender.end_with(&Tagged(0x63, &(key, value)))
     }
@@ -106,7 +103,7 @@ impl<'a, L: Lender> ComponentDefinedTypeEncoder<'a, L> {
     /// A list of this length, from 0 to 4294967295.
     pub fn fixed_length_list(self, ty: ComponentValType, length: u32) -> Result<(), Fault>
         ensures { Ends L.written L.ended L.refuses self.entry.lender.now self.exit.0.now result
-            (λ _. ⊥) (defined_type (FixedLengthList ty length)).text }
+            (defined_type (FixedLengthList ty length)) }
     {
         self.lender.end_with(&Tagged(0x67, &(ty, length)))
     }
@@ -119,7 +116,7 @@ impl<'a, L: Lender> ComponentDefinedTypeEncoder<'a, L> {
         requires ends { IsFinite (T.remaining types) }
         ensures { EndsListed L.written L.ended L.refuses T.next_gives types
             self.entry.lender.now self.exit.0.now result
-            (drawn_cause (λ _ _. ⊥)) (λ ts. (defined_type (Tuple ts)).text) }
+            (λ ts. defined_type (Tuple ts)) }
     {
         self.lender.end_with_list(&[0x6f], types)
     }
@@ -130,8 +127,7 @@ impl<'a, L: Lender> ComponentDefinedTypeEncoder<'a, L> {
         requires ends { IsFinite (F.remaining names) }
         ensures { EndsListed L.written L.ended L.refuses F.next_gives names
             self.entry.lender.now self.exit.0.now result
-            (drawn_cause (λ n. text_cause n.now))
-            (λ ns. (defined_type (Flags (map (λ n. n.now) ns))).text) }
+            (λ ns. defined_type (Flags (map (λ n. n.now) ns))) }
     {
         self.lender.end_with_list(&[0x6e], names)
     }
@@ -142,8 +138,7 @@ impl<'a, L: Lender> ComponentDefinedTypeEncoder<'a, L> {
         requires ends { IsFinite (C.remaining cases) }
         ensures { EndsListed L.written L.ended L.refuses C.next_gives cases
             self.entry.lender.now self.exit.0.now result
-            (drawn_cause (λ n. text_cause n.now))
-            (λ ns. (defined_type (Enumeration (map (λ n. n.now) ns))).text) }
+            (λ ns. defined_type (Enumeration (map (λ n. n.now) ns))) }
     {
         self.lender.end_with_list(&[0x6d], cases)
     }
@@ -151,7 +146,7 @@ impl<'a, L: Lender> ComponentDefinedTypeEncoder<'a, L> {
     /// A value of this type, or none.
     pub fn option(self, ty: ComponentValType) -> Result<(), Fault>
         ensures { Ends L.written L.ended L.refuses self.entry.lender.now self.exit.0.now result
-            (λ _. ⊥) (defined_type (OptionOf ty)).text }
+            (defined_type (OptionOf ty)) }
     {
         self.lender.end_with(&Tagged(0x6b, &ty))
     }
@@ -163,7 +158,7 @@ impl<'a, L: Lender> ComponentDefinedTypeEncoder<'a, L> {
         err: Option<ComponentValType>,
     ) -> Result<(), Fault>
         ensures { Ends L.written L.ended L.refuses self.entry.lender.now self.exit.0.now result
-            (λ _. ⊥) (defined_type (ResultOf ok err)).text }
+            (defined_type (ResultOf ok err)) }
     {
         self.lender.end_with(&Tagged(0x6a, &(ok, err)))
     }
@@ -171,7 +166,7 @@ impl<'a, L: Lender> ComponentDefinedTypeEncoder<'a, L> {
     /// A handle that owns a resource of the type with this index.
     pub fn own(self, index: u32) -> Result<(), Fault>
         ensures { Ends L.written L.ended L.refuses self.entry.lender.now self.exit.0.now result
-            (λ _. ⊥) (defined_type (Own index)).text }
+            (defined_type (Own index)) }
     {
         self.lender.end_with(&Tagged(0x69, &index))
     }
@@ -179,7 +174,7 @@ impl<'a, L: Lender> ComponentDefinedTypeEncoder<'a, L> {
     /// A handle that borrows a resource of the type with this index.
     pub fn borrow(self, index: u32) -> Result<(), Fault>
         ensures { Ends L.written L.ended L.refuses self.entry.lender.now self.exit.0.now result
-            (λ _. ⊥) (defined_type (Borrow index)).text }
+            (defined_type (Borrow index)) }
     {
         self.lender.end_with(&Tagged(0x68, &index))
     }
@@ -187,7 +182,7 @@ impl<'a, L: Lender> ComponentDefinedTypeEncoder<'a, L> {
     /// What comes later: a value of this type, or none.
     pub fn future(self, payload: Option<ComponentValType>) -> Result<(), Fault>
         ensures { Ends L.written L.ended L.refuses self.entry.lender.now self.exit.0.now result
-            (λ _. ⊥) (defined_type (Future payload)).text }
+            (defined_type (Future payload)) }
     {
         self.lender.end_with(&Tagged(0x65, &payload))
     }
@@ -195,7 +190,7 @@ impl<'a, L: Lender> ComponentDefinedTypeEncoder<'a, L> {
     /// What comes one by one: values of this type, or none.
     pub fn stream(self, payload: Option<ComponentValType>) -> Result<(), Fault>
         ensures { Ends L.written L.ended L.refuses self.entry.lender.now self.exit.0.now result
-            (λ _. ⊥) (defined_type (Stream payload)).text }
+            (defined_type (Stream payload)) }
     {
         self.lender.end_with(&Tagged(0x66, &payload))
     }

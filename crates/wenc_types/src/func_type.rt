@@ -1,11 +1,11 @@
 ghost use Rattle.std.specs.Iterator.{IsFinite};
-ghost use Rattle.std.specs.Prelude.{◌≡◌, ◌∷◌, ◌++◌, [], ℕ, List, true, false, map, OnOk, OnErr};
-ghost use Rattle.wenc_base.specs.Fault.{drawn_cause, either};
+ghost use Rattle.std.specs.Prelude.{◌≡◌, ◌∷◌, [], true, false, map, OnOk, OnErr};
 ghost use Rattle.wenc_base.specs.Forms.{list};
-ghost use Rattle.wenc_base.specs.Lender.{Extends, ExtendsListed, MakesWhole};
+ghost use Rattle.wenc_base.specs.Lender.{Extends, ExtendsListed, Ends, MakesWhole};
+ghost use Rattle.wenc_base.specs.Piece.{byte, behind_bytes};
 ghost use Rattle.wenc_parts.specs.Types.{result_list};
-ghost use Rattle.wenc_types.specs.DefinedTypes.{Function, function_type, named, named_cause, lent_named};
-ghost use Rattle.wenc_types.specs.FuncStages.{async_byte, BeforeParams, lead_from, goes_on, Remains};
+ghost use Rattle.wenc_types.specs.DefinedTypes.{Function, function_type, named, lent_named};
+ghost use Rattle.wenc_types.specs.FuncStages.{async_byte, BeforeParams, lead_from, params_from, goes_on, RestMakesWhole};
 ghost use Rattle.wenc_types.specs.declared.func_type.FuncStage.TheVariants as stages;
 
 use wenc_base::{Fault, Lender, Verbatim};
@@ -54,8 +54,7 @@ pub struct ComponentFuncTypeEncoder<'a, L: Lender> {
     lender: &'a mut L,
     stage: FuncStage,
     ghost going_on: { goes_on stage (L.finished lender.now) ≡ true },
-    ghost whole: { (text : List ℕ) → Remains stage text
-        → MakesWhole L.is_whole L.written lender.now text },
+    ghost whole: { RestMakesWhole L.is_whole L.written stage lender.now },
 }
 
 impl<'a, L: Lender> ComponentFuncTypeEncoder<'a, L> {
@@ -63,7 +62,7 @@ impl<'a, L: Lender> ComponentFuncTypeEncoder<'a, L> {
     pub fn new(lender: &'a mut L) -> Self
         requires opened { L.opened lender.old ≡ true }
         requires whole { (f : Function)
-            → MakesWhole L.is_whole L.written lender.old (function_type f).text }
+            → MakesWhole L.is_whole L.written lender.old (function_type f) }
         ensures same_reference { result.lender.ghost_name ≡ lender.entry.ghost_name }
         ensures now { result.lender.now ≡ lender.old }
         ensures stage { result.stage ≡ stages.Start }
@@ -87,7 +86,8 @@ impl<'a, L: Lender> ComponentFuncTypeEncoder<'a, L> {
         ensures same_reference { self.new.lender.ghost_name ≡ self.old.lender.ghost_name }
         ensures appended { Extends self.old.lender.now self.new.lender.now
             (L.written self.old.lender.now (async_byte is_async ∷ [])) result
-            (either (λ _. ⊥) (L.refuses self.old.lender.now (async_byte is_async ∷ []))) }
+            (byte (async_byte is_async))
+            (L.refuses self.old.lender.now (async_byte is_async ∷ [])) }
         ensures next { OnOk result (self.new.stage ≡ stages.Tagged) }
         ensures back { OnErr result (self.new.stage ≡ self.old.stage) }
     {
@@ -108,8 +108,7 @@ impl<'a, L: Lender> ComponentFuncTypeEncoder<'a, L> {
         ensures appended { ExtendsListed P.next_gives params
             self.old.lender.now self.new.lender.now result
             (L.written self.old.lender.now) (L.refuses self.old.lender.now)
-            (drawn_cause (λ p. named_cause (lent_named p)))
-            (λ ps. lead_from self.old.stage ++ (list named (map lent_named ps)).text) }
+            (λ ps. params_from self.old.stage (map lent_named ps)) }
         ensures next { OnOk result (self.new.stage ≡ stages.Params) }
         ensures back { OnErr result (self.new.stage ≡ self.old.stage) }
     {
@@ -126,9 +125,8 @@ impl<'a, L: Lender> ComponentFuncTypeEncoder<'a, L> {
     pub fn result(&mut self, ty: Option<ComponentValType>) -> Result<(), Fault>
         requires { self.old.stage ≡ stages.Params }
         ensures same_reference { self.new.lender.ghost_name ≡ self.old.lender.ghost_name }
-        ensures ended { Extends self.old.lender.now self.new.lender.now
-            (L.ended (L.written self.old.lender.now (result_list ty).text)) result
-            (either (λ _. ⊥) (L.refuses self.old.lender.now (result_list ty).text)) }
+        ensures ended { Ends L.written L.ended L.refuses
+            self.old.lender.now self.new.lender.now result (result_list ty) }
         ensures next { OnOk result (self.new.stage ≡ stages.Done) }
         ensures back { OnErr result (self.new.stage ≡ self.old.stage) }
     {
@@ -147,8 +145,7 @@ where
     requires ends { IsFinite (I.remaining values) }
     ensures { ExtendsListed I.next_gives values lender.old lender.new result
         (L.written lender.old) (L.refuses lender.old)
-        (drawn_cause (λ v. named_cause (lent_named v)))
-        (λ vs. lead.now ++ (list named (map lent_named vs)).text) }
+        (λ vs. behind_bytes lead.now (list named (map lent_named vs))) }
 {
     lender.append_list(lead, values)
 }

@@ -1,11 +1,11 @@
 ghost use Rattle.std.specs.Borrow.{sem, RestsIfErr};
 ghost use Rattle.std.specs.Prelude.{◌≡◌, ◌∷◌, [], List, true, false, OnOk, OnErr, IfOk, IfErr};
 ghost use Rattle.wenc_base.specs.Encode.{Appends};
-ghost use Rattle.wenc_base.specs.Fault.{IsMemory, IsWarranted};
-ghost use Rattle.wenc_base.specs.Holder.{is_finished, held_text, AddCause, EncodeCause};
+ghost use Rattle.wenc_base.specs.Fault.{IsMemory, IsWarranted, NoCause};
+ghost use Rattle.wenc_base.specs.Holder.{is_finished, held, held_text, AddCause, EncodeCause};
 ghost use Rattle.wenc_base.specs.Lender.{Lends, GivesUp};
+ghost use Rattle.wenc_base.specs.Piece.{◌▸◌};
 ghost use Rattle.wenc_base.specs.declared.fault.Fault.TheVariants.{Unfinished};
-ghost use Rattle.wenc_base.specs.declared.fault.Fault.{Fault as FaultSpec};
 ghost use Rattle.wenc_types.specs.CoreTypes.{ModuleDeclaration, Import, Outer, Export};
 ghost use Rattle.wenc_types.specs.ModuleTypes.{no_declarations, begun, taken_back, AddsDeclaration, Declares};
 
@@ -101,8 +101,7 @@ impl<A: Allocator> ModuleType<A> {
     /// Begins a type.
     fn begin_type(&mut self) -> Result<(), Fault>
         ensures ok { OnOk result (self.new ≡ begun self.old) }
-        ensures free { OnOk result ((fault : FaultSpec)
-            → AddCause self.old.held (0x01 ∷ []) (λ _. ⊥) fault → ⊥) }
+        ensures free { OnOk result (NoCause (AddCause self.old.held (0x01 ∷ []) (λ _. ⊥))) }
         ensures err { OnErr result (self.new ≡ self.old) }
         ensures warranted { IfErr result (IsWarranted
             (AddCause self.old.held (0x01 ∷ []) (λ _. ⊥))) }
@@ -158,16 +157,17 @@ impl<A: Allocator> ModuleType<A> {
 /// A byte, then the number of declarations, then these. A finished one is refused for want of memory alone. What is
 /// written has some declarations, whoever made which calls.
 impl<A: Allocator> Encode for ModuleType<A> {
-    ghost use Rattle.std.specs.Prelude.{◌∷◌};
-    ghost use Rattle.wenc_base.specs.Holder.{held_text, EncodeCause};
+    ghost use Rattle.wenc_base.specs.Holder.{held};
+    ghost use Rattle.wenc_base.specs.Piece.{◌▸◌};
 
-    ghost piece = { TODO text = λ t. 0x50 ∷ held_text t.held cause = λ t. EncodeCause t.held };
+    ghost piece = { λ t. 0x50 ▸ held t.held };
 
     ghost unfinished = { λ t. is_finished t.held ≡ false };
 
     fn encode<B: Allocator>(&self, sink: &mut Vec<u8, B>) -> Result<(), Fault>
         ensures appended { Appends (0x50 ∷ held_text self.now.held) (EncodeCause self.now.held)
             (is_finished self.now.held ≡ false) sink.old.items sink.new.items result }
+        ensures fits { OnOk result (0x50 ▸ held self.now.held).Fits }
         ensures declares { OnOk result
             (∥ ((ds : List ModuleDeclaration) × Declares self.now ds) ∥₁) }
     {

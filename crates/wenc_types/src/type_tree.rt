@@ -1,12 +1,10 @@
-ghost use Rattle.std.specs.Prelude.{◌∷◌, map, refl};
-ghost use Rattle.wenc_base.specs.Delimited.{FreeFits};
-ghost use Rattle.wenc_base.specs.Encode.{Appends};
-ghost use Rattle.wenc_base.specs.Fault.{list_cause, NoCause};
-ghost use Rattle.wenc_base.specs.Forms.{list_text, list};
-ghost use Rattle.wenc_base.specs.Piece.{◌⨾◌};
-ghost use Rattle.wenc_parts.specs.Imports.{extern_name, extern_name_cause, name_tree_view, type_reference};
-ghost use Rattle.wenc_types.specs.DefinedTypes.{function_type, function_cause};
+ghost use Rattle.std.specs.Prelude.{OnOk};
+ghost use Rattle.wenc_base.specs.Encode.{Appends, list_in_order};
+ghost use Rattle.wenc_base.specs.Piece.{◌▸◌, ◌⨾◌};
+ghost use Rattle.wenc_parts.specs.Imports.{extern_name, name_tree_view, type_reference};
+ghost use Rattle.wenc_types.specs.DefinedTypes.{function_type};
 ghost use Rattle.wenc_types.specs.TypeTrees.{function_view};
+ghost use Rattle.wenc_base.specs.laws.Serves.{serves_itself};
 
 use crate::core_type_tree::CoreTypeTree;
 use crate::defined_tree::DefinedTree;
@@ -88,7 +86,7 @@ pub enum ComponentDecl<A: Allocator = Global> {
 
 impl<A: Allocator> Encode for TypeTree<A> {
     ghost use Rattle.wenc_types.specs.ComponentTypes.{type_of};
-    ghost use Rattle.wenc_types.specs.TypeTrees.{type_cause, type_view};
+    ghost use Rattle.wenc_types.specs.TypeTrees.{type_view};
 
     ghost piece = { λ t. type_of (type_view t) };
 
@@ -110,7 +108,7 @@ impl<A: Allocator> Encode for TypeTree<A> {
 
 impl<A: Allocator> Encode for InstanceDecl<A> {
     ghost use Rattle.wenc_types.specs.ComponentTypes.{instance_declaration};
-    ghost use Rattle.wenc_types.specs.TypeTrees.{instance_declaration_cause, instance_declaration_view};
+    ghost use Rattle.wenc_types.specs.TypeTrees.{instance_declaration_view};
 
     ghost piece = { λ d. instance_declaration (instance_declaration_view d) };
 
@@ -127,7 +125,7 @@ impl<A: Allocator> Encode for InstanceDecl<A> {
 
 impl<A: Allocator> Encode for ComponentDecl<A> {
     ghost use Rattle.wenc_types.specs.ComponentTypes.{component_declaration};
-    ghost use Rattle.wenc_types.specs.TypeTrees.{component_declaration_cause, component_declaration_view};
+    ghost use Rattle.wenc_types.specs.TypeTrees.{component_declaration_view};
 
     ghost piece = { λ d. component_declaration (component_declaration_view d) };
 
@@ -144,15 +142,12 @@ impl<A: Allocator> Delimited for TypeTree<A> {
     ghost use Rattle.wenc_types.specs.ComponentTypes.{TypeOf, type_of};
     ghost use Rattle.wenc_types.specs.TypeTrees.{type_view};
     ghost use Rattle.wenc_types.specs.laws.ComponentTypes.{read_type, type_lawful};
-    ghost use Rattle.wenc_types.specs.laws.TypeTrees.{type_free};
 
     ghost Seen = { TypeOf };
 
     ghost seen = { type_view };
 
     ghost form = { type_of };
-
-    #[cycle(belongs)]
 
     ghost readable = { (read_type, type_lawful) };
 
@@ -163,15 +158,12 @@ impl<A: Allocator> Delimited for InstanceDecl<A> {
     ghost use Rattle.wenc_types.specs.ComponentTypes.{InstanceDeclaration, instance_declaration};
     ghost use Rattle.wenc_types.specs.TypeTrees.{instance_declaration_view};
     ghost use Rattle.wenc_types.specs.laws.ComponentTypes.{read_type, read_instance_declaration, instance_declaration_lawful};
-    ghost use Rattle.wenc_types.specs.laws.TypeTrees.{instance_declaration_free};
 
     ghost Seen = { InstanceDeclaration };
 
     ghost seen = { instance_declaration_view };
 
     ghost form = { instance_declaration };
-
-    #[cycle(belongs)]
 
     ghost readable = { (
       (λ fuel. read_instance_declaration (read_type fuel)),
@@ -185,15 +177,12 @@ impl<A: Allocator> Delimited for ComponentDecl<A> {
     ghost use Rattle.wenc_types.specs.ComponentTypes.{ComponentDeclaration, component_declaration};
     ghost use Rattle.wenc_types.specs.TypeTrees.{component_declaration_view};
     ghost use Rattle.wenc_types.specs.laws.ComponentTypes.{read_type, read_component_declaration, component_declaration_lawful};
-    ghost use Rattle.wenc_types.specs.laws.TypeTrees.{component_declaration_free};
 
     ghost Seen = { ComponentDeclaration };
 
     ghost seen = { component_declaration_view };
 
     ghost form = { component_declaration };
-
-    #[cycle(belongs)]
 
     ghost readable = { (
       (λ fuel. read_component_declaration (read_type fuel)),
@@ -209,8 +198,9 @@ fn encode_tagged<T: Encode, A: Allocator>(
     value: &T,
     sink: &mut Vec<u8, A>,
 ) -> Result<(), Fault>
-    ensures { Appends (tag ∷ T.text value.now) (T.cause value.now) (T.unfinished value.now)
-        sink.old.items sink.new.items result }
+    ensures appended { Appends (tag ▸ T.piece value.now).text (T.piece value.now).Cause
+        (T.unfinished value.now) sink.old.items sink.new.items result }
+    ensures fits { OnOk result (T.piece value.now).Fits }
 {
     Tagged(tag, value).encode(sink)
 }
@@ -221,8 +211,9 @@ fn encode_members<T: Encode, A: Allocator, B: Allocator>(
     values: &Vec<T, A>,
     sink: &mut Vec<u8, B>,
 ) -> Result<(), Fault>
-    ensures { Appends (tag ∷ list_text T.text values.now.items)
-        (list_cause T.cause values.now.items) ⊥ sink.old.items sink.new.items result }
+    ensures appended { let members = tag ▸ list_in_order T.piece values.now.items in
+        Appends members.text members.Cause ⊥ sink.old.items sink.new.items result }
+    ensures fits { OnOk result (tag ▸ list_in_order T.piece values.now.items).Fits }
 {
     Tagged(tag, &values.as_slice()).encode(sink)
 }
@@ -234,9 +225,9 @@ fn encode_function<A: Allocator, B: Allocator>(
     answer: Option<ComponentValType>,
     sink: &mut Vec<u8, B>,
 ) -> Result<(), Fault>
-    ensures { Appends (function_type (function_view is_async params.now.items answer)).text
-        (function_cause (function_view is_async params.now.items answer)) ⊥
-        sink.old.items sink.new.items result }
+    ensures appended { let function = function_type (function_view is_async params.now.items answer) in
+        Appends function.text function.Cause ⊥ sink.old.items sink.new.items result }
+    ensures fits { OnOk result (function_type (function_view is_async params.now.items answer)).Fits }
 {
     let tag = if is_async { 0x43 } else { 0x40 };
     Tagged(tag, &(params.as_slice(), ResultList(answer))).encode(sink)
@@ -249,37 +240,9 @@ fn encode_extern<A: Allocator, B: Allocator>(
     ty: ComponentTypeRef,
     sink: &mut Vec<u8, B>,
 ) -> Result<(), Fault>
-    ensures { Appends (tag ∷ (extern_name (name_tree_view name.now) ⨾ type_reference ty).text)
-        (extern_name_cause (name_tree_view name.now)) ⊥ sink.old.items sink.new.items result }
+    ensures appended { let item = tag ▸ (extern_name (name_tree_view name.now) ⨾ type_reference ty) in
+        Appends item.text item.Cause ⊥ sink.old.items sink.new.items result }
+    ensures fits { OnOk result (tag ▸ (extern_name (name_tree_view name.now) ⨾ type_reference ty)).Fits }
 {
     Tagged(tag, &(name.as_name(), ty)).encode(sink)
-}
-
-/// Values that nothing keeps from being encoded have a text in the form of a list. The call does nothing.
-fn members_belong<T: Delimited, A: Allocator>(values: &Vec<T, A>)
-    ensures { FreeFits (list_cause T.cause) (map T.seen) (list T.form) values.now.items }
-{
-    values.as_slice().belongs();
-}
-
-/// The type of a function that nothing keeps from being encoded has a text in its form. The call does nothing.
-fn function_belongs<A: Allocator>(
-    is_async: bool,
-    params: &Vec<(String<A>, ComponentValType), A>,
-    answer: Option<ComponentValType>,
-)
-    ensures { NoCause (function_cause (function_view is_async params.now.items answer))
-        → (function_type (function_view is_async params.now.items answer)).Fits }
-{
-    params.as_slice().belongs();
-    ResultList(answer).belongs();
-}
-
-/// A name and a type that nothing keeps from being encoded have a text in their form. The call does nothing.
-fn extern_belongs<A: Allocator>(name: &NameTree<A>, ty: ComponentTypeRef)
-    ensures { NoCause (extern_name_cause (name_tree_view name.now))
-        → (extern_name (name_tree_view name.now) ⨾ type_reference ty).Fits }
-{
-    name.as_name().belongs();
-    ty.belongs();
 }

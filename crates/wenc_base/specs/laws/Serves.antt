@@ -4,11 +4,12 @@ use Rattle.std.specs.List.{flat_map, AllByRecursion}
 use Rattle.wenc_base.specs.Encode.{Appends, Serves, in_order, list_in_order, drawn_in_order, sized_in_order}
 use Rattle.wenc_base.specs.Fault.{IsWarranted, NoCause, either, first_of, count_cause, size_cause, member_cause}
 use Rattle.wenc_base.specs.Forms.{list, option, sized}
-use Rattle.wenc_base.specs.Piece.{Piece, Form, AnyCause, ◌▸◌, ◌⨾◌, verbatim, behind_bytes, all_of}
+use Rattle.wenc_base.specs.Holder.{listed}
+use Rattle.wenc_base.specs.Piece.{Piece, Form, AnyCause, ◌▸◌, ◌⨾◌, nothing, verbatim, refused_for, behind_bytes, all_of}
 use Rattle.wenc_base.specs.declared.fault.Fault.{Fault}
 use Rattle.wenc_base.specs.declared.fault.Fault.TheVariants.{Memory, TooMany, TooLarge, Unfinished}
 use Rattle.wenc_base.specs.Delimited.{option_seen}
-use Rattle.std.proofs.lemmas.List.{length-map}
+use Rattle.std.proofs.lemmas.List.{length-map, append-nil}
 
 -- ---- causes
 
@@ -70,11 +71,13 @@ both_among {one} {next} {one'} {next'} a b = (there, λ none. either_free (a.1 (
     there fault (inl c) = inl (a.0 fault c)
     there fault (inr c) = inr (b.0 fault c)
 
+pub itself_among : {one : Fault → Type 0} → IsAmong one one
+itself_among = ((λ fault c. c), λ none. none)
+
 -- the first of values
-pub member_among : {A S : Type 0} (one : A → Fault → Type 0) (other : S → Fault → Type 0) (seen : A → S) → ((v : A) → IsAmong (one v) (other (seen v))) → (vs : List A)
-    → IsAmong (member_cause one vs) (AnyCause other (map seen vs))
-member_among one other seen same [] = ((λ fault h. h), λ none. none)
-member_among one other seen same (v ∷ vs) = first_among (same v) (member_among one other seen same vs)
+pub member_among : {A : Type 0} (cause : A → Fault → Type 0) (vs : List A) → IsAmong (member_cause cause vs) (AnyCause cause vs)
+member_among cause [] = itself_among
+member_among cause (v ∷ vs) = first_among itself_among (member_among cause vs)
 
 -- ---- pieces
 
@@ -92,6 +95,14 @@ serves_then a b = record {
 pub tagged_serves : {p q : Piece} (b : ℕ) → Serves p q → Serves (b ▸ p) (b ▸ q)
 tagged_serves b s = record { text = ap (λ (t : List ℕ). b ∷ t) s.text; fits = s.fits; among = s.among; free = s.free }
 
+pub both_serve : {p q p' q' : Piece} → Serves p p' → Serves q q' → Serves (p ⨾ q) (p' ⨾ q')
+both_serve {p} {q} {p'} {q'} a b = record {
+  text = rw (a.text, b.text) refl;
+  fits = λ h. (a.fits h.0, b.fits h.1);
+  among = λ fault c. elim c [ inl k ↦ inl (a.among fault k) | inr k ↦ inr (b.among fault k) ];
+  free = λ none. either_free (a.free (left_free none)) (b.free (right_free none));
+}
+
 pub behind_serves : {p q : Piece} (lead : List ℕ) → Serves p q → Serves (behind_bytes lead p) (behind_bytes lead q)
 behind_serves [] s = s
 behind_serves (b ∷ lead) s = tagged_serves b (behind_serves lead s)
@@ -107,28 +118,43 @@ behind_is (b ∷ lead) p =
     let s = behind_is lead p in
     record { text = ap (λ (t : List ℕ). b ∷ t) s.text; fits = s.fits; among = s.among; free = s.free }
 
+-- a piece with nothing behind it
+pub with_nothing : {p : Piece} → Serves (p ⨾ nothing) p
+with_nothing {p} = record { text = append-nil p.text; fits = λ h. h.0; among = λ fault c. elim c [ inl k ↦ k | inr none ↦ absurd none ]; free = left_free }
+
+-- bytes, a list, and nothing
+pub listed_behind : {A : Type 0} (lead : List ℕ) (form : Form A) (vs : List A) → Serves (listed (verbatim lead) form nothing vs) (behind_bytes lead (list form vs))
+listed_behind lead form vs = serves_then (both_serve {p = verbatim lead} {p' = verbatim lead} serves_itself (with_nothing {p = list form vs})) (behind_is lead (list form vs))
+
 pub option_serves : {A S : Type 0} (one : Form A) (seen : A → S) (form : Form S) → ((v : A) → Serves (one v) (form (seen v))) → (o : Option A) → Serves (option one o) (option form (option_seen seen o))
 option_serves one seen form serves None = serves_itself
 option_serves one seen form serves (Some v) = tagged_serves 0x01 (serves v)
+
+-- for fewer causes, or for more that follow
+pub refused_serves : (p : Piece) (one other : Fault → Type 0) → IsAmong one other → Serves (refused_for one p) (refused_for other p)
+refused_serves p one other c = record { text = refl; fits = λ h. h; among = c.0; free = c.1 }
 
 pub order_serves : {p q p' q' : Piece} → Serves p p' → Serves q q' → Serves (in_order p q) (p' ⨾ q')
 order_serves {p} {q} {p'} {q'} a b =
     let c : IsAmong (first_of p.Cause q.Cause) (either p'.Cause q'.Cause) = first_among (a.among, a.free) (b.among, b.free) in
     record { text = rw (a.text, b.text) refl; fits = λ h. (a.fits h.0, b.fits h.1); among = c.0; free = c.1 }
 
-pub both_serve : {p q p' q' : Piece} → Serves p p' → Serves q q' → Serves (p ⨾ q) (p' ⨾ q')
-both_serve {p} {q} {p'} {q'} a b = record {
-  text = rw (a.text, b.text) refl;
-  fits = λ h. (a.fits h.0, b.fits h.1);
-  among = λ fault c. elim c [ inl k ↦ inl (a.among fault k) | inr k ↦ inr (b.among fault k) ];
-  free = λ none. either_free (a.free (left_free none)) (b.free (right_free none));
-}
-
 pub sized_serves : {p q : Piece} → Serves p q → Serves (sized_in_order p) (sized (all_of q))
 sized_serves {p} {q} a =
     let same : IsAmong (size_cause (length p.text)) (size_cause (length q.text)) = rw a.text ((λ fault c. c), λ none. none) in
     let c : IsAmong (first_of p.Cause (size_cause (length p.text))) (either (size_cause (length q.text)) q.Cause) = turned_among (a.among, a.free) same in
     record { text = rw a.text refl; fits = λ h. (rw a.text at h.0, a.fits h.1); among = c.0; free = c.1 }
+
+-- a list, whichever refusal is met first
+pub list_is_list : {A : Type 0} (form : Form A) (vs : List A) → Serves (list_in_order form vs) (list form vs)
+list_is_list form vs =
+    let c = first_among {one = count_cause (length vs)} itself_among (member_among (λ v. (form v).Cause) vs) in
+    record { text = refl; fits = λ h. h; among = c.0; free = c.1 }
+
+pub drawn_is_list : {A : Type 0} (form : Form A) (vs : List A) → Serves (drawn_in_order form vs) (list form vs)
+drawn_is_list form vs =
+    let c = turned_among {next = count_cause (length vs)} (member_among (λ v. (form v).Cause) vs) itself_among in
+    record { text = refl; fits = λ h. h; among = c.0; free = c.1 }
 
 module _ {A S : Type 0} (one : Form A) (seen : A → S) (form : Form S) (serves : (v : A) → Serves (one v) (form (seen v))) where
   each_text : (vs : List A) → flat_map (λ v. (one v).text) vs ≡ flat_map (λ s. (form s).text) (map seen vs)
@@ -139,35 +165,23 @@ module _ {A S : Type 0} (one : Form A) (seen : A → S) (form : Form S) (serves 
   each_fits [] h = tt
   each_fits (v ∷ vs) h = ((serves v).fits h.0, each_fits vs h.1)
 
-  among : (vs : List A) → IsAmong (member_cause (λ v. (one v).Cause) vs) (AnyCause (λ s. (form s).Cause) (map seen vs))
-  among vs = member_among (λ v. (one v).Cause) (λ s. (form s).Cause) seen (λ v. ((serves v).among, (serves v).free)) vs
+  each_among : (vs : List A) → IsAmong (AnyCause (λ v. (one v).Cause) vs) (AnyCause (λ s. (form s).Cause) (map seen vs))
+  each_among [] = itself_among
+  each_among (v ∷ vs) = both_among ((serves v).among, (serves v).free) (each_among vs)
 
-  counts : (vs : List A) → IsAmong (count_cause (length vs)) (count_cause (length (map seen vs)))
-  counts vs = rw (length-map vs seen) ((λ fault c. c), λ none. none)
-
-  pub list_serves : (vs : List A) → Serves (list_in_order one vs) (list form (map seen vs))
-  list_serves vs =
-      let c = first_among (counts vs) (among vs) in
-      record { text = rw (length-map vs seen, each_text vs) refl; fits = λ h. (rw length-map h.0, each_fits vs h.1); among = c.0; free = c.1 }
-
-  anys : (vs : List A) → IsAmong (AnyCause (λ v. (one v).Cause) vs) (AnyCause (λ s. (form s).Cause) (map seen vs))
-  anys [] = ((λ fault c. c), λ none. none)
-  anys (v ∷ vs) = both_among ((serves v).among, (serves v).free) (anys vs)
-
-  -- the same in any order
+  -- a list, by what is seen of its values
   pub lists_serve : (vs : List A) → Serves (list one vs) (list form (map seen vs))
   lists_serve vs =
-      let c = both_among (counts vs) (anys vs) in
-      record { text = rw (length-map vs seen, each_text vs) refl; fits = λ h. (rw length-map h.0, each_fits vs h.1); among = c.0; free = c.1 }
+      let counts : IsAmong (count_cause (length vs)) (count_cause (length (map seen vs))) = rw (length-map vs seen) itself_among in
+      let c = both_among counts (each_among vs) in
+      record { text = rw (length-map vs seen, each_text vs) refl; fits = λ h. (rw (length-map vs seen) h.0, each_fits vs h.1); among = c.0; free = c.1 }
 
-  -- and behind bytes
+  pub list_serves : (vs : List A) → Serves (list_in_order one vs) (list form (map seen vs))
+  list_serves vs = serves_then (list_is_list one vs) (lists_serve vs)
+
+  -- the same behind bytes
   pub listed_serves : (lead : List ℕ) (vs : List A) → Serves (behind_bytes lead (list one vs)) (behind_bytes lead (list form (map seen vs)))
   listed_serves lead vs = behind_serves lead (lists_serve vs)
-
-  pub drawn_serves : (vs : List A) → Serves (drawn_in_order one vs) (list form (map seen vs))
-  drawn_serves vs =
-      let c = turned_among (among vs) (counts vs) in
-      record { text = rw (length-map vs seen, each_text vs) refl; fits = λ h. (rw length-map h.0, each_fits vs h.1); among = c.0; free = c.1 }
 
 -- ---- calls
 
@@ -192,6 +206,11 @@ appends_as {p} {q} unfinished old new outcome s a = record {
     warranted : (outcome : Result (Unit {0}) Fault) → IfErr outcome (IsWarranted p.Cause) → IfErr outcome (IsWarranted q.Cause)
     warranted (Ok u) h = tt
     warranted (Err fault) h = still_warranted p.Cause q.Cause s.among fault h
+
+-- nothing in the value is unfinished
+pub appends_finished : {text : List ℕ} {cause : Fault → Type 0} (one other : Type 0) (old new : List ℕ) (outcome : Result (Unit {0}) Fault) → (other → ⊥)
+    → Appends text cause one old new outcome → Appends text cause other old new outcome
+appends_finished one other old new outcome never a = record { ok = a.ok; encodable = a.encodable; err = a.err; warranted = a.warranted; unfinished_first = λ u. absurd (never u) }
 
 pub fits_as : {p q : Piece} (outcome : Result (Unit {0}) Fault) → Serves p q → OnOk outcome p.Fits → OnOk outcome q.Fits
 fits_as (Ok u) s h = s.fits h

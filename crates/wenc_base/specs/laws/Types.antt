@@ -161,4 +161,3 @@ val_type_rows_sound form make k = both_tables form (reference_rows (λ r. make (
 
 pub val_type_sound : Sound val_type read_val_type
 val_type_sound = choose_sound _ _ (val_type_rows_sound val_type (λ t. t) (λ t bytes rest r. r)) nowhere_sound
-

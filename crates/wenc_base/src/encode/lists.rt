@@ -1,9 +1,8 @@
 ghost use Rattle.std.specs.Prelude.{◌≡◌, ◌<◌, ◌++◌, List, ℕ, length, ◌^◌, OnOk, OnErr, IfOk, IfErr};
 ghost use Rattle.std.specs.Iterator.{IsFinite};
 ghost use Rattle.std.specs.Iterator.Runs.{SomeRun, WholeRun};
-ghost use Rattle.wenc_base.specs.Encode.{Written, list_in_order, drawn_in_order};
+ghost use Rattle.wenc_base.specs.Encode.{Appended, Written, list_in_order, drawn_in_order};
 ghost use Rattle.wenc_base.specs.Fault.{IsWarranted, member_cause};
-ghost use Rattle.wenc_base.specs.Lender.{Extended};
 
 use super::front::put_number_over;
 use crate::encode::Encode;
@@ -49,8 +48,7 @@ pub fn encode_list<T: Encode + Drop, I: Iterator<Item = T> + Drop, A: Allocator>
     requires can { I.can_next values }
     requires ends { IsFinite (I.remaining values) }
     ensures ok { OnOk result (WholeRun I.next_gives values (λ run.
-        Extended sink.new.items (λ bytes. sink.old.items ++ bytes) (λ _ _. ⊥)
-        (drawn_in_order T.piece run.items))) }
+        Appended sink.old.items (drawn_in_order T.piece run.items) sink.new.items)) }
     ensures err { OnErr result (sink.new.items ≡ sink.old.items) }
     ensures warranted { IfErr result (λ fault. SomeRun I.next_gives values (λ run.
         IsWarranted (drawn_in_order T.piece run.items).Cause fault)) }

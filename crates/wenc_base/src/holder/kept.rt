@@ -1,5 +1,7 @@
 ghost use Rattle.std.specs.Prelude.{◌≡◌, ◌+◌, ◌-◌, ◌<◌, ◌≤◌, ◌^◌, ◌++◌, [], true, false, length, take, drop, OnOk, OnErr, IfOk, IfErr};
+ghost use Rattle.wenc_base.specs.Encode.{Appends};
 ghost use Rattle.wenc_base.specs.Fault.{IsWarranted, either, NoCause};
+ghost use Rattle.wenc_base.specs.Forms.{AreBytes};
 ghost use Rattle.wenc_base.specs.Holder.{is_finished, holding, gone_back, content_size, all_bytes, with_kept, filled, EncodeCause};
 ghost use Rattle.wenc_base.specs.declared.fault.Fault.TheVariants.{Unfinished};
 
@@ -27,8 +29,10 @@ impl<A: Allocator> Holder<A> {
     /// Keeps the members too, with this value's text behind them, and has no members then. Answers how many bytes
     /// there were. A finished holder is refused for the value's own cause alone.
     pub fn keep_all<E: Encode>(&mut self, more: &E) -> Result<usize, Fault>
-        ensures ok { OnOk result (self.new ≡ holding (all_bytes self.old ++ (E.piece more.now).text) 0 []) }
+        ensures ok { OnOk result (self.new ≡ holding
+            (all_bytes self.old ++ (E.piece more.now).text) 0 []) }
         ensures fits { OnOk result (E.piece more.now).Fits }
+        ensures bytes { OnOk result (AreBytes (E.piece more.now).text) }
         ensures before { IfOk result (λ len. len ≡ length (all_bytes self.old)) }
         ensures finished { OnOk result (is_finished self.old ≡ true) }
         ensures free { OnOk result (NoCause (E.piece more.now).Cause) }
@@ -41,7 +45,7 @@ impl<A: Allocator> Holder<A> {
             return Err(Fault::Unfinished);
         }
         let len = self.bytes.len();
-        more.encode(&mut self.bytes)?;
+        append(more, &mut self.bytes)?;
         self.kept = self.bytes.len();
         self.count = 0;
         Ok(len)
@@ -70,6 +74,17 @@ impl<A: Allocator> Holder<A> {
         fill(&mut self.bytes, start, end, bytes);
         self.kept -= end - start - bytes.len();
     }
+}
+
+/// Appends the text of a value, which is bytes as all that a sink holds.
+#[inline]
+fn append<E: Encode, A: Allocator>(value: &E, sink: &mut Vec<u8, A>) -> Result<(), Fault>
+    ensures appended { Appends (E.piece value.now).text (E.piece value.now).Cause
+        (E.unfinished value.now) sink.old.items sink.new.items result }
+    ensures fits { OnOk result (E.piece value.now).Fits }
+    ensures bytes { OnOk result (AreBytes (E.piece value.now).text) }
+{
+    value.encode(sink)
 }
 
 /// Puts a head in the place of the bytes from `start` to `end`; what stands behind them moves up to it.

@@ -1,4 +1,3 @@
-ghost use Rattle.std.specs.Prelude.{refl};
 ghost use Rattle.std.specs.Prelude.{OnOk, Some};
 ghost use Rattle.wenc_base.specs.Encode.{Appends};
 ghost use Rattle.wenc_base.specs.Forms.{option};

@@ -21,7 +21,7 @@ SectionsFit ss = (sections ss).Fits
 
 -- the last section, where it is open, isn't too much
 abbrev pub HasRoom : Option OpenSection → Type 0
-HasRoom o = (fault : Fault) → SectionCause o fault → ⊥
+HasRoom o = NoCause (SectionCause o)
 
 -- the section that an item belongs to collects items
 collects_it : (x : Item) (id : ℕ) → collected x ≡ Some id → IsTrue (collects id)

@@ -1,14 +1,14 @@
 ghost use Rattle.std.specs.Prelude.{◌≡◌, ◌++◌, OnOk, OnErr, IfOk, IfErr, is_none, None, Err, false};
 ghost use Rattle.std.specs.Iterator.{IsFinite};
 ghost use Rattle.wenc_base.specs.Encode.{Appends};
-ghost use Rattle.wenc_base.specs.Forms.{byte_list, list_text};
-ghost use Rattle.wenc_base.specs.Fault.{IsMemory, IsWarranted, drawn_cause, NoCause};
+ghost use Rattle.wenc_base.specs.Forms.{list};
+ghost use Rattle.wenc_base.specs.Fault.{IsMemory, IsWarranted, NoCause};
+ghost use Rattle.wenc_base.specs.Piece.{behind_bytes};
 ghost use Rattle.wenc_base.specs.Lender.{Extends, ExtendsListed};
 ghost use Rattle.wenc_base.specs.declared.fault.Fault.TheVariants.{Unfinished};
-ghost use Rattle.wenc_base.specs.declared.fault.Fault.{Fault as FaultSpec};
 ghost use Rattle.wenc_builder.specs.Builder.{sections_text};
 ghost use Rattle.wenc_builder.specs.Cause.{SectionCause};
-ghost use Rattle.wenc_builder.specs.Layout.{kind_id, OpensAnother, nothing_buffered, buffer_begun, section_begun, buffer_appended, section_appended, buffer_ended, buffer_given_up, buffer_with, NoRoom, AppendCause, NestCause};
+ghost use Rattle.wenc_builder.specs.Layout.{kind_id, OpensAnother, nothing_buffered, buffer_begun, section_begun, buffer_appended, section_appended, buffer_ended, buffer_given_up, buffer_with, NoRoom, nested};
 
 use super::earlier::Earlier;
 use super::flush::{GAP, close_earlier, open_head, section_head};
@@ -71,8 +71,8 @@ impl<A: Allocator> Buffer<A> {
     pub fn begin(&mut self, kind: Kind) -> Result<(), Fault>
         requires { self.old.writing ≡ None }
         ensures ok { OnOk result (self.new ≡ buffer_begun self.old (kind_id kind)) }
-        ensures free { OnOk result ((fault : FaultSpec)
-            → SectionCause (section_begun self.old (kind_id kind)) fault → ⊥) }
+        ensures free { OnOk result
+            (NoCause (SectionCause (section_begun self.old (kind_id kind)))) }
         ensures err { OnErr result (self.new ≡ self.old) }
         ensures warranted { IfErr result (IsWarranted
             (SectionCause (section_begun self.old (kind_id kind)))) }
@@ -111,9 +111,9 @@ impl<A: Allocator> Buffer<A> {
     /// Appends the text of a value to the item that is being written.
     pub fn append<E: Encode>(&mut self, value: &E) -> Result<(), Fault>
         requires { is_none self.old.writing ≡ false }
-        ensures appended { Extends self.old self.new (buffer_appended self.old (E.text value.now))
-            result (AppendCause (E.cause value.now)
-            (section_appended self.old (E.text value.now))) }
+        ensures appended { Extends self.old self.new
+            (buffer_appended self.old (E.piece value.now).text) result (E.piece value.now)
+            (NoRoom (section_appended self.old (E.piece value.now).text)) }
         ensures unfinished_value { E.unfinished value.now → result ≡ Err Unfinished }
     {
         self.holder.append_encoded(value)
@@ -130,7 +130,7 @@ impl<A: Allocator> Buffer<A> {
         requires ends { IsFinite (I.remaining values) }
         ensures { ExtendsListed I.next_gives values self.old self.new result
             (buffer_appended self.old) (λ bytes. NoRoom (section_appended self.old bytes))
-            (drawn_cause T.cause) (λ vs. lead.now ++ list_text T.text vs) }
+            (λ vs. behind_bytes lead.now (list T.piece vs)) }
     {
         self.holder.append_listed(lead, values)
     }
@@ -166,10 +166,11 @@ impl<A: Allocator> Buffer<A> {
     /// cause alone.
     pub fn stand_alone<E: Encode>(&mut self, section: &E) -> Result<(), Fault>
         requires { self.old.writing ≡ None }
-        ensures ok { OnOk result (self.new ≡ buffer_with self.old (E.text section.now)) }
-        ensures free { OnOk result (NoCause (E.cause section.now)) }
+        ensures ok { OnOk result (self.new ≡ buffer_with self.old (E.piece section.now).text) }
+        ensures fits { OnOk result (E.piece section.now).Fits }
+        ensures free { OnOk result (NoCause (E.piece section.now).Cause) }
         ensures err { OnErr result (self.new ≡ self.old) }
-        ensures warranted { IfErr result (IsWarranted (E.cause section.now)) }
+        ensures warranted { IfErr result (IsWarranted (E.piece section.now).Cause) }
     {
         let count = self.holder.len();
         let items_end = self.holder.keep_all(section)?;
@@ -189,8 +190,9 @@ impl<A: Allocator> Buffer<A> {
     /// there are more than 4294967295 bytes (`TooLarge`), and while an item is being written (`Unfinished`).
     #[tactic(auto, using(wenc_base::proofs::Groups::size_at_most_5))]
     pub fn append_to<B: Allocator>(&self, sink: &mut Vec<u8, B>) -> Result<(), Fault>
-        ensures { Appends (byte_list (sections_text self.now.settled)).text (NestCause self.now)
+        ensures appended { Appends (nested self.now).text (nested self.now).Cause
             (is_none self.now.writing ≡ false) sink.old.items sink.new.items result }
+        ensures fits { OnOk result (nested self.now).Fits }
     {
         if !self.is_finished() {
             return Err(Fault::Unfinished);

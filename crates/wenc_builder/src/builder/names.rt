@@ -1,8 +1,8 @@
-ghost use Rattle.std.specs.List.{flat_map};
 ghost use Rattle.std.specs.Prelude.{◌≡◌, ◌++◌, ℕ, List, map, OnOk, OnErr, IfErr};
+ghost use Rattle.wenc_base.specs.Encode.{Written};
 ghost use Rattle.wenc_base.specs.Fault.{IsWarranted, member_cause};
-ghost use Rattle.wenc_base.specs.declared.fault.Fault.{Fault as FaultSpec};
-ghost use Rattle.wenc_builder.specs.Names.{space_names, space_names_cause, none_named};
+ghost use Rattle.wenc_base.specs.Piece.{each};
+ghost use Rattle.wenc_builder.specs.Names.{space_names, none_named};
 
 use super::spaces::SPACES;
 use std::alloc::{Allocator, Global};
@@ -14,7 +14,7 @@ use wenc_sections::{NamesOf, Sort};
 pub struct SpaceNames<'a, A: Allocator = Global>(pub Sort, pub &'a NameMap<A>);
 
 impl<'a, A: Allocator> Encode for SpaceNames<'a, A> {
-    ghost piece = { TODO text = λ n. space_names (n.0, n.1.now) cause = λ n. space_names_cause (n.0, n.1.now) };
+    ghost piece = { λ n. space_names (n.0, n.1.now) };
 
     fn encode<B: Allocator>(&self, sink: &mut Vec<u8, B>) -> Result<(), Fault> {
         if self.1.is_empty() {
@@ -29,7 +29,7 @@ impl<'a, A: Allocator> Encode for SpaceNames<'a, A> {
 pub struct Subsections<'a, A: Allocator = Global>(pub [SpaceNames<'a, A>; SPACES]);
 
 impl<'a, A: Allocator> Encode for Subsections<'a, A> {
-    ghost piece = { TODO text = λ s. flat_map (λ n. space_names (n.0, n.1.now)) s.0 cause = λ s. member_cause (λ n. space_names_cause (n.0, n.1.now)) s.0 };
+    ghost piece = { λ s. each (λ n. space_names (n.0, n.1.now)) s.0 };
 
     fn encode<B: Allocator>(&self, sink: &mut Vec<u8, B>) -> Result<(), Fault> {
         let start = sink.len();
@@ -49,12 +49,10 @@ fn encode_each<A: Allocator, B: Allocator>(
     sink: &mut Vec<u8, B>,
 ) -> Result<(), Fault>
     ensures ok { OnOk result
-        (sink.new.items ≡ sink.old.items ++ flat_map (λ n. space_names (n.0, n.1.now)) names.now) }
-    ensures encodable { (fault : FaultSpec)
-        → member_cause (λ n. space_names_cause (n.0, n.1.now)) names.now fault → OnOk result ⊥ }
+        (Written (λ n. space_names (n.0, n.1.now)) sink.old.items names.now sink.new.items) }
     ensures err { OnErr result ((more : List ℕ) × (sink.new.items ≡ sink.old.items ++ more)) }
-    ensures warranted { IfErr result
-        (IsWarranted (member_cause (λ n. space_names_cause (n.0, n.1.now)) names.now)) }
+    ensures warranted { IfErr result (IsWarranted
+        (member_cause (λ n. (space_names (n.0, n.1.now)).Cause) names.now)) }
 {
     for one in names {
         one.encode(sink)?;

@@ -8,11 +8,9 @@ pub struct Nested<'a, A: Allocator>(pub &'a Buffer<A>);
 
 impl<'a, A: Allocator> Encode for Nested<'a, A> {
     ghost use Rattle.std.specs.Prelude.{◌≡◌, is_none, false};
-    ghost use Rattle.wenc_base.specs.Forms.{byte_list};
-    ghost use Rattle.wenc_builder.specs.Builder.{sections_text};
-    ghost use Rattle.wenc_builder.specs.Layout.{NestCause};
+    ghost use Rattle.wenc_builder.specs.Layout.{nested};
 
-    ghost piece = { λ n. byte_list (sections_text n.0.now.settled) };
+    ghost piece = { λ n. nested n.0.now };
 
     ghost unfinished = { λ n. is_none n.0.now.writing ≡ false };
 

@@ -13,12 +13,9 @@ use Rattle.wenc_parts.specs.declared.exports.ComponentExportKind.{ComponentExpor
 use Rattle.wenc_parts.specs.declared.exports.ComponentExportKind.TheVariants as kinds
 use Rattle.wenc_parts.specs.declared.aliases.ComponentOuterAliasKind.{ComponentOuterAliasKind}
 use Rattle.wenc_parts.specs.declared.aliases.ComponentOuterAliasKind.TheVariants as outers
-use Rattle.wenc_base.specs.Fault.{NoCause}
-use Rattle.wenc_base.specs.laws.Delimited.{name_free}
 use Rattle.wenc_base.specs.Exports.{export_kind_byte}
 use Rattle.wenc_parts.specs.Exports.{export_kind}
-use Rattle.wenc_parts.specs.laws.Exports.{export_kind_fits}
-use Rattle.wenc_parts.specs.Aliases.{AliasOf, InstanceExport, CoreInstanceExport, Outer, outer_kind, alias, alias_cause}
+use Rattle.wenc_parts.specs.Aliases.{AliasOf, InstanceExport, CoreInstanceExport, Outer, outer_kind, alias}
 
 -- ---- kinds
 
@@ -172,28 +169,3 @@ alias_sound = choose_sound _ _ (
     ),
   ),
 ) nowhere_sound
-
--- ---- what can be encoded
-
-pub outer_kind_fits : (kind : ComponentOuterAliasKind) → (outer_kind kind).Fits
-outer_kind_fits outers.CoreModule = tt
-outer_kind_fits outers.CoreType = tt
-outer_kind_fits outers.«Type» = tt
-outer_kind_fits outers.Component = tt
-
--- what fits has no cause
-pub alias_free : (a : AliasOf) → (alias a).Fits → NoCause (alias_cause a)
-alias_free (InstanceExport i kind n) h fault c = name_free n h.1.1 fault c
-alias_free (CoreInstanceExport i kind n) h fault c = name_free n h.1.1 fault c
-alias_free (Outer kind count n) h fault c = c
-
--- the numbers and the name are those of a piece that fits
-abbrev pub NumbersFit : AliasOf → Type 0
-NumbersFit (InstanceExport i kind n) = (u32 i).Fits × (name_form n).Fits
-NumbersFit (CoreInstanceExport i kind n) = (u32 i).Fits × (name_form n).Fits
-NumbersFit (Outer kind c n) = (u32 c).Fits × (u32 n).Fits
-
-pub alias_fits : (a : AliasOf) → NumbersFit a → (alias a).Fits
-alias_fits (InstanceExport i kind n) h = (export_kind_fits kind, h)
-alias_fits (CoreInstanceExport i kind n) h = (tt, h)
-alias_fits (Outer kind c n) h = (outer_kind_fits kind, h)

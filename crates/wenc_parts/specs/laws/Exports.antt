@@ -34,11 +34,3 @@ export_kind_sound = choose_sound _ _ (
     ),
   ),
 ) nowhere_sound
-
-pub export_kind_fits : (kind : ComponentExportKind) → (export_kind kind).Fits
-export_kind_fits Module = tt
-export_kind_fits Func = tt
-export_kind_fits Value = tt
-export_kind_fits TypeKind = tt
-export_kind_fits Instance = tt
-export_kind_fits Component = tt

@@ -1,22 +1,18 @@
 -- The laws of type references and of names.
 use Rattle.std.specs.Prelude.{nat_lt}
-use Rattle.std.proofs.Common.{◌≡◌, ℕ, suc, Bool, true, false, true≢false, cond, ◌<◌, ◌≤◌, ◌^◌, ◌++◌, List, [], ◌∷◌, length, length-append, Option, Some, None, refl, sym, ap, subst, inl, inr, lit≤, arith}
-use Rattle.std.specs.List.{AllByRecursion}
-use Rattle.wenc_base.specs.Delimited.{FreeFits}
-use Rattle.wenc_base.specs.Fault.{text_cause, NoCause}
+use Rattle.std.proofs.Common.{◌≡◌, ℕ, suc, Bool, true, false, true≢false, cond, ◌++◌, List, [], ◌∷◌, Option, Some, None, refl, sym, ap, subst, inl, inr}
 use Rattle.wenc_base.specs.Forms.{name, list}
-use Rattle.wenc_base.specs.laws.Delimited.{name_free}
 use Rattle.wenc_parts.specs.Exports.{export_kind}
 use Rattle.wenc_base.specs.laws.Lawful.{Lawful, Reader, ◌>>=◌, give, nowhere, choose, row, row_also, row_byte, then, last}
-use Rattle.wenc_base.specs.laws.Sound.{Then, Sound, behind, behind_value, goes_on, give_sound, last_sound, then_sound, nowhere_sound, choose_sound}
-use Rattle.wenc_base.specs.Piece.{Form, Wide}
+use Rattle.wenc_base.specs.laws.Sound.{Then, Sound, give_sound, last_sound, then_sound, nowhere_sound, choose_sound}
+use Rattle.wenc_base.specs.Piece.{Wide}
 use Rattle.wenc_base.specs.laws.Numbers.{read_u32, u32_lawful, u32_sound}
 use Rattle.wenc_base.specs.laws.Forms.{read_name, name_lawful, name_sound, read_list, list_lawful, list_sound}
 use Rattle.wenc_parts.specs.declared.imports.TypeBounds.{TypeBounds}
 use Rattle.wenc_parts.specs.declared.imports.TypeBounds.TheVariants.{Eq, SubResource}
 use Rattle.wenc_parts.specs.declared.imports.ComponentTypeRef.{ComponentTypeRef}
 use Rattle.wenc_parts.specs.declared.imports.ComponentTypeRef.TheVariants.{Module, Func, Value, «Type» as TypeRef, Instance, Component}
-use Rattle.wenc_parts.specs.Imports.{type_bounds, type_reference, ExternName, plain_name, NameOption, Implements, VersionSuffix, ExternalId, name_option, present, name_options, name_with, extern_name, kind_of, option_cause, OptionFits, extern_name_cause}
+use Rattle.wenc_parts.specs.Imports.{type_bounds, type_reference, ExternName, plain_name, NameOption, Implements, VersionSuffix, ExternalId, name_option, present, name_options, name_with, extern_name, kind_of}
 use Rattle.wenc_parts.specs.laws.Types.{read_value_type, value_type_lawful, value_type_sound}
 
 -- ---- type references
@@ -150,6 +146,8 @@ name_with_lawful text (o ∷ os) e =
       text_is_read = l.text_is_read;
       strict_is_text = l.strict_is_text;
       fits = l.fits;
+      free = l.free;
+      never = l.never;
       depth = l.depth;
       finds = λ fuel le mode bytes rest r. rw (l.finds fuel le mode bytes rest r) (is rest);
     }
@@ -218,9 +216,8 @@ extern_name_sound = choose_sound _ _ (
           | false ↦ λ e. tt
         ] refl
 
--- ---- what can be encoded
+-- ---- a reference begins with its kind
 
--- a reference begins with its kind
 pub kind_begins : (r : ComponentTypeRef) → (rest : List ℕ) × ((type_reference r).text ≡ (export_kind (kind_of r)).text ++ rest)
 kind_begins (Module n) = (_, refl)
 kind_begins (Func n) = (_, refl)
@@ -228,78 +225,3 @@ kind_begins (Value t) = (_, refl)
 kind_begins (TypeRef b) = (_, refl)
 kind_begins (Instance n) = (_, refl)
 kind_begins (Component n) = (_, refl)
-
-abbrev AllFit : List NameOption → Type 0
-AllFit = AllByRecursion (λ o. (name_option o).Fits)
-
--- an option whose text fits, fits, and the other way round
-abbrev FitsBy : (List ℕ → NameOption) → Type 0
-FitsBy make = (text : List ℕ) → ((name text).Fits → (name_option (make text)).Fits) × ((name_option (make text)).Fits → (name text).Fits)
-
-together : (make : List ℕ → NameOption) (o : Option (List ℕ)) (rest : List NameOption) → FitsBy make → OptionFits o → AllFit rest → AllFit (present make o ++ rest)
-together make None rest by one others = others
-together make (Some text) rest by one others = ((by text).0 one, others)
-
-apart : (make : List ℕ → NameOption) (o : Option (List ℕ)) (rest : List NameOption) → FitsBy make → AllFit (present make o ++ rest) → OptionFits o × AllFit rest
-apart make None rest by all = (tt, all)
-apart make (Some text) rest by all = ((by text).1 all.0, all.1)
-
-alone_fits : (o : Option (List ℕ)) → OptionFits o → AllFit (present ExternalId o)
-alone_fits None one = tt
-alone_fits (Some text) one = (one, tt)
-
-of_alone : (o : Option (List ℕ)) → AllFit (present ExternalId o) → OptionFits o
-of_alone None all = tt
-of_alone (Some text) all = all.0
-
-with_fits : (text : List ℕ) (options : List NameOption) → (name text).Fits → length options < 2 ^ 32 → AllFit options → (name_with text options).Fits
-with_fits text [] own count all = own
-with_fits text (o ∷ os) own count all = (own, (count, all))
-
-of_with : (text : List ℕ) (options : List NameOption) → (name_with text options).Fits → (name text).Fits × AllFit options
-of_with text [] h = (h, tt)
-of_with text (o ∷ os) h = (h.0, h.1.1)
-
-at_most_one : (make : List ℕ → NameOption) (o : Option (List ℕ)) → length (present make o) ≤ 1
-at_most_one make None = lit≤ tt
-at_most_one make (Some text) = lit≤ tt
-
-few_options : (n : ExternName) → length (name_options n) < 2 ^ 32
-few_options n =
-    let tail : List NameOption = present VersionSuffix n.version_suffix ++ present ExternalId n.external_id in
-    omega (
-      arith,
-      length-append (present Implements n.implements) tail,
-      length-append (present VersionSuffix n.version_suffix) (present ExternalId n.external_id),
-      at_most_one Implements n.implements,
-      at_most_one VersionSuffix n.version_suffix,
-      at_most_one ExternalId n.external_id,
-    )
-
--- no text of the name is too long, and each is text
-pub extern_name_fits : (n : ExternName) → FreeFits text_cause (λ text. text) name n.name → (NoCause (option_cause n.implements) → OptionFits n.implements)
-    → (NoCause (option_cause n.version_suffix) → OptionFits n.version_suffix) → (NoCause (option_cause n.external_id) → OptionFits n.external_id)
-    → FreeFits extern_name_cause (λ m. m) extern_name n
-extern_name_fits n own implements suffix id none =
-    with_fits n.name (name_options n) (own (λ fault c. none fault (inl c))) (few_options n)
-    (together Implements n.implements _ (λ text. ((λ h. h), λ h. h)) (implements (λ fault c. none fault (inr (inl c))))
-    (together VersionSuffix n.version_suffix _ (λ text. ((λ h. h), λ h. h)) (suffix (λ fault c. none fault (inr (inr (inl c)))))
-    (alone_fits n.external_id (id (λ fault c. none fault (inr (inr (inr c))))))))
-
-option_free : (o : Option (List ℕ)) → OptionFits o → NoCause (option_cause o)
-option_free None h fault c = c
-option_free (Some text) h fault c = name_free text h fault c
-
--- what fits has no cause
-pub extern_name_free : (n : ExternName) → (extern_name n).Fits → NoCause (extern_name_cause n)
-extern_name_free n h fault c =
-    let parts = of_with n.name (name_options n) h in
-    let one = apart Implements n.implements (present VersionSuffix n.version_suffix ++ present ExternalId n.external_id) (λ text. ((λ h. h), λ h. h)) parts.1 in
-    let two = apart VersionSuffix n.version_suffix (present ExternalId n.external_id) (λ text. ((λ h. h), λ h. h)) one.1 in
-    elim c [
-      | inl own ↦ name_free n.name parts.0 fault own
-      | inr c ↦ elim c [
-        | inl c ↦ option_free n.implements one.0 fault c
-        | inr c ↦ elim c [ inl c ↦ option_free n.version_suffix two.0 fault c | inr c ↦ option_free n.external_id (of_alone n.external_id two.1) fault c ]
-      ]
-    ]

@@ -1,153 +1,97 @@
--- An instance has no cause exactly where its piece fits.
-use Rattle.std.proofs.Common.{◌≡◌, ℕ, ◌^◌, ◌<◌, List, ◌∷◌, ◌++◌, String, Result, map, refl, inl, inr}
-use Rattle.std.proofs.lemmas.List.{map-id}
-use Rattle.std.proofs.lemmas.List.Elements.{recursion_from_All}
-use Rattle.std.specs.List.{All}
-use Rattle.std.specs.String.{string_bytes}
-use Rattle.wenc_base.specs.Delimited.{FreeFits, IsTextOf, pair}
-use Rattle.wenc_base.specs.Encode.{Appends}
+-- What the code writes of instances serves as their forms.
+use Rattle.std.proofs.Common.{ℕ, List, refl, map, inl, inr}
+use Rattle.wenc_base.specs.Encode.{Serves, in_order, list_in_order}
 use Rattle.wenc_base.specs.Exports.{export_kind as core_kind}
-use Rattle.wenc_base.specs.Fault.{text_cause, first_of, list_cause, NoCause}
-use Rattle.wenc_base.specs.Forms.{name as name_form, list, list_text}
+use Rattle.wenc_base.specs.Forms.{name, list}
+use Rattle.wenc_base.specs.Holder.{listed}
 use Rattle.wenc_base.specs.Number.{u32}
-use Rattle.wenc_base.specs.Piece.{Form}
-use Rattle.wenc_base.specs.declared.exports.ExportKind.{ExportKind}
-use Rattle.wenc_base.specs.declared.fault.Fault.{Fault}
-use Rattle.wenc_base.specs.laws.Causes.{never, alone, behind, appends_as, same_cause}
-use Rattle.wenc_base.specs.laws.Delimited.{name_free, list_free, list_fits, list_text_of}
+use Rattle.wenc_base.specs.Piece.{Piece, Form, nothing, ◌▸◌, ◌⨾◌}
+use Rattle.wenc_base.specs.laws.Serves.{serves_itself, serves_then, tagged_serves, both_serve, order_serves, with_nothing, right_free, list_serves, lists_serve}
 use Rattle.wenc_parts.specs.Exports.{export_kind}
-use Rattle.wenc_parts.specs.Imports.{ExternName, extern_name, extern_name_cause}
+use Rattle.wenc_parts.specs.Imports.{extern_name}
 use Rattle.wenc_parts.specs.Instances.{module_argument}
-use Rattle.wenc_parts.specs.declared.exports.ComponentExportKind.{ComponentExportKind}
-use Rattle.wenc_parts.specs.declared.imports.NameTree.{NameTree}
-use Rattle.wenc_parts.specs.declared.instances.ModuleArg.{ModuleArg}
-use Rattle.wenc_parts.specs.laws.Imports.{extern_name_free}
-use Rattle.wenc_sections.specs.Instances.{Argument, argument, argument_cause, CoreExport, core_export, core_export_cause, CoreInstance, CoreInstantiate, CoreExports, core_instance, core_instance_cause, Given, given, given_cause, Exported, exported, exported_cause, Instance, Instantiate, Exports, instance, instance_cause}
-use Rattle.wenc_sections.specs.InstanceTrees.{argument_tree_view, core_export_tree_view, given_tree_view, exported_tree_view, exported_tree_text, exported_tree_cause}
-use Rattle.wenc_types.specs.laws.TypeTrees.{SeenCause, list_appends, list_as, list_fit}
+use Rattle.wenc_sections.specs.Instances.{Argument, argument, CoreExport, core_export, CoreInstantiate, CoreExports, core_instance, Given, given, Exported, exported, Instantiate, Exports, instance}
 
--- ---- what fits has no cause
+-- two pieces, and three
+pub two_serve : (p q : Piece) → Serves (in_order p q) (p ⨾ q)
+two_serve p q = order_serves (serves_itself {p = p}) (serves_itself {p = q})
 
-pub argument_free : (a : Argument) → (argument a).Fits → NoCause (argument_cause a)
-argument_free a h = name_free a.name h.0
+pub three_serve : (p q r : Piece) → Serves (in_order p (in_order q r)) (p ⨾ q ⨾ r)
+three_serve p q r = order_serves (serves_itself {p = p}) (two_serve q r)
 
-pub core_export_free : (e : CoreExport) → (core_export e).Fits → NoCause (core_export_cause e)
-core_export_free e h = name_free e.name h.0
+tag_first : (b : ℕ) (p q : Piece) → Serves ((b ▸ p) ⨾ q) (b ▸ (p ⨾ q))
+tag_first b p q = record { text = refl; fits = λ h. h; among = λ fault c. c; free = λ none. none }
 
-pub core_instance_free : (i : CoreInstance) → (core_instance i).Fits → NoCause (core_instance_cause i)
-core_instance_free (CoreInstantiate module_index arguments) h = list_free argument_cause (λ a. a) argument argument_free arguments (rw (map-id arguments) h.1)
-core_instance_free (CoreExports exports) h = list_free core_export_cause (λ e. e) core_export core_export_free exports (rw (map-id exports) h)
+nothing_before : (p : Piece) → Serves (nothing ⨾ p) p
+nothing_before p = record { text = refl; fits = λ h. h.1; among = λ fault c. elim c [ inl none ↦ absurd none | inr own ↦ own ]; free = right_free }
 
-pub given_free : (g : Given) → (given g).Fits → NoCause (given_cause g)
-given_free g h = name_free g.name h.0
+-- a list of values, behind a byte and a number or behind a byte alone: as a holder adds it, and as a tree writes it
+module _ {A S : Type 0} (one : Form A) (seen : A → S) (form : Form S) (serves : (v : A) → Serves (one v) (form (seen v))) where
+  led_serves : (b : ℕ) (p : Piece) (vs : List A) → Serves (listed (b ▸ p) one nothing vs) (b ▸ (p ⨾ list form (map seen vs)))
+  led_serves b p vs =
+      let values : Serves (list one vs ⨾ nothing) (list form (map seen vs)) = serves_then (with_nothing {p = list one vs}) (lists_serve one seen form serves vs) in
+      serves_then (tag_first b p (list one vs ⨾ nothing)) (tagged_serves b (both_serve (serves_itself {p = p}) values))
 
-pub exported_free : (e : Exported) → (exported e).Fits → NoCause (exported_cause e)
-exported_free e h = extern_name_free e.name h.0
+  alone_serves : (b : ℕ) (vs : List A) → Serves (listed (b ▸ nothing) one nothing vs) (b ▸ list form (map seen vs))
+  alone_serves b vs = serves_then (led_serves b nothing vs) (tagged_serves b (nothing_before (list form (map seen vs))))
 
-pub instance_free : (i : Instance) → (instance i).Fits → NoCause (instance_cause i)
-instance_free (Instantiate component_index arguments) h = list_free given_cause (λ g. g) given given_free arguments (rw (map-id arguments) h.1)
-instance_free (Exports exports) h = list_free exported_cause (λ e. e) exported exported_free exports (rw (map-id exports) h)
+  numbered_serves : (b n : ℕ) (vs : List A) → Serves (b ▸ in_order (u32 n) (list_in_order one vs)) (b ▸ (u32 n ⨾ list form (map seen vs)))
+  numbered_serves b n vs = tagged_serves b (order_serves (serves_itself {p = u32 n}) (list_serves one seen form serves vs))
 
--- ---- the lists of trees, by what is seen of their values
+  tagged_list_serves : (b : ℕ) (vs : List A) → Serves (b ▸ list_in_order one vs) (b ▸ list form (map seen vs))
+  tagged_list_serves b vs = tagged_serves b (list_serves one seen form serves vs)
 
--- what is never refused, twice
-never_twice : (fault : Fault) → first_of never never fault → ⊥
-never_twice fault h = elim h [ inl none ↦ none | inr p ↦ p.1 ]
+-- ---- instances, by what is seen of their arguments and exports
 
-abbrev argument_tree_text : {A : Type 0} → String A × ModuleArg → List ℕ
-argument_tree_text a = (argument (argument_tree_view a)).text
+module _ {A : Type 0} (seen : A → Argument) where
+  abbrev pub argument_written : Form A
+  argument_written a = in_order (name (seen a).name) (module_argument (seen a).value)
 
-abbrev argument_tree_cause : {A : Type 0} → String A × ModuleArg → Fault → Type 0
-argument_tree_cause a = first_of (text_cause (string_bytes a.0)) never
+  argument_serves : (a : A) → Serves (argument_written a) (argument (seen a))
+  argument_serves a = two_serve (name (seen a).name) (module_argument (seen a).value)
 
-abbrev argument_tree_seen : {A : Type 0} → String A × ModuleArg → List ℕ × ModuleArg
-argument_tree_seen a = (string_bytes a.0, a.1)
+  pub core_instantiate_listed : (index : ℕ) (vs : List A) → Serves (listed (0x00 ▸ u32 index) argument_written nothing vs) (core_instance (CoreInstantiate index (map seen vs)))
+  core_instantiate_listed index = led_serves argument_written seen argument argument_serves 0x00 (u32 index)
 
-argument_causes : {A : Type 0} → SeenCause {A = String A × ModuleArg} argument_tree_cause argument_tree_view argument_cause
-argument_causes a = alone (text_cause (string_bytes a.0)) never (λ fault k. k)
+  pub core_instantiate_serves : (index : ℕ) (vs : List A) → Serves (0x00 ▸ in_order (u32 index) (list_in_order argument_written vs)) (core_instance (CoreInstantiate index (map seen vs)))
+  core_instantiate_serves = numbered_serves argument_written seen argument argument_serves 0x00
 
-abbrev core_export_tree_text : {A : Type 0} → String A × ExportKind × ℕ → List ℕ
-core_export_tree_text e = (core_export (core_export_tree_view e)).text
+module _ {A : Type 0} (seen : A → CoreExport) where
+  abbrev pub core_export_written : Form A
+  core_export_written e = in_order (name (seen e).name) (in_order (core_kind (seen e).kind) (u32 (seen e).index))
 
-abbrev core_export_tree_cause : {A : Type 0} → String A × ExportKind × ℕ → Fault → Type 0
-core_export_tree_cause e = first_of (text_cause (string_bytes e.0)) (first_of never never)
+  core_export_serves : (e : A) → Serves (core_export_written e) (core_export (seen e))
+  core_export_serves e = three_serve (name (seen e).name) (core_kind (seen e).kind) (u32 (seen e).index)
 
-abbrev core_export_tree_seen : {A : Type 0} → String A × ExportKind × ℕ → List ℕ × (ExportKind × ℕ)
-core_export_tree_seen e = (string_bytes e.0, (e.1, e.2))
+  pub core_exports_listed : (vs : List A) → Serves (listed (0x01 ▸ nothing) core_export_written nothing vs) (core_instance (CoreExports (map seen vs)))
+  core_exports_listed = alone_serves core_export_written seen core_export core_export_serves 0x01
 
-core_export_causes : {A : Type 0} → SeenCause {A = String A × ExportKind × ℕ} core_export_tree_cause core_export_tree_view core_export_cause
-core_export_causes e = alone (text_cause (string_bytes e.0)) (first_of never never) never_twice
+  pub core_exports_serve : (vs : List A) → Serves (0x01 ▸ list_in_order core_export_written vs) (core_instance (CoreExports (map seen vs)))
+  core_exports_serve = tagged_list_serves core_export_written seen core_export core_export_serves 0x01
 
-abbrev given_tree_text : {A : Type 0} → String A × ComponentExportKind × ℕ → List ℕ
-given_tree_text g = (given (given_tree_view g)).text
+module _ {A : Type 0} (seen : A → Given) where
+  abbrev pub given_written : Form A
+  given_written g = in_order (name (seen g).name) (in_order (export_kind (seen g).kind) (u32 (seen g).index))
 
-abbrev given_tree_cause : {A : Type 0} → String A × ComponentExportKind × ℕ → Fault → Type 0
-given_tree_cause g = first_of (text_cause (string_bytes g.0)) (first_of never never)
+  given_serves : (g : A) → Serves (given_written g) (given (seen g))
+  given_serves g = three_serve (name (seen g).name) (export_kind (seen g).kind) (u32 (seen g).index)
 
-abbrev given_tree_seen : {A : Type 0} → String A × ComponentExportKind × ℕ → List ℕ × (ComponentExportKind × ℕ)
-given_tree_seen g = (string_bytes g.0, (g.1, g.2))
+  pub instantiate_listed : (index : ℕ) (vs : List A) → Serves (listed (0x00 ▸ u32 index) given_written nothing vs) (instance (Instantiate index (map seen vs)))
+  instantiate_listed index = led_serves given_written seen given given_serves 0x00 (u32 index)
 
-given_causes : {A : Type 0} → SeenCause {A = String A × ComponentExportKind × ℕ} given_tree_cause given_tree_view given_cause
-given_causes g = alone (text_cause (string_bytes g.0)) (first_of never never) never_twice
+  pub instantiate_serves : (index : ℕ) (vs : List A) → Serves (0x00 ▸ in_order (u32 index) (list_in_order given_written vs)) (instance (Instantiate index (map seen vs)))
+  instantiate_serves = numbered_serves given_written seen given given_serves 0x00
 
--- ---- what appends a tree
+module _ {A : Type 0} (seen : A → Exported) where
+  abbrev pub exported_written : Form A
+  exported_written e = in_order (extern_name (seen e).name) (in_order (export_kind (seen e).kind) (u32 (seen e).index))
 
--- a byte, a number and then a list, by what is seen of the list's values
-indexed_appends : {A S : Type 0} (tag index : ℕ) (text : A → List ℕ) (cause : A → Fault → Type 0) (seen : A → S) (form : Form S) (other : S → Fault → Type 0)
-    → IsTextOf text seen form → SeenCause cause seen other → (vs : List A) (old new : List ℕ) (outcome : Result (Unit {0}) Fault)
-    → Appends (tag ∷ ((u32 index).text ++ list_text text vs)) (first_of never (list_cause cause vs)) ⊥ old new outcome
-    → Appends (tag ∷ ((u32 index).text ++ (list form (map seen vs)).text)) (list_cause other (map seen vs)) ⊥ old new outcome
-indexed_appends tag index text cause seen form other is same vs old new outcome a =
-    appends_as _ (list_cause cause vs) _ ⊥ old new outcome (list_as cause seen other same vs) (rw (list_text_of text seen form is vs) at (behind _ (list_cause cause vs) old new outcome a))
+  exported_serves : (e : A) → Serves (exported_written e) (exported (seen e))
+  exported_serves e = three_serve (extern_name (seen e).name) (export_kind (seen e).kind) (u32 (seen e).index)
 
-pub core_instantiate_appends : {A : Type 0} (index : ℕ) (args : List (String A × ModuleArg)) (old new : List ℕ) (outcome : Result (Unit {0}) Fault)
-    → Appends (0x00 ∷ ((u32 index).text ++ list_text argument_tree_text args)) (first_of never (list_cause argument_tree_cause args)) ⊥ old new outcome
-    → Appends (core_instance (CoreInstantiate index (map argument_tree_view args))).text (list_cause argument_cause (map argument_tree_view args)) ⊥ old new outcome
-core_instantiate_appends index = indexed_appends 0x00 index argument_tree_text argument_tree_cause argument_tree_view argument argument_cause (λ a. refl) argument_causes
+  pub exports_listed : (vs : List A) → Serves (listed (0x01 ▸ nothing) exported_written nothing vs) (instance (Exports (map seen vs)))
+  exports_listed = alone_serves exported_written seen exported exported_serves 0x01
 
-pub core_exports_append : {A : Type 0} (exports : List (String A × ExportKind × ℕ)) (old new : List ℕ) (outcome : Result (Unit {0}) Fault)
-    → Appends (0x01 ∷ list_text core_export_tree_text exports) (list_cause core_export_tree_cause exports) ⊥ old new outcome
-    → Appends (core_instance (CoreExports (map core_export_tree_view exports))).text (list_cause core_export_cause (map core_export_tree_view exports)) ⊥ old new outcome
-core_exports_append = list_appends 0x01 core_export_tree_text core_export_tree_cause core_export_tree_view core_export core_export_cause (λ e. refl) core_export_causes
-
-pub instantiate_appends : {A : Type 0} (index : ℕ) (args : List (String A × ComponentExportKind × ℕ)) (old new : List ℕ) (outcome : Result (Unit {0}) Fault)
-    → Appends (0x00 ∷ ((u32 index).text ++ list_text given_tree_text args)) (first_of never (list_cause given_tree_cause args)) ⊥ old new outcome
-    → Appends (instance (Instantiate index (map given_tree_view args))).text (list_cause given_cause (map given_tree_view args)) ⊥ old new outcome
-instantiate_appends index = indexed_appends 0x00 index given_tree_text given_tree_cause given_tree_view given given_cause (λ g. refl) given_causes
-
-pub exports_append : {A : Type 0} (exports : List (NameTree A × ComponentExportKind × ℕ)) (old new : List ℕ) (outcome : Result (Unit {0}) Fault)
-    → Appends (0x01 ∷ list_text exported_tree_text exports) (list_cause exported_tree_cause exports) ⊥ old new outcome
-    → Appends (instance (Exports (map exported_tree_view exports))).text (list_cause exported_cause (map exported_tree_view exports)) ⊥ old new outcome
-exports_append = list_appends 0x01 exported_tree_text exported_tree_cause exported_tree_view exported exported_cause (λ e. refl) (λ e. same_cause)
-
--- an export, by the view of its name
-pub export_appends : (seen name : ExternName) → seen ≡ name → (kind : ComponentExportKind) (index : ℕ) (old new : List ℕ) (outcome : Result (Unit {0}) Fault)
-    → Appends ((extern_name seen).text ++ ((export_kind kind).text ++ (u32 index).text)) (first_of (extern_name_cause seen) (first_of never never)) ⊥ old new outcome
-    → Appends ((extern_name name).text ++ ((export_kind kind).text ++ (u32 index).text)) (extern_name_cause name) ⊥ old new outcome
-export_appends seen name e kind index old new outcome a =
-    rw (← e) (appends_as _ _ (extern_name_cause seen) ⊥ old new outcome (alone (extern_name_cause seen) (first_of never never) never_twice) a)
-
--- ---- what has no cause fits, if its numbers are of 32 bits
-
-pub core_instantiate_fits : {A : Type 0} (index : ℕ) (args : List (String A × ModuleArg)) → index < 2 ^ 32
-    → FreeFits (list_cause argument_tree_cause) (map argument_tree_seen) (list (pair name_form module_argument)) args
-    → NoCause (core_instance_cause (CoreInstantiate index (map argument_tree_view args))) → (core_instance (CoreInstantiate index (map argument_tree_view args))).Fits
-core_instantiate_fits index args number one none =
-    (number, list_fit argument_tree_cause argument_tree_seen (pair name_form module_argument) argument_cause argument_tree_view argument argument_causes (λ a h. h) args one none)
-
-pub core_exports_fit : {A : Type 0} (exports : List (String A × ExportKind × ℕ))
-    → FreeFits (list_cause core_export_tree_cause) (map core_export_tree_seen) (list (pair name_form (pair core_kind u32))) exports
-    → NoCause (core_instance_cause (CoreExports (map core_export_tree_view exports))) → (core_instance (CoreExports (map core_export_tree_view exports))).Fits
-core_exports_fit = list_fit core_export_tree_cause core_export_tree_seen (pair name_form (pair core_kind u32)) core_export_cause core_export_tree_view core_export core_export_causes (λ e h. h)
-
-pub instantiate_fits : {A : Type 0} (index : ℕ) (args : List (String A × ComponentExportKind × ℕ)) → index < 2 ^ 32
-    → FreeFits (list_cause given_tree_cause) (map given_tree_seen) (list (pair name_form (pair export_kind u32))) args
-    → NoCause (instance_cause (Instantiate index (map given_tree_view args))) → (instance (Instantiate index (map given_tree_view args))).Fits
-instantiate_fits index args number one none =
-    (number, list_fit given_tree_cause given_tree_seen (pair name_form (pair export_kind u32)) given_cause given_tree_view given given_causes (λ g h. h) args one none)
-
-pub exports_fit : {A : Type 0} (exports : List (NameTree A × ComponentExportKind × ℕ)) → All (FreeFits exported_tree_cause exported_tree_view exported) exports
-    → NoCause (instance_cause (Exports (map exported_tree_view exports))) → (instance (Exports (map exported_tree_view exports))).Fits
-exports_fit exports all =
-    list_fit exported_tree_cause exported_tree_view exported exported_cause exported_tree_view exported (λ e. same_cause) (λ e h. h) exports
-    (list_fits exported_tree_cause exported_tree_view exported exports (recursion_from_All _ _ all))
+  -- by the form itself
+  pub exports_serve : (vs : List A) → Serves (0x01 ▸ list_in_order (λ e. exported (seen e)) vs) (instance (Exports (map seen vs)))
+  exports_serve = tagged_list_serves (λ e. exported (seen e)) seen exported (λ e. serves_itself {p = exported (seen e)}) 0x01

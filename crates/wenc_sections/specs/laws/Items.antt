@@ -20,7 +20,7 @@ use Rattle.wenc_sections.specs.Start.{Start, started, start_content, start}
 
 -- ---- imports and exports
 
-abbrev imported : ExternName → ComponentTypeRef → Import
+abbrev pub imported : ExternName → ComponentTypeRef → Import
 imported name what = record { name = name; what = what }
 
 abbrev pub read_import : Reader Import
@@ -32,7 +32,7 @@ import_lawful i = then _ (extern_name_lawful i.name) (last (imported i.name) (ty
 pub import_sound : Sound import_item read_import
 import_sound = then_sound _ extern_name_sound (λ name. last_sound (imported name) type_reference_sound (λ what middle rest r bytes p. (middle, p, r)))
 
-abbrev ascribed : ExternName → ComponentExportKind → ℕ → Option ComponentTypeRef → Export
+abbrev pub ascribed : ExternName → ComponentExportKind → ℕ → Option ComponentTypeRef → Export
 ascribed name kind index what = record { name = name; kind = kind; index = index; what = what }
 
 abbrev pub read_export : Reader Export

@@ -1,13 +1,13 @@
 -- The laws of the section of names.
 use Rattle.std.proofs.Common.{◌≡◌, ℕ, List, [], ◌∷◌, refl}
 use Rattle.wenc_base.specs.Holder.{Held, Contains}
-use Rattle.wenc_base.specs.Names.{Named, named_text}
+use Rattle.wenc_base.specs.Names.{Named, named}
 use Rattle.wenc_base.specs.laws.Forms.{read_name, name_lawful, read_sized, sized_lawful, read_bytes, bytes_lawful}
-use Rattle.wenc_base.specs.laws.Lawful.{Lawful, Reader, ◌>>=◌, give, nowhere, choose, done, go_on, row, row_byte, then, last, then_whole, whole_lawful}
+use Rattle.wenc_base.specs.laws.Lawful.{Lawful, Reader, ◌>>=◌, give, nowhere, choose, done, go_on, row, row_byte, then, last, then_whole, whole_lawful, refused_lawful}
 use Rattle.wenc_base.specs.laws.Names.{read_name_map, name_map_lawful, held_names}
 use Rattle.wenc_sections.specs.declared.names.Sort.{Sort}
 use Rattle.wenc_sections.specs.declared.names.Sort.TheVariants.{CoreFunc, CoreTable, CoreMemory, CoreGlobal, CoreTag, CoreType, CoreModule, CoreInstance, Func, Value, «Type» as TypeSort, Component, Instance}
-use Rattle.wenc_sections.specs.Names.{item_sort, Subsection, ComponentName, ItemNames, RawNames, subsection, items_content, names_label, names_section}
+use Rattle.wenc_sections.specs.Names.{item_sort, Subsection, ComponentName, ItemNames, subsection, held_subsection, names_label, names_section}
 
 -- ---- sorts
 
@@ -65,9 +65,8 @@ pub item_names_lawful : (sort : Sort) (names : List Named) → Lawful (subsectio
 item_names_lawful sort names = row _ _ 0x01 (sized_lawful (whole_lawful (then _ (sort_lawful sort) (last (ItemNames sort) (name_map_lawful names)))))
 
 -- the names that are held are a subsection
-pub held_subsection : (sort : Sort) (held : Held) (names : List Named) → Contains named_text held names
-    → (subsection (RawNames 0x01 (items_content sort held))).text ≡ (subsection (ItemNames sort names)).text
-held_subsection sort held names holds = rw (held_names held names holds) refl
+pub held_subsection_is : (sort : Sort) (held : Held) (names : List Named) → Contains named held names → (held_subsection sort held).text ≡ (subsection (ItemNames sort names)).text
+held_subsection_is sort held names holds = rw (held_names held names holds) refl
 
 -- ---- the section
 
@@ -75,4 +74,4 @@ abbrev pub read_names_section : Reader (List ℕ)
 read_names_section = read_sized (λ content. go_on (read_name content) (λ label. read_bytes (λ bytes. bytes)))
 
 pub names_section_lawful : (bytes : List ℕ) → Lawful (names_section bytes) (λ fuel. read_names_section) bytes
-names_section_lawful bytes = sized_lawful (then_whole _ (name_lawful names_label) (bytes_lawful (λ bytes. bytes) bytes))
+names_section_lawful bytes = refused_lawful (λ fault. ⊥) (sized_lawful (then_whole _ (name_lawful names_label) (bytes_lawful (λ bytes. bytes) bytes))) (λ h fault c. c) (λ c. c)

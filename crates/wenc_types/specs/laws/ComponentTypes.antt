@@ -1,9 +1,12 @@
 -- The laws of types that components define.
 use Rattle.std.proofs.Common.{ℕ, zero, suc, Bool, true, false, List, [], ◌∷◌, ◌++◌, Option, ◌≡◌, length, refl, ap}
-use Rattle.std.specs.List.{flat_map}
+use Rattle.wenc_base.specs.Encode.{Serves}
+use Rattle.wenc_base.specs.Forms.{list}
+use Rattle.wenc_base.specs.Piece.{each, ◌▸◌}
 use Rattle.wenc_base.specs.laws.Forms.{list_lawful, read_option, option_lawful}
 use Rattle.wenc_base.specs.laws.Lawful.{Lawful, Reader, ◌>>=◌, give, nowhere, choose, row, then, last, deeper, nothing_lawful}
-use Rattle.wenc_base.specs.laws.Numbers.{read_u32, u32_lawful}
+use Rattle.wenc_base.specs.laws.Numbers.{read_u32, u32_lawful, count_lawful}
+use Rattle.wenc_base.specs.laws.Serves.{serves_itself, tagged_serves, both_serve}
 use Rattle.wenc_base.specs.laws.Types.{read_val_type, val_type_lawful}
 use Rattle.wenc_parts.specs.laws.Aliases.{read_alias, alias_lawful}
 use Rattle.wenc_parts.specs.laws.Imports.{read_extern_name, extern_name_lawful, read_type_reference, type_reference_lawful}
@@ -66,8 +69,8 @@ mutual
   pub type_lawful : (t : TypeOf) → Lawful (type_of t) read_type t
   type_lawful (DefinedType ty) = deeper (defined_row DefinedType (λ fuel. later_rows (read_type fuel)) (λ fuel. nowhere) ty)
   type_lawful (FunctionType f) = deeper (function_lawful f.is_async f.params f.answer)
-  type_lawful (ComponentType ds) = deeper (row _ _ 0x41 (then _ (u32_lawful (component_count ds)) (last ComponentType (components_lawful ds))))
-  type_lawful (InstanceType ds) = deeper (row _ _ 0x42 (then _ (u32_lawful (instance_count ds)) (last InstanceType (instances_lawful ds))))
+  type_lawful (ComponentType ds) = deeper (row _ _ 0x41 (then _ (count_lawful (component_count ds)) (last ComponentType (components_lawful ds))))
+  type_lawful (InstanceType ds) = deeper (row _ _ 0x42 (then _ (count_lawful (instance_count ds)) (last InstanceType (instances_lawful ds))))
   type_lawful (ResourceType rep dtor) = deeper (row _ _ 0x3f (then _ (val_type_lawful rep) (last (ResourceType rep) (option_lawful u32_lawful dtor))))
 
   pub instance_declaration_lawful : (d : InstanceDeclaration) → Lawful (instance_declaration d) (λ fuel. read_instance_declaration (read_type fuel)) d
@@ -101,10 +104,17 @@ pub components_counted : (ds : List ComponentDeclaration) → component_count (c
 components_counted [] = refl
 components_counted (d ∷ ds) = ap suc (components_counted ds)
 
-pub instances_text : (ds : List InstanceDeclaration) → (each_instance (instances_of ds)).text ≡ flat_map (λ d. (instance_declaration d).text) ds
-instances_text [] = refl
-instances_text (d ∷ ds) = ap (λ (t : List ℕ). (instance_declaration d).text ++ t) (instances_text ds)
+each_instance_serves : (ds : List InstanceDeclaration) → Serves (each instance_declaration ds) (each_instance (instances_of ds))
+each_instance_serves [] = serves_itself
+each_instance_serves (d ∷ ds) = both_serve serves_itself (each_instance_serves ds)
 
-pub components_text : (ds : List ComponentDeclaration) → (each_component (components_of ds)).text ≡ flat_map (λ d. (component_declaration d).text) ds
-components_text [] = refl
-components_text (d ∷ ds) = ap (λ (t : List ℕ). (component_declaration d).text ++ t) (components_text ds)
+each_component_serves : (ds : List ComponentDeclaration) → Serves (each component_declaration ds) (each_component (components_of ds))
+each_component_serves [] = serves_itself
+each_component_serves (d ∷ ds) = both_serve serves_itself (each_component_serves ds)
+
+-- a list of them
+pub instances_serve : (ds : List InstanceDeclaration) → Serves (0x42 ▸ list instance_declaration ds) (type_of (InstanceType (instances_of ds)))
+instances_serve ds = rw (instances_counted ds) (tagged_serves 0x42 (both_serve serves_itself (each_instance_serves ds)))
+
+pub components_serve : (ds : List ComponentDeclaration) → Serves (0x41 ▸ list component_declaration ds) (type_of (ComponentType (components_of ds)))
+components_serve ds = rw (components_counted ds) (tagged_serves 0x41 (both_serve serves_itself (each_component_serves ds)))

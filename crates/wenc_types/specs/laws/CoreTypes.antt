@@ -1,6 +1,5 @@
 -- The laws of core types in components.
-use Rattle.std.proofs.Common.{String, ◌≡◌, ℕ, Bool, true, false, List, [], ◌∷◌, ◌++◌, Option, Result, Vec, map, refl, sym, ap, subst, ◌∙◌}
-use Rattle.std.proofs.lemmas.List.{map-id}
+use Rattle.std.proofs.Common.{String, ◌≡◌, ℕ, Bool, true, false, List, [], ◌∷◌, ◌++◌, Option, Vec, map, refl, sym, ap, subst, ◌∙◌}
 use Rattle.std.specs.Cmp.{IsEquivalence}
 use Rattle.std.specs.Cmp.Lexicographic.{pointwise}
 use Rattle.std.specs.String.{string_bytes}
@@ -13,26 +12,21 @@ use Rattle.wenc_base.specs.declared.types.groups.GroupTree.TheVariants as groups
 use Rattle.wenc_base.specs.declared.types.storage.FieldType.{FieldType}
 use Rattle.wenc_base.specs.declared.types.sub.SubType.{SubType}
 use Rattle.wenc_base.specs.Composites.{params_of, results_of, composite_view, sub_view, group_view, Sub, sub_type_of, Group, Single, Rec, group, guard_before, standing, Composite}
-use Rattle.wenc_base.specs.Delimited.{FreeFits, AlikeIsEqual}
-use Rattle.wenc_base.specs.Encode.{Appends}
-use Rattle.wenc_base.specs.Entities.{entity_type}
-use Rattle.wenc_base.specs.Fault.{text_cause, list_cause, NoCause}
-use Rattle.wenc_base.specs.Forms.{list, list_text, name as name_form}
-use Rattle.wenc_base.specs.Holder.{held_text}
-use Rattle.wenc_base.specs.declared.fault.Fault.{Fault}
+use Rattle.wenc_base.specs.Delimited.{AlikeIsEqual}
+use Rattle.wenc_base.specs.Encode.{Serves}
+use Rattle.wenc_base.specs.Forms.{list}
+use Rattle.wenc_base.specs.Holder.{Held, held_text, held, Contains, EncodeCause}
 use Rattle.wenc_base.specs.declared.imports.EntityType.{EntityType}
-use Rattle.wenc_base.specs.laws.Causes.{seen_cause}
-use Rattle.wenc_base.specs.laws.Composites.{read_extension, extension_lawful, extension_sound, sub_of, final_rows, final_row, final_rows_sound, read_types, types_lawful, types_sound, read_group, group_lawful, group_sound, group_free, same_params, same_results, same_element, same_fields}
-use Rattle.wenc_base.specs.laws.Delimited.{name_free, pair_cause_free, first_free, second_free, list_text_of, list_free}
+use Rattle.wenc_base.specs.laws.Composites.{read_extension, extension_lawful, extension_sound, sub_of, final_rows, final_row, final_rows_sound, read_types, types_lawful, types_sound, read_group, group_lawful, group_sound, same_params, same_results, same_element, same_fields}
 use Rattle.wenc_base.specs.laws.Entities.{read_entity_type, entity_type_lawful, entity_type_sound}
 use Rattle.wenc_base.specs.laws.Forms.{read_list, list_lawful, list_sound, read_name, name_lawful, name_sound}
 use Rattle.wenc_base.specs.laws.Lawful.{Lawful, Reader, ◌>>=◌, give, nowhere, choose, row, then, last}
 use Rattle.wenc_base.specs.laws.Sound.{Sound, behind, RowsAreSound, both_tables, last_sound, then_sound, nowhere_sound, choose_sound}
-use Rattle.wenc_base.specs.Piece.{Form, Wide}
+use Rattle.wenc_base.specs.Piece.{Piece, Form, Wide, ◌▸◌, refused_for}
 use Rattle.wenc_base.specs.laws.Numbers.{read_u32, u32_lawful, u32_sound}
 use Rattle.wenc_types.specs.CoreTypes.{ModuleDeclaration, Import, Defined, Outer, Export, module_declaration, module_type, CoreType, Grouped, Module, core_type}
-use Rattle.wenc_types.specs.CoreTypeTrees.{core_type_cause, module_declaration_view, core_type_view}
-use Rattle.wenc_types.specs.ModuleTypes.{declaration_cause, Declared, Declares}
+use Rattle.wenc_types.specs.CoreTypeTrees.{module_declaration_view, core_type_view}
+use Rattle.wenc_types.specs.ModuleTypes.{Declared, Declares}
 use Rattle.wenc_types.specs.declared.core_type_tree.ModuleDecl.{ModuleDecl}
 use Rattle.wenc_types.specs.declared.core_type_tree.ModuleDecl.TheVariants as decls
 use Rattle.wenc_types.specs.declared.core_type_tree.CoreTypeTree.{CoreTypeTree}
@@ -94,9 +88,31 @@ read_module_type = choose ((0x50, read_declarations (λ ds. ds)) ∷ []) nowhere
 pub module_type_lawful : (ds : List ModuleDeclaration) → Lawful (module_type ds) (λ fuel. read_module_type) ds
 module_type_lawful ds = row _ _ 0x50 (declarations_lawful (λ es. es) ds)
 
+-- ---- members that are held
+
+-- how many members, then the members, are those of the list
+pub held_is : {A : Type 0} (form : Form A) (h : Held) (members : List A) → Contains form h members → held_text h ≡ (list form members).text
+held_is form h members c = rw (← c.count, c.body) refl
+
+pub list_fits : {A : Type 0} (form : Form A) (h : Held) (members : List A) → (held h).Fits → Contains form h members → (list form members).Fits
+list_fits form h members fits c = (rw c.count fits.0, c.fit)
+
+-- behind a byte they serve as a piece with the same text, which fits where they do
+pub held_serves : (b : ℕ) (p : Piece) (h : Held) → b ∷ held_text h ≡ p.text → ((held h).Fits → p.Fits) → Serves (b ▸ held h) (refused_for (EncodeCause h) p)
+held_serves b p h e fits = record { text = e; fits = fits; among = λ fault c. c; free = λ none. none }
+
+-- ---- module types that are held
+
 -- the text of a module type is that of its declarations in the grammar
 pub module_type_of : (t : Declared) (ds : List ModuleDeclaration) → Declares t ds → 0x50 ∷ held_text t.held ≡ (module_type ds).text
-module_type_of t ds h = rw (← h.contained.count, h.contained.body) refl
+module_type_of t ds h = ap (λ (text : List ℕ). 0x50 ∷ text) (held_is module_declaration t.held ds h.contained)
+
+pub module_type_fits : (t : Declared) (ds : List ModuleDeclaration) → (held t.held).Fits → Declares t ds → (module_type ds).Fits
+module_type_fits t ds fits h = list_fits module_declaration t.held ds fits h.contained
+
+-- what is written of it serves as a type with these declarations
+pub module_serves : (t : Declared) (ds : List ModuleDeclaration) → Declares t ds → Serves (0x50 ▸ held t.held) (refused_for (EncodeCause t.held) (core_type (Module ds)))
+module_serves t ds h = held_serves 0x50 (core_type (Module ds)) t.held (module_type_of t ds h) (λ fits. module_type_fits t ds fits h)
 
 -- ---- core types
 
@@ -145,60 +161,6 @@ core_type_sound = choose_sound _ _ (both_tables core_type (standing_rows Grouped
       types_sound core_type 0x4e Grouped (λ types bytes rest r. r),
       (open_sound core_type (λ s. Grouped (Single s)) (λ supertype c bytes rest r. (bytes, refl, r)), tt),
     )) (last_sound Module (list_sound module_declaration_sound) (λ ds bytes rest r. (bytes, refl, r)), tt)) nowhere_sound
-
--- ---- what can be encoded
-
--- a group fits with guards where it fits without
-pub standing_fits : (guards : Bool) (g : Group) → (group g).Fits → (standing guards g).Fits
-standing_fits true (Single s) h = of s.is_final s.supertype s.composite h
-  where
-    of : (is_final : Bool) (supertype : Option ℕ) (c : Composite) → (sub_type_of is_final supertype c).Fits → (guard_before is_final (sub_type_of is_final supertype c)).Fits
-    of true supertype c h = h
-    of false supertype c h = h
-standing_fits true (Rec types) h = h
-standing_fits false g h = h
-
--- and without where it fits with them
-pub fits_without : (g : Group) → (standing true g).Fits → (group g).Fits
-fits_without (Single s) h = of s.is_final s.supertype s.composite h
-  where
-    of : (is_final : Bool) (supertype : Option ℕ) (c : Composite) → (guard_before is_final (sub_type_of is_final supertype c)).Fits → (sub_type_of is_final supertype c).Fits
-    of true supertype c h = h
-    of false supertype c h = h
-fits_without (Rec types) h = h
-
--- what fits has no cause
-pub declaration_free : (d : ModuleDeclaration) → (module_declaration d).Fits → NoCause (declaration_cause d)
-declaration_free (Import from name ty) h = pair_cause_free _ _ (name_free from h.0) (name_free name h.1.0)
-declaration_free (Defined g) h = group_free g h
-declaration_free (Outer count number) h = λ fault cause. cause
-declaration_free (Export name ty) h = name_free name h.0
-
-pub core_type_free : (t : CoreType) → (core_type t).Fits → NoCause (core_type_cause t)
-core_type_free (Grouped g) h = group_free g (fits_without g h)
-core_type_free (Module ds) h = list_free declaration_cause (λ d. d) module_declaration declaration_free ds (rw (map-id ds) h)
-
--- declarations and lists of them that fit where they have no cause
-pub import_fits : (from name : List ℕ) (ty : EntityType) → FreeFits text_cause (λ t. t) name_form from → FreeFits text_cause (λ t. t) name_form name → (entity_type ty).Fits
-    → FreeFits declaration_cause (λ d. d) module_declaration (Import from name ty)
-import_fits from name ty one two h none = (one (first_free _ _ none), (two (second_free _ _ none), h))
-
-pub export_fits : (name : List ℕ) (ty : EntityType) → FreeFits text_cause (λ t. t) name_form name → (entity_type ty).Fits
-    → FreeFits declaration_cause (λ d. d) module_declaration (Export name ty)
-export_fits name ty one h none = (one none, h)
-
-pub declarations_fit : {A : Type 0} (ds : List (ModuleDecl A)) → FreeFits (list_cause (λ d. declaration_cause (module_declaration_view d))) (map module_declaration_view) (list module_declaration) ds
-    → FreeFits core_type_cause (λ t. t) core_type (Module (map module_declaration_view ds))
-declarations_fit ds one none =
-    let P : (Fault → Type 0) → Type 0 = NoCause in
-    one (subst P (sym (seen_cause module_declaration_view declaration_cause ds)) none)
-
--- what appends a module type, by its view
-pub module_appends : {A : Type 0} (ds : Vec (ModuleDecl A) A) (old new : List ℕ) (outcome : Result (Unit {0}) Fault)
-    → Appends (0x50 ∷ list_text (λ d. (module_declaration (module_declaration_view d)).text) ds.items) (list_cause (λ d. declaration_cause (module_declaration_view d)) ds.items) ⊥ old new outcome
-    → Appends (core_type (core_type_view (trees.Module ds))).text (core_type_cause (core_type_view (trees.Module ds))) ⊥ old new outcome
-module_appends ds old new outcome a =
-    rw (list_text_of (λ d. (module_declaration (module_declaration_view d)).text) module_declaration_view module_declaration (λ d. refl) ds.items, seen_cause module_declaration_view declaration_cause ds.items) at a
 
 -- ---- equal values
 

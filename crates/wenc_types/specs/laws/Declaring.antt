@@ -2,15 +2,15 @@
 use Rattle.std.proofs.Common.{◌≡◌, ℕ, ◌+◌, ◌-◌, ◌≤◌, Bool, true, false, is_none, List, [], ◌∷◌, ◌++◌, Option, Some, None, refl, ap, sym, ◌∙◌, subst, arith, length}
 use Rattle.std.proofs.Math.Logic.{∥∥₁_map, ∥∥₁_map₂}
 use Rattle.std.specs.List.{flat_map, AllByRecursion}
-use Rattle.wenc_base.specs.Holder.{Held, is_finished, with_member, held_text}
-use Rattle.wenc_base.specs.Piece.{HasForm}
+use Rattle.wenc_base.specs.Holder.{Held, is_finished, with_member, held_text, held}
+use Rattle.wenc_base.specs.Piece.{Form, HasForm, verbatim}
 use Rattle.wenc_base.specs.Openings.{given_up, member_text}
-use Rattle.wenc_base.specs.laws.Holders.{contains_next}
-use Rattle.wenc_base.specs.laws.Members.{all_more, finished_back, back_twice, opened_back, lengthened_back, closed_as_it_is, closed_as_more, within_finished, within_opened, within_lengthened, within_back}
+use Rattle.wenc_base.specs.laws.Holders.{contains_next, all_more}
+use Rattle.wenc_base.specs.laws.Members.{finished_back, back_twice, opened_back, lengthened_back, closed_as_it_is, closed_as_more, within_finished, within_opened, within_lengthened, within_back}
 use Rattle.wenc_base.specs.declared.holder.openings.Opening.{Opening}
-use Rattle.wenc_types.specs.ComponentTypes.{ComponentType, InstanceType, components_of, instances_of, type_of}
-use Rattle.wenc_types.specs.Declarations.{component_text, component_sort, instance_text, instance_sort, Declaring, no_declarations, Settled, Declares, IsDeclaration, DeclaresSome, IsDeclaring, HasOne, OpenedIsIn, total, counted, uncounted, counts_of, lead_of, begun, written, ended, taken_back}
-use Rattle.wenc_types.specs.laws.Declarations.{counts_next, back_again, component_type_text, instance_type_text}
+use Rattle.wenc_types.specs.ComponentTypes.{ComponentType, InstanceType, components_of, instances_of, type_of, component_declaration, instance_declaration}
+use Rattle.wenc_types.specs.Declarations.{component_sort, instance_sort, Declaring, no_declarations, Settled, Declares, IsDeclaration, DeclaresSome, IsDeclaring, HasOne, OpenedIsIn, total, counted, uncounted, counts_of, lead_of, begun, written, ended, taken_back}
+use Rattle.wenc_types.specs.laws.Declarations.{counts_next, back_again, component_type_text, component_type_fits, instance_type_text, instance_type_fits}
 use Rattle.wenc_types.specs.declared.counts.Counts.{Counts}
 use Rattle.wenc_types.specs.declared.counts.Sort.{Sort}
 use Rattle.wenc_types.specs.declared.counts.Sort.TheVariants.{CoreType, «Type» as TypeSort, Instance}
@@ -74,7 +74,7 @@ module _ (P : List ℕ → Option Sort → Type 0) where
   some_more t text sort s one = record {
     declarations = s.declarations ++ (text, sort) ∷ [];
     declared = record {
-      contained = contains_next (λ (d : List ℕ × Option Sort). d.0) t.held (with_member t.held text) (text, sort) s.declarations refl s.declared.contained;
+      contained = contains_next (λ (d : List ℕ × Option Sort). verbatim d.0) t.held (with_member t.held text) (text, sort) s.declarations refl tt s.declared.contained;
       counts = ap (counted sort) s.declared.counts ∙ sym (counts_next (λ (d : List ℕ × Option Sort). d.1) s.declarations (text, sort));
     };
     each = all_more (λ (d : List ℕ × Option Sort). P d.0 d.1) s.declarations (text, sort) s.each one;
@@ -97,7 +97,7 @@ module _ (P : List ℕ → Option Sort → Type 0) where
     opening = tt;
     settled = ∣ record {
       declarations = [];
-      declared = record { contained = record { finished = refl; count = refl; body = refl }; counts = refl };
+      declared = record { contained = record { finished = refl; count = refl; body = refl; fit = tt }; counts = refl };
       each = tt;
     } ∣₁;
   }
@@ -173,23 +173,24 @@ module _ (P : List ℕ → Option Sort → Type 0) where
 
 -- ---- declarations that are values
 
-values_of : {D : Type 0} (text : D → List ℕ) (sort : D → Option Sort) (ms : List (List ℕ × Option Sort)) → AllByRecursion (λ m. IsDeclaration text sort m.0 m.1) ms
-    → (ds : List D) × (length ds ≡ length ms) × (flat_map (λ m. m.0) ms ≡ flat_map text ds) × (counts_of (λ m. m.1) ms ≡ counts_of sort ds)
-values_of text sort [] each = ([], refl, refl, refl)
-values_of text sort (m ∷ ms) each =
-    let more = values_of text sort ms each.1 in
+values_of : {D : Type 0} (form : Form D) (sort : D → Option Sort) (ms : List (List ℕ × Option Sort)) → AllByRecursion (λ m. IsDeclaration form sort m.0 m.1) ms
+    → (ds : List D) × (length ds ≡ length ms) × (flat_map (λ m. m.0) ms ≡ flat_map (λ d. (form d).text) ds) × (counts_of (λ m. m.1) ms ≡ counts_of sort ds) × AllByRecursion (λ d. (form d).Fits) ds
+values_of form sort [] each = ([], refl, refl, refl, tt)
+values_of form sort (m ∷ ms) each =
+    let more = values_of form sort ms each.1 in
     let one = each.0 in
-    (one.declaration ∷ more.0, omega (arith, more.1), rw (one.text_is, more.2) refl, rw (one.sort_is, more.3) refl)
+    (one.declaration ∷ more.0, omega (arith, more.1), rw (one.text_is, more.2) refl, rw (one.sort_is, more.3) refl, (one.fits, more.4))
 
-pub declares_values : {D : Type 0} (text : D → List ℕ) (sort : D → Option Sort) (t : Declaring) → DeclaresSome (IsDeclaration text sort) t → (ds : List D) × Declares text sort t ds
-declares_values text sort t s =
-    let all = values_of text sort s.declarations s.each in (
+pub declares_values : {D : Type 0} (form : Form D) (sort : D → Option Sort) (t : Declaring) → DeclaresSome (IsDeclaration form sort) t → (ds : List D) × Declares form sort t ds
+declares_values form sort t s =
+    let all = values_of form sort s.declarations s.each in (
       all.0,
       record {
         contained = record {
           finished = s.declared.contained.finished;
           count = all.1 ∙ s.declared.contained.count;
           body = s.declared.contained.body ∙ all.2;
+          fit = all.4;
         };
         counts = s.declared.counts ∙ all.3;
       },
@@ -197,12 +198,12 @@ declares_values text sort t s =
 
 -- ---- the texts of what is finished
 
-pub component_has_form : (t : Declaring) → ∥ DeclaresSome (IsDeclaration component_text component_sort) t ∥₁ → ∥ HasForm type_of (0x41 ∷ held_text t.held) ∥₁
-component_has_form t some = ∥∥₁_map some (λ s.
-    let all = declares_values component_text component_sort t s in
-    record { value = ComponentType (components_of all.0); is = component_type_text t all.0 all.1 })
+pub component_has_form : (t : Declaring) → (held t.held).Fits → ∥ DeclaresSome (IsDeclaration component_declaration component_sort) t ∥₁ → ∥ HasForm type_of (0x41 ∷ held_text t.held) ∥₁
+component_has_form t fits some = ∥∥₁_map some (λ s.
+    let all = declares_values component_declaration component_sort t s in
+    record { value = ComponentType (components_of all.0); fits = component_type_fits t all.0 fits all.1; is = component_type_text t all.0 all.1 })
 
-pub instance_has_form : (t : Declaring) → ∥ DeclaresSome (IsDeclaration instance_text instance_sort) t ∥₁ → ∥ HasForm type_of (0x42 ∷ held_text t.held) ∥₁
-instance_has_form t some = ∥∥₁_map some (λ s.
-    let all = declares_values instance_text instance_sort t s in
-    record { value = InstanceType (instances_of all.0); is = instance_type_text t all.0 all.1 })
+pub instance_has_form : (t : Declaring) → (held t.held).Fits → ∥ DeclaresSome (IsDeclaration instance_declaration instance_sort) t ∥₁ → ∥ HasForm type_of (0x42 ∷ held_text t.held) ∥₁
+instance_has_form t fits some = ∥∥₁_map some (λ s.
+    let all = declares_values instance_declaration instance_sort t s in
+    record { value = InstanceType (instances_of all.0); fits = instance_type_fits t all.0 fits all.1; is = instance_type_text t all.0 all.1 })

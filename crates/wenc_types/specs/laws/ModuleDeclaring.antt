@@ -4,15 +4,15 @@ use Rattle.std.proofs.Math.Logic.{∥∥₁_map, ∥∥₁_map₂}
 use Rattle.std.specs.Prelude.{IsTrue}
 use Rattle.wenc_base.specs.declared.fault.Fault.{Fault}
 use Rattle.wenc_base.specs.declared.fault.Fault.TheVariants.{Unfinished}
-use Rattle.wenc_base.specs.Holder.{Held, is_finished, with_member, held_text, as_they_are, AddsMember}
+use Rattle.wenc_base.specs.Holder.{Held, is_finished, with_member, held_text, held, AddsMember}
 use Rattle.wenc_base.specs.Piece.{HasForm}
 use Rattle.wenc_base.specs.Openings.{given_up}
 use Rattle.wenc_base.specs.laws.Holders.{contains_next}
 use Rattle.wenc_base.specs.laws.Members.{was_finished, told_finished, IsLonger, finished_back, back_twice, opened_back, lengthened_back, closed_as_it_is, closed_as_more, within_finished, within_opened, within_lengthened, within_back}
 use Rattle.wenc_base.specs.declared.holder.openings.Opening.{Opening}
-use Rattle.wenc_types.specs.CoreTypes.{ModuleDeclaration, Defined, Module, core_type}
-use Rattle.wenc_types.specs.ModuleTypes.{Declared, no_declarations, declaration_text, types_of, Declares, IsWhole, OpenedIsIn, IsDeclaring, types_before, begun, written, ended, taken_back}
-use Rattle.wenc_types.specs.laws.CoreTypes.{module_type_of}
+use Rattle.wenc_types.specs.CoreTypes.{ModuleDeclaration, Defined, module_declaration, Module, core_type}
+use Rattle.wenc_types.specs.ModuleTypes.{Declared, no_declarations, types_of, Declares, IsWhole, OpenedIsIn, IsDeclaring, types_before, begun, written, ended, taken_back}
+use Rattle.wenc_types.specs.laws.CoreTypes.{module_type_of, module_type_fits}
 use Rattle.wenc_types.specs.laws.ModuleTypes.{type_count_next}
 
 abbrev HasSome : Declared → Type 0
@@ -51,9 +51,10 @@ types_unfinished (Some o) n e = refl
 
 -- ---- declarations
 
-some_more : (t : Declared) (d : ModuleDeclaration) (ds : List ModuleDeclaration) → Declares t ds → Declares (record { held = with_member t.held (declaration_text d); types = t.types + types_of d }) (ds ++ d ∷ [])
-some_more t d ds h = record {
-  contained = contains_next declaration_text t.held (with_member t.held (declaration_text d)) d ds refl h.contained;
+some_more : (t : Declared) (d : ModuleDeclaration) (ds : List ModuleDeclaration) → (module_declaration d).Fits → Declares t ds
+    → Declares (record { held = with_member t.held (module_declaration d).text; types = t.types + types_of d }) (ds ++ d ∷ [])
+some_more t d ds fits h = record {
+  contained = contains_next module_declaration t.held (with_member t.held (module_declaration d).text) d ds refl fits h.contained;
   types = ap (λ (n : ℕ). n + types_of d) h.types ∙ sym (type_count_next ds d);
 }
 
@@ -69,30 +70,30 @@ declaring_none = record {
   enough = omega arith;
   counted = tt;
   opening = tt;
-  settled = ∣ ([], record { contained = record { finished = refl; count = refl; body = refl }; types = refl }) ∣₁;
+  settled = ∣ ([], record { contained = record { finished = refl; count = refl; body = refl; fit = tt }; types = refl }) ∣₁;
 }
 
 -- a declaration is added
-pub declaring_added : (t : Declared) (d : ModuleDeclaration) → is_finished t.held ≡ true → types_of d ≤ 1 → IsDeclaring t
-    → IsDeclaring (record { held = with_member t.held (declaration_text d); types = t.types + types_of d })
-declaring_added t d finished few k =
-    let next : Declared = record { held = with_member t.held (declaration_text d); types = t.types + types_of d } in
-    let some : ∥ ((ds : List ModuleDeclaration) × Declares next ds) ∥₁ = ∥∥₁_map (declares_some t finished k) (λ s. (s.0 ++ d ∷ [], some_more t d s.0 s.1)) in
+pub declaring_added : (t : Declared) (d : ModuleDeclaration) → is_finished t.held ≡ true → types_of d ≤ 1 → (module_declaration d).Fits → IsDeclaring t
+    → IsDeclaring (record { held = with_member t.held (module_declaration d).text; types = t.types + types_of d })
+declaring_added t d finished few fits k =
+    let next : Declared = record { held = with_member t.held (module_declaration d).text; types = t.types + types_of d } in
+    let some : ∥ ((ds : List ModuleDeclaration) × Declares next ds) ∥₁ = ∥∥₁_map (declares_some t finished k) (λ s. (s.0 ++ d ∷ [], some_more t d s.0 fits s.1)) in
     record {
       enough = omega (arith, k.enough);
       counted = still_counted t.held.opening (t.types + types_of d) finished;
-      opening = within_finished (with_member t.held (declaration_text d)) finished;
+      opening = within_finished (with_member t.held (module_declaration d).text) finished;
       settled = subst HasSome (sym (finished_as_it_is next finished)) some;
     }
 
 -- or the same of a call that may be refused
-pub declaring_took : (t : Declared) (new : Held) (outcome : Result (Unit {0}) Fault) (cause : Fault → Type 0) (d : ModuleDeclaration) → types_of d ≡ 0
-    → AddsMember as_they_are t.held new outcome cause (declaration_text d) → IsDeclaring t → IsDeclaring (record { held = new; types = t.types })
-declaring_took t new (Ok u) cause d none a k =
+pub declaring_took : (t : Declared) (new : Held) (outcome : Result (Unit {0}) Fault) (d : ModuleDeclaration) → types_of d ≡ 0
+    → AddsMember (module_declaration d) t.held new outcome → IsDeclaring t → IsDeclaring (record { held = new; types = t.types })
+declaring_took t new (Ok u) d none a k =
     let few : types_of d ≤ 1 = omega (arith, none) in
     let same : t.types + types_of d ≡ t.types = omega (arith, none) in
-    rw a.ok.state (rw same at (declaring_added t d (was_finished t.held u a.unfinished_first) few k))
-declaring_took t new (Err f) cause d none a k = rw a.err k
+    rw a.ok.state (rw same at (declaring_added t d (was_finished t.held u a.unfinished_first) few a.ok.fits k))
+declaring_took t new (Err f) d none a k = rw a.err k
 
 -- a type is begun
 pub declaring_begun : (t : Declared) → is_finished t.held ≡ true → IsDeclaring t → IsDeclaring (begun t)
@@ -128,8 +129,8 @@ declaring_ended t whole k = at (is_finished t.held) refl
   where
     ended_more : is_finished t.held ≡ false → (ds : List ModuleDeclaration) → Declares (taken_back t) ds → (w : IsWhole t) → Declares (ended t) (ds ++ Defined w.ty ∷ [])
     ended_more unfinished ds h w =
-        let more : Declares (record { held = with_member (given_up t.held) (declaration_text (Defined w.ty)); types = types_before t.held.opening t.types + 1 }) (ds ++ Defined w.ty ∷ []) =
-        some_more (taken_back t) (Defined w.ty) ds h in
+        let more : Declares (record { held = with_member (given_up t.held) (module_declaration (Defined w.ty)).text; types = types_before t.held.opening t.types + 1 }) (ds ++ Defined w.ty ∷ []) =
+        some_more (taken_back t) (Defined w.ty) ds w.fits h in
         rw (← w.is, closed_as_more t.held unfinished k.opening, types_ended t.held.opening t.types unfinished k.counted) at more
 
     at : (b : Bool) → is_finished t.held ≡ b → IsDeclaring (ended t)
@@ -171,5 +172,5 @@ encoded_declares t (Err f) k refused = tt
 
 -- ---- the text of what is finished
 
-pub module_has_form : (t : Declared) → ∥ ((ds : List ModuleDeclaration) × Declares t ds) ∥₁ → ∥ HasForm core_type (0x50 ∷ held_text t.held) ∥₁
-module_has_form t some = ∥∥₁_map some (λ s. record { value = Module s.0; is = module_type_of t s.0 s.1 })
+pub module_has_form : (t : Declared) → (held t.held).Fits → ∥ ((ds : List ModuleDeclaration) × Declares t ds) ∥₁ → ∥ HasForm core_type (0x50 ∷ held_text t.held) ∥₁
+module_has_form t fits some = ∥∥₁_map some (λ s. record { value = Module s.0; fits = module_type_fits t s.0 fits s.1; is = module_type_of t s.0 s.1 })

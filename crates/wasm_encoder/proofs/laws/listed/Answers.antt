@@ -1,6 +1,6 @@
 use Rattle.wenc_base.specs.Piece.{Wide}
 use Rattle.wenc_builder.specs.Entry.{items}
-use Rattle.wasm_encoder.proofs.Reading.{of_items}
+use Rattle.wenc_builder.specs.laws.Reading.{of_items}
 use Rattle.wasm_encoder.proofs.laws.listed.Goals as goal
 
 pub returns : goal.returns

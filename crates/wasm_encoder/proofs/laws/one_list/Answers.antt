@@ -1,4 +1,4 @@
-use Rattle.wasm_encoder.proofs.Reading.{same_list}
+use Rattle.wenc_builder.specs.laws.Reading.{same_list}
 use Rattle.wasm_encoder.proofs.laws.one_list.Goals as goal
 
 pub returns : goal.returns

@@ -1,4 +1,4 @@
-use Rattle.wasm_encoder.proofs.Reading.{once, text_is_read, of_items, strict_is_text, strict_fits}
+use Rattle.wenc_builder.specs.laws.Reading.{once, text_is_read, of_items, strict_is_text, strict_fits}
 use Rattle.wasm_encoder.proofs.laws.one_reading.Goals as goal
 
 pub returns-clause-once : goal.returns-clause-once

@@ -6,6 +6,6 @@ abbrev pub invariant-loop-value : goal.invariant-loop-value
 invariant-loop-value g l = record {
   callable : (goal.iterator-loop-value g).can_next l.value-iterator;
   finite : (goal.iterator-loop-value g).is_finite l.value-iterator;
-  written : Written g.T.Encode.text g.T.Encode.cause l.initial.sink.items l.yielded l.sink.items;
+  written : Written g.T.Encode.piece l.initial.sink.items l.yielded l.sink.items;
   counted : length l.yielded ≡ l.count;
 }

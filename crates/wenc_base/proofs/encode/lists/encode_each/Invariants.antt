@@ -3,4 +3,4 @@ use Rattle.wenc_base.specs.Encode.{Written}
 use Rattle.wenc_base.proofs.encode.lists.encode_each.Given as goal
 
 abbrev pub invariant-loop-value : goal.invariant-loop-value
-invariant-loop-value g l = Written g.T.Encode.text g.T.Encode.cause l.initial.sink.items (take l.value-index l.values) l.sink.items
+invariant-loop-value g l = Written g.T.Encode.piece l.initial.sink.items (take l.value-index l.values) l.sink.items

@@ -4,5 +4,5 @@ use Rattle.wenc_base.proofs.holder.Holder.keep_all.Goals as goal
 
 pub invariant_of-self-2 : goal.invariant_of-self-2
 invariant_of-self-2 g c =
-    let fits = all_kept c.encode.new.sink.items c.len-self-inside.result (search rules) in
+    let fits = all_kept c.append.new.sink.items c.len-self-inside.result (search rules) in
     (fits.0, fits.1, c.self.invariant.2)

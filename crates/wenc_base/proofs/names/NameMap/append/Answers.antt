@@ -1,4 +1,4 @@
-use Rattle.std.proofs.Common.{◌≡◌, ◌++◌, ◌∙◌, refl, length, arith, append_assoc, List, ℕ}
+use Rattle.std.proofs.Common.{rules, ◌≡◌, ◌++◌, ◌∙◌, refl, length, arith, append_assoc, List, ℕ}
 use Rattle.wenc_base.specs.Names.{Named}
 use Rattle.wenc_base.specs.Number.{unsigned_text}
 use Rattle.wenc_base.proofs.Named.{short_name_added}
@@ -13,4 +13,4 @@ returns-then-self-lt4294967295 g c =
     let items : c.extend_in_room.new.sink.items ≡ old ++ (index ++ (size ++ c.args.name.now)) =
     c.extend_in_room.ensures.items ∙ rw (c.short_number_in_room.ensures.items, c.as_bytes.ensures.value, c.number_in_room.ensures.items, c.in_ok-try_reserve.ensures.items)
     (append_assoc (old ++ index) size c.args.name.now ∙ append_assoc old index (size ++ c.args.name.now)) in
-    rw (← c.self.view_is) (short_name_added _ _ entry (rw items refl) refl c.if-self-lt4294967295.true (omega (arith, c.if-len-lt-NEARLY_FULL.true, c.len.ensures)) (omega (arith, c.if-name.true)) c.ranges.idx.fits)
+    rw (← c.self.view_is) (short_name_added _ _ entry (rw items refl) refl c.if-self-lt4294967295.true (omega (arith, c.if-len-lt-NEARLY_FULL.true, c.len.ensures)) (omega (arith, c.if-name.true)) c.ranges.idx.fits (search rules))

@@ -1,21 +1,15 @@
-use Rattle.wenc_base.specs.Holder.{as_they_are}
+use Rattle.std.proofs.Common.{map}
 use Rattle.wenc_base.specs.Piece.{HasForm}
-use Rattle.wenc_base.specs.laws.Members.{keeps_list, listed_has_form}
-use Rattle.wenc_sections.specs.Instances.{core_instance}
-use Rattle.std.proofs.Common.{◌∷◌, refl}
-use Rattle.wenc_base.specs.laws.Causes.{alone}
-use Rattle.wenc_base.specs.laws.Holders.{adds_list}
-use Rattle.wenc_base.specs.Fault.{text_cause}
-use Rattle.wenc_base.specs.Number.{u32}
-use Rattle.wenc_sections.specs.Instances.{argument, argument_view, CoreInstantiate, core_instance_text}
+use Rattle.wenc_base.specs.laws.Holders.{adds_listed_as}
+use Rattle.wenc_base.specs.laws.Members.{keeps_list, serves_form}
+use Rattle.wenc_sections.specs.Instances.{argument_view, CoreInstantiate, core_instance}
+use Rattle.wenc_sections.specs.laws.Instances.{core_instantiate_listed}
 use Rattle.wenc_sections.proofs.instances.Counted+CoreInstances+A.instantiate.Goals as goal
 
 pub returns : goal.returns
-returns g c =
-    rw (← c.self.view_is) (adds_list g.I.Iterator.next_gives c.args.args core_instance_text _ _ _ (λ v. (argument v).text) argument_view _ (λ v. text_cause v.0.now) (0x00 ∷ (u32 c.args.module_index).text)
-    (CoreInstantiate c.args.module_index) (λ cs. refl) (λ v. alone (text_cause v.0.now) _ (λ fault h. h)) c.add_listed.ensures.added)
+returns g c = rw (← c.self.view_is) (adds_listed_as g.I.Iterator.next_gives c.args.args _ _ _ _ _ (core_instantiate_listed argument_view c.args.module_index) c.add_listed.ensures.added)
 
 pub invariant_of-self : goal.invariant_of-self
 invariant_of-self g c =
-    keeps_list (HasForm core_instance) g.I.Iterator.next_gives c.args.args as_they_are c.self.inside.items c.add_listed.new.self c.add_listed.result _ _
-    (listed_has_form core_instance (λ v. (argument v).text) argument_view (0x00 ∷ (u32 c.args.module_index).text) (CoreInstantiate c.args.module_index) (λ cs. refl)) c.add_listed.ensures.added c.self.invariant
+    keeps_list (HasForm core_instance) g.I.Iterator.next_gives c.args.args _ c.self.inside.items c.add_listed.new.self c.add_listed.result
+    (λ vs. serves_form core_instance (CoreInstantiate c.args.module_index (map argument_view vs)) (core_instantiate_listed argument_view c.args.module_index vs)) c.add_listed.ensures.added c.self.invariant

@@ -1,6 +1,5 @@
-use Rattle.std.proofs.Common.{◌∷◌}
-use Rattle.wenc_base.specs.Fault.{drawn_cause}
 use Rattle.wenc_base.specs.Forms.{list}
+use Rattle.wenc_base.specs.Piece.{◌▸◌}
 use Rattle.wenc_base.specs.Types.{val_type}
 use Rattle.wenc_base.proofs.Ended.{function_ends}
 use Rattle.wenc_base.proofs.Grown.{ended_lists}
@@ -8,11 +7,11 @@ use Rattle.wenc_base.proofs.types.encoder.CoreTypeEncoder.function.Goals as goal
 
 pub returns : goal.returns
 returns g c =
-    ended_lists g.L.Lender.written g.L.Lender.ended g.L.Lender.refuses g.L.Lender.joins g.P.Iterator.next_gives c.args.params g.R.Iterator.next_gives c.args.results
+    ended_lists g.L.Lender.written g.L.Lender.ended g.L.Lender.refuses g.P.Iterator.next_gives c.args.params g.R.Iterator.next_gives c.args.results
     c.args.self.lender.now c.append_list.new.self c.end_with_list.new.self c.end_with_list.result
-    (drawn_cause (λ _ _. ⊥)) (λ ts. 0x60 ∷ (list val_type ts).text) (drawn_cause (λ _ _. ⊥)) (λ ts. (list val_type ts).text) c.in_ok-append_list.ensures c.end_with_list.ensures
+    (λ ts. 0x60 ▸ list val_type ts) (list val_type) c.in_ok-append_list.ensures c.end_with_list.ensures
 
 pub end_with_list-requires-clause-whole : goal.end_with_list-requires-clause-whole
 end_with_list-requires-clause-whole g c vs =
     let added = c.in_ok-append_list.ensures.ok in
-    function_ends g.L.Lender.is_whole g.L.Lender.written g.L.Lender.joins c.args.self.lender.now c.append_list.new.self c.args.self.guard c.args.self.whole added.0.items added.3.0 vs
+    function_ends g.L.Lender.is_whole g.L.Lender.written g.L.Lender.joins c.args.self.lender.now c.append_list.new.self c.args.self.guard c.args.self.whole added.0.items added.3.state added.3.fits vs
