@@ -10,7 +10,6 @@ use Rattle.wenc_types.specs.declared.defined_tree.CaseTree.{CaseTree}
 use Rattle.wenc_types.specs.declared.defined_tree.DefinedTree.{DefinedTree}
 use Rattle.wenc_types.specs.declared.defined_tree.DefinedTree.TheVariants as trees
 use Rattle.wenc_types.specs.declared.type_tree.ComponentDecl.{ComponentDecl}
-use Rattle.wenc_types.specs.declared.type_tree.ComponentDecl.TheVariants as components
 use Rattle.wenc_types.specs.declared.type_tree.InstanceDecl.{InstanceDecl}
 use Rattle.wenc_types.specs.declared.type_tree.TypeTree.{the_lemmas}
 use Rattle.wenc_types.specs.declared.type_tree.TypeTree.TheVariants as types

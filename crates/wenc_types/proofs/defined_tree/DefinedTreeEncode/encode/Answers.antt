@@ -26,9 +26,6 @@ returns-in-FixedLengthList-clause-appended g c = rw c.in-FixedLengthList.is (app
 pub returns-in-Tuple-clause-appended : goal.returns-in-Tuple-clause-appended
 returns-in-Tuple-clause-appended g c = rw c.in-Tuple.is (appends_as _ _ _ _ (tuple_tree_serves c.in-Tuple.elements.items) (rw c.as_slice-in-Tuple.ensures.value at c.encode-in-Tuple.ensures.appended))
 
-pub returns-in-Tuple-clause-fits : goal.returns-in-Tuple-clause-fits
-returns-in-Tuple-clause-fits g c = rw c.in-Tuple.is (fits_as _ (tuple_tree_serves c.in-Tuple.elements.items) (rw c.as_slice-in-Tuple.ensures.value at c.encode-in-Tuple.ensures.fits))
-
 pub returns-in-Flags-clause-appended : goal.returns-in-Flags-clause-appended
 returns-in-Flags-clause-appended g c = rw c.in-Flags.is (appends_as _ _ _ _ (names_tree_serves 0x6e c.in-Flags.names.items) (rw c.as_slice-in-Flags.ensures.value at c.encode-in-Flags.ensures.appended))
 
