@@ -1,41 +1,40 @@
--- What the calls of a builder write are texts of items.
-use Rattle.std.proofs.Common.{◌≡◌, ℕ, List, [], ◌∷◌, ◌++◌, Some, refl, sym, ap, ◌∙◌, map}
-use Rattle.std.proofs.lemmas.List.{append-nil}
-use Rattle.wenc_base.specs.Forms.{list_text}
-use Rattle.wenc_base.specs.Holder.{listed_text}
-use Rattle.wenc_base.specs.laws.Holders.{list_text_map}
-use Rattle.wenc_canon.specs.Canonicals.{Canonical, canonical_text, canonical_option, text_with_options}
-use Rattle.wenc_canon.specs.declared.canonicals.CanonicalOption.{CanonicalOption}
-use Rattle.wenc_builder.specs.Item.{Item, CanonItem, collected, item}
-use Rattle.wenc_builder.specs.Layout.{kind_id}
-use Rattle.wenc_builder.specs.Lent.{IsItemText}
-use Rattle.wenc_builder.specs.Space.{defines, some_in, canonical_space}
-use Rattle.wenc_builder.specs.declared.builder.kind.Kind.TheVariants as kinds
-use Rattle.wenc_builder.specs.declared.builder.space.Space.{Space}
+-- What the calls of a builder write serves as items.
+use Rattle.std.proofs.Common.{◌≡◌, ℕ, List, true, false, is_none, Option, refl, subst, inl, inr}
+use Rattle.wenc_base.specs.Encode.{Serves, in_order}
+use Rattle.wenc_base.specs.Forms.{option}
+use Rattle.wenc_base.specs.Number.{u32}
+use Rattle.wenc_base.specs.Piece.{Piece, verbatim, ◌▸◌}
+use Rattle.wenc_base.specs.laws.Serves.{serves_itself, order_serves}
+use Rattle.wenc_parts.specs.Exports.{export_kind}
+use Rattle.wenc_parts.specs.Imports.{ExternName, extern_name, type_reference}
+use Rattle.wenc_parts.specs.SectionIds.{section_number}
+use Rattle.wenc_parts.specs.declared.component.ComponentSectionId.TheVariants as ids
+use Rattle.wenc_parts.specs.declared.exports.ComponentExportKind.{ComponentExportKind}
+use Rattle.wenc_parts.specs.declared.imports.ComponentTypeRef.{ComponentTypeRef}
+use Rattle.wenc_builder.specs.Builder.{sections_text}
+use Rattle.wenc_builder.specs.Item.{Item, ComponentItem, ExportItem, RawItem, item, collected}
+use Rattle.wenc_builder.specs.Layout.{Buffered, nested}
+use Rattle.wenc_builder.specs.Lent.{IsItemPiece}
+use Rattle.wenc_builder.specs.Space.{defines}
 
-pub item_text : (x : Item) → ∥ IsItemText (collected x) (defines x) (item x).text ∥₁
-item_text x = ∣ record { value = x; collects = refl; takes = refl; is = refl } ∣₁
+-- a piece that serves as an item is one
+pub item_piece : {p : Piece} (x : Item) → Serves p (item x) → IsItemPiece (collected x) (defines x) p
+item_piece x s fits = ∣ record { value = x; collects = refl; takes = refl; fits = s.fits fits; is = s.text } ∣₁
 
--- a canonical function with options
-pub options_text : (function : List CanonicalOption → Canonical) (space : Space) (front behind : List ℕ) → ((os : List CanonicalOption) → canonical_space (function os) ≡ space)
-    → ((os : List CanonicalOption) → canonical_text (function os) ≡ listed_text front (λ o. (canonical_option o).text) behind os)
-    → (os : List CanonicalOption) → ∥ IsItemText (Some (kind_id kinds.CanonicalFunction)) (some_in space 1) (listed_text front (λ o. (canonical_option o).text) behind os) ∥₁
-options_text function space front behind placed is os = rw (← placed os, ← is os) (item_text (CanonItem (function os)))
+-- the bytes of a raw section
+pub raw_serves : (bytes : List ℕ) → Serves (0x00 ▸ verbatim bytes) (item (RawItem bytes))
+raw_serves bytes = record { text = refl; fits = λ h. h; among = λ fault c. c; free = λ none. none }
 
--- the same where the options come last
-pub last_options_text : (function : List CanonicalOption → Canonical) (space : Space) (opcode : ℕ) (fields : List ℕ) → ((os : List CanonicalOption) → canonical_space (function os) ≡ space)
-    → ((os : List CanonicalOption) → canonical_text (function os) ≡ text_with_options opcode fields os)
-    → (os : List CanonicalOption) → ∥ IsItemText (Some (kind_id kinds.CanonicalFunction)) (some_in space 1) (listed_text (opcode ∷ fields) (λ o. (canonical_option o).text) [] os) ∥₁
-last_options_text function space opcode fields placed is = options_text function space (opcode ∷ fields) [] placed
-    (λ os. is os ∙ ap (λ (t : List ℕ). (opcode ∷ fields) ++ t) (sym (append-nil (list_text (λ o. (canonical_option o).text) os))))
+-- an export's name, kind, index and type
+pub export_serves : (n : ExternName) (kind : ComponentExportKind) (index : ℕ) (what : Option ComponentTypeRef)
+    → Serves (in_order (extern_name n) (in_order (export_kind kind) (in_order (u32 index) (option type_reference what)))) (item (ExportItem (record { name = n; kind = kind; index = index; what = what })))
+export_serves n kind index what = order_serves serves_itself (order_serves serves_itself (order_serves serves_itself serves_itself))
 
--- an item that ends with a list, by what the list's values stand for
-pub members_text : {B C : Type 0} (make : List C → Item) (id space : ℕ) (front : List ℕ) (value_text : C → List ℕ) (view : B → C)
-    → ((cs : List C) → collected (make cs) ≡ Some id) → ((cs : List C) → defines (make cs) ≡ Some (record { space = space; number = 1 })) → ((cs : List C) → (item (make cs)).text ≡ front ++ list_text value_text cs)
-    → (vs : List B) → ∥ IsItemText (Some id) (Some (record { space = space; number = 1 })) (listed_text front (λ v. value_text (view v)) [] vs) ∥₁
-members_text make id space front value_text view collects takes is vs = ∣ record {
-  value = make (map view vs);
-  collects = collects (map view vs);
-  takes = takes (map view vs);
-  is = ap (λ (t : List ℕ). front ++ t) (append-nil (list_text (λ v. value_text (view v)) vs) ∙ list_text_map value_text view vs) ∙ sym (is (map view vs));
-} ∣₁
+-- a builder that is finished is written as its bytes
+pub nested_serves : (b : Buffered) (bytes : List ℕ) → sections_text b.settled ≡ bytes → is_none b.writing ≡ true → Serves (section_number ids.Component ▸ nested b) (item (ComponentItem bytes))
+nested_serves b bytes e none = subst (λ (bs : List ℕ). Serves (section_number ids.Component ▸ nested b) (item (ComponentItem bs))) e (record {
+  text = refl;
+  fits = λ h. h;
+  among = λ fault c. elim c [ inl own ↦ own | inr stopped ↦ (let unfinished = stopped.1 in cc) ];
+  free = λ free fault c. free fault (inl c);
+})

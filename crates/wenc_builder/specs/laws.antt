@@ -1,5 +1,6 @@
 pub mod Runs
 pub mod Step
+pub mod Never
 pub mod Caused
 pub mod Answered
 pub mod Held

@@ -1,10 +1,9 @@
 -- Canonical functions (component model, binary format, "Canonical Definitions"; opcodes and fields as docs/FORMAT.md lists them).
-use Rattle.std.specs.Prelude.{ℕ, Bool, List, [], ◌∷◌, ◌++◌, Option, Result, length}
+use Rattle.std.specs.Prelude.{ℕ, Bool, List, [], ◌∷◌, Option, Result}
 use Rattle.wenc_base.specs.Piece.{Form, byte, nothing, ◌▸◌, ◌⨾◌}
 use Rattle.wenc_base.specs.Number.{u32}
 use Rattle.wenc_base.specs.Forms.{flag, list}
 use Rattle.wenc_base.specs.Types.{val_type}
-use Rattle.wenc_base.specs.Fault.{count_cause}
 use Rattle.wenc_base.specs.Holder.{Held, AddsMember, AddsListed}
 use Rattle.wenc_base.specs.declared.fault.Fault.{Fault}
 use Rattle.wenc_base.specs.declared.types.ValType.{ValType}
@@ -204,44 +203,15 @@ canonical (Lift function options type_index) =
 canonical (Lower function options) = 0x01 ▸ 0x00 ▸ u32 function ⨾ list canonical_option options
 canonical (Provided i values) = (row i).opcode ▸ fields (row i).fields values
 
--- why a field can't be encoded: for its number of options
-abbrev pub field_cause : (f : Field) → Value f → Fault → Type 0
-field_cause Index n fault = ⊥
-field_cause Options options fault = count_cause (length options) fault
-field_cause Flag b fault = ⊥
-field_cause Zero v fault = ⊥
-field_cause CoreType t fault = ⊥
-field_cause Results r fault = ⊥
-
--- that of the last field: options come last
-abbrev pub fields_cause : (fs : List Field) → Values fs → Fault → Type 0
-fields_cause [] vs fault = ⊥
-fields_cause (f ∷ []) v fault = field_cause f v fault
-fields_cause (f ∷ g ∷ fs) vs fault = fields_cause (g ∷ fs) vs.1 fault
-
--- why a canonical function can't be encoded
-abbrev pub canonical_cause : Canonical → Fault → Type 0
-canonical_cause (Lift function options type_index) = count_cause (length options)
-canonical_cause (Lower function options) = count_cause (length options)
-canonical_cause (Provided i values) = fields_cause (row i).fields values
-
-abbrev pub canonical_text : Canonical → List ℕ
-canonical_text c = (canonical c).text
-
--- an opcode, fields, and options
-abbrev pub text_with_options : ℕ → List ℕ → List CanonicalOption → List ℕ
-text_with_options opcode fields options = opcode ∷ (fields ++ (list canonical_option options).text)
-
 -- ---- what the calls of a section add
 
 -- this intrinsic, with the values of its fields
 abbrev pub Adds : Held → Held → Result (Unit {0}) Fault → (i : Intrinsic) → Values (row i).fields
     → Type 0
-Adds old new outcome i values =
-    AddsMember canonical_text old new outcome (λ fault. ⊥) (Provided i values)
+Adds old new outcome i values = AddsMember (canonical (Provided i values)) old new outcome
 
 -- a function that is made of the options which an iterator gives
 abbrev pub AddsWithOptions : {S : Type 0} → (S → Option CanonicalOption → S → Type 0) → S → Held
     → Held → Result (Unit {0}) Fault → (List CanonicalOption → Canonical) → Type 0
 AddsWithOptions steps options old new outcome function =
-    AddsListed steps options canonical_text old new outcome (λ os. count_cause (length os)) function
+    AddsListed steps options (λ os. canonical (function os)) old new outcome

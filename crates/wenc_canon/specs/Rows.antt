@@ -1,7 +1,15 @@
 -- The intrinsic that an opcode and the values of its fields say, for the code that writes them.
-use Rattle.std.specs.Prelude.{ℕ, ◌==◌, false, if◌then◌else◌, List, [], ◌∷◌, None}
+use Rattle.std.specs.Prelude.{ℕ, ◌==◌, false, if◌then◌else◌, List, [], ◌∷◌, ◌++◌, None}
+use Rattle.wenc_base.specs.Piece.{Piece, ◌▸◌}
 use Rattle.wenc_base.specs.declared.types.ValType.TheVariants.{I32}
-use Rattle.wenc_canon.specs.Canonicals.{Field, Index, Options, Flag, Zero, CoreType, Results, Value, Values, Intrinsic, ResourceNew, Row, row, intrinsics, Canonical, Provided}
+use Rattle.wenc_canon.specs.declared.canonicals.CanonicalOption.{CanonicalOption}
+use Rattle.wenc_canon.specs.Canonicals.{Field, Index, Options, Flag, Zero, CoreType, Results, Value, Values, fields, Intrinsic, ResourceNew, Row, row, intrinsics, Canonical, Lift, Lower, Provided}
+
+-- the byte that a canonical function begins with
+abbrev pub first_byte : Canonical → ℕ
+first_byte (Lift function options type_index) = 0x00
+first_byte (Lower function options) = 0x01
+first_byte (Provided i values) = (row i).opcode
 
 -- the intrinsic with this opcode, of these
 abbrev pub first_with : ℕ → List Intrinsic → Intrinsic
@@ -46,3 +54,23 @@ abbrev pub provided_by : ℕ → (fs : List Field) → Values fs → Canonical
 provided_by opcode fs vs =
     let i : Intrinsic = first_with opcode intrinsics in
     Provided i (as_values fs (row i).fields vs)
+
+-- ---- fields, and options behind them
+
+abbrev pub and_options : List Field → List Field
+and_options fs = fs ++ Options ∷ []
+
+-- their values, and the options
+abbrev pub values_then : (fs : List Field) → Values fs → List CanonicalOption
+    → Values (and_options fs)
+values_then [] vs os = os
+values_then (f ∷ []) v os = (v, os)
+values_then (f ∷ g ∷ fs) vs os = (vs.0, values_then (g ∷ fs) vs.1 os)
+
+-- what begins with this opcode and has these fields and options
+abbrev pub row_then : ℕ → (fs : List Field) → Values fs → List CanonicalOption → Piece
+row_then opcode fs vs os = opcode ▸ fields (and_options fs) (values_then fs vs os)
+
+-- the intrinsic that it is
+abbrev pub provided_with : ℕ → (fs : List Field) → Values fs → List CanonicalOption → Canonical
+provided_with opcode fs vs os = provided_by opcode (and_options fs) (values_then fs vs os)

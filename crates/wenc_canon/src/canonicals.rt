@@ -1,14 +1,14 @@
-ghost use Rattle.std.specs.Prelude.{◌≡◌, ◌==◌, ◌∷◌, false, List, OnOk, IfOk, IfErr, length, refl};
+ghost use Rattle.std.specs.Prelude.{◌≡◌, ◌==◌, false, OnOk, IfOk, IfErr};
 ghost use Rattle.std.specs.Iterator.{IsFinite};
-ghost use Rattle.wenc_base.specs.Fault.{IsMemory, count_cause, NoCause};
+ghost use Rattle.wenc_base.specs.Fault.{IsMemory};
 ghost use Rattle.wenc_base.specs.Encode.{Appends};
-ghost use Rattle.wenc_base.specs.Holder.{no_members, is_finished, section_text, as_they_are, ContainsSome, AddsMember, AddsListed, EncodeCause};
+ghost use Rattle.wenc_base.specs.Holder.{no_members, is_finished, held_section, ContainsSome, AddsMember};
 ghost use Rattle.wenc_base.specs.Openings.{HasMembers};
 ghost use Rattle.wenc_base.specs.Piece.{HasForm};
 ghost use Rattle.wenc_base.specs.laws.Delimited.{itself};
-ghost use Rattle.wenc_canon.specs.Canonicals.{AddsWithOptions, Lift, Lower, canonical, canonical_text, ◌takes◌, text_with_options};
-ghost use Rattle.wenc_canon.specs.Rows.{row_with, provided_by};
-ghost use Rattle.wenc_canon.specs.declared.canonicals.CanonicalOption.{CanonicalOption as OptionSeen};
+ghost use Rattle.wenc_base.specs.laws.Serves.{serves_itself};
+ghost use Rattle.wenc_canon.specs.Canonicals.{AddsWithOptions, Lift, Lower, canonical, ◌takes◌};
+ghost use Rattle.wenc_canon.specs.Rows.{row_with, provided_by, and_options, provided_with};
 
 mod intrinsics;
 
@@ -209,32 +209,32 @@ impl<A: Allocator> CanonicalFunctionSection<A> {
         ensures { AddsWithOptions I.next_gives options self.old self.new result
             (λ os. Lower func os) }
     {
-        self.add_row_with_options(opcodes::LOWER, &Tagged(opcodes::PLAIN, &func), options)
+        let lead = Tagged(opcodes::PLAIN, &func);
+        self.functions
+            .add_listed(&Tagged(opcodes::LOWER, &lead), options, &())
     }
 
     /// Adds the intrinsic that begins with this opcode and has these fields.
     fn add_row<F: Fields>(&mut self, opcode: u8, fields: &F) -> Result<(), Fault>
         requires row { row_with opcode ≡ (opcode takes F.kinds) }
-        ensures { AddsMember canonical_text self.old self.new result (λ _. ⊥)
-            (provided_by opcode F.kinds (F.values fields.now)) }
+        ensures { AddsMember (canonical (provided_by opcode F.kinds (F.values fields.now)))
+            self.old self.new result }
     {
         self.functions.add_encoded(&Tagged(opcode, fields))
     }
 
-    /// Adds what begins with this opcode and has these fields, against which nothing stands, and options.
-    fn add_row_with_options<E: Encode, I: Iterator<Item = CanonicalOption> + Drop>(
+    /// Adds the intrinsic that begins with this opcode and has these fields, and options behind them.
+    fn add_row_with_options<F: Fields, I: Iterator<Item = CanonicalOption> + Drop>(
         &mut self,
         opcode: u8,
-        fields: &E,
+        fields: &F,
         options: I,
     ) -> Result<(), Fault>
         requires can { I.can_next options }
         requires ends { IsFinite (I.remaining options) }
-        requires free { NoCause (E.cause fields.now) }
-        requires functions { (os : List OptionSeen) →
-            ∥ HasForm canonical (text_with_options opcode (E.text fields.now) os) ∥₁ }
-        ensures { AddsListed I.next_gives options as_they_are self.old self.new result
-            (λ os. count_cause (length os)) (text_with_options opcode (E.text fields.now)) }
+        requires row { row_with opcode ≡ (opcode takes and_options F.kinds) }
+        ensures { AddsWithOptions I.next_gives options self.old self.new result
+            (provided_with opcode F.kinds (F.values fields.now)) }
     {
         self.functions
             .add_listed(&Tagged(opcode, fields), options, &())
@@ -244,13 +244,14 @@ impl<A: Allocator> CanonicalFunctionSection<A> {
 /// A finished section is refused for want of memory alone. What is written has some functions, whoever made which
 /// calls.
 impl<A: Allocator> Encode for CanonicalFunctionSection<A> {
-    ghost piece = { TODO text = λ s. section_text s cause = λ s. EncodeCause s };
+    ghost piece = { held_section };
 
     ghost unfinished = { λ s. is_finished s ≡ false };
 
     fn encode<B: Allocator>(&self, sink: &mut Vec<u8, B>) -> Result<(), Fault>
-        ensures appended { Appends (section_text self.now) (EncodeCause self.now)
+        ensures appended { Appends (held_section self.now).text (held_section self.now).Cause
             (is_finished self.now ≡ false) sink.old.items sink.new.items result }
+        ensures fits { OnOk result (held_section self.now).Fits }
         ensures functions { OnOk result (∥ ContainsSome (HasForm canonical) self.now ∥₁) }
     {
         self.functions.encode_section(sink)

@@ -1,12 +1,15 @@
-ghost use Rattle.std.specs.Prelude.{◌≡◌, List, refl};
-ghost use Rattle.wenc_base.specs.Fault.{NoCause};
-ghost use Rattle.wenc_canon.specs.Canonicals.{Field, Values, fields, fields_cause};
+ghost use Rattle.std.specs.Prelude.{List};
+ghost use Rattle.wenc_base.specs.Delimited.{IsWritten};
+ghost use Rattle.wenc_base.specs.laws.Serves.{serves_itself};
+ghost use Rattle.wenc_canon.specs.Canonicals.{Field, Values, fields};
+ghost use Rattle.wenc_canon.specs.laws.Rows.{two_fields};
 
 use std::alloc::Allocator;
 use wenc_base::{Encode, Fault, ValType};
+use wenc_parts::ResultList;
 
-/// What stands behind the opcode of an intrinsic without options (component model, binary format, "Canonical
-/// Definitions").
+/// What stands behind the opcode of an intrinsic, in front of its options if it takes some (component model, binary
+/// format, "Canonical Definitions").
 pub trait Fields: Encode {
     /// The fields, one by one.
     ghost kinds: { List Field };
@@ -15,13 +18,7 @@ pub trait Fields: Encode {
     ghost values: { Self → Values kinds };
 
     /// They are written as the fields are.
-    ghost writes: { (v : Self) → Self.text v ≡ (fields kinds (values v)).text };
-
-    /// Nothing stands against them.
-    ghost free: { (v : Self) → NoCause (Self.cause v) };
-
-    /// Nor against the fields.
-    ghost plain: { (v : Self) → NoCause (fields_cause kinds (values v)) };
+    ghost written: { IsWritten Self.piece values (fields kinds) };
 }
 
 /// That a function that waits can't be cancelled: a byte says so.
@@ -29,9 +26,9 @@ pub trait Fields: Encode {
 pub struct NotCancellable;
 
 impl Encode for NotCancellable {
-    ghost use Rattle.std.specs.Prelude.{◌∷◌, []};
+    ghost use Rattle.wenc_base.specs.Piece.{byte};
 
-    ghost piece = { TODO text = λ _. 0x00 ∷ [] cause = λ _ _. ⊥ };
+    ghost piece = { λ _. byte 0x00 };
 
     fn encode<A: Allocator>(&self, sink: &mut Vec<u8, A>) -> Result<(), Fault> {
         sink.push(0x00)?;
@@ -46,11 +43,7 @@ impl Fields for () {
 
     ghost values = { λ _. tt };
 
-    ghost writes = { λ v. refl };
-
-    ghost free = { λ v fault h. h };
-
-    ghost plain = { λ v fault h. h };
+    ghost written = { λ _. serves_itself };
 }
 
 impl Fields for u32 {
@@ -61,11 +54,7 @@ impl Fields for u32 {
 
     ghost values = { λ n. n };
 
-    ghost writes = { λ v. refl };
-
-    ghost free = { λ v fault h. h };
-
-    ghost plain = { λ v fault h. h };
+    ghost written = { λ _. serves_itself };
 }
 
 impl Fields for bool {
@@ -76,11 +65,7 @@ impl Fields for bool {
 
     ghost values = { λ b. b };
 
-    ghost writes = { λ v. refl };
-
-    ghost free = { λ v fault h. h };
-
-    ghost plain = { λ v fault h. h };
+    ghost written = { λ _. serves_itself };
 }
 
 impl Fields for NotCancellable {
@@ -91,73 +76,60 @@ impl Fields for NotCancellable {
 
     ghost values = { λ _. tt };
 
-    ghost writes = { λ v. refl };
-
-    ghost free = { λ v fault h. h };
-
-    ghost plain = { λ v fault h. h };
+    ghost written = { λ _. serves_itself };
 }
 
 impl Fields for (u32, u32) {
     ghost use Rattle.std.specs.Prelude.{◌∷◌, []};
-    ghost use Rattle.std.proofs.Common.{inl, inr};
     ghost use Rattle.wenc_canon.specs.Canonicals.{Index};
 
     ghost kinds = { Index ∷ Index ∷ [] };
 
     ghost values = { λ p. p };
 
-    ghost writes = { λ v. refl };
-
-    ghost free = { λ v fault h. elim h [ inl one ↦ one | inr more ↦ more.1 ] };
-
-    ghost plain = { λ v fault h. h };
+    ghost written = { λ p. two_fields Index Index p.0 p.1 };
 }
 
 impl Fields for (u32, bool) {
     ghost use Rattle.std.specs.Prelude.{◌∷◌, []};
-    ghost use Rattle.std.proofs.Common.{inl, inr};
     ghost use Rattle.wenc_canon.specs.Canonicals.{Flag, Index};
 
     ghost kinds = { Index ∷ Flag ∷ [] };
 
     ghost values = { λ p. p };
 
-    ghost writes = { λ v. refl };
-
-    ghost free = { λ v fault h. elim h [ inl one ↦ one | inr more ↦ more.1 ] };
-
-    ghost plain = { λ v fault h. h };
+    ghost written = { λ p. two_fields Index Flag p.0 p.1 };
 }
 
 impl Fields for (ValType, u32) {
     ghost use Rattle.std.specs.Prelude.{◌∷◌, []};
-    ghost use Rattle.std.proofs.Common.{inl, inr};
     ghost use Rattle.wenc_canon.specs.Canonicals.{CoreType, Index};
 
     ghost kinds = { CoreType ∷ Index ∷ [] };
 
     ghost values = { λ p. p };
 
-    ghost writes = { λ v. refl };
-
-    ghost free = { λ v fault h. elim h [ inl one ↦ one | inr more ↦ more.1 ] };
-
-    ghost plain = { λ v fault h. h };
+    ghost written = { λ p. two_fields CoreType Index p.0 p.1 };
 }
 
 impl Fields for (NotCancellable, u32) {
     ghost use Rattle.std.specs.Prelude.{◌∷◌, []};
-    ghost use Rattle.std.proofs.Common.{inl, inr};
     ghost use Rattle.wenc_canon.specs.Canonicals.{Index, Zero};
 
     ghost kinds = { Zero ∷ Index ∷ [] };
 
     ghost values = { λ p. (tt, p.1) };
 
-    ghost writes = { λ v. refl };
+    ghost written = { λ p. two_fields Zero Index tt p.1 };
+}
 
-    ghost free = { λ v fault h. elim h [ inl one ↦ one | inr more ↦ more.1 ] };
+impl Fields for ResultList {
+    ghost use Rattle.std.specs.Prelude.{◌∷◌, []};
+    ghost use Rattle.wenc_canon.specs.Canonicals.{Results};
 
-    ghost plain = { λ v fault h. h };
+    ghost kinds = { Results ∷ [] };
+
+    ghost values = { λ r. r.0 };
+
+    ghost written = { λ _. serves_itself };
 }

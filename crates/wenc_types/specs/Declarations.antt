@@ -1,6 +1,6 @@
 -- Component types and instance types: their declarations, one by one, and what is counted of them.
 use Rattle.std.specs.List.{AllByRecursion}
-use Rattle.std.specs.Prelude.{◌≡◌, ℕ, ◌+◌, ◌-◌, ◌<◌, ◌≤◌, ◌^◌, List, [], ◌∷◌, ◌++◌, length, Option, Some, None, Result, OnOk, OnErr, true}
+use Rattle.std.specs.Prelude.{◌≡◌, ℕ, ◌+◌, ◌-◌, ◌≤◌, List, [], ◌∷◌, ◌++◌, length, Option, Some, None, Result, OnOk, OnErr, true}
 use Rattle.wenc_base.specs.Holder.{Held, no_members, is_finished, Contains, AddsMember}
 use Rattle.wenc_base.specs.Piece.{Form, verbatim}
 use Rattle.wenc_base.specs.Openings.{opened_with, lengthened, closed, given_up, OpeningIsIn}
@@ -187,7 +187,6 @@ total n = n.core_types + n.types + n.instances
 
 -- It has declarations, each of which is such a one, but for a type that is being written.
 pub record IsDeclaring (IsSuch : List ℕ → Option Sort → Type 0) (t : Declaring) : Type 0 where
-  pub few : t.held.count < 2 ^ 32
   pub enough : total t.counts ≤ t.held.count
   pub counted : OpenedIsIn t.held.opening t.begun t.counts
   pub opening : OpeningIsIn t.held.opening t.held.count (length t.held.body)

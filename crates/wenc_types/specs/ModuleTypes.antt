@@ -1,5 +1,5 @@
 -- Module types: their declarations, one by one.
-use Rattle.std.specs.Prelude.{◌≡◌, ℕ, ◌+◌, ◌-◌, ◌<◌, ◌≤◌, ◌^◌, List, [], ◌∷◌, ◌++◌, length, Option, Some, None, Result, OnOk, OnErr}
+use Rattle.std.specs.Prelude.{◌≡◌, ℕ, ◌+◌, ◌-◌, ◌≤◌, List, [], ◌∷◌, ◌++◌, length, Option, Some, None, Result, OnOk, OnErr}
 use Rattle.wenc_base.specs.Composites.{Group}
 use Rattle.wenc_base.specs.Holder.{Held, no_members, Contains, AddsMember}
 use Rattle.wenc_base.specs.Openings.{opened_with, lengthened, closed, given_up, member_text, OpeningIsIn}
@@ -80,7 +80,6 @@ OpenedIsIn (Some o) n = 1 ≤ n
 
 -- It has some declarations, but for a type that is being written.
 pub record IsDeclaring (t : Declared) : Type 0 where
-  pub few : t.held.count < 2 ^ 32
   pub enough : t.types ≤ t.held.count
   pub counted : OpenedIsIn t.held.opening t.types
   pub opening : OpeningIsIn t.held.opening t.held.count (length t.held.body)

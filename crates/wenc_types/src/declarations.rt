@@ -1,5 +1,5 @@
 ghost use Rattle.std.specs.Borrow.{sem, RestsIfErr};
-ghost use Rattle.std.specs.Prelude.{◌≡◌, ◌==◌, ◌∷◌, ◌<◌, ◌^◌, ℕ, [], List, Option as Optional, Some, OnOk, OnErr, IfOk, IfErr, true, false};
+ghost use Rattle.std.specs.Prelude.{◌≡◌, ◌==◌, ◌∷◌, ℕ, [], List, Option as Optional, Some, OnOk, OnErr, IfOk, IfErr, true, false};
 ghost use Rattle.wenc_base.specs.Encode.{Appends};
 ghost use Rattle.wenc_base.specs.Fault.{IsMemory, IsWarranted, NoCause};
 ghost use Rattle.wenc_base.specs.Holder.{is_finished, held, held_text, EncodeCause, AddCause, AddsMember};
@@ -196,7 +196,6 @@ impl<K: DeclaringKind, A: Allocator> Declarations<K, A> {
     /// Whether no type is being written. Then it has some declarations, whoever made which calls.
     pub fn is_finished(&self) -> bool
         ensures finished { result ≡ is_finished self.now.held }
-        ensures few { self.now.held.count < 2 ^ 32 }
         ensures settled { is_finished self.now.held ≡ true → Settled self.now }
         ensures declares { is_finished self.now.held ≡ true
             → ∥ DeclaresSome K.is_declaration self.now ∥₁ }

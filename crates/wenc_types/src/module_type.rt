@@ -1,5 +1,5 @@
 ghost use Rattle.std.specs.Borrow.{sem, RestsIfErr};
-ghost use Rattle.std.specs.Prelude.{◌≡◌, ◌∷◌, ◌<◌, ◌^◌, [], List, true, false, OnOk, OnErr, IfOk, IfErr};
+ghost use Rattle.std.specs.Prelude.{◌≡◌, ◌∷◌, [], List, true, false, OnOk, OnErr, IfOk, IfErr};
 ghost use Rattle.wenc_base.specs.Encode.{Appends};
 ghost use Rattle.wenc_base.specs.Fault.{IsMemory, IsWarranted, NoCause};
 ghost use Rattle.wenc_base.specs.Holder.{is_finished, held, held_text, AddCause, EncodeCause};
@@ -92,7 +92,6 @@ impl<A: Allocator> ModuleType<A> {
     /// Whether no type is being written. Then it has some declarations, whoever made which calls.
     pub fn is_finished(&self) -> bool
         ensures finished { result ≡ is_finished self.now.held }
-        ensures few { self.now.held.count < 2 ^ 32 }
         ensures declares { is_finished self.now.held ≡ true
             → ∥ ((ds : List ModuleDeclaration) × Declares self.now ds) ∥₁ }
     {

@@ -5,7 +5,7 @@ use Rattle.wenc_base.specs.Fault.{IsWarranted}
 use Rattle.wenc_base.specs.declared.fault.Fault.{Fault}
 use Rattle.wenc_base.specs.declared.fault.Fault.TheVariants.{Unfinished}
 use Rattle.wenc_base.specs.laws.Causes.{still_warranted}
-use Rattle.wenc_builder.specs.Item.{Item, item_cause}
+use Rattle.wenc_builder.specs.Item.{Item, item}
 use Rattle.wenc_builder.specs.Sections.{runs}
 use Rattle.wenc_builder.specs.Space.{Defined, defines, IsPlaceAt, IsPlaceOf, place_at, place_of}
 use Rattle.wenc_builder.specs.Entry.{Entry, items}
@@ -15,11 +15,11 @@ use Rattle.wenc_builder.specs.Cause.{SectionCause, SpaceCause, PlaceCause, Addin
 use Rattle.wenc_builder.specs.Enters.{IsCountAt, EntersWith, Enters}
 use Rattle.wenc_builder.specs.laws.Caused.{adding_never_unfinished}
 use Rattle.wenc_builder.specs.laws.Never.{never_unfinished}
-use Rattle.wenc_builder.specs.laws.Step.{holds_step, places_within}
+use Rattle.wenc_builder.specs.laws.Step.{sections_step, spaces_hold_more, places_within}
 
 -- what the content with one more entry is, by the list that is held then
 current_is : (old : State) (es : List Entry) (x : Entry) → Holds old es → (with_entry old.settled x).sections.current ≡ open_of (runs (items (es ++ x ∷ [])))
-current_is old es x h = (holds_step old es x h).sections.last
+current_is old es x h = (sections_step old es x h).last
 
 -- the spaces agree at these places
 abbrev Agrees : (ℕ → Namespace) → (ℕ → Namespace) → Option Defined → Type 0
@@ -29,7 +29,7 @@ Agrees one other (Some d) = one d.space ≡ other d.space
 space_is : (old : State) (es : List Entry) (x : Entry) (o : Option Defined) → defines x.item ≡ o → Holds old es
     → Agrees (namespace_at (with_entry old.settled x).spaces) (namespace_of (es ++ x ∷ [])) o
 space_is old es x None e h = tt
-space_is old es x (Some d) e h = (holds_step old es x h).spaces.each d.space (places_within x.item d e)
+space_is old es x (Some d) e h = (spaces_hold_more old.settled.spaces es x h.spaces).each d.space (places_within x.item d e)
 
 backwards : (one other : ℕ → Namespace) (d : Option Defined) → Agrees one other d → Agrees other one d
 backwards one other None e = tt
@@ -46,17 +46,17 @@ moved cause s t d o p f e q (inr (inr c)) = inr (inr (subst (λ (n : Option Open
 
 -- the call's cause is the entry's
 pub to_entry : (old : State) (es : List Entry) (x : Entry) → Holds old es → (f : Fault) → EnterCause old x f → EntryCause es x f
-to_entry old es x h f (inl c) = moved (item_cause x.item) _ _ _ _ _ f (space_is old es x _ refl h) (current_is old es x h) c
+to_entry old es x h f (inl c) = moved (item x.item).Cause _ _ _ _ _ f (space_is old es x _ refl h) (current_is old es x h) c
 to_entry old es x h f (inr c) = let none : old.begun ≡ None = h.finished in let some = c.1 in cc
 
 pub from_entry : (old : State) (es : List Entry) (x : Entry) → Holds old es → (f : Fault) → EntryCause es x f → EnterCause old x f
-from_entry old es x h f c = inl (moved (item_cause x.item) _ _ _ _ _ f (backwards _ _ _ (space_is old es x _ refl h)) (sym (current_is old es x h)) c)
+from_entry old es x h f c = inl (moved (item x.item).Cause _ _ _ _ _ f (backwards _ _ _ (space_is old es x _ refl h)) (sym (current_is old es x h)) c)
 
 -- an entry's cause is never that something is unfinished
 pub entry_never_unfinished : (es : List Entry) (x : Entry) → EntryCause es x Unfinished → ⊥
 entry_never_unfinished es x c =
     let after = es ++ x ∷ [] in
-    adding_never_unfinished (item_cause x.item) (namespace_of after) (defines x.item) (open_of (runs (items after))) (never_unfinished x.item) c
+    adding_never_unfinished (item x.item).Cause (namespace_of after) (defines x.item) (open_of (runs (items after))) (never_unfinished x.item) c
 
 pub answered_with : {R : Type 0} (old new : State) (result : Result R Fault) (x : Entry) (Told : List Entry → R → Type 0) (Counted : Option Defined → R → Type 0) (es : List Entry) → EntersWith old new result x Told Counted → Holds old es
     → MatchResult result (λ r. Holds new (es ++ x ∷ []) × Told es r × ((fault : Fault) → EntryCause es x fault → ⊥)) (λ fault. Holds new es × IsWarranted (EntryCause es x) fault)

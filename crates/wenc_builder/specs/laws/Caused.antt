@@ -7,7 +7,8 @@ use Rattle.wenc_base.specs.declared.fault.Fault.{Fault}
 use Rattle.wenc_base.specs.declared.fault.Fault.TheVariants.{Memory, TooMany, TooLarge, Unfinished}
 use Rattle.wenc_builder.specs.Builder.{OpenSection, entered, entered_at, Namespace, no_names, namespace_at, State, content_of, Draft, draft, draft_place, space_with, begun_with}
 use Rattle.wenc_builder.specs.Cause.{SectionCause, SpaceCause, PlaceCause, AddingCause, CallCause}
-use Rattle.wenc_builder.specs.Layout.{AppendCause}
+use Rattle.wenc_base.specs.Fault.{either}
+use Rattle.wenc_builder.specs.Layout.{NoRoom}
 use Rattle.wenc_builder.specs.Space.{Defined}
 
 -- ---- a section, a space
@@ -100,14 +101,14 @@ beginning_refuses old id space name text cause fault (inl (inr (inl c))) = inl (
 beginning_refuses old id space name text cause fault (inl (inr (inr c))) = inl (inr (inr (section_grows old.settled.sections.closed old.settled.sections.current id [] text fault c)))
 beginning_refuses old id space name text cause fault (inr c) = inr c
 
-pub text_refuses : (old : State) (d : Draft) (cause : Fault → Type 0) (fault : Fault) → AppendCause cause (entered old.settled.sections d.id d.text).current fault → CallCause old cause (content_of (begun_with old d)) (Some (draft_place d)) fault
+pub text_refuses : (old : State) (d : Draft) (cause : Fault → Type 0) (fault : Fault) → either cause (NoRoom (entered old.settled.sections d.id d.text).current) fault → CallCause old cause (content_of (begun_with old d)) (Some (draft_place d)) fault
 text_refuses old d cause fault (inl c) = inl (inl c)
 text_refuses old d cause fault (inr c) = subst (λ (f : Fault). CallCause old cause (content_of (begun_with old d)) (Some (draft_place d)) f) (sym c.0) (inl (inr (inr c.1)))
 
 -- where nothing is against its beginning nor its text, nothing is against it
 pub whole_free : (old : State) (id space : ℕ) (name : Option (List ℕ)) (text : List ℕ) (cause : Fault → Type 0)
     → ((fault : Fault) → CallCause old (λ _. ⊥) (content_of (begun_with old (draft id space name []))) (Some (draft_place (draft id space name []))) fault → ⊥)
-    → ((fault : Fault) → AppendCause cause (entered old.settled.sections id text).current fault → ⊥)
+    → ((fault : Fault) → either cause (NoRoom (entered old.settled.sections id text).current) fault → ⊥)
     → (fault : Fault) → CallCause old cause (content_of (begun_with old (draft id space name text))) (Some (draft_place (draft id space name text))) fault → ⊥
 whole_free old id space name text cause beginning appending fault (inl (inl c)) = appending fault (inl c)
 whole_free old id space name text cause beginning appending fault (inl (inr (inl c))) = beginning fault (inl (inr (inl c)))

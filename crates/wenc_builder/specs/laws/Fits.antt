@@ -6,7 +6,6 @@ use Rattle.std.proofs.lemmas.Option.{same_Some}
 use Rattle.std.specs.List.{flat_map, AllByRecursion}
 use Rattle.std.specs.Prelude.{IsTrue}
 use Rattle.wenc_base.specs.Number.{unsigned_text}
-use Rattle.wenc_base.specs.declared.fault.Fault.{Fault}
 use Rattle.wenc_base.specs.declared.fault.Fault.TheVariants.{TooMany, TooLarge}
 use Rattle.wenc_builder.specs.Builder.{OpenSection}
 use Rattle.wenc_builder.specs.Cause.{SectionCause}
@@ -21,7 +20,7 @@ SectionsFit ss = (sections ss).Fits
 
 -- the last section, where it is open, isn't too much
 abbrev pub HasRoom : Option OpenSection → Type 0
-HasRoom o = (fault : Fault) → SectionCause o fault → ⊥
+HasRoom o = NoCause (SectionCause o)
 
 -- the section that an item belongs to collects items
 collects_it : (x : Item) (id : ℕ) → collected x ≡ Some id → IsTrue (collects id)

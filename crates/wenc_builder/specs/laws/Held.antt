@@ -1,11 +1,18 @@
 -- A builder holds some entries, whoever made which calls.
-use Rattle.std.proofs.Common.{◌≡◌, ℕ, List, [], ◌∷◌, ◌++◌, true, false, is_none, Option, Some, None, refl, subst}
+use Rattle.std.proofs.Common.{◌≡◌, ℕ, ◌+◌, List, [], ◌∷◌, ◌++◌, true, false, is_none, Option, Some, None, refl, subst, sym, inl, inr}
 use Rattle.std.proofs.Math.Logic.{∥∥₁_map, ∥∥₁_elim, ∥∥₁_prop}
-use Rattle.wenc_builder.specs.Builder.{Begun, Content, State, settled_in, builder_is_finished, with_alone, with_entry, content_with, Draft, begun_with, longer, appended, ended, builder_given_up}
+use Rattle.std.proofs.lemmas.Bool.Decides.{eqb_tells}
+use Rattle.wenc_base.specs.Fault.{NoCause}
+use Rattle.wenc_base.specs.declared.fault.Fault.TheVariants.{Memory, TooMany, TooLarge, Unfinished}
+use Rattle.wenc_builder.specs.Builder.{OpenSection, entered, entered_at, Begun, Content, State, settled_in, builder_is_finished, with_alone, with_entry, content_with, content_of, Draft, begun_with, longer, appended, ended, builder_given_up}
 use Rattle.wenc_builder.specs.Entry.{Entry, entry}
-use Rattle.wenc_builder.specs.Holds.{Holds, IsPlaced, HoldsSome}
+use Rattle.wenc_builder.specs.Holds.{Holds}
+use Rattle.wenc_builder.specs.Item.{item}
+use Rattle.wenc_builder.specs.Layout.{NoRoom}
 use Rattle.wenc_builder.specs.Lent.{IsItemText, IsWhole, is_whole}
 use Rattle.wenc_builder.specs.Space.{Defined}
+use Rattle.wenc_builder.specs.inside.HoldsSome.{IsPlaced, HasRoomFor, HoldsSome}
+use Rattle.wenc_builder.specs.laws.Fits.{HasRoom}
 use Rattle.wenc_builder.specs.laws.Step.{holds_step}
 
 abbrev Settled : Content → Type 0
@@ -13,10 +20,10 @@ Settled c = ∥ ((es : List Entry) × Holds (settled_in c) es) ∥₁
 
 -- what holds a list holds some
 pub some_of : (c : Content) (es : List Entry) → Holds (settled_in c) es → HoldsSome (settled_in c)
-some_of c es h = record { settled = ∣ (es, h) ∣₁; placed = tt }
+some_of c es h = record { settled = ∣ (es, h) ∣₁; placed = tt; room = tt }
 
-some_more : (c : Content) (x : Entry) → Settled c → Settled (with_entry c x)
-some_more c x s = ∥∥₁_map s (λ h. (h.0 ++ x ∷ [], holds_step (settled_in c) h.0 x h.1))
+some_more : (c : Content) (x : Entry) → (item x.item).Fits → HasRoom (with_entry c x).sections.current → Settled c → Settled (with_entry c x)
+some_more c x fits room s = ∥∥₁_map s (λ h. (h.0 ++ x ∷ [], holds_step (settled_in c) h.0 x fits room h.1))
 
 finished_at : (c : Content) (b : Option Begun) → is_none b ≡ true → Settled c → ∥ ((es : List Entry) × Holds (record { settled = c; begun = b }) es) ∥₁
 finished_at c None e s = s
@@ -26,23 +33,49 @@ finished_at c (Some b) e s = cc
 pub holds_some : (s : State) → builder_is_finished s ≡ true → HoldsSome s → ∥ ((es : List Entry) × Holds s es) ∥₁
 holds_some s finished h = finished_at s.settled s.begun finished h.settled
 
--- an item is begun
-pub some_begun : (s : State) (d : Draft) → HoldsSome s → HoldsSome (begun_with s d)
-some_begun s d h = record { settled = h.settled; placed = ∣ (d.name, refl) ∣₁ }
+-- an item is begun, in a section that isn't too much
+pub some_begun : (s : State) (d : Draft) → HasRoom (entered s.settled.sections d.id d.text).current → HoldsSome s → HoldsSome (begun_with s d)
+some_begun s d room h = record { settled = h.settled; placed = ∣ (d.name, refl) ∣₁; room = room }
 
 placed_longer : (c : Content) (b : Option Begun) (text : List ℕ) → IsPlaced c b → IsPlaced c (longer b text)
 placed_longer c None text p = tt
 placed_longer c (Some b) text p = p
 
--- more of it is written
-pub some_appended : (s : State) (text : List ℕ) → HoldsSome s → HoldsSome (appended s text)
-some_appended s text h = record { settled = h.settled; placed = placed_longer s.settled s.begun text h.placed }
+-- a section with a longer text has as many items
+longer_room_at : (id count : ℕ) (body longer_body : List ℕ) → HasRoom (Some (record { id = id; count = count; body = body }))
+    → NoCause (NoRoom (Some (record { id = id; count = count; body = longer_body }))) → HasRoom (Some (record { id = id; count = count; body = longer_body }))
+longer_room_at id count body longer_body room large (Memory e) c = c
+longer_room_at id count body longer_body room large TooMany c = room TooMany c
+longer_room_at id count body longer_body room large TooLarge c = large TooLarge (refl, c)
+longer_room_at id count body longer_body room large Unfinished c = c
 
-ended_at : (c : Content) (b : Option Begun) → Settled c → IsPlaced c b → ∥ IsWhole b ∥₁ → Settled (content_with c b)
-ended_at c None s p whole = s
-ended_at c (Some b) s p whole = ∥∥₁_elim whole ∥∥₁_prop (λ w. ∥∥₁_elim p ∥∥₁_prop (λ n.
+longer_room : (closed : List ℕ) (o : Option OpenSection) (id : ℕ) (text more : List ℕ) → HasRoom (entered_at closed o id text).current
+    → NoCause (NoRoom (entered_at closed o id more).current) → HasRoom (entered_at closed o id more).current
+longer_room closed None id text more room large = longer_room_at id 1 text more room large
+longer_room closed (Some o) id text more room large =
+    elim (eqb_tells o.id id) [
+      | inl t ↦ let room' = rw t.0 at room in let large' = rw t.0 at large in rw t.0 (longer_room_at o.id (o.count + 1) (o.body ++ text) (o.body ++ more) room' large')
+      | inr t ↦ let room' = rw t.0 at room in let large' = rw t.0 at large in rw t.0 (longer_room_at id 1 text more room' large')
+    ]
+
+room_longer : (c : Content) (b : Option Begun) (text : List ℕ) → HasRoomFor c b → NoCause (NoRoom (content_with c (longer b text)).sections.current) → HasRoomFor c (longer b text)
+room_longer c None text room large = tt
+room_longer c (Some b) text room large = longer_room c.sections.closed c.sections.current b.id b.text (b.text ++ text) room large
+
+-- more of it is written, for which there is room
+pub some_appended : (s : State) (text : List ℕ) → NoCause (NoRoom (content_of (appended s text)).sections.current) → HoldsSome s → HoldsSome (appended s text)
+some_appended s text large h = record {
+  settled = h.settled;
+  placed = placed_longer s.settled s.begun text h.placed;
+  room = room_longer s.settled s.begun text h.room large;
+}
+
+ended_at : (c : Content) (b : Option Begun) → Settled c → IsPlaced c b → HasRoomFor c b → ∥ IsWhole b ∥₁ → Settled (content_with c b)
+ended_at c None s p room whole = s
+ended_at c (Some b) s p room whole = ∥∥₁_elim whole ∥∥₁_prop (λ w. ∥∥₁_elim p ∥∥₁_prop (λ n.
     let one : with_entry c (entry w.value n.0) ≡ content_with c (Some b) = rw (w.collects, w.takes, ← w.is, ← n.1) refl in
-    subst Settled one (some_more c (entry w.value n.0) s)))
+    let room' = subst (λ (k : Content). HasRoom k.sections.current) (sym one) room in
+    subst Settled one (some_more c (entry w.value n.0) w.fits room' s)))
 
 -- what is whole is being written
 pub whole_is_begun : (s : State) → ∥ is_whole s ∥₁ → builder_is_finished s ≡ false
@@ -54,17 +87,19 @@ whole_is_begun s whole = at s.begun whole
 
 -- it is ended, whole
 pub some_ended : (s : State) → ∥ is_whole s ∥₁ → HoldsSome s → HoldsSome (ended s)
-some_ended s whole h = record { settled = ended_at s.settled s.begun h.settled h.placed whole; placed = tt }
+some_ended s whole h = record { settled = ended_at s.settled s.begun h.settled h.placed h.room whole; placed = tt; room = tt }
 
 -- or it is given up
 pub some_given_up : (s : State) → HoldsSome s → HoldsSome (builder_given_up s)
-some_given_up s h = record { settled = h.settled; placed = tt }
+some_given_up s h = record { settled = h.settled; placed = tt; room = tt }
 
 -- what stands alone is added
 pub some_alone : (s : State) (places : Option Defined) (name : Option (List ℕ)) (text : List ℕ) → ∥ IsItemText None places text ∥₁ → HoldsSome s → HoldsSome (settled_in (with_alone s.settled places name text))
 some_alone s places name text whole h = record {
   settled = ∥∥₁_elim whole ∥∥₁_prop (λ w.
       let one : with_entry s.settled (entry w.value name) ≡ with_alone s.settled places name text = rw (w.collects, w.takes, ← w.is) refl in
-      subst Settled one (some_more s.settled (entry w.value name) h.settled));
+      let room = subst (λ (k : Content). HasRoom k.sections.current) (sym one) (λ fault c. c) in
+      subst Settled one (some_more s.settled (entry w.value name) w.fits room h.settled));
   placed = tt;
+  room = tt;
 }

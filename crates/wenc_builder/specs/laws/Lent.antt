@@ -1,17 +1,11 @@
 -- What encoders are owed by a builder, and what they leave in it.
-use Rattle.std.proofs.Common.{◌≡◌, ℕ, List, [], ◌∷◌, ◌++◌, append_assoc, true, false, is_none, Option, None, Some, refl, ap, ◌∙◌}
-use Rattle.wenc_types.specs.ComponentTypes.{TypeOf, type_text}
-use Rattle.wenc_types.specs.CoreTypes.{CoreType, core_type_text}
-use Rattle.wenc_builder.specs.Item.{collected, item}
-use Rattle.wenc_builder.specs.Space.{defines}
-use Rattle.wenc_builder.specs.Entry.{Entry, core_type_entry, type_entry}
-use Rattle.wenc_builder.specs.Builder.{Begun, State, builder_is_finished, step, Draft, draft_place, begun_with, longer, appended, ended, builder_given_up}
+use Rattle.std.proofs.Common.{◌≡◌, ℕ, List, ◌++◌, append_assoc, true, false, is_none, Option, None, Some, refl, ap}
+use Rattle.wenc_builder.specs.Item.{item}
+use Rattle.wenc_builder.specs.Entry.{Entry}
+use Rattle.wenc_builder.specs.Builder.{Begun, State, builder_is_finished, Draft, begun_with, longer, appended, builder_given_up}
 use Rattle.wenc_builder.specs.Holds.{Holds}
-use Rattle.wenc_builder.specs.Layout.{draft_of}
 use Rattle.wenc_builder.specs.Lent.{is_bare, is_bare_in}
-use Rattle.wenc_builder.specs.declared.builder.kind.Kind.TheVariants as kinds
 use Rattle.wenc_builder.specs.declared.builder.space.Space.TheVariants as spaces
-use Rattle.wenc_builder.specs.laws.Step.{holds_step}
 
 bare_is_begun_at : (b : Option Begun) → is_bare b ≡ true → is_none b ≡ false
 bare_is_begun_at None e = cc
@@ -34,27 +28,9 @@ longer_twice (Some b) text more = ap (λ (t : List ℕ). let longest : Begun = r
 pub appended_twice : (s : State) (text more : List ℕ) → appended (appended s text) more ≡ appended s (text ++ more)
 appended_twice s text more = ap (λ (b : Option Begun). let t : State = record { settled = s.settled; begun = b } in t) (longer_twice s.begun text more)
 
--- an item that was begun, written and ended is one entry more
-pub written_holds : (old new : State) (es : List Entry) (x : Entry) (d : Draft) (text : List ℕ) → d.text ≡ [] → collected x.item ≡ Some d.id → defines x.item ≡ Some (draft_place d) → x.name ≡ d.name → (item x.item).text ≡ text
-    → new ≡ ended (appended (begun_with old d) text) → Holds old es → Holds new (es ++ x ∷ [])
-written_holds old new es x d text bare section defined named bytes e h = rw (e ∙ is_step) (holds_step old es x h)
-  where
-    is_step : ended (appended (begun_with old d) text) ≡ step old x
-    is_step = rw (section, defined, named, bytes, bare) refl
-
--- the same of a type
-pub type_written : (old new : State) (es : List Entry) (name : Option (List ℕ)) (t : TypeOf) → new ≡ ended (appended (begun_with old (draft_of kinds.«Type» spaces.Types name [])) (type_text t))
-    → Holds old es → Holds new (es ++ type_entry name t ∷ [])
-type_written old new es name t = written_holds old new es (type_entry name t) (draft_of kinds.«Type» spaces.Types name []) (type_text t) refl refl refl refl refl
-
--- and of a core type
-pub core_type_written : (old new : State) (es : List Entry) (name : Option (List ℕ)) (t : CoreType) → new ≡ ended (appended (begun_with old (draft_of kinds.CoreType spaces.CoreTypes name [])) (core_type_text t))
-    → Holds old es → Holds new (es ++ core_type_entry name t ∷ [])
-core_type_written old new es name t = written_holds old new es (core_type_entry name t) (draft_of kinds.CoreType spaces.CoreTypes name []) (core_type_text t) refl refl refl refl refl
-
 -- An item that was begun and given up, whatever was written of it: what was held is held.
 pub begun_given_up : (old lent new : State) (es : List Entry) (d : Draft) → lent ≡ begun_with old d → new ≡ builder_given_up lent → Holds old es → Holds new es
-begun_given_up old lent new es d b e h = rw (e, b) (record { finished = refl; sections = h.sections; spaces = h.spaces })
+begun_given_up old lent new es d b e h = rw (e, b) (record { finished = refl; sections = h.sections; spaces = h.spaces; fits = h.fits })
 
 pub written_given_up : (old lent new : State) (es : List Entry) (d : Draft) (text : List ℕ) → lent ≡ appended (begun_with old d) text → new ≡ builder_given_up lent → Holds old es → Holds new es
-written_given_up old lent new es d text b e h = rw (e, b) (record { finished = refl; sections = h.sections; spaces = h.spaces })
+written_given_up old lent new es d text b e h = rw (e, b) (record { finished = refl; sections = h.sections; spaces = h.spaces; fits = h.fits })

@@ -9,6 +9,8 @@ use Rattle.wenc_base.specs.laws.Forms.{read_byte_list, byte_list_lawful, read_co
 use Rattle.wenc_base.specs.laws.Lawful.{Lawful, LawfulWhole, Reader, go_on, ◌>>=◌, give, nowhere, pick, choose, row, row_byte, IsPast, Starts, past, last, only_where_lawful, then_whole, made, last_whole, to_end, at_end, before_end, deeper_whole, whole_once}
 use Rattle.wenc_base.specs.laws.Sections.{read_custom, custom_lawful}
 use Rattle.wenc_builder.specs.Item.{Item, ModuleItem, CoreInstanceItem, CoreTypeItem, ComponentItem, InstanceItem, AliasItem, TypeItem, CanonItem, StartItem, ImportItem, ExportItem, CustomItem, RawItem, collected, item}
+use Rattle.wenc_base.specs.declared.fault.Fault.TheVariants.{Unfinished}
+use Rattle.wenc_builder.specs.laws.Never.{never_unfinished}
 use Rattle.wenc_builder.specs.Sections.{Section, Run, Alone, members, joined, runs, collects, item_of, section_piece, sections, component, preamble, Reading, whole}
 use Rattle.wenc_canon.specs.laws.Canonicals.{read_canonical, canonical_lawful}
 use Rattle.wenc_parts.specs.laws.Aliases.{read_alias, alias_lawful}
@@ -18,11 +20,13 @@ use Rattle.wenc_types.specs.laws.CoreTypes.{read_core_type, core_type_lawful}
 use Rattle.wenc_builder.specs.Raw.{IsNoRaw, HasNoRaw, SectionsHaveNoRaw, AreEncodable, IsEncodable}
 
 -- what is never allowed is lawful
-vacuous : {A : Type 0} {P : Type 0} {p : Piece} {read : ℕ → Reader A} {v : A} → (P → ⊥) → Lawful (only_where P p) read v
-vacuous never = record {
+vacuous : {A : Type 0} {P : Type 0} {p : Piece} {read : ℕ → Reader A} {v : A} → (p.Cause Unfinished → ⊥) → (P → ⊥) → Lawful (only_where P p) read v
+vacuous finished never = record {
   text_is_read = λ mode rest h. absurd (never h.0);
   strict_is_text = λ bytes rest r. absurd (never r.0);
   fits = λ bytes rest r. absurd (never r.0);
+  free = λ h. absurd (never h.0);
+  never = finished;
   depth = 0;
   finds = λ fuel le mode bytes rest r. absurd (never r.0);
 }
@@ -65,7 +69,7 @@ decided (Some other) id = elim (eqb_tells other id) [ inl t ↦ inl (ap Some t.1
 
 -- an item of another kind is none of the section's
 item_of_lawful : (id : ℕ) (x : Item) → Lawful (item_of id x) (read_item id) x
-item_of_lawful id x = elim (decided (collected x) id) [ inl e ↦ only_where_lawful _ (collected_lawful x id e) | inr never ↦ vacuous never ]
+item_of_lawful id x = elim (decided (collected x) id) [ inl e ↦ only_where_lawful _ (collected_lawful x id e) | inr never ↦ vacuous (never_unfinished x) never ]
 
 -- ---- sections
 
@@ -106,7 +110,7 @@ section_lawful (Alone (ModuleItem bs)) h = only_where_lawful _ (row _ _ 1 (last 
 section_lawful (Alone (ComponentItem bs)) h = only_where_lawful _ (row _ _ 4 (last (λ x. Alone (ComponentItem x)) (byte_list_lawful bs)))
 section_lawful (Alone (StartItem s)) h = only_where_lawful _ (row _ _ 9 (last (λ x. Alone (StartItem x)) (start_lawful s)))
 section_lawful (Alone (RawItem bs)) h = absurd h.0
-section_lawful (Alone other) h = vacuous (λ e. cc)
+section_lawful (Alone other) h = vacuous (never_unfinished other) (λ e. cc)
 
 -- ---- components
 

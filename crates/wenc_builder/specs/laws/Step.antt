@@ -5,15 +5,16 @@ use Rattle.std.proofs.lemmas.List.{get_or-set_same, get_or-set_other, length-set
 use Rattle.std.proofs.lemmas.Bool.{eq-eqb, ne_eqb}
 use Rattle.std.proofs.lemmas.Option.{same_Some}
 use Rattle.wenc_parts.specs.Imports.{kind_of}
-use Rattle.wenc_builder.specs.Item.{Item, ModuleItem, CoreInstanceItem, CoreTypeItem, ComponentItem, InstanceItem, AliasItem, TypeItem, CanonItem, StartItem, ImportItem, ExportItem, CustomItem, RawItem}
-use Rattle.wenc_builder.specs.Sections.{preamble}
+use Rattle.wenc_builder.specs.Item.{Item, ModuleItem, CoreInstanceItem, CoreTypeItem, ComponentItem, InstanceItem, AliasItem, TypeItem, CanonItem, StartItem, ImportItem, ExportItem, CustomItem, RawItem, item}
+use Rattle.wenc_builder.specs.Sections.{preamble, runs}
+use Rattle.wenc_builder.specs.laws.Fits.{SectionsFit, HasRoom, sections_fit_more}
 use Rattle.wenc_builder.specs.Space.{space_number, canonical_space, alias_space, kind_space, some_in, Defined, defines, defined_in, place}
 use Rattle.wenc_builder.specs.declared.builder.space.Space.{Space}
 use Rattle.wenc_builder.specs.declared.builder.space.Space.TheVariants.{CoreModules, CoreFuncs, CoreTypes, CoreMemories, CoreTables, CoreInstances, CoreTags, CoreGlobals, Funcs, Instances, Values, Components, Types}
 use Rattle.wenc_base.specs.Names.{Named, named, names_text}
 use Rattle.wenc_builder.specs.Entry.{Entry, items, named_as, named_in, names_from, names}
-use Rattle.wenc_builder.specs.Builder.{Namespace, no_names, namespace_at, namespace_with, spaces_with, State, step, settled_in}
-use Rattle.wenc_builder.specs.Holds.{namespace_of, SpacesHold, Holds}
+use Rattle.wenc_builder.specs.Builder.{Namespace, no_names, namespace_at, namespace_with, spaces_with, with_entry, State, step, settled_in}
+use Rattle.wenc_builder.specs.Holds.{open_of, SectionsHold, namespace_of, SpacesHold, Holds}
 use Rattle.wenc_builder.specs.laws.Runs.{sections_hold_more}
 
 pub items_push : (es : List Entry) (x : Entry) → items (es ++ x ∷ []) ≡ items es ++ x.item ∷ []
@@ -67,15 +68,23 @@ spaces_hold_at spaces es x (Some d) w h = record {
   ];
 }
 
-spaces_hold_more : (spaces : List Namespace) (es : List Entry) (x : Entry) → SpacesHold spaces es → SpacesHold (spaces_with spaces (defines x.item) x.name) (es ++ x ∷ [])
+pub spaces_hold_more : (spaces : List Namespace) (es : List Entry) (x : Entry) → SpacesHold spaces es → SpacesHold (spaces_with spaces (defines x.item) x.name) (es ++ x ∷ [])
 spaces_hold_more spaces es x h = spaces_hold_at spaces es x (defines x.item) refl h
 
-pub holds_step : (s : State) (es : List Entry) (x : Entry) → Holds s es → Holds (step s x) (es ++ x ∷ [])
-holds_step s es x h = record {
+pub sections_step : (s : State) (es : List Entry) (x : Entry) → Holds s es → SectionsHold (with_entry s.settled x).sections (items (es ++ x ∷ []))
+sections_step s es x h = rw (items_push es x) (sections_hold_more s.settled.sections (items es) x.item h.sections)
+
+-- one more entry that fits, whose section isn't too much
+pub holds_step : (s : State) (es : List Entry) (x : Entry) → (item x.item).Fits → HasRoom (with_entry s.settled x).sections.current → Holds s es → Holds (step s x) (es ++ x ∷ [])
+holds_step s es x one room h = record {
   finished = refl;
-  sections = rw (items_push es x) (sections_hold_more s.settled.sections (items es) x.item h.sections);
+  sections = sections_step s es x h;
   spaces = spaces_hold_more s.settled.spaces es x h.spaces;
+  fits = (tt, subst (λ (xs : List Item). SectionsFit (runs xs)) (sym (items_push es x)) (sections_fit_more (items es) x.item h.fits.1 one room'));
 }
+  where
+    room' : HasRoom (open_of (runs (items es ++ x.item ∷ [])))
+    room' = subst HasRoom ((sections_step s es x h).last ∙ ap (λ (xs : List Item). open_of (runs xs)) (items_push es x)) room
 
 pub holds_index : (s : State) (es : List Entry) (k n : ℕ) → Holds s es → k < 13 → n ≡ (namespace_at s.settled.spaces k).count → n ≡ place (items es) k
 holds_index s es k n h l e = e ∙ ap (λ (x : Namespace). x.count) (h.spaces.each k l)
@@ -90,6 +99,7 @@ holds_nothing = record {
   finished = refl;
   sections = record { bytes = refl; last = refl };
   spaces = record { all = refl; each = λ k l. none_of_many 13 k };
+  fits = (tt, tt);
 }
 
 pub space_within : (s : Space) → space_number s < 13

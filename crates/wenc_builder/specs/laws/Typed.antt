@@ -1,13 +1,13 @@
 -- What an item that is begun and then written owes to its entry's cause.
-use Rattle.std.proofs.Common.{◌≡◌, ℕ, List, [], Option, Some, refl, sym, ap, subst}
-use Rattle.wenc_base.specs.Fault.{either}
+use Rattle.std.proofs.Common.{◌≡◌, ℕ, List, [], ◌∷◌, ◌++◌, Option, Some, refl, sym, ap, subst, ◌∙◌, inl, inr}
+use Rattle.wenc_base.specs.Fault.{NoCause, either}
 use Rattle.wenc_base.specs.declared.fault.Fault.{Fault}
 use Rattle.wenc_types.specs.ComponentTypes.{TypeOf}
 use Rattle.wenc_types.specs.CoreTypes.{CoreType}
-use Rattle.wenc_builder.specs.Item.{collected, item, item_cause}
+use Rattle.wenc_builder.specs.Item.{collected, item}
 use Rattle.wenc_builder.specs.Space.{Defined, defines}
 use Rattle.wenc_builder.specs.Entry.{Entry, type_entry, core_type_entry}
-use Rattle.wenc_builder.specs.Builder.{Content, with_entry, State, content_of, Draft, draft, draft_place, begun_with}
+use Rattle.wenc_builder.specs.Builder.{Content, with_entry, State, step, content_of, Draft, draft, draft_place, begun_with, appended, ended}
 use Rattle.wenc_builder.specs.Cause.{CallCause, EntryCause}
 use Rattle.wenc_builder.specs.Holds.{Holds}
 use Rattle.wenc_builder.specs.Layout.{draft_of}
@@ -15,6 +15,8 @@ use Rattle.wenc_builder.specs.Lent.{no_room}
 use Rattle.wenc_builder.specs.declared.builder.kind.Kind.TheVariants as kinds
 use Rattle.wenc_builder.specs.declared.builder.space.Space.TheVariants as spaces
 use Rattle.wenc_builder.specs.laws.Answered.{to_entry, from_entry}
+use Rattle.wenc_builder.specs.laws.Fits.{HasRoom}
+use Rattle.wenc_builder.specs.laws.Step.{holds_step}
 use Rattle.wenc_builder.specs.laws.Caused.{beginning_refuses, text_refuses, whole_free}
 
 -- the content with a draft is the one with the entry that it is
@@ -29,11 +31,11 @@ pub record IsWritten (x : Entry) (d : Draft) : Type 0 where
   pub named : x.name ≡ d.name
 
 -- why it can't be begun, and why it can't be written then
-abbrev OpeningCause : State → Draft → Fault → Type 0
+abbrev pub OpeningCause : State → Draft → Fault → Type 0
 OpeningCause old d = CallCause old (λ _. ⊥) (content_of (begun_with old d)) (Some (draft_place d))
 
-abbrev WritingCause : State → Entry → Draft → Fault → Type 0
-WritingCause old x d = either (item_cause x.item) (no_room (begun_with old d) (item x.item).text)
+abbrev pub WritingCause : State → Entry → Draft → Fault → Type 0
+WritingCause old x d = either (item x.item).Cause (no_room (begun_with old d) (item x.item).text)
 
 module _ (old : State) (es : List Entry) (x : Entry) (d : Draft) (w : IsWritten x d) (h : Holds old es) where
   -- the draft with its text, and the one that it is without
@@ -47,34 +49,45 @@ module _ (old : State) (es : List Entry) (x : Entry) (d : Draft) (w : IsWritten 
   content_is = drafted old x whole w.section w.defined w.named refl
 
   abbrev WholeCause : Fault → Type 0
-  WholeCause = CallCause old (item_cause x.item) (content_of (begun_with old whole)) (Some (draft_place whole))
+  WholeCause = CallCause old (item x.item).Cause (content_of (begun_with old whole)) (Some (draft_place whole))
 
   to_whole : (fault : Fault) → EntryCause es x fault → WholeCause fault
   to_whole fault c =
-      let P : Content → Type 0 = λ k. CallCause old (item_cause x.item) k (defines x.item) fault in
-      let Q : Option Defined → Type 0 = λ k. CallCause old (item_cause x.item) (content_of (begun_with old whole)) k fault in
+      let P : Content → Type 0 = λ k. CallCause old (item x.item).Cause k (defines x.item) fault in
+      let Q : Option Defined → Type 0 = λ k. CallCause old (item x.item).Cause (content_of (begun_with old whole)) k fault in
       subst Q w.defined (subst P (sym content_is) (from_entry old es x h fault c))
 
   from_whole : (fault : Fault) → WholeCause fault → EntryCause es x fault
   from_whole fault c =
-      let P : Content → Type 0 = λ k. CallCause old (item_cause x.item) k (defines x.item) fault in
-      let Q : Option Defined → Type 0 = λ k. CallCause old (item_cause x.item) (content_of (begun_with old whole)) k fault in
+      let P : Content → Type 0 = λ k. CallCause old (item x.item).Cause k (defines x.item) fault in
+      let Q : Option Defined → Type 0 = λ k. CallCause old (item x.item).Cause (content_of (begun_with old whole)) k fault in
       to_entry old es x h fault (subst P content_is (subst Q (sym w.defined) c))
 
   -- what refuses its beginning is the entry's cause
   pub opening_due : (fault : Fault) → OpeningCause old d fault → EntryCause es x fault
   opening_due fault c =
-      from_whole fault (beginning_refuses old d.id d.space d.name (item x.item).text (item_cause x.item) fault (subst (λ (e : Draft). OpeningCause old e fault) bare_is c))
+      from_whole fault (beginning_refuses old d.id d.space d.name (item x.item).text (item x.item).Cause fault (subst (λ (e : Draft). OpeningCause old e fault) bare_is c))
 
   -- what refuses its text too
   pub writing_due : (fault : Fault) → WritingCause old x d fault → EntryCause es x fault
-  writing_due fault c = from_whole fault (text_refuses old whole (item_cause x.item) fault (subst (λ (e : Draft). WritingCause old x e fault) bare_is c))
+  writing_due fault c = from_whole fault (text_refuses old whole (item x.item).Cause fault (subst (λ (e : Draft). WritingCause old x e fault) bare_is c))
 
   -- and where neither is refused, the entry has no cause
   pub written_free : ((fault : Fault) → OpeningCause old d fault → ⊥) → ((fault : Fault) → WritingCause old x d fault → ⊥) → (fault : Fault) → EntryCause es x fault → ⊥
   written_free opening writing fault c =
-      whole_free old d.id d.space d.name (item x.item).text (item_cause x.item) (λ f k. opening f (subst (λ (e : Draft). OpeningCause old e f) (sym bare_is) k)) (λ f k. writing f (subst (λ (e : Draft). WritingCause old x e f) (sym bare_is) k))
+      whole_free old d.id d.space d.name (item x.item).text (item x.item).Cause (λ f k. opening f (subst (λ (e : Draft). OpeningCause old e f) (sym bare_is) k)) (λ f k. writing f (subst (λ (e : Draft). WritingCause old x e f) (sym bare_is) k))
       fault (to_whole fault c)
+
+-- an item that was begun, written and ended, and was refused nowhere, is one entry more
+pub written_holds : (old new : State) (es : List Entry) (x : Entry) (d : Draft) → IsWritten x d → NoCause (OpeningCause old d) → (item x.item).Fits → NoCause (WritingCause old x d)
+    → new ≡ ended (appended (begun_with old d) (item x.item).text) → Holds old es → Holds new (es ++ x ∷ [])
+written_holds old new es x d w opening fits writing e h = rw (e ∙ is_step) (holds_step old es x fits room h)
+  where
+    is_step : ended (appended (begun_with old d) (item x.item).text) ≡ step old x
+    is_step = rw (w.section, w.defined, w.named, w.bare) refl
+
+    room : HasRoom (with_entry old.settled x).sections.current
+    room fault c = written_free old es x d w h opening writing fault (to_entry old es x h fault (inl (inr (inr c))))
 
 -- types are written so
 pub type_is_written : (name : Option (List ℕ)) (t : TypeOf) → IsWritten (type_entry name t) (draft_of kinds.«Type» spaces.Types name [])

@@ -1,7 +1,8 @@
 ghost use Rattle.std.specs.Borrow.{sem, RestsIfErr};
 ghost use Rattle.std.specs.Option.{option_copied};
-ghost use Rattle.std.specs.Prelude.{◌≡◌, ◌∷◌, [], List, false, Err, IfOk, OnErr};
-ghost use Rattle.wenc_base.specs.Holder.{is_finished, held_text, EncodeCause};
+ghost use Rattle.std.specs.Prelude.{◌≡◌, [], List, false, Err, IfOk, OnErr};
+ghost use Rattle.wenc_base.specs.Holder.{is_finished, held};
+ghost use Rattle.wenc_base.specs.Piece.{◌▸◌};
 ghost use Rattle.wenc_base.specs.declared.fault.Fault.TheVariants.{Unfinished};
 ghost use Rattle.wenc_builder.specs.Enters.{Begins, Enters, TakesDraft};
 ghost use Rattle.wenc_builder.specs.Entry.{type_entry};
@@ -71,8 +72,8 @@ impl<A: Allocator> ComponentBuilder<A> {
             → Enters self.old self.new result
             (type_entry (option_copied debug_name.entry) (InstanceType (instances_of ds))) }
         ensures taken { TakesDraft self.old self.new result
-            (draft_of Kind.«Type» Space.Types (option_copied debug_name.entry)
-            (0x42 ∷ held_text ty.now.held)) (EncodeCause ty.now.held) }
+            (draft_of Kind.«Type» Space.Types (option_copied debug_name.entry))
+            (0x42 ▸ held ty.now.held) }
         ensures unfinished { is_finished ty.now.held ≡ false → result ≡ Err Unfinished }
         ensures err { OnErr result (self.new ≡ self.old) }
     {
@@ -92,8 +93,8 @@ impl<A: Allocator> ComponentBuilder<A> {
             → Enters self.old self.new result
             (type_entry (option_copied debug_name.entry) (ComponentTypeSpec (components_of ds))) }
         ensures taken { TakesDraft self.old self.new result
-            (draft_of Kind.«Type» Space.Types (option_copied debug_name.entry)
-            (0x41 ∷ held_text ty.now.held)) (EncodeCause ty.now.held) }
+            (draft_of Kind.«Type» Space.Types (option_copied debug_name.entry))
+            (0x41 ▸ held ty.now.held) }
         ensures unfinished { is_finished ty.now.held ≡ false → result ≡ Err Unfinished }
         ensures err { OnErr result (self.new ≡ self.old) }
     {

@@ -1,14 +1,14 @@
--- The intrinsic that an opcode and values say is written as these, where the opcode's row takes such values.
-use Rattle.std.proofs.Common.{◌≡◌, ℕ, List, [], ◌∷◌, Option, refl, subst, sym}
-use Rattle.wenc_base.specs.Fault.{NoCause}
+-- What is written of a row is the intrinsic that its opcode and values say.
+use Rattle.std.proofs.Common.{◌≡◌, ℕ, List, [], ◌∷◌, refl, ap, subst, sym, append_assoc, inl, inr}
+use Rattle.wenc_base.specs.Encode.{Serves, in_order}
+use Rattle.wenc_base.specs.Forms.{list}
+use Rattle.wenc_base.specs.Holder.{listed}
 use Rattle.wenc_base.specs.Number.{u32}
-use Rattle.wenc_base.specs.Piece.{HasForm}
-use Rattle.wenc_base.specs.laws.Holders.{adds_as, adds_listed_as}
-use Rattle.wenc_parts.specs.Types.{result_list}
-use Rattle.wenc_parts.specs.declared.types.ComponentValType.{ComponentValType}
+use Rattle.wenc_base.specs.Piece.{Piece, nothing, ◌▸◌, ◌⨾◌, behind_bytes}
+use Rattle.wenc_base.specs.laws.Serves.{serves_itself, serves_then, order_serves, tagged_serves, both_serve, behind_is, with_nothing, either_free, left_free, right_free}
 use Rattle.wenc_canon.specs.declared.canonicals.CanonicalOption.{CanonicalOption}
-use Rattle.wenc_canon.specs.Canonicals.{Field, Index, Options, Flag, Zero, CoreType, Results, Value, Values, fields, Row, ◌takes◌, canonical, canonical_text, canonical_cause, fields_cause, text_with_options}
-use Rattle.wenc_canon.specs.Rows.{row_with, as_value, as_values, provided_by}
+use Rattle.wenc_canon.specs.Canonicals.{canonical_option, Field, Index, Options, Flag, Zero, CoreType, Results, Value, field, Values, fields, Row, ◌takes◌, Lift, Lower, canonical}
+use Rattle.wenc_canon.specs.Rows.{row_with, as_value, as_values, provided_by, and_options, values_then, row_then, provided_with}
 
 same_value : (f : Field) (v : Value f) → as_value f f v ≡ v
 same_value Index n = refl
@@ -24,30 +24,50 @@ same_values (f ∷ []) v = same_value f v
 same_values (f ∷ g ∷ fs) vs = rw (same_value f vs.0, same_values (g ∷ fs) vs.1) refl
 
 -- in a row that takes these fields
-module _ (opcode : ℕ) (fs : List Field) (vs : Values fs) where
-  pub provided_text : (text : List ℕ) → text ≡ (fields fs vs).text → row_with opcode ≡ (opcode takes fs) → opcode ∷ text ≡ canonical_text (provided_by opcode fs vs)
-  provided_text text is e =
-      let same : as_values fs fs vs ≡ vs = same_values fs vs in
-      subst (λ (r : Row). opcode ∷ text ≡ r.opcode ∷ (fields r.fields (as_values fs r.fields vs)).text) (sym e) (rw (is, same) refl)
+pub provided_serves : {p : Piece} (opcode : ℕ) (fs : List Field) (vs : Values fs) → Serves p (fields fs vs) → row_with opcode ≡ (opcode takes fs) → Serves (opcode ▸ p) (canonical (provided_by opcode fs vs))
+provided_serves {p} opcode fs vs s e =
+    let own : Serves (opcode ▸ p) (opcode ▸ fields fs (as_values fs fs vs)) = rw (same_values fs vs) (tagged_serves opcode s) in
+    subst (λ (r : Row). Serves (opcode ▸ p) (r.opcode ▸ fields r.fields (as_values fs r.fields vs))) (sym e) own
 
-  pub provided_free : row_with opcode ≡ (opcode takes fs) → NoCause (fields_cause fs vs) → NoCause (canonical_cause (provided_by opcode fs vs))
-  provided_free e free = subst (λ (r : Row). NoCause (fields_cause r.fields (as_values fs r.fields vs))) (sym e) (rw (same_values fs vs) free)
+-- two fields in their order
+pub two_fields : (f g : Field) (v : Value f) (w : Value g) → Serves (in_order (field f v) (field g w)) (fields (f ∷ g ∷ []) (v, w))
+two_fields f g v w = order_serves {p = field f v} {q = field g w} {p' = field f v} {q' = field g w} serves_itself serves_itself
 
-  -- what is written in it is a canonical function
-  pub row_has_form : row_with opcode ≡ (opcode takes fs) → ∥ HasForm canonical (opcode ∷ (fields fs vs).text) ∥₁
-  row_has_form e = ∣ record { value = provided_by opcode fs vs; is = provided_text (fields fs vs).text refl e } ∣₁
+-- ---- options
 
--- ---- rows with options
+-- bytes in front of two pieces are in front of the first
+pub front_serves : (front : List ℕ) (p q : Piece) → Serves (behind_bytes front p ⨾ q) (behind_bytes front (p ⨾ q))
+front_serves [] p q = serves_itself
+front_serves (b ∷ front) p q =
+    let s = front_serves front p q in
+    record { text = ap (λ (t : List ℕ). b ∷ t) s.text; fits = s.fits; among = s.among; free = s.free }
 
-pub options_alone : (opcode : ℕ) → row_with opcode ≡ (opcode takes Options ∷ []) → (os : List CanonicalOption) → ∥ HasForm canonical (text_with_options opcode [] os) ∥₁
-options_alone opcode e os = row_has_form opcode (Options ∷ []) os e
+three_serve : (p q r : Piece) → Serves ((p ⨾ q) ⨾ r) (p ⨾ (q ⨾ r))
+three_serve p q r = record {
+  text = append_assoc p.text q.text r.text;
+  fits = λ h. (h.0.0, (h.0.1, h.1));
+  among = λ fault c. elim c [ inl front ↦ elim front [ inl one ↦ inl one | inr two ↦ inr (inl two) ] | inr three ↦ inr (inr three) ];
+  free = λ none. either_free (left_free (left_free none)) (either_free (right_free (left_free none)) (right_free none));
+}
 
-pub index_then_options : (opcode n : ℕ) → row_with opcode ≡ (opcode takes Index ∷ Options ∷ []) → (os : List CanonicalOption) → ∥ HasForm canonical (text_with_options opcode (u32 n).text os) ∥₁
-index_then_options opcode n e os = row_has_form opcode (Index ∷ Options ∷ []) (n, os) e
+-- fields, and options behind them, are fields
+fields_then : (fs : List Field) (vs : Values fs) (os : List CanonicalOption) → Serves (fields fs vs ⨾ list canonical_option os) (fields (and_options fs) (values_then fs vs os))
+fields_then [] vs os = behind_is [] (list canonical_option os)
+fields_then (f ∷ []) v os = serves_itself
+fields_then (f ∷ g ∷ fs) vs os = serves_then (three_serve (field f vs.0) (fields (g ∷ fs) vs.1) (list canonical_option os)) (both_serve {p = field f vs.0} {p' = field f vs.0} serves_itself (fields_then (g ∷ fs) vs.1 os))
 
-pub results_then_options : (opcode : ℕ) (r : Option ComponentValType) → row_with opcode ≡ (opcode takes Results ∷ Options ∷ []) → (os : List CanonicalOption)
-    → ∥ HasForm canonical (text_with_options opcode (result_list r).text os) ∥₁
-results_then_options opcode r e os = row_has_form opcode (Results ∷ Options ∷ []) (r, os) e
+pub row_serves : {p : Piece} (opcode : ℕ) (fs : List Field) (vs : Values fs) (os : List CanonicalOption) → Serves p (fields fs vs) → Serves ((opcode ▸ p) ⨾ list canonical_option os) (row_then opcode fs vs os)
+row_serves {p} opcode fs vs os s = serves_then (front_serves (opcode ∷ []) p (list canonical_option os)) (tagged_serves opcode (serves_then (both_serve s serves_itself) (fields_then fs vs os)))
 
--- what the methods with options go by
-pub ruleset option_laws = (adds_as, adds_listed_as, options_alone, index_then_options, results_then_options)
+-- ---- what a holder is given
+
+-- a row with options
+pub provided_with_serves : {p : Piece} (opcode : ℕ) (fs : List Field) (vs : Values fs) → Serves p (fields fs vs) → row_with opcode ≡ (opcode takes and_options fs) → (os : List CanonicalOption)
+    → Serves (listed (opcode ▸ p) canonical_option nothing os) (canonical (provided_with opcode fs vs os))
+provided_with_serves {p} opcode fs vs s e os = serves_then (both_serve {p = opcode ▸ p} {p' = opcode ▸ p} serves_itself (with_nothing {p = list canonical_option os})) (serves_then (row_serves opcode fs vs os s) (provided_serves opcode (and_options fs) (values_then fs vs os) serves_itself e))
+
+pub lift_serves : (function type_index : ℕ) (os : List CanonicalOption) → Serves (listed (0x00 ▸ 0x00 ▸ u32 function) canonical_option (u32 type_index) os) (canonical (Lift function os type_index))
+lift_serves function type_index os = front_serves (0x00 ∷ 0x00 ∷ []) (u32 function) (list canonical_option os ⨾ u32 type_index)
+
+pub lower_serves : (function : ℕ) (os : List CanonicalOption) → Serves (listed (0x01 ▸ 0x00 ▸ u32 function) canonical_option nothing os) (canonical (Lower function os))
+lower_serves function os = serves_then (both_serve {p = 0x01 ▸ 0x00 ▸ u32 function} {p' = 0x01 ▸ 0x00 ▸ u32 function} serves_itself (with_nothing {p = list canonical_option os})) (front_serves (0x01 ∷ 0x00 ∷ []) (u32 function) (list canonical_option os))

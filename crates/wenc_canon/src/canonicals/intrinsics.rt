@@ -1,5 +1,3 @@
-#![tactic(auto, using(crate::specs::laws::Rows::option_laws))]
-
 ghost use Rattle.std.specs.Iterator.{IsFinite};
 ghost use Rattle.wenc_canon.specs.Canonicals as rows;
 ghost use Rattle.wenc_canon.specs.Canonicals.{Adds, AddsWithOptions, Provided};

@@ -1,5 +1,5 @@
 -- The laws of core types in components.
-use Rattle.std.proofs.Common.{String, ◌≡◌, ℕ, ◌<◌, ◌^◌, Bool, true, false, List, [], ◌∷◌, ◌++◌, Option, Vec, map, refl, sym, ap, subst, ◌∙◌}
+use Rattle.std.proofs.Common.{String, ◌≡◌, ℕ, Bool, true, false, List, [], ◌∷◌, ◌++◌, Option, Vec, map, refl, sym, ap, subst, ◌∙◌}
 use Rattle.std.specs.Cmp.{IsEquivalence}
 use Rattle.std.specs.Cmp.Lexicographic.{pointwise}
 use Rattle.std.specs.String.{string_bytes}
@@ -11,21 +11,18 @@ use Rattle.wenc_base.specs.declared.types.groups.GroupTree.{GroupTree}
 use Rattle.wenc_base.specs.declared.types.groups.GroupTree.TheVariants as groups
 use Rattle.wenc_base.specs.declared.types.storage.FieldType.{FieldType}
 use Rattle.wenc_base.specs.declared.types.sub.SubType.{SubType}
-use Rattle.wenc_base.specs.Composites.{params_of, results_of, composite_view, sub_view, group_view, Sub, sub_type_of, Group, Single, Rec, group, guard_before, standing, Composite}
+use Rattle.wenc_base.specs.Composites.{params_of, results_of, composite_view, sub_view, group_view, Sub, sub_type_of, Group, Single, Rec, guard_before, standing, Composite}
 use Rattle.wenc_base.specs.Delimited.{AlikeIsEqual}
-use Rattle.wenc_base.specs.Encode.{Serves, in_order, list_in_order}
-use Rattle.wenc_base.specs.Entities.{entity_type}
-use Rattle.wenc_base.specs.Forms.{list, name as name_form}
+use Rattle.wenc_base.specs.Encode.{Serves}
+use Rattle.wenc_base.specs.Forms.{list}
 use Rattle.wenc_base.specs.Holder.{Held, held_text, held, Contains, EncodeCause}
-use Rattle.wenc_base.specs.Number.{u32}
 use Rattle.wenc_base.specs.declared.imports.EntityType.{EntityType}
 use Rattle.wenc_base.specs.laws.Composites.{read_extension, extension_lawful, extension_sound, sub_of, final_rows, final_row, final_rows_sound, read_types, types_lawful, types_sound, read_group, group_lawful, group_sound, same_params, same_results, same_element, same_fields}
 use Rattle.wenc_base.specs.laws.Entities.{read_entity_type, entity_type_lawful, entity_type_sound}
 use Rattle.wenc_base.specs.laws.Forms.{read_list, list_lawful, list_sound, read_name, name_lawful, name_sound}
 use Rattle.wenc_base.specs.laws.Lawful.{Lawful, Reader, ◌>>=◌, give, nowhere, choose, row, then, last}
-use Rattle.wenc_base.specs.laws.Serves.{serves_itself, serves_then, tagged_serves, behind_is, order_serves, list_serves}
 use Rattle.wenc_base.specs.laws.Sound.{Sound, behind, RowsAreSound, both_tables, last_sound, then_sound, nowhere_sound, choose_sound}
-use Rattle.wenc_base.specs.Piece.{Piece, Form, Wide, ◌▸◌, ◌⨾◌, verbatim, refused_for}
+use Rattle.wenc_base.specs.Piece.{Piece, Form, Wide, ◌▸◌, refused_for}
 use Rattle.wenc_base.specs.laws.Numbers.{read_u32, u32_lawful, u32_sound}
 use Rattle.wenc_types.specs.CoreTypes.{ModuleDeclaration, Import, Defined, Outer, Export, module_declaration, module_type, CoreType, Grouped, Module, core_type}
 use Rattle.wenc_types.specs.CoreTypeTrees.{module_declaration_view, core_type_view}
@@ -97,18 +94,22 @@ module_type_lawful ds = row _ _ 0x50 (declarations_lawful (λ es. es) ds)
 pub held_is : {A : Type 0} (form : Form A) (h : Held) (members : List A) → Contains form h members → held_text h ≡ (list form members).text
 held_is form h members c = rw (← c.count, c.body) refl
 
-pub list_fits : {A : Type 0} (form : Form A) (h : Held) (members : List A) → h.count < 2 ^ 32 → Contains form h members → (list form members).Fits
-list_fits form h members few c = (rw c.count few, c.fit)
+pub list_fits : {A : Type 0} (form : Form A) (h : Held) (members : List A) → Contains form h members → (held h).Fits → (list form members).Fits
+list_fits form h members c fits = (rw c.count fits.0, c.fit)
 
--- behind a byte they are written for a piece that fits and has the same text
-pub held_serves : {p : Piece} (b : ℕ) (h : Held) → b ∷ held_text h ≡ p.text → p.Fits → Serves (b ▸ held h) (refused_for (EncodeCause h) p)
-held_serves b h e fits = record { text = e; fits = λ f. fits; among = λ fault c. c; free = λ none. none }
+-- behind a byte they serve as a piece with the same text, which fits where they do
+pub held_serves : (b : ℕ) (p : Piece) (h : Held) → b ∷ held_text h ≡ p.text → ((held h).Fits → p.Fits) → Serves (b ▸ held h) (refused_for (EncodeCause h) p)
+held_serves b p h e fits = record { text = e; fits = fits; among = λ fault c. c; free = λ none. none }
 
 -- ---- module types that are held
 
 -- the text of a module type is that of its declarations in the grammar
 pub module_type_of : (t : Declared) (ds : List ModuleDeclaration) → Declares t ds → 0x50 ∷ held_text t.held ≡ (module_type ds).text
 module_type_of t ds h = ap (λ (text : List ℕ). 0x50 ∷ text) (held_is module_declaration t.held ds h.contained)
+
+-- what is written of it serves as a type with these declarations
+pub module_serves : (t : Declared) (ds : List ModuleDeclaration) → Declares t ds → Serves (0x50 ▸ held t.held) (refused_for (EncodeCause t.held) (core_type (Module ds)))
+module_serves t ds h = held_serves 0x50 (core_type (Module ds)) t.held (module_type_of t ds h) (list_fits module_declaration t.held ds h.contained)
 
 -- ---- core types
 
@@ -157,30 +158,6 @@ core_type_sound = choose_sound _ _ (both_tables core_type (standing_rows Grouped
       types_sound core_type 0x4e Grouped (λ types bytes rest r. r),
       (open_sound core_type (λ s. Grouped (Single s)) (λ supertype c bytes rest r. (bytes, refl, r)), tt),
     )) (last_sound Module (list_sound module_declaration_sound) (λ ds bytes rest r. (bytes, refl, r)), tt)) nowhere_sound
-
--- ---- what encoders write
-
--- declarations, in their order
-pub module_tree_serves : {A : Type 0} (ds : List (ModuleDecl A))
-    → Serves (0x50 ▸ list_in_order (λ d. module_declaration (module_declaration_view d)) ds) (module_type (map module_declaration_view ds))
-module_tree_serves = λ ds. tagged_serves 0x50 (list_serves (λ d. module_declaration (module_declaration_view d)) module_declaration_view module_declaration (λ d. serves_itself) ds)
-
-pub import_serves : (from name : List ℕ) (ty : EntityType)
-    → Serves (0x00 ▸ in_order (name_form from) (in_order (name_form name) (entity_type ty))) (module_declaration (Import from name ty))
-import_serves from name ty = tagged_serves 0x00 (order_serves serves_itself (order_serves serves_itself serves_itself))
-
-pub outer_serves : (count number : ℕ)
-    → Serves (0x02 ▸ in_order (verbatim (0x10 ∷ 0x01 ∷ [])) (in_order (u32 count) (u32 number))) (module_declaration (Outer count number))
-outer_serves count number = tagged_serves 0x02 (serves_then (order_serves serves_itself (order_serves serves_itself serves_itself)) (behind_is (0x10 ∷ 0x01 ∷ []) (u32 count ⨾ u32 number)))
-
-pub export_serves : (name : List ℕ) (ty : EntityType) → Serves (0x03 ▸ in_order (name_form name) (entity_type ty)) (module_declaration (Export name ty))
-export_serves name ty = tagged_serves 0x03 (order_serves serves_itself serves_itself)
-
-pub module_type_fits : (t : Declared) (ds : List ModuleDeclaration) → t.held.count < 2 ^ 32 → Declares t ds → (module_type ds).Fits
-module_type_fits t ds few h = list_fits module_declaration t.held ds few h.contained
-
-pub module_serves : (t : Declared) (ds : List ModuleDeclaration) → t.held.count < 2 ^ 32 → Declares t ds → Serves (0x50 ▸ held t.held) (refused_for (EncodeCause t.held) (core_type (Module ds)))
-module_serves t ds few h = held_serves 0x50 t.held (module_type_of t ds h) (module_type_fits t ds few h)
 
 -- ---- equal values
 

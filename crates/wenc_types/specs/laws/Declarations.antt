@@ -1,5 +1,5 @@
 -- What follows for the declarations of component types and instance types.
-use Rattle.std.proofs.Common.{◌≡◌, ℕ, ◌+◌, ◌-◌, ◌<◌, ◌^◌, List, [], ◌∷◌, ◌++◌, Option, Some, None, Result, Ok, Err, OnOk, OnErr, refl, ap, sym, ◌∙◌, arith}
+use Rattle.std.proofs.Common.{◌≡◌, ℕ, ◌+◌, ◌-◌, List, [], ◌∷◌, ◌++◌, Option, Some, None, Result, Ok, Err, OnOk, OnErr, refl, ap, sym, ◌∙◌, arith}
 use Rattle.wenc_base.specs.Encode.{Serves}
 use Rattle.wenc_base.specs.Holder.{Held, held_text, held, EncodeCause, AddsMember}
 use Rattle.wenc_base.specs.Piece.{Form, ◌▸◌, refused_for}
@@ -71,7 +71,7 @@ pub taken_back_is_before : (t : Declaring) (s : Sort) (text : List ℕ) → Sett
 taken_back_is_before t s text settled =
     rw (back_again s t.counts, given_up_is_before t.held (lead_of s) text settled.finished, ← settled.none_begun) refl
 
--- ---- what they are written for
+-- ---- what they serve as
 
 pub instance_type_text : (t : Declaring) (ds : List InstanceDeclaration) → InstanceDeclares t ds → 0x42 ∷ held_text t.held ≡ (type_of (InstanceType (instances_of ds))).text
 instance_type_text t ds h = ap (λ (text : List ℕ). 0x42 ∷ text) (held_is instance_declaration t.held ds h.contained) ∙ (instances_serve ds).text
@@ -79,16 +79,12 @@ instance_type_text t ds h = ap (λ (text : List ℕ). 0x42 ∷ text) (held_is in
 pub component_type_text : (t : Declaring) (ds : List ComponentDeclaration) → ComponentDeclares t ds → 0x41 ∷ held_text t.held ≡ (type_of (ComponentType (components_of ds))).text
 component_type_text t ds h = ap (λ (text : List ℕ). 0x41 ∷ text) (held_is component_declaration t.held ds h.contained) ∙ (components_serve ds).text
 
-pub instance_type_fits : (t : Declaring) (ds : List InstanceDeclaration) → t.held.count < 2 ^ 32 → InstanceDeclares t ds → (type_of (InstanceType (instances_of ds))).Fits
-instance_type_fits t ds few h = (instances_serve ds).fits (list_fits instance_declaration t.held ds few h.contained)
-
-pub component_type_fits : (t : Declaring) (ds : List ComponentDeclaration) → t.held.count < 2 ^ 32 → ComponentDeclares t ds → (type_of (ComponentType (components_of ds))).Fits
-component_type_fits t ds few h = (components_serve ds).fits (list_fits component_declaration t.held ds few h.contained)
-
-pub instance_serves : (t : Declaring) (ds : List InstanceDeclaration) → t.held.count < 2 ^ 32 → InstanceDeclares t ds
+pub instance_serves : (t : Declaring) (ds : List InstanceDeclaration) → InstanceDeclares t ds
     → Serves (0x42 ▸ held t.held) (refused_for (EncodeCause t.held) (type_of (InstanceType (instances_of ds))))
-instance_serves t ds few h = held_serves 0x42 t.held (instance_type_text t ds h) (instance_type_fits t ds few h)
+instance_serves t ds h = held_serves 0x42 (type_of (InstanceType (instances_of ds))) t.held (instance_type_text t ds h)
+    (λ fits. (instances_serve ds).fits (list_fits instance_declaration t.held ds h.contained fits))
 
-pub component_serves : (t : Declaring) (ds : List ComponentDeclaration) → t.held.count < 2 ^ 32 → ComponentDeclares t ds
+pub component_serves : (t : Declaring) (ds : List ComponentDeclaration) → ComponentDeclares t ds
     → Serves (0x41 ▸ held t.held) (refused_for (EncodeCause t.held) (type_of (ComponentType (components_of ds))))
-component_serves t ds few h = held_serves 0x41 t.held (component_type_text t ds h) (component_type_fits t ds few h)
+component_serves t ds h = held_serves 0x41 (type_of (ComponentType (components_of ds))) t.held (component_type_text t ds h)
+    (λ fits. (components_serve ds).fits (list_fits component_declaration t.held ds h.contained fits))

@@ -1,12 +1,8 @@
 -- What component types and instance types stay through all calls.
-use Rattle.std.proofs.Common.{◌≡◌, ℕ, ◌+◌, ◌-◌, ◌<◌, ◌≤◌, ◌^◌, inl, inr, Bool, true, false, is_none, List, [], ◌∷◌, ◌++◌, Option, Some, None, refl, ap, sym, ◌∙◌, subst, arith, length}
+use Rattle.std.proofs.Common.{◌≡◌, ℕ, ◌+◌, ◌-◌, ◌≤◌, Bool, true, false, is_none, List, [], ◌∷◌, ◌++◌, Option, Some, None, refl, ap, sym, ◌∙◌, subst, arith, length}
 use Rattle.std.proofs.Math.Logic.{∥∥₁_map, ∥∥₁_map₂}
 use Rattle.std.specs.List.{flat_map, AllByRecursion}
-use Rattle.std.proofs.lemmas.Bool.{cases_lt}
-use Rattle.wenc_base.specs.Fault.{NoCause}
-use Rattle.wenc_base.specs.declared.fault.Fault.{Fault}
-use Rattle.wenc_base.specs.declared.fault.Fault.TheVariants.{TooMany}
-use Rattle.wenc_base.specs.Holder.{Held, is_finished, with_member, held_text, AddCause}
+use Rattle.wenc_base.specs.Holder.{Held, is_finished, with_member, held_text, held}
 use Rattle.wenc_base.specs.Piece.{Form, HasForm, verbatim}
 use Rattle.wenc_base.specs.Openings.{given_up, member_text}
 use Rattle.wenc_base.specs.laws.Holders.{contains_next, all_more}
@@ -14,7 +10,7 @@ use Rattle.wenc_base.specs.laws.Members.{finished_back, back_twice, opened_back,
 use Rattle.wenc_base.specs.declared.holder.openings.Opening.{Opening}
 use Rattle.wenc_types.specs.ComponentTypes.{ComponentType, InstanceType, components_of, instances_of, type_of, component_declaration, instance_declaration}
 use Rattle.wenc_types.specs.Declarations.{component_sort, instance_sort, Declaring, no_declarations, Settled, Declares, IsDeclaration, DeclaresSome, IsDeclaring, HasOne, OpenedIsIn, total, counted, uncounted, counts_of, lead_of, begun, written, ended, taken_back}
-use Rattle.wenc_types.specs.laws.Declarations.{counts_next, back_again, component_type_text, component_type_fits, instance_type_text, instance_type_fits}
+use Rattle.wenc_types.specs.laws.Declarations.{counts_next, back_again, component_serves, instance_serves}
 use Rattle.wenc_types.specs.declared.counts.Counts.{Counts}
 use Rattle.wenc_types.specs.declared.counts.Sort.{Sort}
 use Rattle.wenc_types.specs.declared.counts.Sort.TheVariants.{CoreType, «Type» as TypeSort, Instance}
@@ -67,14 +63,6 @@ enough_back : (o : Option Opening) (h : Held) (sort : Option Sort) (n : Counts) 
 enough_back None h sort n c e = rw c e
 enough_back (Some o) h sort n c e = omega (arith, total_uncounted sort n c)
 
-pub few_back : (o : Option Opening) (h : Held) → h.count < 2 ^ 32 → (given_up (record { kept = h.kept; count = h.count; body = h.body; opening = o })).count < 2 ^ 32
-few_back None h few = few
-few_back (Some o) h few = omega arith
-
--- what was counted is one of 32 bits
-pub few_more : {cause : Fault → Type 0} (h : Held) (text : List ℕ) → NoCause (AddCause h text cause) → h.count + 1 < 2 ^ 32
-few_more h text none = elim (cases_lt (h.count + 1) (2 ^ 32)) [ inl few ↦ few | inr many ↦ absurd (none TooMany (inr (inl many))) ]
-
 -- ---- declarations
 
 module _ (P : List ℕ → Option Sort → Type 0) where
@@ -104,7 +92,6 @@ module _ (P : List ℕ → Option Sort → Type 0) where
 
   pub declaring_none : IsDeclaring P no_declarations
   declaring_none = record {
-    few = omega arith;
     enough = omega arith;
     counted = refl;
     opening = tt;
@@ -116,14 +103,13 @@ module _ (P : List ℕ → Option Sort → Type 0) where
   }
 
   -- a declaration is added
-  pub declaring_added : (t : Declaring) (text : List ℕ) (sort : Option Sort) → is_finished t.held ≡ true → t.held.count + 1 < 2 ^ 32 → P text sort → IsDeclaring P t
+  pub declaring_added : (t : Declaring) (text : List ℕ) (sort : Option Sort) → is_finished t.held ≡ true → P text sort → IsDeclaring P t
       → IsDeclaring P (record { held = with_member t.held text; counts = counted sort t.counts; begun = t.begun })
-  declaring_added t text sort finished few one d =
+  declaring_added t text sort finished one d =
       let none = settled t finished d in
       let next : Declaring = record { held = with_member t.held text; counts = counted sort t.counts; begun = t.begun } in
       let some : ∥ DeclaresSome P next ∥₁ = ∥∥₁_map₂ (declares_some t finished d) ∣ one ∣₁ (λ s p. some_more t text sort s p) in
       record {
-        few = few;
         enough = omega (arith, d.enough, total_counted sort t.counts);
         counted = still_none t.held.opening t.begun t.counts (counted sort t.counts) finished none.none_begun;
         opening = within_finished (with_member t.held text) finished;
@@ -131,12 +117,11 @@ module _ (P : List ℕ → Option Sort → Type 0) where
       }
 
   -- a type is begun
-  pub declaring_begun : (t : Declaring) (sort : Sort) → is_finished t.held ≡ true → t.held.count + 1 < 2 ^ 32 → IsDeclaring P t → IsDeclaring P (begun sort t)
-  declaring_begun t sort finished few d =
+  pub declaring_begun : (t : Declaring) (sort : Sort) → is_finished t.held ≡ true → IsDeclaring P t → IsDeclaring P (begun sort t)
+  declaring_begun t sort finished d =
       let none = settled t finished d in
       let back : taken_back (begun sort t) ≡ t = rw (opened_back t.held (lead_of sort) finished, back_again sort t.counts, ← none.none_begun) refl in
       record {
-        few = few;
         enough = omega (arith, d.enough, total_counted (Some sort) t.counts);
         counted = has_one sort t.counts;
         opening = within_opened t.held (lead_of sort);
@@ -146,7 +131,6 @@ module _ (P : List ℕ → Option Sort → Type 0) where
   -- more of it is written
   pub declaring_written : (t : Declaring) (text : List ℕ) → is_finished t.held ≡ false → IsDeclaring P t → IsDeclaring P (written t text)
   declaring_written t text unfinished d = record {
-    few = d.few;
     enough = d.enough;
     counted = d.counted;
     opening = within_lengthened t.held text d.opening;
@@ -170,7 +154,6 @@ module _ (P : List ℕ → Option Sort → Type 0) where
           ∥∥₁_map₂ d.settled whole (λ s p. some_more back (member_text t.held) t.begun s p) in
           let one : HasOne t.begun t.counts = one_at t.held.opening t.begun t.counts unfinished d.counted in
           record {
-            few = d.few;
             enough = d.enough;
             counted = refl;
             opening = tt;
@@ -180,7 +163,6 @@ module _ (P : List ℕ → Option Sort → Type 0) where
   -- or it is given up
   pub declaring_taken_back : (t : Declaring) → IsDeclaring P t → IsDeclaring P (taken_back t)
   declaring_taken_back t d = record {
-    few = few_back t.held.opening t.held d.few;
     enough = enough_back t.held.opening t.held t.begun t.counts d.counted d.enough;
     counted = counted_back t.held.opening t.held (uncounted t.begun t.counts);
     opening = within_back t.held;
@@ -216,12 +198,14 @@ declares_values form sort t s =
 
 -- ---- the texts of what is finished
 
-pub component_has_form : (t : Declaring) → t.held.count < 2 ^ 32 → ∥ DeclaresSome (IsDeclaration component_declaration component_sort) t ∥₁ → ∥ HasForm type_of (0x41 ∷ held_text t.held) ∥₁
-component_has_form t few some = ∥∥₁_map some (λ s.
+pub component_has_form : (t : Declaring) → (held t.held).Fits → ∥ DeclaresSome (IsDeclaration component_declaration component_sort) t ∥₁ → ∥ HasForm type_of (0x41 ∷ held_text t.held) ∥₁
+component_has_form t fits some = ∥∥₁_map some (λ s.
     let all = declares_values component_declaration component_sort t s in
-    record { value = ComponentType (components_of all.0); fits = component_type_fits t all.0 few all.1; is = component_type_text t all.0 all.1 })
+    let serves = component_serves t all.0 all.1 in
+    record { value = ComponentType (components_of all.0); fits = serves.fits fits; is = serves.text })
 
-pub instance_has_form : (t : Declaring) → t.held.count < 2 ^ 32 → ∥ DeclaresSome (IsDeclaration instance_declaration instance_sort) t ∥₁ → ∥ HasForm type_of (0x42 ∷ held_text t.held) ∥₁
-instance_has_form t few some = ∥∥₁_map some (λ s.
+pub instance_has_form : (t : Declaring) → (held t.held).Fits → ∥ DeclaresSome (IsDeclaration instance_declaration instance_sort) t ∥₁ → ∥ HasForm type_of (0x42 ∷ held_text t.held) ∥₁
+instance_has_form t fits some = ∥∥₁_map some (λ s.
     let all = declares_values instance_declaration instance_sort t s in
-    record { value = InstanceType (instances_of all.0); fits = instance_type_fits t all.0 few all.1; is = instance_type_text t all.0 all.1 })
+    let serves = instance_serves t all.0 all.1 in
+    record { value = InstanceType (instances_of all.0); fits = serves.fits fits; is = serves.text })

@@ -1,18 +1,13 @@
 -- The laws of types of values that components define, and of types of functions.
-use Rattle.std.proofs.Common.{ℕ, Bool, true, false, List, [], ◌∷◌, ◌++◌, map, Option, refl}
-use Rattle.std.specs.Borrow.{Bor}
-use Rattle.wenc_base.specs.Encode.{Serves, in_order}
+use Rattle.std.proofs.Common.{ℕ, Bool, true, false, List, [], ◌∷◌, ◌++◌, Option, refl}
 use Rattle.wenc_base.specs.laws.Forms.{read_list, list_lawful, list_sound, read_name, name_lawful, name_sound, read_option, option_lawful, option_sound}
 use Rattle.wenc_base.specs.laws.Lawful.{Lawful, Reader, ◌>>=◌, give, nowhere, choose, row, row_byte, then, last}
-use Rattle.wenc_base.specs.laws.Sound.{Sound, behind, RowsAreSound, give_sound, last_sound, then_sound, nowhere_sound, choose_sound}
-use Rattle.wenc_base.specs.Forms.{list, option, name as name_form}
-use Rattle.wenc_base.specs.Piece.{Form, Wide, nothing, byte, ◌▸◌, ◌⨾◌, behind_bytes}
-use Rattle.wenc_base.specs.laws.Serves.{serves_itself, order_serves, listed_serves}
-use Rattle.wenc_parts.specs.Types.{value_type, result_list}
+use Rattle.wenc_base.specs.laws.Sound.{Sound, RowsAreSound, give_sound, last_sound, then_sound, nowhere_sound, choose_sound}
+use Rattle.wenc_base.specs.Piece.{Form, Wide}
 use Rattle.wenc_base.specs.laws.Numbers.{read_u32, u32_lawful, u32_sound}
 use Rattle.wenc_parts.specs.declared.types.ComponentValType.{ComponentValType}
-use Rattle.wenc_parts.specs.laws.Types.{primitive_rows, primitive_row, read_value_type, value_type_lawful, value_type_sound, read_result_list, result_list_lawful, result_list_sound}
-use Rattle.wenc_types.specs.DefinedTypes.{Named, named, Case, case, Defined, Primitive, Record, Variant, ListOf, MapOf, FixedLengthList, Tuple, Flags, Enumeration, OptionOf, ResultOf, Own, Borrow, Future, Stream, defined_type, Function, function_type_of, function_type, lent_named}
+use Rattle.wenc_parts.specs.laws.Types.{primitive_rows, primitive_row, read_value_type, value_type_lawful, value_type_sound, read_result_list, result_list_lawful}
+use Rattle.wenc_types.specs.DefinedTypes.{Named, named, Case, case, Defined, Primitive, Record, Variant, ListOf, MapOf, FixedLengthList, Tuple, Flags, Enumeration, OptionOf, ResultOf, Own, Borrow, Future, Stream, defined_type, Function, function_type_of, function_type}
 
 -- ---- parts
 
@@ -152,45 +147,8 @@ function_row make rows other false params answer =
 function_row make rows other true params answer =
     row _ _ 0x43 (then _ (list_lawful named_lawful params) (last (λ a. make (to_function true params a)) (result_list_lawful answer)))
 
-signature_sound : {A : Type 0} (form : Form A) (is_async : Bool) (make : Function → A)
-    → ((params : List Named) (answer : Option ComponentValType) (bytes rest : List ℕ) → (list named params ⨾ result_list answer).Reads Wide bytes rest → (form (make (to_function is_async params answer))).Reads Wide bytes rest) → Sound form (read_signature is_async make)
-signature_sound form is_async make k =
-    then_sound _ (list_sound named_sound) (λ params. last_sound (λ answer. make (to_function is_async params answer)) result_list_sound (λ answer middle rest r bytes p. k params answer bytes rest (middle, p, r)))
-
--- each row of a table of types of functions
-pub function_rows_sound : {A : Type 0} (form : Form A) (make : Function → A) → ((f : Function) (bytes rest : List ℕ) → (function_type f).Reads Wide bytes rest → (form (make f)).Reads Wide bytes rest) → RowsAreSound form (function_rows make)
-function_rows_sound form make k = (
-  signature_sound (behind 0x40 form) false make (λ params answer bytes rest r. k (to_function false params answer) _ rest (bytes, refl, r)),
-  (signature_sound (behind 0x43 form) true make (λ params answer bytes rest r. k (to_function true params answer) _ rest (bytes, refl, r)), tt),
-)
-
 abbrev pub read_function : Reader Function
 read_function = choose (function_rows (λ f. f)) nowhere
 
 pub function_type_lawful : (f : Function) → Lawful (function_type f) (λ fuel. read_function) f
 function_type_lawful f = function_row (λ g. g) (λ fuel. []) _ f.is_async f.params f.answer
-
--- ---- what encoders write
-
--- a name, then a type
-pub field_serves : (name : List ℕ) (ty : ComponentValType) → Serves (in_order (name_form name) (value_type ty)) (named (to_named name ty))
-field_serves name ty = order_serves serves_itself serves_itself
-
--- a name, then a type or none, then a byte
-pub case_serves : (name : List ℕ) (ty : Option ComponentValType) → Serves (in_order (name_form name) (in_order (option value_type ty) (0x00 ▸ nothing))) (case (to_case name ty))
-case_serves name ty = order_serves serves_itself (order_serves serves_itself byte_serves)
-  where
-    byte_serves : Serves (0x00 ▸ nothing) (byte 0x00)
-    byte_serves = record { text = refl; fits = λ h. h; among = λ fault c. c; free = λ none. none }
-
--- a field that an iterator gives
-abbrev pub lent_field : Form (Bor (List ℕ) × ComponentValType)
-lent_field f = in_order (name_form f.0.now) (value_type f.1)
-
--- fields and names that an iterator gives, behind bytes
-pub fields_serve : (lead : List ℕ) (vs : List (Bor (List ℕ) × ComponentValType))
-    → Serves (behind_bytes lead (list lent_field vs)) (behind_bytes lead (list named (map lent_named vs)))
-fields_serve = listed_serves lent_field lent_named named (λ f. field_serves f.0.now f.1)
-
-pub names_serve : (lead : List ℕ) (vs : List (Bor (List ℕ))) → Serves (behind_bytes lead (list (λ n. name_form n.now) vs)) (behind_bytes lead (list name_form (map (λ n. n.now) vs)))
-names_serve = listed_serves (λ (n : Bor (List ℕ)). name_form n.now) (λ n. n.now) name_form (λ n. serves_itself)

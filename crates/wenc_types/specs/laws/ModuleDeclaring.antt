@@ -1,10 +1,10 @@
 -- What module types stay through all calls.
-use Rattle.std.proofs.Common.{◌≡◌, ◌↔◌, ℕ, ◌+◌, ◌-◌, ◌<◌, ◌≤◌, ◌^◌, Bool, true, false, is_none, List, [], ◌∷◌, ◌++◌, Option, Some, None, Result, Ok, Err, OnOk, inl, inr, refl, ap, sym, ◌∙◌, subst, arith}
+use Rattle.std.proofs.Common.{◌≡◌, ◌↔◌, ℕ, ◌+◌, ◌-◌, ◌≤◌, Bool, true, false, is_none, List, [], ◌∷◌, ◌++◌, Option, Some, None, Result, Ok, Err, OnOk, inl, inr, refl, ap, sym, ◌∙◌, subst, arith}
 use Rattle.std.proofs.Math.Logic.{∥∥₁_map, ∥∥₁_map₂}
 use Rattle.std.specs.Prelude.{IsTrue}
 use Rattle.wenc_base.specs.declared.fault.Fault.{Fault}
 use Rattle.wenc_base.specs.declared.fault.Fault.TheVariants.{Unfinished}
-use Rattle.wenc_base.specs.Holder.{Held, is_finished, with_member, held_text, AddsMember}
+use Rattle.wenc_base.specs.Holder.{Held, is_finished, with_member, held_text, held, AddsMember}
 use Rattle.wenc_base.specs.Piece.{HasForm}
 use Rattle.wenc_base.specs.Openings.{given_up}
 use Rattle.wenc_base.specs.laws.Holders.{contains_next}
@@ -12,8 +12,7 @@ use Rattle.wenc_base.specs.laws.Members.{was_finished, told_finished, IsLonger, 
 use Rattle.wenc_base.specs.declared.holder.openings.Opening.{Opening}
 use Rattle.wenc_types.specs.CoreTypes.{ModuleDeclaration, Defined, module_declaration, Module, core_type}
 use Rattle.wenc_types.specs.ModuleTypes.{Declared, no_declarations, types_of, Declares, IsWhole, OpenedIsIn, IsDeclaring, types_before, begun, written, ended, taken_back}
-use Rattle.wenc_types.specs.laws.CoreTypes.{module_type_of, module_type_fits}
-use Rattle.wenc_types.specs.laws.Declaring.{few_back, few_more}
+use Rattle.wenc_types.specs.laws.CoreTypes.{module_serves}
 use Rattle.wenc_types.specs.laws.ModuleTypes.{type_count_next}
 
 abbrev HasSome : Declared → Type 0
@@ -68,7 +67,6 @@ declares_some t finished d = subst HasSome (finished_as_it_is t finished) d.sett
 
 pub declaring_none : IsDeclaring no_declarations
 declaring_none = record {
-  few = omega arith;
   enough = omega arith;
   counted = tt;
   opening = tt;
@@ -76,13 +74,12 @@ declaring_none = record {
 }
 
 -- a declaration is added
-pub declaring_added : (t : Declared) (d : ModuleDeclaration) → is_finished t.held ≡ true → types_of d ≤ 1 → t.held.count + 1 < 2 ^ 32 → (module_declaration d).Fits → IsDeclaring t
+pub declaring_added : (t : Declared) (d : ModuleDeclaration) → is_finished t.held ≡ true → types_of d ≤ 1 → (module_declaration d).Fits → IsDeclaring t
     → IsDeclaring (record { held = with_member t.held (module_declaration d).text; types = t.types + types_of d })
-declaring_added t d finished one few fits k =
+declaring_added t d finished few fits k =
     let next : Declared = record { held = with_member t.held (module_declaration d).text; types = t.types + types_of d } in
     let some : ∥ ((ds : List ModuleDeclaration) × Declares next ds) ∥₁ = ∥∥₁_map (declares_some t finished k) (λ s. (s.0 ++ d ∷ [], some_more t d s.0 fits s.1)) in
     record {
-      few = few;
       enough = omega (arith, k.enough);
       counted = still_counted t.held.opening (t.types + types_of d) finished;
       opening = within_finished (with_member t.held (module_declaration d).text) finished;
@@ -93,18 +90,17 @@ declaring_added t d finished one few fits k =
 pub declaring_took : (t : Declared) (new : Held) (outcome : Result (Unit {0}) Fault) (d : ModuleDeclaration) → types_of d ≡ 0
     → AddsMember (module_declaration d) t.held new outcome → IsDeclaring t → IsDeclaring (record { held = new; types = t.types })
 declaring_took t new (Ok u) d none a k =
-    let one : types_of d ≤ 1 = omega (arith, none) in
+    let few : types_of d ≤ 1 = omega (arith, none) in
     let same : t.types + types_of d ≡ t.types = omega (arith, none) in
-    rw a.ok.state (rw same at (declaring_added t d (was_finished t.held u a.unfinished_first) one (few_more t.held (module_declaration d).text a.ok.free) a.ok.fits k))
+    rw a.ok.state (rw same at (declaring_added t d (was_finished t.held u a.unfinished_first) few a.ok.fits k))
 declaring_took t new (Err f) d none a k = rw a.err k
 
 -- a type is begun
-pub declaring_begun : (t : Declared) → is_finished t.held ≡ true → t.held.count + 1 < 2 ^ 32 → IsDeclaring t → IsDeclaring (begun t)
-declaring_begun t finished few k =
+pub declaring_begun : (t : Declared) → is_finished t.held ≡ true → IsDeclaring t → IsDeclaring (begun t)
+declaring_begun t finished k =
     let types : t.types + 1 - 1 ≡ t.types = omega arith in
     let back : taken_back (begun t) ≡ t = rw (opened_back t.held (0x01 ∷ []) finished, types) refl in
     record {
-      few = few;
       enough = omega (arith, k.enough);
       counted = omega arith;
       opening = within_opened t.held (0x01 ∷ []);
@@ -114,7 +110,6 @@ declaring_begun t finished few k =
 -- more of it is written
 pub declaring_written : (t : Declared) (text : List ℕ) → is_finished t.held ≡ false → IsDeclaring t → IsDeclaring (written t text)
 declaring_written t text unfinished k = record {
-  few = k.few;
   enough = k.enough;
   counted = k.counted;
   opening = within_lengthened t.held text k.opening;
@@ -143,7 +138,6 @@ declaring_ended t whole k = at (is_finished t.held) refl
         let same : ended t ≡ t = rw (closed_as_it_is t.held finished) refl in
         subst IsDeclaring (sym same) k
     at false unfinished = record {
-      few = k.few;
       enough = k.enough;
       counted = tt;
       opening = tt;
@@ -153,7 +147,6 @@ declaring_ended t whole k = at (is_finished t.held) refl
 -- or it is given up
 pub declaring_taken_back : (t : Declared) → IsDeclaring t → IsDeclaring (taken_back t)
 declaring_taken_back t k = record {
-  few = few_back t.held.opening t.held k.few;
   enough = enough_back t.held.opening t.held t.types k.counted k.enough;
   counted = counted_back t.held.opening t.held (types_before t.held.opening t.types);
   opening = within_back t.held;
@@ -179,5 +172,5 @@ encoded_declares t (Err f) k refused = tt
 
 -- ---- the text of what is finished
 
-pub module_has_form : (t : Declared) → t.held.count < 2 ^ 32 → ∥ ((ds : List ModuleDeclaration) × Declares t ds) ∥₁ → ∥ HasForm core_type (0x50 ∷ held_text t.held) ∥₁
-module_has_form t few some = ∥∥₁_map some (λ s. record { value = Module s.0; fits = module_type_fits t s.0 few s.1; is = module_type_of t s.0 s.1 })
+pub module_has_form : (t : Declared) → (held t.held).Fits → ∥ ((ds : List ModuleDeclaration) × Declares t ds) ∥₁ → ∥ HasForm core_type (0x50 ∷ held_text t.held) ∥₁
+module_has_form t fits some = ∥∥₁_map some (λ s. let serves = module_serves t s.0 s.1 in record { value = Module s.0; fits = serves.fits fits; is = serves.text })

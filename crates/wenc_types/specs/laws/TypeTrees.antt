@@ -1,58 +1,19 @@
 -- What follows for types that components define, with all that is in them.
-use Rattle.std.proofs.Common.{String, ◌≡◌, ℕ, Bool, true, false, List, Option, Result, Vec, map, refl, sym, ap, subst, rules}
-use Rattle.std.proofs.lemmas.List.{map-id}
+use Rattle.std.proofs.Common.{String, ◌≡◌, ℕ, Bool, Option, Vec, map, refl, sym, ap, subst, rules}
 use Rattle.std.specs.String.{string_bytes}
-use Rattle.wenc_base.specs.Encode.{Serves, in_order, list_in_order}
-use Rattle.wenc_base.specs.Forms.{list, name as name_form}
-use Rattle.wenc_base.specs.Piece.{Form, ◌▸◌, ◌⨾◌}
 use Rattle.wenc_base.specs.declared.types.ValType.{ValType}
-use Rattle.wenc_base.specs.laws.Serves.{serves_itself, serves_then, tagged_serves, order_serves, list_serves}
-use Rattle.wenc_parts.specs.Aliases.{alias_tree_view}
-use Rattle.wenc_parts.specs.Imports.{ExternName, extern_name, name_tree_view, type_reference}
-use Rattle.wenc_parts.specs.Types.{value_type, result_list}
-use Rattle.wenc_parts.specs.declared.aliases.AliasTree.{AliasTree}
-use Rattle.wenc_parts.specs.declared.imports.ComponentTypeRef.{ComponentTypeRef}
-use Rattle.wenc_parts.specs.declared.imports.NameTree.{NameTree}
 use Rattle.wenc_parts.specs.declared.types.ComponentValType.{ComponentValType}
-use Rattle.wenc_types.specs.ComponentTypes.{DefinedType, FunctionType, ComponentType, InstanceType, ResourceType, CoreTyped, Typed, Aliased, Exported, Imported, Declared, type_of, instance_declaration, component_declaration, instances_of, components_of}
-use Rattle.wenc_types.specs.laws.ComponentTypes.{instances_serve, components_serve}
-use Rattle.wenc_types.specs.laws.DefinedTypes.{field_serves}
-use Rattle.wenc_types.specs.FuncStages.{async_byte}
-use Rattle.wenc_types.specs.CoreTypeTrees.{core_type_view}
-use Rattle.wenc_types.specs.DefinedTypes.{Named, named, Case, case, Defined, Primitive, Record, Variant, ListOf, MapOf, FixedLengthList, Tuple, Flags, Enumeration, OptionOf, ResultOf, Own, Borrow, Future, Stream, defined_type, function_type_of, function_type}
-use Rattle.wenc_types.specs.TypeTrees.{named_view, case_view, defined_view, function_view, type_view, instance_declaration_view, component_declaration_view}
-use Rattle.wenc_types.specs.declared.core_type_tree.CoreTypeTree.{CoreTypeTree}
+use Rattle.wenc_types.specs.ComponentTypes.{DefinedType, ComponentType, InstanceType, ResourceType, instances_of, components_of}
+use Rattle.wenc_types.specs.DefinedTypes.{Named, Case, Defined, Primitive, Record, Variant, ListOf, MapOf, FixedLengthList, Tuple, Flags, Enumeration, OptionOf, ResultOf, Own, Borrow, Future, Stream}
+use Rattle.wenc_types.specs.TypeTrees.{named_view, case_view, defined_view, type_view, instance_declaration_view, component_declaration_view}
 use Rattle.wenc_types.specs.declared.defined_tree.CaseTree.{CaseTree}
 use Rattle.wenc_types.specs.declared.defined_tree.DefinedTree.{DefinedTree}
 use Rattle.wenc_types.specs.declared.defined_tree.DefinedTree.TheVariants as trees
 use Rattle.wenc_types.specs.declared.type_tree.ComponentDecl.{ComponentDecl}
-use Rattle.wenc_types.specs.declared.type_tree.ComponentDecl.TheVariants as components
 use Rattle.wenc_types.specs.declared.type_tree.InstanceDecl.{InstanceDecl}
-use Rattle.wenc_types.specs.declared.type_tree.InstanceDecl.TheVariants as instances
-use Rattle.wenc_types.specs.declared.type_tree.TypeTree.{TypeTree, the_lemmas}
+use Rattle.wenc_types.specs.declared.type_tree.TypeTree.{the_lemmas}
 use Rattle.wenc_types.specs.declared.type_tree.TypeTree.TheVariants as types
 use Rattle.wenc_types.specs.laws.CoreTypes.{SeesAlike}
-
--- ---- what encoders write
-
--- a field or a parameter: its name, then its type
-abbrev pub field_tree : {A : Type 0} → Form (String A × ComponentValType)
-field_tree f = in_order (name_form (string_bytes f.0)) (value_type f.1)
-
--- fields, cases and names, in their order
-pub record_tree_serves : {A : Type 0} (fields : List (String A × ComponentValType))
-    → Serves (0x72 ▸ list_in_order field_tree fields) (defined_type (Record (map named_view fields)))
-record_tree_serves fields =
-    tagged_serves 0x72 (list_serves field_tree named_view named (λ f. field_serves (string_bytes f.0) f.1) fields)
-
-pub variant_tree_serves : {A : Type 0} (cases : List (CaseTree A)) → Serves (0x71 ▸ list_in_order (λ c. case (case_view c)) cases) (defined_type (Variant (map case_view cases)))
-variant_tree_serves cases = tagged_serves 0x71 (list_serves (λ c. case (case_view c)) case_view case (λ c. serves_itself) cases)
-
-pub names_tree_serves : {A : Type 0} (tag : ℕ) (names : List (String A)) → Serves (tag ▸ list_in_order (λ s. name_form (string_bytes s)) names) (tag ▸ list name_form (map string_bytes names))
-names_tree_serves tag names = tagged_serves tag (list_serves (λ s. name_form (string_bytes s)) string_bytes name_form (λ s. serves_itself) names)
-
-pub tuple_tree_serves : (elements : List ComponentValType) → Serves (0x6f ▸ list_in_order value_type elements) (defined_type (Tuple elements))
-tuple_tree_serves elements = rw map-id at (tagged_serves 0x6f (list_serves value_type (λ t. t) value_type (λ t. serves_itself) elements))
 
 -- ---- equal values
 
@@ -134,29 +95,10 @@ defined_sees {A} eq records variants tuples flags enums a b e = of a (subst (λ 
     of (trees.Future ty) h = rw h refl
     of (trees.Stream ty) h = rw h refl
 
--- ---- types of functions
-
--- parameters, then what the function answers, behind the byte that tells whether it is asynchronous
-pub function_tree_serves : {A : Type 0} (is_async : Bool) (tag : ℕ) (params : List (String A × ComponentValType)) (answer : Option ComponentValType) → tag ≡ async_byte is_async
-    → Serves (tag ▸ in_order (list_in_order field_tree params) (result_list answer)) (function_type (function_view is_async params answer))
-function_tree_serves is_async tag params answer e = rw e (at is_async)
-  where
-    fields : Serves (list_in_order field_tree params) (list named (map named_view params))
-    fields = list_serves field_tree named_view named (λ f. field_serves (string_bytes f.0) f.1) params
-
-    at : (is_async : Bool)
-        → Serves (async_byte is_async ▸ in_order (list_in_order field_tree params) (result_list answer)) (function_type_of is_async (map named_view params) answer)
-    at false = tagged_serves 0x40 (order_serves fields serves_itself)
-    at true = tagged_serves 0x43 (order_serves fields serves_itself)
-
 -- ---- what the code's trees are seen as, level by level
 
 pub view_defined : {A : Type 0} (ty : DefinedTree A) → type_view (types.Defined ty) ≡ DefinedType (defined_view ty)
 view_defined ty = search (rules, the_lemmas)
-
-pub view_function : {A : Type 0} (is_async : Bool) (params : Vec (String A × ComponentValType) A) (answer : Option ComponentValType)
-    → type_view (types.Func is_async params answer) ≡ FunctionType (function_view is_async params.items answer)
-view_function is_async params answer = search (rules, the_lemmas)
 
 pub view_component : {A : Type 0} (ds : Vec (ComponentDecl A) A) → type_view (types.Component ds) ≡ ComponentType (components_of (map component_declaration_view ds.items))
 view_component ds = search (rules, the_lemmas)
@@ -166,41 +108,3 @@ view_instance ds = search (rules, the_lemmas)
 
 pub view_resource : (A : Type 0) (rep : ValType) (dtor : Option ℕ) → type_view {A = A} (types.Resource rep dtor) ≡ ResourceType rep dtor
 view_resource A rep dtor = search (rules, the_lemmas)
-
-pub view_core : {A : Type 0} (ty : CoreTypeTree A) → instance_declaration_view (instances.CoreType ty) ≡ CoreTyped (core_type_view ty)
-view_core ty = search (rules, the_lemmas)
-
-pub view_type : {A : Type 0} (ty : TypeTree A) → instance_declaration_view (instances.«Type» ty) ≡ Typed (type_view ty)
-view_type ty = search (rules, the_lemmas)
-
-pub view_alias : {A : Type 0} (a : AliasTree A) → instance_declaration_view (instances.Alias a) ≡ Aliased (alias_tree_view a)
-view_alias a = search (rules, the_lemmas)
-
-pub view_exported : {A : Type 0} (name : NameTree A) (ty : ComponentTypeRef) → instance_declaration_view (instances.Export name ty) ≡ Exported (name_tree_view name) ty
-view_exported name ty = search (rules, the_lemmas)
-
-pub view_imported : {A : Type 0} (name : NameTree A) (ty : ComponentTypeRef) → component_declaration_view (components.Import name ty) ≡ Imported (name_tree_view name) ty
-view_imported name ty = search (rules, the_lemmas)
-
-pub view_declared : {A : Type 0} (d : InstanceDecl A) → component_declaration_view (components.Decl d) ≡ Declared (instance_declaration_view d)
-view_declared d = search (rules, the_lemmas)
-
--- ---- declarations
-
--- a name, then a type, behind a byte
-pub extern_serves : (seen name : ExternName) → seen ≡ name → (tag : ℕ) (ty : ComponentTypeRef)
-    → Serves (tag ▸ in_order (extern_name seen) (type_reference ty)) (tag ▸ (extern_name name ⨾ type_reference ty))
-extern_serves seen name e tag ty = rw e (tagged_serves tag (order_serves serves_itself serves_itself))
-
--- declarations, in their order
-pub instance_tree_serves : {A : Type 0} (ds : Vec (InstanceDecl A) A)
-    → Serves (0x42 ▸ list_in_order (λ d. instance_declaration (instance_declaration_view d)) ds.items) (type_of (type_view (types.Instance ds)))
-instance_tree_serves ds = rw view_instance
-    (serves_then (tagged_serves 0x42 (list_serves (λ d. instance_declaration (instance_declaration_view d)) instance_declaration_view instance_declaration (λ d. serves_itself) ds.items))
-    (instances_serve (map instance_declaration_view ds.items)))
-
-pub component_tree_serves : {A : Type 0} (ds : Vec (ComponentDecl A) A)
-    → Serves (0x41 ▸ list_in_order (λ d. component_declaration (component_declaration_view d)) ds.items) (type_of (type_view (types.Component ds)))
-component_tree_serves ds = rw view_component
-    (serves_then (tagged_serves 0x41 (list_serves (λ d. component_declaration (component_declaration_view d)) component_declaration_view component_declaration (λ d. serves_itself) ds.items))
-    (components_serve (map component_declaration_view ds.items)))

@@ -1,11 +1,13 @@
-use Rattle.std.proofs.Common.{rules}
 use Rattle.wenc_base.specs.laws.Holders.{adds_listed_as}
-use Rattle.wenc_base.specs.laws.Members.{has_form}
+use Rattle.wenc_base.specs.laws.Members.{keeps_listed}
 use Rattle.wenc_canon.specs.Canonicals.{Lower, canonical}
+use Rattle.wenc_canon.specs.laws.Rows.{lower_serves}
 use Rattle.wenc_canon.proofs.canonicals.CanonicalFunctionSection.lower.Goals as goal
 
 pub returns : goal.returns
-returns g c = search (rules, adds_listed_as)
+returns g c = rw (← c.self.view_is) (adds_listed_as g.I.Iterator.next_gives c.args.options _ _ _ _ _ (lower_serves c.args.func) c.add_listed.ensures.added)
 
-pub add_row_with_options-requires-clause-functions : goal.add_row_with_options-requires-clause-functions
-add_row_with_options-requires-clause-functions g c = λ os. has_form canonical (Lower c.args.func os)
+pub invariant_of-self : goal.invariant_of-self
+invariant_of-self g c =
+    keeps_listed canonical g.I.Iterator.next_gives c.args.options c.self.inside.functions c.add_listed.new.self c.add_listed.result (λ os. Lower c.args.func os)
+    (adds_listed_as g.I.Iterator.next_gives c.args.options _ _ _ _ _ (lower_serves c.args.func) c.add_listed.ensures.added) c.self.invariant

@@ -7,5 +7,5 @@ invariant_of-self-2 g c =
     let t = c.self.inside in
     let added = c.in_ok-add_encoded.ensures.added in
     rw (added.ok.state, c.counted-self-inside.ensures)
-    (declaring_added g.K.DeclaringKind.is_declaration (record { held = t.held; counts = t.counts; begun = t.begun }) (g.E.Encode.text c.args.declaration.now) c.args.sort
-    (was_finished t.held _ added.unfinished_first) c.requires c.self.invariant)
+    (declaring_added g.K.DeclaringKind.is_declaration (record { held = t.held; counts = t.counts; begun = t.begun }) (g.E.Encode.piece c.args.declaration.now).text c.args.sort
+    (was_finished t.held _ added.unfinished_first) (c.requires added.ok.fits) c.self.invariant)

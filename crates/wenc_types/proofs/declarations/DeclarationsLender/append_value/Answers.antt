@@ -1,5 +1,4 @@
 use Rattle.wenc_base.specs.Holder.{Held}
-use Rattle.wenc_base.specs.Fault.{either}
 use Rattle.wenc_base.specs.Openings.{lengthened, no_room}
 use Rattle.wenc_base.specs.laws.Lenders.{carried}
 use Rattle.wenc_types.specs.Declarations.{Declaring}
@@ -8,6 +7,6 @@ use Rattle.wenc_types.proofs.declarations.DeclarationsLender.append_value.Goals 
 pub returns-clause-appended : goal.returns-clause-appended
 returns-clause-appended g c =
     let t = c.self.inside in
-    let text = g.E.Encode.text c.args.value.now in
+    let text = (g.E.Encode.piece c.args.value.now).text in
     rw (← c.self.view_is) (carried (λ (h : Held). let d : Declaring = record { held = h; counts = t.counts; begun = t.begun } in d) t.held c.append_encoded.new.self (lengthened t.held text) c.append_encoded.result
-    (either (g.E.Encode.cause c.args.value.now) (no_room t.held text)) c.append_encoded.ensures.lengthened)
+    (no_room t.held text) c.append_encoded.ensures.lengthened)

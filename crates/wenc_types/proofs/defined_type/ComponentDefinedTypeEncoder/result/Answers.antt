@@ -1,8 +1,16 @@
-use Rattle.wenc_base.specs.laws.Forms.{option_is}
+use Rattle.wenc_base.specs.Forms.{option}
 use Rattle.wenc_parts.specs.Types.{value_type}
+use Rattle.wenc_base.specs.laws.Lenders.{extends_for, whole_for}
 use Rattle.wenc_types.specs.DefinedTypes.{ResultOf}
+use Rattle.wenc_types.proofs.Serving.{pair_serves}
 use Rattle.wenc_types.proofs.defined_type.ComponentDefinedTypeEncoder.result.Goals as goal
+
+pub returns : goal.returns
+returns g c =
+    let lender = c.args.self.lender.now in
+    extends_for lender c.end_with.new.self c.end_with.result (λ bytes. g.L.Lender.ended (g.L.Lender.written lender bytes)) (g.L.Lender.refuses lender)
+    (pair_serves 0x6a (option value_type c.args.ok) (option value_type c.args.err)) c.end_with.ensures.ended
 
 pub end_with-requires-clause-whole : goal.end_with-requires-clause-whole
 end_with-requires-clause-whole g c =
-    rw (option_is value_type c.args.ok, option_is value_type c.args.err) (c.args.self.whole (ResultOf c.args.ok c.args.err))
+    whole_for g.L.Lender.is_whole g.L.Lender.written c.args.self.lender.now (pair_serves 0x6a (option value_type c.args.ok) (option value_type c.args.err)) (c.args.self.whole (ResultOf c.args.ok c.args.err))

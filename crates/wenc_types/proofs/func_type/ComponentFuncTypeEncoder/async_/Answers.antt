@@ -1,6 +1,5 @@
-use Rattle.std.proofs.Common.{ℕ, List, subst, rules}
-use Rattle.wenc_base.specs.Lender.{MakesWhole}
-use Rattle.wenc_types.specs.FuncStages.{Remains}
+use Rattle.std.proofs.Common.{subst, rules}
+use Rattle.wenc_types.specs.FuncStages.{RestMakesWhole}
 use Rattle.wenc_types.specs.declared.func_type.FuncStage.{FuncStage}
 use Rattle.wenc_types.specs.laws.FuncStages.{tag_goes_on}
 use Rattle.wenc_types.proofs.func_type.ComponentFuncTypeEncoder.async_.Goals as goal
@@ -13,5 +12,5 @@ invariant_of-self-2 g c =
       going_on = search rules;
       whole = tag_goes_on g.L.Lender.is_whole g.L.Lender.written g.L.Lender.joins lender c.append_value.new.self c.args.is_async
           (elim c.if-is_async.branch [ then-is_async w ↦ search rules | else-is_async w ↦ search rules ])
-          (subst (λ (s : FuncStage). (text : List ℕ) → Remains s text → MakesWhole g.L.Lender.is_whole g.L.Lender.written lender text) c.requires c.args.self.now.whole);
+          (subst (λ (s : FuncStage). RestMakesWhole g.L.Lender.is_whole g.L.Lender.written s lender) c.requires c.args.self.now.whole);
     }
