@@ -6,7 +6,7 @@ ghost use Rattle.wenc_canon.specs.Rows.{row_then};
 
 use crate::canonicals::CanonicalOption;
 use crate::fields::{Fields, NotCancellable};
-use crate::opcodes;
+use crate::rows::{self, Row};
 use std::alloc::{Allocator, Global};
 use wenc_base::{Delimited, Encode, Fault, Tagged, ValType};
 use wenc_parts::{ComponentValType, ResultList};
@@ -204,62 +204,63 @@ pub enum CanonTree<A: Allocator = Global> {
 impl<A: Allocator> CanonTree<A> {
     ghost use Rattle.std.specs.Prelude.{◌≡◌};
     ghost use Rattle.wenc_canon.specs.CanonTrees.{canon_view};
-    ghost use Rattle.wenc_canon.specs.Rows.{first_byte};
+    ghost use Rattle.wenc_canon.specs.Rows.{first_byte, own_name};
 
-    /// The byte that the function begins with.
-    fn opcode(&self) -> u8
-        ensures { result ≡ first_byte (canon_view self.now) }
+    /// The name of the function, without the number of a slot, and the byte that it begins with.
+    fn row(&self) -> Row
+        ensures name { result.name.now ≡ own_name (canon_view self.now) }
+        ensures opcode { result.opcode ≡ first_byte (canon_view self.now) }
     {
         match self {
-            CanonTree::Lift { .. } => opcodes::LIFT,
-            CanonTree::Lower { .. } => opcodes::LOWER,
-            CanonTree::ResourceNew(_) => opcodes::RESOURCE_NEW,
-            CanonTree::ResourceDrop(_) => opcodes::RESOURCE_DROP,
-            CanonTree::ResourceRep(_) => opcodes::RESOURCE_REP,
-            CanonTree::TaskCancel => opcodes::TASK_CANCEL,
-            CanonTree::SubtaskCancel(_) => opcodes::SUBTASK_CANCEL,
-            CanonTree::TaskReturn { .. } => opcodes::TASK_RETURN,
-            CanonTree::ContextGet { .. } => opcodes::CONTEXT_GET,
-            CanonTree::ContextSet { .. } => opcodes::CONTEXT_SET,
-            CanonTree::ThreadYield => opcodes::THREAD_YIELD,
-            CanonTree::SubtaskDrop => opcodes::SUBTASK_DROP,
-            CanonTree::StreamNew(_) => opcodes::STREAM_NEW,
-            CanonTree::StreamRead { .. } => opcodes::STREAM_READ,
-            CanonTree::StreamWrite { .. } => opcodes::STREAM_WRITE,
-            CanonTree::StreamCancelRead { .. } => opcodes::STREAM_CANCEL_READ,
-            CanonTree::StreamCancelWrite { .. } => opcodes::STREAM_CANCEL_WRITE,
-            CanonTree::StreamDropReadable(_) => opcodes::STREAM_DROP_READABLE,
-            CanonTree::StreamDropWritable(_) => opcodes::STREAM_DROP_WRITABLE,
-            CanonTree::FutureNew(_) => opcodes::FUTURE_NEW,
-            CanonTree::FutureRead { .. } => opcodes::FUTURE_READ,
-            CanonTree::FutureWrite { .. } => opcodes::FUTURE_WRITE,
-            CanonTree::FutureCancelRead { .. } => opcodes::FUTURE_CANCEL_READ,
-            CanonTree::FutureCancelWrite { .. } => opcodes::FUTURE_CANCEL_WRITE,
-            CanonTree::FutureDropReadable(_) => opcodes::FUTURE_DROP_READABLE,
-            CanonTree::FutureDropWritable(_) => opcodes::FUTURE_DROP_WRITABLE,
-            CanonTree::ErrorContextNew(_) => opcodes::ERROR_CONTEXT_NEW,
-            CanonTree::ErrorContextDebugMessage(_) => opcodes::ERROR_CONTEXT_DEBUG_MESSAGE,
-            CanonTree::ErrorContextDrop => opcodes::ERROR_CONTEXT_DROP,
-            CanonTree::WaitableSetNew => opcodes::WAITABLE_SET_NEW,
-            CanonTree::WaitableSetWait(_) => opcodes::WAITABLE_SET_WAIT,
-            CanonTree::WaitableSetPoll(_) => opcodes::WAITABLE_SET_POLL,
-            CanonTree::WaitableSetDrop => opcodes::WAITABLE_SET_DROP,
-            CanonTree::WaitableJoin => opcodes::WAITABLE_JOIN,
-            CanonTree::BackpressureInc => opcodes::BACKPRESSURE_INC,
-            CanonTree::BackpressureDec => opcodes::BACKPRESSURE_DEC,
-            CanonTree::ThreadIndex => opcodes::THREAD_INDEX,
-            CanonTree::ThreadNewIndirect { .. } => opcodes::THREAD_NEW_INDIRECT,
-            CanonTree::ThreadResumeLater => opcodes::THREAD_RESUME_LATER,
-            CanonTree::ThreadSuspend => opcodes::THREAD_SUSPEND,
-            CanonTree::ThreadSuspendThenResume => opcodes::THREAD_SUSPEND_THEN_RESUME,
-            CanonTree::ThreadYieldThenResume => opcodes::THREAD_YIELD_THEN_RESUME,
-            CanonTree::ThreadSuspendThenPromote => opcodes::THREAD_SUSPEND_THEN_PROMOTE,
-            CanonTree::ThreadYieldThenPromote => opcodes::THREAD_YIELD_THEN_PROMOTE,
-            CanonTree::StreamForward(_) => opcodes::STREAM_FORWARD,
-            CanonTree::FutureForward(_) => opcodes::FUTURE_FORWARD,
-            CanonTree::ThreadSpawnRef(_) => opcodes::THREAD_SPAWN_REF,
-            CanonTree::ThreadSpawnIndirect { .. } => opcodes::THREAD_SPAWN_INDIRECT,
-            CanonTree::ThreadAvailableParallelism => opcodes::THREAD_AVAILABLE_PARALLELISM,
+            CanonTree::Lift { .. } => rows::LIFT,
+            CanonTree::Lower { .. } => rows::LOWER,
+            CanonTree::ResourceNew(_) => rows::RESOURCE_NEW,
+            CanonTree::ResourceDrop(_) => rows::RESOURCE_DROP,
+            CanonTree::ResourceRep(_) => rows::RESOURCE_REP,
+            CanonTree::TaskCancel => rows::TASK_CANCEL,
+            CanonTree::SubtaskCancel(_) => rows::SUBTASK_CANCEL,
+            CanonTree::TaskReturn { .. } => rows::TASK_RETURN,
+            CanonTree::ContextGet { .. } => rows::CONTEXT_GET,
+            CanonTree::ContextSet { .. } => rows::CONTEXT_SET,
+            CanonTree::ThreadYield => rows::THREAD_YIELD,
+            CanonTree::SubtaskDrop => rows::SUBTASK_DROP,
+            CanonTree::StreamNew(_) => rows::STREAM_NEW,
+            CanonTree::StreamRead { .. } => rows::STREAM_READ,
+            CanonTree::StreamWrite { .. } => rows::STREAM_WRITE,
+            CanonTree::StreamCancelRead { .. } => rows::STREAM_CANCEL_READ,
+            CanonTree::StreamCancelWrite { .. } => rows::STREAM_CANCEL_WRITE,
+            CanonTree::StreamDropReadable(_) => rows::STREAM_DROP_READABLE,
+            CanonTree::StreamDropWritable(_) => rows::STREAM_DROP_WRITABLE,
+            CanonTree::FutureNew(_) => rows::FUTURE_NEW,
+            CanonTree::FutureRead { .. } => rows::FUTURE_READ,
+            CanonTree::FutureWrite { .. } => rows::FUTURE_WRITE,
+            CanonTree::FutureCancelRead { .. } => rows::FUTURE_CANCEL_READ,
+            CanonTree::FutureCancelWrite { .. } => rows::FUTURE_CANCEL_WRITE,
+            CanonTree::FutureDropReadable(_) => rows::FUTURE_DROP_READABLE,
+            CanonTree::FutureDropWritable(_) => rows::FUTURE_DROP_WRITABLE,
+            CanonTree::ErrorContextNew(_) => rows::ERROR_CONTEXT_NEW,
+            CanonTree::ErrorContextDebugMessage(_) => rows::ERROR_CONTEXT_DEBUG_MESSAGE,
+            CanonTree::ErrorContextDrop => rows::ERROR_CONTEXT_DROP,
+            CanonTree::WaitableSetNew => rows::WAITABLE_SET_NEW,
+            CanonTree::WaitableSetWait(_) => rows::WAITABLE_SET_WAIT,
+            CanonTree::WaitableSetPoll(_) => rows::WAITABLE_SET_POLL,
+            CanonTree::WaitableSetDrop => rows::WAITABLE_SET_DROP,
+            CanonTree::WaitableJoin => rows::WAITABLE_JOIN,
+            CanonTree::BackpressureInc => rows::BACKPRESSURE_INC,
+            CanonTree::BackpressureDec => rows::BACKPRESSURE_DEC,
+            CanonTree::ThreadIndex => rows::THREAD_INDEX,
+            CanonTree::ThreadNewIndirect { .. } => rows::THREAD_NEW_INDIRECT,
+            CanonTree::ThreadResumeLater => rows::THREAD_RESUME_LATER,
+            CanonTree::ThreadSuspend => rows::THREAD_SUSPEND,
+            CanonTree::ThreadSuspendThenResume => rows::THREAD_SUSPEND_THEN_RESUME,
+            CanonTree::ThreadYieldThenResume => rows::THREAD_YIELD_THEN_RESUME,
+            CanonTree::ThreadSuspendThenPromote => rows::THREAD_SUSPEND_THEN_PROMOTE,
+            CanonTree::ThreadYieldThenPromote => rows::THREAD_YIELD_THEN_PROMOTE,
+            CanonTree::StreamForward(_) => rows::STREAM_FORWARD,
+            CanonTree::FutureForward(_) => rows::FUTURE_FORWARD,
+            CanonTree::ThreadSpawnRef(_) => rows::THREAD_SPAWN_REF,
+            CanonTree::ThreadSpawnIndirect { .. } => rows::THREAD_SPAWN_INDIRECT,
+            CanonTree::ThreadAvailableParallelism => rows::THREAD_AVAILABLE_PARALLELISM,
         }
     }
 }
@@ -270,7 +271,7 @@ impl<A: Allocator> Encode for CanonTree<A> {
     ghost piece = { λ t. canonical (canon_view t) };
 
     fn encode<B: Allocator>(&self, sink: &mut Vec<u8, B>) -> Result<(), Fault> {
-        let opcode = self.opcode();
+        let opcode = self.row().opcode;
         match self {
             CanonTree::Lift {
                 core_func,
@@ -382,8 +383,8 @@ fn lifted<A: Allocator, B: Allocator>(
         Appends function.text function.Cause ⊥ sink.old.items sink.new.items result }
     ensures fits { OnOk result (canonical (Lift core_func.now options.now.items ty)).Fits }
 {
-    let lead = Tagged(opcodes::PLAIN, core_func);
-    (Tagged(opcodes::LIFT, &lead), options.as_slice(), ty).encode(sink)
+    let lead = Tagged(rows::PLAIN, core_func);
+    (Tagged(rows::LIFT.opcode, &lead), options.as_slice(), ty).encode(sink)
 }
 
 /// Writes a function that is lowered.
@@ -396,6 +397,6 @@ fn lowered<A: Allocator, B: Allocator>(
         Appends function.text function.Cause ⊥ sink.old.items sink.new.items result }
     ensures fits { OnOk result (canonical (Lower func.now options.now.items)).Fits }
 {
-    let lead = Tagged(opcodes::PLAIN, func);
-    (Tagged(opcodes::LOWER, &lead), options.as_slice()).encode(sink)
+    let lead = Tagged(rows::PLAIN, func);
+    (Tagged(rows::LOWER.opcode, &lead), options.as_slice()).encode(sink)
 }

@@ -19,7 +19,7 @@ use Rattle.wenc_base.specs.contracts.types.ValTypePartialEq.TheImpl.{eq-value as
 use Rattle.wenc_parts.specs.declared.types.ComponentValType.{ComponentValType}
 use Rattle.wenc_parts.specs.contracts.types.ComponentValTypePartialEq.TheImpl.{eq-value as value_eq'}
 use Rattle.wenc_canon.specs.CanonTrees.{canon_view}
-use Rattle.wenc_canon.specs.Canonicals.{Field, Index, Options, Flag, Zero, CoreType, Results, Value, Values, row, Canonical, Lift, Lower, Provided, ResourceNew, ResourceDrop, ResourceRep, SubtaskCancel, TaskReturn, ContextGet, ContextSet, StreamNew, StreamRead, StreamWrite, StreamCancelRead, StreamCancelWrite, StreamDropReadable, StreamDropWritable, FutureNew, FutureRead, FutureWrite, FutureCancelRead, FutureCancelWrite, FutureDropReadable, FutureDropWritable, ErrorContextNew, ErrorContextDebugMessage, WaitableSetWait, WaitableSetPoll, ThreadNewIndirect, StreamForward, FutureForward, ThreadSpawnRef, ThreadSpawnIndirect}
+use Rattle.wenc_canon.specs.Canonicals.{Field, Index, Options, Flag, Zero, CoreType, Results, Slot, Value, Values, row, Canonical, Lift, Lower, Provided, ResourceNew, ResourceDrop, ResourceRep, SubtaskCancel, TaskReturn, ContextGet, ContextSet, StreamNew, StreamRead, StreamWrite, StreamCancelRead, StreamCancelWrite, StreamDropReadable, StreamDropWritable, FutureNew, FutureRead, FutureWrite, FutureCancelRead, FutureCancelWrite, FutureDropReadable, FutureDropWritable, ErrorContextNew, ErrorContextDebugMessage, WaitableSetWait, WaitableSetPoll, ThreadNewIndirect, StreamForward, FutureForward, ThreadSpawnRef, ThreadSpawnIndirect}
 use Rattle.wenc_canon.specs.declared.canon_tree.CanonTree.{CanonTree}
 use Rattle.wenc_canon.specs.declared.canonicals.CanonicalOption.{CanonicalOption}
 use Rattle.wenc_canon.specs.contracts.canon_tree.CanonTree.{enum}
@@ -77,6 +77,7 @@ given Flag b = Told b
 given Zero v = Fixed
 given CoreType t = Core t
 given Results r = Answer r
+given Slot n = Number n
 
 abbrev all_given : (fs : List Field) → Values fs → List Given
 all_given [] vs = []
