@@ -1,7 +1,6 @@
 pub mod Item
 pub mod Sections
 pub mod Space
-pub mod CanonicalNames
 pub mod Entry
 pub mod Builder
 pub mod Raw
@@ -11,7 +10,6 @@ pub mod Enters
 pub mod Layout
 pub mod Lent
 pub mod Names
-pub mod Naming
 pub mod Spaces
 pub mod inside
 pub mod View

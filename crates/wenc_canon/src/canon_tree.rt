@@ -206,7 +206,14 @@ impl<A: Allocator> CanonTree<A> {
     ghost use Rattle.wenc_canon.specs.CanonTrees.{canon_view};
     ghost use Rattle.wenc_canon.specs.Rows.{first_byte, own_name};
 
-    /// The name of the function, without the number of a slot, and the byte that it begins with.
+    /// The name of the function, without the number of a slot.
+    pub fn name(&self) -> &'static str
+        ensures { result.now ≡ own_name (canon_view self.now) }
+    {
+        self.row().name
+    }
+
+    /// The same name, and the byte that the function begins with.
     fn row(&self) -> Row
         ensures name { result.name.now ≡ own_name (canon_view self.now) }
         ensures opcode { result.opcode ≡ first_byte (canon_view self.now) }
