@@ -3,7 +3,7 @@ use Rattle.std.proofs.Common.{◌≡◌, ℕ, List, [], ◌∷◌, ◌++◌, Opt
 use Rattle.wenc_builder.specs.Builder.{State, begun_with, appended, ended}
 use Rattle.wenc_builder.specs.Entry.{Entry, type_entry}
 use Rattle.wenc_builder.specs.Holds.{Holds}
-use Rattle.wenc_builder.specs.Layout.{draft_of}
+use Rattle.wenc_builder.specs.inside.Layout.{draft_of}
 use Rattle.wenc_builder.specs.declared.builder.kind.Kind.TheVariants as kinds
 use Rattle.wenc_builder.specs.declared.builder.space.Space.TheVariants as spaces
 use Rattle.wenc_builder.specs.laws.Lent.{type_written}

@@ -8,7 +8,7 @@ use Rattle.wenc_builder.specs.Cause.{CallCause, EntryCause}
 use Rattle.wenc_builder.specs.Entry.{Entry, items, type_entry, core_type_entry}
 use Rattle.wenc_builder.specs.Holds.{Holds}
 use Rattle.wenc_builder.specs.Item.{item, item_cause}
-use Rattle.wenc_builder.specs.Layout.{draft_of}
+use Rattle.wenc_builder.specs.inside.Layout.{draft_of}
 use Rattle.wenc_builder.specs.Lent.{no_room}
 use Rattle.wenc_builder.specs.Space.{place, place_at}
 use Rattle.wenc_builder.specs.laws.Lent.{written_holds}

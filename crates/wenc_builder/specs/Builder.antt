@@ -5,6 +5,8 @@ use Rattle.wenc_builder.specs.Item.{Item, collected, item}
 use Rattle.wenc_builder.specs.Space.{space_number, Defined, defines}
 use Rattle.wenc_builder.specs.declared.builder.space.Space.{Space}
 use Rattle.wenc_base.specs.Names.{named}
+use Rattle.wenc_parts.specs.SectionIds.{section_number}
+use Rattle.wenc_parts.specs.declared.component.ComponentSectionId.{ComponentSectionId}
 use Rattle.wenc_builder.specs.Entry.{Entry}
 
 -- ---- sections
@@ -158,6 +160,10 @@ pub record Draft : Type 0 where
 
 abbrev pub draft : ℕ → ℕ → Option (List ℕ) → List ℕ → Draft
 draft id space name text = record { id = id; space = space; name = name; text = text }
+
+-- the same by the section and the space themselves
+abbrev pub draft_in : ComponentSectionId → Space → Option (List ℕ) → List ℕ → Draft
+draft_in section space name text = draft (section_number section) (space_number space) name text
 
 -- its place
 abbrev pub draft_place : Draft → Defined

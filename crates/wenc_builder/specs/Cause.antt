@@ -21,6 +21,10 @@ SectionCause (Some o) TooMany = 2 ^ 32 ≤ o.count
 SectionCause (Some o) TooLarge = 2 ^ 32 ≤ content_size o.count (length o.body)
 SectionCause (Some o) Unfinished = ⊥
 
+-- The open section, as it would be, is too large.
+abbrev pub NoRoom : Option OpenSection → Fault → Type 0
+NoRoom current fault = (fault ≡ TooLarge) × SectionCause current TooLarge
+
 -- too many items or names, or too many bytes of names with those of their number
 abbrev pub SpaceCause : Namespace → Fault → Type 0
 SpaceCause s (Memory e) = ⊥

@@ -1,10 +1,9 @@
 -- A builder as what encoders are lent.
 use Rattle.std.specs.Prelude.{◌≡◌, ℕ, Bool, false, List, length, nat_eq, Option, Some, None}
-use Rattle.wenc_base.specs.Piece.{Piece}
 use Rattle.wenc_base.specs.declared.fault.Fault.{Fault}
 use Rattle.wenc_builder.specs.Builder.{Begun, State, content_of, appended}
 use Rattle.wenc_builder.specs.Item.{Item, collected, item}
-use Rattle.wenc_builder.specs.Layout.{NoRoom}
+use Rattle.wenc_builder.specs.Cause.{NoRoom}
 use Rattle.wenc_builder.specs.Space.{Defined, defines}
 
 -- an item is being written of which there is nothing yet
@@ -27,10 +26,6 @@ pub record IsItemText (section : Option ℕ) (places : Option Defined) (bytes : 
   pub takes : defines value ≡ places
   pub fits : (item value).Fits
   pub is : bytes ≡ (item value).text
-
--- If it fits, this piece is such an item.
-abbrev pub IsItemPiece : Option ℕ → Option Defined → Piece → Type 0
-IsItemPiece section places p = p.Fits → ∥ IsItemText section places p.text ∥₁
 
 -- what is being written is a whole item of its section, which takes one place in its space
 abbrev pub IsWhole : Option Begun → Type 0

@@ -9,7 +9,7 @@ ghost use Rattle.wenc_builder.specs.Enters.{Enters};
 ghost use Rattle.wenc_builder.specs.Entry.{Entry, items as items_of, names, type_entry, core_type_entry};
 ghost use Rattle.wenc_builder.specs.Holds.{Holds};
 ghost use Rattle.wenc_builder.specs.Item.{Item};
-ghost use Rattle.wenc_builder.specs.Layout.{draft_of};
+ghost use Rattle.wenc_builder.specs.inside.Layout.{draft_of};
 ghost use Rattle.wenc_builder.specs.Sections.{Section, Run, runs};
 ghost use Rattle.wenc_builder.specs.Space.{defines, some_in, place};
 ghost use Rattle.wenc_builder.specs.declared.builder.kind.Kind.TheVariants as kinds;

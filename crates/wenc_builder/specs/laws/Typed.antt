@@ -7,12 +7,11 @@ use Rattle.wenc_types.specs.CoreTypes.{CoreType}
 use Rattle.wenc_builder.specs.Item.{collected, item}
 use Rattle.wenc_builder.specs.Space.{Defined, defines}
 use Rattle.wenc_builder.specs.Entry.{Entry, type_entry, core_type_entry}
-use Rattle.wenc_builder.specs.Builder.{Content, with_entry, State, step, content_of, Draft, draft, draft_place, begun_with, appended, ended}
+use Rattle.wenc_builder.specs.Builder.{Content, with_entry, State, step, content_of, Draft, draft, draft_in, draft_place, begun_with, appended, ended}
 use Rattle.wenc_builder.specs.Cause.{CallCause, EntryCause}
 use Rattle.wenc_builder.specs.Holds.{Holds}
-use Rattle.wenc_builder.specs.Layout.{draft_of}
 use Rattle.wenc_builder.specs.Lent.{no_room}
-use Rattle.wenc_builder.specs.declared.builder.kind.Kind.TheVariants as kinds
+use Rattle.wenc_parts.specs.declared.component.ComponentSectionId.TheVariants as ids
 use Rattle.wenc_builder.specs.declared.builder.space.Space.TheVariants as spaces
 use Rattle.wenc_builder.specs.laws.Answered.{to_entry, from_entry}
 use Rattle.wenc_builder.specs.laws.Fits.{HasRoom}
@@ -90,8 +89,8 @@ written_holds old new es x d w opening fits writing e h = rw (e ∙ is_step) (ho
     room fault c = written_free old es x d w h opening writing fault (to_entry old es x h fault (inl (inr (inr c))))
 
 -- types are written so
-pub type_is_written : (name : Option (List ℕ)) (t : TypeOf) → IsWritten (type_entry name t) (draft_of kinds.«Type» spaces.Types name [])
+pub type_is_written : (name : Option (List ℕ)) (t : TypeOf) → IsWritten (type_entry name t) (draft_in ids.«Type» spaces.Types name [])
 type_is_written name t = record { bare = refl; section = refl; defined = refl; named = refl }
 
-pub core_type_is_written : (name : Option (List ℕ)) (t : CoreType) → IsWritten (core_type_entry name t) (draft_of kinds.CoreType spaces.CoreTypes name [])
+pub core_type_is_written : (name : Option (List ℕ)) (t : CoreType) → IsWritten (core_type_entry name t) (draft_in ids.CoreType spaces.CoreTypes name [])
 core_type_is_written name t = record { bare = refl; section = refl; defined = refl; named = refl }

@@ -1,7 +1,7 @@
 use Rattle.std.proofs.Common.{rules, []}
 use Rattle.std.specs.Option.{option_copied}
 use Rattle.wenc_builder.specs.Entry.{type_entry}
-use Rattle.wenc_builder.specs.Layout.{draft_of}
+use Rattle.wenc_builder.specs.inside.Layout.{draft_of}
 use Rattle.wenc_builder.specs.declared.builder.kind.Kind.TheVariants as kinds
 use Rattle.wenc_builder.specs.declared.builder.space.Space.TheVariants as spaces
 use Rattle.wenc_types.specs.TypeTrees.{type_view}

@@ -5,17 +5,15 @@ use Rattle.std.specs.Prelude.{◌≡◌, ℕ, List, [], ◌∷◌, ◌++◌, ◌
 use Rattle.wenc_base.specs.Number.{unsigned_text, number_size}
 use Rattle.wenc_base.specs.Holder.{Held, content_size}
 use Rattle.wenc_base.specs.declared.holder.openings.Opening.{Opening}
-use Rattle.wenc_base.specs.declared.fault.Fault.{Fault}
 use Rattle.wenc_base.specs.Fault.{either, size_cause}
 use Rattle.wenc_base.specs.Forms.{byte_list}
 use Rattle.wenc_base.specs.Piece.{Piece, refused_for}
-use Rattle.wenc_base.specs.declared.fault.Fault.TheVariants.{TooLarge, Unfinished}
+use Rattle.wenc_base.specs.declared.fault.Fault.TheVariants.{Unfinished}
 use Rattle.wenc_parts.specs.declared.component.ComponentSectionId.TheVariants as ids
 use Rattle.wenc_parts.specs.SectionIds.{section_number}
 use Rattle.wenc_sections.specs.Component.{preamble}
 use Rattle.wenc_builder.specs.Space.{space_number}
 use Rattle.wenc_builder.specs.Builder.{OpenSection, Sections, sections_text, entered, stood_alone, open_text, Draft, draft}
-use Rattle.wenc_builder.specs.Cause.{SectionCause}
 use Rattle.wenc_builder.specs.declared.builder.space.Space.{Space}
 use Rattle.wenc_builder.specs.declared.builder.kind.Kind.{Kind}
 use Rattle.wenc_builder.specs.declared.builder.kind.Kind.TheVariants.{CoreInstance, CoreType, Instance, Alias, «Type» as TypeKind, CanonicalFunction, Import, Export}
@@ -210,7 +208,3 @@ nested b =
     refused_for (either (size_cause (length (sections_text b.settled)))
     (λ fault. (fault ≡ Unfinished) × (is_none b.writing ≡ false)))
     (byte_list (sections_text b.settled))
-
--- The open section, as it would be, is too large.
-abbrev pub NoRoom : Option OpenSection → Fault → Type 0
-NoRoom current fault = (fault ≡ TooLarge) × SectionCause current TooLarge
