@@ -26,11 +26,12 @@ none_is (Some x) e = cc
 -- ---- an item is begun
 
 -- nothing is taken while another item is being written
-pub unfinished_before : {R : Type 0} (b : Buffered) (s : Spaced) (old new next : State) (after : Content) (places : Option Defined) (cause : Fault → Type 0) (Told : R → Type 0) → Agree b.writing s.taking → builder_view b s ≡ old
-    → is_none b.writing ≡ false → new ≡ old → TakesWith old new next (Err Unfinished) after places cause Told
-unfinished_before b s old new next after places cause Told a view w same = record {
+pub unfinished_before : {R : Type 0} (b : Buffered) (s : Spaced) (old new next : State) (after : Content) (places : Option Defined) (p : Piece) (Told : R → Type 0) → Agree b.writing s.taking → builder_view b s ≡ old
+    → is_none b.writing ≡ false → new ≡ old → TakesWith old new next (Err Unfinished) after places p Told
+unfinished_before b s old new next after places p Told a view w same = record {
   told = tt;
   ok = tt;
+  fits = tt;
   free = tt;
   err = same;
   warranted = inr (refl, sym (finished_is b s old a view) ∙ w);
@@ -43,10 +44,11 @@ settled_before b s old a view w = none_is old.begun (sym (finished_is b s old a 
 
 pub space_refused : (b : Buffered) (s : Spaced) (old new next : State) (fault : Fault) (d : Draft) → Agree b.writing s.taking → builder_view b s ≡ old → is_none b.writing ≡ true → new ≡ old
     → length old.settled.spaces ≡ 13 → d.space < 13 → IsWarranted (SpaceCause (space_with old d)) fault
-    → Takes old new next (Err fault) d (λ _. ⊥)
+    → Takes old new next (Err fault) d nothing
 space_refused b s old new next fault d a view w same all within refused = record {
   told = tt;
   ok = tt;
+  fits = tt;
   free = tt;
   err = same;
   warranted = still_warranted _ _ (space_refuses old d (λ _. ⊥) all within) fault refused;
@@ -55,10 +57,11 @@ space_refused b s old new next fault d a view w same all within refused = record
 
 pub section_refused : (b : Buffered) (s : Spaced) (old new next : State) (fault : Fault) (d : Draft) → Agree b.writing s.taking → builder_view b s ≡ old → is_none b.writing ≡ true → new ≡ old
     → IsWarranted (SectionCause (entered old.settled.sections d.id d.text).current) fault
-    → Takes old new next (Err fault) d (λ _. ⊥)
+    → Takes old new next (Err fault) d nothing
 section_refused b s old new next fault d a view w same refused = record {
   told = tt;
   ok = tt;
+  fits = tt;
   free = tt;
   err = same;
   warranted = still_warranted _ _ (section_refuses old d (λ _. ⊥)) fault refused;
@@ -67,11 +70,12 @@ section_refused b s old new next fault d a view w same refused = record {
 
 pub begins : (b : Buffered) (s : Spaced) (old new next : State) (index : ℕ) (d : Draft) → Agree b.writing s.taking → builder_view b s ≡ old → is_none b.writing ≡ true → new ≡ next
     → index ≡ (namespace_at old.settled.spaces d.space).count → length old.settled.spaces ≡ 13 → d.space < 13
-    → ((fault : Fault) → SpaceCause (space_with old d) fault → ⊥) → ((fault : Fault) → SectionCause (entered old.settled.sections d.id d.text).current fault → ⊥)
-    → Takes old new next (Ok index) d (λ _. ⊥)
+    → NoCause (SpaceCause (space_with old d)) → NoCause (SectionCause (entered old.settled.sections d.id d.text).current)
+    → Takes old new next (Ok index) d nothing
 begins b s old new next index d a view w is counted all within space section = record {
   told = counted;
   ok = is;
+  fits = tt;
   free = begun_free old d all within (settled_before b s old a view w) space section;
   err = tt;
   warranted = tt;
@@ -80,25 +84,27 @@ begins b s old new next index d a view w is counted all within space section = r
 
 -- ---- an item is written
 
-pub not_begun : (old new next whole : State) (fault : Fault) (id space : ℕ) (name : Option (List ℕ)) (text : List ℕ) (cause : Fault → Type 0)
-    → Takes old new next (Err fault) (draft id space name []) (λ _. ⊥) → Takes old new whole (Err fault) (draft id space name text) cause
-not_begun old new next whole fault id space name text cause t = record {
+pub not_begun : (old new next whole : State) (fault : Fault) (id space : ℕ) (name : Option (List ℕ)) (p : Piece)
+    → Takes old new next (Err fault) (draft id space name []) nothing → Takes old new whole (Err fault) (draft id space name p.text) p
+not_begun old new next whole fault id space name p t = record {
   told = tt;
   ok = tt;
+  fits = tt;
   free = tt;
   err = t.err;
-  warranted = still_warranted _ _ (beginning_refuses old id space name text cause) fault t.warranted;
+  warranted = still_warranted _ _ (beginning_refuses old id space name p.text p.Cause) fault t.warranted;
   unfinished_first = t.unfinished_first;
 }
 
-pub added : (old begun written new : State) (index id space : ℕ) (name : Option (List ℕ)) (text : List ℕ) (cause : Fault → Type 0)
-    → Takes old begun (begun_with old (draft id space name [])) (Ok index) (draft id space name []) (λ _. ⊥)
-    → written ≡ appended begun text → ((fault : Fault) → AppendCause cause (content_of (appended begun text)).sections.current fault → ⊥) → new ≡ ended written
-    → Takes old new (ended (begun_with old (draft id space name text))) (Ok index) (draft id space name text) cause
-added old begun written new index id space name text cause t w free e = record {
+pub added : (old begun written new : State) (index id space : ℕ) (name : Option (List ℕ)) (p : Piece)
+    → Takes old begun (begun_with old (draft id space name [])) (Ok index) (draft id space name []) nothing
+    → written ≡ appended begun p.text → p.Fits → NoCause (either p.Cause (no_room begun p.text)) → new ≡ ended written
+    → TakesDraft old new (Ok index) (draft id space name) p
+added old begun written new index id space name p t w fits free e = record {
   told = t.told;
   ok = rw (e, w, t.ok) refl;
-  free = whole_free old id space name text cause t.free (rw t.ok at free);
+  fits = fits;
+  free = whole_free old id space name p.text p.Cause t.free (rw t.ok at free);
   err = tt;
   warranted = tt;
   unfinished_first = λ u. absurd (never index (t.unfinished_first u));
@@ -107,16 +113,17 @@ added old begun written new index id space name text cause t w free e = record {
     never : (i : ℕ) → Ok i ≡ Err Unfinished → ⊥
     never i e = cc
 
-pub partly_written : (old begun written new whole : State) (fault : Fault) (index id space : ℕ) (name : Option (List ℕ)) (text : List ℕ) (cause : Fault → Type 0)
-    → Takes old begun (begun_with old (draft id space name [])) (Ok index) (draft id space name []) (λ _. ⊥)
-    → IsWarranted (AppendCause cause (content_of (appended begun text)).sections.current) fault → written.settled ≡ begun.settled → new ≡ builder_given_up written
-    → Takes old new whole (Err fault) (draft id space name text) cause
-partly_written old begun written new whole fault index id space name text cause t refused w e = record {
+pub partly_written : (old begun written new whole : State) (fault : Fault) (index id space : ℕ) (name : Option (List ℕ)) (p : Piece)
+    → Takes old begun (begun_with old (draft id space name [])) (Ok index) (draft id space name []) nothing
+    → IsWarranted (either p.Cause (no_room begun p.text)) fault → written.settled ≡ begun.settled → new ≡ builder_given_up written
+    → Takes old new whole (Err fault) (draft id space name p.text) p
+partly_written old begun written new whole fault index id space name p t refused w e = record {
   told = tt;
   ok = tt;
+  fits = tt;
   free = tt;
   err = rw (e, w, t.ok) (back old (none_of old.begun (λ u. never index (t.unfinished_first u))));
-  warranted = still_warranted _ _ (text_refuses old (draft id space name text) cause) fault (rw t.ok at refused);
+  warranted = still_warranted _ _ (text_refuses old (draft id space name p.text) p.Cause) fault (rw t.ok at refused);
   unfinished_first = λ u. absurd (never index (t.unfinished_first u));
 }
   where
@@ -126,16 +133,16 @@ partly_written old begun written new whole fault index id space name text cause 
     back : (s : State) → s.begun ≡ None → record { settled = s.settled; begun = None } ≡ s
     back s none = rw (← none) refl
 
-pub not_written : (old begun written new whole : State) (fault : Fault) (index id space : ℕ) (name : Option (List ℕ)) (text : List ℕ) (cause : Fault → Type 0)
-    → Takes old begun (begun_with old (draft id space name [])) (Ok index) (draft id space name []) (λ _. ⊥)
-    → IsWarranted (AppendCause cause (content_of (appended begun text)).sections.current) fault → written ≡ begun → new ≡ builder_given_up written
-    → Takes old new whole (Err fault) (draft id space name text) cause
-not_written old begun written new whole fault index id space name text cause t refused w e =
-    partly_written old begun written new whole fault index id space name text cause t refused (ap (λ (s : State). s.settled) w) e
+pub not_written : (old begun written new whole : State) (fault : Fault) (index id space : ℕ) (name : Option (List ℕ)) (p : Piece)
+    → Takes old begun (begun_with old (draft id space name [])) (Ok index) (draft id space name []) nothing
+    → IsWarranted (either p.Cause (no_room begun p.text)) fault → written ≡ begun → new ≡ builder_given_up written
+    → Takes old new whole (Err fault) (draft id space name p.text) p
+not_written old begun written new whole fault index id space name p t refused w e =
+    partly_written old begun written new whole fault index id space name p t refused (ap (λ (s : State). s.settled) w) e
 
 -- ---- an item that is begun for an encoder
 
-pub begins_lent : {E : Type 0} (index : E → ℕ) (lent : E → State) (old new : State) (i : ℕ) (e : E) (d : Draft) → d.space < 13 → Takes old new (begun_with old d) (Ok i) d (λ _. ⊥) → index e ≡ i → lent e ≡ new → Begins index lent old (Ok e) d
+pub begins_lent : {E : Type 0} (index : E → ℕ) (lent : E → State) (old new : State) (i : ℕ) (e : E) (d : Draft) → d.space < 13 → Takes old new (begun_with old d) (Ok i) d nothing → index e ≡ i → lent e ≡ new → Begins index lent old (Ok e) d
 begins_lent index lent old new i e d within t is same = record {
   begun = same ∙ t.ok;
   placed = λ es h. holds_index old es d.space (index e) h within (is ∙ t.told);
@@ -147,7 +154,7 @@ begins_lent index lent old new i e d within t is same = record {
     never : (j : ℕ) → Ok j ≡ Err Unfinished → ⊥
     never j q = cc
 
-pub begins_refused : {E : Type 0} (index : E → ℕ) (lent : E → State) (old new next : State) (fault : Fault) (d : Draft) → Takes old new next (Err fault) d (λ _. ⊥) → Begins index lent old (Err fault) d
+pub begins_refused : {E : Type 0} (index : E → ℕ) (lent : E → State) (old new next : State) (fault : Fault) (d : Draft) → Takes old new next (Err fault) d nothing → Begins index lent old (Err fault) d
 begins_refused index lent old new next fault d t = record { begun = tt; placed = tt; free = tt; warranted = t.warranted; unfinished_first = λ u. rw (erred fault (Err fault) refl (t.unfinished_first u)) refl }
   where
     erred : (f : Fault) (r : Result ℕ Fault) → r ≡ Err f → r ≡ Err Unfinished → f ≡ Unfinished

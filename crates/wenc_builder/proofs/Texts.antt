@@ -1,41 +1,42 @@
--- What the calls of a builder write are texts of items.
-use Rattle.std.proofs.Common.{◌≡◌, ℕ, List, [], ◌∷◌, ◌++◌, Some, refl, sym, ap, ◌∙◌, map}
-use Rattle.std.proofs.lemmas.List.{append-nil}
-use Rattle.wenc_base.specs.Forms.{list_text}
-use Rattle.wenc_base.specs.Holder.{listed_text}
-use Rattle.wenc_base.specs.laws.Holders.{list_text_map}
-use Rattle.wenc_canon.specs.Canonicals.{Canonical, canonical_text, canonical_option, text_with_options}
+-- What the calls of a builder write serves as items.
+use Rattle.std.proofs.Common.{◌≡◌, ℕ, List, Option, Some, refl, map, inl, inr}
+use Rattle.std.specs.List.{AllByRecursion}
+use Rattle.wenc_base.specs.Encode.{Serves}
+use Rattle.wenc_base.specs.Forms.{list}
+use Rattle.wenc_base.specs.Holder.{listed}
+use Rattle.wenc_base.specs.Piece.{Piece, Form, nothing, ◌▸◌, ◌⨾◌}
+use Rattle.wenc_base.specs.laws.Serves.{serves_itself, serves_then, both_serve, with_nothing, lists_serve, tagged_serves}
+use Rattle.wenc_canon.specs.Canonicals.{canonical_option}
 use Rattle.wenc_canon.specs.declared.canonicals.CanonicalOption.{CanonicalOption}
-use Rattle.wenc_builder.specs.Item.{Item, CanonItem, collected, item}
-use Rattle.wenc_builder.specs.Layout.{kind_id}
-use Rattle.wenc_builder.specs.Lent.{IsItemText}
-use Rattle.wenc_builder.specs.Space.{defines, some_in, canonical_space}
-use Rattle.wenc_builder.specs.declared.builder.kind.Kind.TheVariants as kinds
-use Rattle.wenc_builder.specs.declared.builder.space.Space.{Space}
+use Rattle.wenc_builder.specs.Item.{Item, item, collected}
+use Rattle.wenc_builder.specs.Space.{Defined, defines}
+use Rattle.wenc_builder.specs.Lent.{IsItemPiece}
 
-pub item_text : (x : Item) → ∥ IsItemText (collected x) (defines x) (item x).text ∥₁
-item_text x = ∣ record { value = x; collects = refl; takes = refl; is = refl } ∣₁
+-- a piece that serves as an item is one
+pub item_piece : {p : Piece} (x : Item) → Serves p (item x) → IsItemPiece (collected x) (defines x) p
+item_piece x s fits = ∣ record { value = x; collects = refl; takes = refl; fits = s.fits fits; is = s.text } ∣₁
 
--- a canonical function with options
-pub options_text : (function : List CanonicalOption → Canonical) (space : Space) (front behind : List ℕ) → ((os : List CanonicalOption) → canonical_space (function os) ≡ space)
-    → ((os : List CanonicalOption) → canonical_text (function os) ≡ listed_text front (λ o. (canonical_option o).text) behind os)
-    → (os : List CanonicalOption) → ∥ IsItemText (Some (kind_id kinds.CanonicalFunction)) (some_in space 1) (listed_text front (λ o. (canonical_option o).text) behind os) ∥₁
-options_text function space front behind placed is os = rw (← placed os, ← is os) (item_text (CanonItem (function os)))
+-- a byte is in front of the first of two pieces as it is in front of both
+pub in_front : {p q : Piece} (b : ℕ) → Serves ((b ▸ p) ⨾ q) (b ▸ (p ⨾ q))
+in_front b = record { text = refl; fits = λ h. h; among = λ fault c. c; free = λ none. none }
 
--- the same where the options come last
-pub last_options_text : (function : List CanonicalOption → Canonical) (space : Space) (opcode : ℕ) (fields : List ℕ) → ((os : List CanonicalOption) → canonical_space (function os) ≡ space)
-    → ((os : List CanonicalOption) → canonical_text (function os) ≡ text_with_options opcode fields os)
-    → (os : List CanonicalOption) → ∥ IsItemText (Some (kind_id kinds.CanonicalFunction)) (some_in space 1) (listed_text (opcode ∷ fields) (λ o. (canonical_option o).text) [] os) ∥₁
-last_options_text function space opcode fields placed is = options_text function space (opcode ∷ fields) [] placed
-    (λ os. is os ∙ ap (λ (t : List ℕ). (opcode ∷ fields) ++ t) (sym (append-nil (list_text (λ o. (canonical_option o).text) os))))
+-- nothing in front of a piece
+pub nothing_before : {p : Piece} → Serves (nothing ⨾ p) p
+nothing_before = record { text = refl; fits = λ h. h.1; among = λ fault c. elim c [ inl none ↦ absurd none | inr k ↦ k ]; free = λ none fault c. none fault (inr c) }
 
--- an item that ends with a list, by what the list's values stand for
-pub members_text : {B C : Type 0} (make : List C → Item) (id space : ℕ) (front : List ℕ) (value_text : C → List ℕ) (view : B → C)
-    → ((cs : List C) → collected (make cs) ≡ Some id) → ((cs : List C) → defines (make cs) ≡ Some (record { space = space; number = 1 })) → ((cs : List C) → (item (make cs)).text ≡ front ++ list_text value_text cs)
-    → (vs : List B) → ∥ IsItemText (Some id) (Some (record { space = space; number = 1 })) (listed_text front (λ v. value_text (view v)) [] vs) ∥₁
-members_text make id space front value_text view collects takes is vs = ∣ record {
-  value = make (map view vs);
-  collects = collects (map view vs);
-  takes = takes (map view vs);
-  is = ap (λ (t : List ℕ). front ++ t) (append-nil (list_text (λ v. value_text (view v)) vs) ∙ list_text_map value_text view vs) ∙ sym (is (map view vs));
-} ∣₁
+-- options behind a byte and a piece
+pub last_options : (opcode : ℕ) (fields : Piece) (os : List CanonicalOption) → Serves (listed (opcode ▸ fields) canonical_option nothing os) (opcode ▸ (fields ⨾ list canonical_option os))
+last_options opcode fields os = serves_then (both_serve {p = opcode ▸ fields} {p' = opcode ▸ fields} serves_itself (with_nothing {p = list canonical_option os})) (in_front opcode)
+
+module _ {A S : Type 0} (one : Form A) (seen : A → S) (form : Form S) (serves : (v : A) → Serves (one v) (form (seen v))) where
+  -- a list behind a piece, by what is seen of its values
+  pub behind_piece : (lead : Piece) (vs : List A) → Serves (listed lead one nothing vs) (lead ⨾ list form (map seen vs))
+  behind_piece lead vs = both_serve {p = lead} {p' = lead} serves_itself (serves_then (with_nothing {p = list one vs}) (lists_serve one seen form serves vs))
+
+  -- behind a byte and a piece
+  pub tagged_list : (b : ℕ) (lead : Piece) (vs : List A) → Serves (listed (b ▸ lead) one nothing vs) (b ▸ (lead ⨾ list form (map seen vs)))
+  tagged_list b lead vs = serves_then (behind_piece (b ▸ lead) vs) (in_front b)
+
+  -- or behind a byte alone
+  pub bare_list : (b : ℕ) (vs : List A) → Serves (listed (b ▸ nothing) one nothing vs) (b ▸ list form (map seen vs))
+  bare_list b vs = serves_then (tagged_list b nothing vs) (tagged_serves b nothing_before)

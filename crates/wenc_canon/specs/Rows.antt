@@ -3,7 +3,13 @@ use Rattle.std.specs.Prelude.{ℕ, ◌==◌, false, if◌then◌else◌, List, [
 use Rattle.wenc_base.specs.Piece.{Piece, ◌▸◌}
 use Rattle.wenc_base.specs.declared.types.ValType.TheVariants.{I32}
 use Rattle.wenc_canon.specs.declared.canonicals.CanonicalOption.{CanonicalOption}
-use Rattle.wenc_canon.specs.Canonicals.{Field, Index, Options, Flag, Zero, CoreType, Results, Value, Values, fields, Intrinsic, ResourceNew, Row, row, intrinsics, Canonical, Provided}
+use Rattle.wenc_canon.specs.Canonicals.{Field, Index, Options, Flag, Zero, CoreType, Results, Value, Values, fields, Intrinsic, ResourceNew, Row, row, intrinsics, Canonical, Lift, Lower, Provided}
+
+-- the byte that a canonical function begins with
+abbrev pub first_byte : Canonical → ℕ
+first_byte (Lift function options type_index) = 0x00
+first_byte (Lower function options) = 0x01
+first_byte (Provided i values) = (row i).opcode
 
 -- the intrinsic with this opcode, of these
 abbrev pub first_with : ℕ → List Intrinsic → Intrinsic
@@ -54,6 +60,7 @@ provided_by opcode fs vs =
 abbrev pub and_options : List Field → List Field
 and_options fs = fs ++ Options ∷ []
 
+-- their values, and the options
 abbrev pub values_then : (fs : List Field) → Values fs → List CanonicalOption
     → Values (and_options fs)
 values_then [] vs os = os

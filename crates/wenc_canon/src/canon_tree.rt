@@ -201,12 +201,76 @@ pub enum CanonTree<A: Allocator = Global> {
     ThreadAvailableParallelism,
 }
 
+impl<A: Allocator> CanonTree<A> {
+    ghost use Rattle.std.specs.Prelude.{◌≡◌};
+    ghost use Rattle.wenc_canon.specs.CanonTrees.{canon_view};
+    ghost use Rattle.wenc_canon.specs.Rows.{first_byte};
+
+    /// The byte that the function begins with.
+    fn opcode(&self) -> u8
+        ensures { result ≡ first_byte (canon_view self.now) }
+    {
+        match self {
+            CanonTree::Lift { .. } => opcodes::LIFT,
+            CanonTree::Lower { .. } => opcodes::LOWER,
+            CanonTree::ResourceNew(_) => opcodes::RESOURCE_NEW,
+            CanonTree::ResourceDrop(_) => opcodes::RESOURCE_DROP,
+            CanonTree::ResourceRep(_) => opcodes::RESOURCE_REP,
+            CanonTree::TaskCancel => opcodes::TASK_CANCEL,
+            CanonTree::SubtaskCancel(_) => opcodes::SUBTASK_CANCEL,
+            CanonTree::TaskReturn { .. } => opcodes::TASK_RETURN,
+            CanonTree::ContextGet { .. } => opcodes::CONTEXT_GET,
+            CanonTree::ContextSet { .. } => opcodes::CONTEXT_SET,
+            CanonTree::ThreadYield => opcodes::THREAD_YIELD,
+            CanonTree::SubtaskDrop => opcodes::SUBTASK_DROP,
+            CanonTree::StreamNew(_) => opcodes::STREAM_NEW,
+            CanonTree::StreamRead { .. } => opcodes::STREAM_READ,
+            CanonTree::StreamWrite { .. } => opcodes::STREAM_WRITE,
+            CanonTree::StreamCancelRead { .. } => opcodes::STREAM_CANCEL_READ,
+            CanonTree::StreamCancelWrite { .. } => opcodes::STREAM_CANCEL_WRITE,
+            CanonTree::StreamDropReadable(_) => opcodes::STREAM_DROP_READABLE,
+            CanonTree::StreamDropWritable(_) => opcodes::STREAM_DROP_WRITABLE,
+            CanonTree::FutureNew(_) => opcodes::FUTURE_NEW,
+            CanonTree::FutureRead { .. } => opcodes::FUTURE_READ,
+            CanonTree::FutureWrite { .. } => opcodes::FUTURE_WRITE,
+            CanonTree::FutureCancelRead { .. } => opcodes::FUTURE_CANCEL_READ,
+            CanonTree::FutureCancelWrite { .. } => opcodes::FUTURE_CANCEL_WRITE,
+            CanonTree::FutureDropReadable(_) => opcodes::FUTURE_DROP_READABLE,
+            CanonTree::FutureDropWritable(_) => opcodes::FUTURE_DROP_WRITABLE,
+            CanonTree::ErrorContextNew(_) => opcodes::ERROR_CONTEXT_NEW,
+            CanonTree::ErrorContextDebugMessage(_) => opcodes::ERROR_CONTEXT_DEBUG_MESSAGE,
+            CanonTree::ErrorContextDrop => opcodes::ERROR_CONTEXT_DROP,
+            CanonTree::WaitableSetNew => opcodes::WAITABLE_SET_NEW,
+            CanonTree::WaitableSetWait(_) => opcodes::WAITABLE_SET_WAIT,
+            CanonTree::WaitableSetPoll(_) => opcodes::WAITABLE_SET_POLL,
+            CanonTree::WaitableSetDrop => opcodes::WAITABLE_SET_DROP,
+            CanonTree::WaitableJoin => opcodes::WAITABLE_JOIN,
+            CanonTree::BackpressureInc => opcodes::BACKPRESSURE_INC,
+            CanonTree::BackpressureDec => opcodes::BACKPRESSURE_DEC,
+            CanonTree::ThreadIndex => opcodes::THREAD_INDEX,
+            CanonTree::ThreadNewIndirect { .. } => opcodes::THREAD_NEW_INDIRECT,
+            CanonTree::ThreadResumeLater => opcodes::THREAD_RESUME_LATER,
+            CanonTree::ThreadSuspend => opcodes::THREAD_SUSPEND,
+            CanonTree::ThreadSuspendThenResume => opcodes::THREAD_SUSPEND_THEN_RESUME,
+            CanonTree::ThreadYieldThenResume => opcodes::THREAD_YIELD_THEN_RESUME,
+            CanonTree::ThreadSuspendThenPromote => opcodes::THREAD_SUSPEND_THEN_PROMOTE,
+            CanonTree::ThreadYieldThenPromote => opcodes::THREAD_YIELD_THEN_PROMOTE,
+            CanonTree::StreamForward(_) => opcodes::STREAM_FORWARD,
+            CanonTree::FutureForward(_) => opcodes::FUTURE_FORWARD,
+            CanonTree::ThreadSpawnRef(_) => opcodes::THREAD_SPAWN_REF,
+            CanonTree::ThreadSpawnIndirect { .. } => opcodes::THREAD_SPAWN_INDIRECT,
+            CanonTree::ThreadAvailableParallelism => opcodes::THREAD_AVAILABLE_PARALLELISM,
+        }
+    }
+}
+
 impl<A: Allocator> Encode for CanonTree<A> {
     ghost use Rattle.wenc_canon.specs.CanonTrees.{canon_view};
 
     ghost piece = { λ t. canonical (canon_view t) };
 
     fn encode<B: Allocator>(&self, sink: &mut Vec<u8, B>) -> Result<(), Fault> {
+        let opcode = self.opcode();
         match self {
             CanonTree::Lift {
                 core_func,
@@ -214,145 +278,64 @@ impl<A: Allocator> Encode for CanonTree<A> {
                 options,
             } => lifted(core_func, *ty, options, sink),
             CanonTree::Lower { func, options } => lowered(func, options, sink),
-            CanonTree::ResourceNew(ty) => Tagged(opcodes::RESOURCE_NEW, ty).encode(sink),
-            CanonTree::ResourceDrop(ty) => Tagged(opcodes::RESOURCE_DROP, ty).encode(sink),
-            CanonTree::ResourceRep(ty) => Tagged(opcodes::RESOURCE_REP, ty).encode(sink),
-            CanonTree::TaskCancel => Tagged(opcodes::TASK_CANCEL, &()).encode(sink),
-            CanonTree::SubtaskCancel(async_) => Tagged(opcodes::SUBTASK_CANCEL, async_).encode(
+            CanonTree::TaskReturn { ty, options } => {
+                with_options(opcode, &ResultList(*ty), options, sink)
+            }
+            CanonTree::ErrorContextNew(options) | CanonTree::ErrorContextDebugMessage(options) => {
+                with_options(opcode, &(), options, sink)
+            }
+            CanonTree::StreamRead { ty, options }
+            | CanonTree::StreamWrite { ty, options }
+            | CanonTree::FutureRead { ty, options }
+            | CanonTree::FutureWrite { ty, options } => with_options(opcode, ty, options, sink),
+            CanonTree::StreamCancelRead { ty, async_ }
+            | CanonTree::StreamCancelWrite { ty, async_ }
+            | CanonTree::FutureCancelRead { ty, async_ }
+            | CanonTree::FutureCancelWrite { ty, async_ } => Tagged(opcode, &(*ty, *async_)).encode(
                 sink,
             ),
-            CanonTree::TaskReturn { ty, options } => with_options(
-                opcodes::TASK_RETURN,
-                &ResultList(*ty),
-                options,
-                sink,
-            ),
-            CanonTree::ContextGet { ty, slot } => Tagged(
-                opcodes::CONTEXT_GET,
+            CanonTree::ContextGet { ty, slot } | CanonTree::ContextSet { ty, slot } => Tagged(
+                opcode,
                 &(*ty, *slot),
             ).encode(sink),
-            CanonTree::ContextSet { ty, slot } => Tagged(
-                opcodes::CONTEXT_SET,
-                &(*ty, *slot),
-            ).encode(sink),
-            CanonTree::ThreadYield => Tagged(opcodes::THREAD_YIELD, &NotCancellable).encode(sink),
-            CanonTree::SubtaskDrop => Tagged(opcodes::SUBTASK_DROP, &()).encode(sink),
-            CanonTree::StreamNew(ty) => Tagged(opcodes::STREAM_NEW, ty).encode(sink),
-            CanonTree::StreamRead { ty, options } => with_options(
-                opcodes::STREAM_READ,
-                ty,
-                options,
+            CanonTree::ThreadNewIndirect { ty, table }
+            | CanonTree::ThreadSpawnIndirect { ty, table } => Tagged(opcode, &(*ty, *table)).encode(
                 sink,
             ),
-            CanonTree::StreamWrite { ty, options } => with_options(
-                opcodes::STREAM_WRITE,
-                ty,
-                options,
-                sink,
-            ),
-            CanonTree::StreamCancelRead { ty, async_ } => Tagged(
-                opcodes::STREAM_CANCEL_READ,
-                &(*ty, *async_),
-            ).encode(sink),
-            CanonTree::StreamCancelWrite { ty, async_ } => Tagged(
-                opcodes::STREAM_CANCEL_WRITE,
-                &(*ty, *async_),
-            ).encode(sink),
-            CanonTree::StreamDropReadable(ty) => Tagged(opcodes::STREAM_DROP_READABLE, ty).encode(
-                sink,
-            ),
-            CanonTree::StreamDropWritable(ty) => Tagged(opcodes::STREAM_DROP_WRITABLE, ty).encode(
-                sink,
-            ),
-            CanonTree::FutureNew(ty) => Tagged(opcodes::FUTURE_NEW, ty).encode(sink),
-            CanonTree::FutureRead { ty, options } => with_options(
-                opcodes::FUTURE_READ,
-                ty,
-                options,
-                sink,
-            ),
-            CanonTree::FutureWrite { ty, options } => with_options(
-                opcodes::FUTURE_WRITE,
-                ty,
-                options,
-                sink,
-            ),
-            CanonTree::FutureCancelRead { ty, async_ } => Tagged(
-                opcodes::FUTURE_CANCEL_READ,
-                &(*ty, *async_),
-            ).encode(sink),
-            CanonTree::FutureCancelWrite { ty, async_ } => Tagged(
-                opcodes::FUTURE_CANCEL_WRITE,
-                &(*ty, *async_),
-            ).encode(sink),
-            CanonTree::FutureDropReadable(ty) => Tagged(opcodes::FUTURE_DROP_READABLE, ty).encode(
-                sink,
-            ),
-            CanonTree::FutureDropWritable(ty) => Tagged(opcodes::FUTURE_DROP_WRITABLE, ty).encode(
-                sink,
-            ),
-            CanonTree::ErrorContextNew(options) => with_options(
-                opcodes::ERROR_CONTEXT_NEW,
-                &(),
-                options,
-                sink,
-            ),
-            CanonTree::ErrorContextDebugMessage(options) => with_options(
-                opcodes::ERROR_CONTEXT_DEBUG_MESSAGE,
-                &(),
-                options,
-                sink,
-            ),
-            CanonTree::ErrorContextDrop => Tagged(opcodes::ERROR_CONTEXT_DROP, &()).encode(sink),
-            CanonTree::WaitableSetNew => Tagged(opcodes::WAITABLE_SET_NEW, &()).encode(sink),
-            CanonTree::WaitableSetWait(memory) => Tagged(
-                opcodes::WAITABLE_SET_WAIT,
+            CanonTree::WaitableSetWait(memory) | CanonTree::WaitableSetPoll(memory) => Tagged(
+                opcode,
                 &(NotCancellable, *memory),
             ).encode(sink),
-            CanonTree::WaitableSetPoll(memory) => Tagged(
-                opcodes::WAITABLE_SET_POLL,
-                &(NotCancellable, *memory),
-            ).encode(sink),
-            CanonTree::WaitableSetDrop => Tagged(opcodes::WAITABLE_SET_DROP, &()).encode(sink),
-            CanonTree::WaitableJoin => Tagged(opcodes::WAITABLE_JOIN, &()).encode(sink),
-            CanonTree::BackpressureInc => Tagged(opcodes::BACKPRESSURE_INC, &()).encode(sink),
-            CanonTree::BackpressureDec => Tagged(opcodes::BACKPRESSURE_DEC, &()).encode(sink),
-            CanonTree::ThreadIndex => Tagged(opcodes::THREAD_INDEX, &()).encode(sink),
-            CanonTree::ThreadNewIndirect { ty, table } => Tagged(
-                opcodes::THREAD_NEW_INDIRECT,
-                &(*ty, *table),
-            ).encode(sink),
-            CanonTree::ThreadResumeLater => Tagged(opcodes::THREAD_RESUME_LATER, &()).encode(sink),
-            CanonTree::ThreadSuspend => Tagged(opcodes::THREAD_SUSPEND, &NotCancellable).encode(
-                sink,
-            ),
-            CanonTree::ThreadSuspendThenResume => Tagged(
-                opcodes::THREAD_SUSPEND_THEN_RESUME,
-                &NotCancellable,
-            ).encode(sink),
-            CanonTree::ThreadYieldThenResume => Tagged(
-                opcodes::THREAD_YIELD_THEN_RESUME,
-                &NotCancellable,
-            ).encode(sink),
-            CanonTree::ThreadSuspendThenPromote => Tagged(
-                opcodes::THREAD_SUSPEND_THEN_PROMOTE,
-                &NotCancellable,
-            ).encode(sink),
-            CanonTree::ThreadYieldThenPromote => Tagged(
-                opcodes::THREAD_YIELD_THEN_PROMOTE,
-                &NotCancellable,
-            ).encode(sink),
-            CanonTree::StreamForward(ty) => Tagged(opcodes::STREAM_FORWARD, ty).encode(sink),
-            CanonTree::FutureForward(ty) => Tagged(opcodes::FUTURE_FORWARD, ty).encode(sink),
-            CanonTree::ThreadSpawnRef(ty) => Tagged(opcodes::THREAD_SPAWN_REF, ty).encode(sink),
-            CanonTree::ThreadSpawnIndirect { ty, table } => Tagged(
-                opcodes::THREAD_SPAWN_INDIRECT,
-                &(*ty, *table),
-            ).encode(sink),
-            CanonTree::ThreadAvailableParallelism => Tagged(
-                opcodes::THREAD_AVAILABLE_PARALLELISM,
-                &(),
-            ).encode(sink),
+            CanonTree::SubtaskCancel(async_) => Tagged(opcode, async_).encode(sink),
+            CanonTree::ResourceNew(ty)
+            | CanonTree::ResourceDrop(ty)
+            | CanonTree::ResourceRep(ty)
+            | CanonTree::StreamNew(ty)
+            | CanonTree::StreamDropReadable(ty)
+            | CanonTree::StreamDropWritable(ty)
+            | CanonTree::FutureNew(ty)
+            | CanonTree::FutureDropReadable(ty)
+            | CanonTree::FutureDropWritable(ty)
+            | CanonTree::StreamForward(ty)
+            | CanonTree::FutureForward(ty)
+            | CanonTree::ThreadSpawnRef(ty) => Tagged(opcode, ty).encode(sink),
+            CanonTree::ThreadYield
+            | CanonTree::ThreadSuspend
+            | CanonTree::ThreadSuspendThenResume
+            | CanonTree::ThreadYieldThenResume
+            | CanonTree::ThreadSuspendThenPromote
+            | CanonTree::ThreadYieldThenPromote => Tagged(opcode, &NotCancellable).encode(sink),
+            CanonTree::TaskCancel
+            | CanonTree::SubtaskDrop
+            | CanonTree::ErrorContextDrop
+            | CanonTree::WaitableSetNew
+            | CanonTree::WaitableSetDrop
+            | CanonTree::WaitableJoin
+            | CanonTree::BackpressureInc
+            | CanonTree::BackpressureDec
+            | CanonTree::ThreadIndex
+            | CanonTree::ThreadResumeLater
+            | CanonTree::ThreadAvailableParallelism => Tagged(opcode, &()).encode(sink),
         }
     }
 }

@@ -1,5 +1,3 @@
-use Rattle.std.proofs.Common.{List, ℕ, Result, ◌≡◌}
-use Rattle.wenc_base.specs.Holder.{Held, AddsMember}
 use Rattle.wenc_base.specs.laws.Holders.{adds_as}
 use Rattle.wenc_base.specs.laws.Members.{keeps_added}
 use Rattle.wenc_canon.specs.Canonicals.{canonical}

@@ -1,5 +1,3 @@
-use Rattle.wenc_base.specs.Piece.{nothing, ◌▸◌}
-use Rattle.wenc_base.specs.Holder.{listed}
 use Rattle.wenc_base.specs.laws.Holders.{adds_listed_as}
 use Rattle.wenc_base.specs.laws.Members.{keeps_listed}
 use Rattle.wenc_canon.specs.Canonicals.{canonical}
