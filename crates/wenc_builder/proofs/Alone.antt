@@ -2,9 +2,10 @@
 use Rattle.std.proofs.Common.{◌≡◌, ℕ, ◌<◌, true, is_none, List, length, Option, Some, None, Result, Ok, Err, sym, inl, inr, arith, subst}
 use Rattle.std.proofs.lemmas.List.{get_or-set_same}
 use Rattle.std.specs.Result.{OnOk, OnErr, IfErr}
-use Rattle.wenc_base.specs.Fault.{IsWarranted}
+use Rattle.wenc_base.specs.Fault.{IsWarranted, NoCause}
+use Rattle.wenc_base.specs.Piece.{Piece}
 use Rattle.wenc_base.specs.declared.fault.Fault.{Fault}
-use Rattle.wenc_base.specs.laws.Causes.{still_warranted}
+use Rattle.wenc_base.specs.laws.Serves.{still_warranted}
 use Rattle.wenc_builder.specs.Builder.{State, Namespace, no_names, namespace_at, namespace_with, with_alone}
 use Rattle.wenc_builder.specs.Cause.{SpaceCause, CallCause}
 use Rattle.wenc_builder.specs.Enters.{TakesAlone, TakesNoPlace}
@@ -22,83 +23,88 @@ there : (old : State) (d : Defined) (name : Option (List ℕ)) (text : List ℕ)
     → namespace_at (with_alone old.settled (Some d) name text).spaces d.space ≡ space_after old d name
 there old d name text h l = get_or-set_same old.settled.spaces d.space (space_after old d name) no_names (omega arith)
 
-pub alone_without_places : (b : Buffered) (s : Spaced) (old new : State) (fault : Fault) (d : Defined) (name : Option (List ℕ)) (text : List ℕ) (cause : Fault → Type 0) → Agree b.writing s.taking → builder_view b s ≡ old
+pub alone_without_places : (b : Buffered) (s : Spaced) (old new : State) (fault : Fault) (d : Defined) (name : Option (List ℕ)) (p : Piece) → Agree b.writing s.taking → builder_view b s ≡ old
     → is_none b.writing ≡ true → new ≡ old → length old.settled.spaces ≡ 13 → d.space < 13 → IsWarranted (SpaceCause (space_after old d name)) fault
-    → TakesAlone old new (Err fault) d name text cause
-alone_without_places b s old new fault d name text cause a view w same all within refused = record {
+    → TakesAlone old new (Err fault) d name p
+alone_without_places b s old new fault d name p a view w same all within refused = record {
   told = tt;
   ok = tt;
+  fits = tt;
   free = tt;
   err = same;
   warranted = still_warranted _ _ refuses fault refused;
   unfinished_first = λ e. let none = settled_before b s old a view w in cc;
 }
   where
-    refuses : (f : Fault) → SpaceCause (space_after old d name) f → CallCause old cause (with_alone old.settled (Some d) name text) (Some d) f
-    refuses f c = inl (inr (inl (subst (λ (n : Namespace). SpaceCause n f) (sym (there old d name text all within)) c)))
+    refuses : (f : Fault) → SpaceCause (space_after old d name) f → CallCause old p.Cause (with_alone old.settled (Some d) name p.text) (Some d) f
+    refuses f c = inl (inr (inl (subst (λ (n : Namespace). SpaceCause n f) (sym (there old d name p.text all within)) c)))
 
-pub alone_refused : (b : Buffered) (s : Spaced) (old new : State) (fault : Fault) (d : Defined) (name : Option (List ℕ)) (text : List ℕ) (cause : Fault → Type 0) → Agree b.writing s.taking → builder_view b s ≡ old
-    → is_none b.writing ≡ true → new ≡ old → IsWarranted cause fault
-    → TakesAlone old new (Err fault) d name text cause
-alone_refused b s old new fault d name text cause a view w same refused = record {
+pub alone_refused : (b : Buffered) (s : Spaced) (old new : State) (fault : Fault) (d : Defined) (name : Option (List ℕ)) (p : Piece) → Agree b.writing s.taking → builder_view b s ≡ old
+    → is_none b.writing ≡ true → new ≡ old → IsWarranted p.Cause fault
+    → TakesAlone old new (Err fault) d name p
+alone_refused b s old new fault d name p a view w same refused = record {
   told = tt;
   ok = tt;
+  fits = tt;
   free = tt;
   err = same;
   warranted = still_warranted _ _ refuses fault refused;
   unfinished_first = λ e. let none = settled_before b s old a view w in cc;
 }
   where
-    refuses : (f : Fault) → cause f → CallCause old cause (with_alone old.settled (Some d) name text) (Some d) f
+    refuses : (f : Fault) → p.Cause f → CallCause old p.Cause (with_alone old.settled (Some d) name p.text) (Some d) f
     refuses f c = inl (inl c)
 
-pub alone_taken : (b : Buffered) (s : Spaced) (old new : State) (index : ℕ) (d : Defined) (name : Option (List ℕ)) (text : List ℕ) (cause : Fault → Type 0) → Agree b.writing s.taking → builder_view b s ≡ old
-    → is_none b.writing ≡ true → new ≡ record { settled = with_alone old.settled (Some d) name text; begun = None }
+pub alone_taken : (b : Buffered) (s : Spaced) (old new : State) (index : ℕ) (d : Defined) (name : Option (List ℕ)) (p : Piece) → Agree b.writing s.taking → builder_view b s ≡ old
+    → is_none b.writing ≡ true → new ≡ record { settled = with_alone old.settled (Some d) name p.text; begun = None }
     → index ≡ (namespace_at old.settled.spaces d.space).count → length old.settled.spaces ≡ 13 → d.space < 13
-    → ((fault : Fault) → SpaceCause (space_after old d name) fault → ⊥) → ((fault : Fault) → cause fault → ⊥)
-    → TakesAlone old new (Ok index) d name text cause
-alone_taken b s old new index d name text cause a view w is counted all within space own = record {
+    → p.Fits → NoCause (SpaceCause (space_after old d name)) → NoCause p.Cause
+    → TakesAlone old new (Ok index) d name p
+alone_taken b s old new index d name p a view w is counted all within fits space own = record {
   told = counted;
   ok = is;
+  fits = fits;
   free = free;
   err = tt;
   warranted = tt;
   unfinished_first = λ e. let none = settled_before b s old a view w in cc;
 }
   where
-    free : (fault : Fault) → CallCause old cause (with_alone old.settled (Some d) name text) (Some d) fault → ⊥
+    free : (fault : Fault) → CallCause old p.Cause (with_alone old.settled (Some d) name p.text) (Some d) fault → ⊥
     free fault (inl (inl c)) = own fault c
-    free fault (inl (inr (inl c))) = space fault (subst (λ (n : Namespace). SpaceCause n fault) (there old d name text all within) c)
+    free fault (inl (inr (inl c))) = space fault (subst (λ (n : Namespace). SpaceCause n fault) (there old d name p.text all within) c)
     free fault (inl (inr (inr c))) = c
     free fault (inr c) = let none = settled_before b s old a view w in let unfinished = c.1 in cc
 
 -- ---- without a place
 
-pub stood_nowhere : (b : Buffered) (s : Spaced) (old new : State) (result : Result (Unit {0}) Fault) (text : List ℕ) (cause : Fault → Type 0) → Agree b.writing s.taking → builder_view b s ≡ old
-    → is_none b.writing ≡ true → OnOk result (new ≡ record { settled = with_alone old.settled None None text; begun = None }) → OnOk result ((fault : Fault) → cause fault → ⊥) → OnErr result (new ≡ old) → IfErr result (IsWarranted cause)
-    → TakesNoPlace old new result text cause
-stood_nowhere b s old new (Ok u) text cause a view w is own same refused = record {
+pub stood_nowhere : (b : Buffered) (s : Spaced) (old new : State) (result : Result (Unit {0}) Fault) (p : Piece) → Agree b.writing s.taking → builder_view b s ≡ old
+    → is_none b.writing ≡ true → OnOk result (new ≡ record { settled = with_alone old.settled None None p.text; begun = None }) → OnOk result p.Fits → OnOk result (NoCause p.Cause) → OnErr result (new ≡ old) → IfErr result (IsWarranted p.Cause)
+    → TakesNoPlace old new result p
+stood_nowhere b s old new (Ok u) p a view w is fits own same refused = record {
   told = tt;
   ok = is;
+  fits = fits;
   free = free;
   err = tt;
   warranted = tt;
   unfinished_first = λ e. let none = settled_before b s old a view w in cc;
 }
   where
-    free : (fault : Fault) → CallCause old cause (with_alone old.settled None None text) None fault → ⊥
+    free : (fault : Fault) → CallCause old p.Cause (with_alone old.settled None None p.text) None fault → ⊥
     free fault (inl (inl c)) = own fault c
     free fault (inl (inr (inl c))) = c
     free fault (inl (inr (inr c))) = c
     free fault (inr c) = let none = settled_before b s old a view w in let unfinished = c.1 in cc
-stood_nowhere b s old new (Err fault) text cause a view w is own same refused = record {
+stood_nowhere b s old new (Err fault) p a view w is fits own same refused = record {
   told = tt;
   ok = tt;
+  fits = tt;
   free = tt;
   err = same;
   warranted = still_warranted _ _ refuses fault refused;
   unfinished_first = λ e. let none = settled_before b s old a view w in cc;
 }
   where
-    refuses : (f : Fault) → cause f → CallCause old cause (with_alone old.settled None None text) None f
+    refuses : (f : Fault) → p.Cause f → CallCause old p.Cause (with_alone old.settled None None p.text) None f
     refuses f c = inl (inl c)

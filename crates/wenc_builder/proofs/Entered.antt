@@ -13,7 +13,7 @@ use Rattle.wenc_builder.specs.Entry.{Entry, items}
 use Rattle.wenc_builder.specs.Builder.{Content, with_entry, with_alone, State, builder_is_finished, step, settled_in, content_of, namespace_at, Draft, draft, draft_place, begun_with, ended}
 use Rattle.wenc_builder.specs.Holds.{Holds}
 use Rattle.wenc_builder.specs.Cause.{CallCause, EnterCause}
-use Rattle.wenc_builder.specs.Enters.{IsCountAt, EntersWith, Enters, EntersPlaceless, TakesWith, TakesDraft, TakesAlone, TakesNoPlace}
+use Rattle.wenc_builder.specs.Enters.{IsCountAt, EntersWith, Enters, EntersPlaceless, TakesWith, Takes, TakesDraft, TakesAlone, TakesNoPlace}
 use Rattle.wenc_builder.specs.laws.Caused.{adding_never_unfinished}
 use Rattle.wenc_builder.specs.laws.Fits.{HasRoom}
 use Rattle.wenc_builder.specs.laws.Never.{never_unfinished}
@@ -148,6 +148,41 @@ pub placeless_enters : {p : Piece} (old new : State) (result : Result (Unit {0})
 placeless_enters {p} old new result x w s t =
     let after = with_alone old.settled None None p.text in
     enters old new (settled_in after) result x after None _ _ (λ places r. Unit {0}) (alone_is old x None None w s) s refl (λ es h r u. tt) (λ r u. tt) t
+
+-- ---- a piece for another that has no cause where it fits
+
+takes_as : {R : Type 0} {p q : Piece} (old new next : State) (result : Result R Fault) (after : Content) (places : Option Defined) (Told : R → Type 0) → (p.Fits → q.Fits) → ((fault : Fault) → p.Cause fault → q.Cause fault)
+    → (q.Fits → NoCause q.Cause) → TakesWith old new next result after places p Told → TakesWith old new next result after places q Told
+takes_as {p} {q} old new next (Ok r) after places Told fits among lawful t = record {
+  told = t.told;
+  ok = t.ok;
+  fits = fits t.fits;
+  free = free;
+  err = tt;
+  warranted = tt;
+  unfinished_first = t.unfinished_first;
+}
+  where
+    free : NoCause (CallCause old q.Cause after places)
+    free fault (inl (inl c)) = lawful (fits t.fits) fault c
+    free fault (inl (inr c)) = t.free fault (inl (inr c))
+    free fault (inr c) = t.free fault (inr c)
+takes_as {p} {q} old new next (Err fault) after places Told fits among lawful t = record {
+  told = tt;
+  ok = tt;
+  fits = tt;
+  free = tt;
+  err = t.err;
+  warranted = still_warranted _ _ (λ f c. same_call old p.Cause q.Cause after places f (among f) c) fault t.warranted;
+  unfinished_first = t.unfinished_first;
+}
+
+pub draft_as : {p q : Piece} (old new : State) (result : Result ℕ Fault) (id space : ℕ) (name : Option (List ℕ)) → p.text ≡ q.text → (p.Fits → q.Fits) → ((fault : Fault) → p.Cause fault → q.Cause fault)
+    → (q.Fits → NoCause q.Cause) → TakesDraft old new result (draft id space name) p → TakesDraft old new result (draft id space name) q
+draft_as {p} {q} old new result id space name e fits among lawful t =
+    let d : Draft = draft id space name p.text in
+    subst (λ (text : List ℕ). Takes old new (ended (begun_with old (draft id space name text))) result (draft id space name text) q) e
+    (takes_as old new (ended (begun_with old d)) result (content_of (begun_with old d)) (Some (draft_place d)) _ fits among lawful t)
 
 -- ---- refused before anything else
 

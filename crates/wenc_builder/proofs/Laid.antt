@@ -6,9 +6,10 @@ use Rattle.std.specs.Result.{OnOk, IfErr}
 use Rattle.wenc_base.specs.Number.{number_size}
 use Rattle.wenc_base.specs.Holder.{Held, is_finished, holding, all_bytes, with_kept, content_size, AddCause}
 use Rattle.wenc_base.specs.Lender.{Extends, ExtendsListed}
-use Rattle.wenc_base.specs.Fault.{either}
-use Rattle.wenc_base.specs.Openings.{opened_with, lengthened, OpensMember, no_room, MoreCause}
-use Rattle.wenc_base.specs.laws.Causes.{still_warranted}
+use Rattle.wenc_base.specs.Piece.{Piece}
+use Rattle.wenc_base.specs.Fault.{NoCause, either}
+use Rattle.wenc_base.specs.Openings.{opened_with, lengthened, OpensMember, no_room}
+use Rattle.wenc_base.specs.laws.Serves.{still_warranted}
 use Rattle.wenc_base.specs.declared.holder.openings.Opening.{Opening}
 use Rattle.wenc_base.specs.declared.fault.Fault.{Fault}
 use Rattle.wenc_base.specs.declared.fault.Fault.TheVariants.{Memory, TooMany, TooLarge, Unfinished}
@@ -16,7 +17,7 @@ use Rattle.wenc_base.proofs.Groups.{size_1}
 use Rattle.wenc_builder.specs.Builder.{OpenSection, Sections, sections_text, entered, entered_at}
 use Rattle.wenc_builder.specs.Cause.{SectionCause}
 use Rattle.wenc_builder.specs.laws.Caused.{cause_is}
-use Rattle.wenc_builder.specs.Layout.{kind_id, open_head, OpensAnother, Buffered, buffered_content, buffer_appended, section_appended, buffer_with, NoRoom, AppendCause, SectionFits, open_view, earlier_view, buffer_view, kept_before, kept_with, SectionIsIn, MembersAreIn, OpeningIsIn, EarlierIsIn, IsApart, IsLaidOut}
+use Rattle.wenc_builder.specs.Layout.{kind_id, open_head, OpensAnother, Buffered, buffered_content, buffer_appended, section_appended, buffer_with, NoRoom, SectionFits, open_view, earlier_view, buffer_view, kept_before, kept_with, SectionIsIn, MembersAreIn, OpeningIsIn, EarlierIsIn, IsApart, IsLaidOut}
 use Rattle.wenc_builder.specs.declared.builder.earlier.Earlier.{Earlier}
 use Rattle.wenc_builder.specs.declared.builder.kind.Kind.{Kind}
 
@@ -109,7 +110,7 @@ apart_free_at : (closed : List ℕ) (o : Option OpenSection) (id : ℕ) → Open
 apart_free_at closed None id d fault c = one_free id fault c
 apart_free_at closed (Some o) id d fault c = one_free id fault (rw (ne_eqb o.id id d) at c)
 
-pub apart_free : (outcome : Result (Unit {0}) Fault) (s : Sections) (id : ℕ) → OpensAnother s.current id → OnOk outcome ((fault : Fault) → SectionCause (entered s id []).current fault → ⊥)
+pub apart_free : (outcome : Result (Unit {0}) Fault) (s : Sections) (id : ℕ) → OpensAnother s.current id → OnOk outcome (NoCause (SectionCause (entered s id []).current))
 apart_free (Ok u) s id d = apart_free_at s.closed s.current id d
 apart_free (Err fault) s id d = tt
 
@@ -210,37 +211,37 @@ module _ (old : Held) (closed_len : ℕ) (kind : Option Kind) (earlier : Option 
   room_back : (text : List ℕ) (fault : Fault) → NoRoom (section_appended now text) fault → no_room old text fault
   room_back text fault p = (p.0, large_at old text closed_len kind earlier old.opening refl laid.places unfinished (rw (← view) at p.1))
 
-  module _ (cause : Fault → Type 0) (text : List ℕ) where
-    there : (fault : Fault) → either cause (no_room old text) fault → AppendCause cause (section_appended now text) fault
-    there fault c = elim c [ inl own ↦ inl own | inr p ↦ inr (room_there text fault p) ]
+  there : (cause : Fault → Type 0) (text : List ℕ) (fault : Fault) → either cause (no_room old text) fault → either cause (NoRoom (section_appended now text)) fault
+  there cause text fault c = elim c [ inl own ↦ inl own | inr p ↦ inr (room_there text fault p) ]
 
-    back : (fault : Fault) → AppendCause cause (section_appended now text) fault → either cause (no_room old text) fault
-    back fault c = elim c [ inl own ↦ inl own | inr p ↦ inr (room_back text fault p) ]
+  back : (cause : Fault → Type 0) (text : List ℕ) (fault : Fault) → either cause (NoRoom (section_appended now text)) fault → either cause (no_room old text) fault
+  back cause text fault c = elim c [ inl own ↦ inl own | inr p ↦ inr (room_back text fault p) ]
 
-  pub appended_value : (new : Held) (outcome : Result (Unit {0}) Fault) (cause : Fault → Type 0) (text : List ℕ) → Extends old new (lengthened old text) outcome (MoreCause old text cause)
-      → Extends now (buffer_view new closed_len kind earlier) (buffer_appended now text) outcome (AppendCause cause (section_appended now text))
-  appended_value new (Ok u) cause text a = record { ok = rw a.ok (longer_view text); free = λ fault c. a.free fault (back cause text fault c); err = tt; warranted = tt }
-  appended_value new (Err f) cause text a = record { ok = tt; free = tt; err = rw a.err view; warranted = still_warranted _ _ (there cause text) f a.warranted }
+  pub appended_value : (new : Held) (outcome : Result (Unit {0}) Fault) (p : Piece) → Extends old new (lengthened old p.text) outcome p (no_room old p.text)
+      → Extends now (buffer_view new closed_len kind earlier) (buffer_appended now p.text) outcome p (NoRoom (section_appended now p.text))
+  appended_value new (Ok u) p a = record { ok = rw a.ok (longer_view p.text); fits = a.fits; free = λ fault c. a.free fault (back p.Cause p.text fault c); err = tt; warranted = tt }
+  appended_value new (Err f) p a = record { ok = tt; fits = tt; free = tt; err = rw a.err view; warranted = still_warranted _ _ (there p.Cause p.text) f a.warranted }
 
-  pub appended_list : {S B : Type 0} (steps : S → Option B → S → Type 0) (values : S) (new : Held) (outcome : Result (Unit {0}) Fault) (cause : List B → Fault → Type 0) (text : List B → List ℕ)
-      → ExtendsListed steps values old new outcome (lengthened old) (no_room old) cause text
-      → ExtendsListed steps values now (buffer_view new closed_len kind earlier) outcome (buffer_appended now) (λ bytes. NoRoom (section_appended now bytes)) cause text
-  appended_list steps values new (Ok u) cause text a =
-      let items = a.ok.0.items in
+  pub appended_list : {S B : Type 0} (steps : S → Option B → S → Type 0) (values : S) (new : Held) (outcome : Result (Unit {0}) Fault) (piece : List B → Piece)
+      → ExtendsListed steps values old new outcome (lengthened old) (no_room old) piece
+      → ExtendsListed steps values now (buffer_view new closed_len kind earlier) outcome (buffer_appended now) (λ bytes. NoRoom (section_appended now bytes)) piece
+  appended_list steps values new (Ok u) piece a =
+      let e = a.ok.3 in
+      let p : Piece = piece a.ok.0.items in
       record {
-        ok = (a.ok.0, a.ok.1, a.ok.2, (rw a.ok.3.0 (longer_view (text items)), λ fault c. a.ok.3.1 fault (back (cause items) (text items) fault c)));
+        ok = (a.ok.0, a.ok.1, a.ok.2, record { state = rw e.state (longer_view p.text); fits = e.fits; free = λ fault c. e.free fault (back p.Cause p.text fault c) });
         err = tt;
         warranted = tt;
       }
-  appended_list steps values new (Err f) cause text a =
-      let items = a.warranted.0.items in
-      record { ok = tt; err = rw a.err view; warranted = (a.warranted.0, a.warranted.1, still_warranted _ _ (there (cause items) (text items)) f a.warranted.2) }
+  appended_list steps values new (Err f) piece a =
+      let p : Piece = piece a.warranted.0.items in
+      record { ok = tt; err = rw a.err view; warranted = (a.warranted.0, a.warranted.1, still_warranted _ _ (there p.Cause p.text) f a.warranted.2) }
 
   -- the layout is kept
-  pub list_laid : {S B : Type 0} (steps : S → Option B → S → Type 0) (values : S) (new : Held) (outcome : Result (Unit {0}) Fault) (cause : List B → Fault → Type 0) (text : List B → List ℕ)
-      → ExtendsListed steps values old new outcome (lengthened old) (no_room old) cause text → IsLaidOut new closed_len kind earlier
-  list_laid steps values new (Ok u) cause text a = rw a.ok.3.0 (still_laid (text a.ok.0.items))
-  list_laid steps values new (Err f) cause text a = rw a.err laid
+  pub list_laid : {S B : Type 0} (steps : S → Option B → S → Type 0) (values : S) (new : Held) (outcome : Result (Unit {0}) Fault) (piece : List B → Piece)
+      → ExtendsListed steps values old new outcome (lengthened old) (no_room old) piece → IsLaidOut new closed_len kind earlier
+  list_laid steps values new (Ok u) piece a = rw a.ok.3.state (still_laid (piece a.ok.0.items).text)
+  list_laid steps values new (Err f) piece a = rw a.err laid
 
 -- ---- an item is given up
 

@@ -27,7 +27,6 @@ use Rattle.wenc_builder.specs.laws.Lent.{still_begun, appended_twice}
 use Rattle.wenc_builder.specs.laws.Caused.{section_grows}
 use Rattle.wenc_builder.proofs.Entered.{IsDraftOf, draft_enters}
 use Rattle.wenc_builder.proofs.Taken.{not_begun, added, partly_written}
-use Rattle.wenc_builder.proofs.Texts.{last_options}
 
 -- ---- a piece, a list of values, another piece
 

@@ -1,5 +1,5 @@
 -- The names so far, and their section.
-use Rattle.std.proofs.Common.{◌≡◌, ℕ, zero, suc, ◌+◌, ◌<◌, ◌≤◌, ◌^◌, inl, inr, List, [], ◌∷◌, ◌++◌, length, length-append, map, take, get_or, nat_eq, true, false, is_none, Option, None, Some, Result, Ok, Err, refl, sym, ap, ◌∙◌, subst, arith}
+use Rattle.std.proofs.Common.{◌≡◌, ◌⊎◌, ℕ, zero, suc, ◌+◌, ◌<◌, ◌≤◌, ◌^◌, inl, inr, List, [], ◌∷◌, ◌++◌, length, length-append, map, take, get_or, nat_eq, true, false, is_none, Option, None, Some, Result, Ok, Err, refl, sym, ap, ◌∙◌, subst, arith}
 use Rattle.std.proofs.Math.Numerals.{add-one}
 use Rattle.std.proofs.Math.Seq.{take-suc}
 use Rattle.std.proofs.lemmas.Bool.Decides.{eqb_tells}
@@ -7,35 +7,40 @@ use Rattle.std.proofs.lemmas.Grind.{flat_map-append}
 use Rattle.std.proofs.lemmas.List.Folds.{flat_map-map}
 use Rattle.std.specs.List.{flat_map}
 use Rattle.std.specs.Option.{MatchOption}
-use Rattle.wenc_base.specs.Custom.{Custom, custom_cause}
 use Rattle.std.specs.Result.{IfErr, OnOk, OnErr}
-use Rattle.wenc_base.specs.Fault.{IsWarranted, text_cause, first_of, member_cause, NoCause}
-use Rattle.wenc_base.specs.Forms.{name as name_form}
-use Rattle.wenc_base.specs.Holder.{Held, holding}
+use Rattle.wenc_base.specs.Encode.{Serves, in_order, sized_in_order}
+use Rattle.wenc_base.specs.Fault.{IsWarranted, NoCause, size_cause}
+use Rattle.wenc_base.specs.Forms.{AreBytes, name as name_form}
+use Rattle.wenc_base.specs.Holder.{Held, holding, held_text}
 use Rattle.wenc_base.specs.Names.{Named, names_text}
 use Rattle.wenc_base.specs.Number.{unsigned_text}
+use Rattle.wenc_base.specs.Piece.{Piece, AnyCause, ◌▸◌, each}
 use Rattle.wenc_base.specs.declared.fault.Fault.{Fault}
 use Rattle.wenc_base.specs.declared.fault.Fault.TheVariants.{Memory, TooMany, TooLarge, Unfinished}
-use Rattle.wenc_sections.specs.Names.{Subsection, subsection, subsections_text, ItemNames, item_names, name_subsections, items_content, names_label, names_custom}
+use Rattle.wenc_sections.specs.Names.{Subsection, subsection, subsections_text, ItemNames, item_names, item_sort, name_subsections, names_label}
 use Rattle.wenc_sections.specs.declared.names.Sort.{Sort}
-use Rattle.wenc_builder.specs.Entry.{Entry, custom_entry, names}
+use Rattle.wenc_sections.specs.declared.names.Sort.TheVariants as sorts
+use Rattle.wenc_builder.specs.Entry.{Entry, entry, custom_entry, names}
 use Rattle.wenc_builder.specs.Builder.{namespace_at, with_alone, State, builder_is_finished}
 use Rattle.wenc_builder.specs.Cause.{CallCause}
 use Rattle.wenc_builder.specs.Enters.{EntersPlaceless, TakesNoPlace}
 use Rattle.wenc_builder.specs.Holds.{Holds}
-use Rattle.wenc_builder.specs.Names.{named_sorts, by_sort, named_entry, AddsNames, names_held, space_names, space_names_cause, all_names, all_names_cause, none_named, kept_names}
+use Rattle.wenc_builder.specs.Names.{named_sorts, by_sort, named_entry, AddsNames, names_held, space_names, none_named, kept_names}
 use Rattle.wenc_builder.specs.Space.{space_number}
 use Rattle.wenc_builder.specs.declared.builder.space.Space.{Space}
 use Rattle.wenc_builder.specs.laws.Step.{space_within}
-use Rattle.wenc_builder.specs.Item.{CustomItem}
+use Rattle.wenc_builder.specs.Item.{CustomItem, item}
 use Rattle.wenc_builder.specs.Layout.{Buffered, buffer_with}
 use Rattle.wenc_builder.specs.Lent.{IsItemText}
 use Rattle.wenc_builder.specs.Spaces.{Spaced}
 use Rattle.wenc_builder.specs.View.{Agree, builder_view}
 use Rattle.wenc_builder.proofs.Alone.{stood_nowhere}
-use Rattle.wenc_builder.proofs.Entered.{Leads, leads, through, placeless_enters, unfinished_enters}
-use Rattle.wenc_builder.proofs.Listed.{members_seen}
+use Rattle.wenc_builder.proofs.Entered.{placeless_enters, unfinished_enters}
 use Rattle.wenc_builder.proofs.Viewed.{finished_is}
+
+-- the subsections, one behind the other
+abbrev all_names : List (Sort × Held) → List ℕ
+all_names ps = (each space_names ps).text
 
 -- ---- whether there are any
 
@@ -61,7 +66,7 @@ kept ns = holding [] (length ns) (names_text ns)
 abbrev kept_at : Sort × List Named → Sort × Held
 kept_at p = (p.0, kept p.1)
 
-one_text : (sort : Sort) (ns : List Named) → space_names (sort, kept ns) ≡ subsections_text (item_names sort ns)
+one_text : (sort : Sort) (ns : List Named) → (space_names (sort, kept ns)).text ≡ subsections_text (item_names sort ns)
 one_text sort [] = refl
 one_text sort (n ∷ ns) = elim (eqb_tells (length (n ∷ ns)) 0) [ inl t ↦ absurd (omega (arith, t.1)) | inr t ↦ rw t.0 (sym (one (subsection (ItemNames sort (n ∷ ns))).text)) ]
   where
@@ -90,88 +95,111 @@ same_by_sort f g same (p ∷ ps) = rw (same p.1, same_by_sort f g same ps) refl
 kept_is : (old : State) (es : List Entry) → Holds old es → by_sort (λ k. names_held (namespace_at old.settled.spaces k)) ≡ map kept_at (by_sort (names es))
 kept_is old es h = same_by_sort (λ k. names_held (namespace_at old.settled.spaces k)) (λ k. kept (names es k)) (λ s. ap names_held (h.spaces.each (space_number s) (space_within s))) named_sorts
 
--- ---- what is against it
+-- ---- the section
 
-text_only : (bytes : List ℕ) (fault : Fault) → text_cause bytes fault → (fault ≡ TooLarge) × (2 ^ 32 ≤ length bytes)
-text_only bytes (Memory e) c = absurd c
-text_only bytes TooMany c = absurd c
-text_only bytes TooLarge c = (refl, c)
-text_only bytes Unfinished c = absurd c
+too_large : (n : ℕ) (fault : Fault) → size_cause n fault → (fault ≡ TooLarge) × (2 ^ 32 ≤ n)
+too_large n (Memory e) c = absurd c
+too_large n TooMany c = absurd c
+too_large n TooLarge c = (refl, c)
+too_large n Unfinished c = absurd c
 
-one_long : (p : Sort × Held) (fault : Fault) → space_names_cause p fault → (fault ≡ TooLarge) × (2 ^ 32 ≤ length (space_names p))
-one_long p fault c =
-    let content = items_content p.0 p.1 in
-    let k = text_only content fault c.1 in
-    (k.0, rw c.0 (omega (arith, k.1, length-append (unsigned_text (length content)) content)))
+sort_free : (sort : Sort) → NoCause (item_sort sort).Cause
+sort_free sorts.CoreFunc fault c = c
+sort_free sorts.CoreTable fault c = c
+sort_free sorts.CoreMemory fault c = c
+sort_free sorts.CoreGlobal fault c = c
+sort_free sorts.CoreTag fault c = c
+sort_free sorts.CoreType fault c = c
+sort_free sorts.CoreModule fault c = c
+sort_free sorts.CoreInstance fault c = c
+sort_free sorts.Func fault c = c
+sort_free sorts.Value fault c = c
+sort_free sorts.«Type» fault c = c
+sort_free sorts.Component fault c = c
+sort_free sorts.Instance fault c = c
 
-all_long : (ps : List (Sort × Held)) (fault : Fault) → all_names_cause ps fault → (fault ≡ TooLarge) × (2 ^ 32 ≤ length (all_names ps))
-all_long [] fault c = absurd c
-all_long (p ∷ ps) fault (inl c) = let k = one_long p fault c in (k.0, omega (arith, k.1, length-append (space_names p) (all_names ps)))
-all_long (p ∷ ps) fault (inr c) = let k = all_long ps fault c.1 in (k.0, omega (arith, k.1, length-append (space_names p) (all_names ps)))
+-- what is against a subsection makes all of them too large
+one_long : (p : Sort × Held) (fault : Fault) → (space_names p).Cause fault → (fault ≡ TooLarge) × (2 ^ 32 ≤ length (space_names p).text)
+one_long p fault c = elim (eqb_tells p.1.count 0) [
+  | inl t ↦ let none = rw t.0 at c in absurd none
+  | inr t ↦ rw t.0 (large (rw t.0 at c))
+]
+  where
+    content : List ℕ
+    content = (item_sort p.0).text ++ held_text p.1
+
+    large : size_cause (length content) fault ⊎ ((item_sort p.0).Cause fault ⊎ ⊥) → (fault ≡ TooLarge) × (2 ^ 32 ≤ length (0x01 ∷ (unsigned_text (length content) ++ content)))
+    large (inl k) = let l = too_large (length content) fault k in (l.0, omega (arith, l.1, length-append (unsigned_text (length content)) content))
+    large (inr (inl k)) = absurd (sort_free p.0 fault k)
+    large (inr (inr k)) = absurd k
+
+module _ {N : Type 0} (seen : N → Sort × Held) where
+  abbrev seen_names : List N → Piece
+  seen_names = each (λ n. space_names (seen n))
+
+  all_long : (ns : List N) (fault : Fault) → (seen_names ns).Cause fault → (fault ≡ TooLarge) × (2 ^ 32 ≤ length (seen_names ns).text)
+  all_long [] fault c = absurd c
+  all_long (n ∷ ns) fault (inl c) = let k = one_long (seen n) fault c in (k.0, omega (arith, k.1, length-append (space_names (seen n)).text (seen_names ns).text))
+  all_long (n ∷ ns) fault (inr c) = let k = all_long ns fault c in (k.0, omega (arith, k.1, length-append (space_names (seen n)).text (seen_names ns).text))
+
+  -- the section as it is written, whose text is bytes
+  abbrev section_of : List N → Piece
+  section_of ns = 0x00 ▸ sized_in_order (in_order (name_form names_label) (seen_names ns))
+
+  abbrev pub written : List N → Piece
+  written ns = record {
+    Fits = (section_of ns).Fits × AreBytes (section_of ns).text;
+    Cause = (section_of ns).Cause;
+    text = (section_of ns).text;
+    Reads = (section_of ns).Reads;
+  }
+
+  abbrev body_of : List N → List ℕ
+  body_of ns = (name_form names_label).text ++ (seen_names ns).text
+
+  behind_all : (front bytes : List ℕ) → AreBytes (front ++ bytes) → AreBytes bytes
+  behind_all [] bytes all = all
+  behind_all (b ∷ front) bytes all = behind_all front bytes all.1
+
+  -- it serves as the custom section of these bytes
+  pub names_serve : (ns : List N) (bytes : List ℕ) → (seen_names ns).text ≡ bytes → Serves (written ns) (item (CustomItem (record { label = names_label; bytes = bytes })))
+  names_serve ns bytes e = subst (λ (bs : List ℕ). Serves (written ns) (item (CustomItem (record { label = names_label; bytes = bs })))) e (record { text = refl; fits = fits; among = among; free = free })
+    where
+      fits : (written ns).Fits → (item (CustomItem (record { label = names_label; bytes = (seen_names ns).text }))).Fits
+      fits h = (h.0.0, (h.0.1.0, behind_all (name_form names_label).text (seen_names ns).text (behind_all (unsigned_text (length (body_of ns))) (body_of ns) h.1.1)))
+
+      among : (fault : Fault) → (written ns).Cause fault → (item (CustomItem (record { label = names_label; bytes = (seen_names ns).text }))).Cause fault
+      among fault (inl (inl c)) = inr (inl c)
+      among fault (inl (inr c)) = let k = all_long ns fault c.1 in subst (λ (f : Fault). (item (CustomItem (record { label = names_label; bytes = (seen_names ns).text }))).Cause f) (sym k.0)
+          (inl (omega (arith, k.1, length-append (name_form names_label).text (seen_names ns).text)))
+      among fault (inr c) = inl c.1
+
+      free : NoCause (written ns).Cause → NoCause (item (CustomItem (record { label = names_label; bytes = (seen_names ns).text }))).Cause
+      free none fault (inl c) = none fault (inr ((λ f k. none f (inl k)), c))
+      free none fault (inr (inl c)) = none fault (inl (inl c))
+      free none fault (inr (inr c)) = c
 
 -- ---- the call
 
-abbrev body_of : List (Sort × Held) → List ℕ
-body_of ps = (name_form names_label).text ++ all_names ps
+module _ {N : Type 0} (seen : N → Sort × Held) (ns : List N) (old new : State) (result : Result (Unit {0}) Fault) (is : map seen ns ≡ kept_names old) (some : none_named (map seen ns) ≡ false) (t : TakesNoPlace old new result (written seen ns)) where
+  as_kept : (bytes : List ℕ) → (seen_names seen ns).text ≡ bytes → EntersPlaceless old new result (custom_entry names_label bytes)
+  as_kept bytes e = placeless_enters old new result (custom_entry names_label bytes) (record { alone = refl; defined = refl; named = refl }) (names_serve seen ns bytes e) t
 
-abbrev section_cause : List (Sort × Held) → Fault → Type 0
-section_cause ps = first_of (first_of (text_cause names_label) (all_names_cause ps)) (text_cause (body_of ps))
+  seen_text : (seen_names seen ns).text ≡ all_names (map seen ns)
+  seen_text = sym (flat_map-map (λ p. (space_names p).text) seen ns)
 
-section_long : (ps : List (Sort × Held)) (fault : Fault) → section_cause ps fault → (fault ≡ TooLarge) × (2 ^ 32 ≤ length (body_of ps))
-section_long ps fault (inl (inl c)) =
-    let k = text_only names_label fault c in
-    (k.0, omega (arith, k.1, length-append (name_form names_label).text (all_names ps), length-append (unsigned_text (length names_label)) names_label))
-section_long ps fault (inl (inr c)) = let k = all_long ps fault c.1 in (k.0, omega (arith, k.1, length-append (name_form names_label).text (all_names ps)))
-section_long ps fault (inr c) = text_only (body_of ps) fault c.1
+  at : (ss : List Subsection) → all_names (map seen ns) ≡ subsections_text ss → MatchOption (named_entry ss) ((result ≡ Ok tt) × (new ≡ old)) (λ x. EntersPlaceless old new result x)
+  at [] e = absurd (some_text (map seen ns) some e)
+  at (s ∷ ss) e = as_kept (subsections_text (s ∷ ss)) (seen_text ∙ e)
 
-custom_is : (k : Custom) (fault : Fault) → custom_cause k fault → (fault ≡ TooLarge) × (2 ^ 32 ≤ length ((name_form k.label).text ++ k.bytes))
-custom_is k (Memory e) c = absurd c
-custom_is k TooMany c = absurd c
-custom_is k TooLarge c = (refl, c)
-custom_is k Unfinished c = absurd c
-
-section_leads : (ps : List (Sort × Held)) → Leads (section_cause ps) (custom_cause (names_custom (all_names ps)))
-section_leads ps = (there, back)
-  where
-    there : (fault : Fault) → section_cause ps fault → custom_cause (names_custom (all_names ps)) fault
-    there fault c = let k = section_long ps fault c in subst (custom_cause (names_custom (all_names ps))) (sym k.0) k.1
-
-    back : NoCause (section_cause ps) → NoCause (custom_cause (names_custom (all_names ps)))
-    back none fault c = let k = custom_is (names_custom (all_names ps)) fault c in none TooLarge (inr ((λ f own. none f (inl own)), k.1))
-
-pub adds_names : (old new : State) (result : Result (Unit {0}) Fault) (ps : List (Sort × Held)) (text : List ℕ) (cause : Fault → Type 0) → ps ≡ kept_names old → none_named ps ≡ false
-    → text ≡ 0x00 ∷ (unsigned_text (length (body_of ps)) ++ body_of ps) → Leads cause (section_cause ps) → TakesNoPlace old new result text cause → AddsNames old new result
-adds_names old new result ps text cause is some written own t = record {
-  held = λ es h. at (name_subsections (by_sort (names es))) (ap all_names (is ∙ kept_is old es h) ∙ texts (by_sort (names es)));
-  none = λ none f. let other = subst (λ (qs : List (Sort × Held)). none_named qs ≡ true) (sym is) none in cc;
-  some = λ n. subst (λ (qs : List (Sort × Held)). EntersPlaceless old new result (custom_entry names_label (all_names qs))) is (as_kept (all_names ps) refl);
-  err = t.err;
-  unfinished = (t.unfinished_first, only result t.warranted);
-}
-  where
-    as_kept : (bytes : List ℕ) → all_names ps ≡ bytes → EntersPlaceless old new result (custom_entry names_label bytes)
-    as_kept bytes e = placeless_enters old new result (custom_entry names_label bytes) text cause
-        (record {
-          alone = refl;
-          defined = refl;
-          named = refl;
-          bytes = rw (written, e) refl;
-          leads = subst (λ (bytes : List ℕ). Leads cause (custom_cause (names_custom bytes))) e (through _ _ _ own (section_leads ps));
-        }) t
-
-    at : (ss : List Subsection) → all_names ps ≡ subsections_text ss → MatchOption (named_entry ss) ((result ≡ Ok tt) × (new ≡ old)) (λ x. EntersPlaceless old new result x)
-    at [] e = absurd (some_text ps some e)
-    at (s ∷ ss) e = as_kept (subsections_text (s ∷ ss)) e
-
-    only : (r : Result (Unit {0}) Fault) → IfErr r (IsWarranted (CallCause old cause (with_alone old.settled None None text) None)) → r ≡ Err Unfinished → builder_is_finished old ≡ false
-    only (Ok u) w e = cc
-    only (Err (Memory m)) w e = cc
-    only (Err TooMany) w e = cc
-    only (Err TooLarge) w e = cc
-    only (Err Unfinished) (inl (inl c)) e = let k = (section_long ps Unfinished (own.0 Unfinished c)).0 in cc
-    only (Err Unfinished) (inl (inr (inl c))) e = absurd c
-    only (Err Unfinished) (inl (inr (inr c))) e = absurd c
-    only (Err Unfinished) (inr c) e = c.1
+  pub adds_names : AddsNames old new result
+  adds_names = record {
+    held = λ es h. at (name_subsections (by_sort (names es))) (ap all_names (is ∙ kept_is old es h) ∙ texts (by_sort (names es)));
+    none = λ none f. let other = subst (λ (qs : List (Sort × Held)). none_named qs ≡ true) (sym is) none in cc;
+    some = λ n. as_kept (all_names (kept_names old)) (seen_text ∙ ap all_names is);
+    err = t.err;
+    unfinished = (as_kept (seen_names seen ns).text refl).unfinished;
+  }
 
 pub nothing_named : (old : State) (ps : List (Sort × Held)) → ps ≡ kept_names old → none_named ps ≡ true → builder_is_finished old ≡ true → AddsNames old old (Ok tt)
 nothing_named old ps is none finished = record {
@@ -197,27 +225,9 @@ names_unfinished old f = record {
 
 -- ---- by the parts of a builder
 
--- the causes of the subsections, by what is seen of them
-seen_leads : {N : Type 0} (seen : N → Sort × Held) (ns : List N) → Leads (first_of (first_of (text_cause names_label) (member_cause (λ n. space_names_cause (seen n)) ns)) (text_cause (body_of (map seen ns)))) (section_cause (map seen ns))
-seen_leads seen ns = leads _ _ (there, back)
-  where
-    there : (fault : Fault) → first_of (first_of (text_cause names_label) (member_cause (λ n. space_names_cause (seen n)) ns)) (text_cause (body_of (map seen ns))) fault → section_cause (map seen ns) fault
-    there fault (inl (inl c)) = inl (inl c)
-    there fault (inl (inr p)) = inl (inr (p.0, (members_seen seen space_names_cause ns).0 fault p.1))
-    there fault (inr p) = inr ((λ f own. p.0 f (inner_back f own)), p.1)
-      where
-        inner_back : (f : Fault) → first_of (text_cause names_label) (all_names_cause (map seen ns)) f → first_of (text_cause names_label) (member_cause (λ n. space_names_cause (seen n)) ns) f
-        inner_back f (inl c) = inl c
-        inner_back f (inr q) = inr (q.0, (members_seen seen space_names_cause ns).1 f q.1)
-
-    back : (fault : Fault) → section_cause (map seen ns) fault → first_of (first_of (text_cause names_label) (member_cause (λ n. space_names_cause (seen n)) ns)) (text_cause (body_of (map seen ns))) fault
-    back fault (inl (inl c)) = inl (inl c)
-    back fault (inl (inr p)) = inl (inr (p.0, (members_seen seen space_names_cause ns).1 fault p.1))
-    back fault (inr p) = inr ((λ f own. p.0 f (inner_there f own)), p.1)
-      where
-        inner_there : (f : Fault) → first_of (text_cause names_label) (member_cause (λ n. space_names_cause (seen n)) ns) f → first_of (text_cause names_label) (all_names_cause (map seen ns)) f
-        inner_there f (inl c) = inl c
-        inner_there f (inr q) = inr (q.0, (members_seen seen space_names_cause ns).0 f q.1)
+pub both_fit : {P Q : Type 0} (r : Result (Unit {0}) Fault) → OnOk r P → OnOk r Q → OnOk r (P × Q)
+both_fit (Ok u) h k = (h, k)
+both_fit (Err f) h k = tt
 
 module _ {N : Type 0} (b : Buffered) (s : Spaced) (old : State) (seen : N → Sort × Held) (ns : List N) (agree : Agree b.writing s.taking) (view : builder_view b s ≡ old) (finished : is_none b.writing ≡ true)
     (is : map seen ns ≡ by_sort (λ k. names_held (namespace_at s.settled k))) where
@@ -227,32 +237,21 @@ module _ {N : Type 0} (b : Buffered) (s : Spaced) (old : State) (seen : N → So
   pub none_named_there : none_named (map seen ns) ≡ true → AddsNames old old (Ok tt)
   none_named_there none = nothing_named old (map seen ns) is_there none (sym (finished_is b s old agree view) ∙ finished)
 
-  -- the section, as it is written
-  abbrev written : List ℕ
-  written = 0x00 ∷ (unsigned_text (length ((name_form names_label).text ++ flat_map (λ n. space_names (seen n)) ns)) ++ ((name_form names_label).text ++ flat_map (λ n. space_names (seen n)) ns))
-
-  pub written_text : ∥ IsItemText None None written ∥₁
-  written_text = ∣ record {
-    value = CustomItem (record { label = names_label; bytes = flat_map (λ n. space_names (seen n)) ns });
+  pub written_text : (written seen ns).Fits → ∥ IsItemText None None (written seen ns).text ∥₁
+  written_text fits = ∣ record {
+    value = CustomItem (record { label = names_label; bytes = (seen_names seen ns).text });
     collects = refl;
     takes = refl;
+    fits = (names_serve seen ns (seen_names seen ns).text refl).fits fits;
     is = refl;
   } ∣₁
 
-  abbrev written_cause : Fault → Type 0
-  written_cause = first_of (first_of (text_cause names_label) (member_cause (λ n. space_names_cause (seen n)) ns)) (text_cause ((name_form names_label).text ++ flat_map (λ n. space_names (seen n)) ns))
-
-  same_names : flat_map (λ n. space_names (seen n)) ns ≡ all_names (map seen ns)
-  same_names = sym (flat_map-map space_names seen ns)
-
-  pub names_there : (next : Buffered) (result : Result (Unit {0}) Fault) → none_named (map seen ns) ≡ false → OnOk result (next ≡ buffer_with b written) → OnOk result (NoCause written_cause) → OnErr result (next ≡ b) → IfErr result (IsWarranted written_cause)
-      → AddsNames old (builder_view next s) result
-  names_there next result some ok free err warranted =
-      adds_names old (builder_view next s) result (map seen ns) written written_cause is_there some (rw same_names refl)
-      (subst (λ (t : List ℕ). Leads (first_of (first_of (text_cause names_label) (member_cause (λ n. space_names_cause (seen n)) ns)) (text_cause ((name_form names_label).text ++ t))) (section_cause (map seen ns))) (sym same_names) (seen_leads seen ns))
-      (stood_nowhere b s old (builder_view next s) result written written_cause agree view finished (stood result ok) free (same result err) warranted)
+  pub names_there : (next : Buffered) (result : Result (Unit {0}) Fault) → none_named (map seen ns) ≡ false → OnOk result (next ≡ buffer_with b (written seen ns).text) → OnOk result (section_of seen ns).Fits → OnOk result (AreBytes (written seen ns).text)
+      → OnOk result (NoCause (written seen ns).Cause) → OnErr result (next ≡ b) → IfErr result (IsWarranted (written seen ns).Cause) → AddsNames old (builder_view next s) result
+  names_there next result some ok fits bytes free err warranted =
+      adds_names seen ns old (builder_view next s) result is_there some (stood_nowhere b s old (builder_view next s) result (written seen ns) agree view finished (stood result ok) (both_fit result fits bytes) free (same result err) warranted)
     where
-      stood : (r : Result (Unit {0}) Fault) → OnOk r (next ≡ buffer_with b written) → OnOk r (builder_view next s ≡ record { settled = with_alone old.settled None None written; begun = None })
+      stood : (r : Result (Unit {0}) Fault) → OnOk r (next ≡ buffer_with b (written seen ns).text) → OnOk r (builder_view next s ≡ record { settled = with_alone old.settled None None (written seen ns).text; begun = None })
       stood (Ok u) e = rw (e, ← view) refl
       stood (Err f) e = tt
 

@@ -2,13 +2,18 @@
 use Rattle.std.proofs.Common.{◌≡◌, ℕ, List, true, is_none, Option, Some, None, Result, Ok, Err, OnOk, OnErr, [], refl, sym, subst}
 use Rattle.wenc_base.specs.Lender.{Extends, ExtendsListed}
 use Rattle.wenc_base.specs.declared.fault.Fault.{Fault}
-use Rattle.wenc_builder.specs.Holds.{HoldsSome}
-use Rattle.wenc_builder.specs.Layout.{Buffered, buffer_begun, buffer_appended, buffer_ended, buffer_given_up, buffer_with}
+use Rattle.wenc_base.specs.Fault.{NoCause}
+use Rattle.wenc_base.specs.Piece.{Piece}
+use Rattle.wenc_base.specs.laws.Serves.{right_free}
+use Rattle.wenc_builder.specs.Builder.{Sections, content_of, appended}
+use Rattle.wenc_builder.specs.Cause.{SectionCause}
+use Rattle.wenc_builder.specs.inside.HoldsSome.{HoldsSome}
+use Rattle.wenc_builder.specs.Layout.{Buffered, NoRoom, section_begun, section_appended, buffer_begun, buffer_appended, buffer_ended, buffer_given_up, buffer_with}
 use Rattle.wenc_builder.specs.Lent.{IsItemText, is_whole}
 use Rattle.wenc_builder.specs.Spaces.{Spaced, spaces_begun, spaces_ended, spaces_given_up}
 use Rattle.wenc_builder.specs.View.{builder_view, IsBuilder}
 use Rattle.wenc_builder.specs.laws.Held.{some_begun, some_appended, some_ended, some_given_up, some_alone}
-use Rattle.wenc_builder.proofs.Viewed.{appended_is, still_agree, ended_is, not_taking}
+use Rattle.wenc_builder.proofs.Viewed.{appended_is, appended_section, still_agree, ended_is, not_taking}
 
 writing_none : (b : Buffered) → is_none b.writing ≡ true → b.writing ≡ None
 writing_none b e = at b.writing e
@@ -20,20 +25,23 @@ writing_none b e = at b.writing e
 module _ (b : Buffered) (s : Spaced) (i : IsBuilder b s) where
   -- ---- more of an item
 
-  longer_stands : (text : List ℕ) → IsBuilder (buffer_appended b text) s
-  longer_stands text = record {
+  longer_stands : (text : List ℕ) → NoCause (NoRoom (section_appended b text)) → IsBuilder (buffer_appended b text) s
+  longer_stands text large = record {
     agree = still_agree b s text i.agree;
-    holds = subst HoldsSome (sym (appended_is b s text i.agree)) (some_appended (builder_view b s) text i.holds);
+    holds = subst HoldsSome (sym (appended_is b s text i.agree)) (some_appended (builder_view b s) text there i.holds);
   }
+    where
+      there : NoCause (NoRoom (content_of (appended (builder_view b s) text)).sections.current)
+      there = subst (λ (k : Sections). NoCause (NoRoom k.current)) (sym (appended_section b s (builder_view b s) text i.agree refl)) large
 
-  pub value_stands : (new : Buffered) (outcome : Result (Unit {0}) Fault) (text : List ℕ) (cause : Fault → Type 0) → Extends b new (buffer_appended b text) outcome cause → IsBuilder new s
-  value_stands new (Ok u) text cause a = rw a.ok (longer_stands text)
-  value_stands new (Err f) text cause a = rw a.err i
+  pub value_stands : (new : Buffered) (outcome : Result (Unit {0}) Fault) (p : Piece) → Extends b new (buffer_appended b p.text) outcome p (NoRoom (section_appended b p.text)) → IsBuilder new s
+  value_stands new (Ok u) p a = rw a.ok (longer_stands p.text (right_free a.free))
+  value_stands new (Err f) p a = rw a.err i
 
-  pub list_stands : {S B : Type 0} (steps : S → Option B → S → Type 0) (values : S) (new : Buffered) (outcome : Result (Unit {0}) Fault) (refuses : List ℕ → Fault → Type 0)
-      (cause : List B → Fault → Type 0) (text : List B → List ℕ) → ExtendsListed steps values b new outcome (buffer_appended b) refuses cause text → IsBuilder new s
-  list_stands steps values new (Ok u) refuses cause text a = rw a.ok.3.0 (longer_stands (text a.ok.0.items))
-  list_stands steps values new (Err f) refuses cause text a = rw a.err i
+  pub list_stands : {S B : Type 0} (steps : S → Option B → S → Type 0) (values : S) (new : Buffered) (outcome : Result (Unit {0}) Fault) (piece : List B → Piece)
+      → ExtendsListed steps values b new outcome (buffer_appended b) (λ bytes. NoRoom (section_appended b bytes)) piece → IsBuilder new s
+  list_stands steps values new (Ok u) piece a = rw a.ok.3.state (longer_stands (piece a.ok.0.items).text (right_free a.ok.3.free))
+  list_stands steps values new (Err f) piece a = rw a.err i
 
   -- ---- its end
 
@@ -55,10 +63,10 @@ module _ (b : Buffered) (s : Spaced) (i : IsBuilder b s) where
         let same : spaces_given_up (spaces_begun s space number name) ≡ s = rw (← not_taken) refl in
         subst (IsBuilder b) (sym same) i
 
-    pub begun_stands : (id space : ℕ) (name : Option (List ℕ)) → IsBuilder (buffer_begun b id) (spaces_begun s space 1 name)
-    begun_stands id space name = record {
+    pub begun_stands : (id space : ℕ) (name : Option (List ℕ)) → NoCause (SectionCause (section_begun b id)) → IsBuilder (buffer_begun b id) (spaces_begun s space 1 name)
+    begun_stands id space name room = record {
       agree = tt;
-      holds = some_begun (builder_view b s) (record { id = id; space = space; name = name; text = [] }) i.holds;
+      holds = some_begun (builder_view b s) (record { id = id; space = space; name = name; text = [] }) room i.holds;
     }
 
     pub alone_stands : (space number : ℕ) (name : Option (List ℕ)) (text : List ℕ) → ∥ IsItemText None (Some (record { space = space; number = number })) text ∥₁
@@ -74,7 +82,7 @@ module _ (b : Buffered) (s : Spaced) (i : IsBuilder b s) where
       holds = some_alone (builder_view b s) None None text whole i.holds;
     }
 
-    pub placeless_outcome : (new : Buffered) (outcome : Result (Unit {0}) Fault) (text : List ℕ) → ∥ IsItemText None None text ∥₁
-        → OnOk outcome (new ≡ buffer_with b text) → OnErr outcome (new ≡ b) → IsBuilder new s
-    placeless_outcome new (Ok u) text whole ok err = rw ok (placeless_stands text whole)
-    placeless_outcome new (Err f) text whole ok err = rw err i
+    pub placeless_outcome : (new : Buffered) (outcome : Result (Unit {0}) Fault) (p : Piece) → (p.Fits → ∥ IsItemText None None p.text ∥₁) → OnOk outcome p.Fits
+        → OnOk outcome (new ≡ buffer_with b p.text) → OnErr outcome (new ≡ b) → IsBuilder new s
+    placeless_outcome new (Ok u) p whole fits ok err = rw ok (placeless_stands p.text (whole fits))
+    placeless_outcome new (Err f) p whole fits ok err = rw err i

@@ -1,13 +1,15 @@
 -- An item that is begun, written and ended, or given up.
 use Rattle.std.proofs.Common.{◌≡◌, ℕ, ◌<◌, true, false, is_none, List, [], length, Option, Some, None, Result, Ok, Err, refl, sym, ap, ◌∙◌, inr}
-use Rattle.wenc_base.specs.Fault.{IsWarranted}
+use Rattle.wenc_base.specs.Fault.{IsWarranted, NoCause, either}
+use Rattle.wenc_base.specs.Piece.{Piece, nothing}
 use Rattle.wenc_base.specs.declared.fault.Fault.{Fault}
 use Rattle.wenc_base.specs.declared.fault.Fault.TheVariants.{Unfinished}
-use Rattle.wenc_base.specs.laws.Causes.{still_warranted}
+use Rattle.wenc_base.specs.laws.Serves.{still_warranted}
 use Rattle.wenc_builder.specs.Builder.{entered, Content, State, namespace_at, content_of, Draft, draft, space_with, begun_with, appended, ended, builder_given_up}
 use Rattle.wenc_builder.specs.Cause.{SectionCause, SpaceCause}
-use Rattle.wenc_builder.specs.Enters.{TakesWith, Takes, Begins}
-use Rattle.wenc_builder.specs.Layout.{AppendCause, Buffered}
+use Rattle.wenc_builder.specs.Enters.{TakesWith, Takes, TakesDraft, Begins}
+use Rattle.wenc_builder.specs.Layout.{Buffered}
+use Rattle.wenc_builder.specs.Lent.{no_room}
 use Rattle.wenc_builder.specs.Space.{Defined}
 use Rattle.wenc_builder.specs.Spaces.{Spaced}
 use Rattle.wenc_builder.specs.View.{Agree, builder_view}

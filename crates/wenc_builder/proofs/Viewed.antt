@@ -2,10 +2,11 @@
 use Rattle.std.proofs.Common.{◌≡◌, List, ℕ, false, is_none, Option, Some, None, Result, Ok, Err, refl, ap, sym, subst, ◌∙◌}
 use Rattle.wenc_base.specs.Lender.{Extends, ExtendsListed}
 use Rattle.wenc_base.specs.Fault.{either}
+use Rattle.wenc_base.specs.Piece.{Piece}
 use Rattle.wenc_base.specs.declared.fault.Fault.{Fault}
-use Rattle.wenc_base.specs.laws.Causes.{still_warranted}
+use Rattle.wenc_base.specs.laws.Serves.{still_warranted}
 use Rattle.wenc_builder.specs.Builder.{Sections, Content, State, builder_is_finished, content_of, appended, ended}
-use Rattle.wenc_builder.specs.Layout.{Writing, Buffered, buffered_content, buffer_appended, section_appended, buffer_ended, NoRoom, AppendCause}
+use Rattle.wenc_builder.specs.Layout.{Writing, Buffered, buffered_content, buffer_appended, section_appended, buffer_ended, NoRoom}
 use Rattle.wenc_builder.specs.Lent.{no_room}
 use Rattle.wenc_builder.specs.Spaces.{Taking, Spaced, taken, spaces_ended}
 use Rattle.wenc_builder.specs.View.{Agree, begun_of, builder_view}
@@ -83,34 +84,34 @@ module _ (b : Buffered) (s : Spaced) (now : State) (agree : Agree b.writing s.ta
   longer_view : (text : List ℕ) → builder_view (buffer_appended b text) s ≡ appended now text
   longer_view text = appended_is b s text agree ∙ ap (λ (n : State). appended n text) view
 
-  module _ (cause : Fault → Type 0) (text : List ℕ) where
-    there : (fault : Fault) → AppendCause cause (section_appended b text) fault → either cause (no_room now text) fault
-    there fault c = subst (λ (k : Sections). either cause (NoRoom k.current) fault) (sym (appended_section b s now text agree view)) c
+  there : (cause : Fault → Type 0) (text : List ℕ) (fault : Fault) → either cause (NoRoom (section_appended b text)) fault → either cause (no_room now text) fault
+  there cause text fault c = subst (λ (k : Sections). either cause (NoRoom k.current) fault) (sym (appended_section b s now text agree view)) c
 
-    back : (fault : Fault) → either cause (no_room now text) fault → AppendCause cause (section_appended b text) fault
-    back fault c = subst (λ (k : Sections). either cause (NoRoom k.current) fault) (appended_section b s now text agree view) c
+  back : (cause : Fault → Type 0) (text : List ℕ) (fault : Fault) → either cause (no_room now text) fault → either cause (NoRoom (section_appended b text)) fault
+  back cause text fault c = subst (λ (k : Sections). either cause (NoRoom k.current) fault) (appended_section b s now text agree view) c
 
-  pub appended_value : (new : Buffered) (outcome : Result (Unit {0}) Fault) (cause : Fault → Type 0) (text : List ℕ) → Extends b new (buffer_appended b text) outcome (AppendCause cause (section_appended b text))
-      → Extends now (builder_view new s) (appended now text) outcome (either cause (no_room now text))
-  appended_value new (Ok u) cause text a = record { ok = rw a.ok (longer_view text); free = λ fault c. a.free fault (back cause text fault c); err = tt; warranted = tt }
-  appended_value new (Err f) cause text a = record { ok = tt; free = tt; err = rw a.err view; warranted = still_warranted _ _ (there cause text) f a.warranted }
+  pub appended_value : (new : Buffered) (outcome : Result (Unit {0}) Fault) (p : Piece) → Extends b new (buffer_appended b p.text) outcome p (NoRoom (section_appended b p.text))
+      → Extends now (builder_view new s) (appended now p.text) outcome p (no_room now p.text)
+  appended_value new (Ok u) p a = record { ok = rw a.ok (longer_view p.text); fits = a.fits; free = λ fault c. a.free fault (back p.Cause p.text fault c); err = tt; warranted = tt }
+  appended_value new (Err f) p a = record { ok = tt; fits = tt; free = tt; err = rw a.err view; warranted = still_warranted _ _ (there p.Cause p.text) f a.warranted }
 
-  pub appended_list : {S B : Type 0} (steps : S → Option B → S → Type 0) (values : S) (new : Buffered) (outcome : Result (Unit {0}) Fault) (cause : List B → Fault → Type 0) (text : List B → List ℕ)
-      → ExtendsListed steps values b new outcome (buffer_appended b) (λ bytes. NoRoom (section_appended b bytes)) cause text
-      → ExtendsListed steps values now (builder_view new s) outcome (appended now) (no_room now) cause text
-  appended_list steps values new (Ok u) cause text a =
-      let items = a.ok.0.items in
+  pub appended_list : {S B : Type 0} (steps : S → Option B → S → Type 0) (values : S) (new : Buffered) (outcome : Result (Unit {0}) Fault) (piece : List B → Piece)
+      → ExtendsListed steps values b new outcome (buffer_appended b) (λ bytes. NoRoom (section_appended b bytes)) piece
+      → ExtendsListed steps values now (builder_view new s) outcome (appended now) (no_room now) piece
+  appended_list steps values new (Ok u) piece a =
+      let e = a.ok.3 in
+      let p : Piece = piece a.ok.0.items in
       record {
-        ok = (a.ok.0, a.ok.1, a.ok.2, (rw a.ok.3.0 (longer_view (text items)), λ fault c. a.ok.3.1 fault (back (cause items) (text items) fault c)));
+        ok = (a.ok.0, a.ok.1, a.ok.2, record { state = rw e.state (longer_view p.text); fits = e.fits; free = λ fault c. e.free fault (back p.Cause p.text fault c) });
         err = tt;
         warranted = tt;
       }
-  appended_list steps values new (Err f) cause text a =
-      let items = a.warranted.0.items in
-      record { ok = tt; err = rw a.err view; warranted = (a.warranted.0, a.warranted.1, still_warranted _ _ (there (cause items) (text items)) f a.warranted.2) }
+  appended_list steps values new (Err f) piece a =
+      let p : Piece = piece a.warranted.0.items in
+      record { ok = tt; err = rw a.err view; warranted = (a.warranted.0, a.warranted.1, still_warranted _ _ (there p.Cause p.text) f a.warranted.2) }
 
   -- an item is written in both still
-  pub list_agrees : {S B : Type 0} (steps : S → Option B → S → Type 0) (values : S) (new : Buffered) (outcome : Result (Unit {0}) Fault) (cause : List B → Fault → Type 0) (text : List B → List ℕ)
-      → ExtendsListed steps values b new outcome (buffer_appended b) (λ bytes. NoRoom (section_appended b bytes)) cause text → Agree new.writing s.taking
-  list_agrees steps values new (Ok u) cause text a = rw a.ok.3.0 (still_agree b s (text a.ok.0.items) agree)
-  list_agrees steps values new (Err f) cause text a = rw a.err agree
+  pub list_agrees : {S B : Type 0} (steps : S → Option B → S → Type 0) (values : S) (new : Buffered) (outcome : Result (Unit {0}) Fault) (piece : List B → Piece)
+      → ExtendsListed steps values b new outcome (buffer_appended b) (λ bytes. NoRoom (section_appended b bytes)) piece → Agree new.writing s.taking
+  list_agrees steps values new (Ok u) piece a = rw a.ok.3.state (still_agree b s (piece a.ok.0.items).text agree)
+  list_agrees steps values new (Err f) piece a = rw a.err agree

@@ -7,7 +7,7 @@ use Rattle.wenc_builder.specs.Space.{place}
 use Rattle.wenc_base.specs.Names.{names_text}
 use Rattle.wenc_builder.specs.Entry.{Entry, items, names}
 use Rattle.wenc_builder.specs.Raw.{IsEncodable}
-use Rattle.wenc_builder.specs.Builder.{OpenSection, Sections, sections_text, Namespace, namespace_at, namespace_with, Content, Begun, State, settled_in}
+use Rattle.wenc_builder.specs.Builder.{OpenSection, Sections, sections_text, Namespace, namespace_at, State}
 
 -- the open section that the last section is, where it collects items
 abbrev pub open_of : List Section → Option OpenSection

@@ -1,5 +1,5 @@
 -- Items: what the calls of a builder add to a component.
-use Rattle.std.specs.Prelude.{ℕ, List, ◌∷◌, length, Option, Some, None}
+use Rattle.std.specs.Prelude.{ℕ, List, ◌∷◌, Option, Some, None}
 use Rattle.wenc_base.specs.Custom.{Custom, custom}
 use Rattle.wenc_base.specs.Forms.{byte_list}
 use Rattle.wenc_base.specs.Piece.{Piece, Form, ◌▸◌}

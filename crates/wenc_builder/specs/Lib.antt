@@ -13,6 +13,6 @@ pub mod Lent
 pub mod Names
 pub mod Naming
 pub mod Spaces
-pub mod View
 pub mod inside
+pub mod View
 pub mod laws

@@ -1,7 +1,7 @@
 -- A builder's state, by those of its buffer and its spaces.
 use Rattle.std.specs.Prelude.{Option, Some, None}
 use Rattle.wenc_builder.specs.Builder.{Begun, State}
-use Rattle.wenc_builder.specs.Holds.{HoldsSome}
+use Rattle.wenc_builder.specs.inside.HoldsSome.{HoldsSome}
 use Rattle.wenc_builder.specs.Layout.{Writing, Buffered}
 use Rattle.wenc_builder.specs.Spaces.{Taking, Spaced}
 

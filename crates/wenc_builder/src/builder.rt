@@ -1,26 +1,25 @@
-ghost use Rattle.std.specs.Prelude.{◌≡◌, ◌↔◌, ◌∷◌, [], List, IfOk, IfErr, OnErr, IsOk, IsTrue, Some, None, Err, true, false};
+ghost use Rattle.std.specs.Prelude.{◌≡◌, ◌↔◌, [], List, IfOk, IfErr, OnErr, IsOk, IsTrue, Some, None, Err, true, false};
 ghost use Rattle.std.specs.Iterator.{IsFinite};
 ghost use Rattle.std.specs.Option.{option_copied};
-ghost use Rattle.wenc_base.specs.Fault.{IsMemory, IsWarranted};
+ghost use Rattle.wenc_base.specs.Fault.{IsMemory};
 ghost use Rattle.wenc_base.specs.Holder.{listed};
-ghost use Rattle.wenc_base.specs.Piece.{nothing, ◌▸◌, Spelling};
+ghost use Rattle.wenc_base.specs.Piece.{nothing, Spelling};
 ghost use Rattle.wenc_base.specs.Lender.{GivesUp};
 ghost use Rattle.wenc_base.specs.declared.fault.Fault.TheVariants.{Unfinished};
 ghost use Rattle.wenc_parts.specs.Imports.{extern_name_view};
 ghost use Rattle.wenc_parts.specs.Aliases.{alias_view};
-ghost use Rattle.wenc_canon.specs.Canonicals.{canonical_option, ◌takes◌};
-ghost use Rattle.wenc_canon.specs.Rows.{row_with, provided_by};
+ghost use Rattle.wenc_canon.specs.Canonicals.{◌takes◌};
+ghost use Rattle.wenc_canon.specs.Rows.{row_with, provided_by, and_options, provided_with};
 ghost use Rattle.wenc_canon.specs.CanonTrees.{canon_view};
 ghost use Rattle.wenc_builder.specs.Sections.{Section, runs, Reading, whole};
 ghost use Rattle.wenc_builder.specs.Entry.{Entry, items, module_entry, component_entry, canonical_entry, start_entry, custom_entry, raw_entry};
 ghost use Rattle.wenc_builder.specs.Entry.{import_entry, export_entry, alias_entry, alias_export_entry, core_alias_export_entry};
 ghost use Rattle.wenc_builder.specs.Builder.{builder_is_finished, sections_text, count_in, begun_with, ended, builder_given_up};
 ghost use Rattle.wenc_builder.specs.Holds.{Holds};
-ghost use Rattle.wenc_builder.specs.Enters.{Enters, EntersPlaceless, Takes, TakesDraft, TakesAlone, TakesNoPlace, AppendsListed, TakesListed};
+ghost use Rattle.wenc_builder.specs.Enters.{Enters, EntersListed, EntersPlaceless, Takes, TakesDraft, TakesAlone, TakesNoPlace, AppendsListed, TakesListed};
 ghost use Rattle.wenc_builder.specs.Space.{defined_as, some_in, canonical_space};
 ghost use Rattle.wenc_builder.specs.Lent.{IsItemPiece, is_whole};
 ghost use Rattle.wenc_builder.specs.Raw.{HasNoRaw};
-ghost use Rattle.wenc_canon.specs.declared.canonicals.CanonicalOption.{CanonicalOption as CanonicalOptionSpec};
 ghost use Rattle.wenc_builder.specs.Layout.{draft_of, kind_id};
 ghost use Rattle.wenc_builder.specs.Names.{AddsNames};
 ghost use Rattle.wenc_builder.specs.Naming.{slot_name};
@@ -360,34 +359,6 @@ impl<A: Allocator> ComponentBuilder<A> {
         self.buffer.stand_alone(section)
     }
 
-    /// Adds what begins with this opcode and has these fields and, behind them, options, with a debug name or none. Answers
-    /// its index among core functions.
-    fn add_with_options<E: Encode, I: Iterator<Item = CanonicalOption> + Drop>(
-        &mut self,
-        name: Option<&str>,
-        opcode: u8,
-        fields: &E,
-        options: I,
-    ) -> Result<u32, Fault>
-        requires can { I.can_next options }
-        requires ends { IsFinite (I.remaining options) }
-        requires whole { (os : List CanonicalOptionSpec)
-            → IsItemPiece (Some (kind_id Kind.CanonicalFunction)) (some_in Space.CoreFuncs 1)
-            (listed (opcode ▸ E.piece fields.now) canonical_option nothing os) }
-        ensures { TakesListed I.next_gives options self.old self.new result
-            (draft_of Kind.CanonicalFunction Space.CoreFuncs (option_copied name.entry))
-            (listed (opcode ▸ E.piece fields.now) canonical_option nothing) }
-    {
-        self.add_listed(
-            Kind::CanonicalFunction,
-            Space::CoreFuncs,
-            name,
-            &Tagged(opcode, fields),
-            options,
-            &(),
-        )
-    }
-
     /// Adds a canonical function, which has its place in this space, with a debug name or none. Answers its index.
     fn add_canonical<B: Allocator>(
         &mut self,
@@ -413,6 +384,31 @@ impl<A: Allocator> ComponentBuilder<A> {
             Space::CoreFuncs,
             Some(name),
             &Tagged(opcode, fields),
+        )
+    }
+
+    /// The same of an intrinsic that has options behind these fields.
+    fn provide_with<F: Fields, I: Iterator<Item = CanonicalOption> + Drop>(
+        &mut self,
+        name: &str,
+        opcode: u8,
+        fields: &F,
+        options: I,
+    ) -> Result<u32, Fault>
+        requires row { row_with opcode ≡ (opcode takes and_options F.kinds) }
+        requires can { I.can_next options }
+        requires ends { IsFinite (I.remaining options) }
+        ensures { EntersListed I.next_gives options self.old self.new result
+            (λ os. canonical_entry (Some name.now)
+            (provided_with opcode F.kinds (F.values fields.now) os)) }
+    {
+        self.add_listed(
+            Kind::CanonicalFunction,
+            Space::CoreFuncs,
+            Some(name),
+            &Tagged(opcode, fields),
+            options,
+            &(),
         )
     }
 

@@ -225,9 +225,11 @@ fn encode_function<A: Allocator, B: Allocator>(
     answer: Option<ComponentValType>,
     sink: &mut Vec<u8, B>,
 ) -> Result<(), Fault>
-    ensures appended { let function = function_type (function_view is_async params.now.items answer) in
+    ensures appended { let function = function_type
+        (function_view is_async params.now.items answer) in
         Appends function.text function.Cause ⊥ sink.old.items sink.new.items result }
-    ensures fits { OnOk result (function_type (function_view is_async params.now.items answer)).Fits }
+    ensures fits { OnOk result
+        (function_type (function_view is_async params.now.items answer)).Fits }
 {
     let tag = if is_async { 0x43 } else { 0x40 };
     Tagged(tag, &(params.as_slice(), ResultList(answer))).encode(sink)
@@ -240,9 +242,11 @@ fn encode_extern<A: Allocator, B: Allocator>(
     ty: ComponentTypeRef,
     sink: &mut Vec<u8, B>,
 ) -> Result<(), Fault>
-    ensures appended { let item = tag ▸ (extern_name (name_tree_view name.now) ⨾ type_reference ty) in
+    ensures appended { let item = tag ▸
+        (extern_name (name_tree_view name.now) ⨾ type_reference ty) in
         Appends item.text item.Cause ⊥ sink.old.items sink.new.items result }
-    ensures fits { OnOk result (tag ▸ (extern_name (name_tree_view name.now) ⨾ type_reference ty)).Fits }
+    ensures fits { OnOk result
+        (tag ▸ (extern_name (name_tree_view name.now) ⨾ type_reference ty)).Fits }
 {
     Tagged(tag, &(name.as_name(), ty)).encode(sink)
 }

@@ -6,7 +6,6 @@ use Rattle.std.proofs.lemmas.Option.{same_Some}
 use Rattle.std.specs.List.{flat_map, AllByRecursion}
 use Rattle.std.specs.Prelude.{IsTrue}
 use Rattle.wenc_base.specs.Number.{unsigned_text}
-use Rattle.wenc_base.specs.declared.fault.Fault.{Fault}
 use Rattle.wenc_base.specs.declared.fault.Fault.TheVariants.{TooMany, TooLarge}
 use Rattle.wenc_builder.specs.Builder.{OpenSection}
 use Rattle.wenc_builder.specs.Cause.{SectionCause}

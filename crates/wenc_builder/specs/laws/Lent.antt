@@ -1,17 +1,11 @@
 -- What encoders are owed by a builder, and what they leave in it.
-use Rattle.std.proofs.Common.{◌≡◌, ℕ, List, [], ◌∷◌, ◌++◌, append_assoc, true, false, is_none, Option, None, Some, refl, ap, ◌∙◌}
-use Rattle.wenc_types.specs.ComponentTypes.{TypeOf, type_text}
-use Rattle.wenc_types.specs.CoreTypes.{CoreType, core_type_text}
-use Rattle.wenc_builder.specs.Item.{collected, item}
-use Rattle.wenc_builder.specs.Space.{defines}
-use Rattle.wenc_builder.specs.Entry.{Entry, core_type_entry, type_entry}
-use Rattle.wenc_builder.specs.Builder.{Begun, State, builder_is_finished, step, Draft, draft_place, begun_with, longer, appended, ended, builder_given_up}
+use Rattle.std.proofs.Common.{◌≡◌, ℕ, List, ◌++◌, append_assoc, true, false, is_none, Option, None, Some, refl, ap}
+use Rattle.wenc_builder.specs.Item.{item}
+use Rattle.wenc_builder.specs.Entry.{Entry}
+use Rattle.wenc_builder.specs.Builder.{Begun, State, builder_is_finished, Draft, begun_with, longer, appended, builder_given_up}
 use Rattle.wenc_builder.specs.Holds.{Holds}
-use Rattle.wenc_builder.specs.Layout.{draft_of}
 use Rattle.wenc_builder.specs.Lent.{is_bare, is_bare_in}
-use Rattle.wenc_builder.specs.declared.builder.kind.Kind.TheVariants as kinds
 use Rattle.wenc_builder.specs.declared.builder.space.Space.TheVariants as spaces
-use Rattle.wenc_builder.specs.laws.Step.{holds_step}
 
 bare_is_begun_at : (b : Option Begun) → is_bare b ≡ true → is_none b ≡ false
 bare_is_begun_at None e = cc

@@ -1,5 +1,4 @@
 -- No item is unfinished.
-use Rattle.std.proofs.Common.{ℕ}
 use Rattle.wenc_base.specs.declared.fault.Fault.TheVariants.{Unfinished}
 use Rattle.wenc_base.specs.laws.Forms.{byte_list_lawful}
 use Rattle.wenc_base.specs.laws.Sections.{custom_lawful}

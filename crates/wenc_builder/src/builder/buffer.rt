@@ -1,7 +1,7 @@
-ghost use Rattle.std.specs.Prelude.{◌≡◌, ◌++◌, OnOk, OnErr, IfOk, IfErr, is_none, None, Err, false};
+ghost use Rattle.std.specs.Prelude.{◌≡◌, OnOk, OnErr, IfOk, IfErr, is_none, None, Err, false};
 ghost use Rattle.std.specs.Iterator.{IsFinite};
 ghost use Rattle.wenc_base.specs.Encode.{Appends};
-ghost use Rattle.wenc_base.specs.Forms.{list};
+ghost use Rattle.wenc_base.specs.Forms.{AreBytes, list};
 ghost use Rattle.wenc_base.specs.Fault.{IsMemory, IsWarranted, NoCause};
 ghost use Rattle.wenc_base.specs.Piece.{behind_bytes};
 ghost use Rattle.wenc_base.specs.Lender.{Extends, ExtendsListed};
@@ -168,6 +168,7 @@ impl<A: Allocator> Buffer<A> {
         requires { self.old.writing ≡ None }
         ensures ok { OnOk result (self.new ≡ buffer_with self.old (E.piece section.now).text) }
         ensures fits { OnOk result (E.piece section.now).Fits }
+        ensures bytes { OnOk result (AreBytes (E.piece section.now).text) }
         ensures free { OnOk result (NoCause (E.piece section.now).Cause) }
         ensures err { OnErr result (self.new ≡ self.old) }
         ensures warranted { IfErr result (IsWarranted (E.piece section.now).Cause) }

@@ -90,8 +90,8 @@ impl<A: Allocator> ComponentBuilder<A> {
         ensures { EntersListed I.next_gives options self.old self.new result
             (λ os. provided_entry rows.TaskReturn (ty, os)) }
     {
-        self.add_with_options(
-            Some("task.return"),
+        self.provide_with(
+            "task.return",
             opcodes::TASK_RETURN,
             &ResultList(ty),
             options,
@@ -159,7 +159,7 @@ impl<A: Allocator> ComponentBuilder<A> {
         ensures { EntersListed I.next_gives options self.old self.new result
             (λ os. provided_entry rows.StreamRead (ty, os)) }
     {
-        self.add_with_options(Some("stream.read"), opcodes::STREAM_READ, &ty, options)
+        self.provide_with("stream.read", opcodes::STREAM_READ, &ty, options)
     }
 
     /// `stream.write`: writes to a stream of this type.
@@ -173,7 +173,7 @@ impl<A: Allocator> ComponentBuilder<A> {
         ensures { EntersListed I.next_gives options self.old self.new result
             (λ os. provided_entry rows.StreamWrite (ty, os)) }
     {
-        self.add_with_options(Some("stream.write"), opcodes::STREAM_WRITE, &ty, options)
+        self.provide_with("stream.write", opcodes::STREAM_WRITE, &ty, options)
     }
 
     /// `stream.forward`: hands on what is left in one stream of this type to another.
@@ -239,7 +239,7 @@ impl<A: Allocator> ComponentBuilder<A> {
         ensures { EntersListed I.next_gives options self.old self.new result
             (λ os. provided_entry rows.FutureRead (ty, os)) }
     {
-        self.add_with_options(Some("future.read"), opcodes::FUTURE_READ, &ty, options)
+        self.provide_with("future.read", opcodes::FUTURE_READ, &ty, options)
     }
 
     /// `future.write`: writes to a future of this type.
@@ -253,7 +253,7 @@ impl<A: Allocator> ComponentBuilder<A> {
         ensures { EntersListed I.next_gives options self.old self.new result
             (λ os. provided_entry rows.FutureWrite (ty, os)) }
     {
-        self.add_with_options(Some("future.write"), opcodes::FUTURE_WRITE, &ty, options)
+        self.provide_with("future.write", opcodes::FUTURE_WRITE, &ty, options)
     }
 
     /// `future.forward`: hands on the value of one future of this type to another.
@@ -311,8 +311,8 @@ impl<A: Allocator> ComponentBuilder<A> {
         ensures { EntersListed I.next_gives options self.old self.new result
             (λ os. provided_entry rows.ErrorContextNew os) }
     {
-        self.add_with_options(
-            Some("error-context.new"),
+        self.provide_with(
+            "error-context.new",
             opcodes::ERROR_CONTEXT_NEW,
             &(),
             options,
@@ -329,8 +329,8 @@ impl<A: Allocator> ComponentBuilder<A> {
         ensures { EntersListed I.next_gives options self.old self.new result
             (λ os. provided_entry rows.ErrorContextDebugMessage os) }
     {
-        self.add_with_options(
-            Some("error-context.debug-message"),
+        self.provide_with(
+            "error-context.debug-message",
             opcodes::ERROR_CONTEXT_DEBUG_MESSAGE,
             &(),
             options,

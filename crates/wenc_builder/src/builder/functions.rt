@@ -27,11 +27,14 @@ impl<A: Allocator> ComponentBuilder<A> {
         ensures { EntersListed I.next_gives options self.old self.new result
             (λ os. canonical_entry (option_copied debug_name.entry) (Lower func_index os)) }
     {
-        self.add_with_options(
+        let lead = Tagged(opcodes::PLAIN, &func_index);
+        self.add_listed(
+            Kind::CanonicalFunction,
+            Space::CoreFuncs,
             debug_name,
-            opcodes::LOWER,
-            &Tagged(opcodes::PLAIN, &func_index),
+            &Tagged(opcodes::LOWER, &lead),
             options,
+            &(),
         )
     }
 

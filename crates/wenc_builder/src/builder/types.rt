@@ -1,6 +1,6 @@
 ghost use Rattle.std.specs.Borrow.{sem, RestsIfErr};
 ghost use Rattle.std.specs.Option.{option_copied};
-ghost use Rattle.std.specs.Prelude.{◌≡◌, ◌∷◌, [], List, false, Err, IfOk, OnErr};
+ghost use Rattle.std.specs.Prelude.{◌≡◌, [], List, false, Err, IfOk, OnErr};
 ghost use Rattle.wenc_base.specs.Holder.{is_finished, held};
 ghost use Rattle.wenc_base.specs.Piece.{◌▸◌};
 ghost use Rattle.wenc_base.specs.declared.fault.Fault.TheVariants.{Unfinished};

@@ -11,7 +11,7 @@ use Rattle.wenc_base.specs.declared.types.groups.GroupTree.{GroupTree}
 use Rattle.wenc_base.specs.declared.types.groups.GroupTree.TheVariants as groups
 use Rattle.wenc_base.specs.declared.types.storage.FieldType.{FieldType}
 use Rattle.wenc_base.specs.declared.types.sub.SubType.{SubType}
-use Rattle.wenc_base.specs.Composites.{params_of, results_of, composite_view, sub_view, group_view, Sub, sub_type_of, Group, Single, Rec, group, guard_before, standing, Composite}
+use Rattle.wenc_base.specs.Composites.{params_of, results_of, composite_view, sub_view, group_view, Sub, sub_type_of, Group, Single, Rec, guard_before, standing, Composite}
 use Rattle.wenc_base.specs.Delimited.{AlikeIsEqual}
 use Rattle.wenc_base.specs.Encode.{Serves}
 use Rattle.wenc_base.specs.Forms.{list}
@@ -94,8 +94,8 @@ module_type_lawful ds = row _ _ 0x50 (declarations_lawful (λ es. es) ds)
 pub held_is : {A : Type 0} (form : Form A) (h : Held) (members : List A) → Contains form h members → held_text h ≡ (list form members).text
 held_is form h members c = rw (← c.count, c.body) refl
 
-pub list_fits : {A : Type 0} (form : Form A) (h : Held) (members : List A) → (held h).Fits → Contains form h members → (list form members).Fits
-list_fits form h members fits c = (rw c.count fits.0, c.fit)
+pub list_fits : {A : Type 0} (form : Form A) (h : Held) (members : List A) → Contains form h members → (held h).Fits → (list form members).Fits
+list_fits form h members c fits = (rw c.count fits.0, c.fit)
 
 -- behind a byte they serve as a piece with the same text, which fits where they do
 pub held_serves : (b : ℕ) (p : Piece) (h : Held) → b ∷ held_text h ≡ p.text → ((held h).Fits → p.Fits) → Serves (b ▸ held h) (refused_for (EncodeCause h) p)
@@ -107,12 +107,9 @@ held_serves b p h e fits = record { text = e; fits = fits; among = λ fault c. c
 pub module_type_of : (t : Declared) (ds : List ModuleDeclaration) → Declares t ds → 0x50 ∷ held_text t.held ≡ (module_type ds).text
 module_type_of t ds h = ap (λ (text : List ℕ). 0x50 ∷ text) (held_is module_declaration t.held ds h.contained)
 
-pub module_type_fits : (t : Declared) (ds : List ModuleDeclaration) → (held t.held).Fits → Declares t ds → (module_type ds).Fits
-module_type_fits t ds fits h = list_fits module_declaration t.held ds fits h.contained
-
 -- what is written of it serves as a type with these declarations
 pub module_serves : (t : Declared) (ds : List ModuleDeclaration) → Declares t ds → Serves (0x50 ▸ held t.held) (refused_for (EncodeCause t.held) (core_type (Module ds)))
-module_serves t ds h = held_serves 0x50 (core_type (Module ds)) t.held (module_type_of t ds h) (λ fits. module_type_fits t ds fits h)
+module_serves t ds h = held_serves 0x50 (core_type (Module ds)) t.held (module_type_of t ds h) (list_fits module_declaration t.held ds h.contained)
 
 -- ---- core types
 

@@ -79,16 +79,12 @@ instance_type_text t ds h = ap (λ (text : List ℕ). 0x42 ∷ text) (held_is in
 pub component_type_text : (t : Declaring) (ds : List ComponentDeclaration) → ComponentDeclares t ds → 0x41 ∷ held_text t.held ≡ (type_of (ComponentType (components_of ds))).text
 component_type_text t ds h = ap (λ (text : List ℕ). 0x41 ∷ text) (held_is component_declaration t.held ds h.contained) ∙ (components_serve ds).text
 
-pub instance_type_fits : (t : Declaring) (ds : List InstanceDeclaration) → (held t.held).Fits → InstanceDeclares t ds → (type_of (InstanceType (instances_of ds))).Fits
-instance_type_fits t ds fits h = (instances_serve ds).fits (list_fits instance_declaration t.held ds fits h.contained)
-
-pub component_type_fits : (t : Declaring) (ds : List ComponentDeclaration) → (held t.held).Fits → ComponentDeclares t ds → (type_of (ComponentType (components_of ds))).Fits
-component_type_fits t ds fits h = (components_serve ds).fits (list_fits component_declaration t.held ds fits h.contained)
-
 pub instance_serves : (t : Declaring) (ds : List InstanceDeclaration) → InstanceDeclares t ds
     → Serves (0x42 ▸ held t.held) (refused_for (EncodeCause t.held) (type_of (InstanceType (instances_of ds))))
-instance_serves t ds h = held_serves 0x42 (type_of (InstanceType (instances_of ds))) t.held (instance_type_text t ds h) (λ fits. instance_type_fits t ds fits h)
+instance_serves t ds h = held_serves 0x42 (type_of (InstanceType (instances_of ds))) t.held (instance_type_text t ds h)
+    (λ fits. (instances_serve ds).fits (list_fits instance_declaration t.held ds h.contained fits))
 
 pub component_serves : (t : Declaring) (ds : List ComponentDeclaration) → ComponentDeclares t ds
     → Serves (0x41 ▸ held t.held) (refused_for (EncodeCause t.held) (type_of (ComponentType (components_of ds))))
-component_serves t ds h = held_serves 0x41 (type_of (ComponentType (components_of ds))) t.held (component_type_text t ds h) (λ fits. component_type_fits t ds fits h)
+component_serves t ds h = held_serves 0x41 (type_of (ComponentType (components_of ds))) t.held (component_type_text t ds h)
+    (λ fits. (components_serve ds).fits (list_fits component_declaration t.held ds h.contained fits))

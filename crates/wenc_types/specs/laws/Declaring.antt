@@ -10,7 +10,7 @@ use Rattle.wenc_base.specs.laws.Members.{finished_back, back_twice, opened_back,
 use Rattle.wenc_base.specs.declared.holder.openings.Opening.{Opening}
 use Rattle.wenc_types.specs.ComponentTypes.{ComponentType, InstanceType, components_of, instances_of, type_of, component_declaration, instance_declaration}
 use Rattle.wenc_types.specs.Declarations.{component_sort, instance_sort, Declaring, no_declarations, Settled, Declares, IsDeclaration, DeclaresSome, IsDeclaring, HasOne, OpenedIsIn, total, counted, uncounted, counts_of, lead_of, begun, written, ended, taken_back}
-use Rattle.wenc_types.specs.laws.Declarations.{counts_next, back_again, component_type_text, component_type_fits, instance_type_text, instance_type_fits}
+use Rattle.wenc_types.specs.laws.Declarations.{counts_next, back_again, component_serves, instance_serves}
 use Rattle.wenc_types.specs.declared.counts.Counts.{Counts}
 use Rattle.wenc_types.specs.declared.counts.Sort.{Sort}
 use Rattle.wenc_types.specs.declared.counts.Sort.TheVariants.{CoreType, «Type» as TypeSort, Instance}
@@ -201,9 +201,11 @@ declares_values form sort t s =
 pub component_has_form : (t : Declaring) → (held t.held).Fits → ∥ DeclaresSome (IsDeclaration component_declaration component_sort) t ∥₁ → ∥ HasForm type_of (0x41 ∷ held_text t.held) ∥₁
 component_has_form t fits some = ∥∥₁_map some (λ s.
     let all = declares_values component_declaration component_sort t s in
-    record { value = ComponentType (components_of all.0); fits = component_type_fits t all.0 fits all.1; is = component_type_text t all.0 all.1 })
+    let serves = component_serves t all.0 all.1 in
+    record { value = ComponentType (components_of all.0); fits = serves.fits fits; is = serves.text })
 
 pub instance_has_form : (t : Declaring) → (held t.held).Fits → ∥ DeclaresSome (IsDeclaration instance_declaration instance_sort) t ∥₁ → ∥ HasForm type_of (0x42 ∷ held_text t.held) ∥₁
 instance_has_form t fits some = ∥∥₁_map some (λ s.
     let all = declares_values instance_declaration instance_sort t s in
-    record { value = InstanceType (instances_of all.0); fits = instance_type_fits t all.0 fits all.1; is = instance_type_text t all.0 all.1 })
+    let serves = instance_serves t all.0 all.1 in
+    record { value = InstanceType (instances_of all.0); fits = serves.fits fits; is = serves.text })

@@ -2,13 +2,11 @@
 use Rattle.std.proofs.Common.{ℕ, Bool, true, false, List, [], ◌∷◌, ◌++◌, Option, refl}
 use Rattle.wenc_base.specs.laws.Forms.{read_list, list_lawful, list_sound, read_name, name_lawful, name_sound, read_option, option_lawful, option_sound}
 use Rattle.wenc_base.specs.laws.Lawful.{Lawful, Reader, ◌>>=◌, give, nowhere, choose, row, row_byte, then, last}
-use Rattle.wenc_base.specs.laws.Sound.{Sound, behind, RowsAreSound, give_sound, last_sound, then_sound, nowhere_sound, choose_sound}
-use Rattle.wenc_base.specs.Forms.{list}
-use Rattle.wenc_base.specs.Piece.{Form, Wide, byte, ◌⨾◌}
-use Rattle.wenc_parts.specs.Types.{result_list}
+use Rattle.wenc_base.specs.laws.Sound.{Sound, RowsAreSound, give_sound, last_sound, then_sound, nowhere_sound, choose_sound}
+use Rattle.wenc_base.specs.Piece.{Form, Wide}
 use Rattle.wenc_base.specs.laws.Numbers.{read_u32, u32_lawful, u32_sound}
 use Rattle.wenc_parts.specs.declared.types.ComponentValType.{ComponentValType}
-use Rattle.wenc_parts.specs.laws.Types.{primitive_rows, primitive_row, read_value_type, value_type_lawful, value_type_sound, read_result_list, result_list_lawful, result_list_sound}
+use Rattle.wenc_parts.specs.laws.Types.{primitive_rows, primitive_row, read_value_type, value_type_lawful, value_type_sound, read_result_list, result_list_lawful}
 use Rattle.wenc_types.specs.DefinedTypes.{Named, named, Case, case, Defined, Primitive, Record, Variant, ListOf, MapOf, FixedLengthList, Tuple, Flags, Enumeration, OptionOf, ResultOf, Own, Borrow, Future, Stream, defined_type, Function, function_type_of, function_type}
 
 -- ---- parts
@@ -148,18 +146,6 @@ function_row make rows other false params answer =
     row _ _ 0x40 (then _ (list_lawful named_lawful params) (last (λ a. make (to_function false params a)) (result_list_lawful answer)))
 function_row make rows other true params answer =
     row _ _ 0x43 (then _ (list_lawful named_lawful params) (last (λ a. make (to_function true params a)) (result_list_lawful answer)))
-
-signature_sound : {A : Type 0} (form : Form A) (is_async : Bool) (make : Function → A)
-    → ((params : List Named) (answer : Option ComponentValType) (bytes rest : List ℕ) → (list named params ⨾ result_list answer).Reads Wide bytes rest → (form (make (to_function is_async params answer))).Reads Wide bytes rest) → Sound form (read_signature is_async make)
-signature_sound form is_async make k =
-    then_sound _ (list_sound named_sound) (λ params. last_sound (λ answer. make (to_function is_async params answer)) result_list_sound (λ answer middle rest r bytes p. k params answer bytes rest (middle, p, r)))
-
--- each row of a table of types of functions
-pub function_rows_sound : {A : Type 0} (form : Form A) (make : Function → A) → ((f : Function) (bytes rest : List ℕ) → (function_type f).Reads Wide bytes rest → (form (make f)).Reads Wide bytes rest) → RowsAreSound form (function_rows make)
-function_rows_sound form make k = (
-  signature_sound (behind 0x40 form) false make (λ params answer bytes rest r. k (to_function false params answer) _ rest (bytes, refl, r)),
-  (signature_sound (behind 0x43 form) true make (λ params answer bytes rest r. k (to_function true params answer) _ rest (bytes, refl, r)), tt),
-)
 
 abbrev pub read_function : Reader Function
 read_function = choose (function_rows (λ f. f)) nowhere

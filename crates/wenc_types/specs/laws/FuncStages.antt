@@ -1,10 +1,7 @@
 -- What remains to be written of the type of a function, from stage to stage.
-use Rattle.std.proofs.Common.{◌≡◌, ℕ, Bool, true, false, List, [], ◌∷◌, ◌++◌, Option, refl, ap}
+use Rattle.std.proofs.Common.{◌≡◌, ℕ, Bool, true, false, List, [], ◌∷◌, ◌++◌, ap}
 use Rattle.wenc_base.specs.Forms.{list}
-use Rattle.wenc_base.specs.Lender.{MakesWhole}
-use Rattle.wenc_parts.specs.Types.{result_list}
-use Rattle.wenc_parts.specs.declared.types.ComponentValType.{ComponentValType}
-use Rattle.wenc_types.specs.DefinedTypes.{Named, named, Function, function_type}
+use Rattle.wenc_types.specs.DefinedTypes.{Named, named}
 use Rattle.wenc_types.specs.FuncStages.{async_byte, BeforeParams, params_from, Remains, RestMakesWhole}
 use Rattle.wenc_types.specs.declared.func_type.FuncStage.{FuncStage}
 use Rattle.wenc_types.specs.declared.func_type.FuncStage.TheVariants.{Start, Tagged, Params, Done}
@@ -21,14 +18,6 @@ after_params Start params bytes before fit r =
 after_params Tagged params bytes before fit r = record { value = (params, r.value); fits = (fit, r.fits); is = ap (λ (t : List ℕ). (list named params).text ++ t) r.is }
 after_params Params params bytes before fit r = absurd before
 after_params Done params bytes before fit r = absurd before
-
-module _ {T : Type 0} (is_whole : T → Type 0) (written : T → List ℕ → T) (x : T) where
-  -- each type of functions is what remains at the start, and what the function answers at the end
-  pub starts : ((f : Function) → MakesWhole is_whole written x (function_type f)) → RestMakesWhole is_whole written Start x
-  starts whole text r = rw r.is (whole r.value r.fits)
-
-  pub ends : RestMakesWhole is_whole written Params x → (answer : Option ComponentValType) → MakesWhole is_whole written x (result_list answer)
-  ends whole answer fits = whole (result_list answer).text (record { value = answer; fits = fits; is = refl })
 
 module _ {T : Type 0} (is_whole : T → Type 0) (written : T → List ℕ → T) (joins : (x : T) (text more : List ℕ) → written (written x text) more ≡ written x (text ++ more)) (old new : T) where
   pub tag_goes_on : (is_async : Bool) → new ≡ written old (async_byte is_async ∷ []) → RestMakesWhole is_whole written Start old → RestMakesWhole is_whole written Tagged new

@@ -12,7 +12,7 @@ use Rattle.wenc_base.specs.laws.Members.{was_finished, told_finished, IsLonger, 
 use Rattle.wenc_base.specs.declared.holder.openings.Opening.{Opening}
 use Rattle.wenc_types.specs.CoreTypes.{ModuleDeclaration, Defined, module_declaration, Module, core_type}
 use Rattle.wenc_types.specs.ModuleTypes.{Declared, no_declarations, types_of, Declares, IsWhole, OpenedIsIn, IsDeclaring, types_before, begun, written, ended, taken_back}
-use Rattle.wenc_types.specs.laws.CoreTypes.{module_type_of, module_type_fits}
+use Rattle.wenc_types.specs.laws.CoreTypes.{module_serves}
 use Rattle.wenc_types.specs.laws.ModuleTypes.{type_count_next}
 
 abbrev HasSome : Declared → Type 0
@@ -173,4 +173,4 @@ encoded_declares t (Err f) k refused = tt
 -- ---- the text of what is finished
 
 pub module_has_form : (t : Declared) → (held t.held).Fits → ∥ ((ds : List ModuleDeclaration) × Declares t ds) ∥₁ → ∥ HasForm core_type (0x50 ∷ held_text t.held) ∥₁
-module_has_form t fits some = ∥∥₁_map some (λ s. record { value = Module s.0; fits = module_type_fits t s.0 fits s.1; is = module_type_of t s.0 s.1 })
+module_has_form t fits some = ∥∥₁_map some (λ s. let serves = module_serves t s.0 s.1 in record { value = Module s.0; fits = serves.fits fits; is = serves.text })

@@ -1,26 +1,17 @@
 -- What follows for types that components define, with all that is in them.
-use Rattle.std.proofs.Common.{String, ◌≡◌, ℕ, Bool, List, Option, Result, Vec, map, refl, sym, ap, subst, rules}
+use Rattle.std.proofs.Common.{String, ◌≡◌, ℕ, Bool, Option, Vec, map, refl, sym, ap, subst, rules}
 use Rattle.std.specs.String.{string_bytes}
 use Rattle.wenc_base.specs.declared.types.ValType.{ValType}
-use Rattle.wenc_parts.specs.Aliases.{alias_tree_view}
-use Rattle.wenc_parts.specs.Imports.{name_tree_view}
-use Rattle.wenc_parts.specs.declared.aliases.AliasTree.{AliasTree}
-use Rattle.wenc_parts.specs.declared.imports.ComponentTypeRef.{ComponentTypeRef}
-use Rattle.wenc_parts.specs.declared.imports.NameTree.{NameTree}
 use Rattle.wenc_parts.specs.declared.types.ComponentValType.{ComponentValType}
-use Rattle.wenc_types.specs.ComponentTypes.{DefinedType, FunctionType, ComponentType, InstanceType, ResourceType, CoreTyped, Typed, Aliased, Exported, Imported, Declared, instances_of, components_of}
-use Rattle.wenc_types.specs.CoreTypeTrees.{core_type_view}
+use Rattle.wenc_types.specs.ComponentTypes.{DefinedType, ComponentType, InstanceType, ResourceType, instances_of, components_of}
 use Rattle.wenc_types.specs.DefinedTypes.{Named, Case, Defined, Primitive, Record, Variant, ListOf, MapOf, FixedLengthList, Tuple, Flags, Enumeration, OptionOf, ResultOf, Own, Borrow, Future, Stream}
-use Rattle.wenc_types.specs.TypeTrees.{named_view, case_view, defined_view, function_view, type_view, instance_declaration_view, component_declaration_view}
-use Rattle.wenc_types.specs.declared.core_type_tree.CoreTypeTree.{CoreTypeTree}
+use Rattle.wenc_types.specs.TypeTrees.{named_view, case_view, defined_view, type_view, instance_declaration_view, component_declaration_view}
 use Rattle.wenc_types.specs.declared.defined_tree.CaseTree.{CaseTree}
 use Rattle.wenc_types.specs.declared.defined_tree.DefinedTree.{DefinedTree}
 use Rattle.wenc_types.specs.declared.defined_tree.DefinedTree.TheVariants as trees
 use Rattle.wenc_types.specs.declared.type_tree.ComponentDecl.{ComponentDecl}
-use Rattle.wenc_types.specs.declared.type_tree.ComponentDecl.TheVariants as components
 use Rattle.wenc_types.specs.declared.type_tree.InstanceDecl.{InstanceDecl}
-use Rattle.wenc_types.specs.declared.type_tree.InstanceDecl.TheVariants as instances
-use Rattle.wenc_types.specs.declared.type_tree.TypeTree.{TypeTree, the_lemmas}
+use Rattle.wenc_types.specs.declared.type_tree.TypeTree.{the_lemmas}
 use Rattle.wenc_types.specs.declared.type_tree.TypeTree.TheVariants as types
 use Rattle.wenc_types.specs.laws.CoreTypes.{SeesAlike}
 
@@ -109,10 +100,6 @@ defined_sees {A} eq records variants tuples flags enums a b e = of a (subst (λ 
 pub view_defined : {A : Type 0} (ty : DefinedTree A) → type_view (types.Defined ty) ≡ DefinedType (defined_view ty)
 view_defined ty = search (rules, the_lemmas)
 
-pub view_function : {A : Type 0} (is_async : Bool) (params : Vec (String A × ComponentValType) A) (answer : Option ComponentValType)
-    → type_view (types.Func is_async params answer) ≡ FunctionType (function_view is_async params.items answer)
-view_function is_async params answer = search (rules, the_lemmas)
-
 pub view_component : {A : Type 0} (ds : Vec (ComponentDecl A) A) → type_view (types.Component ds) ≡ ComponentType (components_of (map component_declaration_view ds.items))
 view_component ds = search (rules, the_lemmas)
 
@@ -121,21 +108,3 @@ view_instance ds = search (rules, the_lemmas)
 
 pub view_resource : (A : Type 0) (rep : ValType) (dtor : Option ℕ) → type_view {A = A} (types.Resource rep dtor) ≡ ResourceType rep dtor
 view_resource A rep dtor = search (rules, the_lemmas)
-
-pub view_core : {A : Type 0} (ty : CoreTypeTree A) → instance_declaration_view (instances.CoreType ty) ≡ CoreTyped (core_type_view ty)
-view_core ty = search (rules, the_lemmas)
-
-pub view_type : {A : Type 0} (ty : TypeTree A) → instance_declaration_view (instances.«Type» ty) ≡ Typed (type_view ty)
-view_type ty = search (rules, the_lemmas)
-
-pub view_alias : {A : Type 0} (a : AliasTree A) → instance_declaration_view (instances.Alias a) ≡ Aliased (alias_tree_view a)
-view_alias a = search (rules, the_lemmas)
-
-pub view_exported : {A : Type 0} (name : NameTree A) (ty : ComponentTypeRef) → instance_declaration_view (instances.Export name ty) ≡ Exported (name_tree_view name) ty
-view_exported name ty = search (rules, the_lemmas)
-
-pub view_imported : {A : Type 0} (name : NameTree A) (ty : ComponentTypeRef) → component_declaration_view (components.Import name ty) ≡ Imported (name_tree_view name) ty
-view_imported name ty = search (rules, the_lemmas)
-
-pub view_declared : {A : Type 0} (d : InstanceDecl A) → component_declaration_view (components.Decl d) ≡ Declared (instance_declaration_view d)
-view_declared d = search (rules, the_lemmas)

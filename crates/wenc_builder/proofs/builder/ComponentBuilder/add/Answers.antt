@@ -8,4 +8,4 @@ pub returns-in-Ok-append_value : goal.returns-in-Ok-append_value
 returns-in-Ok-append_value g c =
     let a = c.in-Ok-append_value.ensures.appended in
     added c.args.self.now c.begin.new.self c.append_value.new.self c.end.new.self c.in-Ok.index (kind_id c.args.kind) (space_number c.args.space) (option_copied c.args.name)
-    (g.E.Encode.text c.args.item.now) (g.E.Encode.cause c.args.item.now) c.in-Ok.ensures a.ok a.free c.end.ensures
+    (g.E.Encode.piece c.args.item.now) c.in-Ok.ensures a.ok a.fits a.free c.end.ensures

@@ -1,12 +1,21 @@
-use Rattle.wenc_builder.proofs.Texts.{item_text}
-use Rattle.wenc_builder.specs.Item.{CanonItem}
+use Rattle.std.proofs.Common.{refl}
+use Rattle.wenc_base.specs.laws.Serves.{serves_itself}
+use Rattle.wenc_builder.specs.Layout.{kind_id}
+use Rattle.wenc_builder.specs.Space.{space_number}
 use Rattle.std.specs.Option.{option_copied}
+use Rattle.wenc_builder.specs.Entry.{canonical_entry}
+use Rattle.wenc_builder.specs.Item.{CanonItem}
 use Rattle.wenc_canon.specs.CanonTrees.{canon_view}
-use Rattle.wenc_builder.proofs.Entered.{canonical_enters}
+use Rattle.wenc_builder.specs.declared.builder.kind.Kind.TheVariants as kinds
+use Rattle.wenc_builder.specs.declared.builder.space.Space.TheVariants as spaces
+use Rattle.wenc_builder.proofs.Entered.{draft_enters}
+use Rattle.wenc_builder.proofs.Texts.{item_piece}
 use Rattle.wenc_builder.proofs.builder.ComponentBuilder.add_canonical.Goals as goal
 
 pub returns : goal.returns
-returns g c = canonical_enters c.args.self.now c.add.new.self c.add.result (canon_view c.args.function.now) c.args.space (option_copied c.args.name) c.requires c.add.ensures
+returns g c =
+    draft_enters c.args.self.now c.add.new.self c.add.result (canonical_entry (option_copied c.args.name) (canon_view c.args.function.now)) (kind_id kinds.CanonicalFunction) (space_number c.args.space) (option_copied c.args.name)
+    (record { section = refl; defined = rw c.requires refl; named = refl }) serves_itself c.add.ensures
 
 pub add-requires : goal.add-requires
-add-requires g c = rw (← c.requires) (item_text (CanonItem (canon_view c.args.function.now)))
+add-requires g c = rw (← c.requires) (item_piece (CanonItem (canon_view c.args.function.now)) serves_itself)

@@ -1,13 +1,21 @@
-use Rattle.wenc_builder.proofs.Texts.{item_text}
-use Rattle.wenc_builder.specs.Item.{AliasItem}
+use Rattle.std.proofs.Common.{refl}
+use Rattle.wenc_base.specs.laws.Serves.{serves_itself}
+use Rattle.wenc_builder.specs.Layout.{kind_id}
+use Rattle.wenc_builder.specs.Space.{space_number}
 use Rattle.std.specs.Option.{option_copied}
+use Rattle.wenc_builder.specs.Entry.{alias_entry}
+use Rattle.wenc_builder.specs.Item.{AliasItem}
 use Rattle.wenc_parts.specs.Aliases.{alias_view}
-use Rattle.wenc_builder.proofs.Entered.{alias_enters}
+use Rattle.wenc_builder.specs.declared.builder.kind.Kind.TheVariants as kinds
+use Rattle.wenc_builder.specs.declared.builder.space.Space.TheVariants as spaces
+use Rattle.wenc_builder.proofs.Entered.{draft_enters}
+use Rattle.wenc_builder.proofs.Texts.{item_piece}
 use Rattle.wenc_builder.proofs.builder.ComponentBuilder.alias.Goals as goal
 
 pub returns : goal.returns
 returns g c =
-    alias_enters c.args.self.now c.add.new.self c.add.result (alias_view c.args.alias) c.of_alias.result (option_copied c.args.debug_name) c.of_alias.ensures c.add.ensures
+    draft_enters c.args.self.now c.add.new.self c.add.result (alias_entry (option_copied c.args.debug_name) (alias_view c.args.alias)) (kind_id kinds.Alias) (space_number c.of_alias.result) (option_copied c.args.debug_name)
+    (record { section = refl; defined = rw c.of_alias.ensures refl; named = refl }) serves_itself c.add.ensures
 
 pub add-requires : goal.add-requires
-add-requires g c = rw c.of_alias.ensures (item_text (AliasItem (alias_view c.args.alias)))
+add-requires g c = rw c.of_alias.ensures (item_piece (AliasItem (alias_view c.args.alias)) serves_itself)

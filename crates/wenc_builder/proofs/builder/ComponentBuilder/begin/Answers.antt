@@ -22,4 +22,4 @@ invariant_of-self-in-Err-begin g c =
 
 pub invariant_of-self-in_default : goal.invariant_of-self-in_default
 invariant_of-self-in_default g c =
-    rw (c.in_default.ensures.ok, c.in-Ok.ensures.ok) (begun_stands c.self.inside.buffer c.self.inside.spaces c.self.invariant (sym c.if-not-is_finished.ensures) (kind_id c.args.kind) (space_number c.args.space) (option_copied c.args.name))
+    rw (c.in_default.ensures.ok, c.in-Ok.ensures.ok) (begun_stands c.self.inside.buffer c.self.inside.spaces c.self.invariant (sym c.if-not-is_finished.ensures) (kind_id c.args.kind) (space_number c.args.space) (option_copied c.args.name) c.in_default.ensures.free)

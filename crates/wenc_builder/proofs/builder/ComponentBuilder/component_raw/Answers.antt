@@ -1,12 +1,18 @@
-use Rattle.wenc_builder.proofs.Texts.{item_text}
-use Rattle.wenc_builder.specs.Item.{ComponentItem}
 use Rattle.std.proofs.Common.{refl}
+use Rattle.wenc_base.specs.laws.Serves.{serves_itself}
+use Rattle.wenc_builder.specs.Space.{defined_as}
 use Rattle.std.specs.Option.{option_copied}
-use Rattle.wenc_builder.proofs.Entered.{component_enters}
+use Rattle.wenc_builder.specs.Entry.{component_entry}
+use Rattle.wenc_builder.specs.Item.{ComponentItem}
+use Rattle.wenc_builder.specs.declared.builder.space.Space.TheVariants as spaces
+use Rattle.wenc_builder.proofs.Entered.{alone_enters}
+use Rattle.wenc_builder.proofs.Texts.{item_piece}
 use Rattle.wenc_builder.proofs.builder.ComponentBuilder.component_raw.Goals as goal
 
 pub returns : goal.returns
-returns g c = component_enters c.args.self.now c.stand_alone.new.self c.stand_alone.result c.args.component.now _ (option_copied c.args.debug_name) (rw c.into.ensures refl) c.stand_alone.ensures
+returns g c =
+    alone_enters c.args.self.now c.stand_alone.new.self c.stand_alone.result (component_entry (option_copied c.args.debug_name) c.args.component.now) (defined_as spaces.Components 1) (option_copied c.args.debug_name)
+    (record { alone = refl; defined = refl; named = refl }) (rw c.into.ensures serves_itself) c.stand_alone.ensures
 
 pub stand_alone-requires : goal.stand_alone-requires
-stand_alone-requires g c = rw c.into.ensures (item_text (ComponentItem c.args.component.now))
+stand_alone-requires g c = item_piece (ComponentItem c.args.component.now) (rw c.into.ensures serves_itself)

@@ -1,13 +1,21 @@
-use Rattle.wenc_builder.proofs.Texts.{item_text}
-use Rattle.wenc_builder.specs.Item.{CoreInstanceItem}
 use Rattle.std.proofs.Common.{refl}
+use Rattle.wenc_base.specs.laws.Serves.{serves_itself}
+use Rattle.wenc_builder.specs.Layout.{kind_id}
+use Rattle.wenc_builder.specs.Space.{space_number}
 use Rattle.std.specs.Option.{option_copied}
+use Rattle.wenc_builder.specs.Entry.{core_instance_entry}
+use Rattle.wenc_builder.specs.Item.{CoreInstanceItem}
 use Rattle.wenc_sections.specs.InstanceTrees.{core_instance_tree_view}
-use Rattle.wenc_builder.proofs.Entered.{core_instance_enters}
+use Rattle.wenc_builder.specs.declared.builder.kind.Kind.TheVariants as kinds
+use Rattle.wenc_builder.specs.declared.builder.space.Space.TheVariants as spaces
+use Rattle.wenc_builder.proofs.Entered.{draft_enters}
+use Rattle.wenc_builder.proofs.Texts.{item_piece}
 use Rattle.wenc_builder.proofs.builder.ComponentBuilder.core_instance_tree.Goals as goal
 
 pub returns : goal.returns
-returns g c = core_instance_enters c.args.self.now c.add.new.self c.add.result (core_instance_tree_view c.args.instance.now) (option_copied c.args.debug_name) _ refl c.add.ensures
+returns g c =
+    draft_enters c.args.self.now c.add.new.self c.add.result (core_instance_entry (option_copied c.args.debug_name) (core_instance_tree_view c.args.instance.now)) (kind_id kinds.CoreInstance) (space_number spaces.CoreInstances) (option_copied c.args.debug_name)
+    (record { section = refl; defined = refl; named = refl }) serves_itself c.add.ensures
 
 pub add-requires : goal.add-requires
-add-requires g c = item_text (CoreInstanceItem (core_instance_tree_view c.args.instance.now))
+add-requires g c = item_piece (CoreInstanceItem (core_instance_tree_view c.args.instance.now)) serves_itself

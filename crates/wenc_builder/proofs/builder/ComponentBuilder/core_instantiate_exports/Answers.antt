@@ -1,24 +1,21 @@
-use Rattle.wenc_builder.proofs.Texts.{members_text}
-use Rattle.std.proofs.Common.{refl, ◌∷◌, [], inl, inr}
+use Rattle.std.proofs.Common.{refl, map}
 use Rattle.std.specs.Option.{option_copied}
-use Rattle.wenc_base.specs.Fault.{text_cause}
-use Rattle.wenc_base.specs.laws.Causes.{alone}
-use Rattle.wenc_sections.specs.Instances.{core_export, core_export_view, core_export_cause, CoreExports}
+use Rattle.wenc_sections.specs.Instances.{CoreExports, core_export_view}
+use Rattle.wenc_sections.specs.laws.Instances.{core_exports_listed}
+use Rattle.wenc_builder.specs.Entry.{core_instance_entry}
 use Rattle.wenc_builder.specs.Item.{CoreInstanceItem}
 use Rattle.wenc_builder.specs.Layout.{kind_id}
 use Rattle.wenc_builder.specs.Space.{space_number}
 use Rattle.wenc_builder.specs.declared.builder.kind.Kind.TheVariants as kinds
 use Rattle.wenc_builder.specs.declared.builder.space.Space.TheVariants as spaces
-use Rattle.wenc_builder.proofs.Entered.{itself}
-use Rattle.wenc_builder.proofs.Listed.{members_enter}
+use Rattle.wenc_builder.proofs.Listed.{listed_enters}
+use Rattle.wenc_builder.proofs.Texts.{item_piece}
 use Rattle.wenc_builder.proofs.builder.ComponentBuilder.core_instantiate_exports.Goals as goal
 
 pub returns : goal.returns
 returns g c =
-    members_enter g.I.Iterator.next_gives c.args.exports c.args.self.now c.add_listed.new.self c.add_listed.result (λ cs. CoreInstanceItem (CoreExports cs)) (kind_id kinds.CoreInstance) (space_number spaces.CoreInstances) (option_copied c.args.debug_name)
-    (0x01 ∷ []) (λ v. (core_export v).text) core_export_view _ core_export_cause (λ cs. refl) (λ cs. refl) (λ cs. refl) (λ cs. itself _)
-    (λ v. alone (text_cause v.0.now) _ (λ fault h. elim h [ inl none ↦ none | inr p ↦ p.1 ])) c.add_listed.ensures
+    listed_enters g.I.Iterator.next_gives c.args.exports c.args.self.now c.add_listed.new.self c.add_listed.result (λ vs. core_instance_entry (option_copied c.args.debug_name) (CoreExports (map core_export_view vs)))
+    (kind_id kinds.CoreInstance) (space_number spaces.CoreInstances) (option_copied c.args.debug_name) _ (λ vs. record { section = refl; defined = refl; named = refl }) (core_exports_listed core_export_view) c.add_listed.ensures
 
 pub add_listed-requires-clause-whole : goal.add_listed-requires-clause-whole
-add_listed-requires-clause-whole g c =
-    members_text (λ cs. CoreInstanceItem (CoreExports cs)) (kind_id kinds.CoreInstance) (space_number spaces.CoreInstances) (0x01 ∷ []) (λ v. (core_export v).text) core_export_view (λ cs. refl) (λ cs. refl) (λ cs. refl)
+add_listed-requires-clause-whole g c vs = item_piece (CoreInstanceItem (CoreExports (map core_export_view vs))) (core_exports_listed core_export_view vs)

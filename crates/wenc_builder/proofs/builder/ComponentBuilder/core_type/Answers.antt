@@ -1,6 +1,7 @@
+use Rattle.wenc_base.specs.laws.Serves.{serves_itself}
 use Rattle.wenc_builder.specs.Item.{CoreTypeItem}
-use Rattle.wenc_builder.proofs.Texts.{item_text}
+use Rattle.wenc_builder.proofs.Texts.{item_piece}
 use Rattle.wenc_builder.proofs.builder.ComponentBuilder.core_type.Goals as goal
 
 pub new-requires-clause-whole : goal.new-requires-clause-whole
-new-requires-clause-whole g c t = rw c.in_ok-index.ensures.ok (item_text (CoreTypeItem t))
+new-requires-clause-whole g c t fits = rw c.in_ok-index.ensures.ok (item_piece (CoreTypeItem t) serves_itself fits)

@@ -1,4 +1,8 @@
-use Rattle.std.proofs.Common.{refl, sym, ◌∙◌}
+use Rattle.std.proofs.Common.{◌≡◌, ◌↔◌, List, ℕ, refl, sym, ◌∙◌, subst}
+use Rattle.wenc_builder.specs.Builder.{sections_text}
+use Rattle.wenc_builder.specs.Entry.{items}
+use Rattle.wenc_builder.specs.Sections.{runs, Reading, whole}
+use Rattle.wenc_builder.specs.laws.Reading.{of_items}
 use Rattle.std.proofs.Math.Logic.{∥∥₁_map}
 use Rattle.wenc_builder.specs.View.{builder_view}
 use Rattle.wenc_builder.specs.laws.Held.{holds_some}
@@ -13,3 +17,8 @@ returns-clause-some g c =
     rw (← c.self.view_is)
     (∥∥₁_map (holds_some (builder_view b s) (sym (finished_is b s _ kept.agree refl) ∙ sym c.if-not-is_finished.ensures) kept.holds)
     (λ h. (h.0, h.1, c.finish.ensures ∙ h.1.sections.bytes)))
+
+pub returns-clause-one_reading : goal.returns-clause-one_reading
+returns-clause-one_reading g c es h raw mode ss =
+    let bytes : sections_text c.self.inside.buffer.settled ≡ whole (items es) = (rw (← c.self.view_is) at h).sections.bytes in
+    subst (λ (bs : List ℕ). Reading mode bs ss ↔ (ss ≡ runs (items es))) (sym (c.finish.ensures ∙ bytes)) (of_items mode (items es) ss raw h.fits)

@@ -1,24 +1,21 @@
-use Rattle.wenc_builder.proofs.Texts.{members_text}
-use Rattle.std.proofs.Common.{refl, ◌∷◌, [], inl, inr}
+use Rattle.std.proofs.Common.{refl, map}
 use Rattle.std.specs.Option.{option_copied}
-use Rattle.wenc_parts.specs.Imports.{extern_name_view, extern_name_cause}
-use Rattle.wenc_base.specs.laws.Causes.{alone}
-use Rattle.wenc_sections.specs.Instances.{exported, exported_view, exported_cause, Exports}
+use Rattle.wenc_sections.specs.Instances.{Exports, exported_view}
+use Rattle.wenc_sections.specs.laws.Instances.{exports_listed}
+use Rattle.wenc_builder.specs.Entry.{instance_entry}
 use Rattle.wenc_builder.specs.Item.{InstanceItem}
 use Rattle.wenc_builder.specs.Layout.{kind_id}
 use Rattle.wenc_builder.specs.Space.{space_number}
 use Rattle.wenc_builder.specs.declared.builder.kind.Kind.TheVariants as kinds
 use Rattle.wenc_builder.specs.declared.builder.space.Space.TheVariants as spaces
-use Rattle.wenc_builder.proofs.Entered.{itself}
-use Rattle.wenc_builder.proofs.Listed.{members_enter}
+use Rattle.wenc_builder.proofs.Listed.{listed_enters}
+use Rattle.wenc_builder.proofs.Texts.{item_piece}
 use Rattle.wenc_builder.proofs.builder.ComponentBuilder.instantiate_exports.Goals as goal
 
 pub returns : goal.returns
 returns g c =
-    members_enter g.I.Iterator.next_gives c.args.exports c.args.self.now c.add_listed.new.self c.add_listed.result (λ cs. InstanceItem (Exports cs)) (kind_id kinds.Instance) (space_number spaces.Instances) (option_copied c.args.debug_name)
-    (0x01 ∷ []) (λ v. (exported v).text) exported_view _ exported_cause (λ cs. refl) (λ cs. refl) (λ cs. refl) (λ cs. itself _)
-    (λ v. alone (extern_name_cause (extern_name_view v.0)) _ (λ fault h. elim h [ inl none ↦ none | inr p ↦ p.1 ])) c.add_listed.ensures
+    listed_enters g.I.Iterator.next_gives c.args.exports c.args.self.now c.add_listed.new.self c.add_listed.result (λ vs. instance_entry (option_copied c.args.debug_name) (Exports (map exported_view vs)))
+    (kind_id kinds.Instance) (space_number spaces.Instances) (option_copied c.args.debug_name) _ (λ vs. record { section = refl; defined = refl; named = refl }) (exports_listed exported_view) c.add_listed.ensures
 
 pub add_listed-requires-clause-whole : goal.add_listed-requires-clause-whole
-add_listed-requires-clause-whole g c =
-    members_text (λ cs. InstanceItem (Exports cs)) (kind_id kinds.Instance) (space_number spaces.Instances) (0x01 ∷ []) (λ v. (exported v).text) exported_view (λ cs. refl) (λ cs. refl) (λ cs. refl)
+add_listed-requires-clause-whole g c vs = item_piece (InstanceItem (Exports (map exported_view vs))) (exports_listed exported_view vs)

@@ -1,18 +1,17 @@
-use Rattle.wenc_builder.proofs.Texts.{last_options_text}
-use Rattle.std.proofs.Common.{refl, ◌∷◌}
+use Rattle.std.proofs.Common.{refl}
 use Rattle.std.specs.Option.{option_copied}
-use Rattle.wenc_base.specs.Number.{u32}
-use Rattle.wenc_base.specs.laws.Causes.{never}
 use Rattle.wenc_canon.specs.Canonicals.{Lower}
+use Rattle.wenc_canon.specs.laws.Rows.{lower_serves}
+use Rattle.wenc_builder.specs.Item.{CanonItem}
 use Rattle.wenc_builder.specs.declared.builder.space.Space.TheVariants as spaces
-use Rattle.wenc_builder.proofs.Entered.{itself}
-use Rattle.wenc_builder.proofs.Listed.{last_options_enter}
+use Rattle.wenc_builder.proofs.Listed.{options_enter}
+use Rattle.wenc_builder.proofs.Texts.{item_piece}
 use Rattle.wenc_builder.proofs.builder.ComponentBuilder.lower_func.Goals as goal
 
 pub returns : goal.returns
 returns g c =
-    last_options_enter g.I.Iterator.next_gives c.args.options c.args.self.now c.add_with_options.new.self c.add_with_options.result (λ os. Lower c.args.func_index os) spaces.CoreFuncs (option_copied c.args.debug_name)
-    0x01 (0x00 ∷ (u32 c.args.func_index).text) never (λ os. refl) (λ os. refl) (λ os. itself _) (λ fault none. none) c.add_with_options.ensures
+    options_enter g.I.Iterator.next_gives c.args.options c.args.self.now c.add_listed.new.self c.add_listed.result (λ os. Lower c.args.func_index os) spaces.CoreFuncs (option_copied c.args.debug_name)
+    _ (λ os. refl) (lower_serves c.args.func_index) c.add_listed.ensures
 
-pub add_with_options-requires-clause-whole : goal.add_with_options-requires-clause-whole
-add_with_options-requires-clause-whole g c = last_options_text (λ os. Lower c.args.func_index os) spaces.CoreFuncs 0x01 (0x00 ∷ (u32 c.args.func_index).text) (λ os. refl) (λ os. refl)
+pub add_listed-requires-clause-whole : goal.add_listed-requires-clause-whole
+add_listed-requires-clause-whole g c os = item_piece (CanonItem (Lower c.args.func_index os)) (lower_serves c.args.func_index os)

@@ -1,29 +1,24 @@
-use Rattle.std.proofs.Common.{refl, sym, Some}
+use Rattle.std.proofs.Common.{Some, refl}
 use Rattle.wenc_canon.specs.Canonicals.{Values}
 use Rattle.wenc_canon.specs.Rows.{provided_by}
-use Rattle.wenc_canon.specs.laws.Rows.{provided_text, provided_free}
+use Rattle.wenc_canon.specs.laws.Rows.{provided_serves}
 use Rattle.wenc_builder.specs.Entry.{canonical_entry}
 use Rattle.wenc_builder.specs.Item.{CanonItem}
+use Rattle.wenc_builder.specs.Layout.{kind_id}
+use Rattle.wenc_builder.specs.Space.{space_number}
+use Rattle.wenc_builder.specs.declared.builder.kind.Kind.TheVariants as kinds
+use Rattle.wenc_builder.specs.declared.builder.space.Space.TheVariants as spaces
 use Rattle.wenc_builder.proofs.Entered.{draft_enters}
+use Rattle.wenc_builder.proofs.Texts.{item_piece}
 use Rattle.wenc_builder.proofs.builder.ComponentBuilder.provide.Goals as goal
 
 pub add-requires : goal.add-requires
 add-requires g c =
     let values : Values g.F.Fields.kinds = g.F.Fields.values c.args.fields.now in
-    ∣ record {
-      value = CanonItem (provided_by c.args.opcode g.F.Fields.kinds values);
-      collects = refl;
-      takes = refl;
-      is = provided_text c.args.opcode g.F.Fields.kinds values _ (g.met.F.Fields.writes c.args.fields.now) c.requires.row;
-    } ∣₁
+    item_piece (CanonItem (provided_by c.args.opcode g.F.Fields.kinds values)) (provided_serves c.args.opcode g.F.Fields.kinds values (g.met.F.Fields.written c.args.fields.now) c.requires.row)
 
 pub returns : goal.returns
 returns g c =
     let values : Values g.F.Fields.kinds = g.F.Fields.values c.args.fields.now in
-    draft_enters c.args.self.now c.add.new.self c.add.result (canonical_entry (Some _) (provided_by c.args.opcode g.F.Fields.kinds values)) _ (g.F.Encode.cause c.args.fields.now) (record {
-      section = refl;
-      defined = refl;
-      named = refl;
-      bytes = sym (provided_text c.args.opcode g.F.Fields.kinds values _ (g.met.F.Fields.writes c.args.fields.now) c.requires.row);
-      leads = (λ fault h. absurd (g.met.F.Fields.free c.args.fields.now fault h), λ none. provided_free c.args.opcode g.F.Fields.kinds values c.requires.row (g.F.Fields.plain c.args.fields.now));
-    }) c.add.ensures
+    draft_enters c.args.self.now c.add.new.self c.add.result (canonical_entry (Some c.args.name.now) (provided_by c.args.opcode g.F.Fields.kinds values)) (kind_id kinds.CanonicalFunction) (space_number spaces.CoreFuncs) (Some c.args.name.now)
+    (record { section = refl; defined = refl; named = refl }) (provided_serves c.args.opcode g.F.Fields.kinds values (g.met.F.Fields.written c.args.fields.now) c.requires.row) c.add.ensures

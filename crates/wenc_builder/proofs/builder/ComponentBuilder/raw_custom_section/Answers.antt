@@ -1,11 +1,18 @@
-use Rattle.wenc_builder.proofs.Texts.{item_text}
-use Rattle.wenc_builder.specs.Item.{RawItem}
 use Rattle.std.proofs.Common.{refl}
-use Rattle.wenc_builder.proofs.Entered.{raw_enters}
+use Rattle.wenc_base.specs.laws.Serves.{serves_itself}
+use Rattle.wenc_builder.specs.Space.{defined_as}
+use Rattle.wenc_builder.specs.Entry.{raw_entry}
+use Rattle.wenc_builder.specs.Item.{RawItem}
+use Rattle.wenc_builder.proofs.Texts.{raw_serves}
+use Rattle.wenc_builder.specs.declared.builder.space.Space.TheVariants as spaces
+use Rattle.wenc_builder.proofs.Entered.{placeless_enters}
+use Rattle.wenc_builder.proofs.Texts.{item_piece}
 use Rattle.wenc_builder.proofs.builder.ComponentBuilder.raw_custom_section.Goals as goal
 
 pub returns : goal.returns
-returns g c = raw_enters c.args.self.now c.place_nowhere.new.self c.place_nowhere.result c.args.section.now _ (rw c.into.ensures refl) c.place_nowhere.ensures
+returns g c =
+    placeless_enters c.args.self.now c.place_nowhere.new.self c.place_nowhere.result (raw_entry c.args.section.now)
+    (record { alone = refl; defined = refl; named = refl }) (rw c.into.ensures (raw_serves c.args.section.now)) c.place_nowhere.ensures
 
 pub place_nowhere-requires : goal.place_nowhere-requires
-place_nowhere-requires g c = rw c.into.ensures (item_text (RawItem c.args.section.now))
+place_nowhere-requires g c = item_piece (RawItem c.args.section.now) (rw c.into.ensures (raw_serves c.args.section.now))

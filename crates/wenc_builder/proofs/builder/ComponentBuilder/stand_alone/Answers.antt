@@ -10,7 +10,7 @@ use Rattle.wenc_builder.proofs.builder.ComponentBuilder.stand_alone.Goals as goa
 pub returns-in-Err : goal.returns-in-Err
 returns-in-Err g c =
     let e = c.in-Err.ensures in
-    alone_without_places c.self.inside.buffer c.self.inside.spaces c.args.self.now _ c.in-Err.fault (defined_as c.args.space c.args.number) (option_copied c.args.name) _ _ c.self.invariant.agree c.self.view_is (sym c.if-not-is_finished.ensures)
+    alone_without_places c.self.inside.buffer c.self.inside.spaces c.args.self.now _ c.in-Err.fault (defined_as c.args.space c.args.number) (option_copied c.args.name) _ c.self.invariant.agree c.self.view_is (sym c.if-not-is_finished.ensures)
     (rw e.err c.self.view_is) (rw (← c.self.view_is) e.all) (space_within c.args.space) (rw (← c.self.view_is) e.warranted)
 
 pub invariant_of-self : goal.invariant_of-self
@@ -18,7 +18,7 @@ invariant_of-self g c = rw c.in-Err.ensures.err c.self.invariant
 
 pub invariant_of-self-in-Ok-stand_alone : goal.invariant_of-self-in-Ok-stand_alone
 invariant_of-self-in-Ok-stand_alone g c =
-    rw (c.in-Ok-stand_alone.ensures.ok, c.end.ensures, c.in-Ok.ensures.ok) (alone_stands c.self.inside.buffer c.self.inside.spaces c.self.invariant (sym c.if-not-is_finished.ensures) (space_number c.args.space) c.args.number (option_copied c.args.name) (g.E.Encode.text c.args.section.now) c.requires)
+    rw (c.in-Ok-stand_alone.ensures.ok, c.end.ensures, c.in-Ok.ensures.ok) (alone_stands c.self.inside.buffer c.self.inside.spaces c.self.invariant (sym c.if-not-is_finished.ensures) (space_number c.args.space) c.args.number (option_copied c.args.name) (g.E.Encode.piece c.args.section.now).text (c.requires c.in-Ok-stand_alone.ensures.fits))
 
 pub invariant_of-self-in-Err-stand_alone : goal.invariant_of-self-in-Err-stand_alone
 invariant_of-self-in-Err-stand_alone g c =

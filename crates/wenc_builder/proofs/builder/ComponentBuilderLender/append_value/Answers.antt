@@ -5,7 +5,7 @@ use Rattle.wenc_builder.proofs.builder.ComponentBuilderLender.append_value.Goals
 pub returns-clause-appended : goal.returns-clause-appended
 returns-clause-appended g c =
     appended_value c.self.inside.buffer c.self.inside.spaces c.args.self.now c.self.invariant.agree c.self.view_is c.append.new.self c.append.result
-    (g.E.Encode.cause c.args.value.now) (g.E.Encode.text c.args.value.now) c.append.ensures.appended
+    (g.E.Encode.piece c.args.value.now) c.append.ensures.appended
 
 pub invariant_of-self : goal.invariant_of-self
-invariant_of-self g c = value_stands c.self.inside.buffer c.self.inside.spaces c.self.invariant c.append.new.self c.append.result (g.E.Encode.text c.args.value.now) _ c.append.ensures.appended
+invariant_of-self g c = value_stands c.self.inside.buffer c.self.inside.spaces c.self.invariant c.append.new.self c.append.result (g.E.Encode.piece c.args.value.now) c.append.ensures.appended

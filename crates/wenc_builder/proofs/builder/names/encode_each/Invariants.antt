@@ -4,4 +4,4 @@ use Rattle.wenc_builder.specs.Names.{space_names, space_names_cause}
 use Rattle.wenc_builder.proofs.builder.names.encode_each.Given as goal
 
 abbrev pub invariant-loop-one : goal.invariant-loop-one
-invariant-loop-one g l = Written (λ n. space_names (n.0, n.1.now)) (λ n. space_names_cause (n.0, n.1.now)) l.initial.sink.items (take l.one-index l.names) l.sink.items
+invariant-loop-one g l = Written (λ n. space_names (n.0, n.1.now)) l.initial.sink.items (take l.one-index l.names) l.sink.items

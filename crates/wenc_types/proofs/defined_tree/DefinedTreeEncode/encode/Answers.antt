@@ -1,6 +1,6 @@
 use Rattle.wenc_base.specs.Forms.{option}
 use Rattle.wenc_base.specs.Number.{u32}
-use Rattle.wenc_base.specs.laws.Serves.{appends_as, fits_as}
+use Rattle.wenc_base.specs.laws.Serves.{appends_as, appends_finished, fits_as}
 use Rattle.wenc_parts.specs.Types.{value_type}
 use Rattle.wenc_types.proofs.Serving.{pair_serves, record_tree_serves, variant_tree_serves, names_tree_serves, tuple_tree_serves}
 use Rattle.wenc_types.proofs.defined_tree.DefinedTreeEncode.encode.Goals as goal
@@ -26,9 +26,6 @@ returns-in-FixedLengthList-clause-appended g c = rw c.in-FixedLengthList.is (app
 pub returns-in-Tuple-clause-appended : goal.returns-in-Tuple-clause-appended
 returns-in-Tuple-clause-appended g c = rw c.in-Tuple.is (appends_as _ _ _ _ (tuple_tree_serves c.in-Tuple.elements.items) (rw c.as_slice-in-Tuple.ensures.value at c.encode-in-Tuple.ensures.appended))
 
-pub returns-in-Tuple-clause-fits : goal.returns-in-Tuple-clause-fits
-returns-in-Tuple-clause-fits g c = rw c.in-Tuple.is (fits_as _ (tuple_tree_serves c.in-Tuple.elements.items) (rw c.as_slice-in-Tuple.ensures.value at c.encode-in-Tuple.ensures.fits))
-
 pub returns-in-Flags-clause-appended : goal.returns-in-Flags-clause-appended
 returns-in-Flags-clause-appended g c = rw c.in-Flags.is (appends_as _ _ _ _ (names_tree_serves 0x6e c.in-Flags.names.items) (rw c.as_slice-in-Flags.ensures.value at c.encode-in-Flags.ensures.appended))
 
@@ -42,4 +39,5 @@ pub returns-in-Enum-clause-fits : goal.returns-in-Enum-clause-fits
 returns-in-Enum-clause-fits g c = rw c.in-Enum.is (fits_as _ (names_tree_serves 0x6d c.in-Enum.names.items) (rw c.as_slice-in-Enum.ensures.value at c.encode-in-Enum.ensures.fits))
 
 pub returns-in-Result-clause-appended : goal.returns-in-Result-clause-appended
-returns-in-Result-clause-appended g c = rw c.in-Result.is (appends_as _ _ _ _ (pair_serves 0x6a (option value_type c.in-Result.ok) (option value_type c.in-Result.err)) c.encode-in-Result.ensures.appended)
+returns-in-Result-clause-appended g c = rw c.in-Result.is
+    (appends_finished _ _ _ _ _ (λ u. u) (appends_as _ _ _ _ (pair_serves 0x6a (option value_type c.in-Result.ok) (option value_type c.in-Result.err)) c.encode-in-Result.ensures.appended))
