@@ -22,11 +22,15 @@ use Rattle.wasm_encoder.specs.Ran.{IsTyped}
 use Rattle.wasm_encoder.specs.Steps.{Answers, Stops}
 use Rattle.wasm_encoder.proofs.Called.{refusal, refusal_as, due}
 
+-- why an item can't be written and ended by what was lent
+abbrev EndingCause : State → Entry → Fault → Type 0
+EndingCause lent x = either (item x.item).Cause (no_room lent (item x.item).text)
+
 -- an item that was begun, written and ended, and was refused nowhere, is one entry more
 pub written_whole : (old lent new : State) (es : List Entry) (x : Entry) (d : Draft) → IsWritten x d → lent ≡ begun_with old d → NoCause (OpeningCause old d) → new ≡ ended (appended lent (item x.item).text)
-    → (item x.item).Fits → NoCause (either (item x.item).Cause (no_room lent (item x.item).text)) → Holds old es → Holds new (es ++ x ∷ [])
+    → (item x.item).Fits → NoCause (EndingCause lent x) → Holds old es → Holds new (es ++ x ∷ [])
 written_whole old lent new es x d w begun opens wrote fits writes h =
-    written_holds old new es x d w opens fits (subst (λ (s : State). NoCause (either (item x.item).Cause (no_room s (item x.item).text))) begun writes) (subst (λ (s : State). new ≡ ended (appended s (item x.item).text)) begun wrote) h
+    written_holds old new es x d w opens fits (subst (λ (s : State). NoCause (EndingCause s x)) begun writes) (subst (λ (s : State). new ≡ ended (appended s (item x.item).text)) begun wrote) h
 
 -- a command that has this entry written
 pub record Writes (c : CommandTree) (x : Entry) (d : Draft) : Type 0 where
@@ -43,7 +47,7 @@ pub writes_core_type : (name : Option (List ℕ)) (t : CoreTypeOf) → Writes (C
 writes_core_type name t = record { typed = tt; adds = λ es. refl; caused = λ es. itself_among; written = core_type_is_written name t }
 
 pub type_accepted : (old lent new last : State) (index : ℕ) (c : CommandTree) (x : Entry) (d : Draft) → Writes c x d → lent ≡ begun_with old d → ((es : List Entry) → Holds old es → index ≡ place (items es) d.space)
-    → NoCause (OpeningCause old d) → new ≡ ended (appended lent (item x.item).text) → (item x.item).Fits → NoCause (either (item x.item).Cause (no_room lent (item x.item).text))
+    → NoCause (OpeningCause old d) → new ≡ ended (appended lent (item x.item).text) → (item x.item).Fits → NoCause (EndingCause lent x)
     → last ≡ new → Answers old last (Ok (Some index)) c
 type_accepted old lent new last index c x d w begun placed opens wrote fits writes same = due old last (Ok (Some index)) c (λ es h. (
   x ∷ [],
@@ -53,7 +57,7 @@ type_accepted old lent new last index c x d w begun placed opens wrote fits writ
   (
     written_whole old lent last es x d w.written begun opens (same ∙ wrote) fits writes h,
     subst (λ (o : Option _). Some index ≡ place_at (items es) o) (sym w.written.defined) (ap (λ (n : ℕ). Some n) (placed es h)),
-    written_free old es x d w.written h opens (subst (λ (s : State). NoCause (either (item x.item).Cause (no_room s (item x.item).text))) begun writes),
+    written_free old es x d w.written h opens (subst (λ (s : State). NoCause (EndingCause s x)) begun writes),
   ),
 ))
 
@@ -61,10 +65,10 @@ pub opening_refused : (old new : State) (fault : Fault) (c : CommandTree) (x : E
 opening_refused old new fault c x d w same why = due old new (Err fault) c (λ es h. (x ∷ [], EntryCause es x, w.adds es, w.caused es, (rw same h, refusal es x fault (still_warranted _ _ (opening_due old es x d w.written h) fault why))))
 
 pub type_refused : (old lent : State) (fault : Fault) (c : CommandTree) (x : Entry) (d : Draft) → Writes c x d → lent ≡ begun_with old d
-    → IsWarranted (either (item x.item).Cause (no_room lent (item x.item).text)) fault → Stops old fault c
+    → IsWarranted (EndingCause lent x) fault → Stops old fault c
 type_refused old lent fault c x d w begun why = record {
   typed = w.typed;
   refused = λ es h.
-      let own : IsWarranted (WritingCause old x d) fault = subst (λ (s : State). IsWarranted (either (item x.item).Cause (no_room s (item x.item).text)) fault) begun why in
+      let own : IsWarranted (WritingCause old x d) fault = subst (λ (s : State). IsWarranted (EndingCause s x) fault) begun why in
       refusal_as (EntryCause es x) (cause es c) (w.caused es).0 fault (refusal es x fault (still_warranted _ _ (writing_due old es x d w.written h) fault own));
 }

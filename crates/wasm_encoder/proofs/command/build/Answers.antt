@@ -1,9 +1,7 @@
-use Rattle.std.proofs.Common.{ℕ, List, false, true, ◌≡◌, ◌↔◌, ◌+◌, [], ◌∷◌, drop, map, arith, refl, sym, subst, inr}
-use Rattle.std.proofs.lemmas.List.{drop_all}
+use Rattle.std.proofs.Common.{ℕ, List, false, true, ◌≡◌, ◌↔◌, ◌+◌, ◌∷◌, drop, map, arith, refl, sym, subst, inr}
 use Rattle.std.specs.Prelude.{IsTrue}
 use Rattle.wenc_builder.specs.Builder.{builder_is_finished}
 use Rattle.wenc_builder.specs.Entry.{items}
-use Rattle.wenc_builder.specs.Holds.{Holds}
 use Rattle.wenc_builder.specs.Sections.{whole}
 use Rattle.wenc_builder.specs.laws.Reading.{of_bytes}
 use Rattle.wasm_encoder.specs.Command.{command_view}
@@ -30,25 +28,16 @@ returns-in_err-bytes-clause-refused g c =
 
 pub returns-clause-ran : goal.returns-clause-ran
 returns-clause-ran g c =
-    let past : drop c.loop-command.command-index c.args.commands.now ≡ [] = drop_all c.loop-command.command-index c.args.commands.now (omega arith) in
-    let all = ran_all (map command_view c.args.commands.now) c.loop-command.answers.items c.loop-command.builder (rw past at c.loop-command.invariant) in
+    let all = ran_all c.args.commands.now _ _ _ (omega arith) c.loop-command.invariant in
     (all.entries, all.ran, c.in_ok-bytes.ensures.held all.entries all.held)
 
 pub returns-clause-encodable : goal.returns-clause-encodable
-returns-clause-encodable g c es ran =
-    let past : drop c.loop-command.command-index c.args.commands.now ≡ [] = drop_all c.loop-command.command-index c.args.commands.now (omega arith) in
-    let all = ran_all (map command_view c.args.commands.now) c.loop-command.answers.items c.loop-command.builder (rw past at c.loop-command.invariant) in
-    (ran_held _ _ c.loop-command.builder all es ran).fits
+returns-clause-encodable g c es ran = (ran_held (ran_all c.args.commands.now _ _ _ (omega arith) c.loop-command.invariant) es ran).fits
 
 pub returns-clause-one_reading : goal.returns-clause-one_reading
-returns-clause-one_reading g c es ran =
-    let past : drop c.loop-command.command-index c.args.commands.now ≡ [] = drop_all c.loop-command.command-index c.args.commands.now (omega arith) in
-    let all = ran_all (map command_view c.args.commands.now) c.loop-command.answers.items c.loop-command.builder (rw past at c.loop-command.invariant) in
-    c.in_ok-bytes.ensures.one_reading es (ran_held _ _ c.loop-command.builder all es ran)
+returns-clause-one_reading g c es ran = c.in_ok-bytes.ensures.one_reading es (ran_held (ran_all c.args.commands.now _ _ _ (omega arith) c.loop-command.invariant) es ran)
 
 pub returns-clause-one_list : goal.returns-clause-one_list
 returns-clause-one_list g c es ran no_raw xs no_raw' fits =
-    let past : drop c.loop-command.command-index c.args.commands.now ≡ [] = drop_all c.loop-command.command-index c.args.commands.now (omega arith) in
-    let all = ran_all (map command_view c.args.commands.now) c.loop-command.answers.items c.loop-command.builder (rw past at c.loop-command.invariant) in
-    let held : Holds c.loop-command.builder es = ran_held _ _ c.loop-command.builder all es ran in
+    let held = ran_held (ran_all c.args.commands.now _ _ _ (omega arith) c.loop-command.invariant) es ran in
     subst (λ (bytes : List ℕ). (whole xs ≡ bytes) ↔ (xs ≡ items es)) (sym (c.in_ok-bytes.ensures.held es held)) (of_bytes (items es) xs no_raw held.fits no_raw' fits)
