@@ -1,3 +1,4 @@
+pub mod Bytes
 pub mod Gap
 pub mod Mapped
 pub mod Laid

@@ -34,6 +34,7 @@ use Rattle.wenc_builder.specs.Layout.{Buffered, buffer_with}
 use Rattle.wenc_builder.specs.Lent.{IsItemText}
 use Rattle.wenc_builder.specs.Spaces.{Spaced}
 use Rattle.wenc_builder.specs.View.{Agree, builder_view}
+use Rattle.wenc_base.proofs.Bytes.{last_below}
 use Rattle.wenc_builder.proofs.Alone.{stood_nowhere}
 use Rattle.wenc_builder.proofs.Entered.{placeless_enters, unfinished_enters}
 use Rattle.wenc_builder.proofs.Viewed.{finished_is}
@@ -157,16 +158,12 @@ module _ {N : Type 0} (seen : N → Sort × Held) where
   abbrev body_of : List N → List ℕ
   body_of ns = (name_form names_label).text ++ (seen_names ns).text
 
-  behind_all : (front bytes : List ℕ) → AreBytes (front ++ bytes) → AreBytes bytes
-  behind_all [] bytes all = all
-  behind_all (b ∷ front) bytes all = behind_all front bytes all.1
-
   -- it serves as the custom section of these bytes
   pub names_serve : (ns : List N) (bytes : List ℕ) → (seen_names ns).text ≡ bytes → Serves (written ns) (item (CustomItem (record { label = names_label; bytes = bytes })))
   names_serve ns bytes e = subst (λ (bs : List ℕ). Serves (written ns) (item (CustomItem (record { label = names_label; bytes = bs })))) e (record { text = refl; fits = fits; among = among; free = free })
     where
       fits : (written ns).Fits → (item (CustomItem (record { label = names_label; bytes = (seen_names ns).text }))).Fits
-      fits h = (h.0.0, (h.0.1.0, behind_all (name_form names_label).text (seen_names ns).text (behind_all (unsigned_text (length (body_of ns))) (body_of ns) h.1.1)))
+      fits h = (h.0.0, (h.0.1.0, last_below (name_form names_label).text (seen_names ns).text (last_below (unsigned_text (length (body_of ns))) (body_of ns) h.1.1)))
 
       among : (fault : Fault) → (written ns).Cause fault → (item (CustomItem (record { label = names_label; bytes = (seen_names ns).text }))).Cause fault
       among fault (inl (inl c)) = inr (inl c)
@@ -225,9 +222,9 @@ names_unfinished old f = record {
 
 -- ---- by the parts of a builder
 
-pub both_fit : {P Q : Type 0} (r : Result (Unit {0}) Fault) → OnOk r P → OnOk r Q → OnOk r (P × Q)
-both_fit (Ok u) h k = (h, k)
-both_fit (Err f) h k = tt
+pub both_fit : (P Q : Type 0) (r : Result (Unit {0}) Fault) → OnOk r P → OnOk r Q → OnOk r (P × Q)
+both_fit P Q (Ok u) h k = (h, k)
+both_fit P Q (Err f) h k = tt
 
 module _ {N : Type 0} (b : Buffered) (s : Spaced) (old : State) (seen : N → Sort × Held) (ns : List N) (agree : Agree b.writing s.taking) (view : builder_view b s ≡ old) (finished : is_none b.writing ≡ true)
     (is : map seen ns ≡ by_sort (λ k. names_held (namespace_at s.settled k))) where
@@ -249,7 +246,7 @@ module _ {N : Type 0} (b : Buffered) (s : Spaced) (old : State) (seen : N → So
   pub names_there : (next : Buffered) (result : Result (Unit {0}) Fault) → none_named (map seen ns) ≡ false → OnOk result (next ≡ buffer_with b (written seen ns).text) → OnOk result (section_of seen ns).Fits → OnOk result (AreBytes (written seen ns).text)
       → OnOk result (NoCause (written seen ns).Cause) → OnErr result (next ≡ b) → IfErr result (IsWarranted (written seen ns).Cause) → AddsNames old (builder_view next s) result
   names_there next result some ok fits bytes free err warranted =
-      adds_names seen ns old (builder_view next s) result is_there some (stood_nowhere b s old (builder_view next s) result (written seen ns) agree view finished (stood result ok) (both_fit result fits bytes) free (same result err) warranted)
+      adds_names seen ns old (builder_view next s) result is_there some (stood_nowhere b s old (builder_view next s) result (written seen ns) agree view finished (stood result ok) (both_fit _ _ result fits bytes) free (same result err) warranted)
     where
       stood : (r : Result (Unit {0}) Fault) → OnOk r (next ≡ buffer_with b (written seen ns).text) → OnOk r (builder_view next s ≡ record { settled = with_alone old.settled None None (written seen ns).text; begun = None })
       stood (Ok u) e = rw (e, ← view) refl

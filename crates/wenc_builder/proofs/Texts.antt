@@ -28,13 +28,14 @@ raw_serves bytes = record { text = refl; fits = λ h. h; among = λ fault c. c; 
 -- an export's name, kind, index and type
 pub export_serves : (n : ExternName) (kind : ComponentExportKind) (index : ℕ) (what : Option ComponentTypeRef)
     → Serves (in_order (extern_name n) (in_order (export_kind kind) (in_order (u32 index) (option type_reference what)))) (item (ExportItem (record { name = n; kind = kind; index = index; what = what })))
-export_serves n kind index what = order_serves serves_itself (order_serves serves_itself (order_serves serves_itself serves_itself))
+export_serves n kind index what =
+    order_serves (serves_itself {p = extern_name n}) (order_serves (serves_itself {p = export_kind kind}) (order_serves (serves_itself {p = u32 index}) (serves_itself {p = option type_reference what})))
 
 -- a builder that is finished is written as its bytes
 pub nested_serves : (b : Buffered) (bytes : List ℕ) → sections_text b.settled ≡ bytes → is_none b.writing ≡ true → Serves (section_number ids.Component ▸ nested b) (item (ComponentItem bytes))
 nested_serves b bytes e none = subst (λ (bs : List ℕ). Serves (section_number ids.Component ▸ nested b) (item (ComponentItem bs))) e (record {
   text = refl;
   fits = λ h. h;
-  among = λ fault c. elim c [ inl own ↦ own | inr stopped ↦ (let unfinished = stopped.1 in cc) ];
-  free = λ free fault c. free fault (inl c);
+  among = λ fault c. elim c [ inl own ↦ inl own | inr stopped ↦ (let unfinished = stopped.1 in cc) ];
+  free = λ free fault c. elim c [ inl own ↦ free fault (inl own) | inr never ↦ never ];
 })

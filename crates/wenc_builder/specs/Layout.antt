@@ -6,7 +6,7 @@ use Rattle.wenc_base.specs.Number.{unsigned_text, number_size}
 use Rattle.wenc_base.specs.Holder.{Held, content_size}
 use Rattle.wenc_base.specs.declared.holder.openings.Opening.{Opening}
 use Rattle.wenc_base.specs.declared.fault.Fault.{Fault}
-use Rattle.wenc_base.specs.Fault.{either}
+use Rattle.wenc_base.specs.Fault.{either, size_cause}
 use Rattle.wenc_base.specs.Forms.{byte_list}
 use Rattle.wenc_base.specs.Piece.{Piece, refused_for}
 use Rattle.wenc_base.specs.declared.fault.Fault.TheVariants.{TooLarge, Unfinished}
@@ -207,9 +207,9 @@ kept_with kept e = closed_with kept e ++ drop e.items_end kept
 -- all bytes as those of a nested component: refused where there are too many, or while an item is being written
 abbrev pub nested : Buffered → Piece
 nested b =
-    let bytes = byte_list (sections_text b.settled) in
-    refused_for (either bytes.Cause (λ fault. (fault ≡ Unfinished) × (is_none b.writing ≡ false)))
-    bytes
+    refused_for (either (size_cause (length (sections_text b.settled)))
+    (λ fault. (fault ≡ Unfinished) × (is_none b.writing ≡ false)))
+    (byte_list (sections_text b.settled))
 
 -- The open section, as it would be, is too large.
 abbrev pub NoRoom : Option OpenSection → Fault → Type 0

@@ -79,13 +79,15 @@ names_section bytes = refused_for (λ fault. ⊥) (custom (names_custom bytes))
 abbrev pub RoomCause : List ℕ → List ℕ → Fault → Type 0
 RoomCause before text fault = (fault ≡ TooLarge) × (2 ^ 32 ≤ 15 + length (before ++ text))
 
--- A call appends this subsection, which fits, or is refused for want of room or memory and changes nothing.
+-- A call appends this subsection, which fits, or is refused for want of room or memory and changes
+-- nothing.
 pub record AppendsSubsection (p : Piece) (old new : List ℕ)
     (outcome : Result (Unit {0}) Fault) : Type 0 where
   pub appended : Appends p.text (RoomCause old p.text) ⊥ old new outcome
   pub fits : OnOk outcome p.Fits
 
--- A call appends the names of a sort that are held: as they are and, whatever names these are, as their subsection.
+-- A call appends the names of a sort that are held: as they are and, whatever names these are, as
+-- their subsection.
 pub record AppendsNames (sort : Sort) (held : Held) (old new : List ℕ)
     (outcome : Result (Unit {0}) Fault) : Type 0 where
   pub bytes : AppendsSubsection (held_subsection sort held) old new outcome

@@ -4,7 +4,7 @@ use Rattle.std.specs.Result.{MatchResult}
 use Rattle.wenc_base.specs.Fault.{IsWarranted}
 use Rattle.wenc_base.specs.declared.fault.Fault.{Fault}
 use Rattle.wenc_base.specs.declared.fault.Fault.TheVariants.{Unfinished}
-use Rattle.wenc_base.specs.laws.Causes.{still_warranted}
+use Rattle.wenc_base.specs.laws.Serves.{still_warranted}
 use Rattle.wenc_builder.specs.Item.{Item, item}
 use Rattle.wenc_builder.specs.Sections.{runs}
 use Rattle.wenc_builder.specs.Space.{Defined, defines, IsPlaceAt, IsPlaceOf, place_at, place_of}

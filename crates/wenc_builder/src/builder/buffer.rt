@@ -1,4 +1,4 @@
-ghost use Rattle.std.specs.Prelude.{◌≡◌, OnOk, OnErr, IfOk, IfErr, is_none, None, Err, false};
+ghost use Rattle.std.specs.Prelude.{◌≡◌, ◌<◌, ◌^◌, length, OnOk, OnErr, IfOk, IfErr, is_none, None, Err, false};
 ghost use Rattle.std.specs.Iterator.{IsFinite};
 ghost use Rattle.wenc_base.specs.Encode.{Appends};
 ghost use Rattle.wenc_base.specs.Forms.{AreBytes, list};
@@ -193,7 +193,7 @@ impl<A: Allocator> Buffer<A> {
     pub fn append_to<B: Allocator>(&self, sink: &mut Vec<u8, B>) -> Result<(), Fault>
         ensures appended { Appends (nested self.now).text (nested self.now).Cause
             (is_none self.now.writing ≡ false) sink.old.items sink.new.items result }
-        ensures fits { OnOk result (nested self.now).Fits }
+        ensures fits { OnOk result (length (sections_text self.now.settled) < 2 ^ 32) }
     {
         if !self.is_finished() {
             return Err(Fault::Unfinished);

@@ -22,3 +22,8 @@ returns-in-Err-append_between g c =
     list_not_written g.I.Iterator.next_gives c.args.values c.args.self.now (kind_id c.args.kind) (space_number c.args.space) (option_copied c.args.name)
     (listed (g.E.Encode.piece c.args.lead.now) g.T.Encode.piece (g.F.Encode.piece c.args.tail.now))
     c.begin.new.self c.in-Ok.index c.in-Ok.ensures c.append_between.new.self c.give_up.new.self c.in-Err-append_between.fault c.in-Err-append_between.ensures c.give_up.ensures
+
+pub end-requires-clause-whole : goal.end-requires-clause-whole
+end-requires-clause-whole g c =
+    let run = c.in-Ok-append_between.ensures.ok in
+    rw (run.3.state, c.in-Ok.ensures.ok) (c.requires.whole run.0.items run.3.fits)

@@ -23,7 +23,7 @@ pub stand_alone-requires : goal.stand_alone-requires
 stand_alone-requires g c =
     let n = c.component in
     let finished = finished_is n.inside.buffer n.inside.spaces c.args.component.now n.invariant.agree n.view_is ∙ sym c.if-not-is_finished.ensures.finished in
-    item_piece (ComponentItem (sections_text n.inside.buffer.settled)) (rw c.into.ensures (nested_serves n.inside.buffer (sections_text n.inside.buffer.settled) refl finished))
+    rw c.into.ensures (item_piece (ComponentItem (sections_text n.inside.buffer.settled)) (nested_serves n.inside.buffer (sections_text n.inside.buffer.settled) refl finished))
 
 pub returns-clause-bytes : goal.returns-clause-bytes
 returns-clause-bytes g c done =

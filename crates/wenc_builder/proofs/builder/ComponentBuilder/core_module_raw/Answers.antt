@@ -15,4 +15,4 @@ returns g c =
     (record { alone = refl; defined = refl; named = refl }) (rw c.into.ensures serves_itself) c.stand_alone.ensures
 
 pub stand_alone-requires : goal.stand_alone-requires
-stand_alone-requires g c = item_piece (ModuleItem c.args.bytes.now) (rw c.into.ensures serves_itself)
+stand_alone-requires g c = rw c.into.ensures (item_piece (ModuleItem c.args.bytes.now) serves_itself)

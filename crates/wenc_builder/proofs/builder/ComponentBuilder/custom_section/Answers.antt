@@ -14,4 +14,4 @@ returns g c =
     (record { alone = refl; defined = refl; named = refl }) (rw c.into.ensures serves_itself) c.place_nowhere.ensures
 
 pub place_nowhere-requires : goal.place_nowhere-requires
-place_nowhere-requires g c = item_piece (CustomItem (record { label = c.args.section.now.name.now; bytes = c.args.section.now.data.now })) (rw c.into.ensures serves_itself)
+place_nowhere-requires g c = rw c.into.ensures (item_piece (CustomItem (record { label = c.args.section.now.name.now; bytes = c.args.section.now.data.now })) serves_itself)

@@ -1,10 +1,9 @@
 use Rattle.std.proofs.Common.{refl}
-use Rattle.wenc_base.specs.laws.Serves.{serves_itself}
 use Rattle.wenc_builder.specs.Layout.{kind_id}
 use Rattle.wenc_builder.specs.Space.{space_number}
 use Rattle.std.proofs.Common.{Some}
-use Rattle.wenc_parts.specs.Imports.{extern_name_view}
-use Rattle.wenc_base.specs.laws.Serves.{order_serves}
+use Rattle.wenc_parts.specs.Imports.{extern_name, extern_name_view, type_reference}
+use Rattle.wenc_sections.specs.laws.Instances.{two_serve}
 use Rattle.wenc_builder.specs.Entry.{import_entry}
 use Rattle.wenc_builder.specs.Item.{ImportItem}
 use Rattle.wenc_builder.specs.declared.builder.kind.Kind.TheVariants as kinds
@@ -16,7 +15,7 @@ use Rattle.wenc_builder.proofs.builder.ComponentBuilder.import.Goals as goal
 pub returns : goal.returns
 returns g c =
     draft_enters c.args.self.now c.add.new.self c.add.result (import_entry (extern_name_view c.args.name) c.args.ty) (kind_id kinds.Import) (space_number c.from.result) (Some _)
-    (record { section = refl; defined = rw (c.from.ensures, c.kind.ensures.is) refl; named = rw c.as_str-name.ensures.value refl }) (order_serves serves_itself serves_itself) c.add.ensures
+    (record { section = refl; defined = rw (c.from.ensures, c.kind.ensures.is) refl; named = rw c.as_str-name.ensures.value refl }) (two_serve (extern_name (extern_name_view c.args.name)) (type_reference c.args.ty)) c.add.ensures
 
 pub add-requires : goal.add-requires
-add-requires g c = rw (c.from.ensures, c.kind.ensures.is) (item_piece (ImportItem (record { name = extern_name_view c.args.name; what = c.args.ty })) (order_serves serves_itself serves_itself))
+add-requires g c = rw (c.from.ensures, c.kind.ensures.is) (item_piece (ImportItem (record { name = extern_name_view c.args.name; what = c.args.ty })) (two_serve (extern_name (extern_name_view c.args.name)) (type_reference c.args.ty)))

@@ -15,4 +15,4 @@ returns g c =
     (record { alone = refl; defined = refl; named = refl }) (rw c.into.ensures (raw_serves c.args.section.now)) c.place_nowhere.ensures
 
 pub place_nowhere-requires : goal.place_nowhere-requires
-place_nowhere-requires g c = item_piece (RawItem c.args.section.now) (rw c.into.ensures (raw_serves c.args.section.now))
+place_nowhere-requires g c = rw c.into.ensures (item_piece (RawItem c.args.section.now) (raw_serves c.args.section.now))

@@ -1,6 +1,6 @@
 use Rattle.std.proofs.Common.{take}
 use Rattle.wenc_base.specs.Encode.{Written}
-use Rattle.wenc_builder.specs.Names.{space_names, space_names_cause}
+use Rattle.wenc_builder.specs.Names.{space_names}
 use Rattle.wenc_builder.proofs.builder.names.encode_each.Given as goal
 
 abbrev pub invariant-loop-one : goal.invariant-loop-one
