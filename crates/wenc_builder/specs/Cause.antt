@@ -8,7 +8,7 @@ use Rattle.wenc_builder.specs.Item.{item}
 use Rattle.wenc_builder.specs.Sections.{runs}
 use Rattle.wenc_builder.specs.Space.{Defined, defines}
 use Rattle.wenc_builder.specs.Entry.{Entry, items}
-use Rattle.wenc_builder.specs.Builder.{OpenSection, Namespace, namespace_at, Content, with_entry, State, builder_is_finished}
+use Rattle.wenc_builder.specs.Builder.{OpenSection, Namespace, namespace_at, Content, with_entry, State, builder_is_finished, Draft, draft_place, begun_with, content_of}
 use Rattle.wenc_builder.specs.Holds.{open_of, namespace_of}
 
 -- ---- too much of something
@@ -51,6 +51,11 @@ abbrev pub CallCause : State → (Fault → Type 0) → Content → Option Defin
 CallCause old cause after places fault =
     AddingCause cause (namespace_at after.spaces) places after.sections.current fault
     ⊎ ((fault ≡ Unfinished) × (builder_is_finished old ≡ false))
+
+-- why an item can't be begun as this draft
+abbrev pub BeginCause : State → Draft → Fault → Type 0
+BeginCause old d =
+    CallCause old (λ _. ⊥) (content_of (begun_with old d)) (Some (draft_place d))
 
 -- the same of a call that adds this entry
 abbrev pub EnterCause : State → Entry → Fault → Type 0

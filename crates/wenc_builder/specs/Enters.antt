@@ -10,7 +10,7 @@ use Rattle.wenc_builder.specs.Space.{Defined, defines, IsPlaceOf, place}
 use Rattle.wenc_builder.specs.Entry.{Entry, items}
 use Rattle.wenc_builder.specs.Builder.{Content, State, step, builder_is_finished, namespace_at, Draft, draft_place, begun_with, content_of, ended}
 use Rattle.wenc_builder.specs.Holds.{Holds}
-use Rattle.wenc_builder.specs.Cause.{CallCause, EnterCause}
+use Rattle.wenc_builder.specs.Cause.{CallCause, BeginCause, EnterCause}
 
 -- This is the number of items in the space of these places.
 abbrev pub IsCountAt : State → Option Defined → ℕ → Type 0
@@ -55,10 +55,8 @@ pub record Begins {E : Type 0} (index : E → ℕ) (lent : E → State) (old : S
   pub begun : IfOk result (λ e. lent e ≡ begun_with old d)
   pub placed : IfOk result
       (λ e. (es : List Entry) → Holds old es → index e ≡ place (items es) d.space)
-  pub free : OnOk result
-      (NoCause (CallCause old (λ _. ⊥) (content_of (begun_with old d)) (Some (draft_place d))))
-  pub warranted : IfErr result
-      (IsWarranted (CallCause old (λ _. ⊥) (content_of (begun_with old d)) (Some (draft_place d))))
+  pub free : OnOk result (NoCause (BeginCause old d))
+  pub warranted : IfErr result (IsWarranted (BeginCause old d))
   pub unfinished_first : builder_is_finished old ≡ false → result ≡ Err Unfinished
 
 -- A call that writes this piece takes these places or none, which leaves `next` and would leave this content when it
