@@ -1,5 +1,6 @@
 -- What a builder is seen as: settled content and, where an item is being written, that item.
-use Rattle.std.specs.Prelude.{ℕ, List, [], ◌∷◌, ◌++◌, ◌+◌, Option, Some, None, Bool, is_none, nat_eq, if◌then◌else◌, slice_set, slice_index_or}
+use Rattle.std.specs.Prelude.{ℕ, List, [], ◌∷◌, ◌++◌, ◌+◌, Option, Some, None, Bool, is_none}
+use Rattle.std.specs.Prelude.{nat_eq, if◌then◌else◌, slice_set, slice_index_or}
 use Rattle.wenc_base.specs.Holder.{holding, section_text}
 use Rattle.wenc_builder.specs.Item.{Item, collected, item}
 use Rattle.wenc_builder.specs.Space.{space_number, Defined, defines}
@@ -107,7 +108,8 @@ with_entry c e =
       spaces = spaces_with c.spaces (defines e.item) e.name;
     }
 
--- an item that is being written: its section's id, its text so far, its space, and what that is with it
+-- an item that is being written: its section's id, its text so far, its space, and what that is
+-- with it
 pub record Begun : Type 0 where
   pub id : ℕ
   pub text : List ℕ

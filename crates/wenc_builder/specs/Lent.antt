@@ -18,8 +18,8 @@ is_bare_in s = is_bare s.begun
 abbrev pub no_room : State → List ℕ → Fault → Type 0
 no_room s text = NoRoom (content_of (appended s text)).sections.current
 
--- These bytes are the text of an item that the section with this id collects, and that takes these places; or of one
--- that is a section of its own.
+-- These bytes are the text of an item that the section with this id collects, and that takes these
+-- places; or of one that is a section of its own.
 pub record IsItemText (section : Option ℕ) (places : Option Defined) (bytes : List ℕ) : Type 0 where
   pub value : Item
   pub collects : collected value ≡ section

@@ -5,7 +5,8 @@ use Rattle.wenc_base.specs.Fault.{IsWarranted, either}
 use Rattle.wenc_base.specs.Lender.{Extended}
 use Rattle.wenc_base.specs.Piece.{Piece}
 use Rattle.wenc_base.specs.declared.fault.Fault.{Fault}
-use Rattle.wenc_builder.specs.Builder.{State, settled_in, with_alone, builder_is_finished, Draft, appended}
+use Rattle.wenc_builder.specs.Builder.{State, settled_in, with_alone, builder_is_finished, Draft}
+use Rattle.wenc_builder.specs.Builder.{appended}
 use Rattle.wenc_builder.specs.Enters.{TakesWith, TakesPlaces, TakesDraft}
 use Rattle.wenc_builder.specs.Lent.{IsItemText, no_room}
 use Rattle.wenc_builder.specs.Space.{Defined}
@@ -26,8 +27,8 @@ TakesNoPlace old new result p =
     TakesWith old new (settled_in (with_alone old.settled None None p.text)) result
     (with_alone old.settled None None p.text) None p (λ r. Unit {0})
 
--- A call appends a piece to the item that is being written, which is made of the values that an iterator gives; where
--- it is refused, it may have appended a part.
+-- A call appends a piece to the item that is being written, which is made of the values that an
+-- iterator gives; where it is refused, it may have appended a part.
 pub record AppendsListed {S B : Type 0} (steps : S → Option B → S → Type 0) (values : S)
     (old new : State) (outcome : Result (Unit {0}) Fault) (piece : List B → Piece) : Type 0 where
   pub ok : OnOk outcome
