@@ -1,9 +1,11 @@
--- Scripts' words for the functions that the component model provides: the name, and a word for each field. A byte that
--- is fixed has none, and a function with options, a core type, a result or a slot can't be said.
+-- Scripts' words for the functions that the component model provides: the name, and a word for each
+-- field. A byte that is fixed has none, and a function with options, a core type or a result can't be
+-- said.
 use Rattle.std.specs.Prelude.{ℕ, if◌then◌else◌, List, [], ◌∷◌, Option, Some, None, option_map}
 use Rattle.std.specs.Option.{option_and_then}
 use Rattle.std.specs.Str.{bytes_eq}
-use Rattle.wenc_canon.specs.Canonicals.{Field, Index, Flag, Zero, Value, Values, Intrinsic, row, intrinsics, Canonical, Provided}
+use Rattle.wenc_canon.specs.Canonicals.{Field, Index, Flag, Zero, Value, Values, Intrinsic, row}
+use Rattle.wenc_canon.specs.Canonicals.{intrinsics, Canonical, Provided}
 use Rattle.wenc.specs.Fields.{number, flag}
 
 -- what words say of a field, and the words behind

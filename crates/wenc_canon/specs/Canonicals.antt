@@ -1,4 +1,5 @@
--- Canonical functions (component model, binary format, "Canonical Definitions"; opcodes and fields as docs/FORMAT.md lists them).
+-- Canonical functions (component model, binary format, "Canonical Definitions"; names, opcodes and
+-- fields as docs/FORMAT.md lists them).
 use Rattle.std.specs.Prelude.{ℕ, Bool, List, [], ◌∷◌, ◌++◌, Option, Result, codes, decimal}
 use Rattle.wenc_base.specs.Piece.{Form, byte, nothing, ◌▸◌, ◌⨾◌}
 use Rattle.wenc_base.specs.Number.{u32}
@@ -10,7 +11,11 @@ use Rattle.wenc_base.specs.declared.types.ValType.{ValType}
 use Rattle.wenc_parts.specs.declared.types.ComponentValType.{ComponentValType}
 use Rattle.wenc_parts.specs.Types.{result_list}
 use Rattle.wenc_canon.specs.declared.canonicals.CanonicalOption.{CanonicalOption}
-use Rattle.wenc_canon.specs.declared.canonicals.CanonicalOption.TheVariants.{UTF8, UTF16, CompactUTF16, Memory, Realloc, PostReturn, Async, Callback, CoreType as CoreTypeOption, Gc}
+use Rattle.wenc_canon.specs.declared.canonicals.CanonicalOption.TheVariants.{UTF8, UTF16}
+use Rattle.wenc_canon.specs.declared.canonicals.CanonicalOption.TheVariants.{CompactUTF16, Memory}
+use Rattle.wenc_canon.specs.declared.canonicals.CanonicalOption.TheVariants.{Realloc, PostReturn}
+use Rattle.wenc_canon.specs.declared.canonicals.CanonicalOption.TheVariants.{Async, Callback, Gc}
+use Rattle.wenc_canon.specs.declared.canonicals.CanonicalOption.TheVariants.{CoreType as CoreTypeOption}
 
 -- ---- options
 
@@ -28,7 +33,8 @@ canonical_option Gc = byte 0x09
 
 -- ---- fields
 
--- an index, options, a flag, the byte 00, a core value type, a result list, the index of a slot of a task
+-- an index, options, a flag, the byte 00, a core value type, a result list, the index of a slot of
+-- a task
 pub data Field : Type 0 where
   Index : Field
   Options : Field
@@ -211,7 +217,8 @@ name_of i values = (row i).name ++ slots_text (row i).fields values
 
 -- ---- canonical functions
 
--- A core function that is lifted, with its options and its type; a function that is lowered, with its options; or
+-- A core function that is lifted, with its options and its type; a function that is lowered, with
+-- its options; or an intrinsic with the values of its fields.
 -- an intrinsic with the values of its fields.
 pub data Canonical : Type 0 where
   Lift : ℕ → List CanonicalOption → ℕ → Canonical

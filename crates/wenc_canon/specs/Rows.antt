@@ -3,7 +3,9 @@ use Rattle.std.specs.Prelude.{ℕ, ◌==◌, false, if◌then◌else◌, List, [
 use Rattle.wenc_base.specs.Piece.{Piece, ◌▸◌}
 use Rattle.wenc_base.specs.declared.types.ValType.TheVariants.{I32}
 use Rattle.wenc_canon.specs.declared.canonicals.CanonicalOption.{CanonicalOption}
-use Rattle.wenc_canon.specs.Canonicals.{Field, Index, Options, Flag, Zero, CoreType, Results, Slot, Value, Values, fields, Intrinsic, ResourceNew, Row, row, intrinsics, Canonical, Lift, Lower, Provided}
+use Rattle.wenc_canon.specs.Canonicals.{Field, Index, Options, Flag, Zero, CoreType, Results, Slot}
+use Rattle.wenc_canon.specs.Canonicals.{Value, Values, fields, Intrinsic, ResourceNew, Row, row}
+use Rattle.wenc_canon.specs.Canonicals.{intrinsics, Canonical, Lift, Lower, Provided}
 
 -- the byte that a canonical function begins with
 abbrev pub first_byte : Canonical → ℕ
