@@ -219,7 +219,6 @@ name_of i values = (row i).name ++ slots_text (row i).fields values
 
 -- A core function that is lifted, with its options and its type; a function that is lowered, with
 -- its options; or an intrinsic with the values of its fields.
--- an intrinsic with the values of its fields.
 pub data Canonical : Type 0 where
   Lift : ℕ → List CanonicalOption → ℕ → Canonical
   Lower : ℕ → List CanonicalOption → Canonical

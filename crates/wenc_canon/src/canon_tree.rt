@@ -1,5 +1,5 @@
 ghost use Rattle.std.specs.Prelude.{OnOk};
-ghost use Rattle.wenc_base.specs.Encode.{Appends};
+ghost use Rattle.wenc_base.specs.Encode.{Appends, Serves};
 ghost use Rattle.wenc_base.specs.laws.Serves.{serves_itself};
 ghost use Rattle.wenc_canon.specs.Canonicals.{Lift, Lower, canonical};
 ghost use Rattle.wenc_canon.specs.Rows.{row_then};
@@ -203,71 +203,200 @@ pub enum CanonTree<A: Allocator = Global> {
 
 impl<A: Allocator> CanonTree<A> {
     ghost use Rattle.std.specs.Prelude.{◌≡◌};
-    ghost use Rattle.wenc_canon.specs.CanonTrees.{canon_view};
-    ghost use Rattle.wenc_canon.specs.Rows.{first_byte, own_name};
+    ghost use Rattle.wenc_canon.specs.CanonTrees.{canon_view, behind};
+    ghost use Rattle.wenc_canon.specs.Rows.{own_name};
 
     /// The name of the function, without the number of a slot.
     pub fn name(&self) -> &'static str
         ensures { result.now ≡ own_name (canon_view self.now) }
     {
-        self.row().name
+        self.parts().0.name
     }
 
-    /// The same name, and the byte that the function begins with.
-    fn row(&self) -> Row
-        ensures name { result.name.now ≡ own_name (canon_view self.now) }
-        ensures opcode { result.opcode ≡ first_byte (canon_view self.now) }
+    /// How the function begins, and what stands behind that.
+    #[tactic(auto, using(wenc_base::specs::laws::Serves::serves_itself))]
+    fn parts(&self) -> (Row, Operands<'_, A>)
+        ensures name { result.0.name.now ≡ own_name (canon_view self.now) }
+        ensures form { Serves (behind result.0.opcode result.1)
+            (canonical (canon_view self.now)) }
     {
         match self {
-            CanonTree::Lift { .. } => rows::LIFT,
-            CanonTree::Lower { .. } => rows::LOWER,
-            CanonTree::ResourceNew(_) => rows::RESOURCE_NEW,
-            CanonTree::ResourceDrop(_) => rows::RESOURCE_DROP,
-            CanonTree::ResourceRep(_) => rows::RESOURCE_REP,
-            CanonTree::TaskCancel => rows::TASK_CANCEL,
-            CanonTree::SubtaskCancel(_) => rows::SUBTASK_CANCEL,
-            CanonTree::TaskReturn { .. } => rows::TASK_RETURN,
-            CanonTree::ContextGet { .. } => rows::CONTEXT_GET,
-            CanonTree::ContextSet { .. } => rows::CONTEXT_SET,
-            CanonTree::ThreadYield => rows::THREAD_YIELD,
-            CanonTree::SubtaskDrop => rows::SUBTASK_DROP,
-            CanonTree::StreamNew(_) => rows::STREAM_NEW,
-            CanonTree::StreamRead { .. } => rows::STREAM_READ,
-            CanonTree::StreamWrite { .. } => rows::STREAM_WRITE,
-            CanonTree::StreamCancelRead { .. } => rows::STREAM_CANCEL_READ,
-            CanonTree::StreamCancelWrite { .. } => rows::STREAM_CANCEL_WRITE,
-            CanonTree::StreamDropReadable(_) => rows::STREAM_DROP_READABLE,
-            CanonTree::StreamDropWritable(_) => rows::STREAM_DROP_WRITABLE,
-            CanonTree::FutureNew(_) => rows::FUTURE_NEW,
-            CanonTree::FutureRead { .. } => rows::FUTURE_READ,
-            CanonTree::FutureWrite { .. } => rows::FUTURE_WRITE,
-            CanonTree::FutureCancelRead { .. } => rows::FUTURE_CANCEL_READ,
-            CanonTree::FutureCancelWrite { .. } => rows::FUTURE_CANCEL_WRITE,
-            CanonTree::FutureDropReadable(_) => rows::FUTURE_DROP_READABLE,
-            CanonTree::FutureDropWritable(_) => rows::FUTURE_DROP_WRITABLE,
-            CanonTree::ErrorContextNew(_) => rows::ERROR_CONTEXT_NEW,
-            CanonTree::ErrorContextDebugMessage(_) => rows::ERROR_CONTEXT_DEBUG_MESSAGE,
-            CanonTree::ErrorContextDrop => rows::ERROR_CONTEXT_DROP,
-            CanonTree::WaitableSetNew => rows::WAITABLE_SET_NEW,
-            CanonTree::WaitableSetWait(_) => rows::WAITABLE_SET_WAIT,
-            CanonTree::WaitableSetPoll(_) => rows::WAITABLE_SET_POLL,
-            CanonTree::WaitableSetDrop => rows::WAITABLE_SET_DROP,
-            CanonTree::WaitableJoin => rows::WAITABLE_JOIN,
-            CanonTree::BackpressureInc => rows::BACKPRESSURE_INC,
-            CanonTree::BackpressureDec => rows::BACKPRESSURE_DEC,
-            CanonTree::ThreadIndex => rows::THREAD_INDEX,
-            CanonTree::ThreadNewIndirect { .. } => rows::THREAD_NEW_INDIRECT,
-            CanonTree::ThreadResumeLater => rows::THREAD_RESUME_LATER,
-            CanonTree::ThreadSuspend => rows::THREAD_SUSPEND,
-            CanonTree::ThreadSuspendThenResume => rows::THREAD_SUSPEND_THEN_RESUME,
-            CanonTree::ThreadYieldThenResume => rows::THREAD_YIELD_THEN_RESUME,
-            CanonTree::ThreadSuspendThenPromote => rows::THREAD_SUSPEND_THEN_PROMOTE,
-            CanonTree::ThreadYieldThenPromote => rows::THREAD_YIELD_THEN_PROMOTE,
-            CanonTree::StreamForward(_) => rows::STREAM_FORWARD,
-            CanonTree::FutureForward(_) => rows::FUTURE_FORWARD,
-            CanonTree::ThreadSpawnRef(_) => rows::THREAD_SPAWN_REF,
-            CanonTree::ThreadSpawnIndirect { .. } => rows::THREAD_SPAWN_INDIRECT,
-            CanonTree::ThreadAvailableParallelism => rows::THREAD_AVAILABLE_PARALLELISM,
+            CanonTree::Lift {
+                core_func,
+                ty,
+                options,
+            } => (rows::LIFT, Operands::Lifted(*core_func, *ty, options)),
+            CanonTree::Lower { func, options } => (rows::LOWER, Operands::Lowered(*func, options)),
+            CanonTree::ResourceNew(index) => (rows::RESOURCE_NEW, Operands::Index(*index)),
+            CanonTree::ResourceDrop(index) => (rows::RESOURCE_DROP, Operands::Index(*index)),
+            CanonTree::ResourceRep(index) => (rows::RESOURCE_REP, Operands::Index(*index)),
+            CanonTree::TaskCancel => (rows::TASK_CANCEL, Operands::Nothing),
+            CanonTree::SubtaskCancel(async_) => (rows::SUBTASK_CANCEL, Operands::Flag(*async_)),
+            CanonTree::TaskReturn { ty, options } => (
+                rows::TASK_RETURN,
+                Operands::ResultsAndOptions(*ty, options),
+            ),
+            CanonTree::ContextGet { ty, slot } => (rows::CONTEXT_GET, Operands::Slot(*ty, *slot)),
+            CanonTree::ContextSet { ty, slot } => (rows::CONTEXT_SET, Operands::Slot(*ty, *slot)),
+            CanonTree::ThreadYield => (rows::THREAD_YIELD, Operands::NotCancellable),
+            CanonTree::SubtaskDrop => (rows::SUBTASK_DROP, Operands::Nothing),
+            CanonTree::StreamNew(index) => (rows::STREAM_NEW, Operands::Index(*index)),
+            CanonTree::StreamRead { ty, options } => (
+                rows::STREAM_READ,
+                Operands::IndexAndOptions(*ty, options),
+            ),
+            CanonTree::StreamWrite { ty, options } => (
+                rows::STREAM_WRITE,
+                Operands::IndexAndOptions(*ty, options),
+            ),
+            CanonTree::StreamCancelRead { ty, async_ } => (
+                rows::STREAM_CANCEL_READ,
+                Operands::IndexAndFlag(*ty, *async_),
+            ),
+            CanonTree::StreamCancelWrite { ty, async_ } => (
+                rows::STREAM_CANCEL_WRITE,
+                Operands::IndexAndFlag(*ty, *async_),
+            ),
+            CanonTree::StreamDropReadable(index) => (
+                rows::STREAM_DROP_READABLE,
+                Operands::Index(*index),
+            ),
+            CanonTree::StreamDropWritable(index) => (
+                rows::STREAM_DROP_WRITABLE,
+                Operands::Index(*index),
+            ),
+            CanonTree::FutureNew(index) => (rows::FUTURE_NEW, Operands::Index(*index)),
+            CanonTree::FutureRead { ty, options } => (
+                rows::FUTURE_READ,
+                Operands::IndexAndOptions(*ty, options),
+            ),
+            CanonTree::FutureWrite { ty, options } => (
+                rows::FUTURE_WRITE,
+                Operands::IndexAndOptions(*ty, options),
+            ),
+            CanonTree::FutureCancelRead { ty, async_ } => (
+                rows::FUTURE_CANCEL_READ,
+                Operands::IndexAndFlag(*ty, *async_),
+            ),
+            CanonTree::FutureCancelWrite { ty, async_ } => (
+                rows::FUTURE_CANCEL_WRITE,
+                Operands::IndexAndFlag(*ty, *async_),
+            ),
+            CanonTree::FutureDropReadable(index) => (
+                rows::FUTURE_DROP_READABLE,
+                Operands::Index(*index),
+            ),
+            CanonTree::FutureDropWritable(index) => (
+                rows::FUTURE_DROP_WRITABLE,
+                Operands::Index(*index),
+            ),
+            CanonTree::ErrorContextNew(options) => (
+                rows::ERROR_CONTEXT_NEW,
+                Operands::Options(options),
+            ),
+            CanonTree::ErrorContextDebugMessage(options) => (
+                rows::ERROR_CONTEXT_DEBUG_MESSAGE,
+                Operands::Options(options),
+            ),
+            CanonTree::ErrorContextDrop => (rows::ERROR_CONTEXT_DROP, Operands::Nothing),
+            CanonTree::WaitableSetNew => (rows::WAITABLE_SET_NEW, Operands::Nothing),
+            CanonTree::WaitableSetWait(memory) => (
+                rows::WAITABLE_SET_WAIT,
+                Operands::Memory(*memory),
+            ),
+            CanonTree::WaitableSetPoll(memory) => (
+                rows::WAITABLE_SET_POLL,
+                Operands::Memory(*memory),
+            ),
+            CanonTree::WaitableSetDrop => (rows::WAITABLE_SET_DROP, Operands::Nothing),
+            CanonTree::WaitableJoin => (rows::WAITABLE_JOIN, Operands::Nothing),
+            CanonTree::BackpressureInc => (rows::BACKPRESSURE_INC, Operands::Nothing),
+            CanonTree::BackpressureDec => (rows::BACKPRESSURE_DEC, Operands::Nothing),
+            CanonTree::ThreadIndex => (rows::THREAD_INDEX, Operands::Nothing),
+            CanonTree::ThreadNewIndirect { ty, table } => (
+                rows::THREAD_NEW_INDIRECT,
+                Operands::Indices(*ty, *table),
+            ),
+            CanonTree::ThreadResumeLater => (rows::THREAD_RESUME_LATER, Operands::Nothing),
+            CanonTree::ThreadSuspend => (rows::THREAD_SUSPEND, Operands::NotCancellable),
+            CanonTree::ThreadSuspendThenResume => (
+                rows::THREAD_SUSPEND_THEN_RESUME,
+                Operands::NotCancellable,
+            ),
+            CanonTree::ThreadYieldThenResume => (
+                rows::THREAD_YIELD_THEN_RESUME,
+                Operands::NotCancellable,
+            ),
+            CanonTree::ThreadSuspendThenPromote => (
+                rows::THREAD_SUSPEND_THEN_PROMOTE,
+                Operands::NotCancellable,
+            ),
+            CanonTree::ThreadYieldThenPromote => (
+                rows::THREAD_YIELD_THEN_PROMOTE,
+                Operands::NotCancellable,
+            ),
+            CanonTree::StreamForward(index) => (rows::STREAM_FORWARD, Operands::Index(*index)),
+            CanonTree::FutureForward(index) => (rows::FUTURE_FORWARD, Operands::Index(*index)),
+            CanonTree::ThreadSpawnRef(index) => (rows::THREAD_SPAWN_REF, Operands::Index(*index)),
+            CanonTree::ThreadSpawnIndirect { ty, table } => (
+                rows::THREAD_SPAWN_INDIRECT,
+                Operands::Indices(*ty, *table),
+            ),
+            CanonTree::ThreadAvailableParallelism => (
+                rows::THREAD_AVAILABLE_PARALLELISM,
+                Operands::Nothing,
+            ),
+        }
+    }
+}
+
+/// What stands behind the opcode of a canonical function.
+#[derive(Drop)]
+enum Operands<'a, A: Allocator> {
+    /// The core function and the type of a lifted function, and its options, which stand between these.
+    Lifted(u32, u32, &'a Vec<CanonicalOption, A>),
+    /// The function that is lowered, and its options.
+    Lowered(u32, &'a Vec<CanonicalOption, A>),
+    Nothing,
+    NotCancellable,
+    Index(u32),
+    Flag(bool),
+    /// That it can't be cancelled, and the index of a memory.
+    Memory(u32),
+    IndexAndFlag(u32, bool),
+    Indices(u32, u32),
+    /// The value type of a slot, and its index.
+    Slot(ValType, u32),
+    Options(&'a Vec<CanonicalOption, A>),
+    IndexAndOptions(u32, &'a Vec<CanonicalOption, A>),
+    ResultsAndOptions(Option<ComponentValType>, &'a Vec<CanonicalOption, A>),
+}
+
+impl<'a, A: Allocator> Operands<'a, A> {
+    ghost use Rattle.wenc_canon.specs.CanonTrees.{behind};
+
+    /// Writes what begins with this opcode, and has these behind it.
+    fn encode_behind<B: Allocator>(&self, opcode: u8, sink: &mut Vec<u8, B>) -> Result<(), Fault>
+        ensures appended { let p = behind opcode self.now in
+            Appends p.text p.Cause ⊥ sink.old.items sink.new.items result }
+        ensures fits { OnOk result (behind opcode self.now).Fits }
+    {
+        match self {
+            Operands::Lifted(core_func, ty, options) => lifted(core_func, *ty, options, sink),
+            Operands::Lowered(func, options) => lowered(func, options, sink),
+            Operands::Nothing => Tagged(opcode, &()).encode(sink),
+            Operands::NotCancellable => Tagged(opcode, &NotCancellable).encode(sink),
+            Operands::Index(index) => Tagged(opcode, index).encode(sink),
+            Operands::Flag(async_) => Tagged(opcode, async_).encode(sink),
+            Operands::Memory(memory) => Tagged(opcode, &(NotCancellable, *memory)).encode(sink),
+            Operands::IndexAndFlag(ty, async_) => Tagged(opcode, &(*ty, *async_)).encode(sink),
+            Operands::Indices(ty, table) => Tagged(opcode, &(*ty, *table)).encode(sink),
+            Operands::Slot(ty, slot) => Tagged(opcode, &(*ty, *slot)).encode(sink),
+            Operands::Options(options) => with_options(opcode, &(), options, sink),
+            Operands::IndexAndOptions(ty, options) => with_options(opcode, ty, options, sink),
+            Operands::ResultsAndOptions(ty, options) => {
+                with_options(opcode, &ResultList(*ty), options, sink)
+            }
         }
     }
 }
@@ -278,73 +407,8 @@ impl<A: Allocator> Encode for CanonTree<A> {
     ghost piece = { λ t. canonical (canon_view t) };
 
     fn encode<B: Allocator>(&self, sink: &mut Vec<u8, B>) -> Result<(), Fault> {
-        let opcode = self.row().opcode;
-        match self {
-            CanonTree::Lift {
-                core_func,
-                ty,
-                options,
-            } => lifted(core_func, *ty, options, sink),
-            CanonTree::Lower { func, options } => lowered(func, options, sink),
-            CanonTree::TaskReturn { ty, options } => {
-                with_options(opcode, &ResultList(*ty), options, sink)
-            }
-            CanonTree::ErrorContextNew(options) | CanonTree::ErrorContextDebugMessage(options) => {
-                with_options(opcode, &(), options, sink)
-            }
-            CanonTree::StreamRead { ty, options }
-            | CanonTree::StreamWrite { ty, options }
-            | CanonTree::FutureRead { ty, options }
-            | CanonTree::FutureWrite { ty, options } => with_options(opcode, ty, options, sink),
-            CanonTree::StreamCancelRead { ty, async_ }
-            | CanonTree::StreamCancelWrite { ty, async_ }
-            | CanonTree::FutureCancelRead { ty, async_ }
-            | CanonTree::FutureCancelWrite { ty, async_ } => Tagged(opcode, &(*ty, *async_)).encode(
-                sink,
-            ),
-            CanonTree::ContextGet { ty, slot } | CanonTree::ContextSet { ty, slot } => Tagged(
-                opcode,
-                &(*ty, *slot),
-            ).encode(sink),
-            CanonTree::ThreadNewIndirect { ty, table }
-            | CanonTree::ThreadSpawnIndirect { ty, table } => Tagged(opcode, &(*ty, *table)).encode(
-                sink,
-            ),
-            CanonTree::WaitableSetWait(memory) | CanonTree::WaitableSetPoll(memory) => Tagged(
-                opcode,
-                &(NotCancellable, *memory),
-            ).encode(sink),
-            CanonTree::SubtaskCancel(async_) => Tagged(opcode, async_).encode(sink),
-            CanonTree::ResourceNew(ty)
-            | CanonTree::ResourceDrop(ty)
-            | CanonTree::ResourceRep(ty)
-            | CanonTree::StreamNew(ty)
-            | CanonTree::StreamDropReadable(ty)
-            | CanonTree::StreamDropWritable(ty)
-            | CanonTree::FutureNew(ty)
-            | CanonTree::FutureDropReadable(ty)
-            | CanonTree::FutureDropWritable(ty)
-            | CanonTree::StreamForward(ty)
-            | CanonTree::FutureForward(ty)
-            | CanonTree::ThreadSpawnRef(ty) => Tagged(opcode, ty).encode(sink),
-            CanonTree::ThreadYield
-            | CanonTree::ThreadSuspend
-            | CanonTree::ThreadSuspendThenResume
-            | CanonTree::ThreadYieldThenResume
-            | CanonTree::ThreadSuspendThenPromote
-            | CanonTree::ThreadYieldThenPromote => Tagged(opcode, &NotCancellable).encode(sink),
-            CanonTree::TaskCancel
-            | CanonTree::SubtaskDrop
-            | CanonTree::ErrorContextDrop
-            | CanonTree::WaitableSetNew
-            | CanonTree::WaitableSetDrop
-            | CanonTree::WaitableJoin
-            | CanonTree::BackpressureInc
-            | CanonTree::BackpressureDec
-            | CanonTree::ThreadIndex
-            | CanonTree::ThreadResumeLater
-            | CanonTree::ThreadAvailableParallelism => Tagged(opcode, &()).encode(sink),
-        }
+        let (row, operands) = self.parts();
+        operands.encode_behind(row.opcode, sink)
     }
 }
 
