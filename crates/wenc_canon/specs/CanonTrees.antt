@@ -1,5 +1,5 @@
 -- Trees of canonical functions: what they are as pure data.
-use Rattle.std.specs.Prelude.{ℕ, List, [], ◌∷◌}
+use Rattle.std.specs.Prelude.{ℕ, [], ◌∷◌}
 use Rattle.wenc_base.specs.Piece.{Piece, ◌▸◌}
 use Rattle.wenc_canon.specs.declared.canon_tree.CanonTree.{CanonTree}
 use Rattle.wenc_canon.specs.declared.canon_tree.CanonTree.TheVariants as trees
