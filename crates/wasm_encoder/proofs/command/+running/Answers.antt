@@ -110,7 +110,7 @@ run_all-loop-command-preserved g t c =
     let i = c.loop-command.command-index in
     let inside : i < length items = rw c.deref-command-items.ensures.value at c.loop-command-test.true in
     let split : drop i items ≡ c.command-item.result ∷ drop (i + 1) items = next_is items i c.command-item.result c.command-item.result inside (rw c.deref-command-items.ensures.value at c.command-item.is) in
-    inner_more (commands_view c.args.commands.now.items) _ (command_view c.command-item.result) c.in-Ok-Ok.field-0-0 c.loop-command.builder c.run.new.builder (rw split at c.loop-command.invariant) (rw (← c.in-Ok-Ok.field-0-is) c.in-Ok-Ok.ensures)
+    inner_more (commands_view c.args.commands.now.items) (commands_view (drop (i + 1) items)) (command_view c.command-item.result) c.in-Ok-Ok.field-0-0 c.loop-command.builder c.run.new.builder (rw split at c.loop-command.invariant) (rw (← c.in-Ok-Ok.field-0-is) c.in-Ok-Ok.ensures)
 
 pub run_all-returns-in-Ok-Err-clause-refused : goal.run_all-returns-in-Ok-Err-clause-refused
 run_all-returns-in-Ok-Err-clause-refused g t c =
