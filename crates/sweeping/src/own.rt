@@ -1,6 +1,8 @@
-ghost use Rattle.std.specs.Prelude.{◌≡◌, ◌++◌, OnOk, refl};
-ghost use Rattle.wenc_base.specs.Forms.{list_text, option_text};
+ghost use Rattle.std.specs.Prelude.{◌≡◌, ◌++◌, OnOk};
+ghost use Rattle.wenc_base.specs.Forms.{list, option};
+ghost use Rattle.wenc_base.specs.Piece.{◌⨾◌};
 ghost use Rattle.wenc_base.specs.laws.Delimited.{itself};
+ghost use Rattle.wenc_base.specs.laws.Serves.{serves_itself};
 ghost use Rattle.sweeping.specs.Own.{light};
 
 use std::alloc::Allocator;
@@ -14,9 +16,7 @@ pub enum Light {
 }
 
 impl Encode for Light {
-    ghost text = { λ l. (light l).text };
-
-    ghost cause = { λ _ _. ⊥ };
+    ghost piece = { light };
 
     fn encode<A: Allocator>(&self, sink: &mut Vec<u8, A>) -> Result<(), Fault> {
         let byte = match self {
@@ -38,13 +38,9 @@ impl Delimited for Light {
 
     ghost form = { light };
 
-    fn belongs(&self) {}
-
     ghost readable = { ((λ fuel. read_light), light_lawful) };
 
-    ghost text_of = { λ l. refl };
-
-    ghost free = { λ l h fault cause. cause };
+    ghost written = { λ _. serves_itself };
 }
 
 impl DelimitedEq for Light {
@@ -57,9 +53,10 @@ pub fn write_all<T: Delimited + Drop, A: Allocator>(
     last: Option<T>,
     sink: &mut Vec<u8, A>,
 ) -> Result<(), Fault>
-    ensures { OnOk result
+    ensures items { OnOk result
         (sink.new.items ≡
-        sink.old.items ++ list_text T.text values.now ++ option_text T.text last) }
+        sink.old.items ++ (list T.piece values.now ⨾ option T.piece last).text) }
+    ensures fits { OnOk result (list T.piece values.now ⨾ option T.piece last).Fits }
 {
     (values, last).encode(sink)
 }

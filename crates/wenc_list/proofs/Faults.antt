@@ -3,7 +3,7 @@ use Rattle.std.proofs.Common.{◌≡◌, ℕ, zero, suc, true≢false, List, [],
 use Rattle.std.specs.List.{AllByRecursion}
 use Rattle.wenc_base.specs.Piece.{Wide}
 use Rattle.wenc_builder.specs.Item.{Item, ModuleItem, ComponentItem, StartItem, CustomItem}
-use Rattle.wenc_builder.specs.Sections.{Section, section_piece, sections, preamble, Reading}
+use Rattle.wenc_builder.specs.Sections.{Section, section_piece, sections, Reading}
 use Rattle.wenc_list.specs.Listing.{AreWithin, IsLabelled, Stops, IsFaultBehind, IsFaultOf}
 use Rattle.wenc_list.specs.declared.fault.ListFault.{ListFault}
 use Rattle.wenc_list.specs.declared.fault.ListFault.TheVariants as faults

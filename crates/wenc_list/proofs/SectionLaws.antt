@@ -12,7 +12,7 @@ use Rattle.wenc_base.specs.Number.{u32}
 use Rattle.wenc_base.specs.Piece.{Form, Wide, only_where, each, raw, ◌⨾⨾◌}
 use Rattle.wenc_base.specs.laws.Forms.{read_list, name_lawful, name_sound, read_bytes, bytes_lawful, bytes_sound, list_lawful, list_sound}
 use Rattle.wenc_base.specs.laws.Lawful.{Lawful, LawfulWhole, ◌>>=◌, give, then, last, then_whole, whole_lawful}
-use Rattle.wenc_base.specs.laws.Numbers.{read_u32, u32_lawful, u32_sound}
+use Rattle.wenc_base.specs.laws.Numbers.{read_u32, u32_lawful, count_lawful, u32_sound}
 use Rattle.wenc_base.specs.laws.Sound.{Then, ThenAll, Sound, SoundWhole, goes_on, last_sound, then_sound, whole_sound, then_whole_sound}
 use Rattle.wenc_builder.specs.Item.{Item, ModuleItem, CoreInstanceItem, CoreTypeItem, ComponentItem, InstanceItem, AliasItem, TypeItem, CanonItem, StartItem, ImportItem, ExportItem, CustomItem, RawItem, collected, item}
 use Rattle.wenc_builder.specs.Sections.{Section, Run, Alone, members, collects, item_of, section_piece}
@@ -145,7 +145,7 @@ items_told d id content =
 
 items_agree : (d id : ℕ) (xs : List Item) (content : List ℕ) → (list (item_of id) xs).Reads Wide content [] → AgreesAll (ArePast d xs) xs (read_items d id content)
 items_agree d id xs content r =
-    let all : Finds (list (item_of id) xs) (flat read_u32 >>> repeat (read_item d id)) xs (ArePast d xs) = then_finds _ (flat_finds _ (u32_lawful (length xs))) (each_finds d id xs) in
+    let all : Finds (list (item_of id) xs) (flat read_u32 >>> repeat (read_item d id)) xs (ArePast d xs) = then_finds _ (flat_finds _ (count_lawful (length xs))) (each_finds d id xs) in
     filled_agrees (ArePast d xs) xs ((flat read_u32 >>> repeat (read_item d id)) content) (all.finds content [] r)
 
 -- ---- what stands alone

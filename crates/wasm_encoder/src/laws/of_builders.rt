@@ -4,17 +4,16 @@ ghost use Rattle.std.specs.List.Sorted.{IsStrictlyIncreasing};
 ghost use Rattle.std.specs.Prelude.{◌≡◌, ◌+◌, ◌<◌, ◌^◌, ◌++◌, ◌∷◌, [], ℕ, List, map, IsOk, Ok, Option, Result};
 ghost use Rattle.wenc_base.specs.Fault.{NoCause, either};
 ghost use Rattle.wenc_base.specs.declared.fault.Fault.{Fault};
-ghost use Rattle.wenc_builder.specs.Builder.{State, Draft, begun_with, appended, ended, builder_given_up, count_in};
+ghost use Rattle.wenc_builder.specs.Builder.{State, Draft, begun_with, appended, ended, builder_given_up, count_in, draft_in};
 ghost use Rattle.wenc_builder.specs.Enters.{Enters};
 ghost use Rattle.wenc_builder.specs.Entry.{Entry, items as items_of, names, type_entry, core_type_entry};
 ghost use Rattle.wenc_builder.specs.Holds.{Holds};
 ghost use Rattle.wenc_builder.specs.Item.{Item};
-ghost use Rattle.wenc_builder.specs.Layout.{draft_of};
 ghost use Rattle.wenc_builder.specs.Lent.{no_room};
 ghost use Rattle.wenc_builder.specs.Sections.{Section, Run, runs};
 ghost use Rattle.wenc_builder.specs.Space.{defines, some_in, place};
-ghost use Rattle.wenc_builder.specs.laws.Typed.{OpeningCause};
-ghost use Rattle.wenc_builder.specs.declared.builder.kind.Kind.TheVariants as kinds;
+ghost use Rattle.wenc_builder.specs.Cause.{BeginCause};
+ghost use Rattle.wenc_parts.specs.declared.component.ComponentSectionId.TheVariants as ids;
 ghost use Rattle.wenc_builder.specs.declared.builder.space.Space.{Space};
 ghost use Rattle.wenc_builder.specs.declared.builder.space.Space.TheVariants as spaces;
 ghost use Rattle.wenc_parts.specs.Types.{value_type, primitive};
@@ -80,15 +79,15 @@ pub fn nested_runs()
 /// leaves every list held that was held.
 pub fn encoded_types_are_entries()
     ensures type_written { (old lent new : State) (es : List Entry) (name : Option (List ℕ))
-        (t : TypeOf) → lent ≡ begun_with old (draft_of kinds.«Type» spaces.Types name [])
-        → NoCause (OpeningCause old (draft_of kinds.«Type» spaces.Types name []))
+        (t : TypeOf) → lent ≡ begun_with old (draft_in ids.«Type» spaces.Types name [])
+        → NoCause (BeginCause old (draft_in ids.«Type» spaces.Types name []))
         → new ≡ ended (appended lent (type_of t).text) → (type_of t).Fits
         → NoCause (either (type_of t).Cause (no_room lent (type_of t).text))
         → Holds old es → Holds new (es ++ type_entry name t ∷ []) }
     ensures core_type_written { (old lent new : State) (es : List Entry) (name : Option (List ℕ))
         (t : CoreType)
-        → lent ≡ begun_with old (draft_of kinds.CoreType spaces.CoreTypes name [])
-        → NoCause (OpeningCause old (draft_of kinds.CoreType spaces.CoreTypes name []))
+        → lent ≡ begun_with old (draft_in ids.CoreType spaces.CoreTypes name [])
+        → NoCause (BeginCause old (draft_in ids.CoreType spaces.CoreTypes name []))
         → new ≡ ended (appended lent (core_type t).text) → (core_type t).Fits
         → NoCause (either (core_type t).Cause (no_room lent (core_type t).text))
         → Holds old es → Holds new (es ++ core_type_entry name t ∷ []) }

@@ -7,7 +7,7 @@ use Rattle.wenc_base.specs.Piece.{Form, Wide, only_where, each}
 use Rattle.wenc_base.specs.laws.Forms.{list_lawful, list_sound, option_lawful, option_sound}
 use Rattle.wenc_base.specs.declared.types.ValType.{ValType}
 use Rattle.wenc_base.specs.laws.Lawful.{◌>>=◌, give, choose, then, last}
-use Rattle.wenc_base.specs.laws.Numbers.{read_u32, u32_lawful, u32_sound}
+use Rattle.wenc_base.specs.laws.Numbers.{read_u32, u32_lawful, count_lawful, u32_sound}
 use Rattle.wenc_base.specs.laws.Sound.{Then, Sound, behind, then_sound, last_sound, nowhere_sound, choose_sound, both_tables}
 use Rattle.wenc_base.specs.laws.Types.{val_type_lawful, val_type_sound}
 use Rattle.wenc_parts.specs.declared.types.ComponentValType.{ComponentValType}
@@ -214,10 +214,10 @@ mutual
   type_finds zero (InstanceType ds) = rw (one_level zero) (row_finds _ _ 0x42 too_deep (λ bytes rest. refl) (too_deep_finds _ (omega arith)))
   type_finds (suc d) (ComponentType ds) =
       rw (one_level (suc d)) (row_finds _ _ 0x41 (read_components (read_type d)) (λ bytes rest. refl)
-      (then_finds _ (flat_finds _ (u32_lawful (component_count ds))) (rw (components_relisted ds) at (last_finds (λ l. ComponentType (components_of l)) (or_deeper (suc d < suc (component_depth ds)) (λ lt. omega arith) (components_find d ds))))))
+      (then_finds _ (flat_finds _ (count_lawful (component_count ds))) (rw (components_relisted ds) at (last_finds (λ l. ComponentType (components_of l)) (or_deeper (suc d < suc (component_depth ds)) (λ lt. omega arith) (components_find d ds))))))
   type_finds (suc d) (InstanceType ds) =
       rw (one_level (suc d)) (row_finds _ _ 0x42 (read_instances (read_type d)) (λ bytes rest. refl)
-      (then_finds _ (flat_finds _ (u32_lawful (instance_count ds))) (rw (instances_relisted ds) at (last_finds (λ l. InstanceType (instances_of l)) (or_deeper (suc d < suc (instance_depth ds)) (λ lt. omega arith) (instances_find d ds))))))
+      (then_finds _ (flat_finds _ (count_lawful (instance_count ds))) (rw (instances_relisted ds) at (last_finds (λ l. InstanceType (instances_of l)) (or_deeper (suc d < suc (instance_depth ds)) (λ lt. omega arith) (instances_find d ds))))))
 
   instance_finds : (d : ℕ) (x : InstanceDeclaration) → Finds (instance_declaration x) (read_instance_declaration (read_type d)) x (d < declared_depth x)
   instance_finds d (CoreTyped ty) = row_finds _ _ 0x00 (flat (read_core_type >>= λ t. give (CoreTyped t))) (λ bytes rest. refl) (flat_finds _ (last CoreTyped (core_type_lawful ty)))
