@@ -14,7 +14,7 @@ use Rattle.wenc_sections.specs.InstanceTrees.{core_instance_tree_view, instance_
 use Rattle.wasm_encoder.specs.Command.{CommandTree, CoreModule, CoreInstance, ComponentRaw, Instance, Alias, Canon, Start, Import, Export, command_view, commands_view, debug_name_view}
 use Rattle.wasm_encoder.specs.Cause.{led, first_cause}
 use Rattle.wasm_encoder.specs.Ran.{IsRefusal}
-use Rattle.wasm_encoder.specs.Steps.{Answers, placed}
+use Rattle.wasm_encoder.specs.inside.Steps.{Answers, placed}
 use Rattle.wasm_encoder.proofs.Called.{memory_alone, entered, names_entered}
 use Rattle.wasm_encoder.proofs.command.Command.TheLaws.{the_size}
 use Rattle.wasm_encoder.proofs.Nested.{component_view, inner_more, inner_refused, inner_stopped, inner_all, refused_inside, entered_inside}
