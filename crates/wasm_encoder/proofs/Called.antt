@@ -6,7 +6,7 @@ use Rattle.std.specs.Result.{MatchResult}
 use Rattle.wenc_base.specs.Fault.{IsWarranted, IsMemory, NoCause}
 use Rattle.wenc_base.specs.declared.fault.Fault.{Fault}
 use Rattle.wenc_base.specs.declared.fault.Fault.TheVariants.{Memory, TooMany, TooLarge, Unfinished}
-use Rattle.wenc_base.specs.laws.Causes.{SameCause, same_cause, still_warranted}
+use Rattle.wenc_base.specs.laws.Serves.{still_warranted, IsAmong, itself_among}
 use Rattle.wenc_builder.specs.Builder.{State}
 use Rattle.wenc_builder.specs.Cause.{EntryCause}
 use Rattle.wenc_builder.specs.Entry.{Entry, items}
@@ -42,21 +42,21 @@ abbrev pub IsDueTo : List Entry → List Entry → (Fault → Type 0) → State 
 IsDueTo es xs cause new (Ok answer) = Holds new (es ++ xs) × (answer ≡ place_added es xs) × NoCause cause
 IsDueTo es xs cause new (Err fault) = Holds new es × IsRefusal cause fault
 
--- That is an answer of each command which adds these and has that cause.
+-- That is an answer of each command which adds these, where that cause is among its own.
 pub due : (old new : State) (a : Result (Option ℕ) Fault) (c : CommandTree)
-    → ((es : List Entry) → Holds old es → (xs : List Entry) × (other : Fault → Type 0) × (added es c ≡ xs) × SameCause (cause es c) other × IsDueTo es xs other new a) → Answers old new a c
+    → ((es : List Entry) → Holds old es → (xs : List Entry) × (other : Fault → Type 0) × (added es c ≡ xs) × IsAmong other (cause es c) × IsDueTo es xs other new a) → Answers old new a c
 due old new (Ok answer) c d = record {
   held = λ es h.
       let k = d es h in
       let e : k.0 ≡ added es c = sym k.2 in
-      (subst (λ (xs : List Entry). Holds new (es ++ xs)) e k.4.0, (subst (λ (xs : List Entry). answer ≡ place_added es xs) e k.4.1, λ fault why. k.4.2 fault (k.3.0 fault why)));
+      (subst (λ (xs : List Entry). Holds new (es ++ xs)) e k.4.0, (subst (λ (xs : List Entry). answer ≡ place_added es xs) e k.4.1, k.3.1 k.4.2));
 }
 due old new (Err fault) c d = record {
-  held = λ es h. let k = d es h in (k.4.0, refusal_as k.1 (cause es c) k.3.1 fault k.4.1);
+  held = λ es h. let k = d es h in (k.4.0, refusal_as k.1 (cause es c) k.3.0 fault k.4.1);
 }
 
 -- a call that adds this entry
-pub entered : (old new : State) (r : Result ℕ Fault) (c : CommandTree) (x : Entry) → ((es : List Entry) → added es c ≡ x ∷ []) → ((es : List Entry) → SameCause (cause es c) (EntryCause es x))
+pub entered : (old new : State) (r : Result ℕ Fault) (c : CommandTree) (x : Entry) → ((es : List Entry) → added es c ≡ x ∷ []) → ((es : List Entry) → IsAmong (EntryCause es x) (cause es c))
     → Enters old new r x → Answers old new (placed r) c
 entered old new r c x adds caused e = due old new (placed r) c (λ es h. (x ∷ [], EntryCause es x, adds es, caused es, is_due r es (answered old new r x es e h)))
   where
@@ -67,7 +67,7 @@ entered old new r c x adds caused e = due old new (placed r) c (λ es h. (x ∷ 
     is_due (Err fault) es a = (a.0, refusal es x fault a.1)
 
 -- a call that adds an entry which has no place
-pub entered_placeless : (old new : State) (r : Result (Unit {0}) Fault) (c : CommandTree) (x : Entry) → ((es : List Entry) → added es c ≡ x ∷ []) → ((es : List Entry) → SameCause (cause es c) (EntryCause es x))
+pub entered_placeless : (old new : State) (r : Result (Unit {0}) Fault) (c : CommandTree) (x : Entry) → ((es : List Entry) → added es c ≡ x ∷ []) → ((es : List Entry) → IsAmong (EntryCause es x) (cause es c))
     → ((es : List Entry) → place_of (items es) x.item ≡ None) → EntersPlaceless old new r x → Answers old new (placeless r) c
 entered_placeless old new r c x adds caused nowhere e = due old new (placeless r) c (λ es h. (x ∷ [], EntryCause es x, adds es, caused es, is_due r es (answered_with old new r x (λ _ _. Unit {0}) (λ _ _. Unit {0}) es e h)))
   where
@@ -84,7 +84,7 @@ names_nowhere xs (n ∷ names) x e = subst (λ (y : Entry). place_of xs y.item �
 
 -- the call that adds the names so far
 pub names_entered : (old new : State) (r : Result (Unit {0}) Fault) → AddsNames old new r → Answers old new (placeless r) AppendNames
-names_entered old new r a = due old new (placeless r) AppendNames (λ es h. (one_or_none (names_entry es), added_cause es (one_or_none (names_entry es)), refl, same_cause, is_due r es (names_entry es) h (names_nowhere (items es) _) (a.held es h)))
+names_entered old new r a = due old new (placeless r) AppendNames (λ es h. (one_or_none (names_entry es), added_cause es (one_or_none (names_entry es)), refl, itself_among, is_due r es (names_entry es) h (names_nowhere (items es) _) (a.held es h)))
   where
     is_due : (r : Result (Unit {0}) Fault) (es : List Entry) (o : Option Entry) → Holds old es → ((x : Entry) → o ≡ Some x → place_of (items es) x.item ≡ None)
         → MatchOption o ((r ≡ Ok tt) × (new ≡ old)) (λ x. EntersPlaceless old new r x) → IsDueTo es (one_or_none o) (added_cause es (one_or_none o)) new (placeless r)

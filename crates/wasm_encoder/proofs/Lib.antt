@@ -3,9 +3,6 @@ pub mod Nested
 pub mod Typed
 pub mod Run
 pub mod AllLawful
-pub mod Reading
-pub mod Belonging
-pub mod Headline
 pub mod Neighbours
 pub mod CountedOnce
 pub mod NamedPlaces

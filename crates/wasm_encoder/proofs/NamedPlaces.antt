@@ -16,7 +16,6 @@ use Rattle.wasm_encoder.specs.Cause.{one_or_none, added}
 use Rattle.wasm_encoder.specs.Command.{CommandTree, Start as StartCommand, AppendNames}
 use Rattle.wasm_encoder.specs.Nameless.{StartIsNameless}
 use Rattle.wasm_encoder.specs.Ran.{RanFrom, Ran}
-use Rattle.wasm_encoder.proofs.Belonging.{all_both}
 
 -- ---- numbers that ascend
 
@@ -113,11 +112,15 @@ added_nameless es AppendNames = names_nameless _
 added_nameless es (StartCommand function arguments results) = ((λ start e. refl), tt)
 added_nameless es other = ((λ start e. absurd cc), tt)
 
+both_nameless : (es xs : List Entry) → AllByRecursion StartIsNameless es → AllByRecursion StartIsNameless xs → AllByRecursion StartIsNameless (es ++ xs)
+both_nameless [] xs front behind = behind
+both_nameless (e ∷ es) xs front behind = (front.0, both_nameless es xs front.1 behind)
+
 nameless_from : (es : List Entry) (cs : List CommandTree) (answers : List (Result (Option ℕ) Fault)) (all : List Entry) → AllByRecursion StartIsNameless es → RanFrom es cs answers all → AllByRecursion StartIsNameless all
 nameless_from es [] [] all h r = subst (AllByRecursion StartIsNameless) r h
 nameless_from es [] (a ∷ answers) all h r = absurd r
 nameless_from es (c ∷ cs) [] all h r = absurd r
-nameless_from es (c ∷ cs) (Ok a ∷ answers) all h r = nameless_from (es ++ added es c) cs answers all (all_both StartIsNameless es (added es c) h (added_nameless es c)) r.1
+nameless_from es (c ∷ cs) (Ok a ∷ answers) all h r = nameless_from (es ++ added es c) cs answers all (both_nameless es (added es c) h (added_nameless es c)) r.1
 nameless_from es (c ∷ cs) (Err fault ∷ answers) all h r = nameless_from es cs answers all h r.1
 
 pub led_nameless : (cs : List CommandTree) (answers : List (Result (Option ℕ) Fault)) (all : List Entry) → Ran cs answers all → AllByRecursion StartIsNameless all

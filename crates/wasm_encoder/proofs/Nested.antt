@@ -3,7 +3,7 @@ use Rattle.std.proofs.Common.{◌≡◌, ℕ, List, [], ◌++◌, Ok, Err, Resul
 use mathlib.Core.Former.{Count}
 use Rattle.wenc_base.specs.Fault.{NoCause}
 use Rattle.wenc_base.specs.declared.fault.Fault.{Fault}
-use Rattle.wenc_base.specs.laws.Causes.{SameCause}
+use Rattle.wenc_base.specs.laws.Serves.{IsAmong}
 use Rattle.wenc_builder.specs.Builder.{State}
 use Rattle.wenc_builder.specs.Cause.{EntryCause}
 use Rattle.wenc_builder.specs.Entry.{Entry, items, component_entry}
@@ -77,5 +77,5 @@ pub entered_inside : (name : Option (List ℕ)) (inner : Commands) (old new : St
     → Enters old new r (component_entry name (whole (items (led [] inner)))) → Answers old new (placed r) (Component name inner)
 entered_inside name inner old new r none e = entered old new r (Component name inner) (component_entry name (whole (items (led [] inner)))) (λ es. refl) caused e
   where
-    caused : (es : List Entry) → SameCause (cause es (Component name inner)) (EntryCause es (component_entry name (whole (items (led [] inner)))))
-    caused es = (λ fault x. elim x [ inl c ↦ absurd (none fault c) | inr p ↦ p.1 ], λ fault c. inr (none, c))
+    caused : (es : List Entry) → IsAmong (EntryCause es (component_entry name (whole (items (led [] inner))))) (cause es (Component name inner))
+    caused es = (λ fault c. inr (none, c), λ free fault x. elim x [ inl c ↦ none fault c | inr p ↦ free fault p.1 ])

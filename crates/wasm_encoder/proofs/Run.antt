@@ -1,13 +1,11 @@
 -- A run of commands, step by step.
-use Rattle.std.proofs.Common.{◌≡◌, ℕ, ◌+◌, ◌<◌, List, [], ◌∷◌, ◌++◌, Result, Option, refl, sym, subst, ◌∙◌, length, drop, append_assoc, append-nil, add-one, drop-cons, get_or}
-use Rattle.std.specs.List.{AllByRecursion}
+use Rattle.std.proofs.Common.{◌≡◌, ℕ, ◌+◌, ◌<◌, ◌≤◌, List, [], ◌∷◌, ◌++◌, map, Result, Option, refl, sym, ap, subst, ◌∙◌, length, drop, append_assoc, append-nil, add-one, drop-cons, get_or}
+use Rattle.std.proofs.lemmas.List.{drop_all}
 use Rattle.wenc_base.specs.declared.fault.Fault.{Fault}
 use Rattle.wenc_builder.specs.Builder.{State}
 use Rattle.wenc_builder.specs.Entry.{Entry}
 use Rattle.wenc_builder.specs.Holds.{Holds}
-use Rattle.wasm_encoder.proofs.Belonging.{all_both}
-use Rattle.wasm_encoder.specs.Belongs.{AddsWhatBelongs}
-use Rattle.wasm_encoder.specs.Command.{CommandTree}
+use Rattle.wasm_encoder.specs.Command.{CommandTree, command_view}
 use Rattle.wasm_encoder.specs.Ran.{IsDue, entries_after, RanFrom, Ran, IsStopped}
 use Rattle.wasm_encoder.specs.Steps.{Answers, Stops}
 use Rattle.wasm_encoder.specs.declared.command.Command.{Command}
@@ -20,21 +18,20 @@ ran_push es [] (b ∷ answers) all c a r d = absurd r
 ran_push es (k ∷ cs) [] all c a r d = absurd r
 ran_push es (k ∷ cs) (b ∷ answers) all c a r d = (r.0, ran_push (entries_after es k b) cs answers all c a r.1 d)
 
--- Commands that are done ran and led to entries which the builder holds, and add what belongs; these are left.
+-- Commands that are done ran and led to entries which the builder holds; these are left.
 pub record RanSo (commands left : List CommandTree) (answers : List (Result (Option ℕ) Fault)) (s : State) : Type 0 where
   pub done : List CommandTree
   pub split : commands ≡ done ++ left
   pub so_far : List Entry
   pub ran : Ran done answers so_far
   pub held : Holds s so_far
-  pub belong : AllByRecursion AddsWhatBelongs done
 
 pub ran_none : (commands : List CommandTree) (s : State) → Holds s [] → RanSo commands commands [] s
-ran_none commands s h = record { done = []; split = refl; so_far = []; ran = refl; held = h; belong = tt }
+ran_none commands s h = record { done = []; split = refl; so_far = []; ran = refl; held = h }
 
 pub ran_more : (commands left : List CommandTree) (c : CommandTree) (answers : List (Result (Option ℕ) Fault)) (a : Result (Option ℕ) Fault) (old new : State)
-    → RanSo commands (c ∷ left) answers old → AddsWhatBelongs c → Answers old new a c → RanSo commands left (answers ++ a ∷ []) new
-ran_more commands left c answers a old new r belongs step =
+    → RanSo commands (c ∷ left) answers old → Answers old new a c → RanSo commands left (answers ++ a ∷ []) new
+ran_more commands left c answers a old new r step =
     let s = step.held r.so_far r.held in
     record {
       done = r.done ++ c ∷ [];
@@ -42,7 +39,6 @@ ran_more commands left c answers a old new r belongs step =
       so_far = entries_after r.so_far c a;
       ran = ran_push [] r.done answers r.so_far c a r.ran s.1;
       held = s.0;
-      belong = all_both AddsWhatBelongs r.done (c ∷ []) r.belong (belongs, tt);
     }
 
 -- all that is known where none is left
@@ -50,17 +46,24 @@ pub record RanAll (commands : List CommandTree) (answers : List (Result (Option 
   pub entries : List Entry
   pub ran : Ran commands answers entries
   pub held : Holds s entries
-  pub belong : AllByRecursion AddsWhatBelongs commands
 
-pub ran_all : (commands : List CommandTree) (answers : List (Result (Option ℕ) Fault)) (s : State) → RanSo commands [] answers s → RanAll commands answers s
-ran_all commands answers s r =
-    let all : r.done ≡ commands = sym (r.split ∙ append-nil r.done) in
-    record {
-      entries = r.so_far;
-      ran = subst (λ (cs : List CommandTree). Ran cs answers r.so_far) all r.ran;
-      held = r.held;
-      belong = subst (AllByRecursion AddsWhatBelongs) all r.belong;
-    }
+pub ran_all : {A : Type 0} (commands : List (Command A)) (i : ℕ) (answers : List (Result (Option ℕ) Fault)) (s : State) → length commands ≤ i → RanSo (map command_view commands) (map command_view (drop i commands)) answers s
+    → RanAll (map command_view commands) answers s
+ran_all commands i answers s past r =
+    let none : map command_view (drop i commands) ≡ [] = ap (map command_view) (drop_all i commands past) in
+    let done : r.done ≡ map command_view commands = sym (r.split ∙ ap (λ (left : List CommandTree). r.done ++ left) none ∙ append-nil r.done) in
+    record { entries = r.so_far; ran = subst (λ (cs : List CommandTree). Ran cs answers r.so_far) done r.ran; held = r.held }
+
+-- a run leads to one list of entries
+ran_once : (es : List Entry) (cs : List CommandTree) (answers : List (Result (Option ℕ) Fault)) (all other : List Entry) → RanFrom es cs answers all → RanFrom es cs answers other → all ≡ other
+ran_once es [] [] all other r s = sym r ∙ s
+ran_once es [] (a ∷ answers) all other r s = absurd r
+ran_once es (c ∷ cs) [] all other r s = absurd r
+ran_once es (c ∷ cs) (a ∷ answers) all other r s = ran_once (entries_after es c a) cs answers all other r.1 s.1
+
+-- so that the builder holds the entries of every run with these answers
+pub ran_held : {commands : List CommandTree} {answers : List (Result (Option ℕ) Fault)} {s : State} → RanAll commands answers s → (es : List Entry) → Ran commands answers es → Holds s es
+ran_held {commands} {answers} {s} all es ran = subst (Holds s) (ran_once [] commands answers all.entries es all.ran ran) all.held
 
 pub ran_stopped : (commands left : List CommandTree) (c : CommandTree) (answers : List (Result (Option ℕ) Fault)) (fault : Fault) (s : State)
     → RanSo commands (c ∷ left) answers s → Stops s fault c → IsStopped commands fault

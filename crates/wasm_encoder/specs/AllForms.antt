@@ -12,7 +12,8 @@ use Rattle.wenc_base.specs.declared.types.RefType.{RefType}
 use Rattle.wenc_base.specs.declared.types.ValType.{ValType}
 use Rattle.wenc_base.specs.declared.types.storage.FieldType.{FieldType}
 use Rattle.wenc_base.specs.declared.types.storage.StorageType.{StorageType}
-use Rattle.wenc_base.specs.Composites.{storage_type, field_type, Composite, composite_type, Sub, sub_type, Group, group, guarded, standing}
+use Rattle.wenc_base.specs.Composites.{storage_type, field_type, Composite, composite_type, Sub}
+use Rattle.wenc_base.specs.Composites.{sub_type, Group, group, guarded, standing}
 use Rattle.wenc_base.specs.Custom.{Custom, custom}
 use Rattle.wenc_base.specs.Delimited.{pair}
 use Rattle.wenc_base.specs.Entities.{table_type, memory_type, global_type, tag_type, entity_type}
@@ -20,10 +21,12 @@ use Rattle.wenc_base.specs.Exports.{export_kind as core_kind}
 use Rattle.wenc_base.specs.Forms.{flag, name, byte_list, list, option, counted}
 use Rattle.wenc_base.specs.Number.{u32, u64, i64, index}
 use Rattle.wenc_base.specs.Piece.{Form}
-use Rattle.wenc_base.specs.Producers.{Producer, producer, Producers, producers_field, producers_section}
+use Rattle.wenc_base.specs.Producers.{Producer, producer, Producers, producers_field}
+use Rattle.wenc_base.specs.Producers.{producers_section}
 use Rattle.wenc_base.specs.Types.{abstract_type, heap_type, nullable, reference, val_type}
 use Rattle.wenc_canon.specs.declared.canonicals.CanonicalOption.{CanonicalOption}
-use Rattle.wenc_canon.specs.Canonicals.{canonical_option, Field, Value, field, Values, fields, Canonical, canonical}
+use Rattle.wenc_canon.specs.Canonicals.{canonical_option, Field, Value, field, Values, fields}
+use Rattle.wenc_canon.specs.Canonicals.{Canonical, canonical}
 use Rattle.wenc_parts.specs.declared.aliases.ComponentOuterAliasKind.{ComponentOuterAliasKind}
 use Rattle.wenc_parts.specs.declared.component.ComponentSectionId.{ComponentSectionId}
 use Rattle.wenc_parts.specs.declared.exports.ComponentExportKind.{ComponentExportKind}
@@ -34,19 +37,26 @@ use Rattle.wenc_parts.specs.declared.types.ComponentValType.{ComponentValType}
 use Rattle.wenc_parts.specs.declared.types.PrimitiveValType.{PrimitiveValType}
 use Rattle.wenc_parts.specs.Aliases.{outer_kind, AliasOf, alias}
 use Rattle.wenc_parts.specs.Exports.{export_kind}
-use Rattle.wenc_parts.specs.Imports.{type_bounds, type_reference, NameOption, name_option, ExternName, extern_name}
+use Rattle.wenc_parts.specs.Imports.{type_bounds, type_reference, NameOption, name_option}
+use Rattle.wenc_parts.specs.Imports.{ExternName, extern_name}
 use Rattle.wenc_parts.specs.Instances.{module_argument}
 use Rattle.wenc_parts.specs.SectionIds.{section_id}
 use Rattle.wenc_parts.specs.Types.{primitive, value_type, result_list}
 use Rattle.wenc_sections.specs.Exports.{Export, export_item}
 use Rattle.wenc_sections.specs.Imports.{Import, import_item}
-use Rattle.wenc_sections.specs.Instances.{Argument, argument, CoreExport, core_export, CoreInstance, core_instance, Given, given, Exported, exported, Instance, instance}
+use Rattle.wenc_sections.specs.Instances.{Argument, argument, CoreExport, core_export, CoreInstance}
+use Rattle.wenc_sections.specs.Instances.{core_instance, Given, given, Exported, exported, Instance}
+use Rattle.wenc_sections.specs.Instances.{instance}
 use Rattle.wenc_sections.specs.declared.names.Sort.{Sort}
 use Rattle.wenc_sections.specs.Names.{item_sort, names_section}
 use Rattle.wenc_sections.specs.Start.{Start, start_content, start}
-use Rattle.wenc_types.specs.ComponentTypes.{TypeOf, type_of, InstanceDeclaration, instance_declaration, ComponentDeclaration, component_declaration}
-use Rattle.wenc_types.specs.CoreTypes.{ModuleDeclaration, module_declaration, module_type, CoreType, core_type}
-use Rattle.wenc_types.specs.DefinedTypes.{Named as NamedType, named as named_type, Case, case, Defined, defined_type, Function, function_type}
+use Rattle.wenc_types.specs.ComponentTypes.{TypeOf, type_of, InstanceDeclaration}
+use Rattle.wenc_types.specs.ComponentTypes.{instance_declaration, ComponentDeclaration}
+use Rattle.wenc_types.specs.ComponentTypes.{component_declaration}
+use Rattle.wenc_types.specs.CoreTypes.{ModuleDeclaration, module_declaration, module_type, CoreType}
+use Rattle.wenc_types.specs.CoreTypes.{core_type}
+use Rattle.wenc_types.specs.DefinedTypes.{Named as NamedType, named as named_type, Case, case}
+use Rattle.wenc_types.specs.DefinedTypes.{Defined, defined_type, Function, function_type}
 use Rattle.wenc_base.specs.Names.{Named as NamedPlace, named as named_place}
 
 -- a form's name

@@ -3,11 +3,17 @@ use Rattle.std.specs.Prelude.{ℕ, List, [], ◌∷◌, ◌++◌, Option, None, 
 use Rattle.wenc_base.specs.Fault.{first_of}
 use Rattle.wenc_base.specs.declared.fault.Fault.{Fault}
 use Rattle.wenc_builder.specs.Cause.{EntryCause}
-use Rattle.wenc_builder.specs.Entry.{Entry, items, module_entry, core_instance_entry, core_type_entry, component_entry, instance_entry, alias_entry, type_entry, canonical_tree_entry, start_entry, import_entry, export_entry, custom_entry, raw_entry}
+use Rattle.wenc_builder.specs.Entry.{Entry, items, module_entry, core_instance_entry}
+use Rattle.wenc_builder.specs.Entry.{core_type_entry, component_entry, instance_entry, alias_entry}
+use Rattle.wenc_builder.specs.Entry.{type_entry, canonical_tree_entry, start_entry, import_entry}
+use Rattle.wenc_builder.specs.Entry.{export_entry, custom_entry, raw_entry}
 use Rattle.wenc_builder.specs.Names.{names_entry}
 use Rattle.wenc_builder.specs.Sections.{whole}
 use Rattle.wenc_builder.specs.Space.{place_of}
-use Rattle.wasm_encoder.specs.Command.{CommandTree, CoreModule, CoreInstance, CoreType, Component, ComponentRaw, Instance, Alias, «Type», Canon, Start, Import, Export, AppendNames, Custom, RawCustom, Commands, no_more, then}
+use Rattle.wasm_encoder.specs.Command.{CommandTree, CoreModule, CoreInstance, CoreType, Component}
+use Rattle.wasm_encoder.specs.Command.{ComponentRaw, Instance, Alias, «Type», Canon, Start, Import}
+use Rattle.wasm_encoder.specs.Command.{Export, AppendNames, Custom, RawCustom, Commands, no_more}
+use Rattle.wasm_encoder.specs.Command.{then}
 
 -- an entry, where there is one
 abbrev pub one_or_none : Option Entry → List Entry
@@ -53,14 +59,15 @@ added_cause es [] = λ fault. ⊥
 added_cause es (x ∷ xs) = EntryCause es x
 
 abbrev mutual
-  -- why a command is refused after these entries: a nested component for the first inner command that has a cause, and
-  -- each for what it adds
+  -- why a command is refused after these entries: a nested component for the first inner command
+  -- that has a cause, and each for what it adds
   pub cause : List Entry → CommandTree → Fault → Type 0
   cause es (Component name inner) =
       first_of (first_cause [] inner) (added_cause es (added es (Component name inner)))
   cause es c = added_cause es (added es c)
 
-  -- the cause of the first of the commands that has one, after these entries and what those before it add
+  -- the cause of the first of the commands that has one, after these entries and what those before
+  -- it add
   pub first_cause : List Entry → Commands → Fault → Type 0
   first_cause es no_more = λ fault. ⊥
   first_cause es (then c cs) = first_of (cause es c) (first_cause (es ++ added es c) cs)

@@ -13,7 +13,8 @@ use Rattle.wenc_types.specs.ComponentTypes.{TypeOf}
 use Rattle.wenc_types.specs.CoreTypes as core_types
 use Rattle.wenc_types.specs.CoreTypeTrees.{core_type_view}
 use Rattle.wenc_types.specs.TypeTrees.{type_view}
-use Rattle.wasm_encoder.specs.declared.command.Command.{Command, Row_of-Command, end_of-Command, more_of-Command}
+use Rattle.wasm_encoder.specs.declared.command.Command.{Command, Row_of-Command, end_of-Command}
+use Rattle.wasm_encoder.specs.declared.command.Command.{more_of-Command}
 use Rattle.wasm_encoder.specs.declared.command.Command as commands
 
 mutual

@@ -2,7 +2,5 @@ pub mod Command
 pub mod Cause
 pub mod Ran
 pub mod Steps
-pub mod Raw
-pub mod Belongs
 pub mod AllForms
 pub mod Nameless

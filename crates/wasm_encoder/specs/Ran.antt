@@ -7,11 +7,13 @@ use Rattle.wenc_builder.specs.Entry.{Entry}
 use Rattle.wasm_encoder.specs.Command.{CommandTree, CoreType, «Type»}
 use Rattle.wasm_encoder.specs.Cause.{added, answer_of, cause}
 
--- A command may be refused with this fault: for want of memory, or with this cause; never as unfinished.
+-- A command may be refused with this fault: for want of memory, or with this cause; never as
+-- unfinished.
 abbrev pub IsRefusal : (Fault → Type 0) → Fault → Type 0
 IsRefusal cause fault = IsWarranted cause fault × (fault ≡ Unfinished → ⊥)
 
--- After these entries the command may get this answer: where it has no cause, the place of its item, if that has one.
+-- After these entries the command may get this answer: where it has no cause, the place of its
+-- item, if that has one.
 abbrev pub IsDue : List Entry → CommandTree → Result (Option ℕ) Fault → Type 0
 IsDue es c (Ok answer) = (answer ≡ answer_of es c) × NoCause (cause es c)
 IsDue es c (Err fault) = IsRefusal (cause es c) fault

@@ -16,9 +16,6 @@ ghost use Rattle.wasm_encoder.specs.Ran.{Ran, IsRefusal, IsStopped};
 ghost use Rattle.wenc_builder.specs.Raw.{HasNoRaw, IsEncodable};
 ghost use Rattle.wasm_encoder.specs.Steps.{Runs, placed as placed_of, placeless as placeless_of};
 
-mod belonging;
-
-use belonging::{are_bytes, belongs};
 use std::alloc::{Allocator, Global};
 use wenc_base::{CustomSection, Fault};
 use wenc_builder::ComponentBuilder;
@@ -308,7 +305,6 @@ pub fn build<A: Allocator + Copy, B: Allocator>(
     let mut builder = ComponentBuilder::new(alloc)?;
     let mut answers = Vec::new(alloc);
     for command in commands {
-        belongs(command);
         let answer = match run(command, alloc, &mut builder) {
             Ok(answer) => answer,
             Err(fault) => return Err(fault),
@@ -316,6 +312,5 @@ pub fn build<A: Allocator + Copy, B: Allocator>(
         answers.push(answer)?;
     }
     let bytes = builder.finish()?;
-    are_bytes(&bytes);
     Ok(Built { answers, bytes })
 }

@@ -3,27 +3,26 @@
 ghost use Rattle.std.specs.Prelude.{◌≡◌, ◌↔◌, ◌+◌, ℕ, ℤ, ◌^◌, ◌<◌, ◌++◌, ◌∷◌, [], List, Option, Result, FitsSigned, true, Ok};
 ghost use Rattle.std.specs.Int.{w64};
 ghost use Rattle.wenc_base.specs.Composites.{Group, group};
-ghost use Rattle.wenc_base.specs.Fault.{NoCause};
 ghost use Rattle.wenc_base.specs.FormLaws.{FormLaws};
 ghost use Rattle.wenc_base.specs.Forms.{name, counted};
-ghost use Rattle.wenc_base.specs.Holder.{Held, Contains, is_finished, as_they_are, held_text, section_text};
+ghost use Rattle.wenc_base.specs.Holder.{Held, Contains, is_finished, held, held_section};
 ghost use Rattle.wenc_base.specs.Number.{unsigned_text, signed_text, IsUnsignedText, IsSignedText};
 ghost use Rattle.wenc_base.specs.Number.{u32 as number};
 ghost use Rattle.wenc_base.specs.Openings.{opened_with, lengthened, closed, given_up};
-ghost use Rattle.wenc_base.specs.Piece.{Spelling, Strict, Wide};
-ghost use Rattle.wenc_base.specs.Producers.{Producers, field_text, producers_section, producers_text};
+ghost use Rattle.wenc_base.specs.Piece.{Spelling, Strict, Wide, ◌▸◌, verbatim};
+ghost use Rattle.wenc_base.specs.Producers.{Producers, producers_field, producers_section, producers_held};
 ghost use Rattle.wenc_base.specs.declared.fault.Fault.{Fault};
 ghost use Rattle.wenc_builder.specs.Entry.{Entry, items as items_of};
 ghost use Rattle.wenc_builder.specs.Item.{Item};
 ghost use Rattle.wenc_builder.specs.Sections.{Section, runs, component, Reading, whole};
-ghost use Rattle.wenc_canon.specs.Canonicals.{Intrinsic, row, Values, Canonical, canonical, canonical_text, Adds};
-ghost use Rattle.wenc_parts.specs.Aliases.{AliasOf, alias, alias_text};
-ghost use Rattle.wenc_sections.specs.Exports.{Export, export_item, export_text};
-ghost use Rattle.wenc_sections.specs.Imports.{Import, import_item, import_text};
-ghost use Rattle.wenc_sections.specs.Instances.{CoreInstance, core_instance, core_instance_text, Instance, instance, instance_text};
-ghost use Rattle.wenc_types.specs.CoreTypes.{ModuleDeclaration, Defined, module_type, CoreType, core_type, core_type_text};
+ghost use Rattle.wenc_canon.specs.Canonicals.{Intrinsic, row, Values, Canonical, canonical, Adds};
+ghost use Rattle.wenc_parts.specs.Aliases.{AliasOf, alias};
+ghost use Rattle.wenc_sections.specs.Exports.{Export, export_item};
+ghost use Rattle.wenc_sections.specs.Imports.{Import, import_item};
+ghost use Rattle.wenc_sections.specs.Instances.{CoreInstance, core_instance, Instance, instance};
+ghost use Rattle.wenc_types.specs.CoreTypes.{ModuleDeclaration, Defined, module_type, CoreType, core_type};
 ghost use Rattle.wenc_types.specs.ComponentTypes as component;
-ghost use Rattle.wenc_types.specs.ComponentTypes.{TypeOf, ComponentType, InstanceType, InstanceDeclaration, ComponentDeclaration, CoreTyped, Typed, components_of, instances_of, type_of, type_text};
+ghost use Rattle.wenc_types.specs.ComponentTypes.{TypeOf, ComponentType, InstanceType, InstanceDeclaration, ComponentDeclaration, CoreTyped, Typed, components_of, instances_of, type_of};
 ghost use Rattle.wenc_types.specs.Declarations as types;
 ghost use Rattle.wenc_types.specs.Declarations.{Declaring, Settled, ComponentDeclares, InstanceDeclares};
 ghost use Rattle.wenc_types.specs.ModuleTypes.{Declared, Declares, begun, written, ended, taken_back};
@@ -61,17 +60,16 @@ pub fn signed_text_in_words()
 /// Where the texts of two values that can be encoded, each followed by any bytes, are equal, the values are the same,
 /// of references what they refer to, and the bytes that follow are equal.
 pub fn texts_tell_values<T: Delimited>(a: &T, b: &T)
-    ensures { NoCause (T.cause a.now) → NoCause (T.cause b.now) → (r s : List ℕ)
-        → T.text a.now ++ r ≡ T.text b.now ++ s → (T.seen a.now ≡ T.seen b.now) × (r ≡ s) }
-{
-    a.belongs();
-    b.belongs();
-}
+    ensures { (T.piece a.now).Fits → (T.piece b.now).Fits → (r s : List ℕ)
+        → (T.piece a.now).text ++ r ≡ (T.piece b.now).text ++ s
+        → (T.seen a.now ≡ T.seen b.now) × (r ≡ s) }
+{}
 
 /// The same of values that can be compared: they are equal.
 pub fn texts_tell_equals<T: DelimitedEq>(a: &T, b: &T)
-    ensures { NoCause (T.cause a.now) → NoCause (T.cause b.now) → (r s : List ℕ)
-        → T.text a.now ++ r ≡ T.text b.now ++ s → (T.eq a.now b.now ≡ true) × (r ≡ s) }
+    ensures { (T.piece a.now).Fits → (T.piece b.now).Fits → (r s : List ℕ)
+        → (T.piece a.now).text ++ r ≡ (T.piece b.now).text ++ s
+        → (T.eq a.now b.now ≡ true) × (r ≡ s) }
 {
     texts_tell_values(a, b);
 }
@@ -142,82 +140,80 @@ pub fn listed()
 /// The text of a section that contains some items is their size, their number and the items. That of a module type, a
 /// component type or an instance type with some declarations is a byte, their number and the declarations.
 pub fn sections_are_their_items()
-    ensures core_types { (section : Held) (items : List CoreType)
-        → Contains core_type_text section items
-        → section_text section ≡ (counted core_type items).text }
-    ensures types { (section : Held) (items : List TypeOf) → Contains type_text section items
-        → section_text section ≡ (counted type_of items).text }
+    ensures core_types { (section : Held) (items : List CoreType) → Contains core_type section items
+        → (held_section section).text ≡ (counted core_type items).text }
+    ensures types { (section : Held) (items : List TypeOf) → Contains type_of section items
+        → (held_section section).text ≡ (counted type_of items).text }
     ensures module_types { (ty : Declared) (ds : List ModuleDeclaration) → Declares ty ds
-        → 0x50 ∷ held_text ty.held ≡ (module_type ds).text }
+        → (0x50 ▸ held ty.held).text ≡ (module_type ds).text }
     ensures component_types { (t : Declaring) (ds : List ComponentDeclaration)
         → ComponentDeclares t ds
-        → 0x41 ∷ held_text t.held ≡ (type_of (ComponentType (components_of ds))).text }
+        → (0x41 ▸ held t.held).text ≡ (type_of (ComponentType (components_of ds))).text }
     ensures instance_types { (t : Declaring) (ds : List InstanceDeclaration)
         → InstanceDeclares t ds
-        → 0x42 ∷ held_text t.held ≡ (type_of (InstanceType (instances_of ds))).text }
-    ensures aliases { (section : Held) (items : List AliasOf) → Contains alias_text section items
-        → section_text section ≡ (counted alias items).text }
-    ensures imports { (section : Held) (items : List Import) → Contains import_text section items
-        → section_text section ≡ (counted import_item items).text }
-    ensures exports { (section : Held) (items : List Export) → Contains export_text section items
-        → section_text section ≡ (counted export_item items).text }
+        → (0x42 ▸ held t.held).text ≡ (type_of (InstanceType (instances_of ds))).text }
+    ensures aliases { (section : Held) (items : List AliasOf) → Contains alias section items
+        → (held_section section).text ≡ (counted alias items).text }
+    ensures imports { (section : Held) (items : List Import) → Contains import_item section items
+        → (held_section section).text ≡ (counted import_item items).text }
+    ensures exports { (section : Held) (items : List Export) → Contains export_item section items
+        → (held_section section).text ≡ (counted export_item items).text }
     ensures core_instances { (section : Held) (items : List CoreInstance)
-        → Contains core_instance_text section items
-        → section_text section ≡ (counted core_instance items).text }
-    ensures instances { (section : Held) (items : List Instance)
-        → Contains instance_text section items
-        → section_text section ≡ (counted instance items).text }
+        → Contains core_instance section items
+        → (held_section section).text ≡ (counted core_instance items).text }
+    ensures instances { (section : Held) (items : List Instance) → Contains instance section items
+        → (held_section section).text ≡ (counted instance items).text }
     ensures canonical_functions { (section : Held) (items : List Canonical)
-        → Contains canonical_text section items
-        → section_text section ≡ (counted canonical items).text }
+        → Contains canonical section items
+        → (held_section section).text ≡ (counted canonical items).text }
     ensures producers { (section : Held) (fields : List Producers)
-        → Contains field_text section fields
-        → producers_text section ≡ (producers_section fields).text }
+        → Contains producers_field section fields
+        → (producers_held section).text ≡ (producers_section fields).text }
 {}
 
 /// A member that is written piece by piece, a type of a section, and a type that a module type, a component type or an
-/// instance type declares: given up it leaves no trace, and ended it is one more.
+/// instance type declares: given up it leaves no trace, and ended it is one more, where it can be encoded.
 pub fn openings_are_members()
     ensures given_up { (h : Held) (lead more : List ℕ) → is_finished h ≡ true
         → given_up (lengthened (opened_with h lead) more) ≡ h }
     ensures ended { (h : Held) (members : List (List ℕ)) (lead more : List ℕ)
-        → Contains as_they_are h members
-        → Contains as_they_are (closed (lengthened (opened_with h lead) more))
+        → Contains verbatim h members
+        → Contains verbatim (closed (lengthened (opened_with h lead) more))
         (members ++ (lead ++ more) ∷ []) }
     ensures type_ended_in_section { (section : Held) (t : TypeOf) (types : List TypeOf)
-        → Contains type_text section types
-        → Contains type_text (closed (lengthened (opened_with section []) (type_text t)))
+        → (type_of t).Fits → Contains type_of section types
+        → Contains type_of (closed (lengthened (opened_with section []) (type_of t).text))
         (types ++ t ∷ []) }
     ensures core_type_ended_in_section { (section : Held) (t : CoreType) (types : List CoreType)
-        → Contains core_type_text section types
-        → Contains core_type_text
-        (closed (lengthened (opened_with section []) (core_type_text t))) (types ++ t ∷ []) }
+        → (core_type t).Fits → Contains core_type section types
+        → Contains core_type (closed (lengthened (opened_with section []) (core_type t).text))
+        (types ++ t ∷ []) }
     ensures module_given_up { (ty : Declared) (text : List ℕ) → is_finished ty.held ≡ true
         → taken_back (written (begun ty) text) ≡ ty }
     ensures module_ended { (ty : Declared) (g : Group) (ds : List ModuleDeclaration)
-        → Declares ty ds
+        → (group g).Fits → Declares ty ds
         → Declares (ended (written (begun ty) (group g).text)) (ds ++ Defined g ∷ []) }
     ensures type_given_up { (t : Declaring) (sort : Sort) (text : List ℕ) → Settled t
         → types.taken_back (types.written (types.begun sort t) text) ≡ t }
     ensures type_ended_in_component { (t : Declaring) (ty : TypeOf) (ds : List ComponentDeclaration)
-        → ComponentDeclares t ds
+        → (type_of ty).Fits → ComponentDeclares t ds
         → ComponentDeclares
-        (types.ended (types.written (types.begun sorts.«Type» t) (type_text ty)))
+        (types.ended (types.written (types.begun sorts.«Type» t) (type_of ty).text))
         (ds ++ component.Declared (Typed ty) ∷ []) }
     ensures core_type_ended_in_component { (t : Declaring) (ty : CoreType)
-        (ds : List ComponentDeclaration) → ComponentDeclares t ds
+        (ds : List ComponentDeclaration) → (core_type ty).Fits → ComponentDeclares t ds
         → ComponentDeclares
-        (types.ended (types.written (types.begun sorts.CoreType t) (core_type_text ty)))
+        (types.ended (types.written (types.begun sorts.CoreType t) (core_type ty).text))
         (ds ++ component.Declared (CoreTyped ty) ∷ []) }
     ensures type_ended_in_instance { (t : Declaring) (ty : TypeOf) (ds : List InstanceDeclaration)
-        → InstanceDeclares t ds
+        → (type_of ty).Fits → InstanceDeclares t ds
         → InstanceDeclares
-        (types.ended (types.written (types.begun sorts.«Type» t) (type_text ty)))
+        (types.ended (types.written (types.begun sorts.«Type» t) (type_of ty).text))
         (ds ++ Typed ty ∷ []) }
     ensures core_type_ended_in_instance { (t : Declaring) (ty : CoreType)
-        (ds : List InstanceDeclaration) → InstanceDeclares t ds
+        (ds : List InstanceDeclaration) → (core_type ty).Fits → InstanceDeclares t ds
         → InstanceDeclares
-        (types.ended (types.written (types.begun sorts.CoreType t) (core_type_text ty)))
+        (types.ended (types.written (types.begun sorts.CoreType t) (core_type ty).text))
         (ds ++ CoreTyped ty ∷ []) }
 {}
 

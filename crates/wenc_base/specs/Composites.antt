@@ -1,4 +1,5 @@
--- Types that core modules define (WebAssembly 3.0, binary format, "Composite Types" and "Recursive Types").
+-- Types that core modules define (WebAssembly 3.0, binary format, "Composite Types" and "Recursive
+-- Types").
 use Rattle.std.specs.Prelude.{ℕ, Bool, true, false, List, map, Option, Some, None}
 use Rattle.wenc_base.specs.Piece.{Piece, Form, byte, ◌▸◌, ◌⨾◌}
 use Rattle.wenc_base.specs.Number.{u32}

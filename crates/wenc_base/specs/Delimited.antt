@@ -1,4 +1,5 @@
--- What it is that a text tells which value it is: a form, what is seen of a value, and what ties both to its encoding.
+-- What it is that a text tells which value it is: a form, what is seen of a value, and what ties
+-- both to its encoding.
 use Rattle.std.specs.Prelude.{◌≡◌, ℕ, Bool, true, Option, Some, None}
 use Rattle.wenc_base.specs.Encode.{Serves}
 use Rattle.wenc_base.specs.Piece.{Form, ◌⨾◌}

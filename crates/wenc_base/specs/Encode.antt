@@ -1,13 +1,15 @@
 -- What it is to append a text.
 use Rattle.std.specs.List.{flat_map, AllByRecursion}
 use Rattle.std.specs.Prelude.{◌≡◌, ℕ, List, length, ◌++◌, Result, Err, OnOk, OnErr, IfErr}
-use Rattle.wenc_base.specs.Fault.{IsWarranted, NoCause, size_cause, first_of, member_cause, list_cause, drawn_cause}
+use Rattle.wenc_base.specs.Fault.{IsWarranted, NoCause, size_cause, first_of, member_cause}
+use Rattle.wenc_base.specs.Fault.{list_cause, drawn_cause}
 use Rattle.wenc_base.specs.Forms.{list, sized}
 use Rattle.wenc_base.specs.Piece.{Piece, Form, ◌⨾◌, refused_for, all_of}
 use Rattle.wenc_base.specs.declared.fault.Fault.{Fault}
 use Rattle.wenc_base.specs.declared.fault.Fault.TheVariants.{Unfinished}
 
--- A call appends this text, against which nothing stands, or is refused for a cause and changes nothing.
+-- A call appends this text, against which nothing stands, or is refused for a cause and changes
+-- nothing.
 pub record Appends (text : List ℕ) (cause : Fault → Type 0) (unfinished : Type 0)
     (old new : List ℕ) (outcome : Result (Unit {0}) Fault) : Type 0 where
   pub ok : OnOk outcome (new ≡ old ++ text)
@@ -43,8 +45,8 @@ sized_in_order p =
 
 -- ---- one piece for another
 
--- Who writes p writes q: the text is the same, what fits still fits, each cause of p is one of q, and where p has
--- none, q has none.
+-- Who writes p writes q: the text is the same, what fits still fits, each cause of p is one of q,
+-- and where p has none, q has none.
 pub record Serves (p q : Piece) : Type 0 where
   pub text : p.text ≡ q.text
   pub fits : p.Fits → q.Fits

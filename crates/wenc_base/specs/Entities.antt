@@ -1,4 +1,5 @@
--- Types of what modules import and export (WebAssembly 3.0, binary format, "Limits", "Table Types", "Memory Types", "Global Types", "Tag Types" and "External Types").
+-- Types of what modules import and export (WebAssembly 3.0, binary format, "Limits", "Table Types",
+-- "Memory Types", "Global Types", "Tag Types" and "External Types").
 use Rattle.std.specs.Prelude.{ℕ, ◌+◌, Bool, true, false, Option, Some, None}
 use Rattle.wenc_base.specs.Piece.{Piece, Form, ◌▸◌, ◌⨾◌}
 use Rattle.wenc_base.specs.Number.{u32, u64}
@@ -9,7 +10,8 @@ use Rattle.wenc_base.specs.declared.memories.MemoryType.{MemoryType}
 use Rattle.wenc_base.specs.declared.globals.GlobalType.{GlobalType}
 use Rattle.wenc_base.specs.declared.tags.TagType.{TagType}
 use Rattle.wenc_base.specs.declared.imports.EntityType.{EntityType}
-use Rattle.wenc_base.specs.declared.imports.EntityType.TheVariants.{Function, Table, Memory, Global, Tag}
+use Rattle.wenc_base.specs.declared.imports.EntityType.TheVariants.{Function, Table, Memory, Global}
+use Rattle.wenc_base.specs.declared.imports.EntityType.TheVariants.{Tag}
 
 abbrev pub bit : ℕ → Bool → ℕ
 bit n false = 0

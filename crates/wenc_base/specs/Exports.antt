@@ -1,8 +1,10 @@
--- The kinds of what a module exports and imports (WebAssembly 3.0, binary format, "Export Section").
+-- The kinds of what a module exports and imports (WebAssembly 3.0, binary format, "Export
+-- Section").
 use Rattle.std.specs.Prelude.{ℕ}
 use Rattle.wenc_base.specs.Piece.{Form, byte}
 use Rattle.wenc_base.specs.declared.exports.ExportKind.{ExportKind}
-use Rattle.wenc_base.specs.declared.exports.ExportKind.TheVariants.{Func, Table, Memory, Global, Tag}
+use Rattle.wenc_base.specs.declared.exports.ExportKind.TheVariants.{Func, Table, Memory, Global}
+use Rattle.wenc_base.specs.declared.exports.ExportKind.TheVariants.{Tag}
 
 abbrev pub export_kind_byte : ExportKind → ℕ
 export_kind_byte Func = 0x00

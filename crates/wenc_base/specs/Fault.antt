@@ -38,7 +38,8 @@ count_cause n TooMany = 2 ^ 32 ≤ n
 count_cause n TooLarge = ⊥
 count_cause n Unfinished = ⊥
 
--- the cause of one thing or, where that has none, of the next: what is asked first is answered first
+-- the cause of one thing or, where that has none, of the next: what is asked first is answered
+-- first
 abbrev pub first_of : (Fault → Type 0) → (Fault → Type 0) → Fault → Type 0
 first_of one next fault = one fault ⊎ (NoCause one × next fault)
 

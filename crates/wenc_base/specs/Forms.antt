@@ -1,5 +1,7 @@
--- Forms made of others (component model, binary format; WebAssembly 3.0, binary format, "Conventions" and "Values").
-use Rattle.std.specs.Prelude.{◌≡◌, ◌⊎◌, ℕ, ◌^◌, ◌<◌, List, [], ◌∷◌, ◌++◌, length, Bool, true, false, Option, Some, None, IsUtf8}
+-- Forms made of others (component model, binary format; WebAssembly 3.0, binary format,
+-- "Conventions" and "Values").
+use Rattle.std.specs.Prelude.{◌≡◌, ◌⊎◌, ℕ, ◌^◌, ◌<◌, List, [], ◌∷◌, ◌++◌, length, Bool, true, false}
+use Rattle.std.specs.Prelude.{Option, Some, None, IsUtf8}
 use Rattle.wenc_base.specs.Fault.{size_cause}
 use Rattle.wenc_base.specs.Piece.{Piece, Whole, Form, byte, ◌▸◌, ◌⨾◌, each, all_of, raw}
 use Rattle.wenc_base.specs.Number.{unsigned_text, u32, count, size}

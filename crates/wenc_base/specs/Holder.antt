@@ -1,5 +1,7 @@
 -- What counted sections and types keep: how many members, and their texts.
-use Rattle.std.specs.Prelude.{◌≡◌, ℕ, ◌+◌, ◌<◌, ◌≤◌, ◌^◌, ◌⊎◌, Bool, true, false, is_none, List, [], ◌++◌, length, take, drop, Option, Some, None, Result, Err, OnOk, OnErr, IfErr}
+use Rattle.std.specs.Prelude.{◌≡◌, ℕ, ◌+◌, ◌<◌, ◌≤◌, ◌^◌, ◌⊎◌, Bool, true, false, is_none, List, []}
+use Rattle.std.specs.Prelude.{◌++◌, length, take, drop, Option, Some, None, Result, Err, OnOk}
+use Rattle.std.specs.Prelude.{OnErr, IfErr}
 use Rattle.std.specs.Iterator.Runs.{SomeRun, WholeRun}
 use Rattle.std.specs.List.{flat_map, AllByRecursion}
 use Rattle.wenc_base.specs.Number.{unsigned_text, number_size, u32}
@@ -10,8 +12,8 @@ use Rattle.wenc_base.specs.declared.fault.Fault.{Fault}
 use Rattle.wenc_base.specs.declared.fault.Fault.TheVariants.{Memory, TooMany, TooLarge, Unfinished}
 use Rattle.wenc_base.specs.declared.holder.openings.Opening.{Opening}
 
--- What contracts see of a holder: the bytes that it keeps in front, which are not its own, how many members it
--- has, their texts, and, while one is being written, where that begins.
+-- What contracts see of a holder: the bytes that it keeps in front, which are not its own, how many
+-- members it has, their texts, and, while one is being written, where that begins.
 pub record Held : Type 0 where
   pub kept : List ℕ
   pub count : ℕ
@@ -83,7 +85,8 @@ content_size count body = number_size count + body
 abbrev pub held_text : Held → List ℕ
 held_text h = unsigned_text h.count ++ h.body
 
--- a counted section: how many bytes, how many members, the members (component model, binary format, `vec`)
+-- a counted section: how many bytes, how many members, the members (component model, binary format,
+-- `vec`)
 abbrev pub section_text : Held → List ℕ
 section_text h = unsigned_text (content_size h.count (length h.body)) ++ held_text h
 
@@ -100,7 +103,8 @@ CountCause count size TooMany = 2 ^ 32 ≤ count + 1
 CountCause count size TooLarge = 2 ^ 32 ≤ content_size (count + 1) size
 CountCause count size Unfinished = ⊥
 
--- Why a member with this text can't be added: for its own cause, for number or size, or since one is being written.
+-- Why a member with this text can't be added: for its own cause, for number or size, or since one
+-- is being written.
 abbrev pub AddCause : Held → List ℕ → (Fault → Type 0) → Fault → Type 0
 AddCause h text cause fault =
     cause fault ⊎
@@ -114,7 +118,8 @@ pub record Accepted (p : Piece) (old new : Held) : Type 0 where
   pub free : NoCause (AddCause old p.text p.Cause)
 
 -- A call adds this piece as a member, or is refused for a cause and changes nothing.
-pub record AddsMember (p : Piece) (old new : Held) (outcome : Result (Unit {0}) Fault) : Type 0 where
+pub record AddsMember (p : Piece) (old new : Held)
+    (outcome : Result (Unit {0}) Fault) : Type 0 where
   pub ok : OnOk outcome (Accepted p old new)
   pub err : OnErr outcome (new ≡ old)
   pub warranted : IfErr outcome (IsWarranted (AddCause old p.text p.Cause))

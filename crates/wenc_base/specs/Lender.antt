@@ -1,13 +1,14 @@
 -- What an encoder does to what it was lent.
-use Rattle.std.specs.Prelude.{◌≡◌, ℕ, List, Option, Bool, false, IsTrue, ◌↔◌, ◌⊎◌, Result, Err, OnOk, OnErr, IfOk, IfErr}
+use Rattle.std.specs.Prelude.{◌≡◌, ℕ, List, Option, Bool, false, IsTrue, ◌↔◌, ◌⊎◌, Result, Err}
+use Rattle.std.specs.Prelude.{OnOk, OnErr, IfOk, IfErr}
 use Rattle.std.specs.Iterator.Runs.{SomeRun, WholeRun}
 use Rattle.wenc_base.specs.Fault.{IsWarranted, NoCause, either}
 use Rattle.wenc_base.specs.Piece.{Piece}
 use Rattle.wenc_base.specs.declared.fault.Fault.{Fault}
 use Rattle.wenc_base.specs.declared.fault.Fault.TheVariants.{Unfinished}
 
--- A call adds this piece and leaves `next`, or is refused, for the piece's cause or for `refuses`, and changes
--- nothing.
+-- A call adds this piece and leaves `next`, or is refused, for the piece's cause or for `refuses`,
+-- and changes nothing.
 pub record Extends {T : Type 0} (old new next : T) (outcome : Result (Unit {0}) Fault) (p : Piece)
     (refuses : Fault → Type 0) : Type 0 where
   pub ok : OnOk outcome (new ≡ next)
@@ -23,8 +24,8 @@ pub record Extended {T : Type 0} (new : T) (next : List ℕ → T)
   pub fits : p.Fits
   pub free : NoCause (either p.Cause (refuses p.text))
 
--- The same as `Extends` where the piece is made of the values that an iterator gives. `next` is what more bytes
--- leave, `refuses` why there is no room for them.
+-- The same as `Extends` where the piece is made of the values that an iterator gives. `next` is
+-- what more bytes leave, `refuses` why there is no room for them.
 pub record ExtendsListed {T S B : Type 0} (steps : S → Option B → S → Type 0) (values : S)
     (old new : T) (outcome : Result (Unit {0}) Fault)
     (next : List ℕ → T) (refuses : List ℕ → Fault → Type 0) (piece : List B → Piece) : Type 0 where
@@ -39,7 +40,8 @@ pub record ExtendsListed {T S B : Type 0} (steps : S → Option B → S → Type
 abbrev pub MakesWhole : {T : Type 0} → (T → Type 0) → (T → List ℕ → T) → T → Piece → Type 0
 MakesWhole is_whole written lender p = p.Fits → ∥ is_whole (written lender p.text) ∥₁
 
--- A last call adds this piece to the member and ends it, or is refused for a cause and changes nothing.
+-- A last call adds this piece to the member and ends it, or is refused for a cause and changes
+-- nothing.
 abbrev pub Ends : {T : Type 0} → (T → List ℕ → T) → (T → T) → (T → List ℕ → Fault → Type 0) → T → T
     → Result (Unit {0}) Fault → Piece → Type 0
 Ends written ended refuses old new outcome p =
@@ -53,8 +55,8 @@ EndsListed written ended refuses steps values old new outcome piece =
     ExtendsListed steps values old new outcome (λ bytes. ended (written old bytes)) (refuses old)
     piece
 
--- The same of two lists, of which the second comes when the first is added. A call that is refused may have added
--- the first.
+-- The same of two lists, of which the second comes when the first is added. A call that is refused
+-- may have added the first.
 pub record EndsLists {T S R B C : Type 0} (written : T → List ℕ → T) (ended : T → T)
     (refuses : T → List ℕ → Fault → Type 0)
     (steps : S → Option B → S → Type 0) (values : S) (more_steps : R → Option C → R → Type 0)

@@ -1,5 +1,5 @@
--- Names of items, by their places (WebAssembly 3.0, binary format, "Name Maps"; component model, binary format,
--- "Name Section").
+-- Names of items, by their places (WebAssembly 3.0, binary format, "Name Maps"; component model,
+-- binary format, "Name Section").
 use Rattle.std.specs.Prelude.{ℕ, List}
 use Rattle.std.specs.List.{flat_map}
 use Rattle.wenc_base.specs.Piece.{Form, ◌⨾◌}

@@ -1,5 +1,8 @@
--- Numbers in groups of seven bits, the lowest first (LEB128: WebAssembly 3.0, binary format, "Integers").
-use Rattle.std.specs.Prelude.{◌≡◌, ℕ, ℤ, pos, negsuc, ◌-ℤ◌, zero, suc, ◌+◌, ◌-◌, ◌*◌, ◌/◌, ◌%◌, ◌^◌, ◌<◌, ◌≤◌, nat_lt, if◌then◌else◌, slice_index, Bool, true, false, length, List, [], ◌∷◌, ◌++◌, map, FitsSigned}
+-- Numbers in groups of seven bits, the lowest first (LEB128: WebAssembly 3.0, binary format,
+-- "Integers").
+use Rattle.std.specs.Prelude.{◌≡◌, ℕ, ℤ, pos, negsuc, ◌-ℤ◌, zero, suc, ◌+◌, ◌-◌, ◌*◌, ◌/◌, ◌%◌, ◌^◌}
+use Rattle.std.specs.Prelude.{◌<◌, ◌≤◌, nat_lt, if◌then◌else◌, slice_index, Bool, true, false}
+use Rattle.std.specs.Prelude.{length, List, [], ◌∷◌, ◌++◌, map, FitsSigned}
 use Rattle.std.specs.Int.{w64}
 use Rattle.wenc_base.specs.Fault.{count_cause, size_cause}
 use Rattle.wenc_base.specs.Piece.{Form, Spelling, Strict, Wide, refused_for}
@@ -24,8 +27,8 @@ abbrev pub turned : Bool → List ℕ → List ℕ
 turned false bytes = bytes
 turned true bytes = map complement bytes
 
--- A signed number of up to 64 bits: the last byte has six bits and the sign. `negsuc n` is -1 - n, whose
--- bits are those of n turned over.
+-- A signed number of up to 64 bits: the last byte has six bits and the sign. `negsuc n` is -1 - n,
+-- whose bits are those of n turned over.
 abbrev pub signed_text : ℤ → List ℕ
 signed_text (pos n) = groups 64 9 n
 signed_text (negsuc n) = turned true (groups 64 9 n)
@@ -100,7 +103,8 @@ number_size n = length (unsigned_text n)
 
 -- ---- the texts in words
 
--- The sum of the low seven bits of each byte, times 128 for each byte before it. `place` bytes come before these.
+-- The sum of the low seven bits of each byte, times 128 for each byte before it. `place` bytes come
+-- before these.
 abbrev pub sum_from : ℕ → List ℕ → ℕ
 sum_from place [] = 0
 sum_from place (b ∷ bytes) = (b % 128) * 128 ^ place + sum_from (suc place) bytes

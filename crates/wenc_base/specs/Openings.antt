@@ -1,5 +1,7 @@
--- A member that is written piece by piece into a holder: its opening, what is added to it, and its end.
-use Rattle.std.specs.Prelude.{◌≡◌, ◌==◌, Bool, ℕ, ◌+◌, ◌-◌, ◌≤◌, ◌^◌, false, [], ◌++◌, List, length, take, drop, Option, Some, None, Result, Err, OnOk, OnErr, IfErr}
+-- A member that is written piece by piece into a holder: its opening, what is added to it, and its
+-- end.
+use Rattle.std.specs.Prelude.{◌≡◌, ◌==◌, Bool, ℕ, ◌+◌, ◌-◌, ◌≤◌, ◌^◌, false, [], ◌++◌, List, length}
+use Rattle.std.specs.Prelude.{take, drop, Option, Some, None, Result, Err, OnOk, OnErr, IfErr}
 use Rattle.wenc_base.specs.Fault.{IsWarranted, NoCause}
 use Rattle.wenc_base.specs.Piece.{Piece}
 use Rattle.wenc_base.specs.Holder.{Held, is_finished, holding, content_size, AddCause, ContainsSome}
@@ -74,6 +76,7 @@ abbrev pub no_room : Held → List ℕ → Fault → Type 0
 no_room h text fault =
     (fault ≡ TooLarge) × (2 ^ 32 ≤ content_size h.count (length (h.body ++ text)))
 
--- A call adds this piece to a member and leaves it so, or is refused for a cause and changes nothing.
+-- A call adds this piece to a member and leaves it so, or is refused for a cause and changes
+-- nothing.
 abbrev pub Lengthens : Held → Held → Held → Result (Unit {0}) Fault → Piece → Type 0
 Lengthens old new next outcome p = Extends old new next outcome p (no_room old p.text)

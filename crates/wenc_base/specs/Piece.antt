@@ -12,8 +12,8 @@ abbrev pub IsWide : Spelling → Type 0
 IsWide Strict = ⊥
 IsWide Wide = Unit {0}
 
--- `Fits`: it has a text. `Cause`: why it can't be encoded. `Reads mode bytes rest`: the bytes begin with a
--- spelling of it, and rest remains.
+-- `Fits`: it has a text. `Cause`: why it can't be encoded. `Reads mode bytes rest`: the bytes begin
+-- with a spelling of it, and rest remains.
 pub record Piece : Type 1 where
   pub Fits : Type 0
   pub Cause : Fault → Type 0

@@ -39,7 +39,8 @@ producers_held h = refused_for (EncodeCause h) (sized (name producers_label ⨾�
 abbrev pub held_field : List ℕ → Held → Piece
 held_field field tools = name field ⨾ held tools
 
--- Why such a field can't be added: for its own cause, or since the section's size would be no number of 32 bits.
+-- Why such a field can't be added: for its own cause, or since the section's size would be no
+-- number of 32 bits.
 abbrev pub FieldCause : Held → List ℕ → Held → Fault → Type 0
 FieldCause h field tools = either (held_field field tools).Cause (λ fault. (fault ≡ TooLarge) ×
     (2 ^ 32 ≤ 10 + content_size (h.count + 1) (length (h.body ++ (held_field field tools).text))))

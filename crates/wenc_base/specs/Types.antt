@@ -1,4 +1,5 @@
--- Value types of core modules (WebAssembly 3.0, binary format, "Heap Types", "Reference Types" and "Value Types").
+-- Value types of core modules (WebAssembly 3.0, binary format, "Heap Types", "Reference Types" and
+-- "Value Types").
 use Rattle.std.specs.Prelude.{ℕ, Bool, true, false}
 use Rattle.wenc_base.specs.Piece.{Form, byte, ◌▸◌, or_widely}
 use Rattle.wenc_base.specs.Number.{index}
@@ -8,7 +9,10 @@ use Rattle.wenc_base.specs.declared.types.RefType.{RefType}
 use Rattle.wenc_base.specs.declared.types.HeapType.{HeapType}
 use Rattle.wenc_base.specs.declared.types.HeapType.TheVariants.{Abstract, Concrete}
 use Rattle.wenc_base.specs.declared.types.AbstractHeapType.{AbstractHeapType}
-use Rattle.wenc_base.specs.declared.types.AbstractHeapType.TheVariants.{Func, Extern, Any, None, NoExtern, NoFunc, Eq, Struct, Array, I31, Exn, NoExn}
+use Rattle.wenc_base.specs.declared.types.AbstractHeapType.TheVariants.{Func, Extern, Any, None}
+use Rattle.wenc_base.specs.declared.types.AbstractHeapType.TheVariants.{NoExtern, NoFunc, Eq}
+use Rattle.wenc_base.specs.declared.types.AbstractHeapType.TheVariants.{Struct, Array, I31, Exn}
+use Rattle.wenc_base.specs.declared.types.AbstractHeapType.TheVariants.{NoExn}
 
 abbrev pub abstract_byte : AbstractHeapType → ℕ
 abstract_byte NoExn = 0x74
@@ -32,8 +36,8 @@ abbrev pub heap_type : Form HeapType
 heap_type (Abstract t) = abstract_type t
 heap_type (Concrete n) = index n
 
--- A nullable reference to func or extern is written as that byte alone, and one to another heap type behind a
--- byte. Widely either spelling is read of each abstract type.
+-- A nullable reference to func or extern is written as that byte alone, and one to another heap
+-- type behind a byte. Widely either spelling is read of each abstract type.
 abbrev pub nullable : Form HeapType
 nullable (Abstract Func) = or_widely (abstract_type Func) (0x63 ▸ abstract_type Func)
 nullable (Abstract Extern) = or_widely (abstract_type Extern) (0x63 ▸ abstract_type Extern)

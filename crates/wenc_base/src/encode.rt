@@ -172,8 +172,8 @@ impl Encode for &[u8] {
 /// Appends the number of bytes, and the bytes, in one growth.
 #[tactic(auto, using(crate::proofs::Groups::groups_below))]
 fn encode_bytes<A: Allocator>(bytes: &[u8], sink: &mut Vec<u8, A>) -> Result<(), Fault>
-    ensures appended { Appends (unsigned_text (length bytes.now) ++ bytes.now) (size_cause (length bytes.now))
-        ⊥ sink.old.items sink.new.items result }
+    ensures appended { Appends (unsigned_text (length bytes.now) ++ bytes.now)
+        (size_cause (length bytes.now)) ⊥ sink.old.items sink.new.items result }
     ensures fits { OnOk result ((length bytes.now < 2 ^ 32) × AreBytes bytes.now) }
 {
     if let [byte] = bytes {
@@ -193,8 +193,8 @@ fn encode_bytes<A: Allocator>(bytes: &[u8], sink: &mut Vec<u8, A>) -> Result<(),
 #[cold]
 #[inline(never)]
 fn encode_long_bytes<A: Allocator>(bytes: &[u8], sink: &mut Vec<u8, A>) -> Result<(), Fault>
-    ensures appended { Appends (unsigned_text (length bytes.now) ++ bytes.now) (size_cause (length bytes.now))
-        ⊥ sink.old.items sink.new.items result }
+    ensures appended { Appends (unsigned_text (length bytes.now) ++ bytes.now)
+        (size_cause (length bytes.now)) ⊥ sink.old.items sink.new.items result }
     ensures fits { OnOk result ((length bytes.now < 2 ^ 32) × AreBytes bytes.now) }
 {
     let Ok(len) = u32::try_from(bytes.len()) else {

@@ -47,8 +47,8 @@ pub trait Lender {
     /// Adds the text of a value to the member. A refused call changes nothing.
     fn append_value<E: Encode>(&mut self, value: &E) -> Result<(), Fault>
         requires { finished self.old ≡ false }
-        ensures appended { Extends self.old self.new (written self.old (E.piece value.now).text) result
-            (E.piece value.now) (refuses self.old (E.piece value.now).text) }
+        ensures appended { Extends self.old self.new (written self.old (E.piece value.now).text)
+            result (E.piece value.now) (refuses self.old (E.piece value.now).text) }
         ensures unfinished_value { E.unfinished value.now → result ≡ Err Unfinished };
 
     /// Adds these bytes to the member, then the values as a list. A refused call changes nothing.

@@ -8,11 +8,11 @@ use Rattle.wenc_base.specs.declared.fault.Fault.{Fault}
 use Rattle.wenc_base.specs.laws.Serves.{still_warranted}
 use Rattle.wenc_builder.specs.Builder.{State, Namespace, no_names, namespace_at, namespace_with, with_alone}
 use Rattle.wenc_builder.specs.Cause.{SpaceCause, CallCause}
-use Rattle.wenc_builder.specs.Enters.{TakesAlone, TakesNoPlace}
-use Rattle.wenc_builder.specs.Layout.{Buffered}
+use Rattle.wenc_builder.specs.inside.Takes.{TakesAlone, TakesNoPlace}
+use Rattle.wenc_builder.specs.inside.Layout.{Buffered}
 use Rattle.wenc_builder.specs.Space.{Defined}
-use Rattle.wenc_builder.specs.Spaces.{Spaced}
-use Rattle.wenc_builder.specs.View.{Agree, builder_view}
+use Rattle.wenc_builder.specs.inside.Spaces.{Spaced}
+use Rattle.wenc_builder.specs.inside.View.{Agree, builder_view}
 use Rattle.wenc_builder.proofs.Taken.{settled_before}
 
 -- its space, as it is with it

@@ -15,9 +15,9 @@ use Rattle.wenc_base.specs.declared.fault.Fault.{Fault}
 use Rattle.wenc_base.specs.declared.fault.Fault.TheVariants.{Memory, TooMany, TooLarge, Unfinished}
 use Rattle.wenc_base.proofs.Groups.{size_1}
 use Rattle.wenc_builder.specs.Builder.{OpenSection, Sections, sections_text, entered, entered_at}
-use Rattle.wenc_builder.specs.Cause.{SectionCause}
+use Rattle.wenc_builder.specs.Cause.{SectionCause, NoRoom}
 use Rattle.wenc_builder.specs.laws.Caused.{cause_is}
-use Rattle.wenc_builder.specs.Layout.{kind_id, open_head, OpensAnother, Buffered, buffered_content, buffer_appended, section_appended, buffer_with, NoRoom, SectionFits, open_view, earlier_view, buffer_view, kept_before, kept_with, SectionIsIn, MembersAreIn, OpeningIsIn, EarlierIsIn, IsApart, IsLaidOut}
+use Rattle.wenc_builder.specs.inside.Layout.{kind_id, open_head, OpensAnother, Buffered, buffered_content, buffer_appended, section_appended, buffer_with, SectionFits, open_view, earlier_view, buffer_view, kept_before, kept_with, SectionIsIn, MembersAreIn, OpeningIsIn, EarlierIsIn, IsApart, IsLaidOut}
 use Rattle.wenc_builder.specs.declared.builder.earlier.Earlier.{Earlier}
 use Rattle.wenc_builder.specs.declared.builder.kind.Kind.{Kind}
 

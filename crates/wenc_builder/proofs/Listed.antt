@@ -18,8 +18,9 @@ use Rattle.wenc_builder.specs.Space.{canonical_space, space_number}
 use Rattle.wenc_builder.specs.Entry.{Entry, canonical_entry}
 use Rattle.wenc_builder.specs.Builder.{Begun, State, builder_is_finished, content_of, draft, begun_with, appended, ended, builder_given_up}
 use Rattle.wenc_builder.specs.Cause.{SectionCause}
-use Rattle.wenc_builder.specs.Enters.{Enters, EntersListed, Takes, TakesDraft, TakesListed, AppendsListed}
-use Rattle.wenc_builder.specs.Layout.{kind_id, draft_of}
+use Rattle.wenc_builder.specs.Enters.{Enters, EntersListed, Takes, TakesDraft}
+use Rattle.wenc_builder.specs.inside.Takes.{AppendsListed, TakesListed}
+use Rattle.wenc_builder.specs.inside.Layout.{kind_id, draft_of}
 use Rattle.wenc_builder.specs.Lent.{no_room}
 use Rattle.wenc_builder.specs.declared.builder.kind.Kind.TheVariants as kinds
 use Rattle.wenc_builder.specs.declared.builder.space.Space.{Space}

@@ -23,17 +23,18 @@ use Rattle.wenc_sections.specs.declared.names.Sort.TheVariants as sorts
 use Rattle.wenc_builder.specs.Entry.{Entry, entry, custom_entry, names}
 use Rattle.wenc_builder.specs.Builder.{namespace_at, with_alone, State, builder_is_finished}
 use Rattle.wenc_builder.specs.Cause.{CallCause}
-use Rattle.wenc_builder.specs.Enters.{EntersPlaceless, TakesNoPlace}
+use Rattle.wenc_builder.specs.Enters.{EntersPlaceless}
+use Rattle.wenc_builder.specs.inside.Takes.{TakesNoPlace}
 use Rattle.wenc_builder.specs.Holds.{Holds}
 use Rattle.wenc_builder.specs.Names.{named_sorts, by_sort, named_entry, AddsNames, names_held, space_names, none_named, kept_names}
 use Rattle.wenc_builder.specs.Space.{space_number}
 use Rattle.wenc_builder.specs.declared.builder.space.Space.{Space}
 use Rattle.wenc_builder.specs.laws.Step.{space_within}
 use Rattle.wenc_builder.specs.Item.{CustomItem, item}
-use Rattle.wenc_builder.specs.Layout.{Buffered, buffer_with}
+use Rattle.wenc_builder.specs.inside.Layout.{Buffered, buffer_with}
 use Rattle.wenc_builder.specs.Lent.{IsItemText}
-use Rattle.wenc_builder.specs.Spaces.{Spaced}
-use Rattle.wenc_builder.specs.View.{Agree, builder_view}
+use Rattle.wenc_builder.specs.inside.Spaces.{Spaced}
+use Rattle.wenc_builder.specs.inside.View.{Agree, builder_view}
 use Rattle.wenc_base.proofs.Bytes.{last_below}
 use Rattle.wenc_builder.proofs.Alone.{stood_nowhere}
 use Rattle.wenc_builder.proofs.Entered.{placeless_enters, unfinished_enters}

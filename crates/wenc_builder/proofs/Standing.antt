@@ -6,12 +6,12 @@ use Rattle.wenc_base.specs.Fault.{NoCause}
 use Rattle.wenc_base.specs.Piece.{Piece}
 use Rattle.wenc_base.specs.laws.Serves.{right_free}
 use Rattle.wenc_builder.specs.Builder.{Sections, content_of, appended}
-use Rattle.wenc_builder.specs.Cause.{SectionCause}
+use Rattle.wenc_builder.specs.Cause.{SectionCause, NoRoom}
 use Rattle.wenc_builder.specs.inside.HoldsSome.{HoldsSome}
-use Rattle.wenc_builder.specs.Layout.{Buffered, NoRoom, section_begun, section_appended, buffer_begun, buffer_appended, buffer_ended, buffer_given_up, buffer_with}
+use Rattle.wenc_builder.specs.inside.Layout.{Buffered, section_begun, section_appended, buffer_begun, buffer_appended, buffer_ended, buffer_given_up, buffer_with}
 use Rattle.wenc_builder.specs.Lent.{IsItemText, is_whole}
-use Rattle.wenc_builder.specs.Spaces.{Spaced, spaces_begun, spaces_ended, spaces_given_up}
-use Rattle.wenc_builder.specs.View.{builder_view, IsBuilder}
+use Rattle.wenc_builder.specs.inside.Spaces.{Spaced, spaces_begun, spaces_ended, spaces_given_up}
+use Rattle.wenc_builder.specs.inside.View.{builder_view, IsBuilder}
 use Rattle.wenc_builder.specs.laws.Held.{some_begun, some_appended, some_ended, some_given_up, some_alone}
 use Rattle.wenc_builder.proofs.Viewed.{appended_is, appended_section, still_agree, ended_is, not_taking}
 

@@ -8,11 +8,11 @@ use Rattle.wenc_base.specs.laws.Serves.{still_warranted}
 use Rattle.wenc_builder.specs.Builder.{entered, Content, State, namespace_at, content_of, Draft, draft, space_with, begun_with, appended, ended, builder_given_up}
 use Rattle.wenc_builder.specs.Cause.{SectionCause, SpaceCause}
 use Rattle.wenc_builder.specs.Enters.{TakesWith, Takes, TakesDraft, Begins}
-use Rattle.wenc_builder.specs.Layout.{Buffered}
+use Rattle.wenc_builder.specs.inside.Layout.{Buffered}
 use Rattle.wenc_builder.specs.Lent.{no_room}
 use Rattle.wenc_builder.specs.Space.{Defined}
-use Rattle.wenc_builder.specs.Spaces.{Spaced}
-use Rattle.wenc_builder.specs.View.{Agree, builder_view}
+use Rattle.wenc_builder.specs.inside.Spaces.{Spaced}
+use Rattle.wenc_builder.specs.inside.View.{Agree, builder_view}
 use Rattle.wenc_builder.specs.laws.Caused.{space_refuses, section_refuses, begun_free, beginning_refuses, text_refuses, whole_free}
 use Rattle.wenc_builder.specs.laws.Step.{holds_index}
 use Rattle.wenc_builder.proofs.Viewed.{finished_is}

@@ -13,8 +13,8 @@ use Rattle.wenc_parts.specs.declared.exports.ComponentExportKind.{ComponentExpor
 use Rattle.wenc_parts.specs.declared.imports.ComponentTypeRef.{ComponentTypeRef}
 use Rattle.wenc_builder.specs.Builder.{sections_text}
 use Rattle.wenc_builder.specs.Item.{Item, ComponentItem, ExportItem, RawItem, item, collected}
-use Rattle.wenc_builder.specs.Layout.{Buffered, nested}
-use Rattle.wenc_builder.specs.Lent.{IsItemPiece}
+use Rattle.wenc_builder.specs.inside.Layout.{Buffered, nested}
+use Rattle.wenc_builder.specs.inside.Takes.{IsItemPiece}
 use Rattle.wenc_builder.specs.Space.{defines}
 
 -- a piece that serves as an item is one

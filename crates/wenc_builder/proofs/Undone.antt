@@ -3,7 +3,7 @@ use Rattle.std.proofs.Common.{◌≡◌, ℕ, ◌<◌, ◌≤◌, List, length, 
 use Rattle.std.proofs.lemmas.List.{take_at, take_all, get_or-set_same, get_or_default, set-set, set-get_or, length-set}
 use Rattle.wenc_base.specs.Names.{named}
 use Rattle.wenc_builder.specs.Builder.{Namespace, no_names, namespace_at, namespace_with}
-use Rattle.wenc_builder.specs.Spaces.{Spaced, spaces_begun, taken, before, spaced_view, CanUndo}
+use Rattle.wenc_builder.specs.inside.Spaces.{Spaced, spaces_begun, taken, before, spaced_view, CanUndo}
 use Rattle.wenc_builder.specs.declared.builder.spaces.Undo.{Undo}
 
 -- what a space was is what the names up to its length say

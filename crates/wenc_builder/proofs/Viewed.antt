@@ -6,10 +6,11 @@ use Rattle.wenc_base.specs.Piece.{Piece}
 use Rattle.wenc_base.specs.declared.fault.Fault.{Fault}
 use Rattle.wenc_base.specs.laws.Serves.{still_warranted}
 use Rattle.wenc_builder.specs.Builder.{Sections, Content, State, builder_is_finished, content_of, appended, ended}
-use Rattle.wenc_builder.specs.Layout.{Writing, Buffered, buffered_content, buffer_appended, section_appended, buffer_ended, NoRoom}
+use Rattle.wenc_builder.specs.inside.Layout.{Writing, Buffered, buffered_content, buffer_appended, section_appended, buffer_ended}
+use Rattle.wenc_builder.specs.Cause.{NoRoom}
 use Rattle.wenc_builder.specs.Lent.{no_room}
-use Rattle.wenc_builder.specs.Spaces.{Taking, Spaced, taken, spaces_ended}
-use Rattle.wenc_builder.specs.View.{Agree, begun_of, builder_view}
+use Rattle.wenc_builder.specs.inside.Spaces.{Taking, Spaced, taken, spaces_ended}
+use Rattle.wenc_builder.specs.inside.View.{Agree, begun_of, builder_view}
 
 -- ---- nothing is begun in both, or in none
 

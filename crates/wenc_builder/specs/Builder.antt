@@ -1,10 +1,13 @@
 -- What a builder is seen as: settled content and, where an item is being written, that item.
-use Rattle.std.specs.Prelude.{ℕ, List, [], ◌∷◌, ◌++◌, ◌+◌, Option, Some, None, Bool, is_none, nat_eq, if◌then◌else◌, slice_set, slice_index_or}
+use Rattle.std.specs.Prelude.{ℕ, List, [], ◌∷◌, ◌++◌, ◌+◌, Option, Some, None, Bool, is_none}
+use Rattle.std.specs.Prelude.{nat_eq, if◌then◌else◌, slice_set, slice_index_or}
 use Rattle.wenc_base.specs.Holder.{holding, section_text}
 use Rattle.wenc_builder.specs.Item.{Item, collected, item}
 use Rattle.wenc_builder.specs.Space.{space_number, Defined, defines}
 use Rattle.wenc_builder.specs.declared.builder.space.Space.{Space}
 use Rattle.wenc_base.specs.Names.{named}
+use Rattle.wenc_parts.specs.SectionIds.{section_number}
+use Rattle.wenc_parts.specs.declared.component.ComponentSectionId.{ComponentSectionId}
 use Rattle.wenc_builder.specs.Entry.{Entry}
 
 -- ---- sections
@@ -105,7 +108,8 @@ with_entry c e =
       spaces = spaces_with c.spaces (defines e.item) e.name;
     }
 
--- an item that is being written: its section's id, its text so far, its space, and what that is with it
+-- an item that is being written: its section's id, its text so far, its space, and what that is
+-- with it
 pub record Begun : Type 0 where
   pub id : ℕ
   pub text : List ℕ
@@ -158,6 +162,10 @@ pub record Draft : Type 0 where
 
 abbrev pub draft : ℕ → ℕ → Option (List ℕ) → List ℕ → Draft
 draft id space name text = record { id = id; space = space; name = name; text = text }
+
+-- the same by the section and the space themselves
+abbrev pub draft_in : ComponentSectionId → Space → Option (List ℕ) → List ℕ → Draft
+draft_in section space name text = draft (section_number section) (space_number space) name text
 
 -- its place
 abbrev pub draft_place : Draft → Defined

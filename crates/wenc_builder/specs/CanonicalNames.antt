@@ -1,7 +1,23 @@
--- The debug names of canonical functions. Those that the component model provides have their own names (component
--- model, explainer, "Canonical Built-ins").
+-- The debug names of canonical functions. Those that the component model provides have their own
+-- names (component model, explainer, "Canonical Built-ins").
 use Rattle.std.specs.Prelude.{ℕ, List, ◌++◌, Option, Some, codes, decimal}
-use Rattle.wenc_canon.specs.Canonicals.{Canonical, Lift, Lower, Provided, row, Values, Intrinsic, ResourceNew, ResourceDrop, ResourceRep, TaskCancel, SubtaskCancel, TaskReturn, ContextGet, ContextSet, ThreadYield, SubtaskDrop, StreamNew, StreamRead, StreamWrite, StreamCancelRead, StreamCancelWrite, StreamDropReadable, StreamDropWritable, FutureNew, FutureRead, FutureWrite, FutureCancelRead, FutureCancelWrite, FutureDropReadable, FutureDropWritable, ErrorContextNew, ErrorContextDebugMessage, ErrorContextDrop, WaitableSetNew, WaitableSetWait, WaitableSetPoll, WaitableSetDrop, WaitableJoin, BackpressureInc, BackpressureDec, ThreadIndex, ThreadNewIndirect, ThreadResumeLater, ThreadSuspend, ThreadSuspendThenResume, ThreadYieldThenResume, ThreadSuspendThenPromote, ThreadYieldThenPromote, StreamForward, FutureForward, ThreadSpawnRef, ThreadSpawnIndirect, ThreadAvailableParallelism}
+use Rattle.wenc_canon.specs.Canonicals.{Canonical, Lift, Lower, Provided, row, Values, Intrinsic}
+use Rattle.wenc_canon.specs.Canonicals.{ResourceNew, ResourceDrop, ResourceRep, TaskCancel}
+use Rattle.wenc_canon.specs.Canonicals.{SubtaskCancel, TaskReturn, ContextGet, ContextSet}
+use Rattle.wenc_canon.specs.Canonicals.{ThreadYield, SubtaskDrop, StreamNew, StreamRead}
+use Rattle.wenc_canon.specs.Canonicals.{StreamWrite, StreamCancelRead, StreamCancelWrite}
+use Rattle.wenc_canon.specs.Canonicals.{StreamDropReadable, StreamDropWritable, FutureNew}
+use Rattle.wenc_canon.specs.Canonicals.{FutureRead, FutureWrite, FutureCancelRead}
+use Rattle.wenc_canon.specs.Canonicals.{FutureCancelWrite, FutureDropReadable, FutureDropWritable}
+use Rattle.wenc_canon.specs.Canonicals.{ErrorContextNew, ErrorContextDebugMessage, ErrorContextDrop}
+use Rattle.wenc_canon.specs.Canonicals.{WaitableSetNew, WaitableSetWait, WaitableSetPoll}
+use Rattle.wenc_canon.specs.Canonicals.{WaitableSetDrop, WaitableJoin, BackpressureInc}
+use Rattle.wenc_canon.specs.Canonicals.{BackpressureDec, ThreadIndex, ThreadNewIndirect}
+use Rattle.wenc_canon.specs.Canonicals.{ThreadResumeLater, ThreadSuspend, ThreadSuspendThenResume}
+use Rattle.wenc_canon.specs.Canonicals.{ThreadYieldThenResume, ThreadSuspendThenPromote}
+use Rattle.wenc_canon.specs.Canonicals.{ThreadYieldThenPromote, StreamForward, FutureForward}
+use Rattle.wenc_canon.specs.Canonicals.{ThreadSpawnRef, ThreadSpawnIndirect}
+use Rattle.wenc_canon.specs.Canonicals.{ThreadAvailableParallelism}
 
 -- that of a slot of a task has the slot's number behind it
 abbrev pub provided_name : (i : Intrinsic) → Values (row i).fields → List ℕ
@@ -53,7 +69,8 @@ provided_name ThreadSpawnRef values = codes "thread.spawn-ref"
 provided_name ThreadSpawnIndirect values = codes "thread.spawn-indirect"
 provided_name ThreadAvailableParallelism values = codes "thread.available-parallelism"
 
--- the debug name of a canonical function: its own, or for one that is lifted or lowered the one that is given
+-- the debug name of a canonical function: its own, or for one that is lifted or lowered the one
+-- that is given
 abbrev pub canonical_name : Option (List ℕ) → Canonical → Option (List ℕ)
 canonical_name debug_name (Lift function options ty) = debug_name
 canonical_name debug_name (Lower function options) = debug_name

@@ -1,5 +1,6 @@
 -- Why a builder's call is refused.
-use Rattle.std.specs.Prelude.{◌≡◌, ℕ, List, [], ◌∷◌, ◌++◌, ◌+◌, ◌≤◌, ◌^◌, ◌⊎◌, length, Option, Some, None, false}
+use Rattle.std.specs.Prelude.{◌≡◌, ℕ, List, [], ◌∷◌, ◌++◌, ◌+◌, ◌≤◌, ◌^◌, ◌⊎◌, length, Option, Some}
+use Rattle.std.specs.Prelude.{None, false}
 use Rattle.wenc_base.specs.Number.{number_size}
 use Rattle.wenc_base.specs.Holder.{content_size}
 use Rattle.wenc_base.specs.declared.fault.Fault.{Fault}
@@ -8,7 +9,9 @@ use Rattle.wenc_builder.specs.Item.{item}
 use Rattle.wenc_builder.specs.Sections.{runs}
 use Rattle.wenc_builder.specs.Space.{Defined, defines}
 use Rattle.wenc_builder.specs.Entry.{Entry, items}
-use Rattle.wenc_builder.specs.Builder.{OpenSection, Namespace, namespace_at, Content, with_entry, State, builder_is_finished}
+use Rattle.wenc_builder.specs.Builder.{OpenSection, Namespace, namespace_at, Content, with_entry}
+use Rattle.wenc_builder.specs.Builder.{State, builder_is_finished, Draft, draft_place, begun_with}
+use Rattle.wenc_builder.specs.Builder.{content_of}
 use Rattle.wenc_builder.specs.Holds.{open_of, namespace_of}
 
 -- ---- too much of something
@@ -20,6 +23,10 @@ SectionCause (Some o) (Memory e) = ⊥
 SectionCause (Some o) TooMany = 2 ^ 32 ≤ o.count
 SectionCause (Some o) TooLarge = 2 ^ 32 ≤ content_size o.count (length o.body)
 SectionCause (Some o) Unfinished = ⊥
+
+-- The open section, as it would be, is too large.
+abbrev pub NoRoom : Option OpenSection → Fault → Type 0
+NoRoom current fault = (fault ≡ TooLarge) × SectionCause current TooLarge
 
 -- too many items or names, or too many bytes of names with those of their number
 abbrev pub SpaceCause : Namespace → Fault → Type 0
@@ -33,8 +40,8 @@ abbrev pub PlaceCause : (ℕ → Namespace) → Option Defined → Fault → Typ
 PlaceCause space None fault = ⊥
 PlaceCause space (Some d) fault = SpaceCause (space d.space) fault
 
--- Adding an item makes too much: of what keeps it from being encoded, of what its space is then, or of what the
--- open section is then.
+-- Adding an item makes too much: of what keeps it from being encoded, of what its space is then, or
+-- of what the open section is then.
 abbrev pub AddingCause : (Fault → Type 0) → (ℕ → Namespace) → Option Defined → Option OpenSection
     → Fault → Type 0
 AddingCause cause space places current fault =
@@ -42,11 +49,17 @@ AddingCause cause space places current fault =
 
 -- ---- calls
 
--- why a call that would leave this content is refused: it makes too much, or an item is being written
+-- why a call that would leave this content is refused: it makes too much, or an item is being
+-- written
 abbrev pub CallCause : State → (Fault → Type 0) → Content → Option Defined → Fault → Type 0
 CallCause old cause after places fault =
     AddingCause cause (namespace_at after.spaces) places after.sections.current fault
     ⊎ ((fault ≡ Unfinished) × (builder_is_finished old ≡ false))
+
+-- why an item can't be begun as this draft
+abbrev pub BeginCause : State → Draft → Fault → Type 0
+BeginCause old d =
+    CallCause old (λ _. ⊥) (content_of (begun_with old d)) (Some (draft_place d))
 
 -- the same of a call that adds this entry
 abbrev pub EnterCause : State → Entry → Fault → Type 0

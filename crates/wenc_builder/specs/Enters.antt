@@ -1,27 +1,27 @@
 -- What a call of a builder does.
-use Rattle.std.specs.Prelude.{◌≡◌, ◌↔◌, ℕ, List, [], ◌∷◌, ◌++◌, Option, Some, None, false, Result, Err, IfOk, OnOk, OnErr, IfErr}
+use Rattle.std.specs.Prelude.{◌≡◌, ◌↔◌, ℕ, List, [], ◌∷◌, ◌++◌, Option, Some, None, false, Result}
+use Rattle.std.specs.Prelude.{Err, IfOk, OnOk, OnErr, IfErr}
 use Rattle.std.specs.Iterator.Runs.{SomeRun, WholeRun}
-use Rattle.wenc_base.specs.Fault.{IsWarranted, NoCause, either}
-use Rattle.wenc_base.specs.Lender.{Extended}
+use Rattle.wenc_base.specs.Fault.{IsWarranted, NoCause}
 use Rattle.wenc_base.specs.Piece.{Piece}
 use Rattle.wenc_base.specs.declared.fault.Fault.{Fault}
 use Rattle.wenc_base.specs.declared.fault.Fault.TheVariants.{Unfinished}
 use Rattle.wenc_builder.specs.Item.{item}
 use Rattle.wenc_builder.specs.Space.{Defined, defines, IsPlaceOf, place}
 use Rattle.wenc_builder.specs.Entry.{Entry, items}
-use Rattle.wenc_builder.specs.Builder.{Content, State, step, settled_in, with_alone, builder_is_finished, namespace_at, Draft, draft_place, begun_with, content_of, appended, ended}
+use Rattle.wenc_builder.specs.Builder.{Content, State, step, builder_is_finished, namespace_at}
+use Rattle.wenc_builder.specs.Builder.{Draft, draft_place, begun_with, content_of, ended}
 use Rattle.wenc_builder.specs.Holds.{Holds}
-use Rattle.wenc_builder.specs.Cause.{CallCause, EnterCause}
-use Rattle.wenc_builder.specs.Lent.{no_room}
+use Rattle.wenc_builder.specs.Cause.{CallCause, BeginCause, EnterCause}
 
 -- This is the number of items in the space of these places.
 abbrev pub IsCountAt : State → Option Defined → ℕ → Type 0
 IsCountAt s None i = ⊥
 IsCountAt s (Some d) i = i ≡ (namespace_at s.settled.spaces d.space).count
 
--- A call adds this entry to every list that was held, where nothing stands against it, and says this of its answer,
--- by such a list and by the state; or it is refused for a cause and changes nothing. While an item is being written,
--- and only then, it is `Unfinished`.
+-- A call adds this entry to every list that was held, where nothing stands against it, and says
+-- this of its answer, by such a list and by the state; or it is refused for a cause and changes
+-- nothing. While an item is being written, and only then, it is `Unfinished`.
 pub record EntersWith {R : Type 0} (old new : State) (result : Result R Fault) (x : Entry)
     (Told : List Entry → R → Type 0) (Counted : Option Defined → R → Type 0) : Type 0 where
   pub held : (es : List Entry) → Holds old es
@@ -44,27 +44,27 @@ abbrev pub EntersPlaceless : State → State → Result (Unit {0}) Fault → Ent
 EntersPlaceless old new result x =
     EntersWith old new result x (λ es r. Unit {0}) (λ places r. Unit {0})
 
--- The same of a call whose entry is made of the values that an iterator gives: of all of them, or of those that came
--- before it was refused.
+-- The same of a call whose entry is made of the values that an iterator gives: of all of them, or
+-- of those that came before it was refused.
 pub record EntersListed {S B : Type 0} (steps : S → Option B → S → Type 0) (values : S)
     (old new : State) (result : Result ℕ Fault) (x : List B → Entry) : Type 0 where
   pub ok : OnOk result (WholeRun steps values (λ run. Enters old new result (x run.items)))
   pub refused : OnErr result (SomeRun steps values (λ run. Enters old new result (x run.items)))
 
--- A call begins an item and lends the builder to an encoder, with the item's place; or it is refused for a cause.
+-- A call begins an item and lends the builder to an encoder, with the item's place; or it is
+-- refused for a cause.
 pub record Begins {E : Type 0} (index : E → ℕ) (lent : E → State) (old : State)
     (result : Result E Fault) (d : Draft) : Type 0 where
   pub begun : IfOk result (λ e. lent e ≡ begun_with old d)
   pub placed : IfOk result
       (λ e. (es : List Entry) → Holds old es → index e ≡ place (items es) d.space)
-  pub free : OnOk result
-      (NoCause (CallCause old (λ _. ⊥) (content_of (begun_with old d)) (Some (draft_place d))))
-  pub warranted : IfErr result
-      (IsWarranted (CallCause old (λ _. ⊥) (content_of (begun_with old d)) (Some (draft_place d))))
+  pub free : OnOk result (NoCause (BeginCause old d))
+  pub warranted : IfErr result (IsWarranted (BeginCause old d))
   pub unfinished_first : builder_is_finished old ≡ false → result ≡ Err Unfinished
 
--- A call that writes this piece takes these places or none, which leaves `next` and would leave this content when it
--- is done, and says this of its answer; or it is refused for a cause and changes nothing.
+-- A call that writes this piece takes these places or none, which leaves `next` and would leave
+-- this content when it is done, and says this of its answer; or it is refused for a cause and
+-- changes nothing.
 pub record TakesWith {R : Type 0} (old new next : State) (result : Result R Fault)
     (after : Content) (places : Option Defined) (p : Piece) (Told : R → Type 0) : Type 0 where
   pub told : IfOk result Told
@@ -91,36 +91,3 @@ Takes old new next result d p =
 abbrev pub TakesDraft : State → State → Result ℕ Fault → (List ℕ → Draft) → Piece → Type 0
 TakesDraft old new result d p =
     Takes old new (ended (begun_with old (d p.text))) result (d p.text) p
-
--- The same of what stands alone.
-abbrev pub TakesAlone : State → State → Result ℕ Fault → Defined → Option (List ℕ) → Piece → Type 0
-TakesAlone old new result d name p =
-    TakesPlaces old new (settled_in (with_alone old.settled (Some d) name p.text)) result
-    (with_alone old.settled (Some d) name p.text) d p
-
--- The same of what stands alone and has no place.
-abbrev pub TakesNoPlace : State → State → Result (Unit {0}) Fault → Piece → Type 0
-TakesNoPlace old new result p =
-    TakesWith old new (settled_in (with_alone old.settled None None p.text)) result
-    (with_alone old.settled None None p.text) None p (λ r. Unit {0})
-
--- A call appends a piece to the item that is being written, which is made of the values that an iterator gives; where
--- it is refused, it may have appended a part.
-pub record AppendsListed {S B : Type 0} (steps : S → Option B → S → Type 0) (values : S)
-    (old new : State) (outcome : Result (Unit {0}) Fault) (piece : List B → Piece) : Type 0 where
-  pub ok : OnOk outcome
-      (WholeRun steps values (λ run. Extended new (appended old) (no_room old) (piece run.items)))
-  pub settled : OnErr outcome (new.settled ≡ old.settled)
-  pub still : builder_is_finished new ≡ false
-  pub warranted : IfErr outcome
-      (λ fault. SomeRun steps values (λ run.
-      IsWarranted (either (piece run.items).Cause (no_room old (piece run.items).text)) fault))
-
--- The same of an item whose text is made of the values that an iterator gives.
-pub record TakesListed {S B : Type 0} (steps : S → Option B → S → Type 0) (values : S)
-    (old new : State) (result : Result ℕ Fault) (d : List ℕ → Draft)
-    (piece : List B → Piece) : Type 0 where
-  pub ok : OnOk result
-      (WholeRun steps values (λ run. TakesDraft old new result d (piece run.items)))
-  pub refused : OnErr result
-      (SomeRun steps values (λ run. TakesDraft old new result d (piece run.items)))

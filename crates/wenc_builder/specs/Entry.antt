@@ -1,5 +1,6 @@
 -- Items with their debug names.
-use Rattle.std.specs.Prelude.{ℕ, List, [], ◌∷◌, ◌++◌, ◌+◌, map, Option, Some, None, nat_eq, if◌then◌else◌}
+use Rattle.std.specs.Prelude.{ℕ, List, [], ◌∷◌, ◌++◌, ◌+◌, map, Option, Some, None, nat_eq}
+use Rattle.std.specs.Prelude.{if◌then◌else◌}
 use Rattle.wenc_base.specs.Names.{Named}
 use Rattle.wenc_base.specs.declared.exports.ExportKind.{ExportKind}
 use Rattle.wenc_parts.specs.declared.exports.ComponentExportKind.{ComponentExportKind}
@@ -12,7 +13,9 @@ use Rattle.wenc_sections.specs.Instances.{CoreInstance, Instance}
 use Rattle.wenc_types.specs.CoreTypes.{CoreType}
 use Rattle.wenc_types.specs.ComponentTypes.{TypeOf}
 use Rattle.wenc_builder.specs.CanonicalNames.{provided_name, canonical_name}
-use Rattle.wenc_builder.specs.Item.{Item, ModuleItem, CoreInstanceItem, CoreTypeItem, ComponentItem, InstanceItem, AliasItem, TypeItem, CanonItem, StartItem, ImportItem, ExportItem, CustomItem, RawItem}
+use Rattle.wenc_builder.specs.Item.{Item, ModuleItem, CoreInstanceItem, CoreTypeItem, ComponentItem}
+use Rattle.wenc_builder.specs.Item.{InstanceItem, AliasItem, TypeItem, CanonItem, StartItem}
+use Rattle.wenc_builder.specs.Item.{ImportItem, ExportItem, CustomItem, RawItem}
 use Rattle.wenc_builder.specs.Space.{Defined, defines, defined_in}
 
 pub record Entry : Type 0 where
@@ -69,7 +72,8 @@ canonical_entry debug_name function = entry (CanonItem function) debug_name
 abbrev pub provided_entry : (i : Intrinsic) → Values (row i).fields → Entry
 provided_entry i values = canonical_entry (Some (provided_name i values)) (Provided i values)
 
--- that of a canonical function as a tree, which has its own debug name or, lifted or lowered, this one
+-- that of a canonical function as a tree, which has its own debug name or, lifted or lowered, this
+-- one
 abbrev pub canonical_tree_entry : Option (List ℕ) → Canonical → Entry
 canonical_tree_entry debug_name function =
     canonical_entry (canonical_name debug_name function) function

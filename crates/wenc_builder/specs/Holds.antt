@@ -7,7 +7,8 @@ use Rattle.wenc_builder.specs.Space.{place}
 use Rattle.wenc_base.specs.Names.{names_text}
 use Rattle.wenc_builder.specs.Entry.{Entry, items, names}
 use Rattle.wenc_builder.specs.Raw.{IsEncodable}
-use Rattle.wenc_builder.specs.Builder.{OpenSection, Sections, sections_text, Namespace, namespace_at, State}
+use Rattle.wenc_builder.specs.Builder.{OpenSection, Sections, sections_text, Namespace}
+use Rattle.wenc_builder.specs.Builder.{namespace_at, State}
 
 -- the open section that the last section is, where it collects items
 abbrev pub open_of : List Section → Option OpenSection
@@ -34,8 +35,8 @@ pub record SpacesHold (spaces : List Namespace) (es : List Entry) : Type 0 where
   pub all : length spaces ≡ 13
   pub each : (k : ℕ) → k < 13 → namespace_at spaces k ≡ namespace_of es k
 
--- The bytes are those of the entries' items, the open section is the last one, each space has what they
--- define, with their names, and the items can be encoded.
+-- The bytes are those of the entries' items, the open section is the last one, each space has what
+-- they define, with their names, and the items can be encoded.
 pub record Holds (s : State) (es : List Entry) : Type 0 where
   pub finished : s.begun ≡ None
   pub sections : SectionsHold s.settled.sections (items es)

@@ -30,7 +30,8 @@ pub data Item : Type 0 where
   -- a custom section whose bytes are its caller's
   RawItem : (bytes : List ℕ) → Item
 
--- The id of the section that collects items of this kind; None where each item is a section of its own.
+-- The id of the section that collects items of this kind; None where each item is a section of its
+-- own.
 abbrev pub collected : Item → Option ℕ
 collected (ModuleItem bytes) = None
 collected (CoreInstanceItem i) = Some (section_number ids.CoreInstance)

@@ -8,11 +8,8 @@ pub mod Raw
 pub mod Holds
 pub mod Cause
 pub mod Enters
-pub mod Layout
 pub mod Lent
 pub mod Names
 pub mod Naming
-pub mod Spaces
 pub mod inside
-pub mod View
 pub mod laws

@@ -1,11 +1,13 @@
 -- The section of debug names that a builder adds (component model, binary format, "Name Section").
-use Rattle.std.specs.Prelude.{◌≡◌, ◌↔◌, ℕ, List, [], ◌∷◌, map, nat_eq, if◌then◌else◌, Bool, true, false, Option, Some, None, Result, Ok, Err, OnErr}
+use Rattle.std.specs.Prelude.{◌≡◌, ◌↔◌, ℕ, List, [], ◌∷◌, map, nat_eq, if◌then◌else◌, Bool, true}
+use Rattle.std.specs.Prelude.{false, Option, Some, None, Result, Ok, Err, OnErr}
 use Rattle.std.specs.Option.{MatchOption}
 use Rattle.wenc_base.specs.Piece.{Piece, Form, nothing, each}
 use Rattle.wenc_base.specs.Holder.{Held, holding}
 use Rattle.wenc_base.specs.declared.fault.Fault.{Fault}
 use Rattle.wenc_base.specs.declared.fault.Fault.TheVariants.{Unfinished}
-use Rattle.wenc_sections.specs.Names.{Subsection, subsection, subsections_text, name_subsections, names_label, held_subsection}
+use Rattle.wenc_sections.specs.Names.{Subsection, subsection, subsections_text, name_subsections}
+use Rattle.wenc_sections.specs.Names.{names_label, held_subsection}
 use Rattle.wenc_sections.specs.declared.names.Sort.{Sort}
 use Rattle.wenc_sections.specs.declared.names.Sort.TheVariants as sorts
 use Rattle.wenc_builder.specs.Entry.{Entry, custom_entry, names}
@@ -72,8 +74,8 @@ kept_names s = by_sort (λ k. names_held (namespace_at s.settled.spaces k))
 
 -- ---- the call
 
--- It adds that entry to every list that was held or, where there is none, changes nothing and is never refused. By the
--- names that are kept it is the same, whatever was held.
+-- It adds that entry to every list that was held or, where there is none, changes nothing and is
+-- never refused. By the names that are kept it is the same, whatever was held.
 pub record AddsNames (old new : State) (result : Result (Unit {0}) Fault) : Type 0 where
   pub held : (es : List Entry) → Holds old es
       → MatchOption (names_entry es) ((result ≡ Ok tt) × (new ≡ old))
@@ -81,6 +83,7 @@ pub record AddsNames (old new : State) (result : Result (Unit {0}) Fault) : Type
   pub none : none_named (kept_names old) ≡ true → builder_is_finished old ≡ true
       → (result ≡ Ok tt) × (new ≡ old)
   pub some : none_named (kept_names old) ≡ false
-      → EntersPlaceless old new result (custom_entry names_label (each space_names (kept_names old)).text)
+      → EntersPlaceless old new result
+      (custom_entry names_label (each space_names (kept_names old)).text)
   pub err : OnErr result (new ≡ old)
   pub unfinished : (builder_is_finished old ≡ false) ↔ (result ≡ Err Unfinished)

@@ -1,6 +1,7 @@
--- Components: items cut into sections, and the sections' texts (component model, binary format, "Component
--- Definitions").
-use Rattle.std.specs.Prelude.{◌≡◌, ℕ, ◌∷◌, [], List, Option, Some, None, Bool, ◌||◌, IsTrue, nat_eq, if◌then◌else◌}
+-- Components: items cut into sections, and the sections' texts (component model, binary format,
+-- "Component Definitions").
+use Rattle.std.specs.Prelude.{◌≡◌, ℕ, ◌∷◌, [], List, Option, Some, None, Bool, ◌||◌, IsTrue, nat_eq}
+use Rattle.std.specs.Prelude.{if◌then◌else◌}
 use Rattle.wenc_base.specs.Piece.{Spelling, Whole, Form, ◌▸◌, only_where, end, ◌⨾⨾◌}
 use Rattle.wenc_base.specs.Forms.{counted}
 use Rattle.wenc_parts.specs.declared.component.ComponentSectionId.TheVariants as ids
@@ -8,7 +9,8 @@ use Rattle.wenc_parts.specs.SectionIds.{section_number}
 pub use Rattle.wenc_sections.specs.Component.{preamble}
 use Rattle.wenc_builder.specs.Item.{Item, collected, item}
 
--- neighbours of one collected kind, with their section's id; or an item that is a section of its own
+-- neighbours of one collected kind, with their section's id; or an item that is a section of its
+-- own
 pub data Section : Type 0 where
   Run : (id : ℕ) (items : List Item) → Section
   Alone : (item : Item) → Section
@@ -33,8 +35,8 @@ runs (x ∷ xs) = joined (collected x) x (runs xs)
 
 -- ---- texts
 
--- The ids of the sections that collect items. The others are those of custom sections, core modules, components
--- and starts.
+-- The ids of the sections that collect items. The others are those of custom sections, core
+-- modules, components and starts.
 abbrev pub collects : ℕ → Bool
 collects id =
     nat_eq id (section_number ids.CoreInstance)

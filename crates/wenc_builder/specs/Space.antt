@@ -1,18 +1,27 @@
--- Index spaces: which one an item defines in, and the place that it gets (component model, explainer, "Index
--- Spaces").
+-- Index spaces: which one an item defines in, and the place that it gets (component model,
+-- explainer, "Index Spaces").
 use Rattle.std.specs.Prelude.{◌≡◌, ℕ, ◌+◌, List, [], ◌∷◌, Option, Some, None, nat_eq, if◌then◌else◌}
 use Rattle.wenc_parts.specs.declared.exports.ComponentExportKind.{ComponentExportKind}
-use Rattle.wenc_parts.specs.declared.exports.ComponentExportKind.TheVariants.{Module, Func, Value, «Type» as TypeKind, Instance, Component}
+use Rattle.wenc_parts.specs.declared.exports.ComponentExportKind.TheVariants.{Module, Func, Value}
+use Rattle.wenc_parts.specs.declared.exports.ComponentExportKind.TheVariants.{«Type» as TypeKind}
+use Rattle.wenc_parts.specs.declared.exports.ComponentExportKind.TheVariants.{Instance, Component}
 use Rattle.wenc_base.specs.declared.exports.ExportKind.{ExportKind}
 use Rattle.wenc_base.specs.declared.exports.ExportKind.TheVariants as core_kinds
 use Rattle.wenc_parts.specs.declared.aliases.ComponentOuterAliasKind.{ComponentOuterAliasKind}
 use Rattle.wenc_parts.specs.declared.aliases.ComponentOuterAliasKind.TheVariants as outer_kinds
 use Rattle.wenc_builder.specs.declared.builder.space.Space.{Space}
-use Rattle.wenc_builder.specs.declared.builder.space.Space.TheVariants.{CoreModules, CoreFuncs, CoreTypes, CoreMemories, CoreTables, CoreInstances, CoreTags, CoreGlobals, Funcs, Instances, Values, Components, Types}
+use Rattle.wenc_builder.specs.declared.builder.space.Space.TheVariants.{CoreModules, CoreFuncs}
+use Rattle.wenc_builder.specs.declared.builder.space.Space.TheVariants.{CoreTypes, CoreMemories}
+use Rattle.wenc_builder.specs.declared.builder.space.Space.TheVariants.{CoreTables, CoreInstances}
+use Rattle.wenc_builder.specs.declared.builder.space.Space.TheVariants.{CoreTags, CoreGlobals}
+use Rattle.wenc_builder.specs.declared.builder.space.Space.TheVariants.{Funcs, Instances, Values}
+use Rattle.wenc_builder.specs.declared.builder.space.Space.TheVariants.{Components, Types}
 use Rattle.wenc_parts.specs.Imports.{kind_of}
 use Rattle.wenc_parts.specs.Aliases.{AliasOf, InstanceExport, CoreInstanceExport, Outer}
 use Rattle.wenc_canon.specs.Canonicals.{Canonical, Lift, Lower, Provided}
-use Rattle.wenc_builder.specs.Item.{Item, ModuleItem, CoreInstanceItem, CoreTypeItem, ComponentItem, InstanceItem, AliasItem, TypeItem, CanonItem, StartItem, ImportItem, ExportItem, CustomItem, RawItem}
+use Rattle.wenc_builder.specs.Item.{Item, ModuleItem, CoreInstanceItem, CoreTypeItem, ComponentItem}
+use Rattle.wenc_builder.specs.Item.{InstanceItem, AliasItem, TypeItem, CanonItem, StartItem}
+use Rattle.wenc_builder.specs.Item.{ImportItem, ExportItem, CustomItem, RawItem}
 
 -- the thirteen spaces by their numbers, in the order in which a builder tells their counts
 abbrev pub space_number : Space → ℕ

@@ -16,11 +16,12 @@ ghost use Rattle.wenc_builder.specs.Entry.{Entry, items, module_entry, component
 ghost use Rattle.wenc_builder.specs.Entry.{import_entry, export_entry, alias_entry, alias_export_entry, core_alias_export_entry};
 ghost use Rattle.wenc_builder.specs.Builder.{builder_is_finished, sections_text, count_in, begun_with, ended, builder_given_up};
 ghost use Rattle.wenc_builder.specs.Holds.{Holds};
-ghost use Rattle.wenc_builder.specs.Enters.{Enters, EntersListed, EntersPlaceless, Takes, TakesDraft, TakesAlone, TakesNoPlace, AppendsListed, TakesListed};
+ghost use Rattle.wenc_builder.specs.Enters.{Enters, EntersListed, EntersPlaceless, Takes, TakesDraft};
+ghost use Rattle.wenc_builder.specs.inside.Takes.{TakesAlone, TakesNoPlace, AppendsListed, TakesListed, IsItemPiece};
 ghost use Rattle.wenc_builder.specs.Space.{defined_as, some_in, canonical_space};
-ghost use Rattle.wenc_builder.specs.Lent.{IsItemPiece, is_whole};
+ghost use Rattle.wenc_builder.specs.Lent.{is_whole};
 ghost use Rattle.wenc_builder.specs.Raw.{HasNoRaw};
-ghost use Rattle.wenc_builder.specs.Layout.{draft_of, kind_id};
+ghost use Rattle.wenc_builder.specs.inside.Layout.{draft_of, kind_id};
 ghost use Rattle.wenc_builder.specs.Names.{AddsNames};
 ghost use Rattle.wenc_builder.specs.Naming.{slot_name};
 
@@ -78,7 +79,7 @@ pub struct ComponentBuilder<A: Allocator = Global> {
 
 impl<A: Allocator> Model for ComponentBuilder<A> {
     ghost use Rattle.wenc_builder.specs.Builder.{State};
-    ghost use Rattle.wenc_builder.specs.View.{IsBuilder, builder_view};
+    ghost use Rattle.wenc_builder.specs.inside.View.{IsBuilder, builder_view};
 
     ghost Value = { State };
 

@@ -9,7 +9,10 @@ use Rattle.wenc_base.specs.Exports.{export_kind as core_kind}
 use Rattle.wenc_parts.specs.declared.exports.ComponentExportKind.{ComponentExportKind}
 use Rattle.wenc_parts.specs.Exports.{export_kind}
 use Rattle.wenc_parts.specs.declared.aliases.ComponentOuterAliasKind.{ComponentOuterAliasKind}
-use Rattle.wenc_parts.specs.declared.aliases.ComponentOuterAliasKind.TheVariants.{CoreModule, CoreType, «Type» as OuterType, Component}
+use Rattle.wenc_parts.specs.declared.aliases.ComponentOuterAliasKind.TheVariants.{CoreModule}
+use Rattle.wenc_parts.specs.declared.aliases.ComponentOuterAliasKind.TheVariants.{CoreType}
+use Rattle.wenc_parts.specs.declared.aliases.ComponentOuterAliasKind.TheVariants.{«Type» as OuterType}
+use Rattle.wenc_parts.specs.declared.aliases.ComponentOuterAliasKind.TheVariants.{Component}
 use Rattle.wenc_parts.specs.declared.aliases.Alias.{Alias}
 use Rattle.wenc_parts.specs.declared.aliases.Alias.TheVariants as alias_variants
 use Rattle.wenc_parts.specs.declared.aliases.AliasTree.{AliasTree}

@@ -1,7 +1,9 @@
 -- The kinds of what is exported (component model, binary format, "Instance Definitions": sorts).
 use Rattle.wenc_base.specs.Piece.{Form, byte, ◌▸◌}
 use Rattle.wenc_parts.specs.declared.exports.ComponentExportKind.{ComponentExportKind}
-use Rattle.wenc_parts.specs.declared.exports.ComponentExportKind.TheVariants.{Module, Func, Value, «Type» as TypeKind, Instance, Component}
+use Rattle.wenc_parts.specs.declared.exports.ComponentExportKind.TheVariants.{Module, Func, Value}
+use Rattle.wenc_parts.specs.declared.exports.ComponentExportKind.TheVariants.{«Type» as TypeKind}
+use Rattle.wenc_parts.specs.declared.exports.ComponentExportKind.TheVariants.{Instance, Component}
 
 abbrev pub export_kind : Form ComponentExportKind
 export_kind Module = 0x00 ▸ byte 0x11

@@ -1,5 +1,5 @@
--- What an import or an export refers to, and its name (component model, binary format, "Import and Export
--- Definitions").
+-- What an import or an export refers to, and its name (component model, binary format, "Import and
+-- Export Definitions").
 use Rattle.std.specs.Prelude.{ℕ, List, [], ◌∷◌, ◌++◌, Option, Some, None, String, Box}
 use Rattle.wenc_base.specs.Piece.{Piece, Form, nothing, byte, ◌▸◌, ◌⨾◌, also}
 use Rattle.wenc_base.specs.Number.{u32}
@@ -16,7 +16,9 @@ use Rattle.wenc_parts.specs.declared.imports.NameTree.{NameTree}
 use Rattle.wenc_parts.specs.declared.imports.TypeBounds.{TypeBounds}
 use Rattle.wenc_parts.specs.declared.imports.TypeBounds.TheVariants.{Eq, SubResource}
 use Rattle.wenc_parts.specs.declared.imports.ComponentTypeRef.{ComponentTypeRef}
-use Rattle.wenc_parts.specs.declared.imports.ComponentTypeRef.TheVariants.{Module, Func, Value, «Type» as TypeRef, Instance, Component}
+use Rattle.wenc_parts.specs.declared.imports.ComponentTypeRef.TheVariants.{Module, Func, Value}
+use Rattle.wenc_parts.specs.declared.imports.ComponentTypeRef.TheVariants.{«Type» as TypeRef}
+use Rattle.wenc_parts.specs.declared.imports.ComponentTypeRef.TheVariants.{Instance, Component}
 
 abbrev pub type_bounds : Form TypeBounds
 type_bounds (Eq n) = 0x00 ▸ u32 n

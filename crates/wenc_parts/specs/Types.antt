@@ -3,9 +3,13 @@ use Rattle.std.specs.Prelude.{ℕ, Option, Some, None}
 use Rattle.wenc_base.specs.Piece.{Form, byte, ◌▸◌}
 use Rattle.wenc_base.specs.Number.{index}
 use Rattle.wenc_parts.specs.declared.types.PrimitiveValType.{PrimitiveValType}
-use Rattle.wenc_parts.specs.declared.types.PrimitiveValType.TheVariants.{Bool, S8, U8, S16, U16, S32, U32, S64, U64, F32, F64, Char, String, ErrorContext}
+use Rattle.wenc_parts.specs.declared.types.PrimitiveValType.TheVariants.{Bool, S8, U8, S16, U16}
+use Rattle.wenc_parts.specs.declared.types.PrimitiveValType.TheVariants.{S32, U32, S64, U64, F32}
+use Rattle.wenc_parts.specs.declared.types.PrimitiveValType.TheVariants.{F64, Char, String}
+use Rattle.wenc_parts.specs.declared.types.PrimitiveValType.TheVariants.{ErrorContext}
 use Rattle.wenc_parts.specs.declared.types.ComponentValType.{ComponentValType}
-use Rattle.wenc_parts.specs.declared.types.ComponentValType.TheVariants.{Primitive, «Type» as TypeIndex}
+use Rattle.wenc_parts.specs.declared.types.ComponentValType.TheVariants.{Primitive}
+use Rattle.wenc_parts.specs.declared.types.ComponentValType.TheVariants.{«Type» as TypeIndex}
 
 abbrev pub primitive_byte : PrimitiveValType → ℕ
 primitive_byte Bool = 0x7f

@@ -2,24 +2,25 @@
 ghost use Rattle.std.specs.List.{AllByRecursion};
 ghost use Rattle.std.specs.List.Sorted.{IsStrictlyIncreasing};
 ghost use Rattle.std.specs.Prelude.{◌≡◌, ◌+◌, ◌<◌, ◌^◌, ◌++◌, ◌∷◌, [], ℕ, List, map, IsOk, Ok, Option, Result};
-ghost use Rattle.wenc_base.specs.Fault.{NoCause};
+ghost use Rattle.wenc_base.specs.Fault.{NoCause, either};
 ghost use Rattle.wenc_base.specs.declared.fault.Fault.{Fault};
-ghost use Rattle.wenc_builder.specs.Builder.{State, Draft, begun_with, appended, ended, builder_given_up, count_in};
+ghost use Rattle.wenc_builder.specs.Builder.{State, Draft, begun_with, appended, ended, builder_given_up, count_in, draft_in};
 ghost use Rattle.wenc_builder.specs.Enters.{Enters};
 ghost use Rattle.wenc_builder.specs.Entry.{Entry, items as items_of, names, type_entry, core_type_entry};
 ghost use Rattle.wenc_builder.specs.Holds.{Holds};
 ghost use Rattle.wenc_builder.specs.Item.{Item};
-ghost use Rattle.wenc_builder.specs.Layout.{draft_of};
+ghost use Rattle.wenc_builder.specs.Lent.{no_room};
 ghost use Rattle.wenc_builder.specs.Sections.{Section, Run, runs};
 ghost use Rattle.wenc_builder.specs.Space.{defines, some_in, place};
-ghost use Rattle.wenc_builder.specs.declared.builder.kind.Kind.TheVariants as kinds;
+ghost use Rattle.wenc_builder.specs.Cause.{BeginCause};
+ghost use Rattle.wenc_parts.specs.declared.component.ComponentSectionId.TheVariants as ids;
 ghost use Rattle.wenc_builder.specs.declared.builder.space.Space.{Space};
 ghost use Rattle.wenc_builder.specs.declared.builder.space.Space.TheVariants as spaces;
 ghost use Rattle.wenc_parts.specs.Types.{value_type, primitive};
 ghost use Rattle.wenc_parts.specs.declared.types.ComponentValType.TheVariants as value_types;
 ghost use Rattle.wenc_parts.specs.declared.types.PrimitiveValType.{PrimitiveValType};
-ghost use Rattle.wenc_types.specs.ComponentTypes.{TypeOf, type_text};
-ghost use Rattle.wenc_types.specs.CoreTypes.{CoreType, core_type_text};
+ghost use Rattle.wenc_types.specs.ComponentTypes.{TypeOf, type_of};
+ghost use Rattle.wenc_types.specs.CoreTypes.{CoreType, core_type};
 ghost use Rattle.wasm_encoder.specs.Cause.{led, first_cause};
 ghost use Rattle.wasm_encoder.specs.Command.{CommandTree, Commands, listed};
 ghost use Rattle.wasm_encoder.specs.Nameless.{StartIsNameless};
@@ -73,17 +74,22 @@ pub fn nested_runs()
         → (all ≡ led [] inner) × NoCause (first_cause [] inner) }
 {}
 
-/// A type that an encoder wrote whole and ended is one entry more in every list that the builder held. Given up, written
-/// in part or not at all, it leaves every list held that was held.
+/// A type that was begun, and that an encoder wrote whole and ended, is one entry more in every list that the builder
+/// held: `Begins` and `Ends` say of accepted calls what is asked here. Given up, written in part or not at all, it
+/// leaves every list held that was held.
 pub fn encoded_types_are_entries()
-    ensures type_written { (old new : State) (es : List Entry) (name : Option (List ℕ)) (t : TypeOf)
-        → new ≡ ended
-        (appended (begun_with old (draft_of kinds.«Type» spaces.Types name [])) (type_text t))
+    ensures type_written { (old lent new : State) (es : List Entry) (name : Option (List ℕ))
+        (t : TypeOf) → lent ≡ begun_with old (draft_in ids.«Type» spaces.Types name [])
+        → NoCause (BeginCause old (draft_in ids.«Type» spaces.Types name []))
+        → new ≡ ended (appended lent (type_of t).text) → (type_of t).Fits
+        → NoCause (either (type_of t).Cause (no_room lent (type_of t).text))
         → Holds old es → Holds new (es ++ type_entry name t ∷ []) }
-    ensures core_type_written { (old new : State) (es : List Entry) (name : Option (List ℕ))
-        (t : CoreType) → new ≡ ended
-        (appended (begun_with old (draft_of kinds.CoreType spaces.CoreTypes name []))
-        (core_type_text t))
+    ensures core_type_written { (old lent new : State) (es : List Entry) (name : Option (List ℕ))
+        (t : CoreType)
+        → lent ≡ begun_with old (draft_in ids.CoreType spaces.CoreTypes name [])
+        → NoCause (BeginCause old (draft_in ids.CoreType spaces.CoreTypes name []))
+        → new ≡ ended (appended lent (core_type t).text) → (core_type t).Fits
+        → NoCause (either (core_type t).Cause (no_room lent (core_type t).text))
         → Holds old es → Holds new (es ++ core_type_entry name t ∷ []) }
     ensures begun_given_up { (old lent new : State) (es : List Entry) (d : Draft)
         → lent ≡ begun_with old d → new ≡ builder_given_up lent → Holds old es → Holds new es }

@@ -6,9 +6,8 @@ use Rattle.wenc_base.specs.Number.{number_size}
 use Rattle.wenc_base.specs.declared.fault.Fault.{Fault}
 use Rattle.wenc_base.specs.declared.fault.Fault.TheVariants.{Memory, TooMany, TooLarge, Unfinished}
 use Rattle.wenc_builder.specs.Builder.{OpenSection, entered, entered_at, Namespace, no_names, namespace_at, State, content_of, Draft, draft, draft_place, space_with, begun_with}
-use Rattle.wenc_builder.specs.Cause.{SectionCause, SpaceCause, PlaceCause, AddingCause, CallCause}
+use Rattle.wenc_builder.specs.Cause.{SectionCause, SpaceCause, PlaceCause, AddingCause, CallCause, NoRoom}
 use Rattle.wenc_base.specs.Fault.{either}
-use Rattle.wenc_builder.specs.Layout.{NoRoom}
 use Rattle.wenc_builder.specs.Space.{Defined}
 
 -- ---- a section, a space

@@ -8,7 +8,7 @@ use Rattle.wenc_builder.specs.Builder.{OpenSection, entered, entered_at, Begun, 
 use Rattle.wenc_builder.specs.Entry.{Entry, entry}
 use Rattle.wenc_builder.specs.Holds.{Holds}
 use Rattle.wenc_builder.specs.Item.{item}
-use Rattle.wenc_builder.specs.Layout.{NoRoom}
+use Rattle.wenc_builder.specs.Cause.{NoRoom}
 use Rattle.wenc_builder.specs.Lent.{IsItemText, IsWhole, is_whole}
 use Rattle.wenc_builder.specs.Space.{Defined}
 use Rattle.wenc_builder.specs.inside.HoldsSome.{IsPlaced, HasRoomFor, HoldsSome}

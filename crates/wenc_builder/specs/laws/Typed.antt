@@ -7,12 +7,11 @@ use Rattle.wenc_types.specs.CoreTypes.{CoreType}
 use Rattle.wenc_builder.specs.Item.{collected, item}
 use Rattle.wenc_builder.specs.Space.{Defined, defines}
 use Rattle.wenc_builder.specs.Entry.{Entry, type_entry, core_type_entry}
-use Rattle.wenc_builder.specs.Builder.{Content, with_entry, State, step, content_of, Draft, draft, draft_place, begun_with, appended, ended}
-use Rattle.wenc_builder.specs.Cause.{CallCause, EntryCause}
+use Rattle.wenc_builder.specs.Builder.{Content, with_entry, State, step, content_of, Draft, draft, draft_in, draft_place, begun_with, appended, ended}
+use Rattle.wenc_builder.specs.Cause.{CallCause, BeginCause, EntryCause}
 use Rattle.wenc_builder.specs.Holds.{Holds}
-use Rattle.wenc_builder.specs.Layout.{draft_of}
 use Rattle.wenc_builder.specs.Lent.{no_room}
-use Rattle.wenc_builder.specs.declared.builder.kind.Kind.TheVariants as kinds
+use Rattle.wenc_parts.specs.declared.component.ComponentSectionId.TheVariants as ids
 use Rattle.wenc_builder.specs.declared.builder.space.Space.TheVariants as spaces
 use Rattle.wenc_builder.specs.laws.Answered.{to_entry, from_entry}
 use Rattle.wenc_builder.specs.laws.Fits.{HasRoom}
@@ -30,10 +29,7 @@ pub record IsWritten (x : Entry) (d : Draft) : Type 0 where
   pub defined : defines x.item ≡ Some (draft_place d)
   pub named : x.name ≡ d.name
 
--- why it can't be begun, and why it can't be written then
-abbrev pub OpeningCause : State → Draft → Fault → Type 0
-OpeningCause old d = CallCause old (λ _. ⊥) (content_of (begun_with old d)) (Some (draft_place d))
-
+-- why it can't be written then
 abbrev pub WritingCause : State → Entry → Draft → Fault → Type 0
 WritingCause old x d = either (item x.item).Cause (no_room (begun_with old d) (item x.item).text)
 
@@ -64,22 +60,22 @@ module _ (old : State) (es : List Entry) (x : Entry) (d : Draft) (w : IsWritten 
       to_entry old es x h fault (subst P content_is (subst Q (sym w.defined) c))
 
   -- what refuses its beginning is the entry's cause
-  pub opening_due : (fault : Fault) → OpeningCause old d fault → EntryCause es x fault
+  pub opening_due : (fault : Fault) → BeginCause old d fault → EntryCause es x fault
   opening_due fault c =
-      from_whole fault (beginning_refuses old d.id d.space d.name (item x.item).text (item x.item).Cause fault (subst (λ (e : Draft). OpeningCause old e fault) bare_is c))
+      from_whole fault (beginning_refuses old d.id d.space d.name (item x.item).text (item x.item).Cause fault (subst (λ (e : Draft). BeginCause old e fault) bare_is c))
 
   -- what refuses its text too
   pub writing_due : (fault : Fault) → WritingCause old x d fault → EntryCause es x fault
   writing_due fault c = from_whole fault (text_refuses old whole (item x.item).Cause fault (subst (λ (e : Draft). WritingCause old x e fault) bare_is c))
 
   -- and where neither is refused, the entry has no cause
-  pub written_free : ((fault : Fault) → OpeningCause old d fault → ⊥) → ((fault : Fault) → WritingCause old x d fault → ⊥) → (fault : Fault) → EntryCause es x fault → ⊥
+  pub written_free : ((fault : Fault) → BeginCause old d fault → ⊥) → ((fault : Fault) → WritingCause old x d fault → ⊥) → (fault : Fault) → EntryCause es x fault → ⊥
   written_free opening writing fault c =
-      whole_free old d.id d.space d.name (item x.item).text (item x.item).Cause (λ f k. opening f (subst (λ (e : Draft). OpeningCause old e f) (sym bare_is) k)) (λ f k. writing f (subst (λ (e : Draft). WritingCause old x e f) (sym bare_is) k))
+      whole_free old d.id d.space d.name (item x.item).text (item x.item).Cause (λ f k. opening f (subst (λ (e : Draft). BeginCause old e f) (sym bare_is) k)) (λ f k. writing f (subst (λ (e : Draft). WritingCause old x e f) (sym bare_is) k))
       fault (to_whole fault c)
 
 -- an item that was begun, written and ended, and was refused nowhere, is one entry more
-pub written_holds : (old new : State) (es : List Entry) (x : Entry) (d : Draft) → IsWritten x d → NoCause (OpeningCause old d) → (item x.item).Fits → NoCause (WritingCause old x d)
+pub written_holds : (old new : State) (es : List Entry) (x : Entry) (d : Draft) → IsWritten x d → NoCause (BeginCause old d) → (item x.item).Fits → NoCause (WritingCause old x d)
     → new ≡ ended (appended (begun_with old d) (item x.item).text) → Holds old es → Holds new (es ++ x ∷ [])
 written_holds old new es x d w opening fits writing e h = rw (e ∙ is_step) (holds_step old es x fits room h)
   where
@@ -90,8 +86,8 @@ written_holds old new es x d w opening fits writing e h = rw (e ∙ is_step) (ho
     room fault c = written_free old es x d w h opening writing fault (to_entry old es x h fault (inl (inr (inr c))))
 
 -- types are written so
-pub type_is_written : (name : Option (List ℕ)) (t : TypeOf) → IsWritten (type_entry name t) (draft_of kinds.«Type» spaces.Types name [])
+pub type_is_written : (name : Option (List ℕ)) (t : TypeOf) → IsWritten (type_entry name t) (draft_in ids.«Type» spaces.Types name [])
 type_is_written name t = record { bare = refl; section = refl; defined = refl; named = refl }
 
-pub core_type_is_written : (name : Option (List ℕ)) (t : CoreType) → IsWritten (core_type_entry name t) (draft_of kinds.CoreType spaces.CoreTypes name [])
+pub core_type_is_written : (name : Option (List ℕ)) (t : CoreType) → IsWritten (core_type_entry name t) (draft_in ids.CoreType spaces.CoreTypes name [])
 core_type_is_written name t = record { bare = refl; section = refl; defined = refl; named = refl }

@@ -7,8 +7,8 @@ ghost use Rattle.wenc_base.specs.Piece.{behind_bytes};
 ghost use Rattle.wenc_base.specs.Lender.{Extends, ExtendsListed};
 ghost use Rattle.wenc_base.specs.declared.fault.Fault.TheVariants.{Unfinished};
 ghost use Rattle.wenc_builder.specs.Builder.{sections_text};
-ghost use Rattle.wenc_builder.specs.Cause.{SectionCause};
-ghost use Rattle.wenc_builder.specs.Layout.{kind_id, OpensAnother, nothing_buffered, buffer_begun, section_begun, buffer_appended, section_appended, buffer_ended, buffer_given_up, buffer_with, NoRoom, nested};
+ghost use Rattle.wenc_builder.specs.Cause.{SectionCause, NoRoom};
+ghost use Rattle.wenc_builder.specs.inside.Layout.{kind_id, OpensAnother, nothing_buffered, buffer_begun, section_begun, buffer_appended, section_appended, buffer_ended, buffer_given_up, buffer_with, nested};
 
 use super::earlier::Earlier;
 use super::flush::{GAP, close_earlier, open_head, section_head};
@@ -32,11 +32,11 @@ pub struct Buffer<A: Allocator = Global> {
 }
 
 impl<A: Allocator> Model for Buffer<A> {
-    ghost use Rattle.wenc_builder.specs.Layout.{Buffered};
+    ghost use Rattle.wenc_builder.specs.inside.Layout.{Buffered};
 
     ghost Value = { Buffered };
 
-    ghost use Rattle.wenc_builder.specs.Layout.{buffer_view, IsLaidOut};
+    ghost use Rattle.wenc_builder.specs.inside.Layout.{buffer_view, IsLaidOut};
 
     ghost view = { λ b. buffer_view b.holder b.closed_len b.kind b.earlier };
 

@@ -13,7 +13,7 @@ pub struct Earlier {
 
 impl Earlier {
     ghost use Rattle.std.specs.Prelude.{◌≡◌};
-    ghost use Rattle.wenc_builder.specs.Layout.{kept_before, SectionIsIn};
+    ghost use Rattle.wenc_builder.specs.inside.Layout.{kept_before, SectionIsIn};
 
     /// How many bytes stand before its items.
     pub fn kept(self) -> usize

@@ -1,7 +1,7 @@
 ghost use Rattle.std.specs.Prelude.{◌≡◌, ◌+◌, ◌<◌, ◌≤◌, ◌^◌, length};
 ghost use Rattle.wenc_base.specs.Number.{number_size};
 ghost use Rattle.wenc_base.specs.Holder.{with_kept};
-ghost use Rattle.wenc_builder.specs.Layout.{kind_id, section_head as head_text, open_head as open_head_text, SectionIsIn, SectionFits, earlier_view, closed_with, kept_with};
+ghost use Rattle.wenc_builder.specs.inside.Layout.{kind_id, section_head as head_text, open_head as open_head_text, SectionIsIn, SectionFits, earlier_view, closed_with, kept_with};
 
 use super::earlier::Earlier;
 use super::kind::Kind;

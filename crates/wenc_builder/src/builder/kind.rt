@@ -15,7 +15,7 @@ pub enum Kind {
 
 impl Kind {
     ghost use Rattle.std.specs.Prelude.{◌≡◌};
-    ghost use Rattle.wenc_builder.specs.Layout.{kind_id};
+    ghost use Rattle.wenc_builder.specs.inside.Layout.{kind_id};
 
     /// The id of the kind's sections.
     pub fn id(self) -> u8

@@ -8,7 +8,7 @@ pub struct Nested<'a, A: Allocator>(pub &'a Buffer<A>);
 
 impl<'a, A: Allocator> Encode for Nested<'a, A> {
     ghost use Rattle.std.specs.Prelude.{◌≡◌, is_none, false};
-    ghost use Rattle.wenc_builder.specs.Layout.{nested};
+    ghost use Rattle.wenc_builder.specs.inside.Layout.{nested};
 
     ghost piece = { λ n. nested n.0.now };
 

@@ -6,7 +6,7 @@ ghost use Rattle.wenc_builder.specs.Space.{space_number};
 ghost use Rattle.wenc_builder.specs.Builder.{namespace_at};
 ghost use Rattle.wenc_builder.specs.Cause.{SpaceCause};
 ghost use Rattle.wenc_builder.specs.Names.{by_sort, names_held};
-ghost use Rattle.wenc_builder.specs.Spaces.{empty_spaces, space_begun, spaces_begun, spaces_ended, spaces_given_up, count_at};
+ghost use Rattle.wenc_builder.specs.inside.Spaces.{empty_spaces, space_begun, spaces_begun, spaces_ended, spaces_given_up, count_at};
 
 use super::names::{SpaceNames, Subsections};
 use super::namespace::Namespace;
@@ -36,11 +36,11 @@ pub struct Spaces<A: Allocator = Global> {
 }
 
 impl<A: Allocator> Model for Spaces<A> {
-    ghost use Rattle.wenc_builder.specs.Spaces.{Spaced};
+    ghost use Rattle.wenc_builder.specs.inside.Spaces.{Spaced};
 
     ghost Value = { Spaced };
 
-    ghost use Rattle.wenc_builder.specs.Spaces.{spaced_view, CanUndo};
+    ghost use Rattle.wenc_builder.specs.inside.Spaces.{spaced_view, CanUndo};
 
     ghost view = { λ s. spaced_view s.spaces.items s.undo };
 

@@ -4,9 +4,10 @@ ghost use Rattle.std.specs.Prelude.{◌≡◌, [], List, false, Err, IfOk, OnErr
 ghost use Rattle.wenc_base.specs.Holder.{is_finished, held};
 ghost use Rattle.wenc_base.specs.Piece.{◌▸◌};
 ghost use Rattle.wenc_base.specs.declared.fault.Fault.TheVariants.{Unfinished};
+ghost use Rattle.wenc_builder.specs.Builder.{draft_in};
 ghost use Rattle.wenc_builder.specs.Enters.{Begins, Enters, TakesDraft};
+ghost use Rattle.wenc_parts.specs.declared.component.ComponentSectionId.TheVariants as ids;
 ghost use Rattle.wenc_builder.specs.Entry.{type_entry};
-ghost use Rattle.wenc_builder.specs.Layout.{draft_of};
 ghost use Rattle.wenc_types.specs.ComponentTypes.{InstanceDeclaration, ComponentDeclaration, InstanceType, ComponentType as ComponentTypeSpec, ResourceType, instances_of, components_of};
 ghost use Rattle.wenc_types.specs.Declarations.{InstanceDeclares, ComponentDeclares};
 ghost use Rattle.wenc_types.specs.declared.func_type.FuncStage.TheVariants as stages;
@@ -41,7 +42,7 @@ impl<A: Allocator> ComponentBuilder<A> {
             (λ e. e.1.lender.ghost_name) result (λ n. n ≡ self.old)) }
         ensures same_reference { IfOk result (λ e. e.1.lender.ghost_name ≡ self.entry.ghost_name) }
         ensures begun { Begins (λ e. e.0) (λ e. e.1.lender.now) self.old result
-            (draft_of Kind.CoreType Space.CoreTypes (option_copied debug_name.entry) []) }
+            (draft_in ids.CoreType Space.CoreTypes (option_copied debug_name.entry) []) }
     {
         let index = self.begin(Kind::CoreType, Space::CoreTypes, debug_name)?;
         Ok((index, ComponentCoreTypeEncoder::new(self)))
@@ -56,7 +57,7 @@ impl<A: Allocator> ComponentBuilder<A> {
             (λ e. e.1.lender.ghost_name) result (λ n. n ≡ self.old)) }
         ensures same_reference { IfOk result (λ e. e.1.lender.ghost_name ≡ self.entry.ghost_name) }
         ensures begun { Begins (λ e. e.0) (λ e. e.1.lender.now) self.old result
-            (draft_of Kind.«Type» Space.Types (option_copied debug_name.entry) []) }
+            (draft_in ids.«Type» Space.Types (option_copied debug_name.entry) []) }
     {
         let index = self.begin(Kind::Type, Space::Types, debug_name)?;
         Ok((index, ComponentTypeEncoder::new(self)))
@@ -72,7 +73,7 @@ impl<A: Allocator> ComponentBuilder<A> {
             → Enters self.old self.new result
             (type_entry (option_copied debug_name.entry) (InstanceType (instances_of ds))) }
         ensures taken { TakesDraft self.old self.new result
-            (draft_of Kind.«Type» Space.Types (option_copied debug_name.entry))
+            (draft_in ids.«Type» Space.Types (option_copied debug_name.entry))
             (0x42 ▸ held ty.now.held) }
         ensures unfinished { is_finished ty.now.held ≡ false → result ≡ Err Unfinished }
         ensures err { OnErr result (self.new ≡ self.old) }
@@ -93,7 +94,7 @@ impl<A: Allocator> ComponentBuilder<A> {
             → Enters self.old self.new result
             (type_entry (option_copied debug_name.entry) (ComponentTypeSpec (components_of ds))) }
         ensures taken { TakesDraft self.old self.new result
-            (draft_of Kind.«Type» Space.Types (option_copied debug_name.entry))
+            (draft_in ids.«Type» Space.Types (option_copied debug_name.entry))
             (0x41 ▸ held ty.now.held) }
         ensures unfinished { is_finished ty.now.held ≡ false → result ≡ Err Unfinished }
         ensures err { OnErr result (self.new ≡ self.old) }
@@ -113,7 +114,7 @@ impl<A: Allocator> ComponentBuilder<A> {
             (λ e. e.1.lender.ghost_name) result (λ n. n ≡ self.old)) }
         ensures same_reference { IfOk result (λ e. e.1.lender.ghost_name ≡ self.entry.ghost_name) }
         ensures begun { Begins (λ e. e.0) (λ e. e.1.lender.now) self.old result
-            (draft_of Kind.«Type» Space.Types (option_copied debug_name.entry) []) }
+            (draft_in ids.«Type» Space.Types (option_copied debug_name.entry) []) }
     {
         let index = self.begin(Kind::Type, Space::Types, debug_name)?;
         Ok((index, ComponentDefinedTypeEncoder::new(self)))
@@ -128,7 +129,7 @@ impl<A: Allocator> ComponentBuilder<A> {
             (λ e. e.1.lender.ghost_name) result (λ n. n ≡ self.old)) }
         ensures same_reference { IfOk result (λ e. e.1.lender.ghost_name ≡ self.entry.ghost_name) }
         ensures begun { Begins (λ e. e.0) (λ e. e.1.lender.now) self.old result
-            (draft_of Kind.«Type» Space.Types (option_copied debug_name.entry) []) }
+            (draft_in ids.«Type» Space.Types (option_copied debug_name.entry) []) }
         ensures stage { IfOk result (λ e. e.1.stage ≡ stages.Start) }
     {
         let index = self.begin(Kind::Type, Space::Types, debug_name)?;

@@ -1,10 +1,11 @@
-use Rattle.std.proofs.Common.{false, true, ◌≡◌, ◌+◌, [], ◌∷◌, drop, map, arith, refl, inr}
-use Rattle.std.proofs.lemmas.List.{drop_all}
+use Rattle.std.proofs.Common.{ℕ, List, false, true, ◌≡◌, ◌↔◌, ◌+◌, ◌∷◌, drop, map, arith, refl, sym, subst, inr}
 use Rattle.std.specs.Prelude.{IsTrue}
 use Rattle.wenc_builder.specs.Builder.{builder_is_finished}
+use Rattle.wenc_builder.specs.Entry.{items}
+use Rattle.wenc_builder.specs.Sections.{whole}
+use Rattle.wenc_builder.specs.laws.Reading.{of_bytes}
 use Rattle.wasm_encoder.specs.Command.{command_view}
-use Rattle.wasm_encoder.proofs.Headline.{built, one_reading, one_list}
-use Rattle.wasm_encoder.proofs.Run.{ran_none, ran_more, ran_all, ran_stopped, next_is}
+use Rattle.wasm_encoder.proofs.Run.{ran_none, ran_more, ran_all, ran_held, ran_stopped, next_is}
 use Rattle.wasm_encoder.proofs.command.build.Goals as goal
 
 pub loop-command-init : goal.loop-command-init
@@ -13,7 +14,7 @@ loop-command-init g c = rw c.new-answers.ensures.items (ran_none (map command_vi
 pub loop-command-preserved : goal.loop-command-preserved
 loop-command-preserved g c =
     let split : drop c.loop-command.command-index c.args.commands.now ≡ c.command-item.result ∷ drop (c.loop-command.command-index + 1) c.args.commands.now = next_is c.args.commands.now c.loop-command.command-index c.command-item.result c.command-item.result (omega arith) c.command-item.is in
-    rw c.in_ok-push.ensures.items (ran_more (map command_view c.args.commands.now) _ (command_view c.command-item.result) _ c.in-Ok.answer _ _ (rw split at c.loop-command.invariant) c.belongs.ensures c.in-Ok.ensures)
+    rw c.in_ok-push.ensures.items (ran_more (map command_view c.args.commands.now) _ (command_view c.command-item.result) _ c.in-Ok.answer _ _ (rw split at c.loop-command.invariant) c.in-Ok.ensures)
 
 pub returns-in-Err-clause-refused : goal.returns-in-Err-clause-refused
 returns-in-Err-clause-refused g c =
@@ -27,24 +28,16 @@ returns-in_err-bytes-clause-refused g c =
 
 pub returns-clause-ran : goal.returns-clause-ran
 returns-clause-ran g c =
-    let past : drop c.loop-command.command-index c.args.commands.now ≡ [] = drop_all c.loop-command.command-index c.args.commands.now (omega arith) in
-    let all = ran_all (map command_view c.args.commands.now) c.loop-command.answers.items c.loop-command.builder (rw past at c.loop-command.invariant) in
+    let all = ran_all c.args.commands.now _ _ _ (omega arith) c.loop-command.invariant in
     (all.entries, all.ran, c.in_ok-bytes.ensures.held all.entries all.held)
 
 pub returns-clause-encodable : goal.returns-clause-encodable
-returns-clause-encodable g c es ran =
-    let past : drop c.loop-command.command-index c.args.commands.now ≡ [] = drop_all c.loop-command.command-index c.args.commands.now (omega arith) in
-    let all = ran_all (map command_view c.args.commands.now) c.loop-command.answers.items c.loop-command.builder (rw past at c.loop-command.invariant) in
-    (built _ _ c.loop-command.builder _ all c.in_ok-bytes.ensures.held (rw c.deref.ensures.value at c.are_bytes.ensures) es ran).encodable
+returns-clause-encodable g c es ran = (ran_held (ran_all c.args.commands.now _ _ _ (omega arith) c.loop-command.invariant) es ran).fits
 
 pub returns-clause-one_reading : goal.returns-clause-one_reading
-returns-clause-one_reading g c es ran =
-    let past : drop c.loop-command.command-index c.args.commands.now ≡ [] = drop_all c.loop-command.command-index c.args.commands.now (omega arith) in
-    let all = ran_all (map command_view c.args.commands.now) c.loop-command.answers.items c.loop-command.builder (rw past at c.loop-command.invariant) in
-    one_reading _ es (built _ _ c.loop-command.builder _ all c.in_ok-bytes.ensures.held (rw c.deref.ensures.value at c.are_bytes.ensures) es ran)
+returns-clause-one_reading g c es ran = c.in_ok-bytes.ensures.one_reading es (ran_held (ran_all c.args.commands.now _ _ _ (omega arith) c.loop-command.invariant) es ran)
 
 pub returns-clause-one_list : goal.returns-clause-one_list
-returns-clause-one_list g c es ran =
-    let past : drop c.loop-command.command-index c.args.commands.now ≡ [] = drop_all c.loop-command.command-index c.args.commands.now (omega arith) in
-    let all = ran_all (map command_view c.args.commands.now) c.loop-command.answers.items c.loop-command.builder (rw past at c.loop-command.invariant) in
-    one_list _ es (built _ _ c.loop-command.builder _ all c.in_ok-bytes.ensures.held (rw c.deref.ensures.value at c.are_bytes.ensures) es ran)
+returns-clause-one_list g c es ran no_raw xs no_raw' fits =
+    let held = ran_held (ran_all c.args.commands.now _ _ _ (omega arith) c.loop-command.invariant) es ran in
+    subst (λ (bytes : List ℕ). (whole xs ≡ bytes) ↔ (xs ≡ items es)) (sym (c.in_ok-bytes.ensures.held es held)) (of_bytes (items es) xs no_raw held.fits no_raw' fits)

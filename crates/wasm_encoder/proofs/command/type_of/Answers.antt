@@ -1,8 +1,8 @@
 use Rattle.std.proofs.Common.{rules, []}
 use Rattle.std.specs.Option.{option_copied}
 use Rattle.wenc_builder.specs.Entry.{type_entry}
-use Rattle.wenc_builder.specs.Layout.{draft_of}
-use Rattle.wenc_builder.specs.declared.builder.kind.Kind.TheVariants as kinds
+use Rattle.wenc_builder.specs.Builder.{draft_in}
+use Rattle.wenc_parts.specs.declared.component.ComponentSectionId.TheVariants as ids
 use Rattle.wenc_builder.specs.declared.builder.space.Space.TheVariants as spaces
 use Rattle.wenc_types.specs.TypeTrees.{type_view}
 use Rattle.wasm_encoder.specs.Command.{«Type»}
@@ -14,16 +14,16 @@ returns-in-Ok-tree g c =
     let n = option_copied c.args.debug_name in
     let t = type_view c.args.ty.now in
     let e = c.in-Ok.ensures.begun in
-    type_accepted c.args.builder.now _ _ _ c.in-Ok.index («Type» n t) (type_entry n t) (draft_of kinds.«Type» spaces.Types n []) (writes_type n t) e.begun e.placed e.free c.in-Ok-tree.ensures.ok c.in-Ok-tree.ensures.free (search rules)
+    type_accepted c.args.builder.now _ _ _ c.in-Ok.index («Type» n t) (type_entry n t) (draft_in ids.«Type» spaces.Types n []) (writes_type n t) e.begun e.placed e.free c.in-Ok-tree.ensures.ok c.in-Ok-tree.ensures.fits c.in-Ok-tree.ensures.free (search rules)
 
 pub returns-in-Err-tree : goal.returns-in-Err-tree
 returns-in-Err-tree g c =
     let n = option_copied c.args.debug_name in
     let t = type_view c.args.ty.now in
-    type_refused c.args.builder.now _ c.in-Err-tree.fault («Type» n t) (type_entry n t) (draft_of kinds.«Type» spaces.Types n []) (writes_type n t) c.in-Ok.ensures.begun.begun c.in-Err-tree.ensures.warranted
+    type_refused c.args.builder.now _ c.in-Err-tree.fault («Type» n t) (type_entry n t) (draft_in ids.«Type» spaces.Types n []) (writes_type n t) c.in-Ok.ensures.begun.begun c.in-Err-tree.ensures.warranted
 
 pub returns-in-Err : goal.returns-in-Err
 returns-in-Err g c =
     let n = option_copied c.args.debug_name in
     let t = type_view c.args.ty.now in
-    opening_refused c.args.builder.now _ c.in-Err.fault («Type» n t) (type_entry n t) (draft_of kinds.«Type» spaces.Types n []) (writes_type n t) (search rules) c.in-Err.ensures.begun.warranted
+    opening_refused c.args.builder.now _ c.in-Err.fault («Type» n t) (type_entry n t) (draft_in ids.«Type» spaces.Types n []) (writes_type n t) (search rules) c.in-Err.ensures.begun.warranted

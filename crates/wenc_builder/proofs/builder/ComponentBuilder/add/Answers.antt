@@ -1,6 +1,6 @@
 use Rattle.std.specs.Option.{option_copied}
 use Rattle.wenc_builder.specs.Space.{space_number}
-use Rattle.wenc_builder.specs.Layout.{kind_id}
+use Rattle.wenc_builder.specs.inside.Layout.{kind_id}
 use Rattle.wenc_builder.proofs.Taken.{added}
 use Rattle.wenc_builder.proofs.builder.ComponentBuilder.add.Goals as goal
 

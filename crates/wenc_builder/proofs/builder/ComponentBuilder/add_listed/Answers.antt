@@ -1,7 +1,7 @@
 use Rattle.std.specs.Option.{option_copied}
 use Rattle.wenc_base.specs.Holder.{listed}
 use Rattle.wenc_builder.specs.Space.{space_number}
-use Rattle.wenc_builder.specs.Layout.{kind_id}
+use Rattle.wenc_builder.specs.inside.Layout.{kind_id}
 use Rattle.wenc_builder.proofs.Listed.{list_not_begun, list_added, list_not_written}
 use Rattle.wenc_builder.proofs.builder.ComponentBuilder.add_listed.Goals as goal
 

@@ -1,5 +1,5 @@
 use Rattle.wenc_builder.specs.Space.{space_number}
-use Rattle.wenc_builder.specs.Layout.{kind_id}
+use Rattle.wenc_builder.specs.inside.Layout.{kind_id}
 use Rattle.std.specs.Option.{option_copied}
 use Rattle.wenc_builder.proofs.Standing.{placed_back, begun_stands}
 use Rattle.std.proofs.Common.{sym}

@@ -4,7 +4,7 @@ use Rattle.wenc_sections.specs.Instances.{CoreInstantiate, argument_view}
 use Rattle.wenc_sections.specs.laws.Instances.{core_instantiate_listed}
 use Rattle.wenc_builder.specs.Entry.{core_instance_entry}
 use Rattle.wenc_builder.specs.Item.{CoreInstanceItem}
-use Rattle.wenc_builder.specs.Layout.{kind_id}
+use Rattle.wenc_builder.specs.inside.Layout.{kind_id}
 use Rattle.wenc_builder.specs.Space.{space_number}
 use Rattle.wenc_builder.specs.declared.builder.kind.Kind.TheVariants as kinds
 use Rattle.wenc_builder.specs.declared.builder.space.Space.TheVariants as spaces

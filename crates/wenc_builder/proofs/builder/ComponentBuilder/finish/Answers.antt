@@ -4,7 +4,7 @@ use Rattle.wenc_builder.specs.Entry.{items}
 use Rattle.wenc_builder.specs.Sections.{runs, Reading, whole}
 use Rattle.wenc_builder.specs.laws.Reading.{of_items}
 use Rattle.std.proofs.Math.Logic.{∥∥₁_map}
-use Rattle.wenc_builder.specs.View.{builder_view}
+use Rattle.wenc_builder.specs.inside.View.{builder_view}
 use Rattle.wenc_builder.specs.laws.Held.{holds_some}
 use Rattle.wenc_builder.proofs.Viewed.{finished_is}
 use Rattle.wenc_builder.proofs.builder.ComponentBuilder.finish.Goals as goal

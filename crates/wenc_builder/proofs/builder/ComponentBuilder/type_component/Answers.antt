@@ -8,7 +8,7 @@ use Rattle.wenc_types.specs.laws.Declarations.{component_serves}
 use Rattle.wenc_types.specs.laws.Declaring.{component_has_form}
 use Rattle.wenc_builder.specs.Entry.{type_entry}
 use Rattle.wenc_builder.specs.Item.{TypeItem}
-use Rattle.wenc_builder.specs.Layout.{kind_id}
+use Rattle.wenc_builder.specs.inside.Layout.{kind_id}
 use Rattle.wenc_builder.specs.Space.{space_number}
 use Rattle.wenc_builder.specs.declared.builder.kind.Kind.TheVariants as kinds
 use Rattle.wenc_builder.specs.declared.builder.space.Space.TheVariants as spaces

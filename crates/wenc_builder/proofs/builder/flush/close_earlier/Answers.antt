@@ -1,6 +1,6 @@
 use Rattle.std.proofs.Common.{ap, ◌∙◌, List, ℕ}
 use Rattle.wenc_base.specs.Holder.{with_kept}
-use Rattle.wenc_builder.specs.Layout.{kind_id}
+use Rattle.wenc_builder.specs.inside.Layout.{kind_id}
 use Rattle.wenc_builder.proofs.Gap.{closed_items}
 use Rattle.wenc_builder.proofs.builder.flush.close_earlier.Goals as goal
 

@@ -1,5 +1,5 @@
 use Rattle.std.proofs.Common.{rules}
-use Rattle.wenc_builder.specs.Layout.{kind_id}
+use Rattle.wenc_builder.specs.inside.Layout.{kind_id}
 use Rattle.wenc_builder.proofs.Laid.{neighbour_free, apart_free}
 use Rattle.wenc_builder.proofs.builder.buffer.Buffer.begin.Goals as goal
 

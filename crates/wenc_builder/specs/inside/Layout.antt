@@ -1,24 +1,29 @@
--- How a builder's bytes lie in its holder: it keeps the closed bytes and, where a section is open, a gap of 11 bytes;
--- its members are the items of that section. While an item that opens another section is being written, it keeps
--- that section too, and a gap behind it, and the item is its only member.
-use Rattle.std.specs.Prelude.{◌≡◌, ℕ, List, [], ◌∷◌, ◌++◌, ◌+◌, ◌-◌, ◌<◌, ◌≤◌, ◌^◌, length, take, drop, Option, Some, None, is_none, false}
+-- How a builder's bytes lie in its holder: it keeps the closed bytes and, where a section is open,
+-- a gap of 11 bytes; its members are the items of that section. While an item that opens another
+-- section is being written, it keeps that section too, and a gap behind it, and the item is its
+-- only member.
+use Rattle.std.specs.Prelude.{◌≡◌, ℕ, List, [], ◌∷◌, ◌++◌, ◌+◌, ◌-◌, ◌<◌, ◌≤◌, ◌^◌, length, take}
+use Rattle.std.specs.Prelude.{drop, Option, Some, None, is_none, false}
 use Rattle.wenc_base.specs.Number.{unsigned_text, number_size}
 use Rattle.wenc_base.specs.Holder.{Held, content_size}
 use Rattle.wenc_base.specs.declared.holder.openings.Opening.{Opening}
-use Rattle.wenc_base.specs.declared.fault.Fault.{Fault}
 use Rattle.wenc_base.specs.Fault.{either, size_cause}
 use Rattle.wenc_base.specs.Forms.{byte_list}
 use Rattle.wenc_base.specs.Piece.{Piece, refused_for}
-use Rattle.wenc_base.specs.declared.fault.Fault.TheVariants.{TooLarge, Unfinished}
+use Rattle.wenc_base.specs.declared.fault.Fault.TheVariants.{Unfinished}
 use Rattle.wenc_parts.specs.declared.component.ComponentSectionId.TheVariants as ids
 use Rattle.wenc_parts.specs.SectionIds.{section_number}
 use Rattle.wenc_sections.specs.Component.{preamble}
 use Rattle.wenc_builder.specs.Space.{space_number}
-use Rattle.wenc_builder.specs.Builder.{OpenSection, Sections, sections_text, entered, stood_alone, open_text, Draft, draft}
-use Rattle.wenc_builder.specs.Cause.{SectionCause}
+use Rattle.wenc_builder.specs.Builder.{OpenSection, Sections, sections_text, entered, stood_alone}
+use Rattle.wenc_builder.specs.Builder.{open_text, Draft, draft}
 use Rattle.wenc_builder.specs.declared.builder.space.Space.{Space}
 use Rattle.wenc_builder.specs.declared.builder.kind.Kind.{Kind}
-use Rattle.wenc_builder.specs.declared.builder.kind.Kind.TheVariants.{CoreInstance, CoreType, Instance, Alias, «Type» as TypeKind, CanonicalFunction, Import, Export}
+use Rattle.wenc_builder.specs.declared.builder.kind.Kind.TheVariants.{CoreInstance, CoreType}
+use Rattle.wenc_builder.specs.declared.builder.kind.Kind.TheVariants.{Instance, Alias}
+use Rattle.wenc_builder.specs.declared.builder.kind.Kind.TheVariants.{«Type» as TypeKind}
+use Rattle.wenc_builder.specs.declared.builder.kind.Kind.TheVariants.{CanonicalFunction, Import}
+use Rattle.wenc_builder.specs.declared.builder.kind.Kind.TheVariants.{Export}
 use Rattle.wenc_builder.specs.declared.builder.earlier.Earlier.{Earlier}
 
 -- the id of the kind's sections
@@ -204,13 +209,10 @@ kept_with kept e = closed_with kept e ++ drop e.items_end kept
 
 -- ---- why the buffer refuses
 
--- all bytes as those of a nested component: refused where there are too many, or while an item is being written
+-- all bytes as those of a nested component: refused where there are too many, or while an item is
+-- being written
 abbrev pub nested : Buffered → Piece
 nested b =
     refused_for (either (size_cause (length (sections_text b.settled)))
     (λ fault. (fault ≡ Unfinished) × (is_none b.writing ≡ false)))
     (byte_list (sections_text b.settled))
-
--- The open section, as it would be, is too large.
-abbrev pub NoRoom : Option OpenSection → Fault → Type 0
-NoRoom current fault = (fault ≡ TooLarge) × SectionCause current TooLarge

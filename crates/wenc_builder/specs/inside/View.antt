@@ -2,8 +2,8 @@
 use Rattle.std.specs.Prelude.{Option, Some, None}
 use Rattle.wenc_builder.specs.Builder.{Begun, State}
 use Rattle.wenc_builder.specs.inside.HoldsSome.{HoldsSome}
-use Rattle.wenc_builder.specs.Layout.{Writing, Buffered}
-use Rattle.wenc_builder.specs.Spaces.{Taking, Spaced}
+use Rattle.wenc_builder.specs.inside.Layout.{Writing, Buffered}
+use Rattle.wenc_builder.specs.inside.Spaces.{Taking, Spaced}
 
 -- an item is being written in both, or in none
 abbrev pub Agree : Option Writing → Option Taking → Type 0

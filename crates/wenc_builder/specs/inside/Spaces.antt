@@ -1,5 +1,6 @@
 -- The index spaces with the item that is being written in one of them, and what that was before.
-use Rattle.std.specs.Prelude.{◌≡◌, ℕ, List, [], ◌<◌, ◌≤◌, ◌^◌, length, take, replicate, Option, Some, None, slice_set}
+use Rattle.std.specs.Prelude.{◌≡◌, ℕ, List, [], ◌<◌, ◌≤◌, ◌^◌, length, take, replicate, Option}
+use Rattle.std.specs.Prelude.{Some, None, slice_set}
 use Rattle.wenc_base.specs.Holder.{Held, holding, content_size}
 use Rattle.wenc_builder.specs.Builder.{Namespace, no_names, namespace_at, namespace_with}
 use Rattle.wenc_builder.specs.declared.builder.spaces.Undo.{Undo}

@@ -1,0 +1,49 @@
+-- What private calls of a builder do.
+use Rattle.std.specs.Prelude.{◌≡◌, ℕ, List, Option, Some, None, false, Result, OnOk, OnErr, IfErr}
+use Rattle.std.specs.Iterator.Runs.{SomeRun, WholeRun}
+use Rattle.wenc_base.specs.Fault.{IsWarranted, either}
+use Rattle.wenc_base.specs.Lender.{Extended}
+use Rattle.wenc_base.specs.Piece.{Piece}
+use Rattle.wenc_base.specs.declared.fault.Fault.{Fault}
+use Rattle.wenc_builder.specs.Builder.{State, settled_in, with_alone, builder_is_finished, Draft}
+use Rattle.wenc_builder.specs.Builder.{appended}
+use Rattle.wenc_builder.specs.Enters.{TakesWith, TakesPlaces, TakesDraft}
+use Rattle.wenc_builder.specs.Lent.{IsItemText, no_room}
+use Rattle.wenc_builder.specs.Space.{Defined}
+
+-- If it fits, this piece is such an item.
+abbrev pub IsItemPiece : Option ℕ → Option Defined → Piece → Type 0
+IsItemPiece section places p = p.Fits → ∥ IsItemText section places p.text ∥₁
+
+-- A call adds what stands alone, as `TakesPlaces` says.
+abbrev pub TakesAlone : State → State → Result ℕ Fault → Defined → Option (List ℕ) → Piece → Type 0
+TakesAlone old new result d name p =
+    TakesPlaces old new (settled_in (with_alone old.settled (Some d) name p.text)) result
+    (with_alone old.settled (Some d) name p.text) d p
+
+-- The same of what stands alone and has no place.
+abbrev pub TakesNoPlace : State → State → Result (Unit {0}) Fault → Piece → Type 0
+TakesNoPlace old new result p =
+    TakesWith old new (settled_in (with_alone old.settled None None p.text)) result
+    (with_alone old.settled None None p.text) None p (λ r. Unit {0})
+
+-- A call appends a piece to the item that is being written, which is made of the values that an
+-- iterator gives; where it is refused, it may have appended a part.
+pub record AppendsListed {S B : Type 0} (steps : S → Option B → S → Type 0) (values : S)
+    (old new : State) (outcome : Result (Unit {0}) Fault) (piece : List B → Piece) : Type 0 where
+  pub ok : OnOk outcome
+      (WholeRun steps values (λ run. Extended new (appended old) (no_room old) (piece run.items)))
+  pub settled : OnErr outcome (new.settled ≡ old.settled)
+  pub still : builder_is_finished new ≡ false
+  pub warranted : IfErr outcome
+      (λ fault. SomeRun steps values (λ run.
+      IsWarranted (either (piece run.items).Cause (no_room old (piece run.items).text)) fault))
+
+-- The same of an item whose text is made of the values that an iterator gives.
+pub record TakesListed {S B : Type 0} (steps : S → Option B → S → Type 0) (values : S)
+    (old new : State) (result : Result ℕ Fault) (d : List ℕ → Draft)
+    (piece : List B → Piece) : Type 0 where
+  pub ok : OnOk result
+      (WholeRun steps values (λ run. TakesDraft old new result d (piece run.items)))
+  pub refused : OnErr result
+      (SomeRun steps values (λ run. TakesDraft old new result d (piece run.items)))
