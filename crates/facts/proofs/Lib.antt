@@ -5,4 +5,3 @@ pub mod ListedRuns
 pub mod NeverUnfinished
 pub mod Options
 pub mod PlacedRuns
-pub mod Written

@@ -8,6 +8,7 @@ ghost use Rattle.wenc_types.specs.ComponentTypes.{DefinedType};
 ghost use Rattle.wenc_types.specs.DefinedTypes.{OptionOf};
 
 use std::alloc::Allocator;
+use wasm_encoder::laws::encoded_types_are_entries;
 use wenc_base::Fault;
 use wenc_builder::ComponentBuilder;
 use wenc_parts::ComponentValType;
@@ -22,6 +23,7 @@ pub fn option_built<A: Allocator>(
     ensures placed { (es : List Entry) → Holds builder.old es → IfOk result
         (λ i. i ≡ place (items es) (space_number spaces.Types)) }
 {
+    encoded_types_are_entries();
     match builder.type_defined(None) {
         Ok((index, encoder)) => match encoder.option(ty) {
             Ok(()) => Ok(index),

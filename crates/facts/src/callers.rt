@@ -15,7 +15,7 @@ use wenc_parts::{ComponentExportKind, ComponentExternName, ComponentTypeRef};
 
 /// The bytes of a value, in a vector of their own.
 pub fn encoded<T: Encode, A: Allocator>(alloc: A, value: &T) -> Result<Vec<u8, A>, Fault>
-    ensures { IfOk result (λ bytes. bytes.items ≡ T.text value.now) }
+    ensures { IfOk result (λ bytes. bytes.items ≡ (T.piece value.now).text) }
 {
     let mut bytes = Vec::new(alloc);
     value.encode(&mut bytes)?;

@@ -4,9 +4,9 @@ ghost use Rattle.std.specs.Iterator.{IsFinite};
 ghost use Rattle.std.specs.Prelude.{◌≡◌, ◌++◌, ◌∷◌, [], List, map, OnOk, Ok, true, false};
 ghost use Rattle.wenc_base.specs.Composites.{Single, sub_view};
 ghost use Rattle.wenc_base.specs.Holder.{Contains};
-ghost use Rattle.wenc_types.specs.ComponentTypes.{TypeOf, DefinedType, FunctionType, ComponentDeclaration, Declared, Typed, type_text};
+ghost use Rattle.wenc_types.specs.ComponentTypes.{TypeOf, DefinedType, FunctionType, ComponentDeclaration, Declared, Typed, type_of};
 ghost use Rattle.wenc_types.specs.Declarations.{ComponentDeclares};
-ghost use Rattle.wenc_types.specs.CoreTypes.{CoreType, Grouped, ModuleDeclaration, Defined, core_type_text};
+ghost use Rattle.wenc_types.specs.CoreTypes.{CoreType, Grouped, ModuleDeclaration, Defined, core_type};
 ghost use Rattle.wenc_types.specs.DefinedTypes.{OptionOf, lent_named};
 ghost use Rattle.wenc_types.specs.ModuleTypes.{Declares};
 
@@ -25,7 +25,7 @@ pub fn begun_again<A: Allocator, B: Allocator>(
 ) -> Result<bool, Fault>
     ensures had_begun { OnOk result (result ≡ Ok true) }
     ensures one_more { OnOk result ((types : List CoreType)
-        → Contains core_type_text section.old types → Contains core_type_text section.new
+        → Contains core_type section.old types → Contains core_type section.new
         (types ++ Grouped (Single (sub_view ty.now)) ∷ [])) }
 {
     section.ty()?;
@@ -70,7 +70,7 @@ where
     requires can { P.can_next params }
     requires ends { IsFinite (P.remaining params) }
     ensures { OnOk result (WholeRun P.next_gives params (λ run. (types : List TypeOf)
-        → Contains type_text section.old types → Contains type_text section.new
+        → Contains type_of section.old types → Contains type_of section.new
         (types ++ FunctionType (record {
           is_async = false;
           params = map lent_named run.items;

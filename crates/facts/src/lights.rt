@@ -2,8 +2,7 @@
 ghost use Rattle.std.specs.Prelude.{◌≡◌, ◌++◌, ℕ, List, true};
 ghost use Rattle.std.specs.Cmp.Lexicographic.{pointwise};
 ghost use Rattle.std.specs.Option.{option_eq};
-ghost use Rattle.wenc_base.specs.Fault.{list_cause, NoCause};
-ghost use Rattle.wenc_base.specs.Forms.{list_text, option_text};
+ghost use Rattle.wenc_base.specs.Forms.{list, option};
 ghost use Rattle.sweeping.specs.Own.{light};
 
 use sweeping::own::Light;
@@ -11,8 +10,8 @@ use wasm_encoder::laws::texts_tell_equals;
 
 /// The text of a list of lights, and of what follows it, tells the lights, and what follows.
 pub fn lights_are_told(a: &&[Light], b: &&[Light])
-    ensures { NoCause (list_cause (λ l fault. ⊥) a.now.now) → NoCause (list_cause (λ l fault. ⊥) b.now.now) → (r s : List ℕ)
-        → list_text (λ l. (light l).text) a.now.now ++ r ≡ list_text (λ l. (light l).text) b.now.now ++ s
+    ensures { (list light a.now.now).Fits → (list light b.now.now).Fits → (r s : List ℕ)
+        → (list light a.now.now).text ++ r ≡ (list light b.now.now).text ++ s
         → (pointwise ⟦<Light as PartialEq>⟧.eq a.now.now b.now.now ≡ true) × (r ≡ s) }
 {
     texts_tell_equals(a, b);
@@ -20,7 +19,8 @@ pub fn lights_are_told(a: &&[Light], b: &&[Light])
 
 /// The same of a light that may be there, which nothing keeps from being encoded.
 pub fn optional_lights_are_told(a: &Option<Light>, b: &Option<Light>)
-    ensures { (r s : List ℕ) → option_text (λ l. (light l).text) a.now ++ r ≡ option_text (λ l. (light l).text) b.now ++ s
+    ensures { (r s : List ℕ)
+        → (option light a.now).text ++ r ≡ (option light b.now).text ++ s
         → (option_eq ⟦<Light as PartialEq>⟧.eq a.now b.now ≡ true) × (r ≡ s) }
 {
     texts_tell_equals(a, b);

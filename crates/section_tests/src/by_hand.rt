@@ -2,12 +2,11 @@ ghost use Rattle.std.specs.Prelude.{◌≡◌, ◌++◌, ◌∷◌, [], IfOk, No
 ghost use Rattle.wenc_base.specs.Holder.{no_members, with_member, section_text};
 ghost use Rattle.wenc_parts.specs.declared.exports.ComponentExportKind.{ComponentExportKind};
 ghost use Rattle.wenc_parts.specs.declared.imports.ComponentTypeRef.{ComponentTypeRef};
-ghost use Rattle.wenc_parts.specs.Aliases.{InstanceExport};
+ghost use Rattle.wenc_parts.specs.Aliases.{InstanceExport, alias};
 ghost use Rattle.wenc_parts.specs.Imports.{plain_name};
 ghost use Rattle.wenc_sections.specs.Component.{preamble};
-ghost use Rattle.wenc_parts.specs.Aliases.{alias_text};
-ghost use Rattle.wenc_sections.specs.Imports.{import_text};
-ghost use Rattle.wenc_sections.specs.Exports.{export_text};
+ghost use Rattle.wenc_sections.specs.Imports.{import_item};
+ghost use Rattle.wenc_sections.specs.Exports.{export_item};
 
 use std::alloc::Allocator;
 use wenc_base::Fault;
@@ -19,7 +18,7 @@ use wenc_sections::{
 /// An instance is imported.
 fn imported<A: Allocator>(alloc: A) -> Result<ComponentImportSection<A>, Fault>
     ensures { IfOk result (λ imports. imports
-        ≡ with_member no_members (import_text (record { name = plain_name (codes "i"); what = ComponentTypeRef.Instance 0 }))) }
+        ≡ with_member no_members (import_item (record { name = plain_name (codes "i"); what = ComponentTypeRef.Instance 0 })).text) }
 {
     let mut imports = ComponentImportSection::new(alloc);
     imports.import("i".into(), ComponentTypeRef::Instance(0))?;
@@ -29,7 +28,7 @@ fn imported<A: Allocator>(alloc: A) -> Result<ComponentImportSection<A>, Fault>
 /// A function of it has an index.
 fn aliased<A: Allocator>(alloc: A) -> Result<ComponentAliasSection<A>, Fault>
     ensures { IfOk result (λ aliases. aliases
-        ≡ with_member no_members (alias_text (InstanceExport 0 ComponentExportKind.Func (codes "f")))) }
+        ≡ with_member no_members (alias (InstanceExport 0 ComponentExportKind.Func (codes "f"))).text) }
 {
     let mut aliases = ComponentAliasSection::new(alloc);
     aliases.alias(Alias::InstanceExport {
@@ -43,7 +42,7 @@ fn aliased<A: Allocator>(alloc: A) -> Result<ComponentAliasSection<A>, Fault>
 /// The function is exported.
 fn exported<A: Allocator>(alloc: A) -> Result<ComponentExportSection<A>, Fault>
     ensures { IfOk result (λ exports. exports
-        ≡ with_member no_members (export_text (record { name = plain_name (codes "g"); kind = ComponentExportKind.Func; index = 0; what = None }))) }
+        ≡ with_member no_members (export_item (record { name = plain_name (codes "g"); kind = ComponentExportKind.Func; index = 0; what = None })).text) }
 {
     let mut exports = ComponentExportSection::new(alloc);
     exports.export("g".into(), ComponentExportKind::Func, 0, None)?;
@@ -71,9 +70,9 @@ fn joined<A: Allocator>(
 /// from the contracts of these calls alone.
 pub fn by_hand<A: Allocator + Copy>(alloc: A) -> Result<Vec<u8, A>, Fault>
     ensures { IfOk result (λ bytes. bytes.items ≡ preamble.text
-        ++ (10 ∷ section_text (with_member no_members (import_text (record { name = plain_name (codes "i"); what = ComponentTypeRef.Instance 0 }))))
-        ++ (6 ∷ section_text (with_member no_members (alias_text (InstanceExport 0 ComponentExportKind.Func (codes "f")))))
-        ++ (11 ∷ section_text (with_member no_members (export_text (record { name = plain_name (codes "g"); kind = ComponentExportKind.Func; index = 0; what = None }))))) }
+        ++ (10 ∷ section_text (with_member no_members (import_item (record { name = plain_name (codes "i"); what = ComponentTypeRef.Instance 0 })).text))
+        ++ (6 ∷ section_text (with_member no_members (alias (InstanceExport 0 ComponentExportKind.Func (codes "f"))).text))
+        ++ (11 ∷ section_text (with_member no_members (export_item (record { name = plain_name (codes "g"); kind = ComponentExportKind.Func; index = 0; what = None })).text))) }
 {
     let imports = imported(alloc)?;
     let aliases = aliased(alloc)?;

@@ -188,7 +188,6 @@ impl<'a> Component<'a> {
 
 /// The tree has this text.
 fn is_tree(rt: &impl Abort, alloc: Global, tree: impl Delimited + Drop, wanted: &str) {
-    tree.belongs();
     is_text(rt, alloc, &tree, wanted);
 }
 

@@ -1,6 +1,7 @@
 //! Sections of one's own.
 
-ghost use Rattle.std.specs.Prelude.{◌≡◌, ◌∷◌, []};
+ghost use Rattle.std.specs.Prelude.{◌≡◌};
+ghost use Rattle.wenc_base.specs.Piece.{nothing, byte, refused_for};
 ghost use Rattle.wenc_base.specs.declared.fault.Fault.TheVariants.{TooLarge};
 
 use std::alloc::Allocator;
@@ -11,9 +12,7 @@ use wenc_parts::ComponentSection;
 pub struct Own;
 
 impl Encode for Own {
-    ghost text = { λ _. 0x2a ∷ [] };
-
-    ghost cause = { λ _ _. ⊥ };
+    ghost piece = { λ _. byte 0x2a };
 
     fn encode<A: Allocator>(&self, sink: &mut Vec<u8, A>) -> Result<(), Fault> {
         sink.push(0x2a)?;
@@ -41,9 +40,7 @@ impl Section for Own {
 pub struct Large;
 
 impl Encode for Large {
-    ghost text = { λ _. [] };
-
-    ghost cause = { λ _ fault. fault ≡ TooLarge };
+    ghost piece = { λ _. refused_for (λ fault. fault ≡ TooLarge) nothing };
 
     fn encode<A: Allocator>(&self, _sink: &mut Vec<u8, A>) -> Result<(), Fault> {
         Err(Fault::TooLarge)

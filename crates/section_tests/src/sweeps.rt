@@ -1,6 +1,5 @@
 //! Components whose requests for memory can be refused.
 
-ghost use Rattle.wenc_base.specs.Fault.{text_cause};
 ghost use Rattle.wenc_base.specs.Forms.{name};
 
 use crate::accepted::is_well;
@@ -18,9 +17,7 @@ use wenc_sections::Component;
 struct OwnText<'a>(&'a str);
 
 impl<'a> Encode for OwnText<'a> {
-    ghost text = { λ s. (name s.0.now).text };
-
-    ghost cause = { λ s. text_cause s.0.now };
+    ghost piece = { λ s. name s.0.now };
 
     fn encode<A: Allocator>(&self, sink: &mut Vec<u8, A>) -> Result<(), Fault> {
         self.0.encode(sink)

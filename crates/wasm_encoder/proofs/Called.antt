@@ -20,7 +20,7 @@ use Rattle.wenc_builder.specs.laws.Answered.{answered, answered_with, entry_neve
 use Rattle.wasm_encoder.specs.Command.{CommandTree, AppendNames}
 use Rattle.wasm_encoder.specs.Cause.{one_or_none, added, place_added, added_cause, cause}
 use Rattle.wasm_encoder.specs.Ran.{IsRefusal}
-use Rattle.wasm_encoder.specs.Steps.{Answers, placed, placeless}
+use Rattle.wasm_encoder.specs.inside.Steps.{Answers, placed, placeless}
 
 -- what warrants an entry's refusal is never that something is unfinished
 pub refusal : (es : List Entry) (x : Entry) (fault : Fault) → IsWarranted (EntryCause es x) fault → IsRefusal (EntryCause es x) fault

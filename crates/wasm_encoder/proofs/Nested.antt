@@ -13,7 +13,7 @@ use Rattle.wenc_builder.specs.Sections.{whole}
 use Rattle.wasm_encoder.specs.Command.{CommandTree, Component, Commands, no_more, then, command_view, row_view, commands_view, debug_name_view}
 use Rattle.wasm_encoder.specs.Cause.{added, led, cause, first_cause}
 use Rattle.wasm_encoder.specs.Ran.{IsRefusal}
-use Rattle.wasm_encoder.specs.Steps.{Answers, Stops, placed}
+use Rattle.wasm_encoder.specs.inside.Steps.{Answers, Stops, placed}
 use Rattle.wasm_encoder.specs.declared.command.Command.{Command, Row_of-Command, end_of-Command, more_of-Command, items-the_row-Command, items_hidden-the_row-Command-0}
 use Rattle.wasm_encoder.specs.declared.command.Command as commands
 use Rattle.wasm_encoder.proofs.Called.{refusal_as, entered}

@@ -7,7 +7,7 @@ use Rattle.wenc_builder.specs.Entry.{Entry}
 use Rattle.wenc_builder.specs.Holds.{Holds}
 use Rattle.wasm_encoder.specs.Command.{CommandTree, command_view}
 use Rattle.wasm_encoder.specs.Ran.{IsDue, entries_after, RanFrom, Ran, IsStopped}
-use Rattle.wasm_encoder.specs.Steps.{Answers, Stops}
+use Rattle.wasm_encoder.specs.inside.Steps.{Answers, Stops}
 use Rattle.wasm_encoder.specs.declared.command.Command.{Command}
 
 -- one command more

@@ -18,7 +18,7 @@ use Rattle.wenc_types.specs.CoreTypes.{CoreType as CoreTypeOf}
 use Rattle.wasm_encoder.specs.Command.{CommandTree, CoreType, «Type»}
 use Rattle.wasm_encoder.specs.Cause.{added, cause}
 use Rattle.wasm_encoder.specs.Ran.{IsTyped}
-use Rattle.wasm_encoder.specs.Steps.{Answers, Stops}
+use Rattle.wasm_encoder.specs.inside.Steps.{Answers, Stops}
 use Rattle.wasm_encoder.proofs.Called.{refusal, refusal_as, due}
 
 -- why an item can't be written and ended by what was lent

@@ -14,7 +14,7 @@ ghost use Rattle.wasm_encoder.specs.Command.{CoreType, «Type»};
 ghost use Rattle.wasm_encoder.specs.Command.{command_view, commands_view, debug_name_view};
 ghost use Rattle.wasm_encoder.specs.Ran.{Ran, IsRefusal, IsStopped};
 ghost use Rattle.wenc_builder.specs.Raw.{HasNoRaw, IsEncodable};
-ghost use Rattle.wasm_encoder.specs.Steps.{Runs, placed as placed_of, placeless as placeless_of};
+ghost use Rattle.wasm_encoder.specs.inside.Steps.{Runs, placed as placed_of, placeless as placeless_of};
 
 use std::alloc::{Allocator, Global};
 use wenc_base::{CustomSection, Fault};

@@ -2,10 +2,10 @@
 use Rattle.std.proofs.Common.{◌≡◌, ℕ, true, false, eqb, List, [], ◌∷◌, ◌++◌, map, Some, None, refl, inl, inr, ◌⊎◌, ap}
 use Rattle.std.proofs.lemmas.Option.{same_Some, some_pair_parts}
 use Rattle.wenc_base.specs.laws.Lawful.{Reader, ◌>>=◌, give, pick, choose}
-use Rattle.wenc_read.specs.Gives.{Fails, read_byte}
+use Rattle.wenc_read.specs.inside.Gives.{Fails, read_byte}
 use Rattle.wenc_read.specs.declared.refusal.Refusal.{Refusal}
 use Rattle.wenc_read.specs.declared.refusal.Refusal.TheVariants as refusals
-use Rattle.wenc_decode.specs.Tables.{find}
+use Rattle.wenc_decode.specs.inside.Tables.{find}
 
 pub tested : (b c : ℕ) → (eqb b c ≡ true) ⊎ (eqb b c ≡ false)
 tested b c = elim (eqb b c) as (λ t. (eqb b c ≡ t) → (eqb b c ≡ true) ⊎ (eqb b c ≡ false)) [ true ↦ λ e. inl e | false ↦ λ e. inr e ] refl

@@ -1,10 +1,3 @@
-pub mod Aliases
-pub mod Canonicals
-pub mod CoreTypes
 pub mod Depth
-pub mod Entities
-pub mod Outcomes
-pub mod Tables
-pub mod TypeTrees
-pub mod Types
+pub mod inside
 pub mod laws

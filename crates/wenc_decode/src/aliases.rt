@@ -1,8 +1,8 @@
 //! Aliases. Each begins with a sort, which may be an instance's export or an outer item.
-ghost use Rattle.wenc_decode.specs.Aliases.{read_exported, read_core_alias};
+ghost use Rattle.wenc_decode.specs.inside.Aliases.{read_exported, read_core_alias};
 ghost use Rattle.wenc_parts.specs.Aliases.{alias_tree_view};
 ghost use Rattle.wenc_parts.specs.laws.Aliases.{read_alias, read_export, read_core_export, read_outer, read_either};
-ghost use Rattle.wenc_read.specs.Gives.{Gives};
+ghost use Rattle.wenc_read.specs.inside.Gives.{Gives};
 
 use crate::decode::Decode;
 use std::alloc::Allocator;

@@ -1,10 +1,10 @@
 //! Types that components define. Those of components and instances nest, down to a depth.
 ghost use Rattle.std.specs.Prelude.{map};
-ghost use Rattle.wenc_decode.specs.Outcomes.{Yields, repeat};
-ghost use Rattle.wenc_decode.specs.TypeTrees.{read_imported, read_exported, read_component_declaration, read_instance_declaration};
-ghost use Rattle.wenc_decode.specs.TypeTrees.{read_type, read_component_type, read_instance_type};
-ghost use Rattle.wenc_decode.specs.Types.{read_function_type, read_resource_type};
-ghost use Rattle.wenc_read.specs.Gives.{Gives};
+ghost use Rattle.wenc_decode.specs.inside.Outcomes.{Yields, repeat};
+ghost use Rattle.wenc_decode.specs.inside.TypeTrees.{read_imported, read_exported, read_component_declaration, read_instance_declaration};
+ghost use Rattle.wenc_decode.specs.inside.TypeTrees.{read_type, read_component_type, read_instance_type};
+ghost use Rattle.wenc_decode.specs.inside.Types.{read_function_type, read_resource_type};
+ghost use Rattle.wenc_read.specs.inside.Gives.{Gives};
 ghost use Rattle.wenc_types.specs.TypeTrees.{type_view, instance_declaration_view, component_declaration_view};
 
 use crate::decode::Decode;
@@ -48,7 +48,7 @@ fn resource_type<A: Allocator + Copy>(
 /// `depth_left` times inside one another, and what is behind it. It is refused where none is spelled, as too deep where more
 /// of them open, and for want of memory.
 #[cycle(types)]
-#[tactic(auto, using(crate::specs::laws::Levels::one_level), unfolding(crate::specs::Outcomes::select))]
+#[tactic(auto, using(crate::specs::laws::Levels::one_level), unfolding(crate::specs::inside::Outcomes::select))]
 pub fn type_of<A: Allocator + Copy>(
     alloc: A,
     depth_left: u32,
@@ -149,7 +149,7 @@ fn instance_decls<A: Allocator + Copy>(
 
 /// What a component type declares.
 #[cycle(types)]
-#[tactic(auto, unfolding(crate::specs::Outcomes::select))]
+#[tactic(auto, unfolding(crate::specs::inside::Outcomes::select))]
 fn component_decl<A: Allocator + Copy>(
     alloc: A,
     depth_left: u32,
@@ -169,7 +169,7 @@ fn component_decl<A: Allocator + Copy>(
 
 /// What an instance type declares.
 #[cycle(types)]
-#[tactic(auto, unfolding(crate::specs::Outcomes::select))]
+#[tactic(auto, unfolding(crate::specs::inside::Outcomes::select))]
 fn instance_decl<A: Allocator + Copy>(
     alloc: A,
     depth_left: u32,

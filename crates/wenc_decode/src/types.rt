@@ -1,7 +1,7 @@
 //! Value types of components, and what functions answer.
 ghost use Rattle.std.specs.Prelude.{◌≡◌};
-ghost use Rattle.wenc_decode.specs.Tables.{find};
-ghost use Rattle.wenc_decode.specs.Types.{primitive_types};
+ghost use Rattle.wenc_decode.specs.inside.Tables.{find};
+ghost use Rattle.wenc_decode.specs.inside.Types.{primitive_types};
 ghost use Rattle.wenc_parts.specs.Types.{primitive_byte};
 
 use crate::decode::Decode;

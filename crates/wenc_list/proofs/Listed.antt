@@ -11,11 +11,11 @@ use Rattle.wenc_base.specs.laws.Sound.{Then}
 use Rattle.wenc_builder.specs.Item.{Item, CustomItem}
 use Rattle.wenc_builder.specs.Sections.{Section, members, item_of, section_piece, sections, preamble}
 use Rattle.wenc_decode.specs.Depth.{Front, Enters}
-use Rattle.wenc_decode.specs.Outcomes.{Flaw, Bad, Deep, IsFlaw}
-use Rattle.wenc_read.specs.Gives.{Fails}
+use Rattle.wenc_decode.specs.inside.Outcomes.{Flaw, Bad, Deep, IsFlaw}
+use Rattle.wenc_read.specs.inside.Gives.{Fails}
 use Rattle.wenc_read.specs.declared.refusal.Refusal.{Refusal}
 use Rattle.wenc_read.specs.declared.refusal.Refusal.TheVariants as refusals
-use Rattle.wenc_list.specs.Contents.{labelled, read_content, read_frame, fault_of_frame, fault_of_content}
+use Rattle.wenc_list.specs.inside.Contents.{labelled, read_content, read_frame, fault_of_frame, fault_of_content}
 use Rattle.wenc_list.specs.Items.{section_of, section_view}
 use Rattle.wenc_list.specs.Listing.{HasDepth, AreWithin, IsFramed, IsLabelled, AreFrom, Begins, IsNoneWithin, Stops, IsFaultHere, IsFaultBehind}
 use Rattle.wenc_list.specs.declared.fault.ListFault.{ListFault}

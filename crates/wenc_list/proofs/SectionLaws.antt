@@ -18,14 +18,14 @@ use Rattle.wenc_builder.specs.Item.{Item, ModuleItem, CoreInstanceItem, CoreType
 use Rattle.wenc_builder.specs.Sections.{Section, Run, Alone, members, collects, item_of, section_piece}
 use Rattle.wenc_canon.specs.laws.Canonicals.{canonical_lawful, canonical_sound}
 use Rattle.wenc_decode.specs.Depth.{Front, Enters}
-use Rattle.wenc_decode.specs.Outcomes.{Flaw, Bad, Deep, Outcome, DeepReader, flat, ◌>>>◌, repeat, filled}
+use Rattle.wenc_decode.specs.inside.Outcomes.{Flaw, Bad, Deep, Outcome, DeepReader, flat, ◌>>>◌, repeat, filled}
 use Rattle.wenc_decode.specs.laws.Outcomes.{Told, Tells, told_on, told_flat, flat_tells, refuse_tells, last_tells, Fewer, Several, repeat_told, each_plain, Agrees, Finds, or_deeper, nothing_finds, then_finds, last_finds, flat_finds, tested}
 use Rattle.wenc_decode.specs.laws.TypeTrees.{type_tells, type_finds, front_of}
 use Rattle.wenc_parts.specs.laws.Aliases.{alias_lawful, alias_sound}
 use Rattle.wenc_sections.specs.Start.{Start, started, start_content}
 use Rattle.wenc_sections.specs.laws.Items.{import_lawful, import_sound, export_lawful, export_sound, core_instance_lawful, core_instance_sound, instance_lawful, instance_sound}
 use Rattle.wenc_types.specs.laws.CoreTypes.{core_type_lawful, core_type_sound}
-use Rattle.wenc_list.specs.Contents.{labelled, item_rows, row_of, read_item, read_custom_content, read_start_content, read_raw, read_items, single, read_content, read_frame}
+use Rattle.wenc_list.specs.inside.Contents.{labelled, item_rows, row_of, read_item, read_custom_content, read_start_content, read_raw, read_items, single, read_content, read_frame}
 use Rattle.wenc_list.specs.Items.{alone, section_of}
 use Rattle.wenc_list.specs.Listing.{HasDepth, IsFramed}
 

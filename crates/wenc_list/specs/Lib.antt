@@ -1,3 +1,3 @@
-pub mod Contents
 pub mod Items
 pub mod Listing
+pub mod inside

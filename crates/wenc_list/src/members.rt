@@ -1,8 +1,8 @@
 //! What a section collects: so many items of one kind.
 ghost use Rattle.std.specs.Prelude.{map};
 ghost use Rattle.wenc_builder.specs.Item.{Item};
-ghost use Rattle.wenc_decode.specs.Outcomes.{DeepReader, Yields, flat, repeat};
-ghost use Rattle.wenc_list.specs.Contents.{read_item};
+ghost use Rattle.wenc_decode.specs.inside.Outcomes.{DeepReader, Yields, flat, repeat};
+ghost use Rattle.wenc_list.specs.inside.Contents.{read_item};
 ghost use Rattle.wenc_list.specs.Items.{item_view};
 
 use crate::item::ItemTree;
@@ -28,7 +28,7 @@ trait Member<A: Allocator + Copy> {
 }
 
 impl<A: Allocator + Copy> Member<A> for CoreInstanceTree<A> {
-    ghost use Rattle.wenc_list.specs.Contents.{read_core_instance_item};
+    ghost use Rattle.wenc_list.specs.inside.Contents.{read_core_instance_item};
 
     ghost read = { flat read_core_instance_item };
 
@@ -40,7 +40,7 @@ impl<A: Allocator + Copy> Member<A> for CoreInstanceTree<A> {
 }
 
 impl<A: Allocator + Copy> Member<A> for CoreTypeTree<A> {
-    ghost use Rattle.wenc_list.specs.Contents.{read_core_type_item};
+    ghost use Rattle.wenc_list.specs.inside.Contents.{read_core_type_item};
 
     ghost read = { flat read_core_type_item };
 
@@ -52,7 +52,7 @@ impl<A: Allocator + Copy> Member<A> for CoreTypeTree<A> {
 }
 
 impl<A: Allocator + Copy> Member<A> for InstanceTree<A> {
-    ghost use Rattle.wenc_list.specs.Contents.{read_instance_item};
+    ghost use Rattle.wenc_list.specs.inside.Contents.{read_instance_item};
 
     ghost read = { flat read_instance_item };
 
@@ -64,7 +64,7 @@ impl<A: Allocator + Copy> Member<A> for InstanceTree<A> {
 }
 
 impl<A: Allocator + Copy> Member<A> for AliasTree<A> {
-    ghost use Rattle.wenc_list.specs.Contents.{read_alias_item};
+    ghost use Rattle.wenc_list.specs.inside.Contents.{read_alias_item};
 
     ghost read = { flat read_alias_item };
 
@@ -76,7 +76,7 @@ impl<A: Allocator + Copy> Member<A> for AliasTree<A> {
 }
 
 impl<A: Allocator + Copy> Member<A> for TypeTree<A> {
-    ghost use Rattle.wenc_list.specs.Contents.{read_type_item};
+    ghost use Rattle.wenc_list.specs.inside.Contents.{read_type_item};
 
     ghost read = { read_type_item 100 };
 
@@ -88,7 +88,7 @@ impl<A: Allocator + Copy> Member<A> for TypeTree<A> {
 }
 
 impl<A: Allocator + Copy> Member<A> for CanonTree<A> {
-    ghost use Rattle.wenc_list.specs.Contents.{read_canonical_item};
+    ghost use Rattle.wenc_list.specs.inside.Contents.{read_canonical_item};
 
     ghost read = { flat read_canonical_item };
 
@@ -103,7 +103,7 @@ impl<A: Allocator + Copy> Member<A> for CanonTree<A> {
 struct Imports;
 
 impl<A: Allocator + Copy> Member<A> for Imports {
-    ghost use Rattle.wenc_list.specs.Contents.{read_import_item};
+    ghost use Rattle.wenc_list.specs.inside.Contents.{read_import_item};
 
     ghost read = { flat read_import_item };
 
@@ -119,7 +119,7 @@ impl<A: Allocator + Copy> Member<A> for Imports {
 struct Exports;
 
 impl<A: Allocator + Copy> Member<A> for Exports {
-    ghost use Rattle.wenc_list.specs.Contents.{read_export_item};
+    ghost use Rattle.wenc_list.specs.inside.Contents.{read_export_item};
 
     ghost read = { flat read_export_item };
 
@@ -143,7 +143,7 @@ impl<A: Allocator + Copy> Member<A> for Exports {
 struct Nothing;
 
 impl<A: Allocator + Copy> Member<A> for Nothing {
-    ghost use Rattle.wenc_decode.specs.Outcomes.{refuse};
+    ghost use Rattle.wenc_decode.specs.inside.Outcomes.{refuse};
 
     ghost read = { refuse };
 

@@ -2,11 +2,11 @@
 ghost use Rattle.std.specs.Prelude.{◌≡◌, ◌∷◌, [], map, IfOk, IfErr};
 ghost use Rattle.std.specs.String.{string_bytes};
 ghost use Rattle.wenc_base.specs.Forms.{AreBytes};
-ghost use Rattle.wenc_decode.specs.Outcomes.{Yields};
-ghost use Rattle.wenc_list.specs.Contents.{labelled, read_custom_content, read_start_content, read_raw};
-ghost use Rattle.wenc_list.specs.Contents.{read_items, read_content, read_frame};
+ghost use Rattle.wenc_decode.specs.inside.Outcomes.{Yields};
+ghost use Rattle.wenc_list.specs.inside.Contents.{labelled, read_custom_content, read_start_content, read_raw};
+ghost use Rattle.wenc_list.specs.inside.Contents.{read_items, read_content, read_frame};
 ghost use Rattle.wenc_list.specs.Items.{item_view};
-ghost use Rattle.wenc_read.specs.Gives.{Gives, GivesAll};
+ghost use Rattle.wenc_read.specs.inside.Gives.{Gives, GivesAll};
 ghost use Rattle.wenc_read.specs.declared.refusal.Refusal.TheVariants.{Memory};
 ghost use Rattle.wenc_sections.specs.Start.{started};
 

@@ -3,7 +3,7 @@ use Rattle.std.proofs.Common.{◌≡◌, ◌≢◌, ◌≤◌, ◌+◌, ◌-◌,
 use Rattle.wenc_base.specs.laws.Lawful.{◌>>=◌, go_on, give, times}
 use Rattle.wenc_parts.specs.Imports.{ExternName, NameOption}
 use Rattle.wenc_parts.specs.laws.Imports.{read_name_option, with_option, with_options, option_number, ascend_from, given_options}
-use Rattle.wenc_read.specs.Names.{ascending, read_options}
+use Rattle.wenc_read.specs.inside.Names.{ascending, read_options}
 
 abbrev Found : Type 0
 Found = Option (List NameOption × List ℕ)

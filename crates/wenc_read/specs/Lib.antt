@@ -1,3 +1,2 @@
-pub mod Gives
-pub mod Names
+pub mod inside
 pub mod laws

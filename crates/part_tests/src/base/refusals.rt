@@ -1,5 +1,6 @@
 //! Values that are refused.
-ghost use Rattle.std.specs.Prelude.{◌≡◌, true, []};
+ghost use Rattle.std.specs.Prelude.{◌≡◌, true};
+ghost use Rattle.wenc_base.specs.Piece.{nothing, refused_for};
 ghost use Rattle.wenc_base.specs.declared.fault.Fault.TheVariants.{Unfinished};
 
 use crate::accepted::ok;
@@ -17,9 +18,8 @@ pub struct Item {
 }
 
 impl Encode for Item {
-    ghost text = { λ _. [] };
-
-    ghost cause = { λ item fault. (item.is_open ≡ true) × (fault ≡ Unfinished) };
+    ghost piece = { λ item.
+        refused_for (λ fault. (item.is_open ≡ true) × (fault ≡ Unfinished)) nothing };
 
     ghost unfinished = { λ item. item.is_open ≡ true };
 

@@ -1,7 +1,7 @@
 //! Values: what they are written as.
 ghost use Rattle.std.specs.Prelude.{◌≡◌, ◌++◌, IfOk, OnOk};
-ghost use Rattle.wenc_base.specs.Forms.{list_text};
-ghost use Rattle.wenc_base.specs.Number.{unsigned_text};
+ghost use Rattle.wenc_base.specs.Forms.{list};
+ghost use Rattle.wenc_base.specs.Number.{u32 as number};
 
 use crate::accepted::{is_well, ok};
 use std::alloc::{AllocError, Allocator, Global};
@@ -71,7 +71,7 @@ pub fn check_all<T: Encode>(rt: &impl Abort, alloc: Global, rows: &[(T, &[u8])])
 
 // The bytes of a value, in a vector of their own.
 fn encoded<T: Encode, A: Allocator>(alloc: A, value: &T) -> Result<Vec<u8, A>, Fault>
-    ensures { IfOk result (λ bytes. bytes.items ≡ T.text value.now) }
+    ensures { IfOk result (λ bytes. bytes.items ≡ (T.piece value.now).text) }
 {
     let mut bytes = Vec::new(alloc);
     value.encode(&mut bytes)?;
@@ -123,7 +123,7 @@ const KINDS: &[(ExportKind, &[u8])] = &[
 // The values of a vector are the members.
 fn encode_vector<A: Allocator>(values: Vec<u32>, sink: &mut Vec<u8, A>) -> Result<(), Fault>
     ensures { OnOk result
-        (sink.new.items ≡ sink.old.items ++ list_text unsigned_text values.items) }
+        (sink.new.items ≡ sink.old.items ++ (list number values.items).text) }
 {
     encode_list(values.into_iter(), sink)?;
     Ok(())

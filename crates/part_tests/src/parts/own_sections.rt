@@ -12,9 +12,9 @@ use wenc_parts::ComponentSection;
 pub struct Own<'a>(pub &'a [u8]);
 
 impl<'a> Encode for Own<'a> {
-    ghost text = { λ s. s.0.now };
+    ghost use Rattle.wenc_base.specs.Piece.{verbatim};
 
-    ghost cause = { λ _ _. ⊥ };
+    ghost piece = { λ s. verbatim s.0.now };
 
     fn encode<A: Allocator>(&self, sink: &mut Vec<u8, A>) -> Result<(), Fault> {
         sink.extend_from_slice(self.0)?;

@@ -4,8 +4,8 @@ use Rattle.wenc_base.specs.laws.Numbers.{read_u32}
 use Rattle.wenc_read.specs.declared.refusal.Refusal.{Refusal}
 use Rattle.wenc_read.specs.declared.refusal.Refusal.TheVariants as refusals
 use Rattle.wenc_types.specs.ComponentTypes.{ComponentType, InstanceType, ComponentDeclaration, InstanceDeclaration, components_of, instances_of}
-use Rattle.wenc_decode.specs.Outcomes.{repeat, select, IsFlaw}
-use Rattle.wenc_decode.specs.TypeTrees.{type_rows, read_shallow, read_type, read_component_declaration, read_instance_declaration, read_component_type, read_instance_type}
+use Rattle.wenc_decode.specs.inside.Outcomes.{repeat, select, IsFlaw}
+use Rattle.wenc_decode.specs.inside.TypeTrees.{type_rows, read_shallow, read_type, read_component_declaration, read_instance_declaration, read_component_type, read_instance_type}
 
 pub one_level : (depth : ℕ) → read_type depth ≡ select (type_rows (read_component_type depth) (read_instance_type depth)) read_shallow
 unfolding read_type

@@ -5,7 +5,7 @@ use Rattle.std.specs.List.{AllByRecursion}
 use Rattle.wenc_base.specs.Piece.{Piece, Form, Wide, nothing, ◌▸◌, ◌⨾◌, only_where, each}
 use Rattle.wenc_base.specs.laws.Lawful.{Lawful, Reader}
 use Rattle.wenc_base.specs.laws.Sound.{Then, Sound, behind}
-use Rattle.wenc_decode.specs.Outcomes.{Bad, Deep, Outcome, DeepReader, found, flat, on, ◌>>>◌, yield, refuse, too_deep, repeat, take_row, select}
+use Rattle.wenc_decode.specs.inside.Outcomes.{Bad, Deep, Outcome, DeepReader, found, flat, on, ◌>>>◌, yield, refuse, too_deep, repeat, take_row, select}
 
 -- ---- what is found is read, and where it is too deep, the bytes go so deep
 

@@ -3,7 +3,7 @@ use Rattle.std.proofs.Common.{◌≡◌, ℕ, suc, ◌-◌, ◌+◌, ◌≤◌, 
 use Rattle.std.proofs.lemmas.List.{append-nil}
 use Rattle.wenc_read.specs.declared.refusal.Refusal.{Refusal}
 use Rattle.wenc_read.specs.declared.refusal.Refusal.TheVariants as refusals
-use Rattle.wenc_decode.specs.Outcomes.{Bad, Deep, Outcome, DeepReader, on, repeat, IsFlaw}
+use Rattle.wenc_decode.specs.inside.Outcomes.{Bad, Deep, Outcome, DeepReader, on, repeat, IsFlaw}
 
 -- what was read before, and what is still read
 abbrev pub with_front : {A : Type 0} → List A → Outcome (List A) → Outcome (List A)

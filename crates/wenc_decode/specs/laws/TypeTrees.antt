@@ -20,9 +20,9 @@ use Rattle.wenc_types.specs.laws.ComponentTypes.{instances_counted, components_c
 use Rattle.wenc_types.specs.laws.CoreTypes.{read_core_type, core_type_lawful, core_type_sound}
 use Rattle.wenc_types.specs.laws.DefinedTypes.{named_lawful, named_sound, defined_type_lawful, defined_rows, defined_rows_sound, read_defined, to_function}
 use Rattle.wenc_decode.specs.Depth.{Front, Behind, Enters}
-use Rattle.wenc_decode.specs.Outcomes.{Bad, DeepReader, flat, ◌>>>◌, yield, too_deep, repeat, select}
-use Rattle.wenc_decode.specs.TypeTrees.{read_exported, read_imported, read_instance_declaration, read_component_declaration, read_components, read_instances, read_shallow, type_rows, read_type, read_component_type, read_instance_type}
-use Rattle.wenc_decode.specs.Types.{read_function_type, read_resource_type}
+use Rattle.wenc_decode.specs.inside.Outcomes.{Bad, DeepReader, flat, ◌>>>◌, yield, too_deep, repeat, select}
+use Rattle.wenc_decode.specs.inside.TypeTrees.{read_exported, read_imported, read_instance_declaration, read_component_declaration, read_components, read_instances, read_shallow, type_rows, read_type, read_component_type, read_instance_type}
+use Rattle.wenc_decode.specs.inside.Types.{read_function_type, read_resource_type}
 use Rattle.wenc_decode.specs.laws.Outcomes.{Told, Tells, told_on, told_flat, flat_tells, refuse_tells, too_deep_tells, last_tells, RowsTell, select_tells, Fewer, Several, repeat_told, each_plain, Finds, agreed, or_deeper, nothing_finds, then_finds, last_finds, flat_finds, too_deep_finds, row_finds, IsApart, other_finds}
 use Rattle.wenc_decode.specs.laws.Levels.{one_level}
 

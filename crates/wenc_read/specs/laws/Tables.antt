@@ -2,7 +2,7 @@
 use Rattle.std.proofs.Common.{◌≡◌, ℕ, List, [], ◌∷◌, Some, refl}
 use Rattle.std.proofs.lemmas.Option.{some_pair_parts}
 use Rattle.wenc_base.specs.laws.Lawful.{Reader, pick, choose}
-use Rattle.wenc_read.specs.Gives.{read_byte}
+use Rattle.wenc_read.specs.inside.Gives.{read_byte}
 
 -- what stands behind a first byte, by the row of that byte
 pub at_first : {A : Type 0} (table : List (ℕ × Reader A)) (other : Reader A) (b first : ℕ) (bytes rest : List ℕ) → read_byte bytes ≡ Some (first, rest) → first ≡ b → choose table other bytes ≡ pick table other b rest

@@ -14,7 +14,7 @@ use Rattle.wenc_sections.specs.InstanceTrees.{core_instance_tree_view, instance_
 use Rattle.wasm_encoder.specs.Command.{CommandTree, CoreModule, CoreInstance, ComponentRaw, Instance, Alias, Canon, Start, Import, Export, command_view, commands_view, debug_name_view}
 use Rattle.wasm_encoder.specs.Cause.{led, first_cause}
 use Rattle.wasm_encoder.specs.Ran.{IsRefusal}
-use Rattle.wasm_encoder.specs.Steps.{Answers, placed}
+use Rattle.wasm_encoder.specs.inside.Steps.{Answers, placed}
 use Rattle.wasm_encoder.proofs.Called.{memory_alone, entered, names_entered}
 use Rattle.wasm_encoder.proofs.command.Command.TheLaws.{the_size}
 use Rattle.wasm_encoder.proofs.Nested.{component_view, inner_more, inner_refused, inner_stopped, inner_all, refused_inside, entered_inside}
@@ -110,7 +110,7 @@ run_all-loop-command-preserved g t c =
     let i = c.loop-command.command-index in
     let inside : i < length items = rw c.deref-command-items.ensures.value at c.loop-command-test.true in
     let split : drop i items ≡ c.command-item.result ∷ drop (i + 1) items = next_is items i c.command-item.result c.command-item.result inside (rw c.deref-command-items.ensures.value at c.command-item.is) in
-    inner_more (commands_view c.args.commands.now.items) _ (command_view c.command-item.result) c.in-Ok-Ok.field-0-0 c.loop-command.builder c.run.new.builder (rw split at c.loop-command.invariant) (rw (← c.in-Ok-Ok.field-0-is) c.in-Ok-Ok.ensures)
+    inner_more (commands_view c.args.commands.now.items) (commands_view (drop (i + 1) items)) (command_view c.command-item.result) c.in-Ok-Ok.field-0-0 c.loop-command.builder c.run.new.builder (rw split at c.loop-command.invariant) (rw (← c.in-Ok-Ok.field-0-is) c.in-Ok-Ok.ensures)
 
 pub run_all-returns-in-Ok-Err-clause-refused : goal.run_all-returns-in-Ok-Err-clause-refused
 run_all-returns-in-Ok-Err-clause-refused g t c =

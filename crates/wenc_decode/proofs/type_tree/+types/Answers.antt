@@ -3,8 +3,8 @@ use Rattle.std.proofs.lemmas.Result.{err_from_is_err_and}
 use Rattle.std.proofs.lemmas.List.{map_push}
 use Rattle.wenc_types.specs.laws.TypeTrees.{view_defined, view_component, view_instance}
 use Rattle.wenc_types.specs.TypeTrees.{instance_declaration_view, component_declaration_view}
-use Rattle.wenc_decode.specs.Outcomes.{repeat}
-use Rattle.wenc_decode.specs.TypeTrees.{read_type, read_instance_declaration, read_component_declaration}
+use Rattle.wenc_decode.specs.inside.Outcomes.{repeat}
+use Rattle.wenc_decode.specs.inside.TypeTrees.{read_type, read_instance_declaration, read_component_declaration}
 use Rattle.wenc_decode.specs.laws.Repeats.{at_start, goes_on, stops, is_done}
 use Rattle.wenc_decode.specs.laws.Levels.{component_found, component_fails, instance_found, instance_fails}
 use Rattle.wenc_decode.specs.laws.TypeTrees.{shallow_found}

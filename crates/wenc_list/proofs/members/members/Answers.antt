@@ -1,7 +1,7 @@
 use Rattle.std.proofs.Common.{◌≡◌, ◌++◌, ◌∷◌, [], map}
 use Rattle.std.proofs.lemmas.Result.{err_from_is_err_and}
 use Rattle.std.proofs.lemmas.List.{map_push}
-use Rattle.wenc_decode.specs.Outcomes.{repeat}
+use Rattle.wenc_decode.specs.inside.Outcomes.{repeat}
 use Rattle.wenc_decode.specs.laws.Repeats.{at_start, goes_on, stops, is_done}
 use Rattle.wenc_list.specs.Items.{item_view}
 use Rattle.wenc_list.proofs.members.members.Goals as goal

@@ -1,5 +1,5 @@
 use Rattle.std.proofs.Common.{◌≡◌, ◌-◌, map}
-use Rattle.wenc_decode.specs.Outcomes.{repeat}
+use Rattle.wenc_decode.specs.inside.Outcomes.{repeat}
 use Rattle.wenc_decode.specs.laws.Repeats.{with_front}
 use Rattle.wenc_list.specs.Items.{item_view}
 use Rattle.wenc_list.proofs.members.members.Given as goal

@@ -1,6 +1,6 @@
 use Rattle.std.proofs.Common.{rules}
 use Rattle.std.specs.String.{string_bytes}
-use Rattle.wenc_read.specs.Names.{named_view, option_view}
+use Rattle.wenc_read.specs.inside.Names.{named_view, option_view}
 use Rattle.wenc_read.proofs.Options.{one_more}
 use Rattle.wenc_read.proofs.names.+options_from.Goals as goal
 

@@ -12,6 +12,6 @@ returns c = rw (c.over.ensures, c.in_ok-from_array.ensures.items)
     (keeps_some (HasForm canonical) (holding (0xaa ∷ 0xbb ∷ []) 1 (0x05 ∷ [])) refl
     ∣ record {
       members = (0x05 ∷ []) ∷ [];
-      contained = record { finished = refl; count = refl; body = refl };
-      each = (record { value = Provided TaskCancel tt; is = refl }, tt);
+      contained = record { finished = refl; count = refl; body = refl; fit = (tt, tt) };
+      each = (record { value = Provided TaskCancel tt; fits = tt; is = refl }, tt);
     } ∣₁)

@@ -5,7 +5,7 @@ use Rattle.wenc_parts.specs.Types.{primitive_byte}
 use Rattle.wenc_parts.specs.laws.Types.{primitive_rows}
 use Rattle.wenc_types.specs.DefinedTypes.{Primitive}
 use Rattle.wenc_types.specs.laws.DefinedTypes.{defined_rows}
-use Rattle.wenc_decode.specs.Types.{primitive_types}
+use Rattle.wenc_decode.specs.inside.Types.{primitive_types}
 use Rattle.wenc_decode.proofs.Tables.{begins, goes_past, fails_first}
 use Rattle.wenc_decode.proofs.defined_types.DefinedTreeDecode.decode.Goals as goal
 

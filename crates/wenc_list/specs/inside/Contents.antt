@@ -6,8 +6,8 @@ use Rattle.wenc_base.specs.laws.Lawful.{Reader, go_on, ◌>>=◌, give, done}
 use Rattle.wenc_base.specs.laws.Numbers.{read_u32}
 use Rattle.wenc_builder.specs.Item.{Item, ModuleItem, CoreInstanceItem, CoreTypeItem, ComponentItem, InstanceItem, AliasItem, TypeItem, CanonItem, StartItem, ImportItem, ExportItem, CustomItem}
 use Rattle.wenc_canon.specs.laws.Canonicals.{read_canonical}
-use Rattle.wenc_decode.specs.Outcomes.{Flaw, Bad, DeepReader, flat, ◌>>>◌, yield, refuse, repeat, filled}
-use Rattle.wenc_decode.specs.TypeTrees.{read_type}
+use Rattle.wenc_decode.specs.inside.Outcomes.{Flaw, Bad, DeepReader, flat, ◌>>>◌, yield, refuse, repeat, filled}
+use Rattle.wenc_decode.specs.inside.TypeTrees.{read_type}
 use Rattle.wenc_parts.specs.laws.Aliases.{read_alias}
 use Rattle.wenc_read.specs.declared.refusal.Refusal.{Refusal}
 use Rattle.wenc_read.specs.declared.refusal.Refusal.TheVariants as refusals

@@ -7,8 +7,8 @@ use Rattle.wenc_parts.specs.laws.Imports.{read_extern_name, read_type_reference}
 use Rattle.wenc_types.specs.ComponentTypes.{TypeOf, DefinedType, ComponentType, InstanceType, InstanceDeclaration, CoreTyped, Typed, Aliased, Exported, ComponentDeclaration, Imported, Declared, instances_of, components_of}
 use Rattle.wenc_types.specs.laws.CoreTypes.{read_core_type}
 use Rattle.wenc_types.specs.laws.DefinedTypes.{read_defined}
-use Rattle.wenc_decode.specs.Outcomes.{DeepReader, flat, ◌>>>◌, yield, refuse, too_deep, repeat, select}
-use Rattle.wenc_decode.specs.Types.{read_function_type, read_resource_type}
+use Rattle.wenc_decode.specs.inside.Outcomes.{DeepReader, flat, ◌>>>◌, yield, refuse, too_deep, repeat, select}
+use Rattle.wenc_decode.specs.inside.Types.{read_function_type, read_resource_type}
 
 -- ---- declarations, by the reader of a type
 

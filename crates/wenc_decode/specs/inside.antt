@@ -1,0 +1,9 @@
+-- What private functions and proofs need alone: no contract of a public call reaches it.
+pub mod Aliases
+pub mod Canonicals
+pub mod CoreTypes
+pub mod Entities
+pub mod Outcomes
+pub mod Tables
+pub mod TypeTrees
+pub mod Types
