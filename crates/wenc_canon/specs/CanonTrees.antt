@@ -1,13 +1,8 @@
 -- Trees of canonical functions: what they are as pure data.
-use Rattle.std.specs.Prelude.{ℕ, [], ◌∷◌}
-use Rattle.wenc_base.specs.Piece.{Piece, ◌▸◌}
 use Rattle.wenc_canon.specs.declared.canon_tree.CanonTree.{CanonTree}
 use Rattle.wenc_canon.specs.declared.canon_tree.CanonTree.TheVariants as trees
-use Rattle.wenc_canon.specs.declared.canon_tree.Operands.{Operands}
-use Rattle.wenc_canon.specs.declared.canon_tree.Operands.TheVariants as operands
 use Rattle.wenc_canon.specs.Canonicals as canon
-use Rattle.wenc_canon.specs.Canonicals.{Canonical, Lift, Lower, Provided, canonical, fields, Index}
-use Rattle.wenc_canon.specs.Canonicals.{Options, Flag, Zero, CoreType, Results, Slot}
+use Rattle.wenc_canon.specs.Canonicals.{Canonical, Lift, Lower, Provided}
 
 abbrev pub canon_view : {A : Type 0} → CanonTree A → Canonical
 canon_view (trees.Lift core_func ty options) = Lift core_func options.items ty
@@ -60,24 +55,3 @@ canon_view (trees.FutureForward ty) = Provided canon.FutureForward ty
 canon_view (trees.ThreadSpawnRef ty) = Provided canon.ThreadSpawnRef ty
 canon_view (trees.ThreadSpawnIndirect ty table) = Provided canon.ThreadSpawnIndirect (ty, table)
 canon_view trees.ThreadAvailableParallelism = Provided canon.ThreadAvailableParallelism tt
-
--- ---- how the code writes them
-
--- what begins with this opcode, and has this behind it
-abbrev pub behind : {A : Type 0} → ℕ → Operands A → Piece
-behind opcode (operands.Lifted function ty options) =
-    canonical (Lift function options.now.items ty)
-behind opcode (operands.Lowered function options) = canonical (Lower function options.now.items)
-behind opcode operands.Nothing = opcode ▸ fields [] tt
-behind opcode operands.NotCancellable = opcode ▸ fields (Zero ∷ []) tt
-behind opcode (operands.Index n) = opcode ▸ fields (Index ∷ []) n
-behind opcode (operands.Flag b) = opcode ▸ fields (Flag ∷ []) b
-behind opcode (operands.Memory n) = opcode ▸ fields (Zero ∷ Index ∷ []) (tt, n)
-behind opcode (operands.IndexAndFlag n b) = opcode ▸ fields (Index ∷ Flag ∷ []) (n, b)
-behind opcode (operands.Indices n m) = opcode ▸ fields (Index ∷ Index ∷ []) (n, m)
-behind opcode (operands.Slot t n) = opcode ▸ fields (CoreType ∷ Slot ∷ []) (t, n)
-behind opcode (operands.Options os) = opcode ▸ fields (Options ∷ []) os.now.items
-behind opcode (operands.IndexAndOptions n os) =
-    opcode ▸ fields (Index ∷ Options ∷ []) (n, os.now.items)
-behind opcode (operands.ResultsAndOptions r os) =
-    opcode ▸ fields (Results ∷ Options ∷ []) (r, os.now.items)

@@ -203,7 +203,8 @@ pub enum CanonTree<A: Allocator = Global> {
 
 impl<A: Allocator> CanonTree<A> {
     ghost use Rattle.std.specs.Prelude.{◌≡◌};
-    ghost use Rattle.wenc_canon.specs.CanonTrees.{canon_view, behind};
+    ghost use Rattle.wenc_canon.specs.CanonTrees.{canon_view};
+    ghost use Rattle.wenc_canon.specs.inside.Operands.{behind};
     ghost use Rattle.wenc_canon.specs.Rows.{own_name};
 
     /// The name of the function, without the number of a slot.
@@ -373,7 +374,7 @@ enum Operands<'a, A: Allocator> {
 }
 
 impl<'a, A: Allocator> Operands<'a, A> {
-    ghost use Rattle.wenc_canon.specs.CanonTrees.{behind};
+    ghost use Rattle.wenc_canon.specs.inside.Operands.{behind};
 
     /// Writes what begins with this opcode, and has these behind it.
     fn encode_behind<B: Allocator>(&self, opcode: u8, sink: &mut Vec<u8, B>) -> Result<(), Fault>
