@@ -216,6 +216,7 @@ impl<A: Allocator> CanonTree<A> {
 
     /// How the function begins, and what stands behind that.
     #[tactic(auto, using(wenc_base::specs::laws::Serves::serves_itself))]
+    #[inline(always)]
     fn parts(&self) -> (Row, Operands<'_, A>)
         ensures name { result.0.name.now ≡ own_name (canon_view self.now) }
         ensures form { Serves (behind result.0.opcode result.1)
