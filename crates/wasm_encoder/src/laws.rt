@@ -3,6 +3,7 @@
 ghost use Rattle.std.specs.Prelude.{◌≡◌, ◌↔◌, ◌+◌, ℕ, ℤ, ◌^◌, ◌<◌, ◌++◌, ◌∷◌, [], List, Option, Result, FitsSigned, true, Ok};
 ghost use Rattle.std.specs.Int.{w64};
 ghost use Rattle.wenc_base.specs.Composites.{Group, group};
+ghost use Rattle.wenc_base.specs.Fault.{NoCause};
 ghost use Rattle.wenc_base.specs.FormLaws.{FormLaws};
 ghost use Rattle.wenc_base.specs.Forms.{name, counted};
 ghost use Rattle.wenc_base.specs.Holder.{Held, Contains, is_finished, held, held_section};
@@ -12,6 +13,7 @@ ghost use Rattle.wenc_base.specs.Openings.{opened_with, lengthened, closed, give
 ghost use Rattle.wenc_base.specs.Piece.{Spelling, Strict, Wide, ◌▸◌, verbatim};
 ghost use Rattle.wenc_base.specs.Producers.{Producers, producers_field, producers_section, producers_held};
 ghost use Rattle.wenc_base.specs.declared.fault.Fault.{Fault};
+ghost use Rattle.wenc_base.specs.declared.fault.Fault.TheVariants.{Unfinished};
 ghost use Rattle.wenc_builder.specs.Entry.{Entry, items as items_of};
 ghost use Rattle.wenc_builder.specs.Item.{Item};
 ghost use Rattle.wenc_builder.specs.Sections.{Section, runs, component, Reading, whole};
@@ -74,8 +76,8 @@ pub fn texts_tell_equals<T: DelimitedEq>(a: &T, b: &T)
     texts_tell_values(a, b);
 }
 
-/// A value of each type that is `Delimited` is read as it is written, strictly in no other way, and in one way only,
-/// and no value's text begins another's.
+/// A value of each type that is `Delimited` is read as it is written, strictly in no other way, and in one way only;
+/// no value's text begins another's; and nothing stands against a value that can be encoded.
 pub fn values_are_lawful<T: Delimited>()
     ensures { FormLaws T.form }
 {}
@@ -90,7 +92,8 @@ pub fn delimited()
 
 /// From the same bytes no form reads two values or two rests, be it strictly, widely, or one of each. The text of a
 /// value that can be encoded is read as that value, whatever follows. What is read strictly is the text of a value that
-/// can be encoded, and it is read widely too.
+/// can be encoded, and it is read widely too. Nothing stands against a value that can be encoded, and no value of a form
+/// is unfinished.
 pub fn reads_once()
     ensures once { (f : FormName) (v w : value_of f) (mode other : Spelling) (bytes r s : List ℕ)
         → (form_of f v).Reads mode bytes r → (form_of f w).Reads other bytes s
@@ -103,6 +106,10 @@ pub fn reads_once()
         → (form_of f v).Reads Strict bytes rest → (form_of f v).Fits }
     ensures strict_is_wide { (f : FormName) (v : value_of f) (bytes rest : List ℕ)
         → (form_of f v).Reads Strict bytes rest → (form_of f v).Reads Wide bytes rest }
+    ensures fits_is_free { (f : FormName) (v : value_of f) → (form_of f v).Fits
+        → NoCause (form_of f v).Cause }
+    ensures never_unfinished { (f : FormName) (v : value_of f)
+        → (form_of f v).Cause Unfinished → ⊥ }
 {}
 
 /// No bytes are a component with one list of sections and with another, be it strictly, widely, or one of each. The
