@@ -1,4 +1,4 @@
--- Component types and instance types: their declarations, one by one, and what is counted of them.
+-- Module types, component types and instance types: their declarations, one by one, and what is counted of them.
 use Rattle.std.specs.List.{AllByRecursion}
 use Rattle.std.specs.Prelude.{◌≡◌, ℕ, ◌+◌, ◌-◌, ◌≤◌, List, [], ◌∷◌, ◌++◌, length, Option, Some, None, Result, OnOk, OnErr, true}
 use Rattle.wenc_base.specs.Holder.{Held, no_members, is_finished, Contains, AddsMember}
@@ -13,6 +13,7 @@ use Rattle.wenc_parts.specs.declared.aliases.ComponentOuterAliasKind.TheVariants
 use Rattle.wenc_parts.specs.declared.exports.ComponentExportKind.{ComponentExportKind}
 use Rattle.wenc_parts.specs.declared.exports.ComponentExportKind.TheVariants as kinds
 use Rattle.wenc_types.specs.ComponentTypes.{InstanceDeclaration, CoreTyped, Typed, Aliased, Exported, ComponentDeclaration, Imported, Declared, instance_declaration, component_declaration}
+use Rattle.wenc_types.specs.CoreTypes.{ModuleDeclaration, Import, Defined, Outer as OuterType, Export, module_declaration}
 use Rattle.wenc_types.specs.declared.counts.Counts.{Counts}
 use Rattle.wenc_types.specs.declared.counts.Sort.{Sort}
 use Rattle.wenc_types.specs.declared.counts.Sort.TheVariants.{CoreType, «Type» as TypeSort, Instance}
@@ -37,6 +38,12 @@ abbrev pub sort_of_alias : AliasOf → Option Sort
 sort_of_alias (InstanceExport instance kind name) = sort_of_kind kind
 sort_of_alias (CoreInstanceExport instance kind name) = None
 sort_of_alias (Outer kind count number) = sort_of_outer kind
+
+abbrev pub module_sort : ModuleDeclaration → Option Sort
+module_sort (Import from name ty) = None
+module_sort (Defined g) = Some TypeSort
+module_sort (OuterType count number) = Some TypeSort
+module_sort (Export name ty) = None
 
 abbrev pub instance_sort : InstanceDeclaration → Option Sort
 instance_sort (CoreTyped ty) = Some CoreType
@@ -66,7 +73,7 @@ abbrev pub counts_of : {D : Type 0} → (D → Option Sort) → List D → Count
 counts_of sort [] = no_counts
 counts_of sort (d ∷ ds) = counted (sort d) (counts_of sort ds)
 
--- ---- what contracts see of a component type or an instance type
+-- ---- what contracts see of a type with declarations
 
 -- `begun`: what is being written counts as this.
 pub record Declaring : Type 0 where
@@ -87,6 +94,9 @@ pub record Declares {D : Type 0} (form : Form D) (sort : D → Option Sort) (t :
     (ds : List D) : Type 0 where
   pub contained : Contains form t.held ds
   pub counts : t.counts ≡ counts_of sort ds
+
+abbrev pub ModuleDeclares : Declaring → List ModuleDeclaration → Type 0
+ModuleDeclares = Declares module_declaration module_sort
 
 abbrev pub InstanceDeclares : Declaring → List InstanceDeclaration → Type 0
 InstanceDeclares = Declares instance_declaration instance_sort
@@ -117,6 +127,10 @@ pub record AddsDeclaration {D : Type 0} (form : Form D) (sort : D → Option Sor
   pub declared : OnOk outcome
       ((ds : List D) → Declares form sort old ds → Declares form sort new (ds ++ d ∷ []))
   pub err : OnErr outcome (new ≡ old)
+
+abbrev pub AddsToModule : Declaring → Declaring → Result (Unit {0}) Fault → ModuleDeclaration
+    → Type 0
+AddsToModule = AddsDeclaration module_declaration module_sort
 
 abbrev pub AddsToInstance : Declaring → Declaring → Result (Unit {0}) Fault → InstanceDeclaration
     → Type 0

@@ -1,16 +1,18 @@
--- What component types and instance types stay through all calls.
+-- What module types, component types and instance types stay through all calls.
 use Rattle.std.proofs.Common.{◌≡◌, ℕ, ◌+◌, ◌-◌, ◌≤◌, Bool, true, false, is_none, List, [], ◌∷◌, ◌++◌, Option, Some, None, refl, ap, sym, ◌∙◌, subst, arith, length}
 use Rattle.std.proofs.Math.Logic.{∥∥₁_map, ∥∥₁_map₂}
 use Rattle.std.specs.List.{flat_map, AllByRecursion}
-use Rattle.wenc_base.specs.Holder.{Held, is_finished, with_member, held_text, held}
-use Rattle.wenc_base.specs.Piece.{Form, HasForm, verbatim}
+use Rattle.wenc_base.specs.Encode.{Serves}
+use Rattle.wenc_base.specs.Holder.{Held, is_finished, with_member, held_text, held, EncodeCause}
+use Rattle.wenc_base.specs.Piece.{Form, HasForm, verbatim, ◌▸◌, refused_for}
 use Rattle.wenc_base.specs.Openings.{given_up, member_text}
 use Rattle.wenc_base.specs.laws.Holders.{contains_next, all_more}
 use Rattle.wenc_base.specs.laws.Members.{finished_back, back_twice, opened_back, lengthened_back, closed_as_it_is, closed_as_more, within_finished, within_opened, within_lengthened, within_back}
 use Rattle.wenc_base.specs.declared.holder.openings.Opening.{Opening}
 use Rattle.wenc_types.specs.ComponentTypes.{ComponentType, InstanceType, components_of, instances_of, type_of, component_declaration, instance_declaration}
-use Rattle.wenc_types.specs.Declarations.{component_sort, instance_sort, Declaring, no_declarations, Settled, Declares, IsDeclaration, DeclaresSome, IsDeclaring, HasOne, OpenedIsIn, total, counted, uncounted, counts_of, lead_of, begun, written, ended, taken_back}
-use Rattle.wenc_types.specs.laws.Declarations.{counts_next, back_again, component_serves, instance_serves}
+use Rattle.wenc_types.specs.CoreTypes.{module_declaration, Module, core_type}
+use Rattle.wenc_types.specs.Declarations.{module_sort, component_sort, instance_sort, Declaring, no_declarations, Settled, Declares, IsDeclaration, DeclaresSome, IsDeclaring, HasOne, OpenedIsIn, total, counted, uncounted, counts_of, lead_of, begun, written, ended, taken_back}
+use Rattle.wenc_types.specs.laws.Declarations.{counts_next, back_again, module_serves, component_serves, instance_serves}
 use Rattle.wenc_types.specs.declared.counts.Counts.{Counts}
 use Rattle.wenc_types.specs.declared.counts.Sort.{Sort}
 use Rattle.wenc_types.specs.declared.counts.Sort.TheVariants.{CoreType, «Type» as TypeSort, Instance}
@@ -198,14 +200,18 @@ declares_values form sort t s =
 
 -- ---- the texts of what is finished
 
+has_form : {D V : Type 0} (form : Form D) (sort : D → Option Sort) (b : ℕ) (whole : Form V) (value : List D → V) (t : Declaring)
+    → ((ds : List D) → Declares form sort t ds → Serves (b ▸ held t.held) (refused_for (EncodeCause t.held) (whole (value ds)))) → (held t.held).Fits → ∥ DeclaresSome (IsDeclaration form sort) t ∥₁ → ∥ HasForm whole (b ∷ held_text t.held) ∥₁
+has_form form sort b whole value t serve fits some = ∥∥₁_map some (λ s.
+    let all = declares_values form sort t s in
+    let serves = serve all.0 all.1 in
+    record { value = value all.0; fits = serves.fits fits; is = serves.text })
+
+pub module_has_form : (t : Declaring) → (held t.held).Fits → ∥ DeclaresSome (IsDeclaration module_declaration module_sort) t ∥₁ → ∥ HasForm core_type (0x50 ∷ held_text t.held) ∥₁
+module_has_form t = has_form module_declaration module_sort 0x50 core_type Module t (module_serves t)
+
 pub component_has_form : (t : Declaring) → (held t.held).Fits → ∥ DeclaresSome (IsDeclaration component_declaration component_sort) t ∥₁ → ∥ HasForm type_of (0x41 ∷ held_text t.held) ∥₁
-component_has_form t fits some = ∥∥₁_map some (λ s.
-    let all = declares_values component_declaration component_sort t s in
-    let serves = component_serves t all.0 all.1 in
-    record { value = ComponentType (components_of all.0); fits = serves.fits fits; is = serves.text })
+component_has_form t = has_form component_declaration component_sort 0x41 type_of (λ ds. ComponentType (components_of ds)) t (component_serves t)
 
 pub instance_has_form : (t : Declaring) → (held t.held).Fits → ∥ DeclaresSome (IsDeclaration instance_declaration instance_sort) t ∥₁ → ∥ HasForm type_of (0x42 ∷ held_text t.held) ∥₁
-instance_has_form t fits some = ∥∥₁_map some (λ s.
-    let all = declares_values instance_declaration instance_sort t s in
-    let serves = instance_serves t all.0 all.1 in
-    record { value = InstanceType (instances_of all.0); fits = serves.fits fits; is = serves.text })
+instance_has_form t = has_form instance_declaration instance_sort 0x42 type_of (λ ds. InstanceType (instances_of ds)) t (instance_serves t)

@@ -3,8 +3,8 @@ use Rattle.wenc_base.specs.Holder.{held_text}
 use Rattle.wenc_base.specs.laws.Lenders.{extends_for}
 use Rattle.wenc_base.specs.laws.Members.{form_ends}
 use Rattle.wenc_types.specs.CoreTypes.{core_type}
-use Rattle.wenc_types.specs.laws.CoreTypes.{module_serves}
-use Rattle.wenc_types.specs.laws.ModuleDeclaring.{module_has_form}
+use Rattle.wenc_types.specs.laws.Declarations.{module_serves}
+use Rattle.wenc_types.specs.laws.Declaring.{module_has_form}
 use Rattle.wenc_types.proofs.core_type.ComponentCoreTypeEncoder.module.Goals as goal
 
 pub end_with-requires-clause-whole : goal.end_with-requires-clause-whole
