@@ -1,8 +1,7 @@
 -- Module types, component types and instance types: their declarations, one by one, and what is counted of them.
-use Rattle.std.specs.List.{AllByRecursion}
 use Rattle.std.specs.Prelude.{◌≡◌, ℕ, ◌+◌, ◌-◌, ◌≤◌, List, [], ◌∷◌, ◌++◌, length, Option, Some, None, Result, OnOk, OnErr, true}
 use Rattle.wenc_base.specs.Holder.{Held, no_members, is_finished, Contains, AddsMember}
-use Rattle.wenc_base.specs.Piece.{Form, verbatim}
+use Rattle.wenc_base.specs.Piece.{Form}
 use Rattle.wenc_base.specs.Openings.{opened_with, lengthened, closed, given_up, OpeningIsIn}
 use Rattle.wenc_base.specs.declared.fault.Fault.{Fault}
 use Rattle.wenc_base.specs.declared.holder.openings.Opening.{Opening}
@@ -112,11 +111,11 @@ pub record IsDeclaration {D : Type 0} (form : Form D) (sort : D → Option Sort)
   pub text_is : bytes ≡ (form declaration).text
   pub sort_is : counts_as ≡ sort declaration
 
--- It has some declarations, each of which has such a text and counts as such a sort.
-pub record DeclaresSome (IsSuch : List ℕ → Option Sort → Type 0) (t : Declaring) : Type 0 where
-  pub declarations : List (List ℕ × Option Sort)
-  pub declared : Declares (λ d. verbatim d.0) (λ d. d.1) t declarations
-  pub each : AllByRecursion (λ d. IsSuch d.0 d.1) declarations
+-- It has some declarations, each with its text, and counts them.
+pub record DeclaresSome {D : Type 0} (form : Form D) (sort : D → Option Sort)
+    (t : Declaring) : Type 0 where
+  pub declarations : List D
+  pub declared : Declares form sort t declarations
 
 -- A call adds this declaration, or is refused for a cause and changes nothing.
 pub record AddsDeclaration {D : Type 0} (form : Form D) (sort : D → Option Sort)
@@ -199,9 +198,10 @@ OpenedIsIn (Some o) sort n = HasOne sort n
 abbrev pub total : Counts → ℕ
 total n = n.core_types + n.types + n.instances
 
--- It has declarations, each of which is such a one, but for a type that is being written.
-pub record IsDeclaring (IsSuch : List ℕ → Option Sort → Type 0) (t : Declaring) : Type 0 where
+-- It has some declarations, but for a type that is being written.
+pub record IsDeclaring {D : Type 0} (form : Form D) (sort : D → Option Sort)
+    (t : Declaring) : Type 0 where
   pub enough : total t.counts ≤ t.held.count
   pub counted : OpenedIsIn t.held.opening t.begun t.counts
   pub opening : OpeningIsIn t.held.opening t.held.count (length t.held.body)
-  pub settled : ∥ DeclaresSome IsSuch (taken_back t) ∥₁
+  pub settled : ∥ DeclaresSome form sort (taken_back t) ∥₁

@@ -67,13 +67,13 @@ pub struct Declarations<K: DeclaredKind, A: Allocator = Global> {
 }
 
 impl<K: DeclaredKind, A: Allocator> Model for Declarations<K, A> {
-    ghost use Rattle.wenc_types.specs.Declarations.{Declaring, IsDeclaration, IsDeclaring};
+    ghost use Rattle.wenc_types.specs.Declarations.{Declaring, IsDeclaring};
 
     ghost Value = { Declaring };
 
     ghost view = { λ t. record { held = t.held; counts = t.counts; begun = t.begun } };
 
-    ghost invariant = { λ t. IsDeclaring (IsDeclaration K.form K.sort)
+    ghost invariant = { λ t. IsDeclaring K.form K.sort
         (record { held = t.held; counts = t.counts; begun = t.begun }) };
 }
 
@@ -138,7 +138,7 @@ impl<K: DeclaredKind, A: Allocator> Declarations<K, A> {
         ensures finished { result ≡ is_finished self.now.held }
         ensures settled { is_finished self.now.held ≡ true → Settled self.now }
         ensures declares { is_finished self.now.held ≡ true
-            → ∥ DeclaresSome (IsDeclaration K.form K.sort) self.now ∥₁ }
+            → ∥ DeclaresSome K.form K.sort self.now ∥₁ }
     {
         self.held.is_finished()
     }
@@ -248,7 +248,7 @@ impl<K: DeclaredKind, A: Allocator> Encode for Declarations<K, A> {
         ensures appended { Appends (K.LEAD ∷ held_text self.now.held) (EncodeCause self.now.held)
             (is_finished self.now.held ≡ false) sink.old.items sink.new.items result }
         ensures fits { OnOk result (K.LEAD ▸ held self.now.held).Fits }
-        ensures declares { OnOk result (∥ DeclaresSome (IsDeclaration K.form K.sort) self.now ∥₁) }
+        ensures declares { OnOk result (∥ DeclaresSome K.form K.sort self.now ∥₁) }
     {
         Tagged(K::LEAD, &self.held).encode(sink)
     }

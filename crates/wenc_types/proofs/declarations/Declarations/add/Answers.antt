@@ -1,6 +1,5 @@
 use Rattle.std.proofs.Common.{Ok, refl}
 use Rattle.wenc_base.specs.laws.Members.{was_finished}
-use Rattle.wenc_types.specs.Declarations.{IsDeclaration}
 use Rattle.wenc_types.specs.laws.Declarations.{took}
 use Rattle.wenc_types.specs.laws.Declaring.{declaring_added}
 use Rattle.wenc_types.proofs.declarations.Declarations.add.Goals as goal
@@ -10,7 +9,7 @@ invariant_of-self-2 g c =
     let t = c.self.inside in
     let added = c.in_ok-add_encoded.ensures.added in
     rw (added.ok.state, c.counted-self-inside.ensures)
-    (declaring_added (IsDeclaration g.K.DeclaredKind.form g.K.DeclaredKind.sort) (record { held = t.held; counts = t.counts; begun = t.begun }) (g.E.Encode.piece c.args.declaration.now).text c.args.sort
+    (declaring_added g.K.DeclaredKind.form g.K.DeclaredKind.sort (record { held = t.held; counts = t.counts; begun = t.begun }) (g.E.Encode.piece c.args.declaration.now).text c.args.sort
     (was_finished t.held _ added.unfinished_first) (c.requires added.ok.fits) c.self.invariant)
 
 pub returns : goal.returns
