@@ -1,17 +1,17 @@
 -- What follows for the declarations of module types, component types and instance types.
-use Rattle.std.proofs.Common.{◌≡◌, ℕ, ◌+◌, ◌-◌, Bool, false, List, [], ◌∷◌, ◌++◌, Option, Some, None, Result, Ok, Err, OnOk, OnErr, refl, ap, sym, ◌∙◌, arith}
+use Rattle.std.proofs.Common.{◌≡◌, ℕ, ◌+◌, ◌-◌, Bool, false, List, [], ◌∷◌, ◌++◌, Option, Some, None, Result, Ok, Err, OnOk, refl, ap, sym, ◌∙◌, arith}
 use Rattle.wenc_base.specs.Composites.{Group, group, standing}
 use Rattle.wenc_base.specs.Encode.{Serves}
 use Rattle.wenc_base.specs.Forms.{list}
-use Rattle.wenc_base.specs.Holder.{Held, held, EncodeCause, AddsMember}
+use Rattle.wenc_base.specs.Holder.{Held, held, with_member, EncodeCause}
 use Rattle.wenc_base.specs.Piece.{Piece, Form, ◌▸◌, refused_for}
-use Rattle.wenc_base.specs.laws.Holders.{adds_as, contains_next, contains_opened, given_up_is_before, lengthened_twice}
+use Rattle.wenc_base.specs.laws.Holders.{contains_next, contains_opened, given_up_is_before, lengthened_twice}
 use Rattle.wenc_base.specs.laws.Serves.{serves_itself}
 use Rattle.wenc_base.specs.declared.fault.Fault.{Fault}
 use Rattle.wenc_types.specs.ComponentTypes.{InstanceDeclaration, ComponentDeclaration, ComponentType, InstanceType, instances_of, components_of, type_of, instance_declaration, component_declaration}
 use Rattle.wenc_types.specs.CoreTypes.{ModuleDeclaration, Defined, module_declaration, Module, core_type}
 use Rattle.wenc_types.specs.laws.ComponentTypes.{instances_serve, components_serve}
-use Rattle.wenc_types.specs.Declarations.{ModuleDeclares, InstanceDeclares, ComponentDeclares, counted, uncounted, counts_of, module_sort, instance_sort, component_sort, Declaring, Settled, Declares, IsDeclaration, AddsDeclaration, lead_of, with_held, begun, written, ended, taken_back}
+use Rattle.wenc_types.specs.Declarations.{ModuleDeclares, InstanceDeclares, ComponentDeclares, counted, uncounted, counts_of, module_sort, instance_sort, component_sort, Declaring, Settled, Declares, IsDeclaration, lead_of, with_held, begun, written, ended, taken_back}
 use Rattle.wenc_types.specs.declared.counts.Counts.{Counts}
 use Rattle.wenc_types.specs.declared.counts.Sort.{Sort}
 use Rattle.wenc_types.specs.declared.counts.Sort.TheVariants.{CoreType, «Type» as TypeSort, Instance}
@@ -38,23 +38,13 @@ counts_next sort (e ∷ ds) d = ap (counted (sort e)) (counts_next sort ds d) �
 pub is_declaration : {D : Type 0} (form : Form D) (sort : D → Option Sort) {p : Piece} {s : Option Sort} (d : D) → Serves p (form d) → s ≡ sort d → p.Fits → IsDeclaration form sort p.text s
 is_declaration form sort d serves e fits = record { declaration = d; fits = serves.fits fits; text_is = serves.text; sort_is = e }
 
--- A holder took what is written of a declaration, which is counted.
-pub took : {D : Type 0} (form : Form D) (sort : D → Option Sort) {p : Piece} {s : Option Sort} (old new : Declaring) (outcome : Result (Unit {0}) Fault) → AddsMember p old.held new.held outcome
-    → OnOk outcome (new.counts ≡ counted s old.counts) → OnOk outcome (new.begun ≡ old.begun) → OnErr outcome (new ≡ old)
-    → (d : D) → Serves p (form d) → s ≡ sort d → AddsDeclaration form sort old new outcome d
-took form sort old new (Ok u) a counts begun err d serves e =
-    let added = adds_as old.held new.held (Ok u) serves a in
-    record {
-      added = added;
-      counts = rw (← e) counts;
-      begun = begun;
-      declared = λ ds h. record {
-        contained = contains_next form old.held new.held d ds added.ok.state added.ok.fits h.contained;
-        counts = rw (counts, e, h.counts) (sym (counts_next sort ds d));
-      };
-      err = tt;
-    }
-took form sort old new (Err f) a counts begun err d serves e = record { added = adds_as old.held new.held (Err f) serves a; counts = tt; begun = tt; declared = tt; err = err }
+-- a member more is a declaration more
+pub declares_next : {D : Type 0} (form : Form D) (sort : D → Option Sort) (t : Declaring) (new : Held) (d : D) (ds : List D) → new ≡ with_member t.held (form d).text → (form d).Fits → Declares form sort t ds
+    → Declares form sort (record { held = new; counts = counted (sort d) t.counts; begun = t.begun }) (ds ++ d ∷ [])
+declares_next form sort t new d ds e fits h = record {
+  contained = contains_next form t.held new d ds e fits h.contained;
+  counts = rw h.counts (sym (counts_next sort ds d));
+}
 
 -- ---- a type that is written by an encoder
 

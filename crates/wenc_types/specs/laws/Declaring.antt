@@ -5,13 +5,12 @@ use Rattle.wenc_base.specs.Encode.{Serves}
 use Rattle.wenc_base.specs.Holder.{Held, is_finished, with_member, held_text, held, EncodeCause}
 use Rattle.wenc_base.specs.Piece.{Form, HasForm, ◌▸◌, refused_for}
 use Rattle.wenc_base.specs.Openings.{given_up, member_text}
-use Rattle.wenc_base.specs.laws.Holders.{contains_next}
 use Rattle.wenc_base.specs.laws.Members.{finished_back, back_twice, opened_back, lengthened_back, closed_as_it_is, closed_as_more, within_finished, within_opened, within_lengthened, within_back}
 use Rattle.wenc_base.specs.declared.holder.openings.Opening.{Opening}
 use Rattle.wenc_types.specs.ComponentTypes.{ComponentType, InstanceType, components_of, instances_of, type_of, component_declaration, instance_declaration}
 use Rattle.wenc_types.specs.CoreTypes.{module_declaration, Module, core_type}
 use Rattle.wenc_types.specs.Declarations.{module_sort, component_sort, instance_sort, Declaring, no_declarations, Settled, Declares, IsDeclaration, DeclaresSome, IsDeclaring, HasOne, OpenedIsIn, total, counted, uncounted, lead_of, begun, written, ended, taken_back}
-use Rattle.wenc_types.specs.laws.Declarations.{counts_next, back_again, module_serves, component_serves, instance_serves}
+use Rattle.wenc_types.specs.laws.Declarations.{declares_next, back_again, module_serves, component_serves, instance_serves}
 use Rattle.wenc_types.specs.declared.counts.Counts.{Counts}
 use Rattle.wenc_types.specs.declared.counts.Sort.{Sort}
 use Rattle.wenc_types.specs.declared.counts.Sort.TheVariants.{CoreType, «Type» as TypeSort, Instance}
@@ -74,10 +73,7 @@ module _ {D : Type 0} (form : Form D) (sort : D → Option Sort) where
       → DeclaresSome form sort (record { held = with_member t.held text; counts = counted s t.counts; begun = t.begun })
   some_more t text s some one = record {
     declarations = some.declarations ++ one.declaration ∷ [];
-    declared = record {
-      contained = contains_next form t.held (with_member t.held text) one.declaration some.declarations (ap (with_member t.held) one.text_is) one.fits some.declared.contained;
-      counts = rw (some.declared.counts, one.sort_is) (sym (counts_next sort some.declarations one.declaration));
-    };
+    declared = rw one.sort_is (declares_next form sort t (with_member t.held text) one.declaration some.declarations (ap (with_member t.held) one.text_is) one.fits some.declared);
   }
 
   pub settled : (t : Declaring) → is_finished t.held ≡ true → IsDeclaring form sort t → Settled t

@@ -1,6 +1,7 @@
 use Rattle.std.proofs.Common.{Ok, refl}
+use Rattle.wenc_base.specs.laws.Holders.{adds_as}
 use Rattle.wenc_base.specs.laws.Members.{was_finished}
-use Rattle.wenc_types.specs.laws.Declarations.{took}
+use Rattle.wenc_types.specs.laws.Declarations.{declares_next}
 use Rattle.wenc_types.specs.laws.Declaring.{declaring_added}
 use Rattle.wenc_types.proofs.declarations.Declarations.add.Goals as goal
 
@@ -14,5 +15,12 @@ invariant_of-self-2 g c =
 
 pub returns : goal.returns
 returns g c = λ d serves e.
-    let added = c.in_ok-add_encoded.ensures.added in
-    rw (← c.self.view_is) (took g.K.DeclaredKind.form g.K.DeclaredKind.sort _ _ (Ok tt) added c.counted-self-inside.ensures refl tt d serves e)
+    let t = c.self.inside in
+    let added = adds_as t.held c.add_encoded.new.self (Ok tt) serves c.in_ok-add_encoded.ensures.added in
+    rw (← c.self.view_is, c.counted-self-inside.ensures, e) (record {
+      added = added;
+      counts = refl;
+      begun = refl;
+      declared = λ ds h. declares_next g.K.DeclaredKind.form g.K.DeclaredKind.sort (record { held = t.held; counts = t.counts; begun = t.begun }) c.add_encoded.new.self d ds added.ok.state added.ok.fits h;
+      err = tt;
+    })
