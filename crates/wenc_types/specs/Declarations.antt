@@ -1,4 +1,4 @@
--- Module types, component types and instance types: their declarations, one by one, and what is counted of them.
+-- Module, component and instance types: their declarations, one by one, and what is counted.
 use Rattle.std.specs.Prelude.{◌≡◌, ℕ, ◌+◌, ◌-◌, ◌≤◌, List, [], ◌∷◌, ◌++◌, length, Option, Some, None, Result, OnOk, OnErr, true}
 use Rattle.wenc_base.specs.Holder.{Held, no_members, is_finished, Contains, AddsMember}
 use Rattle.wenc_base.specs.Piece.{Form}

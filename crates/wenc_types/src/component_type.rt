@@ -34,7 +34,8 @@ impl DeclaringKind for ComponentTypes {
     ghost use Rattle.wenc_types.specs.Declarations.{component_sort};
     ghost use Rattle.wenc_types.specs.laws.Declarations.{is_declaration};
 
-    ghost declares = { λ d. is_declaration component_declaration component_sort (Declared d) serves_itself refl };
+    ghost declares = { λ d. is_declaration component_declaration component_sort (Declared d)
+        serves_itself refl };
 }
 
 /// The type of a component: what it imports and exports, and the types that these have (component model, binary format,

@@ -34,7 +34,8 @@ impl DeclaringKind for InstanceTypes {
     ghost use Rattle.wenc_types.specs.Declarations.{instance_sort};
     ghost use Rattle.wenc_types.specs.laws.Declarations.{is_declaration};
 
-    ghost declares = { λ d. is_declaration instance_declaration instance_sort d serves_itself refl };
+    ghost declares = { λ d. is_declaration instance_declaration instance_sort d
+        serves_itself refl };
 }
 
 /// The type of an instance: what it exports, and the types that these have (component model, binary format, "Type
