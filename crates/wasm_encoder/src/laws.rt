@@ -25,9 +25,7 @@ ghost use Rattle.wenc_sections.specs.Instances.{CoreInstance, core_instance, Ins
 ghost use Rattle.wenc_types.specs.CoreTypes.{ModuleDeclaration, Defined, module_type, CoreType, core_type};
 ghost use Rattle.wenc_types.specs.ComponentTypes as component;
 ghost use Rattle.wenc_types.specs.ComponentTypes.{TypeOf, ComponentType, InstanceType, InstanceDeclaration, ComponentDeclaration, CoreTyped, Typed, components_of, instances_of, type_of};
-ghost use Rattle.wenc_types.specs.Declarations as types;
-ghost use Rattle.wenc_types.specs.Declarations.{Declaring, Settled, ComponentDeclares, InstanceDeclares};
-ghost use Rattle.wenc_types.specs.ModuleTypes.{Declared, Declares, begun, written, ended, taken_back};
+ghost use Rattle.wenc_types.specs.Declarations.{Declaring, Settled, ModuleDeclares, ComponentDeclares, InstanceDeclares, begun, written, ended, taken_back};
 ghost use Rattle.wenc_types.specs.declared.counts.Sort.TheVariants as sorts;
 ghost use Rattle.wenc_types.specs.declared.counts.Sort.{Sort};
 ghost use Rattle.wasm_encoder.specs.AllForms.{FormName, value_of, form_of};
@@ -195,32 +193,27 @@ pub fn openings_are_members()
         → (core_type t).Fits → Contains core_type section types
         → Contains core_type (closed (lengthened (opened_with section []) (core_type t).text))
         (types ++ t ∷ []) }
-    ensures module_given_up { (ty : Declared) (text : List ℕ) → is_finished ty.held ≡ true
-        → taken_back (written (begun ty) text) ≡ ty }
-    ensures module_ended { (ty : Declared) (g : Group) (ds : List ModuleDeclaration)
-        → (group g).Fits → Declares ty ds
-        → Declares (ended (written (begun ty) (group g).text)) (ds ++ Defined g ∷ []) }
     ensures type_given_up { (t : Declaring) (sort : Sort) (text : List ℕ) → Settled t
-        → types.taken_back (types.written (types.begun sort t) text) ≡ t }
+        → taken_back (written (begun sort t) text) ≡ t }
+    ensures type_ended_in_module { (t : Declaring) (g : Group) (ds : List ModuleDeclaration)
+        → (group g).Fits → ModuleDeclares t ds
+        → ModuleDeclares (ended (written (begun sorts.«Type» t) (group g).text))
+        (ds ++ Defined g ∷ []) }
     ensures type_ended_in_component { (t : Declaring) (ty : TypeOf) (ds : List ComponentDeclaration)
         → (type_of ty).Fits → ComponentDeclares t ds
-        → ComponentDeclares
-        (types.ended (types.written (types.begun sorts.«Type» t) (type_of ty).text))
+        → ComponentDeclares (ended (written (begun sorts.«Type» t) (type_of ty).text))
         (ds ++ component.Declared (Typed ty) ∷ []) }
     ensures core_type_ended_in_component { (t : Declaring) (ty : CoreType)
         (ds : List ComponentDeclaration) → (core_type ty).Fits → ComponentDeclares t ds
-        → ComponentDeclares
-        (types.ended (types.written (types.begun sorts.CoreType t) (core_type ty).text))
+        → ComponentDeclares (ended (written (begun sorts.CoreType t) (core_type ty).text))
         (ds ++ component.Declared (CoreTyped ty) ∷ []) }
     ensures type_ended_in_instance { (t : Declaring) (ty : TypeOf) (ds : List InstanceDeclaration)
         → (type_of ty).Fits → InstanceDeclares t ds
-        → InstanceDeclares
-        (types.ended (types.written (types.begun sorts.«Type» t) (type_of ty).text))
+        → InstanceDeclares (ended (written (begun sorts.«Type» t) (type_of ty).text))
         (ds ++ Typed ty ∷ []) }
     ensures core_type_ended_in_instance { (t : Declaring) (ty : CoreType)
         (ds : List InstanceDeclaration) → (core_type ty).Fits → InstanceDeclares t ds
-        → InstanceDeclares
-        (types.ended (types.written (types.begun sorts.CoreType t) (core_type ty).text))
+        → InstanceDeclares (ended (written (begun sorts.CoreType t) (core_type ty).text))
         (ds ++ CoreTyped ty ∷ []) }
 {}
 
