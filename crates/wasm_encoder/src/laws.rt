@@ -17,11 +17,7 @@ ghost use Rattle.wenc_base.specs.declared.fault.Fault.TheVariants.{Unfinished};
 ghost use Rattle.wenc_builder.specs.Entry.{Entry, items as items_of};
 ghost use Rattle.wenc_builder.specs.Item.{Item};
 ghost use Rattle.wenc_builder.specs.Sections.{Section, runs, component, Reading, whole};
-ghost use Rattle.wenc_canon.specs.Canonicals.{Intrinsic, row, Values, Canonical, canonical, Adds};
-ghost use Rattle.wenc_parts.specs.Aliases.{AliasOf, alias};
-ghost use Rattle.wenc_sections.specs.Exports.{Export, export_item};
-ghost use Rattle.wenc_sections.specs.Imports.{Import, import_item};
-ghost use Rattle.wenc_sections.specs.Instances.{CoreInstance, core_instance, Instance, instance};
+ghost use Rattle.wenc_canon.specs.Canonicals.{Intrinsic, row, Values, Adds};
 ghost use Rattle.wenc_types.specs.CoreTypes.{ModuleDeclaration, Defined, module_type, CoreType, core_type};
 ghost use Rattle.wenc_types.specs.ComponentTypes as component;
 ghost use Rattle.wenc_types.specs.ComponentTypes.{TypeOf, ComponentType, InstanceType, InstanceDeclaration, ComponentDeclaration, CoreTyped, Typed, components_of, instances_of, type_of};
@@ -142,35 +138,20 @@ pub fn listed()
         → (Reading Wide (whole (items_of es)) ss ↔ (ss ≡ runs (items_of es))) }
 {}
 
-/// The text of a section that contains some items is their size, their number and the items. That of a module type, a
-/// component type or an instance type with some declarations is a byte, their number and the declarations.
+/// The text of a section that contains some items, of whatever form, is their size, their number and the items. That of
+/// a module type, a component type or an instance type with some declarations is a byte, their number and these.
 pub fn sections_are_their_items()
-    ensures core_types { (section : Held) (items : List CoreType) → Contains core_type section items
-        → (held_section section).text ≡ (counted core_type items).text }
-    ensures types { (section : Held) (items : List TypeOf) → Contains type_of section items
-        → (held_section section).text ≡ (counted type_of items).text }
-    ensures module_types { (ty : Declared) (ds : List ModuleDeclaration) → Declares ty ds
-        → (0x50 ▸ held ty.held).text ≡ (module_type ds).text }
+    ensures sections { (f : FormName) (section : Held) (items : List (value_of f))
+        → Contains (form_of f) section items
+        → (held_section section).text ≡ (counted (form_of f) items).text }
+    ensures module_types { (t : Declaring) (ds : List ModuleDeclaration) → ModuleDeclares t ds
+        → (0x50 ▸ held t.held).text ≡ (module_type ds).text }
     ensures component_types { (t : Declaring) (ds : List ComponentDeclaration)
         → ComponentDeclares t ds
         → (0x41 ▸ held t.held).text ≡ (type_of (ComponentType (components_of ds))).text }
     ensures instance_types { (t : Declaring) (ds : List InstanceDeclaration)
         → InstanceDeclares t ds
         → (0x42 ▸ held t.held).text ≡ (type_of (InstanceType (instances_of ds))).text }
-    ensures aliases { (section : Held) (items : List AliasOf) → Contains alias section items
-        → (held_section section).text ≡ (counted alias items).text }
-    ensures imports { (section : Held) (items : List Import) → Contains import_item section items
-        → (held_section section).text ≡ (counted import_item items).text }
-    ensures exports { (section : Held) (items : List Export) → Contains export_item section items
-        → (held_section section).text ≡ (counted export_item items).text }
-    ensures core_instances { (section : Held) (items : List CoreInstance)
-        → Contains core_instance section items
-        → (held_section section).text ≡ (counted core_instance items).text }
-    ensures instances { (section : Held) (items : List Instance) → Contains instance section items
-        → (held_section section).text ≡ (counted instance items).text }
-    ensures canonical_functions { (section : Held) (items : List Canonical)
-        → Contains canonical section items
-        → (held_section section).text ≡ (counted canonical items).text }
     ensures producers { (section : Held) (fields : List Producers)
         → Contains producers_field section fields
         → (producers_held section).text ≡ (producers_section fields).text }
