@@ -2,5 +2,5 @@ use Rattle.wasm_encoder.specs.AllForms.{form_of}
 use Rattle.wenc_base.specs.laws.Members.{contains_values}
 use Rattle.wasm_encoder.proofs.laws.of_holders.what_is_finished_has_some.Goals as goal
 
-pub returns-clause-sections : goal.returns-clause-sections
-returns-clause-sections c = λ f section some. contains_values (form_of f) section some
+pub returns : goal.returns
+returns c = λ f section some. contains_values (form_of f) section some
