@@ -1,114 +1,173 @@
-ghost use Rattle.std.specs.Prelude.{◌≡◌, option_map};
+ghost use Rattle.std.specs.Prelude.{◌≡◌, ◌∷◌, [], drop, option_map};
 ghost use Rattle.wenc_canon.specs.CanonTrees.{canon_view};
-ghost use Rattle.wenc.specs.Intrinsics.{alone, with_index, with_one, with_flag, with_two, intrinsic};
+ghost use Rattle.wenc_canon.specs.Canonicals.{Index, Flag, intrinsics};
+ghost use Rattle.wenc.specs.Intrinsics.{values_said, one_of, intrinsic};
 ghost use Rattle.wenc.specs.Words.{words_left};
 
 use crate::number::{flag, number};
 use crate::words::Words;
 use wasm_encoder::CanonTree;
 
-/// The intrinsic that a word names, with the words behind it.
+/// The intrinsic that a word names, with the words behind it. One with options, a core type or a result has no words.
+/// Those of resources and tasks come first.
 pub fn intrinsic(verb: &str, words: Words) -> Option<CanonTree>
     ensures { option_map canon_view result ≡ intrinsic verb.now (words_left words.entry) }
 {
+    match verb {
+        "resource.new" => Some(CanonTree::ResourceNew(index(words)?)),
+        "resource.drop" => Some(CanonTree::ResourceDrop(index(words)?)),
+        "resource.rep" => Some(CanonTree::ResourceRep(index(words)?)),
+        "task.cancel" => alone(words, CanonTree::TaskCancel),
+        "subtask.cancel" => Some(CanonTree::SubtaskCancel(async_flag(words)?)),
+        "task.return" | "context.get" | "context.set" => None,
+        "thread.yield" => alone(words, CanonTree::ThreadYield),
+        "subtask.drop" => alone(words, CanonTree::SubtaskDrop),
+        _ => of_stream(verb, words),
+    }
+}
+
+/// The same from those of streams on.
+fn of_stream(verb: &str, words: Words) -> Option<CanonTree>
+    ensures { option_map canon_view result ≡
+        one_of (drop 10 intrinsics) verb.now (words_left words.entry) }
+{
+    match verb {
+        "stream.new" => Some(CanonTree::StreamNew(index(words)?)),
+        "stream.read" | "stream.write" => None,
+        "stream.cancel-read" => {
+            let (ty, async_) = index_and_flag(words)?;
+            Some(CanonTree::StreamCancelRead { ty, async_ })
+        }
+        "stream.cancel-write" => {
+            let (ty, async_) = index_and_flag(words)?;
+            Some(CanonTree::StreamCancelWrite { ty, async_ })
+        }
+        "stream.drop-readable" => Some(CanonTree::StreamDropReadable(index(words)?)),
+        "stream.drop-writable" => Some(CanonTree::StreamDropWritable(index(words)?)),
+        _ => of_future(verb, words),
+    }
+}
+
+/// The same from those of futures on.
+fn of_future(verb: &str, words: Words) -> Option<CanonTree>
+    ensures { option_map canon_view result ≡
+        one_of (drop 17 intrinsics) verb.now (words_left words.entry) }
+{
+    match verb {
+        "future.new" => Some(CanonTree::FutureNew(index(words)?)),
+        "future.read" | "future.write" => None,
+        "future.cancel-read" => {
+            let (ty, async_) = index_and_flag(words)?;
+            Some(CanonTree::FutureCancelRead { ty, async_ })
+        }
+        "future.cancel-write" => {
+            let (ty, async_) = index_and_flag(words)?;
+            Some(CanonTree::FutureCancelWrite { ty, async_ })
+        }
+        "future.drop-readable" => Some(CanonTree::FutureDropReadable(index(words)?)),
+        "future.drop-writable" => Some(CanonTree::FutureDropWritable(index(words)?)),
+        _ => of_error_context(verb, words),
+    }
+}
+
+/// The same from those of error contexts on: these, those of sets of waitables, and of backpressure.
+fn of_error_context(verb: &str, words: Words) -> Option<CanonTree>
+    ensures { option_map canon_view result ≡
+        one_of (drop 24 intrinsics) verb.now (words_left words.entry) }
+{
+    match verb {
+        "error-context.new" | "error-context.debug-message" => None,
+        "error-context.drop" => alone(words, CanonTree::ErrorContextDrop),
+        "waitable-set.new" => alone(words, CanonTree::WaitableSetNew),
+        "waitable-set.wait" => Some(CanonTree::WaitableSetWait(index(words)?)),
+        "waitable-set.poll" => Some(CanonTree::WaitableSetPoll(index(words)?)),
+        "waitable-set.drop" => alone(words, CanonTree::WaitableSetDrop),
+        "waitable.join" => alone(words, CanonTree::WaitableJoin),
+        "backpressure.inc" => alone(words, CanonTree::BackpressureInc),
+        "backpressure.dec" => alone(words, CanonTree::BackpressureDec),
+        _ => of_thread(verb, words),
+    }
+}
+
+/// The same of the last ones: those of threads, and those that forward.
+fn of_thread(verb: &str, words: Words) -> Option<CanonTree>
+    ensures { option_map canon_view result ≡
+        one_of (drop 34 intrinsics) verb.now (words_left words.entry) }
+{
+    match verb {
+        "thread.index" => alone(words, CanonTree::ThreadIndex),
+        "thread.new-indirect" => {
+            let (ty, table) = indices(words)?;
+            Some(CanonTree::ThreadNewIndirect { ty, table })
+        }
+        "thread.resume-later" => alone(words, CanonTree::ThreadResumeLater),
+        "thread.suspend" => alone(words, CanonTree::ThreadSuspend),
+        "thread.suspend-then-resume" => alone(words, CanonTree::ThreadSuspendThenResume),
+        "thread.yield-then-resume" => alone(words, CanonTree::ThreadYieldThenResume),
+        "thread.suspend-then-promote" => alone(words, CanonTree::ThreadSuspendThenPromote),
+        "thread.yield-then-promote" => alone(words, CanonTree::ThreadYieldThenPromote),
+        "stream.forward" => Some(CanonTree::StreamForward(index(words)?)),
+        "future.forward" => Some(CanonTree::FutureForward(index(words)?)),
+        "thread.spawn-ref" => Some(CanonTree::ThreadSpawnRef(index(words)?)),
+        "thread.spawn-indirect" => {
+            let (ty, table) = indices(words)?;
+            Some(CanonTree::ThreadSpawnIndirect { ty, table })
+        }
+        "thread.available-parallelism" => alone(words, CanonTree::ThreadAvailableParallelism),
+        _ => None,
+    }
+}
+
+/// This function, where no word is left.
+fn alone(words: Words, function: CanonTree) -> Option<CanonTree>
+    ensures { option_map canon_view result ≡
+        option_map (λ v. canon_view function) (values_said [] (words_left words.entry)) }
+{
     let mut words = words;
-    let Some(first) = words.next() else {
-        return alone(verb);
-    };
-    let Some(second) = words.next() else {
-        return with_one(verb, first);
-    };
     match words.next() {
-        None => with_two(verb, number(first)?, second),
+        None => Some(function),
         Some(_) => None,
     }
 }
 
-/// The intrinsic that has no word behind its own.
-fn alone(verb: &str) -> Option<CanonTree>
-    ensures { option_map canon_view result ≡ alone verb.now }
+/// The index that is the one word left.
+fn index(words: Words) -> Option<u32>
+    ensures { result ≡ values_said (Index ∷ []) (words_left words.entry) }
 {
-    match verb {
-        "task.cancel" => Some(CanonTree::TaskCancel),
-        "thread.yield" => Some(CanonTree::ThreadYield),
-        "subtask.drop" => Some(CanonTree::SubtaskDrop),
-        "error-context.drop" => Some(CanonTree::ErrorContextDrop),
-        "waitable-set.new" => Some(CanonTree::WaitableSetNew),
-        "waitable-set.drop" => Some(CanonTree::WaitableSetDrop),
-        "waitable.join" => Some(CanonTree::WaitableJoin),
-        "backpressure.inc" => Some(CanonTree::BackpressureInc),
-        "backpressure.dec" => Some(CanonTree::BackpressureDec),
-        "thread.index" => Some(CanonTree::ThreadIndex),
-        "thread.resume-later" => Some(CanonTree::ThreadResumeLater),
-        "thread.suspend" => Some(CanonTree::ThreadSuspend),
-        "thread.suspend-then-resume" => Some(CanonTree::ThreadSuspendThenResume),
-        "thread.yield-then-resume" => Some(CanonTree::ThreadYieldThenResume),
-        "thread.suspend-then-promote" => Some(CanonTree::ThreadSuspendThenPromote),
-        "thread.yield-then-promote" => Some(CanonTree::ThreadYieldThenPromote),
-        "thread.available-parallelism" => Some(CanonTree::ThreadAvailableParallelism),
-        _ => None,
+    let mut words = words;
+    let index = number(words.next()?)?;
+    match words.next() {
+        None => Some(index),
+        Some(_) => None,
     }
 }
 
-/// The intrinsic that has one word behind its own.
-fn with_one(verb: &str, word: &str) -> Option<CanonTree>
-    ensures { option_map canon_view result ≡ with_one verb.now word.now }
+/// The flag that is the one word left.
+fn async_flag(words: Words) -> Option<bool>
+    ensures { result ≡ values_said (Flag ∷ []) (words_left words.entry) }
 {
-    match verb {
-        "subtask.cancel" => Some(CanonTree::SubtaskCancel(flag(word)?)),
-        _ => with_index(verb, number(word)?),
+    let mut words = words;
+    let flag = flag(words.next()?)?;
+    match words.next() {
+        None => Some(flag),
+        Some(_) => None,
     }
 }
 
-/// The intrinsic that has the index of a type, or of a memory.
-fn with_index(verb: &str, index: u32) -> Option<CanonTree>
-    ensures { option_map canon_view result ≡ with_index verb.now index }
+/// The index and the flag that are the words left.
+fn index_and_flag(words: Words) -> Option<(u32, bool)>
+    ensures { result ≡ values_said (Index ∷ Flag ∷ []) (words_left words.entry) }
 {
-    match verb {
-        "resource.new" => Some(CanonTree::ResourceNew(index)),
-        "resource.drop" => Some(CanonTree::ResourceDrop(index)),
-        "resource.rep" => Some(CanonTree::ResourceRep(index)),
-        "stream.new" => Some(CanonTree::StreamNew(index)),
-        "stream.drop-readable" => Some(CanonTree::StreamDropReadable(index)),
-        "stream.drop-writable" => Some(CanonTree::StreamDropWritable(index)),
-        "future.new" => Some(CanonTree::FutureNew(index)),
-        "future.drop-readable" => Some(CanonTree::FutureDropReadable(index)),
-        "future.drop-writable" => Some(CanonTree::FutureDropWritable(index)),
-        "waitable-set.wait" => Some(CanonTree::WaitableSetWait(index)),
-        "waitable-set.poll" => Some(CanonTree::WaitableSetPoll(index)),
-        "stream.forward" => Some(CanonTree::StreamForward(index)),
-        "future.forward" => Some(CanonTree::FutureForward(index)),
-        "thread.spawn-ref" => Some(CanonTree::ThreadSpawnRef(index)),
-        _ => None,
-    }
+    let mut words = words;
+    let index = number(words.next()?)?;
+    Some((index, async_flag(words)?))
 }
 
-/// The intrinsic that has the index of a type, and a flag or the index of a table.
-fn with_two(verb: &str, ty: u32, word: &str) -> Option<CanonTree>
-    ensures { option_map canon_view result ≡ with_two verb.now ty word.now }
+/// The two indices that are the words left.
+fn indices(words: Words) -> Option<(u32, u32)>
+    ensures { result ≡ values_said (Index ∷ Index ∷ []) (words_left words.entry) }
 {
-    match verb {
-        "thread.new-indirect" => Some(CanonTree::ThreadNewIndirect {
-            ty,
-            table: number(word)?,
-        }),
-        "thread.spawn-indirect" => Some(CanonTree::ThreadSpawnIndirect {
-            ty,
-            table: number(word)?,
-        }),
-        _ => with_flag(verb, ty, flag(word)?),
-    }
-}
-
-/// The intrinsic that has the index of a type, and a flag.
-fn with_flag(verb: &str, ty: u32, async_: bool) -> Option<CanonTree>
-    ensures { option_map canon_view result ≡ with_flag verb.now ty async_ }
-{
-    match verb {
-        "stream.cancel-read" => Some(CanonTree::StreamCancelRead { ty, async_ }),
-        "stream.cancel-write" => Some(CanonTree::StreamCancelWrite { ty, async_ }),
-        "future.cancel-read" => Some(CanonTree::FutureCancelRead { ty, async_ }),
-        "future.cancel-write" => Some(CanonTree::FutureCancelWrite { ty, async_ }),
-        _ => None,
-    }
+    let mut words = words;
+    let first = number(words.next()?)?;
+    Some((first, index(words)?))
 }

@@ -7,12 +7,12 @@ use Rattle.wenc_parts.specs.declared.exports.ComponentExportKind.{ComponentExpor
 use Rattle.wenc_parts.specs.declared.imports.ComponentTypeRef.{ComponentTypeRef}
 use Rattle.wenc_parts.specs.Imports.{ExternName}
 use Rattle.wenc_parts.specs.Aliases.{AliasOf, InstanceExport, CoreInstanceExport}
-use Rattle.wenc_canon.specs.Canonicals.{row, Values, Intrinsic, Canonical, Provided}
+use Rattle.wenc_canon.specs.Canonicals.{row, Values, Intrinsic, name_of}
+use Rattle.wenc_canon.specs.Canonicals.{Canonical, Lift, Lower, Provided}
 use Rattle.wenc_sections.specs.Start.{started}
 use Rattle.wenc_sections.specs.Instances.{CoreInstance, Instance}
 use Rattle.wenc_types.specs.CoreTypes.{CoreType}
 use Rattle.wenc_types.specs.ComponentTypes.{TypeOf}
-use Rattle.wenc_builder.specs.CanonicalNames.{provided_name, canonical_name}
 use Rattle.wenc_builder.specs.Item.{Item, ModuleItem, CoreInstanceItem, CoreTypeItem, ComponentItem}
 use Rattle.wenc_builder.specs.Item.{InstanceItem, AliasItem, TypeItem, CanonItem, StartItem}
 use Rattle.wenc_builder.specs.Item.{ImportItem, ExportItem, CustomItem, RawItem}
@@ -70,13 +70,15 @@ canonical_entry debug_name function = entry (CanonItem function) debug_name
 
 -- it has the debug name that is its own
 abbrev pub provided_entry : (i : Intrinsic) → Values (row i).fields → Entry
-provided_entry i values = canonical_entry (Some (provided_name i values)) (Provided i values)
+provided_entry i values = canonical_entry (Some (name_of i values)) (Provided i values)
 
--- that of a canonical function as a tree, which has its own debug name or, lifted or lowered, this
--- one
+-- that of a canonical function as a tree: lifted or lowered it has this debug name, else its own
 abbrev pub canonical_tree_entry : Option (List ℕ) → Canonical → Entry
-canonical_tree_entry debug_name function =
-    canonical_entry (canonical_name debug_name function) function
+canonical_tree_entry debug_name (Lift function options type_index) =
+    canonical_entry debug_name (Lift function options type_index)
+canonical_tree_entry debug_name (Lower function options) =
+    canonical_entry debug_name (Lower function options)
+canonical_tree_entry debug_name (Provided i values) = provided_entry i values
 
 -- none of these has a name
 abbrev pub start_entry : ℕ → List ℕ → ℕ → Entry

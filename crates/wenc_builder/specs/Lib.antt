@@ -1,7 +1,6 @@
 pub mod Item
 pub mod Sections
 pub mod Space
-pub mod CanonicalNames
 pub mod Entry
 pub mod Builder
 pub mod Raw
@@ -10,6 +9,5 @@ pub mod Cause
 pub mod Enters
 pub mod Lent
 pub mod Names
-pub mod Naming
 pub mod inside
 pub mod laws

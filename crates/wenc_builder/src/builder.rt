@@ -1,4 +1,4 @@
-ghost use Rattle.std.specs.Prelude.{◌≡◌, ◌↔◌, [], List, IfOk, IfErr, OnErr, IsOk, IsTrue, Some, None, Err, true, false};
+ghost use Rattle.std.specs.Prelude.{◌≡◌, ◌↔◌, [], ◌∷◌, ◌++◌, List, IfOk, IfErr, OnErr, IsOk, IsTrue, Some, None, Err, true, false};
 ghost use Rattle.std.specs.Iterator.{IsFinite};
 ghost use Rattle.std.specs.Option.{option_copied};
 ghost use Rattle.wenc_base.specs.Fault.{IsMemory};
@@ -8,7 +8,7 @@ ghost use Rattle.wenc_base.specs.Lender.{GivesUp};
 ghost use Rattle.wenc_base.specs.declared.fault.Fault.TheVariants.{Unfinished};
 ghost use Rattle.wenc_parts.specs.Imports.{extern_name_view};
 ghost use Rattle.wenc_parts.specs.Aliases.{alias_view};
-ghost use Rattle.wenc_canon.specs.Canonicals.{◌takes◌};
+ghost use Rattle.wenc_canon.specs.Canonicals.{◌is◌takes◌, CoreType, Slot, slot_text};
 ghost use Rattle.wenc_canon.specs.Rows.{row_with, provided_by, and_options, provided_with};
 ghost use Rattle.wenc_canon.specs.CanonTrees.{canon_view};
 ghost use Rattle.wenc_builder.specs.Sections.{Section, runs, Reading, whole};
@@ -23,7 +23,6 @@ ghost use Rattle.wenc_builder.specs.Lent.{is_whole};
 ghost use Rattle.wenc_builder.specs.Raw.{HasNoRaw};
 ghost use Rattle.wenc_builder.specs.inside.Layout.{draft_of, kind_id};
 ghost use Rattle.wenc_builder.specs.Names.{AddsNames};
-ghost use Rattle.wenc_builder.specs.Naming.{slot_name};
 
 mod buffer;
 mod canonicals;
@@ -49,8 +48,10 @@ use std::alloc::{Allocator, Global};
 use std::convert::AsSlice;
 use std::marker::Model;
 use wenc_base::{
-    CustomSection, Encode, ExportKind, Fault, Lender, Module, RawCustomSection, Tagged, WithSize,
+    CustomSection, Encode, ExportKind, Fault, Lender, Module, RawCustomSection, Tagged, ValType,
+    WithSize,
 };
+use wenc_canon::rows::Row;
 use wenc_canon::{CanonTree, CanonicalOption, Fields};
 use wenc_parts::{
     Alias, ComponentExportKind, ComponentExternName, ComponentSectionId, ComponentTypeRef,
@@ -374,65 +375,68 @@ impl<A: Allocator> ComponentBuilder<A> {
         self.add(Kind::CanonicalFunction, space, name, function)
     }
 
-    /// Adds the intrinsic that begins with this opcode and has these fields, with this debug name. Answers its index.
-    fn provide<F: Fields>(&mut self, name: &str, opcode: u8, fields: &F) -> Result<u32, Fault>
-        requires row { row_with opcode ≡ (opcode takes F.kinds) }
-        ensures { Enters self.old self.new result (canonical_entry (Some name.now)
-            (provided_by opcode F.kinds (F.values fields.now))) }
+    /// Adds the intrinsic of this row, which has these fields, with the row's name as its debug name. Answers its index.
+    fn provide<F: Fields>(&mut self, row: Row, fields: &F) -> Result<u32, Fault>
+        requires row { row_with row.opcode ≡ (row.name.now is row.opcode takes F.kinds) }
+        ensures { Enters self.old self.new result (canonical_entry (Some row.name.now)
+            (provided_by row.opcode F.kinds (F.values fields.now))) }
     {
         self.add(
             Kind::CanonicalFunction,
             Space::CoreFuncs,
-            Some(name),
-            &Tagged(opcode, fields),
+            Some(row.name),
+            &Tagged(row.opcode, fields),
         )
     }
 
     /// The same of an intrinsic that has options behind these fields.
     fn provide_with<F: Fields, I: Iterator<Item = CanonicalOption> + Drop>(
         &mut self,
-        name: &str,
-        opcode: u8,
+        row: Row,
         fields: &F,
         options: I,
     ) -> Result<u32, Fault>
-        requires row { row_with opcode ≡ (opcode takes and_options F.kinds) }
+        requires row { row_with row.opcode ≡
+            (row.name.now is row.opcode takes and_options F.kinds) }
         requires can { I.can_next options }
         requires ends { IsFinite (I.remaining options) }
         ensures { EntersListed I.next_gives options self.old self.new result
-            (λ os. canonical_entry (Some name.now)
-            (provided_with opcode F.kinds (F.values fields.now) os)) }
+            (λ os. canonical_entry (Some row.name.now)
+            (provided_with row.opcode F.kinds (F.values fields.now) os)) }
     {
         self.add_listed(
             Kind::CanonicalFunction,
             Space::CoreFuncs,
-            Some(name),
-            &Tagged(opcode, fields),
+            Some(row.name),
+            &Tagged(row.opcode, fields),
             options,
             &(),
         )
     }
 
-    /// Adds a function of a slot of a task, whose debug name is this word with the number of the slot behind it. Answers
-    /// its index.
-    fn provide_for_slot<B: Allocator>(
-        &mut self,
-        word: &str,
-        slot: u32,
-        function: &CanonTree<B>,
-    ) -> Result<u32, Fault>
+    /// Adds the intrinsic of this row, which has a slot of a task, of this value type: its debug name is the row's with
+    /// the number of the slot behind it. Answers its index.
+    fn provide_for_slot(&mut self, row: Row, ty: ValType, slot: u32) -> Result<u32, Fault>
     where
         A: Clone,
-        requires { canonical_space (canon_view function.now) ≡ Space.CoreFuncs }
+        requires row { row_with row.opcode ≡
+            (row.name.now is row.opcode takes CoreType ∷ Slot ∷ []) }
         ensures { Enters self.old self.new result
-            (canonical_entry (Some (slot_name word.now slot)) (canon_view function.now)) }
+            (canonical_entry (Some (row.name.now ++ slot_text Slot slot))
+            (provided_by row.opcode (CoreType ∷ Slot ∷ []) (ty, slot))) }
     {
         if !self.is_finished() {
             return Err(Fault::Unfinished);
         }
         let alloc = self.spaces.allocator().clone()?;
+        let word = row.name;
         let name = format!(in alloc; "{word} {slot}")?;
-        self.add_canonical(Space::CoreFuncs, Some(name.as_str()), function)
+        self.add(
+            Kind::CanonicalFunction,
+            Space::CoreFuncs,
+            Some(name.as_str()),
+            &Tagged(row.opcode, &(ty, slot)),
+        )
     }
 
     /// Adds a section of the debug names so far, in the order of their spaces' sorts; the names stay, so that a second

@@ -1,5 +1,6 @@
--- Canonical functions (component model, binary format, "Canonical Definitions"; opcodes and fields as docs/FORMAT.md lists them).
-use Rattle.std.specs.Prelude.{ℕ, Bool, List, [], ◌∷◌, Option, Result}
+-- Canonical functions (component model, binary format, "Canonical Definitions"; names, opcodes and
+-- fields as docs/FORMAT.md lists them).
+use Rattle.std.specs.Prelude.{ℕ, Bool, List, [], ◌∷◌, ◌++◌, Option, Result, codes, decimal}
 use Rattle.wenc_base.specs.Piece.{Form, byte, nothing, ◌▸◌, ◌⨾◌}
 use Rattle.wenc_base.specs.Number.{u32}
 use Rattle.wenc_base.specs.Forms.{flag, list}
@@ -10,7 +11,11 @@ use Rattle.wenc_base.specs.declared.types.ValType.{ValType}
 use Rattle.wenc_parts.specs.declared.types.ComponentValType.{ComponentValType}
 use Rattle.wenc_parts.specs.Types.{result_list}
 use Rattle.wenc_canon.specs.declared.canonicals.CanonicalOption.{CanonicalOption}
-use Rattle.wenc_canon.specs.declared.canonicals.CanonicalOption.TheVariants.{UTF8, UTF16, CompactUTF16, Memory, Realloc, PostReturn, Async, Callback, CoreType as CoreTypeOption, Gc}
+use Rattle.wenc_canon.specs.declared.canonicals.CanonicalOption.TheVariants.{UTF8, UTF16}
+use Rattle.wenc_canon.specs.declared.canonicals.CanonicalOption.TheVariants.{CompactUTF16, Memory}
+use Rattle.wenc_canon.specs.declared.canonicals.CanonicalOption.TheVariants.{Realloc, PostReturn}
+use Rattle.wenc_canon.specs.declared.canonicals.CanonicalOption.TheVariants.{Async, Callback, Gc}
+use Rattle.wenc_canon.specs.declared.canonicals.CanonicalOption.TheVariants.{CoreType as CoreTypeOption}
 
 -- ---- options
 
@@ -28,7 +33,8 @@ canonical_option Gc = byte 0x09
 
 -- ---- fields
 
--- an index, options, a flag, the byte 00, a core value type, a result list
+-- an index, options, a flag, the byte 00, a core value type, a result list, the index of a slot of
+-- a task
 pub data Field : Type 0 where
   Index : Field
   Options : Field
@@ -36,6 +42,7 @@ pub data Field : Type 0 where
   Zero : Field
   CoreType : Field
   Results : Field
+  Slot : Field
 
 abbrev pub Value : Field → Type 0
 Value Index = ℕ
@@ -44,6 +51,7 @@ Value Flag = Bool
 Value Zero = Unit {0}
 Value CoreType = ValType
 Value Results = Option ComponentValType
+Value Slot = ℕ
 
 abbrev pub field : (f : Field) → Form (Value f)
 field Index n = u32 n
@@ -52,6 +60,7 @@ field Flag b = flag b
 field Zero v = byte 0x00
 field CoreType t = val_type t
 field Results r = result_list r
+field Slot n = u32 n
 
 -- a value for each field
 abbrev pub Values : List Field → Type 0
@@ -117,62 +126,64 @@ pub data Intrinsic : Type 0 where
   ThreadSpawnIndirect : Intrinsic
   ThreadAvailableParallelism : Intrinsic
 
+-- its name (component model, explainer, "Canonical Built-ins"), its opcode, its fields
 pub record Row : Type 0 where
+  pub name : List ℕ
   pub opcode : ℕ
   pub fields : List Field
 
-infixr 10 ◌takes◌
-abbrev pub ◌takes◌ : ℕ → List Field → Row
-opcode takes fs = record { opcode = opcode; fields = fs }
+infixr 10 ◌is◌takes◌
+abbrev pub ◌is◌takes◌ : List ℕ → ℕ → List Field → Row
+name is opcode takes fs = record { name = name; opcode = opcode; fields = fs }
 
 abbrev pub row : Intrinsic → Row
-row ResourceNew = 0x02 takes Index ∷ []
-row ResourceDrop = 0x03 takes Index ∷ []
-row ResourceRep = 0x04 takes Index ∷ []
-row TaskCancel = 0x05 takes []
-row SubtaskCancel = 0x06 takes Flag ∷ []
-row TaskReturn = 0x09 takes Results ∷ Options ∷ []
-row ContextGet = 0x0a takes CoreType ∷ Index ∷ []
-row ContextSet = 0x0b takes CoreType ∷ Index ∷ []
-row ThreadYield = 0x0c takes Zero ∷ []
-row SubtaskDrop = 0x0d takes []
-row StreamNew = 0x0e takes Index ∷ []
-row StreamRead = 0x0f takes Index ∷ Options ∷ []
-row StreamWrite = 0x10 takes Index ∷ Options ∷ []
-row StreamCancelRead = 0x11 takes Index ∷ Flag ∷ []
-row StreamCancelWrite = 0x12 takes Index ∷ Flag ∷ []
-row StreamDropReadable = 0x13 takes Index ∷ []
-row StreamDropWritable = 0x14 takes Index ∷ []
-row FutureNew = 0x15 takes Index ∷ []
-row FutureRead = 0x16 takes Index ∷ Options ∷ []
-row FutureWrite = 0x17 takes Index ∷ Options ∷ []
-row FutureCancelRead = 0x18 takes Index ∷ Flag ∷ []
-row FutureCancelWrite = 0x19 takes Index ∷ Flag ∷ []
-row FutureDropReadable = 0x1a takes Index ∷ []
-row FutureDropWritable = 0x1b takes Index ∷ []
-row ErrorContextNew = 0x1c takes Options ∷ []
-row ErrorContextDebugMessage = 0x1d takes Options ∷ []
-row ErrorContextDrop = 0x1e takes []
-row WaitableSetNew = 0x1f takes []
-row WaitableSetWait = 0x20 takes Zero ∷ Index ∷ []
-row WaitableSetPoll = 0x21 takes Zero ∷ Index ∷ []
-row WaitableSetDrop = 0x22 takes []
-row WaitableJoin = 0x23 takes []
-row BackpressureInc = 0x24 takes []
-row BackpressureDec = 0x25 takes []
-row ThreadIndex = 0x26 takes []
-row ThreadNewIndirect = 0x27 takes Index ∷ Index ∷ []
-row ThreadResumeLater = 0x28 takes []
-row ThreadSuspend = 0x29 takes Zero ∷ []
-row ThreadSuspendThenResume = 0x2a takes Zero ∷ []
-row ThreadYieldThenResume = 0x2b takes Zero ∷ []
-row ThreadSuspendThenPromote = 0x2c takes Zero ∷ []
-row ThreadYieldThenPromote = 0x2d takes Zero ∷ []
-row StreamForward = 0x2e takes Index ∷ []
-row FutureForward = 0x2f takes Index ∷ []
-row ThreadSpawnRef = 0x40 takes Index ∷ []
-row ThreadSpawnIndirect = 0x41 takes Index ∷ Index ∷ []
-row ThreadAvailableParallelism = 0x42 takes []
+row ResourceNew = codes "resource.new" is 0x02 takes Index ∷ []
+row ResourceDrop = codes "resource.drop" is 0x03 takes Index ∷ []
+row ResourceRep = codes "resource.rep" is 0x04 takes Index ∷ []
+row TaskCancel = codes "task.cancel" is 0x05 takes []
+row SubtaskCancel = codes "subtask.cancel" is 0x06 takes Flag ∷ []
+row TaskReturn = codes "task.return" is 0x09 takes Results ∷ Options ∷ []
+row ContextGet = codes "context.get" is 0x0a takes CoreType ∷ Slot ∷ []
+row ContextSet = codes "context.set" is 0x0b takes CoreType ∷ Slot ∷ []
+row ThreadYield = codes "thread.yield" is 0x0c takes Zero ∷ []
+row SubtaskDrop = codes "subtask.drop" is 0x0d takes []
+row StreamNew = codes "stream.new" is 0x0e takes Index ∷ []
+row StreamRead = codes "stream.read" is 0x0f takes Index ∷ Options ∷ []
+row StreamWrite = codes "stream.write" is 0x10 takes Index ∷ Options ∷ []
+row StreamCancelRead = codes "stream.cancel-read" is 0x11 takes Index ∷ Flag ∷ []
+row StreamCancelWrite = codes "stream.cancel-write" is 0x12 takes Index ∷ Flag ∷ []
+row StreamDropReadable = codes "stream.drop-readable" is 0x13 takes Index ∷ []
+row StreamDropWritable = codes "stream.drop-writable" is 0x14 takes Index ∷ []
+row FutureNew = codes "future.new" is 0x15 takes Index ∷ []
+row FutureRead = codes "future.read" is 0x16 takes Index ∷ Options ∷ []
+row FutureWrite = codes "future.write" is 0x17 takes Index ∷ Options ∷ []
+row FutureCancelRead = codes "future.cancel-read" is 0x18 takes Index ∷ Flag ∷ []
+row FutureCancelWrite = codes "future.cancel-write" is 0x19 takes Index ∷ Flag ∷ []
+row FutureDropReadable = codes "future.drop-readable" is 0x1a takes Index ∷ []
+row FutureDropWritable = codes "future.drop-writable" is 0x1b takes Index ∷ []
+row ErrorContextNew = codes "error-context.new" is 0x1c takes Options ∷ []
+row ErrorContextDebugMessage = codes "error-context.debug-message" is 0x1d takes Options ∷ []
+row ErrorContextDrop = codes "error-context.drop" is 0x1e takes []
+row WaitableSetNew = codes "waitable-set.new" is 0x1f takes []
+row WaitableSetWait = codes "waitable-set.wait" is 0x20 takes Zero ∷ Index ∷ []
+row WaitableSetPoll = codes "waitable-set.poll" is 0x21 takes Zero ∷ Index ∷ []
+row WaitableSetDrop = codes "waitable-set.drop" is 0x22 takes []
+row WaitableJoin = codes "waitable.join" is 0x23 takes []
+row BackpressureInc = codes "backpressure.inc" is 0x24 takes []
+row BackpressureDec = codes "backpressure.dec" is 0x25 takes []
+row ThreadIndex = codes "thread.index" is 0x26 takes []
+row ThreadNewIndirect = codes "thread.new-indirect" is 0x27 takes Index ∷ Index ∷ []
+row ThreadResumeLater = codes "thread.resume-later" is 0x28 takes []
+row ThreadSuspend = codes "thread.suspend" is 0x29 takes Zero ∷ []
+row ThreadSuspendThenResume = codes "thread.suspend-then-resume" is 0x2a takes Zero ∷ []
+row ThreadYieldThenResume = codes "thread.yield-then-resume" is 0x2b takes Zero ∷ []
+row ThreadSuspendThenPromote = codes "thread.suspend-then-promote" is 0x2c takes Zero ∷ []
+row ThreadYieldThenPromote = codes "thread.yield-then-promote" is 0x2d takes Zero ∷ []
+row StreamForward = codes "stream.forward" is 0x2e takes Index ∷ []
+row FutureForward = codes "future.forward" is 0x2f takes Index ∷ []
+row ThreadSpawnRef = codes "thread.spawn-ref" is 0x40 takes Index ∷ []
+row ThreadSpawnIndirect = codes "thread.spawn-indirect" is 0x41 takes Index ∷ Index ∷ []
+row ThreadAvailableParallelism = codes "thread.available-parallelism" is 0x42 takes []
 
 -- all of them
 abbrev pub intrinsics : List Intrinsic
@@ -188,10 +199,26 @@ intrinsics =
     ThreadYieldThenPromote ∷ StreamForward ∷ FutureForward ∷ ThreadSpawnRef ∷ ThreadSpawnIndirect ∷
     ThreadAvailableParallelism ∷ []
 
+-- ---- names
+
+-- what a field puts behind the name: the number of a slot
+abbrev pub slot_text : (f : Field) → Value f → List ℕ
+slot_text Slot n = codes " " ++ decimal n
+slot_text f v = []
+
+abbrev pub slots_text : (fs : List Field) → Values fs → List ℕ
+slots_text [] vs = []
+slots_text (f ∷ []) v = slot_text f v
+slots_text (f ∷ g ∷ fs) vs = slot_text f vs.0 ++ slots_text (g ∷ fs) vs.1
+
+-- the name of an intrinsic with these values
+abbrev pub name_of : (i : Intrinsic) → Values (row i).fields → List ℕ
+name_of i values = (row i).name ++ slots_text (row i).fields values
+
 -- ---- canonical functions
 
--- A core function that is lifted, with its options and its type; a function that is lowered, with its options; or
--- an intrinsic with the values of its fields.
+-- A core function that is lifted, with its options and its type; a function that is lowered, with
+-- its options; or an intrinsic with the values of its fields.
 pub data Canonical : Type 0 where
   Lift : ℕ → List CanonicalOption → ℕ → Canonical
   Lower : ℕ → List CanonicalOption → Canonical

@@ -1,4 +1,5 @@
 pub mod Canonicals
 pub mod Rows
 pub mod CanonTrees
+pub mod inside
 pub mod laws

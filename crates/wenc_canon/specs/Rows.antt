@@ -1,15 +1,23 @@
 -- The intrinsic that an opcode and the values of its fields say, for the code that writes them.
-use Rattle.std.specs.Prelude.{ℕ, ◌==◌, false, if◌then◌else◌, List, [], ◌∷◌, ◌++◌, None}
+use Rattle.std.specs.Prelude.{ℕ, ◌==◌, false, if◌then◌else◌, List, [], ◌∷◌, ◌++◌, None, codes}
 use Rattle.wenc_base.specs.Piece.{Piece, ◌▸◌}
 use Rattle.wenc_base.specs.declared.types.ValType.TheVariants.{I32}
 use Rattle.wenc_canon.specs.declared.canonicals.CanonicalOption.{CanonicalOption}
-use Rattle.wenc_canon.specs.Canonicals.{Field, Index, Options, Flag, Zero, CoreType, Results, Value, Values, fields, Intrinsic, ResourceNew, Row, row, intrinsics, Canonical, Lift, Lower, Provided}
+use Rattle.wenc_canon.specs.Canonicals.{Field, Index, Options, Flag, Zero, CoreType, Results, Slot}
+use Rattle.wenc_canon.specs.Canonicals.{Value, Values, fields, Intrinsic, ResourceNew, Row, row}
+use Rattle.wenc_canon.specs.Canonicals.{intrinsics, Canonical, Lift, Lower, Provided}
 
 -- the byte that a canonical function begins with
 abbrev pub first_byte : Canonical → ℕ
 first_byte (Lift function options type_index) = 0x00
 first_byte (Lower function options) = 0x01
 first_byte (Provided i values) = (row i).opcode
+
+-- its name, without the number of a slot
+abbrev pub own_name : Canonical → List ℕ
+own_name (Lift function options type_index) = codes "lift"
+own_name (Lower function options) = codes "lower"
+own_name (Provided i values) = (row i).name
 
 -- the intrinsic with this opcode, of these
 abbrev pub first_with : ℕ → List Intrinsic → Intrinsic
@@ -28,6 +36,7 @@ any_value Flag = false
 any_value Zero = tt
 any_value CoreType = I32
 any_value Results = None
+any_value Slot = 0
 
 abbrev pub any_values : (fs : List Field) → Values fs
 any_values [] = tt
@@ -42,6 +51,7 @@ as_value Flag Flag b = b
 as_value Zero Zero v = v
 as_value CoreType CoreType t = t
 as_value Results Results r = r
+as_value Slot Slot n = n
 as_value f g v = any_value g
 
 abbrev pub as_values : (fs gs : List Field) → Values fs → Values gs

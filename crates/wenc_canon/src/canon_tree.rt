@@ -1,12 +1,12 @@
 ghost use Rattle.std.specs.Prelude.{OnOk};
-ghost use Rattle.wenc_base.specs.Encode.{Appends};
+ghost use Rattle.wenc_base.specs.Encode.{Appends, Serves};
 ghost use Rattle.wenc_base.specs.laws.Serves.{serves_itself};
 ghost use Rattle.wenc_canon.specs.Canonicals.{Lift, Lower, canonical};
 ghost use Rattle.wenc_canon.specs.Rows.{row_then};
 
 use crate::canonicals::CanonicalOption;
 use crate::fields::{Fields, NotCancellable};
-use crate::opcodes;
+use crate::rows::{self, Row};
 use std::alloc::{Allocator, Global};
 use wenc_base::{Delimited, Encode, Fault, Tagged, ValType};
 use wenc_parts::{ComponentValType, ResultList};
@@ -204,62 +204,200 @@ pub enum CanonTree<A: Allocator = Global> {
 impl<A: Allocator> CanonTree<A> {
     ghost use Rattle.std.specs.Prelude.{◌≡◌};
     ghost use Rattle.wenc_canon.specs.CanonTrees.{canon_view};
-    ghost use Rattle.wenc_canon.specs.Rows.{first_byte};
+    ghost use Rattle.wenc_canon.specs.inside.Operands.{behind};
+    ghost use Rattle.wenc_canon.specs.Rows.{own_name};
 
-    /// The byte that the function begins with.
-    fn opcode(&self) -> u8
-        ensures { result ≡ first_byte (canon_view self.now) }
+    /// The name of the function, without the number of a slot.
+    pub fn name(&self) -> &'static str
+        ensures { result.now ≡ own_name (canon_view self.now) }
+    {
+        self.parts().0.name
+    }
+
+    /// How the function begins, and what stands behind that.
+    #[tactic(auto, using(wenc_base::specs::laws::Serves::serves_itself))]
+    fn parts(&self) -> (Row, Operands<'_, A>)
+        ensures name { result.0.name.now ≡ own_name (canon_view self.now) }
+        ensures form { Serves (behind result.0.opcode result.1)
+            (canonical (canon_view self.now)) }
     {
         match self {
-            CanonTree::Lift { .. } => opcodes::LIFT,
-            CanonTree::Lower { .. } => opcodes::LOWER,
-            CanonTree::ResourceNew(_) => opcodes::RESOURCE_NEW,
-            CanonTree::ResourceDrop(_) => opcodes::RESOURCE_DROP,
-            CanonTree::ResourceRep(_) => opcodes::RESOURCE_REP,
-            CanonTree::TaskCancel => opcodes::TASK_CANCEL,
-            CanonTree::SubtaskCancel(_) => opcodes::SUBTASK_CANCEL,
-            CanonTree::TaskReturn { .. } => opcodes::TASK_RETURN,
-            CanonTree::ContextGet { .. } => opcodes::CONTEXT_GET,
-            CanonTree::ContextSet { .. } => opcodes::CONTEXT_SET,
-            CanonTree::ThreadYield => opcodes::THREAD_YIELD,
-            CanonTree::SubtaskDrop => opcodes::SUBTASK_DROP,
-            CanonTree::StreamNew(_) => opcodes::STREAM_NEW,
-            CanonTree::StreamRead { .. } => opcodes::STREAM_READ,
-            CanonTree::StreamWrite { .. } => opcodes::STREAM_WRITE,
-            CanonTree::StreamCancelRead { .. } => opcodes::STREAM_CANCEL_READ,
-            CanonTree::StreamCancelWrite { .. } => opcodes::STREAM_CANCEL_WRITE,
-            CanonTree::StreamDropReadable(_) => opcodes::STREAM_DROP_READABLE,
-            CanonTree::StreamDropWritable(_) => opcodes::STREAM_DROP_WRITABLE,
-            CanonTree::FutureNew(_) => opcodes::FUTURE_NEW,
-            CanonTree::FutureRead { .. } => opcodes::FUTURE_READ,
-            CanonTree::FutureWrite { .. } => opcodes::FUTURE_WRITE,
-            CanonTree::FutureCancelRead { .. } => opcodes::FUTURE_CANCEL_READ,
-            CanonTree::FutureCancelWrite { .. } => opcodes::FUTURE_CANCEL_WRITE,
-            CanonTree::FutureDropReadable(_) => opcodes::FUTURE_DROP_READABLE,
-            CanonTree::FutureDropWritable(_) => opcodes::FUTURE_DROP_WRITABLE,
-            CanonTree::ErrorContextNew(_) => opcodes::ERROR_CONTEXT_NEW,
-            CanonTree::ErrorContextDebugMessage(_) => opcodes::ERROR_CONTEXT_DEBUG_MESSAGE,
-            CanonTree::ErrorContextDrop => opcodes::ERROR_CONTEXT_DROP,
-            CanonTree::WaitableSetNew => opcodes::WAITABLE_SET_NEW,
-            CanonTree::WaitableSetWait(_) => opcodes::WAITABLE_SET_WAIT,
-            CanonTree::WaitableSetPoll(_) => opcodes::WAITABLE_SET_POLL,
-            CanonTree::WaitableSetDrop => opcodes::WAITABLE_SET_DROP,
-            CanonTree::WaitableJoin => opcodes::WAITABLE_JOIN,
-            CanonTree::BackpressureInc => opcodes::BACKPRESSURE_INC,
-            CanonTree::BackpressureDec => opcodes::BACKPRESSURE_DEC,
-            CanonTree::ThreadIndex => opcodes::THREAD_INDEX,
-            CanonTree::ThreadNewIndirect { .. } => opcodes::THREAD_NEW_INDIRECT,
-            CanonTree::ThreadResumeLater => opcodes::THREAD_RESUME_LATER,
-            CanonTree::ThreadSuspend => opcodes::THREAD_SUSPEND,
-            CanonTree::ThreadSuspendThenResume => opcodes::THREAD_SUSPEND_THEN_RESUME,
-            CanonTree::ThreadYieldThenResume => opcodes::THREAD_YIELD_THEN_RESUME,
-            CanonTree::ThreadSuspendThenPromote => opcodes::THREAD_SUSPEND_THEN_PROMOTE,
-            CanonTree::ThreadYieldThenPromote => opcodes::THREAD_YIELD_THEN_PROMOTE,
-            CanonTree::StreamForward(_) => opcodes::STREAM_FORWARD,
-            CanonTree::FutureForward(_) => opcodes::FUTURE_FORWARD,
-            CanonTree::ThreadSpawnRef(_) => opcodes::THREAD_SPAWN_REF,
-            CanonTree::ThreadSpawnIndirect { .. } => opcodes::THREAD_SPAWN_INDIRECT,
-            CanonTree::ThreadAvailableParallelism => opcodes::THREAD_AVAILABLE_PARALLELISM,
+            CanonTree::Lift {
+                core_func,
+                ty,
+                options,
+            } => (rows::LIFT, Operands::Lifted(*core_func, *ty, options)),
+            CanonTree::Lower { func, options } => (rows::LOWER, Operands::Lowered(*func, options)),
+            CanonTree::ResourceNew(index) => (rows::RESOURCE_NEW, Operands::Index(*index)),
+            CanonTree::ResourceDrop(index) => (rows::RESOURCE_DROP, Operands::Index(*index)),
+            CanonTree::ResourceRep(index) => (rows::RESOURCE_REP, Operands::Index(*index)),
+            CanonTree::TaskCancel => (rows::TASK_CANCEL, Operands::Nothing),
+            CanonTree::SubtaskCancel(async_) => (rows::SUBTASK_CANCEL, Operands::Flag(*async_)),
+            CanonTree::TaskReturn { ty, options } => (
+                rows::TASK_RETURN,
+                Operands::ResultsAndOptions(*ty, options),
+            ),
+            CanonTree::ContextGet { ty, slot } => (rows::CONTEXT_GET, Operands::Slot(*ty, *slot)),
+            CanonTree::ContextSet { ty, slot } => (rows::CONTEXT_SET, Operands::Slot(*ty, *slot)),
+            CanonTree::ThreadYield => (rows::THREAD_YIELD, Operands::NotCancellable),
+            CanonTree::SubtaskDrop => (rows::SUBTASK_DROP, Operands::Nothing),
+            CanonTree::StreamNew(index) => (rows::STREAM_NEW, Operands::Index(*index)),
+            CanonTree::StreamRead { ty, options } => (
+                rows::STREAM_READ,
+                Operands::IndexAndOptions(*ty, options),
+            ),
+            CanonTree::StreamWrite { ty, options } => (
+                rows::STREAM_WRITE,
+                Operands::IndexAndOptions(*ty, options),
+            ),
+            CanonTree::StreamCancelRead { ty, async_ } => (
+                rows::STREAM_CANCEL_READ,
+                Operands::IndexAndFlag(*ty, *async_),
+            ),
+            CanonTree::StreamCancelWrite { ty, async_ } => (
+                rows::STREAM_CANCEL_WRITE,
+                Operands::IndexAndFlag(*ty, *async_),
+            ),
+            CanonTree::StreamDropReadable(index) => (
+                rows::STREAM_DROP_READABLE,
+                Operands::Index(*index),
+            ),
+            CanonTree::StreamDropWritable(index) => (
+                rows::STREAM_DROP_WRITABLE,
+                Operands::Index(*index),
+            ),
+            CanonTree::FutureNew(index) => (rows::FUTURE_NEW, Operands::Index(*index)),
+            CanonTree::FutureRead { ty, options } => (
+                rows::FUTURE_READ,
+                Operands::IndexAndOptions(*ty, options),
+            ),
+            CanonTree::FutureWrite { ty, options } => (
+                rows::FUTURE_WRITE,
+                Operands::IndexAndOptions(*ty, options),
+            ),
+            CanonTree::FutureCancelRead { ty, async_ } => (
+                rows::FUTURE_CANCEL_READ,
+                Operands::IndexAndFlag(*ty, *async_),
+            ),
+            CanonTree::FutureCancelWrite { ty, async_ } => (
+                rows::FUTURE_CANCEL_WRITE,
+                Operands::IndexAndFlag(*ty, *async_),
+            ),
+            CanonTree::FutureDropReadable(index) => (
+                rows::FUTURE_DROP_READABLE,
+                Operands::Index(*index),
+            ),
+            CanonTree::FutureDropWritable(index) => (
+                rows::FUTURE_DROP_WRITABLE,
+                Operands::Index(*index),
+            ),
+            CanonTree::ErrorContextNew(options) => (
+                rows::ERROR_CONTEXT_NEW,
+                Operands::Options(options),
+            ),
+            CanonTree::ErrorContextDebugMessage(options) => (
+                rows::ERROR_CONTEXT_DEBUG_MESSAGE,
+                Operands::Options(options),
+            ),
+            CanonTree::ErrorContextDrop => (rows::ERROR_CONTEXT_DROP, Operands::Nothing),
+            CanonTree::WaitableSetNew => (rows::WAITABLE_SET_NEW, Operands::Nothing),
+            CanonTree::WaitableSetWait(memory) => (
+                rows::WAITABLE_SET_WAIT,
+                Operands::Memory(*memory),
+            ),
+            CanonTree::WaitableSetPoll(memory) => (
+                rows::WAITABLE_SET_POLL,
+                Operands::Memory(*memory),
+            ),
+            CanonTree::WaitableSetDrop => (rows::WAITABLE_SET_DROP, Operands::Nothing),
+            CanonTree::WaitableJoin => (rows::WAITABLE_JOIN, Operands::Nothing),
+            CanonTree::BackpressureInc => (rows::BACKPRESSURE_INC, Operands::Nothing),
+            CanonTree::BackpressureDec => (rows::BACKPRESSURE_DEC, Operands::Nothing),
+            CanonTree::ThreadIndex => (rows::THREAD_INDEX, Operands::Nothing),
+            CanonTree::ThreadNewIndirect { ty, table } => (
+                rows::THREAD_NEW_INDIRECT,
+                Operands::Indices(*ty, *table),
+            ),
+            CanonTree::ThreadResumeLater => (rows::THREAD_RESUME_LATER, Operands::Nothing),
+            CanonTree::ThreadSuspend => (rows::THREAD_SUSPEND, Operands::NotCancellable),
+            CanonTree::ThreadSuspendThenResume => (
+                rows::THREAD_SUSPEND_THEN_RESUME,
+                Operands::NotCancellable,
+            ),
+            CanonTree::ThreadYieldThenResume => (
+                rows::THREAD_YIELD_THEN_RESUME,
+                Operands::NotCancellable,
+            ),
+            CanonTree::ThreadSuspendThenPromote => (
+                rows::THREAD_SUSPEND_THEN_PROMOTE,
+                Operands::NotCancellable,
+            ),
+            CanonTree::ThreadYieldThenPromote => (
+                rows::THREAD_YIELD_THEN_PROMOTE,
+                Operands::NotCancellable,
+            ),
+            CanonTree::StreamForward(index) => (rows::STREAM_FORWARD, Operands::Index(*index)),
+            CanonTree::FutureForward(index) => (rows::FUTURE_FORWARD, Operands::Index(*index)),
+            CanonTree::ThreadSpawnRef(index) => (rows::THREAD_SPAWN_REF, Operands::Index(*index)),
+            CanonTree::ThreadSpawnIndirect { ty, table } => (
+                rows::THREAD_SPAWN_INDIRECT,
+                Operands::Indices(*ty, *table),
+            ),
+            CanonTree::ThreadAvailableParallelism => (
+                rows::THREAD_AVAILABLE_PARALLELISM,
+                Operands::Nothing,
+            ),
+        }
+    }
+}
+
+/// What stands behind the opcode of a canonical function.
+#[derive(Drop)]
+enum Operands<'a, A: Allocator> {
+    /// The core function and the type of a lifted function, and its options, which stand between these.
+    Lifted(u32, u32, &'a Vec<CanonicalOption, A>),
+    /// The function that is lowered, and its options.
+    Lowered(u32, &'a Vec<CanonicalOption, A>),
+    Nothing,
+    NotCancellable,
+    Index(u32),
+    Flag(bool),
+    /// That it can't be cancelled, and the index of a memory.
+    Memory(u32),
+    IndexAndFlag(u32, bool),
+    Indices(u32, u32),
+    /// The value type of a slot, and its index.
+    Slot(ValType, u32),
+    Options(&'a Vec<CanonicalOption, A>),
+    IndexAndOptions(u32, &'a Vec<CanonicalOption, A>),
+    ResultsAndOptions(Option<ComponentValType>, &'a Vec<CanonicalOption, A>),
+}
+
+impl<'a, A: Allocator> Operands<'a, A> {
+    ghost use Rattle.wenc_canon.specs.inside.Operands.{behind};
+
+    /// Writes what begins with this opcode, and has these behind it.
+    fn encode_behind<B: Allocator>(&self, opcode: u8, sink: &mut Vec<u8, B>) -> Result<(), Fault>
+        ensures appended { let p = behind opcode self.now in
+            Appends p.text p.Cause ⊥ sink.old.items sink.new.items result }
+        ensures fits { OnOk result (behind opcode self.now).Fits }
+    {
+        match self {
+            Operands::Lifted(core_func, ty, options) => lifted(core_func, *ty, options, sink),
+            Operands::Lowered(func, options) => lowered(func, options, sink),
+            Operands::Nothing => Tagged(opcode, &()).encode(sink),
+            Operands::NotCancellable => Tagged(opcode, &NotCancellable).encode(sink),
+            Operands::Index(index) => Tagged(opcode, index).encode(sink),
+            Operands::Flag(async_) => Tagged(opcode, async_).encode(sink),
+            Operands::Memory(memory) => Tagged(opcode, &(NotCancellable, *memory)).encode(sink),
+            Operands::IndexAndFlag(ty, async_) => Tagged(opcode, &(*ty, *async_)).encode(sink),
+            Operands::Indices(ty, table) => Tagged(opcode, &(*ty, *table)).encode(sink),
+            Operands::Slot(ty, slot) => Tagged(opcode, &(*ty, *slot)).encode(sink),
+            Operands::Options(options) => with_options(opcode, &(), options, sink),
+            Operands::IndexAndOptions(ty, options) => with_options(opcode, ty, options, sink),
+            Operands::ResultsAndOptions(ty, options) => {
+                with_options(opcode, &ResultList(*ty), options, sink)
+            }
         }
     }
 }
@@ -270,73 +408,8 @@ impl<A: Allocator> Encode for CanonTree<A> {
     ghost piece = { λ t. canonical (canon_view t) };
 
     fn encode<B: Allocator>(&self, sink: &mut Vec<u8, B>) -> Result<(), Fault> {
-        let opcode = self.opcode();
-        match self {
-            CanonTree::Lift {
-                core_func,
-                ty,
-                options,
-            } => lifted(core_func, *ty, options, sink),
-            CanonTree::Lower { func, options } => lowered(func, options, sink),
-            CanonTree::TaskReturn { ty, options } => {
-                with_options(opcode, &ResultList(*ty), options, sink)
-            }
-            CanonTree::ErrorContextNew(options) | CanonTree::ErrorContextDebugMessage(options) => {
-                with_options(opcode, &(), options, sink)
-            }
-            CanonTree::StreamRead { ty, options }
-            | CanonTree::StreamWrite { ty, options }
-            | CanonTree::FutureRead { ty, options }
-            | CanonTree::FutureWrite { ty, options } => with_options(opcode, ty, options, sink),
-            CanonTree::StreamCancelRead { ty, async_ }
-            | CanonTree::StreamCancelWrite { ty, async_ }
-            | CanonTree::FutureCancelRead { ty, async_ }
-            | CanonTree::FutureCancelWrite { ty, async_ } => Tagged(opcode, &(*ty, *async_)).encode(
-                sink,
-            ),
-            CanonTree::ContextGet { ty, slot } | CanonTree::ContextSet { ty, slot } => Tagged(
-                opcode,
-                &(*ty, *slot),
-            ).encode(sink),
-            CanonTree::ThreadNewIndirect { ty, table }
-            | CanonTree::ThreadSpawnIndirect { ty, table } => Tagged(opcode, &(*ty, *table)).encode(
-                sink,
-            ),
-            CanonTree::WaitableSetWait(memory) | CanonTree::WaitableSetPoll(memory) => Tagged(
-                opcode,
-                &(NotCancellable, *memory),
-            ).encode(sink),
-            CanonTree::SubtaskCancel(async_) => Tagged(opcode, async_).encode(sink),
-            CanonTree::ResourceNew(ty)
-            | CanonTree::ResourceDrop(ty)
-            | CanonTree::ResourceRep(ty)
-            | CanonTree::StreamNew(ty)
-            | CanonTree::StreamDropReadable(ty)
-            | CanonTree::StreamDropWritable(ty)
-            | CanonTree::FutureNew(ty)
-            | CanonTree::FutureDropReadable(ty)
-            | CanonTree::FutureDropWritable(ty)
-            | CanonTree::StreamForward(ty)
-            | CanonTree::FutureForward(ty)
-            | CanonTree::ThreadSpawnRef(ty) => Tagged(opcode, ty).encode(sink),
-            CanonTree::ThreadYield
-            | CanonTree::ThreadSuspend
-            | CanonTree::ThreadSuspendThenResume
-            | CanonTree::ThreadYieldThenResume
-            | CanonTree::ThreadSuspendThenPromote
-            | CanonTree::ThreadYieldThenPromote => Tagged(opcode, &NotCancellable).encode(sink),
-            CanonTree::TaskCancel
-            | CanonTree::SubtaskDrop
-            | CanonTree::ErrorContextDrop
-            | CanonTree::WaitableSetNew
-            | CanonTree::WaitableSetDrop
-            | CanonTree::WaitableJoin
-            | CanonTree::BackpressureInc
-            | CanonTree::BackpressureDec
-            | CanonTree::ThreadIndex
-            | CanonTree::ThreadResumeLater
-            | CanonTree::ThreadAvailableParallelism => Tagged(opcode, &()).encode(sink),
-        }
+        let (row, operands) = self.parts();
+        operands.encode_behind(row.opcode, sink)
     }
 }
 
@@ -382,8 +455,8 @@ fn lifted<A: Allocator, B: Allocator>(
         Appends function.text function.Cause ⊥ sink.old.items sink.new.items result }
     ensures fits { OnOk result (canonical (Lift core_func.now options.now.items ty)).Fits }
 {
-    let lead = Tagged(opcodes::PLAIN, core_func);
-    (Tagged(opcodes::LIFT, &lead), options.as_slice(), ty).encode(sink)
+    let lead = Tagged(rows::PLAIN, core_func);
+    (Tagged(rows::LIFT.opcode, &lead), options.as_slice(), ty).encode(sink)
 }
 
 /// Writes a function that is lowered.
@@ -396,6 +469,6 @@ fn lowered<A: Allocator, B: Allocator>(
         Appends function.text function.Cause ⊥ sink.old.items sink.new.items result }
     ensures fits { OnOk result (canonical (Lower func.now options.now.items)).Fits }
 {
-    let lead = Tagged(opcodes::PLAIN, func);
-    (Tagged(opcodes::LOWER, &lead), options.as_slice()).encode(sink)
+    let lead = Tagged(rows::PLAIN, func);
+    (Tagged(rows::LOWER.opcode, &lead), options.as_slice()).encode(sink)
 }

@@ -7,13 +7,13 @@ ghost use Rattle.wenc_base.specs.Openings.{HasMembers};
 ghost use Rattle.wenc_base.specs.Piece.{HasForm};
 ghost use Rattle.wenc_base.specs.laws.Delimited.{itself};
 ghost use Rattle.wenc_base.specs.laws.Serves.{serves_itself};
-ghost use Rattle.wenc_canon.specs.Canonicals.{AddsWithOptions, Lift, Lower, canonical, ◌takes◌};
+ghost use Rattle.wenc_canon.specs.Canonicals.{AddsWithOptions, Lift, Lower, canonical, ◌is◌takes◌};
 ghost use Rattle.wenc_canon.specs.Rows.{row_with, provided_by, and_options, provided_with};
 
 mod intrinsics;
 
 use crate::fields::Fields;
-use crate::opcodes;
+use crate::rows::{self, Row};
 use std::alloc::{Allocator, Global};
 use std::marker::Model;
 use wenc_base::{Delimited, DelimitedEq, Encode, Fault, Holder, Tagged};
@@ -193,9 +193,9 @@ impl<A: Allocator> CanonicalFunctionSection<A> {
         ensures { AddsWithOptions I.next_gives options self.old self.new result
             (λ os. Lift core_func os ty) }
     {
-        let lead = Tagged(opcodes::PLAIN, &core_func);
+        let lead = Tagged(rows::PLAIN, &core_func);
         self.functions
-            .add_listed(&Tagged(opcodes::LIFT, &lead), options, &ty)
+            .add_listed(&Tagged(rows::LIFT.opcode, &lead), options, &ty)
     }
 
     /// Lowers the component function with this index to a core function. Refused as the type says.
@@ -209,35 +209,35 @@ impl<A: Allocator> CanonicalFunctionSection<A> {
         ensures { AddsWithOptions I.next_gives options self.old self.new result
             (λ os. Lower func os) }
     {
-        let lead = Tagged(opcodes::PLAIN, &func);
+        let lead = Tagged(rows::PLAIN, &func);
         self.functions
-            .add_listed(&Tagged(opcodes::LOWER, &lead), options, &())
+            .add_listed(&Tagged(rows::LOWER.opcode, &lead), options, &())
     }
 
-    /// Adds the intrinsic that begins with this opcode and has these fields.
-    fn add_row<F: Fields>(&mut self, opcode: u8, fields: &F) -> Result<(), Fault>
-        requires row { row_with opcode ≡ (opcode takes F.kinds) }
-        ensures { AddsMember (canonical (provided_by opcode F.kinds (F.values fields.now)))
+    /// Adds the intrinsic of this row, which has these fields.
+    fn add_row<F: Fields>(&mut self, row: Row, fields: &F) -> Result<(), Fault>
+        requires row { row_with row.opcode ≡ (row.name.now is row.opcode takes F.kinds) }
+        ensures { AddsMember (canonical (provided_by row.opcode F.kinds (F.values fields.now)))
             self.old self.new result }
     {
-        self.functions.add_encoded(&Tagged(opcode, fields))
+        self.functions.add_encoded(&Tagged(row.opcode, fields))
     }
 
-    /// Adds the intrinsic that begins with this opcode and has these fields, and options behind them.
+    /// Adds the intrinsic of this row, which has these fields, and options behind them.
     fn add_row_with_options<F: Fields, I: Iterator<Item = CanonicalOption> + Drop>(
         &mut self,
-        opcode: u8,
+        row: Row,
         fields: &F,
         options: I,
     ) -> Result<(), Fault>
         requires can { I.can_next options }
         requires ends { IsFinite (I.remaining options) }
-        requires row { row_with opcode ≡ (opcode takes and_options F.kinds) }
+        requires row { row_with row.opcode ≡ (row.name.now is row.opcode takes and_options F.kinds) }
         ensures { AddsWithOptions I.next_gives options self.old self.new result
-            (provided_with opcode F.kinds (F.values fields.now)) }
+            (provided_with row.opcode F.kinds (F.values fields.now)) }
     {
         self.functions
-            .add_listed(&Tagged(opcode, fields), options, &())
+            .add_listed(&Tagged(row.opcode, fields), options, &())
     }
 }
 

@@ -8,7 +8,7 @@ pub mod canon_tree;
 pub mod canonicals;
 pub mod equality;
 pub mod fields;
-pub mod opcodes;
+pub mod rows;
 
 pub use canon_tree::CanonTree;
 pub use canonicals::{CanonicalFunctionSection, CanonicalOption};

@@ -9,7 +9,7 @@ use super::kind::Kind;
 use super::space::Space;
 use std::alloc::Allocator;
 use wenc_base::{Fault, Tagged};
-use wenc_canon::{CanonicalOption, opcodes};
+use wenc_canon::{CanonicalOption, rows};
 
 /// Functions that are lifted and lowered: each call adds one, with a debug name or none, and answers its index
 /// (component model, binary format, "Canonical Definitions"). Options are written in the order in which they come.
@@ -27,12 +27,12 @@ impl<A: Allocator> ComponentBuilder<A> {
         ensures { EntersListed I.next_gives options self.old self.new result
             (λ os. canonical_entry (option_copied debug_name.entry) (Lower func_index os)) }
     {
-        let lead = Tagged(opcodes::PLAIN, &func_index);
+        let lead = Tagged(rows::PLAIN, &func_index);
         self.add_listed(
             Kind::CanonicalFunction,
             Space::CoreFuncs,
             debug_name,
-            &Tagged(opcodes::LOWER, &lead),
+            &Tagged(rows::LOWER.opcode, &lead),
             options,
             &(),
         )
@@ -52,12 +52,12 @@ impl<A: Allocator> ComponentBuilder<A> {
             (λ os. canonical_entry (option_copied debug_name.entry)
             (Lift core_func_index os type_index)) }
     {
-        let lead = Tagged(opcodes::PLAIN, &core_func_index);
+        let lead = Tagged(rows::PLAIN, &core_func_index);
         self.add_listed(
             Kind::CanonicalFunction,
             Space::Funcs,
             debug_name,
-            &Tagged(opcodes::LIFT, &lead),
+            &Tagged(rows::LIFT.opcode, &lead),
             options,
             &type_index,
         )

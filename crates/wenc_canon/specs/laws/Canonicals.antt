@@ -9,7 +9,7 @@ use Rattle.wenc_base.specs.laws.Types.{read_val_type, val_type_lawful, val_type_
 use Rattle.wenc_parts.specs.laws.Types.{read_result_list, result_list_lawful, result_list_sound}
 use Rattle.wenc_canon.specs.declared.canonicals.CanonicalOption.{CanonicalOption}
 use Rattle.wenc_canon.specs.declared.canonicals.CanonicalOption.TheVariants.{UTF8, UTF16, CompactUTF16, Memory, Realloc, PostReturn, Async, Callback, CoreType as CoreTypeOption, Gc}
-use Rattle.wenc_canon.specs.Canonicals.{canonical_option, Field, Index, Options, Flag, Zero, CoreType, Results, Value, field, Values, fields, Intrinsic, ResourceNew, row, intrinsics, Canonical, Lift, Lower, Provided, canonical, Adds, AddsWithOptions}
+use Rattle.wenc_canon.specs.Canonicals.{canonical_option, Field, Index, Options, Flag, Zero, CoreType, Results, Slot, Value, field, Values, fields, Intrinsic, ResourceNew, row, intrinsics, Canonical, Lift, Lower, Provided, canonical, Adds, AddsWithOptions}
 
 -- ---- options
 
@@ -71,6 +71,7 @@ read_field Flag = read_flag
 read_field Zero = choose ((0x00, give tt) ∷ []) nowhere
 read_field CoreType = read_val_type
 read_field Results = read_result_list
+read_field Slot = read_u32
 
 pub field_lawful : (f : Field) (v : Value f) → Lawful (field f v) (λ fuel. read_field f) v
 field_lawful Index n = u32_lawful n
@@ -79,6 +80,7 @@ field_lawful Flag b = flag_lawful b
 field_lawful Zero v = row_byte _ _ 0x00 (λ fuel rest. refl)
 field_lawful CoreType t = val_type_lawful t
 field_lawful Results r = result_list_lawful r
+field_lawful Slot n = u32_lawful n
 
 pub field_sound : (f : Field) → Sound (field f) (read_field f)
 field_sound Index = u32_sound
@@ -87,6 +89,7 @@ field_sound Flag = flag_sound
 field_sound Zero = choose_sound _ _ (give_sound tt (λ bytes. refl), tt) nowhere_sound
 field_sound CoreType = val_type_sound
 field_sound Results = result_list_sound
+field_sound Slot = u32_sound
 
 abbrev pub read_fields : (fs : List Field) → Reader (Values fs)
 read_fields [] = give tt

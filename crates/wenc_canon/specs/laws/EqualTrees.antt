@@ -1,12 +1,11 @@
 -- Derived equality of trees of canonical functions is true exactly where they are seen as the same.
-use Rattle.std.proofs.Common.{arith, ◌≡◌, refl, sym, ◌∙◌, ap, subst, Bool, true, false, true≢false, ◌&&◌, ℕ, ◌+◌, ◌<◌, ◌≤◌, nat_eq, List, [], ◌∷◌, Option, Some, None, inl, inr}
+use Rattle.std.proofs.Common.{arith, ◌≡◌, refl, sym, ◌∙◌, ap, subst, Bool, false, true≢false, ◌&&◌, ℕ, ◌+◌, ◌<◌, ◌≤◌, nat_eq, List, [], ◌∷◌, Option, Some, None, inl, inr}
 use Rattle.std.proofs.lemmas.Bool.Decides.{Decides-and, Decides-like}
 use Rattle.std.proofs.lemmas.Grind.{common_steps}
 use Rattle.std.specs.Bool.{Decides, beq}
 use Rattle.std.specs.Cmp.{booleans_Decides, unsigned_Decides}
 use Rattle.std.specs.Cmp.Lexicographic.{pointwise}
 use Rattle.std.specs.Option.{option_eq}
-use Rattle.std.specs.Prelude.{Vec}
 use Rattle.std.specs.declared.alloc.Allocator.{Ghosts}
 use denote.Enum.Compared.{Each, by}
 use denote.Enum.Declared.{Choice}
@@ -19,7 +18,9 @@ use Rattle.wenc_base.specs.contracts.types.ValTypePartialEq.TheImpl.{eq-value as
 use Rattle.wenc_parts.specs.declared.types.ComponentValType.{ComponentValType}
 use Rattle.wenc_parts.specs.contracts.types.ComponentValTypePartialEq.TheImpl.{eq-value as value_eq'}
 use Rattle.wenc_canon.specs.CanonTrees.{canon_view}
-use Rattle.wenc_canon.specs.Canonicals.{Field, Index, Options, Flag, Zero, CoreType, Results, Value, Values, row, Canonical, Lift, Lower, Provided, ResourceNew, ResourceDrop, ResourceRep, SubtaskCancel, TaskReturn, ContextGet, ContextSet, StreamNew, StreamRead, StreamWrite, StreamCancelRead, StreamCancelWrite, StreamDropReadable, StreamDropWritable, FutureNew, FutureRead, FutureWrite, FutureCancelRead, FutureCancelWrite, FutureDropReadable, FutureDropWritable, ErrorContextNew, ErrorContextDebugMessage, WaitableSetWait, WaitableSetPoll, ThreadNewIndirect, StreamForward, FutureForward, ThreadSpawnRef, ThreadSpawnIndirect}
+use Rattle.wenc_canon.specs.Canonicals as canon
+use Rattle.wenc_canon.specs.Canonicals.{Field, Index, Options, Flag, Zero, CoreType, Results, Slot, Value, Values, row, Canonical, Lift, Lower, Provided}
+use Rattle.wenc_canon.specs.Rows.{first_byte}
 use Rattle.wenc_canon.specs.declared.canon_tree.CanonTree.{CanonTree}
 use Rattle.wenc_canon.specs.declared.canonicals.CanonicalOption.{CanonicalOption}
 use Rattle.wenc_canon.specs.contracts.canon_tree.CanonTree.{enum}
@@ -77,6 +78,7 @@ given Flag b = Told b
 given Zero v = Fixed
 given CoreType t = Core t
 given Results r = Answer r
+given Slot n = Number n
 
 abbrev all_given : (fs : List Field) → Values fs → List Given
 all_given [] vs = []
@@ -87,12 +89,6 @@ abbrev fields_of : Canonical → List Given
 fields_of (Lift function options ty) = Number function ∷ Chosen options ∷ Number ty ∷ []
 fields_of (Lower function options) = Number function ∷ Chosen options ∷ []
 fields_of (Provided i values) = all_given (row i).fields values
-
--- the opcode
-abbrev opcode_of : Canonical → ℕ
-opcode_of (Lift function options ty) = 0x00
-opcode_of (Lower function options) = 0x01
-opcode_of (Provided i values) = (row i).opcode
 
 -- ---- tests of fields
 
@@ -116,44 +112,6 @@ lists [] [] = (λ e. refl, λ e. refl)
 lists [] (y ∷ ys) = (λ e. absurd cc, λ e. absurd cc)
 lists (x ∷ xs) [] = (λ e. absurd cc, λ e. absurd cc)
 lists (x ∷ xs) (y ∷ ys) = Decides-like _ (λ e. let here = e.0 in let there = e.1 in cc) (λ e. (cc, cc)) (Decides-and _ _ (choices x y) (lists xs ys))
-
--- ---- variants, by what they have
-
-abbrev no_field : Unit {0} → Unit {0} → Bool
-no_field x y = true
-
-abbrev OneOf : Type 0 → Type 0
-OneOf T = T × Unit {0}
-
-abbrev TwoOf : Type 0 → Type 0 → Type 0
-TwoOf T U = T × OneOf U
-
-abbrev index_alone : OneOf ℕ → OneOf ℕ → Bool
-index_alone x y = nat_eq x.0 y.0
-
-abbrev flag_alone : OneOf Bool → OneOf Bool → Bool
-flag_alone x y = beq x.0 y.0
-
-abbrev options_alone : (A : Type 0) → OneOf (Vec CanonicalOption A) → OneOf (Vec CanonicalOption A) → Bool
-options_alone A x y = pointwise option_eq'.it x.0.items y.0.items
-
-abbrev indices : TwoOf ℕ ℕ → TwoOf ℕ ℕ → Bool
-indices x y = nat_eq x.0 y.0 && nat_eq x.1.0 y.1.0
-
-abbrev index_and_flag : TwoOf ℕ Bool → TwoOf ℕ Bool → Bool
-index_and_flag x y = nat_eq x.0 y.0 && beq x.1.0 y.1.0
-
-abbrev type_and_index : TwoOf ValType ℕ → TwoOf ValType ℕ → Bool
-type_and_index x y = core_eq'.it x.0 y.0 && nat_eq x.1.0 y.1.0
-
-abbrev index_and_options : (A : Type 0) → TwoOf ℕ (Vec CanonicalOption A) → TwoOf ℕ (Vec CanonicalOption A) → Bool
-index_and_options A x y = nat_eq x.0 y.0 && pointwise option_eq'.it x.1.0.items y.1.0.items
-
-abbrev results_and_options : (A : Type 0) → TwoOf (Option ComponentValType) (Vec CanonicalOption A) → TwoOf (Option ComponentValType) (Vec CanonicalOption A) → Bool
-results_and_options A x y = option_eq value_eq'.it x.0 y.0 && pointwise option_eq'.it x.1.0.items y.1.0.items
-
-abbrev lifted : (A : Type 0) → ℕ × TwoOf ℕ (Vec CanonicalOption A) → ℕ × TwoOf ℕ (Vec CanonicalOption A) → Bool
-lifted A x y = nat_eq x.0 y.0 && (nat_eq x.1.0 y.1.0 && pointwise option_eq'.it x.1.1.0.items y.1.1.0.items)
 
 -- ---- what fields tell
 
@@ -233,15 +191,11 @@ lifted_row f t os g u ps =
 -- ---- the whole
 
 -- rows, one after the other
-infixr 10 ◌and◌
-abbrev ◌and◌ : {T U : Type 0} → T → U → T × U
-x and y = (x, y)
-
 infixr 10 ◌then◌
 abbrev ◌then◌ : {T : Type 0} {U : T → Type 0} → (x : T) → U x → (y : T) × U y
 x then u = (x, u)
 
-abbrev row_at : (Fs : List Part) {test : Parts Fs → Parts Fs → Bool} {seen : Parts Fs → Canonical} {n : ℕ} (k : ℕ) → ((x : Parts Fs) → opcode_of (seen x) ≡ k) → n ≤ k → ((x y : Parts Fs) → Decides (test x y) (seen x ≡ seen y)) → Variant opcode_of Fs test seen n
+abbrev row_at : (Fs : List Part) {test : Parts Fs → Parts Fs → Bool} {seen : Parts Fs → Canonical} {n : ℕ} (k : ℕ) → ((x : Parts Fs) → first_byte (seen x) ≡ k) → n ≤ k → ((x y : Parts Fs) → Decides (test x y) (seen x ≡ seen y)) → Variant first_byte Fs test seen n
 row_at Fs k is from tells = record { k = k; is = is; from = from; tells = tells }
 
 module _ (A : RattleType) (al : Ghosts A.Denot) where
@@ -251,73 +205,59 @@ module _ (A : RattleType) (al : Ghosts A.Denot) where
   abbrev seen : Choice Parts_of → Canonical
   seen c = canon_view ((enum A al).make c)
 
-  abbrev tests : Each Bool Parts_of
-  tests =
-      lifted A.Denot and index_and_options A.Denot and index_alone and index_alone and index_alone and no_field and
-      flag_alone and results_and_options A.Denot and type_and_index and type_and_index and no_field and no_field and
-      index_alone and index_and_options A.Denot and index_and_options A.Denot and index_and_flag and
-      index_and_flag and index_alone and index_alone and index_alone and index_and_options A.Denot and
-      index_and_options A.Denot and index_and_flag and index_and_flag and index_alone and index_alone and
-      options_alone A.Denot and options_alone A.Denot and no_field and no_field and index_alone and index_alone and
-      no_field and no_field and no_field and no_field and no_field and indices and no_field and no_field and
-      no_field and no_field and no_field and no_field and index_alone and index_alone and index_alone and indices and
-      no_field and tt
-
-  tests_tell : Tells opcode_of Parts_of tests seen 0
-  tests_tell =
+  pub trees : (d e : Dict) (a b : CanonTree A.Denot) → Decides ((eq-value A al d e).it a b) (canon_view a ≡ canon_view b)
+  trees d e a b =
+      let same : Decides ((eq-value A al d e).it a b) (seen ((enum A al).as_values a) ≡ seen ((enum A al).as_values b)) = by_decides first_byte Parts_of _ seen 0 (
       row_at _ 0x00 (λ x. refl) (omega arith) (λ x y. lifted_row x.0 x.1.0 x.1.1.0.items y.0 y.1.0 y.1.1.0.items) then
       row_at _ 0x01 (λ x. refl) (omega arith) (λ x y. index_and_options_row (λ n os. Lower n os) (λ n os. refl) x.0 x.1.0.items y.0 y.1.0.items) then
-      row_at _ 0x02 (λ x. refl) (omega arith) (λ x y. index_row (Provided ResourceNew) (λ n. refl) x.0 y.0) then
-      row_at _ 0x03 (λ x. refl) (omega arith) (λ x y. index_row (Provided ResourceDrop) (λ n. refl) x.0 y.0) then
-      row_at _ 0x04 (λ x. refl) (omega arith) (λ x y. index_row (Provided ResourceRep) (λ n. refl) x.0 y.0) then
+      row_at _ 0x02 (λ x. refl) (omega arith) (λ x y. index_row (Provided canon.ResourceNew) (λ n. refl) x.0 y.0) then
+      row_at _ 0x03 (λ x. refl) (omega arith) (λ x y. index_row (Provided canon.ResourceDrop) (λ n. refl) x.0 y.0) then
+      row_at _ 0x04 (λ x. refl) (omega arith) (λ x y. index_row (Provided canon.ResourceRep) (λ n. refl) x.0 y.0) then
       row_at _ 0x05 (λ x. refl) (omega arith) (λ x y. (λ e. refl, λ e. refl)) then
-      row_at _ 0x06 (λ x. refl) (omega arith) (λ x y. flag_row (Provided SubtaskCancel) (λ b. refl) x.0 y.0) then
-      row_at _ 0x09 (λ x. refl) (omega arith) (λ x y. results_and_options_row (λ r os. Provided TaskReturn (r, os)) (λ r os. refl) x.0 x.1.0.items y.0 y.1.0.items) then
-      row_at _ 0x0a (λ x. refl) (omega arith) (λ x y. type_and_index_row (λ t n. Provided ContextGet (t, n)) (λ t n. refl) x.0 x.1.0 y.0 y.1.0) then
-      row_at _ 0x0b (λ x. refl) (omega arith) (λ x y. type_and_index_row (λ t n. Provided ContextSet (t, n)) (λ t n. refl) x.0 x.1.0 y.0 y.1.0) then
+      row_at _ 0x06 (λ x. refl) (omega arith) (λ x y. flag_row (Provided canon.SubtaskCancel) (λ b. refl) x.0 y.0) then
+      row_at _ 0x09 (λ x. refl) (omega arith) (λ x y. results_and_options_row (λ r os. Provided canon.TaskReturn (r, os)) (λ r os. refl) x.0 x.1.0.items y.0 y.1.0.items) then
+      row_at _ 0x0a (λ x. refl) (omega arith) (λ x y. type_and_index_row (λ t n. Provided canon.ContextGet (t, n)) (λ t n. refl) x.0 x.1.0 y.0 y.1.0) then
+      row_at _ 0x0b (λ x. refl) (omega arith) (λ x y. type_and_index_row (λ t n. Provided canon.ContextSet (t, n)) (λ t n. refl) x.0 x.1.0 y.0 y.1.0) then
       row_at _ 0x0c (λ x. refl) (omega arith) (λ x y. (λ e. refl, λ e. refl)) then
       row_at _ 0x0d (λ x. refl) (omega arith) (λ x y. (λ e. refl, λ e. refl)) then
-      row_at _ 0x0e (λ x. refl) (omega arith) (λ x y. index_row (Provided StreamNew) (λ n. refl) x.0 y.0) then
-      row_at _ 0x0f (λ x. refl) (omega arith) (λ x y. index_and_options_row (λ n os. Provided StreamRead (n, os)) (λ n os. refl) x.0 x.1.0.items y.0 y.1.0.items) then
-      row_at _ 0x10 (λ x. refl) (omega arith) (λ x y. index_and_options_row (λ n os. Provided StreamWrite (n, os)) (λ n os. refl) x.0 x.1.0.items y.0 y.1.0.items) then
-      row_at _ 0x11 (λ x. refl) (omega arith) (λ x y. index_and_flag_row (λ n b. Provided StreamCancelRead (n, b)) (λ n b. refl) x.0 x.1.0 y.0 y.1.0) then
-      row_at _ 0x12 (λ x. refl) (omega arith) (λ x y. index_and_flag_row (λ n b. Provided StreamCancelWrite (n, b)) (λ n b. refl) x.0 x.1.0 y.0 y.1.0) then
-      row_at _ 0x13 (λ x. refl) (omega arith) (λ x y. index_row (Provided StreamDropReadable) (λ n. refl) x.0 y.0) then
-      row_at _ 0x14 (λ x. refl) (omega arith) (λ x y. index_row (Provided StreamDropWritable) (λ n. refl) x.0 y.0) then
-      row_at _ 0x15 (λ x. refl) (omega arith) (λ x y. index_row (Provided FutureNew) (λ n. refl) x.0 y.0) then
-      row_at _ 0x16 (λ x. refl) (omega arith) (λ x y. index_and_options_row (λ n os. Provided FutureRead (n, os)) (λ n os. refl) x.0 x.1.0.items y.0 y.1.0.items) then
-      row_at _ 0x17 (λ x. refl) (omega arith) (λ x y. index_and_options_row (λ n os. Provided FutureWrite (n, os)) (λ n os. refl) x.0 x.1.0.items y.0 y.1.0.items) then
-      row_at _ 0x18 (λ x. refl) (omega arith) (λ x y. index_and_flag_row (λ n b. Provided FutureCancelRead (n, b)) (λ n b. refl) x.0 x.1.0 y.0 y.1.0) then
-      row_at _ 0x19 (λ x. refl) (omega arith) (λ x y. index_and_flag_row (λ n b. Provided FutureCancelWrite (n, b)) (λ n b. refl) x.0 x.1.0 y.0 y.1.0) then
-      row_at _ 0x1a (λ x. refl) (omega arith) (λ x y. index_row (Provided FutureDropReadable) (λ n. refl) x.0 y.0) then
-      row_at _ 0x1b (λ x. refl) (omega arith) (λ x y. index_row (Provided FutureDropWritable) (λ n. refl) x.0 y.0) then
-      row_at _ 0x1c (λ x. refl) (omega arith) (λ x y. options_row (Provided ErrorContextNew) (λ os. refl) x.0.items y.0.items) then
-      row_at _ 0x1d (λ x. refl) (omega arith) (λ x y. options_row (Provided ErrorContextDebugMessage) (λ os. refl) x.0.items y.0.items) then
+      row_at _ 0x0e (λ x. refl) (omega arith) (λ x y. index_row (Provided canon.StreamNew) (λ n. refl) x.0 y.0) then
+      row_at _ 0x0f (λ x. refl) (omega arith) (λ x y. index_and_options_row (λ n os. Provided canon.StreamRead (n, os)) (λ n os. refl) x.0 x.1.0.items y.0 y.1.0.items) then
+      row_at _ 0x10 (λ x. refl) (omega arith) (λ x y. index_and_options_row (λ n os. Provided canon.StreamWrite (n, os)) (λ n os. refl) x.0 x.1.0.items y.0 y.1.0.items) then
+      row_at _ 0x11 (λ x. refl) (omega arith) (λ x y. index_and_flag_row (λ n b. Provided canon.StreamCancelRead (n, b)) (λ n b. refl) x.0 x.1.0 y.0 y.1.0) then
+      row_at _ 0x12 (λ x. refl) (omega arith) (λ x y. index_and_flag_row (λ n b. Provided canon.StreamCancelWrite (n, b)) (λ n b. refl) x.0 x.1.0 y.0 y.1.0) then
+      row_at _ 0x13 (λ x. refl) (omega arith) (λ x y. index_row (Provided canon.StreamDropReadable) (λ n. refl) x.0 y.0) then
+      row_at _ 0x14 (λ x. refl) (omega arith) (λ x y. index_row (Provided canon.StreamDropWritable) (λ n. refl) x.0 y.0) then
+      row_at _ 0x15 (λ x. refl) (omega arith) (λ x y. index_row (Provided canon.FutureNew) (λ n. refl) x.0 y.0) then
+      row_at _ 0x16 (λ x. refl) (omega arith) (λ x y. index_and_options_row (λ n os. Provided canon.FutureRead (n, os)) (λ n os. refl) x.0 x.1.0.items y.0 y.1.0.items) then
+      row_at _ 0x17 (λ x. refl) (omega arith) (λ x y. index_and_options_row (λ n os. Provided canon.FutureWrite (n, os)) (λ n os. refl) x.0 x.1.0.items y.0 y.1.0.items) then
+      row_at _ 0x18 (λ x. refl) (omega arith) (λ x y. index_and_flag_row (λ n b. Provided canon.FutureCancelRead (n, b)) (λ n b. refl) x.0 x.1.0 y.0 y.1.0) then
+      row_at _ 0x19 (λ x. refl) (omega arith) (λ x y. index_and_flag_row (λ n b. Provided canon.FutureCancelWrite (n, b)) (λ n b. refl) x.0 x.1.0 y.0 y.1.0) then
+      row_at _ 0x1a (λ x. refl) (omega arith) (λ x y. index_row (Provided canon.FutureDropReadable) (λ n. refl) x.0 y.0) then
+      row_at _ 0x1b (λ x. refl) (omega arith) (λ x y. index_row (Provided canon.FutureDropWritable) (λ n. refl) x.0 y.0) then
+      row_at _ 0x1c (λ x. refl) (omega arith) (λ x y. options_row (Provided canon.ErrorContextNew) (λ os. refl) x.0.items y.0.items) then
+      row_at _ 0x1d (λ x. refl) (omega arith) (λ x y. options_row (Provided canon.ErrorContextDebugMessage) (λ os. refl) x.0.items y.0.items) then
       row_at _ 0x1e (λ x. refl) (omega arith) (λ x y. (λ e. refl, λ e. refl)) then
       row_at _ 0x1f (λ x. refl) (omega arith) (λ x y. (λ e. refl, λ e. refl)) then
-      row_at _ 0x20 (λ x. refl) (omega arith) (λ x y. memory_row (λ n. Provided WaitableSetWait (tt, n)) (λ n. refl) x.0 y.0) then
-      row_at _ 0x21 (λ x. refl) (omega arith) (λ x y. memory_row (λ n. Provided WaitableSetPoll (tt, n)) (λ n. refl) x.0 y.0) then
+      row_at _ 0x20 (λ x. refl) (omega arith) (λ x y. memory_row (λ n. Provided canon.WaitableSetWait (tt, n)) (λ n. refl) x.0 y.0) then
+      row_at _ 0x21 (λ x. refl) (omega arith) (λ x y. memory_row (λ n. Provided canon.WaitableSetPoll (tt, n)) (λ n. refl) x.0 y.0) then
       row_at _ 0x22 (λ x. refl) (omega arith) (λ x y. (λ e. refl, λ e. refl)) then
       row_at _ 0x23 (λ x. refl) (omega arith) (λ x y. (λ e. refl, λ e. refl)) then
       row_at _ 0x24 (λ x. refl) (omega arith) (λ x y. (λ e. refl, λ e. refl)) then
       row_at _ 0x25 (λ x. refl) (omega arith) (λ x y. (λ e. refl, λ e. refl)) then
       row_at _ 0x26 (λ x. refl) (omega arith) (λ x y. (λ e. refl, λ e. refl)) then
-      row_at _ 0x27 (λ x. refl) (omega arith) (λ x y. indices_row (λ m n. Provided ThreadNewIndirect (m, n)) (λ m n. refl) x.0 x.1.0 y.0 y.1.0) then
+      row_at _ 0x27 (λ x. refl) (omega arith) (λ x y. indices_row (λ m n. Provided canon.ThreadNewIndirect (m, n)) (λ m n. refl) x.0 x.1.0 y.0 y.1.0) then
       row_at _ 0x28 (λ x. refl) (omega arith) (λ x y. (λ e. refl, λ e. refl)) then
       row_at _ 0x29 (λ x. refl) (omega arith) (λ x y. (λ e. refl, λ e. refl)) then
       row_at _ 0x2a (λ x. refl) (omega arith) (λ x y. (λ e. refl, λ e. refl)) then
       row_at _ 0x2b (λ x. refl) (omega arith) (λ x y. (λ e. refl, λ e. refl)) then
       row_at _ 0x2c (λ x. refl) (omega arith) (λ x y. (λ e. refl, λ e. refl)) then
       row_at _ 0x2d (λ x. refl) (omega arith) (λ x y. (λ e. refl, λ e. refl)) then
-      row_at _ 0x2e (λ x. refl) (omega arith) (λ x y. index_row (Provided StreamForward) (λ n. refl) x.0 y.0) then
-      row_at _ 0x2f (λ x. refl) (omega arith) (λ x y. index_row (Provided FutureForward) (λ n. refl) x.0 y.0) then
-      row_at _ 0x40 (λ x. refl) (omega arith) (λ x y. index_row (Provided ThreadSpawnRef) (λ n. refl) x.0 y.0) then
-      row_at _ 0x41 (λ x. refl) (omega arith) (λ x y. indices_row (λ m n. Provided ThreadSpawnIndirect (m, n)) (λ m n. refl) x.0 x.1.0 y.0 y.1.0) then
+      row_at _ 0x2e (λ x. refl) (omega arith) (λ x y. index_row (Provided canon.StreamForward) (λ n. refl) x.0 y.0) then
+      row_at _ 0x2f (λ x. refl) (omega arith) (λ x y. index_row (Provided canon.FutureForward) (λ n. refl) x.0 y.0) then
+      row_at _ 0x40 (λ x. refl) (omega arith) (λ x y. index_row (Provided canon.ThreadSpawnRef) (λ n. refl) x.0 y.0) then
+      row_at _ 0x41 (λ x. refl) (omega arith) (λ x y. indices_row (λ m n. Provided canon.ThreadSpawnIndirect (m, n)) (λ m n. refl) x.0 x.1.0 y.0 y.1.0) then
       row_at _ 0x42 (λ x. refl) (omega arith) (λ x y. (λ e. refl, λ e. refl)) then
       tt
-
-  pub trees : (d e : Dict) (a b : CanonTree A.Denot) → Decides ((eq-value A al d e).it a b) (canon_view a ≡ canon_view b)
-  trees d e a b =
-      let same : Decides ((eq-value A al d e).it a b) (seen ((enum A al).as_values a) ≡ seen ((enum A al).as_values b)) = by_decides opcode_of Parts_of tests seen 0 tests_tell ((enum A al).as_values a) ((enum A al).as_values b) in
+      ) ((enum A al).as_values a) ((enum A al).as_values b) in
       let P : CanonTree A.Denot → CanonTree A.Denot → Type 0 = λ v w. Decides ((eq-value A al d e).it a b) (canon_view v ≡ canon_view w) in
       subst (λ (w : CanonTree A.Denot). P a w) ((enum A al).eta b) (subst (λ (v : CanonTree A.Denot). P v ((enum A al).make ((enum A al).as_values b))) ((enum A al).eta a) same)

@@ -1,10 +1,10 @@
 ghost use Rattle.std.specs.Iterator.{IsFinite};
-ghost use Rattle.wenc_canon.specs.Canonicals as rows;
+ghost use Rattle.wenc_canon.specs.Canonicals as canon;
 ghost use Rattle.wenc_canon.specs.Canonicals.{Adds, AddsWithOptions, Provided};
 
 use super::{CanonicalFunctionSection, CanonicalOption};
 use crate::fields::NotCancellable;
-use crate::opcodes;
+use crate::rows;
 use std::alloc::Allocator;
 use wenc_base::{Fault, ValType};
 use wenc_parts::{ComponentValType, ResultList};
@@ -13,59 +13,59 @@ use wenc_parts::{ComponentValType, ResultList};
 impl<A: Allocator> CanonicalFunctionSection<A> {
     /// `resource.new`: makes a handle that owns a resource of this type.
     pub fn resource_new(&mut self, ty: u32) -> Result<(), Fault>
-        ensures { Adds self.old self.new result rows.ResourceNew ty }
+        ensures { Adds self.old self.new result canon.ResourceNew ty }
     {
-        self.add_row(opcodes::RESOURCE_NEW, &ty)
+        self.add_row(rows::RESOURCE_NEW, &ty)
     }
 
     /// `resource.drop`: drops a handle of this type.
     pub fn resource_drop(&mut self, ty: u32) -> Result<(), Fault>
-        ensures { Adds self.old self.new result rows.ResourceDrop ty }
+        ensures { Adds self.old self.new result canon.ResourceDrop ty }
     {
-        self.add_row(opcodes::RESOURCE_DROP, &ty)
+        self.add_row(rows::RESOURCE_DROP, &ty)
     }
 
     /// `resource.rep`: gives the representation of a resource of this type.
     pub fn resource_rep(&mut self, ty: u32) -> Result<(), Fault>
-        ensures { Adds self.old self.new result rows.ResourceRep ty }
+        ensures { Adds self.old self.new result canon.ResourceRep ty }
     {
-        self.add_row(opcodes::RESOURCE_REP, &ty)
+        self.add_row(rows::RESOURCE_REP, &ty)
     }
 
     /// `thread.spawn-ref`: starts a thread in a shared function of this type, by a reference to it.
     pub fn thread_spawn_ref(&mut self, ty: u32) -> Result<(), Fault>
-        ensures { Adds self.old self.new result rows.ThreadSpawnRef ty }
+        ensures { Adds self.old self.new result canon.ThreadSpawnRef ty }
     {
-        self.add_row(opcodes::THREAD_SPAWN_REF, &ty)
+        self.add_row(rows::THREAD_SPAWN_REF, &ty)
     }
 
     /// `thread.spawn-indirect`: starts a thread in a shared function of this type, by its place in a
     /// table.
     pub fn thread_spawn_indirect(&mut self, ty: u32, table: u32) -> Result<(), Fault>
-        ensures { Adds self.old self.new result rows.ThreadSpawnIndirect (ty, table) }
+        ensures { Adds self.old self.new result canon.ThreadSpawnIndirect (ty, table) }
     {
-        self.add_row(opcodes::THREAD_SPAWN_INDIRECT, &(ty, table))
+        self.add_row(rows::THREAD_SPAWN_INDIRECT, &(ty, table))
     }
 
     /// `thread.available-parallelism`: gives the number of threads that can be expected to run at once.
     pub fn thread_available_parallelism(&mut self) -> Result<(), Fault>
-        ensures { Adds self.old self.new result rows.ThreadAvailableParallelism tt }
+        ensures { Adds self.old self.new result canon.ThreadAvailableParallelism tt }
     {
-        self.add_row(opcodes::THREAD_AVAILABLE_PARALLELISM, &())
+        self.add_row(rows::THREAD_AVAILABLE_PARALLELISM, &())
     }
 
     /// `backpressure.inc`: raises the counter that keeps new calls back.
     pub fn backpressure_inc(&mut self) -> Result<(), Fault>
-        ensures { Adds self.old self.new result rows.BackpressureInc tt }
+        ensures { Adds self.old self.new result canon.BackpressureInc tt }
     {
-        self.add_row(opcodes::BACKPRESSURE_INC, &())
+        self.add_row(rows::BACKPRESSURE_INC, &())
     }
 
     /// `backpressure.dec`: lowers the counter that keeps new calls back.
     pub fn backpressure_dec(&mut self) -> Result<(), Fault>
-        ensures { Adds self.old self.new result rows.BackpressureDec tt }
+        ensures { Adds self.old self.new result canon.BackpressureDec tt }
     {
-        self.add_row(opcodes::BACKPRESSURE_DEC, &())
+        self.add_row(rows::BACKPRESSURE_DEC, &())
     }
 
     /// `task.return`: gives the caller of a lifted function its result, or none, while the callee goes
@@ -78,51 +78,51 @@ impl<A: Allocator> CanonicalFunctionSection<A> {
         requires can { I.can_next options }
         requires ends { IsFinite (I.remaining options) }
         ensures { AddsWithOptions I.next_gives options self.old self.new result
-            (λ os. Provided rows.TaskReturn (ty, os)) }
+            (λ os. Provided canon.TaskReturn (ty, os)) }
     {
-        self.add_row_with_options(opcodes::TASK_RETURN, &ResultList(ty), options)
+        self.add_row_with_options(rows::TASK_RETURN, &ResultList(ty), options)
     }
 
     /// `task.cancel`: says that the current task was cancelled.
     pub fn task_cancel(&mut self) -> Result<(), Fault>
-        ensures { Adds self.old self.new result rows.TaskCancel tt }
+        ensures { Adds self.old self.new result canon.TaskCancel tt }
     {
-        self.add_row(opcodes::TASK_CANCEL, &())
+        self.add_row(rows::TASK_CANCEL, &())
     }
 
     /// `context.get`: reads a slot of the current task, which has this value type.
     pub fn context_get(&mut self, ty: ValType, slot: u32) -> Result<(), Fault>
-        ensures { Adds self.old self.new result rows.ContextGet (ty, slot) }
+        ensures { Adds self.old self.new result canon.ContextGet (ty, slot) }
     {
-        self.add_row(opcodes::CONTEXT_GET, &(ty, slot))
+        self.add_row(rows::CONTEXT_GET, &(ty, slot))
     }
 
     /// `context.set`: writes a slot of the current task, which has this value type.
     pub fn context_set(&mut self, ty: ValType, slot: u32) -> Result<(), Fault>
-        ensures { Adds self.old self.new result rows.ContextSet (ty, slot) }
+        ensures { Adds self.old self.new result canon.ContextSet (ty, slot) }
     {
-        self.add_row(opcodes::CONTEXT_SET, &(ty, slot))
+        self.add_row(rows::CONTEXT_SET, &(ty, slot))
     }
 
     /// `subtask.drop`: drops a subtask that has ended.
     pub fn subtask_drop(&mut self) -> Result<(), Fault>
-        ensures { Adds self.old self.new result rows.SubtaskDrop tt }
+        ensures { Adds self.old self.new result canon.SubtaskDrop tt }
     {
-        self.add_row(opcodes::SUBTASK_DROP, &())
+        self.add_row(rows::SUBTASK_DROP, &())
     }
 
     /// `subtask.cancel`: cancels a subtask.
     pub fn subtask_cancel(&mut self, async_: bool) -> Result<(), Fault>
-        ensures { Adds self.old self.new result rows.SubtaskCancel async_ }
+        ensures { Adds self.old self.new result canon.SubtaskCancel async_ }
     {
-        self.add_row(opcodes::SUBTASK_CANCEL, &async_)
+        self.add_row(rows::SUBTASK_CANCEL, &async_)
     }
 
     /// `stream.new`: makes a stream of this type.
     pub fn stream_new(&mut self, ty: u32) -> Result<(), Fault>
-        ensures { Adds self.old self.new result rows.StreamNew ty }
+        ensures { Adds self.old self.new result canon.StreamNew ty }
     {
-        self.add_row(opcodes::STREAM_NEW, &ty)
+        self.add_row(rows::STREAM_NEW, &ty)
     }
 
     /// `stream.read`: reads from a stream of this type.
@@ -134,9 +134,9 @@ impl<A: Allocator> CanonicalFunctionSection<A> {
         requires can { I.can_next options }
         requires ends { IsFinite (I.remaining options) }
         ensures { AddsWithOptions I.next_gives options self.old self.new result
-            (λ os. Provided rows.StreamRead (ty, os)) }
+            (λ os. Provided canon.StreamRead (ty, os)) }
     {
-        self.add_row_with_options(opcodes::STREAM_READ, &ty, options)
+        self.add_row_with_options(rows::STREAM_READ, &ty, options)
     }
 
     /// `stream.write`: writes to a stream of this type.
@@ -148,51 +148,51 @@ impl<A: Allocator> CanonicalFunctionSection<A> {
         requires can { I.can_next options }
         requires ends { IsFinite (I.remaining options) }
         ensures { AddsWithOptions I.next_gives options self.old self.new result
-            (λ os. Provided rows.StreamWrite (ty, os)) }
+            (λ os. Provided canon.StreamWrite (ty, os)) }
     {
-        self.add_row_with_options(opcodes::STREAM_WRITE, &ty, options)
+        self.add_row_with_options(rows::STREAM_WRITE, &ty, options)
     }
 
     /// `stream.forward`: hands on what is left in one stream of this type to another.
     pub fn stream_forward(&mut self, ty: u32) -> Result<(), Fault>
-        ensures { Adds self.old self.new result rows.StreamForward ty }
+        ensures { Adds self.old self.new result canon.StreamForward ty }
     {
-        self.add_row(opcodes::STREAM_FORWARD, &ty)
+        self.add_row(rows::STREAM_FORWARD, &ty)
     }
 
     /// `stream.cancel-read`: cancels a read from a stream of this type.
     pub fn stream_cancel_read(&mut self, ty: u32, async_: bool) -> Result<(), Fault>
-        ensures { Adds self.old self.new result rows.StreamCancelRead (ty, async_) }
+        ensures { Adds self.old self.new result canon.StreamCancelRead (ty, async_) }
     {
-        self.add_row(opcodes::STREAM_CANCEL_READ, &(ty, async_))
+        self.add_row(rows::STREAM_CANCEL_READ, &(ty, async_))
     }
 
     /// `stream.cancel-write`: cancels a write to a stream of this type.
     pub fn stream_cancel_write(&mut self, ty: u32, async_: bool) -> Result<(), Fault>
-        ensures { Adds self.old self.new result rows.StreamCancelWrite (ty, async_) }
+        ensures { Adds self.old self.new result canon.StreamCancelWrite (ty, async_) }
     {
-        self.add_row(opcodes::STREAM_CANCEL_WRITE, &(ty, async_))
+        self.add_row(rows::STREAM_CANCEL_WRITE, &(ty, async_))
     }
 
     /// `stream.drop-readable`: drops the end of a stream of this type that is read.
     pub fn stream_drop_readable(&mut self, ty: u32) -> Result<(), Fault>
-        ensures { Adds self.old self.new result rows.StreamDropReadable ty }
+        ensures { Adds self.old self.new result canon.StreamDropReadable ty }
     {
-        self.add_row(opcodes::STREAM_DROP_READABLE, &ty)
+        self.add_row(rows::STREAM_DROP_READABLE, &ty)
     }
 
     /// `stream.drop-writable`: drops the end of a stream of this type that is written.
     pub fn stream_drop_writable(&mut self, ty: u32) -> Result<(), Fault>
-        ensures { Adds self.old self.new result rows.StreamDropWritable ty }
+        ensures { Adds self.old self.new result canon.StreamDropWritable ty }
     {
-        self.add_row(opcodes::STREAM_DROP_WRITABLE, &ty)
+        self.add_row(rows::STREAM_DROP_WRITABLE, &ty)
     }
 
     /// `future.new`: makes a future of this type.
     pub fn future_new(&mut self, ty: u32) -> Result<(), Fault>
-        ensures { Adds self.old self.new result rows.FutureNew ty }
+        ensures { Adds self.old self.new result canon.FutureNew ty }
     {
-        self.add_row(opcodes::FUTURE_NEW, &ty)
+        self.add_row(rows::FUTURE_NEW, &ty)
     }
 
     /// `future.read`: reads from a future of this type.
@@ -204,9 +204,9 @@ impl<A: Allocator> CanonicalFunctionSection<A> {
         requires can { I.can_next options }
         requires ends { IsFinite (I.remaining options) }
         ensures { AddsWithOptions I.next_gives options self.old self.new result
-            (λ os. Provided rows.FutureRead (ty, os)) }
+            (λ os. Provided canon.FutureRead (ty, os)) }
     {
-        self.add_row_with_options(opcodes::FUTURE_READ, &ty, options)
+        self.add_row_with_options(rows::FUTURE_READ, &ty, options)
     }
 
     /// `future.write`: writes to a future of this type.
@@ -218,44 +218,44 @@ impl<A: Allocator> CanonicalFunctionSection<A> {
         requires can { I.can_next options }
         requires ends { IsFinite (I.remaining options) }
         ensures { AddsWithOptions I.next_gives options self.old self.new result
-            (λ os. Provided rows.FutureWrite (ty, os)) }
+            (λ os. Provided canon.FutureWrite (ty, os)) }
     {
-        self.add_row_with_options(opcodes::FUTURE_WRITE, &ty, options)
+        self.add_row_with_options(rows::FUTURE_WRITE, &ty, options)
     }
 
     /// `future.forward`: hands on the value of one future of this type to another.
     pub fn future_forward(&mut self, ty: u32) -> Result<(), Fault>
-        ensures { Adds self.old self.new result rows.FutureForward ty }
+        ensures { Adds self.old self.new result canon.FutureForward ty }
     {
-        self.add_row(opcodes::FUTURE_FORWARD, &ty)
+        self.add_row(rows::FUTURE_FORWARD, &ty)
     }
 
     /// `future.cancel-read`: cancels a read from a future of this type.
     pub fn future_cancel_read(&mut self, ty: u32, async_: bool) -> Result<(), Fault>
-        ensures { Adds self.old self.new result rows.FutureCancelRead (ty, async_) }
+        ensures { Adds self.old self.new result canon.FutureCancelRead (ty, async_) }
     {
-        self.add_row(opcodes::FUTURE_CANCEL_READ, &(ty, async_))
+        self.add_row(rows::FUTURE_CANCEL_READ, &(ty, async_))
     }
 
     /// `future.cancel-write`: cancels a write to a future of this type.
     pub fn future_cancel_write(&mut self, ty: u32, async_: bool) -> Result<(), Fault>
-        ensures { Adds self.old self.new result rows.FutureCancelWrite (ty, async_) }
+        ensures { Adds self.old self.new result canon.FutureCancelWrite (ty, async_) }
     {
-        self.add_row(opcodes::FUTURE_CANCEL_WRITE, &(ty, async_))
+        self.add_row(rows::FUTURE_CANCEL_WRITE, &(ty, async_))
     }
 
     /// `future.drop-readable`: drops the end of a future of this type that is read.
     pub fn future_drop_readable(&mut self, ty: u32) -> Result<(), Fault>
-        ensures { Adds self.old self.new result rows.FutureDropReadable ty }
+        ensures { Adds self.old self.new result canon.FutureDropReadable ty }
     {
-        self.add_row(opcodes::FUTURE_DROP_READABLE, &ty)
+        self.add_row(rows::FUTURE_DROP_READABLE, &ty)
     }
 
     /// `future.drop-writable`: drops the end of a future of this type that is written.
     pub fn future_drop_writable(&mut self, ty: u32) -> Result<(), Fault>
-        ensures { Adds self.old self.new result rows.FutureDropWritable ty }
+        ensures { Adds self.old self.new result canon.FutureDropWritable ty }
     {
-        self.add_row(opcodes::FUTURE_DROP_WRITABLE, &ty)
+        self.add_row(rows::FUTURE_DROP_WRITABLE, &ty)
     }
 
     /// `error-context.new`: makes an error context of a message.
@@ -266,9 +266,9 @@ impl<A: Allocator> CanonicalFunctionSection<A> {
         requires can { I.can_next options }
         requires ends { IsFinite (I.remaining options) }
         ensures { AddsWithOptions I.next_gives options self.old self.new result
-            (λ os. Provided rows.ErrorContextNew os) }
+            (λ os. Provided canon.ErrorContextNew os) }
     {
-        self.add_row_with_options(opcodes::ERROR_CONTEXT_NEW, &(), options)
+        self.add_row_with_options(rows::ERROR_CONTEXT_NEW, &(), options)
     }
 
     /// `error-context.debug-message`: gives the message of an error context.
@@ -279,115 +279,115 @@ impl<A: Allocator> CanonicalFunctionSection<A> {
         requires can { I.can_next options }
         requires ends { IsFinite (I.remaining options) }
         ensures { AddsWithOptions I.next_gives options self.old self.new result
-            (λ os. Provided rows.ErrorContextDebugMessage os) }
+            (λ os. Provided canon.ErrorContextDebugMessage os) }
     {
-        self.add_row_with_options(opcodes::ERROR_CONTEXT_DEBUG_MESSAGE, &(), options)
+        self.add_row_with_options(rows::ERROR_CONTEXT_DEBUG_MESSAGE, &(), options)
     }
 
     /// `error-context.drop`: drops an error context.
     pub fn error_context_drop(&mut self) -> Result<(), Fault>
-        ensures { Adds self.old self.new result rows.ErrorContextDrop tt }
+        ensures { Adds self.old self.new result canon.ErrorContextDrop tt }
     {
-        self.add_row(opcodes::ERROR_CONTEXT_DROP, &())
+        self.add_row(rows::ERROR_CONTEXT_DROP, &())
     }
 
     /// `waitable-set.new`: makes a set of what can be waited for.
     pub fn waitable_set_new(&mut self) -> Result<(), Fault>
-        ensures { Adds self.old self.new result rows.WaitableSetNew tt }
+        ensures { Adds self.old self.new result canon.WaitableSetNew tt }
     {
-        self.add_row(opcodes::WAITABLE_SET_NEW, &())
+        self.add_row(rows::WAITABLE_SET_NEW, &())
     }
 
     /// `waitable-set.wait`: waits until something in a set happens, which is written to this memory.
     pub fn waitable_set_wait(&mut self, memory: u32) -> Result<(), Fault>
-        ensures { Adds self.old self.new result rows.WaitableSetWait (tt, memory) }
+        ensures { Adds self.old self.new result canon.WaitableSetWait (tt, memory) }
     {
-        self.add_row(opcodes::WAITABLE_SET_WAIT, &(NotCancellable, memory))
+        self.add_row(rows::WAITABLE_SET_WAIT, &(NotCancellable, memory))
     }
 
     /// `waitable-set.poll`: looks whether something in a set happened, which is written to this memory.
     pub fn waitable_set_poll(&mut self, memory: u32) -> Result<(), Fault>
-        ensures { Adds self.old self.new result rows.WaitableSetPoll (tt, memory) }
+        ensures { Adds self.old self.new result canon.WaitableSetPoll (tt, memory) }
     {
-        self.add_row(opcodes::WAITABLE_SET_POLL, &(NotCancellable, memory))
+        self.add_row(rows::WAITABLE_SET_POLL, &(NotCancellable, memory))
     }
 
     /// `waitable-set.drop`: drops a set of what can be waited for.
     pub fn waitable_set_drop(&mut self) -> Result<(), Fault>
-        ensures { Adds self.old self.new result rows.WaitableSetDrop tt }
+        ensures { Adds self.old self.new result canon.WaitableSetDrop tt }
     {
-        self.add_row(opcodes::WAITABLE_SET_DROP, &())
+        self.add_row(rows::WAITABLE_SET_DROP, &())
     }
 
     /// `waitable.join`: puts something that can be waited for into a set.
     pub fn waitable_join(&mut self) -> Result<(), Fault>
-        ensures { Adds self.old self.new result rows.WaitableJoin tt }
+        ensures { Adds self.old self.new result canon.WaitableJoin tt }
     {
-        self.add_row(opcodes::WAITABLE_JOIN, &())
+        self.add_row(rows::WAITABLE_JOIN, &())
     }
 
     /// `thread.index`: gives the index of the current thread.
     pub fn thread_index(&mut self) -> Result<(), Fault>
-        ensures { Adds self.old self.new result rows.ThreadIndex tt }
+        ensures { Adds self.old self.new result canon.ThreadIndex tt }
     {
-        self.add_row(opcodes::THREAD_INDEX, &())
+        self.add_row(rows::THREAD_INDEX, &())
     }
 
     /// `thread.new-indirect`: makes a thread of a function of this type, by its place in a table.
     pub fn thread_new_indirect(&mut self, ty: u32, table: u32) -> Result<(), Fault>
-        ensures { Adds self.old self.new result rows.ThreadNewIndirect (ty, table) }
+        ensures { Adds self.old self.new result canon.ThreadNewIndirect (ty, table) }
     {
-        self.add_row(opcodes::THREAD_NEW_INDIRECT, &(ty, table))
+        self.add_row(rows::THREAD_NEW_INDIRECT, &(ty, table))
     }
 
     /// `thread.resume-later`: lets a thread that was suspended go on later.
     pub fn thread_resume_later(&mut self) -> Result<(), Fault>
-        ensures { Adds self.old self.new result rows.ThreadResumeLater tt }
+        ensures { Adds self.old self.new result canon.ThreadResumeLater tt }
     {
-        self.add_row(opcodes::THREAD_RESUME_LATER, &())
+        self.add_row(rows::THREAD_RESUME_LATER, &())
     }
 
     /// `thread.suspend`: suspends the current thread.
     pub fn thread_suspend(&mut self) -> Result<(), Fault>
-        ensures { Adds self.old self.new result rows.ThreadSuspend tt }
+        ensures { Adds self.old self.new result canon.ThreadSuspend tt }
     {
-        self.add_row(opcodes::THREAD_SUSPEND, &NotCancellable)
+        self.add_row(rows::THREAD_SUSPEND, &NotCancellable)
     }
 
     /// `thread.yield`: lets other threads go on.
     pub fn thread_yield(&mut self) -> Result<(), Fault>
-        ensures { Adds self.old self.new result rows.ThreadYield tt }
+        ensures { Adds self.old self.new result canon.ThreadYield tt }
     {
-        self.add_row(opcodes::THREAD_YIELD, &NotCancellable)
+        self.add_row(rows::THREAD_YIELD, &NotCancellable)
     }
 
     /// `thread.suspend-then-resume`: suspends the current thread, and lets another go on at once.
     pub fn thread_suspend_then_resume(&mut self) -> Result<(), Fault>
-        ensures { Adds self.old self.new result rows.ThreadSuspendThenResume tt }
+        ensures { Adds self.old self.new result canon.ThreadSuspendThenResume tt }
     {
-        self.add_row(opcodes::THREAD_SUSPEND_THEN_RESUME, &NotCancellable)
+        self.add_row(rows::THREAD_SUSPEND_THEN_RESUME, &NotCancellable)
     }
 
     /// `thread.yield-then-resume`: lets another thread go on at once, and this one after it.
     pub fn thread_yield_then_resume(&mut self) -> Result<(), Fault>
-        ensures { Adds self.old self.new result rows.ThreadYieldThenResume tt }
+        ensures { Adds self.old self.new result canon.ThreadYieldThenResume tt }
     {
-        self.add_row(opcodes::THREAD_YIELD_THEN_RESUME, &NotCancellable)
+        self.add_row(rows::THREAD_YIELD_THEN_RESUME, &NotCancellable)
     }
 
     /// `thread.suspend-then-promote`: suspends the current thread, and moves another to the front of
     /// those that wait.
     pub fn thread_suspend_then_promote(&mut self) -> Result<(), Fault>
-        ensures { Adds self.old self.new result rows.ThreadSuspendThenPromote tt }
+        ensures { Adds self.old self.new result canon.ThreadSuspendThenPromote tt }
     {
-        self.add_row(opcodes::THREAD_SUSPEND_THEN_PROMOTE, &NotCancellable)
+        self.add_row(rows::THREAD_SUSPEND_THEN_PROMOTE, &NotCancellable)
     }
 
     /// `thread.yield-then-promote`: lets other threads go on, first the one that is moved to the front
     /// of those that wait.
     pub fn thread_yield_then_promote(&mut self) -> Result<(), Fault>
-        ensures { Adds self.old self.new result rows.ThreadYieldThenPromote tt }
+        ensures { Adds self.old self.new result canon.ThreadYieldThenPromote tt }
     {
-        self.add_row(opcodes::THREAD_YIELD_THEN_PROMOTE, &NotCancellable)
+        self.add_row(rows::THREAD_YIELD_THEN_PROMOTE, &NotCancellable)
     }
 }

@@ -15,10 +15,10 @@ use Rattle.wenc_builder.proofs.builder.ComponentBuilder.provide.Goals as goal
 pub add-requires : goal.add-requires
 add-requires g c =
     let values : Values g.F.Fields.kinds = g.F.Fields.values c.args.fields.now in
-    item_piece (CanonItem (provided_by c.args.opcode g.F.Fields.kinds values)) (provided_serves c.args.opcode g.F.Fields.kinds values (g.met.F.Fields.written c.args.fields.now) c.requires.row)
+    item_piece (CanonItem (provided_by c.args.row.opcode g.F.Fields.kinds values)) (provided_serves c.args.row.name.now c.args.row.opcode g.F.Fields.kinds values (g.met.F.Fields.written c.args.fields.now) c.requires.row)
 
 pub returns : goal.returns
 returns g c =
     let values : Values g.F.Fields.kinds = g.F.Fields.values c.args.fields.now in
-    draft_enters c.args.self.now c.add.new.self c.add.result (canonical_entry (Some c.args.name.now) (provided_by c.args.opcode g.F.Fields.kinds values)) (kind_id kinds.CanonicalFunction) (space_number spaces.CoreFuncs) (Some c.args.name.now)
-    (record { section = refl; defined = refl; named = refl }) (provided_serves c.args.opcode g.F.Fields.kinds values (g.met.F.Fields.written c.args.fields.now) c.requires.row) c.add.ensures
+    draft_enters c.args.self.now c.add.new.self c.add.result (canonical_entry (Some c.args.row.name.now) (provided_by c.args.row.opcode g.F.Fields.kinds values)) (kind_id kinds.CanonicalFunction) (space_number spaces.CoreFuncs) (Some c.args.row.name.now)
+    (record { section = refl; defined = refl; named = refl }) (provided_serves c.args.row.name.now c.args.row.opcode g.F.Fields.kinds values (g.met.F.Fields.written c.args.fields.now) c.requires.row) c.add.ensures

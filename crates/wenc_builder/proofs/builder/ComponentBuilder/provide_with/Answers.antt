@@ -13,11 +13,11 @@ use Rattle.wenc_builder.proofs.builder.ComponentBuilder.provide_with.Goals as go
 pub add_listed-requires-clause-whole : goal.add_listed-requires-clause-whole
 add_listed-requires-clause-whole g c os =
     let values : Values g.F.Fields.kinds = g.F.Fields.values c.args.fields.now in
-    item_piece (CanonItem (provided_with c.args.opcode g.F.Fields.kinds values os)) (provided_with_serves c.args.opcode g.F.Fields.kinds values (g.met.F.Fields.written c.args.fields.now) c.requires.row os)
+    item_piece (CanonItem (provided_with c.args.row.opcode g.F.Fields.kinds values os)) (provided_with_serves c.args.row.name.now c.args.row.opcode g.F.Fields.kinds values (g.met.F.Fields.written c.args.fields.now) c.requires.row os)
 
 pub returns : goal.returns
 returns g c =
     let values : Values g.F.Fields.kinds = g.F.Fields.values c.args.fields.now in
-    options_enter g.I.Iterator.next_gives c.args.options c.args.self.now c.add_listed.new.self c.add_listed.result (provided_with c.args.opcode g.F.Fields.kinds values) spaces.CoreFuncs (Some c.args.name.now)
-    (listed (c.args.opcode ▸ g.F.Encode.piece c.args.fields.now) canonical_option nothing) (λ os. refl)
-    (provided_with_serves c.args.opcode g.F.Fields.kinds values (g.met.F.Fields.written c.args.fields.now) c.requires.row) c.add_listed.ensures
+    options_enter g.I.Iterator.next_gives c.args.options c.args.self.now c.add_listed.new.self c.add_listed.result (provided_with c.args.row.opcode g.F.Fields.kinds values) spaces.CoreFuncs (Some c.args.row.name.now)
+    (listed (c.args.row.opcode ▸ g.F.Encode.piece c.args.fields.now) canonical_option nothing) (λ os. refl)
+    (provided_with_serves c.args.row.name.now c.args.row.opcode g.F.Fields.kinds values (g.met.F.Fields.written c.args.fields.now) c.requires.row) c.add_listed.ensures
