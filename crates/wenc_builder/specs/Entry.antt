@@ -72,13 +72,16 @@ canonical_entry debug_name function = entry (CanonItem function) debug_name
 abbrev pub provided_entry : (i : Intrinsic) → Values (row i).fields → Entry
 provided_entry i values = canonical_entry (Some (name_of i values)) (Provided i values)
 
--- that of a canonical function as a tree: lifted or lowered it has this debug name, else its own
+-- the debug name of a canonical function: its own, or where it is lifted or lowered this one
+abbrev pub canonical_name : Option (List ℕ) → Canonical → Option (List ℕ)
+canonical_name debug_name (Lift function options type_index) = debug_name
+canonical_name debug_name (Lower function options) = debug_name
+canonical_name debug_name (Provided i values) = Some (name_of i values)
+
+-- that of a canonical function as a tree
 abbrev pub canonical_tree_entry : Option (List ℕ) → Canonical → Entry
-canonical_tree_entry debug_name (Lift function options type_index) =
-    canonical_entry debug_name (Lift function options type_index)
-canonical_tree_entry debug_name (Lower function options) =
-    canonical_entry debug_name (Lower function options)
-canonical_tree_entry debug_name (Provided i values) = provided_entry i values
+canonical_tree_entry debug_name function =
+    canonical_entry (canonical_name debug_name function) function
 
 -- none of these has a name
 abbrev pub start_entry : ℕ → List ℕ → ℕ → Entry
