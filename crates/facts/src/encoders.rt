@@ -5,10 +5,9 @@ ghost use Rattle.std.specs.Prelude.{◌≡◌, ◌++◌, ◌∷◌, [], List, ma
 ghost use Rattle.wenc_base.specs.Composites.{Single, sub_view};
 ghost use Rattle.wenc_base.specs.Holder.{Contains};
 ghost use Rattle.wenc_types.specs.ComponentTypes.{TypeOf, DefinedType, FunctionType, ComponentDeclaration, Declared, Typed, type_of};
-ghost use Rattle.wenc_types.specs.Declarations.{ComponentDeclares};
+ghost use Rattle.wenc_types.specs.Declarations.{ModuleDeclares, ComponentDeclares};
 ghost use Rattle.wenc_types.specs.CoreTypes.{CoreType, Grouped, ModuleDeclaration, Defined, core_type};
 ghost use Rattle.wenc_types.specs.DefinedTypes.{OptionOf, lent_named};
-ghost use Rattle.wenc_types.specs.ModuleTypes.{Declares};
 
 use std::alloc::Allocator;
 use wenc_base::{Fault, SubType};
@@ -48,13 +47,13 @@ pub fn refused_meanwhile<A: Allocator>(section: &mut CoreTypeSection<A>) -> Resu
 }
 
 /// A type that a module type declares.
-#[tactic(auto, using(wenc_types::specs::laws::ModuleTypes::declares_written))]
+#[tactic(auto, using(wenc_types::specs::laws::Declarations::declares_written))]
 pub fn declared<A: Allocator, B: Allocator>(
     types: &mut ModuleType<A>,
     ty: &SubType<B>,
 ) -> Result<(), Fault>
-    ensures { OnOk result ((ds : List ModuleDeclaration) → Declares types.old ds
-        → Declares types.new (ds ++ Defined (Single (sub_view ty.now)) ∷ [])) }
+    ensures { OnOk result ((ds : List ModuleDeclaration) → ModuleDeclares types.old ds
+        → ModuleDeclares types.new (ds ++ Defined (Single (sub_view ty.now)) ∷ [])) }
 {
     types.ty()?.subtype(ty)
 }

@@ -4,9 +4,10 @@ use crate::accepted::ok;
 use crate::checks::{bytes, yes};
 use std::alloc::{Allocator, Global};
 use std::process::Abort;
-use sweeping::sweep_section;
+use sweeping::{sweep_encode, sweep_section};
 use wenc_base::{Encode, Fault, Lent};
 use wenc_sections::{Counted, LentKind};
+use wenc_types::{Declarations, DeclaredKind};
 
 /// How many items or declarations there are, and the core types, types and instances that are
 /// counted. What isn't counted is none.
@@ -89,6 +90,48 @@ pub fn make_each<L, C: Makes<L>>(rt: &impl Abort, to: &mut L, calls: &[C]) {
 pub fn declare<L, C: Makes<L>>(rt: &impl Abort, to: &mut L, rows: &[(C, &[u8], &[u8])]) {
     for (declaration, _, _) in rows {
         ok(rt, declaration.make(to));
+    }
+}
+
+/// A kind of types that have declarations.
+pub trait OwnKind: DeclaredKind + Sized {
+    fn add_short<A: Allocator>(ty: &mut Declarations<Self, A>) -> Result<(), Fault>;
+
+    fn begin<A: Allocator>(ty: &mut Declarations<Self, A>) -> Result<(), Fault>;
+
+    /// What is counted, and whether there is none.
+    fn counted<A: Allocator>(ty: &Declarations<Self, A>) -> (Counts, bool);
+
+    /// Nothing is made of one that is unfinished.
+    fn is_not_taken(ty: &Declarations<Self>, rt: &impl Abort, alloc: Global);
+}
+
+impl<K: OwnKind, A: Allocator + Clone> Lending for Declarations<K, A> {
+    const BEGINNING_ASKS: bool = true;
+
+    fn add_short(&mut self) -> Result<(), Fault> {
+        K::add_short(self)
+    }
+
+    fn begin(&mut self) -> Result<(), Fault> {
+        K::begin(self)
+    }
+
+    fn give_up(&mut self) -> bool {
+        self.discard_unfinished()
+    }
+
+    fn asked(&self) -> (Counts, bool, bool) {
+        let (counts, is_empty) = K::counted(self);
+        (counts, is_empty, self.is_finished())
+    }
+
+    fn copy(&self) -> Result<Self, Fault> {
+        self.clone()
+    }
+
+    fn sweep_text(&self, alloc: Global) -> Result<bool, Fault> {
+        sweep_encode(alloc, self)
     }
 }
 

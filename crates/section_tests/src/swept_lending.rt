@@ -2,7 +2,7 @@
 
 use crate::accepted::{is_well, ok};
 use crate::checks::{counts, yes};
-use crate::lending::{Lending, Makes, TypeKind, is, is_finished, state};
+use crate::lending::{Lending, Makes, OwnKind, TypeKind, is, is_finished, state};
 use refusing::Refusing;
 use std::alloc::Global;
 use std::process::Abort;
@@ -10,6 +10,7 @@ use sweeping::REFUSED;
 use sweeping::members::{Adds, Members, is_as, started, sweep_add, sweep_clones};
 use wenc_base::Fault;
 use wenc_sections::Counted;
+use wenc_types::Declarations;
 
 /// What has its requests for memory refused.
 pub trait OnHeap<'a>: Lending {
@@ -19,6 +20,12 @@ pub trait OnHeap<'a>: Lending {
 impl<'a, K: TypeKind> OnHeap<'a> for Counted<K, &'a Refusing> {
     fn empty(heap: &'a Refusing) -> Self {
         Counted::new(heap)
+    }
+}
+
+impl<'a, K: OwnKind> OnHeap<'a> for Declarations<K, &'a Refusing> {
+    fn empty(heap: &'a Refusing) -> Self {
+        Declarations::new(heap)
     }
 }
 

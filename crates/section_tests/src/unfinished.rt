@@ -2,10 +2,11 @@
 
 use crate::accepted::ok;
 use crate::checks::{is_not_encoded, is_refused, put, yes};
-use crate::lending::{Counts, Lending, Makes, TypeKind, is, is_finished, state};
+use crate::lending::{Counts, Lending, Makes, OwnKind, TypeKind, is, is_finished, state};
 use std::alloc::Global;
 use std::process::Abort;
 use wenc_sections::{Component, Counted};
+use wenc_types::Declarations;
 
 /// What something else can be made of, unless it is unfinished.
 pub trait Taken: Lending {
@@ -19,6 +20,12 @@ impl<K: TypeKind> Taken for Counted<K> {
         let mut component = ok(rt, Component::new(alloc));
         is_refused(rt, put(&mut component, self));
         yes(rt, component.as_slice().len() == 8);
+    }
+}
+
+impl<K: OwnKind> Taken for Declarations<K> {
+    fn is_not_taken(&self, rt: &impl Abort, alloc: Global) {
+        K::is_not_taken(self, rt, alloc);
     }
 }
 

@@ -3,6 +3,7 @@
 ghost use Rattle.std.specs.Prelude.{◌≡◌, ◌↔◌, ◌+◌, ℕ, ℤ, ◌^◌, ◌<◌, ◌++◌, ◌∷◌, [], List, Option, Result, FitsSigned, true, Ok};
 ghost use Rattle.std.specs.Int.{w64};
 ghost use Rattle.wenc_base.specs.Composites.{Group, group};
+ghost use Rattle.wenc_base.specs.Fault.{NoCause};
 ghost use Rattle.wenc_base.specs.FormLaws.{FormLaws};
 ghost use Rattle.wenc_base.specs.Forms.{name, counted};
 ghost use Rattle.wenc_base.specs.Holder.{Held, Contains, is_finished, held, held_section};
@@ -12,20 +13,15 @@ ghost use Rattle.wenc_base.specs.Openings.{opened_with, lengthened, closed, give
 ghost use Rattle.wenc_base.specs.Piece.{Spelling, Strict, Wide, ◌▸◌, verbatim};
 ghost use Rattle.wenc_base.specs.Producers.{Producers, producers_field, producers_section, producers_held};
 ghost use Rattle.wenc_base.specs.declared.fault.Fault.{Fault};
+ghost use Rattle.wenc_base.specs.declared.fault.Fault.TheVariants.{Unfinished};
 ghost use Rattle.wenc_builder.specs.Entry.{Entry, items as items_of};
 ghost use Rattle.wenc_builder.specs.Item.{Item};
 ghost use Rattle.wenc_builder.specs.Sections.{Section, runs, component, Reading, whole};
-ghost use Rattle.wenc_canon.specs.Canonicals.{Intrinsic, row, Values, Canonical, canonical, Adds};
-ghost use Rattle.wenc_parts.specs.Aliases.{AliasOf, alias};
-ghost use Rattle.wenc_sections.specs.Exports.{Export, export_item};
-ghost use Rattle.wenc_sections.specs.Imports.{Import, import_item};
-ghost use Rattle.wenc_sections.specs.Instances.{CoreInstance, core_instance, Instance, instance};
+ghost use Rattle.wenc_canon.specs.Canonicals.{Intrinsic, row, Values, Adds};
 ghost use Rattle.wenc_types.specs.CoreTypes.{ModuleDeclaration, Defined, module_type, CoreType, core_type};
 ghost use Rattle.wenc_types.specs.ComponentTypes as component;
 ghost use Rattle.wenc_types.specs.ComponentTypes.{TypeOf, ComponentType, InstanceType, InstanceDeclaration, ComponentDeclaration, CoreTyped, Typed, components_of, instances_of, type_of};
-ghost use Rattle.wenc_types.specs.Declarations as types;
-ghost use Rattle.wenc_types.specs.Declarations.{Declaring, Settled, ComponentDeclares, InstanceDeclares};
-ghost use Rattle.wenc_types.specs.ModuleTypes.{Declared, Declares, begun, written, ended, taken_back};
+ghost use Rattle.wenc_types.specs.Declarations.{Declaring, Settled, ModuleDeclares, ComponentDeclares, InstanceDeclares, begun, written, ended, taken_back};
 ghost use Rattle.wenc_types.specs.declared.counts.Sort.TheVariants as sorts;
 ghost use Rattle.wenc_types.specs.declared.counts.Sort.{Sort};
 ghost use Rattle.wasm_encoder.specs.AllForms.{FormName, value_of, form_of};
@@ -74,8 +70,8 @@ pub fn texts_tell_equals<T: DelimitedEq>(a: &T, b: &T)
     texts_tell_values(a, b);
 }
 
-/// A value of each type that is `Delimited` is read as it is written, strictly in no other way, and in one way only,
-/// and no value's text begins another's.
+/// A value of each type that is `Delimited` is read as it is written, strictly in no other way, and in one way only;
+/// no value's text begins another's; and nothing stands against a value that can be encoded.
 pub fn values_are_lawful<T: Delimited>()
     ensures { FormLaws T.form }
 {}
@@ -90,7 +86,8 @@ pub fn delimited()
 
 /// From the same bytes no form reads two values or two rests, be it strictly, widely, or one of each. The text of a
 /// value that can be encoded is read as that value, whatever follows. What is read strictly is the text of a value that
-/// can be encoded, and it is read widely too.
+/// can be encoded, and it is read widely too. Nothing stands against a value that can be encoded, and no value of a form
+/// is unfinished.
 pub fn reads_once()
     ensures once { (f : FormName) (v w : value_of f) (mode other : Spelling) (bytes r s : List ℕ)
         → (form_of f v).Reads mode bytes r → (form_of f w).Reads other bytes s
@@ -103,6 +100,10 @@ pub fn reads_once()
         → (form_of f v).Reads Strict bytes rest → (form_of f v).Fits }
     ensures strict_is_wide { (f : FormName) (v : value_of f) (bytes rest : List ℕ)
         → (form_of f v).Reads Strict bytes rest → (form_of f v).Reads Wide bytes rest }
+    ensures fits_is_free { (f : FormName) (v : value_of f) → (form_of f v).Fits
+        → NoCause (form_of f v).Cause }
+    ensures never_unfinished { (f : FormName) (v : value_of f)
+        → (form_of f v).Cause Unfinished → ⊥ }
 {}
 
 /// No bytes are a component with one list of sections and with another, be it strictly, widely, or one of each. The
@@ -137,35 +138,20 @@ pub fn listed()
         → (Reading Wide (whole (items_of es)) ss ↔ (ss ≡ runs (items_of es))) }
 {}
 
-/// The text of a section that contains some items is their size, their number and the items. That of a module type, a
-/// component type or an instance type with some declarations is a byte, their number and the declarations.
+/// The text of a section that contains some items, of whatever form, is their size, their number and the items. That of
+/// a module type, a component type or an instance type with some declarations is a byte, their number and these.
 pub fn sections_are_their_items()
-    ensures core_types { (section : Held) (items : List CoreType) → Contains core_type section items
-        → (held_section section).text ≡ (counted core_type items).text }
-    ensures types { (section : Held) (items : List TypeOf) → Contains type_of section items
-        → (held_section section).text ≡ (counted type_of items).text }
-    ensures module_types { (ty : Declared) (ds : List ModuleDeclaration) → Declares ty ds
-        → (0x50 ▸ held ty.held).text ≡ (module_type ds).text }
+    ensures sections { (f : FormName) (section : Held) (items : List (value_of f))
+        → Contains (form_of f) section items
+        → (held_section section).text ≡ (counted (form_of f) items).text }
+    ensures module_types { (t : Declaring) (ds : List ModuleDeclaration) → ModuleDeclares t ds
+        → (0x50 ▸ held t.held).text ≡ (module_type ds).text }
     ensures component_types { (t : Declaring) (ds : List ComponentDeclaration)
         → ComponentDeclares t ds
         → (0x41 ▸ held t.held).text ≡ (type_of (ComponentType (components_of ds))).text }
     ensures instance_types { (t : Declaring) (ds : List InstanceDeclaration)
         → InstanceDeclares t ds
         → (0x42 ▸ held t.held).text ≡ (type_of (InstanceType (instances_of ds))).text }
-    ensures aliases { (section : Held) (items : List AliasOf) → Contains alias section items
-        → (held_section section).text ≡ (counted alias items).text }
-    ensures imports { (section : Held) (items : List Import) → Contains import_item section items
-        → (held_section section).text ≡ (counted import_item items).text }
-    ensures exports { (section : Held) (items : List Export) → Contains export_item section items
-        → (held_section section).text ≡ (counted export_item items).text }
-    ensures core_instances { (section : Held) (items : List CoreInstance)
-        → Contains core_instance section items
-        → (held_section section).text ≡ (counted core_instance items).text }
-    ensures instances { (section : Held) (items : List Instance) → Contains instance section items
-        → (held_section section).text ≡ (counted instance items).text }
-    ensures canonical_functions { (section : Held) (items : List Canonical)
-        → Contains canonical section items
-        → (held_section section).text ≡ (counted canonical items).text }
     ensures producers { (section : Held) (fields : List Producers)
         → Contains producers_field section fields
         → (producers_held section).text ≡ (producers_section fields).text }
@@ -188,32 +174,27 @@ pub fn openings_are_members()
         → (core_type t).Fits → Contains core_type section types
         → Contains core_type (closed (lengthened (opened_with section []) (core_type t).text))
         (types ++ t ∷ []) }
-    ensures module_given_up { (ty : Declared) (text : List ℕ) → is_finished ty.held ≡ true
-        → taken_back (written (begun ty) text) ≡ ty }
-    ensures module_ended { (ty : Declared) (g : Group) (ds : List ModuleDeclaration)
-        → (group g).Fits → Declares ty ds
-        → Declares (ended (written (begun ty) (group g).text)) (ds ++ Defined g ∷ []) }
     ensures type_given_up { (t : Declaring) (sort : Sort) (text : List ℕ) → Settled t
-        → types.taken_back (types.written (types.begun sort t) text) ≡ t }
+        → taken_back (written (begun sort t) text) ≡ t }
+    ensures type_ended_in_module { (t : Declaring) (g : Group) (ds : List ModuleDeclaration)
+        → (group g).Fits → ModuleDeclares t ds
+        → ModuleDeclares (ended (written (begun sorts.«Type» t) (group g).text))
+        (ds ++ Defined g ∷ []) }
     ensures type_ended_in_component { (t : Declaring) (ty : TypeOf) (ds : List ComponentDeclaration)
         → (type_of ty).Fits → ComponentDeclares t ds
-        → ComponentDeclares
-        (types.ended (types.written (types.begun sorts.«Type» t) (type_of ty).text))
+        → ComponentDeclares (ended (written (begun sorts.«Type» t) (type_of ty).text))
         (ds ++ component.Declared (Typed ty) ∷ []) }
     ensures core_type_ended_in_component { (t : Declaring) (ty : CoreType)
         (ds : List ComponentDeclaration) → (core_type ty).Fits → ComponentDeclares t ds
-        → ComponentDeclares
-        (types.ended (types.written (types.begun sorts.CoreType t) (core_type ty).text))
+        → ComponentDeclares (ended (written (begun sorts.CoreType t) (core_type ty).text))
         (ds ++ component.Declared (CoreTyped ty) ∷ []) }
     ensures type_ended_in_instance { (t : Declaring) (ty : TypeOf) (ds : List InstanceDeclaration)
         → (type_of ty).Fits → InstanceDeclares t ds
-        → InstanceDeclares
-        (types.ended (types.written (types.begun sorts.«Type» t) (type_of ty).text))
+        → InstanceDeclares (ended (written (begun sorts.«Type» t) (type_of ty).text))
         (ds ++ Typed ty ∷ []) }
     ensures core_type_ended_in_instance { (t : Declaring) (ty : CoreType)
         (ds : List InstanceDeclaration) → (core_type ty).Fits → InstanceDeclares t ds
-        → InstanceDeclares
-        (types.ended (types.written (types.begun sorts.CoreType t) (core_type ty).text))
+        → InstanceDeclares (ended (written (begun sorts.CoreType t) (core_type ty).text))
         (ds ++ CoreTyped ty ∷ []) }
 {}
 

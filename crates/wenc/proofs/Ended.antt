@@ -12,7 +12,7 @@ use Rattle.wenc.specs.declared.program.Printout.{Printout}
 use Rattle.wenc.specs.Script.{script}
 use Rattle.wenc.specs.Printed.{line_of, answer_line, answer_lines, printed}
 use Rattle.wenc.specs.Run.{Prints, Ends, AppendsFront, Says, fault_report, no_memory, line_report}
-use Rattle.wenc.specs.Steps.{text_of, Translation, IsWhole, Reads, NotTranslated, Reported}
+use Rattle.wenc.specs.inside.Steps.{text_of, Translation, IsWhole, Reads, NotTranslated, Reported}
 
 pub keeps_same : (a : Option (List ℕ)) → Keeps a a
 keeps_same None = tt

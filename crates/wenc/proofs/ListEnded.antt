@@ -9,9 +9,9 @@ use Rattle.wenc.specs.declared.unlisted.Unlisted.{Unlisted}
 use Rattle.wenc.specs.declared.unlisted.Unlisted.TheVariants.{BadText, Fault, Transfer}
 use Rattle.wenc.specs.Listed.{text_bytes, listing_text, bad_text, fault_line}
 use Rattle.wenc.specs.ListRun.{IsListingOf, IsFaultIn, PrintsListing, PrintsListingFront, EndsListing}
-use Rattle.wenc.specs.ListSteps.{ListsText, ReadsListing, NotReadAndListed, ReportsUnlisted}
+use Rattle.wenc.specs.inside.ListSteps.{ListsText, ReadsListing, NotReadAndListed, ReportsUnlisted}
 use Rattle.wenc.specs.Run.{Says, AppendsFront}
-use Rattle.wenc.specs.Steps.{IsWhole}
+use Rattle.wenc.specs.inside.Steps.{IsWhole}
 use Rattle.wenc.proofs.Ended.{keeps_same, whole_known, appended_known}
 
 -- what is listed of all that was read

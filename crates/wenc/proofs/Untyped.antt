@@ -13,7 +13,7 @@ use Rattle.wenc.specs.Fields.{number, numbers, hex, kind}
 use Rattle.wenc.specs.Intrinsics.{intrinsic}
 use Rattle.wenc.specs.Parts.{parted}
 use Rattle.wenc.specs.Script.{has_empty, import_of, import, export_of, export, alias_of, alias_export, core_module, start_of, start, append_names, command_of, line_command, with_line, commands_from, script}
-use Rattle.wenc.specs.Steps.{Translates}
+use Rattle.wenc.specs.inside.Steps.{Translates}
 use Rattle.wenc.specs.declared.failure.Failure.{Failure}
 use Rattle.wenc.specs.declared.failure.Failure.TheVariants as failures
 use Rattle.wenc.specs.declared.program.Printout.{Printout}

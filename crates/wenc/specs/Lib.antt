@@ -6,7 +6,6 @@ pub mod Words
 pub mod Parsed
 pub mod Printed
 pub mod Run
-pub mod Steps
 pub mod Listed
 pub mod ListRun
-pub mod ListSteps
+pub mod inside

@@ -1,4 +1,4 @@
-ghost use Rattle.wenc.specs.Steps.{ReadsWhole};
+ghost use Rattle.wenc.specs.inside.Steps.{ReadsWhole};
 
 use crate::failure::Failure;
 use std::alloc::Allocator;

@@ -2,7 +2,7 @@
 ghost use Rattle.std.specs.Prelude.{◌≡◌, ◌++◌, ◌⊎◌, IfOk, OnOk, MatchResult, string_bytes, Some};
 ghost use Rattle.wenc_list.specs.declared.fault.ListFault.TheVariants.{Memory};
 ghost use Rattle.wenc.specs.Listed.{without_line_end, text_bytes, section_line, section_lines, spaced, counts_line, listing_text, place_line, fault_line};
-ghost use Rattle.wenc.specs.ListSteps.{NotDecoded, ListsText, ReadsText, ReadsListing, ReportsUnlisted};
+ghost use Rattle.wenc.specs.inside.ListSteps.{NotDecoded, ListsText, ReadsText, ReadsListing, ReportsUnlisted};
 ghost use Rattle.wenc.specs.ListRun.{EndsListing};
 ghost use Rattle.wenc.specs.Run.{Says};
 

@@ -1,6 +1,8 @@
 -- What holds of a form: of each value of a type and its piece.
 use Rattle.std.specs.Prelude.{◌≡◌, ℕ, List, ◌++◌}
+use Rattle.wenc_base.specs.Fault.{NoCause}
 use Rattle.wenc_base.specs.Piece.{Form, Spelling, Strict, Wide}
+use Rattle.wenc_base.specs.declared.fault.Fault.TheVariants.{Unfinished}
 
 -- The text is read, whatever follows it.
 abbrev pub TextIsRead : {A : Type 0} → Form A → Type 0
@@ -27,6 +29,14 @@ abbrev pub WideReadsStrict : {A : Type 0} → Form A → Type 0
 WideReadsStrict {A} form = (v : A) (bytes rest : List ℕ) → (form v).Reads Strict bytes rest
     → (form v).Reads Wide bytes rest
 
+-- Nothing stands against a value that fits.
+abbrev pub FitsIsFree : {A : Type 0} → Form A → Type 0
+FitsIsFree {A} form = (v : A) → (form v).Fits → NoCause (form v).Cause
+
+-- No value is unfinished.
+abbrev pub NeverUnfinished : {A : Type 0} → Form A → Type 0
+NeverUnfinished {A} form = (v : A) → (form v).Cause Unfinished → ⊥
+
 -- All of these.
 pub record FormLaws {A : Type 0} (form : Form A) : Type 0 where
   pub text_is_read : TextIsRead form
@@ -34,3 +44,5 @@ pub record FormLaws {A : Type 0} (form : Form A) : Type 0 where
   pub reads_once : ReadsOnce form
   pub delimited : IsDelimited form
   pub wide_reads_strict : WideReadsStrict form
+  pub fits_is_free : FitsIsFree form
+  pub never_unfinished : NeverUnfinished form

@@ -1,11 +1,11 @@
 -- Forms made of others (component model, binary format; WebAssembly 3.0, binary format,
 -- "Conventions" and "Values").
-use Rattle.std.specs.Prelude.{◌≡◌, ◌⊎◌, ℕ, ◌^◌, ◌<◌, List, [], ◌∷◌, ◌++◌, length, Bool, true, false}
+use Rattle.std.specs.Prelude.{◌≡◌, ◌⊎◌, ℕ, ◌^◌, ◌<◌, List, ◌++◌, length, Bool, true, false}
 use Rattle.std.specs.Prelude.{Option, Some, None, IsUtf8}
 use Rattle.wenc_base.specs.Fault.{size_cause}
 use Rattle.wenc_base.specs.Piece.{Piece, Whole, Form, byte, ◌▸◌, ◌⨾◌, each, all_of, raw}
-use Rattle.wenc_base.specs.Number.{unsigned_text, u32, count, size}
-use Rattle.std.specs.List.{flat_map, AllByRecursion}
+use Rattle.wenc_base.specs.Number.{u32, count, size}
+use Rattle.std.specs.List.{AllByRecursion}
 
 -- whether it holds
 abbrev pub flag_byte : Bool → ℕ
@@ -15,18 +15,11 @@ flag_byte true = 0x01
 abbrev pub flag : Form Bool
 flag holds = byte (flag_byte holds)
 
--- how many, then the text of each
-abbrev pub list_text : {A : Type 0} → (A → List ℕ) → List A → List ℕ
-list_text text vs = unsigned_text (length vs) ++ flat_map text vs
-
+-- how many, then each
 abbrev pub list : {A : Type 0} → Form A → Form (List A)
 list form vs = count (length vs) ⨾ each form vs
 
 -- a byte that says whether there is a value, then the value
-abbrev pub option_text : {A : Type 0} → (A → List ℕ) → Option A → List ℕ
-option_text text None = 0x00 ∷ []
-option_text text (Some v) = 0x01 ∷ text v
-
 abbrev pub option : {A : Type 0} → Form A → Form (Option A)
 option form None = byte 0x00
 option form (Some v) = 0x01 ▸ form v

@@ -9,7 +9,7 @@ ghost use Rattle.wenc_base.specs.declared.fault.Fault.TheVariants.{Unfinished};
 ghost use Rattle.wenc_parts.specs.Imports.{extern_name_view};
 ghost use Rattle.wenc_parts.specs.Aliases.{alias_view};
 ghost use Rattle.wenc_canon.specs.Canonicals.{◌is◌takes◌, CoreType, Slot, slot_text};
-ghost use Rattle.wenc_canon.specs.Rows.{row_with, provided_by, and_options, provided_with};
+ghost use Rattle.wenc_canon.specs.inside.Rows.{row_with, provided_by, and_options, provided_with};
 ghost use Rattle.wenc_canon.specs.CanonTrees.{canon_view};
 ghost use Rattle.wenc_builder.specs.Sections.{Section, runs, Reading, whole};
 ghost use Rattle.wenc_builder.specs.Entry.{Entry, items, module_entry, component_entry, canonical_entry, start_entry, custom_entry, raw_entry};

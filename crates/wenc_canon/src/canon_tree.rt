@@ -2,7 +2,7 @@ ghost use Rattle.std.specs.Prelude.{OnOk};
 ghost use Rattle.wenc_base.specs.Encode.{Appends, Serves};
 ghost use Rattle.wenc_base.specs.laws.Serves.{serves_itself};
 ghost use Rattle.wenc_canon.specs.Canonicals.{Lift, Lower, canonical};
-ghost use Rattle.wenc_canon.specs.Rows.{row_then};
+ghost use Rattle.wenc_canon.specs.inside.Rows.{row_then};
 
 use crate::canonicals::CanonicalOption;
 use crate::fields::{Fields, NotCancellable};
@@ -205,7 +205,7 @@ impl<A: Allocator> CanonTree<A> {
     ghost use Rattle.std.specs.Prelude.{◌≡◌};
     ghost use Rattle.wenc_canon.specs.CanonTrees.{canon_view};
     ghost use Rattle.wenc_canon.specs.inside.Operands.{behind};
-    ghost use Rattle.wenc_canon.specs.Rows.{own_name};
+    ghost use Rattle.wenc_canon.specs.inside.Rows.{own_name};
 
     /// The name of the function, without the number of a slot.
     pub fn name(&self) -> &'static str

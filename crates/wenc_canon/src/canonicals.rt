@@ -8,7 +8,7 @@ ghost use Rattle.wenc_base.specs.Piece.{HasForm};
 ghost use Rattle.wenc_base.specs.laws.Delimited.{itself};
 ghost use Rattle.wenc_base.specs.laws.Serves.{serves_itself};
 ghost use Rattle.wenc_canon.specs.Canonicals.{AddsWithOptions, Lift, Lower, canonical, ◌is◌takes◌};
-ghost use Rattle.wenc_canon.specs.Rows.{row_with, provided_by, and_options, provided_with};
+ghost use Rattle.wenc_canon.specs.inside.Rows.{row_with, provided_by, and_options, provided_with};
 
 mod intrinsics;
 

@@ -39,9 +39,6 @@ alias (CoreInstanceExport instance kind name) =
     0x00 ▸ core_kind kind ⨾ 0x01 ▸ u32 instance ⨾ name_form name
 alias (Outer kind count number) = outer_kind kind ⨾ 0x02 ▸ u32 count ⨾ u32 number
 
-abbrev pub alias_text : AliasOf → List ℕ
-alias_text a = (alias a).text
-
 -- ---- the code's aliases as pure ones
 
 abbrev pub alias_view : Alias → AliasOf

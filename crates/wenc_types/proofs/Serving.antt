@@ -1,9 +1,12 @@
 -- What the code writes of types serves as their forms.
-use Rattle.std.proofs.Common.{String, ◌≡◌, ℕ, Bool, true, false, List, [], ◌∷◌, Option, Vec, map, refl, ap, subst}
+use Rattle.std.proofs.Common.{String, Result, ◌≡◌, ℕ, Bool, true, false, List, [], ◌∷◌, Option, Vec, map, refl, ap, subst}
 use Rattle.std.specs.Borrow.{Bor}
 use Rattle.std.specs.String.{string_bytes}
 use Rattle.wenc_base.specs.Encode.{Serves, in_order, list_in_order}
 use Rattle.wenc_base.specs.Entities.{entity_type}
+use Rattle.wenc_base.specs.declared.fault.Fault.{Fault}
+use Rattle.wenc_base.specs.Lender.{Ends, EndsListed}
+use Rattle.wenc_base.specs.laws.Lenders.{extends_for, extends_as}
 use Rattle.wenc_base.specs.Forms.{list, option, name as name_form}
 use Rattle.wenc_base.specs.Number.{u32}
 use Rattle.wenc_base.specs.Piece.{Piece, Form, nothing, byte, verbatim, ◌▸◌, ◌⨾◌, behind_bytes}
@@ -35,6 +38,16 @@ order_is_order p q = order_serves (serves_itself {p = p}) (serves_itself {p = q}
 -- the same behind a byte
 pub pair_serves : (b : ℕ) (p q : Piece) → Serves (b ▸ in_order p q) (b ▸ (p ⨾ q))
 pair_serves b p q = tagged_serves b (order_is_order p q)
+
+-- ---- an encoder's last call, of which one piece or the other is told
+
+module _ {T : Type 0} (written : T → List ℕ → T) (ended : T → T) (refuses : T → List ℕ → Fault → Type 0) {old new : T} {outcome : Result (Unit {0}) Fault} where
+  pub ends_for : {p q : Piece} → Serves p q → Ends written ended refuses old new outcome p → Ends written ended refuses old new outcome q
+  ends_for = extends_for old new outcome (λ bytes. ended (written old bytes)) (refuses old)
+
+  pub ends_listed_for : {S B : Type 0} {steps : S → Option B → S → Type 0} {values : S} {one other : List B → Piece} → ((vs : List B) → Serves (one vs) (other vs))
+      → EndsListed written ended refuses steps values old new outcome one → EndsListed written ended refuses steps values old new outcome other
+  ends_listed_for {steps = steps} {values = values} {one = one} {other = other} = extends_as steps values old new outcome (λ bytes. ended (written old bytes)) (refuses old) one other
 
 -- ---- core types
 

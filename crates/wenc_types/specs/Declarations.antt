@@ -1,8 +1,7 @@
--- Component types and instance types: their declarations, one by one, and what is counted of them.
-use Rattle.std.specs.List.{AllByRecursion}
+-- Module, component and instance types: their declarations, one by one, and what is counted.
 use Rattle.std.specs.Prelude.{◌≡◌, ℕ, ◌+◌, ◌-◌, ◌≤◌, List, [], ◌∷◌, ◌++◌, length, Option, Some, None, Result, OnOk, OnErr, true}
 use Rattle.wenc_base.specs.Holder.{Held, no_members, is_finished, Contains, AddsMember}
-use Rattle.wenc_base.specs.Piece.{Form, verbatim}
+use Rattle.wenc_base.specs.Piece.{Form}
 use Rattle.wenc_base.specs.Openings.{opened_with, lengthened, closed, given_up, OpeningIsIn}
 use Rattle.wenc_base.specs.declared.fault.Fault.{Fault}
 use Rattle.wenc_base.specs.declared.holder.openings.Opening.{Opening}
@@ -13,6 +12,7 @@ use Rattle.wenc_parts.specs.declared.aliases.ComponentOuterAliasKind.TheVariants
 use Rattle.wenc_parts.specs.declared.exports.ComponentExportKind.{ComponentExportKind}
 use Rattle.wenc_parts.specs.declared.exports.ComponentExportKind.TheVariants as kinds
 use Rattle.wenc_types.specs.ComponentTypes.{InstanceDeclaration, CoreTyped, Typed, Aliased, Exported, ComponentDeclaration, Imported, Declared, instance_declaration, component_declaration}
+use Rattle.wenc_types.specs.CoreTypes.{ModuleDeclaration, Import, Defined, Outer as OuterType, Export, module_declaration}
 use Rattle.wenc_types.specs.declared.counts.Counts.{Counts}
 use Rattle.wenc_types.specs.declared.counts.Sort.{Sort}
 use Rattle.wenc_types.specs.declared.counts.Sort.TheVariants.{CoreType, «Type» as TypeSort, Instance}
@@ -37,6 +37,12 @@ abbrev pub sort_of_alias : AliasOf → Option Sort
 sort_of_alias (InstanceExport instance kind name) = sort_of_kind kind
 sort_of_alias (CoreInstanceExport instance kind name) = None
 sort_of_alias (Outer kind count number) = sort_of_outer kind
+
+abbrev pub module_sort : ModuleDeclaration → Option Sort
+module_sort (Import from name ty) = None
+module_sort (Defined g) = Some TypeSort
+module_sort (OuterType count number) = Some TypeSort
+module_sort (Export name ty) = None
 
 abbrev pub instance_sort : InstanceDeclaration → Option Sort
 instance_sort (CoreTyped ty) = Some CoreType
@@ -66,7 +72,7 @@ abbrev pub counts_of : {D : Type 0} → (D → Option Sort) → List D → Count
 counts_of sort [] = no_counts
 counts_of sort (d ∷ ds) = counted (sort d) (counts_of sort ds)
 
--- ---- what contracts see of a component type or an instance type
+-- ---- what contracts see of a type with declarations
 
 -- `begun`: what is being written counts as this.
 pub record Declaring : Type 0 where
@@ -88,6 +94,9 @@ pub record Declares {D : Type 0} (form : Form D) (sort : D → Option Sort) (t :
   pub contained : Contains form t.held ds
   pub counts : t.counts ≡ counts_of sort ds
 
+abbrev pub ModuleDeclares : Declaring → List ModuleDeclaration → Type 0
+ModuleDeclares = Declares module_declaration module_sort
+
 abbrev pub InstanceDeclares : Declaring → List InstanceDeclaration → Type 0
 InstanceDeclares = Declares instance_declaration instance_sort
 
@@ -102,11 +111,11 @@ pub record IsDeclaration {D : Type 0} (form : Form D) (sort : D → Option Sort)
   pub text_is : bytes ≡ (form declaration).text
   pub sort_is : counts_as ≡ sort declaration
 
--- It has some declarations, each of which has such a text and counts as such a sort.
-pub record DeclaresSome (IsSuch : List ℕ → Option Sort → Type 0) (t : Declaring) : Type 0 where
-  pub declarations : List (List ℕ × Option Sort)
-  pub declared : Declares (λ d. verbatim d.0) (λ d. d.1) t declarations
-  pub each : AllByRecursion (λ d. IsSuch d.0 d.1) declarations
+-- It has some declarations, each with its text, and counts them.
+pub record DeclaresSome {D : Type 0} (form : Form D) (sort : D → Option Sort)
+    (t : Declaring) : Type 0 where
+  pub declarations : List D
+  pub declared : Declares form sort t declarations
 
 -- A call adds this declaration, or is refused for a cause and changes nothing.
 pub record AddsDeclaration {D : Type 0} (form : Form D) (sort : D → Option Sort)
@@ -117,6 +126,10 @@ pub record AddsDeclaration {D : Type 0} (form : Form D) (sort : D → Option Sor
   pub declared : OnOk outcome
       ((ds : List D) → Declares form sort old ds → Declares form sort new (ds ++ d ∷ []))
   pub err : OnErr outcome (new ≡ old)
+
+abbrev pub AddsToModule : Declaring → Declaring → Result (Unit {0}) Fault → ModuleDeclaration
+    → Type 0
+AddsToModule = AddsDeclaration module_declaration module_sort
 
 abbrev pub AddsToInstance : Declaring → Declaring → Result (Unit {0}) Fault → InstanceDeclaration
     → Type 0
@@ -185,9 +198,10 @@ OpenedIsIn (Some o) sort n = HasOne sort n
 abbrev pub total : Counts → ℕ
 total n = n.core_types + n.types + n.instances
 
--- It has declarations, each of which is such a one, but for a type that is being written.
-pub record IsDeclaring (IsSuch : List ℕ → Option Sort → Type 0) (t : Declaring) : Type 0 where
+-- It has some declarations, but for a type that is being written.
+pub record IsDeclaring {D : Type 0} (form : Form D) (sort : D → Option Sort)
+    (t : Declaring) : Type 0 where
   pub enough : total t.counts ≤ t.held.count
   pub counted : OpenedIsIn t.held.opening t.begun t.counts
   pub opening : OpeningIsIn t.held.opening t.held.count (length t.held.body)
-  pub settled : ∥ DeclaresSome IsSuch (taken_back t) ∥₁
+  pub settled : ∥ DeclaresSome form sort (taken_back t) ∥₁

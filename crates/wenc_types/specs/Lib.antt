@@ -1,7 +1,6 @@
 pub mod CoreTypes
 pub mod DefinedTypes
 pub mod ComponentTypes
-pub mod ModuleTypes
 pub mod Declarations
 pub mod FuncStages
 pub mod CoreTypeTrees

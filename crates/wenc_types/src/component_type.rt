@@ -4,7 +4,7 @@ ghost use Rattle.wenc_types.specs.ComponentTypes.{Imported, Declared, Aliased, E
 ghost use Rattle.wenc_types.specs.Declarations.{AddsToComponent};
 
 use crate::counts::{sort_of_alias, sort_of_kind};
-use crate::declarations::{Declarations, DeclaringKind};
+use crate::declarations::{Declarations, DeclaredKind, DeclaringKind};
 use std::alloc::{Allocator, Global};
 use wenc_base::{Fault, Tagged};
 use wenc_parts::{Alias, ComponentExternName, ComponentTypeRef};
@@ -12,30 +12,30 @@ use wenc_parts::{Alias, ComponentExternName, ComponentTypeRef};
 /// The kind of types that components have.
 pub struct ComponentTypes;
 
-impl DeclaringKind for ComponentTypes {
-    ghost use Rattle.std.proofs.Common.{refl};
-    ghost use Rattle.wenc_types.specs.ComponentTypes.{Declared, CoreTyped, Typed, component_declaration};
-    ghost use Rattle.wenc_types.specs.Declarations.{IsDeclaration, component_sort};
+impl DeclaredKind for ComponentTypes {
+    ghost use Rattle.wenc_types.specs.ComponentTypes.{ComponentDeclaration, component_declaration};
+    ghost use Rattle.wenc_types.specs.Declarations.{component_sort};
 
     ghost LEAD = { 0x41 };
 
     const LEAD: u8 = 0x41;
 
-    ghost is_declaration = { IsDeclaration component_declaration component_sort };
+    ghost Declaration = { ComponentDeclaration };
 
-    ghost has_core_types = { λ t fits. record {
-      declaration = Declared (CoreTyped t);
-      fits = fits;
-      text_is = refl;
-      sort_is = refl;
-    } };
+    ghost form = { component_declaration };
 
-    ghost has_types = { λ t fits. record {
-      declaration = Declared (Typed t);
-      fits = fits;
-      text_is = refl;
-      sort_is = refl;
-    } };
+    ghost sort = { component_sort };
+}
+
+impl DeclaringKind for ComponentTypes {
+    ghost use Rattle.std.proofs.Common.{refl};
+    ghost use Rattle.wenc_base.specs.laws.Serves.{serves_itself};
+    ghost use Rattle.wenc_types.specs.ComponentTypes.{component_declaration, Declared};
+    ghost use Rattle.wenc_types.specs.Declarations.{component_sort};
+    ghost use Rattle.wenc_types.specs.laws.Declarations.{is_declaration};
+
+    ghost declares = { λ d. is_declaration component_declaration component_sort (Declared d)
+        serves_itself refl };
 }
 
 /// The type of a component: what it imports and exports, and the types that these have (component model, binary format,

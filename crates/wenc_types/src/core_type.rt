@@ -5,7 +5,7 @@ ghost use Rattle.wenc_base.specs.Piece.{◌▸◌, refused_for};
 ghost use Rattle.wenc_base.specs.declared.fault.Fault.TheVariants.{Unfinished};
 ghost use Rattle.wenc_types.specs.CoreTypes.{CoreType, ModuleDeclaration, Module, core_type};
 ghost use Rattle.wenc_types.specs.CoreTypeTrees.{core_type_view};
-ghost use Rattle.wenc_types.specs.ModuleTypes.{Declares};
+ghost use Rattle.wenc_types.specs.Declarations.{ModuleDeclares};
 
 use crate::core_type_tree::CoreTypeTree;
 use crate::module_type::ModuleType;
@@ -47,7 +47,7 @@ impl<'a, L: Lender> ComponentCoreTypeEncoder<'a, L> {
         ensures ended { Ends L.written L.ended L.refuses
             self.entry.lender.now self.exit.0.now result
             (0x50 ▸ held ty.now.held) }
-        ensures declared { (ds : List ModuleDeclaration) → Declares ty.now ds
+        ensures declared { (ds : List ModuleDeclaration) → ModuleDeclares ty.now ds
             → Ends L.written L.ended L.refuses self.entry.lender.now self.exit.0.now result
             (refused_for (EncodeCause ty.now.held) (core_type (Module ds))) }
         ensures unfinished { is_finished ty.now.held ≡ false → result ≡ Err Unfinished }

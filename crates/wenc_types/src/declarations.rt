@@ -1,14 +1,13 @@
 ghost use Rattle.std.specs.Borrow.{sem, RestsIfErr};
-ghost use Rattle.std.specs.Prelude.{◌≡◌, ◌==◌, ◌∷◌, ℕ, [], List, Option as Optional, Some, OnOk, OnErr, IfOk, IfErr, true, false};
-ghost use Rattle.wenc_base.specs.Encode.{Appends};
+ghost use Rattle.std.specs.Prelude.{◌≡◌, ◌==◌, ◌∷◌, ℕ, [], Option as Optional, Some, OnOk, OnErr, IfOk, IfErr, true, false};
+ghost use Rattle.wenc_base.specs.Encode.{Appends, Serves};
 ghost use Rattle.wenc_base.specs.Fault.{IsMemory, IsWarranted, NoCause};
-ghost use Rattle.wenc_base.specs.Holder.{is_finished, held, held_text, EncodeCause, AddCause, AddsMember};
+ghost use Rattle.wenc_base.specs.Holder.{is_finished, held, held_text, EncodeCause, AddCause};
 ghost use Rattle.wenc_base.specs.Lender.{Lends, GivesUp};
-ghost use Rattle.wenc_base.specs.Piece.{◌▸◌};
+ghost use Rattle.wenc_base.specs.Piece.{◌▸◌, Form};
 ghost use Rattle.wenc_base.specs.declared.fault.Fault.TheVariants.{Unfinished};
-ghost use Rattle.wenc_types.specs.ComponentTypes.{TypeOf, type_of};
-ghost use Rattle.wenc_types.specs.CoreTypes.{CoreType, core_type};
-ghost use Rattle.wenc_types.specs.Declarations.{counted, no_declarations, lead_of, begun, taken_back, Settled, DeclaresSome};
+ghost use Rattle.wenc_types.specs.ComponentTypes.{InstanceDeclaration, instance_declaration};
+ghost use Rattle.wenc_types.specs.Declarations.{instance_sort, no_declarations, lead_of, begun, taken_back, Settled, DeclaresSome, IsDeclaration, AddsDeclaration};
 ghost use Rattle.wenc_types.specs.declared.counts.Sort.{Sort as SortSpec};
 ghost use Rattle.wenc_types.specs.declared.counts.Sort.TheVariants as sorts;
 
@@ -19,33 +18,38 @@ use std::alloc::{Allocator, Global};
 use std::marker::{Model, PhantomData};
 use wenc_base::{Encode, Fault, Holder, Lender, Tagged};
 
-/// Which types have declarations: those of components, or those of instances. What declares aliases, imports and
-/// exports stands beside the kind.
-pub trait DeclaringKind {
+/// Which types have declarations: those of modules, components or instances. The calls that declare what not all of
+/// them do stand beside the kind.
+pub trait DeclaredKind {
     /// The byte with which such a type begins.
     ghost LEAD: { ℕ };
 
     /// The same, which the code writes.
     const LEAD: u8;
 
-    /// These bytes are the text of a declaration of such a type, which counts as this.
-    ghost is_declaration: { List ℕ → Optional SortSpec → Type 0 };
+    /// What such a type declares.
+    ghost Declaration: { Type 0 };
 
-    /// Such a type may declare each core type that fits.
-    ghost has_core_types: { (t : CoreType) → (core_type t).Fits
-        → is_declaration (0x00 ∷ (core_type t).text) (Some sorts.CoreType) };
+    /// How a declaration is written.
+    ghost form: { Form Declaration };
 
-    /// And each type.
-    ghost has_types: { (t : TypeOf) → (type_of t).Fits
-        → is_declaration (0x01 ∷ (type_of t).text) (Some sorts.«Type») };
+    /// What it counts as.
+    ghost sort: { Declaration → Optional SortSpec };
 }
 
-/// The type of a component or of an instance, by its declarations. Each kind has a name of its own for it:
-/// `ComponentType` and `InstanceType`. A call that is refused leaves it as it was.
+/// The types that declare all that instances do: those of components and of instances.
+pub trait DeclaringKind: DeclaredKind {
+    /// The text of what an instance declares is that of a declaration of such a type, which counts as the same.
+    ghost declares: { (d : InstanceDeclaration) → (instance_declaration d).Fits
+        → IsDeclaration Self.form Self.sort (instance_declaration d).text (instance_sort d) };
+}
+
+/// The type of a module, of a component or of an instance, by its declarations. Each kind has a name of its own for
+/// it: `ModuleType`, `ComponentType` and `InstanceType`. A call that is refused leaves it as it was.
 ///
-/// Types are written by the encoders that `core_type` and `ty` answer. Until such an encoder has ended its type, this
-/// one is unfinished, and what grows or encodes it is refused with `Unfinished`; `discard_unfinished` gives the type
-/// up.
+/// Types are written by the encoders that `ty` answers, and `core_type` of component types and instance types. Until
+/// such an encoder has ended its type, this one is unfinished, and what grows or encodes it is refused with
+/// `Unfinished`; `discard_unfinished` gives the type up.
 ///
 /// ```
 /// let mut ty = InstanceType::new(alloc);
@@ -54,7 +58,7 @@ pub trait DeclaringKind {
 /// let copy = ty.clone()?;
 /// ```
 #[derive(Drop)]
-pub struct Declarations<K: DeclaringKind, A: Allocator = Global> {
+pub struct Declarations<K: DeclaredKind, A: Allocator = Global> {
     held: Holder<A>,
     counts: Counts,
     /// What is being written counts as this.
@@ -62,20 +66,18 @@ pub struct Declarations<K: DeclaringKind, A: Allocator = Global> {
     kind: PhantomData<K>,
 }
 
-impl<K: DeclaringKind, A: Allocator> Model for Declarations<K, A> {
+impl<K: DeclaredKind, A: Allocator> Model for Declarations<K, A> {
     ghost use Rattle.wenc_types.specs.Declarations.{Declaring, IsDeclaring};
 
     ghost Value = { Declaring };
 
     ghost view = { λ t. record { held = t.held; counts = t.counts; begun = t.begun } };
 
-    ghost invariant = { λ t. IsDeclaring K.is_declaration
+    ghost invariant = { λ t. IsDeclaring K.form K.sort
         (record { held = t.held; counts = t.counts; begun = t.begun }) };
 }
 
-impl<K: DeclaringKind, A: Allocator> Declarations<K, A> {
-    ghost use Rattle.wenc_types.specs.contracts.declarations.Declarations.{the_row};
-
+impl<K: DeclaredKind, A: Allocator> Declarations<K, A> {
     /// No declarations. It takes no memory.
     pub fn new(alloc: A) -> Self
         ensures { result ≡ no_declarations }
@@ -95,11 +97,9 @@ impl<K: DeclaringKind, A: Allocator> Declarations<K, A> {
         sort: Option<Sort>,
     ) -> Result<(), Fault>
         requires { (E.piece declaration.now).Fits
-            → K.is_declaration (E.piece declaration.now).text sort }
-        ensures added { AddsMember (E.piece declaration.now) self.old.held self.new.held result }
-        ensures counts { OnOk result (self.new.counts ≡ counted sort self.old.counts) }
-        ensures begun { OnOk result (self.new.begun ≡ self.old.begun) }
-        ensures err { OnErr result (self.new ≡ self.old) }
+            → IsDeclaration K.form K.sort (E.piece declaration.now).text sort }
+        ensures { (d : K.Declaration) → Serves (E.piece declaration.now) (K.form d)
+            → sort ≡ K.sort d → AddsDeclaration K.form K.sort self.old self.new result d }
     {
         self.held.add_encoded(declaration)?;
         let count = self.held.len();
@@ -108,7 +108,7 @@ impl<K: DeclaringKind, A: Allocator> Declarations<K, A> {
     }
 
     /// Begins a type, by the byte that says that it is one.
-    fn begin(&mut self, lead: u8, sort: Sort) -> Result<(), Fault>
+    pub(crate) fn begin(&mut self, lead: u8, sort: Sort) -> Result<(), Fault>
         requires { lead_of sort ≡ lead ∷ [] }
         ensures ok { OnOk result (self.new ≡ begun sort self.old) }
         ensures settled { OnOk result (Settled self.old) }
@@ -125,72 +125,12 @@ impl<K: DeclaringKind, A: Allocator> Declarations<K, A> {
         Ok(())
     }
 
-    /// Begins a core type, which is written by the encoder that is answered. It is refused where there would be too
-    /// many declarations (`TooMany`), or too many bytes in them (`TooLarge`).
-    pub fn core_type(&mut self) -> Result<ComponentCoreTypeEncoder<'_, Declarations<K, A>>, Fault>
-        ensures* refused { sem 𝓛 (RestsIfErr (the_row K.row A.row K.DeclaringKind A.Allocator)
-            self.entry
-            (λ e. e.lender.ghost_name) result (λ n. n ≡ self.old)) }
-        ensures same_reference { IfOk result (λ e. e.lender.ghost_name ≡ self.entry.ghost_name) }
-        ensures lent { Lends (λ e. e.lender.now) (begun sorts.CoreType self.old)
-            (is_finished self.old.held) result
-            (AddCause self.old.held (lead_of sorts.CoreType) (λ _. ⊥)) }
-        ensures settled { OnOk result (Settled self.old) }
-    {
-        self.begin(0x00, Sort::CoreType)?;
-        Ok(ComponentCoreTypeEncoder::new(self))
-    }
-
-    /// Begins a type, which is written by the encoder that is answered. It is refused as `core_type` is.
-    pub fn ty(&mut self) -> Result<ComponentTypeEncoder<'_, Declarations<K, A>>, Fault>
-        ensures* refused { sem 𝓛 (RestsIfErr (the_row K.row A.row K.DeclaringKind A.Allocator)
-            self.entry
-            (λ e. e.lender.ghost_name) result (λ n. n ≡ self.old)) }
-        ensures same_reference { IfOk result (λ e. e.lender.ghost_name ≡ self.entry.ghost_name) }
-        ensures lent { Lends (λ e. e.lender.now) (begun sorts.«Type» self.old)
-            (is_finished self.old.held) result
-            (AddCause self.old.held (lead_of sorts.«Type») (λ _. ⊥)) }
-        ensures settled { OnOk result (Settled self.old) }
-    {
-        self.begin(0x01, Sort::Type)?;
-        Ok(ComponentTypeEncoder::new(self))
-    }
-
-    /// How many declarations there are, one that is being written among them.
-    pub fn len(&self) -> u32
-        ensures { result ≡ self.now.held.count }
-    {
-        self.held.len()
-    }
-
-    /// Whether there are none.
-    pub fn is_empty(&self) -> bool
-        ensures { result ≡ (self.now.held.count == 0) }
-    {
-        self.len() == 0
-    }
-
-    /// How many core types there are: those of `core_type`, one that is being written among them, and those of outer
-    /// aliases.
-    pub fn core_type_count(&self) -> u32
-        ensures { result ≡ self.now.counts.core_types }
-    {
-        self.counts.core_types
-    }
-
     /// How many types there are: those of `ty`, one that is being written among them, and those of aliases, imports
-    /// and exports.
+    /// and exports. Those of a module type are core types.
     pub fn type_count(&self) -> u32
         ensures { result ≡ self.now.counts.types }
     {
         self.counts.types
-    }
-
-    /// How many instances there are: those of aliases, imports and exports.
-    pub fn instance_count(&self) -> u32
-        ensures { result ≡ self.now.counts.instances }
-    {
-        self.counts.instances
     }
 
     /// Whether no type is being written. Then it has some declarations, whoever made which calls.
@@ -198,7 +138,7 @@ impl<K: DeclaringKind, A: Allocator> Declarations<K, A> {
         ensures finished { result ≡ is_finished self.now.held }
         ensures settled { is_finished self.now.held ≡ true → Settled self.now }
         ensures declares { is_finished self.now.held ≡ true
-            → ∥ DeclaresSome K.is_declaration self.now ∥₁ }
+            → ∥ DeclaresSome K.form K.sort self.now ∥₁ }
     {
         self.held.is_finished()
     }
@@ -233,9 +173,73 @@ impl<K: DeclaringKind, A: Allocator> Declarations<K, A> {
     }
 }
 
+impl<K: DeclaringKind, A: Allocator> Declarations<K, A> {
+    ghost use Rattle.wenc_types.specs.contracts.declarations.Declarations.{the_row};
+
+    /// Begins a core type, which is written by the encoder that is answered. It is refused where there would be too
+    /// many declarations (`TooMany`), or too many bytes in them (`TooLarge`).
+    pub fn core_type(&mut self) -> Result<ComponentCoreTypeEncoder<'_, Declarations<K, A>>, Fault>
+        ensures* refused { sem 𝓛 (RestsIfErr (the_row K.row A.row K.DeclaredKind A.Allocator)
+            self.entry
+            (λ e. e.lender.ghost_name) result (λ n. n ≡ self.old)) }
+        ensures same_reference { IfOk result (λ e. e.lender.ghost_name ≡ self.entry.ghost_name) }
+        ensures lent { Lends (λ e. e.lender.now) (begun sorts.CoreType self.old)
+            (is_finished self.old.held) result
+            (AddCause self.old.held (lead_of sorts.CoreType) (λ _. ⊥)) }
+        ensures settled { OnOk result (Settled self.old) }
+    {
+        self.begin(0x00, Sort::CoreType)?;
+        Ok(ComponentCoreTypeEncoder::new(self))
+    }
+
+    /// Begins a type, which is written by the encoder that is answered. It is refused as `core_type` is.
+    pub fn ty(&mut self) -> Result<ComponentTypeEncoder<'_, Declarations<K, A>>, Fault>
+        ensures* refused { sem 𝓛 (RestsIfErr (the_row K.row A.row K.DeclaredKind A.Allocator)
+            self.entry
+            (λ e. e.lender.ghost_name) result (λ n. n ≡ self.old)) }
+        ensures same_reference { IfOk result (λ e. e.lender.ghost_name ≡ self.entry.ghost_name) }
+        ensures lent { Lends (λ e. e.lender.now) (begun sorts.«Type» self.old)
+            (is_finished self.old.held) result
+            (AddCause self.old.held (lead_of sorts.«Type») (λ _. ⊥)) }
+        ensures settled { OnOk result (Settled self.old) }
+    {
+        self.begin(0x01, Sort::Type)?;
+        Ok(ComponentTypeEncoder::new(self))
+    }
+
+    /// How many declarations there are, one that is being written among them.
+    pub fn len(&self) -> u32
+        ensures { result ≡ self.now.held.count }
+    {
+        self.held.len()
+    }
+
+    /// Whether there are none.
+    pub fn is_empty(&self) -> bool
+        ensures { result ≡ (self.now.held.count == 0) }
+    {
+        self.len() == 0
+    }
+
+    /// How many core types there are: those of `core_type`, one that is being written among them, and those of outer
+    /// aliases.
+    pub fn core_type_count(&self) -> u32
+        ensures { result ≡ self.now.counts.core_types }
+    {
+        self.counts.core_types
+    }
+
+    /// How many instances there are: those of aliases, imports and exports.
+    pub fn instance_count(&self) -> u32
+        ensures { result ≡ self.now.counts.instances }
+    {
+        self.counts.instances
+    }
+}
+
 /// A byte, then the number of declarations, then these. A finished one is refused for want of memory alone. What is
 /// written has some declarations, whoever made which calls.
-impl<K: DeclaringKind, A: Allocator> Encode for Declarations<K, A> {
+impl<K: DeclaredKind, A: Allocator> Encode for Declarations<K, A> {
     ghost piece = { λ t. K.LEAD ▸ held t.held };
 
     ghost unfinished = { λ t. is_finished t.held ≡ false };
@@ -244,16 +248,16 @@ impl<K: DeclaringKind, A: Allocator> Encode for Declarations<K, A> {
         ensures appended { Appends (K.LEAD ∷ held_text self.now.held) (EncodeCause self.now.held)
             (is_finished self.now.held ≡ false) sink.old.items sink.new.items result }
         ensures fits { OnOk result (K.LEAD ▸ held self.now.held).Fits }
-        ensures declares { OnOk result (∥ DeclaresSome K.is_declaration self.now ∥₁) }
+        ensures declares { OnOk result (∥ DeclaresSome K.form K.sort self.now ∥₁) }
     {
         Tagged(K::LEAD, &self.held).encode(sink)
     }
 }
 
-impl<K: DeclaringKind, A: Allocator> Lender for Declarations<K, A> {
+impl<K: DeclaredKind, A: Allocator> Lender for Declarations<K, A> {
     ghost use Rattle.wenc_base.specs.Openings.{no_room, is_opened, member_text};
     ghost use Rattle.wenc_base.specs.laws.Holders.{opened_is_unfinished};
-    ghost use Rattle.wenc_types.specs.Declarations.{written, ended};
+    ghost use Rattle.wenc_types.specs.Declarations.{IsDeclaration, written, ended};
     ghost use Rattle.wenc_types.specs.laws.Declarations.{written_twice};
 
     ghost finished = { λ t. is_finished t.held };
@@ -262,7 +266,7 @@ impl<K: DeclaringKind, A: Allocator> Lender for Declarations<K, A> {
 
     ghost written = { written };
 
-    ghost is_whole = { λ t. K.is_declaration (member_text t.held) t.begun };
+    ghost is_whole = { λ t. IsDeclaration K.form K.sort (member_text t.held) t.begun };
 
     ghost ended = { ended };
 

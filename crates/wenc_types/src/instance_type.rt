@@ -4,7 +4,7 @@ ghost use Rattle.wenc_types.specs.ComponentTypes.{Aliased, Exported};
 ghost use Rattle.wenc_types.specs.Declarations.{AddsToInstance};
 
 use crate::counts::{sort_of_alias, sort_of_kind};
-use crate::declarations::{Declarations, DeclaringKind};
+use crate::declarations::{Declarations, DeclaredKind, DeclaringKind};
 use std::alloc::{Allocator, Global};
 use wenc_base::{Fault, Tagged};
 use wenc_parts::{Alias, ComponentExternName, ComponentTypeRef};
@@ -12,30 +12,30 @@ use wenc_parts::{Alias, ComponentExternName, ComponentTypeRef};
 /// The kind of types that instances have.
 pub struct InstanceTypes;
 
-impl DeclaringKind for InstanceTypes {
-    ghost use Rattle.std.proofs.Common.{refl};
-    ghost use Rattle.wenc_types.specs.ComponentTypes.{CoreTyped, Typed, instance_declaration};
-    ghost use Rattle.wenc_types.specs.Declarations.{IsDeclaration, instance_sort};
+impl DeclaredKind for InstanceTypes {
+    ghost use Rattle.wenc_types.specs.ComponentTypes.{InstanceDeclaration, instance_declaration};
+    ghost use Rattle.wenc_types.specs.Declarations.{instance_sort};
 
     ghost LEAD = { 0x42 };
 
     const LEAD: u8 = 0x42;
 
-    ghost is_declaration = { IsDeclaration instance_declaration instance_sort };
+    ghost Declaration = { InstanceDeclaration };
 
-    ghost has_core_types = { λ t fits. record {
-      declaration = CoreTyped t;
-      fits = fits;
-      text_is = refl;
-      sort_is = refl;
-    } };
+    ghost form = { instance_declaration };
 
-    ghost has_types = { λ t fits. record {
-      declaration = Typed t;
-      fits = fits;
-      text_is = refl;
-      sort_is = refl;
-    } };
+    ghost sort = { instance_sort };
+}
+
+impl DeclaringKind for InstanceTypes {
+    ghost use Rattle.std.proofs.Common.{refl};
+    ghost use Rattle.wenc_base.specs.laws.Serves.{serves_itself};
+    ghost use Rattle.wenc_types.specs.ComponentTypes.{instance_declaration};
+    ghost use Rattle.wenc_types.specs.Declarations.{instance_sort};
+    ghost use Rattle.wenc_types.specs.laws.Declarations.{is_declaration};
+
+    ghost declares = { λ d. is_declaration instance_declaration instance_sort d
+        serves_itself refl };
 }
 
 /// The type of an instance: what it exports, and the types that these have (component model, binary format, "Type

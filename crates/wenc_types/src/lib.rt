@@ -21,7 +21,7 @@ pub mod type_tree;
 pub use component_type::ComponentType;
 pub use core_type::ComponentCoreTypeEncoder;
 pub use core_type_tree::{CoreTypeTree, ModuleDecl};
-pub use declarations::{Declarations, DeclaringKind};
+pub use declarations::{Declarations, DeclaredKind, DeclaringKind};
 pub use defined_tree::{CaseTree, DefinedTree};
 pub use defined_type::ComponentDefinedTypeEncoder;
 pub use func_type::{ComponentFuncTypeEncoder, FuncStage};

@@ -1,7 +1,7 @@
 //! What component types and instance types declare.
 
 use crate::component_types::calls::{Call, Whole};
-use crate::lending::Makes;
+use crate::lending::{Makes, OwnKind};
 use std::alloc::Allocator;
 use wenc_base::{Fault, StorageType};
 use wenc_parts::{Alias, ComponentTypeRef};
@@ -12,7 +12,7 @@ use wenc_types::{
 };
 
 /// Which of both declares: what has a call of its own for each kind.
-pub trait Kind: DeclaringKind {
+pub trait Kind: DeclaringKind + OwnKind {
     fn alias<A: Allocator>(ty: &mut Declarations<Self, A>, alias: Alias<'_>) -> Result<(), Fault>;
 
     fn export<A: Allocator>(

@@ -5,18 +5,16 @@ use crate::checks::is_refused;
 use crate::component_types::calls::{Call, Lends, Whole};
 use crate::component_types::checks::STRING;
 use crate::component_types::declaring::Kind;
-use crate::lending::{Counts, Lending, Makes, TypeKind, is};
-use crate::swept_lending::OnHeap;
-use crate::unfinished::{NO_ITEMS, Taken, comes_to_nothing};
-use refusing::Refusing;
+use crate::lending::{Counts, Makes, OwnKind, TypeKind, is};
+use crate::unfinished::{NO_ITEMS, comes_to_nothing};
 use std::alloc::{Allocator, Global};
 use std::process::Abort;
-use sweeping::sweep_encode;
 use wenc_base::{Fault, ValType};
 use wenc_parts::{ComponentValType, PrimitiveValType};
 use wenc_sections::types::ComponentTypes;
 use wenc_sections::{ComponentTypeSection, Counted};
-use wenc_types::{ComponentType, Declarations, InstanceType};
+use wenc_types::instance_type::InstanceTypes;
+use wenc_types::{ComponentType, Declarations, DeclaringKind, InstanceType, component_type};
 
 /// Its short items are of one byte.
 impl TypeKind for ComponentTypes {
@@ -120,42 +118,60 @@ impl<A: Allocator> Makes<ComponentTypeSection<A>> for Beginning {
     }
 }
 
-/// Its short declarations are types of three bytes.
-impl<K: Kind, A: Allocator + Clone> Lending for Declarations<K, A> {
-    const BEGINNING_ASKS: bool = true;
+/// What is counted of it, and whether there is none.
+fn counted<K: DeclaringKind, A: Allocator>(ty: &Declarations<K, A>) -> (Counts, bool) {
+    let core_types = ty.core_type_count();
+    let counts = [ty.len(), core_types, ty.type_count(), ty.instance_count()];
+    (counts, ty.is_empty())
+}
 
-    fn add_short(&mut self) -> Result<(), Fault> {
-        Call::Own(0).make(self)
+/// Its short declarations are types of three bytes.
+impl OwnKind for component_type::ComponentTypes {
+    fn add_short<A: Allocator>(ty: &mut ComponentType<A>) -> Result<(), Fault> {
+        Call::Own(0).make(ty)
     }
 
-    fn begin(&mut self) -> Result<(), Fault> {
-        self.encoder()?;
+    fn begin<A: Allocator>(ty: &mut ComponentType<A>) -> Result<(), Fault> {
+        ty.encoder()?;
         Ok(())
     }
 
-    fn give_up(&mut self) -> bool {
-        self.discard_unfinished()
+    fn counted<A: Allocator>(ty: &ComponentType<A>) -> (Counts, bool) {
+        counted(ty)
     }
 
-    fn asked(&self) -> (Counts, bool, bool) {
-        let items = self.len();
-        let core_types = self.core_type_count();
-        let counts = [items, core_types, self.type_count(), self.instance_count()];
-        (counts, self.is_empty(), self.is_finished())
-    }
-
-    fn copy(&self) -> Result<Self, Fault> {
-        self.clone()
-    }
-
-    fn sweep_text(&self, alloc: Global) -> Result<bool, Fault> {
-        sweep_encode(alloc, self)
+    fn is_not_taken(ty: &ComponentType, rt: &impl Abort, alloc: Global) {
+        is_not_item(
+            rt,
+            alloc,
+            Whole::Component(ty),
+            &mut ComponentTypeSection::new(alloc),
+        );
     }
 }
 
-impl<'a, K: Kind> OnHeap<'a> for Declarations<K, &'a Refusing> {
-    fn empty(heap: &'a Refusing) -> Self {
-        Declarations::new(heap)
+/// Its short declarations are types of three bytes.
+impl OwnKind for InstanceTypes {
+    fn add_short<A: Allocator>(ty: &mut InstanceType<A>) -> Result<(), Fault> {
+        Call::Own(0).make(ty)
+    }
+
+    fn begin<A: Allocator>(ty: &mut InstanceType<A>) -> Result<(), Fault> {
+        ty.encoder()?;
+        Ok(())
+    }
+
+    fn counted<A: Allocator>(ty: &InstanceType<A>) -> (Counts, bool) {
+        counted(ty)
+    }
+
+    fn is_not_taken(ty: &InstanceType, rt: &impl Abort, alloc: Global) {
+        is_not_item(
+            rt,
+            alloc,
+            Whole::Instance(ty),
+            &mut ComponentTypeSection::new(alloc),
+        );
     }
 }
 
@@ -212,15 +228,4 @@ fn is_not_item(
         section,
         items(&ComponentType::new(alloc), &InstanceType::new(alloc)).as_slice(),
     );
-}
-
-impl<K: Kind> Taken for Declarations<K> {
-    fn is_not_taken(&self, rt: &impl Abort, alloc: Global) {
-        is_not_item(
-            rt,
-            alloc,
-            K::call(self),
-            &mut ComponentTypeSection::new(alloc),
-        );
-    }
 }

@@ -1,18 +1,16 @@
 //! What lends itself to the encoder of core types: module types, and sections of core types.
 
 use crate::checks::is_refused;
-use crate::core_types::calls::{Composite, Lends};
-use crate::lending::{Counts, Lending, Makes, TypeKind};
-use crate::swept_lending::OnHeap;
-use crate::unfinished::{Taken, comes_to_nothing};
-use refusing::Refusing;
+use crate::core_types::calls::Composite;
+use crate::lending::{Counts, Makes, OwnKind, TypeKind};
+use crate::unfinished::comes_to_nothing;
 use std::alloc::{Allocator, Global};
 use std::process::Abort;
-use sweeping::sweep_encode;
 use wenc_base::{Fault, StorageType};
 use wenc_sections::types::CoreTypes;
 use wenc_sections::{CoreTypeSection, Counted};
 use wenc_types::ModuleType;
+use wenc_types::module_type::ModuleTypes;
 
 /// Its short items are arrays of three bytes.
 impl TypeKind for CoreTypes {
@@ -55,47 +53,25 @@ impl<'t, A: Allocator> Makes<CoreTypeSection<A>> for Module<'t> {
 }
 
 /// Its short declarations are aliases of five bytes.
-impl<A: Allocator + Clone> Lending for ModuleType<A> {
-    const BEGINNING_ASKS: bool = true;
-
-    fn add_short(&mut self) -> Result<(), Fault> {
-        self.alias_outer_core_type(0, 0)
+impl OwnKind for ModuleTypes {
+    fn add_short<A: Allocator>(ty: &mut ModuleType<A>) -> Result<(), Fault> {
+        ty.alias_outer_core_type(0, 0)
     }
 
-    fn begin(&mut self) -> Result<(), Fault> {
-        self.encoder()?;
+    fn begin<A: Allocator>(ty: &mut ModuleType<A>) -> Result<(), Fault> {
+        ty.ty()?;
         Ok(())
     }
 
-    fn give_up(&mut self) -> bool {
-        self.discard_unfinished()
+    fn counted<A: Allocator>(ty: &ModuleType<A>) -> (Counts, bool) {
+        let count = ty.type_count();
+        ([0, count, 0, 0], count == 0)
     }
 
-    fn asked(&self) -> (Counts, bool, bool) {
-        let count = self.type_count();
-        ([0, count, 0, 0], count == 0, self.is_finished())
-    }
-
-    fn copy(&self) -> Result<Self, Fault> {
-        self.clone()
-    }
-
-    fn sweep_text(&self, alloc: Global) -> Result<bool, Fault> {
-        sweep_encode(alloc, self)
-    }
-}
-
-impl<'a> OnHeap<'a> for ModuleType<&'a Refusing> {
-    fn empty(heap: &'a Refusing) -> Self {
-        ModuleType::new(heap)
-    }
-}
-
-/// The item is left unfinished, and comes to nothing.
-impl Taken for ModuleType {
-    fn is_not_taken(&self, rt: &impl Abort, alloc: Global) {
+    /// The item is left unfinished, and comes to nothing.
+    fn is_not_taken(ty: &ModuleType, rt: &impl Abort, alloc: Global) {
         let mut section = CoreTypeSection::new(alloc);
-        is_refused(rt, Module(self).make(&mut section));
-        comes_to_nothing(rt, alloc, &mut section, &[Module(self)]);
+        is_refused(rt, Module(ty).make(&mut section));
+        comes_to_nothing(rt, alloc, &mut section, &[Module(ty)]);
     }
 }

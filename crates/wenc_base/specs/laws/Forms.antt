@@ -7,7 +7,7 @@ use Rattle.std.proofs.lemmas.List.{take_at, drop_at, take-append-drop, length-ta
 use Rattle.wenc_base.specs.Number.{u32}
 use Rattle.wenc_base.specs.Piece.{Whole, Form, Wide, each, raw}
 use Rattle.wenc_base.specs.laws.Sound.{Then, Sound, ThenAll, SoundWhole, weaken, behind_value, then_sound, last_sound, give_sound, nowhere_sound, choose_sound, times_sound, whole_sound}
-use Rattle.wenc_base.specs.Forms.{flag, list, option, option_text, utf8, name, AreBytes, sized, byte_list, counted}
+use Rattle.wenc_base.specs.Forms.{flag, list, option, utf8, name, AreBytes, sized, byte_list, counted}
 use Rattle.wenc_base.specs.laws.Lawful.{Lawful, LawfulWhole, Reader, ◌>>=◌, give, nowhere, times, choose, row, row_byte, then, last, done, each_lawful, whole_lawful, raw_lawful}
 use Rattle.wenc_base.specs.laws.Numbers.{read_u32, u32_lawful, count_lawful, size_lawful, size_free, u32_sound, groups_are_read}
 use Rattle.std.proofs.lemmas.Str.{IsUtf8-from_is_utf8, is_utf8-from_IsUtf8}
@@ -187,8 +187,3 @@ counted_lawful laws vs = sized_lawful (whole_lawful (list_lawful laws vs))
 
 pub counted_sound : {A : Type 0} {form : Form A} {read : Reader A} → Sound form read → Sound (counted form) (read_counted read)
 counted_sound s = sized_sound (whole_sound (list_sound s))
-
--- a value that may be there, as its type encodes it and as the form has it
-pub option_is : {A : Type 0} (form : Form A) (v : Option A) → option_text (λ x. (form x).text) v ≡ (option form v).text
-option_is form None = refl
-option_is form (Some v) = refl

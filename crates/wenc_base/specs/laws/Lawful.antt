@@ -108,6 +108,8 @@ form_laws laws = record {
   reads_once = λ v w. reads_once (laws v) (laws w);
   delimited = λ v w. delimited (laws v) (laws w);
   wide_reads_strict = λ v. wide_reads_strict (laws v);
+  fits_is_free = λ v. (laws v).free;
+  never_unfinished = λ v. (laws v).never;
 }
 
 -- ---- bytes

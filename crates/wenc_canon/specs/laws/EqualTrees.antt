@@ -20,7 +20,7 @@ use Rattle.wenc_parts.specs.contracts.types.ComponentValTypePartialEq.TheImpl.{e
 use Rattle.wenc_canon.specs.CanonTrees.{canon_view}
 use Rattle.wenc_canon.specs.Canonicals as canon
 use Rattle.wenc_canon.specs.Canonicals.{Field, Index, Options, Flag, Zero, CoreType, Results, Slot, Value, Values, row, Canonical, Lift, Lower, Provided}
-use Rattle.wenc_canon.specs.Rows.{first_byte}
+use Rattle.wenc_canon.specs.inside.Rows.{first_byte}
 use Rattle.wenc_canon.specs.declared.canon_tree.CanonTree.{CanonTree}
 use Rattle.wenc_canon.specs.declared.canonicals.CanonicalOption.{CanonicalOption}
 use Rattle.wenc_canon.specs.contracts.canon_tree.CanonTree.{enum}

@@ -8,7 +8,7 @@ use Rattle.wenc_base.specs.Piece.{Piece, nothing, ◌▸◌, ◌⨾◌, behind_b
 use Rattle.wenc_base.specs.laws.Serves.{serves_itself, serves_then, order_serves, tagged_serves, both_serve, behind_is, with_nothing, either_free, left_free, right_free}
 use Rattle.wenc_canon.specs.declared.canonicals.CanonicalOption.{CanonicalOption}
 use Rattle.wenc_canon.specs.Canonicals.{canonical_option, Field, Index, Options, Flag, Zero, CoreType, Results, Slot, Value, field, Values, fields, Row, ◌is◌takes◌, Lift, Lower, canonical}
-use Rattle.wenc_canon.specs.Rows.{row_with, as_value, as_values, provided_by, and_options, values_then, row_then, provided_with}
+use Rattle.wenc_canon.specs.inside.Rows.{row_with, as_value, as_values, provided_by, and_options, values_then, row_then, provided_with}
 
 same_value : (f : Field) (v : Value f) → as_value f f v ≡ v
 same_value Index n = refl

@@ -13,20 +13,17 @@ use Rattle.wenc_base.specs.declared.types.storage.FieldType.{FieldType}
 use Rattle.wenc_base.specs.declared.types.sub.SubType.{SubType}
 use Rattle.wenc_base.specs.Composites.{params_of, results_of, composite_view, sub_view, group_view, Sub, sub_type_of, Group, Single, Rec, guard_before, standing, Composite}
 use Rattle.wenc_base.specs.Delimited.{AlikeIsEqual}
-use Rattle.wenc_base.specs.Encode.{Serves}
 use Rattle.wenc_base.specs.Forms.{list}
-use Rattle.wenc_base.specs.Holder.{Held, held_text, held, Contains, EncodeCause}
 use Rattle.wenc_base.specs.declared.imports.EntityType.{EntityType}
 use Rattle.wenc_base.specs.laws.Composites.{read_extension, extension_lawful, extension_sound, sub_of, final_rows, final_row, final_rows_sound, read_types, types_lawful, types_sound, read_group, group_lawful, group_sound, same_params, same_results, same_element, same_fields}
 use Rattle.wenc_base.specs.laws.Entities.{read_entity_type, entity_type_lawful, entity_type_sound}
 use Rattle.wenc_base.specs.laws.Forms.{read_list, list_lawful, list_sound, read_name, name_lawful, name_sound}
 use Rattle.wenc_base.specs.laws.Lawful.{Lawful, Reader, ◌>>=◌, give, nowhere, choose, row, then, last}
 use Rattle.wenc_base.specs.laws.Sound.{Sound, behind, RowsAreSound, both_tables, last_sound, then_sound, nowhere_sound, choose_sound}
-use Rattle.wenc_base.specs.Piece.{Piece, Form, Wide, ◌▸◌, refused_for}
+use Rattle.wenc_base.specs.Piece.{Form, Wide}
 use Rattle.wenc_base.specs.laws.Numbers.{read_u32, u32_lawful, u32_sound}
 use Rattle.wenc_types.specs.CoreTypes.{ModuleDeclaration, Import, Defined, Outer, Export, module_declaration, module_type, CoreType, Grouped, Module, core_type}
 use Rattle.wenc_types.specs.CoreTypeTrees.{module_declaration_view, core_type_view}
-use Rattle.wenc_types.specs.ModuleTypes.{Declared, Declares}
 use Rattle.wenc_types.specs.declared.core_type_tree.ModuleDecl.{ModuleDecl}
 use Rattle.wenc_types.specs.declared.core_type_tree.ModuleDecl.TheVariants as decls
 use Rattle.wenc_types.specs.declared.core_type_tree.CoreTypeTree.{CoreTypeTree}
@@ -87,29 +84,6 @@ read_module_type = choose ((0x50, read_declarations (λ ds. ds)) ∷ []) nowhere
 
 pub module_type_lawful : (ds : List ModuleDeclaration) → Lawful (module_type ds) (λ fuel. read_module_type) ds
 module_type_lawful ds = row _ _ 0x50 (declarations_lawful (λ es. es) ds)
-
--- ---- members that are held
-
--- how many members, then the members, are those of the list
-pub held_is : {A : Type 0} (form : Form A) (h : Held) (members : List A) → Contains form h members → held_text h ≡ (list form members).text
-held_is form h members c = rw (← c.count, c.body) refl
-
-pub list_fits : {A : Type 0} (form : Form A) (h : Held) (members : List A) → Contains form h members → (held h).Fits → (list form members).Fits
-list_fits form h members c fits = (rw c.count fits.0, c.fit)
-
--- behind a byte they serve as a piece with the same text, which fits where they do
-pub held_serves : (b : ℕ) (p : Piece) (h : Held) → b ∷ held_text h ≡ p.text → ((held h).Fits → p.Fits) → Serves (b ▸ held h) (refused_for (EncodeCause h) p)
-held_serves b p h e fits = record { text = e; fits = fits; among = λ fault c. c; free = λ none. none }
-
--- ---- module types that are held
-
--- the text of a module type is that of its declarations in the grammar
-pub module_type_of : (t : Declared) (ds : List ModuleDeclaration) → Declares t ds → 0x50 ∷ held_text t.held ≡ (module_type ds).text
-module_type_of t ds h = ap (λ (text : List ℕ). 0x50 ∷ text) (held_is module_declaration t.held ds h.contained)
-
--- what is written of it serves as a type with these declarations
-pub module_serves : (t : Declared) (ds : List ModuleDeclaration) → Declares t ds → Serves (0x50 ▸ held t.held) (refused_for (EncodeCause t.held) (core_type (Module ds)))
-module_serves t ds h = held_serves 0x50 (core_type (Module ds)) t.held (module_type_of t ds h) (list_fits module_declaration t.held ds h.contained)
 
 -- ---- core types
 

@@ -1,14 +1,17 @@
--- What follows for the declarations of component types and instance types.
-use Rattle.std.proofs.Common.{◌≡◌, ℕ, ◌+◌, ◌-◌, List, [], ◌∷◌, ◌++◌, Option, Some, None, Result, Ok, Err, OnOk, OnErr, refl, ap, sym, ◌∙◌, arith}
+-- What follows for the declarations of module types, component types and instance types.
+use Rattle.std.proofs.Common.{◌≡◌, ℕ, ◌+◌, ◌-◌, Bool, false, List, [], ◌∷◌, ◌++◌, Option, Some, None, Result, Ok, Err, OnOk, refl, ap, sym, ◌∙◌, arith}
+use Rattle.wenc_base.specs.Composites.{Group, group, standing}
 use Rattle.wenc_base.specs.Encode.{Serves}
-use Rattle.wenc_base.specs.Holder.{Held, held_text, held, EncodeCause, AddsMember}
-use Rattle.wenc_base.specs.Piece.{Form, ◌▸◌, refused_for}
+use Rattle.wenc_base.specs.Forms.{list}
+use Rattle.wenc_base.specs.Holder.{Held, held, with_member, EncodeCause}
+use Rattle.wenc_base.specs.Piece.{Piece, Form, ◌▸◌, refused_for}
 use Rattle.wenc_base.specs.laws.Holders.{contains_next, contains_opened, given_up_is_before, lengthened_twice}
+use Rattle.wenc_base.specs.laws.Serves.{serves_itself}
 use Rattle.wenc_base.specs.declared.fault.Fault.{Fault}
 use Rattle.wenc_types.specs.ComponentTypes.{InstanceDeclaration, ComponentDeclaration, ComponentType, InstanceType, instances_of, components_of, type_of, instance_declaration, component_declaration}
+use Rattle.wenc_types.specs.CoreTypes.{ModuleDeclaration, Defined, module_declaration, Module, core_type}
 use Rattle.wenc_types.specs.laws.ComponentTypes.{instances_serve, components_serve}
-use Rattle.wenc_types.specs.laws.CoreTypes.{held_is, list_fits, held_serves}
-use Rattle.wenc_types.specs.Declarations.{InstanceDeclares, ComponentDeclares, counted, uncounted, counts_of, Declaring, Settled, Declares, AddsDeclaration, lead_of, with_held, begun, written, ended, taken_back}
+use Rattle.wenc_types.specs.Declarations.{ModuleDeclares, InstanceDeclares, ComponentDeclares, counted, uncounted, counts_of, module_sort, instance_sort, component_sort, Declaring, Settled, Declares, IsDeclaration, lead_of, with_held, begun, written, ended, taken_back}
 use Rattle.wenc_types.specs.declared.counts.Counts.{Counts}
 use Rattle.wenc_types.specs.declared.counts.Sort.{Sort}
 use Rattle.wenc_types.specs.declared.counts.Sort.TheVariants.{CoreType, «Type» as TypeSort, Instance}
@@ -31,21 +34,17 @@ pub counts_next : {D : Type 0} (sort : D → Option Sort) (ds : List D) (d : D) 
 counts_next sort [] d = refl
 counts_next sort (e ∷ ds) d = ap (counted (sort e)) (counts_next sort ds d) ∙ counted_swapped (sort e) (sort d) (counts_of sort ds)
 
--- A declaration that its holder took, where it is counted.
-pub took : {D : Type 0} (form : Form D) (sort : D → Option Sort) (old new : Declaring) (outcome : Result (Unit {0}) Fault) (d : D) → AddsMember (form d) old.held new.held outcome
-    → OnOk outcome (new.counts ≡ counted (sort d) old.counts) → OnOk outcome (new.begun ≡ old.begun) → OnErr outcome (new ≡ old)
-    → AddsDeclaration form sort old new outcome d
-took form sort old new (Ok u) d a counts begun err = record {
-  added = a;
-  counts = counts;
-  begun = begun;
-  declared = λ ds h. record {
-    contained = contains_next form old.held new.held d ds a.ok.state a.ok.fits h.contained;
-    counts = counts ∙ ap (counted (sort d)) h.counts ∙ sym (counts_next sort ds d);
-  };
-  err = tt;
+-- What is written of a declaration is its text.
+pub is_declaration : {D : Type 0} (form : Form D) (sort : D → Option Sort) {p : Piece} {s : Option Sort} (d : D) → Serves p (form d) → s ≡ sort d → p.Fits → IsDeclaration form sort p.text s
+is_declaration form sort d serves e fits = record { declaration = d; fits = serves.fits fits; text_is = serves.text; sort_is = e }
+
+-- a member more is a declaration more
+pub declares_next : {D : Type 0} (form : Form D) (sort : D → Option Sort) (t : Declaring) (new : Held) (d : D) (ds : List D) → new ≡ with_member t.held (form d).text → (form d).Fits → Declares form sort t ds
+    → Declares form sort (record { held = new; counts = counted (sort d) t.counts; begun = t.begun }) (ds ++ d ∷ [])
+declares_next form sort t new d ds e fits h = record {
+  contained = contains_next form t.held new d ds e fits h.contained;
+  counts = rw h.counts (sym (counts_next sort ds d));
 }
-took form sort old new (Err f) d a counts begun err = record { added = a; counts = tt; begun = tt; declared = tt; err = err }
 
 -- ---- a type that is written by an encoder
 
@@ -71,20 +70,34 @@ pub taken_back_is_before : (t : Declaring) (s : Sort) (text : List ℕ) → Sett
 taken_back_is_before t s text settled =
     rw (back_again s t.counts, given_up_is_before t.held (lead_of s) text settled.finished, ← settled.none_begun) refl
 
+-- A group that an encoder without guards wrote is one declaration more of a module type.
+pub declares_written : (t lent new : Declaring) (guard : Bool) (g : Group) (outcome : Result (Unit {0}) Fault) → lent ≡ begun TypeSort t → guard ≡ false
+    → OnOk outcome (new ≡ ended (written lent (standing guard g).text)) → OnOk outcome (standing guard g).Fits → OnOk outcome ((ds : List ModuleDeclaration) → ModuleDeclares t ds → ModuleDeclares new (ds ++ Defined g ∷ []))
+declares_written t lent new guard g (Ok u) begins unguarded wrote fits =
+    λ ds h. rw (wrote, begins, unguarded) (declares_ended module_declaration module_sort t TypeSort (Defined g) ds (group g).text refl (rw unguarded at fits) refl h)
+declares_written t lent new guard g (Err f) begins unguarded wrote fits = tt
+
 -- ---- what they serve as
 
-pub instance_type_text : (t : Declaring) (ds : List InstanceDeclaration) → InstanceDeclares t ds → 0x42 ∷ held_text t.held ≡ (type_of (InstanceType (instances_of ds))).text
-instance_type_text t ds h = ap (λ (text : List ℕ). 0x42 ∷ text) (held_is instance_declaration t.held ds h.contained) ∙ (instances_serve ds).text
+-- a byte and the declarations serve as what the byte and their list serve as
+declared_serves : {D : Type 0} (form : Form D) (sort : D → Option Sort) (b : ℕ) (q : Piece) (t : Declaring) (ds : List D) → Serves (b ▸ list form ds) q → Declares form sort t ds
+    → Serves (b ▸ held t.held) (refused_for (EncodeCause t.held) q)
+declared_serves form sort b q t ds serves h =
+    let c = h.contained in
+    record {
+      text = rw (← c.count, c.body) serves.text;
+      fits = λ fits. serves.fits (rw c.count fits.0, c.fit);
+      among = λ fault cause. cause;
+      free = λ none. none;
+    }
 
-pub component_type_text : (t : Declaring) (ds : List ComponentDeclaration) → ComponentDeclares t ds → 0x41 ∷ held_text t.held ≡ (type_of (ComponentType (components_of ds))).text
-component_type_text t ds h = ap (λ (text : List ℕ). 0x41 ∷ text) (held_is component_declaration t.held ds h.contained) ∙ (components_serve ds).text
+pub module_serves : (t : Declaring) (ds : List ModuleDeclaration) → ModuleDeclares t ds → Serves (0x50 ▸ held t.held) (refused_for (EncodeCause t.held) (core_type (Module ds)))
+module_serves t ds = declared_serves module_declaration module_sort 0x50 (core_type (Module ds)) t ds serves_itself
 
 pub instance_serves : (t : Declaring) (ds : List InstanceDeclaration) → InstanceDeclares t ds
     → Serves (0x42 ▸ held t.held) (refused_for (EncodeCause t.held) (type_of (InstanceType (instances_of ds))))
-instance_serves t ds h = held_serves 0x42 (type_of (InstanceType (instances_of ds))) t.held (instance_type_text t ds h)
-    (λ fits. (instances_serve ds).fits (list_fits instance_declaration t.held ds h.contained fits))
+instance_serves t ds = declared_serves instance_declaration instance_sort 0x42 (type_of (InstanceType (instances_of ds))) t ds (instances_serve ds)
 
 pub component_serves : (t : Declaring) (ds : List ComponentDeclaration) → ComponentDeclares t ds
     → Serves (0x41 ▸ held t.held) (refused_for (EncodeCause t.held) (type_of (ComponentType (components_of ds))))
-component_serves t ds h = held_serves 0x41 (type_of (ComponentType (components_of ds))) t.held (component_type_text t ds h)
-    (λ fits. (components_serve ds).fits (list_fits component_declaration t.held ds h.contained fits))
+component_serves t ds = declared_serves component_declaration component_sort 0x41 (type_of (ComponentType (components_of ds))) t ds (components_serve ds)

@@ -1,16 +1,16 @@
--- What component types and instance types stay through all calls.
-use Rattle.std.proofs.Common.{◌≡◌, ℕ, ◌+◌, ◌-◌, ◌≤◌, Bool, true, false, is_none, List, [], ◌∷◌, ◌++◌, Option, Some, None, refl, ap, sym, ◌∙◌, subst, arith, length}
+-- What module types, component types and instance types stay through all calls.
+use Rattle.std.proofs.Common.{◌≡◌, ℕ, ◌+◌, ◌-◌, ◌≤◌, Bool, true, false, is_none, List, [], ◌∷◌, ◌++◌, Option, Some, None, refl, ap, sym, subst, arith}
 use Rattle.std.proofs.Math.Logic.{∥∥₁_map, ∥∥₁_map₂}
-use Rattle.std.specs.List.{flat_map, AllByRecursion}
-use Rattle.wenc_base.specs.Holder.{Held, is_finished, with_member, held_text, held}
-use Rattle.wenc_base.specs.Piece.{Form, HasForm, verbatim}
+use Rattle.wenc_base.specs.Encode.{Serves}
+use Rattle.wenc_base.specs.Holder.{Held, is_finished, with_member, held_text, held, EncodeCause}
+use Rattle.wenc_base.specs.Piece.{Form, HasForm, ◌▸◌, refused_for}
 use Rattle.wenc_base.specs.Openings.{given_up, member_text}
-use Rattle.wenc_base.specs.laws.Holders.{contains_next, all_more}
 use Rattle.wenc_base.specs.laws.Members.{finished_back, back_twice, opened_back, lengthened_back, closed_as_it_is, closed_as_more, within_finished, within_opened, within_lengthened, within_back}
 use Rattle.wenc_base.specs.declared.holder.openings.Opening.{Opening}
 use Rattle.wenc_types.specs.ComponentTypes.{ComponentType, InstanceType, components_of, instances_of, type_of, component_declaration, instance_declaration}
-use Rattle.wenc_types.specs.Declarations.{component_sort, instance_sort, Declaring, no_declarations, Settled, Declares, IsDeclaration, DeclaresSome, IsDeclaring, HasOne, OpenedIsIn, total, counted, uncounted, counts_of, lead_of, begun, written, ended, taken_back}
-use Rattle.wenc_types.specs.laws.Declarations.{counts_next, back_again, component_serves, instance_serves}
+use Rattle.wenc_types.specs.CoreTypes.{module_declaration, Module, core_type}
+use Rattle.wenc_types.specs.Declarations.{module_sort, component_sort, instance_sort, Declaring, no_declarations, Settled, Declares, IsDeclaration, DeclaresSome, IsDeclaring, HasOne, OpenedIsIn, total, counted, uncounted, lead_of, begun, written, ended, taken_back}
+use Rattle.wenc_types.specs.laws.Declarations.{declares_next, back_again, module_serves, component_serves, instance_serves}
 use Rattle.wenc_types.specs.declared.counts.Counts.{Counts}
 use Rattle.wenc_types.specs.declared.counts.Sort.{Sort}
 use Rattle.wenc_types.specs.declared.counts.Sort.TheVariants.{CoreType, «Type» as TypeSort, Instance}
@@ -65,71 +65,63 @@ enough_back (Some o) h sort n c e = omega (arith, total_uncounted sort n c)
 
 -- ---- declarations
 
-module _ (P : List ℕ → Option Sort → Type 0) where
+module _ {D : Type 0} (form : Form D) (sort : D → Option Sort) where
   abbrev HasSome : Declaring → Type 0
-  HasSome t = ∥ DeclaresSome P t ∥₁
+  HasSome t = ∥ DeclaresSome form sort t ∥₁
 
-  some_more : (t : Declaring) (text : List ℕ) (sort : Option Sort) → DeclaresSome P t → P text sort
-      → DeclaresSome P (record { held = with_member t.held text; counts = counted sort t.counts; begun = t.begun })
-  some_more t text sort s one = record {
-    declarations = s.declarations ++ (text, sort) ∷ [];
-    declared = record {
-      contained = contains_next (λ (d : List ℕ × Option Sort). verbatim d.0) t.held (with_member t.held text) (text, sort) s.declarations refl tt s.declared.contained;
-      counts = ap (counted sort) s.declared.counts ∙ sym (counts_next (λ (d : List ℕ × Option Sort). d.1) s.declarations (text, sort));
-    };
-    each = all_more (λ (d : List ℕ × Option Sort). P d.0 d.1) s.declarations (text, sort) s.each one;
+  some_more : (t : Declaring) (text : List ℕ) (s : Option Sort) → DeclaresSome form sort t → IsDeclaration form sort text s
+      → DeclaresSome form sort (record { held = with_member t.held text; counts = counted s t.counts; begun = t.begun })
+  some_more t text s some one = record {
+    declarations = some.declarations ++ one.declaration ∷ [];
+    declared = rw one.sort_is (declares_next form sort t (with_member t.held text) one.declaration some.declarations (ap (with_member t.held) one.text_is) one.fits some.declared);
   }
 
-  pub settled : (t : Declaring) → is_finished t.held ≡ true → IsDeclaring P t → Settled t
+  pub settled : (t : Declaring) → is_finished t.held ≡ true → IsDeclaring form sort t → Settled t
   settled t finished d = record { finished = finished; none_begun = none_at t.held.opening t.begun t.counts finished d.counted }
 
   settled_back : (t : Declaring) → Settled t → taken_back t ≡ t
   settled_back t s = rw (finished_back t.held s.finished, s.none_begun) refl
 
   -- what is finished declares some
-  pub declares_some : (t : Declaring) → is_finished t.held ≡ true → IsDeclaring P t → ∥ DeclaresSome P t ∥₁
+  pub declares_some : (t : Declaring) → is_finished t.held ≡ true → IsDeclaring form sort t → ∥ DeclaresSome form sort t ∥₁
   declares_some t finished d = subst HasSome (settled_back t (settled t finished d)) d.settled
 
-  pub declaring_none : IsDeclaring P no_declarations
+  pub declaring_none : IsDeclaring form sort no_declarations
   declaring_none = record {
     enough = omega arith;
     counted = refl;
     opening = tt;
-    settled = ∣ record {
-      declarations = [];
-      declared = record { contained = record { finished = refl; count = refl; body = refl; fit = tt }; counts = refl };
-      each = tt;
-    } ∣₁;
+    settled = ∣ record { declarations = []; declared = record { contained = record { finished = refl; count = refl; body = refl; fit = tt }; counts = refl } } ∣₁;
   }
 
   -- a declaration is added
-  pub declaring_added : (t : Declaring) (text : List ℕ) (sort : Option Sort) → is_finished t.held ≡ true → P text sort → IsDeclaring P t
-      → IsDeclaring P (record { held = with_member t.held text; counts = counted sort t.counts; begun = t.begun })
-  declaring_added t text sort finished one d =
+  pub declaring_added : (t : Declaring) (text : List ℕ) (s : Option Sort) → is_finished t.held ≡ true → IsDeclaration form sort text s → IsDeclaring form sort t
+      → IsDeclaring form sort (record { held = with_member t.held text; counts = counted s t.counts; begun = t.begun })
+  declaring_added t text s finished one d =
       let none = settled t finished d in
-      let next : Declaring = record { held = with_member t.held text; counts = counted sort t.counts; begun = t.begun } in
-      let some : ∥ DeclaresSome P next ∥₁ = ∥∥₁_map₂ (declares_some t finished d) ∣ one ∣₁ (λ s p. some_more t text sort s p) in
+      let next : Declaring = record { held = with_member t.held text; counts = counted s t.counts; begun = t.begun } in
+      let some : ∥ DeclaresSome form sort next ∥₁ = ∥∥₁_map₂ (declares_some t finished d) ∣ one ∣₁ (some_more t text s) in
       record {
-        enough = omega (arith, d.enough, total_counted sort t.counts);
-        counted = still_none t.held.opening t.begun t.counts (counted sort t.counts) finished none.none_begun;
+        enough = omega (arith, d.enough, total_counted s t.counts);
+        counted = still_none t.held.opening t.begun t.counts (counted s t.counts) finished none.none_begun;
         opening = within_finished (with_member t.held text) finished;
         settled = subst HasSome (sym (settled_back next (record { finished = finished; none_begun = none.none_begun }))) some;
       }
 
   -- a type is begun
-  pub declaring_begun : (t : Declaring) (sort : Sort) → is_finished t.held ≡ true → IsDeclaring P t → IsDeclaring P (begun sort t)
-  declaring_begun t sort finished d =
+  pub declaring_begun : (t : Declaring) (s : Sort) → is_finished t.held ≡ true → IsDeclaring form sort t → IsDeclaring form sort (begun s t)
+  declaring_begun t s finished d =
       let none = settled t finished d in
-      let back : taken_back (begun sort t) ≡ t = rw (opened_back t.held (lead_of sort) finished, back_again sort t.counts, ← none.none_begun) refl in
+      let back : taken_back (begun s t) ≡ t = rw (opened_back t.held (lead_of s) finished, back_again s t.counts, ← none.none_begun) refl in
       record {
-        enough = omega (arith, d.enough, total_counted (Some sort) t.counts);
-        counted = has_one sort t.counts;
-        opening = within_opened t.held (lead_of sort);
+        enough = omega (arith, d.enough, total_counted (Some s) t.counts);
+        counted = has_one s t.counts;
+        opening = within_opened t.held (lead_of s);
         settled = subst HasSome (sym back) (declares_some t finished d);
       }
 
   -- more of it is written
-  pub declaring_written : (t : Declaring) (text : List ℕ) → is_finished t.held ≡ false → IsDeclaring P t → IsDeclaring P (written t text)
+  pub declaring_written : (t : Declaring) (text : List ℕ) → is_finished t.held ≡ false → IsDeclaring form sort t → IsDeclaring form sort (written t text)
   declaring_written t text unfinished d = record {
     enough = d.enough;
     counted = d.counted;
@@ -140,18 +132,18 @@ module _ (P : List ℕ → Option Sort → Type 0) where
   }
 
   -- it is ended, as a declaration
-  pub declaring_ended : (t : Declaring) → ∥ P (member_text t.held) t.begun ∥₁ → IsDeclaring P t → IsDeclaring P (ended t)
+  pub declaring_ended : (t : Declaring) → ∥ IsDeclaration form sort (member_text t.held) t.begun ∥₁ → IsDeclaring form sort t → IsDeclaring form sort (ended t)
   declaring_ended t whole d = at (is_finished t.held) refl
     where
-      at : (b : Bool) → is_finished t.held ≡ b → IsDeclaring P (ended t)
+      at : (b : Bool) → is_finished t.held ≡ b → IsDeclaring form sort (ended t)
       at true finished =
           let none = settled t finished d in
           let same : ended t ≡ t = rw (closed_as_it_is t.held finished, ← none.none_begun) refl in
-          subst (IsDeclaring P) (sym same) d
+          subst (IsDeclaring form sort) (sym same) d
       at false unfinished =
           let back : Declaring = taken_back t in
-          let more : ∥ DeclaresSome P (record { held = with_member back.held (member_text t.held); counts = counted t.begun back.counts; begun = None }) ∥₁ =
-          ∥∥₁_map₂ d.settled whole (λ s p. some_more back (member_text t.held) t.begun s p) in
+          let more : ∥ DeclaresSome form sort (record { held = with_member back.held (member_text t.held); counts = counted t.begun back.counts; begun = None }) ∥₁ =
+          ∥∥₁_map₂ d.settled whole (some_more back (member_text t.held) t.begun) in
           let one : HasOne t.begun t.counts = one_at t.held.opening t.begun t.counts unfinished d.counted in
           record {
             enough = d.enough;
@@ -161,7 +153,7 @@ module _ (P : List ℕ → Option Sort → Type 0) where
           }
 
   -- or it is given up
-  pub declaring_taken_back : (t : Declaring) → IsDeclaring P t → IsDeclaring P (taken_back t)
+  pub declaring_taken_back : (t : Declaring) → IsDeclaring form sort t → IsDeclaring form sort (taken_back t)
   declaring_taken_back t d = record {
     enough = enough_back t.held.opening t.held t.begun t.counts d.counted d.enough;
     counted = counted_back t.held.opening t.held (uncounted t.begun t.counts);
@@ -171,41 +163,19 @@ module _ (P : List ℕ → Option Sort → Type 0) where
         subst HasSome (sym again) d.settled;
   }
 
--- ---- declarations that are values
-
-values_of : {D : Type 0} (form : Form D) (sort : D → Option Sort) (ms : List (List ℕ × Option Sort)) → AllByRecursion (λ m. IsDeclaration form sort m.0 m.1) ms
-    → (ds : List D) × (length ds ≡ length ms) × (flat_map (λ m. m.0) ms ≡ flat_map (λ d. (form d).text) ds) × (counts_of (λ m. m.1) ms ≡ counts_of sort ds) × AllByRecursion (λ d. (form d).Fits) ds
-values_of form sort [] each = ([], refl, refl, refl, tt)
-values_of form sort (m ∷ ms) each =
-    let more = values_of form sort ms each.1 in
-    let one = each.0 in
-    (one.declaration ∷ more.0, omega (arith, more.1), rw (one.text_is, more.2) refl, rw (one.sort_is, more.3) refl, (one.fits, more.4))
-
-pub declares_values : {D : Type 0} (form : Form D) (sort : D → Option Sort) (t : Declaring) → DeclaresSome (IsDeclaration form sort) t → (ds : List D) × Declares form sort t ds
-declares_values form sort t s =
-    let all = values_of form sort s.declarations s.each in (
-      all.0,
-      record {
-        contained = record {
-          finished = s.declared.contained.finished;
-          count = all.1 ∙ s.declared.contained.count;
-          body = s.declared.contained.body ∙ all.2;
-          fit = all.4;
-        };
-        counts = s.declared.counts ∙ all.3;
-      },
-    )
-
 -- ---- the texts of what is finished
 
-pub component_has_form : (t : Declaring) → (held t.held).Fits → ∥ DeclaresSome (IsDeclaration component_declaration component_sort) t ∥₁ → ∥ HasForm type_of (0x41 ∷ held_text t.held) ∥₁
-component_has_form t fits some = ∥∥₁_map some (λ s.
-    let all = declares_values component_declaration component_sort t s in
-    let serves = component_serves t all.0 all.1 in
-    record { value = ComponentType (components_of all.0); fits = serves.fits fits; is = serves.text })
+has_form : {D V : Type 0} (form : Form D) (sort : D → Option Sort) (b : ℕ) (whole : Form V) (value : List D → V) (t : Declaring)
+    → ((ds : List D) → Declares form sort t ds → Serves (b ▸ held t.held) (refused_for (EncodeCause t.held) (whole (value ds)))) → (held t.held).Fits → ∥ DeclaresSome form sort t ∥₁ → ∥ HasForm whole (b ∷ held_text t.held) ∥₁
+has_form form sort b whole value t serve fits some = ∥∥₁_map some (λ s.
+    let serves = serve s.declarations s.declared in
+    record { value = value s.declarations; fits = serves.fits fits; is = serves.text })
 
-pub instance_has_form : (t : Declaring) → (held t.held).Fits → ∥ DeclaresSome (IsDeclaration instance_declaration instance_sort) t ∥₁ → ∥ HasForm type_of (0x42 ∷ held_text t.held) ∥₁
-instance_has_form t fits some = ∥∥₁_map some (λ s.
-    let all = declares_values instance_declaration instance_sort t s in
-    let serves = instance_serves t all.0 all.1 in
-    record { value = InstanceType (instances_of all.0); fits = serves.fits fits; is = serves.text })
+pub module_has_form : (t : Declaring) → (held t.held).Fits → ∥ DeclaresSome module_declaration module_sort t ∥₁ → ∥ HasForm core_type (0x50 ∷ held_text t.held) ∥₁
+module_has_form t = has_form module_declaration module_sort 0x50 core_type Module t (module_serves t)
+
+pub component_has_form : (t : Declaring) → (held t.held).Fits → ∥ DeclaresSome component_declaration component_sort t ∥₁ → ∥ HasForm type_of (0x41 ∷ held_text t.held) ∥₁
+component_has_form t = has_form component_declaration component_sort 0x41 type_of (λ ds. ComponentType (components_of ds)) t (component_serves t)
+
+pub instance_has_form : (t : Declaring) → (held t.held).Fits → ∥ DeclaresSome instance_declaration instance_sort t ∥₁ → ∥ HasForm type_of (0x42 ∷ held_text t.held) ∥₁
+instance_has_form t = has_form instance_declaration instance_sort 0x42 type_of (λ ds. InstanceType (instances_of ds)) t (instance_serves t)

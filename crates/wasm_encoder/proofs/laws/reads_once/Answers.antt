@@ -15,3 +15,9 @@ returns-clause-strict_fits c = λ f v bytes rest r. ((laws_of f).strict_is_text 
 
 pub returns-clause-strict_is_wide : goal.returns-clause-strict_is_wide
 returns-clause-strict_is_wide c = λ f. (laws_of f).wide_reads_strict
+
+pub returns-clause-fits_is_free : goal.returns-clause-fits_is_free
+returns-clause-fits_is_free c = λ f. (laws_of f).fits_is_free
+
+pub returns-clause-never_unfinished : goal.returns-clause-never_unfinished
+returns-clause-never_unfinished c = λ f. (laws_of f).never_unfinished

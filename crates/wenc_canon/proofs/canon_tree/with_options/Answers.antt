@@ -3,7 +3,7 @@ use Rattle.wenc_base.specs.Encode.{Serves, in_order, list_in_order}
 use Rattle.wenc_base.specs.Piece.{Piece, ◌▸◌}
 use Rattle.wenc_base.specs.laws.Serves.{appends_as, fits_as, serves_itself, serves_then, order_serves, list_is_list}
 use Rattle.wenc_canon.specs.Canonicals.{Field, Values, fields, canonical_option}
-use Rattle.wenc_canon.specs.Rows.{row_then}
+use Rattle.wenc_canon.specs.inside.Rows.{row_then}
 use Rattle.wenc_canon.specs.declared.canonicals.CanonicalOption.{CanonicalOption}
 use Rattle.wenc_canon.specs.laws.Rows.{row_serves}
 use Rattle.wenc_canon.proofs.canon_tree.with_options.Goals as goal

@@ -1,6 +1,6 @@
 use Rattle.std.proofs.Common.{Some, refl}
 use Rattle.wenc_canon.specs.Canonicals.{Values}
-use Rattle.wenc_canon.specs.Rows.{provided_by}
+use Rattle.wenc_canon.specs.inside.Rows.{provided_by}
 use Rattle.wenc_canon.specs.laws.Rows.{provided_serves}
 use Rattle.wenc_builder.specs.Entry.{canonical_entry}
 use Rattle.wenc_builder.specs.Item.{CanonItem}

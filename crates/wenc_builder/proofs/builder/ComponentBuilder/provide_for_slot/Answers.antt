@@ -1,6 +1,6 @@
 use Rattle.std.proofs.Common.{List, ℕ, [], ◌∷◌, Some, refl, subst, ◌∙◌}
 use Rattle.wenc_canon.specs.Canonicals.{CoreType, Slot}
-use Rattle.wenc_canon.specs.Rows.{provided_by}
+use Rattle.wenc_canon.specs.inside.Rows.{provided_by}
 use Rattle.wenc_canon.specs.laws.Rows.{provided_serves, two_fields}
 use Rattle.wenc_builder.specs.Entry.{canonical_entry}
 use Rattle.wenc_builder.specs.Enters.{Enters}

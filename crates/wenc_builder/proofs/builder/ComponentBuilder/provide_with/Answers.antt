@@ -2,7 +2,7 @@ use Rattle.std.proofs.Common.{Some, refl}
 use Rattle.wenc_base.specs.Holder.{listed}
 use Rattle.wenc_base.specs.Piece.{nothing, ◌▸◌}
 use Rattle.wenc_canon.specs.Canonicals.{Values, canonical_option}
-use Rattle.wenc_canon.specs.Rows.{provided_with}
+use Rattle.wenc_canon.specs.inside.Rows.{provided_with}
 use Rattle.wenc_canon.specs.laws.Rows.{provided_with_serves}
 use Rattle.wenc_builder.specs.Item.{CanonItem}
 use Rattle.wenc_builder.specs.declared.builder.space.Space.TheVariants as spaces

@@ -1,7 +1,7 @@
 use Rattle.wenc_base.specs.laws.Holders.{adds_as}
 use Rattle.wenc_base.specs.laws.Members.{keeps_added}
 use Rattle.wenc_canon.specs.Canonicals.{canonical}
-use Rattle.wenc_canon.specs.Rows.{provided_by}
+use Rattle.wenc_canon.specs.inside.Rows.{provided_by}
 use Rattle.wenc_canon.specs.laws.Rows.{provided_serves}
 use Rattle.wenc_canon.proofs.canonicals.CanonicalFunctionSection.add_row.Goals as goal
 

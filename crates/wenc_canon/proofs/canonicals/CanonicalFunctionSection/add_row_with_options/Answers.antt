@@ -1,7 +1,7 @@
 use Rattle.wenc_base.specs.laws.Holders.{adds_listed_as}
 use Rattle.wenc_base.specs.laws.Members.{keeps_listed}
 use Rattle.wenc_canon.specs.Canonicals.{canonical}
-use Rattle.wenc_canon.specs.Rows.{provided_with}
+use Rattle.wenc_canon.specs.inside.Rows.{provided_with}
 use Rattle.wenc_canon.specs.laws.Rows.{provided_with_serves}
 use Rattle.wenc_canon.proofs.canonicals.CanonicalFunctionSection.add_row_with_options.Goals as goal
 

@@ -1,10 +1,10 @@
 use Rattle.std.proofs.Common.{◌∷◌, sym, ◌∙◌}
 use Rattle.wenc_base.specs.Holder.{held_text}
-use Rattle.wenc_base.specs.laws.Lenders.{extends_for}
 use Rattle.wenc_base.specs.laws.Members.{form_ends}
 use Rattle.wenc_types.specs.CoreTypes.{core_type}
-use Rattle.wenc_types.specs.laws.CoreTypes.{module_serves}
-use Rattle.wenc_types.specs.laws.ModuleDeclaring.{module_has_form}
+use Rattle.wenc_types.specs.laws.Declarations.{module_serves}
+use Rattle.wenc_types.specs.laws.Declaring.{module_has_form}
+use Rattle.wenc_types.proofs.Serving.{ends_for}
 use Rattle.wenc_types.proofs.core_type.ComponentCoreTypeEncoder.module.Goals as goal
 
 pub end_with-requires-clause-whole : goal.end_with-requires-clause-whole
@@ -13,7 +13,4 @@ end_with-requires-clause-whole g c = λ fits.
     (module_has_form c.args.ty.now fits (c.is_finished.ensures.declares (sym c.is_finished.ensures.finished ∙ c.if-not-is_finished.false)))
 
 pub returns-clause-declared : goal.returns-clause-declared
-returns-clause-declared g c = λ ds h.
-    let lender = c.args.self.lender.now in
-    extends_for lender c.end_with.new.self c.end_with.result (λ bytes. g.L.Lender.ended (g.L.Lender.written lender bytes)) (g.L.Lender.refuses lender)
-    (module_serves c.args.ty.now ds h) c.end_with.ensures.ended
+returns-clause-declared g c = λ ds h. ends_for g.L.Lender.written g.L.Lender.ended g.L.Lender.refuses (module_serves c.args.ty.now ds h) c.end_with.ensures.ended

@@ -1,17 +1,11 @@
 use Rattle.std.proofs.Common.{◌∷◌, [], map}
-use Rattle.wenc_base.specs.Forms.{list, name}
-use Rattle.wenc_base.specs.Piece.{◌▸◌}
-use Rattle.wenc_base.specs.laws.Lenders.{extends_as, whole_for}
-use Rattle.wenc_types.specs.DefinedTypes.{Flags, defined_type}
-use Rattle.wenc_types.proofs.Serving.{names_serve}
+use Rattle.wenc_base.specs.laws.Lenders.{whole_for}
+use Rattle.wenc_types.specs.DefinedTypes.{Flags}
+use Rattle.wenc_types.proofs.Serving.{names_serve, ends_listed_for}
 use Rattle.wenc_types.proofs.defined_type.ComponentDefinedTypeEncoder.flags.Goals as goal
 
 pub returns : goal.returns
-returns g c =
-    let lender = c.args.self.lender.now in
-    extends_as g.F.Iterator.next_gives c.args.names lender c.end_with_list.new.self c.end_with_list.result
-    (λ bytes. g.L.Lender.ended (g.L.Lender.written lender bytes)) (g.L.Lender.refuses lender)
-    (λ vs. 0x6e ▸ list (λ n. name n.now) vs) (λ vs. defined_type (Flags (map (λ n. n.now) vs))) (names_serve (0x6e ∷ [])) c.end_with_list.ensures
+returns g c = ends_listed_for g.L.Lender.written g.L.Lender.ended g.L.Lender.refuses (names_serve (0x6e ∷ [])) c.end_with_list.ensures
 
 pub end_with_list-requires-clause-whole : goal.end_with_list-requires-clause-whole
 end_with_list-requires-clause-whole g c vs =

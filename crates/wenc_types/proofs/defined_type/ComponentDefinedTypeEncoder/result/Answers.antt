@@ -1,15 +1,12 @@
 use Rattle.wenc_base.specs.Forms.{option}
 use Rattle.wenc_parts.specs.Types.{value_type}
-use Rattle.wenc_base.specs.laws.Lenders.{extends_for, whole_for}
+use Rattle.wenc_base.specs.laws.Lenders.{whole_for}
 use Rattle.wenc_types.specs.DefinedTypes.{ResultOf}
-use Rattle.wenc_types.proofs.Serving.{pair_serves}
+use Rattle.wenc_types.proofs.Serving.{pair_serves, ends_for}
 use Rattle.wenc_types.proofs.defined_type.ComponentDefinedTypeEncoder.result.Goals as goal
 
 pub returns : goal.returns
-returns g c =
-    let lender = c.args.self.lender.now in
-    extends_for lender c.end_with.new.self c.end_with.result (λ bytes. g.L.Lender.ended (g.L.Lender.written lender bytes)) (g.L.Lender.refuses lender)
-    (pair_serves 0x6a (option value_type c.args.ok) (option value_type c.args.err)) c.end_with.ensures.ended
+returns g c = ends_for g.L.Lender.written g.L.Lender.ended g.L.Lender.refuses (pair_serves 0x6a (option value_type c.args.ok) (option value_type c.args.err)) c.end_with.ensures.ended
 
 pub end_with-requires-clause-whole : goal.end_with-requires-clause-whole
 end_with-requires-clause-whole g c =

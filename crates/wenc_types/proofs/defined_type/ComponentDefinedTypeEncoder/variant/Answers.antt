@@ -1,17 +1,15 @@
 use Rattle.std.proofs.Common.{map, rules}
 use Rattle.wenc_base.specs.Forms.{list}
 use Rattle.wenc_base.specs.Piece.{◌▸◌}
-use Rattle.wenc_base.specs.laws.Lenders.{extends_as, made_of, whole_for}
-use Rattle.wenc_types.specs.DefinedTypes.{Variant, defined_type, lent_case}
-use Rattle.wenc_types.proofs.Serving.{made_case, case_of, seen_case, made_cases_serve, cases_serve}
+use Rattle.wenc_base.specs.laws.Lenders.{made_of, whole_for}
+use Rattle.wenc_types.specs.DefinedTypes.{Variant}
+use Rattle.wenc_types.proofs.Serving.{made_case, case_of, seen_case, made_cases_serve, cases_serve, ends_listed_for}
 use Rattle.wenc_types.proofs.defined_type.ComponentDefinedTypeEncoder.variant.Goals as goal
 
 pub returns : goal.returns
 returns g c =
     let lender = c.args.self.lender.now in
-    extends_as g.C.Iterator.next_gives c.args.cases lender c.end_with_list.new.self c.end_with_list.result
-    (λ bytes. g.L.Lender.ended (g.L.Lender.written lender bytes)) (g.L.Lender.refuses lender)
-    (λ vs. 0x71 ▸ list case_of (map made_case vs)) (λ vs. defined_type (Variant (map lent_case vs))) cases_serve
+    ends_listed_for g.L.Lender.written g.L.Lender.ended g.L.Lender.refuses cases_serve
     (made_of g.C.Iterator.next_gives c.args.cases _ c.map.result lender c.end_with_list.new.self c.end_with_list.result
     (λ bytes. g.L.Lender.ended (g.L.Lender.written lender bytes)) (g.L.Lender.refuses lender)
     (λ cs. 0x71 ▸ list case_of cs) made_case

@@ -7,7 +7,7 @@ use Rattle.wenc.specs.declared.unlisted.Unlisted.TheVariants.{BadText, Fault, Tr
 use Rattle.wenc.specs.Listed.{text_bytes, listing_text, bad_text, fault_line}
 use Rattle.wenc.specs.ListRun.{IsListingOf, IsFaultIn}
 use Rattle.wenc.specs.Run.{Says}
-use Rattle.wenc.specs.Steps.{IsWhole}
+use Rattle.wenc.specs.inside.Steps.{IsWhole}
 
 -- why a text says no bytes
 abbrev pub NotDecoded : List ℕ → Unlisted → Type 0
