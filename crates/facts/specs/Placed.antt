@@ -5,7 +5,8 @@ use Rattle.wenc_builder.specs.Space.{Defined, defines, place}
 use Rattle.wasm_encoder.specs.Cause.{added}
 use Rattle.wasm_encoder.specs.Command.{CommandTree}
 
--- The command's item is one of these, and this is its place: what the items in front of it define in its space.
+-- The command's item is one of these, and this is its place: what the items in front of it define
+-- in its space.
 pub record IsPlacedAt (c : CommandTree) (es : List Entry) (i : ℕ) : Type 0 where
   pub front : List Entry
   pub entry : Entry

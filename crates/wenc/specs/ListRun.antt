@@ -44,8 +44,8 @@ pub record PrintsListingFront (A : Type 0) (text before after : List ℕ) : Type
   pub front : listing_text listing ≡ sent ++ missing
   pub writes : after ≡ before ++ sent
 
--- What a reader had left and has left in the end, what a writer held before and after, and what standard error
--- held, where these are known: the status says what was read and written.
+-- What a reader had left and has left in the end, what a writer held before and after, and what
+-- standard error held, where these are known: the status says what was read and written.
 pub record EndsListing (A : Type 0) (status : ℕ)
     (left ended before after errors reported : Option (List ℕ)) : Type 0 where
   pub known : (status ≡ 0) ⊎ (status ≡ 1) ⊎ (status ≡ 3) ⊎ (status ≡ 4)

@@ -1,5 +1,6 @@
 -- What a run of the program did, by its status.
-use Rattle.std.specs.Prelude.{◌≡◌, ℕ, List, [], ◌∷◌, ◌++◌, ◌⊎◌, All, Any, IsOk, IsErr, Option, Some, Result, Ok, Err, codes}
+use Rattle.std.specs.Prelude.{◌≡◌, ℕ, List, [], ◌∷◌, ◌++◌, ◌⊎◌, All, Any, IsOk, IsErr, Option, Some}
+use Rattle.std.specs.Prelude.{Result, Ok, Err, codes}
 use Rattle.std.specs.Fmt.{decimal}
 use Rattle.std.specs.Io.KnownBytes.{Appends, Keeps}
 use Rattle.wenc_base.specs.declared.fault.Fault.{Fault}
@@ -27,7 +28,8 @@ no_memory = codes "fault 1" ++ 10 ∷ []
 
 -- ---- runs
 
--- The text is a script, its commands ran with answers of which P holds, and what is printed for them was written.
+-- The text is a script, its commands ran with answers of which P holds, and what is printed for
+-- them was written.
 pub record Prints (P : List (Result (Option ℕ) Fault) → Type 0)
     (text before after : List ℕ) : Type 0 where
   pub commands : List CommandTree
@@ -71,8 +73,9 @@ pub record PrintsFront (text before after : List ℕ) : Type 0 where
   pub front : printed answers (whole (items entries)) ≡ sent ++ missing
   pub writes : after ≡ before ++ sent
 
--- What a reader had left and has left in the end, what a writer held before and after, and what standard error
--- held, where these are known: the status says what was read and written. With status 2 there was perhaps no memory.
+-- What a reader had left and has left in the end, what a writer held before and after, and what
+-- standard error held, where these are known: the status says what was read and written. With
+-- status 2 there was perhaps no memory.
 pub record Ends (status : ℕ)
     (left ended before after errors reported : Option (List ℕ)) : Type 0 where
   pub zero : status ≡ 0 → (text old : List ℕ) → left ≡ Some text → before ≡ Some old

@@ -1,10 +1,12 @@
 -- Scripts: what each line of a text says.
-use Rattle.std.specs.Prelude.{ℕ, ◌+◌, if◌then◌else◌, List, [], ◌∷◌, Bool, true, false, Option, Some, None, option_map, Result, Ok, Err, codes}
+use Rattle.std.specs.Prelude.{ℕ, ◌+◌, if◌then◌else◌, List, [], ◌∷◌, Bool, true, false, Option, Some}
+use Rattle.std.specs.Prelude.{None, option_map, Result, Ok, Err, codes}
 use Rattle.std.specs.Str.{is_utf8, bytes_eq}
 use Rattle.wenc_parts.specs.declared.exports.ComponentExportKind.{ComponentExportKind}
 use Rattle.wenc_parts.specs.Imports.{plain_name}
 use Rattle.wenc_parts.specs.Aliases.{InstanceExport}
-use Rattle.wasm_encoder.specs.Command.{CommandTree, CoreModule, Alias, Canon, Start, Import, Export, AppendNames}
+use Rattle.wasm_encoder.specs.Command.{CommandTree, CoreModule, Alias, Canon, Start, Import, Export}
+use Rattle.wasm_encoder.specs.Command.{AppendNames}
 use Rattle.wenc.specs.Fields.{number, numbers, hex, kind, reference}
 use Rattle.wenc.specs.Intrinsics.{intrinsic}
 use Rattle.wenc.specs.Parts.{parted}
@@ -100,14 +102,15 @@ abbrev pub with_line : ℕ → Option CommandTree → Result (List CommandTree) 
 with_line n None behind = Err n
 with_line n (Some c) behind = with_command c behind
 
--- the commands of the lines, of which the first has number n, or the number of the first bad one; an empty line
--- says nothing
+-- the commands of the lines, of which the first has number n, or the number of the first bad one;
+-- an empty line says nothing
 abbrev pub commands_from : ℕ → List (List ℕ) → Result (List CommandTree) ℕ
 commands_from n [] = Ok []
 commands_from n ([] ∷ lines) = commands_from (n + 1) lines
 commands_from n ((b ∷ line) ∷ lines) =
     with_line n (line_command (b ∷ line)) (commands_from (n + 1) lines)
 
--- The commands that a script says, or the number of its first bad line. Lines end by LF, and the last may lack it.
+-- The commands that a script says, or the number of its first bad line. Lines end by LF, and the
+-- last may lack it.
 abbrev pub script : List ℕ → Result (List CommandTree) ℕ
 script text = commands_from 1 (parted 10 text)

@@ -10,11 +10,11 @@ use Rattle.wenc_base.specs.laws.Serves.{still_warranted}
 use Rattle.wenc_builder.specs.Item.{collected, item}
 use Rattle.wenc_builder.specs.Space.{IsPlaceOf, Defined, defines}
 use Rattle.wenc_builder.specs.Entry.{Entry, items}
-use Rattle.wenc_builder.specs.Builder.{Content, with_entry, with_alone, State, builder_is_finished, step, settled_in, content_of, namespace_at, Draft, draft, draft_place, begun_with, ended}
+use Rattle.wenc_builder.specs.Builder.{Content, with_entry, State, builder_is_finished, step, settled_in, content_of, namespace_at, Draft, draft, draft_place, begun_with, ended}
 use Rattle.wenc_builder.specs.Holds.{Holds}
 use Rattle.wenc_builder.specs.Cause.{CallCause, EnterCause}
 use Rattle.wenc_builder.specs.Enters.{IsCountAt, EntersWith, Enters, EntersPlaceless, TakesWith, Takes, TakesDraft}
-use Rattle.wenc_builder.specs.inside.Takes.{TakesAlone, TakesNoPlace}
+use Rattle.wenc_builder.specs.inside.Takes.{TakesAlone, TakesNoPlace, with_alone}
 use Rattle.wenc_builder.specs.laws.Caused.{adding_never_unfinished}
 use Rattle.wenc_builder.specs.laws.Fits.{HasRoom}
 use Rattle.wenc_builder.specs.laws.Never.{never_unfinished}

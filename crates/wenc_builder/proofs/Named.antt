@@ -21,10 +21,10 @@ use Rattle.wenc_sections.specs.Names.{Subsection, subsection, subsections_text, 
 use Rattle.wenc_sections.specs.declared.names.Sort.{Sort}
 use Rattle.wenc_sections.specs.declared.names.Sort.TheVariants as sorts
 use Rattle.wenc_builder.specs.Entry.{Entry, entry, custom_entry, names}
-use Rattle.wenc_builder.specs.Builder.{namespace_at, with_alone, State, builder_is_finished}
+use Rattle.wenc_builder.specs.Builder.{namespace_at, State, builder_is_finished}
 use Rattle.wenc_builder.specs.Cause.{CallCause}
 use Rattle.wenc_builder.specs.Enters.{EntersPlaceless}
-use Rattle.wenc_builder.specs.inside.Takes.{TakesNoPlace}
+use Rattle.wenc_builder.specs.inside.Takes.{TakesNoPlace, with_alone}
 use Rattle.wenc_builder.specs.Holds.{Holds}
 use Rattle.wenc_builder.specs.Names.{named_sorts, by_sort, named_entry, AddsNames, names_held, space_names, none_named, kept_names}
 use Rattle.wenc_builder.specs.Space.{space_number}

@@ -131,11 +131,6 @@ settled_in c = record { settled = c; begun = None }
 abbrev pub step : State → Entry → State
 step s e = settled_in (with_entry s.settled e)
 
--- what stands alone, with its places and its name or none
-abbrev pub with_alone : Content → Option Defined → Option (List ℕ) → List ℕ → Content
-with_alone c places name text =
-    record { sections = stood_alone c.sections text; spaces = spaces_with c.spaces places name }
-
 -- ---- an item that is being written
 
 abbrev pub content_with : Content → Option Begun → Content

@@ -230,6 +230,12 @@ canonical (Lift function options type_index) =
 canonical (Lower function options) = 0x01 ▸ 0x00 ▸ u32 function ⨾ list canonical_option options
 canonical (Provided i values) = (row i).opcode ▸ fields (row i).fields values
 
+-- its name, without the number of a slot
+abbrev pub own_name : Canonical → List ℕ
+own_name (Lift function options type_index) = codes "lift"
+own_name (Lower function options) = codes "lower"
+own_name (Provided i values) = (row i).name
+
 -- ---- what the calls of a section add
 
 -- this intrinsic, with the values of its fields

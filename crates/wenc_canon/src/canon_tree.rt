@@ -205,7 +205,7 @@ impl<A: Allocator> CanonTree<A> {
     ghost use Rattle.std.specs.Prelude.{◌≡◌};
     ghost use Rattle.wenc_canon.specs.CanonTrees.{canon_view};
     ghost use Rattle.wenc_canon.specs.inside.Operands.{behind};
-    ghost use Rattle.wenc_canon.specs.inside.Rows.{own_name};
+    ghost use Rattle.wenc_canon.specs.Canonicals.{own_name};
 
     /// The name of the function, without the number of a slot.
     pub fn name(&self) -> &'static str

@@ -19,8 +19,8 @@ pub record Front {A : Type 0} (form : Form A) (P : List ℕ → Type 0) (bytes :
 abbrev pub Behind : ℕ → (List ℕ → Type 0) → List ℕ → Type 0
 Behind b P bytes = (rest : List ℕ) × (bytes ≡ b ∷ rest) × P rest
 
--- A type of a component or of an instance opens here, and then so many more inside one another, each before anything
--- that is no declaration.
+-- A type of a component or of an instance opens here, and then so many more inside one another,
+-- each before anything that is no declaration.
 abbrev pub Enters : ℕ → List ℕ → Type 0
 Enters zero bytes = Behind 0x41 (λ rest. Unit {0}) bytes ⊎ Behind 0x42 (λ rest. Unit {0}) bytes
 Enters (suc more) bytes =

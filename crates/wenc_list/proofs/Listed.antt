@@ -17,7 +17,8 @@ use Rattle.wenc_read.specs.declared.refusal.Refusal.{Refusal}
 use Rattle.wenc_read.specs.declared.refusal.Refusal.TheVariants as refusals
 use Rattle.wenc_list.specs.inside.Contents.{labelled, read_content, read_frame, fault_of_frame, fault_of_content}
 use Rattle.wenc_list.specs.Items.{section_of, section_view}
-use Rattle.wenc_list.specs.Listing.{HasDepth, AreWithin, IsFramed, IsLabelled, AreFrom, Begins, IsNoneWithin, Stops, IsFaultHere, IsFaultBehind}
+use Rattle.wenc_list.specs.Listing.{HasDepth, AreWithin, IsFramed, IsLabelled, AreFrom, Begins, IsNoneWithin, Stops, IsFaultBehind}
+use Rattle.wenc_list.specs.inside.Faults.{IsFaultHere}
 use Rattle.wenc_list.specs.declared.fault.ListFault.{ListFault}
 use Rattle.wenc_list.specs.declared.fault.ListFault.TheVariants as faults
 use Rattle.wenc_list.specs.declared.listing.ListedSection.{ListedSection}

@@ -1,7 +1,9 @@
 -- The code's items and sections as pure ones.
 use Rattle.std.specs.Prelude.{ℕ, List, [], ◌∷◌, map, if◌then◌else◌}
 use Rattle.std.specs.String.{string_bytes}
-use Rattle.wenc_builder.specs.Item.{Item, ModuleItem, CoreInstanceItem, CoreTypeItem, ComponentItem, InstanceItem, AliasItem, TypeItem, CanonItem, StartItem, ImportItem, ExportItem, CustomItem}
+use Rattle.wenc_builder.specs.Item.{Item, ModuleItem, CoreInstanceItem, CoreTypeItem, ComponentItem}
+use Rattle.wenc_builder.specs.Item.{InstanceItem, AliasItem, TypeItem, CanonItem, StartItem}
+use Rattle.wenc_builder.specs.Item.{ImportItem, ExportItem, CustomItem}
 use Rattle.wenc_builder.specs.Sections.{Section, Run, Alone, collects}
 use Rattle.wenc_canon.specs.CanonTrees.{canon_view}
 use Rattle.wenc_parts.specs.Aliases.{alias_tree_view}

@@ -1,4 +1,5 @@
--- What is listed of a component, and what stands against that (component model, binary format, "Component Definitions").
+-- What is listed of a component, and what stands against that (component model, binary format,
+-- "Component Definitions").
 use Rattle.std.specs.List.{AllByRecursion, flat_map}
 use Rattle.std.specs.Prelude.{◌≡◌, ℕ, zero, suc, ◌+◌, ◌<◌, ◌≤◌, List, [], ◌∷◌, ◌++◌, length}
 use Rattle.wenc_base.specs.Forms.{name}
@@ -38,7 +39,8 @@ abbrev pub IsLabelled : ℕ → List ℕ → Type 0
 IsLabelled zero content = (label bytes : List ℕ) × (name label).Reads Wide content bytes
 IsLabelled (suc id) content = Unit {0}
 
--- no section begins here: an unknown id, no size, fewer bytes than that, or a custom section without a name
+-- no section begins here: an unknown id, no size, fewer bytes than that, or a custom section
+-- without a name
 abbrev pub IsBadSection : List ℕ → Type 0
 IsBadSection bytes = (id : ℕ) (content rest : List ℕ) → IsFramed bytes id content rest
     → IsLabelled id content → ⊥
@@ -65,8 +67,8 @@ pub record IsTooDeep (bytes : List ℕ) : Type 0 where
 abbrev pub Begins : ℕ → List ℕ → Type 0
 Begins byte bytes = (rest : List ℕ) × (bytes ≡ byte ∷ rest)
 
--- Each section is read where it is placed, where its id is the first byte, of so many bytes in all, one behind the
--- other up to the rest.
+-- Each section is read where it is placed, where its id is the first byte, of so many bytes in all,
+-- one behind the other up to the rest.
 abbrev pub AreFrom : {A : Type 0} → ℕ → List (ListedSection A) → List ℕ → List ℕ → Type 0
 AreFrom all [] bytes rest = bytes ≡ rest
 AreFrom all (s ∷ ss) bytes rest =
@@ -89,8 +91,8 @@ abbrev pub IsNoneWithin : List ℕ → Type 0
 IsNoneWithin bytes = (s : Section) (rest : List ℕ) → (section_piece s).Reads Wide bytes rest
     → AreWithin 100 (s ∷ []) → ⊥
 
--- Sections are read within depth 100, of so many bytes in all, up to this place; the next one isn't, and P holds of
--- the bytes from there on.
+-- Sections are read within depth 100, of so many bytes in all, up to this place; the next one
+-- isn't, and P holds of the bytes from there on.
 pub record Stops (all : ℕ) (bytes : List ℕ) (place : ℕ) (P : List ℕ → Type 0) : Type 0 where
   pub before : List Section
   pub left : List ℕ
@@ -118,14 +120,3 @@ IsFaultOf bytes faults.Memory = Unit {0}
 IsFaultOf bytes (faults.NotAComponent place) = (place ≡ 0) × HasNoHeader bytes
 IsFaultOf bytes fault =
     (behind : List ℕ) × preamble.Reads Wide bytes behind × IsFaultBehind (length bytes) behind fault
-
--- the fault has its cause in the section that begins here
-abbrev pub IsFaultHere : ℕ → List ℕ → ListFault → Type 0
-IsFaultHere here bytes faults.Memory = Unit {0}
-IsFaultHere here bytes (faults.NotAComponent place) = ⊥
-IsFaultHere here bytes (faults.BadSection place) =
-    (place ≡ here) × IsNoneWithin bytes × IsBadSection bytes
-IsFaultHere here bytes (faults.BadItem place) =
-    (place ≡ here) × IsNoneWithin bytes × IsBadItem bytes
-IsFaultHere here bytes (faults.TooDeep place) =
-    (place ≡ here) × IsNoneWithin bytes × IsTooDeep bytes

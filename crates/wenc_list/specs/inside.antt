@@ -1,2 +1,3 @@
 -- What private functions and proofs need alone: no contract of a public call reaches it.
 pub mod Contents
+pub mod Faults

@@ -3,7 +3,8 @@ ghost use Rattle.std.specs.Prelude.{◌≡◌, ◌≤◌, ℕ, List, [], ◌∷�
 ghost use Rattle.wenc_base.specs.Piece.{Wide};
 ghost use Rattle.wenc_builder.specs.Sections.{Section, section_piece, preamble, Reading};
 ghost use Rattle.wenc_list.specs.Items.{section_view};
-ghost use Rattle.wenc_list.specs.Listing.{AreWithin, AreFrom, ArePlaced, count_in, IsFaultOf, HasNoHeader, IsFaultHere, IsFaultBehind, Begins};
+ghost use Rattle.wenc_list.specs.Listing.{AreWithin, AreFrom, ArePlaced, count_in, IsFaultOf, HasNoHeader, IsFaultBehind, Begins};
+ghost use Rattle.wenc_list.specs.inside.Faults.{IsFaultHere};
 ghost use Rattle.wenc_list.specs.inside.Contents.{fault_of_frame, fault_of_content};
 ghost use Rattle.wenc_list.specs.declared.fault.ListFault.TheVariants.{Memory, NotAComponent};
 

@@ -7,7 +7,9 @@ use Rattle.wenc_parts.specs.Imports.{name_tree_view}
 use Rattle.wenc_parts.specs.declared.exports.ComponentExportKind.{ComponentExportKind}
 use Rattle.wenc_parts.specs.declared.imports.NameTree.{NameTree}
 use Rattle.wenc_parts.specs.declared.instances.ModuleArg.{ModuleArg}
-use Rattle.wenc_sections.specs.Instances.{Argument, CoreExport, CoreInstance, CoreInstantiate, CoreExports, Given, Exported, exported, Instance, Instantiate, Exports}
+use Rattle.wenc_sections.specs.Instances.{Argument, CoreExport, CoreInstance, CoreInstantiate}
+use Rattle.wenc_sections.specs.Instances.{CoreExports, Given, Exported, exported, Instance}
+use Rattle.wenc_sections.specs.Instances.{Instantiate, Exports}
 use Rattle.wenc_sections.specs.declared.instance_trees.CoreInstanceTree.{CoreInstanceTree}
 use Rattle.wenc_sections.specs.declared.instance_trees.CoreInstanceTree.TheVariants as core_trees
 use Rattle.wenc_sections.specs.declared.instance_trees.InstanceTree.{InstanceTree}

@@ -1,4 +1,5 @@
--- Instances of core modules and of components (component model, binary format, "Instance Definitions").
+-- Instances of core modules and of components (component model, binary format, "Instance
+-- Definitions").
 use Rattle.std.specs.Borrow.{Bor}
 use Rattle.std.specs.Prelude.{ℕ, List}
 use Rattle.wenc_base.specs.Piece.{Form, ◌▸◌, ◌⨾◌}

@@ -10,7 +10,11 @@ use Rattle.wenc_base.specs.Names.{Named, named, name_map}
 use Rattle.wenc_base.specs.declared.fault.Fault.{Fault}
 use Rattle.wenc_base.specs.declared.fault.Fault.TheVariants.{TooLarge}
 use Rattle.wenc_sections.specs.declared.names.Sort.{Sort}
-use Rattle.wenc_sections.specs.declared.names.Sort.TheVariants.{CoreFunc, CoreTable, CoreMemory, CoreGlobal, CoreTag, CoreType, CoreModule, CoreInstance, Func, Value, «Type» as TypeSort, Component, Instance}
+use Rattle.wenc_sections.specs.declared.names.Sort.TheVariants.{CoreFunc, CoreTable, CoreMemory}
+use Rattle.wenc_sections.specs.declared.names.Sort.TheVariants.{CoreGlobal, CoreTag, CoreType}
+use Rattle.wenc_sections.specs.declared.names.Sort.TheVariants.{CoreModule, CoreInstance, Func}
+use Rattle.wenc_sections.specs.declared.names.Sort.TheVariants.{Value, «Type» as TypeSort}
+use Rattle.wenc_sections.specs.declared.names.Sort.TheVariants.{Component, Instance}
 
 -- what names are of (component model, binary format, `sort` and `core:sort`)
 abbrev pub item_sort : Form Sort
@@ -75,7 +79,8 @@ names_custom bytes = record { label = names_label; bytes = bytes }
 abbrev pub names_section : Form (List ℕ)
 names_section bytes = refused_for (λ fault. ⊥) (custom (names_custom bytes))
 
--- Why these bytes can't come behind those: with its name, which has 15 bytes, the section would be too large.
+-- Why these bytes can't come behind those: with its name, which has 15 bytes, the section would be
+-- too large.
 abbrev pub RoomCause : List ℕ → List ℕ → Fault → Type 0
 RoomCause before text fault = (fault ≡ TooLarge) × (2 ^ 32 ≤ 15 + length (before ++ text))
 

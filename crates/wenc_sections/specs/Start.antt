@@ -4,7 +4,8 @@ use Rattle.wenc_base.specs.Piece.{Form, ◌⨾◌, all_of}
 use Rattle.wenc_base.specs.Number.{u32}
 use Rattle.wenc_base.specs.Forms.{list, sized}
 
--- a function that is called with these arguments when the component is instantiated, and how many results it has
+-- a function that is called with these arguments when the component is instantiated, and how many
+-- results it has
 pub record Start : Type 0 where
   pub function : ℕ
   pub arguments : List ℕ

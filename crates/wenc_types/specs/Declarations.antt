@@ -1,21 +1,25 @@
 -- Module, component and instance types: their declarations, one by one, and what is counted.
-use Rattle.std.specs.Prelude.{◌≡◌, ℕ, ◌+◌, ◌-◌, ◌≤◌, List, [], ◌∷◌, ◌++◌, length, Option, Some, None, Result, OnOk, OnErr, true}
+use Rattle.std.specs.Prelude.{◌≡◌, ℕ, ◌+◌, ◌-◌, List, [], ◌∷◌, ◌++◌, Option, Some, None, Result}
+use Rattle.std.specs.Prelude.{OnOk, OnErr, true}
 use Rattle.wenc_base.specs.Holder.{Held, no_members, is_finished, Contains, AddsMember}
 use Rattle.wenc_base.specs.Piece.{Form}
-use Rattle.wenc_base.specs.Openings.{opened_with, lengthened, closed, given_up, OpeningIsIn}
+use Rattle.wenc_base.specs.Openings.{opened_with, lengthened, closed, given_up}
 use Rattle.wenc_base.specs.declared.fault.Fault.{Fault}
-use Rattle.wenc_base.specs.declared.holder.openings.Opening.{Opening}
 use Rattle.wenc_parts.specs.Aliases.{AliasOf, InstanceExport, CoreInstanceExport, Outer}
 use Rattle.wenc_parts.specs.Imports.{kind_of}
 use Rattle.wenc_parts.specs.declared.aliases.ComponentOuterAliasKind.{ComponentOuterAliasKind}
 use Rattle.wenc_parts.specs.declared.aliases.ComponentOuterAliasKind.TheVariants as outers
 use Rattle.wenc_parts.specs.declared.exports.ComponentExportKind.{ComponentExportKind}
 use Rattle.wenc_parts.specs.declared.exports.ComponentExportKind.TheVariants as kinds
-use Rattle.wenc_types.specs.ComponentTypes.{InstanceDeclaration, CoreTyped, Typed, Aliased, Exported, ComponentDeclaration, Imported, Declared, instance_declaration, component_declaration}
-use Rattle.wenc_types.specs.CoreTypes.{ModuleDeclaration, Import, Defined, Outer as OuterType, Export, module_declaration}
+use Rattle.wenc_types.specs.ComponentTypes.{InstanceDeclaration, CoreTyped, Typed, Aliased}
+use Rattle.wenc_types.specs.ComponentTypes.{Exported, ComponentDeclaration, Imported, Declared}
+use Rattle.wenc_types.specs.ComponentTypes.{instance_declaration, component_declaration}
+use Rattle.wenc_types.specs.CoreTypes.{ModuleDeclaration, Import, Defined, Outer as OuterType}
+use Rattle.wenc_types.specs.CoreTypes.{Export, module_declaration}
 use Rattle.wenc_types.specs.declared.counts.Counts.{Counts}
 use Rattle.wenc_types.specs.declared.counts.Sort.{Sort}
-use Rattle.wenc_types.specs.declared.counts.Sort.TheVariants.{CoreType, «Type» as TypeSort, Instance}
+use Rattle.wenc_types.specs.declared.counts.Sort.TheVariants.{CoreType, «Type» as TypeSort}
+use Rattle.wenc_types.specs.declared.counts.Sort.TheVariants.{Instance}
 
 -- ---- what a declaration counts as: a core type, a type, an instance, or nothing
 
@@ -180,28 +184,3 @@ uncounted (Some Instance) n =
 -- as it was before that type
 abbrev pub taken_back : Declaring → Declaring
 taken_back t = record { held = given_up t.held; counts = uncounted t.begun t.counts; begun = None }
-
--- ---- what is always so
-
--- one of this sort is there
-abbrev pub HasOne : Option Sort → Counts → Type 0
-HasOne None n = ⊥
-HasOne (Some CoreType) n = 1 ≤ n.core_types
-HasOne (Some TypeSort) n = 1 ≤ n.types
-HasOne (Some Instance) n = 1 ≤ n.instances
-
--- what is being written is counted
-abbrev pub OpenedIsIn : Option Opening → Option Sort → Counts → Type 0
-OpenedIsIn None sort n = sort ≡ None
-OpenedIsIn (Some o) sort n = HasOne sort n
-
-abbrev pub total : Counts → ℕ
-total n = n.core_types + n.types + n.instances
-
--- It has some declarations, but for a type that is being written.
-pub record IsDeclaring {D : Type 0} (form : Form D) (sort : D → Option Sort)
-    (t : Declaring) : Type 0 where
-  pub enough : total t.counts ≤ t.held.count
-  pub counted : OpenedIsIn t.held.opening t.begun t.counts
-  pub opening : OpeningIsIn t.held.opening t.held.count (length t.held.body)
-  pub settled : ∥ DeclaresSome form sort (taken_back t) ∥₁

@@ -1,4 +1,5 @@
--- Types of values that components define, and types of functions (component model, binary format, "Type Definitions").
+-- Types of values that components define, and types of functions (component model, binary format,
+-- "Type Definitions").
 use Rattle.std.specs.Prelude.{ℕ, Bool, true, false, List, Option}
 use Rattle.std.specs.Borrow.{Bor}
 use Rattle.wenc_base.specs.Piece.{Form, byte, ◌▸◌, ◌⨾◌}
@@ -16,7 +17,8 @@ pub record Named : Type 0 where
 abbrev pub named : Form Named
 named f = name_form f.name ⨾ value_type f.ty
 
--- a case, with a value or without; the byte is for cases that refine another, which there are none of
+-- a case, with a value or without; the byte is for cases that refine another, which there are none
+-- of
 pub record Case : Type 0 where
   pub name : List ℕ
   pub ty : Option ComponentValType

@@ -5,4 +5,5 @@ pub mod Declarations
 pub mod FuncStages
 pub mod CoreTypeTrees
 pub mod TypeTrees
+pub mod inside
 pub mod laws

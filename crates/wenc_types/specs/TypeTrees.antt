@@ -4,7 +4,11 @@ use Rattle.std.specs.String.{string_bytes}
 use Rattle.wenc_parts.specs.Aliases.{alias_tree_view}
 use Rattle.wenc_parts.specs.Imports.{name_tree_view}
 use Rattle.wenc_parts.specs.declared.types.ComponentValType.{ComponentValType}
-use Rattle.wenc_types.specs.ComponentTypes.{TypeOf, DefinedType, FunctionType, ComponentType, InstanceType, ResourceType, InstanceDeclaration, CoreTyped, Typed, Aliased, Exported, ComponentDeclaration, Imported, Declared, instances_of, components_of}
+use Rattle.wenc_types.specs.ComponentTypes.{TypeOf, DefinedType, FunctionType, ComponentType}
+use Rattle.wenc_types.specs.ComponentTypes.{InstanceType, ResourceType, InstanceDeclaration}
+use Rattle.wenc_types.specs.ComponentTypes.{CoreTyped, Typed, Aliased, Exported}
+use Rattle.wenc_types.specs.ComponentTypes.{ComponentDeclaration, Imported, Declared, instances_of}
+use Rattle.wenc_types.specs.ComponentTypes.{components_of}
 use Rattle.wenc_types.specs.CoreTypeTrees.{core_type_view}
 use Rattle.wenc_types.specs.DefinedTypes.{Named, Case, Defined, Function}
 use Rattle.wenc_types.specs.DefinedTypes as pure
@@ -14,7 +18,8 @@ use Rattle.wenc_types.specs.declared.defined_tree.DefinedTree.TheVariants as tre
 use Rattle.wenc_types.specs.declared.type_tree.TypeTree.{TypeTree, fold-TypeTree}
 use Rattle.wenc_types.specs.declared.type_tree.InstanceDecl.{InstanceDecl, fold-InstanceDecl}
 use Rattle.wenc_types.specs.declared.type_tree.ComponentDecl.{ComponentDecl, fold-ComponentDecl}
-use Rattle.wenc_types.specs.declared.type_tree.ComponentDecl.TheOpen.{TypeTree-F, InstanceDecl-F, ComponentDecl-F}
+use Rattle.wenc_types.specs.declared.type_tree.ComponentDecl.TheOpen.{TypeTree-F, InstanceDecl-F}
+use Rattle.wenc_types.specs.declared.type_tree.ComponentDecl.TheOpen.{ComponentDecl-F}
 
 abbrev pub named_view : {A : Type 0} → String A × ComponentValType → Named
 named_view f = record { name = string_bytes f.0; ty = f.1 }

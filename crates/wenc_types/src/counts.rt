@@ -1,7 +1,8 @@
 //! What is counted of declarations: core types, types and instances.
 ghost use Rattle.std.specs.Prelude.{◌≡◌, ◌<◌};
 ghost use Rattle.wenc_parts.specs.Aliases.{alias_view};
-ghost use Rattle.wenc_types.specs.Declarations.{sort_of_kind, sort_of_alias, counted, uncounted, total, no_counts};
+ghost use Rattle.wenc_types.specs.Declarations.{sort_of_kind, sort_of_alias, counted, uncounted, no_counts};
+ghost use Rattle.wenc_types.specs.inside.Declaring.{total};
 
 use wenc_parts::{Alias, ComponentExportKind, ComponentOuterAliasKind};
 

@@ -67,7 +67,8 @@ pub struct Declarations<K: DeclaredKind, A: Allocator = Global> {
 }
 
 impl<K: DeclaredKind, A: Allocator> Model for Declarations<K, A> {
-    ghost use Rattle.wenc_types.specs.Declarations.{Declaring, IsDeclaring};
+    ghost use Rattle.wenc_types.specs.Declarations.{Declaring};
+    ghost use Rattle.wenc_types.specs.inside.Declaring.{IsDeclaring};
 
     ghost Value = { Declaring };
 

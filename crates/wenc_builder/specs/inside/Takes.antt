@@ -5,11 +5,16 @@ use Rattle.wenc_base.specs.Fault.{IsWarranted, either}
 use Rattle.wenc_base.specs.Lender.{Extended}
 use Rattle.wenc_base.specs.Piece.{Piece}
 use Rattle.wenc_base.specs.declared.fault.Fault.{Fault}
-use Rattle.wenc_builder.specs.Builder.{State, settled_in, with_alone, builder_is_finished, Draft}
-use Rattle.wenc_builder.specs.Builder.{appended}
+use Rattle.wenc_builder.specs.Builder.{State, settled_in, Content, stood_alone, spaces_with}
+use Rattle.wenc_builder.specs.Builder.{builder_is_finished, Draft, appended}
 use Rattle.wenc_builder.specs.Enters.{TakesWith, TakesPlaces, TakesDraft}
 use Rattle.wenc_builder.specs.Lent.{IsItemText, no_room}
 use Rattle.wenc_builder.specs.Space.{Defined}
+
+-- what stands alone, with its places and its name or none
+abbrev pub with_alone : Content → Option Defined → Option (List ℕ) → List ℕ → Content
+with_alone c places name text =
+    record { sections = stood_alone c.sections text; spaces = spaces_with c.spaces places name }
 
 -- If it fits, this piece is such an item.
 abbrev pub IsItemPiece : Option ℕ → Option Defined → Piece → Type 0

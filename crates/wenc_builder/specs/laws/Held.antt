@@ -4,7 +4,8 @@ use Rattle.std.proofs.Math.Logic.{∥∥₁_map, ∥∥₁_elim, ∥∥₁_prop}
 use Rattle.std.proofs.lemmas.Bool.Decides.{eqb_tells}
 use Rattle.wenc_base.specs.Fault.{NoCause}
 use Rattle.wenc_base.specs.declared.fault.Fault.TheVariants.{Memory, TooMany, TooLarge, Unfinished}
-use Rattle.wenc_builder.specs.Builder.{OpenSection, entered, entered_at, Begun, Content, State, settled_in, builder_is_finished, with_alone, with_entry, content_with, content_of, Draft, begun_with, longer, appended, ended, builder_given_up}
+use Rattle.wenc_builder.specs.Builder.{OpenSection, entered, entered_at, Begun, Content, State, settled_in, builder_is_finished, with_entry, content_with, content_of, Draft, begun_with, longer, appended, ended, builder_given_up}
+use Rattle.wenc_builder.specs.inside.Takes.{with_alone}
 use Rattle.wenc_builder.specs.Entry.{Entry, entry}
 use Rattle.wenc_builder.specs.Holds.{Holds}
 use Rattle.wenc_builder.specs.Item.{item}

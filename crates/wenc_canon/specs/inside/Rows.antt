@@ -1,5 +1,5 @@
 -- The intrinsic that an opcode and the values of its fields say, for the code that writes them.
-use Rattle.std.specs.Prelude.{ℕ, ◌==◌, false, if◌then◌else◌, List, [], ◌∷◌, ◌++◌, None, codes}
+use Rattle.std.specs.Prelude.{ℕ, ◌==◌, false, if◌then◌else◌, List, [], ◌∷◌, ◌++◌, None}
 use Rattle.wenc_base.specs.Piece.{Piece, ◌▸◌}
 use Rattle.wenc_base.specs.declared.types.ValType.TheVariants.{I32}
 use Rattle.wenc_canon.specs.declared.canonicals.CanonicalOption.{CanonicalOption}
@@ -12,12 +12,6 @@ abbrev pub first_byte : Canonical → ℕ
 first_byte (Lift function options type_index) = 0x00
 first_byte (Lower function options) = 0x01
 first_byte (Provided i values) = (row i).opcode
-
--- its name, without the number of a slot
-abbrev pub own_name : Canonical → List ℕ
-own_name (Lift function options type_index) = codes "lift"
-own_name (Lower function options) = codes "lower"
-own_name (Provided i values) = (row i).name
 
 -- the intrinsic with this opcode, of these
 abbrev pub first_with : ℕ → List Intrinsic → Intrinsic

@@ -1,4 +1,5 @@
--- What stands behind the opcodes that lift and lower, a byte that has one value, and the table of opcodes in parts.
+-- What stands behind the opcodes that lift and lower, a byte that has one value, and the table of
+-- opcodes in parts.
 use Rattle.std.specs.Prelude.{ℕ, List, [], ◌∷◌, drop}
 use Rattle.wenc_base.specs.laws.Forms.{read_list}
 use Rattle.wenc_base.specs.laws.Lawful.{Reader, ◌>>=◌, give, nowhere, choose}

@@ -1,5 +1,6 @@
 -- Readers of what nests: they find a value, or the first flaw that is met.
-use Rattle.std.specs.Prelude.{◌≡◌, ℕ, zero, suc, List, [], ◌∷◌, Option, Some, None, Result, Ok, Err, nat_eq, if◌then◌else◌}
+use Rattle.std.specs.Prelude.{◌≡◌, ℕ, zero, suc, List, [], ◌∷◌, Option, Some, None, Result, Ok, Err}
+use Rattle.std.specs.Prelude.{nat_eq, if◌then◌else◌}
 use Rattle.wenc_base.specs.laws.Lawful.{Reader}
 use Rattle.wenc_read.specs.inside.Gives.{read_byte}
 use Rattle.wenc_read.specs.declared.refusal.Refusal.{Refusal}

@@ -4,10 +4,14 @@ use Rattle.wenc_base.specs.laws.Lawful.{Reader, ◌>>=◌, give}
 use Rattle.wenc_base.specs.laws.Numbers.{read_u32}
 use Rattle.wenc_parts.specs.laws.Aliases.{read_alias}
 use Rattle.wenc_parts.specs.laws.Imports.{read_extern_name, read_type_reference}
-use Rattle.wenc_types.specs.ComponentTypes.{TypeOf, DefinedType, ComponentType, InstanceType, InstanceDeclaration, CoreTyped, Typed, Aliased, Exported, ComponentDeclaration, Imported, Declared, instances_of, components_of}
+use Rattle.wenc_types.specs.ComponentTypes.{TypeOf, DefinedType, ComponentType, InstanceType}
+use Rattle.wenc_types.specs.ComponentTypes.{InstanceDeclaration, CoreTyped, Typed, Aliased}
+use Rattle.wenc_types.specs.ComponentTypes.{Exported, ComponentDeclaration, Imported, Declared}
+use Rattle.wenc_types.specs.ComponentTypes.{instances_of, components_of}
 use Rattle.wenc_types.specs.laws.CoreTypes.{read_core_type}
 use Rattle.wenc_types.specs.laws.DefinedTypes.{read_defined}
-use Rattle.wenc_decode.specs.inside.Outcomes.{DeepReader, flat, ◌>>>◌, yield, refuse, too_deep, repeat, select}
+use Rattle.wenc_decode.specs.inside.Outcomes.{DeepReader, flat, ◌>>>◌, yield, refuse, too_deep}
+use Rattle.wenc_decode.specs.inside.Outcomes.{repeat, select}
 use Rattle.wenc_decode.specs.inside.Types.{read_function_type, read_resource_type}
 
 -- ---- declarations, by the reader of a type

@@ -1,11 +1,15 @@
--- The primitive types, in the order of their table, and what stands behind the first byte of a type.
+-- The primitive types, in the order of their table, and what stands behind the first byte of a
+-- type.
 use Rattle.std.specs.Prelude.{ℕ, Bool, List, [], ◌∷◌, drop}
 use Rattle.wenc_base.specs.laws.Forms.{read_list, read_option}
 use Rattle.wenc_base.specs.laws.Lawful.{Reader, ◌>>=◌, give, nowhere, pick}
 use Rattle.wenc_base.specs.laws.Numbers.{read_u32}
 use Rattle.wenc_base.specs.laws.Types.{read_val_type}
 use Rattle.wenc_parts.specs.declared.types.PrimitiveValType.{PrimitiveValType}
-use Rattle.wenc_parts.specs.declared.types.PrimitiveValType.TheVariants.{Bool as BoolType, S8, U8, S16, U16, S32, U32, S64, U64, F32, F64, Char, String, ErrorContext}
+use Rattle.wenc_parts.specs.declared.types.PrimitiveValType.TheVariants.{Bool as BoolType, S8, U8}
+use Rattle.wenc_parts.specs.declared.types.PrimitiveValType.TheVariants.{S16, U16, S32, U32, S64}
+use Rattle.wenc_parts.specs.declared.types.PrimitiveValType.TheVariants.{U64, F32, F64, Char}
+use Rattle.wenc_parts.specs.declared.types.PrimitiveValType.TheVariants.{String, ErrorContext}
 use Rattle.wenc_parts.specs.laws.Types.{read_result_list}
 use Rattle.wenc_types.specs.ComponentTypes.{TypeOf, FunctionType, ResourceType}
 use Rattle.wenc_types.specs.DefinedTypes.{Defined}

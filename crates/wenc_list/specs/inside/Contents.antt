@@ -1,18 +1,23 @@
 -- Readers of sections and of what is in them.
-use Rattle.std.specs.Prelude.{ℕ, List, [], ◌∷◌, length, take, drop, Option, Some, None, Result, Ok, Err, nat_eq, nat_lt, if◌then◌else◌}
+use Rattle.std.specs.Prelude.{ℕ, List, [], ◌∷◌, length, take, drop, Option, Some, None, Result, Ok}
+use Rattle.std.specs.Prelude.{Err, nat_eq, nat_lt, if◌then◌else◌}
 use Rattle.wenc_base.specs.Custom.{Custom}
 use Rattle.wenc_base.specs.laws.Forms.{read_name, read_list, read_bytes}
 use Rattle.wenc_base.specs.laws.Lawful.{Reader, go_on, ◌>>=◌, give, done}
 use Rattle.wenc_base.specs.laws.Numbers.{read_u32}
-use Rattle.wenc_builder.specs.Item.{Item, ModuleItem, CoreInstanceItem, CoreTypeItem, ComponentItem, InstanceItem, AliasItem, TypeItem, CanonItem, StartItem, ImportItem, ExportItem, CustomItem}
+use Rattle.wenc_builder.specs.Item.{Item, ModuleItem, CoreInstanceItem, CoreTypeItem, ComponentItem}
+use Rattle.wenc_builder.specs.Item.{InstanceItem, AliasItem, TypeItem, CanonItem, StartItem}
+use Rattle.wenc_builder.specs.Item.{ImportItem, ExportItem, CustomItem}
 use Rattle.wenc_canon.specs.laws.Canonicals.{read_canonical}
-use Rattle.wenc_decode.specs.inside.Outcomes.{Flaw, Bad, DeepReader, flat, ◌>>>◌, yield, refuse, repeat, filled}
+use Rattle.wenc_decode.specs.inside.Outcomes.{Flaw, Bad, DeepReader, flat, ◌>>>◌, yield, refuse}
+use Rattle.wenc_decode.specs.inside.Outcomes.{repeat, filled}
 use Rattle.wenc_decode.specs.inside.TypeTrees.{read_type}
 use Rattle.wenc_parts.specs.laws.Aliases.{read_alias}
 use Rattle.wenc_read.specs.declared.refusal.Refusal.{Refusal}
 use Rattle.wenc_read.specs.declared.refusal.Refusal.TheVariants as refusals
 use Rattle.wenc_sections.specs.Start.{Start, started}
-use Rattle.wenc_sections.specs.laws.Items.{read_import, read_export, read_core_instance, read_instance}
+use Rattle.wenc_sections.specs.laws.Items.{read_import, read_export, read_core_instance}
+use Rattle.wenc_sections.specs.laws.Items.{read_instance}
 use Rattle.wenc_types.specs.laws.CoreTypes.{read_core_type}
 use Rattle.wenc_list.specs.declared.fault.ListFault.{ListFault}
 use Rattle.wenc_list.specs.declared.fault.ListFault.TheVariants as faults

@@ -9,7 +9,8 @@ use Rattle.wenc_base.specs.laws.Members.{finished_back, back_twice, opened_back,
 use Rattle.wenc_base.specs.declared.holder.openings.Opening.{Opening}
 use Rattle.wenc_types.specs.ComponentTypes.{ComponentType, InstanceType, components_of, instances_of, type_of, component_declaration, instance_declaration}
 use Rattle.wenc_types.specs.CoreTypes.{module_declaration, Module, core_type}
-use Rattle.wenc_types.specs.Declarations.{module_sort, component_sort, instance_sort, Declaring, no_declarations, Settled, Declares, IsDeclaration, DeclaresSome, IsDeclaring, HasOne, OpenedIsIn, total, counted, uncounted, lead_of, begun, written, ended, taken_back}
+use Rattle.wenc_types.specs.Declarations.{module_sort, component_sort, instance_sort, Declaring, no_declarations, Settled, Declares, IsDeclaration, DeclaresSome, counted, uncounted, lead_of, begun, written, ended, taken_back}
+use Rattle.wenc_types.specs.inside.Declaring.{IsDeclaring, HasOne, OpenedIsIn, total}
 use Rattle.wenc_types.specs.laws.Declarations.{declares_next, back_again, module_serves, component_serves, instance_serves}
 use Rattle.wenc_types.specs.declared.counts.Counts.{Counts}
 use Rattle.wenc_types.specs.declared.counts.Sort.{Sort}

@@ -3,7 +3,7 @@ use Rattle.std.specs.Option.{option_copied}
 use Rattle.std.specs.Prelude.{Vec}
 use Rattle.wenc_base.specs.declared.types.ValType.{ValType}
 use Rattle.wenc_canon.specs.CanonTrees.{canon_view}
-use Rattle.wenc_canon.specs.inside.Rows.{own_name}
+use Rattle.wenc_canon.specs.Canonicals.{own_name}
 use Rattle.wenc_canon.specs.declared.canon_tree.CanonTree.{CanonTree}
 use Rattle.wenc_canon.specs.declared.canonicals.CanonicalOption.{CanonicalOption}
 use Rattle.wenc_canon.specs.declared.canon_tree.CanonTree.TheVariants as trees
