@@ -15,7 +15,7 @@ use Rattle.wenc_parts.specs.declared.types.ComponentValType.{ComponentValType}
 use Rattle.wenc_parts.specs.declared.types.PrimitiveValType.{PrimitiveValType}
 use Rattle.wenc_parts.specs.contracts.types.ComponentValTypePartialEq.TheImpl.{eq-value as value_eq'}
 use Rattle.wenc_parts.specs.contracts.types.PrimitiveValTypePartialEq.TheImpl.{eq-value as primitive_eq'}
-use Rattle.wenc_types.specs.DefinedTypes.{Named, Case, Defined, Primitive, Record, Variant, ListOf, MapOf, FixedLengthList, Tuple, Flags, Enumeration, OptionOf, ResultOf, Own, Borrow, Future, Stream}
+use Rattle.wenc_types.specs.DefinedTypes.{LabelledType, Case, DefValType, Primitive, Record, Variant, ListOf, MapOf, FixedLengthList, Tuple, Flags, Enumeration, OptionOf, ResultOf, Own, Borrow, Future, Stream}
 use Rattle.wenc_types.specs.TypeTrees.{named_view, case_view, defined_view}
 use Rattle.wenc_types.specs.declared.defined_tree.CaseTree.{CaseTree}
 use Rattle.wenc_types.specs.declared.defined_tree.DefinedTree.{DefinedTree}
@@ -42,7 +42,7 @@ texts : {A : Type 0} (m n : String A) → Decides (bytes_eq (string_bytes m) (st
 texts m n = bytes_eq-Decides (string_bytes m) (string_bytes n)
 
 nameds : {A : Type 0} (f g : String A × ComponentValType) → Decides (bytes_eq (string_bytes f.0) (string_bytes g.0) && value_eq'.it f.1 g.1) (named_view f ≡ named_view g)
-nameds f g = both _ _ (texts f.0 g.0) (values f.1 g.1) (λ p q. cc) (λ e. ap (λ (n : Named). n.name) e) (λ e. ap (λ (n : Named). n.ty) e)
+nameds f g = both _ _ (texts f.0 g.0) (values f.1 g.1) (λ p q. cc) (λ e. ap (λ (n : LabelledType). n.name) e) (λ e. ap (λ (n : LabelledType). n.ty) e)
 
 cases : (A : RattleType) (al : Ghosts A.Denot) (d e : Dict) (c k : CaseTree A.Denot) → Decides ((case_eq' A al d e).it c k) (case_view c ≡ case_view k)
 cases A al d e c k = both _ _ (texts c.name k.name) (options c.ty k.ty) (λ p q. cc) (λ e. ap (λ (n : Case). n.name) e) (λ e. ap (λ (n : Case). n.ty) e)
@@ -50,7 +50,7 @@ cases A al d e c k = both _ _ (texts c.name k.name) (options c.ty k.ty) (λ p q.
 -- ---- the whole
 
 -- which kind a type is of
-abbrev kind : Defined → ℕ
+abbrev kind : DefValType → ℕ
 kind (Primitive ty) = 0
 kind (Record fields) = 1
 kind (Variant cases) = 2
@@ -71,7 +71,7 @@ same_kind : (n : ℕ) → nat_eq n n ≡ true
 same_kind n = grind (arith, nat_tests)
 
 -- types of other kinds are others
-differ : (x y : Defined) → nat_eq (kind x) (kind y) ≡ false → Decides false (x ≡ y)
+differ : (x y : DefValType) → nat_eq (kind x) (kind y) ≡ false → Decides false (x ≡ y)
 differ x y e = (λ q. absurd (true≢false (sym q)), λ s. absurd (true≢false (sym (same_kind (kind y)) ∙ rw s at e)))
 
 pub defined_types : (A : RattleType) (al : Ghosts A.Denot) (d e : Dict) (a b : DefinedTree A.Denot) → Decides ((defined_eq' A al d e).it a b) (defined_view a ≡ defined_view b)

@@ -11,7 +11,7 @@ use Rattle.std.proofs.lemmas.Slice.Eq.{bytes_eq-Decides}
 use Rattle.std.specs.String.{string_bytes}
 use denote.RattleType.{RattleType}
 use mir.Syntax.{Dict}
-use Rattle.wenc_base.specs.Composites.{Composite, Sub, params_of, results_of, function_view, structure_view, composite_view, sub_view, group_view}
+use Rattle.wenc_base.specs.Composites.{Composite, Sub, params_of, results_of, function_view, structure_view, composite_view, sub_view, rec_type_view}
 use Rattle.wenc_base.specs.laws.Composites.{same_params, same_results, same_fields, same_element}
 use Rattle.wenc_base.specs.declared.types.composite.FuncType.{FuncType}
 use Rattle.wenc_base.specs.declared.types.composite.StructType.{StructType}
@@ -198,7 +198,7 @@ subs A al d e s t =
     (λ e. ap (λ (u : Sub). u.is_final) e)
     (λ e. (ap (λ (u : Sub). u.supertype) e, ap (λ (u : Sub). u.composite) e))
 
-pub groups : (A : RattleType) (al : Ghosts A.Denot) (d e : Dict) (g h : GroupTree A.Denot) → Decides ((group_eq' A al d e).it g h) (group_view g ≡ group_view h)
+pub groups : (A : RattleType) (al : Ghosts A.Denot) (d e : Dict) (g h : GroupTree A.Denot) → Decides ((group_eq' A al d e).it g h) (rec_type_view g ≡ rec_type_view h)
 groups A al d e (trees.Sub s) (trees.Sub t) = Decides-like _ (λ e. cc) (λ e. cc) (subs A al d e s t)
 groups A al d e (trees.Sub s) (trees.Rec w) = (λ e. absurd cc, λ e. absurd cc)
 groups A al d e (trees.Rec v) (trees.Sub t) = (λ e. absurd cc, λ e. absurd cc)

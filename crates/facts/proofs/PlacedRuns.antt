@@ -4,7 +4,7 @@ use Rattle.std.proofs.lemmas.Option.{same_Some}
 use Rattle.wenc_base.specs.declared.fault.Fault.{Fault}
 use Rattle.wenc_builder.specs.Entry.{Entry, items}
 use Rattle.wenc_builder.specs.Names.{names_entry}
-use Rattle.wenc_builder.specs.Space.{Defined, defines, place, place_at, place_of}
+use Rattle.wenc_builder.specs.Space.{Indices, defines, next_index, index_at, index_of}
 use Rattle.wasm_encoder.specs.Command.{CommandTree, AppendNames}
 use Rattle.wasm_encoder.specs.Cause.{one_or_none, added, place_added}
 use Rattle.wasm_encoder.specs.Ran.{entries_after, RanFrom}
@@ -20,7 +20,7 @@ grown es (c ∷ cs) (Ok a ∷ answers) all r =
     (added es c ++ k.0, k.1 ∙ append_assoc es (added es c) k.0)
 grown es (c ∷ cs) (Err fault ∷ answers) all r = grown es cs answers all r.1
 
-at_defined : (xs : List Entry) (o : Option Defined) (i : ℕ) → Some i ≡ place_at (items xs) o → (d : Defined) × (o ≡ Some d) × (i ≡ place (items xs) d.space)
+at_defined : (xs : List Entry) (o : Option Indices) (i : ℕ) → Some i ≡ index_at (items xs) o → (d : Indices) × (o ≡ Some d) × (i ≡ next_index (items xs) d.space)
 at_defined xs None i e = absurd cc
 at_defined xs (Some d) i e = (d, refl, same_Some i _ e)
 
@@ -35,7 +35,7 @@ placed_by c es all more (Some x) i a s e =
     let k = at_defined es (defines x.item) i e in
     record { front = es; entry = x; rest = more; split = s ∙ append_assoc es (x ∷ []) more; adds = a; places = k.0; defined = k.1; index = k.2 }
 
--- an answered index is its item's place
+-- an answered index is its item's next_index
 pub placed_at : (es : List Entry) (front : List CommandTree) (c : CommandTree) (behind : List CommandTree) (so_far : List (Result (Option ℕ) Fault)) (i : ℕ) (later : List (Result (Option ℕ) Fault)) (all : List Entry)
     → length front ≡ length so_far → RanFrom es (front ++ c ∷ behind) (so_far ++ Ok (Some i) ∷ later) all → IsPlacedAt c all i
 placed_at es [] c behind [] i later all n r =

@@ -1,11 +1,11 @@
 -- Where the item of a command stands that ran.
 use Rattle.std.specs.Prelude.{◌≡◌, ℕ, List, [], ◌∷◌, ◌++◌, Some}
 use Rattle.wenc_builder.specs.Entry.{Entry, items}
-use Rattle.wenc_builder.specs.Space.{Defined, defines, place}
+use Rattle.wenc_builder.specs.Space.{Indices, defines, next_index}
 use Rattle.wasm_encoder.specs.Cause.{added}
 use Rattle.wasm_encoder.specs.Command.{CommandTree}
 
--- The command's item is one of these, and this is its place: what the items in front of it define
+-- The command's item is one of these, and this is its next_index: what the items in front of it define
 -- in its space.
 pub record IsPlacedAt (c : CommandTree) (es : List Entry) (i : ℕ) : Type 0 where
   pub front : List Entry
@@ -13,6 +13,6 @@ pub record IsPlacedAt (c : CommandTree) (es : List Entry) (i : ℕ) : Type 0 whe
   pub rest : List Entry
   pub split : es ≡ front ++ entry ∷ rest
   pub adds : added front c ≡ entry ∷ []
-  pub places : Defined
+  pub places : Indices
   pub defined : defines entry.item ≡ Some places
-  pub index : i ≡ place (items front) places.space
+  pub index : i ≡ next_index (items front) places.space

@@ -5,7 +5,7 @@ ghost use Rattle.wenc_base.specs.declared.types.ValType.{ValType};
 ghost use Rattle.wenc_canon.specs.declared.canonicals.CanonicalOption.{CanonicalOption};
 ghost use Rattle.wenc_canon.specs.Canonicals as rows;
 ghost use Rattle.wenc_base.specs.Forms.{counted};
-ghost use Rattle.wenc_canon.specs.Canonicals.{canonical, Lift, Lower, Provided};
+ghost use Rattle.wenc_canon.specs.Canonicals.{canonical, Lift, Lower, OfBuiltin};
 
 /// Rows and a section: their texts, and a spelling that is read.
 #[tactic(auto, unfolding(wenc_base::specs::Number::groups))]
@@ -16,13 +16,13 @@ pub fn canonical_functions()
     ensures lower { (canonical (Lower 3 [])).text ≡ 0x01 ∷ 0x00 ∷ 0x03 ∷ 0x00 ∷ [] }
     ensures padded_lower { (canonical (Lower 3 [])).Reads Wide
         (0x01 ∷ 0x00 ∷ 0x83 ∷ 0x00 ∷ 0x00 ∷ []) [] }
-    ensures without_result { (canonical (Provided rows.TaskReturn (None, []))).text
+    ensures without_result { (canonical (OfBuiltin rows.TaskReturn (None, []))).text
         ≡ 0x09 ∷ 0x01 ∷ 0x00 ∷ 0x00 ∷ [] }
-    ensures cancel { (canonical (Provided rows.StreamCancelRead (3, true))).text
+    ensures cancel { (canonical (OfBuiltin rows.StreamCancelRead (3, true))).text
         ≡ 0x11 ∷ 0x03 ∷ 0x01 ∷ [] }
-    ensures poll { (canonical (Provided rows.WaitableSetPoll (tt, 0))).text
+    ensures poll { (canonical (OfBuiltin rows.WaitableSetPoll (tt, 0))).text
         ≡ 0x21 ∷ 0x00 ∷ 0x00 ∷ [] }
-    ensures section { (counted canonical (Provided rows.ContextGet (ValType.I32, 0)
-        ∷ Provided rows.TaskCancel tt ∷ [])).text
+    ensures section { (counted canonical (OfBuiltin rows.ContextGet (ValType.I32, 0)
+        ∷ OfBuiltin rows.TaskCancel tt ∷ [])).text
         ≡ 0x05 ∷ 0x02 ∷ 0x0a ∷ 0x7f ∷ 0x00 ∷ 0x05 ∷ [] }
 {}

@@ -4,9 +4,9 @@ ghost use Rattle.std.specs.Iterator.{IsFinite};
 ghost use Rattle.std.specs.Prelude.{◌≡◌, ◌++◌, ◌∷◌, [], List, map, OnOk, Ok, true, false};
 ghost use Rattle.wenc_base.specs.Composites.{Single, sub_view};
 ghost use Rattle.wenc_base.specs.Holder.{Contains};
-ghost use Rattle.wenc_types.specs.ComponentTypes.{TypeOf, DefinedType, FunctionType, ComponentDeclaration, Declared, Typed, type_of};
+ghost use Rattle.wenc_types.specs.ComponentTypes.{DefType, DefinedType, FunctionType, ComponentDeclaration, Declared, Typed, def_type};
 ghost use Rattle.wenc_types.specs.Declarations.{ModuleDeclares, ComponentDeclares};
-ghost use Rattle.wenc_types.specs.CoreTypes.{CoreType, Grouped, ModuleDeclaration, Defined, core_type};
+ghost use Rattle.wenc_types.specs.CoreTypes.{CoreType, Grouped, ModuleDeclaration, ModuleRecType, core_type};
 ghost use Rattle.wenc_types.specs.DefinedTypes.{OptionOf, lent_named};
 
 use std::alloc::Allocator;
@@ -53,7 +53,7 @@ pub fn declared<A: Allocator, B: Allocator>(
     ty: &SubType<B>,
 ) -> Result<(), Fault>
     ensures { OnOk result ((ds : List ModuleDeclaration) → ModuleDeclares types.old ds
-        → ModuleDeclares types.new (ds ++ Defined (Single (sub_view ty.now)) ∷ [])) }
+        → ModuleDeclares types.new (ds ++ ModuleRecType (Single (sub_view ty.now)) ∷ [])) }
 {
     types.ty()?.subtype(ty)
 }
@@ -68,8 +68,8 @@ where
     P: Iterator<Item = (&'b str, ComponentValType)> + Drop,
     requires can { P.can_next params }
     requires ends { IsFinite (P.remaining params) }
-    ensures { OnOk result (WholeRun P.next_gives params (λ run. (types : List TypeOf)
-        → Contains type_of section.old types → Contains type_of section.new
+    ensures { OnOk result (WholeRun P.next_gives params (λ run. (types : List DefType)
+        → Contains def_type section.old types → Contains def_type section.new
         (types ++ FunctionType (record {
           is_async = false;
           params = map lent_named run.items;

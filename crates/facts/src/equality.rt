@@ -1,7 +1,7 @@
 //! Two values are equal exactly where they are the same value, and ids of sections are ordered by their numbers.
 ghost use Rattle.std.specs.Prelude.{◌≡◌, ◌↔◌, IsTrue, nat_lt};
 ghost use Rattle.std.specs.Ordering.{nat_cmp};
-ghost use Rattle.wenc_base.specs.Composites.{function_view, structure_view, composite_view, sub_view, group_view};
+ghost use Rattle.wenc_base.specs.Composites.{function_view, structure_view, composite_view, sub_view, rec_type_view};
 ghost use Rattle.wenc_canon.specs.CanonTrees.{canon_view};
 ghost use Rattle.wenc_parts.specs.SectionIds.{section_number};
 ghost use Rattle.wenc_types.specs.CoreTypeTrees.{core_type_view, module_declaration_view};
@@ -129,7 +129,7 @@ pub fn sub_types<A: Allocator>(one: &SubType<A>, other: &SubType<A>) -> bool
 }
 
 pub fn groups_of_types<A: Allocator>(one: &GroupTree<A>, other: &GroupTree<A>) -> bool
-    ensures { IsTrue result ↔ (group_view one.now ≡ group_view other.now) }
+    ensures { IsTrue result ↔ (rec_type_view one.now ≡ rec_type_view other.now) }
 {
     one == other
 }

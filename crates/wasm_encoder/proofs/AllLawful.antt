@@ -1,6 +1,6 @@
 -- Why every form is lawful: its values have a reader in common.
 use Rattle.std.proofs.Common.{[], true}
-use Rattle.wenc_base.specs.Composites.{Sub, Single, Rec, Group, Func, final, guarded, standing}
+use Rattle.wenc_base.specs.Composites.{Sub, Single, Rec, RecType, Func, final, guarded, standing}
 use Rattle.wenc_base.specs.Delimited.{IsReadable}
 use Rattle.wenc_base.specs.FormLaws.{FormLaws}
 use Rattle.wenc_base.specs.Types.{nullable}
@@ -8,26 +8,26 @@ use Rattle.wenc_base.specs.declared.types.RefType.{RefType}
 use Rattle.wenc_base.specs.laws.Composites.{storage_type_lawful, field_type_lawful, composite_type_lawful, sub_type_lawful, group_lawful}
 use Rattle.wenc_base.specs.laws.Delimited.{pair_readable}
 use Rattle.wenc_base.specs.laws.Entities.{table_type_lawful, memory_type_lawful, global_type_lawful, tag_type_lawful, entity_type_lawful}
-use Rattle.wenc_base.specs.laws.Exports.{export_kind_lawful as core_kind_lawful}
+use Rattle.wenc_base.specs.laws.Exports.{core_export_kind_lawful as core_kind_lawful}
 use Rattle.wenc_base.specs.laws.Forms.{flag_lawful, name_lawful, byte_list_lawful, read_list, list_lawful, option_lawful, counted_lawful}
-use Rattle.wenc_base.specs.laws.Names.{named_lawful}
+use Rattle.wenc_base.specs.laws.Names.{name_association_lawful}
 use Rattle.wenc_base.specs.laws.Lawful.{form_laws, Lawful, Reader, ◌>>=◌, give, nowhere, choose, then, last}
 use Rattle.wenc_base.specs.laws.Numbers.{read_u32, u32_lawful, u64_lawful, index_lawful, i64_lawful}
 use Rattle.wenc_base.specs.laws.Sections.{custom_lawful, producer_lawful, producers_field_lawful, producers_section_lawful}
 use Rattle.wenc_base.specs.laws.Types.{abstract_type_lawful, heap_type_lawful, to, reference_lawful, val_type_lawful}
 use Rattle.wenc_canon.specs.laws.Canonicals.{canonical_option_lawful, field_lawful, fields_lawful, canonical_lawful}
 use Rattle.wenc_parts.specs.laws.Aliases.{outer_kind_lawful, alias_lawful}
-use Rattle.wenc_parts.specs.laws.Exports.{export_kind_lawful}
+use Rattle.wenc_parts.specs.laws.Exports.{component_export_kind_lawful}
 use Rattle.wenc_parts.specs.laws.Imports.{type_bounds_lawful, type_reference_lawful, name_option_lawful, extern_name_lawful}
 use Rattle.wenc_parts.specs.laws.Instances.{module_argument_lawful}
 use Rattle.wenc_parts.specs.laws.SectionIds.{section_lawful}
 use Rattle.wenc_parts.specs.laws.Types.{primitive_lawful, value_type_lawful, result_list_lawful}
 use Rattle.wenc_sections.specs.Start.{Start, started, start_content}
 use Rattle.wenc_sections.specs.laws.Names.{sort_lawful, names_section_lawful}
-use Rattle.wenc_sections.specs.laws.Items.{import_lawful, export_lawful, argument_lawful, core_export_lawful, core_instance_lawful, given_lawful, exported_lawful, instance_lawful, start_lawful}
+use Rattle.wenc_sections.specs.laws.Items.{import_lawful, inline_export_lawful, argument_lawful, inline_core_export_lawful, core_instance_lawful, given_lawful, exported_lawful, instance_lawful, start_lawful}
 use Rattle.wenc_types.specs.laws.ComponentTypes.{type_lawful, instance_declaration_lawful, component_declaration_lawful}
 use Rattle.wenc_types.specs.laws.CoreTypes.{module_declaration_lawful, module_type_lawful, standing_rows, standing_row, core_type_lawful}
-use Rattle.wenc_types.specs.laws.DefinedTypes.{named_lawful as named_type_lawful, case_lawful, defined_type_lawful, function_type_lawful}
+use Rattle.wenc_types.specs.laws.DefinedTypes.{name_association_lawful as named_type_lawful, case_lawful, defined_type_lawful, function_type_lawful}
 use Rattle.wasm_encoder.specs.AllForms as forms
 use Rattle.wasm_encoder.specs.AllForms.{FormName, form_of}
 
@@ -38,11 +38,11 @@ nullable_readable : IsReadable nullable
 nullable_readable = (_, λ h. last (λ (r : RefType). r.heap_type) (reference_lawful (to true h)))
 
 -- what is read of a group in a component
-abbrev read_standing : Reader Group
+abbrev read_standing : Reader RecType
 read_standing = choose (standing_rows (λ g. g)) nowhere
 
 -- groups in a component, as they stand there
-standing_lawful : (g : Group) → Lawful (standing true g) (λ fuel. read_standing) g
+standing_lawful : (g : RecType) → Lawful (standing true g) (λ fuel. read_standing) g
 standing_lawful g = standing_row (λ h. h) (λ fuel. []) _ g
 
 -- they have a reader
@@ -50,7 +50,7 @@ standing_readable : IsReadable (standing true)
 standing_readable = (_, standing_lawful)
 
 -- the type of a group of one; of another any
-abbrev alone : Group → Sub
+abbrev alone : RecType → Sub
 alone (Single s) = s
 alone (Rec types) = final (Func [] [])
 
@@ -100,7 +100,7 @@ lawful_of forms.SectionIds = (_, section_lawful)
 lawful_of forms.PrimitiveTypes = (_, primitive_lawful)
 lawful_of forms.ValueTypes = (_, value_type_lawful)
 lawful_of forms.ResultLists = (_, result_list_lawful)
-lawful_of forms.ExportKinds = (_, export_kind_lawful)
+lawful_of forms.ExportKinds = (_, component_export_kind_lawful)
 lawful_of forms.Bounds = (_, type_bounds_lawful)
 lawful_of forms.TypeReferences = (_, type_reference_lawful)
 lawful_of forms.NameOptions = (_, name_option_lawful)
@@ -121,9 +121,9 @@ lawful_of forms.InstanceDeclarations = (_, instance_declaration_lawful)
 lawful_of forms.ComponentDeclarations = (_, component_declaration_lawful)
 lawful_of forms.Aliases = (_, alias_lawful)
 lawful_of forms.Imports = (_, import_lawful)
-lawful_of forms.Exports = (_, export_lawful)
+lawful_of forms.Exports = (_, inline_export_lawful)
 lawful_of forms.Arguments = (_, argument_lawful)
-lawful_of forms.CoreExports = (_, core_export_lawful)
+lawful_of forms.CoreExports = (_, inline_core_export_lawful)
 lawful_of forms.CoreInstances = (_, core_instance_lawful)
 lawful_of forms.ComponentArguments = (_, given_lawful)
 lawful_of forms.InstanceExports = (_, exported_lawful)
@@ -134,7 +134,7 @@ lawful_of (forms.CanonicalFields kinds) = (_, fields_lawful kinds)
 lawful_of forms.CanonicalFunctions = (_, canonical_lawful)
 lawful_of forms.VersionedTools = (_, producer_lawful)
 lawful_of forms.ProducersFields = (_, producers_field_lawful)
-lawful_of forms.NamedPlaces = (_, named_lawful)
+lawful_of forms.NamedPlaces = (_, name_association_lawful)
 lawful_of forms.ItemSorts = (_, sort_lawful)
 lawful_of forms.CustomSections = (_, custom_lawful)
 lawful_of forms.NameSections = (_, names_section_lawful)

@@ -10,11 +10,11 @@ use Rattle.wenc_base.specs.laws.Serves.{still_warranted, IsAmong, itself_among}
 use Rattle.wenc_builder.specs.Builder.{State}
 use Rattle.wenc_builder.specs.Cause.{EntryCause}
 use Rattle.wenc_builder.specs.Entry.{Entry, items}
-use Rattle.wenc_builder.specs.Enters.{Enters, EntersPlaceless}
+use Rattle.wenc_builder.specs.Enters.{Enters, EntersWithoutIndex}
 use Rattle.wenc_builder.specs.Holds.{Holds}
 use Rattle.wenc_builder.specs.Item.{Item}
 use Rattle.wenc_builder.specs.Names.{named_entry, names_entry, AddsNames}
-use Rattle.wenc_builder.specs.Space.{place_of}
+use Rattle.wenc_builder.specs.Space.{index_of}
 use Rattle.wenc_sections.specs.Names.{Subsection}
 use Rattle.wenc_builder.specs.laws.Answered.{answered, answered_with, entry_never_unfinished}
 use Rattle.wasm_encoder.specs.Command.{CommandTree, AppendNames}
@@ -61,14 +61,14 @@ pub entered : (old new : State) (r : Result ℕ Fault) (c : CommandTree) (x : En
 entered old new r c x adds caused e = due old new (placed r) c (λ es h. (x ∷ [], EntryCause es x, adds es, caused es, is_due r es (answered old new r x es e h)))
   where
     is_due : (r : Result ℕ Fault) (es : List Entry)
-        → MatchResult r (λ i. Holds new (es ++ x ∷ []) × (Some i ≡ place_of (items es) x.item) × NoCause (EntryCause es x)) (λ fault. Holds new es × IsWarranted (EntryCause es x) fault)
+        → MatchResult r (λ i. Holds new (es ++ x ∷ []) × (Some i ≡ index_of (items es) x.item) × NoCause (EntryCause es x)) (λ fault. Holds new es × IsWarranted (EntryCause es x) fault)
         → IsDueTo es (x ∷ []) (EntryCause es x) new (placed r)
     is_due (Ok i) es a = a
     is_due (Err fault) es a = (a.0, refusal es x fault a.1)
 
 -- a call that adds an entry which has no place
 pub entered_placeless : (old new : State) (r : Result (Unit {0}) Fault) (c : CommandTree) (x : Entry) → ((es : List Entry) → added es c ≡ x ∷ []) → ((es : List Entry) → IsAmong (EntryCause es x) (cause es c))
-    → ((es : List Entry) → place_of (items es) x.item ≡ None) → EntersPlaceless old new r x → Answers old new (placeless r) c
+    → ((es : List Entry) → index_of (items es) x.item ≡ None) → EntersWithoutIndex old new r x → Answers old new (placeless r) c
 entered_placeless old new r c x adds caused nowhere e = due old new (placeless r) c (λ es h. (x ∷ [], EntryCause es x, adds es, caused es, is_due r es (answered_with old new r x (λ _ _. Unit {0}) (λ _ _. Unit {0}) es e h)))
   where
     is_due : (r : Result (Unit {0}) Fault) (es : List Entry)
@@ -78,16 +78,16 @@ entered_placeless old new r c x adds caused nowhere e = due old new (placeless r
     is_due (Err fault) es a = (a.0, refusal es x fault a.1)
 
 -- the section of names has no place
-names_nowhere : (xs : List Item) (names : List Subsection) (x : Entry) → named_entry names ≡ Some x → place_of xs x.item ≡ None
+names_nowhere : (xs : List Item) (names : List Subsection) (x : Entry) → named_entry names ≡ Some x → index_of xs x.item ≡ None
 names_nowhere xs [] x e = absurd cc
-names_nowhere xs (n ∷ names) x e = subst (λ (y : Entry). place_of xs y.item ≡ None) (same_Some _ x e) refl
+names_nowhere xs (n ∷ names) x e = subst (λ (y : Entry). index_of xs y.item ≡ None) (same_Some _ x e) refl
 
 -- the call that adds the names so far
 pub names_entered : (old new : State) (r : Result (Unit {0}) Fault) → AddsNames old new r → Answers old new (placeless r) AppendNames
 names_entered old new r a = due old new (placeless r) AppendNames (λ es h. (one_or_none (names_entry es), added_cause es (one_or_none (names_entry es)), refl, itself_among, is_due r es (names_entry es) h (names_nowhere (items es) _) (a.held es h)))
   where
-    is_due : (r : Result (Unit {0}) Fault) (es : List Entry) (o : Option Entry) → Holds old es → ((x : Entry) → o ≡ Some x → place_of (items es) x.item ≡ None)
-        → MatchOption o ((r ≡ Ok tt) × (new ≡ old)) (λ x. EntersPlaceless old new r x) → IsDueTo es (one_or_none o) (added_cause es (one_or_none o)) new (placeless r)
+    is_due : (r : Result (Unit {0}) Fault) (es : List Entry) (o : Option Entry) → Holds old es → ((x : Entry) → o ≡ Some x → index_of (items es) x.item ≡ None)
+        → MatchOption o ((r ≡ Ok tt) × (new ≡ old)) (λ x. EntersWithoutIndex old new r x) → IsDueTo es (one_or_none o) (added_cause es (one_or_none o)) new (placeless r)
     is_due (Ok u) es None h none m = (rw (m.1, append-nil es) h, refl, λ fault c. c)
     is_due (Err fault) es None h none m = absurd cc
     is_due (Ok u) es (Some x) h none m = let k = answered_with old new (Ok u) x (λ _ _. Unit {0}) (λ _ _. Unit {0}) es m h in (k.0, sym (none x refl), k.2)

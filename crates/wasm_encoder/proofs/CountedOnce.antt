@@ -1,24 +1,24 @@
 -- What an accepted call does to the counts.
 use Rattle.std.proofs.Common.{◌≡◌, ◌≢◌, ℕ, ◌+◌, List, [], ◌∷◌, ◌++◌, Option, Ok, refl, sym, ap, subst, ◌∙◌, get_or, arith}
 use Rattle.std.proofs.lemmas.Bool.{eq-eqb, ne_eqb}
-use Rattle.wenc_builder.specs.Builder.{Content, State, Namespace, namespace_at, content_with, content_of, count_in, Begun}
+use Rattle.wenc_builder.specs.Builder.{Content, State, Namespace, namespace_at, content_with, content_of, count_in, BegunItem}
 use Rattle.wenc_builder.specs.Enters.{Enters}
 use Rattle.wenc_builder.specs.Entry.{Entry, items}
 use Rattle.wenc_builder.specs.Holds.{Holds}
-use Rattle.wenc_builder.specs.Space.{space_number, Defined, defines, some_in, number_in, defined_in, IsPlaceAt, place}
+use Rattle.wenc_builder.specs.Space.{space_number, Indices, defines, some_in, number_in, defined_in, IsIndexAt, next_index}
 use Rattle.wenc_builder.specs.declared.builder.space.Space.{Space}
 use Rattle.wenc_builder.specs.declared.builder.space.Space.TheVariants.{CoreModules, CoreFuncs, CoreTypes, CoreMemories, CoreTables, CoreInstances, CoreTags, CoreGlobals, Funcs, Instances, Values, Components, Types}
 use Rattle.wenc_builder.specs.laws.Step.{space_within}
 
 -- one entry more
-place_push : (k : ℕ) (es : List Entry) (x : Entry) → place (items (es ++ x ∷ [])) k ≡ place (items es) k + defined_in k x.item
+place_push : (k : ℕ) (es : List Entry) (x : Entry) → next_index (items (es ++ x ∷ [])) k ≡ next_index (items es) k + defined_in k x.item
 place_push k [] x = omega arith
 place_push k (e ∷ es) x = omega (arith, place_push k es x)
 
 -- the count of a space, by the list that is held
-counted : (s : State) (es : List Entry) (space : Space) → Holds s es → count_in s space ≡ place (items es) (space_number space)
+counted : (s : State) (es : List Entry) (space : Space) → Holds s es → count_in s space ≡ next_index (items es) (space_number space)
 counted s es space h =
-    let settled : content_of s ≡ s.settled = ap (λ (b : Option Begun). content_with s.settled b) h.finished in
+    let settled : content_of s ≡ s.settled = ap (λ (b : Option BegunItem). content_with s.settled b) h.finished in
     ap (λ (c : Content). (namespace_at c.spaces (space_number space)).count) settled ∙ ap (λ (n : Namespace). n.count) (h.spaces.each (space_number space) (space_within space))
 
 -- the spaces by their numbers
@@ -35,14 +35,14 @@ same_space s t e = sym (by_number s) ∙ ap (λ (n : ℕ). get_or in_order n Cor
 module _ (old new : State) (i : ℕ) (x : Entry) (space : Space) (es : List Entry) (h : Holds old es) (e : Enters old new (Ok i) x) (d : defines x.item ≡ some_in space 1) where
   pub answered : i ≡ count_in old space
   answered =
-      let at : IsPlaceAt (items es) (some_in space 1) i = subst (λ (o : Option Defined). IsPlaceAt (items es) o i) d (e.held es h).1 in
+      let at : IsIndexAt (items es) (some_in space 1) i = subst (λ (o : Option Indices). IsIndexAt (items es) o i) d (e.held es h).1 in
       at ∙ sym (counted old es space h)
 
   more : (other : Space) → count_in new other ≡ count_in old other + number_in (space_number other) (some_in space 1)
   more other =
       let k : ℕ = space_number other in
-      let here : count_in new other ≡ place (items (es ++ x ∷ [])) k = counted new (es ++ x ∷ []) other (e.held es h).0 in
-      let adds : defined_in k x.item ≡ number_in k (some_in space 1) = ap (λ (o : Option Defined). number_in k o) d in
+      let here : count_in new other ≡ next_index (items (es ++ x ∷ [])) k = counted new (es ++ x ∷ []) other (e.held es h).0 in
+      let adds : defined_in k x.item ≡ number_in k (some_in space 1) = ap (λ (o : Option Indices). number_in k o) d in
       omega (arith, here, place_push k es x, adds, counted old es other h)
 
   pub raised : count_in new space ≡ count_in old space + 1

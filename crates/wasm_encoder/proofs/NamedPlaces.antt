@@ -4,12 +4,12 @@ use Rattle.std.proofs.lemmas.Bool.Decides.{eqb_tells}
 use Rattle.std.proofs.lemmas.Option.{same_Some}
 use Rattle.std.specs.List.{AllByRecursion}
 use Rattle.std.specs.List.Sorted.{IsStrictlyIncreasing}
-use Rattle.wenc_base.specs.Names.{Named}
+use Rattle.wenc_base.specs.Names.{NameAssociation}
 use Rattle.wenc_base.specs.declared.fault.Fault.{Fault}
 use Rattle.wenc_builder.specs.Entry.{Entry, items, named_in, names_from, names}
 use Rattle.wenc_builder.specs.Item.{Item, StartItem, CustomItem, RawItem}
 use Rattle.wenc_builder.specs.Names.{named_entry}
-use Rattle.wenc_builder.specs.Space.{Defined, defines, number_in, defined_in, place}
+use Rattle.wenc_builder.specs.Space.{Indices, defines, number_in, defined_in, next_index}
 use Rattle.wenc_sections.specs.Names.{Subsection}
 use Rattle.wenc_sections.specs.Start.{Start}
 use Rattle.wasm_encoder.specs.Cause.{one_or_none, added}
@@ -38,20 +38,20 @@ increasing n (x ∷ y ∷ ys) h (suc k) lt =
 
 -- ---- what an entry names
 
--- what is named takes a place
-abbrev TakesNamed : Option Defined → Option (List ℕ) → Type 0
-TakesNamed o name = (d : Defined) → o ≡ Some d → (name ≡ None) ⊎ (0 < d.number)
+-- what is named takes a next_index
+abbrev TakesNamed : Option Indices → Option (List ℕ) → Type 0
+TakesNamed o name = (d : Indices) → o ≡ Some d → (name ≡ None) ⊎ (0 < d.number)
 
 item_takes : (x : Item) (name : Option (List ℕ)) → ((s : Start) → x ≡ StartItem s → name ≡ None) → TakesNamed (defines x) name
 item_takes (StartItem s) name nameless d e = inl (nameless s refl)
 item_takes (CustomItem c) name nameless d e = absurd cc
 item_takes (RawItem bytes) name nameless d e = absurd cc
-item_takes other name nameless d e = inr (subst (λ (d : Defined). 0 < d.number) (same_Some _ d e) (omega arith))
+item_takes other name nameless d e = inr (subst (λ (d : Indices). 0 < d.number) (same_Some _ d e) (omega arith))
 
-abbrev places : List Named → List ℕ
+abbrev places : List NameAssociation → List ℕ
 places ns = map (λ n. n.place) ns
 
-ascends_more : (k n : ℕ) (o : Option Defined) (name : Option (List ℕ)) (rest : List Named) → TakesNamed o name → AscendFrom (n + number_in k o) (places rest) → AscendFrom n (places (named_in k o n name ++ rest))
+ascends_more : (k n : ℕ) (o : Option Indices) (name : Option (List ℕ)) (rest : List NameAssociation) → TakesNamed o name → AscendFrom (n + number_in k o) (places rest) → AscendFrom n (places (named_in k o n name ++ rest))
 ascends_more k n None name rest takes h = from_less (n + 0) n (places rest) (omega arith) h
 ascends_more k n (Some d) None rest takes h =
     elim (eqb_tells d.space k) [
@@ -77,10 +77,10 @@ ascending es k h = increasing 0 (places (names es k)) (ascend k 0 es h)
 
 -- ---- and they are below the count
 
-abbrev AreBelow : ℕ → List Named → Type 0
+abbrev AreBelow : ℕ → List NameAssociation → Type 0
 AreBelow bound = AllByRecursion (λ n. n.place < bound)
 
-below_more : (k n bound : ℕ) (o : Option Defined) (name : Option (List ℕ)) (rest : List Named) → TakesNamed o name → n + number_in k o ≤ bound → AreBelow bound rest → AreBelow bound (named_in k o n name ++ rest)
+below_more : (k n bound : ℕ) (o : Option Indices) (name : Option (List ℕ)) (rest : List NameAssociation) → TakesNamed o name → n + number_in k o ≤ bound → AreBelow bound rest → AreBelow bound (named_in k o n name ++ rest)
 below_more k n bound None name rest takes le h = h
 below_more k n bound (Some d) None rest takes le h = elim (eqb_tells d.space k) [ inl t ↦ rw t.0 h | inr t ↦ rw t.0 h ]
 below_more k n bound (Some d) (Some name) rest takes le h =
@@ -93,13 +93,13 @@ below_more k n bound (Some d) (Some name) rest takes le h =
     taken (inl e) = absurd cc
     taken (inr lt) = lt
 
-below_from : (k n bound : ℕ) (es : List Entry) → n + place (items es) k ≤ bound → AllByRecursion StartIsNameless es → AreBelow bound (names_from k n es)
+below_from : (k n bound : ℕ) (es : List Entry) → n + next_index (items es) k ≤ bound → AllByRecursion StartIsNameless es → AreBelow bound (names_from k n es)
 below_from k n bound [] le h = tt
 below_from k n bound (e ∷ es) le h =
     below_more k n bound (defines e.item) e.name (names_from k (n + defined_in k e.item) es) (item_takes e.item e.name h.0) (omega (arith, le)) (below_from k (n + defined_in k e.item) bound es (omega (arith, le)) h.1)
 
-pub below : (es : List Entry) (k : ℕ) → AllByRecursion StartIsNameless es → AreBelow (place (items es) k) (names es k)
-below es k h = below_from k 0 (place (items es) k) es (omega arith) h
+pub below : (es : List Entry) (k : ℕ) → AllByRecursion StartIsNameless es → AreBelow (next_index (items es) k) (names es k)
+below es k h = below_from k 0 (next_index (items es) k) es (omega arith) h
 
 -- ---- what commands lead to
 

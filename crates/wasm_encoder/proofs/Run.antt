@@ -7,7 +7,7 @@ use Rattle.wenc_builder.specs.Entry.{Entry}
 use Rattle.wenc_builder.specs.Holds.{Holds}
 use Rattle.wasm_encoder.specs.Command.{CommandTree, command_view}
 use Rattle.wasm_encoder.specs.Ran.{IsDue, entries_after, RanFrom, Ran, IsStopped}
-use Rattle.wasm_encoder.specs.inside.Steps.{Answers, Stops}
+use Rattle.wasm_encoder.specs.inside.Steps.{Answers, StepsStop}
 use Rattle.wasm_encoder.specs.declared.command.Command.{Command}
 
 -- one command more
@@ -66,7 +66,7 @@ pub ran_held : {commands : List CommandTree} {answers : List (Result (Option ℕ
 ran_held {commands} {answers} {s} all es ran = subst (Holds s) (ran_once [] commands answers all.entries es all.ran ran) all.held
 
 pub ran_stopped : (commands left : List CommandTree) (c : CommandTree) (answers : List (Result (Option ℕ) Fault)) (fault : Fault) (s : State)
-    → RanSo commands (c ∷ left) answers s → Stops s fault c → IsStopped commands fault
+    → RanSo commands (c ∷ left) answers s → StepsStop s fault c → IsStopped commands fault
 ran_stopped commands left c answers fault s r stop = record {
   front = r.done;
   next = c;

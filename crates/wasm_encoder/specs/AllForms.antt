@@ -1,11 +1,11 @@
 -- The forms of the format by their names, all but the raw sections, whose bytes are their caller's.
 use Rattle.std.specs.Prelude.{true, List}
 use Rattle.wenc_base.specs.Composites.{storage_type, field_type, composite_type}
-use Rattle.wenc_base.specs.Composites.{sub_type, group, guarded, standing}
+use Rattle.wenc_base.specs.Composites.{sub_type, rec_type, guarded, standing}
 use Rattle.wenc_base.specs.Custom.{custom}
 use Rattle.wenc_base.specs.Delimited.{pair}
 use Rattle.wenc_base.specs.Entities.{table_type, memory_type, global_type, tag_type, entity_type}
-use Rattle.wenc_base.specs.Exports.{export_kind as core_kind}
+use Rattle.wenc_base.specs.Exports.{core_export_kind as core_kind}
 use Rattle.wenc_base.specs.Forms.{flag, name, byte_list, list, option, counted}
 use Rattle.wenc_base.specs.Number.{u32, u64, i64, index}
 use Rattle.wenc_base.specs.Piece.{Form}
@@ -15,7 +15,7 @@ use Rattle.wenc_base.specs.Types.{abstract_type, heap_type, nullable, reference,
 use Rattle.wenc_canon.specs.Canonicals.{canonical_option, Field, field, fields}
 use Rattle.wenc_canon.specs.Canonicals.{canonical}
 use Rattle.wenc_parts.specs.Aliases.{outer_kind, alias}
-use Rattle.wenc_parts.specs.Exports.{export_kind}
+use Rattle.wenc_parts.specs.Exports.{component_export_kind}
 use Rattle.wenc_parts.specs.Imports.{type_bounds, type_reference, name_option}
 use Rattle.wenc_parts.specs.Imports.{extern_name}
 use Rattle.wenc_parts.specs.Instances.{module_argument}
@@ -24,18 +24,18 @@ use Rattle.wenc_parts.specs.Types.{primitive, value_type, result_list}
 use Rattle.wenc_sections.specs.Exports.{export_item}
 use Rattle.wenc_sections.specs.Imports.{import_item}
 use Rattle.wenc_sections.specs.Instances.{argument, core_export}
-use Rattle.wenc_sections.specs.Instances.{core_instance, given, exported}
+use Rattle.wenc_sections.specs.Instances.{core_instance, instantiate_arg, inline_export}
 use Rattle.wenc_sections.specs.Instances.{instance}
 use Rattle.wenc_sections.specs.Names.{item_sort, names_section}
 use Rattle.wenc_sections.specs.Start.{start_content, start}
-use Rattle.wenc_types.specs.ComponentTypes.{type_of}
+use Rattle.wenc_types.specs.ComponentTypes.{def_type}
 use Rattle.wenc_types.specs.ComponentTypes.{instance_declaration}
 use Rattle.wenc_types.specs.ComponentTypes.{component_declaration}
 use Rattle.wenc_types.specs.CoreTypes.{module_declaration, module_type}
 use Rattle.wenc_types.specs.CoreTypes.{core_type}
-use Rattle.wenc_types.specs.DefinedTypes.{named as named_type, case}
-use Rattle.wenc_types.specs.DefinedTypes.{defined_type, function_type}
-use Rattle.wenc_base.specs.Names.{named as named_place}
+use Rattle.wenc_types.specs.DefinedTypes.{labelled_type as named_type, case}
+use Rattle.wenc_types.specs.DefinedTypes.{def_val_type, function_type}
+use Rattle.wenc_base.specs.Names.{name_association as named_place}
 
 -- a form's name
 pub data FormName : Type 0 where
@@ -76,7 +76,7 @@ pub data FormName : Type 0 where
   ValueTypes : FormName
   ResultLists : FormName
   ExportKinds : FormName
-  -- of types that are imported or exported
+  -- of types that are imported or inline_export
   Bounds : FormName
   TypeReferences : FormName
   NameOptions : FormName
@@ -106,11 +106,11 @@ pub data FormName : Type 0 where
   Aliases : FormName
   Imports : FormName
   Exports : FormName
-  -- what a core module is given under a name
+  -- what a core module is instantiate_arg under a name
   Arguments : FormName
   CoreExports : FormName
   CoreInstances : FormName
-  -- what a component is given under a name
+  -- what a component is instantiate_arg under a name
   ComponentArguments : FormName
   InstanceExports : FormName
   Instances : FormName
@@ -153,84 +153,84 @@ pub record FormRow : Type 1 where
 abbrev of : {A : Type 0} → Form A → FormRow
 of {A} form = record { value = A; form = form }
 
-abbrev pub row_of : FormName → FormRow
-row_of Flags = of flag
-row_of Numbers = of u32
-row_of LongNumbers = of u64
-row_of SignedNumbers = of i64
-row_of Indices = of index
-row_of Names = of name
-row_of ByteLists = of byte_list
-row_of CoreKinds = of core_kind
-row_of AbstractHeapTypes = of abstract_type
-row_of HeapTypes = of heap_type
-row_of NullableReferences = of nullable
-row_of References = of reference
-row_of CoreValueTypes = of val_type
-row_of StorageTypes = of storage_type
-row_of FieldTypes = of field_type
-row_of CompositeTypes = of composite_type
-row_of SubTypes = of sub_type
-row_of Groups = of group
-row_of TableTypes = of table_type
-row_of MemoryTypes = of memory_type
-row_of GlobalTypes = of global_type
-row_of TagTypes = of tag_type
-row_of EntityTypes = of entity_type
-row_of SectionIds = of section_id
-row_of PrimitiveTypes = of primitive
-row_of ValueTypes = of value_type
-row_of ResultLists = of result_list
-row_of ExportKinds = of export_kind
-row_of Bounds = of type_bounds
-row_of TypeReferences = of type_reference
-row_of NameOptions = of name_option
-row_of ExternNames = of extern_name
-row_of ModuleArguments = of module_argument
-row_of OuterKinds = of outer_kind
-row_of GuardedSubTypes = of guarded
-row_of GroupsInComponents = of (standing true)
-row_of ModuleDeclarations = of module_declaration
-row_of ModuleTypes = of module_type
-row_of CoreTypes = of core_type
-row_of NamedTypes = of named_type
-row_of Cases = of case
-row_of DefinedTypes = of defined_type
-row_of FunctionTypes = of function_type
-row_of Types = of type_of
-row_of InstanceDeclarations = of instance_declaration
-row_of ComponentDeclarations = of component_declaration
-row_of Aliases = of alias
-row_of Imports = of import_item
-row_of Exports = of export_item
-row_of Arguments = of argument
-row_of CoreExports = of core_export
-row_of CoreInstances = of core_instance
-row_of ComponentArguments = of given
-row_of InstanceExports = of exported
-row_of Instances = of instance
-row_of CanonicalOptions = of canonical_option
-row_of (CanonicalField kind) = of (field kind)
-row_of (CanonicalFields kinds) = of (fields kinds)
-row_of CanonicalFunctions = of canonical
-row_of VersionedTools = of producer
-row_of ProducersFields = of producers_field
-row_of NamedPlaces = of named_place
-row_of ItemSorts = of item_sort
-row_of CustomSections = of custom
-row_of NameSections = of names_section
-row_of ProducersSections = of producers_section
-row_of StartContents = of start_content
-row_of StartSections = of start
-row_of (ListsOf member) = of (list (row_of member).form)
-row_of (SectionsOf member) = of (counted (row_of member).form)
-row_of (OptionsOf member) = of (option (row_of member).form)
-row_of (PairsOf first second) = of (pair (row_of first).form (row_of second).form)
+abbrev pub form_row : FormName → FormRow
+form_row Flags = of flag
+form_row Numbers = of u32
+form_row LongNumbers = of u64
+form_row SignedNumbers = of i64
+form_row Indices = of index
+form_row Names = of name
+form_row ByteLists = of byte_list
+form_row CoreKinds = of core_kind
+form_row AbstractHeapTypes = of abstract_type
+form_row HeapTypes = of heap_type
+form_row NullableReferences = of nullable
+form_row References = of reference
+form_row CoreValueTypes = of val_type
+form_row StorageTypes = of storage_type
+form_row FieldTypes = of field_type
+form_row CompositeTypes = of composite_type
+form_row SubTypes = of sub_type
+form_row Groups = of rec_type
+form_row TableTypes = of table_type
+form_row MemoryTypes = of memory_type
+form_row GlobalTypes = of global_type
+form_row TagTypes = of tag_type
+form_row EntityTypes = of entity_type
+form_row SectionIds = of section_id
+form_row PrimitiveTypes = of primitive
+form_row ValueTypes = of value_type
+form_row ResultLists = of result_list
+form_row ExportKinds = of component_export_kind
+form_row Bounds = of type_bounds
+form_row TypeReferences = of type_reference
+form_row NameOptions = of name_option
+form_row ExternNames = of extern_name
+form_row ModuleArguments = of module_argument
+form_row OuterKinds = of outer_kind
+form_row GuardedSubTypes = of guarded
+form_row GroupsInComponents = of (standing true)
+form_row ModuleDeclarations = of module_declaration
+form_row ModuleTypes = of module_type
+form_row CoreTypes = of core_type
+form_row NamedTypes = of named_type
+form_row Cases = of case
+form_row DefinedTypes = of def_val_type
+form_row FunctionTypes = of function_type
+form_row Types = of def_type
+form_row InstanceDeclarations = of instance_declaration
+form_row ComponentDeclarations = of component_declaration
+form_row Aliases = of alias
+form_row Imports = of import_item
+form_row Exports = of export_item
+form_row Arguments = of argument
+form_row CoreExports = of core_export
+form_row CoreInstances = of core_instance
+form_row ComponentArguments = of instantiate_arg
+form_row InstanceExports = of inline_export
+form_row Instances = of instance
+form_row CanonicalOptions = of canonical_option
+form_row (CanonicalField kind) = of (field kind)
+form_row (CanonicalFields kinds) = of (fields kinds)
+form_row CanonicalFunctions = of canonical
+form_row VersionedTools = of producer
+form_row ProducersFields = of producers_field
+form_row NamedPlaces = of named_place
+form_row ItemSorts = of item_sort
+form_row CustomSections = of custom
+form_row NameSections = of names_section
+form_row ProducersSections = of producers_section
+form_row StartContents = of start_content
+form_row StartSections = of start
+form_row (ListsOf member) = of (list (form_row member).form)
+form_row (SectionsOf member) = of (counted (form_row member).form)
+form_row (OptionsOf member) = of (option (form_row member).form)
+form_row (PairsOf first second) = of (pair (form_row first).form (form_row second).form)
 
 -- the type of a form's values
 abbrev pub value_of : FormName → Type 0
-value_of f = (row_of f).value
+value_of f = (form_row f).value
 
 -- the form of this name
 abbrev pub form_of : (f : FormName) → Form (value_of f)
-form_of f = (row_of f).form
+form_of f = (form_row f).form

@@ -9,7 +9,7 @@ use Rattle.wenc_builder.specs.Entry.{type_entry, canonical_tree_entry, start_ent
 use Rattle.wenc_builder.specs.Entry.{export_entry, custom_entry, raw_entry}
 use Rattle.wenc_builder.specs.Names.{names_entry}
 use Rattle.wenc_builder.specs.Sections.{whole}
-use Rattle.wenc_builder.specs.Space.{place_of}
+use Rattle.wenc_builder.specs.Space.{index_of}
 use Rattle.wasm_encoder.specs.Command.{CommandTree, CoreModule, CoreInstance, CoreType, Component}
 use Rattle.wasm_encoder.specs.Command.{ComponentRaw, Instance, Alias, «Type», Canon, Start, Import}
 use Rattle.wasm_encoder.specs.Command.{Export, AppendNames, Custom, RawCustom, Commands, no_more}
@@ -47,7 +47,7 @@ abbrev mutual
 -- the place of what is added, where that has one
 abbrev pub place_added : List Entry → List Entry → Option ℕ
 place_added es [] = None
-place_added es (x ∷ xs) = place_of (items es) x.item
+place_added es (x ∷ xs) = index_of (items es) x.item
 
 -- what an accepted command answers
 abbrev pub answer_of : List Entry → CommandTree → Option ℕ

@@ -9,7 +9,7 @@ use Rattle.wenc_sections.specs.Exports as exports
 use Rattle.wenc_sections.specs.Imports as imports
 use Rattle.wenc_sections.specs.InstanceTrees.{core_instance_tree_view, instance_tree_view}
 use Rattle.wenc_sections.specs.Instances as instances
-use Rattle.wenc_types.specs.ComponentTypes.{TypeOf}
+use Rattle.wenc_types.specs.ComponentTypes.{DefType}
 use Rattle.wenc_types.specs.CoreTypes as core_types
 use Rattle.wenc_types.specs.CoreTypeTrees.{core_type_view}
 use Rattle.wenc_types.specs.TypeTrees.{type_view}
@@ -28,7 +28,7 @@ mutual
     ComponentRaw : (debug_name : Option (List ℕ)) (bytes : List ℕ) → CommandTree
     Instance : (debug_name : Option (List ℕ)) (instance : instances.Instance) → CommandTree
     Alias : (debug_name : Option (List ℕ)) (to : AliasOf) → CommandTree
-    «Type» : (debug_name : Option (List ℕ)) (ty : TypeOf) → CommandTree
+    «Type» : (debug_name : Option (List ℕ)) (ty : DefType) → CommandTree
     Canon : (debug_name : Option (List ℕ)) (function : Canonical) → CommandTree
     Start : (function : ℕ) (arguments : List ℕ) (results : ℕ) → CommandTree
     Import : (import : imports.Import) → CommandTree
@@ -42,9 +42,9 @@ mutual
     no_more : Commands
     then : (first : CommandTree) (rest : Commands) → Commands
 
-abbrev pub listed : Commands → List CommandTree
-listed no_more = []
-listed (then c cs) = c ∷ listed cs
+abbrev pub listed_answers : Commands → List CommandTree
+listed_answers no_more = []
+listed_answers (then c cs) = c ∷ listed_answers cs
 
 -- ---- the code's commands as pure ones
 

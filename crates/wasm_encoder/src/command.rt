@@ -4,7 +4,7 @@ ghost use Rattle.wenc_base.specs.Fault.{IsMemory, NoCause};
 ghost use Rattle.wenc_base.specs.Piece.{Spelling};
 ghost use Rattle.wenc_builder.specs.Item.{Item};
 ghost use Rattle.wenc_builder.specs.Sections.{Section, runs, Reading, whole};
-ghost use Rattle.wenc_builder.specs.Enters.{EntersPlaceless};
+ghost use Rattle.wenc_builder.specs.Enters.{EntersWithoutIndex};
 ghost use Rattle.wenc_builder.specs.Entry.{Entry, items, custom_entry};
 ghost use Rattle.wenc_builder.specs.Holds.{Holds};
 ghost use Rattle.wenc_types.specs.CoreTypeTrees.{core_type_view};
@@ -14,7 +14,7 @@ ghost use Rattle.wasm_encoder.specs.Command.{CoreType, «Type»};
 ghost use Rattle.wasm_encoder.specs.Command.{command_view, commands_view, debug_name_view};
 ghost use Rattle.wasm_encoder.specs.Ran.{Ran, IsRefusal, IsStopped};
 ghost use Rattle.wenc_builder.specs.Raw.{HasNoRaw, IsEncodable};
-ghost use Rattle.wasm_encoder.specs.inside.Steps.{Runs, placed as placed_of, placeless as placeless_of};
+ghost use Rattle.wasm_encoder.specs.inside.Steps.{StepsRun, placed as placed_of, placeless as placeless_of};
 
 use std::alloc::{Allocator, Global};
 use wenc_base::{CustomSection, Fault};
@@ -120,7 +120,7 @@ fn run<A: Allocator, B: Allocator + Copy>(
     alloc: B,
     builder: &mut ComponentBuilder<B>,
 ) -> Result<Result<Option<u32>, Fault>, Fault>
-    ensures { Runs builder.old builder.new result (command_view command.now) }
+    ensures { StepsRun builder.old builder.new result (command_view command.now) }
 {
     match command {
         Command::CoreModule { n, bytes } => placed(builder.core_module_raw(debug_name(n), bytes)),
@@ -186,7 +186,7 @@ fn core_type_of<A: Allocator, B: Allocator>(
     debug_name: Option<&str>,
     ty: &CoreTypeTree<A>,
 ) -> Result<Result<Option<u32>, Fault>, Fault>
-    ensures { Runs builder.old builder.new result
+    ensures { StepsRun builder.old builder.new result
         (CoreType (option_copied debug_name.entry) (core_type_view ty.now)) }
 {
     match builder.core_type(debug_name) {
@@ -204,7 +204,7 @@ fn type_of<A: Allocator, B: Allocator>(
     debug_name: Option<&str>,
     ty: &TypeTree<A>,
 ) -> Result<Result<Option<u32>, Fault>, Fault>
-    ensures { Runs builder.old builder.new result
+    ensures { StepsRun builder.old builder.new result
         («Type» (option_copied debug_name.entry) (type_view ty.now)) }
 {
     match builder.ty(debug_name) {
@@ -222,7 +222,7 @@ fn custom<B: Allocator>(
     name: &str,
     bytes: &[u8],
 ) -> Result<(), Fault>
-    ensures { EntersPlaceless builder.old builder.new result (custom_entry name.now bytes.now) }
+    ensures { EntersWithoutIndex builder.old builder.new result (custom_entry name.now bytes.now) }
 {
     builder.custom_section(&CustomSection { name, data: bytes })
 }

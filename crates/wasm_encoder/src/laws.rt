@@ -2,14 +2,14 @@
 //! it is written, and in one way only; that a section's text is that of what it contains. A call of these does nothing.
 ghost use Rattle.std.specs.Prelude.{◌≡◌, ◌↔◌, ◌+◌, ℕ, ℤ, ◌^◌, ◌<◌, ◌++◌, ◌∷◌, [], List, Option, Result, FitsSigned, true, Ok};
 ghost use Rattle.std.specs.Int.{w64};
-ghost use Rattle.wenc_base.specs.Composites.{Group, group};
+ghost use Rattle.wenc_base.specs.Composites.{RecType, rec_type};
 ghost use Rattle.wenc_base.specs.Fault.{NoCause};
 ghost use Rattle.wenc_base.specs.FormLaws.{FormLaws};
 ghost use Rattle.wenc_base.specs.Forms.{name, counted};
-ghost use Rattle.wenc_base.specs.Holder.{Held, Contains, is_finished, held, held_section};
+ghost use Rattle.wenc_base.specs.Holder.{HolderState, Contains, is_finished, held_members, held_section};
 ghost use Rattle.wenc_base.specs.Number.{unsigned_text, signed_text, IsUnsignedText, IsSignedText};
 ghost use Rattle.wenc_base.specs.Number.{u32 as number};
-ghost use Rattle.wenc_base.specs.Openings.{opened_with, lengthened, closed, given_up};
+ghost use Rattle.wenc_base.specs.Openings.{member_begun, member_appended, member_ended, member_given_up};
 ghost use Rattle.wenc_base.specs.Piece.{Spelling, Strict, Wide, ◌▸◌, verbatim};
 ghost use Rattle.wenc_base.specs.Producers.{Producers, producers_field, producers_section, producers_held};
 ghost use Rattle.wenc_base.specs.declared.fault.Fault.{Fault};
@@ -17,11 +17,11 @@ ghost use Rattle.wenc_base.specs.declared.fault.Fault.TheVariants.{Unfinished};
 ghost use Rattle.wenc_builder.specs.Entry.{Entry, items as items_of};
 ghost use Rattle.wenc_builder.specs.Item.{Item};
 ghost use Rattle.wenc_builder.specs.Sections.{Section, runs, component, Reading, whole};
-ghost use Rattle.wenc_canon.specs.Canonicals.{Intrinsic, row, Values, Adds};
-ghost use Rattle.wenc_types.specs.CoreTypes.{ModuleDeclaration, Defined, module_type, CoreType, core_type};
+ghost use Rattle.wenc_canon.specs.Canonicals.{Builtin, row, Values, Adds};
+ghost use Rattle.wenc_types.specs.CoreTypes.{ModuleDeclaration, ModuleRecType, module_type, CoreType, core_type};
 ghost use Rattle.wenc_types.specs.ComponentTypes as component;
-ghost use Rattle.wenc_types.specs.ComponentTypes.{TypeOf, ComponentType, InstanceType, InstanceDeclaration, ComponentDeclaration, CoreTyped, Typed, components_of, instances_of, type_of};
-ghost use Rattle.wenc_types.specs.Declarations.{Declaring, Settled, ModuleDeclares, ComponentDeclares, InstanceDeclares, begun, written, ended, taken_back};
+ghost use Rattle.wenc_types.specs.ComponentTypes.{DefType, ComponentType, InstanceType, InstanceDeclaration, ComponentDeclaration, CoreTyped, Typed, components_of, instances_of, def_type};
+ghost use Rattle.wenc_types.specs.Declarations.{TypeState, NoneBegun, ModuleDeclares, ComponentDeclares, InstanceDeclares, type_begun, type_appended, type_ended, type_given_up};
 ghost use Rattle.wenc_types.specs.declared.counts.Sort.TheVariants as sorts;
 ghost use Rattle.wenc_types.specs.declared.counts.Sort.{Sort};
 ghost use Rattle.wasm_encoder.specs.AllForms.{FormName, value_of, form_of};
@@ -141,18 +141,18 @@ pub fn listed()
 /// The text of a section that contains some items, of whatever form, is their size, their number and the items. That of
 /// a module type, a component type or an instance type with some declarations is a byte, their number and these.
 pub fn sections_are_their_items()
-    ensures sections { (f : FormName) (section : Held) (items : List (value_of f))
+    ensures sections { (f : FormName) (section : HolderState) (items : List (value_of f))
         → Contains (form_of f) section items
         → (held_section section).text ≡ (counted (form_of f) items).text }
-    ensures module_types { (t : Declaring) (ds : List ModuleDeclaration) → ModuleDeclares t ds
-        → (0x50 ▸ held t.held).text ≡ (module_type ds).text }
-    ensures component_types { (t : Declaring) (ds : List ComponentDeclaration)
+    ensures module_types { (t : TypeState) (ds : List ModuleDeclaration) → ModuleDeclares t ds
+        → (0x50 ▸ held_members t.held).text ≡ (module_type ds).text }
+    ensures component_types { (t : TypeState) (ds : List ComponentDeclaration)
         → ComponentDeclares t ds
-        → (0x41 ▸ held t.held).text ≡ (type_of (ComponentType (components_of ds))).text }
-    ensures instance_types { (t : Declaring) (ds : List InstanceDeclaration)
+        → (0x41 ▸ held_members t.held).text ≡ (def_type (ComponentType (components_of ds))).text }
+    ensures instance_types { (t : TypeState) (ds : List InstanceDeclaration)
         → InstanceDeclares t ds
-        → (0x42 ▸ held t.held).text ≡ (type_of (InstanceType (instances_of ds))).text }
-    ensures producers { (section : Held) (fields : List Producers)
+        → (0x42 ▸ held_members t.held).text ≡ (def_type (InstanceType (instances_of ds))).text }
+    ensures producers { (section : HolderState) (fields : List Producers)
         → Contains producers_field section fields
         → (producers_held section).text ≡ (producers_section fields).text }
 {}
@@ -160,49 +160,49 @@ pub fn sections_are_their_items()
 /// A member that is written piece by piece, a type of a section, and a type that a module type, a component type or an
 /// instance type declares: given up it leaves no trace, and ended it is one more, where it can be encoded.
 pub fn openings_are_members()
-    ensures given_up { (h : Held) (lead more : List ℕ) → is_finished h ≡ true
-        → given_up (lengthened (opened_with h lead) more) ≡ h }
-    ensures ended { (h : Held) (members : List (List ℕ)) (lead more : List ℕ)
+    ensures member_given_up { (h : HolderState) (lead more : List ℕ) → is_finished h ≡ true
+        → member_given_up (member_appended (member_begun h lead) more) ≡ h }
+    ensures type_ended { (h : HolderState) (members : List (List ℕ)) (lead more : List ℕ)
         → Contains verbatim h members
-        → Contains verbatim (closed (lengthened (opened_with h lead) more))
+        → Contains verbatim (member_ended (member_appended (member_begun h lead) more))
         (members ++ (lead ++ more) ∷ []) }
-    ensures type_ended_in_section { (section : Held) (t : TypeOf) (types : List TypeOf)
-        → (type_of t).Fits → Contains type_of section types
-        → Contains type_of (closed (lengthened (opened_with section []) (type_of t).text))
+    ensures type_ended_in_section { (section : HolderState) (t : DefType) (types : List DefType)
+        → (def_type t).Fits → Contains def_type section types
+        → Contains def_type (member_ended (member_appended (member_begun section []) (def_type t).text))
         (types ++ t ∷ []) }
-    ensures core_type_ended_in_section { (section : Held) (t : CoreType) (types : List CoreType)
+    ensures core_type_ended_in_section { (section : HolderState) (t : CoreType) (types : List CoreType)
         → (core_type t).Fits → Contains core_type section types
-        → Contains core_type (closed (lengthened (opened_with section []) (core_type t).text))
+        → Contains core_type (member_ended (member_appended (member_begun section []) (core_type t).text))
         (types ++ t ∷ []) }
-    ensures type_given_up { (t : Declaring) (sort : Sort) (text : List ℕ) → Settled t
-        → taken_back (written (begun sort t) text) ≡ t }
-    ensures type_ended_in_module { (t : Declaring) (g : Group) (ds : List ModuleDeclaration)
-        → (group g).Fits → ModuleDeclares t ds
-        → ModuleDeclares (ended (written (begun sorts.«Type» t) (group g).text))
-        (ds ++ Defined g ∷ []) }
-    ensures type_ended_in_component { (t : Declaring) (ty : TypeOf) (ds : List ComponentDeclaration)
-        → (type_of ty).Fits → ComponentDeclares t ds
-        → ComponentDeclares (ended (written (begun sorts.«Type» t) (type_of ty).text))
+    ensures type_given_up { (t : TypeState) (sort : Sort) (text : List ℕ) → NoneBegun t
+        → type_given_up (type_appended (type_begun sort t) text) ≡ t }
+    ensures type_ended_in_module { (t : TypeState) (g : RecType) (ds : List ModuleDeclaration)
+        → (rec_type g).Fits → ModuleDeclares t ds
+        → ModuleDeclares (type_ended (type_appended (type_begun sorts.«Type» t) (rec_type g).text))
+        (ds ++ ModuleRecType g ∷ []) }
+    ensures type_ended_in_component { (t : TypeState) (ty : DefType) (ds : List ComponentDeclaration)
+        → (def_type ty).Fits → ComponentDeclares t ds
+        → ComponentDeclares (type_ended (type_appended (type_begun sorts.«Type» t) (def_type ty).text))
         (ds ++ component.Declared (Typed ty) ∷ []) }
-    ensures core_type_ended_in_component { (t : Declaring) (ty : CoreType)
+    ensures core_type_ended_in_component { (t : TypeState) (ty : CoreType)
         (ds : List ComponentDeclaration) → (core_type ty).Fits → ComponentDeclares t ds
-        → ComponentDeclares (ended (written (begun sorts.CoreType t) (core_type ty).text))
+        → ComponentDeclares (type_ended (type_appended (type_begun sorts.CoreType t) (core_type ty).text))
         (ds ++ component.Declared (CoreTyped ty) ∷ []) }
-    ensures type_ended_in_instance { (t : Declaring) (ty : TypeOf) (ds : List InstanceDeclaration)
-        → (type_of ty).Fits → InstanceDeclares t ds
-        → InstanceDeclares (ended (written (begun sorts.«Type» t) (type_of ty).text))
+    ensures type_ended_in_instance { (t : TypeState) (ty : DefType) (ds : List InstanceDeclaration)
+        → (def_type ty).Fits → InstanceDeclares t ds
+        → InstanceDeclares (type_ended (type_appended (type_begun sorts.«Type» t) (def_type ty).text))
         (ds ++ Typed ty ∷ []) }
-    ensures core_type_ended_in_instance { (t : Declaring) (ty : CoreType)
+    ensures core_type_ended_in_instance { (t : TypeState) (ty : CoreType)
         (ds : List InstanceDeclaration) → (core_type ty).Fits → InstanceDeclares t ds
-        → InstanceDeclares (ended (written (begun sorts.CoreType t) (core_type ty).text))
+        → InstanceDeclares (type_ended (type_appended (type_begun sorts.CoreType t) (core_type ty).text))
         (ds ++ CoreTyped ty ∷ []) }
 {}
 
 /// A call that adds an intrinsic and answers `Ok` has added it: there is one function more, so that a call which leaves
 /// the section as it was can't answer `Ok`.
 pub fn an_added_function_is_one_more()
-    ensures one_more { (old new : Held) (i : Intrinsic) (values : Values (row i).fields)
+    ensures one_more { (old new : HolderState) (i : Builtin) (values : Values (row i).fields)
         → Adds old new (Ok tt) i values → new.count ≡ old.count + 1 }
-    ensures not_the_same { (section : Held) (i : Intrinsic) (values : Values (row i).fields)
+    ensures not_the_same { (section : HolderState) (i : Builtin) (values : Values (row i).fields)
         → Adds section section (Ok tt) i values → ⊥ }
 {}

@@ -11,15 +11,15 @@ use Rattle.wenc.specs.declared.failure.Failure.TheVariants.{Arguments, BadLine, 
 use Rattle.wenc.specs.declared.program.Printout.{Printout}
 use Rattle.wenc.specs.Script.{script}
 use Rattle.wenc.specs.Printed.{line_of, answer_line, answer_lines, printed}
-use Rattle.wenc.specs.Run.{Prints, Ends, AppendsFront, Says, fault_report, no_memory, line_report}
-use Rattle.wenc.specs.inside.Steps.{text_of, Translation, IsWhole, Reads, NotTranslated, Reported}
+use Rattle.wenc.specs.Run.{Prints, EndsRun, AppendsFront, Says, fault_report, no_memory, line_report}
+use Rattle.wenc.specs.inside.Steps.{text_of, Translation, IsWholeRun, Reads, NotTranslated, Reported}
 
 pub keeps_same : (a : Option (List ℕ)) → Keeps a a
 keeps_same None = tt
 keeps_same (Some x) = refl
 
 -- all that was known to be left was read
-pub whole_known : (left ended : Option (List ℕ)) (text all : List ℕ) → IsWhole left ended text → left ≡ Some all → (text ≡ all) × (ended ≡ Some [])
+pub whole_known : (left ended : Option (List ℕ)) (text all : List ℕ) → IsWholeRun left ended text → left ≡ Some all → (text ≡ all) × (ended ≡ Some [])
 whole_known None ended text all h l = absurd cc
 whole_known (Some xs) None text all h l = absurd h.consumed
 whole_known (Some xs) (Some ys) text all h l =
@@ -50,7 +50,7 @@ prints_so P p text all old t h e = record {
 }
 
 -- status 4, and nothing was written
-ends_with_4 : (result : ℕ) (left ended before errors reported : Option (List ℕ)) → result ≡ 4 → Ends result left ended before before errors reported
+ends_with_4 : (result : ℕ) (left ended before errors reported : Option (List ℕ)) → result ≡ 4 → EndsRun result left ended before before errors reported
 ends_with_4 result left ended before errors reported four = record {
   zero = λ s text old l b. absurd (omega arith);
   one = λ s text old l b. absurd (omega arith);
@@ -59,7 +59,7 @@ ends_with_4 result left ended before errors reported four = record {
 }
 
 -- status 2, and nothing was written
-ends_without_memory : (result : ℕ) (left ended before errors reported : Option (List ℕ)) → result ≡ 2 → Appends errors reported no_memory → Ends result left ended before before errors reported
+ends_without_memory : (result : ℕ) (left ended before errors reported : Option (List ℕ)) → result ≡ 2 → Appends errors reported no_memory → EndsRun result left ended before before errors reported
 ends_without_memory result left ended before errors reported two app = record {
   zero = λ s text old l b. absurd (omega arith);
   one = λ s text old l b. absurd (omega arith);
@@ -67,8 +67,8 @@ ends_without_memory result left ended before errors reported two app = record {
   four = λ s text old l b. absurd (omega arith);
 }
 
-ends_at_line : (result line : ℕ) (left ended before errors reported : Option (List ℕ)) (text : List ℕ) → IsWhole left ended text → script text ≡ Err line
-    → result ≡ 1 → Appends errors reported (line_report line) → Ends result left ended before before errors reported
+ends_at_line : (result line : ℕ) (left ended before errors reported : Option (List ℕ)) (text : List ℕ) → IsWholeRun left ended text → script text ≡ Err line
+    → result ≡ 1 → Appends errors reported (line_report line) → EndsRun result left ended before before errors reported
 ends_at_line result line left ended before errors reported text h bad one app = record {
   zero = λ s all old l b. absurd (omega arith);
   one = λ s all old l b. let k = whole_known left ended text all h l in (old, b, k.1, (line, rw (← k.0) bad, refl, app));
@@ -76,8 +76,8 @@ ends_at_line result line left ended before errors reported text h bad one app = 
   four = λ s all old l b. absurd (omega arith);
 }
 
-ends_accepted : {A : Type 0} (p : Printout A) (result : ℕ) (left ended before after errors : Option (List ℕ)) (text : List ℕ) → IsWhole left ended text → (t : Translation p text)
-    → result ≡ 0 → All IsOk t.answers → Appends before after (text_of p) → Ends result left ended before after errors errors
+ends_accepted : {A : Type 0} (p : Printout A) (result : ℕ) (left ended before after errors : Option (List ℕ)) (text : List ℕ) → IsWholeRun left ended text → (t : Translation p text)
+    → result ≡ 0 → All IsOk t.answers → Appends before after (text_of p) → EndsRun result left ended before after errors errors
 ends_accepted p result left ended before after errors text h t zero ok app = record {
   zero = λ s all old l b. let k = whole_known left ended text all h l in (old ++ text_of p, appended_known before after old _ app b, k.1, prints_so (All IsOk) p text all old t ok k.0, keeps_same errors);
   one = λ s all old l b. absurd (omega arith);
@@ -85,8 +85,8 @@ ends_accepted p result left ended before after errors text h t zero ok app = rec
   four = λ s all old l b. absurd (omega arith);
 }
 
-ends_refused : {A : Type 0} (p : Printout A) (result : ℕ) (left ended before after errors : Option (List ℕ)) (text : List ℕ) → IsWhole left ended text → (t : Translation p text)
-    → result ≡ 2 → Any IsErr t.answers → Appends before after (text_of p) → Ends result left ended before after errors errors
+ends_refused : {A : Type 0} (p : Printout A) (result : ℕ) (left ended before after errors : Option (List ℕ)) (text : List ℕ) → IsWholeRun left ended text → (t : Translation p text)
+    → result ≡ 2 → Any IsErr t.answers → Appends before after (text_of p) → EndsRun result left ended before after errors errors
 ends_refused p result left ended before after errors text h t two refused app = record {
   zero = λ s all old l b. absurd (omega arith);
   one = λ s all old l b. absurd (omega arith);
@@ -94,8 +94,8 @@ ends_refused p result left ended before after errors text h t two refused app = 
   four = λ s all old l b. absurd (omega arith);
 }
 
-ends_in_front : {A : Type 0} (p : Printout A) (result : ℕ) (left ended before after errors : Option (List ℕ)) (text : List ℕ) → IsWhole left ended text → (t : Translation p text)
-    → result ≡ 4 → AppendsFront before after (text_of p) → Ends result left ended before after errors errors
+ends_in_front : {A : Type 0} (p : Printout A) (result : ℕ) (left ended before after errors : Option (List ℕ)) (text : List ℕ) → IsWholeRun left ended text → (t : Translation p text)
+    → result ≡ 4 → AppendsFront before after (text_of p) → EndsRun result left ended before after errors errors
 ends_in_front p result left ended before after errors text h t four f = record {
   zero = λ s all old l b. absurd (omega arith);
   one = λ s all old l b. absurd (omega arith);
@@ -124,7 +124,7 @@ ends_in_front p result left ended before after errors text h t four f = record {
 
 -- what was printed was written, or a write failed
 pub ends_printed : {A : Type 0} (p : Printout A) (result : ℕ) (left ended before after errors : Option (List ℕ)) → Reads (Ok p) left ended → Says result p.status (text_of p) before after
-    → Ends result left ended before after errors errors
+    → EndsRun result left ended before after errors errors
 ends_printed p result left ended before after errors r (inr f) = ends_in_front p result left ended before after errors r.0 r.1 r.2 f.0 f.1
 ends_printed p result left ended before after errors r (inl s) =
     elim r.2.status [
@@ -149,7 +149,7 @@ fault_reported Unfinished number h = rw (h, decimal_digit 4 (lit< tt)) refl
 
 -- nothing was printed
 pub ends_failed : (failure : Failure) (result : ℕ) (left ended before errors reported : Option (List ℕ)) → NotTranslated failure left ended → Reported result failure errors reported
-    → Ends result left ended before before errors reported
+    → EndsRun result left ended before before errors reported
 ends_failed Arguments result left ended before errors reported r says = absurd r
 ends_failed (BadLine line) result left ended before errors reported r (inl (inl s)) = ends_at_line result line left ended before errors reported r.0 r.1 r.2 s.0 s.1
 ends_failed (BadLine line) result left ended before errors reported r (inl (inr f)) = ends_with_4 result left ended before errors reported f.0

@@ -11,11 +11,11 @@ use Rattle.wenc.specs.Listed.{text_bytes, listing_text, bad_text, fault_line}
 use Rattle.wenc.specs.ListRun.{IsListingOf, IsFaultIn, PrintsListing, PrintsListingFront, EndsListing}
 use Rattle.wenc.specs.inside.ListSteps.{ListsText, ReadsListing, NotReadAndListed, ReportsUnlisted}
 use Rattle.wenc.specs.Run.{Says, AppendsFront}
-use Rattle.wenc.specs.inside.Steps.{IsWhole}
+use Rattle.wenc.specs.inside.Steps.{IsWholeRun}
 use Rattle.wenc.proofs.Ended.{keeps_same, whole_known, appended_known}
 
 -- what is listed of all that was read
-pub listed_whole : {A : Type 0} (r : Result (Vec ℕ A) Unlisted) (left ended : Option (List ℕ)) (text : List ℕ) → IsWhole left ended text → ListsText r text → ReadsListing r left ended
+pub listed_whole : {A : Type 0} (r : Result (Vec ℕ A) Unlisted) (left ended : Option (List ℕ)) (text : List ℕ) → IsWholeRun left ended text → ListsText r text → ReadsListing r left ended
 listed_whole (Ok printed) left ended text whole h = (text, whole, h)
 listed_whole (Err BadText) left ended text whole h = (text, whole, h)
 listed_whole (Err (Fault fault)) left ended text whole (inl memory) = inl memory
@@ -35,7 +35,7 @@ nothing_with_4 A result left ended before errors reported four = record {
 }
 
 -- status 1: the text says no bytes
-bad : (A : Type 0) (result : ℕ) (left ended before errors reported : Option (List ℕ)) (text : List ℕ) → IsWhole left ended text → text_bytes text ≡ None
+bad : (A : Type 0) (result : ℕ) (left ended before errors reported : Option (List ℕ)) (text : List ℕ) → IsWholeRun left ended text → text_bytes text ≡ None
     → result ≡ 1 → Appends errors reported bad_text → EndsListing A result left ended before before errors reported
 bad A result left ended before errors reported text h none one app = record {
   known = inr (inl one);
@@ -46,7 +46,7 @@ bad A result left ended before errors reported text h none one app = record {
 }
 
 -- status 3: the text has this fault
-faulty : (A : Type 0) (fault : ListFault) (result : ℕ) (left ended before errors reported : Option (List ℕ)) (text : List ℕ) → IsWhole left ended text → IsFaultIn text fault
+faulty : (A : Type 0) (fault : ListFault) (result : ℕ) (left ended before errors reported : Option (List ℕ)) (text : List ℕ) → IsWholeRun left ended text → IsFaultIn text fault
     → result ≡ 3 → Appends errors reported (fault_line fault) → EndsListing A result left ended before before errors reported
 faulty A fault result left ended before errors reported text h f three app = record {
   known = inr (inr (inl three));
@@ -69,7 +69,7 @@ no_memory A fault result left ended before errors reported m three app = record 
   four = λ s all old l b. absurd (omega arith);
 }
 
-written : (A : Type 0) (printed : List ℕ) (listing : Listing A) (result : ℕ) (left ended before after errors : Option (List ℕ)) (text : List ℕ) → IsWhole left ended text → IsListingOf text listing
+written : (A : Type 0) (printed : List ℕ) (listing : Listing A) (result : ℕ) (left ended before after errors : Option (List ℕ)) (text : List ℕ) → IsWholeRun left ended text → IsListingOf text listing
     → printed ≡ listing_text listing → result ≡ 0 → Appends before after printed → EndsListing A result left ended before after errors errors
 written A printed listing result left ended before after errors text h is same zero app = record {
   known = inl zero;
@@ -82,7 +82,7 @@ written A printed listing result left ended before after errors text h is same z
   four = λ s all old l b. absurd (omega arith);
 }
 
-written_front : (A : Type 0) (printed : List ℕ) (listing : Listing A) (result : ℕ) (left ended before after errors : Option (List ℕ)) (text : List ℕ) → IsWhole left ended text → IsListingOf text listing
+written_front : (A : Type 0) (printed : List ℕ) (listing : Listing A) (result : ℕ) (left ended before after errors : Option (List ℕ)) (text : List ℕ) → IsWholeRun left ended text → IsListingOf text listing
     → printed ≡ listing_text listing → result ≡ 4 → AppendsFront before after printed → EndsListing A result left ended before after errors errors
 written_front A printed listing result left ended before after errors text h is same four f = record {
   known = inr (inr (inr four));

@@ -9,10 +9,10 @@ use Rattle.wenc_canon.specs.Canonicals.{Canonical}
 use Rattle.wasm_encoder.specs.Command.{CommandTree, CoreModule, Canon}
 use Rattle.wasm_encoder.specs.Ran.{IsTyped, IsStopped}
 use Rattle.std.specs.Result.{IsErr, IsErrAnd}
-use Rattle.wenc.specs.Fields.{number, numbers, hex, kind}
+use Rattle.wenc.specs.Fields.{number_word, numbers, hex, kind}
 use Rattle.wenc.specs.Intrinsics.{intrinsic}
 use Rattle.wenc.specs.Parts.{parted}
-use Rattle.wenc.specs.Script.{has_empty, import_of, import, export_of, export, alias_of, alias_export, core_module, start_of, start, append_names, command_of, line_command, with_line, commands_from, script}
+use Rattle.wenc.specs.Script.{has_empty, import_of, import, export_of, export, alias_of, alias_export, core_module, start_of, start_command, append_names, command_of, line_command, with_line, commands_from, script}
 use Rattle.wenc.specs.inside.Steps.{Translates}
 use Rattle.wenc.specs.declared.failure.Failure.{Failure}
 use Rattle.wenc.specs.declared.failure.Failure.TheVariants as failures
@@ -37,7 +37,7 @@ either true x y one other = one
 either false x y one other = other
 
 import_untyped : (words : List (List ℕ)) → Untyped (import words)
-import_untyped (name ∷ k ∷ i ∷ []) = of (kind k) (number i)
+import_untyped (name ∷ k ∷ i ∷ []) = of (kind k) (number_word i)
   where
     of : (k : Option ComponentExportKind) (i : Option ℕ) → Untyped (import_of name k i)
     of None i = tt
@@ -46,7 +46,7 @@ import_untyped (name ∷ k ∷ i ∷ []) = of (kind k) (number i)
 import_untyped other = tt
 
 export_untyped : (words : List (List ℕ)) → Untyped (export words)
-export_untyped (name ∷ k ∷ i ∷ []) = of (kind k) (number i)
+export_untyped (name ∷ k ∷ i ∷ []) = of (kind k) (number_word i)
   where
     of : (k : Option ComponentExportKind) (i : Option ℕ) → Untyped (export_of name k i)
     of None i = tt
@@ -55,7 +55,7 @@ export_untyped (name ∷ k ∷ i ∷ []) = of (kind k) (number i)
 export_untyped other = tt
 
 alias_untyped : (words : List (List ℕ)) → Untyped (alias_export words)
-alias_untyped (i ∷ k ∷ name ∷ []) = of (number i) (kind k)
+alias_untyped (i ∷ k ∷ name ∷ []) = of (number_word i) (kind k)
   where
     of : (i : Option ℕ) (k : Option ComponentExportKind) → Untyped (alias_of i k name)
     of None k = tt
@@ -71,8 +71,8 @@ module_untyped (bytes ∷ []) = of (hex bytes)
     of (Some bytes) = λ typed. typed
 module_untyped other = tt
 
-start_untyped : (words : List (List ℕ)) → Untyped (start words)
-start_untyped (function ∷ results ∷ arguments) = of (number function) (number results) (numbers arguments)
+start_untyped : (words : List (List ℕ)) → Untyped (start_command words)
+start_untyped (function ∷ results ∷ arguments) = of (number_word function) (number_word results) (numbers arguments)
   where
     of : (f r : Option ℕ) (values : Option (List ℕ)) → Untyped (start_of f r values)
     of None r values = tt
@@ -95,7 +95,7 @@ by_word : (a b c d e f : Bool) (verb : List ℕ) (words : List (List ℕ)) → U
     else if b then export words
     else if c then alias_export words
     else if d then core_module words
-    else if e then start words
+    else if e then start_command words
     else if f then append_names words
     else option_map (Canon None) (intrinsic verb words))
 by_word true b c d e f verb words = import_untyped words
@@ -110,7 +110,7 @@ command_untyped : (words : List (List ℕ)) → Untyped (command_of words)
 command_untyped [] = tt
 command_untyped (verb ∷ words) =
     by_word (bytes_eq verb (codes "import")) (bytes_eq verb (codes "export")) (bytes_eq verb (codes "alias-export"))
-    (bytes_eq verb (codes "core-module")) (bytes_eq verb (codes "start")) (bytes_eq verb (codes "append-names")) verb words
+    (bytes_eq verb (codes "core-module")) (bytes_eq verb (codes "start_command")) (bytes_eq verb (codes "append-names")) verb words
 
 line_untyped : (line : List ℕ) → Untyped (line_command line)
 line_untyped line =

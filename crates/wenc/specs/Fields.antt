@@ -1,4 +1,4 @@
--- What a word says: a number, a flag, bytes, a kind.
+-- What a word says: a number_word, a flag_word, bytes, a kind.
 use Rattle.hex.specs.Hex.{decode_of}
 use Rattle.hex.specs.declared.error.FromHexError.{FromHexError}
 use Rattle.std.specs.Prelude.{ℕ, ◌+◌, ◌-◌, ◌*◌, ◌^◌, ◌&&◌, nat_le, nat_lt, if◌then◌else◌, List, []}
@@ -24,11 +24,11 @@ at_most_32_bits None = None
 at_most_32_bits (Some n) = if nat_lt n (2 ^ 32) then Some n else None
 
 -- decimal digits, at least one, of a value of at most 4294967295
-abbrev pub number : List ℕ → Option ℕ
-number [] = None
-number (b ∷ bytes) = at_most_32_bits (value_behind 0 (b ∷ bytes))
+abbrev pub number_word : List ℕ → Option ℕ
+number_word [] = None
+number_word (b ∷ bytes) = at_most_32_bits (value_behind 0 (b ∷ bytes))
 
--- one number more, where all are numbers
+-- one number_word more, where all are numbers
 abbrev pub number_before : Option ℕ → Option (List ℕ) → Option (List ℕ)
 number_before None ns = None
 number_before (Some n) None = None
@@ -37,10 +37,10 @@ number_before (Some n) (Some ns) = Some (n ∷ ns)
 -- the numbers that the words are, where all are
 abbrev pub numbers : List (List ℕ) → Option (List ℕ)
 numbers [] = Some []
-numbers (word ∷ words) = number_before (number word) (numbers words)
+numbers (word ∷ words) = number_before (number_word word) (numbers words)
 
-abbrev pub flag : List ℕ → Option Bool
-flag word =
+abbrev pub flag_word : List ℕ → Option Bool
+flag_word word =
     if bytes_eq word (codes "0") then Some false
     else if bytes_eq word (codes "1") then Some true
     else None
@@ -49,7 +49,7 @@ abbrev pub decoded : Result (List ℕ) FromHexError → Option (List ℕ)
 decoded (Ok bytes) = Some bytes
 decoded (Err error) = None
 
--- an even number of hexadecimal digits, or `-` for no bytes
+-- an even number_word of hexadecimal digits, or `-` for no bytes
 abbrev pub hex : List ℕ → Option (List ℕ)
 hex word = if bytes_eq word (codes "-") then Some [] else decoded (decode_of word)
 
@@ -64,10 +64,10 @@ kind word =
     else None
 
 -- what an import of this kind with this index refers to
-abbrev pub reference : ComponentExportKind → ℕ → ComponentTypeRef
-reference kinds.Module i = refs.Module i
-reference kinds.Func i = refs.Func i
-reference kinds.Value i = refs.Value (values.«Type» i)
-reference kinds.«Type» i = refs.«Type» (Eq i)
-reference kinds.Instance i = refs.Instance i
-reference kinds.Component i = refs.Component i
+abbrev pub reference_word : ComponentExportKind → ℕ → ComponentTypeRef
+reference_word kinds.Module i = refs.Module i
+reference_word kinds.Func i = refs.Func i
+reference_word kinds.Value i = refs.Value (values.«Type» i)
+reference_word kinds.«Type» i = refs.«Type» (Eq i)
+reference_word kinds.Instance i = refs.Instance i
+reference_word kinds.Component i = refs.Component i

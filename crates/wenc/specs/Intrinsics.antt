@@ -4,34 +4,34 @@
 use Rattle.std.specs.Prelude.{ℕ, if◌then◌else◌, List, [], ◌∷◌, Option, Some, None, option_map}
 use Rattle.std.specs.Option.{option_and_then}
 use Rattle.std.specs.Str.{bytes_eq}
-use Rattle.wenc_canon.specs.Canonicals.{Field, Index, Flag, Zero, Value, Values, Intrinsic, row}
-use Rattle.wenc_canon.specs.Canonicals.{intrinsics, Canonical, Provided}
-use Rattle.wenc.specs.Fields.{number, flag}
+use Rattle.wenc_canon.specs.Canonicals.{Field, Index, Flag, Zero, Value, Values, Builtin, row}
+use Rattle.wenc_canon.specs.Canonicals.{intrinsics, Canonical, OfBuiltin}
+use Rattle.wenc.specs.Fields.{number_word, flag_word}
 
 -- what words say of a field, and the words behind
 abbrev pub said : (f : Field) → List (List ℕ) → Option (Value f × List (List ℕ))
-said Index (word ∷ words) = option_map (λ n. (n, words)) (number word)
-said Flag (word ∷ words) = option_map (λ b. (b, words)) (flag word)
+said Index (word ∷ words) = option_map (λ n. (n, words)) (number_word word)
+said Flag (word ∷ words) = option_map (λ b. (b, words)) (flag_word word)
 said Zero words = Some (tt, words)
 said f words = None
 
 -- what no words are behind
-abbrev pub at_end : {T : Type 0} → T × List (List ℕ) → Option T
-at_end (v, []) = Some v
-at_end (v, word ∷ words) = None
+abbrev pub word_is_over : {T : Type 0} → T × List (List ℕ) → Option T
+word_is_over (v, []) = Some v
+word_is_over (v, word ∷ words) = None
 
 -- what words say of the fields, all of them
 abbrev pub values_said : (fs : List Field) → List (List ℕ) → Option (Values fs)
-values_said [] words = at_end (tt, words)
-values_said (f ∷ []) words = option_and_then at_end (said f words)
+values_said [] words = word_is_over (tt, words)
+values_said (f ∷ []) words = option_and_then word_is_over (said f words)
 values_said (f ∷ g ∷ fs) words =
     option_and_then (λ s. option_map (λ vs. (s.0, vs)) (values_said (g ∷ fs) s.1)) (said f words)
 
 -- one of these intrinsics
-abbrev pub one_of : List Intrinsic → List ℕ → List (List ℕ) → Option Canonical
+abbrev pub one_of : List Builtin → List ℕ → List (List ℕ) → Option Canonical
 one_of [] verb words = None
 one_of (i ∷ is) verb words =
-    if bytes_eq verb (row i).name then option_map (Provided i) (values_said (row i).fields words)
+    if bytes_eq verb (row i).name then option_map (OfBuiltin i) (values_said (row i).fields words)
     else one_of is verb words
 
 abbrev pub intrinsic : List ℕ → List (List ℕ) → Option Canonical

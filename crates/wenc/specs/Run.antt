@@ -76,7 +76,7 @@ pub record PrintsFront (text before after : List ℕ) : Type 0 where
 -- What a reader had left and has left in the end, what a writer held before and after, and what
 -- standard error held, where these are known: the status says what was read and written. With
 -- status 2 there was perhaps no memory.
-pub record Ends (status : ℕ)
+pub record EndsRun (status : ℕ)
     (left ended before after errors reported : Option (List ℕ)) : Type 0 where
   pub zero : status ≡ 0 → (text old : List ℕ) → left ≡ Some text → before ≡ Some old
       → (new : List ℕ) × (after ≡ Some new) × (ended ≡ Some []) × PrintsAccepted text old new ×

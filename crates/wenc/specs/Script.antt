@@ -7,7 +7,7 @@ use Rattle.wenc_parts.specs.Imports.{plain_name}
 use Rattle.wenc_parts.specs.Aliases.{InstanceExport}
 use Rattle.wasm_encoder.specs.Command.{CommandTree, CoreModule, Alias, Canon, Start, Import, Export}
 use Rattle.wasm_encoder.specs.Command.{AppendNames}
-use Rattle.wenc.specs.Fields.{number, numbers, hex, kind, reference}
+use Rattle.wenc.specs.Fields.{number_word, numbers, hex, kind, reference_word}
 use Rattle.wenc.specs.Intrinsics.{intrinsic}
 use Rattle.wenc.specs.Parts.{parted}
 
@@ -18,10 +18,10 @@ abbrev pub import_of : List ℕ → Option ComponentExportKind → Option ℕ �
 import_of name None i = None
 import_of name (Some k) None = None
 import_of name (Some k) (Some i) =
-    Some (Import (record { name = plain_name name; what = reference k i }))
+    Some (Import (record { name = plain_name name; what = reference_word k i }))
 
 abbrev pub import : List (List ℕ) → Option CommandTree
-import (name ∷ k ∷ i ∷ []) = import_of name (kind k) (number i)
+import (name ∷ k ∷ i ∷ []) = import_of name (kind k) (number_word i)
 import other = None
 
 -- export NAME KIND I
@@ -32,7 +32,7 @@ export_of name (Some k) (Some i) =
     Some (Export (record { name = plain_name name; kind = k; index = i; what = None }))
 
 abbrev pub export : List (List ℕ) → Option CommandTree
-export (name ∷ k ∷ i ∷ []) = export_of name (kind k) (number i)
+export (name ∷ k ∷ i ∷ []) = export_of name (kind k) (number_word i)
 export other = None
 
 -- alias-export I KIND NAME: the alias has its name as its debug name
@@ -42,7 +42,7 @@ alias_of (Some i) None name = None
 alias_of (Some i) (Some k) name = Some (Alias (Some name) (InstanceExport i k name))
 
 abbrev pub alias_export : List (List ℕ) → Option CommandTree
-alias_export (i ∷ k ∷ name ∷ []) = alias_of (number i) (kind k) name
+alias_export (i ∷ k ∷ name ∷ []) = alias_of (number_word i) (kind k) name
 alias_export other = None
 
 -- core-module HEX
@@ -50,17 +50,17 @@ abbrev pub core_module : List (List ℕ) → Option CommandTree
 core_module (bytes ∷ []) = option_map (CoreModule None) (hex bytes)
 core_module other = None
 
--- start F R A..
+-- start_command F R A..
 abbrev pub start_of : Option ℕ → Option ℕ → Option (List ℕ) → Option CommandTree
 start_of None results arguments = None
 start_of (Some f) None arguments = None
 start_of (Some f) (Some r) None = None
 start_of (Some f) (Some r) (Some values) = Some (Start f values r)
 
-abbrev pub start : List (List ℕ) → Option CommandTree
-start (function ∷ results ∷ arguments) =
-    start_of (number function) (number results) (numbers arguments)
-start other = None
+abbrev pub start_command : List (List ℕ) → Option CommandTree
+start_command (function ∷ results ∷ arguments) =
+    start_of (number_word function) (number_word results) (numbers arguments)
+start_command other = None
 
 -- append-names
 abbrev pub append_names : List (List ℕ) → Option CommandTree
@@ -74,7 +74,7 @@ command_by verb words =
     else if bytes_eq verb (codes "export") then export words
     else if bytes_eq verb (codes "alias-export") then alias_export words
     else if bytes_eq verb (codes "core-module") then core_module words
-    else if bytes_eq verb (codes "start") then start words
+    else if bytes_eq verb (codes "start_command") then start_command words
     else if bytes_eq verb (codes "append-names") then append_names words
     else option_map (Canon None) (intrinsic verb words)
 
@@ -102,7 +102,7 @@ abbrev pub with_line : ℕ → Option CommandTree → Result (List CommandTree) 
 with_line n None behind = Err n
 with_line n (Some c) behind = with_command c behind
 
--- the commands of the lines, of which the first has number n, or the number of the first bad one;
+-- the commands of the lines, of which the first has number_word n, or the number_word of the first bad one;
 -- an empty line says nothing
 abbrev pub commands_from : ℕ → List (List ℕ) → Result (List CommandTree) ℕ
 commands_from n [] = Ok []
@@ -110,7 +110,7 @@ commands_from n ([] ∷ lines) = commands_from (n + 1) lines
 commands_from n ((b ∷ line) ∷ lines) =
     with_line n (line_command (b ∷ line)) (commands_from (n + 1) lines)
 
--- The commands that a script says, or the number of its first bad line. Lines end by LF, and the
+-- The commands that a script says, or the number_word of its first bad line. Lines end by LF, and the
 -- last may lack it.
 abbrev pub script : List ℕ → Result (List CommandTree) ℕ
 script text = commands_from 1 (parted 10 text)

@@ -1,5 +1,5 @@
 ghost use Rattle.std.specs.Prelude.{◌≡◌};
-ghost use Rattle.wenc.specs.Fields.{kind, reference};
+ghost use Rattle.wenc.specs.Fields.{kind, reference_word};
 
 use wasm_encoder::{ComponentExportKind, ComponentTypeRef, ComponentValType, TypeBounds};
 
@@ -20,7 +20,7 @@ pub fn kind(word: &str) -> Option<ComponentExportKind>
 
 /// What an import of this kind with this index refers to.
 pub fn reference(kind: ComponentExportKind, index: u32) -> ComponentTypeRef
-    ensures { result ≡ reference kind index }
+    ensures { result ≡ reference_word kind index }
 {
     match kind {
         ComponentExportKind::Module => ComponentTypeRef::Module(index),

@@ -1,6 +1,6 @@
 ghost use Rattle.std.specs.Prelude.{◌≡◌, IfOk, option_map};
 ghost use Rattle.wasm_encoder.specs.Command.{command_view};
-ghost use Rattle.wenc.specs.Script.{import, export, alias_export, core_module, start, append_names, command_of, line_command};
+ghost use Rattle.wenc.specs.Script.{import, export, alias_export, core_module, start_command, append_names, command_of, line_command};
 ghost use Rattle.wenc.specs.Words.{words_left};
 
 use crate::intrinsic::intrinsic;
@@ -82,7 +82,7 @@ fn core_module(alloc: Global, words: Words) -> Result<Option<Command>, AllocErro
 
 /// `start F R A..`
 fn start(alloc: Global, words: Words) -> Result<Option<Command>, AllocError>
-    ensures { IfOk result (λ c. option_map command_view c ≡ start (words_left words.entry)) }
+    ensures { IfOk result (λ c. option_map command_view c ≡ start_command (words_left words.entry)) }
 {
     let mut words = words;
     let (Some(function), Some(results)) = (words.next(), words.next()) else {

@@ -1,12 +1,12 @@
 ghost use Rattle.std.specs.Prelude.{◌≡◌, IfOk, option_map};
-ghost use Rattle.wenc.specs.Fields.{number, flag, hex};
+ghost use Rattle.wenc.specs.Fields.{number_word, flag_word, hex};
 
 use hex::FromHexError;
 use std::alloc::{AllocError, Global};
 
 /// The value of decimal digits, at least one, if it is at most 4294967295.
 pub fn number(word: &str) -> Option<u32>
-    ensures { result ≡ number word.now }
+    ensures { result ≡ number_word word.now }
 {
     if word.is_empty() {
         return None;
@@ -23,7 +23,7 @@ pub fn number(word: &str) -> Option<u32>
 
 /// What `0` or `1` says.
 pub fn flag(word: &str) -> Option<bool>
-    ensures { result ≡ flag word.now }
+    ensures { result ≡ flag_word word.now }
 {
     match word {
         "0" => Some(false),

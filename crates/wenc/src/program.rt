@@ -3,7 +3,7 @@ ghost use Rattle.std.specs.Bool.{OnTrue, OnFalse};
 ghost use Rattle.std.specs.declared.alloc.Global.{Global};
 ghost use Rattle.wenc.specs.Listed.{IsList};
 ghost use Rattle.wenc.specs.ListRun.{EndsListing};
-ghost use Rattle.wenc.specs.Run.{Ends, Says, usage, fault_report};
+ghost use Rattle.wenc.specs.Run.{EndsRun, Says, usage, fault_report};
 ghost use Rattle.wenc.specs.inside.Steps.{IsStatusOf, text_of, Translates, Reads, Reported};
 
 use crate::failure::Failure;
@@ -129,7 +129,7 @@ fn run_script<A: Allocator + Copy, R: Read, O: Write, E: Write>(
     out: &mut O,
     err: &mut E,
 ) -> u8
-    ensures ends { Ends result (R.remaining input.old) (R.remaining input.new)
+    ensures ends { EndsRun result (R.remaining input.old) (R.remaining input.new)
         (O.contents out.old) (O.contents out.new) (E.contents err.old) (E.contents err.new) }
     ensures status { (result ≡ 0) ⊎ (result ≡ 1) ⊎ (result ≡ 2) ⊎ (result ≡ 4) }
 {
@@ -154,7 +154,7 @@ pub fn run<R: Read, O: Write, E: Write>(
     ensures input_kept { args.now ≢ [] → ¬ IsList args.now → input.new ≡ input.old }
     ensures output_kept { args.now ≢ [] → ¬ IsList args.now → out.new ≡ out.old }
 
-    ensures ends { args.now ≡ [] → Ends result (R.remaining input.old) (R.remaining input.new)
+    ensures ends { args.now ≡ [] → EndsRun result (R.remaining input.old) (R.remaining input.new)
         (O.contents out.old) (O.contents out.new) (E.contents err.old) (E.contents err.new) }
 
     // With `list` a component's sections and counts are printed, or why there are none.
@@ -185,7 +185,7 @@ pub fn run_with_allocators<A: Allocator + Copy, R: Read, O: Write, E: Write>(
     ensures input_kept { args.now ≢ [] → ¬ IsList args.now → input.new ≡ input.old }
     ensures output_kept { args.now ≢ [] → ¬ IsList args.now → out.new ≡ out.old }
 
-    ensures ends { args.now ≡ [] → Ends result (R.remaining input.old) (R.remaining input.new)
+    ensures ends { args.now ≡ [] → EndsRun result (R.remaining input.old) (R.remaining input.new)
         (O.contents out.old) (O.contents out.new) (E.contents err.old) (E.contents err.new) }
 
     ensures lists { IsList args.now

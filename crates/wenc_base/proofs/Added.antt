@@ -5,8 +5,8 @@ use Rattle.std.specs.Iterator.Runs.{SomeRun, WholeRun}
 use Rattle.wenc_base.specs.Encode.{Appended}
 use Rattle.wenc_base.specs.Fault.{IsWarranted, NoCause}
 use Rattle.wenc_base.specs.Piece.{Piece}
-use Rattle.wenc_base.specs.Holder.{Held, is_finished, holding, content_size, CountCause, AddCause, AddsListed}
-use Rattle.wenc_base.specs.Openings.{given_up}
+use Rattle.wenc_base.specs.Holder.{HolderState, is_finished, holding, content_size, OneMoreCause, AddCause, AddsListed}
+use Rattle.wenc_base.specs.Openings.{member_given_up}
 use Rattle.wenc_base.specs.declared.fault.Fault.{Fault}
 use Rattle.wenc_base.specs.declared.fault.Fault.TheVariants.{Memory, TooMany, TooLarge, Unfinished}
 use Rattle.wenc_base.specs.declared.holder.openings.Opening.{Opening}
@@ -15,16 +15,16 @@ use Rattle.wenc_base.proofs.Members.{still_warranted}
 use Rattle.wenc_base.proofs.Runs.{no_run}
 
 -- its own cause is one of the call
-own_cause : (old : Held) (text : List ℕ) (cause : Fault → Type 0) (fault : Fault) → IsWarranted cause fault → IsWarranted (AddCause old text cause) fault
+own_cause : (old : HolderState) (text : List ℕ) (cause : Fault → Type 0) (fault : Fault) → IsWarranted cause fault → IsWarranted (AddCause old text cause) fault
 own_cause old text cause = still_warranted cause (AddCause old text cause) (λ f h. inl h)
 
-count_cause : (old : Held) (text : List ℕ) (cause : Fault → Type 0) (fault : Fault) → CountCause old.count (length (old.body ++ text)) fault → IsWarranted (AddCause old text cause) fault
+count_cause : (old : HolderState) (text : List ℕ) (cause : Fault → Type 0) (fault : Fault) → OneMoreCause old.count (length (old.body ++ text)) fault → IsWarranted (AddCause old text cause) fault
 count_cause old text cause (Memory e) h = tt
 count_cause old text cause TooMany h = inr (inl h)
 count_cause old text cause TooLarge h = inr (inl h)
 count_cause old text cause Unfinished h = inr (inl h)
 
-module _ {S B : Type 0} (steps : S → Option B → S → Type 0) (s : S) (piece : List B → Piece) (old new : Held) where
+module _ {S B : Type 0} (steps : S → Option B → S → Type 0) (s : S) (piece : List B → Piece) (old new : HolderState) where
   abbrev Adds : Result (Unit {0}) Fault → Type 0
   Adds outcome = AddsListed steps s piece old new outcome
 
@@ -50,13 +50,13 @@ module _ {S B : Type 0} (steps : S → Option B → S → Type 0) (s : S) (piece
 
   -- for the number of members, or their size
   pub uncounted_listed : (outcome : Result (Unit {0}) Fault) (fault : Fault) (body : List ℕ) → IsErrAnd outcome (λ e. e ≡ fault) → new ≡ old → is_finished old ≡ true
-      → Came body → CountCause old.count (length body) fault → Adds outcome
+      → Came body → OneMoreCause old.count (length body) fault → Adds outcome
   uncounted_listed outcome fault body e same f came h =
       refused outcome fault e same (came.0, came.1, count_cause old (piece came.0.items).text (piece came.0.items).Cause fault (rw came.3.items at h)) (λ g. absurd cc)
 
   -- a call that is accepted
   pub counted_listed : (body : List ℕ) → new ≡ record { kept = old.kept; count = old.count + 1; body = body; opening = old.opening } → is_finished old ≡ true → Came body
-      → ((fault : Fault) → CountCause old.count (length body) fault → ⊥) → Adds (Ok tt)
+      → ((fault : Fault) → OneMoreCause old.count (length body) fault → ⊥) → Adds (Ok tt)
   counted_listed body e f came free = record {
     ok = (came.0, came.1, came.2, record { state = e ∙ rw came.3.items refl; fits = came.3.fits; free = none });
     err = tt;
@@ -98,12 +98,12 @@ module _ (before after : List ℕ) (kept : ℕ) where
       (cut_length bytes e le, omega (arith, size, size_monotone len count fewer))
 
   pub cut_view : (len bytes : ℕ) (opening : Option Opening) → after ≡ take (kept + bytes) before → kept ≤ length before
-      → let h : Held = record { kept = take kept after; count = len; body = drop kept after; opening = opening } in
+      → let h : HolderState = record { kept = take kept after; count = len; body = drop kept after; opening = opening } in
       h ≡ record { kept = take kept before; count = len; body = take bytes (drop kept before); opening = opening }
   cut_view len bytes opening e le = rw (e, drop-take kept bytes before, take-take kept (kept + bytes) before (omega arith)) refl
 
   -- and the member that began behind them is given up
-  pub given_up_view : (count len : ℕ) (opening : Option Opening) (o : Opening) (h : Held) → after ≡ take (kept + o.member_start) before → kept ≤ length before
+  pub given_up_view : (count len : ℕ) (opening : Option Opening) (o : Opening) (h : HolderState) → after ≡ take (kept + o.member_start) before → kept ≤ length before
       → record { kept = take kept before; count = count; body = drop kept before; opening = opening } ≡ h → opening ≡ Some o → len ≡ count - 1
-      → holding (take kept after) len (drop kept after) ≡ given_up h
+      → holding (take kept after) len (drop kept after) ≡ member_given_up h
   given_up_view count len opening o h e le view is fewer = rw (← view, is, fewer) (cut_view (count - 1) o.member_start None e le)

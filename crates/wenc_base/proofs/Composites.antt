@@ -1,6 +1,6 @@
 -- What the code writes of composite types serves as their forms.
 use Rattle.std.proofs.Common.{ℕ, List, [], ◌∷◌, Bool, true, false, Option, Some, None}
-use Rattle.wenc_base.specs.Composites.{Func, Struct, composite_type, sub_type, Rec, group, sub_view}
+use Rattle.wenc_base.specs.Composites.{Func, Struct, composite_type, sub_type, Rec, rec_type, sub_view}
 use Rattle.wenc_base.specs.Encode.{Serves, in_order, list_in_order}
 use Rattle.wenc_base.specs.Piece.{◌▸◌}
 use Rattle.wenc_base.specs.Types.{val_type}
@@ -17,5 +17,5 @@ function_serves params results = tagged_serves 0x60 (order_serves (list_is_list 
 pub structure_serves : (fields : List FieldType) → Serves (0x5f ▸ list_in_order field_type fields) (composite_type (Struct fields))
 structure_serves fields = tagged_serves 0x5f (list_is_list field_type fields)
 
-pub group_serves : {A : Type 0} (types : List (SubType A)) → Serves (0x4e ▸ list_in_order (λ s. sub_type (sub_view s)) types) (group (Rec (map sub_view types)))
+pub group_serves : {A : Type 0} (types : List (SubType A)) → Serves (0x4e ▸ list_in_order (λ s. sub_type (sub_view s)) types) (rec_type (Rec (map sub_view types)))
 group_serves types = tagged_serves 0x4e (list_serves (λ s. sub_type (sub_view s)) sub_view sub_type (λ s. serves_itself) types)

@@ -3,9 +3,9 @@ use Rattle.std.proofs.Common.{◌≡◌, ℕ, ◌≤◌, ◌<◌, ◌^◌, List,
 use Rattle.std.specs.Iterator.Runs.{SomeRun, WholeRun}
 use Rattle.wenc_base.specs.Encode.{Appended}
 use Rattle.wenc_base.specs.Fault.{IsWarranted, either}
-use Rattle.wenc_base.specs.Holder.{Held, content_size}
+use Rattle.wenc_base.specs.Holder.{HolderState, content_size}
 use Rattle.wenc_base.specs.Lender.{ExtendsListed, EndsListed, EndsLists}
-use Rattle.wenc_base.specs.Openings.{lengthened, no_room}
+use Rattle.wenc_base.specs.Openings.{member_appended, no_room_in_holder}
 use Rattle.wenc_base.specs.Piece.{Piece}
 use Rattle.wenc_base.specs.declared.fault.Fault.{Fault}
 use Rattle.wenc_base.specs.declared.fault.Fault.TheVariants.{TooLarge}
@@ -41,28 +41,28 @@ module _ {T : Type 0} (written : T → List ℕ → T) (ended : T → T) (refuse
     warranted = inr (a.ok.0, a.ok.1, a.ok.2, (b.warranted.0, b.warranted.1, rw a.ok.3.state at b.warranted.2));
   }
 
-module _ {S B : Type 0} (steps : S → Option B → S → Type 0) (s : S) (piece : List B → Piece) (old : Held) where
-  abbrev Grows : Held → Result (Unit {0}) Fault → Type 0
-  Grows new outcome = ExtendsListed steps s old new outcome (lengthened old) (no_room old) piece
+module _ {S B : Type 0} (steps : S → Option B → S → Type 0) (s : S) (piece : List B → Piece) (old : HolderState) where
+  abbrev Grows : HolderState → Result (Unit {0}) Fault → Type 0
+  Grows new outcome = ExtendsListed steps s old new outcome (member_appended old) (no_room_in_holder old) piece
 
   -- what was written behind the body
   abbrev Came : List ℕ → Type 0
   Came body = WholeRun steps s (λ p. Appended old.body (piece p.items) body)
 
-  refused : (new : Held) (outcome : Result (Unit {0}) Fault) (fault : Fault) → IsErrAnd outcome (λ e. e ≡ fault) → new ≡ old
-      → SomeRun steps s (λ p. IsWarranted (either (piece p.items).Cause (no_room old (piece p.items).text)) fault) → Grows new outcome
+  refused : (new : HolderState) (outcome : Result (Unit {0}) Fault) (fault : Fault) → IsErrAnd outcome (λ e. e ≡ fault) → new ≡ old
+      → SomeRun steps s (λ p. IsWarranted (either (piece p.items).Cause (no_room_in_holder old (piece p.items).text)) fault) → Grows new outcome
   refused new (Ok u) fault e same h = absurd e
   refused new (Err f) fault e same h = rw e (record { ok = tt; err = same; warranted = h })
 
   -- a call that is refused for a cause of its own
-  pub refused_own : (new : Held) (outcome : Result (Unit {0}) Fault) (fault : Fault) → IsErrAnd outcome (λ e. e ≡ fault) → new ≡ old
+  pub refused_own : (new : HolderState) (outcome : Result (Unit {0}) Fault) (fault : Fault) → IsErrAnd outcome (λ e. e ≡ fault) → new ≡ old
       → SomeRun steps s (λ p. IsWarranted (piece p.items).Cause fault) → Grows new outcome
   refused_own new outcome fault e same h =
       let p : Piece = piece h.0.items in
-      refused new outcome fault e same (h.0, h.1, still_warranted p.Cause (either p.Cause (no_room old p.text)) (λ f g. inl g) fault h.2)
+      refused new outcome fault e same (h.0, h.1, still_warranted p.Cause (either p.Cause (no_room_in_holder old p.text)) (λ f g. inl g) fault h.2)
 
   -- what was written is kept, or cut off for its size
-  pub kept_or_cut : (new : Held) (body : List ℕ) (outcome : Result (Unit {0}) Fault) → Came body
+  pub kept_or_cut : (new : HolderState) (body : List ℕ) (outcome : Result (Unit {0}) Fault) → Came body
       → OnOk outcome (new ≡ record { kept = old.kept; count = old.count; body = body; opening = old.opening }) → OnOk outcome (content_size old.count (length body) < 2 ^ 32)
       → OnErr outcome (new ≡ old) → IfErr outcome (λ fault. (fault ≡ TooLarge) × (2 ^ 32 ≤ content_size old.count (length body))) → Grows new outcome
   kept_or_cut new body (Err fault) came e fits same large =

@@ -3,7 +3,7 @@ use Rattle.std.proofs.Common.{◌≡◌, ℕ, ◌+◌, ◌-◌, ◌≤◌, ◌<�
 use Rattle.std.proofs.lemmas.Slice.{take-put_mid, drop-put_mid, overwrites}
 use Rattle.std.proofs.lemmas.List.{places, take_at, drop_at, take-append-le, drop-append-le}
 use Rattle.std.proofs.lemmas.List.Edits.{take-paste}
-use Rattle.wenc_base.specs.Holder.{Held, content_size, with_kept}
+use Rattle.wenc_base.specs.Holder.{HolderState, content_size, with_kept}
 use Rattle.wenc_base.specs.declared.holder.openings.Opening.{Opening}
 use Rattle.wenc_base.proofs.Groups.{size_1}
 use borrow.Rule.Slice.PartMut.{put_mid}
@@ -44,12 +44,12 @@ module _ (kept body head : List ℕ) (start end : ℕ) (order : start ≤ end) (
   front_length = omega (arith, length-append (take start kept) (head ++ drop end kept), length-append head (drop end kept), length-take-le start kept (omega arith), length-drop end kept)
 
   filled_view : (count : ℕ) (opening : Option Opening) (after : List ℕ) → after ≡ take start (kept ++ body) ++ (head ++ drop end (kept ++ body))
-      → let h : Held = record { kept = take (length kept - (end - start - length head)) after; count = count; body = drop (length kept - (end - start - length head)) after; opening = opening } in
+      → let h : HolderState = record { kept = take (length kept - (end - start - length head)) after; count = count; body = drop (length kept - (end - start - length head)) after; opening = opening } in
       h ≡ record { kept = front; count = count; body = body; opening = opening }
   filled_view count opening after e = rw (e, in_front, take_at front body (length kept - (end - start - length head)) front_length, drop_at front body (length kept - (end - start - length head)) front_length) refl
 
 -- the kept bytes are the first of all
-pub kept_filled : (bytes after head : List ℕ) (kept start end count : ℕ) (opening : Option Opening) (h : Held) → kept ≤ length bytes
+pub kept_filled : (bytes after head : List ℕ) (kept start end count : ℕ) (opening : Option Opening) (h : HolderState) → kept ≤ length bytes
     → record { kept = take kept bytes; count = count; body = drop kept bytes; opening = opening } ≡ h → start ≤ end → end ≤ length h.kept → length head ≤ end - start
     → after ≡ take start bytes ++ (head ++ drop end bytes)
     → record { kept = take (kept - (end - start - length head)) after; count = count; body = drop (kept - (end - start - length head)) after; opening = opening }
@@ -57,7 +57,7 @@ pub kept_filled : (bytes after head : List ℕ) (kept start end count : ℕ) (op
 kept_filled bytes after head kept start end count opening h le view order room short e =
     let size : length (take kept bytes) ≡ kept = length-take-le kept bytes le in
     let whole : take kept bytes ++ drop kept bytes ≡ bytes = take-append-drop kept bytes in
-    let same : take kept bytes ≡ h.kept = ap (λ (h : Held). h.kept) view in
+    let same : take kept bytes ≡ h.kept = ap (λ (h : HolderState). h.kept) view in
     let within : end ≤ length (take kept bytes) = rw same room in
     let shown = filled_view (take kept bytes) (drop kept bytes) head start end order within short count opening after (rw whole e) in
     rw (← view) (rw size at shown)

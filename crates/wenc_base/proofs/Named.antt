@@ -2,17 +2,17 @@
 use Rattle.std.proofs.Common.{◌≡◌, ◌+◌, ◌<◌, ◌≤◌, ◌^◌, true, ◌++◌, length, length-append, Ok, arith, inl, inr}
 use Rattle.std.specs.Prelude.{IsUtf8}
 use Rattle.wenc_base.specs.Fault.{NoCause}
-use Rattle.wenc_base.specs.Holder.{Held, is_finished, with_member, CountCause, AddCause, AddsMember}
-use Rattle.wenc_base.specs.Names.{Named, named}
+use Rattle.wenc_base.specs.Holder.{HolderState, is_finished, with_member, OneMoreCause, AddCause, AddsMember}
+use Rattle.wenc_base.specs.Names.{NameAssociation, name_association}
 use Rattle.wenc_base.specs.Number.{unsigned_text}
-use Rattle.wenc_base.specs.laws.Names.{named_lawful}
+use Rattle.wenc_base.specs.laws.Names.{name_association_lawful}
 use Rattle.wenc_base.specs.declared.fault.Fault.{Fault}
 use Rattle.wenc_base.specs.declared.fault.Fault.TheVariants.{Memory, TooMany, TooLarge, Unfinished}
 use Rattle.wenc_base.proofs.Groups.{size_1, size_of_u32}
 
-pub short_name_added : (old new : Held) (entry : Named) → new ≡ with_member old (named entry).text → is_finished old ≡ true
+pub short_name_added : (old new : HolderState) (entry : NameAssociation) → new ≡ with_member old (name_association entry).text → is_finished old ≡ true
     → old.count < 4294967295 → length old.body < 4294967040 → length entry.name < 128 → entry.place < 2 ^ 32
-    → IsUtf8 entry.name → AddsMember (named entry) old new (Ok tt)
+    → IsUtf8 entry.name → AddsMember (name_association entry) old new (Ok tt)
 short_name_added old new entry state finished few small short place utf8 = record {
   ok = record { state = state; fits = fits; free = none };
   err = tt;
@@ -20,7 +20,7 @@ short_name_added old new entry state finished few small short place utf8 = recor
   unfinished_first = λ g. absurd cc;
 }
   where
-    size : length (named entry).text ≤ 133
+    size : length (name_association entry).text ≤ 133
     size =
         omega (
           arith,
@@ -31,14 +31,14 @@ short_name_added old new entry state finished few small short place utf8 = recor
           length-append (unsigned_text (length entry.name)) entry.name,
         )
 
-    uncounted : (fault : Fault) → CountCause old.count (length (old.body ++ (named entry).text)) fault → ⊥
+    uncounted : (fault : Fault) → OneMoreCause old.count (length (old.body ++ (name_association entry).text)) fault → ⊥
     uncounted (Memory e) h = h
     uncounted TooMany h = omega (arith, h, few)
-    uncounted TooLarge h = omega (arith, h, small, size, size_of_u32 (old.count + 1) (omega (arith, few)), length-append old.body (named entry).text)
+    uncounted TooLarge h = omega (arith, h, small, size, size_of_u32 (old.count + 1) (omega (arith, few)), length-append old.body (name_association entry).text)
     uncounted Unfinished h = h
 
-    fits : (named entry).Fits
+    fits : (name_association entry).Fits
     fits = (place, (omega (arith, short), utf8))
 
-    none : NoCause (AddCause old (named entry).text (named entry).Cause)
-    none fault h = elim h [ inl own ↦ (named_lawful entry).free fits fault own | inr more ↦ elim more [ inl count ↦ uncounted fault count | inr stopped ↦ absurd cc ] ]
+    none : NoCause (AddCause old (name_association entry).text (name_association entry).Cause)
+    none fault h = elim h [ inl own ↦ (name_association_lawful entry).free fits fault own | inr more ↦ elim more [ inl count ↦ uncounted fault count | inr stopped ↦ absurd cc ] ]

@@ -5,7 +5,7 @@ use Rattle.std.specs.List.{flat_map}
 use Rattle.wenc_base.specs.Encode.{Serves, in_order}
 use Rattle.wenc_base.specs.Fault.{NoCause}
 use Rattle.wenc_base.specs.Forms.{name, list}
-use Rattle.wenc_base.specs.Holder.{Held, is_finished, content_size, held, AddCause, Accepted, AddsMember, Contains}
+use Rattle.wenc_base.specs.Holder.{HolderState, is_finished, content_size, held_members, AddCause, Accepted, AddsMember, Contains}
 use Rattle.wenc_base.specs.Number.{groups, unsigned_text, u32}
 use Rattle.wenc_base.specs.Piece.{Piece, refused_for}
 use Rattle.wenc_base.specs.Producers.{Producer, producer, Producers, producers_field, held_field, FieldCause, producers_label, producers_section, producers_held}
@@ -14,7 +14,7 @@ use Rattle.wenc_base.specs.laws.Numbers.{size_free}
 use Rattle.wenc_base.specs.declared.fault.Fault.{Fault}
 use Rattle.wenc_base.specs.declared.fault.Fault.TheVariants.{Unfinished}
 
-pub field_added : (old new : Held) (field : List ℕ) (tools : Held) → Accepted (in_order (name field) (held tools)) old new
+pub field_added : (old new : HolderState) (field : List ℕ) (tools : HolderState) → Accepted (in_order (name field) (held_members tools)) old new
     → 10 + content_size new.count (length new.body) < 2 ^ 32 → is_finished tools ≡ true → AddsMember (refused_for (FieldCause old field tools) (held_field field tools)) old new (Ok tt)
 field_added old new field tools a small finished = record {
   ok = record { state = a.state; fits = a.fits; free = free };
@@ -35,8 +35,8 @@ field_added old new field tools a small finished = record {
       | inr more ↦ a.free fault (inr more)
     ]
 
--- the same of the tools that are held
-pub typed_field : (old new : Held) (outcome : Result (Unit {0}) Fault) (field : List ℕ) (tools : Held) (each : List Producer) → Contains producer tools each
+-- the same of the tools that are held_members
+pub typed_field : (old new : HolderState) (outcome : Result (Unit {0}) Fault) (field : List ℕ) (tools : HolderState) (each : List Producer) → Contains producer tools each
     → AddsMember (refused_for (FieldCause old field tools) (held_field field tools)) old new outcome
     → AddsMember (refused_for (FieldCause old field tools) (producers_field (record { field = field; tools = each }))) old new outcome
 typed_field old new outcome field tools each holds a = adds_as old new outcome serves a
@@ -51,12 +51,12 @@ typed_field old new outcome field tools each holds a = adds_as old new outcome s
     serves = record { text = rw (← holds.count, holds.body) refl; fits = counted; among = λ fault c. c; free = λ none. none }
 
 -- how many bytes stand behind the section's size
-label_size : (h : Held) → length ((name producers_label).text ++ (held h).text) ≡ 10 + content_size h.count (length h.body)
+label_size : (h : HolderState) → length ((name producers_label).text ++ (held_members h).text) ≡ 10 + content_size h.count (length h.body)
 unfolding groups
 label_size h = omega (arith, length-append (unsigned_text h.count) h.body)
 
 -- the section's parts serve as it
-pub section_serves : (h : Held) (size : ℕ) → size ≡ 10 + content_size h.count (length h.body) → size < 2 ^ 32 → Serves (in_order (u32 size) (in_order (name producers_label) (held h))) (producers_held h)
+pub section_serves : (h : HolderState) (size : ℕ) → size ≡ 10 + content_size h.count (length h.body) → size < 2 ^ 32 → Serves (in_order (u32 size) (in_order (name producers_label) (held_members h))) (producers_held h)
 section_serves h size e small = record {
   text = rw (← bytes) refl;
   fits = λ fits. (rw bytes at small, (fits.1.0, fits.1.1));
@@ -64,19 +64,19 @@ section_serves h size e small = record {
   free = λ none fault c. none fault (inr ((λ f n. n), inr (label_free, c)));
 }
   where
-    bytes : size ≡ length ((name producers_label).text ++ (held h).text)
+    bytes : size ≡ length ((name producers_label).text ++ (held_members h).text)
     bytes = e ∙ sym (label_size h)
 
     label_free : NoCause (name producers_label).Cause
     label_free fault (inl c) = size_free 9 (omega arith) fault c
     label_free fault (inr c) = c
 
-    among : (fault : Fault) → (in_order (u32 size) (in_order (name producers_label) (held h))).Cause fault → (producers_held h).Cause fault
+    among : (fault : Fault) → (in_order (u32 size) (in_order (name producers_label) (held_members h))).Cause fault → (producers_held h).Cause fault
     among fault (inl none) = absurd none
     among fault (inr (none, inl c)) = absurd (label_free fault c)
     among fault (inr (none, inr c)) = c.1
 
 -- a section that has these fields
-pub section_of_fields : (section : Held) (fields : List Producers) → Contains producers_field section fields → (producers_held section).text ≡ (producers_section fields).text
+pub section_of_fields : (section : HolderState) (fields : List Producers) → Contains producers_field section fields → (producers_held section).text ≡ (producers_section fields).text
 unfolding groups
 section_of_fields section fields holds = rw (← holds.count, holds.body) refl

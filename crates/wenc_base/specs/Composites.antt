@@ -57,13 +57,13 @@ abbrev pub final : Composite → Sub
 final c = record { is_final = true; supertype = None; composite = c }
 
 -- a type alone, or types that refer to each other
-pub data Group : Type 0 where
-  Single : (ty : Sub) → Group
-  Rec : (types : List Sub) → Group
+pub data RecType : Type 0 where
+  Single : (ty : Sub) → RecType
+  Rec : (types : List Sub) → RecType
 
-abbrev pub group : Form Group
-group (Single s) = sub_type s
-group (Rec types) = 0x4e ▸ list sub_type types
+abbrev pub rec_type : Form RecType
+rec_type (Single s) = sub_type s
+rec_type (Rec types) = 0x4e ▸ list sub_type types
 
 -- ---- in a component
 
@@ -76,10 +76,10 @@ abbrev pub guarded : Form Sub
 guarded s = guard_before s.is_final (sub_type s)
 
 -- with guards, or without
-abbrev pub standing : Bool → Form Group
+abbrev pub standing : Bool → Form RecType
 standing true (Single s) = guarded s
-standing true (Rec types) = group (Rec types)
-standing false g = group g
+standing true (Rec types) = rec_type (Rec types)
+standing false g = rec_type g
 
 -- ---- the code's types as pure ones
 
@@ -111,6 +111,6 @@ sub_view s =
       composite = composite_view s.composite_type;
     }
 
-abbrev pub group_view : {A : Type 0} → GroupTree A → Group
-group_view (groups.Sub s) = Single (sub_view s)
-group_view (groups.Rec types) = Rec (map sub_view types.items)
+abbrev pub rec_type_view : {A : Type 0} → GroupTree A → RecType
+rec_type_view (groups.Sub s) = Single (sub_view s)
+rec_type_view (groups.Rec types) = Rec (map sub_view types.items)

@@ -13,5 +13,5 @@ export_kind_byte Memory = 0x02
 export_kind_byte Global = 0x03
 export_kind_byte Tag = 0x04
 
-abbrev pub export_kind : Form ExportKind
-export_kind kind = byte (export_kind_byte kind)
+abbrev pub core_export_kind : Form ExportKind
+core_export_kind kind = byte (export_kind_byte kind)

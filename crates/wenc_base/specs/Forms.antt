@@ -3,7 +3,7 @@
 use Rattle.std.specs.Prelude.{◌≡◌, ◌⊎◌, ℕ, ◌^◌, ◌<◌, List, ◌++◌, length, Bool, true, false}
 use Rattle.std.specs.Prelude.{Option, Some, None, IsUtf8}
 use Rattle.wenc_base.specs.Fault.{size_cause}
-use Rattle.wenc_base.specs.Piece.{Piece, Whole, Form, byte, ◌▸◌, ◌⨾◌, each, all_of, raw}
+use Rattle.wenc_base.specs.Piece.{Piece, Payload, Form, byte, ◌▸◌, ◌⨾◌, each, all_of, raw}
 use Rattle.wenc_base.specs.Number.{u32, count, size}
 use Rattle.std.specs.List.{AllByRecursion}
 
@@ -41,7 +41,7 @@ abbrev pub AreBytes : List ℕ → Type 0
 AreBytes = AllByRecursion (λ b. b < 256)
 
 -- how many bytes, then that many, which are all of it
-abbrev pub sized : Whole → Piece
+abbrev pub sized : Payload → Piece
 sized w = record {
   Fits = (length w.text < 2 ^ 32) × w.Fits;
   Cause = λ fault. size_cause (length w.text) fault ⊎ w.Cause fault;

@@ -14,14 +14,14 @@ use Rattle.wenc_base.specs.declared.holder.openings.Opening.{Opening}
 
 -- What contracts see of a holder: the bytes that it keeps in front, which are not its own, how many
 -- members it has, their texts, and, while one is being written, where that begins.
-pub record Held : Type 0 where
+pub record HolderState : Type 0 where
   pub kept : List ℕ
   pub count : ℕ
   pub body : List ℕ
   pub opening : Option Opening
 
 -- no member is being written
-abbrev pub is_finished : Held → Bool
+abbrev pub is_finished : HolderState → Bool
 is_finished h = is_none h.opening
 
 -- where it begins is at most the size of a section
@@ -30,33 +30,33 @@ OpeningFits None = Unit {0}
 OpeningFits (Some o) = o.member_start < 2 ^ 32
 
 -- finished, with these bytes
-abbrev pub holding : List ℕ → ℕ → List ℕ → Held
+abbrev pub holding : List ℕ → ℕ → List ℕ → HolderState
 holding kept count body = record { kept = kept; count = count; body = body; opening = None }
 
 -- a holder without members
-abbrev pub no_members : Held
+abbrev pub no_members : HolderState
 no_members = holding [] 0 []
 
 -- one member more, with this text
-abbrev pub with_member : Held → List ℕ → Held
+abbrev pub with_member : HolderState → List ℕ → HolderState
 with_member h text =
     record { kept = h.kept; count = h.count + 1; body = h.body ++ text; opening = h.opening }
 
 -- the first members, whose texts are the first bytes
-abbrev pub cut_to : Held → ℕ → ℕ → Held
+abbrev pub cut_to : HolderState → ℕ → ℕ → HolderState
 cut_to h count size =
     record { kept = h.kept; count = count; body = take size h.body; opening = h.opening }
 
 -- the kept bytes, then those of the members
-abbrev pub all_bytes : Held → List ℕ
+abbrev pub all_bytes : HolderState → List ℕ
 all_bytes h = h.kept ++ h.body
 
 -- the same members behind other bytes
-abbrev pub with_kept : Held → List ℕ → Held
+abbrev pub with_kept : HolderState → List ℕ → HolderState
 with_kept h kept = record { kept = kept; count = h.count; body = h.body; opening = h.opening }
 
 -- the first bytes of all, of which some are kept, and the others are the texts of so many members
-abbrev pub gone_back : Held → ℕ → ℕ → ℕ → Held
+abbrev pub gone_back : HolderState → ℕ → ℕ → ℕ → HolderState
 gone_back h kept len count =
     holding (take kept (all_bytes h)) count (drop kept (take len (all_bytes h)))
 
@@ -65,14 +65,14 @@ abbrev pub filled : List ℕ → ℕ → ℕ → List ℕ → List ℕ
 filled bytes start end head = take start bytes ++ (head ++ drop end bytes)
 
 -- It has just these members, each with its text, and they can be encoded.
-pub record Contains {A : Type 0} (form : Form A) (h : Held) (members : List A) : Type 0 where
+pub record Contains {A : Type 0} (form : Form A) (h : HolderState) (members : List A) : Type 0 where
   pub finished : is_finished h ≡ true
   pub count : length members ≡ h.count
   pub body : h.body ≡ flat_map (λ v. (form v).text) members
   pub fit : AllByRecursion (λ v. (form v).Fits) members
 
 -- It has some members, each of which is such a text.
-pub record ContainsSome (IsMember : List ℕ → Type 0) (h : Held) : Type 0 where
+pub record ContainsSome (IsMember : List ℕ → Type 0) (h : HolderState) : Type 0 where
   pub members : List (List ℕ)
   pub contained : Contains verbatim h members
   pub each : AllByRecursion IsMember members
@@ -82,43 +82,43 @@ abbrev pub content_size : ℕ → ℕ → ℕ
 content_size count body = number_size count + body
 
 -- how many members, then the members
-abbrev pub held_text : Held → List ℕ
+abbrev pub held_text : HolderState → List ℕ
 held_text h = unsigned_text h.count ++ h.body
 
 -- a counted section: how many bytes, how many members, the members (component model, binary format,
 -- `vec`)
-abbrev pub section_text : Held → List ℕ
+abbrev pub section_text : HolderState → List ℕ
 section_text h = unsigned_text (content_size h.count (length h.body)) ++ held_text h
 
 -- why a section can't be written: it isn't finished
-abbrev pub EncodeCause : Held → Fault → Type 0
+abbrev pub EncodeCause : HolderState → Fault → Type 0
 EncodeCause h fault = (fault ≡ Unfinished) × (is_finished h ≡ false)
 
 -- ---- adding a member
 
 -- Why one member more can't be counted, with which all texts have so many bytes.
-abbrev pub CountCause : ℕ → ℕ → Fault → Type 0
-CountCause count size (Memory e) = ⊥
-CountCause count size TooMany = 2 ^ 32 ≤ count + 1
-CountCause count size TooLarge = 2 ^ 32 ≤ content_size (count + 1) size
-CountCause count size Unfinished = ⊥
+abbrev pub OneMoreCause : ℕ → ℕ → Fault → Type 0
+OneMoreCause count size (Memory e) = ⊥
+OneMoreCause count size TooMany = 2 ^ 32 ≤ count + 1
+OneMoreCause count size TooLarge = 2 ^ 32 ≤ content_size (count + 1) size
+OneMoreCause count size Unfinished = ⊥
 
 -- Why a member with this text can't be added: for its own cause, for number or size, or since one
 -- is being written.
-abbrev pub AddCause : Held → List ℕ → (Fault → Type 0) → Fault → Type 0
+abbrev pub AddCause : HolderState → List ℕ → (Fault → Type 0) → Fault → Type 0
 AddCause h text cause fault =
     cause fault ⊎
-    (CountCause h.count (length (h.body ++ text)) fault ⊎
+    (OneMoreCause h.count (length (h.body ++ text)) fault ⊎
     ((fault ≡ Unfinished) × (is_finished h ≡ false)))
 
 -- This piece was added as a member, fits, and nothing stood against it.
-pub record Accepted (p : Piece) (old new : Held) : Type 0 where
+pub record Accepted (p : Piece) (old new : HolderState) : Type 0 where
   pub state : new ≡ with_member old p.text
   pub fits : p.Fits
   pub free : NoCause (AddCause old p.text p.Cause)
 
 -- A call adds this piece as a member, or is refused for a cause and changes nothing.
-pub record AddsMember (p : Piece) (old new : Held)
+pub record AddsMember (p : Piece) (old new : HolderState)
     (outcome : Result (Unit {0}) Fault) : Type 0 where
   pub ok : OnOk outcome (Accepted p old new)
   pub err : OnErr outcome (new ≡ old)
@@ -127,7 +127,7 @@ pub record AddsMember (p : Piece) (old new : Held)
 
 -- The same where the piece is made of the values that an iterator gives.
 pub record AddsListed {S B : Type 0} (steps : S → Option B → S → Type 0) (values : S)
-    (piece : List B → Piece) (old new : Held) (outcome : Result (Unit {0}) Fault) : Type 0 where
+    (piece : List B → Piece) (old new : HolderState) (outcome : Result (Unit {0}) Fault) : Type 0 where
   pub ok : OnOk outcome
       (WholeRun steps values (λ run. Accepted (piece run.items) old new))
   pub err : OnErr outcome (new ≡ old)
@@ -141,9 +141,9 @@ abbrev pub listed : {A : Type 0} → Piece → Form A → Piece → Form (List A
 listed lead form tail vs = lead ⨾ list form vs ⨾ tail
 
 -- how many members, then the members, which are taken as they are
-abbrev pub held : Held → Piece
-held h = refused_for (EncodeCause h) (u32 h.count ⨾ verbatim h.body)
+abbrev pub held_members : HolderState → Piece
+held_members h = refused_for (EncodeCause h) (u32 h.count ⨾ verbatim h.body)
 
 -- the section of the members, which are taken as they are
-abbrev pub held_section : Held → Piece
+abbrev pub held_section : HolderState → Piece
 held_section h = refused_for (EncodeCause h) (verbatim (section_text h))

@@ -7,18 +7,18 @@ use Rattle.wenc_base.specs.Number.{u32}
 use Rattle.wenc_base.specs.Forms.{name as name_form, list}
 
 -- a name, and the place of what it names
-pub record Named : Type 0 where
+pub record NameAssociation : Type 0 where
   pub place : ℕ
   pub name : List ℕ
 
 -- as it stands in a name map
-abbrev pub named : Form Named
-named n = u32 n.place ⨾ name_form n.name
+abbrev pub name_association : Form NameAssociation
+name_association n = u32 n.place ⨾ name_form n.name
 
 -- names one behind the other
-abbrev pub names_text : List Named → List ℕ
-names_text ns = flat_map (λ n. (named n).text) ns
+abbrev pub names_text : List NameAssociation → List ℕ
+names_text ns = flat_map (λ n. (name_association n).text) ns
 
 -- how many names, then each
-abbrev pub name_map : Form (List Named)
-name_map ns = list named ns
+abbrev pub name_map : Form (List NameAssociation)
+name_map ns = list name_association ns

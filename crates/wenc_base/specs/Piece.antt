@@ -25,7 +25,7 @@ abbrev pub Form : Type 0 → Type 1
 Form A = A → Piece
 
 -- What has no end of its own: it is all of the bytes that it is given.
-pub record Whole : Type 1 where
+pub record Payload : Type 1 where
   pub Fits : Type 0
   pub Cause : Fault → Type 0
   pub text : List ℕ
@@ -147,7 +147,7 @@ each form vs = record {
 -- ---- wholes
 
 -- a piece that is all of the bytes
-abbrev pub all_of : Piece → Whole
+abbrev pub all_of : Piece → Payload
 all_of p = record {
   Fits = p.Fits;
   Cause = p.Cause;
@@ -156,7 +156,7 @@ all_of p = record {
 }
 
 -- no byte
-abbrev pub end : Whole
+abbrev pub end : Payload
 end = record {
   Fits = Unit {0};
   Cause = λ fault. ⊥;
@@ -165,7 +165,7 @@ end = record {
 }
 
 -- these bytes, of which P holds
-abbrev pub raw : (List ℕ → Type 0) → List ℕ → Whole
+abbrev pub raw : (List ℕ → Type 0) → List ℕ → Payload
 raw P bs = record {
   Fits = P bs;
   Cause = λ fault. ⊥;
@@ -175,7 +175,7 @@ raw P bs = record {
 
 -- a piece, then the rest of the bytes
 infixr 60 ◌⨾⨾◌
-abbrev pub ◌⨾⨾◌ : Piece → Whole → Whole
+abbrev pub ◌⨾⨾◌ : Piece → Payload → Payload
 p ⨾⨾ w = record {
   Fits = p.Fits × w.Fits;
   Cause = λ fault. p.Cause fault ⊎ w.Cause fault;

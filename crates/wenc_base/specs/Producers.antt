@@ -3,7 +3,7 @@ use Rattle.std.specs.Prelude.{◌≡◌, ℕ, ◌+◌, ◌≤◌, ◌^◌, List,
 use Rattle.wenc_base.specs.Piece.{Piece, Form, refused_for, ◌⨾◌, all_of, ◌⨾⨾◌}
 use Rattle.wenc_base.specs.Forms.{name, list, sized}
 use Rattle.wenc_base.specs.Fault.{either}
-use Rattle.wenc_base.specs.Holder.{Held, held, content_size, EncodeCause}
+use Rattle.wenc_base.specs.Holder.{HolderState, held_members, content_size, EncodeCause}
 use Rattle.wenc_base.specs.declared.fault.Fault.{Fault}
 use Rattle.wenc_base.specs.declared.fault.Fault.TheVariants.{TooLarge}
 
@@ -31,16 +31,16 @@ producers_label = 0x70 ∷ 0x72 ∷ 0x6f ∷ 0x64 ∷ 0x75 ∷ 0x63 ∷ 0x65 ∷
 abbrev pub producers_section : Form (List Producers)
 producers_section fields = sized (name producers_label ⨾⨾ all_of (list producers_field fields))
 
--- the same section, where its fields are held
-abbrev pub producers_held : Held → Piece
-producers_held h = refused_for (EncodeCause h) (sized (name producers_label ⨾⨾ all_of (held h)))
+-- the same section, where its fields are held_members
+abbrev pub producers_held : HolderState → Piece
+producers_held h = refused_for (EncodeCause h) (sized (name producers_label ⨾⨾ all_of (held_members h)))
 
--- a field with the tools that are held
-abbrev pub held_field : List ℕ → Held → Piece
-held_field field tools = name field ⨾ held tools
+-- a field with the tools that are held_members
+abbrev pub held_field : List ℕ → HolderState → Piece
+held_field field tools = name field ⨾ held_members tools
 
 -- Why such a field can't be added: for its own cause, or since the section's size would be no
 -- number of 32 bits.
-abbrev pub FieldCause : Held → List ℕ → Held → Fault → Type 0
+abbrev pub FieldCause : HolderState → List ℕ → HolderState → Fault → Type 0
 FieldCause h field tools = either (held_field field tools).Cause (λ fault. (fault ≡ TooLarge) ×
     (2 ^ 32 ≤ 10 + content_size (h.count + 1) (length (h.body ++ (held_field field tools).text))))

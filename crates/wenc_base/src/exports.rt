@@ -32,9 +32,9 @@ fn kind_byte(kind: ExportKind) -> u8
 }
 
 impl Encode for ExportKind {
-    ghost use Rattle.wenc_base.specs.Exports.{export_kind};
+    ghost use Rattle.wenc_base.specs.Exports.{core_export_kind};
 
-    ghost piece = { λ kind. export_kind kind };
+    ghost piece = { λ kind. core_export_kind kind };
 
     fn encode<A: Allocator>(&self, sink: &mut Vec<u8, A>) -> Result<(), Fault> {
         sink.push(kind_byte(*self))?;
@@ -43,17 +43,17 @@ impl Encode for ExportKind {
 }
 
 impl Delimited for ExportKind {
-    ghost use Rattle.wenc_base.specs.Exports.{export_kind};
-    ghost use Rattle.wenc_base.specs.laws.Exports.{read_export_kind, export_kind_lawful};
+    ghost use Rattle.wenc_base.specs.Exports.{core_export_kind};
+    ghost use Rattle.wenc_base.specs.laws.Exports.{read_core_export_kind, core_export_kind_lawful};
     ghost use Rattle.wenc_base.specs.declared.exports.ExportKind.{ExportKind as Seen'};
 
     ghost Seen = { Seen' };
 
     ghost seen = { λ kind. kind };
 
-    ghost form = { export_kind };
+    ghost form = { core_export_kind };
 
-    ghost readable = { ((λ fuel. read_export_kind), export_kind_lawful) };
+    ghost readable = { ((λ fuel. read_core_export_kind), core_export_kind_lawful) };
 
     ghost written = { λ _. serves_itself };
 }

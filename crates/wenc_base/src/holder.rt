@@ -3,7 +3,7 @@ ghost use Rattle.std.specs.Iterator.{IsFinite};
 ghost use Rattle.std.specs.Iterator.Runs.{SomeRun, WholeRun};
 ghost use Rattle.wenc_base.specs.Encode.{Appends, Appended};
 ghost use Rattle.wenc_base.specs.Fault.{IsWarranted, IsMemory};
-ghost use Rattle.wenc_base.specs.Holder.{no_members, all_bytes, holding, is_finished, content_size, section_text, cut_to, CountCause, AddsMember, AddsListed, listed, held, EncodeCause};
+ghost use Rattle.wenc_base.specs.Holder.{no_members, all_bytes, holding, is_finished, content_size, section_text, cut_to, OneMoreCause, AddsMember, AddsListed, listed, held_members, EncodeCause};
 ghost use Rattle.wenc_base.specs.Piece.{verbatim};
 ghost use Rattle.wenc_base.specs.declared.fault.Fault.{Fault as FaultSpec};
 ghost use Rattle.wenc_base.specs.declared.fault.Fault.TheVariants.{TooLarge, Unfinished};
@@ -56,9 +56,9 @@ pub struct Holder<A: Allocator = Global> {
 
 impl<A: Allocator> Model for Holder<A> {
     ghost use Rattle.std.specs.Prelude.{◌<◌, ◌≤◌, ◌^◌, length, take, drop};
-    ghost use Rattle.wenc_base.specs.Holder.{Held, content_size, OpeningFits};
+    ghost use Rattle.wenc_base.specs.Holder.{HolderState, content_size, OpeningFits};
 
-    ghost Value = { Held };
+    ghost Value = { HolderState };
 
     ghost view = { λ h. record {
       kept = take h.kept h.bytes.items;
@@ -239,7 +239,7 @@ impl<A: Allocator> Holder<A> {
 
 /// The number of members, and their texts. A finished one is refused for want of memory alone.
 impl<A: Allocator> Encode for Holder<A> {
-    ghost piece = { held };
+    ghost piece = { held_members };
 
     ghost unfinished = { λ h. is_finished h ≡ false };
 
@@ -297,8 +297,8 @@ fn end_member<A: Allocator>(
     ensures same { OnOk result (bytes.new.items ≡ bytes.old.items) }
     ensures err { OnErr result (bytes.new.items ≡ take start bytes.old.items) }
     ensures free { (fault : FaultSpec)
-        → CountCause count (length (drop kept bytes.old.items)) fault → OnOk result ⊥ }
-    ensures warranted { IfErr result (CountCause count (length (drop kept bytes.old.items))) }
+        → OneMoreCause count (length (drop kept bytes.old.items)) fault → OnOk result ⊥ }
+    ensures warranted { IfErr result (OneMoreCause count (length (drop kept bytes.old.items))) }
 {
     match next_count(count, bytes.len() - kept) {
         Ok(next) => Ok(next),
@@ -312,8 +312,8 @@ fn end_member<A: Allocator>(
 /// The number of members with one more, with which their texts have `body` bytes.
 pub(crate) fn next_count(count: u32, body: usize) -> Result<u32, Fault>
     ensures ok { IfOk result (λ next. (next ≡ count + 1) × (content_size next body < 2 ^ 32)) }
-    ensures free { (fault : FaultSpec) → CountCause count body fault → OnOk result ⊥ }
-    ensures warranted { IfErr result (CountCause count body) }
+    ensures free { (fault : FaultSpec) → OneMoreCause count body fault → OnOk result ⊥ }
+    ensures warranted { IfErr result (OneMoreCause count body) }
 {
     let Some(next) = count.checked_add(1) else {
         return Err(Fault::TooMany);

@@ -104,21 +104,21 @@ pub trait Lender {
 
 impl<A: Allocator> Lender for Holder<A> {
     ghost use Rattle.wenc_base.specs.Holder.{is_finished};
-    ghost use Rattle.wenc_base.specs.Openings.{lengthened, closed, no_room, is_opened};
+    ghost use Rattle.wenc_base.specs.Openings.{member_appended, member_ended, no_room_in_holder, is_bare};
     ghost use Rattle.wenc_base.specs.laws.Holders.{opened_is_unfinished, lengthened_twice};
 
     ghost finished = { is_finished };
 
-    ghost opened = { is_opened };
+    ghost opened = { is_bare };
 
-    ghost written = { lengthened };
+    ghost written = { member_appended };
 
     // Its members are any bytes.
     ghost is_whole = { λ _. Unit {0} };
 
-    ghost ended = { closed };
+    ghost ended = { member_ended };
 
-    ghost refuses = { no_room };
+    ghost refuses = { no_room_in_holder };
 
     ghost begins = { opened_is_unfinished };
 

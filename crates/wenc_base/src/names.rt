@@ -1,7 +1,7 @@
 ghost use Rattle.std.specs.Prelude.{◌≡◌, ◌==◌, ◌<◌, ◌≤◌, ◌^◌, [], length, IfOk, IfErr};
 ghost use Rattle.wenc_base.specs.Fault.{IsMemory};
 ghost use Rattle.wenc_base.specs.Holder.{no_members, holding, held_text, cut_to, AddsMember};
-ghost use Rattle.wenc_base.specs.Names.{Named, named};
+ghost use Rattle.wenc_base.specs.Names.{NameAssociation, name_association};
 
 use crate::encode::{Encode, Verbatim, extend_in_room, number_in_room, short_number_in_room};
 use crate::fault::Fault;
@@ -27,9 +27,9 @@ pub struct NameMap<A: Allocator = Global> {
 
 impl<A: Allocator> Model for NameMap<A> {
     ghost use Rattle.std.specs.Prelude.{◌<◌, ◌^◌, [], length};
-    ghost use Rattle.wenc_base.specs.Holder.{Held, holding, content_size};
+    ghost use Rattle.wenc_base.specs.Holder.{HolderState, holding, content_size};
 
-    ghost Value = { Held };
+    ghost Value = { HolderState };
 
     ghost view = { λ m. holding [] m.count m.names.items };
 
@@ -55,8 +55,8 @@ impl<A: Allocator> NameMap<A> {
     /// too many names (`TooMany`), or too many bytes in the name or in the map (`TooLarge`).
     #[tactic(auto, using(crate::proofs::Groups::size_of_u32))]
     pub fn append(&mut self, idx: u32, name: &str) -> Result<(), Fault>
-        ensures { let entry : Named = record { place = idx; name = name.now } in
-            AddsMember (named entry) self.old self.new result }
+        ensures { let entry : NameAssociation = record { place = idx; name = name.now } in
+            AddsMember (name_association entry) self.old self.new result }
     {
         if name.len() < 1 << 7 && self.names.len() < NEARLY_FULL && self.count < u32::MAX {
             self.names.try_reserve(6 + name.len())?;
@@ -74,8 +74,8 @@ impl<A: Allocator> NameMap<A> {
     #[cold]
     #[inline(never)]
     fn append_long(&mut self, idx: u32, name: &str) -> Result<(), Fault>
-        ensures { let entry : Named = record { place = idx; name = name.now } in
-            AddsMember (named entry) self.old self.new result }
+        ensures { let entry : NameAssociation = record { place = idx; name = name.now } in
+            AddsMember (name_association entry) self.old self.new result }
     {
         let body = self.names.len();
         let Ok(len) = u32::try_from(name.len()) else {

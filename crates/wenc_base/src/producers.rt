@@ -1,6 +1,6 @@
 ghost use Rattle.std.specs.Prelude.{◌≡◌, ◌<◌, ◌+◌, ◌^◌, List, false, length, IfOk, IfErr};
 ghost use Rattle.wenc_base.specs.Fault.{IsMemory};
-ghost use Rattle.wenc_base.specs.Holder.{no_members, is_finished, held, Contains, AddsMember};
+ghost use Rattle.wenc_base.specs.Holder.{no_members, is_finished, held_members, Contains, AddsMember};
 ghost use Rattle.wenc_base.specs.Piece.{refused_for};
 ghost use Rattle.wenc_base.specs.declared.fault.Fault.TheVariants.{Unfinished};
 ghost use Rattle.wenc_base.specs.Producers.{Producer, producer, producers_field, producers_held, FieldCause, held_field};
@@ -23,9 +23,9 @@ pub struct ProducersField<A: Allocator = Global> {
 }
 
 impl<A: Allocator> Model for ProducersField<A> {
-    ghost use Rattle.wenc_base.specs.Holder.{Held};
+    ghost use Rattle.wenc_base.specs.Holder.{HolderState};
 
-    ghost Value = { Held };
+    ghost Value = { HolderState };
 
     ghost view = { λ f. f.values };
 }
@@ -64,7 +64,7 @@ impl<A: Allocator> ProducersField<A> {
 
 /// The number of tools, and each. A finished one is refused for want of memory alone.
 impl<A: Allocator> Encode for ProducersField<A> {
-    ghost piece = { held };
+    ghost piece = { held_members };
 
     ghost unfinished = { λ f. is_finished f ≡ false };
 
@@ -89,9 +89,9 @@ pub struct ProducersSection<A: Allocator = Global> {
 
 impl<A: Allocator> Model for ProducersSection<A> {
     ghost use Rattle.std.specs.Prelude.{◌<◌, ◌+◌, ◌^◌, length};
-    ghost use Rattle.wenc_base.specs.Holder.{Held, content_size};
+    ghost use Rattle.wenc_base.specs.Holder.{HolderState, content_size};
 
-    ghost Value = { Held };
+    ghost Value = { HolderState };
 
     ghost view = { λ s. s.fields };
 

@@ -10,20 +10,20 @@ use Rattle.wenc_builder.specs.Builder.{State, Namespace, no_names, namespace_at,
 use Rattle.wenc_builder.specs.Cause.{SpaceCause, CallCause}
 use Rattle.wenc_builder.specs.inside.Takes.{TakesAlone, TakesNoPlace, with_alone}
 use Rattle.wenc_builder.specs.inside.Layout.{Buffered}
-use Rattle.wenc_builder.specs.Space.{Defined}
+use Rattle.wenc_builder.specs.Space.{Indices}
 use Rattle.wenc_builder.specs.inside.Spaces.{Spaced}
 use Rattle.wenc_builder.specs.inside.View.{Agree, builder_view}
 use Rattle.wenc_builder.proofs.Taken.{settled_before}
 
 -- its space, as it is with it
-abbrev pub space_after : State → Defined → Option (List ℕ) → Namespace
+abbrev pub space_after : State → Indices → Option (List ℕ) → Namespace
 space_after s d name = namespace_with (namespace_at s.settled.spaces d.space) d.number name
 
-there : (old : State) (d : Defined) (name : Option (List ℕ)) (text : List ℕ) → length old.settled.spaces ≡ 13 → d.space < 13
+there : (old : State) (d : Indices) (name : Option (List ℕ)) (text : List ℕ) → length old.settled.spaces ≡ 13 → d.space < 13
     → namespace_at (with_alone old.settled (Some d) name text).spaces d.space ≡ space_after old d name
 there old d name text h l = get_or-set_same old.settled.spaces d.space (space_after old d name) no_names (omega arith)
 
-pub alone_without_places : (b : Buffered) (s : Spaced) (old new : State) (fault : Fault) (d : Defined) (name : Option (List ℕ)) (p : Piece) → Agree b.writing s.taking → builder_view b s ≡ old
+pub alone_without_places : (b : Buffered) (s : Spaced) (old new : State) (fault : Fault) (d : Indices) (name : Option (List ℕ)) (p : Piece) → Agree b.writing s.taking → builder_view b s ≡ old
     → is_none b.writing ≡ true → new ≡ old → length old.settled.spaces ≡ 13 → d.space < 13 → IsWarranted (SpaceCause (space_after old d name)) fault
     → TakesAlone old new (Err fault) d name p
 alone_without_places b s old new fault d name p a view w same all within refused = record {
@@ -39,7 +39,7 @@ alone_without_places b s old new fault d name p a view w same all within refused
     refuses : (f : Fault) → SpaceCause (space_after old d name) f → CallCause old p.Cause (with_alone old.settled (Some d) name p.text) (Some d) f
     refuses f c = inl (inr (inl (subst (λ (n : Namespace). SpaceCause n f) (sym (there old d name p.text all within)) c)))
 
-pub alone_refused : (b : Buffered) (s : Spaced) (old new : State) (fault : Fault) (d : Defined) (name : Option (List ℕ)) (p : Piece) → Agree b.writing s.taking → builder_view b s ≡ old
+pub alone_refused : (b : Buffered) (s : Spaced) (old new : State) (fault : Fault) (d : Indices) (name : Option (List ℕ)) (p : Piece) → Agree b.writing s.taking → builder_view b s ≡ old
     → is_none b.writing ≡ true → new ≡ old → IsWarranted p.Cause fault
     → TakesAlone old new (Err fault) d name p
 alone_refused b s old new fault d name p a view w same refused = record {
@@ -55,7 +55,7 @@ alone_refused b s old new fault d name p a view w same refused = record {
     refuses : (f : Fault) → p.Cause f → CallCause old p.Cause (with_alone old.settled (Some d) name p.text) (Some d) f
     refuses f c = inl (inl c)
 
-pub alone_taken : (b : Buffered) (s : Spaced) (old new : State) (index : ℕ) (d : Defined) (name : Option (List ℕ)) (p : Piece) → Agree b.writing s.taking → builder_view b s ≡ old
+pub alone_taken : (b : Buffered) (s : Spaced) (old new : State) (index : ℕ) (d : Indices) (name : Option (List ℕ)) (p : Piece) → Agree b.writing s.taking → builder_view b s ≡ old
     → is_none b.writing ≡ true → new ≡ record { settled = with_alone old.settled (Some d) name p.text; begun = None }
     → index ≡ (namespace_at old.settled.spaces d.space).count → length old.settled.spaces ≡ 13 → d.space < 13
     → p.Fits → NoCause (SpaceCause (space_after old d name)) → NoCause p.Cause

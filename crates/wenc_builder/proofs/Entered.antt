@@ -8,12 +8,12 @@ use Rattle.wenc_base.specs.declared.fault.Fault.{Fault}
 use Rattle.wenc_base.specs.declared.fault.Fault.TheVariants.{Memory, TooMany, TooLarge, Unfinished}
 use Rattle.wenc_base.specs.laws.Serves.{still_warranted}
 use Rattle.wenc_builder.specs.Item.{collected, item}
-use Rattle.wenc_builder.specs.Space.{IsPlaceOf, Defined, defines}
+use Rattle.wenc_builder.specs.Space.{IsIndexOf, Indices, defines}
 use Rattle.wenc_builder.specs.Entry.{Entry, items}
-use Rattle.wenc_builder.specs.Builder.{Content, with_entry, State, builder_is_finished, step, settled_in, content_of, namespace_at, Draft, draft, draft_place, begun_with, ended}
+use Rattle.wenc_builder.specs.Builder.{Content, with_entry, State, builder_is_finished, step, settled_in, content_of, namespace_at, Draft, draft, draft_indices, item_begun, item_ended}
 use Rattle.wenc_builder.specs.Holds.{Holds}
 use Rattle.wenc_builder.specs.Cause.{CallCause, EnterCause}
-use Rattle.wenc_builder.specs.Enters.{IsCountAt, EntersWith, Enters, EntersPlaceless, TakesWith, Takes, TakesDraft}
+use Rattle.wenc_builder.specs.Enters.{IsCountAt, EntersWith, Enters, EntersWithoutIndex, TakesWith, Takes, TakesDraft}
 use Rattle.wenc_builder.specs.inside.Takes.{TakesAlone, TakesNoPlace, with_alone}
 use Rattle.wenc_builder.specs.laws.Caused.{adding_never_unfinished}
 use Rattle.wenc_builder.specs.laws.Fits.{HasRoom}
@@ -22,7 +22,7 @@ use Rattle.wenc_builder.specs.laws.Step.{holds_step, holds_index, places_within}
 use Rattle.wenc_builder.specs.laws.Typed.{drafted}
 
 -- This content is the one with this entry, which takes these places.
-pub record IsEntry (old : State) (x : Entry) (after : Content) (places : Option Defined) : Type 0 where
+pub record IsEntry (old : State) (x : Entry) (after : Content) (places : Option Indices) : Type 0 where
   pub content : after ≡ with_entry old.settled x
   pub defined : defines x.item ≡ places
 
@@ -33,37 +33,37 @@ pub record IsDraftOf (x : Entry) (id space : ℕ) (name : Option (List ℕ)) : T
   pub named : x.name ≡ name
 
 -- This entry's item stands alone, takes these places, and has this name or none.
-pub record IsAloneOf (x : Entry) (places : Option Defined) (name : Option (List ℕ)) : Type 0 where
+pub record IsAloneOf (x : Entry) (places : Option Indices) (name : Option (List ℕ)) : Type 0 where
   pub alone : collected x.item ≡ None
   pub defined : defines x.item ≡ places
   pub named : x.name ≡ name
 
 draft_is : {p : Piece} (old : State) (x : Entry) (id space : ℕ) (name : Option (List ℕ)) → IsDraftOf x id space name → Serves p (item x.item)
-    → IsEntry old x (content_of (begun_with old (draft id space name p.text))) (Some (record { space = space; number = 1 }))
+    → IsEntry old x (content_of (item_begun old (draft id space name p.text))) (Some (record { space = space; number = 1 }))
 draft_is {p} old x id space name w s = record { content = drafted old x (draft id space name p.text) w.section w.defined w.named (sym s.text); defined = w.defined }
 
-alone_is : {p : Piece} (old : State) (x : Entry) (places : Option Defined) (name : Option (List ℕ)) → IsAloneOf x places name → Serves p (item x.item)
+alone_is : {p : Piece} (old : State) (x : Entry) (places : Option Indices) (name : Option (List ℕ)) → IsAloneOf x places name → Serves p (item x.item)
     → IsEntry old x (with_alone old.settled places name p.text) places
 alone_is old x places name w s = record { content = rw (w.alone, w.defined, w.named, s.text) refl; defined = w.defined }
 
 -- ---- its causes
 
-same_call : (old : State) (one other : Fault → Type 0) (after : Content) (places : Option Defined) (fault : Fault) → (one fault → other fault) → CallCause old one after places fault → CallCause old other after places fault
+same_call : (old : State) (one other : Fault → Type 0) (after : Content) (places : Option Indices) (fault : Fault) → (one fault → other fault) → CallCause old one after places fault → CallCause old other after places fault
 same_call old one other after places fault f (inl (inl c)) = inl (inl (f c))
 same_call old one other after places fault f (inl (inr c)) = inl (inr c)
 same_call old one other after places fault f (inr c) = inr c
 
-module _ {p : Piece} (old : State) (x : Entry) (after : Content) (places : Option Defined) (w : IsEntry old x after places) (s : Serves p (item x.item)) where
+module _ {p : Piece} (old : State) (x : Entry) (after : Content) (places : Option Indices) (w : IsEntry old x after places) (s : Serves p (item x.item)) where
   to_entry : (fault : Fault) → CallCause old p.Cause after places fault → EnterCause old x fault
   to_entry fault c =
       let P : Content → Type 0 = λ k. CallCause old p.Cause k places fault in
-      let Q : Option Defined → Type 0 = λ k. CallCause old p.Cause (with_entry old.settled x) k fault in
+      let Q : Option Indices → Type 0 = λ k. CallCause old p.Cause (with_entry old.settled x) k fault in
       same_call old p.Cause (item x.item).Cause (with_entry old.settled x) (defines x.item) fault (s.among fault) (subst Q (sym w.defined) (subst P w.content c))
 
   from_entry : NoCause (item x.item).Cause → (fault : Fault) → EnterCause old x fault → CallCause old p.Cause after places fault
   from_entry none fault c =
       let P : Content → Type 0 = λ k. CallCause old p.Cause k places fault in
-      let Q : Option Defined → Type 0 = λ k. CallCause old p.Cause (with_entry old.settled x) k fault in
+      let Q : Option Indices → Type 0 = λ k. CallCause old p.Cause (with_entry old.settled x) k fault in
       subst P (sym w.content) (subst Q w.defined (same_call old (item x.item).Cause p.Cause (with_entry old.settled x) (defines x.item) fault (λ own. absurd (none fault own)) c))
 
   -- nothing is against the entry where nothing was against the call
@@ -78,7 +78,7 @@ only_unfinished old x (inr c) = c.1
 
 -- ---- its call
 
-pub enters : {R : Type 0} {p : Piece} (old new next : State) (result : Result R Fault) (x : Entry) (after : Content) (places : Option Defined) (Told : R → Type 0) (Tells : List Entry → R → Type 0) (Counts : Option Defined → R → Type 0)
+pub enters : {R : Type 0} {p : Piece} (old new next : State) (result : Result R Fault) (x : Entry) (after : Content) (places : Option Indices) (Told : R → Type 0) (Tells : List Entry → R → Type 0) (Counts : Option Indices → R → Type 0)
     → IsEntry old x after places → Serves p (item x.item) → next ≡ settled_in after → ((es : List Entry) → Holds old es → (r : R) → Told r → Tells es r) → ((r : R) → Told r → Counts places r)
     → TakesWith old new next result after places p Told → EntersWith old new result x Tells Counts
 enters {R} {p} old new next result x after places Told Tells Counts w s done tells counts t = record {
@@ -107,7 +107,7 @@ enters {R} {p} old new next result x after places Told Tells Counts w s done tel
     state (Err fault) e = tt
 
     counted : (r : Result R Fault) → IfOk r Told → IfOk r (Counts (defines x.item))
-    counted (Ok a) f = subst (λ (o : Option Defined). Counts o a) (sym w.defined) (counts a f)
+    counted (Ok a) f = subst (λ (o : Option Indices). Counts o a) (sym w.defined) (counts a f)
     counted (Err fault) f = tt
 
     fits : (r : Result R Fault) → OnOk r p.Fits → OnOk r (item x.item).Fits
@@ -130,29 +130,29 @@ enters {R} {p} old new next result x after places Told Tells Counts w s done tel
     only (Err Unfinished) f e = only_unfinished old x (to_entry old x after places w s Unfinished f)
 
 -- the number of items in a space is the place of what comes next
-place_told : (old : State) (x : Entry) (d : Defined) → defines x.item ≡ Some d → (es : List Entry) → Holds old es → (i : ℕ) → i ≡ (namespace_at old.settled.spaces d.space).count → IsPlaceOf (items es) x.item i
+place_told : (old : State) (x : Entry) (d : Indices) → defines x.item ≡ Some d → (es : List Entry) → Holds old es → (i : ℕ) → i ≡ (namespace_at old.settled.spaces d.space).count → IsIndexOf (items es) x.item i
 place_told old x d e es h i f = rw e (holds_index old es d.space i h (places_within x.item d e) f)
 
 pub draft_enters : {p : Piece} (old new : State) (result : Result ℕ Fault) (x : Entry) (id space : ℕ) (name : Option (List ℕ)) → IsDraftOf x id space name → Serves p (item x.item)
     → TakesDraft old new result (draft id space name) p → Enters old new result x
 draft_enters {p} old new result x id space name w s t =
     let d : Draft = draft id space name p.text in
-    enters old new (ended (begun_with old d)) result x (content_of (begun_with old d)) (Some (draft_place d)) _ _ (IsCountAt old) (draft_is old x id space name w s) s refl (place_told old x (draft_place d) w.defined) (λ i f. f) t
+    enters old new (item_ended (item_begun old d)) result x (content_of (item_begun old d)) (Some (draft_indices d)) _ _ (IsCountAt old) (draft_is old x id space name w s) s refl (place_told old x (draft_indices d) w.defined) (λ i f. f) t
 
-pub alone_enters : {p : Piece} (old new : State) (result : Result ℕ Fault) (x : Entry) (d : Defined) (name : Option (List ℕ)) → IsAloneOf x (Some d) name → Serves p (item x.item)
+pub alone_enters : {p : Piece} (old new : State) (result : Result ℕ Fault) (x : Entry) (d : Indices) (name : Option (List ℕ)) → IsAloneOf x (Some d) name → Serves p (item x.item)
     → TakesAlone old new result d name p → Enters old new result x
 alone_enters {p} old new result x d name w s t =
     let after = with_alone old.settled (Some d) name p.text in
     enters old new (settled_in after) result x after (Some d) _ _ (IsCountAt old) (alone_is old x (Some d) name w s) s refl (place_told old x d w.defined) (λ i f. f) t
 
-pub placeless_enters : {p : Piece} (old new : State) (result : Result (Unit {0}) Fault) (x : Entry) → IsAloneOf x None None → Serves p (item x.item) → TakesNoPlace old new result p → EntersPlaceless old new result x
+pub placeless_enters : {p : Piece} (old new : State) (result : Result (Unit {0}) Fault) (x : Entry) → IsAloneOf x None None → Serves p (item x.item) → TakesNoPlace old new result p → EntersWithoutIndex old new result x
 placeless_enters {p} old new result x w s t =
     let after = with_alone old.settled None None p.text in
     enters old new (settled_in after) result x after None _ _ (λ places r. Unit {0}) (alone_is old x None None w s) s refl (λ es h r u. tt) (λ r u. tt) t
 
 -- ---- a piece for another that has no cause where it fits
 
-takes_as : {R : Type 0} {p q : Piece} (old new next : State) (result : Result R Fault) (after : Content) (places : Option Defined) (Told : R → Type 0) → (p.Fits → q.Fits) → ((fault : Fault) → p.Cause fault → q.Cause fault)
+takes_as : {R : Type 0} {p q : Piece} (old new next : State) (result : Result R Fault) (after : Content) (places : Option Indices) (Told : R → Type 0) → (p.Fits → q.Fits) → ((fault : Fault) → p.Cause fault → q.Cause fault)
     → (q.Fits → NoCause q.Cause) → TakesWith old new next result after places p Told → TakesWith old new next result after places q Told
 takes_as {p} {q} old new next (Ok r) after places Told fits among lawful t = record {
   told = t.told;
@@ -182,12 +182,12 @@ pub draft_as : {p q : Piece} (old new : State) (result : Result ℕ Fault) (id s
     → (q.Fits → NoCause q.Cause) → TakesDraft old new result (draft id space name) p → TakesDraft old new result (draft id space name) q
 draft_as {p} {q} old new result id space name e fits among lawful t =
     let d : Draft = draft id space name p.text in
-    subst (λ (text : List ℕ). Takes old new (ended (begun_with old (draft id space name text))) result (draft id space name text) q) e
-    (takes_as old new (ended (begun_with old d)) result (content_of (begun_with old d)) (Some (draft_place d)) _ fits among lawful t)
+    subst (λ (text : List ℕ). Takes old new (item_ended (item_begun old (draft id space name text))) result (draft id space name text) q) e
+    (takes_as old new (item_ended (item_begun old d)) result (content_of (item_begun old d)) (Some (draft_indices d)) _ fits among lawful t)
 
 -- ---- refused before anything else
 
-pub unfinished_enters : {R : Type 0} {Tells : List Entry → R → Type 0} {Counts : Option Defined → R → Type 0} (old : State) (x : Entry) → builder_is_finished old ≡ false
+pub unfinished_enters : {R : Type 0} {Tells : List Entry → R → Type 0} {Counts : Option Indices → R → Type 0} (old : State) (x : Entry) → builder_is_finished old ≡ false
     → EntersWith old old (Err Unfinished) x Tells Counts
 unfinished_enters old x e = record {
   held = λ es h. tt;

@@ -4,11 +4,11 @@ use Rattle.std.proofs.lemmas.List.{take_at, drop_at, take_all, take-append-le, d
 use Rattle.std.proofs.lemmas.Bool.{ne_eqb, eq-eqb}
 use Rattle.std.specs.Result.{OnOk, IfErr}
 use Rattle.wenc_base.specs.Number.{number_size}
-use Rattle.wenc_base.specs.Holder.{Held, is_finished, holding, all_bytes, with_kept, content_size, AddCause}
+use Rattle.wenc_base.specs.Holder.{HolderState, is_finished, holding, all_bytes, with_kept, content_size, AddCause}
 use Rattle.wenc_base.specs.Lender.{Extends, ExtendsListed}
 use Rattle.wenc_base.specs.Piece.{Piece}
 use Rattle.wenc_base.specs.Fault.{NoCause, either}
-use Rattle.wenc_base.specs.Openings.{opened_with, lengthened, OpensMember, no_room}
+use Rattle.wenc_base.specs.Openings.{member_begun, member_appended, BeginsMember, no_room_in_holder}
 use Rattle.wenc_base.specs.laws.Serves.{still_warranted}
 use Rattle.wenc_base.specs.declared.holder.openings.Opening.{Opening}
 use Rattle.wenc_base.specs.declared.fault.Fault.{Fault}
@@ -17,7 +17,7 @@ use Rattle.wenc_base.proofs.Groups.{size_1}
 use Rattle.wenc_builder.specs.Builder.{OpenSection, Sections, sections_text, entered, entered_at}
 use Rattle.wenc_builder.specs.Cause.{SectionCause, NoRoom}
 use Rattle.wenc_builder.specs.laws.Caused.{cause_is}
-use Rattle.wenc_builder.specs.inside.Layout.{kind_id, open_head, OpensAnother, Buffered, buffered_content, buffer_appended, section_appended, buffer_with, SectionFits, open_view, earlier_view, buffer_view, kept_before, kept_with, SectionIsIn, MembersAreIn, OpeningIsIn, EarlierIsIn, IsApart, IsLaidOut}
+use Rattle.wenc_builder.specs.inside.Layout.{kind_id, open_head, OpensAnother, Buffered, buffered_content, buffer_appended, section_appended, buffer_with, SectionFits, open_view, earlier_view, buffer_view, kept_before, kept_with, SectionIsIn, MembersAreIn, BegunIsIn, EarlierIsIn, IsApart, IsLaidOut}
 use Rattle.wenc_builder.specs.declared.builder.earlier.Earlier.{Earlier}
 use Rattle.wenc_builder.specs.declared.builder.kind.Kind.{Kind}
 
@@ -27,25 +27,25 @@ size_of_one = size_1 1 (omega arith)
 -- ---- an item behind a gap
 
 -- nothing keeps an empty holder from an opening without a lead
-pub opens : (kept : List ℕ) (new : Held) (outcome : Result (Unit {0}) Fault) → OpensMember (holding kept 0 []) new outcome [] → IfErr outcome (AddCause (holding kept 0 []) [] (λ _. ⊥)) → outcome ≡ Ok tt
+pub opens : (kept : List ℕ) (new : HolderState) (outcome : Result (Unit {0}) Fault) → BeginsMember (holding kept 0 []) new outcome [] → IfErr outcome (AddCause (holding kept 0 []) [] (λ _. ⊥)) → outcome ≡ Ok tt
 opens kept new (Ok u) o none = refl
 opens kept new (Err (Memory e)) o none = absurd (elim none [ inl own ↦ own | inr more ↦ elim more [ inl count ↦ count | inr stopped ↦ cc ] ])
 opens kept new (Err TooMany) o none = absurd (elim none [ inl own ↦ own | inr more ↦ elim more [ inl count ↦ omega (arith, count) | inr stopped ↦ cc ] ])
 opens kept new (Err TooLarge) o none = absurd (elim none [ inl own ↦ own | inr more ↦ elim more [ inl count ↦ omega (arith, count, size_of_one) | inr stopped ↦ cc ] ])
 opens kept new (Err Unfinished) o none = absurd (elim none [ inl own ↦ own | inr more ↦ elim more [ inl count ↦ count | inr stopped ↦ cc ] ])
 
-none_is_written_at : (h : Held) (closed_len : ℕ) (kind : Option Kind) (earlier : Option Earlier) (opening : Option Opening) → h.opening ≡ opening → (buffer_view h closed_len kind earlier).writing ≡ None → (earlier ≡ None) × (h.opening ≡ None)
+none_is_written_at : (h : HolderState) (closed_len : ℕ) (kind : Option Kind) (earlier : Option Earlier) (opening : Option Opening) → h.opening ≡ opening → (buffer_view h closed_len kind earlier).writing ≡ None → (earlier ≡ None) × (h.opening ≡ None)
 none_is_written_at h closed_len kind None None o e = (refl, o)
 none_is_written_at h closed_len kind None (Some x) o e = let written = rw o at e in cc
 none_is_written_at h closed_len kind (Some x) opening o e = cc
 
-none_is_written : (h : Held) (closed_len : ℕ) (kind : Option Kind) (earlier : Option Earlier) → (buffer_view h closed_len kind earlier).writing ≡ None → (earlier ≡ None) × (h.opening ≡ None)
+none_is_written : (h : HolderState) (closed_len : ℕ) (kind : Option Kind) (earlier : Option Earlier) → (buffer_view h closed_len kind earlier).writing ≡ None → (earlier ≡ None) × (h.opening ≡ None)
 none_is_written h closed_len kind earlier e = none_is_written_at h closed_len kind earlier h.opening refl e
 
 -- the layout, where all that was there is kept and a member is begun behind a gap
-went_apart : (h : Held) (gap : List ℕ) (closed_len : ℕ) (kind : Option Kind) (k : Kind) (count items_end : ℕ) → MembersAreIn kind closed_len h → length gap ≡ 11 → count ≡ h.count → content_size h.count (length h.body) < 2 ^ 32
+went_apart : (h : HolderState) (gap : List ℕ) (closed_len : ℕ) (kind : Option Kind) (k : Kind) (count items_end : ℕ) → MembersAreIn kind closed_len h → length gap ≡ 11 → count ≡ h.count → content_size h.count (length h.body) < 2 ^ 32
     → items_end ≡ length (all_bytes h) → OpensAnother (open_view kind h.count h.body) (kind_id k)
-    → IsApart (opened_with (holding (all_bytes h ++ gap) 0 []) []) (Some k) (record { kind = kind; count = count; closed_len = closed_len; items_end = items_end })
+    → IsApart (member_begun (holding (all_bytes h ++ gap) 0 []) []) (Some k) (record { kind = kind; count = count; closed_len = closed_len; items_end = items_end })
 went_apart h gap closed_len None k count items_end m g c f s d = record {
   first = refl;
   gap = omega (arith, s, g, length-append (all_bytes h) gap);
@@ -63,27 +63,27 @@ went_apart h gap closed_len (Some o) k count items_end m g c f s d = record {
   fits = rw (c, s, take_at (all_bytes h) gap (length (all_bytes h)) refl, ← m, drop_at h.kept h.body (length h.kept) refl) f;
 }
 
-pub begun : (h opened new : Held) (gap : List ℕ) (closed_len : ℕ) (kind : Option Kind) (earlier : Option Earlier) (k : Kind) (count items_end : ℕ) (now : Buffered) (outcome : Result (Unit {0}) Fault) → IsLaidOut h closed_len kind earlier
+pub begun : (h opened new : HolderState) (gap : List ℕ) (closed_len : ℕ) (kind : Option Kind) (earlier : Option Earlier) (k : Kind) (count items_end : ℕ) (now : Buffered) (outcome : Result (Unit {0}) Fault) → IsLaidOut h closed_len kind earlier
     → buffer_view h closed_len kind earlier ≡ now → now.writing ≡ None → OpensAnother now.settled.current (kind_id k) → length gap ≡ 11 → count ≡ h.count → content_size h.count (length h.body) < 2 ^ 32 → items_end ≡ length (all_bytes h)
-    → opened ≡ holding (all_bytes h ++ gap) 0 [] → OpensMember opened new outcome [] → outcome ≡ Ok tt
+    → opened ≡ holding (all_bytes h ++ gap) 0 [] → BeginsMember opened new outcome [] → outcome ≡ Ok tt
     → IsLaidOut new closed_len (Some k) (Some (record { kind = kind; count = count; closed_len = closed_len; items_end = items_end }))
 begun h opened new gap closed_len kind earlier k count items_end now outcome l view none apart g c f s is o accepted = record { places = rw new_is (went_apart h gap closed_len kind k count items_end members.0 g c f s other) }
   where
     idle : (earlier ≡ None) × (h.opening ≡ None)
     idle = none_is_written h closed_len kind earlier (ap (λ (b : Buffered). b.writing) view ∙ none)
 
-    members : MembersAreIn kind closed_len h × OpeningIsIn h.opening h.count (length h.body)
+    members : MembersAreIn kind closed_len h × BegunIsIn h.opening h.count (length h.body)
     members = (rw idle.0 at l).places
 
     other : OpensAnother (open_view kind h.count h.body) (kind_id k)
     other = rw (← view, idle.0, idle.1) at apart
 
-    new_is : new ≡ opened_with (holding (all_bytes h ++ gap) 0 []) []
+    new_is : new ≡ member_begun (holding (all_bytes h ++ gap) 0 []) []
     new_is = rw (accepted, is) at o.ok
 
 -- ---- nothing is against an item that was begun
 
-pub neighbour_free : (outcome : Result (Unit {0}) Fault) (h : Held) (closed_len : ℕ) (kind : Option Kind) (earlier : Option Earlier) (k : Kind) (id : ℕ) (now : Buffered) → buffer_view h closed_len kind earlier ≡ now → now.writing ≡ None
+pub neighbour_free : (outcome : Result (Unit {0}) Fault) (h : HolderState) (closed_len : ℕ) (kind : Option Kind) (earlier : Option Earlier) (k : Kind) (id : ℕ) (now : Buffered) → buffer_view h closed_len kind earlier ≡ now → now.writing ≡ None
     → kind ≡ Some k → kind_id k ≡ id → OnOk outcome ((fault : Fault) → AddCause h [] (λ _. ⊥) fault → ⊥) → OnOk outcome ((fault : Fault) → SectionCause (entered now.settled id []).current fault → ⊥)
 neighbour_free (Err fault) h closed_len kind earlier k id now view none is same free = tt
 neighbour_free (Ok u) h closed_len kind earlier k id now view none is same free = λ fault c.
@@ -116,13 +116,13 @@ apart_free (Err fault) s id d = tt
 
 -- ---- more bytes
 
-some_is_written_at : (h : Held) (closed_len : ℕ) (kind : Option Kind) (earlier : Option Earlier) (opening : Option Opening) → h.opening ≡ opening → EarlierIsIn h closed_len kind earlier
+some_is_written_at : (h : HolderState) (closed_len : ℕ) (kind : Option Kind) (earlier : Option Earlier) (opening : Option Opening) → h.opening ≡ opening → EarlierIsIn h closed_len kind earlier
     → is_none (buffer_view h closed_len kind earlier).writing ≡ false → is_finished h ≡ false
 some_is_written_at h closed_len kind None None o l e = let written = rw o at e in cc
 some_is_written_at h closed_len kind None (Some x) o l e = rw o refl
-some_is_written_at h closed_len kind (Some x) opening o l e = rw (ap (λ (x : Held). x.opening) l.first) refl
+some_is_written_at h closed_len kind (Some x) opening o l e = rw (ap (λ (x : HolderState). x.opening) l.first) refl
 
-pub some_is_written : (h : Held) (closed_len : ℕ) (kind : Option Kind) (earlier : Option Earlier) (now : Buffered) → IsLaidOut h closed_len kind earlier → buffer_view h closed_len kind earlier ≡ now
+pub some_is_written : (h : HolderState) (closed_len : ℕ) (kind : Option Kind) (earlier : Option Earlier) (now : Buffered) → IsLaidOut h closed_len kind earlier → buffer_view h closed_len kind earlier ≡ now
     → is_none now.writing ≡ false → is_finished h ≡ false
 some_is_written h closed_len kind earlier now l view e = some_is_written_at h closed_len kind earlier h.opening refl l.places (rw (← view) at e)
 
@@ -138,14 +138,14 @@ behind_gap : (ek : Option Kind) (k : Kind) (count : ℕ) (items closed body : Li
 behind_gap None k count items closed body d large = large
 behind_gap (Some o) k count items closed body d large = rw (ne_eqb (kind_id o) (kind_id k) d) at large
 
-large_at : (h : Held) (text : List ℕ) (closed_len : ℕ) (kind : Option Kind) (earlier : Option Earlier) (opening : Option Opening) → h.opening ≡ opening → EarlierIsIn h closed_len kind earlier → is_finished h ≡ false
+large_at : (h : HolderState) (text : List ℕ) (closed_len : ℕ) (kind : Option Kind) (earlier : Option Earlier) (opening : Option Opening) → h.opening ≡ opening → EarlierIsIn h closed_len kind earlier → is_finished h ≡ false
     → SectionCause (buffered_content (buffer_appended (buffer_view h closed_len kind earlier) text)).current TooLarge → 2 ^ 32 ≤ content_size h.count (length (h.body ++ text))
 large_at h text closed_len kind None None o l f large = let finished = rw o at f in cc
 large_at h text closed_len None None (Some x) o l f large = let none = l.0.2 in cc
 large_at h text closed_len (Some k) None (Some x) o l f large = let places = rw o at l.1 in all_of_it h.count x.member_start k (take closed_len h.kept) h.body text places.1 (rw o at large)
 large_at h text closed_len None (Some e) opening o l f large = absurd l.another
 large_at h text closed_len (Some k) (Some e) opening o l f large =
-    let one : h.count ≡ 1 = ap (λ (x : Held). x.count) l.first in
+    let one : h.count ≡ 1 = ap (λ (x : HolderState). x.count) l.first in
     rw one (behind_gap e.kind k e.count _ _ (h.body ++ text) l.another large)
 
 part_of_it : (n size : ℕ) (k : Kind) (closed body text : List ℕ) → 1 ≤ n → 2 ^ 32 ≤ content_size n (length (body ++ text))
@@ -159,18 +159,18 @@ one_of_it : (ek : Option Kind) (k : Kind) (count : ℕ) (items closed body : Lis
 one_of_it None k count items closed body d large = large
 one_of_it (Some o) k count items closed body d large = rw (ne_eqb (kind_id o) (kind_id k) d) large
 
-too_large_at : (h : Held) (text : List ℕ) (closed_len : ℕ) (kind : Option Kind) (earlier : Option Earlier) (opening : Option Opening) → h.opening ≡ opening → EarlierIsIn h closed_len kind earlier → is_finished h ≡ false
+too_large_at : (h : HolderState) (text : List ℕ) (closed_len : ℕ) (kind : Option Kind) (earlier : Option Earlier) (opening : Option Opening) → h.opening ≡ opening → EarlierIsIn h closed_len kind earlier → is_finished h ≡ false
     → 2 ^ 32 ≤ content_size h.count (length (h.body ++ text)) → SectionCause (buffered_content (buffer_appended (buffer_view h closed_len kind earlier) text)).current TooLarge
 too_large_at h text closed_len kind None None o l f large = let finished = rw o at f in cc
 too_large_at h text closed_len None None (Some x) o l f large = let none = l.0.2 in cc
 too_large_at h text closed_len (Some k) None (Some x) o l f large = let places = rw o at l.1 in rw o (part_of_it h.count x.member_start k (take closed_len h.kept) h.body text places.1 large)
 too_large_at h text closed_len None (Some e) opening o l f large = absurd l.another
 too_large_at h text closed_len (Some k) (Some e) opening o l f large =
-    let one : h.count ≡ 1 = ap (λ (x : Held). x.count) l.first in
+    let one : h.count ≡ 1 = ap (λ (x : HolderState). x.count) l.first in
     one_of_it e.kind k e.count _ _ (h.body ++ text) l.another (rw one at large)
 
-lengthened_at : (h : Held) (text : List ℕ) (closed_len : ℕ) (kind : Option Kind) (earlier : Option Earlier) (opening : Option Opening) → h.opening ≡ opening → EarlierIsIn h closed_len kind earlier → is_finished h ≡ false
-    → buffer_view (lengthened h text) closed_len kind earlier ≡ buffer_appended (buffer_view h closed_len kind earlier) text
+lengthened_at : (h : HolderState) (text : List ℕ) (closed_len : ℕ) (kind : Option Kind) (earlier : Option Earlier) (opening : Option Opening) → h.opening ≡ opening → EarlierIsIn h closed_len kind earlier → is_finished h ≡ false
+    → buffer_view (member_appended h text) closed_len kind earlier ≡ buffer_appended (buffer_view h closed_len kind earlier) text
 lengthened_at h text closed_len kind None None o l f = let finished = rw o at f in cc
 lengthened_at h text closed_len None None (Some x) o l f = let none = l.0.2 in cc
 lengthened_at h text closed_len (Some k) None (Some x) o l f =
@@ -178,15 +178,15 @@ lengthened_at h text closed_len (Some k) None (Some x) o l f =
     rw (o, take-append-le x.member_start h.body text places.0, drop-append-le x.member_start h.body text places.0) refl
 lengthened_at h text closed_len kind (Some e) opening o l f = refl
 
-still_at : (h : Held) (text : List ℕ) (closed_len : ℕ) (kind : Option Kind) (earlier : Option Earlier) (opening : Option Opening) → h.opening ≡ opening → EarlierIsIn h closed_len kind earlier → is_finished h ≡ false
-    → EarlierIsIn (lengthened h text) closed_len kind earlier
+still_at : (h : HolderState) (text : List ℕ) (closed_len : ℕ) (kind : Option Kind) (earlier : Option Earlier) (opening : Option Opening) → h.opening ≡ opening → EarlierIsIn h closed_len kind earlier → is_finished h ≡ false
+    → EarlierIsIn (member_appended h text) closed_len kind earlier
 still_at h text closed_len kind None None o l f = let finished = rw o at f in cc
 still_at h text closed_len None None (Some x) o l f = let none = l.0.2 in cc
 still_at h text closed_len (Some k) None (Some x) o l f =
     let places = rw o at l.1 in
     (l.0, rw o (omega (arith, places.0, length-append h.body text), places.1))
 still_at h text closed_len kind (Some e) opening o l f = record {
-  first = ap (λ (x : Held). lengthened x text) l.first;
+  first = ap (λ (x : HolderState). member_appended x text) l.first;
   gap = l.gap;
   section = l.section;
   another = l.another;
@@ -194,36 +194,36 @@ still_at h text closed_len kind (Some e) opening o l f = record {
   fits = l.fits;
 }
 
-module _ (old : Held) (closed_len : ℕ) (kind : Option Kind) (earlier : Option Earlier) (now : Buffered) (laid : IsLaidOut old closed_len kind earlier) (view : buffer_view old closed_len kind earlier ≡ now) (writing : is_none now.writing ≡ false) where
+module _ (old : HolderState) (closed_len : ℕ) (kind : Option Kind) (earlier : Option Earlier) (now : Buffered) (laid : IsLaidOut old closed_len kind earlier) (view : buffer_view old closed_len kind earlier ≡ now) (writing : is_none now.writing ≡ false) where
   unfinished : is_finished old ≡ false
   unfinished = some_is_written old closed_len kind earlier now laid view writing
 
-  pub longer_view : (text : List ℕ) → buffer_view (lengthened old text) closed_len kind earlier ≡ buffer_appended now text
+  pub longer_view : (text : List ℕ) → buffer_view (member_appended old text) closed_len kind earlier ≡ buffer_appended now text
   longer_view text = rw (← view) (lengthened_at old text closed_len kind earlier old.opening refl laid.places unfinished)
 
-  pub still_laid : (text : List ℕ) → IsLaidOut (lengthened old text) closed_len kind earlier
+  pub still_laid : (text : List ℕ) → IsLaidOut (member_appended old text) closed_len kind earlier
   still_laid text = record { places = still_at old text closed_len kind earlier old.opening refl laid.places unfinished }
 
   -- there is room in the holder where there is room in the section
-  room_there : (text : List ℕ) (fault : Fault) → no_room old text fault → NoRoom (section_appended now text) fault
+  room_there : (text : List ℕ) (fault : Fault) → no_room_in_holder old text fault → NoRoom (section_appended now text) fault
   room_there text fault p = (p.0, rw (← view) (too_large_at old text closed_len kind earlier old.opening refl laid.places unfinished p.1))
 
-  room_back : (text : List ℕ) (fault : Fault) → NoRoom (section_appended now text) fault → no_room old text fault
+  room_back : (text : List ℕ) (fault : Fault) → NoRoom (section_appended now text) fault → no_room_in_holder old text fault
   room_back text fault p = (p.0, large_at old text closed_len kind earlier old.opening refl laid.places unfinished (rw (← view) at p.1))
 
-  there : (cause : Fault → Type 0) (text : List ℕ) (fault : Fault) → either cause (no_room old text) fault → either cause (NoRoom (section_appended now text)) fault
+  there : (cause : Fault → Type 0) (text : List ℕ) (fault : Fault) → either cause (no_room_in_holder old text) fault → either cause (NoRoom (section_appended now text)) fault
   there cause text fault c = elim c [ inl own ↦ inl own | inr p ↦ inr (room_there text fault p) ]
 
-  back : (cause : Fault → Type 0) (text : List ℕ) (fault : Fault) → either cause (NoRoom (section_appended now text)) fault → either cause (no_room old text) fault
+  back : (cause : Fault → Type 0) (text : List ℕ) (fault : Fault) → either cause (NoRoom (section_appended now text)) fault → either cause (no_room_in_holder old text) fault
   back cause text fault c = elim c [ inl own ↦ inl own | inr p ↦ inr (room_back text fault p) ]
 
-  pub appended_value : (new : Held) (outcome : Result (Unit {0}) Fault) (p : Piece) → Extends old new (lengthened old p.text) outcome p (no_room old p.text)
+  pub appended_value : (new : HolderState) (outcome : Result (Unit {0}) Fault) (p : Piece) → Extends old new (member_appended old p.text) outcome p (no_room_in_holder old p.text)
       → Extends now (buffer_view new closed_len kind earlier) (buffer_appended now p.text) outcome p (NoRoom (section_appended now p.text))
   appended_value new (Ok u) p a = record { ok = rw a.ok (longer_view p.text); fits = a.fits; free = λ fault c. a.free fault (back p.Cause p.text fault c); err = tt; warranted = tt }
   appended_value new (Err f) p a = record { ok = tt; fits = tt; free = tt; err = rw a.err view; warranted = still_warranted _ _ (there p.Cause p.text) f a.warranted }
 
-  pub appended_list : {S B : Type 0} (steps : S → Option B → S → Type 0) (values : S) (new : Held) (outcome : Result (Unit {0}) Fault) (piece : List B → Piece)
-      → ExtendsListed steps values old new outcome (lengthened old) (no_room old) piece
+  pub appended_list : {S B : Type 0} (steps : S → Option B → S → Type 0) (values : S) (new : HolderState) (outcome : Result (Unit {0}) Fault) (piece : List B → Piece)
+      → ExtendsListed steps values old new outcome (member_appended old) (no_room_in_holder old) piece
       → ExtendsListed steps values now (buffer_view new closed_len kind earlier) outcome (buffer_appended now) (λ bytes. NoRoom (section_appended now bytes)) piece
   appended_list steps values new (Ok u) piece a =
       let e = a.ok.3 in
@@ -238,8 +238,8 @@ module _ (old : Held) (closed_len : ℕ) (kind : Option Kind) (earlier : Option 
       record { ok = tt; err = rw a.err view; warranted = (a.warranted.0, a.warranted.1, still_warranted _ _ (there p.Cause p.text) f a.warranted.2) }
 
   -- the layout is kept
-  pub list_laid : {S B : Type 0} (steps : S → Option B → S → Type 0) (values : S) (new : Held) (outcome : Result (Unit {0}) Fault) (piece : List B → Piece)
-      → ExtendsListed steps values old new outcome (lengthened old) (no_room old) piece → IsLaidOut new closed_len kind earlier
+  pub list_laid : {S B : Type 0} (steps : S → Option B → S → Type 0) (values : S) (new : HolderState) (outcome : Result (Unit {0}) Fault) (piece : List B → Piece)
+      → ExtendsListed steps values old new outcome (member_appended old) (no_room_in_holder old) piece → IsLaidOut new closed_len kind earlier
   list_laid steps values new (Ok u) piece a = rw a.ok.3.state (still_laid (piece a.ok.0.items).text)
   list_laid steps values new (Err f) piece a = rw a.err laid
 
@@ -250,25 +250,25 @@ back_fits_at : (ek : Option Kind) (bytes : List ℕ) (count closed_len items_end
 back_fits_at None bytes count closed_len items_end n f s l = omega (arith, n, s)
 back_fits_at (Some k) bytes count closed_len items_end n f s l = omega (arith, f, length-drop (closed_len + 11) (take items_end bytes), length-take-le items_end bytes l)
 
-pub back_fits : (h : Held) (closed_len : ℕ) (kind : Option Kind) (earlier : Option Earlier) (e : Earlier) → IsLaidOut h closed_len kind earlier → earlier ≡ Some e → content_size e.count (e.items_end - kept_before e.kind e.closed_len) < 2 ^ 32
+pub back_fits : (h : HolderState) (closed_len : ℕ) (kind : Option Kind) (earlier : Option Earlier) (e : Earlier) → IsLaidOut h closed_len kind earlier → earlier ≡ Some e → content_size e.count (e.items_end - kept_before e.kind e.closed_len) < 2 ^ 32
 back_fits h closed_len kind earlier e l is =
     let a : IsApart h kind e = (rw is at l).places in
     back_fits_at e.kind h.kept e.count e.closed_len e.items_end a.counted a.fits a.section (omega (arith, a.gap))
 
 -- ---- something that stands alone
 
-within_kept : (h : Held) (closed_len : ℕ) (kind : Option Kind) → MembersAreIn kind closed_len h → closed_len ≤ length h.kept
+within_kept : (h : HolderState) (closed_len : ℕ) (kind : Option Kind) → MembersAreIn kind closed_len h → closed_len ≤ length h.kept
 within_kept h closed_len None m = omega (arith, m.0)
 within_kept h closed_len (Some k) m = omega (arith, m)
 
-abbrev earlier_at : Held → ℕ → Option Kind → Earlier
+abbrev earlier_at : HolderState → ℕ → Option Kind → Earlier
 earlier_at h closed_len kind = record { kind = kind; count = h.count; closed_len = closed_len; items_end = length (all_bytes h) }
 
-earlier_is : (h : Held) (text : List ℕ) (closed_len : ℕ) (kind : Option Kind) → MembersAreIn kind closed_len h → earlier_view (all_bytes h ++ text) (earlier_at h closed_len kind) ≡ open_view kind h.count h.body
+earlier_is : (h : HolderState) (text : List ℕ) (closed_len : ℕ) (kind : Option Kind) → MembersAreIn kind closed_len h → earlier_view (all_bytes h ++ text) (earlier_at h closed_len kind) ≡ open_view kind h.count h.body
 earlier_is h text closed_len None m = refl
 earlier_is h text closed_len (Some k) m = rw (take_at (all_bytes h) text (length (all_bytes h)) refl, ← m, drop_at h.kept h.body (length h.kept) refl) refl
 
-closed_is : (h : Held) (text : List ℕ) (closed_len : ℕ) (kind : Option Kind) → MembersAreIn kind closed_len h
+closed_is : (h : HolderState) (text : List ℕ) (closed_len : ℕ) (kind : Option Kind) → MembersAreIn kind closed_len h
     → kept_with (all_bytes h ++ text) (earlier_at h closed_len kind) ≡ sections_text (record { closed = take closed_len h.kept; current = open_view kind h.count h.body }) ++ text
 closed_is h text closed_len kind m =
     let within = within_kept h closed_len kind m in
@@ -279,31 +279,31 @@ closed_is h text closed_len kind m =
       take-append-le closed_len h.kept h.body within,
     ) refl
 
-section_at : (h : Held) (closed_len : ℕ) (kind : Option Kind) → MembersAreIn kind closed_len h → SectionIsIn kind closed_len (length (all_bytes h))
+section_at : (h : HolderState) (closed_len : ℕ) (kind : Option Kind) → MembersAreIn kind closed_len h → SectionIsIn kind closed_len (length (all_bytes h))
 section_at h closed_len None m = rw m.1 (omega (arith, m.0, length-append h.kept []))
 section_at h closed_len (Some k) m = omega (arith, m, length-append h.kept h.body)
 
-fits_at : (h : Held) (kind : Option Kind) → content_size h.count (length h.body) < 2 ^ 32 → SectionFits (open_view kind h.count h.body)
+fits_at : (h : HolderState) (kind : Option Kind) → content_size h.count (length h.body) < 2 ^ 32 → SectionFits (open_view kind h.count h.body)
 fits_at h None f = tt
 fits_at h (Some k) f = f
 
 -- the section before it can be closed
-pub can_close : (h kept : Held) (text : List ℕ) (closed_len : ℕ) (kind : Option Kind) (earlier : Option Earlier) (count items_end : ℕ) (now : Buffered) → IsLaidOut h closed_len kind earlier
+pub can_close : (h kept : HolderState) (text : List ℕ) (closed_len : ℕ) (kind : Option Kind) (earlier : Option Earlier) (count items_end : ℕ) (now : Buffered) → IsLaidOut h closed_len kind earlier
     → buffer_view h closed_len kind earlier ≡ now → now.writing ≡ None → count ≡ h.count → content_size h.count (length h.body) < 2 ^ 32 → items_end ≡ length (all_bytes h) → kept ≡ holding (all_bytes h ++ text) 0 []
     → (items_end ≤ length kept.kept) × SectionIsIn kind closed_len items_end × SectionFits (earlier_view kept.kept (record { kind = kind; count = count; closed_len = closed_len; items_end = items_end }))
 can_close h kept text closed_len kind earlier count items_end now l view none c f e k =
     let idle = none_is_written h closed_len kind earlier (ap (λ (b : Buffered). b.writing) view ∙ none) in
-    let members : MembersAreIn kind closed_len h × OpeningIsIn h.opening h.count (length h.body) = (rw idle.0 at l).places in
+    let members : MembersAreIn kind closed_len h × BegunIsIn h.opening h.count (length h.body) = (rw idle.0 at l).places in
     rw (k, c, e) (omega (arith, length-append (all_bytes h) text), section_at h closed_len kind members.0, rw (earlier_is h text closed_len kind members.0) (fits_at h kind f))
 
 -- and then all bytes are closed
-pub stood : (h kept new : Held) (text : List ℕ) (closed_len new_len : ℕ) (kind : Option Kind) (earlier : Option Earlier) (count items_end : ℕ) (now : Buffered) → IsLaidOut h closed_len kind earlier
+pub stood : (h kept new : HolderState) (text : List ℕ) (closed_len new_len : ℕ) (kind : Option Kind) (earlier : Option Earlier) (count items_end : ℕ) (now : Buffered) → IsLaidOut h closed_len kind earlier
     → buffer_view h closed_len kind earlier ≡ now → now.writing ≡ None → count ≡ h.count → items_end ≡ length (all_bytes h) → kept ≡ holding (all_bytes h ++ text) 0 []
     → new ≡ with_kept kept (kept_with kept.kept (record { kind = kind; count = count; closed_len = closed_len; items_end = items_end })) → new_len ≡ length new.kept
     → IsLaidOut new new_len None earlier × (buffer_view new new_len None earlier ≡ buffer_with now text)
 stood h kept new text closed_len new_len kind earlier count items_end now l view none c e k w n =
     let idle = none_is_written h closed_len kind earlier (ap (λ (b : Buffered). b.writing) view ∙ none) in
-    let members : MembersAreIn kind closed_len h × OpeningIsIn h.opening h.count (length h.body) = (rw idle.0 at l).places in
+    let members : MembersAreIn kind closed_len h × BegunIsIn h.opening h.count (length h.body) = (rw idle.0 at l).places in
     let all : new ≡ holding (sections_text (record { closed = take closed_len h.kept; current = open_view kind h.count h.body }) ++ text) 0 [] =
     w ∙ rw (k, c, e) (ap (λ (b : List ℕ). holding b 0 []) (closed_is h text closed_len kind members.0)) in
     let closed = sections_text (record { closed = take closed_len h.kept; current = open_view kind h.count h.body }) ++ text in
@@ -311,15 +311,15 @@ stood h kept new text closed_len new_len kind earlier count items_end now l view
 
 -- ---- all bytes
 
-all_at : (h : Held) (closed_len : ℕ) (kind : Option Kind) → MembersAreIn kind closed_len h
+all_at : (h : HolderState) (closed_len : ℕ) (kind : Option Kind) → MembersAreIn kind closed_len h
     → sections_text (record { closed = take closed_len h.kept; current = open_view kind h.count h.body }) ≡ take closed_len h.kept ++ (open_head kind h.count (length h.body) ++ h.body)
 all_at h closed_len None m = rw m.1 refl
 all_at h closed_len (Some k) m = simp append_assoc
 
 -- the closed bytes, then the open section
-pub all_is : (h : Held) (closed_len : ℕ) (kind : Option Kind) (earlier : Option Earlier) (now : Buffered) → IsLaidOut h closed_len kind earlier → buffer_view h closed_len kind earlier ≡ now → now.writing ≡ None
+pub all_is : (h : HolderState) (closed_len : ℕ) (kind : Option Kind) (earlier : Option Earlier) (now : Buffered) → IsLaidOut h closed_len kind earlier → buffer_view h closed_len kind earlier ≡ now → now.writing ≡ None
     → sections_text now.settled ≡ take closed_len h.kept ++ (open_head kind h.count (length h.body) ++ h.body)
 all_is h closed_len kind earlier now l view none =
     let idle = none_is_written h closed_len kind earlier (ap (λ (b : Buffered). b.writing) view ∙ none) in
-    let members : MembersAreIn kind closed_len h × OpeningIsIn h.opening h.count (length h.body) = (rw idle.0 at l).places in
+    let members : MembersAreIn kind closed_len h × BegunIsIn h.opening h.count (length h.body) = (rw idle.0 at l).places in
     rw (← view, idle.0, idle.1) (all_at h closed_len kind members.0)

@@ -16,12 +16,12 @@ use Rattle.wenc_canon.specs.declared.canonicals.CanonicalOption.{CanonicalOption
 use Rattle.wenc_builder.specs.Item.{item}
 use Rattle.wenc_builder.specs.Space.{canonical_space, space_number}
 use Rattle.wenc_builder.specs.Entry.{Entry, canonical_entry}
-use Rattle.wenc_builder.specs.Builder.{Begun, State, builder_is_finished, content_of, draft, begun_with, appended, ended, builder_given_up}
+use Rattle.wenc_builder.specs.Builder.{BegunItem, State, builder_is_finished, content_of, draft, item_begun, item_appended, item_ended, item_given_up}
 use Rattle.wenc_builder.specs.Cause.{SectionCause}
 use Rattle.wenc_builder.specs.Enters.{Enters, EntersListed, Takes, TakesDraft}
 use Rattle.wenc_builder.specs.inside.Takes.{AppendsListed, TakesListed}
 use Rattle.wenc_builder.specs.inside.Layout.{kind_id, draft_of}
-use Rattle.wenc_builder.specs.Lent.{no_room}
+use Rattle.wenc_builder.specs.Lent.{no_room_in_section}
 use Rattle.wenc_builder.specs.declared.builder.kind.Kind.TheVariants as kinds
 use Rattle.wenc_builder.specs.declared.builder.space.Space.{Space}
 use Rattle.wenc_builder.specs.laws.Lent.{still_begun, appended_twice}
@@ -32,17 +32,17 @@ use Rattle.wenc_builder.proofs.Taken.{not_begun, added, partly_written}
 -- ---- a piece, a list of values, another piece
 
 -- there is no room for a longer text where there is none for its beginning
-room_grows_at : (s : State) (b : Option Begun) (text more : List ℕ) → s.begun ≡ b → SectionCause (content_of (appended s text)).sections.current TooLarge → SectionCause (content_of (appended s (text ++ more))).sections.current TooLarge
+room_grows_at : (s : State) (b : Option BegunItem) (text more : List ℕ) → s.begun ≡ b → SectionCause (content_of (item_appended s text)).sections.current TooLarge → SectionCause (content_of (item_appended s (text ++ more))).sections.current TooLarge
 room_grows_at s None text more e c = rw e (rw e at c)
 room_grows_at s (Some b) text more e c =
     let d = rw e at c in
     rw (e, ← append_assoc b.text text more) (section_grows s.settled.sections.closed s.settled.sections.current b.id (b.text ++ text) more TooLarge d)
 
-room_grows : (s : State) (text more : List ℕ) (fault : Fault) → no_room s text fault → no_room s (text ++ more) fault
+room_grows : (s : State) (text more : List ℕ) (fault : Fault) → no_room_in_section s text fault → no_room_in_section s (text ++ more) fault
 room_grows s text more fault p = (p.0, room_grows_at s s.begun text more refl p.1)
 
 -- no room behind a text is no room for both
-room_behind : (s : State) (text more : List ℕ) (fault : Fault) → no_room (appended s text) more fault → no_room s (text ++ more) fault
+room_behind : (s : State) (text more : List ℕ) (fault : Fault) → no_room_in_section (item_appended s text) more fault → no_room_in_section s (text ++ more) fault
 room_behind s text more fault p = (p.0, subst (λ (x : State). SectionCause (content_of x).sections.current TooLarge) (appended_twice s text more) p.1)
 
 module _ {S B : Type 0} (steps : S → Option B → S → Type 0) (values : S) (old : State) (begun : builder_is_finished old ≡ false) (lead : Piece) (form : Form B) (tail : Piece) where
@@ -52,19 +52,19 @@ module _ {S B : Type 0} (steps : S → Option B → S → Type 0) (values : S) (
   abbrev Appends : State → Result (Unit {0}) Fault → Type 0
   Appends new outcome = AppendsListed steps values old new outcome Whole
 
-  pub lead_refused : (new : State) (fault : Fault) → Extends old new (appended old lead.text) (Err fault) lead (no_room old lead.text) → Appends new (Err fault)
+  pub lead_refused : (new : State) (fault : Fault) → Extends old new (item_appended old lead.text) (Err fault) lead (no_room_in_section old lead.text) → Appends new (Err fault)
   lead_refused new fault a = record {
     ok = tt;
     settled = ap (λ (s : State). s.settled) a.err;
     still = rw a.err begun;
-    warranted = no_run steps values (λ vs. IsWarranted (either (Whole vs).Cause (no_room old (Whole vs).text)) fault) (still_warranted _ _ there fault a.warranted);
+    warranted = no_run steps values (λ vs. IsWarranted (either (Whole vs).Cause (no_room_in_section old (Whole vs).text)) fault) (still_warranted _ _ there fault a.warranted);
   }
     where
-      there : (f : Fault) → either lead.Cause (no_room old lead.text) f → either (Whole []).Cause (no_room old (Whole []).text) f
+      there : (f : Fault) → either lead.Cause (no_room_in_section old lead.text) f → either (Whole []).Cause (no_room_in_section old (Whole []).text) f
       there f c = elim c [ inl own ↦ inl (inl own) | inr p ↦ inr (room_grows old lead.text ((list form []).text ++ tail.text) f p) ]
 
-  module _ (mid : State) (first : Extends old mid (appended old lead.text) (Ok tt) lead (no_room old lead.text)) where
-    pub values_refused : (new : State) (fault : Fault) → ExtendsListed steps values mid new (Err fault) (appended mid) (no_room mid) (list form) → Appends new (Err fault)
+  module _ (mid : State) (first : Extends old mid (item_appended old lead.text) (Ok tt) lead (no_room_in_section old lead.text)) where
+    pub values_refused : (new : State) (fault : Fault) → ExtendsListed steps values mid new (Err fault) (item_appended mid) (no_room_in_section mid) (list form) → Appends new (Err fault)
     values_refused new fault a = record {
       ok = tt;
       settled = ap (λ (s : State). s.settled) (a.err ∙ first.ok);
@@ -72,7 +72,7 @@ module _ {S B : Type 0} (steps : S → Option B → S → Type 0) (values : S) (
       warranted = (a.warranted.0, a.warranted.1, still_warranted _ _ (there a.warranted.0.items) fault a.warranted.2);
     }
       where
-        there : (vs : List B) (f : Fault) → either (list form vs).Cause (no_room mid (list form vs).text) f → either (Whole vs).Cause (no_room old (Whole vs).text) f
+        there : (vs : List B) (f : Fault) → either (list form vs).Cause (no_room_in_section mid (list form vs).text) f → either (Whole vs).Cause (no_room_in_section old (Whole vs).text) f
         there vs f c = elim c [
           | inl own ↦ inl (inr (inl own))
           | inr p ↦
@@ -80,32 +80,32 @@ module _ {S B : Type 0} (steps : S → Option B → S → Type 0) (values : S) (
               inr (rw (← append_assoc lead.text (list form vs).text tail.text) (room_grows old both tail.text f (room_behind old lead.text (list form vs).text f (rw first.ok at p))))
         ]
 
-    module _ (next : State) (second : ExtendsListed steps values mid next (Ok tt) (appended mid) (no_room mid) (list form)) where
+    module _ (next : State) (second : ExtendsListed steps values mid next (Ok tt) (item_appended mid) (no_room_in_section mid) (list form)) where
       abbrev came : List B
       came = second.ok.0.items
 
       abbrev texts : List ℕ
       texts = (list form came).text
 
-      next_is : next ≡ appended old (lead.text ++ texts)
-      next_is = second.ok.3.state ∙ ap (λ (s : State). appended s texts) first.ok ∙ appended_twice old lead.text texts
+      next_is : next ≡ item_appended old (lead.text ++ texts)
+      next_is = second.ok.3.state ∙ ap (λ (s : State). item_appended s texts) first.ok ∙ appended_twice old lead.text texts
 
-      whole_is : appended next tail.text ≡ appended old (Whole came).text
-      whole_is = ap (λ (s : State). appended s tail.text) next_is ∙ appended_twice old (lead.text ++ texts) tail.text ∙ ap (λ (t : List ℕ). appended old t) (append_assoc lead.text texts tail.text)
+      whole_is : item_appended next tail.text ≡ item_appended old (Whole came).text
+      whole_is = ap (λ (s : State). item_appended s tail.text) next_is ∙ appended_twice old (lead.text ++ texts) tail.text ∙ ap (λ (t : List ℕ). item_appended old t) (append_assoc lead.text texts tail.text)
 
-      there : (f : Fault) → either tail.Cause (no_room next tail.text) f → either (Whole came).Cause (no_room old (Whole came).text) f
+      there : (f : Fault) → either tail.Cause (no_room_in_section next tail.text) f → either (Whole came).Cause (no_room_in_section old (Whole came).text) f
       there f c = elim c [
         | inl own ↦ inl (inr (inr own))
         | inr p ↦ inr (rw (← append_assoc lead.text texts tail.text) (room_behind old (lead.text ++ texts) tail.text f (rw next_is at p)))
       ]
 
-      none : NoCause (either tail.Cause (no_room next tail.text)) → NoCause (either (Whole came).Cause (no_room old (Whole came).text))
+      none : NoCause (either tail.Cause (no_room_in_section next tail.text)) → NoCause (either (Whole came).Cause (no_room_in_section old (Whole came).text))
       none free f (inl (inl one)) = first.free f (inl one)
       none free f (inl (inr (inl two))) = second.ok.3.free f (inl two)
       none free f (inl (inr (inr three))) = free f (inl three)
       none free f (inr p) = free f (inr (p.0, subst (λ (x : State). SectionCause (content_of x).sections.current TooLarge) (sym whole_is) p.1))
 
-      pub all_added : (new : State) (outcome : Result (Unit {0}) Fault) → Extends next new (appended next tail.text) outcome tail (no_room next tail.text) → Appends new outcome
+      pub all_added : (new : State) (outcome : Result (Unit {0}) Fault) → Extends next new (item_appended next tail.text) outcome tail (no_room_in_section next tail.text) → Appends new outcome
       all_added new (Ok u) a = record {
         ok = (second.ok.0, second.ok.1, second.ok.2, record { state = a.ok ∙ whole_is; fits = (first.fits, (second.ok.3.fits, a.fits)); free = none a.free });
         settled = tt;
@@ -119,7 +119,7 @@ module _ {S B : Type 0} (steps : S → Option B → S → Type 0) (values : S) (
         warranted = (second.ok.0, second.ok.1, still_warranted _ _ there f a.warranted);
       }
 
--- ---- an item that is begun, written so, and ended or given up
+-- ---- an item that is begun, written so, and item_ended or given up
 
 module _ {S B : Type 0} (steps : S → Option B → S → Type 0) (values : S) (old : State) (id space : ℕ) (name : Option (List ℕ)) (piece : List B → Piece) where
   abbrev TakesIt : State → Result ℕ Fault → Type 0
@@ -131,13 +131,13 @@ module _ {S B : Type 0} (steps : S → Option B → S → Type 0) (values : S) (
     refused = no_run steps values (λ vs. TakesDraft old new (Err fault) (draft id space name) (piece vs)) (not_begun old new next _ fault id space name (piece []) t);
   }
 
-  module _ (begun : State) (index : ℕ) (beginning : Takes old begun (begun_with old (draft id space name [])) (Ok index) (draft id space name []) nothing) where
-    pub list_added : (written new : State) → AppendsListed steps values begun written (Ok tt) piece → new ≡ ended written → TakesIt new (Ok index)
+  module _ (begun : State) (index : ℕ) (beginning : Takes old begun (item_begun old (draft id space name [])) (Ok index) (draft id space name []) nothing) where
+    pub list_added : (written new : State) → AppendsListed steps values begun written (Ok tt) piece → new ≡ item_ended written → TakesIt new (Ok index)
     list_added written new a e =
         let x = a.ok.3 in
         record { ok = (a.ok.0, a.ok.1, a.ok.2, added old begun written new index id space name (piece a.ok.0.items) beginning x.state x.fits x.free e); refused = tt }
 
-    pub list_not_written : (written new : State) (fault : Fault) → AppendsListed steps values begun written (Err fault) piece → new ≡ builder_given_up written → TakesIt new (Err fault)
+    pub list_not_written : (written new : State) (fault : Fault) → AppendsListed steps values begun written (Err fault) piece → new ≡ item_given_up written → TakesIt new (Err fault)
     list_not_written written new fault a e = record {
       ok = tt;
       refused = (a.warranted.0, a.warranted.1, partly_written old begun written new _ fault index id space name (piece a.warranted.0.items) beginning a.warranted.2 a.settled e);

@@ -11,8 +11,8 @@ use Rattle.std.specs.Result.{IfErr, OnOk, OnErr}
 use Rattle.wenc_base.specs.Encode.{Serves, in_order, sized_in_order}
 use Rattle.wenc_base.specs.Fault.{IsWarranted, NoCause, size_cause}
 use Rattle.wenc_base.specs.Forms.{AreBytes, name as name_form}
-use Rattle.wenc_base.specs.Holder.{Held, holding, held_text}
-use Rattle.wenc_base.specs.Names.{Named, names_text}
+use Rattle.wenc_base.specs.Holder.{HolderState, holding, held_text}
+use Rattle.wenc_base.specs.Names.{NameAssociation, names_text}
 use Rattle.wenc_base.specs.Number.{unsigned_text}
 use Rattle.wenc_base.specs.Piece.{Piece, AnyCause, ◌▸◌, each}
 use Rattle.wenc_base.specs.declared.fault.Fault.{Fault}
@@ -23,7 +23,7 @@ use Rattle.wenc_sections.specs.declared.names.Sort.TheVariants as sorts
 use Rattle.wenc_builder.specs.Entry.{Entry, entry, custom_entry, names}
 use Rattle.wenc_builder.specs.Builder.{namespace_at, State, builder_is_finished}
 use Rattle.wenc_builder.specs.Cause.{CallCause}
-use Rattle.wenc_builder.specs.Enters.{EntersPlaceless}
+use Rattle.wenc_builder.specs.Enters.{EntersWithoutIndex}
 use Rattle.wenc_builder.specs.inside.Takes.{TakesNoPlace, with_alone}
 use Rattle.wenc_builder.specs.Holds.{Holds}
 use Rattle.wenc_builder.specs.Names.{named_sorts, by_sort, named_entry, AddsNames, names_held, space_names, none_named, kept_names}
@@ -41,34 +41,34 @@ use Rattle.wenc_builder.proofs.Entered.{placeless_enters, unfinished_enters}
 use Rattle.wenc_builder.proofs.Viewed.{finished_is}
 
 -- the subsections, one behind the other
-abbrev all_names : List (Sort × Held) → List ℕ
+abbrev all_names : List (Sort × HolderState) → List ℕ
 all_names ps = (each space_names ps).text
 
 -- ---- whether there are any
 
-pub none_next : {N : Type 0} (seen : N → Sort × Held) (ns : List N) (n : N) → none_named (map seen ns) ≡ true → nat_eq (seen n).1.count 0 ≡ true → none_named (map seen (ns ++ n ∷ [])) ≡ true
+pub none_next : {N : Type 0} (seen : N → Sort × HolderState) (ns : List N) (n : N) → none_named (map seen ns) ≡ true → nat_eq (seen n).1.count 0 ≡ true → none_named (map seen (ns ++ n ∷ [])) ≡ true
 none_next seen [] n h e = rw e refl
 none_next seen (m ∷ ns) n h e = elim (eqb_tells (seen m).1.count 0) [ inl t ↦ rw t.0 (none_next seen ns n (rw t.0 at h) e) | inr t ↦ let f = rw t.0 at h in cc ]
 
-pub none_at : {N : Type 0} (seen : N → Sort × Held) (ns : List N) (i : ℕ) (n : N) → none_named (map seen (take i ns)) ≡ true → i < length ns → n ≡ get_or ns i n → nat_eq (seen n).1.count 0 ≡ true → none_named (map seen (take (i + 1) ns)) ≡ true
+pub none_at : {N : Type 0} (seen : N → Sort × HolderState) (ns : List N) (i : ℕ) (n : N) → none_named (map seen (take i ns)) ≡ true → i < length ns → n ≡ get_or ns i n → nat_eq (seen n).1.count 0 ≡ true → none_named (map seen (take (i + 1) ns)) ≡ true
 none_at seen ns i n h lt is e =
     let one : take (i + 1) ns ≡ take i ns ++ n ∷ [] = rw (add-one i, take-suc ns i n lt) (ap (λ u. take i ns ++ u ∷ []) (sym is)) in
     rw one (none_next seen (take i ns) n h e)
 
-pub some_at : {N : Type 0} (seen : N → Sort × Held) (ns : List N) (i : ℕ) (n : N) → i < length ns → n ≡ get_or ns i n → nat_eq (seen n).1.count 0 ≡ false → none_named (map seen ns) ≡ false
+pub some_at : {N : Type 0} (seen : N → Sort × HolderState) (ns : List N) (i : ℕ) (n : N) → i < length ns → n ≡ get_or ns i n → nat_eq (seen n).1.count 0 ≡ false → none_named (map seen ns) ≡ false
 some_at seen [] i n lt is e = absurd (omega arith)
 some_at seen (m ∷ ns) zero n lt is e = rw (← is, e) refl
 some_at seen (m ∷ ns) (suc i) n lt is e = elim (eqb_tells (seen m).1.count 0) [ inl t ↦ rw t.0 (some_at seen ns i n (omega arith) is e) | inr t ↦ rw t.0 refl ]
 
 -- ---- the text of names that are kept
 
-abbrev kept : List Named → Held
+abbrev kept : List NameAssociation → HolderState
 kept ns = holding [] (length ns) (names_text ns)
 
-abbrev kept_at : Sort × List Named → Sort × Held
+abbrev kept_at : Sort × List NameAssociation → Sort × HolderState
 kept_at p = (p.0, kept p.1)
 
-one_text : (sort : Sort) (ns : List Named) → (space_names (sort, kept ns)).text ≡ subsections_text (item_names sort ns)
+one_text : (sort : Sort) (ns : List NameAssociation) → (space_names (sort, kept ns)).text ≡ subsections_text (item_names sort ns)
 one_text sort [] = refl
 one_text sort (n ∷ ns) = elim (eqb_tells (length (n ∷ ns)) 0) [ inl t ↦ absurd (omega (arith, t.1)) | inr t ↦ rw t.0 (sym (one (subsection (ItemNames sort (n ∷ ns))).text)) ]
   where
@@ -76,16 +76,16 @@ one_text sort (n ∷ ns) = elim (eqb_tells (length (n ∷ ns)) 0) [ inl t ↦ ab
     one [] = refl
     one (x ∷ xs) = ap (λ (r : List ℕ). x ∷ r) (one xs)
 
-texts : (ps : List (Sort × List Named)) → all_names (map kept_at ps) ≡ subsections_text (name_subsections ps)
+texts : (ps : List (Sort × List NameAssociation)) → all_names (map kept_at ps) ≡ subsections_text (name_subsections ps)
 texts [] = refl
 texts (p ∷ ps) = rw (one_text p.0 p.1, texts ps) (sym (flat_map-append (λ (s : Subsection). (subsection s).text) (item_names p.0 p.1) (name_subsections ps)))
 
-none_text : (ps : List (Sort × List Named)) → none_named (map kept_at ps) ≡ true → name_subsections ps ≡ []
+none_text : (ps : List (Sort × List NameAssociation)) → none_named (map kept_at ps) ≡ true → name_subsections ps ≡ []
 none_text [] h = refl
 none_text ((sort, []) ∷ ps) h = none_text ps h
 none_text ((sort, n ∷ ns) ∷ ps) h = elim (eqb_tells (length (n ∷ ns)) 0) [ inl t ↦ absurd (omega (arith, t.1)) | inr t ↦ let f = rw t.0 at h in cc ]
 
-some_text : (ps : List (Sort × Held)) → none_named ps ≡ false → all_names ps ≡ [] → ⊥
+some_text : (ps : List (Sort × HolderState)) → none_named ps ≡ false → all_names ps ≡ [] → ⊥
 some_text [] h e = cc
 some_text (p ∷ ps) h e = elim (eqb_tells p.1.count 0) [ inl t ↦ some_text ps (rw t.0 at h) (rw t.0 at e) | inr t ↦ let f = rw t.0 at e in cc ]
 
@@ -121,7 +121,7 @@ sort_free sorts.Component fault c = c
 sort_free sorts.Instance fault c = c
 
 -- what is against a subsection makes all of them too large
-one_long : (p : Sort × Held) (fault : Fault) → (space_names p).Cause fault → (fault ≡ TooLarge) × (2 ^ 32 ≤ length (space_names p).text)
+one_long : (p : Sort × HolderState) (fault : Fault) → (space_names p).Cause fault → (fault ≡ TooLarge) × (2 ^ 32 ≤ length (space_names p).text)
 one_long p fault c = elim (eqb_tells p.1.count 0) [
   | inl t ↦ let none = rw t.0 at c in absurd none
   | inr t ↦ rw t.0 (large (rw t.0 at c))
@@ -135,7 +135,7 @@ one_long p fault c = elim (eqb_tells p.1.count 0) [
     large (inr (inl k)) = absurd (sort_free p.0 fault k)
     large (inr (inr k)) = absurd k
 
-module _ {N : Type 0} (seen : N → Sort × Held) where
+module _ {N : Type 0} (seen : N → Sort × HolderState) where
   abbrev seen_names : List N → Piece
   seen_names = each (λ n. space_names (seen n))
 
@@ -179,31 +179,31 @@ module _ {N : Type 0} (seen : N → Sort × Held) where
 
 -- ---- the call
 
-module _ {N : Type 0} (seen : N → Sort × Held) (ns : List N) (old new : State) (result : Result (Unit {0}) Fault) (is : map seen ns ≡ kept_names old) (some : none_named (map seen ns) ≡ false) (t : TakesNoPlace old new result (written seen ns)) where
-  as_kept : (bytes : List ℕ) → (seen_names seen ns).text ≡ bytes → EntersPlaceless old new result (custom_entry names_label bytes)
+module _ {N : Type 0} (seen : N → Sort × HolderState) (ns : List N) (old new : State) (result : Result (Unit {0}) Fault) (is : map seen ns ≡ kept_names old) (some : none_named (map seen ns) ≡ false) (t : TakesNoPlace old new result (written seen ns)) where
+  as_kept : (bytes : List ℕ) → (seen_names seen ns).text ≡ bytes → EntersWithoutIndex old new result (custom_entry names_label bytes)
   as_kept bytes e = placeless_enters old new result (custom_entry names_label bytes) (record { alone = refl; defined = refl; named = refl }) (names_serve seen ns bytes e) t
 
   seen_text : (seen_names seen ns).text ≡ all_names (map seen ns)
   seen_text = sym (flat_map-map (λ p. (space_names p).text) seen ns)
 
-  at : (ss : List Subsection) → all_names (map seen ns) ≡ subsections_text ss → MatchOption (named_entry ss) ((result ≡ Ok tt) × (new ≡ old)) (λ x. EntersPlaceless old new result x)
+  at : (ss : List Subsection) → all_names (map seen ns) ≡ subsections_text ss → MatchOption (named_entry ss) ((result ≡ Ok tt) × (new ≡ old)) (λ x. EntersWithoutIndex old new result x)
   at [] e = absurd (some_text (map seen ns) some e)
   at (s ∷ ss) e = as_kept (subsections_text (s ∷ ss)) (seen_text ∙ e)
 
   pub adds_names : AddsNames old new result
   adds_names = record {
     held = λ es h. at (name_subsections (by_sort (names es))) (ap all_names (is ∙ kept_is old es h) ∙ texts (by_sort (names es)));
-    none = λ none f. let other = subst (λ (qs : List (Sort × Held)). none_named qs ≡ true) (sym is) none in cc;
+    none = λ none f. let other = subst (λ (qs : List (Sort × HolderState)). none_named qs ≡ true) (sym is) none in cc;
     some = λ n. as_kept (all_names (kept_names old)) (seen_text ∙ ap all_names is);
     err = t.err;
     unfinished = (as_kept (seen_names seen ns).text refl).unfinished;
   }
 
-pub nothing_named : (old : State) (ps : List (Sort × Held)) → ps ≡ kept_names old → none_named ps ≡ true → builder_is_finished old ≡ true → AddsNames old old (Ok tt)
+pub nothing_named : (old : State) (ps : List (Sort × HolderState)) → ps ≡ kept_names old → none_named ps ≡ true → builder_is_finished old ≡ true → AddsNames old old (Ok tt)
 nothing_named old ps is none finished = record {
   held = λ es h. rw (none_text (by_sort (names es)) (rw (is ∙ kept_is old es h) at none)) (refl, refl);
   none = λ n f. (refl, refl);
-  some = λ named. let other = subst (λ (qs : List (Sort × Held)). none_named qs ≡ false) (sym is) named in cc;
+  some = λ named. let other = subst (λ (qs : List (Sort × HolderState)). none_named qs ≡ false) (sym is) named in cc;
   err = tt;
   unfinished = (λ f. cc, λ e. cc);
 }
@@ -227,7 +227,7 @@ pub both_fit : (P Q : Type 0) (r : Result (Unit {0}) Fault) → OnOk r P → OnO
 both_fit P Q (Ok u) h k = (h, k)
 both_fit P Q (Err f) h k = tt
 
-module _ {N : Type 0} (b : Buffered) (s : Spaced) (old : State) (seen : N → Sort × Held) (ns : List N) (agree : Agree b.writing s.taking) (view : builder_view b s ≡ old) (finished : is_none b.writing ≡ true)
+module _ {N : Type 0} (b : Buffered) (s : Spaced) (old : State) (seen : N → Sort × HolderState) (ns : List N) (agree : Agree b.writing s.taking) (view : builder_view b s ≡ old) (finished : is_none b.writing ≡ true)
     (is : map seen ns ≡ by_sort (λ k. names_held (namespace_at s.settled k))) where
   is_there : map seen ns ≡ by_sort (λ k. names_held (namespace_at old.settled.spaces k))
   is_there = subst (λ (x : State). map seen ns ≡ by_sort (λ k. names_held (namespace_at x.settled.spaces k))) view is

@@ -1,16 +1,16 @@
--- An item that is begun, written and ended, or given up.
+-- An item that is begun, written and item_ended, or given up.
 use Rattle.std.proofs.Common.{◌≡◌, ℕ, ◌<◌, true, false, is_none, List, [], length, Option, Some, None, Result, Ok, Err, refl, sym, ap, ◌∙◌, inr}
 use Rattle.wenc_base.specs.Fault.{IsWarranted, NoCause, either}
 use Rattle.wenc_base.specs.Piece.{Piece, nothing}
 use Rattle.wenc_base.specs.declared.fault.Fault.{Fault}
 use Rattle.wenc_base.specs.declared.fault.Fault.TheVariants.{Unfinished}
 use Rattle.wenc_base.specs.laws.Serves.{still_warranted}
-use Rattle.wenc_builder.specs.Builder.{entered, Content, State, namespace_at, content_of, Draft, draft, space_with, begun_with, appended, ended, builder_given_up}
+use Rattle.wenc_builder.specs.Builder.{entered, Content, State, namespace_at, content_of, Draft, draft, space_with, item_begun, item_appended, item_ended, item_given_up}
 use Rattle.wenc_builder.specs.Cause.{SectionCause, SpaceCause}
-use Rattle.wenc_builder.specs.Enters.{TakesWith, Takes, TakesDraft, Begins}
+use Rattle.wenc_builder.specs.Enters.{TakesWith, Takes, TakesDraft, BeginsItem}
 use Rattle.wenc_builder.specs.inside.Layout.{Buffered}
-use Rattle.wenc_builder.specs.Lent.{no_room}
-use Rattle.wenc_builder.specs.Space.{Defined}
+use Rattle.wenc_builder.specs.Lent.{no_room_in_section}
+use Rattle.wenc_builder.specs.Space.{Indices}
 use Rattle.wenc_builder.specs.inside.Spaces.{Spaced}
 use Rattle.wenc_builder.specs.inside.View.{Agree, builder_view}
 use Rattle.wenc_builder.specs.laws.Caused.{space_refuses, section_refuses, begun_free, beginning_refuses, text_refuses, whole_free}
@@ -28,7 +28,7 @@ none_is (Some x) e = cc
 -- ---- an item is begun
 
 -- nothing is taken while another item is being written
-pub unfinished_before : {R : Type 0} (b : Buffered) (s : Spaced) (old new next : State) (after : Content) (places : Option Defined) (p : Piece) (Told : R → Type 0) → Agree b.writing s.taking → builder_view b s ≡ old
+pub unfinished_before : {R : Type 0} (b : Buffered) (s : Spaced) (old new next : State) (after : Content) (places : Option Indices) (p : Piece) (Told : R → Type 0) → Agree b.writing s.taking → builder_view b s ≡ old
     → is_none b.writing ≡ false → new ≡ old → TakesWith old new next (Err Unfinished) after places p Told
 unfinished_before b s old new next after places p Told a view w same = record {
   told = tt;
@@ -99,8 +99,8 @@ not_begun old new next whole fault id space name p t = record {
 }
 
 pub added : (old begun written new : State) (index id space : ℕ) (name : Option (List ℕ)) (p : Piece)
-    → Takes old begun (begun_with old (draft id space name [])) (Ok index) (draft id space name []) nothing
-    → written ≡ appended begun p.text → p.Fits → NoCause (either p.Cause (no_room begun p.text)) → new ≡ ended written
+    → Takes old begun (item_begun old (draft id space name [])) (Ok index) (draft id space name []) nothing
+    → written ≡ item_appended begun p.text → p.Fits → NoCause (either p.Cause (no_room_in_section begun p.text)) → new ≡ item_ended written
     → TakesDraft old new (Ok index) (draft id space name) p
 added old begun written new index id space name p t w fits free e = record {
   told = t.told;
@@ -116,8 +116,8 @@ added old begun written new index id space name p t w fits free e = record {
     never i e = cc
 
 pub partly_written : (old begun written new whole : State) (fault : Fault) (index id space : ℕ) (name : Option (List ℕ)) (p : Piece)
-    → Takes old begun (begun_with old (draft id space name [])) (Ok index) (draft id space name []) nothing
-    → IsWarranted (either p.Cause (no_room begun p.text)) fault → written.settled ≡ begun.settled → new ≡ builder_given_up written
+    → Takes old begun (item_begun old (draft id space name [])) (Ok index) (draft id space name []) nothing
+    → IsWarranted (either p.Cause (no_room_in_section begun p.text)) fault → written.settled ≡ begun.settled → new ≡ item_given_up written
     → Takes old new whole (Err fault) (draft id space name p.text) p
 partly_written old begun written new whole fault index id space name p t refused w e = record {
   told = tt;
@@ -136,15 +136,15 @@ partly_written old begun written new whole fault index id space name p t refused
     back s none = rw (← none) refl
 
 pub not_written : (old begun written new whole : State) (fault : Fault) (index id space : ℕ) (name : Option (List ℕ)) (p : Piece)
-    → Takes old begun (begun_with old (draft id space name [])) (Ok index) (draft id space name []) nothing
-    → IsWarranted (either p.Cause (no_room begun p.text)) fault → written ≡ begun → new ≡ builder_given_up written
+    → Takes old begun (item_begun old (draft id space name [])) (Ok index) (draft id space name []) nothing
+    → IsWarranted (either p.Cause (no_room_in_section begun p.text)) fault → written ≡ begun → new ≡ item_given_up written
     → Takes old new whole (Err fault) (draft id space name p.text) p
 not_written old begun written new whole fault index id space name p t refused w e =
     partly_written old begun written new whole fault index id space name p t refused (ap (λ (s : State). s.settled) w) e
 
 -- ---- an item that is begun for an encoder
 
-pub begins_lent : {E : Type 0} (index : E → ℕ) (lent : E → State) (old new : State) (i : ℕ) (e : E) (d : Draft) → d.space < 13 → Takes old new (begun_with old d) (Ok i) d nothing → index e ≡ i → lent e ≡ new → Begins index lent old (Ok e) d
+pub begins_lent : {E : Type 0} (index : E → ℕ) (lent : E → State) (old new : State) (i : ℕ) (e : E) (d : Draft) → d.space < 13 → Takes old new (item_begun old d) (Ok i) d nothing → index e ≡ i → lent e ≡ new → BeginsItem index lent old (Ok e) d
 begins_lent index lent old new i e d within t is same = record {
   begun = same ∙ t.ok;
   placed = λ es h. holds_index old es d.space (index e) h within (is ∙ t.told);
@@ -156,7 +156,7 @@ begins_lent index lent old new i e d within t is same = record {
     never : (j : ℕ) → Ok j ≡ Err Unfinished → ⊥
     never j q = cc
 
-pub begins_refused : {E : Type 0} (index : E → ℕ) (lent : E → State) (old new next : State) (fault : Fault) (d : Draft) → Takes old new next (Err fault) d nothing → Begins index lent old (Err fault) d
+pub begins_refused : {E : Type 0} (index : E → ℕ) (lent : E → State) (old new next : State) (fault : Fault) (d : Draft) → Takes old new next (Err fault) d nothing → BeginsItem index lent old (Err fault) d
 begins_refused index lent old new next fault d t = record { begun = tt; placed = tt; free = tt; warranted = t.warranted; unfinished_first = λ u. rw (erred fault (Err fault) refl (t.unfinished_first u)) refl }
   where
     erred : (f : Fault) (r : Result ℕ Fault) → r ≡ Err f → r ≡ Err Unfinished → f ≡ Unfinished

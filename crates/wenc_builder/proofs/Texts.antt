@@ -5,7 +5,7 @@ use Rattle.wenc_base.specs.Forms.{option}
 use Rattle.wenc_base.specs.Number.{u32}
 use Rattle.wenc_base.specs.Piece.{Piece, verbatim, ◌▸◌}
 use Rattle.wenc_base.specs.laws.Serves.{serves_itself, order_serves}
-use Rattle.wenc_parts.specs.Exports.{export_kind}
+use Rattle.wenc_parts.specs.Exports.{component_export_kind}
 use Rattle.wenc_parts.specs.Imports.{ExternName, extern_name, type_reference}
 use Rattle.wenc_parts.specs.SectionIds.{section_number}
 use Rattle.wenc_parts.specs.declared.component.ComponentSectionId.TheVariants as ids
@@ -27,9 +27,9 @@ raw_serves bytes = record { text = refl; fits = λ h. h; among = λ fault c. c; 
 
 -- an export's name, kind, index and type
 pub export_serves : (n : ExternName) (kind : ComponentExportKind) (index : ℕ) (what : Option ComponentTypeRef)
-    → Serves (in_order (extern_name n) (in_order (export_kind kind) (in_order (u32 index) (option type_reference what)))) (item (ExportItem (record { name = n; kind = kind; index = index; what = what })))
+    → Serves (in_order (extern_name n) (in_order (component_export_kind kind) (in_order (u32 index) (option type_reference what)))) (item (ExportItem (record { name = n; kind = kind; index = index; what = what })))
 export_serves n kind index what =
-    order_serves (serves_itself {p = extern_name n}) (order_serves (serves_itself {p = export_kind kind}) (order_serves (serves_itself {p = u32 index}) (serves_itself {p = option type_reference what})))
+    order_serves (serves_itself {p = extern_name n}) (order_serves (serves_itself {p = component_export_kind kind}) (order_serves (serves_itself {p = u32 index}) (serves_itself {p = option type_reference what})))
 
 -- a builder that is finished is written as its bytes
 pub nested_serves : (b : Buffered) (bytes : List ℕ) → sections_text b.settled ≡ bytes → is_none b.writing ≡ true → Serves (section_number ids.Component ▸ nested b) (item (ComponentItem bytes))

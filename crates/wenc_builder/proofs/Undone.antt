@@ -1,31 +1,31 @@
 -- An item that took a place in a space can be given up.
 use Rattle.std.proofs.Common.{◌≡◌, ℕ, ◌<◌, ◌≤◌, List, length, length-append, set, get_or, Option, Some, None, refl, arith, sym, ◌∙◌, ap, subst}
 use Rattle.std.proofs.lemmas.List.{take_at, take_all, get_or-set_same, get_or_default, set-set, set-get_or, length-set}
-use Rattle.wenc_base.specs.Names.{named}
+use Rattle.wenc_base.specs.Names.{name_association}
 use Rattle.wenc_builder.specs.Builder.{Namespace, no_names, namespace_at, namespace_with}
-use Rattle.wenc_builder.specs.inside.Spaces.{Spaced, spaces_begun, taken, before, spaced_view, CanUndo}
+use Rattle.wenc_builder.specs.inside.Spaces.{Spaced, spaces_begun, taken, spaces_before, spaced_view, CanUndo}
 use Rattle.wenc_builder.specs.declared.builder.spaces.Undo.{Undo}
 
 -- what a space was is what the names up to its length say
 abbrev undo_at : ℕ → Namespace → Undo
-undo_at i s = record { space = i; count = s.count; named = s.named; len = length s.names }
+undo_at i s = record { space = i; count = s.count; name_association = s.named; len = length s.names }
 
-before_with : (i n : ℕ) (s : Namespace) (name : Option (List ℕ)) → before (undo_at i s) (namespace_with s n name).names ≡ s
+before_with : (i n : ℕ) (s : Namespace) (name : Option (List ℕ)) → spaces_before (undo_at i s) (namespace_with s n name).names ≡ s
 before_with i n s None = rw (take_all (length s.names) s.names (omega arith)) refl
-before_with i n s (Some name) = rw (take_at s.names (named (record { place = s.count; name = name })).text (length s.names) refl) refl
+before_with i n s (Some name) = rw (take_at s.names (name_association (record { place = s.count; name = name })).text (length s.names) refl) refl
 
 back_at : (spaces : List Namespace) (i n : ℕ) (old new : Namespace) (name : Option (List ℕ)) → i < length spaces → new ≡ namespace_with old n name
-    → before (undo_at i old) (namespace_at (set spaces i new) i).names ≡ old
+    → spaces_before (undo_at i old) (namespace_at (set spaces i new) i).names ≡ old
 back_at spaces i n old new name h f = rw (get_or-set_same spaces i new no_names h, f) (before_with i n old name)
 
 kept : (spaces : List Namespace) (i n : ℕ) (old new : Namespace) (name : Option (List ℕ)) → i < length spaces → old ≡ namespace_at spaces i → new ≡ namespace_with old n name
-    → set (set spaces i new) i (before (undo_at i old) (namespace_at (set spaces i new) i).names) ≡ spaces
+    → set (set spaces i new) i (spaces_before (undo_at i old) (namespace_at (set spaces i new) i).names) ≡ spaces
 kept spaces i n old new name h e f = rw (back_at spaces i n old new name h f, set-set spaces i new old, e) (set-get_or spaces i no_names)
 
 -- a space has no less than it had
 no_less : (n : ℕ) (s : Namespace) (name : Option (List ℕ)) → (s.named ≤ (namespace_with s n name).named) × (length s.names ≤ length (namespace_with s n name).names)
 no_less n s None = (omega arith, omega arith)
-no_less n s (Some name) = (omega arith, omega (arith, length-append s.names (named (record { place = s.count; name = name })).text))
+no_less n s (Some name) = (omega arith, omega (arith, length-append s.names (name_association (record { place = s.count; name = name })).text))
 
 settled_is : (spaces : List Namespace) (undo : Option Undo) (now : Spaced) → spaced_view spaces undo ≡ now → now.taking ≡ None → spaces ≡ now.settled
 settled_is spaces None now e t = ap (λ (x : Spaced). x.settled) e
@@ -38,7 +38,7 @@ thirteen spaces (Some u) h = h.0
 pub begun_view : (spaces : List Namespace) (undo : Option Undo) (now : Spaced) (i n : ℕ) (one new : Namespace) (count names len : ℕ) (name : Option (List ℕ))
     → i < 13 → CanUndo spaces undo → spaced_view spaces undo ≡ now → now.taking ≡ None → one ≡ get_or spaces i one → new ≡ namespace_with one n name
     → count ≡ one.count → names ≡ one.named → len ≡ length one.names
-    → spaced_view (set spaces i new) (Some (record { space = i; count = count; named = names; len = len }))
+    → spaced_view (set spaces i new) (Some (record { space = i; count = count; name_association = names; len = len }))
     ≡ spaces_begun now i n name
 begun_view spaces undo now i n one new count names len name h k e t o f c m l =
     let inside : i < length spaces = omega (arith, thirteen spaces undo k) in
@@ -48,7 +48,7 @@ begun_view spaces undo now i n one new count names len name h k e t o f c m l =
 
 pub begun_can : (spaces : List Namespace) (undo : Option Undo) (i n : ℕ) (one new : Namespace) (count names len : ℕ) (name : Option (List ℕ))
     → i < 13 → CanUndo spaces undo → new ≡ namespace_with one n name → names ≡ one.named → len ≡ length one.names
-    → CanUndo (set spaces i new) (Some (record { space = i; count = count; named = names; len = len }))
+    → CanUndo (set spaces i new) (Some (record { space = i; count = count; name_association = names; len = len }))
 begun_can spaces undo i n one new count names len name h k f m l =
     let inside : i < length spaces = omega (arith, thirteen spaces undo k) in
     rw (m, l, get_or-set_same spaces i new no_names inside, f) (length-set spaces i (namespace_with one n name) ∙ thirteen spaces undo k, h, (no_less n one name).0, (no_less n one name).1)
@@ -59,7 +59,7 @@ taken_is spaces undo now e = subst (λ (x : Spaced). spaces ≡ taken x.settled 
   where
     of_view : (spaces : List Namespace) (undo : Option Undo) → taken (spaced_view spaces undo).settled (spaced_view spaces undo).taking ≡ spaces
     of_view spaces None = refl
-    of_view spaces (Some u) = set-set spaces u.space (before u (namespace_at spaces u.space).names) (namespace_at spaces u.space) ∙ set-get_or spaces u.space no_names
+    of_view spaces (Some u) = set-set spaces u.space (spaces_before u (namespace_at spaces u.space).names) (namespace_at spaces u.space) ∙ set-get_or spaces u.space no_names
 
 pub count_is : (spaces : List Namespace) (undo : Option Undo) (now : Spaced) (k : ℕ) (d : Namespace) → CanUndo spaces undo → spaced_view spaces undo ≡ now → k < 13
     → (get_or spaces k d).count ≡ (namespace_at (taken now.settled now.taking) k).count

@@ -5,10 +5,10 @@ use Rattle.wenc_base.specs.Fault.{either}
 use Rattle.wenc_base.specs.Piece.{Piece}
 use Rattle.wenc_base.specs.declared.fault.Fault.{Fault}
 use Rattle.wenc_base.specs.laws.Serves.{still_warranted}
-use Rattle.wenc_builder.specs.Builder.{Sections, Content, State, builder_is_finished, content_of, appended, ended}
+use Rattle.wenc_builder.specs.Builder.{Sections, Content, State, builder_is_finished, content_of, item_appended, item_ended}
 use Rattle.wenc_builder.specs.inside.Layout.{Writing, Buffered, buffered_content, buffer_appended, section_appended, buffer_ended}
 use Rattle.wenc_builder.specs.Cause.{NoRoom}
-use Rattle.wenc_builder.specs.Lent.{no_room}
+use Rattle.wenc_builder.specs.Lent.{no_room_in_section}
 use Rattle.wenc_builder.specs.inside.Spaces.{Taking, Spaced, taken, spaces_ended}
 use Rattle.wenc_builder.specs.inside.View.{Agree, begun_of, builder_view}
 
@@ -52,12 +52,12 @@ pub content_is : (b : Buffered) (s : Spaced) → Agree b.writing s.taking → co
 content_is b s a = content_at b s b.writing s.taking refl refl a
 
 appended_at : (b : Buffered) (s : Spaced) (text : List ℕ) (w : Option Writing) (t : Option Taking) → b.writing ≡ w → s.taking ≡ t → Agree w t
-    → builder_view (buffer_appended b text) s ≡ appended (builder_view b s) text
+    → builder_view (buffer_appended b text) s ≡ item_appended (builder_view b s) text
 appended_at b s text None t e f a = rw e refl
 appended_at b s text (Some w) None e f a = absurd a
 appended_at b s text (Some w) (Some t) e f a = rw (e, f) refl
 
-pub appended_is : (b : Buffered) (s : Spaced) (text : List ℕ) → Agree b.writing s.taking → builder_view (buffer_appended b text) s ≡ appended (builder_view b s) text
+pub appended_is : (b : Buffered) (s : Spaced) (text : List ℕ) → Agree b.writing s.taking → builder_view (buffer_appended b text) s ≡ item_appended (builder_view b s) text
 appended_is b s text a = appended_at b s text b.writing s.taking refl refl a
 
 still_agree_at : (w : Option Writing) (t : Option Taking) (b : Buffered) (text : List ℕ) → b.writing ≡ w → Agree w t → Agree (buffer_appended b text).writing t
@@ -68,37 +68,37 @@ still_agree_at (Some w) (Some t) b text e a = rw e tt
 pub still_agree : (b : Buffered) (s : Spaced) (text : List ℕ) → Agree b.writing s.taking → Agree (buffer_appended b text).writing s.taking
 still_agree b s text a = still_agree_at b.writing s.taking b text refl a
 
-pub ended_is : (b : Buffered) (s : Spaced) → Agree b.writing s.taking → builder_view (buffer_ended b) (spaces_ended s) ≡ ended (builder_view b s)
+pub ended_is : (b : Buffered) (s : Spaced) → Agree b.writing s.taking → builder_view (buffer_ended b) (spaces_ended s) ≡ item_ended (builder_view b s)
 ended_is b s a = rw (content_is b s a) refl
 
 -- the open section, with more bytes of the item
 pub appended_section : (b : Buffered) (s : Spaced) (now : State) (text : List ℕ) → Agree b.writing s.taking → builder_view b s ≡ now
-    → (content_of (appended now text)).sections ≡ buffered_content (buffer_appended b text)
+    → (content_of (item_appended now text)).sections ≡ buffered_content (buffer_appended b text)
 appended_section b s now text a view =
-    let same : builder_view (buffer_appended b text) s ≡ appended now text = appended_is b s text a ∙ ap (λ (n : State). appended n text) view in
+    let same : builder_view (buffer_appended b text) s ≡ item_appended now text = appended_is b s text a ∙ ap (λ (n : State). item_appended n text) view in
     let content = content_is (buffer_appended b text) s (still_agree b s text a) in
     ap (λ (c : Content). c.sections) (sym (ap (λ (n : State). content_of n) same) ∙ content)
 
 -- ---- what is added to it
 
 module _ (b : Buffered) (s : Spaced) (now : State) (agree : Agree b.writing s.taking) (view : builder_view b s ≡ now) where
-  longer_view : (text : List ℕ) → builder_view (buffer_appended b text) s ≡ appended now text
-  longer_view text = appended_is b s text agree ∙ ap (λ (n : State). appended n text) view
+  longer_view : (text : List ℕ) → builder_view (buffer_appended b text) s ≡ item_appended now text
+  longer_view text = appended_is b s text agree ∙ ap (λ (n : State). item_appended n text) view
 
-  there : (cause : Fault → Type 0) (text : List ℕ) (fault : Fault) → either cause (NoRoom (section_appended b text)) fault → either cause (no_room now text) fault
+  there : (cause : Fault → Type 0) (text : List ℕ) (fault : Fault) → either cause (NoRoom (section_appended b text)) fault → either cause (no_room_in_section now text) fault
   there cause text fault c = subst (λ (k : Sections). either cause (NoRoom k.current) fault) (sym (appended_section b s now text agree view)) c
 
-  back : (cause : Fault → Type 0) (text : List ℕ) (fault : Fault) → either cause (no_room now text) fault → either cause (NoRoom (section_appended b text)) fault
+  back : (cause : Fault → Type 0) (text : List ℕ) (fault : Fault) → either cause (no_room_in_section now text) fault → either cause (NoRoom (section_appended b text)) fault
   back cause text fault c = subst (λ (k : Sections). either cause (NoRoom k.current) fault) (appended_section b s now text agree view) c
 
   pub appended_value : (new : Buffered) (outcome : Result (Unit {0}) Fault) (p : Piece) → Extends b new (buffer_appended b p.text) outcome p (NoRoom (section_appended b p.text))
-      → Extends now (builder_view new s) (appended now p.text) outcome p (no_room now p.text)
+      → Extends now (builder_view new s) (item_appended now p.text) outcome p (no_room_in_section now p.text)
   appended_value new (Ok u) p a = record { ok = rw a.ok (longer_view p.text); fits = a.fits; free = λ fault c. a.free fault (back p.Cause p.text fault c); err = tt; warranted = tt }
   appended_value new (Err f) p a = record { ok = tt; fits = tt; free = tt; err = rw a.err view; warranted = still_warranted _ _ (there p.Cause p.text) f a.warranted }
 
   pub appended_list : {S B : Type 0} (steps : S → Option B → S → Type 0) (values : S) (new : Buffered) (outcome : Result (Unit {0}) Fault) (piece : List B → Piece)
       → ExtendsListed steps values b new outcome (buffer_appended b) (λ bytes. NoRoom (section_appended b bytes)) piece
-      → ExtendsListed steps values now (builder_view new s) outcome (appended now) (no_room now) piece
+      → ExtendsListed steps values now (builder_view new s) outcome (item_appended now) (no_room_in_section now) piece
   appended_list steps values new (Ok u) piece a =
       let e = a.ok.3 in
       let p : Piece = piece a.ok.0.items in

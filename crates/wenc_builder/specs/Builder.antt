@@ -3,9 +3,9 @@ use Rattle.std.specs.Prelude.{ℕ, List, [], ◌∷◌, ◌++◌, ◌+◌, Optio
 use Rattle.std.specs.Prelude.{nat_eq, if◌then◌else◌, slice_set, slice_index_or}
 use Rattle.wenc_base.specs.Holder.{holding, section_text}
 use Rattle.wenc_builder.specs.Item.{Item, collected, item}
-use Rattle.wenc_builder.specs.Space.{space_number, Defined, defines}
+use Rattle.wenc_builder.specs.Space.{space_number, Indices, defines}
 use Rattle.wenc_builder.specs.declared.builder.space.Space.{Space}
-use Rattle.wenc_base.specs.Names.{named}
+use Rattle.wenc_base.specs.Names.{name_association}
 use Rattle.wenc_parts.specs.SectionIds.{section_number}
 use Rattle.wenc_parts.specs.declared.component.ComponentSectionId.{ComponentSectionId}
 use Rattle.wenc_builder.specs.Entry.{Entry}
@@ -67,22 +67,22 @@ with_item s x = with_item_at (collected x) s (item x).text
 -- how many items a space has, how many of them have names, and the text of those names
 pub record Namespace : Type 0 where
   pub count : ℕ
-  pub named : ℕ
+  pub name_association : ℕ
   pub names : List ℕ
 
 abbrev pub space_view : ℕ → ℕ → List ℕ → Namespace
-space_view count named names = record { count = count; named = named; names = names }
+space_view count name_association names = record { count = count; name_association = name_association; names = names }
 
 abbrev pub no_names : Namespace
-no_names = record { count = 0; named = 0; names = [] }
+no_names = record { count = 0; name_association = 0; names = [] }
 
 -- so many more items, the first of them with this name or none
 abbrev pub namespace_with : Namespace → ℕ → Option (List ℕ) → Namespace
-namespace_with s number None = record { count = s.count + number; named = s.named; names = s.names }
+namespace_with s number None = record { count = s.count + number; name_association = s.named; names = s.names }
 namespace_with s number (Some name) = record {
   count = s.count + number;
-  named = s.named + 1;
-  names = s.names ++ (named (record { place = s.count; name = name })).text;
+  name_association = s.named + 1;
+  names = s.names ++ (name_association (record { place = s.count; name = name })).text;
 }
 
 abbrev pub namespace_at : List Namespace → ℕ → Namespace
@@ -95,7 +95,7 @@ pub record Content : Type 0 where
   pub spaces : List Namespace
 
 -- the spaces, where these places are taken in one of them
-abbrev pub spaces_with : List Namespace → Option Defined → Option (List ℕ) → List Namespace
+abbrev pub spaces_with : List Namespace → Option Indices → Option (List ℕ) → List Namespace
 spaces_with spaces None name = spaces
 spaces_with spaces (Some d) name =
     slice_set spaces d.space (namespace_with (namespace_at spaces d.space) d.number name)
@@ -110,7 +110,7 @@ with_entry c e =
 
 -- an item that is being written: its section's id, its text so far, its space, and what that is
 -- with it
-pub record Begun : Type 0 where
+pub record BegunItem : Type 0 where
   pub id : ℕ
   pub text : List ℕ
   pub space : ℕ
@@ -118,7 +118,7 @@ pub record Begun : Type 0 where
 
 pub record State : Type 0 where
   pub settled : Content
-  pub begun : Option Begun
+  pub begun : Option BegunItem
 
 -- no item is being written
 abbrev pub builder_is_finished : State → Bool
@@ -133,7 +133,7 @@ step s e = settled_in (with_entry s.settled e)
 
 -- ---- an item that is being written
 
-abbrev pub content_with : Content → Option Begun → Content
+abbrev pub content_with : Content → Option BegunItem → Content
 content_with c None = c
 content_with c (Some b) = record {
   sections = entered c.sections b.id b.text;
@@ -163,29 +163,29 @@ abbrev pub draft_in : ComponentSectionId → Space → Option (List ℕ) → Lis
 draft_in section space name text = draft (section_number section) (space_number space) name text
 
 -- its place
-abbrev pub draft_place : Draft → Defined
-draft_place d = record { space = d.space; number = 1 }
+abbrev pub draft_indices : Draft → Indices
+draft_indices d = record { space = d.space; number = 1 }
 
 -- its space, as it is with it
 abbrev pub space_with : State → Draft → Namespace
 space_with s d = namespace_with (namespace_at s.settled.spaces d.space) 1 d.name
 
-abbrev pub begun_with : State → Draft → State
-begun_with s d = record {
+abbrev pub item_begun : State → Draft → State
+item_begun s d = record {
   settled = s.settled;
   begun = Some (record { id = d.id; text = d.text; space = d.space; after = space_with s d });
 }
 
-abbrev pub longer : Option Begun → List ℕ → Option Begun
-longer None text = None
-longer (Some b) text =
+abbrev pub begun_appended : Option BegunItem → List ℕ → Option BegunItem
+begun_appended None text = None
+begun_appended (Some b) text =
     Some (record { id = b.id; text = b.text ++ text; space = b.space; after = b.after })
 
-abbrev pub appended : State → List ℕ → State
-appended s text = record { settled = s.settled; begun = longer s.begun text }
+abbrev pub item_appended : State → List ℕ → State
+item_appended s text = record { settled = s.settled; begun = begun_appended s.begun text }
 
-abbrev pub ended : State → State
-ended s = settled_in (content_of s)
+abbrev pub item_ended : State → State
+item_ended s = settled_in (content_of s)
 
-abbrev pub builder_given_up : State → State
-builder_given_up s = settled_in s.settled
+abbrev pub item_given_up : State → State
+item_given_up s = settled_in s.settled

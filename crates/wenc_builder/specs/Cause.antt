@@ -7,10 +7,10 @@ use Rattle.wenc_base.specs.declared.fault.Fault.{Fault}
 use Rattle.wenc_base.specs.declared.fault.Fault.TheVariants.{Memory, TooMany, TooLarge, Unfinished}
 use Rattle.wenc_builder.specs.Item.{item}
 use Rattle.wenc_builder.specs.Sections.{runs}
-use Rattle.wenc_builder.specs.Space.{Defined, defines}
+use Rattle.wenc_builder.specs.Space.{Indices, defines}
 use Rattle.wenc_builder.specs.Entry.{Entry, items}
 use Rattle.wenc_builder.specs.Builder.{OpenSection, Namespace, namespace_at, Content, with_entry}
-use Rattle.wenc_builder.specs.Builder.{State, builder_is_finished, Draft, draft_place, begun_with}
+use Rattle.wenc_builder.specs.Builder.{State, builder_is_finished, Draft, draft_indices, item_begun}
 use Rattle.wenc_builder.specs.Builder.{content_of}
 use Rattle.wenc_builder.specs.Holds.{open_of, namespace_of}
 
@@ -36,13 +36,13 @@ SpaceCause s TooLarge = 2 ^ 32 ≤ number_size s.named + length s.names
 SpaceCause s Unfinished = ⊥
 
 -- too much of what the space of these places is
-abbrev pub PlaceCause : (ℕ → Namespace) → Option Defined → Fault → Type 0
+abbrev pub PlaceCause : (ℕ → Namespace) → Option Indices → Fault → Type 0
 PlaceCause space None fault = ⊥
 PlaceCause space (Some d) fault = SpaceCause (space d.space) fault
 
 -- Adding an item makes too much: of what keeps it from being encoded, of what its space is then, or
 -- of what the open section is then.
-abbrev pub AddingCause : (Fault → Type 0) → (ℕ → Namespace) → Option Defined → Option OpenSection
+abbrev pub AddingCause : (Fault → Type 0) → (ℕ → Namespace) → Option Indices → Option OpenSection
     → Fault → Type 0
 AddingCause cause space places current fault =
     cause fault ⊎ (PlaceCause space places fault ⊎ SectionCause current fault)
@@ -51,7 +51,7 @@ AddingCause cause space places current fault =
 
 -- why a call that would leave this content is refused: it makes too much, or an item is being
 -- written
-abbrev pub CallCause : State → (Fault → Type 0) → Content → Option Defined → Fault → Type 0
+abbrev pub CallCause : State → (Fault → Type 0) → Content → Option Indices → Fault → Type 0
 CallCause old cause after places fault =
     AddingCause cause (namespace_at after.spaces) places after.sections.current fault
     ⊎ ((fault ≡ Unfinished) × (builder_is_finished old ≡ false))
@@ -59,7 +59,7 @@ CallCause old cause after places fault =
 -- why an item can't be begun as this draft
 abbrev pub BeginCause : State → Draft → Fault → Type 0
 BeginCause old d =
-    CallCause old (λ _. ⊥) (content_of (begun_with old d)) (Some (draft_place d))
+    CallCause old (λ _. ⊥) (content_of (item_begun old d)) (Some (draft_indices d))
 
 -- the same of a call that adds this entry
 abbrev pub EnterCause : State → Entry → Fault → Type 0

@@ -7,15 +7,15 @@ use Rattle.wenc_base.specs.Piece.{Piece}
 use Rattle.wenc_base.specs.declared.fault.Fault.{Fault}
 use Rattle.wenc_base.specs.declared.fault.Fault.TheVariants.{Unfinished}
 use Rattle.wenc_builder.specs.Item.{item}
-use Rattle.wenc_builder.specs.Space.{Defined, defines, IsPlaceOf, place}
+use Rattle.wenc_builder.specs.Space.{Indices, defines, IsIndexOf, next_index}
 use Rattle.wenc_builder.specs.Entry.{Entry, items}
 use Rattle.wenc_builder.specs.Builder.{Content, State, step, builder_is_finished, namespace_at}
-use Rattle.wenc_builder.specs.Builder.{Draft, draft_place, begun_with, content_of, ended}
+use Rattle.wenc_builder.specs.Builder.{Draft, draft_indices, item_begun, content_of, item_ended}
 use Rattle.wenc_builder.specs.Holds.{Holds}
 use Rattle.wenc_builder.specs.Cause.{CallCause, BeginCause, EnterCause}
 
 -- This is the number of items in the space of these places.
-abbrev pub IsCountAt : State → Option Defined → ℕ → Type 0
+abbrev pub IsCountAt : State → Option Indices → ℕ → Type 0
 IsCountAt s None i = ⊥
 IsCountAt s (Some d) i = i ≡ (namespace_at s.settled.spaces d.space).count
 
@@ -23,7 +23,7 @@ IsCountAt s (Some d) i = i ≡ (namespace_at s.settled.spaces d.space).count
 -- this of its answer, by such a list and by the state; or it is refused for a cause and changes
 -- nothing. While an item is being written, and only then, it is `Unfinished`.
 pub record EntersWith {R : Type 0} (old new : State) (result : Result R Fault) (x : Entry)
-    (Told : List Entry → R → Type 0) (Counted : Option Defined → R → Type 0) : Type 0 where
+    (Told : List Entry → R → Type 0) (Counted : Option Indices → R → Type 0) : Type 0 where
   pub held : (es : List Entry) → Holds old es
       → IfOk result (λ r. Holds new (es ++ x ∷ []) × Told es r)
   pub state : OnOk result (new ≡ step old x)
@@ -34,14 +34,14 @@ pub record EntersWith {R : Type 0} (old new : State) (result : Result R Fault) (
   pub warranted : IfErr result (IsWarranted (EnterCause old x))
   pub unfinished : (builder_is_finished old ≡ false) ↔ (result ≡ Err Unfinished)
 
--- The same, where the answer is the entry's place: the number of items that its space had.
+-- The same, where the answer is the entry's next_index: the number of items that its space had.
 abbrev pub Enters : State → State → Result ℕ Fault → Entry → Type 0
 Enters old new result x =
-    EntersWith old new result x (λ es i. IsPlaceOf (items es) x.item i) (IsCountAt old)
+    EntersWith old new result x (λ es i. IsIndexOf (items es) x.item i) (IsCountAt old)
 
--- The same, where the entry has no place.
-abbrev pub EntersPlaceless : State → State → Result (Unit {0}) Fault → Entry → Type 0
-EntersPlaceless old new result x =
+-- The same, where the entry has no next_index.
+abbrev pub EntersWithoutIndex : State → State → Result (Unit {0}) Fault → Entry → Type 0
+EntersWithoutIndex old new result x =
     EntersWith old new result x (λ es r. Unit {0}) (λ places r. Unit {0})
 
 -- The same of a call whose entry is made of the values that an iterator gives: of all of them, or
@@ -51,13 +51,13 @@ pub record EntersListed {S B : Type 0} (steps : S → Option B → S → Type 0)
   pub ok : OnOk result (WholeRun steps values (λ run. Enters old new result (x run.items)))
   pub refused : OnErr result (SomeRun steps values (λ run. Enters old new result (x run.items)))
 
--- A call begins an item and lends the builder to an encoder, with the item's place; or it is
+-- A call begins an item and lends the builder to an encoder, with the item's next_index; or it is
 -- refused for a cause.
-pub record Begins {E : Type 0} (index : E → ℕ) (lent : E → State) (old : State)
+pub record BeginsItem {E : Type 0} (index : E → ℕ) (lent : E → State) (old : State)
     (result : Result E Fault) (d : Draft) : Type 0 where
-  pub begun : IfOk result (λ e. lent e ≡ begun_with old d)
+  pub begun : IfOk result (λ e. lent e ≡ item_begun old d)
   pub placed : IfOk result
-      (λ e. (es : List Entry) → Holds old es → index e ≡ place (items es) d.space)
+      (λ e. (es : List Entry) → Holds old es → index e ≡ next_index (items es) d.space)
   pub free : OnOk result (NoCause (BeginCause old d))
   pub warranted : IfErr result (IsWarranted (BeginCause old d))
   pub unfinished_first : builder_is_finished old ≡ false → result ≡ Err Unfinished
@@ -66,7 +66,7 @@ pub record Begins {E : Type 0} (index : E → ℕ) (lent : E → State) (old : S
 -- this content when it is done, and says this of its answer; or it is refused for a cause and
 -- changes nothing.
 pub record TakesWith {R : Type 0} (old new next : State) (result : Result R Fault)
-    (after : Content) (places : Option Defined) (p : Piece) (Told : R → Type 0) : Type 0 where
+    (after : Content) (places : Option Indices) (p : Piece) (Told : R → Type 0) : Type 0 where
   pub told : IfOk result Told
   pub ok : OnOk result (new ≡ next)
   pub fits : OnOk result p.Fits
@@ -76,18 +76,18 @@ pub record TakesWith {R : Type 0} (old new next : State) (result : Result R Faul
   pub unfinished_first : builder_is_finished old ≡ false → result ≡ Err Unfinished
 
 -- The same where the answer is the number of items in the places' space.
-abbrev pub TakesPlaces : State → State → State → Result ℕ Fault → Content → Defined → Piece
+abbrev pub TakesIndices : State → State → State → Result ℕ Fault → Content → Indices → Piece
     → Type 0
-TakesPlaces old new next result after d p =
+TakesIndices old new next result after d p =
     TakesWith old new next result after (Some d) p
     (λ i. i ≡ (namespace_at old.settled.spaces d.space).count)
 
--- The same of the place of a draft.
+-- The same of the next_index of a draft.
 abbrev pub Takes : State → State → State → Result ℕ Fault → Draft → Piece → Type 0
 Takes old new next result d p =
-    TakesPlaces old new next result (content_of (begun_with old d)) (draft_place d) p
+    TakesIndices old new next result (content_of (item_begun old d)) (draft_indices d) p
 
--- The same of an item that is written and ended too.
+-- The same of an item that is written and item_ended too.
 abbrev pub TakesDraft : State → State → Result ℕ Fault → (List ℕ → Draft) → Piece → Type 0
 TakesDraft old new result d p =
-    Takes old new (ended (begun_with old (d p.text))) result (d p.text) p
+    Takes old new (item_ended (item_begun old (d p.text))) result (d p.text) p

@@ -1,22 +1,22 @@
 -- Items with their debug names.
 use Rattle.std.specs.Prelude.{ℕ, List, [], ◌∷◌, ◌++◌, ◌+◌, map, Option, Some, None, nat_eq}
 use Rattle.std.specs.Prelude.{if◌then◌else◌}
-use Rattle.wenc_base.specs.Names.{Named}
+use Rattle.wenc_base.specs.Names.{NameAssociation}
 use Rattle.wenc_base.specs.declared.exports.ExportKind.{ExportKind}
 use Rattle.wenc_parts.specs.declared.exports.ComponentExportKind.{ComponentExportKind}
 use Rattle.wenc_parts.specs.declared.imports.ComponentTypeRef.{ComponentTypeRef}
 use Rattle.wenc_parts.specs.Imports.{ExternName}
 use Rattle.wenc_parts.specs.Aliases.{AliasOf, InstanceExport, CoreInstanceExport}
-use Rattle.wenc_canon.specs.Canonicals.{row, Values, Intrinsic, name_of}
-use Rattle.wenc_canon.specs.Canonicals.{Canonical, Lift, Lower, Provided}
+use Rattle.wenc_canon.specs.Canonicals.{row, Values, Builtin, name_of}
+use Rattle.wenc_canon.specs.Canonicals.{Canonical, Lift, Lower, OfBuiltin}
 use Rattle.wenc_sections.specs.Start.{started}
 use Rattle.wenc_sections.specs.Instances.{CoreInstance, Instance}
 use Rattle.wenc_types.specs.CoreTypes.{CoreType}
-use Rattle.wenc_types.specs.ComponentTypes.{TypeOf}
+use Rattle.wenc_types.specs.ComponentTypes.{DefType}
 use Rattle.wenc_builder.specs.Item.{Item, ModuleItem, CoreInstanceItem, CoreTypeItem, ComponentItem}
 use Rattle.wenc_builder.specs.Item.{InstanceItem, AliasItem, TypeItem, CanonItem, StartItem}
 use Rattle.wenc_builder.specs.Item.{ImportItem, ExportItem, CustomItem, RawItem}
-use Rattle.wenc_builder.specs.Space.{Defined, defines, defined_in}
+use Rattle.wenc_builder.specs.Space.{Indices, defines, defined_in}
 
 pub record Entry : Type 0 where
   pub item : Item
@@ -62,21 +62,21 @@ instance_entry debug_name instance = entry (InstanceItem instance) debug_name
 abbrev pub core_type_entry : Option (List ℕ) → CoreType → Entry
 core_type_entry debug_name ty = entry (CoreTypeItem ty) debug_name
 
-abbrev pub type_entry : Option (List ℕ) → TypeOf → Entry
+abbrev pub type_entry : Option (List ℕ) → DefType → Entry
 type_entry debug_name ty = entry (TypeItem ty) debug_name
 
 abbrev pub canonical_entry : Option (List ℕ) → Canonical → Entry
 canonical_entry debug_name function = entry (CanonItem function) debug_name
 
 -- it has the debug name that is its own
-abbrev pub provided_entry : (i : Intrinsic) → Values (row i).fields → Entry
-provided_entry i values = canonical_entry (Some (name_of i values)) (Provided i values)
+abbrev pub provided_entry : (i : Builtin) → Values (row i).fields → Entry
+provided_entry i values = canonical_entry (Some (name_of i values)) (OfBuiltin i values)
 
 -- the debug name of a canonical function: its own, or where it is lifted or lowered this one
 abbrev pub canonical_name : Option (List ℕ) → Canonical → Option (List ℕ)
 canonical_name debug_name (Lift function options type_index) = debug_name
 canonical_name debug_name (Lower function options) = debug_name
-canonical_name debug_name (Provided i values) = Some (name_of i values)
+canonical_name debug_name (OfBuiltin i values) = Some (name_of i values)
 
 -- that of a canonical function as a tree
 abbrev pub canonical_tree_entry : Option (List ℕ) → Canonical → Entry
@@ -98,20 +98,20 @@ raw_entry bytes = entry (RawItem bytes) None
 abbrev pub items : List Entry → List Item
 items es = map (λ e. e.item) es
 
-abbrev pub named_as : ℕ → Option (List ℕ) → List Named
+abbrev pub named_as : ℕ → Option (List ℕ) → List NameAssociation
 named_as n None = []
 named_as n (Some name) = record { place = n; name = name } ∷ []
 
 -- the name of what takes these places, if they are in space k
-abbrev pub named_in : ℕ → Option Defined → ℕ → Option (List ℕ) → List Named
+abbrev pub named_in : ℕ → Option Indices → ℕ → Option (List ℕ) → List NameAssociation
 named_in k None n name = []
 named_in k (Some d) n name = if nat_eq d.space k then named_as n name else []
 
 -- the places and names of the named entries in space k, of which the first has place n
-abbrev pub names_from : ℕ → ℕ → List Entry → List Named
+abbrev pub names_from : ℕ → ℕ → List Entry → List NameAssociation
 names_from k n [] = []
 names_from k n (e ∷ es) =
     named_in k (defines e.item) n e.name ++ names_from k (n + defined_in k e.item) es
 
-abbrev pub names : List Entry → ℕ → List Named
+abbrev pub names : List Entry → ℕ → List NameAssociation
 names es k = names_from k 0 es

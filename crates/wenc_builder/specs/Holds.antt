@@ -3,7 +3,7 @@ use Rattle.std.specs.Prelude.{◌≡◌, ℕ, List, [], ◌∷◌, ◌<◌, leng
 use Rattle.std.specs.List.{flat_map}
 use Rattle.wenc_builder.specs.Item.{Item, item}
 use Rattle.wenc_builder.specs.Sections.{Section, Run, Alone, runs, whole}
-use Rattle.wenc_builder.specs.Space.{place}
+use Rattle.wenc_builder.specs.Space.{next_index}
 use Rattle.wenc_base.specs.Names.{names_text}
 use Rattle.wenc_builder.specs.Entry.{Entry, items, names}
 use Rattle.wenc_builder.specs.Raw.{IsEncodable}
@@ -26,7 +26,7 @@ pub record SectionsHold (s : Sections) (xs : List Item) : Type 0 where
 abbrev pub namespace_of : List Entry → ℕ → Namespace
 namespace_of es k =
     record {
-      count = place (items es) k;
+      count = next_index (items es) k;
       named = length (names es k);
       names = names_text (names es k);
     }

@@ -7,7 +7,7 @@ use Rattle.wenc_parts.specs.declared.component.ComponentSectionId.TheVariants as
 use Rattle.wenc_parts.specs.SectionIds.{section_number}
 use Rattle.wenc_parts.specs.Aliases.{AliasOf, alias}
 use Rattle.wenc_types.specs.CoreTypes.{CoreType, core_type}
-use Rattle.wenc_types.specs.ComponentTypes.{TypeOf, type_of}
+use Rattle.wenc_types.specs.ComponentTypes.{DefType, def_type}
 use Rattle.wenc_canon.specs.Canonicals.{Canonical, canonical}
 use Rattle.wenc_sections.specs.Instances.{CoreInstance, core_instance, Instance, instance}
 use Rattle.wenc_sections.specs.Imports.{Import, import_item}
@@ -21,7 +21,7 @@ pub data Item : Type 0 where
   ComponentItem : (bytes : List ℕ) → Item
   InstanceItem : (instance : Instance) → Item
   AliasItem : (to : AliasOf) → Item
-  TypeItem : (ty : TypeOf) → Item
+  TypeItem : (ty : DefType) → Item
   CanonItem : (function : Canonical) → Item
   StartItem : (start : Start) → Item
   ImportItem : (import : Import) → Item
@@ -64,7 +64,7 @@ item (CoreTypeItem t) = core_type t
 item (ComponentItem bytes) = section_number ids.Component ▸ byte_list bytes
 item (InstanceItem i) = instance i
 item (AliasItem to) = alias to
-item (TypeItem t) = type_of t
+item (TypeItem t) = def_type t
 item (CanonItem f) = canonical f
 item (StartItem s) = section_number ids.Start ▸ start s
 item (ImportItem i) = import_item i

@@ -1,26 +1,26 @@
 -- A builder as what encoders are lent.
 use Rattle.std.specs.Prelude.{◌≡◌, ℕ, Bool, false, List, length, nat_eq, Option, Some, None}
 use Rattle.wenc_base.specs.declared.fault.Fault.{Fault}
-use Rattle.wenc_builder.specs.Builder.{Begun, State, content_of, appended}
+use Rattle.wenc_builder.specs.Builder.{BegunItem, State, content_of, item_appended}
 use Rattle.wenc_builder.specs.Item.{Item, collected, item}
 use Rattle.wenc_builder.specs.Cause.{NoRoom}
-use Rattle.wenc_builder.specs.Space.{Defined, defines}
+use Rattle.wenc_builder.specs.Space.{Indices, defines}
 
 -- an item is being written of which there is nothing yet
-abbrev pub is_bare : Option Begun → Bool
-is_bare None = false
-is_bare (Some b) = nat_eq (length b.text) 0
+abbrev pub item_is_bare : Option BegunItem → Bool
+item_is_bare None = false
+item_is_bare (Some b) = nat_eq (length b.text) 0
 
-abbrev pub is_bare_in : State → Bool
-is_bare_in s = is_bare s.begun
+abbrev pub builder_is_bare : State → Bool
+builder_is_bare s = item_is_bare s.begun
 
 -- its section has no room for so many more bytes
-abbrev pub no_room : State → List ℕ → Fault → Type 0
-no_room s text = NoRoom (content_of (appended s text)).sections.current
+abbrev pub no_room_in_section : State → List ℕ → Fault → Type 0
+no_room_in_section s text = NoRoom (content_of (item_appended s text)).sections.current
 
 -- These bytes are the text of an item that the section with this id collects, and that takes these
 -- places; or of one that is a section of its own.
-pub record IsItemText (section : Option ℕ) (places : Option Defined) (bytes : List ℕ) : Type 0 where
+pub record IsItemText (section : Option ℕ) (places : Option Indices) (bytes : List ℕ) : Type 0 where
   pub value : Item
   pub collects : collected value ≡ section
   pub takes : defines value ≡ places
@@ -28,7 +28,7 @@ pub record IsItemText (section : Option ℕ) (places : Option Defined) (bytes : 
   pub is : bytes ≡ (item value).text
 
 -- what is being written is a whole item of its section, which takes one place in its space
-abbrev pub IsWhole : Option Begun → Type 0
+abbrev pub IsWhole : Option BegunItem → Type 0
 IsWhole None = ⊥
 IsWhole (Some b) = IsItemText (Some b.id) (Some (record { space = b.space; number = 1 })) b.text
 

@@ -3,7 +3,7 @@ use Rattle.std.specs.Prelude.{◌≡◌, ◌↔◌, ℕ, List, [], ◌∷◌, ma
 use Rattle.std.specs.Prelude.{false, Option, Some, None, Result, Ok, Err, OnErr}
 use Rattle.std.specs.Option.{MatchOption}
 use Rattle.wenc_base.specs.Piece.{Piece, Form, nothing, each}
-use Rattle.wenc_base.specs.Holder.{Held, holding}
+use Rattle.wenc_base.specs.Holder.{HolderState, holding}
 use Rattle.wenc_base.specs.declared.fault.Fault.{Fault}
 use Rattle.wenc_base.specs.declared.fault.Fault.TheVariants.{Unfinished}
 use Rattle.wenc_sections.specs.Names.{Subsection, subsection, subsections_text, name_subsections}
@@ -12,7 +12,7 @@ use Rattle.wenc_sections.specs.declared.names.Sort.{Sort}
 use Rattle.wenc_sections.specs.declared.names.Sort.TheVariants as sorts
 use Rattle.wenc_builder.specs.Entry.{Entry, custom_entry, names}
 use Rattle.wenc_builder.specs.Builder.{Namespace, namespace_at, State, builder_is_finished}
-use Rattle.wenc_builder.specs.Enters.{EntersPlaceless}
+use Rattle.wenc_builder.specs.Enters.{EntersWithoutIndex}
 use Rattle.wenc_builder.specs.Holds.{Holds}
 use Rattle.wenc_builder.specs.Space.{space_number}
 use Rattle.wenc_builder.specs.declared.builder.space.Space.{Space}
@@ -51,7 +51,7 @@ names_entry es = named_entry (name_subsections (by_sort (names es)))
 -- ---- as they are kept
 
 -- the names in a space
-abbrev pub names_held : Namespace → Held
+abbrev pub names_held : Namespace → HolderState
 names_held s = holding [] s.named s.names
 
 -- a piece, where there is something in it
@@ -60,16 +60,16 @@ unless_empty true p = nothing
 unless_empty false p = p
 
 -- the subsection of names that are kept, where there are some
-abbrev pub space_names : Form (Sort × Held)
+abbrev pub space_names : Form (Sort × HolderState)
 space_names p =
     unless_empty (nat_eq p.1.count 0) (held_subsection p.0 p.1)
 
 -- there is no name at all
-abbrev pub none_named : List (Sort × Held) → Bool
+abbrev pub none_named : List (Sort × HolderState) → Bool
 none_named [] = true
 none_named (p ∷ ps) = if nat_eq p.1.count 0 then none_named ps else false
 
-abbrev pub kept_names : State → List (Sort × Held)
+abbrev pub kept_names : State → List (Sort × HolderState)
 kept_names s = by_sort (λ k. names_held (namespace_at s.settled.spaces k))
 
 -- ---- the call
@@ -79,11 +79,11 @@ kept_names s = by_sort (λ k. names_held (namespace_at s.settled.spaces k))
 pub record AddsNames (old new : State) (result : Result (Unit {0}) Fault) : Type 0 where
   pub held : (es : List Entry) → Holds old es
       → MatchOption (names_entry es) ((result ≡ Ok tt) × (new ≡ old))
-      (λ x. EntersPlaceless old new result x)
+      (λ x. EntersWithoutIndex old new result x)
   pub none : none_named (kept_names old) ≡ true → builder_is_finished old ≡ true
       → (result ≡ Ok tt) × (new ≡ old)
   pub some : none_named (kept_names old) ≡ false
-      → EntersPlaceless old new result
+      → EntersWithoutIndex old new result
       (custom_entry names_label (each space_names (kept_names old)).text)
   pub err : OnErr result (new ≡ old)
   pub unfinished : (builder_is_finished old ≡ false) ↔ (result ≡ Err Unfinished)

@@ -2,7 +2,7 @@
 -- "Component Definitions").
 use Rattle.std.specs.Prelude.{◌≡◌, ℕ, ◌∷◌, [], List, Option, Some, None, Bool, ◌||◌, IsTrue, nat_eq}
 use Rattle.std.specs.Prelude.{if◌then◌else◌}
-use Rattle.wenc_base.specs.Piece.{Spelling, Whole, Form, ◌▸◌, only_where, end, ◌⨾⨾◌}
+use Rattle.wenc_base.specs.Piece.{Spelling, Payload, Form, ◌▸◌, only_where, end, ◌⨾⨾◌}
 use Rattle.wenc_base.specs.Forms.{counted}
 use Rattle.wenc_parts.specs.declared.component.ComponentSectionId.TheVariants as ids
 use Rattle.wenc_parts.specs.SectionIds.{section_number}
@@ -56,11 +56,11 @@ abbrev pub section_piece : Form Section
 section_piece (Run id xs) = only_where (IsTrue (collects id)) (id ▸ counted (item_of id) xs)
 section_piece (Alone x) = only_where (collected x ≡ None) (item x)
 
-abbrev pub sections : List Section → Whole
+abbrev pub sections : List Section → Payload
 sections [] = end
 sections (s ∷ ss) = section_piece s ⨾⨾ sections ss
 
-abbrev pub component : List Section → Whole
+abbrev pub component : List Section → Payload
 component ss = preamble ⨾⨾ sections ss
 
 -- The bytes are a component with these sections, and nothing else.

@@ -1,4 +1,4 @@
--- Index spaces: which one an item defines in, and the place that it gets (component model,
+-- Index spaces: which one an item defines in, and the next_index that it gets (component model,
 -- explainer, "Index Spaces").
 use Rattle.std.specs.Prelude.{◌≡◌, ℕ, ◌+◌, List, [], ◌∷◌, Option, Some, None, nat_eq, if◌then◌else◌}
 use Rattle.wenc_parts.specs.declared.exports.ComponentExportKind.{ComponentExportKind}
@@ -18,7 +18,7 @@ use Rattle.wenc_builder.specs.declared.builder.space.Space.TheVariants.{Funcs, I
 use Rattle.wenc_builder.specs.declared.builder.space.Space.TheVariants.{Components, Types}
 use Rattle.wenc_parts.specs.Imports.{kind_of}
 use Rattle.wenc_parts.specs.Aliases.{AliasOf, InstanceExport, CoreInstanceExport, Outer}
-use Rattle.wenc_canon.specs.Canonicals.{Canonical, Lift, Lower, Provided}
+use Rattle.wenc_canon.specs.Canonicals.{Canonical, Lift, Lower, OfBuiltin}
 use Rattle.wenc_builder.specs.Item.{Item, ModuleItem, CoreInstanceItem, CoreTypeItem, ComponentItem}
 use Rattle.wenc_builder.specs.Item.{InstanceItem, AliasItem, TypeItem, CanonItem, StartItem}
 use Rattle.wenc_builder.specs.Item.{ImportItem, ExportItem, CustomItem, RawItem}
@@ -69,21 +69,21 @@ alias_space (Outer kind count number) = outer_kind_space kind
 abbrev pub canonical_space : Canonical → Space
 canonical_space (Lift function options ty) = Funcs
 canonical_space (Lower function options) = CoreFuncs
-canonical_space (Provided i values) = CoreFuncs
+canonical_space (OfBuiltin i values) = CoreFuncs
 
 -- so many places in this space
-pub record Defined : Type 0 where
+pub record Indices : Type 0 where
   pub space : ℕ
   pub number : ℕ
 
-abbrev pub defined_as : Space → ℕ → Defined
-defined_as s number = record { space = space_number s; number = number }
+abbrev pub indices_in : Space → ℕ → Indices
+indices_in s number = record { space = space_number s; number = number }
 
-abbrev pub some_in : Space → ℕ → Option Defined
-some_in s number = Some (defined_as s number)
+abbrev pub some_in : Space → ℕ → Option Indices
+some_in s number = Some (indices_in s number)
 
 -- the places that an item takes, where it takes any
-abbrev pub defines : Item → Option Defined
+abbrev pub defines : Item → Option Indices
 defines (ModuleItem bytes) = some_in CoreModules 1
 defines (CoreInstanceItem instance) = some_in CoreInstances 1
 defines (CoreTypeItem ty) = some_in CoreTypes 1
@@ -99,7 +99,7 @@ defines (CustomItem custom) = None
 defines (RawItem bytes) = None
 
 -- how many of these places are in space k
-abbrev pub number_in : ℕ → Option Defined → ℕ
+abbrev pub number_in : ℕ → Option Indices → ℕ
 number_in k None = 0
 number_in k (Some d) = if nat_eq d.space k then d.number else 0
 
@@ -107,23 +107,23 @@ number_in k (Some d) = if nat_eq d.space k then d.number else 0
 abbrev pub defined_in : ℕ → Item → ℕ
 defined_in k x = number_in k (defines x)
 
--- how many the items take in space k: the place there of what comes next
-abbrev pub place : List Item → ℕ → ℕ
-place [] k = 0
-place (x ∷ xs) k = defined_in k x + place xs k
+-- how many the items take in space k: the next_index there of what comes next
+abbrev pub next_index : List Item → ℕ → ℕ
+next_index [] k = 0
+next_index (x ∷ xs) k = defined_in k x + next_index xs k
 
 -- This is the first of these places, for an item that comes next.
-abbrev pub IsPlaceAt : List Item → Option Defined → ℕ → Type 0
-IsPlaceAt xs None i = ⊥
-IsPlaceAt xs (Some d) i = i ≡ place xs d.space
+abbrev pub IsIndexAt : List Item → Option Indices → ℕ → Type 0
+IsIndexAt xs None i = ⊥
+IsIndexAt xs (Some d) i = i ≡ next_index xs d.space
 
-abbrev pub IsPlaceOf : List Item → Item → ℕ → Type 0
-IsPlaceOf xs x i = IsPlaceAt xs (defines x) i
+abbrev pub IsIndexOf : List Item → Item → ℕ → Type 0
+IsIndexOf xs x i = IsIndexAt xs (defines x) i
 
 -- the first of these places, where there are any
-abbrev pub place_at : List Item → Option Defined → Option ℕ
-place_at xs None = None
-place_at xs (Some d) = Some (place xs d.space)
+abbrev pub index_at : List Item → Option Indices → Option ℕ
+index_at xs None = None
+index_at xs (Some d) = Some (next_index xs d.space)
 
-abbrev pub place_of : List Item → Item → Option ℕ
-place_of xs x = place_at xs (defines x)
+abbrev pub index_of : List Item → Item → Option ℕ
+index_of xs x = index_at xs (defines x)

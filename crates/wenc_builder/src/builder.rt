@@ -14,11 +14,11 @@ ghost use Rattle.wenc_canon.specs.CanonTrees.{canon_view};
 ghost use Rattle.wenc_builder.specs.Sections.{Section, runs, Reading, whole};
 ghost use Rattle.wenc_builder.specs.Entry.{Entry, items, module_entry, component_entry, canonical_entry, start_entry, custom_entry, raw_entry};
 ghost use Rattle.wenc_builder.specs.Entry.{import_entry, export_entry, alias_entry, alias_export_entry, core_alias_export_entry};
-ghost use Rattle.wenc_builder.specs.Builder.{builder_is_finished, sections_text, count_in, begun_with, ended, builder_given_up};
+ghost use Rattle.wenc_builder.specs.Builder.{builder_is_finished, sections_text, count_in, item_begun, item_ended, item_given_up};
 ghost use Rattle.wenc_builder.specs.Holds.{Holds};
-ghost use Rattle.wenc_builder.specs.Enters.{Enters, EntersListed, EntersPlaceless, Takes, TakesDraft};
+ghost use Rattle.wenc_builder.specs.Enters.{Enters, EntersListed, EntersWithoutIndex, Takes, TakesDraft};
 ghost use Rattle.wenc_builder.specs.inside.Takes.{TakesAlone, TakesNoPlace, AppendsListed, TakesListed, IsItemPiece};
-ghost use Rattle.wenc_builder.specs.Space.{defined_as, some_in, canonical_space};
+ghost use Rattle.wenc_builder.specs.Space.{indices_in, some_in, canonical_space};
 ghost use Rattle.wenc_builder.specs.Lent.{is_whole};
 ghost use Rattle.wenc_builder.specs.Raw.{HasNoRaw};
 ghost use Rattle.wenc_builder.specs.inside.Layout.{draft_of, kind_id};
@@ -197,7 +197,7 @@ impl<A: Allocator> ComponentBuilder<A> {
     /// Begins an item, which `give_up` takes back until it is ended. Answers its index.
     fn begin(&mut self, kind: Kind, space: Space, name: Option<&str>) -> Result<u32, Fault>
         ensures { Takes self.old self.new
-            (begun_with self.old (draft_of kind space (option_copied name.entry) []))
+            (item_begun self.old (draft_of kind space (option_copied name.entry) []))
             result (draft_of kind space (option_copied name.entry) []) nothing }
     {
         if !self.buffer.is_finished() {
@@ -219,7 +219,7 @@ impl<A: Allocator> ComponentBuilder<A> {
     fn end(&mut self)
         requires unfinished { builder_is_finished self.old ≡ false }
         requires whole { ∥ is_whole self.old ∥₁ }
-        ensures { self.new ≡ ended self.old }
+        ensures { self.new ≡ item_ended self.old }
     {
         self.buffer.end();
         self.spaces.end();
@@ -228,7 +228,7 @@ impl<A: Allocator> ComponentBuilder<A> {
     /// Gives up the item that is being written. It takes no memory.
     fn give_up(&mut self)
         requires { builder_is_finished self.old ≡ false }
-        ensures { self.new ≡ builder_given_up self.old }
+        ensures { self.new ≡ item_given_up self.old }
     {
         self.buffer.give_up();
         self.spaces.give_up();
@@ -329,7 +329,7 @@ impl<A: Allocator> ComponentBuilder<A> {
         section: &E,
     ) -> Result<u32, Fault>
         requires { IsItemPiece None (some_in space number) (E.piece section.now) }
-        ensures { TakesAlone self.old self.new result (defined_as space number)
+        ensures { TakesAlone self.old self.new result (indices_in space number)
             (option_copied name.entry) (E.piece section.now) }
     {
         if !self.buffer.is_finished() {
@@ -641,7 +641,7 @@ impl<A: Allocator> ComponentBuilder<A> {
 
     /// Adds a custom section. Refused as the type says.
     pub fn custom_section(&mut self, section: &CustomSection<'_>) -> Result<(), Fault>
-        ensures { EntersPlaceless self.old self.new result
+        ensures { EntersWithoutIndex self.old self.new result
             (custom_entry section.now.name.now section.now.data.now) }
     {
         self.place_nowhere(&Tagged(ComponentSectionId::CoreCustom.into(), section))
@@ -650,7 +650,7 @@ impl<A: Allocator> ComponentBuilder<A> {
     /// Adds a custom section with these bytes behind its id. Nothing checks that they are such a section's. Refused as
     /// the type says.
     pub fn raw_custom_section(&mut self, section: &[u8]) -> Result<(), Fault>
-        ensures { EntersPlaceless self.old self.new result (raw_entry section.now) }
+        ensures { EntersWithoutIndex self.old self.new result (raw_entry section.now) }
     {
         let raw = RawCustomSection(section);
         self.place_nowhere(&Tagged(ComponentSectionId::CoreCustom.into(), &raw))
@@ -668,7 +668,7 @@ impl<A: Allocator> ComponentBuilder<A> {
     /// Gives up the item that is being written, with its index, its debug name and its place in a section, and says
     /// whether there was one. It takes no memory.
     pub fn discard_unfinished(&mut self) -> bool
-        ensures { GivesUp self.new (builder_given_up self.old)
+        ensures { GivesUp self.new (item_given_up self.old)
             (builder_is_finished self.old) result }
     {
         if self.is_finished() {
@@ -703,21 +703,21 @@ impl<A: Allocator> ComponentBuilder<A> {
 /// A builder lends itself to the encoders of types. Until an encoder's last call has ended its item, what grows or
 /// finishes the builder is refused with `Unfinished`; `discard_unfinished` gives the item up.
 impl<A: Allocator> Lender for ComponentBuilder<A> {
-    ghost use Rattle.wenc_builder.specs.Builder.{builder_is_finished, appended, ended};
-    ghost use Rattle.wenc_builder.specs.Lent.{is_bare_in, is_whole, no_room};
+    ghost use Rattle.wenc_builder.specs.Builder.{builder_is_finished, item_appended, item_ended};
+    ghost use Rattle.wenc_builder.specs.Lent.{builder_is_bare, is_whole, no_room_in_section};
     ghost use Rattle.wenc_builder.specs.laws.Lent.{bare_is_begun, still_begun, appended_twice};
 
     ghost finished = { builder_is_finished };
 
-    ghost opened = { is_bare_in };
+    ghost opened = { builder_is_bare };
 
-    ghost written = { appended };
+    ghost written = { item_appended };
 
     ghost is_whole = { is_whole };
 
-    ghost ended = { ended };
+    ghost item_ended = { item_ended };
 
-    ghost refuses = { no_room };
+    ghost refuses = { no_room_in_section };
 
     ghost begins = { bare_is_begun };
 

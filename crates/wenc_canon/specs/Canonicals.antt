@@ -5,7 +5,7 @@ use Rattle.wenc_base.specs.Piece.{Form, byte, nothing, ◌▸◌, ◌⨾◌}
 use Rattle.wenc_base.specs.Number.{u32}
 use Rattle.wenc_base.specs.Forms.{flag, list}
 use Rattle.wenc_base.specs.Types.{val_type}
-use Rattle.wenc_base.specs.Holder.{Held, AddsMember, AddsListed}
+use Rattle.wenc_base.specs.Holder.{HolderState, AddsMember, AddsListed}
 use Rattle.wenc_base.specs.declared.fault.Fault.{Fault}
 use Rattle.wenc_base.specs.declared.types.ValType.{ValType}
 use Rattle.wenc_parts.specs.declared.types.ComponentValType.{ComponentValType}
@@ -77,54 +77,54 @@ fields (f ∷ g ∷ fs) vs = field f vs.0 ⨾ fields (g ∷ fs) vs.1
 -- ---- the table
 
 -- a function that the component model provides
-pub data Intrinsic : Type 0 where
-  ResourceNew : Intrinsic
-  ResourceDrop : Intrinsic
-  ResourceRep : Intrinsic
-  TaskCancel : Intrinsic
-  SubtaskCancel : Intrinsic
-  TaskReturn : Intrinsic
-  ContextGet : Intrinsic
-  ContextSet : Intrinsic
-  ThreadYield : Intrinsic
-  SubtaskDrop : Intrinsic
-  StreamNew : Intrinsic
-  StreamRead : Intrinsic
-  StreamWrite : Intrinsic
-  StreamCancelRead : Intrinsic
-  StreamCancelWrite : Intrinsic
-  StreamDropReadable : Intrinsic
-  StreamDropWritable : Intrinsic
-  FutureNew : Intrinsic
-  FutureRead : Intrinsic
-  FutureWrite : Intrinsic
-  FutureCancelRead : Intrinsic
-  FutureCancelWrite : Intrinsic
-  FutureDropReadable : Intrinsic
-  FutureDropWritable : Intrinsic
-  ErrorContextNew : Intrinsic
-  ErrorContextDebugMessage : Intrinsic
-  ErrorContextDrop : Intrinsic
-  WaitableSetNew : Intrinsic
-  WaitableSetWait : Intrinsic
-  WaitableSetPoll : Intrinsic
-  WaitableSetDrop : Intrinsic
-  WaitableJoin : Intrinsic
-  BackpressureInc : Intrinsic
-  BackpressureDec : Intrinsic
-  ThreadIndex : Intrinsic
-  ThreadNewIndirect : Intrinsic
-  ThreadResumeLater : Intrinsic
-  ThreadSuspend : Intrinsic
-  ThreadSuspendThenResume : Intrinsic
-  ThreadYieldThenResume : Intrinsic
-  ThreadSuspendThenPromote : Intrinsic
-  ThreadYieldThenPromote : Intrinsic
-  StreamForward : Intrinsic
-  FutureForward : Intrinsic
-  ThreadSpawnRef : Intrinsic
-  ThreadSpawnIndirect : Intrinsic
-  ThreadAvailableParallelism : Intrinsic
+pub data Builtin : Type 0 where
+  ResourceNew : Builtin
+  ResourceDrop : Builtin
+  ResourceRep : Builtin
+  TaskCancel : Builtin
+  SubtaskCancel : Builtin
+  TaskReturn : Builtin
+  ContextGet : Builtin
+  ContextSet : Builtin
+  ThreadYield : Builtin
+  SubtaskDrop : Builtin
+  StreamNew : Builtin
+  StreamRead : Builtin
+  StreamWrite : Builtin
+  StreamCancelRead : Builtin
+  StreamCancelWrite : Builtin
+  StreamDropReadable : Builtin
+  StreamDropWritable : Builtin
+  FutureNew : Builtin
+  FutureRead : Builtin
+  FutureWrite : Builtin
+  FutureCancelRead : Builtin
+  FutureCancelWrite : Builtin
+  FutureDropReadable : Builtin
+  FutureDropWritable : Builtin
+  ErrorContextNew : Builtin
+  ErrorContextDebugMessage : Builtin
+  ErrorContextDrop : Builtin
+  WaitableSetNew : Builtin
+  WaitableSetWait : Builtin
+  WaitableSetPoll : Builtin
+  WaitableSetDrop : Builtin
+  WaitableJoin : Builtin
+  BackpressureInc : Builtin
+  BackpressureDec : Builtin
+  ThreadIndex : Builtin
+  ThreadNewIndirect : Builtin
+  ThreadResumeLater : Builtin
+  ThreadSuspend : Builtin
+  ThreadSuspendThenResume : Builtin
+  ThreadYieldThenResume : Builtin
+  ThreadSuspendThenPromote : Builtin
+  ThreadYieldThenPromote : Builtin
+  StreamForward : Builtin
+  FutureForward : Builtin
+  ThreadSpawnRef : Builtin
+  ThreadSpawnIndirect : Builtin
+  ThreadAvailableParallelism : Builtin
 
 -- its name (component model, explainer, "Canonical Built-ins"), its opcode, its fields
 pub record Row : Type 0 where
@@ -136,7 +136,7 @@ infixr 10 ◌is◌takes◌
 abbrev pub ◌is◌takes◌ : List ℕ → ℕ → List Field → Row
 name is opcode takes fs = record { name = name; opcode = opcode; fields = fs }
 
-abbrev pub row : Intrinsic → Row
+abbrev pub row : Builtin → Row
 row ResourceNew = codes "resource.new" is 0x02 takes Index ∷ []
 row ResourceDrop = codes "resource.drop" is 0x03 takes Index ∷ []
 row ResourceRep = codes "resource.rep" is 0x04 takes Index ∷ []
@@ -186,7 +186,7 @@ row ThreadSpawnIndirect = codes "thread.spawn-indirect" is 0x41 takes Index ∷ 
 row ThreadAvailableParallelism = codes "thread.available-parallelism" is 0x42 takes []
 
 -- all of them
-abbrev pub intrinsics : List Intrinsic
+abbrev pub intrinsics : List Builtin
 intrinsics =
     ResourceNew ∷ ResourceDrop ∷ ResourceRep ∷ TaskCancel ∷ SubtaskCancel ∷ TaskReturn ∷
     ContextGet ∷ ContextSet ∷ ThreadYield ∷ SubtaskDrop ∷ StreamNew ∷ StreamRead ∷ StreamWrite ∷
@@ -212,7 +212,7 @@ slots_text (f ∷ []) v = slot_text f v
 slots_text (f ∷ g ∷ fs) vs = slot_text f vs.0 ++ slots_text (g ∷ fs) vs.1
 
 -- the name of an intrinsic with these values
-abbrev pub name_of : (i : Intrinsic) → Values (row i).fields → List ℕ
+abbrev pub name_of : (i : Builtin) → Values (row i).fields → List ℕ
 name_of i values = (row i).name ++ slots_text (row i).fields values
 
 -- ---- canonical functions
@@ -222,29 +222,29 @@ name_of i values = (row i).name ++ slots_text (row i).fields values
 pub data Canonical : Type 0 where
   Lift : ℕ → List CanonicalOption → ℕ → Canonical
   Lower : ℕ → List CanonicalOption → Canonical
-  Provided : (i : Intrinsic) → Values (row i).fields → Canonical
+  OfBuiltin : (i : Builtin) → Values (row i).fields → Canonical
 
 abbrev pub canonical : Form Canonical
 canonical (Lift function options type_index) =
     0x00 ▸ 0x00 ▸ u32 function ⨾ list canonical_option options ⨾ u32 type_index
 canonical (Lower function options) = 0x01 ▸ 0x00 ▸ u32 function ⨾ list canonical_option options
-canonical (Provided i values) = (row i).opcode ▸ fields (row i).fields values
+canonical (OfBuiltin i values) = (row i).opcode ▸ fields (row i).fields values
 
 -- its name, without the number of a slot
-abbrev pub own_name : Canonical → List ℕ
-own_name (Lift function options type_index) = codes "lift"
-own_name (Lower function options) = codes "lower"
-own_name (Provided i values) = (row i).name
+abbrev pub canonical_name : Canonical → List ℕ
+canonical_name (Lift function options type_index) = codes "lift"
+canonical_name (Lower function options) = codes "lower"
+canonical_name (OfBuiltin i values) = (row i).name
 
 -- ---- what the calls of a section add
 
 -- this intrinsic, with the values of its fields
-abbrev pub Adds : Held → Held → Result (Unit {0}) Fault → (i : Intrinsic) → Values (row i).fields
+abbrev pub Adds : HolderState → HolderState → Result (Unit {0}) Fault → (i : Builtin) → Values (row i).fields
     → Type 0
-Adds old new outcome i values = AddsMember (canonical (Provided i values)) old new outcome
+Adds old new outcome i values = AddsMember (canonical (OfBuiltin i values)) old new outcome
 
 -- a function that is made of the options which an iterator gives
-abbrev pub AddsWithOptions : {S : Type 0} → (S → Option CanonicalOption → S → Type 0) → S → Held
-    → Held → Result (Unit {0}) Fault → (List CanonicalOption → Canonical) → Type 0
+abbrev pub AddsWithOptions : {S : Type 0} → (S → Option CanonicalOption → S → Type 0) → S → HolderState
+    → HolderState → Result (Unit {0}) Fault → (List CanonicalOption → Canonical) → Type 0
 AddsWithOptions steps options old new outcome function =
     AddsListed steps options (λ os. canonical (function os)) old new outcome

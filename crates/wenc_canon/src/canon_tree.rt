@@ -204,12 +204,12 @@ pub enum CanonTree<A: Allocator = Global> {
 impl<A: Allocator> CanonTree<A> {
     ghost use Rattle.std.specs.Prelude.{◌≡◌};
     ghost use Rattle.wenc_canon.specs.CanonTrees.{canon_view};
-    ghost use Rattle.wenc_canon.specs.inside.Operands.{behind};
-    ghost use Rattle.wenc_canon.specs.Canonicals.{own_name};
+    ghost use Rattle.wenc_canon.specs.inside.Operands.{operand_behind};
+    ghost use Rattle.wenc_canon.specs.Canonicals.{canonical_name};
 
     /// The name of the function, without the number of a slot.
     pub fn name(&self) -> &'static str
-        ensures { result.now ≡ own_name (canon_view self.now) }
+        ensures { result.now ≡ canonical_name (canon_view self.now) }
     {
         self.parts().0.name
     }
@@ -218,8 +218,8 @@ impl<A: Allocator> CanonTree<A> {
     #[tactic(auto, using(wenc_base::specs::laws::Serves::serves_itself))]
     #[inline(always)]
     fn parts(&self) -> (Row, Operands<'_, A>)
-        ensures name { result.0.name.now ≡ own_name (canon_view self.now) }
-        ensures form { Serves (behind result.0.opcode result.1)
+        ensures name { result.0.name.now ≡ canonical_name (canon_view self.now) }
+        ensures form { Serves (operand_behind result.0.opcode result.1)
             (canonical (canon_view self.now)) }
     {
         match self {
@@ -375,13 +375,13 @@ enum Operands<'a, A: Allocator> {
 }
 
 impl<'a, A: Allocator> Operands<'a, A> {
-    ghost use Rattle.wenc_canon.specs.inside.Operands.{behind};
+    ghost use Rattle.wenc_canon.specs.inside.Operands.{operand_behind};
 
     /// Writes what begins with this opcode, and has these behind it.
     fn encode_behind<B: Allocator>(&self, opcode: u8, sink: &mut Vec<u8, B>) -> Result<(), Fault>
-        ensures appended { let p = behind opcode self.now in
+        ensures appended { let p = operand_behind opcode self.now in
             Appends p.text p.Cause ⊥ sink.old.items sink.new.items result }
-        ensures fits { OnOk result (behind opcode self.now).Fits }
+        ensures fits { OnOk result (operand_behind opcode self.now).Fits }
     {
         match self {
             Operands::Lifted(core_func, ty, options) => lifted(core_func, *ty, options, sink),

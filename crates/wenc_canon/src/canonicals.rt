@@ -68,7 +68,7 @@ impl Encode for CanonicalOption {
 
 impl Delimited for CanonicalOption {
     ghost use Rattle.wenc_canon.specs.Canonicals.{canonical_option};
-    ghost use Rattle.wenc_canon.specs.laws.Canonicals.{read_option, canonical_option_lawful};
+    ghost use Rattle.wenc_canon.specs.laws.Canonicals.{read_canonical_option, canonical_option_lawful};
     ghost use Rattle.wenc_canon.specs.declared.canonicals.CanonicalOption.{CanonicalOption as Seen'};
 
     ghost Seen = { Seen' };
@@ -77,7 +77,7 @@ impl Delimited for CanonicalOption {
 
     ghost form = { canonical_option };
 
-    ghost readable = { ((λ fuel. read_option), canonical_option_lawful) };
+    ghost readable = { ((λ fuel. read_canonical_option), canonical_option_lawful) };
 
     ghost written = { λ _. serves_itself };
 }
@@ -104,12 +104,12 @@ pub struct CanonicalFunctionSection<A: Allocator = Global> {
 }
 
 impl<A: Allocator> Model for CanonicalFunctionSection<A> {
-    ghost use Rattle.wenc_base.specs.Holder.{Held};
+    ghost use Rattle.wenc_base.specs.Holder.{HolderState};
     ghost use Rattle.wenc_base.specs.Openings.{HasMembers};
     ghost use Rattle.wenc_base.specs.Piece.{HasForm};
     ghost use Rattle.wenc_canon.specs.Canonicals.{canonical};
 
-    ghost Value = { Held };
+    ghost Value = { HolderState };
 
     ghost view = { λ s. s.functions };
 

@@ -16,13 +16,13 @@ pub record Front {A : Type 0} (form : Form A) (P : List ℕ → Type 0) (bytes :
   pub next : P left
 
 -- this byte, and then bytes of which P holds
-abbrev pub Behind : ℕ → (List ℕ → Type 0) → List ℕ → Type 0
-Behind b P bytes = (rest : List ℕ) × (bytes ≡ b ∷ rest) × P rest
+abbrev pub ByteThen : ℕ → (List ℕ → Type 0) → List ℕ → Type 0
+ByteThen b P bytes = (rest : List ℕ) × (bytes ≡ b ∷ rest) × P rest
 
 -- A type of a component or of an instance opens here, and then so many more inside one another,
 -- each before anything that is no declaration.
-abbrev pub Enters : ℕ → List ℕ → Type 0
-Enters zero bytes = Behind 0x41 (λ rest. Unit {0}) bytes ⊎ Behind 0x42 (λ rest. Unit {0}) bytes
-Enters (suc more) bytes =
-    Behind 0x41 (Front component_declaration (Behind 0x01 (Enters more))) bytes
-    ⊎ Behind 0x42 (Front instance_declaration (Behind 0x01 (Enters more))) bytes
+abbrev pub OpensTypes : ℕ → List ℕ → Type 0
+OpensTypes zero bytes = ByteThen 0x41 (λ rest. Unit {0}) bytes ⊎ ByteThen 0x42 (λ rest. Unit {0}) bytes
+OpensTypes (suc more) bytes =
+    ByteThen 0x41 (Front component_declaration (ByteThen 0x01 (OpensTypes more))) bytes
+    ⊎ ByteThen 0x42 (Front instance_declaration (ByteThen 0x01 (OpensTypes more))) bytes

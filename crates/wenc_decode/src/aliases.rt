@@ -1,5 +1,5 @@
 //! Aliases. Each begins with a sort, which may be an instance's export or an outer item.
-ghost use Rattle.wenc_decode.specs.inside.Aliases.{read_exported, read_core_alias};
+ghost use Rattle.wenc_decode.specs.inside.Aliases.{read_exported_alias, read_core_alias};
 ghost use Rattle.wenc_parts.specs.Aliases.{alias_tree_view};
 ghost use Rattle.wenc_parts.specs.laws.Aliases.{read_alias, read_export, read_core_export, read_outer, read_either};
 ghost use Rattle.wenc_read.specs.inside.Gives.{Gives};
@@ -74,7 +74,7 @@ fn export_alone<A: Allocator + Copy>(
     kind: ComponentExportKind,
     bytes: &[u8],
 ) -> Result<(AliasTree<A>, &[u8]), Refusal>
-    ensures { Gives (λ x. (alias_tree_view x.0, x.1.now)) result (read_exported kind bytes.now) }
+    ensures { Gives (λ x. (alias_tree_view x.0, x.1.now)) result (read_exported_alias kind bytes.now) }
 {
     match byte(bytes)? {
         (0x00, rest) => export(alloc, kind, rest),

@@ -14,13 +14,13 @@ use wenc_read::{Refusal, byte};
 
 impl<A: Allocator + Copy> Decode<A> for CanonicalOption {
     ghost use Rattle.wenc_canon.specs.declared.canonicals.CanonicalOption.{CanonicalOption as Value'};
-    ghost use Rattle.wenc_canon.specs.laws.Canonicals.{read_option};
+    ghost use Rattle.wenc_canon.specs.laws.Canonicals.{read_canonical_option};
 
     ghost Value = { Value' };
 
     ghost view = { λ o. o };
 
-    ghost read = { read_option };
+    ghost read = { read_canonical_option };
 
     #[tactic(auto, unfolding(wenc_base::specs::laws::Lawful::choose))]
     fn decode<'a>(alloc: A, bytes: &'a [u8]) -> Result<(CanonicalOption, &'a [u8]), Refusal> {

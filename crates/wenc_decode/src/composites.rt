@@ -1,6 +1,6 @@
 //! The types that modules define, alone and in groups.
 ghost use Rattle.std.specs.Prelude.{Some, false, true};
-ghost use Rattle.wenc_base.specs.Composites.{composite_view, sub_view, group_view};
+ghost use Rattle.wenc_base.specs.Composites.{composite_view, sub_view, rec_type_view};
 ghost use Rattle.wenc_base.specs.laws.Composites.{read_composite, read_sub_type, read_group, read_closed, read_extension, sub_of};
 ghost use Rattle.wenc_read.specs.inside.Gives.{Gives};
 
@@ -154,11 +154,11 @@ fn closed<A: Allocator + Copy>(alloc: A, bytes: &[u8]) -> Result<(SubType<A>, &[
 }
 
 impl<A: Allocator + Copy> Decode<A> for GroupTree<A> {
-    ghost use Rattle.wenc_base.specs.Composites.{Group};
+    ghost use Rattle.wenc_base.specs.Composites.{RecType};
 
-    ghost Value = { Group };
+    ghost Value = { RecType };
 
-    ghost view = { group_view };
+    ghost view = { rec_type_view };
 
     ghost read = { read_group };
 

@@ -13,15 +13,15 @@ use wenc_types::{CaseTree, DefinedTree};
 
 /// A field or a parameter.
 impl<A: Allocator + Copy> Decode<A> for (String<A>, ComponentValType) {
-    ghost use Rattle.wenc_types.specs.DefinedTypes.{Named};
+    ghost use Rattle.wenc_types.specs.DefinedTypes.{LabelledType};
     ghost use Rattle.wenc_types.specs.TypeTrees.{named_view};
-    ghost use Rattle.wenc_types.specs.laws.DefinedTypes.{read_named};
+    ghost use Rattle.wenc_types.specs.laws.DefinedTypes.{read_labelled_type};
 
-    ghost Value = { Named };
+    ghost Value = { LabelledType };
 
     ghost view = { named_view };
 
-    ghost read = { read_named };
+    ghost read = { read_labelled_type };
 
     #[inline(always)]
     fn decode<'a>(
@@ -143,10 +143,10 @@ fn of_handle<A: Allocator + Copy>(
 }
 
 impl<A: Allocator + Copy> Decode<A> for DefinedTree<A> {
-    ghost use Rattle.wenc_types.specs.DefinedTypes.{Defined};
+    ghost use Rattle.wenc_types.specs.DefinedTypes.{DefValType};
     ghost use Rattle.wenc_types.specs.laws.DefinedTypes.{read_defined};
 
-    ghost Value = { Defined };
+    ghost Value = { DefValType };
 
     ghost view = { defined_view };
 

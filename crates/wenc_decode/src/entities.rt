@@ -190,13 +190,13 @@ impl<A: Allocator + Copy> Decode<A> for EntityType {
 
 impl<A: Allocator + Copy> Decode<A> for ExportKind {
     ghost use Rattle.wenc_base.specs.declared.exports.ExportKind.{ExportKind as Value'};
-    ghost use Rattle.wenc_base.specs.laws.Exports.{read_export_kind};
+    ghost use Rattle.wenc_base.specs.laws.Exports.{read_core_export_kind};
 
     ghost Value = { Value' };
 
     ghost view = { λ k. k };
 
-    ghost read = { read_export_kind };
+    ghost read = { read_core_export_kind };
 
     #[tactic(auto, unfolding(wenc_base::specs::laws::Lawful::choose))]
     fn decode<'a>(_alloc: A, bytes: &'a [u8]) -> Result<(ExportKind, &'a [u8]), Refusal> {

@@ -6,13 +6,13 @@ use wenc_read::{Refusal, byte};
 
 impl<A: Allocator + Copy> Decode<A> for ComponentExportKind {
     ghost use Rattle.wenc_parts.specs.declared.exports.ComponentExportKind.{ComponentExportKind as Value'};
-    ghost use Rattle.wenc_parts.specs.laws.Exports.{read_export_kind};
+    ghost use Rattle.wenc_parts.specs.laws.Exports.{read_component_export_kind};
 
     ghost Value = { Value' };
 
     ghost view = { λ k. k };
 
-    ghost read = { read_export_kind };
+    ghost read = { read_component_export_kind };
 
     #[tactic(auto, unfolding(wenc_base::specs::laws::Lawful::choose))]
     fn decode<'a>(_alloc: A, bytes: &'a [u8]) -> Result<(ComponentExportKind, &'a [u8]), Refusal> {

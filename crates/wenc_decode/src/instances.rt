@@ -54,13 +54,13 @@ impl<A: Allocator + Copy> Decode<A> for (String<A>, ModuleArg) {
 impl<A: Allocator + Copy> Decode<A> for (String<A>, ExportKind, u32) {
     ghost use Rattle.wenc_sections.specs.InstanceTrees.{core_export_tree_view};
     ghost use Rattle.wenc_sections.specs.Instances.{CoreExport};
-    ghost use Rattle.wenc_sections.specs.laws.Items.{read_core_export};
+    ghost use Rattle.wenc_sections.specs.laws.Items.{read_inline_core_export};
 
     ghost Value = { CoreExport };
 
     ghost view = { core_export_tree_view };
 
-    ghost read = { read_core_export };
+    ghost read = { read_inline_core_export };
 
     fn decode<'a>(
         alloc: A,
@@ -104,10 +104,10 @@ impl<A: Allocator + Copy> Decode<A> for CoreInstanceTree<A> {
 /// What a component is given under a name.
 impl<A: Allocator + Copy> Decode<A> for (String<A>, ComponentExportKind, u32) {
     ghost use Rattle.wenc_sections.specs.InstanceTrees.{given_tree_view};
-    ghost use Rattle.wenc_sections.specs.Instances.{Given};
+    ghost use Rattle.wenc_sections.specs.Instances.{InstantiateArg};
     ghost use Rattle.wenc_sections.specs.laws.Items.{read_given};
 
-    ghost Value = { Given };
+    ghost Value = { InstantiateArg };
 
     ghost view = { given_tree_view };
 
@@ -127,14 +127,14 @@ impl<A: Allocator + Copy> Decode<A> for (String<A>, ComponentExportKind, u32) {
 /// An item that is exported under a name.
 impl<A: Allocator + Copy> Decode<A> for (NameTree<A>, ComponentExportKind, u32) {
     ghost use Rattle.wenc_sections.specs.InstanceTrees.{exported_tree_view};
-    ghost use Rattle.wenc_sections.specs.Instances.{Exported};
-    ghost use Rattle.wenc_sections.specs.laws.Items.{read_exported};
+    ghost use Rattle.wenc_sections.specs.Instances.{InlineExport};
+    ghost use Rattle.wenc_sections.specs.laws.Items.{read_inline_exported};
 
-    ghost Value = { Exported };
+    ghost Value = { InlineExport };
 
     ghost view = { exported_tree_view };
 
-    ghost read = { read_exported };
+    ghost read = { read_inline_exported };
 
     fn decode<'a>(
         alloc: A,

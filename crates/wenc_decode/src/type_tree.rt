@@ -1,7 +1,7 @@
 //! Types that components define. Those of components and instances nest, down to a depth.
 ghost use Rattle.std.specs.Prelude.{map};
 ghost use Rattle.wenc_decode.specs.inside.Outcomes.{Yields, repeat};
-ghost use Rattle.wenc_decode.specs.inside.TypeTrees.{read_imported, read_exported, read_component_declaration, read_instance_declaration};
+ghost use Rattle.wenc_decode.specs.inside.TypeTrees.{read_imported, read_exported_type, read_component_declaration, read_instance_declaration};
 ghost use Rattle.wenc_decode.specs.inside.TypeTrees.{read_type, read_component_type, read_instance_type};
 ghost use Rattle.wenc_decode.specs.inside.Types.{read_function_type, read_resource_type};
 ghost use Rattle.wenc_read.specs.inside.Gives.{Gives};
@@ -215,7 +215,7 @@ fn exported<A: Allocator + Copy>(
     bytes: &[u8],
 ) -> Result<(InstanceDecl<A>, &[u8]), Refusal>
     ensures { Gives (λ x. (instance_declaration_view x.0, x.1.now)) result
-        (read_exported bytes.now) }
+        (read_exported_type bytes.now) }
 {
     let (name, rest) = NameTree::decode(alloc, bytes)?;
     let (ty, rest) = ComponentTypeRef::decode(alloc, rest)?;

@@ -4,7 +4,7 @@ use Rattle.std.specs.List.{AllByRecursion}
 use Rattle.wenc_base.specs.Piece.{Wide}
 use Rattle.wenc_builder.specs.Item.{Item, ModuleItem, ComponentItem, StartItem, CustomItem}
 use Rattle.wenc_builder.specs.Sections.{Section, section_piece, sections, Reading}
-use Rattle.wenc_list.specs.Listing.{AreWithin, IsLabelled, Stops, IsFaultBehind, IsFaultOf}
+use Rattle.wenc_list.specs.Listing.{AreWithin, IsLabelled, StopsAt, IsFaultBehind, IsFaultOf}
 use Rattle.wenc_list.specs.declared.fault.ListFault.{ListFault}
 use Rattle.wenc_list.specs.declared.fault.ListFault.TheVariants as faults
 use Rattle.wenc_list.proofs.SectionLaws.{Fills, AloneIn, section_framed}
@@ -31,7 +31,7 @@ everything [] = tt
 everything (s ∷ ss) = (tt, everything ss)
 
 -- where it stops, a section is read
-next_read : (all : ℕ) (bytes : List ℕ) (place : ℕ) (P : List ℕ → Type 0) (f : Stops all bytes place P) (ss : List Section) → (sections ss).ReadsAll Wide bytes → (s : Section) × (rest : List ℕ) × (section_piece s).Reads Wide f.left rest
+next_read : (all : ℕ) (bytes : List ℕ) (place : ℕ) (P : List ℕ → Type 0) (f : StopsAt all bytes place P) (ss : List Section) → (sections ss).ReadsAll Wide bytes → (s : Section) × (rest : List ℕ) × (section_piece s).Reads Wide f.left rest
 next_read all bytes place P f ss r = let next = goes_past (λ s. Unit {0}) f.before ss bytes f.left f.read r (everything ss) f.some_left in (next.0, next.1, next.2)
 
 abbrev IsMemoryOrDeep : ListFault → Type 0

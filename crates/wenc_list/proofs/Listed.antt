@@ -10,14 +10,14 @@ use Rattle.wenc_base.specs.laws.Forms.{bytes_pass, name_lawful}
 use Rattle.wenc_base.specs.laws.Sound.{Then}
 use Rattle.wenc_builder.specs.Item.{Item, CustomItem}
 use Rattle.wenc_builder.specs.Sections.{Section, members, item_of, section_piece, sections, preamble}
-use Rattle.wenc_decode.specs.Depth.{Front, Enters}
+use Rattle.wenc_decode.specs.Depth.{Front, OpensTypes}
 use Rattle.wenc_decode.specs.inside.Outcomes.{Flaw, Bad, Deep, IsFlaw}
 use Rattle.wenc_read.specs.inside.Gives.{Fails}
 use Rattle.wenc_read.specs.declared.refusal.Refusal.{Refusal}
 use Rattle.wenc_read.specs.declared.refusal.Refusal.TheVariants as refusals
-use Rattle.wenc_list.specs.inside.Contents.{labelled, read_content, read_frame, fault_of_frame, fault_of_content}
-use Rattle.wenc_list.specs.Items.{section_of, section_view}
-use Rattle.wenc_list.specs.Listing.{HasDepth, AreWithin, IsFramed, IsLabelled, AreFrom, Begins, IsNoneWithin, Stops, IsFaultBehind}
+use Rattle.wenc_list.specs.inside.Contents.{labelled_section, read_content, read_frame, fault_of_frame, fault_of_content}
+use Rattle.wenc_list.specs.Items.{item_section, section_view}
+use Rattle.wenc_list.specs.Listing.{HasDepth, AreWithin, IsFramed, IsLabelled, AreFrom, BeginsWith, IsNoneWithin, StopsAt, IsFaultBehind}
 use Rattle.wenc_list.specs.inside.Faults.{IsFaultHere}
 use Rattle.wenc_list.specs.declared.fault.ListFault.{ListFault}
 use Rattle.wenc_list.specs.declared.fault.ListFault.TheVariants as faults
@@ -97,9 +97,9 @@ not_both some xs a b = absurd cc
 
 -- so a custom section with a name is read
 labelled_read : (label content bytes : List ℕ) → (name label).Reads Wide content bytes → AreBytes content → read_content 100 0 content ≡ Err Bad → ⊥
-labelled_read label content bytes r h e = not_both (read_content 100 0 content) (CustomItem (labelled label bytes) ∷ []) found e
+labelled_read label content bytes r h e = not_both (read_content 100 0 content) (CustomItem (labelled_section label bytes) ∷ []) found e
   where
-    found : read_content 100 0 content ≡ Ok (CustomItem (labelled label bytes) ∷ [])
+    found : read_content 100 0 content ≡ Ok (CustomItem (labelled_section label bytes) ∷ [])
     found = rw ((name_lawful label).finds (name_lawful label).depth (omega arith) Wide content bytes r, bytes_pass bytes (name_leaves label content bytes r h)) refl
 
 pub no_label : (place : ℕ) (bytes : List ℕ) (id : ℕ) (content rest : List ℕ) → id ≡ 0 → AreBytes content → read_frame bytes ≡ Some ((id, content), rest) → read_content 100 id content ≡ Err Bad → IsFaultHere place bytes (faults.BadSection place)
@@ -126,7 +126,7 @@ no_item place bytes id content rest other e bad = (
     content = content;
     rest = rest;
     framed = is_framed bytes id content rest e;
-    labelled = labelled_other id content other;
+    labelled_section = labelled_other id content other;
     never = λ s after r. never_read 100 id (members s) content (fills_here bytes id content rest e s after r) bad;
   },
 )
@@ -134,9 +134,9 @@ no_item place bytes id content rest other e bad = (
 told_deep : {A : Type 0} (P : A → Type 0) (D : Type 0) (some : Result A Flaw) → ToldAll P D some → some ≡ Err Deep → D
 told_deep P D some h e = rw e at h
 
-reached_at : (id : ℕ) (content : List ℕ) → Front (item_of id) (λ bytes. (id ≡ 7) × Enters 100 bytes) content → (id ≡ 7) × Front (item_of 7) (Enters 100) content
+reached_at : (id : ℕ) (content : List ℕ) → Front (item_of id) (λ bytes. (id ≡ 7) × OpensTypes 100 bytes) content → (id ≡ 7) × Front (item_of 7) (OpensTypes 100) content
 reached_at id content f =
-    let here : Front (item_of id) (Enters 100) content = record { count = f.count; middle = f.middle; counted = f.counted; before = f.before; left = f.left; read = f.read; fewer = f.fewer; next = f.next.1 } in
+    let here : Front (item_of id) (OpensTypes 100) content = record { count = f.count; middle = f.middle; counted = f.counted; before = f.before; left = f.left; read = f.read; fewer = f.fewer; next = f.next.1 } in
     (f.next.0, rw f.next.0 at here)
 
 pub goes_deep : (place : ℕ) (bytes : List ℕ) (id : ℕ) (content rest : List ℕ) → read_frame bytes ≡ Some ((id, content), rest) → read_content 100 id content ≡ Err Deep → IsFaultHere place bytes (faults.TooDeep place)
@@ -156,10 +156,10 @@ told_ok P D some v h e = rw e at h
 filled_here : (bytes : List ℕ) (id : ℕ) (content rest : List ℕ) (xs : List Item) → read_frame bytes ≡ Some ((id, content), rest) → read_content 100 id content ≡ Ok xs → FillsWithin 100 id content xs
 filled_here bytes id content rest xs e ok = told_ok (FillsWithin 100 id content) _ (read_content 100 id content) xs (content_told 100 id content (is_framed bytes id content rest e).known) ok
 
-pub is_read : (bytes : List ℕ) (id : ℕ) (content rest : List ℕ) (xs : List Item) → read_frame bytes ≡ Some ((id, content), rest) → read_content 100 id content ≡ Ok xs → (section_piece (section_of id xs)).Reads Wide bytes rest
+pub is_read : (bytes : List ℕ) (id : ℕ) (content rest : List ℕ) (xs : List Item) → read_frame bytes ≡ Some ((id, content), rest) → read_content 100 id content ≡ Ok xs → (section_piece (item_section id xs)).Reads Wide bytes rest
 is_read bytes id content rest xs e ok = section_reads id xs bytes content rest (is_framed bytes id content rest e) (filled_here bytes id content rest xs e ok).0
 
-pub is_within : (bytes : List ℕ) (id : ℕ) (content rest : List ℕ) (xs : List Item) → read_frame bytes ≡ Some ((id, content), rest) → read_content 100 id content ≡ Ok xs → AreWithin 100 (section_of id xs ∷ [])
+pub is_within : (bytes : List ℕ) (id : ℕ) (content rest : List ℕ) (xs : List Item) → read_frame bytes ≡ Some ((id, content), rest) → read_content 100 id content ≡ Ok xs → AreWithin 100 (item_section id xs ∷ [])
 is_within bytes id content rest xs e ok = (rw (members_of id xs) (filled_here bytes id content rest xs e ok).1, tt)
 
 -- ---- sections, one behind the other
@@ -179,7 +179,7 @@ from_few all [] bytes rest f = omega arith
 from_few all (s ∷ ss) bytes rest f = omega (arith, section_shorter (section_view s) bytes f.0 f.1, from_few all ss f.0 rest f.4)
 
 -- one section more
-pub from_more : {A : Type 0} (all : ℕ) (ss : List (ListedSection A)) (s : ListedSection A) (bytes middle rest : List ℕ) → AreFrom all ss bytes middle → (section_piece (section_view s)).Reads Wide middle rest → (all ≡ s.place + length middle) → Begins s.id middle → AreFrom all (ss ++ s ∷ []) bytes rest
+pub from_more : {A : Type 0} (all : ℕ) (ss : List (ListedSection A)) (s : ListedSection A) (bytes middle rest : List ℕ) → AreFrom all ss bytes middle → (section_piece (section_view s)).Reads Wide middle rest → (all ≡ s.place + length middle) → BeginsWith s.id middle → AreFrom all (ss ++ s ∷ []) bytes rest
 from_more all [] s bytes middle rest f r p b = (rest, rw (sym f) at r, rw (sym f) at p, rw (sym f) at b, refl)
 from_more all (t ∷ ss) s bytes middle rest f r p b = (f.0, f.1, f.2, f.3, from_more all ss s f.0 middle rest f.4 r p b)
 
@@ -222,7 +222,7 @@ goes_past P [] (s ∷ ss) bytes left b a w some = (s, a.0, rw b at a.1, w.0)
 goes_past P (t ∷ ts) [] bytes left b a w some = absurd (nothing_read t b.0 (rw a at b.1))
 goes_past P (t ∷ ts) (s ∷ ss) bytes left b a w some = goes_past P ts ss b.0 left b.2 (rw (same_rest s t bytes a.0 b.0 a.1 b.1) at a.2) w.1 some
 
-stopped : (all : ℕ) (bytes : List ℕ) (place : ℕ) (P : List ℕ → Type 0) → Stops all bytes place P → (ss : List Section) → (sections ss).ReadsAll Wide bytes → AreWithin 100 ss → ⊥
+stopped : (all : ℕ) (bytes : List ℕ) (place : ℕ) (P : List ℕ → Type 0) → StopsAt all bytes place P → (ss : List Section) → (sections ss).ReadsAll Wide bytes → AreWithin 100 ss → ⊥
 stopped all bytes place P f ss r w = let next = goes_past (λ s. AllByRecursion (HasDepth 100) (members s)) f.before ss bytes f.left f.read r w f.some_left in f.none_within next.0 next.1 next.2 (next.3, tt)
 
 -- where all is read within the depth, only memory can be wanting

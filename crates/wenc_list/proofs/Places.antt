@@ -7,12 +7,12 @@ use Rattle.std.specs.Prelude.{option_map}
 use Rattle.wenc_base.specs.Piece.{Wide, each}
 use Rattle.wenc_builder.specs.Item.{Item, ModuleItem, CoreInstanceItem, CoreTypeItem, ComponentItem, InstanceItem, AliasItem, TypeItem, CanonItem, StartItem, ImportItem, ExportItem, CustomItem, RawItem, collected}
 use Rattle.wenc_builder.specs.Sections.{Section, members, item_of, section_piece}
-use Rattle.wenc_builder.specs.Space.{Defined, defined_as, space_number, kind_space, alias_space, canonical_space, some_in, number_in, defined_in, place}
+use Rattle.wenc_builder.specs.Space.{Indices, indices_in, space_number, kind_space, alias_space, canonical_space, some_in, number_in, defined_in, next_index}
 use Rattle.wenc_builder.specs.declared.builder.space.Space.{Space}
 use Rattle.wenc_builder.specs.declared.builder.space.Space.TheVariants.{CoreModules, CoreTypes, CoreInstances, Instances, Values, Components, Types}
 use Rattle.wenc_parts.specs.Imports.{kind_of}
 use Rattle.wenc_list.specs.Items.{item_view, section_view}
-use Rattle.wenc_list.specs.Listing.{count_in}
+use Rattle.wenc_list.specs.Listing.{count_of_sections}
 use Rattle.wenc_list.specs.declared.item.ItemTree.{ItemTree}
 use Rattle.wenc_list.specs.declared.listing.ListedSection.{ListedSection}
 use Rattle.wenc_list.proofs.SectionLaws.{Fills, AloneIn, section_framed, members_of}
@@ -26,43 +26,43 @@ raised counts i m k lt =
     ]
 
 -- what an item takes, as it says
-pub defined_so : (some : Option (Space × ℕ)) (d : Option Defined) (s : Space) (n k : ℕ) → option_map (λ p. defined_as p.0 p.1) some ≡ d → some ≡ Some (s, n) → number_in k d ≡ number_in k (some_in s n)
-defined_so some d s n k e f = ap (λ (o : Option Defined). number_in k o) (sym e ∙ ap (λ (o : Option (Space × ℕ)). option_map (λ p. defined_as p.0 p.1) o) f)
+pub defined_so : (some : Option (Space × ℕ)) (d : Option Indices) (s : Space) (n k : ℕ) → option_map (λ p. indices_in p.0 p.1) some ≡ d → some ≡ Some (s, n) → number_in k d ≡ number_in k (some_in s n)
+defined_so some d s n k e f = ap (λ (o : Option Indices). number_in k o) (sym e ∙ ap (λ (o : Option (Space × ℕ)). option_map (λ p. indices_in p.0 p.1) o) f)
 
-pub defined_nowhere : (some : Option (Space × ℕ)) (d : Option Defined) (k : ℕ) → option_map (λ p. defined_as p.0 p.1) some ≡ d → some ≡ None → number_in k d ≡ 0
-defined_nowhere some d k e f = ap (λ (o : Option Defined). number_in k o) (sym e ∙ ap (λ (o : Option (Space × ℕ)). option_map (λ p. defined_as p.0 p.1) o) f)
+pub defined_nowhere : (some : Option (Space × ℕ)) (d : Option Indices) (k : ℕ) → option_map (λ p. indices_in p.0 p.1) some ≡ d → some ≡ None → number_in k d ≡ 0
+defined_nowhere some d k e f = ap (λ (o : Option Indices). number_in k o) (sym e ∙ ap (λ (o : Option (Space × ℕ)). option_map (λ p. indices_in p.0 p.1) o) f)
 
 pub own_space : (s : Space) (n : ℕ) → number_in (space_number s) (some_in s n) ≡ n
 own_space s n = elim (eqb_tells (space_number s) (space_number s)) [ inl t ↦ rw (t.0, cond) refl | inr t ↦ absurd (t.1 refl) ]
 
-pub place-append : (xs ys : List Item) (k : ℕ) → place (xs ++ ys) k ≡ place xs k + place ys k
+pub place-append : (xs ys : List Item) (k : ℕ) → next_index (xs ++ ys) k ≡ next_index xs k + next_index ys k
 place-append [] ys k = omega arith
 place-append (x ∷ xs) ys k = omega (arith, place-append xs ys k)
 
-count-append : (ss : List Section) (t : Section) (k : ℕ) → count_in k (ss ++ t ∷ []) ≡ count_in k ss + place (members t) k
+count-append : (ss : List Section) (t : Section) (k : ℕ) → count_of_sections k (ss ++ t ∷ []) ≡ count_of_sections k ss + next_index (members t) k
 count-append [] t k = place-append (members t) [] k ∙ omega arith
 count-append (s ∷ ss) t k = place-append (members s) (flat_map members (ss ++ t ∷ [])) k ∙ omega (arith, count-append ss t k, place-append (members s) (flat_map members ss) k)
 
 module _ {A : Type 0} where
   -- one item more
-  pub place_more : (items : List (ItemTree A)) (i : ℕ) (x : ItemTree A) (k : ℕ) → i < length items → x ≡ get_or items i x → place (map item_view (take (i + 1) items)) k ≡ place (map item_view (take i items)) k + defined_in k (item_view x)
+  pub place_more : (items : List (ItemTree A)) (i : ℕ) (x : ItemTree A) (k : ℕ) → i < length items → x ≡ get_or items i x → next_index (map item_view (take (i + 1) items)) k ≡ next_index (map item_view (take i items)) k + defined_in k (item_view x)
   place_more items i x k lt e =
       let parts : take (i + 1) items ≡ take i items ++ x ∷ [] = take_more items i x lt ∙ ap (λ (y : ItemTree A). take i items ++ y ∷ []) (sym e) in
       rw (parts, map-append item_view (take i items) (x ∷ [])) (place-append (map item_view (take i items)) (item_view x ∷ []) k ∙ omega arith)
 
   -- the first of them take no more than all
-  pub place_front : (items : List (ItemTree A)) (i k : ℕ) → place (map item_view (take i items)) k ≤ place (map item_view items) k
+  pub place_front : (items : List (ItemTree A)) (i k : ℕ) → next_index (map item_view (take i items)) k ≤ next_index (map item_view items) k
   place_front items i k =
-      let both : place (map item_view items) k ≡ place (map item_view (take i items)) k + place (map item_view (drop i items)) k =
-      ap (λ (xs : List (ItemTree A)). place (map item_view xs) k) (sym (take-append-drop i items)) ∙ rw (map-append item_view (take i items) (drop i items)) (place-append (map item_view (take i items)) (map item_view (drop i items)) k) in
+      let both : next_index (map item_view items) k ≡ next_index (map item_view (take i items)) k + next_index (map item_view (drop i items)) k =
+      ap (λ (xs : List (ItemTree A)). next_index (map item_view xs) k) (sym (take-append-drop i items)) ∙ rw (map-append item_view (take i items) (drop i items)) (place-append (map item_view (take i items)) (map item_view (drop i items)) k) in
       omega (arith, both)
 
   pub section_members : (s : ListedSection A) → members (section_view s) ≡ map item_view s.items.items
   section_members s = members_of s.id (map item_view s.items.items)
 
   -- one section more
-  pub count_more : (ss : List (ListedSection A)) (s : ListedSection A) (k : ℕ) → count_in k (map section_view (ss ++ s ∷ [])) ≡ count_in k (map section_view ss) + place (map item_view s.items.items) k
-  count_more ss s k = rw (map-append section_view ss (s ∷ [])) (count-append (map section_view ss) (section_view s) k ∙ ap (λ (xs : List Item). count_in k (map section_view ss) + place xs k) (section_members s))
+  pub count_more : (ss : List (ListedSection A)) (s : ListedSection A) (k : ℕ) → count_of_sections k (map section_view (ss ++ s ∷ [])) ≡ count_of_sections k (map section_view ss) + next_index (map item_view s.items.items) k
+  count_more ss s k = rw (map-append section_view ss (s ∷ [])) (count-append (map section_view ss) (section_view s) k ∙ ap (λ (xs : List Item). count_of_sections k (map section_view ss) + next_index xs k) (section_members s))
 
 -- ---- what is read takes few places
 
@@ -84,7 +84,7 @@ collected_few (CanonItem f) id k e = at_most (canonical_space f) 1 k
 collected_few (ImportItem i) id k e = at_most (kind_space (kind_of i.what)) 1 k
 collected_few (ExportItem x) id k e = at_most (kind_space x.kind) 1 k
 
-each_few : (id k : ℕ) (xs : List Item) (bytes rest : List ℕ) → (each (item_of id) xs).Reads Wide bytes rest → place xs k ≤ length xs
+each_few : (id k : ℕ) (xs : List Item) (bytes rest : List ℕ) → (each (item_of id) xs).Reads Wide bytes rest → next_index xs k ≤ length xs
 each_few id k [] bytes rest r = omega arith
 each_few id k (x ∷ xs) bytes rest r = omega (arith, collected_few x id k r.1.0, each_few id k xs r.0 rest r.2)
 
@@ -95,11 +95,11 @@ alone_few id k (ComponentItem bs) content a = omega (arith, at_most Components 1
 alone_few id k (StartItem s) content a = omega (arith, at_most Values s.results k, a.1.2.2.0)
 alone_few id k other content a = absurd a
 
-filled_few : (id k : ℕ) (xs : List Item) (content : List ℕ) → Fills id xs content → place xs k < 2 ^ 64
+filled_few : (id k : ℕ) (xs : List Item) (content : List ℕ) → Fills id xs content → next_index xs k < 2 ^ 64
 filled_few id k xs content (inl h) = omega (arith, each_few id k xs h.1.0 [] h.1.2, h.1.1.0)
 filled_few id k xs content (inr h) = rw h.1 (omega (arith, alone_few id k h.0 content h.2))
 
-pub are_few : {A : Type 0} (s : ListedSection A) (bytes rest : List ℕ) → (section_piece (section_view s)).Reads Wide bytes rest → (k : ℕ) → place (map item_view s.items.items) k < 2 ^ 64
+pub are_few : {A : Type 0} (s : ListedSection A) (bytes rest : List ℕ) → (section_piece (section_view s)).Reads Wide bytes rest → (k : ℕ) → next_index (map item_view s.items.items) k < 2 ^ 64
 are_few s bytes rest r k =
     let framed = section_framed (section_view s) bytes rest r in
     rw (section_members s) at (filled_few framed.id k (members (section_view s)) framed.content framed.fills)

@@ -13,20 +13,20 @@ use Rattle.wenc_base.specs.Piece.{Form, Wide, only_where, each, raw, ◌⨾⨾�
 use Rattle.wenc_base.specs.laws.Forms.{read_list, name_lawful, name_sound, read_bytes, bytes_lawful, bytes_sound, list_lawful, list_sound}
 use Rattle.wenc_base.specs.laws.Lawful.{Lawful, LawfulWhole, ◌>>=◌, give, then, last, then_whole, whole_lawful}
 use Rattle.wenc_base.specs.laws.Numbers.{read_u32, u32_lawful, count_lawful, u32_sound}
-use Rattle.wenc_base.specs.laws.Sound.{Then, ThenAll, Sound, SoundWhole, goes_on, last_sound, then_sound, whole_sound, then_whole_sound}
+use Rattle.wenc_base.specs.laws.Sound.{Then, ThenAll, Sound, SoundWhole, sound_goes_on, last_sound, then_sound, whole_sound, then_whole_sound}
 use Rattle.wenc_builder.specs.Item.{Item, ModuleItem, CoreInstanceItem, CoreTypeItem, ComponentItem, InstanceItem, AliasItem, TypeItem, CanonItem, StartItem, ImportItem, ExportItem, CustomItem, RawItem, collected, item}
 use Rattle.wenc_builder.specs.Sections.{Section, Run, Alone, members, collects, item_of, section_piece}
 use Rattle.wenc_canon.specs.laws.Canonicals.{canonical_lawful, canonical_sound}
-use Rattle.wenc_decode.specs.Depth.{Front, Enters}
-use Rattle.wenc_decode.specs.inside.Outcomes.{Flaw, Bad, Deep, Outcome, DeepReader, flat, ◌>>>◌, repeat, filled}
-use Rattle.wenc_decode.specs.laws.Outcomes.{Told, Tells, told_on, told_flat, flat_tells, refuse_tells, last_tells, Fewer, Several, repeat_told, each_plain, Agrees, Finds, or_deeper, nothing_finds, then_finds, last_finds, flat_finds, tested}
+use Rattle.wenc_decode.specs.Depth.{Front, OpensTypes}
+use Rattle.wenc_decode.specs.inside.Outcomes.{Flaw, Bad, Deep, Outcome, DeepReader, flat, ◌>>>◌, repeat, reserved}
+use Rattle.wenc_decode.specs.laws.Outcomes.{Told, Tells, told_on, told_flat, flat_tells, refuse_tells, last_tells, Fewer, Several, repeat_told, each_plain, SameOutcome, Finds, or_deeper, nothing_finds, then_finds, last_finds, flat_finds, tested}
 use Rattle.wenc_decode.specs.laws.TypeTrees.{type_tells, type_finds, front_of}
 use Rattle.wenc_parts.specs.laws.Aliases.{alias_lawful, alias_sound}
 use Rattle.wenc_sections.specs.Start.{Start, started, start_content}
-use Rattle.wenc_sections.specs.laws.Items.{import_lawful, import_sound, export_lawful, export_sound, core_instance_lawful, core_instance_sound, instance_lawful, instance_sound}
+use Rattle.wenc_sections.specs.laws.Items.{import_lawful, import_sound, inline_export_lawful, inline_export_sound, core_instance_lawful, core_instance_sound, instance_lawful, instance_sound}
 use Rattle.wenc_types.specs.laws.CoreTypes.{core_type_lawful, core_type_sound}
-use Rattle.wenc_list.specs.inside.Contents.{labelled, item_rows, row_of, read_item, read_custom_content, read_start_content, read_raw, read_items, single, read_content, read_frame}
-use Rattle.wenc_list.specs.Items.{alone, section_of}
+use Rattle.wenc_list.specs.inside.Contents.{labelled_section, content_rows, content_row_of, read_content_item, read_custom_content, read_start_content, read_raw, read_items, single, read_content, read_frame}
+use Rattle.wenc_list.specs.Items.{alone, item_section}
 use Rattle.wenc_list.specs.Listing.{HasDepth, IsFramed}
 
 -- ---- items
@@ -36,22 +36,22 @@ ItemWithin d id x = only_where (HasDepth d x) (item_of id x)
 
 -- only the section of types has what nests
 abbrev GoesIn : ℕ → ℕ → List ℕ → Type 0
-GoesIn d id bytes = (id ≡ 7) × Enters d bytes
+GoesIn d id bytes = (id ≡ 7) × OpensTypes d bytes
 
 abbrev RowsOf : ℕ → List (ℕ × DeepReader Item) → Type 0
 RowsOf d [] = Unit {0}
 RowsOf d (row ∷ table) = Tells (ItemWithin d row.0) (GoesIn d row.0) row.1 × RowsOf d table
 
-row_tells : (d : ℕ) (table : List (ℕ × DeepReader Item)) → RowsOf d table → (id : ℕ) → Tells (ItemWithin d id) (GoesIn d id) (row_of table id)
+row_tells : (d : ℕ) (table : List (ℕ × DeepReader Item)) → RowsOf d table → (id : ℕ) → Tells (ItemWithin d id) (GoesIn d id) (content_row_of table id)
 row_tells d [] h id = refuse_tells _
 row_tells d (row ∷ table) h id =
     elim (tested id row.0) [
-      | inl e ↦ rw (e.0, row_of) (subst (λ (k : ℕ). Tells (ItemWithin d k) (GoesIn d k) row.1) (sym e.1) h.0)
-      | inr e ↦ rw (e, row_of) (row_tells d table h.1 id)
+      | inl e ↦ rw (e.0, content_row_of) (subst (λ (k : ℕ). Tells (ItemWithin d k) (GoesIn d k) row.1) (sym e.1) h.0)
+      | inr e ↦ rw (e, content_row_of) (row_tells d table h.1 id)
     ]
 
-item_tells : (d id : ℕ) → Tells (ItemWithin d id) (GoesIn d id) (read_item d id)
-item_tells d id = row_tells d (item_rows d) (
+item_tells : (d id : ℕ) → Tells (ItemWithin d id) (GoesIn d id) (read_content_item d id)
+item_tells d id = row_tells d (content_rows d) (
   flat_tells _ (last_sound CoreInstanceItem core_instance_sound (λ i bytes rest r. (tt, (refl, r)))),
   (
     flat_tells _ (last_sound CoreTypeItem core_type_sound (λ t bytes rest r. (tt, (refl, r)))),
@@ -60,10 +60,10 @@ item_tells d id = row_tells d (item_rows d) (
       (
         flat_tells _ (last_sound AliasItem alias_sound (λ to bytes rest r. (tt, (refl, r)))),
         (
-          last_tells (Enters d) _ TypeItem (type_tells d) (λ bytes g. (refl, g)) (λ t bytes rest r. (r.0, (refl, r.1))),
+          last_tells (OpensTypes d) _ TypeItem (type_tells d) (λ bytes g. (refl, g)) (λ t bytes rest r. (r.0, (refl, r.1))),
           (
             flat_tells _ (last_sound CanonItem canonical_sound (λ f bytes rest r. (tt, (refl, r)))),
-            (flat_tells _ (last_sound ImportItem import_sound (λ i bytes rest r. (tt, (refl, r)))), (flat_tells _ (last_sound ExportItem export_sound (λ e bytes rest r. (tt, (refl, r)))), tt)),
+            (flat_tells _ (last_sound ImportItem import_sound (λ i bytes rest r. (tt, (refl, r)))), (flat_tells _ (last_sound ExportItem inline_export_sound (λ e bytes rest r. (tt, (refl, r)))), tt)),
           ),
         ),
       ),
@@ -75,7 +75,7 @@ item_tells d id = row_tells d (item_rows d) (
 abbrev IsPast : ℕ → Item → Type 0
 IsPast d x = HasDepth d x → ⊥
 
-collected_finds : (d : ℕ) (x : Item) (id : ℕ) → collected x ≡ Some id → Finds (item x) (read_item d id) x (IsPast d x)
+collected_finds : (d : ℕ) (x : Item) (id : ℕ) → collected x ≡ Some id → Finds (item x) (read_content_item d id) x (IsPast d x)
 collected_finds d (CoreInstanceItem i) id e = rw (← same_Some 2 id e) (flat_finds _ (last CoreInstanceItem (core_instance_lawful i)))
 collected_finds d (CoreTypeItem t) id e = rw (← same_Some 3 id e) (flat_finds _ (last CoreTypeItem (core_type_lawful t)))
 collected_finds d (InstanceItem i) id e = rw (← same_Some 5 id e) (flat_finds _ (last InstanceItem (instance_lawful i)))
@@ -83,17 +83,17 @@ collected_finds d (AliasItem to) id e = rw (← same_Some 6 id e) (flat_finds _ 
 collected_finds d (TypeItem t) id e = rw (← same_Some 7 id e) (or_deeper _ (λ lt within. omega arith) (last_finds TypeItem (type_finds d t)))
 collected_finds d (CanonItem f) id e = rw (← same_Some 8 id e) (flat_finds _ (last CanonItem (canonical_lawful f)))
 collected_finds d (ImportItem i) id e = rw (← same_Some 10 id e) (flat_finds _ (last ImportItem (import_lawful i)))
-collected_finds d (ExportItem x) id e = rw (← same_Some 11 id e) (flat_finds _ (last ExportItem (export_lawful x)))
+collected_finds d (ExportItem x) id e = rw (← same_Some 11 id e) (flat_finds _ (last ExportItem (inline_export_lawful x)))
 collected_finds d other id e = absurd cc
 
-item_finds : (d id : ℕ) (x : Item) → Finds (item_of id x) (read_item d id) x (IsPast d x)
+item_finds : (d id : ℕ) (x : Item) → Finds (item_of id x) (read_content_item d id) x (IsPast d x)
 item_finds d id x = record { finds = λ bytes rest r. (collected_finds d x id r.0).finds bytes rest r.1 }
 
 -- one of the items is too deep
 abbrev pub ArePast : ℕ → List Item → Type 0
 ArePast d xs = AllByRecursion (HasDepth d) xs → ⊥
 
-each_finds : (d id : ℕ) (xs : List Item) → Finds (each (item_of id) xs) (repeat (read_item d id) (length xs)) xs (ArePast d xs)
+each_finds : (d id : ℕ) (xs : List Item) → Finds (each (item_of id) xs) (repeat (read_content_item d id) (length xs)) xs (ArePast d xs)
 each_finds d id [] = nothing_finds [] _
 each_finds d id (x ∷ xs) = then_finds _ (or_deeper _ (λ no all. no all.0) (item_finds d id x)) (last_finds _ (or_deeper _ (λ no all. no all.1) (each_finds d id xs)))
 
@@ -109,13 +109,13 @@ AgreesAll IsDeeper v (Ok w) = w ≡ v
 AgreesAll IsDeeper v (Err Bad) = ⊥
 AgreesAll IsDeeper v (Err Deep) = IsDeeper
 
-filled_told : {A : Type 0} (P : A → List ℕ → Type 0) (D : Type 0) (some : Outcome A) → Told P D some → ToldAll (λ v. P v []) D (filled some)
+filled_told : {A : Type 0} (P : A → List ℕ → Type 0) (D : Type 0) (some : Outcome A) → Told P D some → ToldAll (λ v. P v []) D (reserved some)
 filled_told P D (Ok (v, [])) h = h
 filled_told P D (Ok (v, b ∷ rest)) h = tt
 filled_told P D (Err Bad) h = tt
 filled_told P D (Err Deep) h = h
 
-filled_agrees : {A : Type 0} (D : Type 0) (v : A) (some : Outcome A) → Agrees D (v, []) some → AgreesAll D v (filled some)
+filled_agrees : {A : Type 0} (D : Type 0) (v : A) (some : Outcome A) → SameOutcome D (v, []) some → AgreesAll D v (reserved some)
 filled_agrees D v (Ok (w, [])) e = ap (λ (z : _ × List ℕ). z.0) e
 filled_agrees D v (Ok (w, b ∷ rest)) e = absurd (more (ap (λ (z : _ × List ℕ). z.1) e))
   where
@@ -138,15 +138,15 @@ items_listed d id n content middle rest xs c s = let plain = each_plain (item_of
 
 items_told : (d id : ℕ) (content : List ℕ) → ToldAll (λ xs. Listed d id content xs []) (Front (item_of id) (GoesIn d id) content) (read_items d id content)
 items_told d id content =
-    filled_told (Listed d id content) (Front (item_of id) (GoesIn d id) content) ((flat read_u32 >>> repeat (read_item d id)) content)
-    (told_on (λ n middle. (u32 n).Reads Wide content middle) ⊥ (Listed d id content) (Front (item_of id) (GoesIn d id) content) (repeat (read_item d id)) (flat read_u32 content) (told_flat (λ n middle. (u32 n).Reads Wide content middle) ⊥ u32_sound content (λ n middle r. r)) (λ e. absurd e) (λ n middle c.
-    told_weaker (Several (ItemWithin d id) n middle) (Listed d id content) (Fewer (ItemWithin d id) (GoesIn d id) n middle) (Front (item_of id) (GoesIn d id) content) (repeat (read_item d id) n middle) (repeat_told (GoesIn d id) (item_tells d id) n middle)
+    filled_told (Listed d id content) (Front (item_of id) (GoesIn d id) content) ((flat read_u32 >>> repeat (read_content_item d id)) content)
+    (told_on (λ n middle. (u32 n).Reads Wide content middle) ⊥ (Listed d id content) (Front (item_of id) (GoesIn d id) content) (repeat (read_content_item d id)) (flat read_u32 content) (told_flat (λ n middle. (u32 n).Reads Wide content middle) ⊥ u32_sound content (λ n middle r. r)) (λ e. absurd e) (λ n middle c.
+    told_weaker (Several (ItemWithin d id) n middle) (Listed d id content) (Fewer (ItemWithin d id) (GoesIn d id) n middle) (Front (item_of id) (GoesIn d id) content) (repeat (read_content_item d id) n middle) (repeat_told (GoesIn d id) (item_tells d id) n middle)
     (λ xs rest s. items_listed d id n content middle rest xs c s) (λ f. front_of (item_of id) (HasDepth d) (GoesIn d id) n content middle c f)))
 
 items_agree : (d id : ℕ) (xs : List Item) (content : List ℕ) → (list (item_of id) xs).Reads Wide content [] → AgreesAll (ArePast d xs) xs (read_items d id content)
 items_agree d id xs content r =
-    let all : Finds (list (item_of id) xs) (flat read_u32 >>> repeat (read_item d id)) xs (ArePast d xs) = then_finds _ (flat_finds _ (count_lawful (length xs))) (each_finds d id xs) in
-    filled_agrees (ArePast d xs) xs ((flat read_u32 >>> repeat (read_item d id)) content) (all.finds content [] r)
+    let all : Finds (list (item_of id) xs) (flat read_u32 >>> repeat (read_content_item d id)) xs (ArePast d xs) = then_finds _ (flat_finds _ (count_lawful (length xs))) (each_finds d id xs) in
+    filled_agrees (ArePast d xs) xs ((flat read_u32 >>> repeat (read_content_item d id)) content) (all.finds content [] r)
 
 -- ---- what stands alone
 
@@ -162,10 +162,10 @@ abbrev pub Fills : ℕ → List Item → List ℕ → Type 0
 Fills id xs content = (IsTrue (collects id) × (list (item_of id) xs).Reads Wide content []) ⊎ ((x : Item) × (xs ≡ x ∷ []) × AloneIn id x content)
 
 custom_sound : SoundWhole (λ c. name c.label ⨾⨾ raw AreBytes c.bytes) read_custom_content
-custom_sound = then_whole_sound (λ c. name c.label ⨾⨾ raw AreBytes c.bytes) (λ label. read_bytes (labelled label)) name_sound (λ label bytes middle r. bytes_sound (λ c. (name c.label ⨾⨾ raw AreBytes c.bytes).ReadsAll Wide bytes) (labelled label) middle (λ h. (middle, r, (h, refl))))
+custom_sound = then_whole_sound (λ c. name c.label ⨾⨾ raw AreBytes c.bytes) (λ label. read_bytes (labelled_section label)) name_sound (λ label bytes middle r. bytes_sound (λ c. (name c.label ⨾⨾ raw AreBytes c.bytes).ReadsAll Wide bytes) (labelled_section label) middle (λ h. (middle, r, (h, refl))))
 
 custom_whole : (c : Custom) → LawfulWhole (name c.label ⨾⨾ raw AreBytes c.bytes) (λ fuel. read_custom_content) c
-custom_whole c = then_whole _ (name_lawful c.label) (bytes_lawful (labelled c.label) c.bytes)
+custom_whole c = then_whole _ (name_lawful c.label) (bytes_lawful (labelled_section c.label) c.bytes)
 
 raw_sound : SoundWhole (raw AreBytes) read_raw
 raw_sound = record { reads = λ bytes. bytes_sound (λ bs. (raw AreBytes bs).ReadsAll Wide bytes) (λ bs. bs) bytes (λ h. (h, refl)) }
@@ -276,7 +276,7 @@ frame_told [] = tt
 frame_told (id ∷ bytes) =
     elim (cases_lt 11 id) [
       | inl lt ↦ rw (lt-ltb 11 id lt, cond) tt
-      | inr le ↦ rw (le-ltb 11 id le, cond) (goes_on (λ size rest. (u32 size).Reads Wide bytes rest) (λ f rest. IsFramed (id ∷ bytes) f.0 f.1 rest) (cut id) (read_u32 bytes) (u32_sound.reads bytes) (λ size rest r. inside le size rest r))
+      | inr le ↦ rw (le-ltb 11 id le, cond) (sound_goes_on (λ size rest. (u32 size).Reads Wide bytes rest) (λ f rest. IsFramed (id ∷ bytes) f.0 f.1 rest) (cut id) (read_u32 bytes) (u32_sound.reads bytes) (λ size rest r. inside le size rest r))
     ]
   where
     cut : ℕ → ℕ → List ℕ → Option ((ℕ × List ℕ) × List ℕ)
@@ -295,14 +295,14 @@ frame_finds bytes id content rest f =
 
 -- ---- sections
 
-alone_reads : (id : ℕ) (x : Item) (bytes content rest : List ℕ) → IsFramed bytes id content rest → AloneIn id x content → (section_piece (section_of id (x ∷ []))).Reads Wide bytes rest
+alone_reads : (id : ℕ) (x : Item) (bytes content rest : List ℕ) → IsFramed bytes id content rest → AloneIn id x content → (section_piece (item_section id (x ∷ []))).Reads Wide bytes rest
 alone_reads id (CustomItem c) bytes content rest f a = rw a.0 (refl, (f.middle, rw a.0 at f.begins, (content, f.sized, a.1)))
 alone_reads id (ModuleItem bs) bytes content rest f a = rw a.0 (refl, (f.middle, rw a.0 at f.begins, (content, f.sized, a.1)))
 alone_reads id (ComponentItem bs) bytes content rest f a = rw a.0 (refl, (f.middle, rw a.0 at f.begins, (content, f.sized, a.1)))
 alone_reads id (StartItem s) bytes content rest f a = rw a.0 (refl, (f.middle, rw a.0 at f.begins, (content, f.sized, a.1)))
 alone_reads id other bytes content rest f a = absurd a
 
-pub section_reads : (id : ℕ) (xs : List Item) (bytes content rest : List ℕ) → IsFramed bytes id content rest → Fills id xs content → (section_piece (section_of id xs)).Reads Wide bytes rest
+pub section_reads : (id : ℕ) (xs : List Item) (bytes content rest : List ℕ) → IsFramed bytes id content rest → Fills id xs content → (section_piece (item_section id xs)).Reads Wide bytes rest
 section_reads id xs bytes content rest f (inl h) = rw (h.0, cond) (h.0, (f.middle, f.begins, (content, f.sized, h.1)))
 section_reads id xs bytes content rest f (inr h) = rw h.1 (alone_reads id h.0 bytes content rest f h.2)
 
@@ -312,9 +312,9 @@ pub record HasFrame (s : Section) (bytes rest : List ℕ) : Type 0 where
   pub content : List ℕ
   pub framed : IsFramed bytes id content rest
   pub fills : Fills id (members s) content
-  pub is : section_of id (members s) ≡ s
+  pub is : item_section id (members s) ≡ s
 
-alone_framed : (id : ℕ) (x : Item) (bytes middle content rest : List ℕ) → bytes ≡ id ∷ middle → id ≤ 11 → (u32 (length content)).Reads Wide middle (content ++ rest) → AloneIn id x content → (section_of id (x ∷ []) ≡ Alone x) → HasFrame (Alone x) bytes rest
+alone_framed : (id : ℕ) (x : Item) (bytes middle content rest : List ℕ) → bytes ≡ id ∷ middle → id ≤ 11 → (u32 (length content)).Reads Wide middle (content ++ rest) → AloneIn id x content → (item_section id (x ∷ []) ≡ Alone x) → HasFrame (Alone x) bytes rest
 alone_framed id x bytes middle content rest e le sized a is = record {
   id = id;
   content = content;
@@ -342,7 +342,7 @@ section_framed (Alone other) bytes rest r = absurd (some_kind r.0)
     some_kind e = absurd cc
 
 -- the items of a section are those that it was made of
-pub members_of : (id : ℕ) (xs : List Item) → members (section_of id xs) ≡ xs
+pub members_of : (id : ℕ) (xs : List Item) → members (item_section id xs) ≡ xs
 members_of id xs = elim (collects id) as (λ b. members (cond b (Run id xs) (alone id xs)) ≡ xs) [ true ↦ refl | false ↦ of_alone id xs ]
   where
     of_alone : (id : ℕ) (xs : List Item) → members (alone id xs) ≡ xs
@@ -352,10 +352,10 @@ members_of id xs = elim (collects id) as (λ b. members (cond b (Run id xs) (alo
 
 -- ---- a count and its items
 
-pub items_filled : (d id n : ℕ) (content middle rest : List ℕ) (xs : List Item) → read_u32 content ≡ Some (n, middle) → repeat (read_item d id) n middle ≡ Ok (xs, rest) → length rest ≡ 0 → read_items d id content ≡ Ok xs
+pub items_filled : (d id n : ℕ) (content middle rest : List ℕ) (xs : List Item) → read_u32 content ≡ Some (n, middle) → repeat (read_content_item d id) n middle ≡ Ok (xs, rest) → length rest ≡ 0 → read_items d id content ≡ Ok xs
 items_filled d id n content middle [] xs e r nil = rw (e, r) refl
 items_filled d id n content middle (b ∷ rest) xs e r nil = absurd (omega arith)
 
-pub items_left : (d id n : ℕ) (content middle rest : List ℕ) (xs : List Item) → read_u32 content ≡ Some (n, middle) → repeat (read_item d id) n middle ≡ Ok (xs, rest) → (length rest ≡ 0 → ⊥) → read_items d id content ≡ Err Bad
+pub items_left : (d id n : ℕ) (content middle rest : List ℕ) (xs : List Item) → read_u32 content ≡ Some (n, middle) → repeat (read_content_item d id) n middle ≡ Ok (xs, rest) → (length rest ≡ 0 → ⊥) → read_items d id content ≡ Err Bad
 items_left d id n content middle [] xs e r some = absurd (some refl)
 items_left d id n content middle (b ∷ rest) xs e r some = rw (e, r) refl

@@ -39,8 +39,8 @@ alone id (x ∷ []) = Alone x
 alone id (x ∷ y ∷ xs) = Run id (x ∷ y ∷ xs)
 
 -- the section with this id and these items
-abbrev pub section_of : ℕ → List Item → Section
-section_of id xs = if collects id then Run id xs else alone id xs
+abbrev pub item_section : ℕ → List Item → Section
+item_section id xs = if collects id then Run id xs else alone id xs
 
 abbrev pub section_view : {A : Type 0} → ListedSection A → Section
-section_view s = section_of s.id (map item_view s.items.items)
+section_view s = item_section s.id (map item_view s.items.items)

@@ -7,8 +7,8 @@ use Rattle.wenc_base.specs.Number.{u32}
 use Rattle.wenc_base.specs.Piece.{Wide, each}
 use Rattle.wenc_builder.specs.Item.{Item, TypeItem}
 use Rattle.wenc_builder.specs.Sections.{Section, members, item_of, section_piece, preamble}
-use Rattle.wenc_builder.specs.Space.{place}
-use Rattle.wenc_decode.specs.Depth.{Front, Enters}
+use Rattle.wenc_builder.specs.Space.{next_index}
+use Rattle.wenc_decode.specs.Depth.{Front, OpensTypes}
 use Rattle.wenc_types.specs.ComponentTypes.{depth}
 use Rattle.wenc_list.specs.declared.fault.ListFault.{ListFault}
 use Rattle.wenc_list.specs.declared.fault.ListFault.TheVariants as faults
@@ -59,13 +59,13 @@ pub record IsTooDeep (bytes : List ℕ) : Type 0 where
   pub content : List ℕ
   pub rest : List ℕ
   pub framed : IsFramed bytes 7 content rest
-  pub reached : Front (item_of 7) (Enters 100) content
+  pub reached : Front (item_of 7) (OpensTypes 100) content
 
 -- ---- what is listed
 
 -- this byte comes first
-abbrev pub Begins : ℕ → List ℕ → Type 0
-Begins byte bytes = (rest : List ℕ) × (bytes ≡ byte ∷ rest)
+abbrev pub BeginsWith : ℕ → List ℕ → Type 0
+BeginsWith byte bytes = (rest : List ℕ) × (bytes ≡ byte ∷ rest)
 
 -- Each section is read where it is placed, where its id is the first byte, of so many bytes in all,
 -- one behind the other up to the rest.
@@ -73,11 +73,11 @@ abbrev pub AreFrom : {A : Type 0} → ℕ → List (ListedSection A) → List �
 AreFrom all [] bytes rest = bytes ≡ rest
 AreFrom all (s ∷ ss) bytes rest =
     (middle : List ℕ) × (section_piece (section_view s)).Reads Wide bytes middle ×
-    (all ≡ s.place + length bytes) × Begins s.id bytes × AreFrom all ss middle rest
+    (all ≡ s.place + length bytes) × BeginsWith s.id bytes × AreFrom all ss middle rest
 
 -- how many places in space k the items of these sections take
-abbrev pub count_in : ℕ → List Section → ℕ
-count_in k ss = place (flat_map members ss) k
+abbrev pub count_of_sections : ℕ → List Section → ℕ
+count_of_sections k ss = next_index (flat_map members ss) k
 
 -- so it is of all of a component, behind its header
 abbrev pub ArePlaced : {A : Type 0} → List ℕ → List (ListedSection A) → Type 0
@@ -91,14 +91,14 @@ abbrev pub IsNoneWithin : List ℕ → Type 0
 IsNoneWithin bytes = (s : Section) (rest : List ℕ) → (section_piece s).Reads Wide bytes rest
     → AreWithin 100 (s ∷ []) → ⊥
 
--- Sections are read within depth 100, of so many bytes in all, up to this place; the next one
+-- Sections are read within depth 100, of so many bytes in all, up to this next_index; the next one
 -- isn't, and P holds of the bytes from there on.
-pub record Stops (all : ℕ) (bytes : List ℕ) (place : ℕ) (P : List ℕ → Type 0) : Type 0 where
+pub record StopsAt (all : ℕ) (bytes : List ℕ) (next_index : ℕ) (P : List ℕ → Type 0) : Type 0 where
   pub before : List Section
   pub left : List ℕ
   pub read : (each section_piece before).Reads Wide bytes left
   pub within : AreWithin 100 before
-  pub is_place : all ≡ place + length left
+  pub is_place : all ≡ next_index + length left
   pub some_left : 0 < length left
   pub none_within : IsNoneWithin left
   pub cause : P left
@@ -106,10 +106,10 @@ pub record Stops (all : ℕ) (bytes : List ℕ) (place : ℕ) (P : List ℕ → 
 -- the fault has its cause, behind the header
 abbrev pub IsFaultBehind : ℕ → List ℕ → ListFault → Type 0
 IsFaultBehind all bytes faults.Memory = Unit {0}
-IsFaultBehind all bytes (faults.NotAComponent place) = ⊥
-IsFaultBehind all bytes (faults.BadSection place) = Stops all bytes place IsBadSection
-IsFaultBehind all bytes (faults.BadItem place) = Stops all bytes place IsBadItem
-IsFaultBehind all bytes (faults.TooDeep place) = Stops all bytes place IsTooDeep
+IsFaultBehind all bytes (faults.NotAComponent next_index) = ⊥
+IsFaultBehind all bytes (faults.BadSection next_index) = StopsAt all bytes next_index IsBadSection
+IsFaultBehind all bytes (faults.BadItem next_index) = StopsAt all bytes next_index IsBadItem
+IsFaultBehind all bytes (faults.TooDeep next_index) = StopsAt all bytes next_index IsTooDeep
 
 abbrev pub HasNoHeader : List ℕ → Type 0
 HasNoHeader bytes = (rest : List ℕ) → preamble.Reads Wide bytes rest → ⊥
@@ -117,6 +117,6 @@ HasNoHeader bytes = (rest : List ℕ) → preamble.Reads Wide bytes rest → ⊥
 -- the fault has its cause
 abbrev pub IsFaultOf : List ℕ → ListFault → Type 0
 IsFaultOf bytes faults.Memory = Unit {0}
-IsFaultOf bytes (faults.NotAComponent place) = (place ≡ 0) × HasNoHeader bytes
+IsFaultOf bytes (faults.NotAComponent next_index) = (next_index ≡ 0) × HasNoHeader bytes
 IsFaultOf bytes fault =
     (behind : List ℕ) × preamble.Reads Wide bytes behind × IsFaultBehind (length bytes) behind fault

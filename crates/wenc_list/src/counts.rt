@@ -1,6 +1,6 @@
 //! How many places items take in each index space.
 ghost use Rattle.std.specs.Prelude.{◌≡◌, ℕ, ◌+◌, ◌<◌, ◌^◌, map, slice_index};
-ghost use Rattle.wenc_builder.specs.Space.{space_number, some_in, number_in, defined_in, place};
+ghost use Rattle.wenc_builder.specs.Space.{space_number, some_in, number_in, defined_in, next_index};
 ghost use Rattle.wenc_list.specs.Items.{item_view};
 
 use crate::item::ItemTree;
@@ -31,9 +31,9 @@ fn add_item<A: Allocator>(counts: &mut [u128; 13], item: &ItemTree<A>)
 
 /// Counts the places that the items take.
 pub(crate) fn count<A: Allocator>(counts: &mut [u128; 13], items: &[ItemTree<A>])
-    requires { (k : ℕ) → slice_index counts.old k + place (map item_view items.now) k < 2 ^ 128 }
+    requires { (k : ℕ) → slice_index counts.old k + next_index (map item_view items.now) k < 2 ^ 128 }
     ensures { (k : ℕ)
-        → slice_index counts.new k ≡ slice_index counts.old k + place (map item_view items.now) k }
+        → slice_index counts.new k ≡ slice_index counts.old k + next_index (map item_view items.now) k }
 {
     for item in items {
         add_item(counts, item);

@@ -78,12 +78,12 @@ fn canon_space<A: Allocator>(canon: &CanonTree<A>) -> Space
 
 impl<A: Allocator> ItemTree<A> {
     ghost use Rattle.std.specs.Prelude.{option_map};
-    ghost use Rattle.wenc_builder.specs.Space.{defined_as, defines};
+    ghost use Rattle.wenc_builder.specs.Space.{indices_in, defines};
     ghost use Rattle.wenc_list.specs.Items.{item_view};
 
     /// The space in which the item takes places, and how many; `None` of a custom section.
     pub fn places(&self) -> Option<(Space, u32)>
-        ensures { option_map (λ p. defined_as p.0 p.1) result ≡ defines (item_view self.now) }
+        ensures { option_map (λ p. indices_in p.0 p.1) result ≡ defines (item_view self.now) }
     {
         match self {
             ItemTree::Module(_) => Some((Space::CoreModules, 1)),

@@ -3,7 +3,7 @@ ghost use Rattle.std.specs.Prelude.{◌≡◌, ◌≤◌, ℕ, List, [], ◌∷�
 ghost use Rattle.wenc_base.specs.Piece.{Wide};
 ghost use Rattle.wenc_builder.specs.Sections.{Section, section_piece, preamble, Reading};
 ghost use Rattle.wenc_list.specs.Items.{section_view};
-ghost use Rattle.wenc_list.specs.Listing.{AreWithin, AreFrom, ArePlaced, count_in, IsFaultOf, HasNoHeader, IsFaultBehind, Begins};
+ghost use Rattle.wenc_list.specs.Listing.{AreWithin, AreFrom, ArePlaced, count_of_sections, IsFaultOf, HasNoHeader, IsFaultBehind, BeginsWith};
 ghost use Rattle.wenc_list.specs.inside.Faults.{IsFaultHere};
 ghost use Rattle.wenc_list.specs.inside.Contents.{fault_of_frame, fault_of_content};
 ghost use Rattle.wenc_list.specs.declared.fault.ListFault.TheVariants.{Memory, NotAComponent};
@@ -81,7 +81,7 @@ fn section<A: Allocator + Copy>(
         (λ x. (section_piece (section_view x.0)).Reads Wide bytes.now x.1.now) }
     ensures within { IfOk result (λ x. AreWithin 100 (section_view x.0 ∷ [])) }
     ensures placed { IfOk result (λ x. x.0.place ≡ place) }
-    ensures begins { IfOk result (λ x. Begins x.0.id bytes.now) }
+    ensures begins { IfOk result (λ x. BeginsWith x.0.id bytes.now) }
     ensures fault { IfErr result (IsFaultHere place bytes.now) }
 {
     match frame(bytes) {
@@ -106,7 +106,7 @@ fn sections<A: Allocator + Copy>(
     ensures listed { IfOk result (λ x. AreFrom all x.0.items bytes.now []) }
     ensures within { IfOk result (λ x. AreWithin 100 (map section_view x.0.items)) }
     ensures counted { IfOk result (λ x. (k : ℕ)
-        → slice_index x.1 k ≡ count_in k (map section_view x.0.items)) }
+        → slice_index x.1 k ≡ count_of_sections k (map section_view x.0.items)) }
     ensures fault { IfErr result (IsFaultBehind all bytes.now) }
 {
     let mut sections = Vec::new(alloc);
@@ -146,7 +146,7 @@ pub fn list<A: Allocator + Copy>(alloc: A, bytes: &[u8]) -> Result<Listing<A>, L
     ensures placed { IfOk result (λ l. ArePlaced bytes.now l.sections.items) }
     // The counts are the sums of what the items define.
     ensures counted { IfOk result (λ l. (k : ℕ)
-        → slice_index l.counts k ≡ count_in k (map section_view l.sections.items)) }
+        → slice_index l.counts k ≡ count_of_sections k (map section_view l.sections.items)) }
     // What is read within that depth is listed, unless memory runs out.
     ensures listed { (ss : List Section) → Reading Wide bytes.now ss → AreWithin 100 ss
         → MatchResult result (λ l. map section_view l.sections.items ≡ ss) (λ e. e ≡ Memory) }

@@ -2,7 +2,7 @@
 ghost use Rattle.std.specs.Prelude.{map};
 ghost use Rattle.wenc_builder.specs.Item.{Item};
 ghost use Rattle.wenc_decode.specs.inside.Outcomes.{DeepReader, Yields, flat, repeat};
-ghost use Rattle.wenc_list.specs.inside.Contents.{read_item};
+ghost use Rattle.wenc_list.specs.inside.Contents.{read_content_item};
 ghost use Rattle.wenc_list.specs.Items.{item_view};
 
 use crate::item::ItemTree;
@@ -180,7 +180,7 @@ pub(crate) fn collected<A: Allocator + Copy>(
     bytes: &[u8],
 ) -> Result<(Vec<ItemTree<A>, A>, &[u8]), Refusal>
     ensures { Yields (λ x. (map item_view x.0.items, x.1.now)) result
-        (repeat (read_item 100 id) count bytes.now) }
+        (repeat (read_content_item 100 id) count bytes.now) }
 {
     match id {
         2 => members::<A, CoreInstanceTree<A>>(alloc, count, bytes),

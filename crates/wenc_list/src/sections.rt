@@ -3,7 +3,7 @@ ghost use Rattle.std.specs.Prelude.{◌≡◌, ◌∷◌, [], map, IfOk, IfErr};
 ghost use Rattle.std.specs.String.{string_bytes};
 ghost use Rattle.wenc_base.specs.Forms.{AreBytes};
 ghost use Rattle.wenc_decode.specs.inside.Outcomes.{Yields};
-ghost use Rattle.wenc_list.specs.inside.Contents.{labelled, read_custom_content, read_start_content, read_raw};
+ghost use Rattle.wenc_list.specs.inside.Contents.{labelled_section, read_custom_content, read_start_content, read_raw};
 ghost use Rattle.wenc_list.specs.inside.Contents.{read_items, read_content, read_frame};
 ghost use Rattle.wenc_list.specs.Items.{item_view};
 ghost use Rattle.wenc_read.specs.inside.Gives.{Gives, GivesAll};
@@ -31,7 +31,7 @@ fn copied<A: Allocator>(alloc: A, bytes: &[u8]) -> Result<Vec<u8, A>, Refusal>
 
 /// What fills a custom section.
 fn custom<A: Allocator + Copy>(alloc: A, content: &[u8]) -> Result<(String<A>, Vec<u8, A>), Refusal>
-    ensures { GivesAll (λ x. labelled (string_bytes x.0) x.1.items) result
+    ensures { GivesAll (λ x. labelled_section (string_bytes x.0) x.1.items) result
         (read_custom_content content.now) }
 {
     let (name, rest) = name_of(alloc, content)?;

@@ -5,9 +5,9 @@ use Rattle.wenc_base.specs.Number.{u32}
 use Rattle.wenc_base.specs.Forms.{name as name_form}
 use Rattle.std.specs.String.{string_bytes}
 use Rattle.wenc_base.specs.declared.exports.ExportKind.{ExportKind}
-use Rattle.wenc_base.specs.Exports.{export_kind as core_kind}
+use Rattle.wenc_base.specs.Exports.{core_export_kind as core_kind}
 use Rattle.wenc_parts.specs.declared.exports.ComponentExportKind.{ComponentExportKind}
-use Rattle.wenc_parts.specs.Exports.{export_kind}
+use Rattle.wenc_parts.specs.Exports.{component_export_kind}
 use Rattle.wenc_parts.specs.declared.aliases.ComponentOuterAliasKind.{ComponentOuterAliasKind}
 use Rattle.wenc_parts.specs.declared.aliases.ComponentOuterAliasKind.TheVariants.{CoreModule}
 use Rattle.wenc_parts.specs.declared.aliases.ComponentOuterAliasKind.TheVariants.{CoreType}
@@ -34,7 +34,7 @@ pub data AliasOf : Type 0 where
   Outer : (kind : ComponentOuterAliasKind) (count : ℕ) (number : ℕ) → AliasOf
 
 abbrev pub alias : Form AliasOf
-alias (InstanceExport instance kind name) = export_kind kind ⨾ 0x00 ▸ u32 instance ⨾ name_form name
+alias (InstanceExport instance kind name) = component_export_kind kind ⨾ 0x00 ▸ u32 instance ⨾ name_form name
 alias (CoreInstanceExport instance kind name) =
     0x00 ▸ core_kind kind ⨾ 0x01 ▸ u32 instance ⨾ name_form name
 alias (Outer kind count number) = outer_kind kind ⨾ 0x02 ▸ u32 count ⨾ u32 number

@@ -26,9 +26,9 @@ pub enum ComponentExportKind {
 }
 
 impl Encode for ComponentExportKind {
-    ghost use Rattle.wenc_parts.specs.Exports.{export_kind};
+    ghost use Rattle.wenc_parts.specs.Exports.{component_export_kind};
 
-    ghost piece = { λ k. export_kind k };
+    ghost piece = { λ k. component_export_kind k };
 
     fn encode<A: Allocator>(&self, sink: &mut Vec<u8, A>) -> Result<(), Fault> {
         let sort: &[u8] = match self {
@@ -45,17 +45,17 @@ impl Encode for ComponentExportKind {
 }
 
 impl Delimited for ComponentExportKind {
-    ghost use Rattle.wenc_parts.specs.Exports.{export_kind};
-    ghost use Rattle.wenc_parts.specs.laws.Exports.{read_export_kind, export_kind_lawful};
+    ghost use Rattle.wenc_parts.specs.Exports.{component_export_kind};
+    ghost use Rattle.wenc_parts.specs.laws.Exports.{read_component_export_kind, component_export_kind_lawful};
     ghost use Rattle.wenc_parts.specs.declared.exports.ComponentExportKind.{ComponentExportKind as Seen'};
 
     ghost Seen = { Seen' };
 
     ghost seen = { λ x. x };
 
-    ghost form = { export_kind };
+    ghost form = { component_export_kind };
 
-    ghost readable = { ((λ fuel. read_export_kind), export_kind_lawful) };
+    ghost readable = { ((λ fuel. read_component_export_kind), component_export_kind_lawful) };
 
     ghost written = { λ _. serves_itself };
 }

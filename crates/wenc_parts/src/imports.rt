@@ -73,7 +73,7 @@ pub enum ComponentTypeRef {
 }
 
 impl ComponentTypeRef {
-    ghost use Rattle.wenc_parts.specs.Exports.{export_kind};
+    ghost use Rattle.wenc_parts.specs.Exports.{component_export_kind};
     ghost use Rattle.wenc_parts.specs.Imports.{kind_of, type_reference};
 
     /// The kind of the item that is referred to, whose text begins the reference's text.
@@ -81,7 +81,7 @@ impl ComponentTypeRef {
     pub fn kind(&self) -> ComponentExportKind
         ensures is { result ≡ kind_of self.now }
         ensures begins { (rest : List ℕ)
-            × ((type_reference self.now).text ≡ (export_kind (kind_of self.now)).text ++ rest) }
+            × ((type_reference self.now).text ≡ (component_export_kind (kind_of self.now)).text ++ rest) }
     {
         match self {
             ComponentTypeRef::Module(_) => ComponentExportKind::Module,

@@ -5,8 +5,8 @@ use Rattle.wenc_base.specs.Custom.{custom}
 use Rattle.wenc_base.specs.Encode.{Serves, sized_in_order}
 use Rattle.wenc_base.specs.Fault.{size_cause}
 use Rattle.wenc_base.specs.Forms.{name, byte_list}
-use Rattle.wenc_base.specs.Holder.{Held, Contains}
-use Rattle.wenc_base.specs.Names.{Named, named, names_text, name_map}
+use Rattle.wenc_base.specs.Holder.{HolderState, Contains}
+use Rattle.wenc_base.specs.Names.{NameAssociation, name_association, names_text, name_map}
 use Rattle.wenc_base.specs.Number.{groups, unsigned_text}
 use Rattle.wenc_base.specs.Piece.{◌▸◌}
 use Rattle.wenc_base.specs.laws.Names.{held_names}
@@ -47,17 +47,17 @@ no_room_for_name before text fault c = no_room_behind before (name text).text 0x
 -- ---- names that are held
 
 -- no name is empty, with its place
-some_bytes : (ns : List Named) → length ns ≤ length (names_text ns)
+some_bytes : (ns : List NameAssociation) → length ns ≤ length (names_text ns)
 some_bytes [] = omega arith
-some_bytes (n ∷ ns) = omega (arith, some_bytes ns, groups_some 128 9 n.place, length-append (named n).text (names_text ns), length-append (unsigned_text n.place) (name n.name).text)
+some_bytes (n ∷ ns) = omega (arith, some_bytes ns, groups_some 128 9 n.place, length-append (name_association n).text (names_text ns), length-append (unsigned_text n.place) (name n.name).text)
 
-names_fit : (sort : Sort) (held : Held) (ns : List Named) → Contains named held ns → (held_subsection sort held).Fits → (subsection (ItemNames sort ns)).Fits
+names_fit : (sort : Sort) (held : HolderState) (ns : List NameAssociation) → Contains name_association held ns → (held_subsection sort held).Fits → (subsection (ItemNames sort ns)).Fits
 names_fit sort held ns holds h =
     let size : length ((item_sort sort).text ++ (name_map ns).text) < 2 ^ 32 = rw (held_names held ns holds) at h.0 in
     let few : length ns < 2 ^ 32 = omega (arith, size, some_bytes ns, length-append (item_sort sort).text (name_map ns).text, length-append (unsigned_text (length ns)) (names_text ns)) in
     (size, (h.1.0, (few, holds.fit)))
 
-pub names_appended : (sort : Sort) (held : Held) (old new : List ℕ) (outcome : Result (Unit {0}) Fault) → AppendsSubsection (held_subsection sort held) old new outcome → AppendsNames sort held old new outcome
+pub names_appended : (sort : Sort) (held : HolderState) (old new : List ℕ) (outcome : Result (Unit {0}) Fault) → AppendsSubsection (held_subsection sort held) old new outcome → AppendsNames sort held old new outcome
 names_appended sort held old new outcome a = record {
   bytes = a;
   names = λ ns holds. record {
@@ -66,7 +66,7 @@ names_appended sort held old new outcome a = record {
   };
 }
   where
-    fits : (outcome : Result (Unit {0}) Fault) (ns : List Named) → Contains named held ns → OnOk outcome (held_subsection sort held).Fits → OnOk outcome (subsection (ItemNames sort ns)).Fits
+    fits : (outcome : Result (Unit {0}) Fault) (ns : List NameAssociation) → Contains name_association held ns → OnOk outcome (held_subsection sort held).Fits → OnOk outcome (subsection (ItemNames sort ns)).Fits
     fits (Ok u) ns holds h = names_fit sort held ns holds h
     fits (Err fault) ns holds h = tt
 

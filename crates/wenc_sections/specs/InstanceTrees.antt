@@ -8,7 +8,7 @@ use Rattle.wenc_parts.specs.declared.exports.ComponentExportKind.{ComponentExpor
 use Rattle.wenc_parts.specs.declared.imports.NameTree.{NameTree}
 use Rattle.wenc_parts.specs.declared.instances.ModuleArg.{ModuleArg}
 use Rattle.wenc_sections.specs.Instances.{Argument, CoreExport, CoreInstance, CoreInstantiate}
-use Rattle.wenc_sections.specs.Instances.{CoreExports, Given, Exported, exported, Instance}
+use Rattle.wenc_sections.specs.Instances.{CoreExports, InstantiateArg, InlineExport, inline_export, Instance}
 use Rattle.wenc_sections.specs.Instances.{Instantiate, Exports}
 use Rattle.wenc_sections.specs.declared.instance_trees.CoreInstanceTree.{CoreInstanceTree}
 use Rattle.wenc_sections.specs.declared.instance_trees.CoreInstanceTree.TheVariants as core_trees
@@ -31,10 +31,10 @@ core_instance_tree_view (core_trees.Exports exports) =
 
 -- ---- of components
 
-abbrev pub given_tree_view : {A : Type 0} → String A × ComponentExportKind × ℕ → Given
+abbrev pub given_tree_view : {A : Type 0} → String A × ComponentExportKind × ℕ → InstantiateArg
 given_tree_view g = record { name = string_bytes g.0; kind = g.1; index = g.2 }
 
-abbrev pub exported_tree_view : {A : Type 0} → NameTree A × ComponentExportKind × ℕ → Exported
+abbrev pub exported_tree_view : {A : Type 0} → NameTree A × ComponentExportKind × ℕ → InlineExport
 exported_tree_view e = record { name = name_tree_view e.0; kind = e.1; index = e.2 }
 
 abbrev pub instance_tree_view : {A : Type 0} → InstanceTree A → Instance
@@ -44,4 +44,4 @@ instance_tree_view (trees.Exports exports) = Exports (map exported_tree_view exp
 
 -- the exports of trees
 abbrev pub exported_tree : {A : Type 0} → Form (NameTree A × ComponentExportKind × ℕ)
-exported_tree e = exported (exported_tree_view e)
+exported_tree e = inline_export (exported_tree_view e)

@@ -5,18 +5,18 @@ use Rattle.std.specs.Prelude.{ℕ, List}
 use Rattle.wenc_base.specs.Piece.{Form, ◌▸◌, ◌⨾◌}
 use Rattle.wenc_base.specs.Number.{u32}
 use Rattle.wenc_base.specs.Forms.{name, list}
-use Rattle.wenc_base.specs.Exports.{export_kind as core_kind}
+use Rattle.wenc_base.specs.Exports.{core_export_kind as core_kind}
 use Rattle.wenc_base.specs.declared.exports.ExportKind.{ExportKind}
 use Rattle.wenc_parts.specs.declared.exports.ComponentExportKind.{ComponentExportKind}
 use Rattle.wenc_parts.specs.declared.imports.ComponentExternName.{ComponentExternName}
 use Rattle.wenc_parts.specs.declared.instances.ModuleArg.{ModuleArg}
-use Rattle.wenc_parts.specs.Exports.{export_kind}
+use Rattle.wenc_parts.specs.Exports.{component_export_kind}
 use Rattle.wenc_parts.specs.Imports.{ExternName, extern_name, extern_name_view}
 use Rattle.wenc_parts.specs.Instances.{module_argument}
 
 -- ---- of core modules
 
--- what a module is given under a name
+-- what a module is instantiate_arg under a name
 pub record Argument : Type 0 where
   pub name : List ℕ
   pub value : ModuleArg
@@ -24,7 +24,7 @@ pub record Argument : Type 0 where
 abbrev pub argument : Form Argument
 argument a = name a.name ⨾ module_argument a.value
 
--- a core item, exported under a name
+-- a core item, inline_export under a name
 pub record CoreExport : Type 0 where
   pub name : List ℕ
   pub kind : ExportKind
@@ -45,32 +45,32 @@ core_instance (CoreExports exports) = 0x01 ▸ list core_export exports
 
 -- ---- of components
 
--- what a component is given under a name
-pub record Given : Type 0 where
+-- what a component is instantiate_arg under a name
+pub record InstantiateArg : Type 0 where
   pub name : List ℕ
   pub kind : ComponentExportKind
   pub index : ℕ
 
-abbrev pub given : Form Given
-given g = name g.name ⨾ export_kind g.kind ⨾ u32 g.index
+abbrev pub instantiate_arg : Form InstantiateArg
+instantiate_arg g = name g.name ⨾ component_export_kind g.kind ⨾ u32 g.index
 
--- an item, exported under a name
-pub record Exported : Type 0 where
+-- an item, inline_export under a name
+pub record InlineExport : Type 0 where
   pub name : ExternName
   pub kind : ComponentExportKind
   pub index : ℕ
 
-abbrev pub exported : Form Exported
-exported e = extern_name e.name ⨾ export_kind e.kind ⨾ u32 e.index
+abbrev pub inline_export : Form InlineExport
+inline_export e = extern_name e.name ⨾ component_export_kind e.kind ⨾ u32 e.index
 
 -- a component with its arguments, or exports alone
 pub data Instance : Type 0 where
-  Instantiate : (component_index : ℕ) (arguments : List Given) → Instance
-  Exports : (exports : List Exported) → Instance
+  Instantiate : (component_index : ℕ) (arguments : List InstantiateArg) → Instance
+  Exports : (exports : List InlineExport) → Instance
 
 abbrev pub instance : Form Instance
-instance (Instantiate component_index arguments) = 0x00 ▸ u32 component_index ⨾ list given arguments
-instance (Exports exports) = 0x01 ▸ list exported exports
+instance (Instantiate component_index arguments) = 0x00 ▸ u32 component_index ⨾ list instantiate_arg arguments
+instance (Exports exports) = 0x01 ▸ list inline_export exports
 
 -- ---- what an iterator gives, as pure values
 
@@ -80,8 +80,8 @@ argument_view a = record { name = a.0.now; value = a.1 }
 abbrev pub core_export_view : Bor (List ℕ) × ExportKind × ℕ → CoreExport
 core_export_view e = record { name = e.0.now; kind = e.1; index = e.2 }
 
-abbrev pub given_view : Bor (List ℕ) × ComponentExportKind × ℕ → Given
+abbrev pub given_view : Bor (List ℕ) × ComponentExportKind × ℕ → InstantiateArg
 given_view g = record { name = g.0.now; kind = g.1; index = g.2 }
 
-abbrev pub exported_view : {A : Type 0} → ComponentExternName A × ComponentExportKind × ℕ → Exported
+abbrev pub exported_view : {A : Type 0} → ComponentExternName A × ComponentExportKind × ℕ → InlineExport
 exported_view e = record { name = extern_name_view e.0; kind = e.1; index = e.2 }

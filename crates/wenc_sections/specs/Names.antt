@@ -5,8 +5,8 @@ use Rattle.wenc_base.specs.Piece.{Piece, Form, byte, ◌▸◌, ◌⨾◌, all_o
 use Rattle.wenc_base.specs.Forms.{name, sized, byte_list}
 use Rattle.wenc_base.specs.Custom.{Custom, custom}
 use Rattle.wenc_base.specs.Encode.{Appends}
-use Rattle.wenc_base.specs.Holder.{Held, held_text, Contains}
-use Rattle.wenc_base.specs.Names.{Named, named, name_map}
+use Rattle.wenc_base.specs.Holder.{HolderState, held_text, Contains}
+use Rattle.wenc_base.specs.Names.{NameAssociation, name_association, name_map}
 use Rattle.wenc_base.specs.declared.fault.Fault.{Fault}
 use Rattle.wenc_base.specs.declared.fault.Fault.TheVariants.{TooLarge}
 use Rattle.wenc_sections.specs.declared.names.Sort.{Sort}
@@ -37,7 +37,7 @@ item_sort Instance = byte 0x05
 -- the component's own name, names of items of one sort, or any bytes under any id
 pub data Subsection : Type 0 where
   ComponentName : (name : List ℕ) → Subsection
-  ItemNames : (sort : Sort) (names : List Named) → Subsection
+  ItemNames : (sort : Sort) (names : List NameAssociation) → Subsection
   RawNames : (id : ℕ) (bytes : List ℕ) → Subsection
 
 -- its id, how many bytes come, and these
@@ -51,16 +51,16 @@ abbrev pub subsections_text : List Subsection → List ℕ
 subsections_text ss = flat_map (λ s. (subsection s).text) ss
 
 -- the names of a sort that are held, which are taken as they are
-abbrev pub held_subsection : Sort → Held → Piece
+abbrev pub held_subsection : Sort → HolderState → Piece
 held_subsection sort held = 0x01 ▸ sized (all_of (item_sort sort ⨾ verbatim (held_text held)))
 
 -- the names of a sort, where it has some
-abbrev pub item_names : Sort → List Named → List Subsection
+abbrev pub item_names : Sort → List NameAssociation → List Subsection
 item_names sort [] = []
 item_names sort (n ∷ ns) = ItemNames sort (n ∷ ns) ∷ []
 
 -- a subsection for each of these sorts that has names
-abbrev pub name_subsections : List (Sort × List Named) → List Subsection
+abbrev pub name_subsections : List (Sort × List NameAssociation) → List Subsection
 name_subsections sorts = flat_map (λ p. item_names p.0 p.1) sorts
 
 -- ---- the section
@@ -93,8 +93,8 @@ pub record AppendsSubsection (p : Piece) (old new : List ℕ)
 
 -- A call appends the names of a sort that are held: as they are and, whatever names these are, as
 -- their subsection.
-pub record AppendsNames (sort : Sort) (held : Held) (old new : List ℕ)
+pub record AppendsNames (sort : Sort) (held : HolderState) (old new : List ℕ)
     (outcome : Result (Unit {0}) Fault) : Type 0 where
   pub bytes : AppendsSubsection (held_subsection sort held) old new outcome
-  pub names : (ns : List Named) → Contains named held ns
+  pub names : (ns : List NameAssociation) → Contains name_association held ns
       → AppendsSubsection (subsection (ItemNames sort ns)) old new outcome

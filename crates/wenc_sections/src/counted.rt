@@ -43,10 +43,10 @@ pub struct Counted<K: CountedKind, A: Allocator = Global> {
 }
 
 impl<K: CountedKind, A: Allocator> Model for Counted<K, A> {
-    ghost use Rattle.wenc_base.specs.Holder.{Held};
+    ghost use Rattle.wenc_base.specs.Holder.{HolderState};
     ghost use Rattle.wenc_base.specs.Openings.{HasMembers};
 
-    ghost Value = { Held };
+    ghost Value = { HolderState };
 
     ghost view = { λ s. s.items };
 

@@ -1,11 +1,11 @@
 ghost use Rattle.std.specs.Borrow.{sem, RestsIfErr};
 ghost use Rattle.std.specs.Prelude.{◌≡◌, [], List, false, IfOk, IfErr, Err};
-ghost use Rattle.wenc_base.specs.Holder.{is_finished, held, AddCause, AddsMember, EncodeCause};
+ghost use Rattle.wenc_base.specs.Holder.{is_finished, held_members, AddCause, AddsMember, EncodeCause};
 ghost use Rattle.wenc_base.specs.Lender.{Lends};
-ghost use Rattle.wenc_base.specs.Openings.{opened_with};
+ghost use Rattle.wenc_base.specs.Openings.{member_begun};
 ghost use Rattle.wenc_base.specs.Piece.{◌▸◌, refused_for};
 ghost use Rattle.wenc_base.specs.declared.fault.Fault.TheVariants.{Unfinished};
-ghost use Rattle.wenc_types.specs.ComponentTypes.{InstanceDeclaration, ComponentDeclaration, ComponentType as ComponentTypeSpec, InstanceType as InstanceTypeSpec, ResourceType, components_of, instances_of, type_of};
+ghost use Rattle.wenc_types.specs.ComponentTypes.{InstanceDeclaration, ComponentDeclaration, ComponentType as ComponentTypeSpec, InstanceType as InstanceTypeSpec, ResourceType, components_of, instances_of, def_type};
 ghost use Rattle.wenc_types.specs.Declarations.{ComponentDeclares, InstanceDeclares};
 ghost use Rattle.wenc_types.specs.declared.func_type.FuncStage.TheVariants as stages;
 
@@ -57,7 +57,7 @@ impl<A: Allocator> Counted<CoreTypes, A> {
             ⟦<CoreTypes as CountedKind>⟧ A.Allocator) self.entry
             (λ e. e.lender.ghost_name) result (λ n. n ≡ self.old)) }
         ensures same_reference { IfOk result (λ e. e.lender.ghost_name ≡ self.entry.ghost_name) }
-        ensures lent { Lends (λ e. e.lender.now) (opened_with self.old [])
+        ensures lent { Lends (λ e. e.lender.now) (member_begun self.old [])
             (is_finished self.old) result (AddCause self.old [] (λ _. ⊥)) }
         ensures no_memory { IfErr result (AddCause self.old [] (λ _. ⊥)) }
     {
@@ -77,7 +77,7 @@ impl CountedKind for ComponentTypes {
 
     const ID: ComponentSectionId = ComponentSectionId::Type;
 
-    ghost is_item = { HasForm type_of };
+    ghost is_item = { HasForm def_type };
 }
 
 impl LentKind for ComponentTypes {}
@@ -105,7 +105,7 @@ impl<A: Allocator> Counted<ComponentTypes, A> {
             ⟦<ComponentTypes as CountedKind>⟧ A.Allocator) self.entry
             (λ e. e.lender.ghost_name) result (λ n. n ≡ self.old)) }
         ensures same_reference { IfOk result (λ e. e.lender.ghost_name ≡ self.entry.ghost_name) }
-        ensures lent { Lends (λ e. e.lender.now) (opened_with self.old [])
+        ensures lent { Lends (λ e. e.lender.now) (member_begun self.old [])
             (is_finished self.old) result (AddCause self.old [] (λ _. ⊥)) }
         ensures no_memory { IfErr result (AddCause self.old [] (λ _. ⊥)) }
     {
@@ -121,7 +121,7 @@ impl<A: Allocator> Counted<ComponentTypes, A> {
             ⟦<ComponentTypes as CountedKind>⟧ A.Allocator) self.entry
             (λ e. e.lender.ghost_name) result (λ n. n ≡ self.old)) }
         ensures same_reference { IfOk result (λ e. e.lender.ghost_name ≡ self.entry.ghost_name) }
-        ensures lent { Lends (λ e. e.lender.now) (opened_with self.old [])
+        ensures lent { Lends (λ e. e.lender.now) (member_begun self.old [])
             (is_finished self.old) result (AddCause self.old [] (λ _. ⊥)) }
         ensures no_memory { IfErr result (AddCause self.old [] (λ _. ⊥)) }
         ensures stage { IfOk result (λ e. e.stage ≡ stages.Start) }
@@ -138,7 +138,7 @@ impl<A: Allocator> Counted<ComponentTypes, A> {
             ⟦<ComponentTypes as CountedKind>⟧ A.Allocator) self.entry
             (λ e. e.lender.ghost_name) result (λ n. n ≡ self.old)) }
         ensures same_reference { IfOk result (λ e. e.lender.ghost_name ≡ self.entry.ghost_name) }
-        ensures lent { Lends (λ e. e.lender.now) (opened_with self.old [])
+        ensures lent { Lends (λ e. e.lender.now) (member_begun self.old [])
             (is_finished self.old) result (AddCause self.old [] (λ _. ⊥)) }
         ensures no_memory { IfErr result (AddCause self.old [] (λ _. ⊥)) }
     {
@@ -149,10 +149,10 @@ impl<A: Allocator> Counted<ComponentTypes, A> {
     /// Adds this component type. It is refused with `Unfinished` where either is unfinished, where there would be too
     /// many types (`TooMany`), or too many bytes in the section (`TooLarge`).
     pub fn component<B: Allocator>(&mut self, ty: &ComponentType<B>) -> Result<(), Fault>
-        ensures added { AddsMember (0x41 ▸ held ty.now.held) self.old self.new result }
+        ensures added { AddsMember (0x41 ▸ held_members ty.now.held) self.old self.new result }
         ensures declared { (ds : List ComponentDeclaration) → ComponentDeclares ty.now ds
             → AddsMember (refused_for (EncodeCause ty.now.held)
-            (type_of (ComponentTypeSpec (components_of ds)))) self.old self.new result }
+            (def_type (ComponentTypeSpec (components_of ds)))) self.old self.new result }
         ensures unfinished { is_finished ty.now.held ≡ false → result ≡ Err Unfinished }
     {
         if !ty.is_finished() {
@@ -163,10 +163,10 @@ impl<A: Allocator> Counted<ComponentTypes, A> {
 
     /// Adds this instance type. It is refused as `component` is.
     pub fn instance<B: Allocator>(&mut self, ty: &InstanceType<B>) -> Result<(), Fault>
-        ensures added { AddsMember (0x42 ▸ held ty.now.held) self.old self.new result }
+        ensures added { AddsMember (0x42 ▸ held_members ty.now.held) self.old self.new result }
         ensures declared { (ds : List InstanceDeclaration) → InstanceDeclares ty.now ds
             → AddsMember (refused_for (EncodeCause ty.now.held)
-            (type_of (InstanceTypeSpec (instances_of ds)))) self.old self.new result }
+            (def_type (InstanceTypeSpec (instances_of ds)))) self.old self.new result }
         ensures unfinished { is_finished ty.now.held ≡ false → result ≡ Err Unfinished }
     {
         if !ty.is_finished() {
@@ -179,7 +179,7 @@ impl<A: Allocator> Counted<ComponentTypes, A> {
     /// one is dropped, where there is such a function. It is refused where there would be too many types (`TooMany`),
     /// or too many bytes in the section (`TooLarge`).
     pub fn resource(&mut self, rep: ValType, dtor: Option<u32>) -> Result<(), Fault>
-        ensures { AddsMember (type_of (ResourceType rep dtor)) self.old self.new result }
+        ensures { AddsMember (def_type (ResourceType rep dtor)) self.old self.new result }
     {
         self.items.add_encoded(&Tagged(0x3f, &(rep, dtor)))
     }

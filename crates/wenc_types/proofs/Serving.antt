@@ -16,10 +16,10 @@ use Rattle.wenc_parts.specs.Imports.{ExternName, extern_name, type_reference}
 use Rattle.wenc_parts.specs.Types.{value_type, result_list}
 use Rattle.wenc_parts.specs.declared.imports.ComponentTypeRef.{ComponentTypeRef}
 use Rattle.wenc_parts.specs.declared.types.ComponentValType.{ComponentValType}
-use Rattle.wenc_types.specs.ComponentTypes.{type_of, instance_declaration, component_declaration}
-use Rattle.wenc_types.specs.CoreTypes.{Import, Outer, module_declaration, module_type}
+use Rattle.wenc_types.specs.ComponentTypes.{def_type, instance_declaration, component_declaration}
+use Rattle.wenc_types.specs.CoreTypes.{ModuleImport, ModuleOuter, module_declaration, module_type}
 use Rattle.wenc_types.specs.CoreTypeTrees.{module_declaration_view}
-use Rattle.wenc_types.specs.DefinedTypes.{named, Case as PureCase, case, Record, Variant, Tuple, defined_type, function_type_of, function_type, lent_named, lent_case}
+use Rattle.wenc_types.specs.DefinedTypes.{labelled_type, Case as PureCase, case, Record, Variant, Tuple, def_val_type, function_type_of, function_type, lent_named, lent_case}
 use Rattle.wenc_types.specs.FuncStages.{async_byte}
 use Rattle.wenc_types.specs.TypeTrees.{named_view, case_view, function_view, type_view, instance_declaration_view, component_declaration_view}
 use Rattle.wenc_types.specs.declared.core_type_tree.ModuleDecl.{ModuleDecl}
@@ -56,11 +56,11 @@ pub module_tree_serves : {A : Type 0} (ds : List (ModuleDecl A))
 module_tree_serves ds = tagged_serves 0x50 (list_serves (λ d. module_declaration (module_declaration_view d)) module_declaration_view module_declaration (λ d. serves_itself) ds)
 
 pub import_serves : (from name : List ℕ) (ty : EntityType)
-    → Serves (0x00 ▸ in_order (name_form from) (in_order (name_form name) (entity_type ty))) (module_declaration (Import from name ty))
+    → Serves (0x00 ▸ in_order (name_form from) (in_order (name_form name) (entity_type ty))) (module_declaration (ModuleImport from name ty))
 import_serves from name ty = tagged_serves 0x00 (order_serves (serves_itself {p = name_form from}) (order_is_order (name_form name) (entity_type ty)))
 
 pub outer_serves : (count number : ℕ)
-    → Serves (0x02 ▸ in_order (verbatim (0x10 ∷ 0x01 ∷ [])) (in_order (u32 count) (u32 number))) (module_declaration (Outer count number))
+    → Serves (0x02 ▸ in_order (verbatim (0x10 ∷ 0x01 ∷ [])) (in_order (u32 count) (u32 number))) (module_declaration (ModuleOuter count number))
 outer_serves count number =
     let sort_and_kind : List ℕ = 0x10 ∷ 0x01 ∷ [] in
     tagged_serves 0x02 (serves_then (order_serves (serves_itself {p = verbatim sort_and_kind}) (order_is_order (u32 count) (u32 number))) (behind_is sort_and_kind (u32 count ⨾ u32 number)))
@@ -82,24 +82,24 @@ field_tree f = in_order (name_form (string_bytes f.0)) (value_type f.1)
 abbrev pub lent_field : Form (Bor (List ℕ) × ComponentValType)
 lent_field f = in_order (name_form f.0.now) (value_type f.1)
 
-fields_tree_serve : {A : Type 0} (fields : List (String A × ComponentValType)) → Serves (list_in_order field_tree fields) (list named (map named_view fields))
-fields_tree_serve = list_serves field_tree named_view named (λ f. order_is_order (name_form (string_bytes f.0)) (value_type f.1))
+fields_tree_serve : {A : Type 0} (fields : List (String A × ComponentValType)) → Serves (list_in_order field_tree fields) (list labelled_type (map named_view fields))
+fields_tree_serve = list_serves field_tree named_view labelled_type (λ f. order_is_order (name_form (string_bytes f.0)) (value_type f.1))
 
-pub record_tree_serves : {A : Type 0} (fields : List (String A × ComponentValType)) → Serves (0x72 ▸ list_in_order field_tree fields) (defined_type (Record (map named_view fields)))
+pub record_tree_serves : {A : Type 0} (fields : List (String A × ComponentValType)) → Serves (0x72 ▸ list_in_order field_tree fields) (def_val_type (Record (map named_view fields)))
 record_tree_serves fields = tagged_serves 0x72 (fields_tree_serve fields)
 
-pub variant_tree_serves : {A : Type 0} (cases : List (CaseTree A)) → Serves (0x71 ▸ list_in_order (λ c. case (case_view c)) cases) (defined_type (Variant (map case_view cases)))
+pub variant_tree_serves : {A : Type 0} (cases : List (CaseTree A)) → Serves (0x71 ▸ list_in_order (λ c. case (case_view c)) cases) (def_val_type (Variant (map case_view cases)))
 variant_tree_serves cases = tagged_serves 0x71 (list_serves (λ c. case (case_view c)) case_view case (λ c. serves_itself) cases)
 
 pub names_tree_serves : {A : Type 0} (tag : ℕ) (names : List (String A)) → Serves (tag ▸ list_in_order (λ s. name_form (string_bytes s)) names) (tag ▸ list name_form (map string_bytes names))
 names_tree_serves tag names = tagged_serves tag (list_serves (λ s. name_form (string_bytes s)) string_bytes name_form (λ s. serves_itself) names)
 
-pub tuple_tree_serves : (elements : List ComponentValType) → Serves (0x6f ▸ list_in_order value_type elements) (defined_type (Tuple elements))
+pub tuple_tree_serves : (elements : List ComponentValType) → Serves (0x6f ▸ list_in_order value_type elements) (def_val_type (Tuple elements))
 tuple_tree_serves elements = tagged_serves 0x6f (list_is_list value_type elements)
 
 -- fields, cases and names that an iterator gives
-pub fields_serve : (lead : List ℕ) (vs : List (Bor (List ℕ) × ComponentValType)) → Serves (behind_bytes lead (list lent_field vs)) (behind_bytes lead (list named (map lent_named vs)))
-fields_serve = listed_serves lent_field lent_named named (λ f. order_is_order (name_form f.0.now) (value_type f.1))
+pub fields_serve : (lead : List ℕ) (vs : List (Bor (List ℕ) × ComponentValType)) → Serves (behind_bytes lead (list lent_field vs)) (behind_bytes lead (list labelled_type (map lent_named vs)))
+fields_serve = listed_serves lent_field lent_named labelled_type (λ f. order_is_order (name_form f.0.now) (value_type f.1))
 
 pub names_serve : (lead : List ℕ) (vs : List (Bor (List ℕ))) → Serves (behind_bytes lead (list (λ n. name_form n.now) vs)) (behind_bytes lead (list name_form (map (λ n. n.now) vs)))
 names_serve = listed_serves (λ (n : Bor (List ℕ)). name_form n.now) (λ n. n.now) name_form (λ n. serves_itself)
@@ -114,11 +114,11 @@ seen_case c = record { name = c.name.now; ty = c.ty }
 abbrev pub case_of : Form Case
 case_of c = case (seen_case c)
 
-pub made_cases_serve : (cs : List Case) → Serves (0x71 ▸ list case_of cs) (defined_type (Variant (map seen_case cs)))
+pub made_cases_serve : (cs : List Case) → Serves (0x71 ▸ list case_of cs) (def_val_type (Variant (map seen_case cs)))
 made_cases_serve cs = tagged_serves 0x71 (lists_serve case_of seen_case case (λ c. serves_itself) cs)
 
-pub cases_serve : (vs : List (Bor (List ℕ) × Option ComponentValType)) → Serves (0x71 ▸ list case_of (map made_case vs)) (defined_type (Variant (map lent_case vs)))
-cases_serve vs = subst (λ (cs : List PureCase). Serves (0x71 ▸ list case_of (map made_case vs)) (defined_type (Variant cs))) (made vs) (made_cases_serve (map made_case vs))
+pub cases_serve : (vs : List (Bor (List ℕ) × Option ComponentValType)) → Serves (0x71 ▸ list case_of (map made_case vs)) (def_val_type (Variant (map lent_case vs)))
+cases_serve vs = subst (λ (cs : List PureCase). Serves (0x71 ▸ list case_of (map made_case vs)) (def_val_type (Variant cs))) (made vs) (made_cases_serve (map made_case vs))
   where
     made : (vs : List (Bor (List ℕ) × Option ComponentValType)) → map seen_case (map made_case vs) ≡ map lent_case vs
     made [] = refl
@@ -131,7 +131,7 @@ pub function_tree_serves : {A : Type 0} (is_async : Bool) (tag : ℕ) (params : 
     → Serves (tag ▸ in_order (list_in_order field_tree params) (result_list answer)) (function_type (function_view is_async params answer))
 function_tree_serves is_async tag params answer e = rw e (at is_async)
   where
-    both : Serves (in_order (list_in_order field_tree params) (result_list answer)) (list named (map named_view params) ⨾ result_list answer)
+    both : Serves (in_order (list_in_order field_tree params) (result_list answer)) (list labelled_type (map named_view params) ⨾ result_list answer)
     both = order_serves (fields_tree_serve params) (serves_itself {p = result_list answer})
 
     at : (is_async : Bool) → Serves (async_byte is_async ▸ in_order (list_in_order field_tree params) (result_list answer)) (function_type_of is_async (map named_view params) answer)
@@ -147,13 +147,13 @@ extern_serves seen name e tag ty = rw e (pair_serves tag (extern_name name) (typ
 
 -- declarations, in their order
 pub instance_tree_serves : {A : Type 0} (ds : Vec (InstanceDecl A) A)
-    → Serves (0x42 ▸ list_in_order (λ d. instance_declaration (instance_declaration_view d)) ds.items) (type_of (type_view (types.Instance ds)))
+    → Serves (0x42 ▸ list_in_order (λ d. instance_declaration (instance_declaration_view d)) ds.items) (def_type (type_view (types.Instance ds)))
 instance_tree_serves ds = rw (view_instance ds)
     (serves_then (tagged_serves 0x42 (list_serves (λ d. instance_declaration (instance_declaration_view d)) instance_declaration_view instance_declaration (λ d. serves_itself) ds.items))
     (instances_serve (map instance_declaration_view ds.items)))
 
 pub component_tree_serves : {A : Type 0} (ds : Vec (ComponentDecl A) A)
-    → Serves (0x41 ▸ list_in_order (λ d. component_declaration (component_declaration_view d)) ds.items) (type_of (type_view (types.Component ds)))
+    → Serves (0x41 ▸ list_in_order (λ d. component_declaration (component_declaration_view d)) ds.items) (def_type (type_view (types.Component ds)))
 component_tree_serves ds = rw (view_component ds)
     (serves_then (tagged_serves 0x41 (list_serves (λ d. component_declaration (component_declaration_view d)) component_declaration_view component_declaration (λ d. serves_itself) ds.items))
     (components_serve (map component_declaration_view ds.items)))

@@ -9,21 +9,21 @@ use Rattle.wenc_parts.specs.declared.imports.ComponentTypeRef.{ComponentTypeRef}
 use Rattle.wenc_parts.specs.Imports.{ExternName, extern_name, type_reference}
 use Rattle.wenc_parts.specs.Aliases.{AliasOf, alias}
 use Rattle.wenc_types.specs.CoreTypes.{CoreType, core_type}
-use Rattle.wenc_types.specs.DefinedTypes.{Defined, defined_type, Function, function_type}
+use Rattle.wenc_types.specs.DefinedTypes.{DefValType, def_val_type, Function, function_type}
 
 mutual
-  pub data TypeOf : Type 0 where
-    DefinedType : (ty : Defined) → TypeOf
-    FunctionType : (ty : Function) → TypeOf
-    ComponentType : (declarations : ComponentDeclarations) → TypeOf
-    InstanceType : (declarations : InstanceDeclarations) → TypeOf
+  pub data DefType : Type 0 where
+    DefinedType : (ty : DefValType) → DefType
+    FunctionType : (ty : Function) → DefType
+    ComponentType : (declarations : ComponentDeclarations) → DefType
+    InstanceType : (declarations : InstanceDeclarations) → DefType
     -- a resource: how it is represented, and the index of the function that ends it
-    ResourceType : (rep : ValType) (dtor : Option ℕ) → TypeOf
+    ResourceType : (rep : ValType) (dtor : Option ℕ) → DefType
 
   -- what an instance type declares
   pub data InstanceDeclaration : Type 0 where
     CoreTyped : (ty : CoreType) → InstanceDeclaration
-    Typed : (ty : TypeOf) → InstanceDeclaration
+    Typed : (ty : DefType) → InstanceDeclaration
     Aliased : (to : AliasOf) → InstanceDeclaration
     Exported : (name : ExternName) (ty : ComponentTypeRef) → InstanceDeclaration
 
@@ -63,16 +63,16 @@ component_count (and_component first others) = suc (component_count others)
 -- ---- the form
 
 abbrev mutual
-  pub type_of : TypeOf → Piece
-  type_of (DefinedType ty) = defined_type ty
-  type_of (FunctionType ty) = function_type ty
-  type_of (ComponentType ds) = 0x41 ▸ (count (component_count ds) ⨾ each_component ds)
-  type_of (InstanceType ds) = 0x42 ▸ (count (instance_count ds) ⨾ each_instance ds)
-  type_of (ResourceType rep dtor) = 0x3f ▸ (val_type rep ⨾ option u32 dtor)
+  pub def_type : DefType → Piece
+  def_type (DefinedType ty) = def_val_type ty
+  def_type (FunctionType ty) = function_type ty
+  def_type (ComponentType ds) = 0x41 ▸ (count (component_count ds) ⨾ each_component ds)
+  def_type (InstanceType ds) = 0x42 ▸ (count (instance_count ds) ⨾ each_instance ds)
+  def_type (ResourceType rep dtor) = 0x3f ▸ (val_type rep ⨾ option u32 dtor)
 
   pub instance_declaration : InstanceDeclaration → Piece
   instance_declaration (CoreTyped ty) = 0x00 ▸ core_type ty
-  instance_declaration (Typed ty) = 0x01 ▸ type_of ty
+  instance_declaration (Typed ty) = 0x01 ▸ def_type ty
   instance_declaration (Aliased to) = 0x02 ▸ alias to
   instance_declaration (Exported name ty) = 0x04 ▸ (extern_name name ⨾ type_reference ty)
 
@@ -91,7 +91,7 @@ abbrev mutual
 -- ---- how deep component and instance types nest: 1 in a section, and one more in a declaration
 
 abbrev mutual
-  pub depth : TypeOf → ℕ
+  pub depth : DefType → ℕ
   depth (DefinedType ty) = 0
   depth (FunctionType ty) = 0
   depth (ComponentType ds) = suc (component_depth ds)

@@ -1,9 +1,9 @@
--- Module, component and instance types: their declarations, one by one, and what is counted.
+-- Module, component and instance types: their declarations, one by one, and what is one_more.
 use Rattle.std.specs.Prelude.{◌≡◌, ℕ, ◌+◌, ◌-◌, List, [], ◌∷◌, ◌++◌, Option, Some, None, Result}
 use Rattle.std.specs.Prelude.{OnOk, OnErr, true}
-use Rattle.wenc_base.specs.Holder.{Held, no_members, is_finished, Contains, AddsMember}
+use Rattle.wenc_base.specs.Holder.{HolderState, no_members, is_finished, Contains, AddsMember}
 use Rattle.wenc_base.specs.Piece.{Form}
-use Rattle.wenc_base.specs.Openings.{opened_with, lengthened, closed, given_up}
+use Rattle.wenc_base.specs.Openings.{member_begun, member_appended, member_ended, member_given_up}
 use Rattle.wenc_base.specs.declared.fault.Fault.{Fault}
 use Rattle.wenc_parts.specs.Aliases.{AliasOf, InstanceExport, CoreInstanceExport, Outer}
 use Rattle.wenc_parts.specs.Imports.{kind_of}
@@ -14,8 +14,8 @@ use Rattle.wenc_parts.specs.declared.exports.ComponentExportKind.TheVariants as 
 use Rattle.wenc_types.specs.ComponentTypes.{InstanceDeclaration, CoreTyped, Typed, Aliased}
 use Rattle.wenc_types.specs.ComponentTypes.{Exported, ComponentDeclaration, Imported, Declared}
 use Rattle.wenc_types.specs.ComponentTypes.{instance_declaration, component_declaration}
-use Rattle.wenc_types.specs.CoreTypes.{ModuleDeclaration, Import, Defined, Outer as OuterType}
-use Rattle.wenc_types.specs.CoreTypes.{Export, module_declaration}
+use Rattle.wenc_types.specs.CoreTypes.{ModuleDeclaration, ModuleImport, ModuleRecType, ModuleOuter as OuterType}
+use Rattle.wenc_types.specs.CoreTypes.{ModuleExport, module_declaration}
 use Rattle.wenc_types.specs.declared.counts.Counts.{Counts}
 use Rattle.wenc_types.specs.declared.counts.Sort.{Sort}
 use Rattle.wenc_types.specs.declared.counts.Sort.TheVariants.{CoreType, «Type» as TypeSort}
@@ -43,10 +43,10 @@ sort_of_alias (CoreInstanceExport instance kind name) = None
 sort_of_alias (Outer kind count number) = sort_of_outer kind
 
 abbrev pub module_sort : ModuleDeclaration → Option Sort
-module_sort (Import from name ty) = None
-module_sort (Defined g) = Some TypeSort
+module_sort (ModuleImport from name ty) = None
+module_sort (ModuleRecType g) = Some TypeSort
 module_sort (OuterType count number) = Some TypeSort
-module_sort (Export name ty) = None
+module_sort (ModuleExport name ty) = None
 
 abbrev pub instance_sort : InstanceDeclaration → Option Sort
 instance_sort (CoreTyped ty) = Some CoreType
@@ -62,49 +62,49 @@ abbrev pub no_counts : Counts
 no_counts = record { core_types = 0; types = 0; instances = 0 }
 
 -- one more of this sort
-abbrev pub counted : Option Sort → Counts → Counts
-counted None n = n
-counted (Some CoreType) n =
+abbrev pub one_more : Option Sort → Counts → Counts
+one_more None n = n
+one_more (Some CoreType) n =
     record { core_types = n.core_types + 1; types = n.types; instances = n.instances }
-counted (Some TypeSort) n =
+one_more (Some TypeSort) n =
     record { core_types = n.core_types; types = n.types + 1; instances = n.instances }
-counted (Some Instance) n =
+one_more (Some Instance) n =
     record { core_types = n.core_types; types = n.types; instances = n.instances + 1 }
 
 -- how many there are of each sort
 abbrev pub counts_of : {D : Type 0} → (D → Option Sort) → List D → Counts
 counts_of sort [] = no_counts
-counts_of sort (d ∷ ds) = counted (sort d) (counts_of sort ds)
+counts_of sort (d ∷ ds) = one_more (sort d) (counts_of sort ds)
 
 -- ---- what contracts see of a type with declarations
 
--- `begun`: what is being written counts as this.
-pub record Declaring : Type 0 where
-  pub held : Held
+-- `type_begun`: what is being type_appended counts as this.
+pub record TypeState : Type 0 where
+  pub held : HolderState
   pub counts : Counts
-  pub begun : Option Sort
+  pub type_begun : Option Sort
 
-abbrev pub no_declarations : Declaring
-no_declarations = record { held = no_members; counts = no_counts; begun = None }
+abbrev pub no_declarations : TypeState
+no_declarations = record { held = no_members; counts = no_counts; type_begun = None }
 
--- nothing is being written
-pub record Settled (t : Declaring) : Type 0 where
+-- nothing is being type_appended
+pub record NoneBegun (t : TypeState) : Type 0 where
   pub finished : is_finished t.held ≡ true
   pub none_begun : t.begun ≡ None
 
 -- It has just these declarations, each with its text, and counts them.
-pub record Declares {D : Type 0} (form : Form D) (sort : D → Option Sort) (t : Declaring)
+pub record Declares {D : Type 0} (form : Form D) (sort : D → Option Sort) (t : TypeState)
     (ds : List D) : Type 0 where
   pub contained : Contains form t.held ds
   pub counts : t.counts ≡ counts_of sort ds
 
-abbrev pub ModuleDeclares : Declaring → List ModuleDeclaration → Type 0
+abbrev pub ModuleDeclares : TypeState → List ModuleDeclaration → Type 0
 ModuleDeclares = Declares module_declaration module_sort
 
-abbrev pub InstanceDeclares : Declaring → List InstanceDeclaration → Type 0
+abbrev pub InstanceDeclares : TypeState → List InstanceDeclaration → Type 0
 InstanceDeclares = Declares instance_declaration instance_sort
 
-abbrev pub ComponentDeclares : Declaring → List ComponentDeclaration → Type 0
+abbrev pub ComponentDeclares : TypeState → List ComponentDeclaration → Type 0
 ComponentDeclares = Declares component_declaration component_sort
 
 -- These bytes are the text of a declaration that fits and counts as this.
@@ -117,33 +117,33 @@ pub record IsDeclaration {D : Type 0} (form : Form D) (sort : D → Option Sort)
 
 -- It has some declarations, each with its text, and counts them.
 pub record DeclaresSome {D : Type 0} (form : Form D) (sort : D → Option Sort)
-    (t : Declaring) : Type 0 where
+    (t : TypeState) : Type 0 where
   pub declarations : List D
   pub declared : Declares form sort t declarations
 
 -- A call adds this declaration, or is refused for a cause and changes nothing.
 pub record AddsDeclaration {D : Type 0} (form : Form D) (sort : D → Option Sort)
-    (old new : Declaring) (outcome : Result (Unit {0}) Fault) (d : D) : Type 0 where
+    (old new : TypeState) (outcome : Result (Unit {0}) Fault) (d : D) : Type 0 where
   pub added : AddsMember (form d) old.held new.held outcome
-  pub counts : OnOk outcome (new.counts ≡ counted (sort d) old.counts)
-  pub begun : OnOk outcome (new.begun ≡ old.begun)
+  pub counts : OnOk outcome (new.counts ≡ one_more (sort d) old.counts)
+  pub type_begun : OnOk outcome (new.begun ≡ old.begun)
   pub declared : OnOk outcome
       ((ds : List D) → Declares form sort old ds → Declares form sort new (ds ++ d ∷ []))
   pub err : OnErr outcome (new ≡ old)
 
-abbrev pub AddsToModule : Declaring → Declaring → Result (Unit {0}) Fault → ModuleDeclaration
+abbrev pub AddsToModule : TypeState → TypeState → Result (Unit {0}) Fault → ModuleDeclaration
     → Type 0
 AddsToModule = AddsDeclaration module_declaration module_sort
 
-abbrev pub AddsToInstance : Declaring → Declaring → Result (Unit {0}) Fault → InstanceDeclaration
+abbrev pub AddsToInstance : TypeState → TypeState → Result (Unit {0}) Fault → InstanceDeclaration
     → Type 0
 AddsToInstance = AddsDeclaration instance_declaration instance_sort
 
-abbrev pub AddsToComponent : Declaring → Declaring → Result (Unit {0}) Fault
+abbrev pub AddsToComponent : TypeState → TypeState → Result (Unit {0}) Fault
     → ComponentDeclaration → Type 0
 AddsToComponent = AddsDeclaration component_declaration component_sort
 
--- ---- a type that is written by an encoder
+-- ---- a type that is type_appended by an encoder
 
 -- its first byte
 abbrev pub lead_of : Sort → List ℕ
@@ -151,36 +151,36 @@ lead_of CoreType = 0x00 ∷ []
 lead_of TypeSort = 0x01 ∷ []
 lead_of Instance = []
 
-abbrev pub with_held : Declaring → Held → Declaring
-with_held t held = record { held = held; counts = t.counts; begun = t.begun }
+abbrev pub with_held : TypeState → HolderState → TypeState
+with_held t held = record { held = held; counts = t.counts; type_begun = t.begun }
 
 -- one type more, of which there is the first byte
-abbrev pub begun : Sort → Declaring → Declaring
-begun sort t =
+abbrev pub type_begun : Sort → TypeState → TypeState
+type_begun sort t =
     record {
-      held = opened_with t.held (lead_of sort);
-      counts = counted (Some sort) t.counts;
-      begun = Some sort;
+      held = member_begun t.held (lead_of sort);
+      counts = one_more (Some sort) t.counts;
+      type_begun = Some sort;
     }
 
 -- more of that type
-abbrev pub written : Declaring → List ℕ → Declaring
-written t text = with_held t (lengthened t.held text)
+abbrev pub type_appended : TypeState → List ℕ → TypeState
+type_appended t text = with_held t (member_appended t.held text)
 
 -- the type is whole
-abbrev pub ended : Declaring → Declaring
-ended t = record { held = closed t.held; counts = t.counts; begun = None }
+abbrev pub type_ended : TypeState → TypeState
+type_ended t = record { held = member_ended t.held; counts = t.counts; type_begun = None }
 
 -- one less of this sort
-abbrev pub uncounted : Option Sort → Counts → Counts
-uncounted None n = n
-uncounted (Some CoreType) n =
+abbrev pub one_less : Option Sort → Counts → Counts
+one_less None n = n
+one_less (Some CoreType) n =
     record { core_types = n.core_types - 1; types = n.types; instances = n.instances }
-uncounted (Some TypeSort) n =
+one_less (Some TypeSort) n =
     record { core_types = n.core_types; types = n.types - 1; instances = n.instances }
-uncounted (Some Instance) n =
+one_less (Some Instance) n =
     record { core_types = n.core_types; types = n.types; instances = n.instances - 1 }
 
 -- as it was before that type
-abbrev pub taken_back : Declaring → Declaring
-taken_back t = record { held = given_up t.held; counts = uncounted t.begun t.counts; begun = None }
+abbrev pub type_given_up : TypeState → TypeState
+type_given_up t = record { held = member_given_up t.held; counts = one_less t.begun t.counts; type_begun = None }

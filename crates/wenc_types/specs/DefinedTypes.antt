@@ -10,12 +10,12 @@ use Rattle.wenc_parts.specs.declared.types.PrimitiveValType.{PrimitiveValType}
 use Rattle.wenc_parts.specs.declared.types.ComponentValType.{ComponentValType}
 
 -- a field or a parameter
-pub record Named : Type 0 where
+pub record LabelledType : Type 0 where
   pub name : List ℕ
   pub ty : ComponentValType
 
-abbrev pub named : Form Named
-named f = name_form f.name ⨾ value_type f.ty
+abbrev pub labelled_type : Form LabelledType
+labelled_type f = name_form f.name ⨾ value_type f.ty
 
 -- a case, with a value or without; the byte is for cases that refine another, which there are none
 -- of
@@ -26,57 +26,57 @@ pub record Case : Type 0 where
 abbrev pub case : Form Case
 case c = name_form c.name ⨾ option value_type c.ty ⨾ byte 0x00
 
-pub data Defined : Type 0 where
-  Primitive : (ty : PrimitiveValType) → Defined
-  Record : (fields : List Named) → Defined
-  Variant : (cases : List Case) → Defined
-  ListOf : (element : ComponentValType) → Defined
-  MapOf : (key value : ComponentValType) → Defined
-  FixedLengthList : (element : ComponentValType) (length : ℕ) → Defined
-  Tuple : (elements : List ComponentValType) → Defined
-  Flags : (names : List (List ℕ)) → Defined
-  Enumeration : (names : List (List ℕ)) → Defined
-  OptionOf : (ty : ComponentValType) → Defined
-  ResultOf : (ok error : Option ComponentValType) → Defined
+pub data DefValType : Type 0 where
+  Primitive : (ty : PrimitiveValType) → DefValType
+  Record : (fields : List LabelledType) → DefValType
+  Variant : (cases : List Case) → DefValType
+  ListOf : (element : ComponentValType) → DefValType
+  MapOf : (key value : ComponentValType) → DefValType
+  FixedLengthList : (element : ComponentValType) (length : ℕ) → DefValType
+  Tuple : (elements : List ComponentValType) → DefValType
+  Flags : (names : List (List ℕ)) → DefValType
+  Enumeration : (names : List (List ℕ)) → DefValType
+  OptionOf : (ty : ComponentValType) → DefValType
+  ResultOf : (ok error : Option ComponentValType) → DefValType
   -- handles of the resource type with this index
-  Own : (number : ℕ) → Defined
-  Borrow : (number : ℕ) → Defined
-  Future : (ty : Option ComponentValType) → Defined
-  Stream : (ty : Option ComponentValType) → Defined
+  Own : (number : ℕ) → DefValType
+  Borrow : (number : ℕ) → DefValType
+  Future : (ty : Option ComponentValType) → DefValType
+  Stream : (ty : Option ComponentValType) → DefValType
 
-abbrev pub defined_type : Form Defined
-defined_type (Primitive p) = primitive p
-defined_type (Record fields) = 0x72 ▸ list named fields
-defined_type (Variant cases) = 0x71 ▸ list case cases
-defined_type (ListOf element) = 0x70 ▸ value_type element
-defined_type (Tuple elements) = 0x6f ▸ list value_type elements
-defined_type (Flags names) = 0x6e ▸ list name_form names
-defined_type (Enumeration names) = 0x6d ▸ list name_form names
-defined_type (OptionOf ty) = 0x6b ▸ value_type ty
-defined_type (ResultOf ok error) = 0x6a ▸ (option value_type ok ⨾ option value_type error)
-defined_type (Own number) = 0x69 ▸ u32 number
-defined_type (Borrow number) = 0x68 ▸ u32 number
-defined_type (FixedLengthList element length) = 0x67 ▸ (value_type element ⨾ u32 length)
-defined_type (Stream ty) = 0x66 ▸ option value_type ty
-defined_type (Future ty) = 0x65 ▸ option value_type ty
-defined_type (MapOf key value) = 0x63 ▸ (value_type key ⨾ value_type value)
+abbrev pub def_val_type : Form DefValType
+def_val_type (Primitive p) = primitive p
+def_val_type (Record fields) = 0x72 ▸ list labelled_type fields
+def_val_type (Variant cases) = 0x71 ▸ list case cases
+def_val_type (ListOf element) = 0x70 ▸ value_type element
+def_val_type (Tuple elements) = 0x6f ▸ list value_type elements
+def_val_type (Flags names) = 0x6e ▸ list name_form names
+def_val_type (Enumeration names) = 0x6d ▸ list name_form names
+def_val_type (OptionOf ty) = 0x6b ▸ value_type ty
+def_val_type (ResultOf ok error) = 0x6a ▸ (option value_type ok ⨾ option value_type error)
+def_val_type (Own number) = 0x69 ▸ u32 number
+def_val_type (Borrow number) = 0x68 ▸ u32 number
+def_val_type (FixedLengthList element length) = 0x67 ▸ (value_type element ⨾ u32 length)
+def_val_type (Stream ty) = 0x66 ▸ option value_type ty
+def_val_type (Future ty) = 0x65 ▸ option value_type ty
+def_val_type (MapOf key value) = 0x63 ▸ (value_type key ⨾ value_type value)
 
 -- a function: whether it is asynchronous, its parameters, and what it answers
 pub record Function : Type 0 where
   pub is_async : Bool
-  pub params : List Named
+  pub params : List LabelledType
   pub answer : Option ComponentValType
 
-abbrev pub function_type_of : Bool → List Named → Form (Option ComponentValType)
-function_type_of false params answer = 0x40 ▸ (list named params ⨾ result_list answer)
-function_type_of true params answer = 0x43 ▸ (list named params ⨾ result_list answer)
+abbrev pub function_type_of : Bool → List LabelledType → Form (Option ComponentValType)
+function_type_of false params answer = 0x40 ▸ (list labelled_type params ⨾ result_list answer)
+function_type_of true params answer = 0x43 ▸ (list labelled_type params ⨾ result_list answer)
 
 abbrev pub function_type : Form Function
 function_type f = function_type_of f.is_async f.params f.answer
 
 -- ---- what an iterator gives, as pure values
 
-abbrev pub lent_named : Bor (List ℕ) × ComponentValType → Named
+abbrev pub lent_named : Bor (List ℕ) × ComponentValType → LabelledType
 lent_named f = record { name = f.0.now; ty = f.1 }
 
 abbrev pub lent_case : Bor (List ℕ) × Option ComponentValType → Case

@@ -4,7 +4,7 @@ use Rattle.wenc_base.specs.Forms.{list}
 use Rattle.wenc_base.specs.Piece.{Form, ◌⨾◌, behind_bytes, HasForm}
 use Rattle.wenc_parts.specs.Types.{result_list}
 use Rattle.wenc_parts.specs.declared.types.ComponentValType.{ComponentValType}
-use Rattle.wenc_types.specs.DefinedTypes.{Named, named, function_type}
+use Rattle.wenc_types.specs.DefinedTypes.{LabelledType, labelled_type, function_type}
 use Rattle.wenc_types.specs.declared.func_type.FuncStage.{FuncStage}
 use Rattle.wenc_types.specs.declared.func_type.FuncStage.TheVariants.{Start, Tagged, Params, Done}
 
@@ -28,8 +28,8 @@ lead_from Params = []
 lead_from Done = []
 
 -- the parameters behind that
-abbrev pub params_from : FuncStage → Form (List Named)
-params_from stage params = behind_bytes (lead_from stage) (list named params)
+abbrev pub params_from : FuncStage → Form (List LabelledType)
+params_from stage params = behind_bytes (lead_from stage) (list labelled_type params)
 
 -- the type is still being written, or it is done
 abbrev pub goes_on : FuncStage → Bool → Bool
@@ -39,8 +39,8 @@ goes_on Params finished = not finished
 goes_on Done finished = true
 
 -- parameters, then what the function answers
-abbrev pub params_and_answer : Form (List Named × Option ComponentValType)
-params_and_answer p = list named p.0 ⨾ result_list p.1
+abbrev pub params_and_answer : Form (List LabelledType × Option ComponentValType)
+params_and_answer p = list labelled_type p.0 ⨾ result_list p.1
 
 -- from this stage on, these bytes make the type whole
 abbrev pub Remains : FuncStage → List ℕ → Type 0

@@ -1,5 +1,5 @@
 ghost use Rattle.std.specs.Prelude.{◌≡◌, List, true, false, Err};
-ghost use Rattle.wenc_base.specs.Holder.{is_finished, held, EncodeCause};
+ghost use Rattle.wenc_base.specs.Holder.{is_finished, held_members, EncodeCause};
 ghost use Rattle.wenc_base.specs.Lender.{Ends, MakesWhole};
 ghost use Rattle.wenc_base.specs.Piece.{◌▸◌, refused_for};
 ghost use Rattle.wenc_base.specs.declared.fault.Fault.TheVariants.{Unfinished};
@@ -46,7 +46,7 @@ impl<'a, L: Lender> ComponentCoreTypeEncoder<'a, L> {
     pub fn module<A: Allocator>(self, ty: &ModuleType<A>) -> Result<(), Fault>
         ensures ended { Ends L.written L.ended L.refuses
             self.entry.lender.now self.exit.0.now result
-            (0x50 ▸ held ty.now.held) }
+            (0x50 ▸ held_members ty.now.held) }
         ensures declared { (ds : List ModuleDeclaration) → ModuleDeclares ty.now ds
             → Ends L.written L.ended L.refuses self.entry.lender.now self.exit.0.now result
             (refused_for (EncodeCause ty.now.held) (core_type (Module ds))) }

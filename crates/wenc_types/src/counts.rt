@@ -1,7 +1,7 @@
 //! What is counted of declarations: core types, types and instances.
 ghost use Rattle.std.specs.Prelude.{◌≡◌, ◌<◌};
 ghost use Rattle.wenc_parts.specs.Aliases.{alias_view};
-ghost use Rattle.wenc_types.specs.Declarations.{sort_of_kind, sort_of_alias, counted, uncounted, no_counts};
+ghost use Rattle.wenc_types.specs.Declarations.{sort_of_kind, sort_of_alias, one_more, one_less, no_counts};
 ghost use Rattle.wenc_types.specs.inside.Declaring.{total};
 
 use wenc_parts::{Alias, ComponentExportKind, ComponentOuterAliasKind};
@@ -72,7 +72,7 @@ impl Counts {
     /// One more of this sort, where there are so many declarations.
     pub fn counted(self, sort: Option<Sort>, declarations: u32) -> Counts
         requires { total self < declarations }
-        ensures { result ≡ counted sort self }
+        ensures { result ≡ one_more sort self }
     {
         let mut counts = self;
         match sort {
@@ -86,7 +86,7 @@ impl Counts {
 
     /// One less of this sort.
     pub fn uncounted(self, sort: Option<Sort>) -> Counts
-        ensures { result ≡ uncounted sort self }
+        ensures { result ≡ one_less sort self }
     {
         let mut counts = self;
         match sort {

@@ -2,12 +2,12 @@ ghost use Rattle.std.specs.Borrow.{sem, RestsIfErr};
 ghost use Rattle.std.specs.Prelude.{◌≡◌, ◌==◌, ◌∷◌, ℕ, [], Option as Optional, Some, OnOk, OnErr, IfOk, IfErr, true, false};
 ghost use Rattle.wenc_base.specs.Encode.{Appends, Serves};
 ghost use Rattle.wenc_base.specs.Fault.{IsMemory, IsWarranted, NoCause};
-ghost use Rattle.wenc_base.specs.Holder.{is_finished, held, held_text, EncodeCause, AddCause};
+ghost use Rattle.wenc_base.specs.Holder.{is_finished, held_members, held_text, EncodeCause, AddCause};
 ghost use Rattle.wenc_base.specs.Lender.{Lends, GivesUp};
 ghost use Rattle.wenc_base.specs.Piece.{◌▸◌, Form};
 ghost use Rattle.wenc_base.specs.declared.fault.Fault.TheVariants.{Unfinished};
 ghost use Rattle.wenc_types.specs.ComponentTypes.{InstanceDeclaration, instance_declaration};
-ghost use Rattle.wenc_types.specs.Declarations.{instance_sort, no_declarations, lead_of, begun, taken_back, Settled, DeclaresSome, IsDeclaration, AddsDeclaration};
+ghost use Rattle.wenc_types.specs.Declarations.{instance_sort, no_declarations, lead_of, type_begun, type_given_up, NoneBegun, DeclaresSome, IsDeclaration, AddsDeclaration};
 ghost use Rattle.wenc_types.specs.declared.counts.Sort.{Sort as SortSpec};
 ghost use Rattle.wenc_types.specs.declared.counts.Sort.TheVariants as sorts;
 
@@ -67,15 +67,15 @@ pub struct Declarations<K: DeclaredKind, A: Allocator = Global> {
 }
 
 impl<K: DeclaredKind, A: Allocator> Model for Declarations<K, A> {
-    ghost use Rattle.wenc_types.specs.Declarations.{Declaring};
+    ghost use Rattle.wenc_types.specs.Declarations.{TypeState};
     ghost use Rattle.wenc_types.specs.inside.Declaring.{IsDeclaring};
 
-    ghost Value = { Declaring };
+    ghost Value = { TypeState };
 
-    ghost view = { λ t. record { held = t.held; counts = t.counts; begun = t.begun } };
+    ghost view = { λ t. record { held_members = t.held; counts = t.counts; type_begun = t.begun } };
 
     ghost invariant = { λ t. IsDeclaring K.form K.sort
-        (record { held = t.held; counts = t.counts; begun = t.begun }) };
+        (record { held_members = t.held; counts = t.counts; type_begun = t.begun }) };
 }
 
 impl<K: DeclaredKind, A: Allocator> Declarations<K, A> {
@@ -111,8 +111,8 @@ impl<K: DeclaredKind, A: Allocator> Declarations<K, A> {
     /// Begins a type, by the byte that says that it is one.
     pub(crate) fn begin(&mut self, lead: u8, sort: Sort) -> Result<(), Fault>
         requires { lead_of sort ≡ lead ∷ [] }
-        ensures ok { OnOk result (self.new ≡ begun sort self.old) }
-        ensures settled { OnOk result (Settled self.old) }
+        ensures ok { OnOk result (self.new ≡ type_begun sort self.old) }
+        ensures settled { OnOk result (NoneBegun self.old) }
         ensures free { OnOk result (NoCause (AddCause self.old.held (lead_of sort) (λ _. ⊥))) }
         ensures err { OnErr result (self.new ≡ self.old) }
         ensures warranted { IfErr result (IsWarranted
@@ -137,7 +137,7 @@ impl<K: DeclaredKind, A: Allocator> Declarations<K, A> {
     /// Whether no type is being written. Then it has some declarations, whoever made which calls.
     pub fn is_finished(&self) -> bool
         ensures finished { result ≡ is_finished self.now.held }
-        ensures settled { is_finished self.now.held ≡ true → Settled self.now }
+        ensures settled { is_finished self.now.held ≡ true → NoneBegun self.now }
         ensures declares { is_finished self.now.held ≡ true
             → ∥ DeclaresSome K.form K.sort self.now ∥₁ }
     {
@@ -147,7 +147,7 @@ impl<K: DeclaredKind, A: Allocator> Declarations<K, A> {
     /// Gives up the type that is being written, and says whether there was one: all is as it was before that type. It
     /// takes no memory.
     pub fn discard_unfinished(&mut self) -> bool
-        ensures given_up { GivesUp self.new (taken_back self.old)
+        ensures given_up { GivesUp self.new (type_given_up self.old)
             (is_finished self.old.held) result }
         ensures same { is_finished self.old.held ≡ true → self.new ≡ self.old }
     {
@@ -184,10 +184,10 @@ impl<K: DeclaringKind, A: Allocator> Declarations<K, A> {
             self.entry
             (λ e. e.lender.ghost_name) result (λ n. n ≡ self.old)) }
         ensures same_reference { IfOk result (λ e. e.lender.ghost_name ≡ self.entry.ghost_name) }
-        ensures lent { Lends (λ e. e.lender.now) (begun sorts.CoreType self.old)
+        ensures lent { Lends (λ e. e.lender.now) (type_begun sorts.CoreType self.old)
             (is_finished self.old.held) result
             (AddCause self.old.held (lead_of sorts.CoreType) (λ _. ⊥)) }
-        ensures settled { OnOk result (Settled self.old) }
+        ensures settled { OnOk result (NoneBegun self.old) }
     {
         self.begin(0x00, Sort::CoreType)?;
         Ok(ComponentCoreTypeEncoder::new(self))
@@ -199,10 +199,10 @@ impl<K: DeclaringKind, A: Allocator> Declarations<K, A> {
             self.entry
             (λ e. e.lender.ghost_name) result (λ n. n ≡ self.old)) }
         ensures same_reference { IfOk result (λ e. e.lender.ghost_name ≡ self.entry.ghost_name) }
-        ensures lent { Lends (λ e. e.lender.now) (begun sorts.«Type» self.old)
+        ensures lent { Lends (λ e. e.lender.now) (type_begun sorts.«Type» self.old)
             (is_finished self.old.held) result
             (AddCause self.old.held (lead_of sorts.«Type») (λ _. ⊥)) }
-        ensures settled { OnOk result (Settled self.old) }
+        ensures settled { OnOk result (NoneBegun self.old) }
     {
         self.begin(0x01, Sort::Type)?;
         Ok(ComponentTypeEncoder::new(self))
@@ -241,14 +241,14 @@ impl<K: DeclaringKind, A: Allocator> Declarations<K, A> {
 /// A byte, then the number of declarations, then these. A finished one is refused for want of memory alone. What is
 /// written has some declarations, whoever made which calls.
 impl<K: DeclaredKind, A: Allocator> Encode for Declarations<K, A> {
-    ghost piece = { λ t. K.LEAD ▸ held t.held };
+    ghost piece = { λ t. K.LEAD ▸ held_members t.held };
 
     ghost unfinished = { λ t. is_finished t.held ≡ false };
 
     fn encode<B: Allocator>(&self, sink: &mut Vec<u8, B>) -> Result<(), Fault>
         ensures appended { Appends (K.LEAD ∷ held_text self.now.held) (EncodeCause self.now.held)
             (is_finished self.now.held ≡ false) sink.old.items sink.new.items result }
-        ensures fits { OnOk result (K.LEAD ▸ held self.now.held).Fits }
+        ensures fits { OnOk result (K.LEAD ▸ held_members self.now.held).Fits }
         ensures declares { OnOk result (∥ DeclaresSome K.form K.sort self.now ∥₁) }
     {
         Tagged(K::LEAD, &self.held).encode(sink)
@@ -256,22 +256,22 @@ impl<K: DeclaredKind, A: Allocator> Encode for Declarations<K, A> {
 }
 
 impl<K: DeclaredKind, A: Allocator> Lender for Declarations<K, A> {
-    ghost use Rattle.wenc_base.specs.Openings.{no_room, is_opened, member_text};
+    ghost use Rattle.wenc_base.specs.Openings.{no_room_in_holder, is_bare, member_text};
     ghost use Rattle.wenc_base.specs.laws.Holders.{opened_is_unfinished};
-    ghost use Rattle.wenc_types.specs.Declarations.{IsDeclaration, written, ended};
+    ghost use Rattle.wenc_types.specs.Declarations.{IsDeclaration, type_appended, type_ended};
     ghost use Rattle.wenc_types.specs.laws.Declarations.{written_twice};
 
     ghost finished = { λ t. is_finished t.held };
 
-    ghost opened = { λ t. is_opened t.held };
+    ghost opened = { λ t. is_bare t.held };
 
-    ghost written = { written };
+    ghost type_appended = { type_appended };
 
     ghost is_whole = { λ t. IsDeclaration K.form K.sort (member_text t.held) t.begun };
 
-    ghost ended = { ended };
+    ghost type_ended = { type_ended };
 
-    ghost refuses = { λ t. no_room t.held };
+    ghost refuses = { λ t. no_room_in_holder t.held };
 
     ghost begins = { λ t. opened_is_unfinished t.held };
 

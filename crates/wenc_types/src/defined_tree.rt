@@ -65,10 +65,10 @@ pub enum DefinedTree<A: Allocator = Global> {
 }
 
 impl<A: Allocator> Encode for DefinedTree<A> {
-    ghost use Rattle.wenc_types.specs.DefinedTypes.{defined_type};
+    ghost use Rattle.wenc_types.specs.DefinedTypes.{def_val_type};
     ghost use Rattle.wenc_types.specs.TypeTrees.{defined_view};
 
-    ghost piece = { λ t. defined_type (defined_view t) };
+    ghost piece = { λ t. def_val_type (defined_view t) };
 
     fn encode<B: Allocator>(&self, sink: &mut Vec<u8, B>) -> Result<(), Fault> {
         match self {
@@ -94,15 +94,15 @@ impl<A: Allocator> Encode for DefinedTree<A> {
 }
 
 impl<A: Allocator> Delimited for DefinedTree<A> {
-    ghost use Rattle.wenc_types.specs.DefinedTypes.{Defined, defined_type};
+    ghost use Rattle.wenc_types.specs.DefinedTypes.{DefValType, def_val_type};
     ghost use Rattle.wenc_types.specs.TypeTrees.{defined_view};
     ghost use Rattle.wenc_types.specs.laws.DefinedTypes.{read_defined, defined_type_lawful};
 
-    ghost Seen = { Defined };
+    ghost Seen = { DefValType };
 
     ghost seen = { defined_view };
 
-    ghost form = { defined_type };
+    ghost form = { def_val_type };
 
     ghost readable = { ((λ fuel. read_defined), defined_type_lawful) };
 

@@ -1,7 +1,7 @@
 ghost use Rattle.std.specs.Iterator.{IsFinite};
 ghost use Rattle.std.specs.Prelude.{◌≡◌, true, false, map};
 ghost use Rattle.wenc_base.specs.Lender.{Ends, EndsListed, MakesWhole};
-ghost use Rattle.wenc_types.specs.DefinedTypes.{Defined, Primitive, Record, Variant, ListOf, MapOf, FixedLengthList, Tuple, Flags, Enumeration, OptionOf, ResultOf, Own, Borrow, Future, Stream, defined_type, lent_named, lent_case};
+ghost use Rattle.wenc_types.specs.DefinedTypes.{DefValType, Primitive, Record, Variant, ListOf, MapOf, FixedLengthList, Tuple, Flags, Enumeration, OptionOf, ResultOf, Own, Borrow, Future, Stream, def_val_type, lent_named, lent_case};
 ghost use Rattle.wenc_types.specs.TypeTrees.{defined_view};
 
 use crate::defined_tree::DefinedTree;
@@ -25,16 +25,16 @@ use wenc_parts::{ComponentValType, PrimitiveValType};
 pub struct ComponentDefinedTypeEncoder<'a, L: Lender> {
     lender: &'a mut L,
     ghost unfinished: { L.finished lender.now ≡ false },
-    ghost whole: { (t : Defined)
-        → MakesWhole L.is_whole L.written lender.now (defined_type t) },
+    ghost whole: { (t : DefValType)
+        → MakesWhole L.is_whole L.written lender.now (def_val_type t) },
 }
 
 impl<'a, L: Lender> ComponentDefinedTypeEncoder<'a, L> {
     /// An encoder of the member that the lender has just opened, of which each type of values is a whole one.
     pub fn new(lender: &'a mut L) -> Self
         requires opened { L.opened lender.old ≡ true }
-        requires whole { (t : Defined)
-            → MakesWhole L.is_whole L.written lender.old (defined_type t) }
+        requires whole { (t : DefValType)
+            → MakesWhole L.is_whole L.written lender.old (def_val_type t) }
         ensures same_reference { result.lender.ghost_name ≡ lender.entry.ghost_name }
         ensures now { result.lender.now ≡ lender.old }
     {
@@ -44,7 +44,7 @@ impl<'a, L: Lender> ComponentDefinedTypeEncoder<'a, L> {
     /// The type of this tree.
     pub fn tree<A: Allocator>(self, ty: &DefinedTree<A>) -> Result<(), Fault>
         ensures { Ends L.written L.ended L.refuses self.entry.lender.now self.exit.0.now result
-            (defined_type (defined_view ty.now)) }
+            (def_val_type (defined_view ty.now)) }
     {
         self.lender.end_with(ty)
     }
@@ -52,7 +52,7 @@ impl<'a, L: Lender> ComponentDefinedTypeEncoder<'a, L> {
     /// A primitive type.
     pub fn primitive(self, ty: PrimitiveValType) -> Result<(), Fault>
         ensures { Ends L.written L.ended L.refuses self.entry.lender.now self.exit.0.now result
-            (defined_type (Primitive ty)) }
+            (def_val_type (Primitive ty)) }
     {
         self.lender.end_with(&ty)
     }
@@ -65,7 +65,7 @@ impl<'a, L: Lender> ComponentDefinedTypeEncoder<'a, L> {
         requires ends { IsFinite (F.remaining fields) }
         ensures { EndsListed L.written L.ended L.refuses F.next_gives fields
             self.entry.lender.now self.exit.0.now result
-            (λ fs. defined_type (Record (map lent_named fs))) }
+            (λ fs. def_val_type (Record (map lent_named fs))) }
     {
         self.lender.end_with_list(&[0x72], fields)
     }
@@ -78,7 +78,7 @@ impl<'a, L: Lender> ComponentDefinedTypeEncoder<'a, L> {
         requires ends { IsFinite (C.remaining cases) }
         ensures { EndsListed L.written L.ended L.refuses C.next_gives cases
             self.entry.lender.now self.exit.0.now result
-            (λ cs. defined_type (Variant (map lent_case cs))) }
+            (λ cs. def_val_type (Variant (map lent_case cs))) }
     {
         self.lender
             .end_with_list(&[0x71], cases.map(|(name, ty)| Case { name, ty }))
@@ -87,7 +87,7 @@ impl<'a, L: Lender> ComponentDefinedTypeEncoder<'a, L> {
     /// A list of any length.
     pub fn list(self, ty: ComponentValType) -> Result<(), Fault>
         ensures { Ends L.written L.ended L.refuses self.entry.lender.now self.exit.0.now result
-            (defined_type (ListOf ty)) }
+            (def_val_type (ListOf ty)) }
     {
         self.lender.end_with(&Tagged(0x70, &ty))
     }
@@ -95,7 +95,7 @@ impl<'a, L: Lender> ComponentDefinedTypeEncoder<'a, L> {
     /// A map from keys to values.
     pub fn map(self, key: ComponentValType, value: ComponentValType) -> Result<(), Fault>
         ensures { Ends L.written L.ended L.refuses self.entry.lender.now self.exit.0.now result
-            (defined_type (MapOf key value)) }
+            (def_val_type (MapOf key value)) }
     {
         self.lender.end_with(&Tagged(0x63, &(key, value)))
     }
@@ -103,7 +103,7 @@ impl<'a, L: Lender> ComponentDefinedTypeEncoder<'a, L> {
     /// A list of this length, from 0 to 4294967295.
     pub fn fixed_length_list(self, ty: ComponentValType, length: u32) -> Result<(), Fault>
         ensures { Ends L.written L.ended L.refuses self.entry.lender.now self.exit.0.now result
-            (defined_type (FixedLengthList ty length)) }
+            (def_val_type (FixedLengthList ty length)) }
     {
         self.lender.end_with(&Tagged(0x67, &(ty, length)))
     }
@@ -116,7 +116,7 @@ impl<'a, L: Lender> ComponentDefinedTypeEncoder<'a, L> {
         requires ends { IsFinite (T.remaining types) }
         ensures { EndsListed L.written L.ended L.refuses T.next_gives types
             self.entry.lender.now self.exit.0.now result
-            (λ ts. defined_type (Tuple ts)) }
+            (λ ts. def_val_type (Tuple ts)) }
     {
         self.lender.end_with_list(&[0x6f], types)
     }
@@ -127,7 +127,7 @@ impl<'a, L: Lender> ComponentDefinedTypeEncoder<'a, L> {
         requires ends { IsFinite (F.remaining names) }
         ensures { EndsListed L.written L.ended L.refuses F.next_gives names
             self.entry.lender.now self.exit.0.now result
-            (λ ns. defined_type (Flags (map (λ n. n.now) ns))) }
+            (λ ns. def_val_type (Flags (map (λ n. n.now) ns))) }
     {
         self.lender.end_with_list(&[0x6e], names)
     }
@@ -138,7 +138,7 @@ impl<'a, L: Lender> ComponentDefinedTypeEncoder<'a, L> {
         requires ends { IsFinite (C.remaining cases) }
         ensures { EndsListed L.written L.ended L.refuses C.next_gives cases
             self.entry.lender.now self.exit.0.now result
-            (λ ns. defined_type (Enumeration (map (λ n. n.now) ns))) }
+            (λ ns. def_val_type (Enumeration (map (λ n. n.now) ns))) }
     {
         self.lender.end_with_list(&[0x6d], cases)
     }
@@ -146,7 +146,7 @@ impl<'a, L: Lender> ComponentDefinedTypeEncoder<'a, L> {
     /// A value of this type, or none.
     pub fn option(self, ty: ComponentValType) -> Result<(), Fault>
         ensures { Ends L.written L.ended L.refuses self.entry.lender.now self.exit.0.now result
-            (defined_type (OptionOf ty)) }
+            (def_val_type (OptionOf ty)) }
     {
         self.lender.end_with(&Tagged(0x6b, &ty))
     }
@@ -158,7 +158,7 @@ impl<'a, L: Lender> ComponentDefinedTypeEncoder<'a, L> {
         err: Option<ComponentValType>,
     ) -> Result<(), Fault>
         ensures { Ends L.written L.ended L.refuses self.entry.lender.now self.exit.0.now result
-            (defined_type (ResultOf ok err)) }
+            (def_val_type (ResultOf ok err)) }
     {
         self.lender.end_with(&Tagged(0x6a, &(ok, err)))
     }
@@ -166,7 +166,7 @@ impl<'a, L: Lender> ComponentDefinedTypeEncoder<'a, L> {
     /// A handle that owns a resource of the type with this index.
     pub fn own(self, index: u32) -> Result<(), Fault>
         ensures { Ends L.written L.ended L.refuses self.entry.lender.now self.exit.0.now result
-            (defined_type (Own index)) }
+            (def_val_type (Own index)) }
     {
         self.lender.end_with(&Tagged(0x69, &index))
     }
@@ -174,7 +174,7 @@ impl<'a, L: Lender> ComponentDefinedTypeEncoder<'a, L> {
     /// A handle that borrows a resource of the type with this index.
     pub fn borrow(self, index: u32) -> Result<(), Fault>
         ensures { Ends L.written L.ended L.refuses self.entry.lender.now self.exit.0.now result
-            (defined_type (Borrow index)) }
+            (def_val_type (Borrow index)) }
     {
         self.lender.end_with(&Tagged(0x68, &index))
     }
@@ -182,7 +182,7 @@ impl<'a, L: Lender> ComponentDefinedTypeEncoder<'a, L> {
     /// What comes later: a value of this type, or none.
     pub fn future(self, payload: Option<ComponentValType>) -> Result<(), Fault>
         ensures { Ends L.written L.ended L.refuses self.entry.lender.now self.exit.0.now result
-            (defined_type (Future payload)) }
+            (def_val_type (Future payload)) }
     {
         self.lender.end_with(&Tagged(0x65, &payload))
     }
@@ -190,7 +190,7 @@ impl<'a, L: Lender> ComponentDefinedTypeEncoder<'a, L> {
     /// What comes one by one: values of this type, or none.
     pub fn stream(self, payload: Option<ComponentValType>) -> Result<(), Fault>
         ensures { Ends L.written L.ended L.refuses self.entry.lender.now self.exit.0.now result
-            (defined_type (Stream payload)) }
+            (def_val_type (Stream payload)) }
     {
         self.lender.end_with(&Tagged(0x66, &payload))
     }

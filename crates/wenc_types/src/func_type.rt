@@ -4,7 +4,7 @@ ghost use Rattle.wenc_base.specs.Forms.{list};
 ghost use Rattle.wenc_base.specs.Lender.{Extends, ExtendsListed, Ends, MakesWhole};
 ghost use Rattle.wenc_base.specs.Piece.{byte, behind_bytes};
 ghost use Rattle.wenc_parts.specs.Types.{result_list};
-ghost use Rattle.wenc_types.specs.DefinedTypes.{Function, function_type, named, lent_named};
+ghost use Rattle.wenc_types.specs.DefinedTypes.{Function, function_type, labelled_type, lent_named};
 ghost use Rattle.wenc_types.specs.FuncStages.{async_byte, BeforeParams, lead_from, params_from, goes_on, RestMakesWhole};
 ghost use Rattle.wenc_types.specs.declared.func_type.FuncStage.TheVariants as stages;
 
@@ -145,7 +145,7 @@ where
     requires ends { IsFinite (I.remaining values) }
     ensures { ExtendsListed I.next_gives values lender.old lender.new result
         (L.written lender.old) (L.refuses lender.old)
-        (λ vs. behind_bytes lead.now (list named (map lent_named vs))) }
+        (λ vs. behind_bytes lead.now (list labelled_type (map lent_named vs))) }
 {
     lender.append_list(lead, values)
 }

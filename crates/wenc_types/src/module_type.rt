@@ -2,8 +2,8 @@ ghost use Rattle.std.specs.Borrow.{sem, RestsIfErr};
 ghost use Rattle.std.specs.Prelude.{◌≡◌, false, OnOk, IfOk};
 ghost use Rattle.wenc_base.specs.Holder.{is_finished, AddCause};
 ghost use Rattle.wenc_base.specs.Lender.{Lends};
-ghost use Rattle.wenc_types.specs.CoreTypes.{Import, Outer, Export};
-ghost use Rattle.wenc_types.specs.Declarations.{AddsToModule, Settled, lead_of, begun};
+ghost use Rattle.wenc_types.specs.CoreTypes.{ModuleImport, ModuleOuter, ModuleExport};
+ghost use Rattle.wenc_types.specs.Declarations.{AddsToModule, NoneBegun, lead_of, type_begun};
 ghost use Rattle.wenc_types.specs.declared.counts.Sort.TheVariants as sorts;
 
 use crate::counts::Sort;
@@ -46,14 +46,14 @@ impl<A: Allocator> Declarations<ModuleTypes, A> {
     /// Declares an import of the module. It is refused where there would be too many declarations (`TooMany`), or
     /// too many bytes in them or in one of the names (`TooLarge`).
     pub fn import(&mut self, module: &str, name: &str, ty: EntityType) -> Result<(), Fault>
-        ensures { AddsToModule self.old self.new result (Import «module».now name.now ty) }
+        ensures { AddsToModule self.old self.new result (ModuleImport «module».now name.now ty) }
     {
         self.add(&Tagged(0x00, &(module, name, ty)), None)
     }
 
     /// Declares an alias of a core type of the scope that is `count` components out. It is refused as `import` is.
     pub fn alias_outer_core_type(&mut self, count: u32, index: u32) -> Result<(), Fault>
-        ensures { AddsToModule self.old self.new result (Outer count index) }
+        ensures { AddsToModule self.old self.new result (ModuleOuter count index) }
     {
         let sort_and_kind = Verbatim(&[0x10, 0x01]);
         self.add(
@@ -64,7 +64,7 @@ impl<A: Allocator> Declarations<ModuleTypes, A> {
 
     /// Declares an export of the module. It is refused as `import` is.
     pub fn export(&mut self, name: &str, ty: EntityType) -> Result<(), Fault>
-        ensures { AddsToModule self.old self.new result (Export name.now ty) }
+        ensures { AddsToModule self.old self.new result (ModuleExport name.now ty) }
     {
         self.add(&Tagged(0x03, &(name, ty)), None)
     }
@@ -75,10 +75,10 @@ impl<A: Allocator> Declarations<ModuleTypes, A> {
             ⟦<ModuleTypes as DeclaredKind>⟧ A.Allocator) self.entry
             (λ e. e.lender.ghost_name) result (λ n. n ≡ self.old)) }
         ensures same_reference { IfOk result (λ e. e.lender.ghost_name ≡ self.entry.ghost_name) }
-        ensures lent { Lends (λ e. e.lender.now) (begun sorts.«Type» self.old)
+        ensures lent { Lends (λ e. e.lender.now) (type_begun sorts.«Type» self.old)
             (is_finished self.old.held) result
             (AddCause self.old.held (lead_of sorts.«Type») (λ _. ⊥)) }
-        ensures settled { OnOk result (Settled self.old) }
+        ensures settled { OnOk result (NoneBegun self.old) }
         ensures unguarded { IfOk result (λ e. e.guard ≡ false) }
     {
         self.begin(0x01, Sort::Type)?;

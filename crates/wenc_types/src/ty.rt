@@ -1,9 +1,9 @@
 ghost use Rattle.std.specs.Prelude.{◌≡◌, List, true, false, Err};
-ghost use Rattle.wenc_base.specs.Holder.{is_finished, held, EncodeCause};
+ghost use Rattle.wenc_base.specs.Holder.{is_finished, held_members, EncodeCause};
 ghost use Rattle.wenc_base.specs.Lender.{Ends, MakesWhole};
 ghost use Rattle.wenc_base.specs.Piece.{◌▸◌, refused_for};
 ghost use Rattle.wenc_base.specs.declared.fault.Fault.TheVariants.{Unfinished};
-ghost use Rattle.wenc_types.specs.ComponentTypes.{TypeOf, InstanceDeclaration, ComponentDeclaration, ComponentType as ComponentTypeSpec, InstanceType as InstanceTypeSpec, ResourceType, components_of, instances_of, type_of};
+ghost use Rattle.wenc_types.specs.ComponentTypes.{DefType, InstanceDeclaration, ComponentDeclaration, ComponentType as ComponentTypeSpec, InstanceType as InstanceTypeSpec, ResourceType, components_of, instances_of, def_type};
 ghost use Rattle.wenc_types.specs.Declarations.{ComponentDeclares, InstanceDeclares};
 ghost use Rattle.wenc_types.specs.TypeTrees.{type_view};
 ghost use Rattle.wenc_types.specs.declared.func_type.FuncStage.TheVariants as stages;
@@ -29,15 +29,15 @@ use wenc_base::{Fault, Lender, Tagged, ValType};
 pub struct ComponentTypeEncoder<'a, L: Lender> {
     lender: &'a mut L,
     ghost opened: { L.opened lender.now ≡ true },
-    ghost whole: { (t : TypeOf) → MakesWhole L.is_whole L.written lender.now (type_of t) },
+    ghost whole: { (t : DefType) → MakesWhole L.is_whole L.written lender.now (def_type t) },
 }
 
 impl<'a, L: Lender> ComponentTypeEncoder<'a, L> {
     /// An encoder of the member that the lender has just opened, of which each type is a whole one.
     pub fn new(lender: &'a mut L) -> Self
         requires opened { L.opened lender.old ≡ true }
-        requires whole { (t : TypeOf)
-            → MakesWhole L.is_whole L.written lender.old (type_of t) }
+        requires whole { (t : DefType)
+            → MakesWhole L.is_whole L.written lender.old (def_type t) }
         ensures same_reference { result.lender.ghost_name ≡ lender.entry.ghost_name }
         ensures now { result.lender.now ≡ lender.old }
     {
@@ -49,11 +49,11 @@ impl<'a, L: Lender> ComponentTypeEncoder<'a, L> {
     pub fn component<A: Allocator>(self, ty: &ComponentType<A>) -> Result<(), Fault>
         ensures ended { Ends L.written L.ended L.refuses
             self.entry.lender.now self.exit.0.now result
-            (0x41 ▸ held ty.now.held) }
+            (0x41 ▸ held_members ty.now.held) }
         ensures declared { (ds : List ComponentDeclaration) → ComponentDeclares ty.now ds
             → Ends L.written L.ended L.refuses self.entry.lender.now self.exit.0.now result
             (refused_for (EncodeCause ty.now.held)
-            (type_of (ComponentTypeSpec (components_of ds)))) }
+            (def_type (ComponentTypeSpec (components_of ds)))) }
         ensures unfinished { is_finished ty.now.held ≡ false → result ≡ Err Unfinished }
     {
         if !ty.is_finished() {
@@ -66,11 +66,11 @@ impl<'a, L: Lender> ComponentTypeEncoder<'a, L> {
     pub fn instance<A: Allocator>(self, ty: &InstanceType<A>) -> Result<(), Fault>
         ensures ended { Ends L.written L.ended L.refuses
             self.entry.lender.now self.exit.0.now result
-            (0x42 ▸ held ty.now.held) }
+            (0x42 ▸ held_members ty.now.held) }
         ensures declared { (ds : List InstanceDeclaration) → InstanceDeclares ty.now ds
             → Ends L.written L.ended L.refuses self.entry.lender.now self.exit.0.now result
             (refused_for (EncodeCause ty.now.held)
-            (type_of (InstanceTypeSpec (instances_of ds)))) }
+            (def_type (InstanceTypeSpec (instances_of ds)))) }
         ensures unfinished { is_finished ty.now.held ≡ false → result ≡ Err Unfinished }
     {
         if !ty.is_finished() {
@@ -83,7 +83,7 @@ impl<'a, L: Lender> ComponentTypeEncoder<'a, L> {
     /// there would be too many bytes (`TooLarge`).
     pub fn tree<A: Allocator>(self, ty: &TypeTree<A>) -> Result<(), Fault>
         ensures { Ends L.written L.ended L.refuses self.entry.lender.now self.exit.0.now result
-            (type_of (type_view ty.now)) }
+            (def_type (type_view ty.now)) }
     {
         self.lender.end_with(ty)
     }
@@ -112,7 +112,7 @@ impl<'a, L: Lender> ComponentTypeEncoder<'a, L> {
     /// bytes in what was lent (`TooLarge`).
     pub fn resource(self, rep: ValType, dtor: Option<u32>) -> Result<(), Fault>
         ensures { Ends L.written L.ended L.refuses self.entry.lender.now self.exit.0.now result
-            (type_of (ResourceType rep dtor)) }
+            (def_type (ResourceType rep dtor)) }
     {
         self.lender.end_with(&Tagged(0x3f, &(rep, dtor)))
     }

@@ -85,10 +85,10 @@ pub enum ComponentDecl<A: Allocator = Global> {
 }
 
 impl<A: Allocator> Encode for TypeTree<A> {
-    ghost use Rattle.wenc_types.specs.ComponentTypes.{type_of};
+    ghost use Rattle.wenc_types.specs.ComponentTypes.{def_type};
     ghost use Rattle.wenc_types.specs.TypeTrees.{type_view};
 
-    ghost piece = { λ t. type_of (type_view t) };
+    ghost piece = { λ t. def_type (type_view t) };
 
     #[cycle(encode)]
     fn encode<B: Allocator>(&self, sink: &mut Vec<u8, B>) -> Result<(), Fault> {
@@ -139,15 +139,15 @@ impl<A: Allocator> Encode for ComponentDecl<A> {
 }
 
 impl<A: Allocator> Delimited for TypeTree<A> {
-    ghost use Rattle.wenc_types.specs.ComponentTypes.{TypeOf, type_of};
+    ghost use Rattle.wenc_types.specs.ComponentTypes.{DefType, def_type};
     ghost use Rattle.wenc_types.specs.TypeTrees.{type_view};
     ghost use Rattle.wenc_types.specs.laws.ComponentTypes.{read_type, type_lawful};
 
-    ghost Seen = { TypeOf };
+    ghost Seen = { DefType };
 
     ghost seen = { type_view };
 
-    ghost form = { type_of };
+    ghost form = { def_type };
 
     ghost readable = { (read_type, type_lawful) };
 

@@ -15,14 +15,14 @@ pub record Answers (old new : State) (answer : Result (Option ℕ) Fault)
       → Holds new (entries_after es c answer) × IsDue es c answer
 
 -- A command's type was refused by its encoder, so that the builder is unfinished.
-pub record Stops (old : State) (fault : Fault) (c : CommandTree) : Type 0 where
+pub record StepsStop (old : State) (fault : Fault) (c : CommandTree) : Type 0 where
   pub typed : IsTyped c
   pub refused : (es : List Entry) → Holds old es → IsRefusal (cause es c) fault
 
 -- what running a command does
-abbrev pub Runs : State → State → Result (Result (Option ℕ) Fault) Fault → CommandTree → Type 0
-Runs old new outcome c =
-    MatchResult outcome (λ answer. Answers old new answer c) (λ fault. Stops old fault c)
+abbrev pub StepsRun : State → State → Result (Result (Option ℕ) Fault) Fault → CommandTree → Type 0
+StepsRun old new outcome c =
+    MatchResult outcome (λ answer. Answers old new answer c) (λ fault. StepsStop old fault c)
 
 -- the answer of a call that answers an index
 abbrev pub placed : Result ℕ Fault → Result (Option ℕ) Fault

@@ -4,14 +4,14 @@ ghost use Rattle.std.specs.List.Sorted.{IsStrictlyIncreasing};
 ghost use Rattle.std.specs.Prelude.{◌≡◌, ◌+◌, ◌<◌, ◌^◌, ◌++◌, ◌∷◌, [], ℕ, List, map, IsOk, Ok, Option, Result};
 ghost use Rattle.wenc_base.specs.Fault.{NoCause, either};
 ghost use Rattle.wenc_base.specs.declared.fault.Fault.{Fault};
-ghost use Rattle.wenc_builder.specs.Builder.{State, Draft, begun_with, appended, ended, builder_given_up, count_in, draft_in};
+ghost use Rattle.wenc_builder.specs.Builder.{State, Draft, item_begun, item_appended, item_ended, item_given_up, count_in, draft_in};
 ghost use Rattle.wenc_builder.specs.Enters.{Enters};
 ghost use Rattle.wenc_builder.specs.Entry.{Entry, items as items_of, names, type_entry, core_type_entry};
 ghost use Rattle.wenc_builder.specs.Holds.{Holds};
 ghost use Rattle.wenc_builder.specs.Item.{Item};
-ghost use Rattle.wenc_builder.specs.Lent.{no_room};
+ghost use Rattle.wenc_builder.specs.Lent.{no_room_in_section};
 ghost use Rattle.wenc_builder.specs.Sections.{Section, Run, runs};
-ghost use Rattle.wenc_builder.specs.Space.{defines, some_in, place};
+ghost use Rattle.wenc_builder.specs.Space.{defines, some_in, next_index};
 ghost use Rattle.wenc_builder.specs.Cause.{BeginCause};
 ghost use Rattle.wenc_parts.specs.declared.component.ComponentSectionId.TheVariants as ids;
 ghost use Rattle.wenc_builder.specs.declared.builder.space.Space.{Space};
@@ -19,10 +19,10 @@ ghost use Rattle.wenc_builder.specs.declared.builder.space.Space.TheVariants as 
 ghost use Rattle.wenc_parts.specs.Types.{value_type, primitive};
 ghost use Rattle.wenc_parts.specs.declared.types.ComponentValType.TheVariants as value_types;
 ghost use Rattle.wenc_parts.specs.declared.types.PrimitiveValType.{PrimitiveValType};
-ghost use Rattle.wenc_types.specs.ComponentTypes.{TypeOf, type_of};
+ghost use Rattle.wenc_types.specs.ComponentTypes.{DefType, def_type};
 ghost use Rattle.wenc_types.specs.CoreTypes.{CoreType, core_type};
 ghost use Rattle.wasm_encoder.specs.Cause.{led, first_cause};
-ghost use Rattle.wasm_encoder.specs.Command.{CommandTree, Commands, listed};
+ghost use Rattle.wasm_encoder.specs.Command.{CommandTree, Commands, listed_answers};
 ghost use Rattle.wasm_encoder.specs.Nameless.{StartIsNameless};
 ghost use Rattle.wasm_encoder.specs.Ran.{Ran};
 
@@ -52,7 +52,7 @@ pub fn named_places_ascend()
     ensures ascending { (es : List Entry) (k : ℕ) → AllByRecursion StartIsNameless es
         → IsStrictlyIncreasing (map (λ n. n.place) (names es k)) }
     ensures below { (es : List Entry) (k : ℕ) → AllByRecursion StartIsNameless es
-        → AllByRecursion (λ n. n.place < place (items_of es) k) (names es k) }
+        → AllByRecursion (λ n. n.place < next_index (items_of es) k) (names es k) }
     ensures led_to { (commands : List CommandTree) (answers : List (Result (Option ℕ) Fault))
         (es : List Entry) → Ran commands answers es → AllByRecursion StartIsNameless es }
 {}
@@ -68,9 +68,9 @@ pub fn indices_are_no_primitives()
 pub fn nested_runs()
     ensures there { (inner : Commands) → NoCause (first_cause [] inner)
         → (answers : List (Result (Option ℕ) Fault))
-        × Ran (listed inner) answers (led [] inner) × AllByRecursion IsOk answers }
+        × Ran (listed_answers inner) answers (led [] inner) × AllByRecursion IsOk answers }
     ensures back { (inner : Commands) (answers : List (Result (Option ℕ) Fault)) (all : List Entry)
-        → Ran (listed inner) answers all → AllByRecursion IsOk answers
+        → Ran (listed_answers inner) answers all → AllByRecursion IsOk answers
         → (all ≡ led [] inner) × NoCause (first_cause [] inner) }
 {}
 
@@ -79,21 +79,21 @@ pub fn nested_runs()
 /// leaves every list held that was held.
 pub fn encoded_types_are_entries()
     ensures type_written { (old lent new : State) (es : List Entry) (name : Option (List ℕ))
-        (t : TypeOf) → lent ≡ begun_with old (draft_in ids.«Type» spaces.Types name [])
+        (t : DefType) → lent ≡ item_begun old (draft_in ids.«Type» spaces.Types name [])
         → NoCause (BeginCause old (draft_in ids.«Type» spaces.Types name []))
-        → new ≡ ended (appended lent (type_of t).text) → (type_of t).Fits
-        → NoCause (either (type_of t).Cause (no_room lent (type_of t).text))
+        → new ≡ item_ended (item_appended lent (def_type t).text) → (def_type t).Fits
+        → NoCause (either (def_type t).Cause (no_room_in_section lent (def_type t).text))
         → Holds old es → Holds new (es ++ type_entry name t ∷ []) }
     ensures core_type_written { (old lent new : State) (es : List Entry) (name : Option (List ℕ))
         (t : CoreType)
-        → lent ≡ begun_with old (draft_in ids.CoreType spaces.CoreTypes name [])
+        → lent ≡ item_begun old (draft_in ids.CoreType spaces.CoreTypes name [])
         → NoCause (BeginCause old (draft_in ids.CoreType spaces.CoreTypes name []))
-        → new ≡ ended (appended lent (core_type t).text) → (core_type t).Fits
-        → NoCause (either (core_type t).Cause (no_room lent (core_type t).text))
+        → new ≡ item_ended (item_appended lent (core_type t).text) → (core_type t).Fits
+        → NoCause (either (core_type t).Cause (no_room_in_section lent (core_type t).text))
         → Holds old es → Holds new (es ++ core_type_entry name t ∷ []) }
     ensures begun_given_up { (old lent new : State) (es : List Entry) (d : Draft)
-        → lent ≡ begun_with old d → new ≡ builder_given_up lent → Holds old es → Holds new es }
+        → lent ≡ item_begun old d → new ≡ item_given_up lent → Holds old es → Holds new es }
     ensures written_given_up { (old lent new : State) (es : List Entry) (d : Draft) (text : List ℕ)
-        → lent ≡ appended (begun_with old d) text → new ≡ builder_given_up lent
+        → lent ≡ item_appended (item_begun old d) text → new ≡ item_given_up lent
         → Holds old es → Holds new es }
 {}

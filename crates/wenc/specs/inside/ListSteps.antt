@@ -7,7 +7,7 @@ use Rattle.wenc.specs.declared.unlisted.Unlisted.TheVariants.{BadText, Fault, Tr
 use Rattle.wenc.specs.Listed.{text_bytes, listing_text, bad_text, fault_line}
 use Rattle.wenc.specs.ListRun.{IsListingOf, IsFaultIn}
 use Rattle.wenc.specs.Run.{Says}
-use Rattle.wenc.specs.inside.Steps.{IsWhole}
+use Rattle.wenc.specs.inside.Steps.{IsWholeRun}
 
 -- why a text says no bytes
 abbrev pub NotDecoded : List ℕ → Unlisted → Type 0
@@ -30,7 +30,7 @@ ListsText (Err unlisted) text = NotListed text unlisted
 -- All that a reader had left was read, or a read failed, or memory ran out.
 abbrev pub ReadsText : {A : Type 0} → Result (Vec ℕ A) Unlisted → Option (List ℕ) → Option (List ℕ)
     → Type 0
-ReadsText (Ok text) left ended = IsWhole left ended text.items
+ReadsText (Ok text) left ended = IsWholeRun left ended text.items
 ReadsText (Err BadText) left ended = ⊥
 ReadsText (Err (Fault fault)) left ended = fault ≡ Memory
 ReadsText (Err Transfer) left ended = Unit {0}
@@ -38,16 +38,16 @@ ReadsText (Err Transfer) left ended = Unit {0}
 -- why what a reader had left is not listed
 abbrev pub NotReadAndListed : Unlisted → Option (List ℕ) → Option (List ℕ) → Type 0
 NotReadAndListed BadText left ended =
-    (text : List ℕ) × IsWhole left ended text × (text_bytes text ≡ None)
+    (text : List ℕ) × IsWholeRun left ended text × (text_bytes text ≡ None)
 NotReadAndListed (Fault fault) left ended =
-    (fault ≡ Memory) ⊎ ((text : List ℕ) × IsWhole left ended text × IsFaultIn text fault)
+    (fault ≡ Memory) ⊎ ((text : List ℕ) × IsWholeRun left ended text × IsFaultIn text fault)
 NotReadAndListed Transfer left ended = Unit {0}
 
 -- what is printed of what a reader had left
 abbrev pub ReadsListing : {A : Type 0} → Result (Vec ℕ A) Unlisted → Option (List ℕ)
     → Option (List ℕ) → Type 0
 ReadsListing {A} (Ok printed) left ended =
-    (text : List ℕ) × IsWhole left ended text × ListsText {A = A} (Ok printed) text
+    (text : List ℕ) × IsWholeRun left ended text × ListsText {A = A} (Ok printed) text
 ReadsListing (Err unlisted) left ended = NotReadAndListed unlisted left ended
 
 -- how it was reported; a place's line also takes memory

@@ -42,14 +42,14 @@ Translates (Err Transfer) text = ⊥
 Translates (Err Arguments) text = ⊥
 
 -- a text that was all there was to read
-pub record IsWhole (left ended : Option (List ℕ)) (text : List ℕ) : Type 0 where
+pub record IsWholeRun (left ended : Option (List ℕ)) (text : List ℕ) : Type 0 where
   pub consumed : Consumes left ended text
   pub ends : IsAtEnd ended
 
 -- All that a reader had left was read, or a read failed, or memory ran out.
 abbrev pub ReadsWhole : {A : Type 0} → Result (Vec ℕ A) Failure → Option (List ℕ) → Option (List ℕ)
     → Type 0
-ReadsWhole (Ok text) left ended = IsWhole left ended text.items
+ReadsWhole (Ok text) left ended = IsWholeRun left ended text.items
 ReadsWhole (Err (BadLine line)) left ended = ⊥
 ReadsWhole (Err (Fault fault)) left ended = IsMemory fault
 ReadsWhole (Err Transfer) left ended = Unit {0}
@@ -58,7 +58,7 @@ ReadsWhole (Err Arguments) left ended = ⊥
 -- why what a reader had left was not translated
 abbrev pub NotTranslated : Failure → Option (List ℕ) → Option (List ℕ) → Type 0
 NotTranslated (BadLine line) left ended =
-    (text : List ℕ) × IsWhole left ended text × (script text ≡ Err line)
+    (text : List ℕ) × IsWholeRun left ended text × (script text ≡ Err line)
 NotTranslated (Fault fault) left ended = IsMemory fault
 NotTranslated Transfer left ended = Unit {0}
 NotTranslated Arguments left ended = ⊥
@@ -66,7 +66,7 @@ NotTranslated Arguments left ended = ⊥
 -- the translation of what a reader had left
 abbrev pub Reads : {A : Type 0} → Result (Printout A) Failure → Option (List ℕ) → Option (List ℕ)
     → Type 0
-Reads (Ok p) left ended = (text : List ℕ) × IsWhole left ended text × Translation p text
+Reads (Ok p) left ended = (text : List ℕ) × IsWholeRun left ended text × Translation p text
 Reads (Err failure) left ended = NotTranslated failure left ended
 
 -- how a failure was reported; a line's number also takes memory

@@ -1,20 +1,20 @@
 -- The law of the kinds of exports.
 use Rattle.std.proofs.Common.{[], ◌∷◌, refl}
-use Rattle.wenc_base.specs.Exports.{export_kind, export_kind_byte}
+use Rattle.wenc_base.specs.Exports.{core_export_kind, export_kind_byte}
 use Rattle.wenc_base.specs.laws.Lawful.{Lawful, Reader, give, nowhere, choose, row_byte}
 use Rattle.wenc_base.specs.laws.Sound.{Sound, given_rows, nowhere_sound, choose_sound}
 use Rattle.wenc_base.specs.declared.exports.ExportKind.{ExportKind}
 use Rattle.wenc_base.specs.declared.exports.ExportKind.TheVariants.{Func, Table, Memory, Global, Tag}
 
-abbrev pub read_export_kind : Reader ExportKind
-read_export_kind = choose ((0x00, give Func) ∷ (0x01, give Table) ∷ (0x02, give Memory) ∷ (0x03, give Global) ∷ (0x04, give Tag) ∷ []) nowhere
+abbrev pub read_core_export_kind : Reader ExportKind
+read_core_export_kind = choose ((0x00, give Func) ∷ (0x01, give Table) ∷ (0x02, give Memory) ∷ (0x03, give Global) ∷ (0x04, give Tag) ∷ []) nowhere
 
-pub export_kind_lawful : (kind : ExportKind) → Lawful (export_kind kind) (λ fuel. read_export_kind) kind
-export_kind_lawful Func = row_byte _ _ 0x00 (λ fuel rest. refl)
-export_kind_lawful Table = row_byte _ _ 0x01 (λ fuel rest. refl)
-export_kind_lawful Memory = row_byte _ _ 0x02 (λ fuel rest. refl)
-export_kind_lawful Global = row_byte _ _ 0x03 (λ fuel rest. refl)
-export_kind_lawful Tag = row_byte _ _ 0x04 (λ fuel rest. refl)
+pub core_export_kind_lawful : (kind : ExportKind) → Lawful (core_export_kind kind) (λ fuel. read_core_export_kind) kind
+core_export_kind_lawful Func = row_byte _ _ 0x00 (λ fuel rest. refl)
+core_export_kind_lawful Table = row_byte _ _ 0x01 (λ fuel rest. refl)
+core_export_kind_lawful Memory = row_byte _ _ 0x02 (λ fuel rest. refl)
+core_export_kind_lawful Global = row_byte _ _ 0x03 (λ fuel rest. refl)
+core_export_kind_lawful Tag = row_byte _ _ 0x04 (λ fuel rest. refl)
 
-pub export_kind_sound : Sound export_kind read_export_kind
-export_kind_sound = choose_sound _ _ (given_rows export_kind export_kind_byte (λ kind. kind) (λ kind rest. refl) (Func ∷ Table ∷ Memory ∷ Global ∷ Tag ∷ [])) nowhere_sound
+pub core_export_kind_sound : Sound core_export_kind read_core_export_kind
+core_export_kind_sound = choose_sound _ _ (given_rows core_export_kind export_kind_byte (λ kind. kind) (λ kind rest. refl) (Func ∷ Table ∷ Memory ∷ Global ∷ Tag ∷ [])) nowhere_sound

@@ -5,10 +5,10 @@ use Rattle.std.specs.Str.{is_utf8}
 use Rattle.std.proofs.lemmas.Bool.{cases_lt, lt-ltb, le-ltb}
 use Rattle.std.proofs.lemmas.List.{take_at, drop_at, take-append-drop, length-take-le, length-append}
 use Rattle.wenc_base.specs.Number.{u32}
-use Rattle.wenc_base.specs.Piece.{Whole, Form, Wide, each, raw}
+use Rattle.wenc_base.specs.Piece.{Payload, Form, Wide, each, raw}
 use Rattle.wenc_base.specs.laws.Sound.{Then, Sound, ThenAll, SoundWhole, weaken, behind_value, then_sound, last_sound, give_sound, nowhere_sound, choose_sound, times_sound, whole_sound}
 use Rattle.wenc_base.specs.Forms.{flag, list, option, utf8, name, AreBytes, sized, byte_list, counted}
-use Rattle.wenc_base.specs.laws.Lawful.{Lawful, LawfulWhole, Reader, ◌>>=◌, give, nowhere, times, choose, row, row_byte, then, last, done, each_lawful, whole_lawful, raw_lawful}
+use Rattle.wenc_base.specs.laws.Lawful.{Lawful, LawfulWhole, Reader, ◌>>=◌, give, nowhere, times, choose, alternative, row_byte, then, last, done, each_lawful, whole_lawful, raw_lawful}
 use Rattle.wenc_base.specs.laws.Numbers.{read_u32, u32_lawful, count_lawful, size_lawful, size_free, u32_sound, groups_are_read}
 use Rattle.std.proofs.lemmas.Str.{IsUtf8-from_is_utf8, is_utf8-from_IsUtf8}
 
@@ -45,7 +45,7 @@ read_option read = choose ((0, give None) ∷ (1, read >>= λ v. give (Some v)) 
 
 pub option_lawful : {A : Type 0} {form : Form A} {read : ℕ → Reader A} → ((v : A) → Lawful (form v) read v) → (o : Option A) → Lawful (option form o) (λ fuel. read_option (read fuel)) o
 option_lawful laws None = row_byte _ _ 0 (λ fuel rest. refl)
-option_lawful laws (Some v) = row _ _ 1 (last Some (laws v))
+option_lawful laws (Some v) = alternative _ _ 1 (last Some (laws v))
 
 pub option_sound : {A : Type 0} {form : Form A} {read : Reader A} → Sound form read → Sound (option form) (read_option read)
 option_sound s = choose_sound _ _ (give_sound None (λ bytes. refl), (last_sound Some s (λ v bytes rest r. (bytes, refl, r)), tt)) nowhere_sound
@@ -107,7 +107,7 @@ read_filling read n bytes = cond (nat_lt (length bytes) n) None (in_front_of (dr
 abbrev pub read_sized : {A : Type 0} → (List ℕ → Option A) → Reader A
 read_sized read = read_u32 >>= read_filling read
 
-pub sized_lawful : {A : Type 0} {w : Whole} {read : ℕ → List ℕ → Option A} {v : A} → LawfulWhole w read v → Lawful (sized w) (λ fuel. read_sized (read fuel)) v
+pub sized_lawful : {A : Type 0} {w : Payload} {read : ℕ → List ℕ → Option A} {v : A} → LawfulWhole w read v → Lawful (sized w) (λ fuel. read_sized (read fuel)) v
 sized_lawful {w = w} a = record {
   text_is_read = λ mode rest h. (w.text, rw append_assoc ((u32_lawful (length w.text)).text_is_read mode (w.text ++ rest) h.0), a.text_is_read mode h.1);
   strict_is_text = λ bytes rest r.
@@ -125,7 +125,7 @@ filling_sound : {A : Type 0} (P : A → Type 0) (Q : A → List ℕ → Type 0) 
 filling_sound P Q rest None h k = tt
 filling_sound P Q rest (Some v) h k = k v h
 
-pub sized_sound : {A : Type 0} {form : A → Whole} {read : List ℕ → Option A} → SoundWhole form read → Sound (λ v. sized (form v)) (read_sized read)
+pub sized_sound : {A : Type 0} {form : A → Payload} {read : List ℕ → Option A} → SoundWhole form read → Sound (λ v. sized (form v)) (read_sized read)
 sized_sound {A} {form = form} {read = read} s = then_sound _ u32_sound (λ n. record { reads = λ middle. inside n middle })
   where
     inside : (n : ℕ) (middle : List ℕ) → Then (λ v rest. (bytes : List ℕ) → (u32 n).Reads Wide bytes middle → (sized (form v)).Reads Wide bytes rest) (read_filling read n middle)

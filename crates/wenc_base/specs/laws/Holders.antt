@@ -7,9 +7,9 @@ use Rattle.wenc_base.specs.Fault.{NoCause}
 use Rattle.wenc_base.specs.Piece.{Piece, Form, all_of}
 use Rattle.wenc_base.specs.Number.{unsigned_text}
 use Rattle.wenc_base.specs.Forms.{list, sized}
-use Rattle.wenc_base.specs.Holder.{Held, is_finished, section_text, with_member, Contains, AddCause, Accepted, AddsMember, AddsListed}
+use Rattle.wenc_base.specs.Holder.{HolderState, is_finished, section_text, with_member, Contains, AddCause, Accepted, AddsMember, AddsListed}
 use Rattle.wenc_base.specs.laws.Serves.{still_warranted, either_free, left_free, right_free}
-use Rattle.wenc_base.specs.Openings.{opened_with, lengthened, closed, given_up, is_opened, is_opened_at}
+use Rattle.wenc_base.specs.Openings.{member_begun, member_appended, member_ended, member_given_up, is_bare, is_bare_at}
 use Rattle.wenc_base.specs.declared.holder.openings.Opening.{Opening}
 use Rattle.wenc_base.specs.declared.fault.Fault.{Fault}
 use Rattle.std.proofs.lemmas.Grind.{flat_map-append}
@@ -20,7 +20,7 @@ all_more P [] x all one = (one, tt)
 all_more P (y ∷ ys) x all one = (all.0, all_more P ys x all.1 one)
 
 -- the members, and one more
-pub contains_next : {A : Type 0} (form : Form A) (old new : Held) (member : A) (members : List A)
+pub contains_next : {A : Type 0} (form : Form A) (old new : HolderState) (member : A) (members : List A)
     → new ≡ with_member old (form member).text → (form member).Fits → Contains form old members → Contains form new (members ++ member ∷ [])
 contains_next form old new member members e fits c = rw e (record {
   finished = c.finished;
@@ -30,29 +30,29 @@ contains_next form old new member members e fits c = rw e (record {
 })
 
 -- the text of a section is that of its members in the grammar
-pub section_of : {A : Type 0} (form : Form A) (h : Held) (members : List A) → Contains form h members → section_text h ≡ (sized (all_of (list form members))).text
-section_of form h members c = rw (← c.count, c.body, ← length-append (unsigned_text (length members)) (flat_map (λ m. (form m).text) members)) refl
+pub section_text_of : {A : Type 0} (form : Form A) (h : HolderState) (members : List A) → Contains form h members → section_text h ≡ (sized (all_of (list form members))).text
+section_text_of form h members c = rw (← c.count, c.body, ← length-append (unsigned_text (length members)) (flat_map (λ m. (form m).text) members)) refl
 
-same_add : (h : Held) (text : List ℕ) (one other : Fault → Type 0) → ((fault : Fault) → one fault → other fault) → (fault : Fault) → AddCause h text one fault → AddCause h text other fault
+same_add : (h : HolderState) (text : List ℕ) (one other : Fault → Type 0) → ((fault : Fault) → one fault → other fault) → (fault : Fault) → AddCause h text one fault → AddCause h text other fault
 same_add h text one other f fault c = elim c [ inl own ↦ inl (f fault own) | inr more ↦ inr more ]
 
-add_free : {p q : Piece} (h : Held) → Serves p q → NoCause (AddCause h p.text p.Cause) → NoCause (AddCause h q.text q.Cause)
+add_free : {p q : Piece} (h : HolderState) → Serves p q → NoCause (AddCause h p.text p.Cause) → NoCause (AddCause h q.text q.Cause)
 add_free {p} {q} h s none = either_free (s.free (left_free none)) (rw s.text at (right_free {one = p.Cause} none))
 
-add_among : {p q : Piece} (h : Held) → Serves p q → (fault : Fault) → AddCause h p.text p.Cause fault → AddCause h q.text q.Cause fault
+add_among : {p q : Piece} (h : HolderState) → Serves p q → (fault : Fault) → AddCause h p.text p.Cause fault → AddCause h q.text q.Cause fault
 add_among {p} {q} h s fault c = rw s.text at (same_add h p.text p.Cause q.Cause s.among fault c)
 
 -- a piece that was added for another
-pub accepted_as : {p q : Piece} (old new : Held) → Serves p q → Accepted p old new → Accepted q old new
+pub accepted_as : {p q : Piece} (old new : HolderState) → Serves p q → Accepted p old new → Accepted q old new
 accepted_as old new s a = record { state = rw s.text at a.state; fits = s.fits a.fits; free = add_free old s a.free }
 
 -- the same of a call that adds it
-pub adds_as : {p q : Piece} (old new : Held) (outcome : Result (Unit {0}) Fault) → Serves p q → AddsMember p old new outcome → AddsMember q old new outcome
+pub adds_as : {p q : Piece} (old new : HolderState) (outcome : Result (Unit {0}) Fault) → Serves p q → AddsMember p old new outcome → AddsMember q old new outcome
 adds_as old new (Ok u) s a = record { ok = accepted_as old new s a.ok; err = tt; warranted = tt; unfinished_first = a.unfinished_first }
 adds_as old new (Err fault) s a = record { ok = tt; err = a.err; warranted = still_warranted _ _ (add_among old s) fault a.warranted; unfinished_first = a.unfinished_first }
 
 -- and of a call that adds one that is made of values which an iterator gives
-pub adds_listed_as : {S B : Type 0} (steps : S → Option B → S → Type 0) (values : S) (one other : List B → Piece) (old new : Held) (outcome : Result (Unit {0}) Fault)
+pub adds_listed_as : {S B : Type 0} (steps : S → Option B → S → Type 0) (values : S) (one other : List B → Piece) (old new : HolderState) (outcome : Result (Unit {0}) Fault)
     → ((vs : List B) → Serves (one vs) (other vs)) → AddsListed steps values one old new outcome → AddsListed steps values other old new outcome
 adds_listed_as steps values one other old new (Ok u) serve a = record {
   ok = (a.ok.0, a.ok.1, a.ok.2, accepted_as old new (serve a.ok.0.items) a.ok.3);
@@ -74,26 +74,26 @@ none_of None e = refl
 none_of (Some o) e = cc
 
 -- what is given up leaves no trace
-pub given_up_is_before : (h : Held) (lead more : List ℕ) → is_finished h ≡ true → given_up (lengthened (opened_with h lead) more) ≡ h
+pub given_up_is_before : (h : HolderState) (lead more : List ℕ) → is_finished h ≡ true → member_given_up (member_appended (member_begun h lead) more) ≡ h
 given_up_is_before h lead more finished =
     let count : h.count + 1 - 1 ≡ h.count = omega arith in
     rw (count, append_assoc h.body lead more, take_at h.body (lead ++ more) (length h.body) refl)
-    (ap (λ (o : Option Opening). let held : Held = record { kept = h.kept; count = h.count; body = h.body; opening = o } in held) (sym (none_of h.opening finished)))
+    (ap (λ (o : Option Opening). let held : HolderState = record { kept = h.kept; count = h.count; body = h.body; opening = o } in held) (sym (none_of h.opening finished)))
 
 -- what is ended is one member more
-pub contains_opened : {A : Type 0} (form : Form A) (h : Held) (member : A) (members : List A) (lead more : List ℕ) → (form member).text ≡ lead ++ more → (form member).Fits
-    → Contains form h members → Contains form (closed (lengthened (opened_with h lead) more)) (members ++ member ∷ [])
+pub contains_opened : {A : Type 0} (form : Form A) (h : HolderState) (member : A) (members : List A) (lead more : List ℕ) → (form member).text ≡ lead ++ more → (form member).Fits
+    → Contains form h members → Contains form (member_ended (member_appended (member_begun h lead) more)) (members ++ member ∷ [])
 contains_opened form h member members lead more e fits c =
-    contains_next form h (closed (lengthened (opened_with h lead) more)) member members (rw (e, none_of h.opening c.finished, append_assoc h.body lead more) refl) fits c
+    contains_next form h (member_ended (member_appended (member_begun h lead) more)) member members (rw (e, none_of h.opening c.finished, append_assoc h.body lead more) refl) fits c
 
 -- what is opened is being written
-pub opened_is_unfinished : (h : Held) → is_opened h ≡ true → is_finished h ≡ false
+pub opened_is_unfinished : (h : HolderState) → is_bare h ≡ true → is_finished h ≡ false
 opened_is_unfinished h opened = at h.opening opened
   where
-    at : (o : Option Opening) → is_opened_at h.body o ≡ true → is_none o ≡ false
+    at : (o : Option Opening) → is_bare_at h.body o ≡ true → is_none o ≡ false
     at None opened = cc
     at (Some o) opened = refl
 
 -- bytes and then more are all of them
-pub lengthened_twice : (h : Held) (text more : List ℕ) → lengthened (lengthened h text) more ≡ lengthened h (text ++ more)
+pub lengthened_twice : (h : HolderState) (text more : List ℕ) → member_appended (member_appended h text) more ≡ member_appended h (text ++ more)
 lengthened_twice h text more = rw (append_assoc h.body text more) refl

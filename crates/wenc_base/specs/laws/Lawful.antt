@@ -6,7 +6,7 @@ use Rattle.wenc_base.specs.FormLaws.{FormLaws}
 use Rattle.wenc_base.specs.Fault.{NoCause}
 use Rattle.wenc_base.specs.declared.fault.Fault.{Fault}
 use Rattle.wenc_base.specs.declared.fault.Fault.TheVariants.{Unfinished}
-use Rattle.wenc_base.specs.Piece.{Piece, Whole, Form, Spelling, Strict, Wide, nothing, byte, refused_for, ◌▸◌, also, or_widely, ◌⨾◌, only_where, each, all_of, end, raw, ◌⨾⨾◌}
+use Rattle.wenc_base.specs.Piece.{Piece, Payload, Form, Spelling, Strict, Wide, nothing, byte, refused_for, ◌▸◌, also, or_widely, ◌⨾◌, only_where, each, all_of, end, raw, ◌⨾⨾◌}
 use Rattle.std.proofs.lemmas.List.{append-nil}
 
 -- ---- readers
@@ -32,10 +32,10 @@ abbrev pub times : {A : Type 0} → Reader A → ℕ → Reader (List A)
 times read zero = give []
 times read (suc n) = read >>= λ v. times read n >>= λ vs. give (v ∷ vs)
 
--- the row of the first byte, or else the other reader, from that byte on
+-- the alternative of the first byte, or else the other reader, from that byte on
 abbrev pub pick : {A : Type 0} → List (ℕ × Reader A) → Reader A → ℕ → Reader A
 pick [] other b bytes = other (b ∷ bytes)
-pick (row ∷ table) other b bytes = elim (eqb b row.0) [ true ↦ row.1 bytes | false ↦ pick table other b bytes ]
+pick (alternative ∷ table) other b bytes = elim (eqb b alternative.0) [ true ↦ alternative.1 bytes | false ↦ pick table other b bytes ]
 
 -- A reader by the first byte. It stays shut, so that antt finds the table of a reader that is given.
 unfoldable pub choose : {A : Type 0} → List (ℕ × Reader A) → Reader A → Reader A
@@ -55,7 +55,7 @@ pub record Lawful {A : Type 0} (p : Piece) (read : ℕ → Reader A) (v : A) : T
   pub depth : ℕ
   pub finds : (fuel : ℕ) → depth ≤ fuel → (mode : Spelling) (bytes rest : List ℕ) → p.Reads mode bytes rest → read fuel bytes ≡ Some (v, rest)
 
-pub record LawfulWhole {A : Type 0} (w : Whole) (read : ℕ → List ℕ → Option A) (v : A) : Type 0 where
+pub record LawfulWhole {A : Type 0} (w : Payload) (read : ℕ → List ℕ → Option A) (v : A) : Type 0 where
   pub text_is_read : (mode : Spelling) → w.Fits → w.ReadsAll mode w.text
   pub strict_is_text : (bytes : List ℕ) → w.ReadsAll Strict bytes → bytes ≡ w.text
   pub fits : (bytes : List ℕ) → w.ReadsAll Strict bytes → w.Fits
@@ -79,7 +79,7 @@ delimited {p = p} {q = q} one two r s h k e =
     reads_once one two Strict Strict (p.text ++ r) r s (one.text_is_read Strict r h) (rw e (two.text_is_read Strict s k))
 
 -- two values that one reader finds in all of the bytes
-pub whole_once : {A : Type 0} {p q : Whole} {read : ℕ → List ℕ → Option A} {v w : A} → LawfulWhole p read v → LawfulWhole q read w
+pub whole_once : {A : Type 0} {p q : Payload} {read : ℕ → List ℕ → Option A} {v w : A} → LawfulWhole p read v → LawfulWhole q read w
     → (mode other : Spelling) (bytes : List ℕ) → p.ReadsAll mode bytes → q.ReadsAll other bytes → v ≡ w
 whole_once {v = v} {w = w} one two mode other bytes a b =
     same_Some v w (sym (one.finds (one.depth + two.depth) (omega arith) mode bytes a) ∙ two.finds (one.depth + two.depth) (omega arith) other bytes b)
@@ -90,7 +90,7 @@ pub wide_reads_strict : {A : Type 0} {p : Piece} {read : ℕ → Reader A} {v : 
 wide_reads_strict one bytes rest r = rw (one.strict_is_text bytes rest r) (one.text_is_read Wide rest (one.fits bytes rest r))
 
 -- the same of all of the bytes
-pub whole_wide_reads_strict : {A : Type 0} {w : Whole} {read : ℕ → List ℕ → Option A} {v : A} → LawfulWhole w read v
+pub whole_wide_reads_strict : {A : Type 0} {w : Payload} {read : ℕ → List ℕ → Option A} {v : A} → LawfulWhole w read v
     → (bytes : List ℕ) → w.ReadsAll Strict bytes → w.ReadsAll Wide bytes
 whole_wide_reads_strict one bytes r = rw (one.strict_is_text bytes r) (one.text_is_read Wide (one.fits bytes r))
 
@@ -125,7 +125,7 @@ nothing_lawful v = record {
   finds = λ fuel le mode bytes rest r. rw r refl;
 }
 
--- a byte that a row has, and no more
+-- a byte that a alternative has, and no more
 pub row_byte : {A : Type 0} {v : A} (table : ℕ → List (ℕ × Reader A)) (other : ℕ → Reader A) (b : ℕ) → ((fuel : ℕ) (rest : List ℕ) → pick (table fuel) (other fuel) b rest ≡ Some (v, rest)) → Lawful (byte b) (λ fuel. choose (table fuel) (other fuel)) v
 unfolding choose
 row_byte table other b e = record {
@@ -152,10 +152,10 @@ refused_lawful cause l free never = record {
 
 -- ---- choices by the first byte
 
--- a piece behind a byte that a row has
-pub row : {A : Type 0} {p : Piece} {v : A} (table : ℕ → List (ℕ × Reader A)) (other : ℕ → Reader A) (b : ℕ) → Lawful p (λ fuel. pick (table fuel) (other fuel) b) v → Lawful (b ▸ p) (λ fuel. choose (table fuel) (other fuel)) v
+-- a piece behind a byte that a alternative has
+pub alternative : {A : Type 0} {p : Piece} {v : A} (table : ℕ → List (ℕ × Reader A)) (other : ℕ → Reader A) (b : ℕ) → Lawful p (λ fuel. pick (table fuel) (other fuel) b) v → Lawful (b ▸ p) (λ fuel. choose (table fuel) (other fuel)) v
 unfolding choose
-row {p = p} table other b l = record {
+alternative {p = p} table other b l = record {
   text_is_read = λ mode rest h. (p.text ++ rest, refl, l.text_is_read mode rest h);
   strict_is_text = λ bytes rest r. r.1 ∙ ap (λ (t : List ℕ). b ∷ t) (l.strict_is_text r.0 rest r.2);
   fits = λ bytes rest r. l.fits r.0 rest r.2;
@@ -178,11 +178,11 @@ row_also {p = p} {v = v} table other b c l k = record {
   finds = λ fuel le mode bytes rest r. elim r.1 [ inl e ↦ rw e (l.finds fuel (omega arith) mode r.0 rest r.2) | inr w ↦ rw w.1 (k.finds fuel (omega arith) mode r.0 rest r.2) ];
 }
 
--- a byte that a row has, then a piece
+-- a byte that a alternative has, then a piece
 pub first_byte : {A : Type 0} {q : Piece} {v : A} (table : ℕ → List (ℕ × Reader A)) (other : ℕ → Reader A) (b : ℕ)
     → Lawful q (λ fuel. pick (table fuel) (other fuel) b) v → Lawful (byte b ⨾ q) (λ fuel. choose (table fuel) (other fuel)) v
 first_byte table other b l =
-    let r = row table other b l in
+    let r = alternative table other b l in
     record {
       text_is_read = λ mode rest h. r.text_is_read mode rest h.1;
       strict_is_text = r.strict_is_text;
@@ -197,7 +197,7 @@ first_byte table other b l =
 pub first_of_two : {A : Type 0} (p q : Piece) {v : A} (table : ℕ → List (ℕ × Reader A)) (other : ℕ → Reader A) (b : ℕ)
     → Lawful (p ⨾ q) (λ fuel. pick (table fuel) (other fuel) b) v → Lawful ((b ▸ p) ⨾ q) (λ fuel. choose (table fuel) (other fuel)) v
 first_of_two p q table other b l =
-    let r = row table other b l in
+    let r = alternative table other b l in
     record {
       text_is_read = λ mode rest h. (let s = r.text_is_read mode rest h in (s.2.0, (s.0, s.1, s.2.1), s.2.2));
       strict_is_text = λ bytes rest s. r.strict_is_text bytes rest (s.1.0, s.1.1, (s.0, s.1.2, s.2));
@@ -220,23 +220,23 @@ or_widely_lawful a b = record {
   finds = λ fuel le mode bytes rest r. elim r [ inl e ↦ a.finds fuel (omega arith) mode bytes rest e | inr w ↦ b.finds fuel (omega arith) mode bytes rest w.1 ];
 }
 
--- no row is the byte's
+-- no alternative is the byte's
 abbrev pub IsPast : {A : Type 0} → List (ℕ × Reader A) → ℕ → Type 0
 IsPast [] b = Unit {0}
-IsPast (row ∷ table) b = (b ≢ row.0) × IsPast table b
+IsPast (alternative ∷ table) b = (b ≢ alternative.0) × IsPast table b
 
 other_than : (b c : ℕ) → b ≢ c → eqb b c ≡ false
 other_than b c h = grind (arith, nat_tests)
 
 pick_past : {A : Type 0} (table : List (ℕ × Reader A)) (other : Reader A) (b : ℕ) (bytes : List ℕ) → IsPast table b → pick table other b bytes ≡ other (b ∷ bytes)
 pick_past [] other b bytes h = refl
-pick_past (row ∷ table) other b bytes h = rw (other_than b row.0 h.0, pick) (pick_past table other b bytes h.1)
+pick_past (alternative ∷ table) other b bytes h = rw (other_than b alternative.0 h.0, pick) (pick_past table other b bytes h.1)
 
 -- Where the piece is, its first byte is one of which P holds.
 pub record Starts (p : Piece) (P : ℕ → Type 0) : Type 0 where
   pub starts : (mode : Spelling) (bytes rest : List ℕ) → p.Reads mode bytes rest → (b : ℕ) × (more : List ℕ) × (bytes ≡ b ∷ more) × P b
 
--- a piece whose first byte is in no row
+-- a piece whose first byte is in no alternative
 pub past : {A : Type 0} {p : Piece} {v : A} (table : ℕ → List (ℕ × Reader A)) (other : ℕ → Reader A) → ((fuel : ℕ) → Starts p (IsPast (table fuel))) → Lawful p other v → Lawful p (λ fuel. choose (table fuel) (other fuel)) v
 unfolding choose
 past table other begins l = record {
@@ -344,7 +344,7 @@ raw_lawful P is_so bs make test = record {
   finds = λ fuel le mode bytes r. rw (r.1, test r.0) refl;
 }
 
-pub then_whole : {A B : Type 0} {p : Piece} {q : Whole} {read : ℕ → Reader A} {v : A} (next : ℕ → A → List ℕ → Option B) {w : B} → Lawful p read v → LawfulWhole q (λ fuel. next fuel v) w → LawfulWhole (p ⨾⨾ q) (λ fuel bytes. go_on (read fuel bytes) (next fuel)) w
+pub then_whole : {A B : Type 0} {p : Piece} {q : Payload} {read : ℕ → Reader A} {v : A} (next : ℕ → A → List ℕ → Option B) {w : B} → Lawful p read v → LawfulWhole q (λ fuel. next fuel v) w → LawfulWhole (p ⨾⨾ q) (λ fuel bytes. go_on (read fuel bytes) (next fuel)) w
 then_whole {p = p} {q = q} next a b = record {
   text_is_read = λ mode h. (q.text, a.text_is_read mode q.text h.0, b.text_is_read mode h.1);
   strict_is_text = λ bytes r. a.strict_is_text bytes r.0 r.1 ∙ ap (λ (t : List ℕ). p.text ++ t) (b.strict_is_text r.0 r.2);
@@ -359,7 +359,7 @@ abbrev pub made : {A B : Type 0} → (A → B) → Option A → Option B
 made make None = None
 made make (Some v) = Some (make v)
 
-pub last_whole : {A B : Type 0} {w : Whole} {read : ℕ → List ℕ → Option A} {v : A} (make : A → B) → LawfulWhole w read v → LawfulWhole w (λ fuel bytes. made make (read fuel bytes)) (make v)
+pub last_whole : {A B : Type 0} {w : Payload} {read : ℕ → List ℕ → Option A} {v : A} (make : A → B) → LawfulWhole w read v → LawfulWhole w (λ fuel bytes. made make (read fuel bytes)) (make v)
 last_whole make a = record {
   text_is_read = a.text_is_read;
   strict_is_text = a.strict_is_text;
@@ -394,7 +394,7 @@ unfolding to_end
 some_left none read next [] x nowhere found = absurd cc
 some_left none read next (b ∷ bytes) x nowhere found = refl
 
-pub before_end : {A B : Type 0} {p : Piece} {q : Whole} {v : A} {w : B} (none : B) (read : ℕ → Reader A) (next : ℕ → A → List ℕ → Option B)
+pub before_end : {A B : Type 0} {p : Piece} {q : Payload} {v : A} {w : B} (none : B) (read : ℕ → Reader A) (next : ℕ → A → List ℕ → Option B)
     → ((fuel : ℕ) → read fuel [] ≡ None) → Lawful p read v → LawfulWhole q (λ fuel. next fuel v) w → LawfulWhole (p ⨾⨾ q) (λ fuel. to_end none (read fuel) (next fuel)) w
 before_end {v = v} none read next some a b =
     let l = then_whole next a b in
@@ -408,7 +408,7 @@ before_end {v = v} none read next some a b =
       finds = λ fuel le mode bytes r. some_left none (read fuel) (next fuel) bytes (v, r.0) (some fuel) (a.finds fuel (omega arith) mode bytes r.0 r.1) ∙ l.finds fuel (omega arith) mode bytes r;
     }
 
-pub deeper_whole : {A : Type 0} {p : Whole} {read : ℕ → List ℕ → Option A} {v : A} → LawfulWhole p (λ fuel. read (suc fuel)) v → LawfulWhole p read v
+pub deeper_whole : {A : Type 0} {p : Payload} {read : ℕ → List ℕ → Option A} {v : A} → LawfulWhole p (λ fuel. read (suc fuel)) v → LawfulWhole p read v
 deeper_whole {p = p} {read = read} {v = v} a = record {
   text_is_read = a.text_is_read;
   strict_is_text = a.strict_is_text;

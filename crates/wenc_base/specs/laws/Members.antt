@@ -6,9 +6,9 @@ use Rattle.std.specs.List.{flat_map, AllByRecursion}
 use Rattle.std.specs.Prelude.{IsTrue}
 use Rattle.wenc_base.specs.Encode.{Serves}
 use Rattle.wenc_base.specs.Piece.{Piece, Form, HasForm, verbatim}
-use Rattle.wenc_base.specs.Holder.{Held, is_finished, with_member, holding, Contains, ContainsSome, AddsMember, AddsListed}
+use Rattle.wenc_base.specs.Holder.{HolderState, is_finished, with_member, holding, Contains, ContainsSome, AddsMember, AddsListed}
 use Rattle.wenc_base.specs.Lender.{Extends, ExtendsListed, MakesWhole}
-use Rattle.wenc_base.specs.Openings.{opened_with, lengthened, closed, given_up, member_text, OpeningIsIn, HasMembers}
+use Rattle.wenc_base.specs.Openings.{member_begun, member_appended, member_ended, member_given_up, member_text, OpeningStands, HasMembers}
 use Rattle.wenc_base.specs.laws.Holders.{contains_next, all_more}
 use Rattle.wenc_base.specs.declared.fault.Fault.{Fault}
 use Rattle.wenc_base.specs.declared.fault.Fault.TheVariants.{Unfinished}
@@ -17,63 +17,63 @@ use Rattle.std.proofs.Math.Seq.{drop-append_seam}
 
 -- ---- what is given up
 
-abbrev held_as : List ℕ → ℕ → List ℕ → Option Opening → Held
+abbrev held_as : List ℕ → ℕ → List ℕ → Option Opening → HolderState
 held_as kept count body o = record { kept = kept; count = count; body = body; opening = o }
 
 -- a member that is being written is within its holder
-abbrev pub IsWithin : Held → Type 0
-IsWithin h = OpeningIsIn h.opening h.count (length h.body)
+abbrev pub IsWithin : HolderState → Type 0
+IsWithin h = OpeningStands h.opening h.count (length h.body)
 
-pub finished_back : (h : Held) → is_finished h ≡ true → given_up h ≡ h
+pub finished_back : (h : HolderState) → is_finished h ≡ true → member_given_up h ≡ h
 finished_back h finished = at h.opening finished
   where
-    at : (o : Option Opening) → is_none o ≡ true → given_up (held_as h.kept h.count h.body o) ≡ held_as h.kept h.count h.body o
+    at : (o : Option Opening) → is_none o ≡ true → member_given_up (held_as h.kept h.count h.body o) ≡ held_as h.kept h.count h.body o
     at None e = refl
     at (Some o) e = cc
 
-pub back_twice : (h : Held) → given_up (given_up h) ≡ given_up h
+pub back_twice : (h : HolderState) → member_given_up (member_given_up h) ≡ member_given_up h
 back_twice h = at h.opening
   where
-    at : (o : Option Opening) → given_up (given_up (held_as h.kept h.count h.body o)) ≡ given_up (held_as h.kept h.count h.body o)
+    at : (o : Option Opening) → member_given_up (member_given_up (held_as h.kept h.count h.body o)) ≡ member_given_up (held_as h.kept h.count h.body o)
     at None = refl
     at (Some o) = refl
 
-pub closed_as_it_is : (h : Held) → is_finished h ≡ true → closed h ≡ h
+pub closed_as_it_is : (h : HolderState) → is_finished h ≡ true → member_ended h ≡ h
 closed_as_it_is h finished = at h.opening finished
   where
     at : (o : Option Opening) → is_none o ≡ true → holding h.kept h.count h.body ≡ held_as h.kept h.count h.body o
     at None e = refl
     at (Some o) e = cc
 
-pub opened_back : (h : Held) (lead : List ℕ) → is_finished h ≡ true → given_up (opened_with h lead) ≡ h
+pub opened_back : (h : HolderState) (lead : List ℕ) → is_finished h ≡ true → member_given_up (member_begun h lead) ≡ h
 opened_back h lead finished =
     let counts : h.count + 1 - 1 ≡ h.count = omega arith in
     rw (counts, take_at h.body lead (length h.body) refl) (closed_as_it_is h finished)
 
-pub lengthened_back : (h : Held) (text : List ℕ) → is_finished h ≡ false → IsWithin h → given_up (lengthened h text) ≡ given_up h
+pub lengthened_back : (h : HolderState) (text : List ℕ) → is_finished h ≡ false → IsWithin h → member_given_up (member_appended h text) ≡ member_given_up h
 lengthened_back h text unfinished within = at h.opening unfinished within
   where
-    at : (o : Option Opening) → is_none o ≡ false → OpeningIsIn o h.count (length h.body) → given_up (held_as h.kept h.count (h.body ++ text) o) ≡ given_up (held_as h.kept h.count h.body o)
+    at : (o : Option Opening) → is_none o ≡ false → OpeningStands o h.count (length h.body) → member_given_up (held_as h.kept h.count (h.body ++ text) o) ≡ member_given_up (held_as h.kept h.count h.body o)
     at None e w = cc
     at (Some o) e w = let starts = w.0 in rw (take-append-le o.member_start h.body text starts) refl
 
 -- what is ended is one member more
-pub closed_as_more : (h : Held) → is_finished h ≡ false → IsWithin h → with_member (given_up h) (member_text h) ≡ closed h
+pub closed_as_more : (h : HolderState) → is_finished h ≡ false → IsWithin h → with_member (member_given_up h) (member_text h) ≡ member_ended h
 closed_as_more h unfinished within = at h.opening unfinished within
   where
-    at : (o : Option Opening) → is_none o ≡ false → OpeningIsIn o h.count (length h.body)
-        → with_member (given_up (held_as h.kept h.count h.body o)) (member_text (held_as h.kept h.count h.body o)) ≡ holding h.kept h.count h.body
+    at : (o : Option Opening) → is_none o ≡ false → OpeningStands o h.count (length h.body)
+        → with_member (member_given_up (held_as h.kept h.count h.body o)) (member_text (held_as h.kept h.count h.body o)) ≡ holding h.kept h.count h.body
     at None e w = cc
     at (Some o) e w =
         let counts : h.count - 1 + 1 ≡ h.count = omega (arith, w.1) in
         rw (counts, take-append-drop o.member_start h.body) refl
 
 -- what was written since a member was opened, its lead with it
-pub written_text : (h : Held) (lead text : List ℕ) → member_text (lengthened (opened_with h lead) text) ≡ lead ++ text
+pub written_text : (h : HolderState) (lead text : List ℕ) → member_text (member_appended (member_begun h lead) text) ≡ lead ++ text
 written_text h lead text = rw (append_assoc h.body lead text) (drop-append_seam h.body (lead ++ text))
 
 -- a call that is refused while one is being written wasn't made then
-pub was_finished : {T : Type 0} (h : Held) (x : T) → (is_finished h ≡ false → Ok x ≡ Err Unfinished) → is_finished h ≡ true
+pub was_finished : {T : Type 0} (h : HolderState) (x : T) → (is_finished h ≡ false → Ok x ≡ Err Unfinished) → is_finished h ≡ true
 was_finished h x refused = at (is_finished h) refused
   where
     at : (b : Bool) → (b ≡ false → Ok x ≡ Err Unfinished) → b ≡ true
@@ -81,20 +81,20 @@ was_finished h x refused = at (is_finished h) refused
     at false r = let e = r refl in cc
 
 -- what is added to a member makes it longer, or is refused
-abbrev pub IsLonger : Held → Held → Type 0
-IsLonger old new = (new ≡ old) ⊎ ((text : List ℕ) × (new ≡ lengthened old text))
+abbrev pub IsLonger : HolderState → HolderState → Type 0
+IsLonger old new = (new ≡ old) ⊎ ((text : List ℕ) × (new ≡ member_appended old text))
 
-pub extended : (p : Piece) (old new : Held) (outcome : Result (Unit {0}) Fault) (refuses : Fault → Type 0) → Extends old new (lengthened old p.text) outcome p refuses → IsLonger old new
-extended p old new (Ok u) refuses e = inr (p.text, e.ok)
-extended p old new (Err f) refuses e = inl e.err
+pub members_extended : (p : Piece) (old new : HolderState) (outcome : Result (Unit {0}) Fault) (refuses : Fault → Type 0) → Extends old new (member_appended old p.text) outcome p refuses → IsLonger old new
+members_extended p old new (Ok u) refuses e = inr (p.text, e.ok)
+members_extended p old new (Err f) refuses e = inl e.err
 
-pub extended_list : {S B : Type 0} (steps : S → Option B → S → Type 0) (values : S) (old new : Held) (outcome : Result (Unit {0}) Fault) (refuses : List ℕ → Fault → Type 0)
-    (piece : List B → Piece) → ExtendsListed steps values old new outcome (lengthened old) refuses piece → IsLonger old new
+pub extended_list : {S B : Type 0} (steps : S → Option B → S → Type 0) (values : S) (old new : HolderState) (outcome : Result (Unit {0}) Fault) (refuses : List ℕ → Fault → Type 0)
+    (piece : List B → Piece) → ExtendsListed steps values old new outcome (member_appended old) refuses piece → IsLonger old new
 extended_list steps values old new (Ok u) refuses piece e = inr ((piece e.ok.0.items).text, e.ok.3.state)
 extended_list steps values old new (Err f) refuses piece e = inl e.err
 
 -- a holder that gave up nothing was finished
-pub told_finished : (h : Held) (was : Bool) → (IsTrue was ↔ (is_finished h ≡ false)) → was ≡ false → is_finished h ≡ true
+pub told_finished : (h : HolderState) (was : Bool) → (IsTrue was ↔ (is_finished h ≡ false)) → was ≡ false → is_finished h ≡ true
 told_finished h was told nothing = at (is_finished h) told.1
   where
     at : (b : Bool) → (b ≡ false → IsTrue was) → b ≡ true
@@ -103,27 +103,27 @@ told_finished h was told nothing = at (is_finished h) told.1
 
 -- ---- where a member that is being written stands
 
-pub within_finished : (h : Held) → is_finished h ≡ true → IsWithin h
+pub within_finished : (h : HolderState) → is_finished h ≡ true → IsWithin h
 within_finished h finished = at h.opening finished
   where
-    at : (o : Option Opening) → is_none o ≡ true → OpeningIsIn o h.count (length h.body)
+    at : (o : Option Opening) → is_none o ≡ true → OpeningStands o h.count (length h.body)
     at None e = tt
     at (Some o) e = cc
 
-pub within_opened : (h : Held) (lead : List ℕ) → IsWithin (opened_with h lead)
+pub within_opened : (h : HolderState) (lead : List ℕ) → IsWithin (member_begun h lead)
 within_opened h lead = (omega (arith, length-append h.body lead), omega arith)
 
-pub within_lengthened : (h : Held) (text : List ℕ) → IsWithin h → IsWithin (lengthened h text)
+pub within_lengthened : (h : HolderState) (text : List ℕ) → IsWithin h → IsWithin (member_appended h text)
 within_lengthened h text within = at h.opening within
   where
-    at : (o : Option Opening) → OpeningIsIn o h.count (length h.body) → OpeningIsIn o h.count (length (h.body ++ text))
+    at : (o : Option Opening) → OpeningStands o h.count (length h.body) → OpeningStands o h.count (length (h.body ++ text))
     at None w = tt
     at (Some o) w = (omega (arith, w.0, length-append h.body text), w.1)
 
-pub within_back : (h : Held) → IsWithin (given_up h)
+pub within_back : (h : HolderState) → IsWithin (member_given_up h)
 within_back h = at h.opening
   where
-    at : (o : Option Opening) → IsWithin (given_up (held_as h.kept h.count h.body o))
+    at : (o : Option Opening) → IsWithin (member_given_up (held_as h.kept h.count h.body o))
     at None = tt
     at (Some o) = tt
 
@@ -136,7 +136,7 @@ module _ (P : List ℕ → Type 0) where
     opening = tt;
   }
 
-  some_more : (h : Held) (text : List ℕ) → ContainsSome P h → P text → ContainsSome P (with_member h text)
+  some_more : (h : HolderState) (text : List ℕ) → ContainsSome P h → P text → ContainsSome P (with_member h text)
   some_more h text s one = record {
     members = s.members ++ text ∷ [];
     contained = contains_next verbatim h (with_member h text) text s.members refl tt s.contained;
@@ -144,61 +144,61 @@ module _ (P : List ℕ → Type 0) where
   }
 
   -- what is finished contains some
-  pub contains_some : (h : Held) → is_finished h ≡ true → HasMembers P h → ∥ ContainsSome P h ∥₁
-  contains_some h finished k = subst (λ (s : Held). ∥ ContainsSome P s ∥₁) (finished_back h finished) k.settled
+  pub contains_some : (h : HolderState) → is_finished h ≡ true → HasMembers P h → ∥ ContainsSome P h ∥₁
+  contains_some h finished k = subst (λ (s : HolderState). ∥ ContainsSome P s ∥₁) (finished_back h finished) k.settled
 
   -- and what contains some keeps them
-  pub keeps_some : (h : Held) → is_finished h ≡ true → ∥ ContainsSome P h ∥₁ → HasMembers P h
-  keeps_some h finished s = record { settled = subst (λ (s : Held). ∥ ContainsSome P s ∥₁) (sym (finished_back h finished)) s; opening = within_finished h finished }
+  pub keeps_some : (h : HolderState) → is_finished h ≡ true → ∥ ContainsSome P h ∥₁ → HasMembers P h
+  keeps_some h finished s = record { settled = subst (λ (s : HolderState). ∥ ContainsSome P s ∥₁) (sym (finished_back h finished)) s; opening = within_finished h finished }
 
   -- a member is added
-  pub keeps_more : (h : Held) (text : List ℕ) → is_finished h ≡ true → ∥ P text ∥₁ → HasMembers P h → HasMembers P (with_member h text)
+  pub keeps_more : (h : HolderState) (text : List ℕ) → is_finished h ≡ true → ∥ P text ∥₁ → HasMembers P h → HasMembers P (with_member h text)
   keeps_more h text finished one k = keeps_some (with_member h text) finished (∥∥₁_map₂ (contains_some h finished k) one (λ s p. some_more h text s p))
 
   -- or the same of a call that may be refused
-  pub keeps_took : (p : Piece) (old new : Held) (outcome : Result (Unit {0}) Fault) → (p.Fits → ∥ P p.text ∥₁) → AddsMember p old new outcome → HasMembers P old → HasMembers P new
+  pub keeps_took : (p : Piece) (old new : HolderState) (outcome : Result (Unit {0}) Fault) → (p.Fits → ∥ P p.text ∥₁) → AddsMember p old new outcome → HasMembers P old → HasMembers P new
   keeps_took p old new (Ok u) one a k = rw a.ok.state (keeps_more old p.text (was_finished old u a.unfinished_first) (one a.ok.fits) k)
   keeps_took p old new (Err f) one a k = rw a.err k
 
-  pub keeps_list : {S B : Type 0} (steps : S → Option B → S → Type 0) (values : S) (piece : List B → Piece) (old new : Held) (outcome : Result (Unit {0}) Fault)
+  pub keeps_list : {S B : Type 0} (steps : S → Option B → S → Type 0) (values : S) (piece : List B → Piece) (old new : HolderState) (outcome : Result (Unit {0}) Fault)
       → ((vs : List B) → (piece vs).Fits → ∥ P (piece vs).text ∥₁) → AddsListed steps values piece old new outcome → HasMembers P old → HasMembers P new
   keeps_list steps values piece old new (Ok u) each a k =
       rw a.ok.3.state (keeps_more old (piece a.ok.0.items).text (was_finished old u a.unfinished_first) (each a.ok.0.items a.ok.3.fits) k)
   keeps_list steps values piece old new (Err f) each a k = rw a.err k
 
   -- one is opened
-  pub keeps_opened : (h : Held) (lead : List ℕ) → is_finished h ≡ true → HasMembers P h → HasMembers P (opened_with h lead)
+  pub keeps_opened : (h : HolderState) (lead : List ℕ) → is_finished h ≡ true → HasMembers P h → HasMembers P (member_begun h lead)
   keeps_opened h lead finished k = record {
-    settled = subst (λ (s : Held). ∥ ContainsSome P s ∥₁) (sym (opened_back h lead finished)) (contains_some h finished k);
+    settled = subst (λ (s : HolderState). ∥ ContainsSome P s ∥₁) (sym (opened_back h lead finished)) (contains_some h finished k);
     opening = within_opened h lead;
   }
 
   -- more is written of it
-  pub keeps_lengthened : (h : Held) (text : List ℕ) → is_finished h ≡ false → HasMembers P h → HasMembers P (lengthened h text)
+  pub keeps_lengthened : (h : HolderState) (text : List ℕ) → is_finished h ≡ false → HasMembers P h → HasMembers P (member_appended h text)
   keeps_lengthened h text unfinished k = record {
-    settled = subst (λ (s : Held). ∥ ContainsSome P s ∥₁) (sym (lengthened_back h text unfinished k.opening)) k.settled;
+    settled = subst (λ (s : HolderState). ∥ ContainsSome P s ∥₁) (sym (lengthened_back h text unfinished k.opening)) k.settled;
     opening = within_lengthened h text k.opening;
   }
 
   -- or the same of a call that may be refused
-  pub keeps_longer : (old new : Held) → is_finished old ≡ false → IsLonger old new → HasMembers P old → HasMembers P new
+  pub keeps_longer : (old new : HolderState) → is_finished old ≡ false → IsLonger old new → HasMembers P old → HasMembers P new
   keeps_longer old new unfinished (inl same) k = rw same k
   keeps_longer old new unfinished (inr more) k = rw more.1 (keeps_lengthened old more.0 unfinished k)
 
   -- it is ended, as such a text
-  pub keeps_closed : (h : Held) → ∥ P (member_text h) ∥₁ → HasMembers P h → HasMembers P (closed h)
+  pub keeps_closed : (h : HolderState) → ∥ P (member_text h) ∥₁ → HasMembers P h → HasMembers P (member_ended h)
   keeps_closed h whole k = at (is_finished h) refl
     where
-      at : (b : Bool) → is_finished h ≡ b → HasMembers P (closed h)
+      at : (b : Bool) → is_finished h ≡ b → HasMembers P (member_ended h)
       at true finished = subst (HasMembers P) (sym (closed_as_it_is h finished)) k
       at false unfinished =
-          let more : ∥ ContainsSome P (with_member (given_up h) (member_text h)) ∥₁ = ∥∥₁_map₂ k.settled whole (λ s p. some_more (given_up h) (member_text h) s p) in
-          keeps_some (closed h) refl (subst (λ (s : Held). ∥ ContainsSome P s ∥₁) (closed_as_more h unfinished k.opening) more)
+          let more : ∥ ContainsSome P (with_member (member_given_up h) (member_text h)) ∥₁ = ∥∥₁_map₂ k.settled whole (λ s p. some_more (member_given_up h) (member_text h) s p) in
+          keeps_some (member_ended h) refl (subst (λ (s : HolderState). ∥ ContainsSome P s ∥₁) (closed_as_more h unfinished k.opening) more)
 
   -- or it is given up
-  pub keeps_given_up : (h : Held) → HasMembers P h → HasMembers P (given_up h)
+  pub keeps_given_up : (h : HolderState) → HasMembers P h → HasMembers P (member_given_up h)
   keeps_given_up h k = record {
-    settled = subst (λ (s : Held). ∥ ContainsSome P s ∥₁) (sym (back_twice h)) k.settled;
+    settled = subst (λ (s : HolderState). ∥ ContainsSome P s ∥₁) (sym (back_twice h)) k.settled;
     opening = within_back h;
   }
 
@@ -213,15 +213,15 @@ module _ {A : Type 0} (form : Form A) where
   serves_form v s fits = ∣ record { value = v; fits = s.fits fits; is = s.text } ∣₁
 
   -- a call that adds a value of the form
-  pub keeps_added : (old new : Held) (outcome : Result (Unit {0}) Fault) (member : A) → AddsMember (form member) old new outcome → HasMembers (HasForm form) old → HasMembers (HasForm form) new
+  pub keeps_added : (old new : HolderState) (outcome : Result (Unit {0}) Fault) (member : A) → AddsMember (form member) old new outcome → HasMembers (HasForm form) old → HasMembers (HasForm form) new
   keeps_added old new outcome member = keeps_took (HasForm form) (form member) old new outcome (has_form member)
 
-  pub keeps_listed : {S B : Type 0} (steps : S → Option B → S → Type 0) (values : S) (old new : Held) (outcome : Result (Unit {0}) Fault) (member : List B → A)
+  pub keeps_listed : {S B : Type 0} (steps : S → Option B → S → Type 0) (values : S) (old new : HolderState) (outcome : Result (Unit {0}) Fault) (member : List B → A)
       → AddsListed steps values (λ vs. form (member vs)) old new outcome → HasMembers (HasForm form) old → HasMembers (HasForm form) new
   keeps_listed steps values old new outcome member = keeps_list (HasForm form) steps values (λ vs. form (member vs)) old new outcome (λ vs. has_form (member vs))
 
   -- a piece that serves as a value makes whole what was opened without a lead
-  pub opened_whole : {p : Piece} (h lender : Held) → lender ≡ opened_with h [] → (v : A) → Serves p (form v) → p.Fits → ∥ HasForm form (member_text (lengthened lender p.text)) ∥₁
+  pub opened_whole : {p : Piece} (h lender : HolderState) → lender ≡ member_begun h [] → (v : A) → Serves p (form v) → p.Fits → ∥ HasForm form (member_text (member_appended lender p.text)) ∥₁
   opened_whole {p} h lender e v s fits = rw (e, written_text h [] p.text) (serves_form v s fits)
 
   -- bytes that have the form make a member whole, where each value does
@@ -239,7 +239,7 @@ values_of form (m ∷ ms) each =
     let one = each.0 in
     (one.value ∷ more.0, omega (arith, more.1), rw (one.is, more.2) refl, (one.fits, more.3))
 
-pub contains_values : {A : Type 0} (form : Form A) (h : Held) → ContainsSome (HasForm form) h → (xs : List A) × Contains form h xs
+pub contains_values : {A : Type 0} (form : Form A) (h : HolderState) → ContainsSome (HasForm form) h → (xs : List A) × Contains form h xs
 contains_values form h s =
     let all = values_of form s.members s.each in
     (all.0, record { finished = s.contained.finished; count = all.1 ∙ s.contained.count; body = s.contained.body ∙ all.2; fit = all.3 })

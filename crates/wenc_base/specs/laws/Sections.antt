@@ -8,17 +8,17 @@ use Rattle.wenc_base.specs.laws.Sound.{Sound, then_whole_sound}
 use Rattle.wenc_base.specs.Custom.{Custom, custom}
 use Rattle.wenc_base.specs.Producers.{Producer, producer, Producers, producers_field, producers_label, producers_section}
 
-abbrev labelled : List ℕ → List ℕ → Custom
-labelled label bytes = record { label = label; bytes = bytes }
+abbrev behind_id : List ℕ → List ℕ → Custom
+behind_id label bytes = record { label = label; bytes = bytes }
 
 abbrev pub read_custom : Reader Custom
-read_custom = read_sized (λ content. go_on (read_name content) (λ label. read_bytes (labelled label)))
+read_custom = read_sized (λ content. go_on (read_name content) (λ label. read_bytes (behind_id label)))
 
 pub custom_lawful : (c : Custom) → Lawful (custom c) (λ fuel. read_custom) c
-custom_lawful c = sized_lawful (then_whole _ (name_lawful c.label) (bytes_lawful (labelled c.label) c.bytes))
+custom_lawful c = sized_lawful (then_whole _ (name_lawful c.label) (bytes_lawful (behind_id c.label) c.bytes))
 
 pub custom_sound : Sound custom read_custom
-custom_sound = sized_sound (then_whole_sound (λ c. name c.label ⨾⨾ raw AreBytes c.bytes) (λ label. read_bytes (labelled label)) name_sound (λ label bytes middle r. bytes_sound (λ c. (name c.label ⨾⨾ raw AreBytes c.bytes).ReadsAll Wide bytes) (labelled label) middle (λ h. (middle, r, (h, refl)))))
+custom_sound = sized_sound (then_whole_sound (λ c. name c.label ⨾⨾ raw AreBytes c.bytes) (λ label. read_bytes (behind_id label)) name_sound (λ label bytes middle r. bytes_sound (λ c. (name c.label ⨾⨾ raw AreBytes c.bytes).ReadsAll Wide bytes) (behind_id label) middle (λ h. (middle, r, (h, refl)))))
 
 abbrev versioned : List ℕ → List ℕ → Producer
 versioned tool version = record { tool = tool; version = version }

@@ -1,6 +1,6 @@
 -- What a reader finds is read: the other way round of `finds`.
 use Rattle.std.proofs.Common.{◌≡◌, ℕ, zero, suc, true, false, eqb, List, [], ◌∷◌, ◌++◌, length, map, Option, Some, None, refl, sym, ap, subst, inl, inr, ◌⊎◌}
-use Rattle.wenc_base.specs.Piece.{Form, Whole, Wide, each, all_of}
+use Rattle.wenc_base.specs.Piece.{Form, Payload, Wide, each, all_of}
 use Rattle.wenc_base.specs.laws.Lawful.{Reader, go_on, ◌>>=◌, give, nowhere, times, pick, choose, done, all_read}
 use Rattle.std.proofs.lemmas.Bool.{eqb-true}
 
@@ -17,21 +17,21 @@ abbrev pub ThenAll : {A : Type 0} → (A → Type 0) → Option A → Type 0
 ThenAll P None = Unit {0}
 ThenAll P (Some v) = P v
 
-pub record SoundWhole {A : Type 0} (form : A → Whole) (read : List ℕ → Option A) : Type 0 where
+pub record SoundWhole {A : Type 0} (form : A → Payload) (read : List ℕ → Option A) : Type 0 where
   pub reads : (bytes : List ℕ) → ThenAll (λ v. (form v).ReadsAll Wide bytes) (read bytes)
 
 -- ---- one after the other
 
-pub goes_on : {A B : Type 0} (P : A → List ℕ → Type 0) (Q : B → List ℕ → Type 0) (next : A → List ℕ → Option (B × List ℕ)) (found : Option (A × List ℕ))
+pub sound_goes_on : {A B : Type 0} (P : A → List ℕ → Type 0) (Q : B → List ℕ → Type 0) (next : A → List ℕ → Option (B × List ℕ)) (found : Option (A × List ℕ))
     → Then P found → ((v : A) (rest : List ℕ) → P v rest → Then Q (next v rest)) → Then Q (go_on found next)
-goes_on P Q next None h k = tt
-goes_on P Q next (Some x) h k = k x.0 x.1 h
+sound_goes_on P Q next None h k = tt
+sound_goes_on P Q next (Some x) h k = k x.0 x.1 h
 
 pub weaken : {A : Type 0} (P Q : A → List ℕ → Type 0) (found : Option (A × List ℕ)) → ((v : A) (rest : List ℕ) → P v rest → Q v rest) → Then P found → Then Q found
 weaken P Q None k h = tt
 weaken P Q (Some x) k h = k x.0 x.1 h
 
--- what is left of a form behind this value of another one
+-- what is left of a form sound_behind this value of another one
 abbrev pub behind_value : {A B : Type 0} → Form A → A → Form B → Form B
 behind_value part v form w = record {
   Fits = (form w).Fits;
@@ -40,10 +40,10 @@ behind_value part v form w = record {
   Reads = λ mode middle rest. (bytes : List ℕ) → (part v).Reads mode bytes middle → (form w).Reads mode bytes rest;
 }
 
--- a value, then what is read behind it
+-- a value, then what is read sound_behind it
 pub then_sound : {A B : Type 0} {part : Form A} {read : Reader A} {form : Form B} (next : A → Reader B) → Sound part read → ((v : A) → Sound (behind_value part v form) (next v)) → Sound form (read >>= next)
 then_sound {part = part} {read = read} {form = form} next s k = record {
-  reads = λ bytes. goes_on (λ v middle. (part v).Reads Wide bytes middle) (λ w rest. (form w).Reads Wide bytes rest) next (read bytes) (s.reads bytes) (λ v middle r.
+  reads = λ bytes. sound_goes_on (λ v middle. (part v).Reads Wide bytes middle) (λ w rest. (form w).Reads Wide bytes rest) next (read bytes) (s.reads bytes) (λ v middle r.
       weaken (λ w rest. (behind_value part v form w).Reads Wide middle rest) (λ w rest. (form w).Reads Wide bytes rest) (next v middle) (λ w rest h. h bytes r) ((k v).reads middle));
 }
 
@@ -51,7 +51,7 @@ then_sound {part = part} {read = read} {form = form} next s k = record {
 pub last_sound : {A B : Type 0} {part : Form A} {read : Reader A} {form : Form B} (make : A → B) → Sound part read
     → ((v : A) (bytes rest : List ℕ) → (part v).Reads Wide bytes rest → (form (make v)).Reads Wide bytes rest) → Sound form (read >>= λ x. give (make x))
 last_sound {part = part} {read = read} {form = form} make s k = record {
-  reads = λ bytes. goes_on (λ v rest. (part v).Reads Wide bytes rest) (λ w rest. (form w).Reads Wide bytes rest) (λ x. give (make x)) (read bytes) (s.reads bytes) (λ v rest r. k v bytes rest r);
+  reads = λ bytes. sound_goes_on (λ v rest. (part v).Reads Wide bytes rest) (λ w rest. (form w).Reads Wide bytes rest) (λ x. give (make x)) (read bytes) (s.reads bytes) (λ v rest r. k v bytes rest r);
 }
 
 -- a value of no byte
@@ -63,19 +63,19 @@ nowhere_sound = record { reads = λ bytes. tt }
 
 -- ---- choices by the first byte
 
--- what is read behind this byte
-abbrev pub behind : {A : Type 0} → ℕ → Form A → Form A
-behind b form v = record {
+-- what is read sound_behind this byte
+abbrev pub sound_behind : {A : Type 0} → ℕ → Form A → Form A
+sound_behind b form v = record {
   Fits = (form v).Fits;
   Cause = (form v).Cause;
   text = (form v).text;
   Reads = λ mode bytes rest. (form v).Reads mode (b ∷ bytes) rest;
 }
 
--- each row finds only what is read behind its byte
+-- each row finds only what is read sound_behind its byte
 abbrev pub RowsAreSound : {A : Type 0} → Form A → List (ℕ × Reader A) → Type 0
 RowsAreSound form [] = Unit {0}
-RowsAreSound form (row ∷ table) = Sound (behind row.0 form) row.1 × RowsAreSound form table
+RowsAreSound form (row ∷ table) = Sound (sound_behind row.0 form) row.1 × RowsAreSound form table
 
 -- the rows of two tables
 pub both_tables : {A : Type 0} (form : Form A) (one other : List (ℕ × Reader A)) → RowsAreSound form one → RowsAreSound form other → RowsAreSound form (one ++ other)
@@ -114,8 +114,8 @@ choose_sound {form = form} table other rows s = record { reads = λ bytes. chose
 pub times_sound : {A : Type 0} {form : Form A} {read : Reader A} → Sound form read → (n : ℕ) (bytes : List ℕ) → Then (λ vs rest. (length vs ≡ n) × (each form vs).Reads Wide bytes rest) (times read n bytes)
 times_sound s zero bytes = (refl, refl)
 times_sound {form = form} {read = read} s (suc n) bytes =
-    goes_on (λ v middle. (form v).Reads Wide bytes middle) (λ vs rest. (length vs ≡ suc n) × (each form vs).Reads Wide bytes rest) (λ v. times read n >>= λ vs. give (v ∷ vs)) (read bytes) (s.reads bytes) (λ v middle r.
-    goes_on (λ vs rest. (length vs ≡ n) × (each form vs).Reads Wide middle rest) (λ vs rest. (length vs ≡ suc n) × (each form vs).Reads Wide bytes rest) (λ vs. give (v ∷ vs)) (times read n middle)
+    sound_goes_on (λ v middle. (form v).Reads Wide bytes middle) (λ vs rest. (length vs ≡ suc n) × (each form vs).Reads Wide bytes rest) (λ v. times read n >>= λ vs. give (v ∷ vs)) (read bytes) (s.reads bytes) (λ v middle r.
+    sound_goes_on (λ vs rest. (length vs ≡ n) × (each form vs).Reads Wide middle rest) (λ vs rest. (length vs ≡ suc n) × (each form vs).Reads Wide bytes rest) (λ vs. give (v ∷ vs)) (times read n middle)
     (times_sound s n middle) (λ vs rest h. (ap suc h.0, (middle, r, h.1))))
 
 -- ---- all of the bytes
@@ -134,7 +134,7 @@ then_all P Q next None h k = tt
 then_all P Q next (Some x) h k = k x.0 x.1 h
 
 -- a value, then the rest of the bytes
-pub then_whole_sound : {A B : Type 0} {part : Form A} {read : Reader A} (form : B → Whole) (next : A → List ℕ → Option B) → Sound part read
+pub then_whole_sound : {A B : Type 0} {part : Form A} {read : Reader A} (form : B → Payload) (next : A → List ℕ → Option B) → Sound part read
     → ((v : A) (bytes middle : List ℕ) → (part v).Reads Wide bytes middle → ThenAll (λ w. (form w).ReadsAll Wide bytes) (next v middle)) → SoundWhole form (λ bytes. go_on (read bytes) next)
 then_whole_sound {part = part} {read = read} form next s k = record {
   reads = λ bytes. then_all (λ v middle. (part v).Reads Wide bytes middle) (λ w. (form w).ReadsAll Wide bytes) next (read bytes) (s.reads bytes) (λ v middle r. k v bytes middle r);

@@ -168,16 +168,16 @@ below_goes_on (b ∷ c ∷ bytes) h =
 
 -- ---- the sum of a signed number
 
-at_end : (bytes : List ℕ) (k : ℕ) → k + 1 ≡ length bytes → get_or bytes k 0 ≡ last_byte bytes
-at_end [] k e = refl
-at_end (b ∷ []) zero e = refl
-at_end (b ∷ []) (suc k) e = absurd (omega arith)
-at_end (b ∷ c ∷ bytes) zero e = absurd (omega arith)
-at_end (b ∷ c ∷ bytes) (suc k) e = at_end (c ∷ bytes) k (omega arith)
+word_at_end : (bytes : List ℕ) (k : ℕ) → k + 1 ≡ length bytes → get_or bytes k 0 ≡ last_byte bytes
+word_at_end [] k e = refl
+word_at_end (b ∷ []) zero e = refl
+word_at_end (b ∷ []) (suc k) e = absurd (omega arith)
+word_at_end (b ∷ c ∷ bytes) zero e = absurd (omega arith)
+word_at_end (b ∷ c ∷ bytes) (suc k) e = word_at_end (c ∷ bytes) k (omega arith)
 
 last_of_is : (bytes : List ℕ) → last_of bytes ≡ last_byte bytes
 last_of_is [] = refl
-last_of_is (b ∷ bytes) = at_end (b ∷ bytes) (length (b ∷ bytes) - 1) (omega arith)
+last_of_is (b ∷ bytes) = word_at_end (b ∷ bytes) (length (b ∷ bytes) - 1) (omega arith)
 
 sum_low : (bytes : List ℕ) → last_byte bytes < 64 → signed_sum bytes ≡ pos (value bytes)
 sum_low bytes l = rw (last_of_is bytes, lt-ltb _ _ l, sum_is bytes) refl
@@ -261,10 +261,10 @@ signed_only (negsuc n) bytes h d =
 -- ---- reading
 
 -- a byte from top on has another behind it
-pub goes_on : (mode : Spelling) (top room n b : ℕ) (bytes rest : List ℕ) → top ≤ b → ReadsGroups mode top (suc room) n (b ∷ bytes) rest
+pub word_goes_on : (mode : Spelling) (top room n b : ℕ) (bytes rest : List ℕ) → top ≤ b → ReadsGroups mode top (suc room) n (b ∷ bytes) rest
     → (high : ℕ) × (n + 128 ≡ b + 128 * high) × ReadsGroups mode top room high bytes rest
-goes_on mode top room n b bytes rest h (last lt) = absurd (omega arith)
-goes_on mode top room n b bytes rest h (more {high = high} low byte on sum r) = (high, sum, r)
+word_goes_on mode top room n b bytes rest h (last lt) = absurd (omega arith)
+word_goes_on mode top room n b bytes rest h (more {high = high} low byte on sum r) = (high, sum, r)
 
 -- where no more bytes are allowed, the byte is the last
 pub ends_here : (mode : Spelling) (top n b : ℕ) (bytes rest : List ℕ) → ReadsGroups mode top 0 n (b ∷ bytes) rest → (n ≡ b) × (b < top)

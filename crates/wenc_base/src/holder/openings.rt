@@ -5,7 +5,7 @@ ghost use Rattle.wenc_base.specs.Forms.{list};
 ghost use Rattle.wenc_base.specs.Piece.{verbatim, behind_bytes};
 ghost use Rattle.wenc_base.specs.Holder.{is_finished, content_size, AddCause};
 ghost use Rattle.wenc_base.specs.Lender.{ExtendsListed, GivesUp};
-ghost use Rattle.wenc_base.specs.Openings.{lengthened, closed, given_up, no_room, is_opened, OpensMember, Lengthens};
+ghost use Rattle.wenc_base.specs.Openings.{member_appended, member_ended, member_given_up, no_room_in_holder, is_bare, BeginsMember, AppendsToMember};
 
 use super::{Holder, encode_listed, next_count, size_fits};
 use crate::encode::{Encode, Verbatim};
@@ -26,7 +26,7 @@ pub struct Opening {
 impl<A: Allocator> Holder<A> {
     /// Begins a member by these bytes. It is refused as `add` is; where there are no bytes it takes no memory.
     pub fn open(&mut self, lead: &[u8]) -> Result<(), Fault>
-        ensures opened { OpensMember self.old self.new result lead.now }
+        ensures opened { BeginsMember self.old self.new result lead.now }
         ensures no_memory { lead.now ≡ [] → IfErr result (AddCause self.old [] (λ _. ⊥)) }
     {
         if self.opening.is_some() {
@@ -48,7 +48,7 @@ impl<A: Allocator> Holder<A> {
 
     /// Whether a member is being written of which there is the lead alone.
     pub fn is_opened(&self) -> bool
-        ensures { result ≡ is_opened self.now }
+        ensures { result ≡ is_bare self.now }
     {
         match self.opening {
             Some(opening) => self.bytes.len() - self.kept == opening.lead_end,
@@ -60,7 +60,7 @@ impl<A: Allocator> Holder<A> {
     /// with those of the number of members (`TooLarge`), and then nothing changes.
     pub fn append(&mut self, text: &[u8]) -> Result<(), Fault>
         requires { is_finished self.old ≡ false }
-        ensures { Lengthens self.old self.new (lengthened self.old text.now) result
+        ensures { AppendsToMember self.old self.new (member_appended self.old text.now) result
             (verbatim text.now) }
     {
         self.append_encoded(&Verbatim(text))
@@ -70,8 +70,8 @@ impl<A: Allocator> Holder<A> {
     /// the value is.
     pub fn append_encoded<E: Encode>(&mut self, value: &E) -> Result<(), Fault>
         requires { is_finished self.old ≡ false }
-        ensures lengthened { Lengthens self.old self.new
-            (lengthened self.old (E.piece value.now).text) result (E.piece value.now) }
+        ensures member_appended { AppendsToMember self.old self.new
+            (member_appended self.old (E.piece value.now).text) result (E.piece value.now) }
         ensures unfinished_value { E.unfinished value.now → result ≡ Err Unfinished }
     {
         let start = self.bytes.len();
@@ -90,7 +90,7 @@ impl<A: Allocator> Holder<A> {
         requires can { I.can_next values }
         requires ends { IsFinite (I.remaining values) }
         ensures { ExtendsListed I.next_gives values self.old self.new result
-            (lengthened self.old) (no_room self.old)
+            (member_appended self.old) (no_room_in_holder self.old)
             (λ vs. behind_bytes lead.now (list T.piece vs)) }
     {
         let start = self.bytes.len();
@@ -102,7 +102,7 @@ impl<A: Allocator> Holder<A> {
     /// holder stays unfinished.
     pub fn close(&mut self, text: &[u8]) -> Result<(), Fault>
         requires { is_finished self.old ≡ false }
-        ensures { Lengthens self.old self.new (closed (lengthened self.old text.now)) result
+        ensures { AppendsToMember self.old self.new (member_ended (member_appended self.old text.now)) result
             (verbatim text.now) }
     {
         self.append(text)?;
@@ -112,7 +112,7 @@ impl<A: Allocator> Holder<A> {
 
     /// The member that is being written is whole. It takes no memory.
     pub fn finish_member(&mut self)
-        ensures { self.new ≡ closed self.old }
+        ensures { self.new ≡ member_ended self.old }
     {
         self.opening = None;
     }
@@ -120,7 +120,7 @@ impl<A: Allocator> Holder<A> {
     /// Gives up the member that is being written, and says whether there was one: the holder is as it was before
     /// `open`. It takes no memory.
     pub fn discard_unfinished(&mut self) -> bool
-        ensures { GivesUp self.new (given_up self.old) (is_finished self.old) result }
+        ensures { GivesUp self.new (member_given_up self.old) (is_finished self.old) result }
     {
         match self.opening {
             Some(opening) => {

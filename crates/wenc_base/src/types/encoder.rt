@@ -1,6 +1,6 @@
 ghost use Rattle.std.specs.Iterator.{IsFinite};
 ghost use Rattle.std.specs.Prelude.{◌≡◌, true, false, map};
-ghost use Rattle.wenc_base.specs.Composites.{Group, Single, Rec, Struct, Array, composite_type, function_view, sub_view, group, group_view, standing};
+ghost use Rattle.wenc_base.specs.Composites.{RecType, Single, Rec, Struct, Array, composite_type, function_view, sub_view, rec_type, rec_type_view, standing};
 ghost use Rattle.wenc_base.specs.Forms.{list};
 ghost use Rattle.wenc_base.specs.Lender.{Ends, EndsListed, EndsLists, MakesWhole};
 ghost use Rattle.wenc_base.specs.Piece.{◌▸◌};
@@ -30,7 +30,7 @@ pub struct CoreTypeEncoder<'a, L: Lender> {
     lender: &'a mut L,
     guard: bool,
     ghost unfinished: { L.finished lender.now ≡ false },
-    ghost whole: { (g : Group)
+    ghost whole: { (g : RecType)
         → MakesWhole L.is_whole L.written lender.now (standing guard g) },
 }
 
@@ -39,7 +39,7 @@ impl<'a, L: Lender> CoreTypeEncoder<'a, L> {
     /// type that isn't final has a byte `00` before it, as it has in a component.
     pub fn new(lender: &'a mut L, guard: bool) -> Self
         requires opened { L.opened lender.old ≡ true }
-        requires whole { (g : Group)
+        requires whole { (g : RecType)
             → MakesWhole L.is_whole L.written lender.old (standing guard g) }
         ensures same_reference { result.lender.ghost_name ≡ lender.entry.ghost_name }
         ensures now { result.lender.now ≡ lender.old }
@@ -113,7 +113,7 @@ impl<'a, L: Lender> CoreTypeEncoder<'a, L> {
         requires ends { IsFinite (I.remaining types) }
         ensures { EndsListed L.written L.ended L.refuses I.next_gives types
             self.entry.lender.now self.exit.0.now result
-            (λ ts. group (Rec (map (λ s. sub_view s.now) ts))) }
+            (λ ts. rec_type (Rec (map (λ s. sub_view s.now) ts))) }
     {
         self.lender.end_with_list(&[0x4e], types)
     }
@@ -121,7 +121,7 @@ impl<'a, L: Lender> CoreTypeEncoder<'a, L> {
     /// The type or types of this tree.
     pub fn group<A: Allocator>(self, ty: &GroupTree<A>) -> Result<(), Fault>
         ensures { Ends L.written L.ended L.refuses self.entry.lender.now self.exit.0.now result
-            (standing self.entry.guard (group_view ty.now)) }
+            (standing self.entry.guard (rec_type_view ty.now)) }
     {
         let guard = self.guard;
         self.lender.end_with(&Guarded(guard, ty))

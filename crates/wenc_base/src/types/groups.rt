@@ -18,9 +18,9 @@ pub enum GroupTree<A: Allocator = Global> {
 }
 
 impl<A: Allocator> Encode for GroupTree<A> {
-    ghost use Rattle.wenc_base.specs.Composites.{group, group_view};
+    ghost use Rattle.wenc_base.specs.Composites.{rec_type, rec_type_view};
 
-    ghost piece = { λ g. group (group_view g) };
+    ghost piece = { λ g. rec_type (rec_type_view g) };
 
     fn encode<B: Allocator>(&self, sink: &mut Vec<u8, B>) -> Result<(), Fault> {
         match self {
@@ -31,14 +31,14 @@ impl<A: Allocator> Encode for GroupTree<A> {
 }
 
 impl<A: Allocator> Delimited for GroupTree<A> {
-    ghost use Rattle.wenc_base.specs.Composites.{Group, group, group_view};
+    ghost use Rattle.wenc_base.specs.Composites.{RecType, rec_type, rec_type_view};
     ghost use Rattle.wenc_base.specs.laws.Composites.{read_group, group_lawful};
 
-    ghost Seen = { Group };
+    ghost Seen = { RecType };
 
-    ghost seen = { group_view };
+    ghost seen = { rec_type_view };
 
-    ghost form = { group };
+    ghost form = { rec_type };
 
     ghost readable = { ((λ fuel. read_group), group_lawful) };
 

@@ -1,4 +1,4 @@
-ghost use Rattle.wenc_base.specs.Composites.{Single, standing, sub_view, group_view};
+ghost use Rattle.wenc_base.specs.Composites.{Single, standing, sub_view, rec_type_view};
 
 use super::{GroupTree, SubType};
 use crate::encode::{Encode, Tagged};
@@ -22,7 +22,7 @@ impl<'a, A: Allocator> Encode for Guarded<'a, SubType<A>> {
 }
 
 impl<'a, A: Allocator> Encode for Guarded<'a, GroupTree<A>> {
-    ghost piece = { λ g. standing g.0 (group_view g.1.now) };
+    ghost piece = { λ g. standing g.0 (rec_type_view g.1.now) };
 
     fn encode<B: Allocator>(&self, sink: &mut Vec<u8, B>) -> Result<(), Fault> {
         match self.1 {

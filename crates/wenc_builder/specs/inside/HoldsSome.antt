@@ -1,21 +1,21 @@
 -- What a builder stays through all calls.
 use Rattle.std.specs.Prelude.{◌≡◌, ℕ, List, Option, Some, None}
 use Rattle.wenc_base.specs.Fault.{NoCause}
-use Rattle.wenc_builder.specs.Builder.{namespace_at, namespace_with, entered, Content, Begun, State}
+use Rattle.wenc_builder.specs.Builder.{namespace_at, namespace_with, entered, Content, BegunItem, State}
 use Rattle.wenc_builder.specs.Builder.{settled_in}
 use Rattle.wenc_builder.specs.Cause.{SectionCause}
 use Rattle.wenc_builder.specs.Entry.{Entry}
 use Rattle.wenc_builder.specs.Holds.{Holds}
 
 -- an item that is being written takes one place more of its space, with a name or none
-abbrev pub IsPlaced : Content → Option Begun → Type 0
+abbrev pub IsPlaced : Content → Option BegunItem → Type 0
 IsPlaced c None = Unit {0}
 IsPlaced c (Some b) =
     ∥ ((name : Option (List ℕ)) ×
     (b.after ≡ namespace_with (namespace_at c.spaces b.space) 1 name)) ∥₁
 
 -- with the item that is being written, its section isn't too much
-abbrev pub HasRoomFor : Content → Option Begun → Type 0
+abbrev pub HasRoomFor : Content → Option BegunItem → Type 0
 HasRoomFor c None = Unit {0}
 HasRoomFor c (Some b) = NoCause (SectionCause (entered c.sections b.id b.text).current)
 

@@ -5,7 +5,7 @@
 use Rattle.std.specs.Prelude.{◌≡◌, ℕ, List, [], ◌∷◌, ◌++◌, ◌+◌, ◌-◌, ◌<◌, ◌≤◌, ◌^◌, length, take}
 use Rattle.std.specs.Prelude.{drop, Option, Some, None, is_none, false}
 use Rattle.wenc_base.specs.Number.{unsigned_text, number_size}
-use Rattle.wenc_base.specs.Holder.{Held, content_size}
+use Rattle.wenc_base.specs.Holder.{HolderState, content_size}
 use Rattle.wenc_base.specs.declared.holder.openings.Opening.{Opening}
 use Rattle.wenc_base.specs.Fault.{either, size_cause}
 use Rattle.wenc_base.specs.Forms.{byte_list}
@@ -141,7 +141,7 @@ abbrev pub earlier_view : List ℕ → Earlier → Option OpenSection
 earlier_view kept e = open_view e.kind e.count (drop (e.closed_len + 11) (take e.items_end kept))
 
 -- closed bytes, and the members; or the earlier section and one member
-abbrev pub buffer_view : Held → ℕ → Option Kind → Option Earlier → Buffered
+abbrev pub buffer_view : HolderState → ℕ → Option Kind → Option Earlier → Buffered
 buffer_view h closed_len kind None =
     member_view (take closed_len h.kept) kind h.count h.body h.opening
 buffer_view h closed_len kind (Some e) = record {
@@ -155,14 +155,14 @@ SectionIsIn None closed_len items_end = closed_len ≡ items_end
 SectionIsIn (Some k) closed_len items_end = closed_len + 11 ≤ items_end
 
 -- the kept bytes end with the gap, where there is a section; else there are no members
-abbrev pub MembersAreIn : Option Kind → ℕ → Held → Type 0
+abbrev pub MembersAreIn : Option Kind → ℕ → HolderState → Type 0
 MembersAreIn None closed_len h = (length h.kept ≡ closed_len) × (h.body ≡ []) × (h.opening ≡ None)
 MembersAreIn (Some k) closed_len h = length h.kept ≡ closed_len + 11
 
 -- a member that is being written is one of them
-abbrev pub OpeningIsIn : Option Opening → ℕ → ℕ → Type 0
-OpeningIsIn None count size = Unit {0}
-OpeningIsIn (Some o) count size = (o.member_start ≤ size) × (1 ≤ count)
+abbrev pub BegunIsIn : Option Opening → ℕ → ℕ → Type 0
+BegunIsIn None count size = Unit {0}
+BegunIsIn (Some o) count size = (o.member_start ≤ size) × (1 ≤ count)
 
 -- the section of an item that is written behind a gap is another one
 abbrev pub KindIsApart : Option Kind → Earlier → Type 0
@@ -170,7 +170,7 @@ KindIsApart None e = ⊥
 KindIsApart (Some k) e = OpensAnother (open_view e.kind e.count []) (kind_id k)
 
 -- an item behind a gap, and the earlier section before that
-pub record IsApart (h : Held) (kind : Option Kind) (e : Earlier) : Type 0 where
+pub record IsApart (h : HolderState) (kind : Option Kind) (e : Earlier) : Type 0 where
   pub first : h ≡ record {
     kept = h.kept;
     count = 1;
@@ -183,12 +183,12 @@ pub record IsApart (h : Held) (kind : Option Kind) (e : Earlier) : Type 0 where
   pub counted : number_size e.count < 2 ^ 32
   pub fits : SectionFits (earlier_view h.kept e)
 
-abbrev pub EarlierIsIn : Held → ℕ → Option Kind → Option Earlier → Type 0
+abbrev pub EarlierIsIn : HolderState → ℕ → Option Kind → Option Earlier → Type 0
 EarlierIsIn h closed_len kind None =
-    MembersAreIn kind closed_len h × OpeningIsIn h.opening h.count (length h.body)
+    MembersAreIn kind closed_len h × BegunIsIn h.opening h.count (length h.body)
 EarlierIsIn h closed_len kind (Some e) = IsApart h kind e
 
-pub record IsLaidOut (h : Held) (closed_len : ℕ) (kind : Option Kind)
+pub record IsLaidOut (h : HolderState) (closed_len : ℕ) (kind : Option Kind)
     (earlier : Option Earlier) : Type 0 where
   pub places : EarlierIsIn h closed_len kind earlier
 

@@ -1,7 +1,7 @@
--- The index spaces with the item that is being written in one of them, and what that was before.
+-- The index spaces with the item that is being written in one of them, and what that was spaces_before.
 use Rattle.std.specs.Prelude.{◌≡◌, ℕ, List, [], ◌<◌, ◌≤◌, ◌^◌, length, take, replicate, Option}
 use Rattle.std.specs.Prelude.{Some, None, slice_set}
-use Rattle.wenc_base.specs.Holder.{Held, holding, content_size}
+use Rattle.wenc_base.specs.Holder.{HolderState, holding, content_size}
 use Rattle.wenc_builder.specs.Builder.{Namespace, no_names, namespace_at, namespace_with}
 use Rattle.wenc_builder.specs.declared.builder.spaces.Undo.{Undo}
 
@@ -45,19 +45,19 @@ spaces_given_up s = record { settled = s.settled; taking = None }
 -- ---- what an item's space was
 
 -- a map of names that is finished, and not too large
-abbrev pub NamesFit : Held → Type 0
+abbrev pub NamesFit : HolderState → Type 0
 NamesFit h =
     (h ≡ holding [] h.count h.body) × (h.count < 2 ^ 32) ×
     (content_size h.count (length h.body) < 2 ^ 32)
 
 -- what the undo record says of a space with these names
-abbrev pub before : Undo → List ℕ → Namespace
-before u names = record { count = u.count; named = u.named; names = take u.len names }
+abbrev pub spaces_before : Undo → List ℕ → Namespace
+spaces_before u names = record { count = u.count; named = u.named; names = take u.len names }
 
 abbrev pub spaced_view : List Namespace → Option Undo → Spaced
 spaced_view spaces None = record { settled = spaces; taking = None }
 spaced_view spaces (Some u) = record {
-  settled = slice_set spaces u.space (before u (namespace_at spaces u.space).names);
+  settled = slice_set spaces u.space (spaces_before u (namespace_at spaces u.space).names);
   taking = Some (record { space = u.space; after = namespace_at spaces u.space });
 }
 

@@ -6,24 +6,24 @@ use Rattle.wenc_base.specs.Lender.{Extended}
 use Rattle.wenc_base.specs.Piece.{Piece}
 use Rattle.wenc_base.specs.declared.fault.Fault.{Fault}
 use Rattle.wenc_builder.specs.Builder.{State, settled_in, Content, stood_alone, spaces_with}
-use Rattle.wenc_builder.specs.Builder.{builder_is_finished, Draft, appended}
-use Rattle.wenc_builder.specs.Enters.{TakesWith, TakesPlaces, TakesDraft}
-use Rattle.wenc_builder.specs.Lent.{IsItemText, no_room}
-use Rattle.wenc_builder.specs.Space.{Defined}
+use Rattle.wenc_builder.specs.Builder.{builder_is_finished, Draft, item_appended}
+use Rattle.wenc_builder.specs.Enters.{TakesWith, TakesIndices, TakesDraft}
+use Rattle.wenc_builder.specs.Lent.{IsItemText, no_room_in_section}
+use Rattle.wenc_builder.specs.Space.{Indices}
 
 -- what stands alone, with its places and its name or none
-abbrev pub with_alone : Content → Option Defined → Option (List ℕ) → List ℕ → Content
+abbrev pub with_alone : Content → Option Indices → Option (List ℕ) → List ℕ → Content
 with_alone c places name text =
     record { sections = stood_alone c.sections text; spaces = spaces_with c.spaces places name }
 
 -- If it fits, this piece is such an item.
-abbrev pub IsItemPiece : Option ℕ → Option Defined → Piece → Type 0
+abbrev pub IsItemPiece : Option ℕ → Option Indices → Piece → Type 0
 IsItemPiece section places p = p.Fits → ∥ IsItemText section places p.text ∥₁
 
--- A call adds what stands alone, as `TakesPlaces` says.
-abbrev pub TakesAlone : State → State → Result ℕ Fault → Defined → Option (List ℕ) → Piece → Type 0
+-- A call adds what stands alone, as `TakesIndices` says.
+abbrev pub TakesAlone : State → State → Result ℕ Fault → Indices → Option (List ℕ) → Piece → Type 0
 TakesAlone old new result d name p =
-    TakesPlaces old new (settled_in (with_alone old.settled (Some d) name p.text)) result
+    TakesIndices old new (settled_in (with_alone old.settled (Some d) name p.text)) result
     (with_alone old.settled (Some d) name p.text) d p
 
 -- The same of what stands alone and has no place.
@@ -33,16 +33,16 @@ TakesNoPlace old new result p =
     (with_alone old.settled None None p.text) None p (λ r. Unit {0})
 
 -- A call appends a piece to the item that is being written, which is made of the values that an
--- iterator gives; where it is refused, it may have appended a part.
+-- iterator gives; where it is refused, it may have item_appended a part.
 pub record AppendsListed {S B : Type 0} (steps : S → Option B → S → Type 0) (values : S)
     (old new : State) (outcome : Result (Unit {0}) Fault) (piece : List B → Piece) : Type 0 where
   pub ok : OnOk outcome
-      (WholeRun steps values (λ run. Extended new (appended old) (no_room old) (piece run.items)))
+      (WholeRun steps values (λ run. Extended new (item_appended old) (no_room_in_section old) (piece run.items)))
   pub settled : OnErr outcome (new.settled ≡ old.settled)
   pub still : builder_is_finished new ≡ false
   pub warranted : IfErr outcome
       (λ fault. SomeRun steps values (λ run.
-      IsWarranted (either (piece run.items).Cause (no_room old (piece run.items).text)) fault))
+      IsWarranted (either (piece run.items).Cause (no_room_in_section old (piece run.items).text)) fault))
 
 -- The same of an item whose text is made of the values that an iterator gives.
 pub record TakesListed {S B : Type 0} (steps : S → Option B → S → Type 0) (values : S)

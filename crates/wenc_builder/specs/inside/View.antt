@@ -1,6 +1,6 @@
 -- A builder's state, by those of its buffer and its spaces.
 use Rattle.std.specs.Prelude.{Option, Some, None}
-use Rattle.wenc_builder.specs.Builder.{Begun, State}
+use Rattle.wenc_builder.specs.Builder.{BegunItem, State}
 use Rattle.wenc_builder.specs.inside.HoldsSome.{HoldsSome}
 use Rattle.wenc_builder.specs.inside.Layout.{Writing, Buffered}
 use Rattle.wenc_builder.specs.inside.Spaces.{Taking, Spaced}
@@ -12,7 +12,7 @@ Agree None (Some t) = ⊥
 Agree (Some w) None = ⊥
 Agree (Some w) (Some t) = Unit {0}
 
-abbrev pub begun_of : Option Writing → Option Taking → Option Begun
+abbrev pub begun_of : Option Writing → Option Taking → Option BegunItem
 begun_of None t = None
 begun_of (Some w) None = None
 begun_of (Some w) (Some t) =

@@ -5,10 +5,10 @@ use Rattle.std.proofs.lemmas.Bool.Decides.{eqb_tells}
 use Rattle.wenc_base.specs.Number.{number_size}
 use Rattle.wenc_base.specs.declared.fault.Fault.{Fault}
 use Rattle.wenc_base.specs.declared.fault.Fault.TheVariants.{Memory, TooMany, TooLarge, Unfinished}
-use Rattle.wenc_builder.specs.Builder.{OpenSection, entered, entered_at, Namespace, no_names, namespace_at, State, content_of, Draft, draft, draft_place, space_with, begun_with}
+use Rattle.wenc_builder.specs.Builder.{OpenSection, entered, entered_at, Namespace, no_names, namespace_at, State, content_of, Draft, draft, draft_indices, space_with, item_begun}
 use Rattle.wenc_builder.specs.Cause.{SectionCause, SpaceCause, PlaceCause, AddingCause, CallCause, NoRoom}
 use Rattle.wenc_base.specs.Fault.{either}
-use Rattle.wenc_builder.specs.Space.{Defined}
+use Rattle.wenc_builder.specs.Space.{Indices}
 
 -- ---- a section, a space
 
@@ -21,11 +21,11 @@ cause_is (Some o) TooLarge c = inr refl
 cause_is (Some o) Unfinished c = absurd c
 
 -- nothing is unfinished in what an item makes too much of
-place_never_unfinished : (space : ℕ → Namespace) (d : Option Defined) → PlaceCause space d Unfinished → ⊥
+place_never_unfinished : (space : ℕ → Namespace) (d : Option Indices) → PlaceCause space d Unfinished → ⊥
 place_never_unfinished space None c = c
 place_never_unfinished space (Some d) c = c
 
-pub adding_never_unfinished : (cause : Fault → Type 0) (space : ℕ → Namespace) (places : Option Defined) (current : Option OpenSection) → (cause Unfinished → ⊥) → AddingCause cause space places current Unfinished → ⊥
+pub adding_never_unfinished : (cause : Fault → Type 0) (space : ℕ → Namespace) (places : Option Indices) (current : Option OpenSection) → (cause Unfinished → ⊥) → AddingCause cause space places current Unfinished → ⊥
 adding_never_unfinished cause space places current own (inl c) = own c
 adding_never_unfinished cause space places current own (inr (inl c)) = place_never_unfinished space places c
 adding_never_unfinished cause space places current own (inr (inr c)) = elim (cause_is current Unfinished c) [ inl e ↦ cc | inr e ↦ cc ]
@@ -40,20 +40,20 @@ space_free s count named size Unfinished c = c
 
 -- ---- an item that is begun
 
-there : (old : State) (d : Draft) → length old.settled.spaces ≡ 13 → d.space < 13 → namespace_at (content_of (begun_with old d)).spaces d.space ≡ space_with old d
+there : (old : State) (d : Draft) → length old.settled.spaces ≡ 13 → d.space < 13 → namespace_at (content_of (item_begun old d)).spaces d.space ≡ space_with old d
 there old d h l = get_or-set_same old.settled.spaces d.space (space_with old d) no_names (omega arith)
 
 pub space_refuses : (old : State) (d : Draft) (cause : Fault → Type 0) → length old.settled.spaces ≡ 13 → d.space < 13
-    → (fault : Fault) → SpaceCause (space_with old d) fault → CallCause old cause (content_of (begun_with old d)) (Some (draft_place d)) fault
+    → (fault : Fault) → SpaceCause (space_with old d) fault → CallCause old cause (content_of (item_begun old d)) (Some (draft_indices d)) fault
 space_refuses old d cause h l fault c = inl (inr (inl (subst (λ (s : Namespace). SpaceCause s fault) (sym (there old d h l)) c)))
 
-pub section_refuses : (old : State) (d : Draft) (cause : Fault → Type 0) (fault : Fault) → SectionCause (entered old.settled.sections d.id d.text).current fault → CallCause old cause (content_of (begun_with old d)) (Some (draft_place d)) fault
+pub section_refuses : (old : State) (d : Draft) (cause : Fault → Type 0) (fault : Fault) → SectionCause (entered old.settled.sections d.id d.text).current fault → CallCause old cause (content_of (item_begun old d)) (Some (draft_indices d)) fault
 section_refuses old d cause fault c = inl (inr (inr c))
 
 -- where nothing is against its space nor its section, nothing is against it
 pub begun_free : (old : State) (d : Draft) → length old.settled.spaces ≡ 13 → d.space < 13 → old.begun ≡ None
     → ((fault : Fault) → SpaceCause (space_with old d) fault → ⊥) → ((fault : Fault) → SectionCause (entered old.settled.sections d.id d.text).current fault → ⊥)
-    → (fault : Fault) → CallCause old (λ _. ⊥) (content_of (begun_with old d)) (Some (draft_place d)) fault → ⊥
+    → (fault : Fault) → CallCause old (λ _. ⊥) (content_of (item_begun old d)) (Some (draft_indices d)) fault → ⊥
 begun_free old d h l none space section fault (inl (inl c)) = c
 begun_free old d h l none space section fault (inl (inr (inl c))) = space fault (subst (λ (s : Namespace). SpaceCause s fault) (there old d h l) c)
 begun_free old d h l none space section fault (inl (inr (inr c))) = section fault c
@@ -94,21 +94,21 @@ many_shrinks closed (Some o) id text c =
     ]
 
 pub beginning_refuses : (old : State) (id space : ℕ) (name : Option (List ℕ)) (text : List ℕ) (cause : Fault → Type 0) (fault : Fault)
-    → CallCause old (λ _. ⊥) (content_of (begun_with old (draft id space name []))) (Some (draft_place (draft id space name []))) fault → CallCause old cause (content_of (begun_with old (draft id space name text))) (Some (draft_place (draft id space name text))) fault
+    → CallCause old (λ _. ⊥) (content_of (item_begun old (draft id space name []))) (Some (draft_indices (draft id space name []))) fault → CallCause old cause (content_of (item_begun old (draft id space name text))) (Some (draft_indices (draft id space name text))) fault
 beginning_refuses old id space name text cause fault (inl (inl c)) = absurd c
 beginning_refuses old id space name text cause fault (inl (inr (inl c))) = inl (inr (inl c))
 beginning_refuses old id space name text cause fault (inl (inr (inr c))) = inl (inr (inr (section_grows old.settled.sections.closed old.settled.sections.current id [] text fault c)))
 beginning_refuses old id space name text cause fault (inr c) = inr c
 
-pub text_refuses : (old : State) (d : Draft) (cause : Fault → Type 0) (fault : Fault) → either cause (NoRoom (entered old.settled.sections d.id d.text).current) fault → CallCause old cause (content_of (begun_with old d)) (Some (draft_place d)) fault
+pub text_refuses : (old : State) (d : Draft) (cause : Fault → Type 0) (fault : Fault) → either cause (NoRoom (entered old.settled.sections d.id d.text).current) fault → CallCause old cause (content_of (item_begun old d)) (Some (draft_indices d)) fault
 text_refuses old d cause fault (inl c) = inl (inl c)
-text_refuses old d cause fault (inr c) = subst (λ (f : Fault). CallCause old cause (content_of (begun_with old d)) (Some (draft_place d)) f) (sym c.0) (inl (inr (inr c.1)))
+text_refuses old d cause fault (inr c) = subst (λ (f : Fault). CallCause old cause (content_of (item_begun old d)) (Some (draft_indices d)) f) (sym c.0) (inl (inr (inr c.1)))
 
 -- where nothing is against its beginning nor its text, nothing is against it
 pub whole_free : (old : State) (id space : ℕ) (name : Option (List ℕ)) (text : List ℕ) (cause : Fault → Type 0)
-    → ((fault : Fault) → CallCause old (λ _. ⊥) (content_of (begun_with old (draft id space name []))) (Some (draft_place (draft id space name []))) fault → ⊥)
+    → ((fault : Fault) → CallCause old (λ _. ⊥) (content_of (item_begun old (draft id space name []))) (Some (draft_indices (draft id space name []))) fault → ⊥)
     → ((fault : Fault) → either cause (NoRoom (entered old.settled.sections id text).current) fault → ⊥)
-    → (fault : Fault) → CallCause old cause (content_of (begun_with old (draft id space name text))) (Some (draft_place (draft id space name text))) fault → ⊥
+    → (fault : Fault) → CallCause old cause (content_of (item_begun old (draft id space name text))) (Some (draft_indices (draft id space name text))) fault → ⊥
 whole_free old id space name text cause beginning appending fault (inl (inl c)) = appending fault (inl c)
 whole_free old id space name text cause beginning appending fault (inl (inr (inl c))) = beginning fault (inl (inr (inl c)))
 whole_free old id space name text cause beginning appending fault (inl (inr (inr c))) =

@@ -13,7 +13,7 @@ use Rattle.wenc_builder.specs.Cause.{SectionCause}
 use Rattle.wenc_builder.specs.Holds.{open_of}
 use Rattle.wenc_builder.specs.Item.{Item, ModuleItem, CoreInstanceItem, CoreTypeItem, ComponentItem, InstanceItem, AliasItem, TypeItem, CanonItem, StartItem, ImportItem, ExportItem, CustomItem, RawItem, collected, item}
 use Rattle.wenc_builder.specs.Sections.{Section, Run, Alone, runs, collects, item_of, section_piece, sections}
-use Rattle.wenc_builder.specs.laws.Runs.{extended, pushed, pushed_some, open_skip, runs_push}
+use Rattle.wenc_builder.specs.laws.Runs.{runs_extended, pushed, pushed_some, open_skip, runs_push}
 
 -- these sections can be encoded
 abbrev pub SectionsFit : List Section → Type 0
@@ -59,7 +59,7 @@ all_push : {A : Type 0} (P : A → Type 0) (ys : List A) (x : A) → AllByRecurs
 all_push P [] x h p = (p, tt)
 all_push P (y ∷ ys) x h p = (h.0, all_push P ys x h.1 p)
 
-fits_extended : (o : Option ℕ) (p : Section) (x : Item) → collected x ≡ o → (section_piece p).Fits → (item x).Fits → HasRoom (open_of (extended o p x)) → SectionsFit (extended o p x)
+fits_extended : (o : Option ℕ) (p : Section) (x : Item) → collected x ≡ o → (section_piece p).Fits → (item x).Fits → HasRoom (open_of (runs_extended o p x)) → SectionsFit (runs_extended o p x)
 fits_extended None p x e fit one room = (fit, ((e, one), tt))
 fits_extended (Some id) (Alone y) x e fit one room = (fit, (one_fits id x e one room, tt))
 fits_extended (Some id) (Run other ys) x e fit one room =

@@ -4,29 +4,29 @@ use Rattle.std.proofs.Math.Logic.{∥∥₁_map, ∥∥₁_elim, ∥∥₁_prop}
 use Rattle.std.proofs.lemmas.Bool.Decides.{eqb_tells}
 use Rattle.wenc_base.specs.Fault.{NoCause}
 use Rattle.wenc_base.specs.declared.fault.Fault.TheVariants.{Memory, TooMany, TooLarge, Unfinished}
-use Rattle.wenc_builder.specs.Builder.{OpenSection, entered, entered_at, Begun, Content, State, settled_in, builder_is_finished, with_entry, content_with, content_of, Draft, begun_with, longer, appended, ended, builder_given_up}
+use Rattle.wenc_builder.specs.Builder.{OpenSection, entered, entered_at, BegunItem, Content, State, settled_in, builder_is_finished, with_entry, content_with, content_of, Draft, item_begun, begun_appended, item_appended, item_ended, item_given_up}
 use Rattle.wenc_builder.specs.inside.Takes.{with_alone}
 use Rattle.wenc_builder.specs.Entry.{Entry, entry}
 use Rattle.wenc_builder.specs.Holds.{Holds}
 use Rattle.wenc_builder.specs.Item.{item}
 use Rattle.wenc_builder.specs.Cause.{NoRoom}
 use Rattle.wenc_builder.specs.Lent.{IsItemText, IsWhole, is_whole}
-use Rattle.wenc_builder.specs.Space.{Defined}
+use Rattle.wenc_builder.specs.Space.{Indices}
 use Rattle.wenc_builder.specs.inside.HoldsSome.{IsPlaced, HasRoomFor, HoldsSome}
 use Rattle.wenc_builder.specs.laws.Fits.{HasRoom}
 use Rattle.wenc_builder.specs.laws.Step.{holds_step}
 
-abbrev Settled : Content → Type 0
-Settled c = ∥ ((es : List Entry) × Holds (settled_in c) es) ∥₁
+abbrev SettledIs : Content → Type 0
+SettledIs c = ∥ ((es : List Entry) × Holds (settled_in c) es) ∥₁
 
 -- what holds a list holds some
 pub some_of : (c : Content) (es : List Entry) → Holds (settled_in c) es → HoldsSome (settled_in c)
 some_of c es h = record { settled = ∣ (es, h) ∣₁; placed = tt; room = tt }
 
-some_more : (c : Content) (x : Entry) → (item x.item).Fits → HasRoom (with_entry c x).sections.current → Settled c → Settled (with_entry c x)
+some_more : (c : Content) (x : Entry) → (item x.item).Fits → HasRoom (with_entry c x).sections.current → SettledIs c → SettledIs (with_entry c x)
 some_more c x fits room s = ∥∥₁_map s (λ h. (h.0 ++ x ∷ [], holds_step (settled_in c) h.0 x fits room h.1))
 
-finished_at : (c : Content) (b : Option Begun) → is_none b ≡ true → Settled c → ∥ ((es : List Entry) × Holds (record { settled = c; begun = b }) es) ∥₁
+finished_at : (c : Content) (b : Option BegunItem) → is_none b ≡ true → SettledIs c → ∥ ((es : List Entry) × Holds (record { settled = c; begun = b }) es) ∥₁
 finished_at c None e s = s
 finished_at c (Some b) e s = cc
 
@@ -35,14 +35,14 @@ pub holds_some : (s : State) → builder_is_finished s ≡ true → HoldsSome s 
 holds_some s finished h = finished_at s.settled s.begun finished h.settled
 
 -- an item is begun, in a section that isn't too much
-pub some_begun : (s : State) (d : Draft) → HasRoom (entered s.settled.sections d.id d.text).current → HoldsSome s → HoldsSome (begun_with s d)
+pub some_begun : (s : State) (d : Draft) → HasRoom (entered s.settled.sections d.id d.text).current → HoldsSome s → HoldsSome (item_begun s d)
 some_begun s d room h = record { settled = h.settled; placed = ∣ (d.name, refl) ∣₁; room = room }
 
-placed_longer : (c : Content) (b : Option Begun) (text : List ℕ) → IsPlaced c b → IsPlaced c (longer b text)
+placed_longer : (c : Content) (b : Option BegunItem) (text : List ℕ) → IsPlaced c b → IsPlaced c (begun_appended b text)
 placed_longer c None text p = tt
 placed_longer c (Some b) text p = p
 
--- a section with a longer text has as many items
+-- a section with a begun_appended text has as many items
 longer_room_at : (id count : ℕ) (body longer_body : List ℕ) → HasRoom (Some (record { id = id; count = count; body = body }))
     → NoCause (NoRoom (Some (record { id = id; count = count; body = longer_body }))) → HasRoom (Some (record { id = id; count = count; body = longer_body }))
 longer_room_at id count body longer_body room large (Memory e) c = c
@@ -59,48 +59,48 @@ longer_room closed (Some o) id text more room large =
       | inr t ↦ let room' = rw t.0 at room in let large' = rw t.0 at large in rw t.0 (longer_room_at id 1 text more room' large')
     ]
 
-room_longer : (c : Content) (b : Option Begun) (text : List ℕ) → HasRoomFor c b → NoCause (NoRoom (content_with c (longer b text)).sections.current) → HasRoomFor c (longer b text)
+room_longer : (c : Content) (b : Option BegunItem) (text : List ℕ) → HasRoomFor c b → NoCause (NoRoom (content_with c (begun_appended b text)).sections.current) → HasRoomFor c (begun_appended b text)
 room_longer c None text room large = tt
 room_longer c (Some b) text room large = longer_room c.sections.closed c.sections.current b.id b.text (b.text ++ text) room large
 
 -- more of it is written, for which there is room
-pub some_appended : (s : State) (text : List ℕ) → NoCause (NoRoom (content_of (appended s text)).sections.current) → HoldsSome s → HoldsSome (appended s text)
+pub some_appended : (s : State) (text : List ℕ) → NoCause (NoRoom (content_of (item_appended s text)).sections.current) → HoldsSome s → HoldsSome (item_appended s text)
 some_appended s text large h = record {
   settled = h.settled;
   placed = placed_longer s.settled s.begun text h.placed;
   room = room_longer s.settled s.begun text h.room large;
 }
 
-ended_at : (c : Content) (b : Option Begun) → Settled c → IsPlaced c b → HasRoomFor c b → ∥ IsWhole b ∥₁ → Settled (content_with c b)
+ended_at : (c : Content) (b : Option BegunItem) → SettledIs c → IsPlaced c b → HasRoomFor c b → ∥ IsWhole b ∥₁ → SettledIs (content_with c b)
 ended_at c None s p room whole = s
 ended_at c (Some b) s p room whole = ∥∥₁_elim whole ∥∥₁_prop (λ w. ∥∥₁_elim p ∥∥₁_prop (λ n.
     let one : with_entry c (entry w.value n.0) ≡ content_with c (Some b) = rw (w.collects, w.takes, ← w.is, ← n.1) refl in
     let room' = subst (λ (k : Content). HasRoom k.sections.current) (sym one) room in
-    subst Settled one (some_more c (entry w.value n.0) w.fits room' s)))
+    subst SettledIs one (some_more c (entry w.value n.0) w.fits room' s)))
 
 -- what is whole is being written
 pub whole_is_begun : (s : State) → ∥ is_whole s ∥₁ → builder_is_finished s ≡ false
 whole_is_begun s whole = at s.begun whole
   where
-    at : (b : Option Begun) → ∥ IsWhole b ∥₁ → is_none b ≡ false
+    at : (b : Option BegunItem) → ∥ IsWhole b ∥₁ → is_none b ≡ false
     at None w = absurd (∥∥₁_elim w (λ a b. absurd a) (λ n. n))
     at (Some b) w = refl
 
--- it is ended, whole
-pub some_ended : (s : State) → ∥ is_whole s ∥₁ → HoldsSome s → HoldsSome (ended s)
+-- it is item_ended, whole
+pub some_ended : (s : State) → ∥ is_whole s ∥₁ → HoldsSome s → HoldsSome (item_ended s)
 some_ended s whole h = record { settled = ended_at s.settled s.begun h.settled h.placed h.room whole; placed = tt; room = tt }
 
 -- or it is given up
-pub some_given_up : (s : State) → HoldsSome s → HoldsSome (builder_given_up s)
+pub some_given_up : (s : State) → HoldsSome s → HoldsSome (item_given_up s)
 some_given_up s h = record { settled = h.settled; placed = tt; room = tt }
 
 -- what stands alone is added
-pub some_alone : (s : State) (places : Option Defined) (name : Option (List ℕ)) (text : List ℕ) → ∥ IsItemText None places text ∥₁ → HoldsSome s → HoldsSome (settled_in (with_alone s.settled places name text))
+pub some_alone : (s : State) (places : Option Indices) (name : Option (List ℕ)) (text : List ℕ) → ∥ IsItemText None places text ∥₁ → HoldsSome s → HoldsSome (settled_in (with_alone s.settled places name text))
 some_alone s places name text whole h = record {
   settled = ∥∥₁_elim whole ∥∥₁_prop (λ w.
       let one : with_entry s.settled (entry w.value name) ≡ with_alone s.settled places name text = rw (w.collects, w.takes, ← w.is) refl in
       let room = subst (λ (k : Content). HasRoom k.sections.current) (sym one) (λ fault c. c) in
-      subst Settled one (some_more s.settled (entry w.value name) w.fits room h.settled));
+      subst SettledIs one (some_more s.settled (entry w.value name) w.fits room h.settled));
   placed = tt;
   room = tt;
 }

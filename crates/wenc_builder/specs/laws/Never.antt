@@ -5,7 +5,7 @@ use Rattle.wenc_base.specs.laws.Sections.{custom_lawful}
 use Rattle.wenc_builder.specs.Item.{Item, ModuleItem, CoreInstanceItem, CoreTypeItem, ComponentItem, InstanceItem, AliasItem, TypeItem, CanonItem, StartItem, ImportItem, ExportItem, CustomItem, RawItem, item}
 use Rattle.wenc_canon.specs.laws.Canonicals.{canonical_lawful}
 use Rattle.wenc_parts.specs.laws.Aliases.{alias_lawful}
-use Rattle.wenc_sections.specs.laws.Items.{import_lawful, export_lawful, core_instance_lawful, instance_lawful, start_lawful}
+use Rattle.wenc_sections.specs.laws.Items.{import_lawful, inline_export_lawful, core_instance_lawful, instance_lawful, start_lawful}
 use Rattle.wenc_types.specs.laws.ComponentTypes.{type_lawful}
 use Rattle.wenc_types.specs.laws.CoreTypes.{core_type_lawful}
 
@@ -20,6 +20,6 @@ never_unfinished (TypeItem t) = (type_lawful t).never
 never_unfinished (CanonItem f) = (canonical_lawful f).never
 never_unfinished (StartItem s) = (start_lawful s).never
 never_unfinished (ImportItem i) = (import_lawful i).never
-never_unfinished (ExportItem e) = (export_lawful e).never
+never_unfinished (ExportItem e) = (inline_export_lawful e).never
 never_unfinished (CustomItem c) = (custom_lawful c).never
 never_unfinished (RawItem bytes) = λ c. c

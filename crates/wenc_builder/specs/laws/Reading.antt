@@ -6,7 +6,7 @@ use Rattle.std.specs.List.{flat_map}
 use Rattle.std.specs.Prelude.{IsTrue}
 use Rattle.wenc_base.specs.Piece.{Piece, Spelling, Strict, only_where, ReadsEach}
 use Rattle.wenc_base.specs.laws.Forms.{read_byte_list, byte_list_lawful, read_counted, counted_lawful}
-use Rattle.wenc_base.specs.laws.Lawful.{Lawful, LawfulWhole, Reader, go_on, ◌>>=◌, give, nowhere, pick, choose, row, row_byte, IsPast, Starts, past, last, only_where_lawful, then_whole, made, last_whole, to_end, at_end, before_end, deeper_whole, whole_once}
+use Rattle.wenc_base.specs.laws.Lawful.{Lawful, LawfulWhole, Reader, go_on, ◌>>=◌, give, nowhere, pick, choose, alternative, row_byte, IsPast, Starts, past, last, only_where_lawful, then_whole, made, last_whole, to_end, at_end, before_end, deeper_whole, whole_once}
 use Rattle.wenc_base.specs.laws.Sections.{read_custom, custom_lawful}
 use Rattle.wenc_builder.specs.Item.{Item, ModuleItem, CoreInstanceItem, CoreTypeItem, ComponentItem, InstanceItem, AliasItem, TypeItem, CanonItem, StartItem, ImportItem, ExportItem, CustomItem, RawItem, collected, item}
 use Rattle.wenc_base.specs.declared.fault.Fault.TheVariants.{Unfinished}
@@ -14,7 +14,7 @@ use Rattle.wenc_builder.specs.laws.Never.{never_unfinished}
 use Rattle.wenc_builder.specs.Sections.{Section, Run, Alone, members, joined, runs, collects, item_of, section_piece, sections, component, preamble, Reading, whole}
 use Rattle.wenc_canon.specs.laws.Canonicals.{read_canonical, canonical_lawful}
 use Rattle.wenc_parts.specs.laws.Aliases.{read_alias, alias_lawful}
-use Rattle.wenc_sections.specs.laws.Items.{read_import, import_lawful, read_export, export_lawful, read_core_instance, core_instance_lawful, read_instance, instance_lawful, read_start, start_lawful}
+use Rattle.wenc_sections.specs.laws.Items.{read_import, import_lawful, read_inline_export, inline_export_lawful, read_core_instance, core_instance_lawful, read_instance, instance_lawful, read_start, start_lawful}
 use Rattle.wenc_types.specs.laws.ComponentTypes.{read_type, type_lawful}
 use Rattle.wenc_types.specs.laws.CoreTypes.{read_core_type, core_type_lawful}
 use Rattle.wenc_builder.specs.Raw.{IsNoRaw, HasNoRaw, SectionsHaveNoRaw, AreEncodable, IsEncodable}
@@ -43,7 +43,7 @@ item_rows fuel =
     (7, read_type fuel >>= λ t. give (TypeItem t)) ∷
     (8, read_canonical >>= λ f. give (CanonItem f)) ∷
     (10, read_import >>= λ i. give (ImportItem i)) ∷
-    (11, read_export >>= λ e. give (ExportItem e)) ∷ []
+    (11, read_inline_export >>= λ e. give (ExportItem e)) ∷ []
 
 -- an item, by the id of its section
 read_item : ℕ → ℕ → Reader Item
@@ -59,7 +59,7 @@ collected_lawful (AliasItem to) id e = rw (← same_Some 6 id e) (last AliasItem
 collected_lawful (TypeItem t) id e = rw (← same_Some 7 id e) (last TypeItem (type_lawful t))
 collected_lawful (CanonItem f) id e = rw (← same_Some 8 id e) (last CanonItem (canonical_lawful f))
 collected_lawful (ImportItem i) id e = rw (← same_Some 10 id e) (last ImportItem (import_lawful i))
-collected_lawful (ExportItem x) id e = rw (← same_Some 11 id e) (last ExportItem (export_lawful x))
+collected_lawful (ExportItem x) id e = rw (← same_Some 11 id e) (last ExportItem (inline_export_lawful x))
 collected_lawful other id e = absurd cc
 
 -- whether it is this id
@@ -87,8 +87,8 @@ read_run fuel [] = None
 read_run fuel (id ∷ bytes) = (read_counted (read_item id fuel) >>= λ xs. give (Run id xs)) bytes
 
 -- a section, by its id
-abbrev read_section : ℕ → Reader Section
-read_section fuel = choose alone_rows (choose [] (read_run fuel))
+abbrev read_section_piece : ℕ → Reader Section
+read_section_piece fuel = choose alone_rows (choose [] (read_run fuel))
 
 -- a section that collects has no id of those that stand alone
 is_past : (id : ℕ) → IsTrue (collects id) → IsPast alone_rows id
@@ -102,36 +102,36 @@ run_starts : (id : ℕ) (xs : List Item) → Starts (section_piece (Run id xs)) 
 run_starts id xs = record { starts = λ mode bytes rest r. (id, r.1.0, r.1.1, is_past id r.0) }
 
 -- a section without a raw item has all laws
-section_lawful : (s : Section) → HasNoRaw (members s) → Lawful (section_piece s) read_section s
-section_lawful (Run id xs) h =
-    past _ _ (λ fuel. run_starts id xs) (only_where_lawful _ (row (λ fuel. []) read_run id (last (Run id) (counted_lawful (item_of_lawful id) xs))))
-section_lawful (Alone (CustomItem c)) h = only_where_lawful _ (row _ _ 0 (last (λ x. Alone (CustomItem x)) (custom_lawful c)))
-section_lawful (Alone (ModuleItem bs)) h = only_where_lawful _ (row _ _ 1 (last (λ x. Alone (ModuleItem x)) (byte_list_lawful bs)))
-section_lawful (Alone (ComponentItem bs)) h = only_where_lawful _ (row _ _ 4 (last (λ x. Alone (ComponentItem x)) (byte_list_lawful bs)))
-section_lawful (Alone (StartItem s)) h = only_where_lawful _ (row _ _ 9 (last (λ x. Alone (StartItem x)) (start_lawful s)))
-section_lawful (Alone (RawItem bs)) h = absurd h.0
-section_lawful (Alone other) h = vacuous (never_unfinished other) (λ e. cc)
+section_piece_lawful : (s : Section) → HasNoRaw (members s) → Lawful (section_piece s) read_section_piece s
+section_piece_lawful (Run id xs) h =
+    past _ _ (λ fuel. run_starts id xs) (only_where_lawful _ (alternative (λ fuel. []) read_run id (last (Run id) (counted_lawful (item_of_lawful id) xs))))
+section_piece_lawful (Alone (CustomItem c)) h = only_where_lawful _ (alternative _ _ 0 (last (λ x. Alone (CustomItem x)) (custom_lawful c)))
+section_piece_lawful (Alone (ModuleItem bs)) h = only_where_lawful _ (alternative _ _ 1 (last (λ x. Alone (ModuleItem x)) (byte_list_lawful bs)))
+section_piece_lawful (Alone (ComponentItem bs)) h = only_where_lawful _ (alternative _ _ 4 (last (λ x. Alone (ComponentItem x)) (byte_list_lawful bs)))
+section_piece_lawful (Alone (StartItem s)) h = only_where_lawful _ (alternative _ _ 9 (last (λ x. Alone (StartItem x)) (start_lawful s)))
+section_piece_lawful (Alone (RawItem bs)) h = absurd h.0
+section_piece_lawful (Alone other) h = vacuous (never_unfinished other) (λ e. cc)
 
 -- ---- components
 
 -- a section in front of those that are read next
-abbrev before : (List ℕ → Option (List Section)) → Section → List ℕ → Option (List Section)
-before read s rest = made (λ (ss : List Section). s ∷ ss) (read rest)
+abbrev sections_before : (List ℕ → Option (List Section)) → Section → List ℕ → Option (List Section)
+sections_before read s rest = made (λ (ss : List Section). s ∷ ss) (read rest)
 
 -- sections up to the end
 abbrev read_sections : ℕ → List ℕ → Option (List Section)
 read_sections zero bytes = None
-read_sections (suc fuel) bytes = to_end [] (read_section fuel) (before (read_sections fuel)) bytes
+read_sections (suc fuel) bytes = to_end [] (read_section_piece fuel) (sections_before (read_sections fuel)) bytes
 
 -- no section is without a byte
-nothing_left : (fuel : ℕ) → read_section fuel [] ≡ None
+nothing_left : (fuel : ℕ) → read_section_piece fuel [] ≡ None
 unfolding choose
 nothing_left fuel = refl
 
 sections_lawful : (ss : List Section) → SectionsHaveNoRaw ss → LawfulWhole (sections ss) read_sections ss
-sections_lawful [] h = deeper_whole (at_end [] read_section (λ fuel. before (read_sections fuel)))
+sections_lawful [] h = deeper_whole (at_end [] read_section_piece (λ fuel. sections_before (read_sections fuel)))
 sections_lawful (s ∷ ss) h =
-    deeper_whole (before_end [] read_section (λ fuel. before (read_sections fuel)) nothing_left (section_lawful s h.0) (last_whole (λ (ts : List Section). s ∷ ts) (sections_lawful ss h.1)))
+    deeper_whole (before_end [] read_section_piece (λ fuel. sections_before (read_sections fuel)) nothing_left (section_piece_lawful s h.0) (last_whole (λ (ts : List Section). s ∷ ts) (sections_lawful ss h.1)))
 
 -- this byte, then what is read behind it
 abbrev only : {A : Type 0} → ℕ → Reader A → Reader A
@@ -141,7 +141,7 @@ abbrev read_preamble : Reader (Unit {0})
 read_preamble = only 0x00 (only 0x61 (only 0x73 (only 0x6d (only 0x0d (only 0x00 (only 0x01 (only 0x00 (give tt))))))))
 
 preamble_lawful : Lawful preamble (λ fuel. read_preamble) tt
-preamble_lawful = row _ _ 0x00 (row _ _ 0x61 (row _ _ 0x73 (row _ _ 0x6d (row _ _ 0x0d (row _ _ 0x00 (row _ _ 0x01 (row_byte _ _ 0x00 (λ fuel rest. refl))))))))
+preamble_lawful = alternative _ _ 0x00 (alternative _ _ 0x61 (alternative _ _ 0x73 (alternative _ _ 0x6d (alternative _ _ 0x0d (alternative _ _ 0x00 (alternative _ _ 0x01 (row_byte _ _ 0x00 (λ fuel rest. refl))))))))
 
 abbrev read_component : ℕ → List ℕ → Option (List Section)
 read_component fuel bytes = go_on (read_preamble bytes) (λ u rest. read_sections fuel rest)

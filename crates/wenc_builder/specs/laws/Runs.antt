@@ -28,20 +28,20 @@ same_texts : (ss : List Section) → (sections ss).text ≡ flat_map piece_text 
 same_texts [] = refl
 same_texts (s ∷ ss) = rw (same_text s, same_texts ss) refl
 
--- an item put behind a last piece
-abbrev pub extended : Option ℕ → Section → Item → List Section
-extended None p x = p ∷ Alone x ∷ []
-extended (Some id) (Alone y) x = Alone y ∷ Run id (x ∷ []) ∷ []
-extended (Some id) (Run other ys) x = cond (eqb other id) (Run other (ys ++ x ∷ []) ∷ []) (Run other ys ∷ Run id (x ∷ []) ∷ [])
+-- an item put runs_behind a last piece
+abbrev pub runs_extended : Option ℕ → Section → Item → List Section
+runs_extended None p x = p ∷ Alone x ∷ []
+runs_extended (Some id) (Alone y) x = Alone y ∷ Run id (x ∷ []) ∷ []
+runs_extended (Some id) (Run other ys) x = cond (eqb other id) (Run other (ys ++ x ∷ []) ∷ []) (Run other ys ∷ Run id (x ∷ []) ∷ [])
 
--- and behind pieces
+-- and runs_behind pieces
 abbrev pub pushed : Option ℕ → List Section → Item → List Section
 pushed o [] x = joined o x []
-pushed o (p ∷ []) x = extended o p x
+pushed o (p ∷ []) x = runs_extended o p x
 pushed o (p ∷ q ∷ ps) x = p ∷ pushed o (q ∷ ps) x
 
--- putting an item in front and one behind
-around_one : (m o : Option ℕ) (y x : Item) (p : Section) → joined m y (extended o p x) ≡ pushed o (joined m y (p ∷ [])) x
+-- putting an item in front and one runs_behind
+around_one : (m o : Option ℕ) (y x : Item) (p : Section) → joined m y (runs_extended o p x) ≡ pushed o (joined m y (p ∷ [])) x
 around_one None None y x p = refl
 around_one None (Some id) y x p = refl
 around_one (Some k) None y x (Alone z) = refl
@@ -95,8 +95,8 @@ pub record Hold (front : List ℕ) (s : Sections) (ps : List Section) : Type 0 w
 one_text : (t : List ℕ) → t ++ [] ≡ t
 one_text t = append-nil t
 
-behind : (all front piece t : List ℕ) → all ≡ front ++ (piece ++ []) → (all ++ t) ++ [] ≡ front ++ (piece ++ (t ++ []))
-behind all front piece t h = rw h (simp (append_assoc, append-nil))
+runs_behind : (all front piece t : List ℕ) → all ≡ front ++ (piece ++ []) → (all ++ t) ++ [] ≡ front ++ (piece ++ (t ++ []))
+runs_behind all front piece t h = rw h (simp (append_assoc, append-nil))
 
 new_behind : (all front piece s : List ℕ) → all ≡ front ++ (piece ++ []) → all ++ s ≡ front ++ (piece ++ (s ++ []))
 new_behind all front piece s h = rw h (simp (append_assoc, append-nil))
@@ -116,8 +116,8 @@ one_open id x = rw (append-nil (item_text x)) refl
 
 hold_one : (o : Option ℕ) (front closed : List ℕ) (p : Section) (x : Item) → closed ++ open_text (open_of (p ∷ [])) ≡ front ++ texts (p ∷ [])
     → Hold front (with_item_at o (record { closed = closed; current = open_of (p ∷ []) }) (item_text x)) (pushed o (p ∷ []) x)
-hold_one None front closed (Alone y) x h = record { bytes = behind (closed ++ []) front (item_text y) (item_text x) h; last = refl }
-hold_one None front closed (Run l ys) x h = record { bytes = behind (closed ++ run_text l (length ys) (flat_map item_text ys)) front (run_text l (length ys) (flat_map item_text ys)) (item_text x) h; last = refl }
+hold_one None front closed (Alone y) x h = record { bytes = runs_behind (closed ++ []) front (item_text y) (item_text x) h; last = refl }
+hold_one None front closed (Run l ys) x h = record { bytes = runs_behind (closed ++ run_text l (length ys) (flat_map item_text ys)) front (run_text l (length ys) (flat_map item_text ys)) (item_text x) h; last = refl }
 hold_one (Some id) front closed (Alone y) x h =
     record { bytes = rw (append-nil (item_text x)) (new_behind closed front (item_text y) (run_text id 1 (item_text x)) (sym (append-nil closed) ∙ h)); last = one_open id x }
 hold_one (Some id) front closed (Run l ys) x h =

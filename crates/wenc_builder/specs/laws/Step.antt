@@ -8,10 +8,10 @@ use Rattle.wenc_parts.specs.Imports.{kind_of}
 use Rattle.wenc_builder.specs.Item.{Item, ModuleItem, CoreInstanceItem, CoreTypeItem, ComponentItem, InstanceItem, AliasItem, TypeItem, CanonItem, StartItem, ImportItem, ExportItem, CustomItem, RawItem, item}
 use Rattle.wenc_builder.specs.Sections.{preamble, runs}
 use Rattle.wenc_builder.specs.laws.Fits.{SectionsFit, HasRoom, sections_fit_more}
-use Rattle.wenc_builder.specs.Space.{space_number, canonical_space, alias_space, kind_space, some_in, Defined, defines, defined_in, place}
+use Rattle.wenc_builder.specs.Space.{space_number, canonical_space, alias_space, kind_space, some_in, Indices, defines, defined_in, next_index}
 use Rattle.wenc_builder.specs.declared.builder.space.Space.{Space}
 use Rattle.wenc_builder.specs.declared.builder.space.Space.TheVariants.{CoreModules, CoreFuncs, CoreTypes, CoreMemories, CoreTables, CoreInstances, CoreTags, CoreGlobals, Funcs, Instances, Values, Components, Types}
-use Rattle.wenc_base.specs.Names.{Named, named, names_text}
+use Rattle.wenc_base.specs.Names.{NameAssociation, name_association, names_text}
 use Rattle.wenc_builder.specs.Entry.{Entry, items, named_as, named_in, names_from, names}
 use Rattle.wenc_builder.specs.Builder.{Namespace, no_names, namespace_at, namespace_with, spaces_with, with_entry, State, step, settled_in}
 use Rattle.wenc_builder.specs.Holds.{open_of, SectionsHold, namespace_of, SpacesHold, Holds}
@@ -21,42 +21,42 @@ pub items_push : (es : List Entry) (x : Entry) → items (es ++ x ∷ []) ≡ it
 items_push [] x = refl
 items_push (e ∷ es) x = ap (λ (r : List Item). e.item ∷ r) (items_push es x)
 
-place_push : (k : ℕ) (es : List Entry) (x : Entry) → place (items (es ++ x ∷ [])) k ≡ place (items es) k + defined_in k x.item
+place_push : (k : ℕ) (es : List Entry) (x : Entry) → next_index (items (es ++ x ∷ [])) k ≡ next_index (items es) k + defined_in k x.item
 place_push k [] x = omega arith
 place_push k (e ∷ es) x = omega (arith, place_push k es x)
 
-names_push : (k n : ℕ) (es : List Entry) (x : Entry) → names_from k n (es ++ x ∷ []) ≡ names_from k n es ++ named_in k (defines x.item) (n + place (items es) k) x.name
+names_push : (k n : ℕ) (es : List Entry) (x : Entry) → names_from k n (es ++ x ∷ []) ≡ names_from k n es ++ named_in k (defines x.item) (n + next_index (items es) k) x.name
 names_push k n [] x = rw (add-zero n) (append-nil (named_in k (defines x.item) n x.name))
 names_push k n (e ∷ es) x =
-    rw (names_push k (n + defined_in k e.item) es x, add_assoc n (defined_in k e.item) (place (items es) k))
-    (sym (append_assoc (named_in k (defines e.item) n e.name) (names_from k (n + defined_in k e.item) es) (named_in k (defines x.item) (n + (defined_in k e.item + place (items es) k)) x.name)))
+    rw (names_push k (n + defined_in k e.item) es x, add_assoc n (defined_in k e.item) (next_index (items es) k))
+    (sym (append_assoc (named_in k (defines e.item) n e.name) (names_from k (n + defined_in k e.item) es) (named_in k (defines x.item) (n + (defined_in k e.item + next_index (items es) k)) x.name)))
 
-texts_push : (ns : List Named) (n : Named) → names_text (ns ++ n ∷ []) ≡ names_text ns ++ (named n).text
-texts_push [] n = append-nil (named n).text
-texts_push (m ∷ ns) n = rw (texts_push ns n) (sym (append_assoc (named m).text (names_text ns) (named n).text))
+texts_push : (ns : List NameAssociation) (n : NameAssociation) → names_text (ns ++ n ∷ []) ≡ names_text ns ++ (name_association n).text
+texts_push [] n = append-nil (name_association n).text
+texts_push (m ∷ ns) n = rw (texts_push ns n) (sym (append_assoc (name_association m).text (names_text ns) (name_association n).text))
 
-with_its_name : (ns : List Named) (n number : ℕ) (name : Option (List ℕ))
-    → record { count = n + number; named = length (ns ++ named_as n name); names = names_text (ns ++ named_as n name) }
-    ≡ namespace_with (record { count = n; named = length ns; names = names_text ns }) number name
+with_its_name : (ns : List NameAssociation) (n number : ℕ) (name : Option (List ℕ))
+    → record { count = n + number; name_association = length (ns ++ named_as n name); names = names_text (ns ++ named_as n name) }
+    ≡ namespace_with (record { count = n; name_association = length ns; names = names_text ns }) number name
 with_its_name ns n number None = rw (append-nil ns) refl
-with_its_name ns n number (Some name) = rw (length-append ns (record { place = n; name = name } ∷ []), texts_push ns (record { place = n; name = name })) refl
+with_its_name ns n number (Some name) = rw (length-append ns (record { next_index = n; name = name } ∷ []), texts_push ns (record { next_index = n; name = name })) refl
 
-in_its_space : (k : ℕ) (es : List Entry) (x : Entry) (d : Defined) → defines x.item ≡ Some d → d.space ≡ k → namespace_of (es ++ x ∷ []) k ≡ namespace_with (namespace_of es k) d.number x.name
+in_its_space : (k : ℕ) (es : List Entry) (x : Entry) (d : Indices) → defines x.item ≡ Some d → d.space ≡ k → namespace_of (es ++ x ∷ []) k ≡ namespace_with (namespace_of es k) d.number x.name
 in_its_space k es x d w e =
-    rw (place_push k es x, names_push k 0 es x, w, eq-eqb d.space k e, zero-add (place (items es) k)) (with_its_name (names es k) (place (items es) k) d.number x.name)
+    rw (place_push k es x, names_push k 0 es x, w, eq-eqb d.space k e, zero-add (next_index (items es) k)) (with_its_name (names es k) (next_index (items es) k) d.number x.name)
 
 nothing_more : (k : ℕ) (es : List Entry) (x : Entry) → defined_in k x.item ≡ 0 → ((n : ℕ) → named_in k (defines x.item) n x.name ≡ []) → namespace_of (es ++ x ∷ []) k ≡ namespace_of es k
 nothing_more k es x d e =
-    rw (place_push k es x, names_push k 0 es x, d, e (0 + place (items es) k), add-zero (place (items es) k), append-nil (names_from k 0 es)) refl
+    rw (place_push k es x, names_push k 0 es x, d, e (0 + next_index (items es) k), add-zero (next_index (items es) k), append-nil (names_from k 0 es)) refl
 
-in_another : (k : ℕ) (es : List Entry) (x : Entry) (d : Defined) → defines x.item ≡ Some d → (d.space ≡ k → ⊥) → namespace_of (es ++ x ∷ []) k ≡ namespace_of es k
+in_another : (k : ℕ) (es : List Entry) (x : Entry) (d : Indices) → defines x.item ≡ Some d → (d.space ≡ k → ⊥) → namespace_of (es ++ x ∷ []) k ≡ namespace_of es k
 in_another k es x d w apart = nothing_more k es x (rw (w, ne_eqb d.space k apart) refl) (λ n. rw (w, ne_eqb d.space k apart) refl)
 
-nowhere : (k : ℕ) (es : List Entry) (x : Entry) → defines x.item ≡ None → namespace_of (es ++ x ∷ []) k ≡ namespace_of es k
-nowhere k es x w = nothing_more k es x (rw w refl) (λ n. rw w refl)
+not_in_space : (k : ℕ) (es : List Entry) (x : Entry) → defines x.item ≡ None → namespace_of (es ++ x ∷ []) k ≡ namespace_of es k
+not_in_space k es x w = nothing_more k es x (rw w refl) (λ n. rw w refl)
 
-spaces_hold_at : (spaces : List Namespace) (es : List Entry) (x : Entry) (o : Option Defined) → defines x.item ≡ o → SpacesHold spaces es → SpacesHold (spaces_with spaces o x.name) (es ++ x ∷ [])
-spaces_hold_at spaces es x None w h = record { all = h.all; each = λ k l. h.each k l ∙ sym (nowhere k es x w) }
+spaces_hold_at : (spaces : List Namespace) (es : List Entry) (x : Entry) (o : Option Indices) → defines x.item ≡ o → SpacesHold spaces es → SpacesHold (spaces_with spaces o x.name) (es ++ x ∷ [])
+spaces_hold_at spaces es x None w h = record { all = h.all; each = λ k l. h.each k l ∙ sym (not_in_space k es x w) }
 spaces_hold_at spaces es x (Some d) w h = record {
   all = length-set spaces d.space (namespace_with (namespace_at spaces d.space) d.number x.name) ∙ h.all;
   each = λ k l. elim (eqb_tells d.space k) [
@@ -86,7 +86,7 @@ holds_step s es x one room h = record {
     room' : HasRoom (open_of (runs (items es ++ x.item ∷ [])))
     room' = subst HasRoom ((sections_step s es x h).last ∙ ap (λ (xs : List Item). open_of (runs xs)) (items_push es x)) room
 
-pub holds_index : (s : State) (es : List Entry) (k n : ℕ) → Holds s es → k < 13 → n ≡ (namespace_at s.settled.spaces k).count → n ≡ place (items es) k
+pub holds_index : (s : State) (es : List Entry) (k n : ℕ) → Holds s es → k < 13 → n ≡ (namespace_at s.settled.spaces k).count → n ≡ next_index (items es) k
 holds_index s es k n h l e = e ∙ ap (λ (x : Namespace). x.count) (h.spaces.each k l)
 
 none_of_many : (n k : ℕ) → namespace_at (replicate n no_names) k ≡ no_names
@@ -117,10 +117,10 @@ space_within Values = lit< tt
 space_within Components = lit< tt
 space_within Types = lit< tt
 
-within_at : (s : Space) (number : ℕ) (d : Defined) → some_in s number ≡ Some d → d.space < 13
-within_at s number d e = subst (λ (k : Defined). k.space < 13) (same_Some _ d e) (space_within s)
+within_at : (s : Space) (number : ℕ) (d : Indices) → some_in s number ≡ Some d → d.space < 13
+within_at s number d e = subst (λ (k : Indices). k.space < 13) (same_Some _ d e) (space_within s)
 
-pub places_within : (x : Item) (d : Defined) → defines x ≡ Some d → d.space < 13
+pub places_within : (x : Item) (d : Indices) → defines x ≡ Some d → d.space < 13
 places_within (ModuleItem bytes) d e = within_at CoreModules 1 d e
 places_within (CoreInstanceItem instance) d e = within_at CoreInstances 1 d e
 places_within (CoreTypeItem ty) d e = within_at CoreTypes 1 d e

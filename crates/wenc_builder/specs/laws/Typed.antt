@@ -2,15 +2,15 @@
 use Rattle.std.proofs.Common.{◌≡◌, ℕ, List, [], ◌∷◌, ◌++◌, Option, Some, refl, sym, ap, subst, ◌∙◌, inl, inr}
 use Rattle.wenc_base.specs.Fault.{NoCause, either}
 use Rattle.wenc_base.specs.declared.fault.Fault.{Fault}
-use Rattle.wenc_types.specs.ComponentTypes.{TypeOf}
+use Rattle.wenc_types.specs.ComponentTypes.{DefType}
 use Rattle.wenc_types.specs.CoreTypes.{CoreType}
 use Rattle.wenc_builder.specs.Item.{collected, item}
-use Rattle.wenc_builder.specs.Space.{Defined, defines}
+use Rattle.wenc_builder.specs.Space.{Indices, defines}
 use Rattle.wenc_builder.specs.Entry.{Entry, type_entry, core_type_entry}
-use Rattle.wenc_builder.specs.Builder.{Content, with_entry, State, step, content_of, Draft, draft, draft_in, draft_place, begun_with, appended, ended}
+use Rattle.wenc_builder.specs.Builder.{Content, with_entry, State, step, content_of, Draft, draft, draft_in, draft_indices, item_begun, item_appended, item_ended}
 use Rattle.wenc_builder.specs.Cause.{CallCause, BeginCause, EntryCause}
 use Rattle.wenc_builder.specs.Holds.{Holds}
-use Rattle.wenc_builder.specs.Lent.{no_room}
+use Rattle.wenc_builder.specs.Lent.{no_room_in_section}
 use Rattle.wenc_parts.specs.declared.component.ComponentSectionId.TheVariants as ids
 use Rattle.wenc_builder.specs.declared.builder.space.Space.TheVariants as spaces
 use Rattle.wenc_builder.specs.laws.Answered.{to_entry, from_entry}
@@ -19,21 +19,21 @@ use Rattle.wenc_builder.specs.laws.Step.{holds_step}
 use Rattle.wenc_builder.specs.laws.Caused.{beginning_refuses, text_refuses, whole_free}
 
 -- the content with a draft is the one with the entry that it is
-pub drafted : (old : State) (x : Entry) (d : Draft) → collected x.item ≡ Some d.id → defines x.item ≡ Some (draft_place d) → x.name ≡ d.name → (item x.item).text ≡ d.text → content_of (begun_with old d) ≡ with_entry old.settled x
+pub drafted : (old : State) (x : Entry) (d : Draft) → collected x.item ≡ Some d.id → defines x.item ≡ Some (draft_indices d) → x.name ≡ d.name → (item x.item).text ≡ d.text → content_of (item_begun old d) ≡ with_entry old.settled x
 drafted old x d section defined named bytes = rw (section, defined, named, bytes) refl
 
 -- an item that is begun as this draft, with nothing of it written yet, and then written whole, is this entry
-pub record IsWritten (x : Entry) (d : Draft) : Type 0 where
+pub record IsWrittenType (x : Entry) (d : Draft) : Type 0 where
   pub bare : d.text ≡ []
   pub section : collected x.item ≡ Some d.id
-  pub defined : defines x.item ≡ Some (draft_place d)
+  pub defined : defines x.item ≡ Some (draft_indices d)
   pub named : x.name ≡ d.name
 
 -- why it can't be written then
 abbrev pub WritingCause : State → Entry → Draft → Fault → Type 0
-WritingCause old x d = either (item x.item).Cause (no_room (begun_with old d) (item x.item).text)
+WritingCause old x d = either (item x.item).Cause (no_room_in_section (item_begun old d) (item x.item).text)
 
-module _ (old : State) (es : List Entry) (x : Entry) (d : Draft) (w : IsWritten x d) (h : Holds old es) where
+module _ (old : State) (es : List Entry) (x : Entry) (d : Draft) (w : IsWrittenType x d) (h : Holds old es) where
   -- the draft with its text, and the one that it is without
   abbrev whole : Draft
   whole = draft d.id d.space d.name (item x.item).text
@@ -41,22 +41,22 @@ module _ (old : State) (es : List Entry) (x : Entry) (d : Draft) (w : IsWritten 
   bare_is : d ≡ draft d.id d.space d.name []
   bare_is = ap (λ (t : List ℕ). draft d.id d.space d.name t) w.bare
 
-  content_is : content_of (begun_with old whole) ≡ with_entry old.settled x
+  content_is : content_of (item_begun old whole) ≡ with_entry old.settled x
   content_is = drafted old x whole w.section w.defined w.named refl
 
   abbrev WholeCause : Fault → Type 0
-  WholeCause = CallCause old (item x.item).Cause (content_of (begun_with old whole)) (Some (draft_place whole))
+  WholeCause = CallCause old (item x.item).Cause (content_of (item_begun old whole)) (Some (draft_indices whole))
 
   to_whole : (fault : Fault) → EntryCause es x fault → WholeCause fault
   to_whole fault c =
       let P : Content → Type 0 = λ k. CallCause old (item x.item).Cause k (defines x.item) fault in
-      let Q : Option Defined → Type 0 = λ k. CallCause old (item x.item).Cause (content_of (begun_with old whole)) k fault in
+      let Q : Option Indices → Type 0 = λ k. CallCause old (item x.item).Cause (content_of (item_begun old whole)) k fault in
       subst Q w.defined (subst P (sym content_is) (from_entry old es x h fault c))
 
   from_whole : (fault : Fault) → WholeCause fault → EntryCause es x fault
   from_whole fault c =
       let P : Content → Type 0 = λ k. CallCause old (item x.item).Cause k (defines x.item) fault in
-      let Q : Option Defined → Type 0 = λ k. CallCause old (item x.item).Cause (content_of (begun_with old whole)) k fault in
+      let Q : Option Indices → Type 0 = λ k. CallCause old (item x.item).Cause (content_of (item_begun old whole)) k fault in
       to_entry old es x h fault (subst P content_is (subst Q (sym w.defined) c))
 
   -- what refuses its beginning is the entry's cause
@@ -74,20 +74,20 @@ module _ (old : State) (es : List Entry) (x : Entry) (d : Draft) (w : IsWritten 
       whole_free old d.id d.space d.name (item x.item).text (item x.item).Cause (λ f k. opening f (subst (λ (e : Draft). BeginCause old e f) (sym bare_is) k)) (λ f k. writing f (subst (λ (e : Draft). WritingCause old x e f) (sym bare_is) k))
       fault (to_whole fault c)
 
--- an item that was begun, written and ended, and was refused nowhere, is one entry more
-pub written_holds : (old new : State) (es : List Entry) (x : Entry) (d : Draft) → IsWritten x d → NoCause (BeginCause old d) → (item x.item).Fits → NoCause (WritingCause old x d)
-    → new ≡ ended (appended (begun_with old d) (item x.item).text) → Holds old es → Holds new (es ++ x ∷ [])
+-- an item that was begun, written and item_ended, and was refused nowhere, is one entry more
+pub written_holds : (old new : State) (es : List Entry) (x : Entry) (d : Draft) → IsWrittenType x d → NoCause (BeginCause old d) → (item x.item).Fits → NoCause (WritingCause old x d)
+    → new ≡ item_ended (item_appended (item_begun old d) (item x.item).text) → Holds old es → Holds new (es ++ x ∷ [])
 written_holds old new es x d w opening fits writing e h = rw (e ∙ is_step) (holds_step old es x fits room h)
   where
-    is_step : ended (appended (begun_with old d) (item x.item).text) ≡ step old x
+    is_step : item_ended (item_appended (item_begun old d) (item x.item).text) ≡ step old x
     is_step = rw (w.section, w.defined, w.named, w.bare) refl
 
     room : HasRoom (with_entry old.settled x).sections.current
     room fault c = written_free old es x d w h opening writing fault (to_entry old es x h fault (inl (inr (inr c))))
 
 -- types are written so
-pub type_is_written : (name : Option (List ℕ)) (t : TypeOf) → IsWritten (type_entry name t) (draft_in ids.«Type» spaces.Types name [])
+pub type_is_written : (name : Option (List ℕ)) (t : DefType) → IsWrittenType (type_entry name t) (draft_in ids.«Type» spaces.Types name [])
 type_is_written name t = record { bare = refl; section = refl; defined = refl; named = refl }
 
-pub core_type_is_written : (name : Option (List ℕ)) (t : CoreType) → IsWritten (core_type_entry name t) (draft_in ids.CoreType spaces.CoreTypes name [])
+pub core_type_is_written : (name : Option (List ℕ)) (t : CoreType) → IsWrittenType (core_type_entry name t) (draft_in ids.CoreType spaces.CoreTypes name [])
 core_type_is_written name t = record { bare = refl; section = refl; defined = refl; named = refl }

@@ -1,11 +1,11 @@
 ghost use Rattle.std.specs.Borrow.{sem, RestsIfErr};
 ghost use Rattle.std.specs.Option.{option_copied};
 ghost use Rattle.std.specs.Prelude.{◌≡◌, [], List, false, Err, IfOk, OnErr};
-ghost use Rattle.wenc_base.specs.Holder.{is_finished, held};
+ghost use Rattle.wenc_base.specs.Holder.{is_finished, held_members};
 ghost use Rattle.wenc_base.specs.Piece.{◌▸◌};
 ghost use Rattle.wenc_base.specs.declared.fault.Fault.TheVariants.{Unfinished};
 ghost use Rattle.wenc_builder.specs.Builder.{draft_in};
-ghost use Rattle.wenc_builder.specs.Enters.{Begins, Enters, TakesDraft};
+ghost use Rattle.wenc_builder.specs.Enters.{BeginsItem, Enters, TakesDraft};
 ghost use Rattle.wenc_parts.specs.declared.component.ComponentSectionId.TheVariants as ids;
 ghost use Rattle.wenc_builder.specs.Entry.{type_entry};
 ghost use Rattle.wenc_types.specs.ComponentTypes.{InstanceDeclaration, ComponentDeclaration, InstanceType, ComponentType as ComponentTypeSpec, ResourceType, instances_of, components_of};
@@ -33,7 +33,7 @@ use wenc_types::{
 impl<A: Allocator> ComponentBuilder<A> {
     ghost use Rattle.wenc_builder.specs.contracts.builder.ComponentBuilder.{the_row};
 
-    /// Begins a core type, which is written by the encoder that is answered.
+    /// BeginsItem a core type, which is written by the encoder that is answered.
     pub fn core_type(
         &mut self,
         debug_name: Option<&str>,
@@ -41,14 +41,14 @@ impl<A: Allocator> ComponentBuilder<A> {
         ensures* refused { sem 𝓛 (RestsIfErr (the_row A.row A.Allocator) self.entry
             (λ e. e.1.lender.ghost_name) result (λ n. n ≡ self.old)) }
         ensures same_reference { IfOk result (λ e. e.1.lender.ghost_name ≡ self.entry.ghost_name) }
-        ensures begun { Begins (λ e. e.0) (λ e. e.1.lender.now) self.old result
+        ensures begun { BeginsItem (λ e. e.0) (λ e. e.1.lender.now) self.old result
             (draft_in ids.CoreType Space.CoreTypes (option_copied debug_name.entry) []) }
     {
         let index = self.begin(Kind::CoreType, Space::CoreTypes, debug_name)?;
         Ok((index, ComponentCoreTypeEncoder::new(self)))
     }
 
-    /// Begins a type, which is written by the encoder that is answered.
+    /// BeginsItem a type, which is written by the encoder that is answered.
     pub fn ty(
         &mut self,
         debug_name: Option<&str>,
@@ -56,7 +56,7 @@ impl<A: Allocator> ComponentBuilder<A> {
         ensures* refused { sem 𝓛 (RestsIfErr (the_row A.row A.Allocator) self.entry
             (λ e. e.1.lender.ghost_name) result (λ n. n ≡ self.old)) }
         ensures same_reference { IfOk result (λ e. e.1.lender.ghost_name ≡ self.entry.ghost_name) }
-        ensures begun { Begins (λ e. e.0) (λ e. e.1.lender.now) self.old result
+        ensures begun { BeginsItem (λ e. e.0) (λ e. e.1.lender.now) self.old result
             (draft_in ids.«Type» Space.Types (option_copied debug_name.entry) []) }
     {
         let index = self.begin(Kind::Type, Space::Types, debug_name)?;
@@ -74,7 +74,7 @@ impl<A: Allocator> ComponentBuilder<A> {
             (type_entry (option_copied debug_name.entry) (InstanceType (instances_of ds))) }
         ensures taken { TakesDraft self.old self.new result
             (draft_in ids.«Type» Space.Types (option_copied debug_name.entry))
-            (0x42 ▸ held ty.now.held) }
+            (0x42 ▸ held_members ty.now.held) }
         ensures unfinished { is_finished ty.now.held ≡ false → result ≡ Err Unfinished }
         ensures err { OnErr result (self.new ≡ self.old) }
     {
@@ -95,7 +95,7 @@ impl<A: Allocator> ComponentBuilder<A> {
             (type_entry (option_copied debug_name.entry) (ComponentTypeSpec (components_of ds))) }
         ensures taken { TakesDraft self.old self.new result
             (draft_in ids.«Type» Space.Types (option_copied debug_name.entry))
-            (0x41 ▸ held ty.now.held) }
+            (0x41 ▸ held_members ty.now.held) }
         ensures unfinished { is_finished ty.now.held ≡ false → result ≡ Err Unfinished }
         ensures err { OnErr result (self.new ≡ self.old) }
     {
@@ -105,7 +105,7 @@ impl<A: Allocator> ComponentBuilder<A> {
         self.add(Kind::Type, Space::Types, debug_name, ty)
     }
 
-    /// Begins a type of values, which is written by the encoder that is answered.
+    /// BeginsItem a type of values, which is written by the encoder that is answered.
     pub fn type_defined(
         &mut self,
         debug_name: Option<&str>,
@@ -113,14 +113,14 @@ impl<A: Allocator> ComponentBuilder<A> {
         ensures* refused { sem 𝓛 (RestsIfErr (the_row A.row A.Allocator) self.entry
             (λ e. e.1.lender.ghost_name) result (λ n. n ≡ self.old)) }
         ensures same_reference { IfOk result (λ e. e.1.lender.ghost_name ≡ self.entry.ghost_name) }
-        ensures begun { Begins (λ e. e.0) (λ e. e.1.lender.now) self.old result
+        ensures begun { BeginsItem (λ e. e.0) (λ e. e.1.lender.now) self.old result
             (draft_in ids.«Type» Space.Types (option_copied debug_name.entry) []) }
     {
         let index = self.begin(Kind::Type, Space::Types, debug_name)?;
         Ok((index, ComponentDefinedTypeEncoder::new(self)))
     }
 
-    /// Begins a type of functions, which is written by the encoder that is answered.
+    /// BeginsItem a type of functions, which is written by the encoder that is answered.
     pub fn type_function(
         &mut self,
         debug_name: Option<&str>,
@@ -128,7 +128,7 @@ impl<A: Allocator> ComponentBuilder<A> {
         ensures* refused { sem 𝓛 (RestsIfErr (the_row A.row A.Allocator) self.entry
             (λ e. e.1.lender.ghost_name) result (λ n. n ≡ self.old)) }
         ensures same_reference { IfOk result (λ e. e.1.lender.ghost_name ≡ self.entry.ghost_name) }
-        ensures begun { Begins (λ e. e.0) (λ e. e.1.lender.now) self.old result
+        ensures begun { BeginsItem (λ e. e.0) (λ e. e.1.lender.now) self.old result
             (draft_in ids.«Type» Space.Types (option_copied debug_name.entry) []) }
         ensures stage { IfOk result (λ e. e.1.stage ≡ stages.Start) }
     {

@@ -4,17 +4,17 @@ use Rattle.wenc_base.specs.Piece.{Piece, ◌▸◌}
 use Rattle.wenc_base.specs.declared.types.ValType.TheVariants.{I32}
 use Rattle.wenc_canon.specs.declared.canonicals.CanonicalOption.{CanonicalOption}
 use Rattle.wenc_canon.specs.Canonicals.{Field, Index, Options, Flag, Zero, CoreType, Results, Slot}
-use Rattle.wenc_canon.specs.Canonicals.{Value, Values, fields, Intrinsic, ResourceNew, Row, row}
-use Rattle.wenc_canon.specs.Canonicals.{intrinsics, Canonical, Lift, Lower, Provided}
+use Rattle.wenc_canon.specs.Canonicals.{Value, Values, fields, Builtin, ResourceNew, Row, row}
+use Rattle.wenc_canon.specs.Canonicals.{intrinsics, Canonical, Lift, Lower, OfBuiltin}
 
 -- the byte that a canonical function begins with
-abbrev pub first_byte : Canonical → ℕ
-first_byte (Lift function options type_index) = 0x00
-first_byte (Lower function options) = 0x01
-first_byte (Provided i values) = (row i).opcode
+abbrev pub row_first_byte : Canonical → ℕ
+row_first_byte (Lift function options type_index) = 0x00
+row_first_byte (Lower function options) = 0x01
+row_first_byte (OfBuiltin i values) = (row i).opcode
 
 -- the intrinsic with this opcode, of these
-abbrev pub first_with : ℕ → List Intrinsic → Intrinsic
+abbrev pub first_with : ℕ → List Builtin → Builtin
 first_with opcode [] = ResourceNew
 first_with opcode (i ∷ is) = if (row i).opcode == opcode then i else first_with opcode is
 
@@ -56,8 +56,8 @@ as_values fs gs vs = any_values gs
 -- the intrinsic with this opcode and these values
 abbrev pub provided_by : ℕ → (fs : List Field) → Values fs → Canonical
 provided_by opcode fs vs =
-    let i : Intrinsic = first_with opcode intrinsics in
-    Provided i (as_values fs (row i).fields vs)
+    let i : Builtin = first_with opcode intrinsics in
+    OfBuiltin i (as_values fs (row i).fields vs)
 
 -- ---- fields, and options behind them
 

@@ -1,7 +1,7 @@
 -- The laws of canonical functions.
 use Rattle.std.proofs.Common.{◌≡◌, ℕ, ◌+◌, List, [], ◌∷◌, map, Option, Ok, refl, ap, arith}
-use Rattle.wenc_base.specs.Holder.{Held}
-use Rattle.wenc_base.specs.laws.Lawful.{Lawful, Reader, ◌>>=◌, give, nowhere, choose, pick, row as in_row, row_byte, nothing_lawful, then, last}
+use Rattle.wenc_base.specs.Holder.{HolderState}
+use Rattle.wenc_base.specs.laws.Lawful.{Lawful, Reader, ◌>>=◌, give, nowhere, choose, pick, alternative as in_row, row_byte, nothing_lawful, then, last}
 use Rattle.wenc_base.specs.laws.Sound.{Sound, RowsAreSound, give_sound, last_sound, then_sound, nowhere_sound, choose_sound}
 use Rattle.wenc_base.specs.laws.Numbers.{read_u32, u32_lawful, u32_sound}
 use Rattle.wenc_base.specs.laws.Forms.{read_flag, flag_lawful, flag_sound, read_list, list_lawful, list_sound}
@@ -9,12 +9,12 @@ use Rattle.wenc_base.specs.laws.Types.{read_val_type, val_type_lawful, val_type_
 use Rattle.wenc_parts.specs.laws.Types.{read_result_list, result_list_lawful, result_list_sound}
 use Rattle.wenc_canon.specs.declared.canonicals.CanonicalOption.{CanonicalOption}
 use Rattle.wenc_canon.specs.declared.canonicals.CanonicalOption.TheVariants.{UTF8, UTF16, CompactUTF16, Memory, Realloc, PostReturn, Async, Callback, CoreType as CoreTypeOption, Gc}
-use Rattle.wenc_canon.specs.Canonicals.{canonical_option, Field, Index, Options, Flag, Zero, CoreType, Results, Slot, Value, field, Values, fields, Intrinsic, ResourceNew, row, intrinsics, Canonical, Lift, Lower, Provided, canonical, Adds, AddsWithOptions}
+use Rattle.wenc_canon.specs.Canonicals.{canonical_option, Field, Index, Options, Flag, Zero, CoreType, Results, Slot, Value, field, Values, fields, Builtin, ResourceNew, row, intrinsics, Canonical, Lift, Lower, OfBuiltin, canonical, Adds, AddsWithOptions}
 
 -- ---- options
 
-abbrev pub read_option : Reader CanonicalOption
-read_option = choose (
+abbrev pub read_canonical_option : Reader CanonicalOption
+read_canonical_option = choose (
     (0x00, give UTF8) ∷
     (0x01, give UTF16) ∷
     (0x02, give CompactUTF16) ∷
@@ -26,7 +26,7 @@ read_option = choose (
     (0x08, read_u32 >>= λ n. give (CoreTypeOption n)) ∷
     (0x09, give Gc) ∷ []) nowhere
 
-pub canonical_option_lawful : (o : CanonicalOption) → Lawful (canonical_option o) (λ fuel. read_option) o
+pub canonical_option_lawful : (o : CanonicalOption) → Lawful (canonical_option o) (λ fuel. read_canonical_option) o
 canonical_option_lawful UTF8 = row_byte _ _ 0x00 (λ fuel rest. refl)
 canonical_option_lawful UTF16 = row_byte _ _ 0x01 (λ fuel rest. refl)
 canonical_option_lawful CompactUTF16 = row_byte _ _ 0x02 (λ fuel rest. refl)
@@ -38,7 +38,7 @@ canonical_option_lawful (Callback n) = in_row _ _ 0x07 (last Callback (u32_lawfu
 canonical_option_lawful (CoreTypeOption n) = in_row _ _ 0x08 (last CoreTypeOption (u32_lawful n))
 canonical_option_lawful Gc = row_byte _ _ 0x09 (λ fuel rest. refl)
 
-pub canonical_option_sound : Sound canonical_option read_option
+pub canonical_option_sound : Sound canonical_option read_canonical_option
 canonical_option_sound = choose_sound _ _ (
   give_sound UTF8 (λ bytes. refl),
   (
@@ -66,7 +66,7 @@ canonical_option_sound = choose_sound _ _ (
 
 abbrev pub read_field : (f : Field) → Reader (Value f)
 read_field Index = read_u32
-read_field Options = read_list read_option
+read_field Options = read_list read_canonical_option
 read_field Flag = read_flag
 read_field Zero = choose ((0x00, give tt) ∷ []) nowhere
 read_field CoreType = read_val_type
@@ -108,31 +108,31 @@ fields_sound (f ∷ g ∷ fs) = then_sound _ (field_sound f) (λ v. last_sound (
 
 -- ---- canonical functions
 
-abbrev pub read_provided : Intrinsic → ℕ × Reader Canonical
-read_provided i = ((row i).opcode, read_fields (row i).fields >>= λ vs. give (Provided i vs))
+abbrev pub read_provided : Builtin → ℕ × Reader Canonical
+read_provided i = ((row i).opcode, read_fields (row i).fields >>= λ vs. give (OfBuiltin i vs))
 
 abbrev pub rows : List (ℕ × Reader Canonical)
 rows =
-    (0x00, choose ((0x00, read_u32 >>= λ f. read_list read_option >>= λ os. read_u32 >>= λ t. give (Lift f os t)) ∷ []) nowhere) ∷
-    (0x01, choose ((0x00, read_u32 >>= λ f. read_list read_option >>= λ os. give (Lower f os)) ∷ []) nowhere) ∷
+    (0x00, choose ((0x00, read_u32 >>= λ f. read_list read_canonical_option >>= λ os. read_u32 >>= λ t. give (Lift f os t)) ∷ []) nowhere) ∷
+    (0x01, choose ((0x00, read_u32 >>= λ f. read_list read_canonical_option >>= λ os. give (Lower f os)) ∷ []) nowhere) ∷
     map read_provided intrinsics
 
 abbrev pub read_canonical : Reader Canonical
 read_canonical = choose rows nowhere
 
 -- An opcode picks its intrinsic's own row. One clause is for the first intrinsic, the other for each of the others.
-own_row : (i : Intrinsic) → pick rows nowhere (row i).opcode ≡ (read_provided i).1
+own_row : (i : Builtin) → pick rows nowhere (row i).opcode ≡ (read_provided i).1
 own_row ResourceNew = refl
 own_row other = refl
 
 pub canonical_lawful : (c : Canonical) → Lawful (canonical c) (λ fuel. read_canonical) c
 canonical_lawful (Lift f os t) = in_row _ _ 0x00 (in_row _ _ 0x00 (then _ (u32_lawful f) (then _ (list_lawful canonical_option_lawful os) (last (Lift f os) (u32_lawful t)))))
 canonical_lawful (Lower f os) = in_row _ _ 0x01 (in_row _ _ 0x00 (then _ (u32_lawful f) (last (Lower f) (list_lawful canonical_option_lawful os))))
-canonical_lawful (Provided i vs) = in_row _ _ (row i).opcode (rw (own_row i) (last (Provided i) (fields_lawful (row i).fields vs)))
+canonical_lawful (OfBuiltin i vs) = in_row _ _ (row i).opcode (rw (own_row i) (last (OfBuiltin i) (fields_lawful (row i).fields vs)))
 
-provided_sound : (is : List Intrinsic) → RowsAreSound canonical (map read_provided is)
+provided_sound : (is : List Builtin) → RowsAreSound canonical (map read_provided is)
 provided_sound [] = tt
-provided_sound (i ∷ is) = (last_sound (Provided i) (fields_sound (row i).fields) (λ vs bytes rest r. (bytes, refl, r)), provided_sound is)
+provided_sound (i ∷ is) = (last_sound (OfBuiltin i) (fields_sound (row i).fields) (λ vs bytes rest r. (bytes, refl, r)), provided_sound is)
 
 pub canonical_sound : Sound canonical read_canonical
 canonical_sound = choose_sound _ _ (
@@ -149,15 +149,15 @@ canonical_sound = choose_sound _ _ (
 -- ---- what follows from an `Ok`
 
 -- there is one function more
-pub an_added_function_is_one_more : (old new : Held) (i : Intrinsic) (values : Values (row i).fields) → Adds old new (Ok tt) i values → new.count ≡ old.count + 1
-an_added_function_is_one_more old new i values adds = ap (λ (h : Held). h.count) adds.ok.state
+pub an_added_function_is_one_more : (old new : HolderState) (i : Builtin) (values : Values (row i).fields) → Adds old new (Ok tt) i values → new.count ≡ old.count + 1
+an_added_function_is_one_more old new i values adds = ap (λ (h : HolderState). h.count) adds.ok.state
 
 -- so that the section can't be as it was
-pub an_added_function_is_seen : (section : Held) (i : Intrinsic) (values : Values (row i).fields) → Adds section section (Ok tt) i values → ⊥
+pub an_added_function_is_seen : (section : HolderState) (i : Builtin) (values : Values (row i).fields) → Adds section section (Ok tt) i values → ⊥
 an_added_function_is_seen section i values adds =
     let grown : section.count ≡ section.count + 1 = an_added_function_is_one_more section section i values adds in omega (arith, grown)
 
 -- there is one function more, also where it has options
-pub an_added_function_with_options_is_one_more : {S : Type 0} (steps : S → Option CanonicalOption → S → Type 0) (options : S) (old new : Held) (function : List CanonicalOption → Canonical)
+pub an_added_function_with_options_is_one_more : {S : Type 0} (steps : S → Option CanonicalOption → S → Type 0) (options : S) (old new : HolderState) (function : List CanonicalOption → Canonical)
     → AddsWithOptions steps options old new (Ok tt) function → new.count ≡ old.count + 1
-an_added_function_with_options_is_one_more steps options old new function adds = ap (λ (h : Held). h.count) adds.ok.3.state
+an_added_function_with_options_is_one_more steps options old new function adds = ap (λ (h : HolderState). h.count) adds.ok.3.state

@@ -19,8 +19,8 @@ use Rattle.wenc_parts.specs.declared.types.ComponentValType.{ComponentValType}
 use Rattle.wenc_parts.specs.contracts.types.ComponentValTypePartialEq.TheImpl.{eq-value as value_eq'}
 use Rattle.wenc_canon.specs.CanonTrees.{canon_view}
 use Rattle.wenc_canon.specs.Canonicals as canon
-use Rattle.wenc_canon.specs.Canonicals.{Field, Index, Options, Flag, Zero, CoreType, Results, Slot, Value, Values, row, Canonical, Lift, Lower, Provided}
-use Rattle.wenc_canon.specs.inside.Rows.{first_byte}
+use Rattle.wenc_canon.specs.Canonicals.{Field, Index, Options, Flag, Zero, CoreType, Results, Slot, Value, Values, row, Canonical, Lift, Lower, OfBuiltin}
+use Rattle.wenc_canon.specs.inside.Rows.{row_first_byte}
 use Rattle.wenc_canon.specs.declared.canon_tree.CanonTree.{CanonTree}
 use Rattle.wenc_canon.specs.declared.canonicals.CanonicalOption.{CanonicalOption}
 use Rattle.wenc_canon.specs.contracts.canon_tree.CanonTree.{enum}
@@ -63,32 +63,32 @@ module _ {S : Type 0} (kind : S → ℕ) where
 -- ---- fields
 
 -- the fields of a canonical function, whatever it is
-data Given : Type 0 where
-  Number : (n : ℕ) → Given
-  Chosen : (options : List CanonicalOption) → Given
-  Told : (b : Bool) → Given
-  Fixed : Given
-  Core : (t : ValType) → Given
-  Answer : (r : Option ComponentValType) → Given
+data GivenTree : Type 0 where
+  Number : (n : ℕ) → GivenTree
+  Chosen : (options : List CanonicalOption) → GivenTree
+  Told : (b : Bool) → GivenTree
+  Fixed : GivenTree
+  Core : (t : ValType) → GivenTree
+  Answer : (r : Option ComponentValType) → GivenTree
 
-abbrev given : (f : Field) → Value f → Given
-given Index n = Number n
-given Options os = Chosen os
-given Flag b = Told b
-given Zero v = Fixed
-given CoreType t = Core t
-given Results r = Answer r
-given Slot n = Number n
+abbrev given_tree : (f : Field) → Value f → GivenTree
+given_tree Index n = Number n
+given_tree Options os = Chosen os
+given_tree Flag b = Told b
+given_tree Zero v = Fixed
+given_tree CoreType t = Core t
+given_tree Results r = Answer r
+given_tree Slot n = Number n
 
-abbrev all_given : (fs : List Field) → Values fs → List Given
+abbrev all_given : (fs : List Field) → Values fs → List GivenTree
 all_given [] vs = []
-all_given (f ∷ []) v = given f v ∷ []
-all_given (f ∷ g ∷ fs) vs = given f vs.0 ∷ all_given (g ∷ fs) vs.1
+all_given (f ∷ []) v = given_tree f v ∷ []
+all_given (f ∷ g ∷ fs) vs = given_tree f vs.0 ∷ all_given (g ∷ fs) vs.1
 
-abbrev fields_of : Canonical → List Given
-fields_of (Lift function options ty) = Number function ∷ Chosen options ∷ Number ty ∷ []
-fields_of (Lower function options) = Number function ∷ Chosen options ∷ []
-fields_of (Provided i values) = all_given (row i).fields values
+abbrev tree_fields_of : Canonical → List GivenTree
+tree_fields_of (Lift function options ty) = Number function ∷ Chosen options ∷ Number ty ∷ []
+tree_fields_of (Lower function options) = Number function ∷ Chosen options ∷ []
+tree_fields_of (OfBuiltin i values) = all_given (row i).fields values
 
 -- ---- tests of fields
 
@@ -115,15 +115,15 @@ lists (x ∷ xs) (y ∷ ys) = Decides-like _ (λ e. let here = e.0 in let there 
 
 -- ---- what fields tell
 
-abbrev first : List Given → Given
+abbrev first : List GivenTree → GivenTree
 first [] = Fixed
 first (g ∷ gs) = g
 
-abbrev second : List Given → Given
+abbrev second : List GivenTree → GivenTree
 second [] = Fixed
 second (g ∷ gs) = first gs
 
-abbrev third : List Given → Given
+abbrev third : List GivenTree → GivenTree
 third [] = Fixed
 third (g ∷ gs) = second gs
 
@@ -143,44 +143,44 @@ same_answer : (r s : Option ComponentValType) → Answer r ≡ Answer s → r �
 same_answer r s e = cc
 
 -- what two equal functions have in common
-common : (f g : Canonical) (gs hs : List Given) → fields_of f ≡ gs → fields_of g ≡ hs → f ≡ g → gs ≡ hs
-common f g gs hs p q e = sym p ∙ ap fields_of e ∙ q
+common : (f g : Canonical) (gs hs : List GivenTree) → tree_fields_of f ≡ gs → tree_fields_of g ≡ hs → f ≡ g → gs ≡ hs
+common f g gs hs p q e = sym p ∙ ap tree_fields_of e ∙ q
 
-index_row : (c : ℕ → Canonical) → ((n : ℕ) → fields_of (c n) ≡ Number n ∷ []) → (x y : ℕ) → Decides (nat_eq x y) (c x ≡ c y)
+index_row : (c : ℕ → Canonical) → ((n : ℕ) → tree_fields_of (c n) ≡ Number n ∷ []) → (x y : ℕ) → Decides (nat_eq x y) (c x ≡ c y)
 index_row c f x y = Decides-like _ (λ e. ap c e) (λ e. same_number x y (ap first (common (c x) (c y) _ _ (f x) (f y) e))) (unsigned_Decides x y)
 
 -- an index behind what is fixed
-memory_row : (c : ℕ → Canonical) → ((n : ℕ) → fields_of (c n) ≡ Fixed ∷ Number n ∷ []) → (x y : ℕ) → Decides (nat_eq x y) (c x ≡ c y)
+memory_row : (c : ℕ → Canonical) → ((n : ℕ) → tree_fields_of (c n) ≡ Fixed ∷ Number n ∷ []) → (x y : ℕ) → Decides (nat_eq x y) (c x ≡ c y)
 memory_row c f x y = Decides-like _ (λ e. ap c e) (λ e. same_number x y (ap second (common (c x) (c y) _ _ (f x) (f y) e))) (unsigned_Decides x y)
 
-flag_row : (c : Bool → Canonical) → ((b : Bool) → fields_of (c b) ≡ Told b ∷ []) → (x y : Bool) → Decides (beq x y) (c x ≡ c y)
+flag_row : (c : Bool → Canonical) → ((b : Bool) → tree_fields_of (c b) ≡ Told b ∷ []) → (x y : Bool) → Decides (beq x y) (c x ≡ c y)
 flag_row c f x y = Decides-like _ (λ e. ap c e) (λ e. same_told x y (ap first (common (c x) (c y) _ _ (f x) (f y) e))) (booleans_Decides x y)
 
-options_row : (c : List CanonicalOption → Canonical) → ((os : List CanonicalOption) → fields_of (c os) ≡ Chosen os ∷ []) → (x y : List CanonicalOption) → Decides (pointwise option_eq'.it x y) (c x ≡ c y)
+options_row : (c : List CanonicalOption → Canonical) → ((os : List CanonicalOption) → tree_fields_of (c os) ≡ Chosen os ∷ []) → (x y : List CanonicalOption) → Decides (pointwise option_eq'.it x y) (c x ≡ c y)
 options_row c f x y = Decides-like _ (λ e. ap c e) (λ e. same_chosen x y (ap first (common (c x) (c y) _ _ (f x) (f y) e))) (lists x y)
 
 -- two fields
-module _ {T U : Type 0} (one : T → Given) (two : U → Given) (same_one : (x y : T) → one x ≡ one y → x ≡ y) (same_two : (x y : U) → two x ≡ two y → x ≡ y)
+module _ {T U : Type 0} (one : T → GivenTree) (two : U → GivenTree) (same_one : (x y : T) → one x ≡ one y → x ≡ y) (same_two : (x y : U) → two x ≡ two y → x ≡ y)
     (eq : T → T → Bool) (fq : U → U → Bool) (eqs : (x y : T) → Decides (eq x y) (x ≡ y)) (fqs : (x y : U) → Decides (fq x y) (x ≡ y)) where
-  two_rows : (c : T → U → Canonical) → ((t : T) (u : U) → fields_of (c t u) ≡ one t ∷ two u ∷ []) → (t : T) (u : U) (v : T) (w : U) → Decides (eq t v && fq u w) (c t u ≡ c v w)
+  two_rows : (c : T → U → Canonical) → ((t : T) (u : U) → tree_fields_of (c t u) ≡ one t ∷ two u ∷ []) → (t : T) (u : U) (v : T) (w : U) → Decides (eq t v && fq u w) (c t u ≡ c v w)
   two_rows c f t u v w =
       Decides-like _ (λ e. let p = e.0 in let q = e.1 in cc)
       (λ e. let same = common (c t u) (c v w) _ _ (f t u) (f v w) e in (same_one t v (ap first same), same_two u w (ap second same)))
       (Decides-and _ _ (eqs t v) (fqs u w))
 
-indices_row : (c : ℕ → ℕ → Canonical) → ((m n : ℕ) → fields_of (c m n) ≡ Number m ∷ Number n ∷ []) → (m n k l : ℕ) → Decides (nat_eq m k && nat_eq n l) (c m n ≡ c k l)
+indices_row : (c : ℕ → ℕ → Canonical) → ((m n : ℕ) → tree_fields_of (c m n) ≡ Number m ∷ Number n ∷ []) → (m n k l : ℕ) → Decides (nat_eq m k && nat_eq n l) (c m n ≡ c k l)
 indices_row = two_rows Number Number same_number same_number nat_eq nat_eq unsigned_Decides unsigned_Decides
 
-index_and_flag_row : (c : ℕ → Bool → Canonical) → ((n : ℕ) (b : Bool) → fields_of (c n b) ≡ Number n ∷ Told b ∷ []) → (n : ℕ) (b : Bool) (k : ℕ) (d : Bool) → Decides (nat_eq n k && beq b d) (c n b ≡ c k d)
+index_and_flag_row : (c : ℕ → Bool → Canonical) → ((n : ℕ) (b : Bool) → tree_fields_of (c n b) ≡ Number n ∷ Told b ∷ []) → (n : ℕ) (b : Bool) (k : ℕ) (d : Bool) → Decides (nat_eq n k && beq b d) (c n b ≡ c k d)
 index_and_flag_row = two_rows Number Told same_number same_told nat_eq beq unsigned_Decides booleans_Decides
 
-type_and_index_row : (c : ValType → ℕ → Canonical) → ((t : ValType) (n : ℕ) → fields_of (c t n) ≡ Core t ∷ Number n ∷ []) → (t : ValType) (n : ℕ) (u : ValType) (k : ℕ) → Decides (core_eq'.it t u && nat_eq n k) (c t n ≡ c u k)
+type_and_index_row : (c : ValType → ℕ → Canonical) → ((t : ValType) (n : ℕ) → tree_fields_of (c t n) ≡ Core t ∷ Number n ∷ []) → (t : ValType) (n : ℕ) (u : ValType) (k : ℕ) → Decides (core_eq'.it t u && nat_eq n k) (c t n ≡ c u k)
 type_and_index_row = two_rows Core Number same_core same_number core_eq'.it nat_eq core_types unsigned_Decides
 
-index_and_options_row : (c : ℕ → List CanonicalOption → Canonical) → ((n : ℕ) (os : List CanonicalOption) → fields_of (c n os) ≡ Number n ∷ Chosen os ∷ []) → (n : ℕ) (os : List CanonicalOption) (k : ℕ) (ps : List CanonicalOption) → Decides (nat_eq n k && pointwise option_eq'.it os ps) (c n os ≡ c k ps)
+index_and_options_row : (c : ℕ → List CanonicalOption → Canonical) → ((n : ℕ) (os : List CanonicalOption) → tree_fields_of (c n os) ≡ Number n ∷ Chosen os ∷ []) → (n : ℕ) (os : List CanonicalOption) (k : ℕ) (ps : List CanonicalOption) → Decides (nat_eq n k && pointwise option_eq'.it os ps) (c n os ≡ c k ps)
 index_and_options_row = two_rows Number Chosen same_number same_chosen nat_eq (pointwise option_eq'.it) unsigned_Decides lists
 
-results_and_options_row : (c : Option ComponentValType → List CanonicalOption → Canonical) → ((r : Option ComponentValType) (os : List CanonicalOption) → fields_of (c r os) ≡ Answer r ∷ Chosen os ∷ []) → (r : Option ComponentValType) (os : List CanonicalOption) (s : Option ComponentValType) (ps : List CanonicalOption) → Decides (option_eq value_eq'.it r s && pointwise option_eq'.it os ps) (c r os ≡ c s ps)
+results_and_options_row : (c : Option ComponentValType → List CanonicalOption → Canonical) → ((r : Option ComponentValType) (os : List CanonicalOption) → tree_fields_of (c r os) ≡ Answer r ∷ Chosen os ∷ []) → (r : Option ComponentValType) (os : List CanonicalOption) (s : Option ComponentValType) (ps : List CanonicalOption) → Decides (option_eq value_eq'.it r s && pointwise option_eq'.it os ps) (c r os ≡ c s ps)
 results_and_options_row = two_rows Answer Chosen same_answer same_chosen (option_eq value_eq'.it) (pointwise option_eq'.it) answers lists
 
 lifted_row : (f t : ℕ) (os : List CanonicalOption) (g u : ℕ) (ps : List CanonicalOption) → Decides (nat_eq f g && (nat_eq t u && pointwise option_eq'.it os ps)) (Lift f os t ≡ Lift g ps u)
@@ -195,7 +195,7 @@ infixr 10 ◌then◌
 abbrev ◌then◌ : {T : Type 0} {U : T → Type 0} → (x : T) → U x → (y : T) × U y
 x then u = (x, u)
 
-abbrev row_at : (Fs : List Part) {test : Parts Fs → Parts Fs → Bool} {seen : Parts Fs → Canonical} {n : ℕ} (k : ℕ) → ((x : Parts Fs) → first_byte (seen x) ≡ k) → n ≤ k → ((x y : Parts Fs) → Decides (test x y) (seen x ≡ seen y)) → Variant first_byte Fs test seen n
+abbrev row_at : (Fs : List Part) {test : Parts Fs → Parts Fs → Bool} {seen : Parts Fs → Canonical} {n : ℕ} (k : ℕ) → ((x : Parts Fs) → row_first_byte (seen x) ≡ k) → n ≤ k → ((x y : Parts Fs) → Decides (test x y) (seen x ≡ seen y)) → Variant row_first_byte Fs test seen n
 row_at Fs k is from tells = record { k = k; is = is; from = from; tells = tells }
 
 module _ (A : RattleType) (al : Ghosts A.Denot) where
@@ -207,55 +207,55 @@ module _ (A : RattleType) (al : Ghosts A.Denot) where
 
   pub trees : (d e : Dict) (a b : CanonTree A.Denot) → Decides ((eq-value A al d e).it a b) (canon_view a ≡ canon_view b)
   trees d e a b =
-      let same : Decides ((eq-value A al d e).it a b) (seen ((enum A al).as_values a) ≡ seen ((enum A al).as_values b)) = by_decides first_byte Parts_of _ seen 0 (
+      let same : Decides ((eq-value A al d e).it a b) (seen ((enum A al).as_values a) ≡ seen ((enum A al).as_values b)) = by_decides row_first_byte Parts_of _ seen 0 (
       row_at _ 0x00 (λ x. refl) (omega arith) (λ x y. lifted_row x.0 x.1.0 x.1.1.0.items y.0 y.1.0 y.1.1.0.items) then
       row_at _ 0x01 (λ x. refl) (omega arith) (λ x y. index_and_options_row (λ n os. Lower n os) (λ n os. refl) x.0 x.1.0.items y.0 y.1.0.items) then
-      row_at _ 0x02 (λ x. refl) (omega arith) (λ x y. index_row (Provided canon.ResourceNew) (λ n. refl) x.0 y.0) then
-      row_at _ 0x03 (λ x. refl) (omega arith) (λ x y. index_row (Provided canon.ResourceDrop) (λ n. refl) x.0 y.0) then
-      row_at _ 0x04 (λ x. refl) (omega arith) (λ x y. index_row (Provided canon.ResourceRep) (λ n. refl) x.0 y.0) then
+      row_at _ 0x02 (λ x. refl) (omega arith) (λ x y. index_row (OfBuiltin canon.ResourceNew) (λ n. refl) x.0 y.0) then
+      row_at _ 0x03 (λ x. refl) (omega arith) (λ x y. index_row (OfBuiltin canon.ResourceDrop) (λ n. refl) x.0 y.0) then
+      row_at _ 0x04 (λ x. refl) (omega arith) (λ x y. index_row (OfBuiltin canon.ResourceRep) (λ n. refl) x.0 y.0) then
       row_at _ 0x05 (λ x. refl) (omega arith) (λ x y. (λ e. refl, λ e. refl)) then
-      row_at _ 0x06 (λ x. refl) (omega arith) (λ x y. flag_row (Provided canon.SubtaskCancel) (λ b. refl) x.0 y.0) then
-      row_at _ 0x09 (λ x. refl) (omega arith) (λ x y. results_and_options_row (λ r os. Provided canon.TaskReturn (r, os)) (λ r os. refl) x.0 x.1.0.items y.0 y.1.0.items) then
-      row_at _ 0x0a (λ x. refl) (omega arith) (λ x y. type_and_index_row (λ t n. Provided canon.ContextGet (t, n)) (λ t n. refl) x.0 x.1.0 y.0 y.1.0) then
-      row_at _ 0x0b (λ x. refl) (omega arith) (λ x y. type_and_index_row (λ t n. Provided canon.ContextSet (t, n)) (λ t n. refl) x.0 x.1.0 y.0 y.1.0) then
+      row_at _ 0x06 (λ x. refl) (omega arith) (λ x y. flag_row (OfBuiltin canon.SubtaskCancel) (λ b. refl) x.0 y.0) then
+      row_at _ 0x09 (λ x. refl) (omega arith) (λ x y. results_and_options_row (λ r os. OfBuiltin canon.TaskReturn (r, os)) (λ r os. refl) x.0 x.1.0.items y.0 y.1.0.items) then
+      row_at _ 0x0a (λ x. refl) (omega arith) (λ x y. type_and_index_row (λ t n. OfBuiltin canon.ContextGet (t, n)) (λ t n. refl) x.0 x.1.0 y.0 y.1.0) then
+      row_at _ 0x0b (λ x. refl) (omega arith) (λ x y. type_and_index_row (λ t n. OfBuiltin canon.ContextSet (t, n)) (λ t n. refl) x.0 x.1.0 y.0 y.1.0) then
       row_at _ 0x0c (λ x. refl) (omega arith) (λ x y. (λ e. refl, λ e. refl)) then
       row_at _ 0x0d (λ x. refl) (omega arith) (λ x y. (λ e. refl, λ e. refl)) then
-      row_at _ 0x0e (λ x. refl) (omega arith) (λ x y. index_row (Provided canon.StreamNew) (λ n. refl) x.0 y.0) then
-      row_at _ 0x0f (λ x. refl) (omega arith) (λ x y. index_and_options_row (λ n os. Provided canon.StreamRead (n, os)) (λ n os. refl) x.0 x.1.0.items y.0 y.1.0.items) then
-      row_at _ 0x10 (λ x. refl) (omega arith) (λ x y. index_and_options_row (λ n os. Provided canon.StreamWrite (n, os)) (λ n os. refl) x.0 x.1.0.items y.0 y.1.0.items) then
-      row_at _ 0x11 (λ x. refl) (omega arith) (λ x y. index_and_flag_row (λ n b. Provided canon.StreamCancelRead (n, b)) (λ n b. refl) x.0 x.1.0 y.0 y.1.0) then
-      row_at _ 0x12 (λ x. refl) (omega arith) (λ x y. index_and_flag_row (λ n b. Provided canon.StreamCancelWrite (n, b)) (λ n b. refl) x.0 x.1.0 y.0 y.1.0) then
-      row_at _ 0x13 (λ x. refl) (omega arith) (λ x y. index_row (Provided canon.StreamDropReadable) (λ n. refl) x.0 y.0) then
-      row_at _ 0x14 (λ x. refl) (omega arith) (λ x y. index_row (Provided canon.StreamDropWritable) (λ n. refl) x.0 y.0) then
-      row_at _ 0x15 (λ x. refl) (omega arith) (λ x y. index_row (Provided canon.FutureNew) (λ n. refl) x.0 y.0) then
-      row_at _ 0x16 (λ x. refl) (omega arith) (λ x y. index_and_options_row (λ n os. Provided canon.FutureRead (n, os)) (λ n os. refl) x.0 x.1.0.items y.0 y.1.0.items) then
-      row_at _ 0x17 (λ x. refl) (omega arith) (λ x y. index_and_options_row (λ n os. Provided canon.FutureWrite (n, os)) (λ n os. refl) x.0 x.1.0.items y.0 y.1.0.items) then
-      row_at _ 0x18 (λ x. refl) (omega arith) (λ x y. index_and_flag_row (λ n b. Provided canon.FutureCancelRead (n, b)) (λ n b. refl) x.0 x.1.0 y.0 y.1.0) then
-      row_at _ 0x19 (λ x. refl) (omega arith) (λ x y. index_and_flag_row (λ n b. Provided canon.FutureCancelWrite (n, b)) (λ n b. refl) x.0 x.1.0 y.0 y.1.0) then
-      row_at _ 0x1a (λ x. refl) (omega arith) (λ x y. index_row (Provided canon.FutureDropReadable) (λ n. refl) x.0 y.0) then
-      row_at _ 0x1b (λ x. refl) (omega arith) (λ x y. index_row (Provided canon.FutureDropWritable) (λ n. refl) x.0 y.0) then
-      row_at _ 0x1c (λ x. refl) (omega arith) (λ x y. options_row (Provided canon.ErrorContextNew) (λ os. refl) x.0.items y.0.items) then
-      row_at _ 0x1d (λ x. refl) (omega arith) (λ x y. options_row (Provided canon.ErrorContextDebugMessage) (λ os. refl) x.0.items y.0.items) then
+      row_at _ 0x0e (λ x. refl) (omega arith) (λ x y. index_row (OfBuiltin canon.StreamNew) (λ n. refl) x.0 y.0) then
+      row_at _ 0x0f (λ x. refl) (omega arith) (λ x y. index_and_options_row (λ n os. OfBuiltin canon.StreamRead (n, os)) (λ n os. refl) x.0 x.1.0.items y.0 y.1.0.items) then
+      row_at _ 0x10 (λ x. refl) (omega arith) (λ x y. index_and_options_row (λ n os. OfBuiltin canon.StreamWrite (n, os)) (λ n os. refl) x.0 x.1.0.items y.0 y.1.0.items) then
+      row_at _ 0x11 (λ x. refl) (omega arith) (λ x y. index_and_flag_row (λ n b. OfBuiltin canon.StreamCancelRead (n, b)) (λ n b. refl) x.0 x.1.0 y.0 y.1.0) then
+      row_at _ 0x12 (λ x. refl) (omega arith) (λ x y. index_and_flag_row (λ n b. OfBuiltin canon.StreamCancelWrite (n, b)) (λ n b. refl) x.0 x.1.0 y.0 y.1.0) then
+      row_at _ 0x13 (λ x. refl) (omega arith) (λ x y. index_row (OfBuiltin canon.StreamDropReadable) (λ n. refl) x.0 y.0) then
+      row_at _ 0x14 (λ x. refl) (omega arith) (λ x y. index_row (OfBuiltin canon.StreamDropWritable) (λ n. refl) x.0 y.0) then
+      row_at _ 0x15 (λ x. refl) (omega arith) (λ x y. index_row (OfBuiltin canon.FutureNew) (λ n. refl) x.0 y.0) then
+      row_at _ 0x16 (λ x. refl) (omega arith) (λ x y. index_and_options_row (λ n os. OfBuiltin canon.FutureRead (n, os)) (λ n os. refl) x.0 x.1.0.items y.0 y.1.0.items) then
+      row_at _ 0x17 (λ x. refl) (omega arith) (λ x y. index_and_options_row (λ n os. OfBuiltin canon.FutureWrite (n, os)) (λ n os. refl) x.0 x.1.0.items y.0 y.1.0.items) then
+      row_at _ 0x18 (λ x. refl) (omega arith) (λ x y. index_and_flag_row (λ n b. OfBuiltin canon.FutureCancelRead (n, b)) (λ n b. refl) x.0 x.1.0 y.0 y.1.0) then
+      row_at _ 0x19 (λ x. refl) (omega arith) (λ x y. index_and_flag_row (λ n b. OfBuiltin canon.FutureCancelWrite (n, b)) (λ n b. refl) x.0 x.1.0 y.0 y.1.0) then
+      row_at _ 0x1a (λ x. refl) (omega arith) (λ x y. index_row (OfBuiltin canon.FutureDropReadable) (λ n. refl) x.0 y.0) then
+      row_at _ 0x1b (λ x. refl) (omega arith) (λ x y. index_row (OfBuiltin canon.FutureDropWritable) (λ n. refl) x.0 y.0) then
+      row_at _ 0x1c (λ x. refl) (omega arith) (λ x y. options_row (OfBuiltin canon.ErrorContextNew) (λ os. refl) x.0.items y.0.items) then
+      row_at _ 0x1d (λ x. refl) (omega arith) (λ x y. options_row (OfBuiltin canon.ErrorContextDebugMessage) (λ os. refl) x.0.items y.0.items) then
       row_at _ 0x1e (λ x. refl) (omega arith) (λ x y. (λ e. refl, λ e. refl)) then
       row_at _ 0x1f (λ x. refl) (omega arith) (λ x y. (λ e. refl, λ e. refl)) then
-      row_at _ 0x20 (λ x. refl) (omega arith) (λ x y. memory_row (λ n. Provided canon.WaitableSetWait (tt, n)) (λ n. refl) x.0 y.0) then
-      row_at _ 0x21 (λ x. refl) (omega arith) (λ x y. memory_row (λ n. Provided canon.WaitableSetPoll (tt, n)) (λ n. refl) x.0 y.0) then
+      row_at _ 0x20 (λ x. refl) (omega arith) (λ x y. memory_row (λ n. OfBuiltin canon.WaitableSetWait (tt, n)) (λ n. refl) x.0 y.0) then
+      row_at _ 0x21 (λ x. refl) (omega arith) (λ x y. memory_row (λ n. OfBuiltin canon.WaitableSetPoll (tt, n)) (λ n. refl) x.0 y.0) then
       row_at _ 0x22 (λ x. refl) (omega arith) (λ x y. (λ e. refl, λ e. refl)) then
       row_at _ 0x23 (λ x. refl) (omega arith) (λ x y. (λ e. refl, λ e. refl)) then
       row_at _ 0x24 (λ x. refl) (omega arith) (λ x y. (λ e. refl, λ e. refl)) then
       row_at _ 0x25 (λ x. refl) (omega arith) (λ x y. (λ e. refl, λ e. refl)) then
       row_at _ 0x26 (λ x. refl) (omega arith) (λ x y. (λ e. refl, λ e. refl)) then
-      row_at _ 0x27 (λ x. refl) (omega arith) (λ x y. indices_row (λ m n. Provided canon.ThreadNewIndirect (m, n)) (λ m n. refl) x.0 x.1.0 y.0 y.1.0) then
+      row_at _ 0x27 (λ x. refl) (omega arith) (λ x y. indices_row (λ m n. OfBuiltin canon.ThreadNewIndirect (m, n)) (λ m n. refl) x.0 x.1.0 y.0 y.1.0) then
       row_at _ 0x28 (λ x. refl) (omega arith) (λ x y. (λ e. refl, λ e. refl)) then
       row_at _ 0x29 (λ x. refl) (omega arith) (λ x y. (λ e. refl, λ e. refl)) then
       row_at _ 0x2a (λ x. refl) (omega arith) (λ x y. (λ e. refl, λ e. refl)) then
       row_at _ 0x2b (λ x. refl) (omega arith) (λ x y. (λ e. refl, λ e. refl)) then
       row_at _ 0x2c (λ x. refl) (omega arith) (λ x y. (λ e. refl, λ e. refl)) then
       row_at _ 0x2d (λ x. refl) (omega arith) (λ x y. (λ e. refl, λ e. refl)) then
-      row_at _ 0x2e (λ x. refl) (omega arith) (λ x y. index_row (Provided canon.StreamForward) (λ n. refl) x.0 y.0) then
-      row_at _ 0x2f (λ x. refl) (omega arith) (λ x y. index_row (Provided canon.FutureForward) (λ n. refl) x.0 y.0) then
-      row_at _ 0x40 (λ x. refl) (omega arith) (λ x y. index_row (Provided canon.ThreadSpawnRef) (λ n. refl) x.0 y.0) then
-      row_at _ 0x41 (λ x. refl) (omega arith) (λ x y. indices_row (λ m n. Provided canon.ThreadSpawnIndirect (m, n)) (λ m n. refl) x.0 x.1.0 y.0 y.1.0) then
+      row_at _ 0x2e (λ x. refl) (omega arith) (λ x y. index_row (OfBuiltin canon.StreamForward) (λ n. refl) x.0 y.0) then
+      row_at _ 0x2f (λ x. refl) (omega arith) (λ x y. index_row (OfBuiltin canon.FutureForward) (λ n. refl) x.0 y.0) then
+      row_at _ 0x40 (λ x. refl) (omega arith) (λ x y. index_row (OfBuiltin canon.ThreadSpawnRef) (λ n. refl) x.0 y.0) then
+      row_at _ 0x41 (λ x. refl) (omega arith) (λ x y. indices_row (λ m n. OfBuiltin canon.ThreadSpawnIndirect (m, n)) (λ m n. refl) x.0 x.1.0 y.0 y.1.0) then
       row_at _ 0x42 (λ x. refl) (omega arith) (λ x y. (λ e. refl, λ e. refl)) then
       tt
       ) ((enum A al).as_values a) ((enum A al).as_values b) in

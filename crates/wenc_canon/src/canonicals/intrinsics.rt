@@ -1,6 +1,6 @@
 ghost use Rattle.std.specs.Iterator.{IsFinite};
 ghost use Rattle.wenc_canon.specs.Canonicals as canon;
-ghost use Rattle.wenc_canon.specs.Canonicals.{Adds, AddsWithOptions, Provided};
+ghost use Rattle.wenc_canon.specs.Canonicals.{Adds, AddsWithOptions, OfBuiltin};
 
 use super::{CanonicalFunctionSection, CanonicalOption};
 use crate::fields::NotCancellable;
@@ -78,7 +78,7 @@ impl<A: Allocator> CanonicalFunctionSection<A> {
         requires can { I.can_next options }
         requires ends { IsFinite (I.remaining options) }
         ensures { AddsWithOptions I.next_gives options self.old self.new result
-            (λ os. Provided canon.TaskReturn (ty, os)) }
+            (λ os. OfBuiltin canon.TaskReturn (ty, os)) }
     {
         self.add_row_with_options(rows::TASK_RETURN, &ResultList(ty), options)
     }
@@ -134,7 +134,7 @@ impl<A: Allocator> CanonicalFunctionSection<A> {
         requires can { I.can_next options }
         requires ends { IsFinite (I.remaining options) }
         ensures { AddsWithOptions I.next_gives options self.old self.new result
-            (λ os. Provided canon.StreamRead (ty, os)) }
+            (λ os. OfBuiltin canon.StreamRead (ty, os)) }
     {
         self.add_row_with_options(rows::STREAM_READ, &ty, options)
     }
@@ -148,7 +148,7 @@ impl<A: Allocator> CanonicalFunctionSection<A> {
         requires can { I.can_next options }
         requires ends { IsFinite (I.remaining options) }
         ensures { AddsWithOptions I.next_gives options self.old self.new result
-            (λ os. Provided canon.StreamWrite (ty, os)) }
+            (λ os. OfBuiltin canon.StreamWrite (ty, os)) }
     {
         self.add_row_with_options(rows::STREAM_WRITE, &ty, options)
     }
@@ -204,7 +204,7 @@ impl<A: Allocator> CanonicalFunctionSection<A> {
         requires can { I.can_next options }
         requires ends { IsFinite (I.remaining options) }
         ensures { AddsWithOptions I.next_gives options self.old self.new result
-            (λ os. Provided canon.FutureRead (ty, os)) }
+            (λ os. OfBuiltin canon.FutureRead (ty, os)) }
     {
         self.add_row_with_options(rows::FUTURE_READ, &ty, options)
     }
@@ -218,7 +218,7 @@ impl<A: Allocator> CanonicalFunctionSection<A> {
         requires can { I.can_next options }
         requires ends { IsFinite (I.remaining options) }
         ensures { AddsWithOptions I.next_gives options self.old self.new result
-            (λ os. Provided canon.FutureWrite (ty, os)) }
+            (λ os. OfBuiltin canon.FutureWrite (ty, os)) }
     {
         self.add_row_with_options(rows::FUTURE_WRITE, &ty, options)
     }
@@ -266,7 +266,7 @@ impl<A: Allocator> CanonicalFunctionSection<A> {
         requires can { I.can_next options }
         requires ends { IsFinite (I.remaining options) }
         ensures { AddsWithOptions I.next_gives options self.old self.new result
-            (λ os. Provided canon.ErrorContextNew os) }
+            (λ os. OfBuiltin canon.ErrorContextNew os) }
     {
         self.add_row_with_options(rows::ERROR_CONTEXT_NEW, &(), options)
     }
@@ -279,7 +279,7 @@ impl<A: Allocator> CanonicalFunctionSection<A> {
         requires can { I.can_next options }
         requires ends { IsFinite (I.remaining options) }
         ensures { AddsWithOptions I.next_gives options self.old self.new result
-            (λ os. Provided canon.ErrorContextDebugMessage os) }
+            (λ os. OfBuiltin canon.ErrorContextDebugMessage os) }
     {
         self.add_row_with_options(rows::ERROR_CONTEXT_DEBUG_MESSAGE, &(), options)
     }

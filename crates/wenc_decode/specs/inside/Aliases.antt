@@ -9,8 +9,8 @@ use Rattle.wenc_parts.specs.declared.exports.ComponentExportKind.TheVariants as 
 use Rattle.wenc_parts.specs.laws.Aliases.{read_export, read_core_export, read_outer, read_either}
 
 -- an export of an instance, of a kind that is no outer item's
-abbrev pub read_exported : ComponentExportKind → Reader AliasOf
-read_exported kind = choose ((0x00, read_export kind) ∷ []) nowhere
+abbrev pub read_exported_alias : ComponentExportKind → Reader AliasOf
+read_exported_alias kind = choose ((0x00, read_export kind) ∷ []) nowhere
 
 -- what is of a core sort
 abbrev pub read_core_alias : Reader AliasOf

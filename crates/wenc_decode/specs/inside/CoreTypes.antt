@@ -5,7 +5,7 @@ use Rattle.wenc_base.specs.Composites.{Single}
 use Rattle.wenc_base.specs.laws.Lawful.{Reader, ◌>>=◌, give, nowhere, choose}
 use Rattle.wenc_base.specs.laws.Numbers.{read_u32}
 use Rattle.wenc_base.specs.laws.Types.{read_heap_type, to}
-use Rattle.wenc_types.specs.CoreTypes.{ModuleDeclaration, Outer, CoreType, Grouped}
+use Rattle.wenc_types.specs.CoreTypes.{ModuleDeclaration, ModuleOuter, CoreType, Grouped}
 use Rattle.wenc_types.specs.laws.CoreTypes.{read_open}
 
 -- a reference to the heap type that follows
@@ -17,7 +17,7 @@ abbrev pub read_outer_type : Reader ModuleDeclaration
 read_outer_type =
     choose ((
       0x10,
-      choose ((0x01, read_u32 >>= λ count. read_u32 >>= λ number. give (Outer count number)) ∷ [])
+      choose ((0x01, read_u32 >>= λ count. read_u32 >>= λ number. give (ModuleOuter count number)) ∷ [])
           nowhere,
     ) ∷ []) nowhere
 

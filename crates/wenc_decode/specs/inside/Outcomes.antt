@@ -59,10 +59,10 @@ unfoldable pub select : {A : Type 0} → List (ℕ × DeepReader A) → DeepRead
 select table other bytes = on (found (read_byte bytes)) (take_row table other bytes)
 
 -- all of the bytes
-abbrev pub filled : {A : Type 0} → Outcome A → Result A Flaw
-filled (Ok (v, [])) = Ok v
-filled (Ok (v, b ∷ rest)) = Err Bad
-filled (Err flaw) = Err flaw
+abbrev pub reserved : {A : Type 0} → Outcome A → Result A Flaw
+reserved (Ok (v, [])) = Ok v
+reserved (Ok (v, b ∷ rest)) = Err Bad
+reserved (Err flaw) = Err flaw
 
 -- ---- what a function returned
 

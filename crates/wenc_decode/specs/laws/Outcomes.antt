@@ -4,7 +4,7 @@ use Rattle.std.proofs.lemmas.Bool.{eqb-true}
 use Rattle.std.specs.List.{AllByRecursion}
 use Rattle.wenc_base.specs.Piece.{Piece, Form, Wide, nothing, ◌▸◌, ◌⨾◌, only_where, each}
 use Rattle.wenc_base.specs.laws.Lawful.{Lawful, Reader}
-use Rattle.wenc_base.specs.laws.Sound.{Then, Sound, behind}
+use Rattle.wenc_base.specs.laws.Sound.{Then, Sound, sound_behind}
 use Rattle.wenc_decode.specs.inside.Outcomes.{Bad, Deep, Outcome, DeepReader, found, flat, on, ◌>>>◌, yield, refuse, too_deep, repeat, take_row, select}
 
 -- ---- what is found is read, and where it is too deep, the bytes go so deep
@@ -52,7 +52,7 @@ last_tells {part = part} {read = read} {form = form} Goes Went make t go k = rec
 
 abbrev pub RowsTell : {A : Type 0} → Form A → (List ℕ → Type 0) → List (ℕ × DeepReader A) → Type 0
 RowsTell form Goes [] = Unit {0}
-RowsTell form Goes (row ∷ table) = Tells (behind row.0 form) (λ bytes. Goes (row.0 ∷ bytes)) row.1 × RowsTell form Goes table
+RowsTell form Goes (row ∷ table) = Tells (sound_behind row.0 form) (λ bytes. Goes (row.0 ∷ bytes)) row.1 × RowsTell form Goes table
 
 pub tested : (b c : ℕ) → ((eqb b c ≡ true) × (b ≡ c)) ⊎ (eqb b c ≡ false)
 tested b c = elim (eqb b c) as (λ t. (eqb b c ≡ t) → ((eqb b c ≡ true) × (b ≡ c)) ⊎ (eqb b c ≡ false)) [ true ↦ λ e. inl (e, eqb-true b c e) | false ↦ λ e. inr e ] refl
@@ -100,15 +100,15 @@ each_plain form P (v ∷ vs) bytes rest r = let others = each_plain form P vs r.
 -- ---- what is read is found
 
 -- The reader gives this value, or else it may say that it is too deep, where it is.
-abbrev pub Agrees : {A : Type 0} → Type 0 → A × List ℕ → Outcome A → Type 0
-Agrees IsDeeper x (Ok y) = y ≡ x
-Agrees IsDeeper x (Err Bad) = ⊥
-Agrees IsDeeper x (Err Deep) = IsDeeper
+abbrev pub SameOutcome : {A : Type 0} → Type 0 → A × List ℕ → Outcome A → Type 0
+SameOutcome IsDeeper x (Ok y) = y ≡ x
+SameOutcome IsDeeper x (Err Bad) = ⊥
+SameOutcome IsDeeper x (Err Deep) = IsDeeper
 
 pub record Finds {A : Type 0} (p : Piece) (read : DeepReader A) (v : A) (IsDeeper : Type 0) : Type 0 where
-  pub finds : (bytes rest : List ℕ) → p.Reads Wide bytes rest → Agrees IsDeeper (v, rest) (read bytes)
+  pub finds : (bytes rest : List ℕ) → p.Reads Wide bytes rest → SameOutcome IsDeeper (v, rest) (read bytes)
 
-weaker : {A : Type 0} (D E : Type 0) (x : A × List ℕ) (some : Outcome A) → (D → E) → Agrees D x some → Agrees E x some
+weaker : {A : Type 0} (D E : Type 0) (x : A × List ℕ) (some : Outcome A) → (D → E) → SameOutcome D x some → SameOutcome E x some
 weaker D E x (Ok y) k h = h
 weaker D E x (Err Bad) k h = absurd h
 weaker D E x (Err Deep) k h = k h
@@ -117,13 +117,13 @@ pub or_deeper : {A : Type 0} {p : Piece} {read : DeepReader A} {v : A} {D : Type
 or_deeper {read = read} {v = v} {D = D} E k f = record { finds = λ bytes rest r. weaker D E (v, rest) (read bytes) k (f.finds bytes rest r) }
 
 agrees_on : {A B : Type 0} (D : Type 0) (v : A) (middle : List ℕ) (w : B × List ℕ) (next : A → List ℕ → Outcome B) (some : Outcome A)
-    → Agrees D (v, middle) some → Agrees D w (next v middle) → Agrees D w (on some next)
-agrees_on D v middle w next (Ok y) e h = subst (λ (z : _ × List ℕ). Agrees D w (next z.0 z.1)) (sym e) h
+    → SameOutcome D (v, middle) some → SameOutcome D w (next v middle) → SameOutcome D w (on some next)
+agrees_on D v middle w next (Ok y) e h = subst (λ (z : _ × List ℕ). SameOutcome D w (next z.0 z.1)) (sym e) h
 agrees_on D v middle w next (Err Bad) e h = absurd e
 agrees_on D v middle w next (Err Deep) e h = e
 
 -- what agrees and can't be too deep is found
-pub agreed : {A : Type 0} (D : Type 0) (x : A × List ℕ) (some : Outcome A) → Agrees D x some → (D → ⊥) → some ≡ Ok x
+pub agreed : {A : Type 0} (D : Type 0) (x : A × List ℕ) (some : Outcome A) → SameOutcome D x some → (D → ⊥) → some ≡ Ok x
 agreed D x (Ok y) a never = ap (λ (z : _ × List ℕ). Ok z) a
 agreed D x (Err Bad) a never = absurd a
 agreed D x (Err Deep) a never = absurd (never a)
@@ -147,30 +147,30 @@ flat_finds D l = record { finds = λ bytes rest r. rw (l.finds l.depth (omega ar
 pub too_deep_finds : {A : Type 0} {p : Piece} {v : A} (D : Type 0) → D → Finds p too_deep v D
 too_deep_finds D d = record { finds = λ bytes rest r. d }
 
--- a piece behind a byte that a row has
+-- a piece sound_behind a byte that a row has
 pub row_finds : {A : Type 0} {p : Piece} {v : A} {D : Type 0} (table : List (ℕ × DeepReader A)) (other : DeepReader A) (b : ℕ) (read : DeepReader A) → ((bytes rest : List ℕ) → take_row table other bytes b rest ≡ read rest)
     → Finds p read v D → Finds (b ▸ p) (select table other) v D
 unfolding select
 row_finds {v = v} {D = D} table other b read is_row f = record { finds = λ bytes rest r. rw (r.1, is_row (b ∷ r.0) r.0) (f.finds r.0 rest r.2) }
 
--- the other reader finds nothing behind the bytes of the table
-abbrev pub IsApart : {A : Type 0} → DeepReader A → List (ℕ × DeepReader A) → Type 0
-IsApart other [] = Unit {0}
-IsApart other (row ∷ table) = ((rest : List ℕ) → other (row.0 ∷ rest) ≡ Err Bad) × IsApart other table
+-- the other reader finds nothing sound_behind the bytes of the table
+abbrev pub ReadsApart : {A : Type 0} → DeepReader A → List (ℕ × DeepReader A) → Type 0
+ReadsApart other [] = Unit {0}
+ReadsApart other (row ∷ table) = ((rest : List ℕ) → other (row.0 ∷ rest) ≡ Err Bad) × ReadsApart other table
 
-past : {A : Type 0} (D : Type 0) (x : A × List ℕ) (table : List (ℕ × DeepReader A)) (other : DeepReader A) → IsApart other table → (b : ℕ) (rest : List ℕ) → Agrees D x (other (b ∷ rest)) → Agrees D x (take_row table other (b ∷ rest) b rest)
-past D x [] other h b rest a = a
-past {A} D x (row ∷ table) other h b rest a =
+past_of : {A : Type 0} (D : Type 0) (x : A × List ℕ) (table : List (ℕ × DeepReader A)) (other : DeepReader A) → ReadsApart other table → (b : ℕ) (rest : List ℕ) → SameOutcome D x (other (b ∷ rest)) → SameOutcome D x (take_row table other (b ∷ rest) b rest)
+past_of D x [] other h b rest a = a
+past_of {A} D x (row ∷ table) other h b rest a =
     elim (tested b row.0) [
-      | inl e ↦ absurd (rw (h.0 rest) at (subst (λ (c : ℕ). Agrees D x (other (c ∷ rest))) e.1 a))
-      | inr e ↦ rw (e, take_row) (past D x table other h.1 b rest a)
+      | inl e ↦ absurd (rw (h.0 rest) at (subst (λ (c : ℕ). SameOutcome D x (other (c ∷ rest))) e.1 a))
+      | inr e ↦ rw (e, take_row) (past_of D x table other h.1 b rest a)
     ]
 
 -- so what it finds is found
-pub other_finds : {A : Type 0} {p : Piece} {v : A} {D : Type 0} (table : List (ℕ × DeepReader A)) (other : DeepReader A) → IsApart other table → (other [] ≡ Err Bad) → Finds p other v D → Finds p (select table other) v D
+pub other_finds : {A : Type 0} {p : Piece} {v : A} {D : Type 0} (table : List (ℕ × DeepReader A)) (other : DeepReader A) → ReadsApart other table → (other [] ≡ Err Bad) → Finds p other v D → Finds p (select table other) v D
 unfolding select
 other_finds {p = p} {v = v} {D = D} table other apart nowhere f = record { finds = λ bytes rest r. agrees bytes rest (f.finds bytes rest r) }
   where
-    agrees : (bytes rest : List ℕ) → Agrees D (v, rest) (other bytes) → Agrees D (v, rest) (select table other bytes)
+    agrees : (bytes rest : List ℕ) → SameOutcome D (v, rest) (other bytes) → SameOutcome D (v, rest) (select table other bytes)
     agrees [] rest a = absurd (rw nowhere at a)
-    agrees (b ∷ bytes) rest a = past D (v, rest) table other apart b bytes a
+    agrees (b ∷ bytes) rest a = past_of D (v, rest) table other apart b bytes a

@@ -8,42 +8,42 @@ use Rattle.wenc_base.specs.laws.Forms.{list_lawful, list_sound, option_lawful, o
 use Rattle.wenc_base.specs.declared.types.ValType.{ValType}
 use Rattle.wenc_base.specs.laws.Lawful.{◌>>=◌, give, choose, then, last}
 use Rattle.wenc_base.specs.laws.Numbers.{read_u32, u32_lawful, count_lawful, u32_sound}
-use Rattle.wenc_base.specs.laws.Sound.{Then, Sound, behind, then_sound, last_sound, nowhere_sound, choose_sound, both_tables}
+use Rattle.wenc_base.specs.laws.Sound.{Then, Sound, sound_behind, then_sound, last_sound, nowhere_sound, choose_sound, both_tables}
 use Rattle.wenc_base.specs.laws.Types.{val_type_lawful, val_type_sound}
 use Rattle.wenc_parts.specs.declared.types.ComponentValType.{ComponentValType}
 use Rattle.wenc_parts.specs.laws.Aliases.{read_alias, alias_lawful, alias_sound}
 use Rattle.wenc_parts.specs.laws.Imports.{extern_name_lawful, extern_name_sound, type_reference_lawful, type_reference_sound}
 use Rattle.wenc_parts.specs.laws.Types.{result_list_lawful, result_list_sound, primitive_rows, primitive_rows_sound}
-use Rattle.wenc_types.specs.ComponentTypes.{TypeOf, DefinedType, FunctionType, ComponentType, InstanceType, ResourceType, InstanceDeclaration, CoreTyped, Typed, Aliased, Exported, ComponentDeclaration, Imported, Declared, InstanceDeclarations, no_instance, and_instance, ComponentDeclarations, no_component, and_component, instances_of, components_of, instance_count, component_count, type_of, instance_declaration, component_declaration, each_instance, each_component, depth, instance_depth, component_depth, declared_depth}
-use Rattle.wenc_types.specs.DefinedTypes.{Named, Defined, Primitive, defined_type, function_type_of}
+use Rattle.wenc_types.specs.ComponentTypes.{DefType, DefinedType, FunctionType, ComponentType, InstanceType, ResourceType, InstanceDeclaration, CoreTyped, Typed, Aliased, Exported, ComponentDeclaration, Imported, Declared, InstanceDeclarations, no_instance, and_instance, ComponentDeclarations, no_component, and_component, instances_of, components_of, instance_count, component_count, def_type, instance_declaration, component_declaration, each_instance, each_component, depth, instance_depth, component_depth, declared_depth}
+use Rattle.wenc_types.specs.DefinedTypes.{LabelledType, DefValType, Primitive, def_val_type, function_type_of}
 use Rattle.wenc_types.specs.laws.ComponentTypes.{instances_counted, components_counted}
 use Rattle.wenc_types.specs.laws.CoreTypes.{read_core_type, core_type_lawful, core_type_sound}
-use Rattle.wenc_types.specs.laws.DefinedTypes.{named_lawful, named_sound, defined_type_lawful, defined_rows, defined_rows_sound, read_defined, to_function}
-use Rattle.wenc_decode.specs.Depth.{Front, Behind, Enters}
+use Rattle.wenc_types.specs.laws.DefinedTypes.{labelled_type_lawful, named_sound, defined_type_lawful, defined_rows, defined_rows_sound, read_defined, to_function}
+use Rattle.wenc_decode.specs.Depth.{Front, ByteThen, OpensTypes}
 use Rattle.wenc_decode.specs.inside.Outcomes.{Bad, DeepReader, flat, ◌>>>◌, yield, too_deep, repeat, select}
-use Rattle.wenc_decode.specs.inside.TypeTrees.{read_exported, read_imported, read_instance_declaration, read_component_declaration, read_components, read_instances, read_shallow, type_rows, read_type, read_component_type, read_instance_type}
+use Rattle.wenc_decode.specs.inside.TypeTrees.{read_exported_type, read_imported, read_instance_declaration, read_component_declaration, read_components, read_instances, read_shallow, type_rows, read_type, read_component_type, read_instance_type}
 use Rattle.wenc_decode.specs.inside.Types.{read_function_type, read_resource_type}
-use Rattle.wenc_decode.specs.laws.Outcomes.{Told, Tells, told_on, told_flat, flat_tells, refuse_tells, too_deep_tells, last_tells, RowsTell, select_tells, Fewer, Several, repeat_told, each_plain, Finds, agreed, or_deeper, nothing_finds, then_finds, last_finds, flat_finds, too_deep_finds, row_finds, IsApart, other_finds}
+use Rattle.wenc_decode.specs.laws.Outcomes.{Told, Tells, told_on, told_flat, flat_tells, refuse_tells, too_deep_tells, last_tells, RowsTell, select_tells, Fewer, Several, repeat_told, each_plain, Finds, agreed, or_deeper, nothing_finds, then_finds, last_finds, flat_finds, too_deep_finds, row_finds, ReadsApart, other_finds}
 use Rattle.wenc_decode.specs.laws.Levels.{one_level}
 
 -- ---- what doesn't nest
 
-defined_sound : Sound defined_type read_defined
-defined_sound = choose_sound _ _ (both_tables defined_type (primitive_rows Primitive) (defined_rows (λ t. t)) (primitive_rows_sound defined_type Primitive (λ p rest. refl)) (defined_rows_sound defined_type (λ t. t) (λ t bytes rest r. r))) nowhere_sound
+defined_sound : Sound def_val_type read_defined
+defined_sound = choose_sound _ _ (both_tables def_val_type (primitive_rows Primitive) (defined_rows (λ t. t)) (primitive_rows_sound def_val_type Primitive (λ p rest. refl)) (defined_rows_sound def_val_type (λ t. t) (λ t bytes rest r. r))) nowhere_sound
 
-abbrev Shallow : ℕ → Form TypeOf
-Shallow d t = only_where (depth t ≤ d) (type_of t)
+abbrev Shallow : ℕ → Form DefType
+Shallow d t = only_where (depth t ≤ d) (def_type t)
 
 shallow_sound : (d : ℕ) → Sound (Shallow d) (read_defined >>= λ ty. give (DefinedType ty))
 shallow_sound d = last_sound DefinedType defined_sound (λ ty bytes rest r. (omega arith, r))
 
-sync_sound : (d : ℕ) → Sound (behind 0x40 (Shallow d)) (read_function_type false)
+sync_sound : (d : ℕ) → Sound (sound_behind 0x40 (Shallow d)) (read_function_type false)
 sync_sound d = then_sound _ (list_sound named_sound) (λ params. last_sound (λ answer. FunctionType (to_function false params answer)) result_list_sound (λ answer middle rest r bytes p. (omega arith, (bytes, refl, (middle, p, r)))))
 
-async_sound : (d : ℕ) → Sound (behind 0x43 (Shallow d)) (read_function_type true)
+async_sound : (d : ℕ) → Sound (sound_behind 0x43 (Shallow d)) (read_function_type true)
 async_sound d = then_sound _ (list_sound named_sound) (λ params. last_sound (λ answer. FunctionType (to_function true params answer)) result_list_sound (λ answer middle rest r bytes p. (omega arith, (bytes, refl, (middle, p, r)))))
 
-resource_sound : (d : ℕ) → Sound (behind 0x3f (Shallow d)) read_resource_type
+resource_sound : (d : ℕ) → Sound (sound_behind 0x3f (Shallow d)) read_resource_type
 resource_sound d = then_sound _ val_type_sound (λ rep. last_sound (ResourceType rep) (option_sound u32_sound) (λ dtor middle rest r bytes p. (omega arith, (bytes, refl, (middle, p, r)))))
 
 -- ---- declarations
@@ -59,11 +59,11 @@ opened (Declared d) = declared_depth d
 abbrev ComponentWithin : ℕ → Form ComponentDeclaration
 ComponentWithin d x = only_where (opened x ≤ d) (component_declaration x)
 
-instance_tells : (d : ℕ) {read : DeepReader TypeOf} → Tells (Shallow d) (Enters d) read → Tells (DeclaredWithin d) (Behind 0x01 (Enters d)) (read_instance_declaration read)
-instance_tells d t = select_tells (Behind 0x01 (Enters d)) _ _ (
+instance_tells : (d : ℕ) {read : DeepReader DefType} → Tells (Shallow d) (OpensTypes d) read → Tells (DeclaredWithin d) (ByteThen 0x01 (OpensTypes d)) (read_instance_declaration read)
+instance_tells d t = select_tells (ByteThen 0x01 (OpensTypes d)) _ _ (
   flat_tells _ (last_sound CoreTyped core_type_sound (λ ty bytes rest r. (omega arith, (bytes, refl, r)))),
   (
-    last_tells (Enters d) _ Typed t (λ bytes g. (bytes, refl, g)) (λ ty bytes rest r. (r.0, (bytes, refl, r.1))),
+    last_tells (OpensTypes d) _ Typed t (λ bytes g. (bytes, refl, g)) (λ ty bytes rest r. (r.0, (bytes, refl, r.1))),
     (
       flat_tells _ (last_sound Aliased alias_sound (λ to bytes rest r. (omega arith, (bytes, refl, r)))),
       (flat_tells _ (then_sound _ extern_name_sound (λ name. last_sound (Exported name) type_reference_sound (λ ty middle rest r bytes p. (omega arith, (bytes, refl, (middle, p, r)))))), tt),
@@ -71,11 +71,11 @@ instance_tells d t = select_tells (Behind 0x01 (Enters d)) _ _ (
   ),
 ) (refuse_tells _)
 
-component_tells : (d : ℕ) {read : DeepReader TypeOf} → Tells (Shallow d) (Enters d) read → Tells (ComponentWithin d) (Behind 0x01 (Enters d)) (read_component_declaration read)
-component_tells d t = select_tells (Behind 0x01 (Enters d)) _ _ (
+component_tells : (d : ℕ) {read : DeepReader DefType} → Tells (Shallow d) (OpensTypes d) read → Tells (ComponentWithin d) (ByteThen 0x01 (OpensTypes d)) (read_component_declaration read)
+component_tells d t = select_tells (ByteThen 0x01 (OpensTypes d)) _ _ (
   flat_tells _ (then_sound _ extern_name_sound (λ name. last_sound (Imported name) type_reference_sound (λ ty middle rest r bytes p. (omega arith, (bytes, refl, (middle, p, r)))))),
   tt,
-) (last_tells (Behind 0x01 (Enters d)) _ Declared (instance_tells d t) (λ bytes g. g) (λ x bytes rest r. (r.0, r.1)))
+) (last_tells (ByteThen 0x01 (OpensTypes d)) _ Declared (instance_tells d t) (λ bytes g. g) (λ x bytes rest r. (r.0, r.1)))
 
 -- ---- lists of them
 
@@ -120,40 +120,40 @@ counted_told form P make Goes Q Went {read = read} t bytes go k =
 
 -- ---- types of components and of instances
 
-instance_made : (d n : ℕ) (bytes middle rest : List ℕ) (ds : List InstanceDeclaration) → (u32 n).Reads Wide bytes middle → Several (DeclaredWithin d) n middle ds rest → (behind 0x42 (Shallow (suc d)) (InstanceType (instances_of ds))).Reads Wide bytes rest
+instance_made : (d n : ℕ) (bytes middle rest : List ℕ) (ds : List InstanceDeclaration) → (u32 n).Reads Wide bytes middle → Several (DeclaredWithin d) n middle ds rest → (sound_behind 0x42 (Shallow (suc d)) (InstanceType (instances_of ds))).Reads Wide bytes rest
 instance_made d n bytes middle rest ds c s =
     let plain = each_plain instance_declaration (λ x. declared_depth x ≤ d) ds middle rest s.1 in
     let within = instances_within d ds plain.1 in
     (omega arith, (bytes, refl, (middle, rw (instances_counted ds ∙ s.0) c, each_instance_reads ds middle rest plain.0)))
 
-component_made : (d n : ℕ) (bytes middle rest : List ℕ) (ds : List ComponentDeclaration) → (u32 n).Reads Wide bytes middle → Several (ComponentWithin d) n middle ds rest → (behind 0x41 (Shallow (suc d)) (ComponentType (components_of ds))).Reads Wide bytes rest
+component_made : (d n : ℕ) (bytes middle rest : List ℕ) (ds : List ComponentDeclaration) → (u32 n).Reads Wide bytes middle → Several (ComponentWithin d) n middle ds rest → (sound_behind 0x41 (Shallow (suc d)) (ComponentType (components_of ds))).Reads Wide bytes rest
 component_made d n bytes middle rest ds c s =
     let plain = each_plain component_declaration (λ x. opened x ≤ d) ds middle rest s.1 in
     let within = components_within d ds plain.1 in
     (omega arith, (bytes, refl, (middle, rw (components_counted ds ∙ s.0) c, each_component_reads ds middle rest plain.0)))
 
-instances_tell : (d : ℕ) {read : DeepReader TypeOf} → Tells (Shallow d) (Enters d) read → Tells (behind 0x42 (Shallow (suc d))) (λ bytes. Enters (suc d) (0x42 ∷ bytes)) (read_instances read)
+instances_tell : (d : ℕ) {read : DeepReader DefType} → Tells (Shallow d) (OpensTypes d) read → Tells (sound_behind 0x42 (Shallow (suc d))) (λ bytes. OpensTypes (suc d) (0x42 ∷ bytes)) (read_instances read)
 instances_tell d {read = read} t = record {
-  tells = λ bytes. counted_told instance_declaration (λ x. declared_depth x ≤ d) (λ ds. InstanceType (instances_of ds)) (Behind 0x01 (Enters d)) (λ v rest. (behind 0x42 (Shallow (suc d)) v).Reads Wide bytes rest) (Enters (suc d) (0x42 ∷ bytes)) (instance_tells d t) bytes
+  tells = λ bytes. counted_told instance_declaration (λ x. declared_depth x ≤ d) (λ ds. InstanceType (instances_of ds)) (ByteThen 0x01 (OpensTypes d)) (λ v rest. (sound_behind 0x42 (Shallow (suc d)) v).Reads Wide bytes rest) (OpensTypes (suc d) (0x42 ∷ bytes)) (instance_tells d t) bytes
       (λ front. inr (bytes, refl, front)) (λ n middle rest ds c s. instance_made d n bytes middle rest ds c s);
 }
 
-components_tell : (d : ℕ) {read : DeepReader TypeOf} → Tells (Shallow d) (Enters d) read → Tells (behind 0x41 (Shallow (suc d))) (λ bytes. Enters (suc d) (0x41 ∷ bytes)) (read_components read)
+components_tell : (d : ℕ) {read : DeepReader DefType} → Tells (Shallow d) (OpensTypes d) read → Tells (sound_behind 0x41 (Shallow (suc d))) (λ bytes. OpensTypes (suc d) (0x41 ∷ bytes)) (read_components read)
 components_tell d {read = read} t = record {
-  tells = λ bytes. counted_told component_declaration (λ x. opened x ≤ d) (λ ds. ComponentType (components_of ds)) (Behind 0x01 (Enters d)) (λ v rest. (behind 0x41 (Shallow (suc d)) v).Reads Wide bytes rest) (Enters (suc d) (0x41 ∷ bytes)) (component_tells d t) bytes
+  tells = λ bytes. counted_told component_declaration (λ x. opened x ≤ d) (λ ds. ComponentType (components_of ds)) (ByteThen 0x01 (OpensTypes d)) (λ v rest. (sound_behind 0x41 (Shallow (suc d)) v).Reads Wide bytes rest) (OpensTypes (suc d) (0x41 ∷ bytes)) (component_tells d t) bytes
       (λ front. inl (bytes, refl, front)) (λ n middle rest ds c s. component_made d n bytes middle rest ds c s);
 }
 
-shallow_rows : (d : ℕ) → RowsTell (Shallow d) (Enters d) ((0x40, flat (read_function_type false)) ∷ (0x43, flat (read_function_type true)) ∷ (0x3f, flat read_resource_type) ∷ [])
+shallow_rows : (d : ℕ) → RowsTell (Shallow d) (OpensTypes d) ((0x40, flat (read_function_type false)) ∷ (0x43, flat (read_function_type true)) ∷ (0x3f, flat read_resource_type) ∷ [])
 shallow_rows d = (flat_tells _ (sync_sound d), (flat_tells _ (async_sound d), (flat_tells _ (resource_sound d), tt)))
 
-pub type_tells : (d : ℕ) → Tells (Shallow d) (Enters d) (read_type d)
+pub type_tells : (d : ℕ) → Tells (Shallow d) (OpensTypes d) (read_type d)
 unfolding read_type
-type_tells zero = select_tells (Enters zero) _ _ (
+type_tells zero = select_tells (OpensTypes zero) _ _ (
   too_deep_tells _ (λ bytes. inl (bytes, refl, tt)),
   (too_deep_tells _ (λ bytes. inr (bytes, refl, tt)), shallow_rows zero),
 ) (flat_tells _ (shallow_sound zero))
-type_tells (suc d) = select_tells (Enters (suc d)) _ _ (
+type_tells (suc d) = select_tells (OpensTypes (suc d)) _ _ (
   components_tell d (type_tells d),
   (instances_tell d (type_tells d), shallow_rows (suc d)),
 ) (flat_tells _ (shallow_sound (suc d)))
@@ -177,7 +177,7 @@ components_relisted no_component = refl
 components_relisted (and_component d ds) = ap (and_component d) (components_relisted ds)
 
 -- no type of values begins as a row does
-apart : (d : ℕ) → IsApart read_shallow (type_rows (read_component_type d) (read_instance_type d))
+apart : (d : ℕ) → ReadsApart read_shallow (type_rows (read_component_type d) (read_instance_type d))
 unfolding choose
 apart d = (λ rest. refl, (λ rest. refl, (λ rest. refl, (λ rest. refl, (λ rest. refl, tt)))))
 
@@ -185,28 +185,28 @@ nothing_shallow : read_shallow [] ≡ Err Bad
 unfolding choose
 nothing_shallow = refl
 
-defined_finds : (d : ℕ) (ty : Defined) (D : Type 0) → Finds (defined_type ty) (select (type_rows (read_component_type d) (read_instance_type d)) read_shallow) (DefinedType ty) D
+defined_finds : (d : ℕ) (ty : DefValType) (D : Type 0) → Finds (def_val_type ty) (select (type_rows (read_component_type d) (read_instance_type d)) read_shallow) (DefinedType ty) D
 defined_finds d ty D = other_finds _ read_shallow (apart d) nothing_shallow (flat_finds D (last DefinedType (defined_type_lawful ty)))
 
-function_finds : (d : ℕ) (is_async : Bool) (params : List Named) (answer : Option ComponentValType) (D : Type 0)
+function_finds : (d : ℕ) (is_async : Bool) (params : List LabelledType) (answer : Option ComponentValType) (D : Type 0)
     → Finds (function_type_of is_async params answer) (select (type_rows (read_component_type d) (read_instance_type d)) read_shallow) (FunctionType (to_function is_async params answer)) D
-function_finds d false params answer D = row_finds _ _ 0x40 (flat (read_function_type false)) (λ bytes rest. refl) (flat_finds D (then _ (list_lawful named_lawful params) (last (λ a. FunctionType (to_function false params a)) (result_list_lawful answer))))
-function_finds d true params answer D = row_finds _ _ 0x43 (flat (read_function_type true)) (λ bytes rest. refl) (flat_finds D (then _ (list_lawful named_lawful params) (last (λ a. FunctionType (to_function true params a)) (result_list_lawful answer))))
+function_finds d false params answer D = row_finds _ _ 0x40 (flat (read_function_type false)) (λ bytes rest. refl) (flat_finds D (then _ (list_lawful labelled_type_lawful params) (last (λ a. FunctionType (to_function false params a)) (result_list_lawful answer))))
+function_finds d true params answer D = row_finds _ _ 0x43 (flat (read_function_type true)) (λ bytes rest. refl) (flat_finds D (then _ (list_lawful labelled_type_lawful params) (last (λ a. FunctionType (to_function true params a)) (result_list_lawful answer))))
 
-resource_finds : (d : ℕ) (rep : ValType) (dtor : Option ℕ) (D : Type 0) → Finds (type_of (ResourceType rep dtor)) (select (type_rows (read_component_type d) (read_instance_type d)) read_shallow) (ResourceType rep dtor) D
+resource_finds : (d : ℕ) (rep : ValType) (dtor : Option ℕ) (D : Type 0) → Finds (def_type (ResourceType rep dtor)) (select (type_rows (read_component_type d) (read_instance_type d)) read_shallow) (ResourceType rep dtor) D
 resource_finds d rep dtor D = row_finds _ _ 0x3f (flat read_resource_type) (λ bytes rest. refl) (flat_finds D (then _ (val_type_lawful rep) (last (ResourceType rep) (option_lawful u32_lawful dtor))))
 
 -- a declaration of an instance type is no import
-unmixed : (read : DeepReader TypeOf) → IsApart (read_instance_declaration read >>> λ d. yield (Declared d)) ((0x03, flat read_imported) ∷ [])
+unmixed : (read : DeepReader DefType) → ReadsApart (read_instance_declaration read >>> λ d. yield (Declared d)) ((0x03, flat read_imported) ∷ [])
 unfolding select
 unmixed read = (λ rest. refl, tt)
 
-nothing_declared : (read : DeepReader TypeOf) → (read_instance_declaration read >>> λ d. yield (Declared d)) [] ≡ Err Bad
+nothing_declared : (read : DeepReader DefType) → (read_instance_declaration read >>> λ d. yield (Declared d)) [] ≡ Err Bad
 unfolding select
 nothing_declared read = refl
 
 mutual
-  pub type_finds : (d : ℕ) (t : TypeOf) → Finds (type_of t) (read_type d) t (d < depth t)
+  pub type_finds : (d : ℕ) (t : DefType) → Finds (def_type t) (read_type d) t (d < depth t)
   type_finds d (DefinedType ty) = rw (one_level d) (defined_finds d ty (d < 0))
   type_finds d (FunctionType f) = rw (one_level d) (function_finds d f.is_async f.params f.answer (d < 0))
   type_finds d (ResourceType rep dtor) = rw (one_level d) (resource_finds d rep dtor (d < 0))
@@ -223,7 +223,7 @@ mutual
   instance_finds d (CoreTyped ty) = row_finds _ _ 0x00 (flat (read_core_type >>= λ t. give (CoreTyped t))) (λ bytes rest. refl) (flat_finds _ (last CoreTyped (core_type_lawful ty)))
   instance_finds d (Typed ty) = row_finds _ _ 0x01 (read_type d >>> λ t. yield (Typed t)) (λ bytes rest. refl) (last_finds Typed (type_finds d ty))
   instance_finds d (Aliased to) = row_finds _ _ 0x02 (flat (read_alias >>= λ t. give (Aliased t))) (λ bytes rest. refl) (flat_finds _ (last Aliased (alias_lawful to)))
-  instance_finds d (Exported name ty) = row_finds _ _ 0x04 (flat read_exported) (λ bytes rest. refl) (flat_finds _ (then _ (extern_name_lawful name) (last (Exported name) (type_reference_lawful ty))))
+  instance_finds d (Exported name ty) = row_finds _ _ 0x04 (flat read_exported_type) (λ bytes rest. refl) (flat_finds _ (then _ (extern_name_lawful name) (last (Exported name) (type_reference_lawful ty))))
 
   component_finds : (d : ℕ) (x : ComponentDeclaration) → Finds (component_declaration x) (read_component_declaration (read_type d)) x (d < opened x)
   component_finds d (Imported name ty) = row_finds _ _ 0x03 (flat read_imported) (λ bytes rest. refl) (flat_finds _ (then _ (extern_name_lawful name) (last (Imported name) (type_reference_lawful ty))))
@@ -239,8 +239,8 @@ mutual
   components_find d (and_component (Declared x) ds) = then_finds _ (or_deeper _ (λ lt. omega arith) (component_finds d (Declared x))) (last_finds _ (or_deeper _ (λ lt. omega arith) (components_find d ds)))
 
 -- a type of values that is found is found as a type
-pub shallow_found : (d : ℕ) (ty : Defined) (bytes rest : List ℕ) → read_defined bytes ≡ Some (ty, rest) → read_type d bytes ≡ Ok (DefinedType ty, rest)
+pub shallow_found : (d : ℕ) (ty : DefValType) (bytes rest : List ℕ) → read_defined bytes ≡ Some (ty, rest) → read_type d bytes ≡ Ok (DefinedType ty, rest)
 shallow_found d ty bytes rest e = agreed (d < 0) (DefinedType ty, rest) (read_type d bytes) ((type_finds d (DefinedType ty)).finds bytes rest (read_so (read_defined bytes) e (defined_sound.reads bytes))) (λ lt. omega arith)
   where
-    read_so : (some : Option (Defined × List ℕ)) → some ≡ Some (ty, rest) → Then (λ v after. (defined_type v).Reads Wide bytes after) some → (defined_type ty).Reads Wide bytes rest
+    read_so : (some : Option (DefValType × List ℕ)) → some ≡ Some (ty, rest) → Then (λ v after. (def_val_type v).Reads Wide bytes after) some → (def_val_type ty).Reads Wide bytes rest
     read_so some e h = rw e at h

@@ -10,13 +10,13 @@ use Rattle.wenc_builder.specs.Item.{InstanceItem, AliasItem, TypeItem, CanonItem
 use Rattle.wenc_builder.specs.Item.{ImportItem, ExportItem, CustomItem}
 use Rattle.wenc_canon.specs.laws.Canonicals.{read_canonical}
 use Rattle.wenc_decode.specs.inside.Outcomes.{Flaw, Bad, DeepReader, flat, ◌>>>◌, yield, refuse}
-use Rattle.wenc_decode.specs.inside.Outcomes.{repeat, filled}
+use Rattle.wenc_decode.specs.inside.Outcomes.{repeat, reserved}
 use Rattle.wenc_decode.specs.inside.TypeTrees.{read_type}
 use Rattle.wenc_parts.specs.laws.Aliases.{read_alias}
 use Rattle.wenc_read.specs.declared.refusal.Refusal.{Refusal}
 use Rattle.wenc_read.specs.declared.refusal.Refusal.TheVariants as refusals
 use Rattle.wenc_sections.specs.Start.{Start, started}
-use Rattle.wenc_sections.specs.laws.Items.{read_import, read_export, read_core_instance}
+use Rattle.wenc_sections.specs.laws.Items.{read_import, read_inline_export, read_core_instance}
 use Rattle.wenc_sections.specs.laws.Items.{read_instance}
 use Rattle.wenc_types.specs.laws.CoreTypes.{read_core_type}
 use Rattle.wenc_list.specs.declared.fault.ListFault.{ListFault}
@@ -46,11 +46,11 @@ abbrev pub read_import_item : Reader Item
 read_import_item = read_import >>= λ i. give (ImportItem i)
 
 abbrev pub read_export_item : Reader Item
-read_export_item = read_export >>= λ e. give (ExportItem e)
+read_export_item = read_inline_export >>= λ e. give (ExportItem e)
 
 -- each kind's reader, by the id of the section that collects it
-abbrev pub item_rows : ℕ → List (ℕ × DeepReader Item)
-item_rows depth =
+abbrev pub content_rows : ℕ → List (ℕ × DeepReader Item)
+content_rows depth =
     (2, flat read_core_instance_item) ∷
     (3, flat read_core_type_item) ∷
     (5, flat read_instance_item) ∷
@@ -60,21 +60,21 @@ item_rows depth =
     (10, flat read_import_item) ∷
     (11, flat read_export_item) ∷ []
 
-abbrev pub row_of : {A : Type 0} → List (ℕ × DeepReader A) → ℕ → DeepReader A
-row_of [] id = refuse
-row_of (row ∷ table) id = if nat_eq id row.0 then row.1 else row_of table id
+abbrev pub content_row_of : {A : Type 0} → List (ℕ × DeepReader A) → ℕ → DeepReader A
+content_row_of [] id = refuse
+content_row_of (row ∷ table) id = if nat_eq id row.0 then row.1 else content_row_of table id
 
-abbrev pub read_item : ℕ → ℕ → DeepReader Item
-read_item depth id = row_of (item_rows depth) id
+abbrev pub read_content_item : ℕ → ℕ → DeepReader Item
+read_content_item depth id = content_row_of (content_rows depth) id
 
 -- ---- what fills a section
 
-abbrev pub labelled : List ℕ → List ℕ → Custom
-labelled label bytes = record { label = label; bytes = bytes }
+abbrev pub labelled_section : List ℕ → List ℕ → Custom
+labelled_section label bytes = record { label = label; bytes = bytes }
 
 -- a name, and the data that belong to it
 abbrev pub read_custom_content : List ℕ → Option Custom
-read_custom_content content = go_on (read_name content) (λ label. read_bytes (labelled label))
+read_custom_content content = go_on (read_name content) (λ label. read_bytes (labelled_section label))
 
 abbrev pub read_start_content : List ℕ → Option Start
 read_start_content =
@@ -86,7 +86,7 @@ read_raw = read_bytes (λ bytes. bytes)
 
 -- a count, and so many items
 abbrev pub read_items : ℕ → ℕ → List ℕ → Result (List Item) Flaw
-read_items depth id content = filled ((flat read_u32 >>> repeat (read_item depth id)) content)
+read_items depth id content = reserved ((flat read_u32 >>> repeat (read_content_item depth id)) content)
 
 -- the items of what fills a section, made of what was read
 abbrev pub single : {A : Type 0} → (A → Item) → Option A → Result (List Item) Flaw

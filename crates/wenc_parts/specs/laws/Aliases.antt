@@ -1,10 +1,10 @@
 -- The laws of aliases.
 use Rattle.std.proofs.Common.{ℕ, List, [], ◌∷◌, refl}
 use Rattle.wenc_base.specs.Piece.{Piece, Form, Wide, byte, ◌▸◌, ◌⨾◌}
-use Rattle.wenc_base.specs.laws.Sound.{Sound, behind, give_sound, last_sound, then_sound, nowhere_sound, choose_sound}
+use Rattle.wenc_base.specs.laws.Sound.{Sound, sound_behind, give_sound, last_sound, then_sound, nowhere_sound, choose_sound}
 use Rattle.wenc_base.specs.Number.{u32}
 use Rattle.wenc_base.specs.Forms.{name as name_form}
-use Rattle.wenc_base.specs.laws.Lawful.{Lawful, Reader, ◌>>=◌, give, nowhere, choose, row, row_byte, first_byte, first_of_two, then, last}
+use Rattle.wenc_base.specs.laws.Lawful.{Lawful, Reader, ◌>>=◌, give, nowhere, choose, alternative, row_byte, first_byte, first_of_two, then, last}
 use Rattle.wenc_base.specs.laws.Numbers.{read_u32, u32_lawful, u32_sound}
 use Rattle.wenc_base.specs.laws.Forms.{read_name, name_lawful, name_sound}
 use Rattle.wenc_base.specs.declared.exports.ExportKind.{ExportKind}
@@ -14,7 +14,7 @@ use Rattle.wenc_parts.specs.declared.exports.ComponentExportKind.TheVariants as 
 use Rattle.wenc_parts.specs.declared.aliases.ComponentOuterAliasKind.{ComponentOuterAliasKind}
 use Rattle.wenc_parts.specs.declared.aliases.ComponentOuterAliasKind.TheVariants as outers
 use Rattle.wenc_base.specs.Exports.{export_kind_byte}
-use Rattle.wenc_parts.specs.Exports.{export_kind}
+use Rattle.wenc_parts.specs.Exports.{component_export_kind}
 use Rattle.wenc_parts.specs.Aliases.{AliasOf, InstanceExport, CoreInstanceExport, Outer, outer_kind, alias}
 
 -- ---- kinds
@@ -26,8 +26,8 @@ read_outer_kind = choose (
     (0x04, give outers.Component) ∷ []) nowhere
 
 pub outer_kind_lawful : (kind : ComponentOuterAliasKind) → Lawful (outer_kind kind) (λ fuel. read_outer_kind) kind
-outer_kind_lawful outers.CoreModule = row _ _ 0x00 (row_byte _ _ 0x11 (λ fuel rest. refl))
-outer_kind_lawful outers.CoreType = row _ _ 0x00 (row_byte _ _ 0x10 (λ fuel rest. refl))
+outer_kind_lawful outers.CoreModule = alternative _ _ 0x00 (row_byte _ _ 0x11 (λ fuel rest. refl))
+outer_kind_lawful outers.CoreType = alternative _ _ 0x00 (row_byte _ _ 0x10 (λ fuel rest. refl))
 outer_kind_lawful outers.«Type» = row_byte _ _ 0x03 (λ fuel rest. refl)
 outer_kind_lawful outers.Component = row_byte _ _ 0x04 (λ fuel rest. refl)
 
@@ -39,7 +39,7 @@ outer_kind_sound = choose_sound _ _ (
 
 -- ---- aliases
 
--- what stands behind the byte that says which form it is
+-- what stands sound_behind the byte that says which form it is
 abbrev pub read_export : ComponentExportKind → Reader AliasOf
 read_export kind = read_u32 >>= λ instance. read_name >>= λ name. give (InstanceExport instance kind name)
 
@@ -75,27 +75,27 @@ export_lawful : (kind : ComponentExportKind) (instance : ℕ) (name : List ℕ) 
 export_lawful kind instance name = then _ (u32_lawful instance) (last (InstanceExport instance kind) (name_lawful name))
 
 core_export_lawful : (kind : ExportKind) (instance : ℕ) (name : List ℕ) → Lawful (0x01 ▸ u32 instance ⨾ name_form name) (λ fuel. read_core_export kind) (CoreInstanceExport instance kind name)
-core_export_lawful kind instance name = row _ _ 0x01 (then _ (u32_lawful instance) (last (CoreInstanceExport instance kind) (name_lawful name)))
+core_export_lawful kind instance name = alternative _ _ 0x01 (then _ (u32_lawful instance) (last (CoreInstanceExport instance kind) (name_lawful name)))
 
 outer_lawful : (kind : ComponentOuterAliasKind) (count number : ℕ) → Lawful (u32 count ⨾ u32 number) (λ fuel. read_outer kind) (Outer kind count number)
 outer_lawful kind count number = then _ (u32_lawful count) (last (Outer kind count) (u32_lawful number))
 
 pub alias_lawful : (a : AliasOf) → Lawful (alias a) (λ fuel. read_alias) a
-alias_lawful (InstanceExport i kinds.Module n) = first_of_two (byte 0x11) (0x00 ▸ u32 i ⨾ name_form n) _ _ 0x00 (first_byte _ _ 0x11 (row _ _ 0x00 (export_lawful kinds.Module i n)))
-alias_lawful (InstanceExport i kinds.Func n) = first_byte _ _ 0x01 (row _ _ 0x00 (export_lawful kinds.Func i n))
-alias_lawful (InstanceExport i kinds.Value n) = first_byte _ _ 0x02 (row _ _ 0x00 (export_lawful kinds.Value i n))
-alias_lawful (InstanceExport i kinds.«Type» n) = first_byte _ _ 0x03 (row _ _ 0x00 (export_lawful kinds.«Type» i n))
-alias_lawful (InstanceExport i kinds.Instance n) = first_byte _ _ 0x05 (row _ _ 0x00 (export_lawful kinds.Instance i n))
-alias_lawful (InstanceExport i kinds.Component n) = first_byte _ _ 0x04 (row _ _ 0x00 (export_lawful kinds.Component i n))
-alias_lawful (CoreInstanceExport i cores.Func n) = row _ _ 0x00 (first_byte _ _ 0x00 (core_export_lawful cores.Func i n))
-alias_lawful (CoreInstanceExport i cores.Table n) = row _ _ 0x00 (first_byte _ _ 0x01 (core_export_lawful cores.Table i n))
-alias_lawful (CoreInstanceExport i cores.Memory n) = row _ _ 0x00 (first_byte _ _ 0x02 (core_export_lawful cores.Memory i n))
-alias_lawful (CoreInstanceExport i cores.Global n) = row _ _ 0x00 (first_byte _ _ 0x03 (core_export_lawful cores.Global i n))
-alias_lawful (CoreInstanceExport i cores.Tag n) = row _ _ 0x00 (first_byte _ _ 0x04 (core_export_lawful cores.Tag i n))
-alias_lawful (Outer outers.CoreModule c n) = first_of_two (byte 0x11) (0x02 ▸ u32 c ⨾ u32 n) _ _ 0x00 (first_byte _ _ 0x11 (row _ _ 0x02 (outer_lawful outers.CoreModule c n)))
-alias_lawful (Outer outers.CoreType c n) = first_of_two (byte 0x10) (0x02 ▸ u32 c ⨾ u32 n) _ _ 0x00 (first_byte _ _ 0x10 (row _ _ 0x02 (outer_lawful outers.CoreType c n)))
-alias_lawful (Outer outers.«Type» c n) = first_byte _ _ 0x03 (row _ _ 0x02 (outer_lawful outers.«Type» c n))
-alias_lawful (Outer outers.Component c n) = first_byte _ _ 0x04 (row _ _ 0x02 (outer_lawful outers.Component c n))
+alias_lawful (InstanceExport i kinds.Module n) = first_of_two (byte 0x11) (0x00 ▸ u32 i ⨾ name_form n) _ _ 0x00 (first_byte _ _ 0x11 (alternative _ _ 0x00 (export_lawful kinds.Module i n)))
+alias_lawful (InstanceExport i kinds.Func n) = first_byte _ _ 0x01 (alternative _ _ 0x00 (export_lawful kinds.Func i n))
+alias_lawful (InstanceExport i kinds.Value n) = first_byte _ _ 0x02 (alternative _ _ 0x00 (export_lawful kinds.Value i n))
+alias_lawful (InstanceExport i kinds.«Type» n) = first_byte _ _ 0x03 (alternative _ _ 0x00 (export_lawful kinds.«Type» i n))
+alias_lawful (InstanceExport i kinds.Instance n) = first_byte _ _ 0x05 (alternative _ _ 0x00 (export_lawful kinds.Instance i n))
+alias_lawful (InstanceExport i kinds.Component n) = first_byte _ _ 0x04 (alternative _ _ 0x00 (export_lawful kinds.Component i n))
+alias_lawful (CoreInstanceExport i cores.Func n) = alternative _ _ 0x00 (first_byte _ _ 0x00 (core_export_lawful cores.Func i n))
+alias_lawful (CoreInstanceExport i cores.Table n) = alternative _ _ 0x00 (first_byte _ _ 0x01 (core_export_lawful cores.Table i n))
+alias_lawful (CoreInstanceExport i cores.Memory n) = alternative _ _ 0x00 (first_byte _ _ 0x02 (core_export_lawful cores.Memory i n))
+alias_lawful (CoreInstanceExport i cores.Global n) = alternative _ _ 0x00 (first_byte _ _ 0x03 (core_export_lawful cores.Global i n))
+alias_lawful (CoreInstanceExport i cores.Tag n) = alternative _ _ 0x00 (first_byte _ _ 0x04 (core_export_lawful cores.Tag i n))
+alias_lawful (Outer outers.CoreModule c n) = first_of_two (byte 0x11) (0x02 ▸ u32 c ⨾ u32 n) _ _ 0x00 (first_byte _ _ 0x11 (alternative _ _ 0x02 (outer_lawful outers.CoreModule c n)))
+alias_lawful (Outer outers.CoreType c n) = first_of_two (byte 0x10) (0x02 ▸ u32 c ⨾ u32 n) _ _ 0x00 (first_byte _ _ 0x10 (alternative _ _ 0x02 (outer_lawful outers.CoreType c n)))
+alias_lawful (Outer outers.«Type» c n) = first_byte _ _ 0x03 (alternative _ _ 0x02 (outer_lawful outers.«Type» c n))
+alias_lawful (Outer outers.Component c n) = first_byte _ _ 0x04 (alternative _ _ 0x02 (outer_lawful outers.Component c n))
 
 -- ---- what is found is read
 
@@ -109,22 +109,22 @@ export_sound kind k = then_sound _ u32_sound (λ i. last_sound (InstanceExport i
 outer_sound : {form : Form AliasOf} (kind : ComponentOuterAliasKind) → ((c n : ℕ) → IsAlias (u32 c ⨾ u32 n) form (Outer kind c n)) → Sound form (read_outer kind)
 outer_sound kind k = then_sound _ u32_sound (λ c. last_sound (Outer kind c) u32_sound (λ n middle rest r bytes p. k c n bytes rest (middle, p, r)))
 
-core_sound : {form : Form AliasOf} (kind : ExportKind) → ((i : ℕ) (n : List ℕ) → IsAlias (u32 i ⨾ name_form n) (behind 0x01 form) (CoreInstanceExport i kind n)) → Sound form (read_core_export kind)
+core_sound : {form : Form AliasOf} (kind : ExportKind) → ((i : ℕ) (n : List ℕ) → IsAlias (u32 i ⨾ name_form n) (sound_behind 0x01 form) (CoreInstanceExport i kind n)) → Sound form (read_core_export kind)
 core_sound kind k = choose_sound _ _ (then_sound _ u32_sound (λ i. last_sound (CoreInstanceExport i kind) name_sound (λ n middle rest r bytes p. k i n bytes rest (middle, p, r))), tt) nowhere_sound
 
 -- of the core kind with this byte
-core_row : (kind : ExportKind) → Sound (behind (export_kind_byte kind) (behind 0x00 alias)) (read_core_export kind)
+core_row : (kind : ExportKind) → Sound (sound_behind (export_kind_byte kind) (sound_behind 0x00 alias)) (read_core_export kind)
 core_row kind = core_sound kind (λ i n bytes rest r. (_, refl, (_, refl, (_, refl, r))))
 
 -- of a sort that is one byte
-only_row : (kind : ComponentExportKind) (b : ℕ) → ((rest : List ℕ) → (export_kind kind).Reads Wide (b ∷ rest) rest) → Sound (behind b alias) (choose ((0x00, read_export kind) ∷ []) nowhere)
+only_row : (kind : ComponentExportKind) (b : ℕ) → ((rest : List ℕ) → (component_export_kind kind).Reads Wide (b ∷ rest) rest) → Sound (sound_behind b alias) (choose ((0x00, read_export kind) ∷ []) nowhere)
 only_row kind b k = choose_sound _ _ (export_sound kind (λ i n bytes rest r. (_, k _, (_, refl, r))), tt) nowhere_sound
 
 either_sound : {form : Form AliasOf} (kind : ComponentExportKind) (outer : ComponentOuterAliasKind) → ((i : ℕ) (n : List ℕ) → IsAlias (0x00 ▸ u32 i ⨾ name_form n) form (InstanceExport i kind n))
     → ((c n : ℕ) → IsAlias (0x02 ▸ u32 c ⨾ u32 n) form (Outer outer c n)) → Sound form (read_either kind outer)
 either_sound kind outer k l = choose_sound _ _ (export_sound kind (λ i n bytes rest r. k i n _ rest (bytes, refl, r)), (outer_sound outer (λ c n bytes rest r. l c n _ rest (bytes, refl, r)), tt)) nowhere_sound
 
-core_rows_sound : Sound (behind 0x00 alias) (choose (
+core_rows_sound : Sound (sound_behind 0x00 alias) (choose (
     (0x00, read_core_export cores.Func) ∷
     (0x01, read_core_export cores.Table) ∷
     (0x02, read_core_export cores.Memory) ∷

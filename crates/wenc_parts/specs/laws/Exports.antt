@@ -1,13 +1,13 @@
 -- The laws of the kinds of exports.
 use Rattle.std.proofs.Common.{[], ◌∷◌, refl}
-use Rattle.wenc_base.specs.laws.Lawful.{Lawful, Reader, give, nowhere, choose, row, row_byte}
+use Rattle.wenc_base.specs.laws.Lawful.{Lawful, Reader, give, nowhere, choose, alternative, row_byte}
 use Rattle.wenc_base.specs.laws.Sound.{Sound, give_sound, nowhere_sound, choose_sound}
 use Rattle.wenc_parts.specs.declared.exports.ComponentExportKind.{ComponentExportKind}
 use Rattle.wenc_parts.specs.declared.exports.ComponentExportKind.TheVariants.{Module, Func, Value, «Type» as TypeKind, Instance, Component}
-use Rattle.wenc_parts.specs.Exports.{export_kind}
+use Rattle.wenc_parts.specs.Exports.{component_export_kind}
 
-abbrev pub read_export_kind : Reader ComponentExportKind
-read_export_kind = choose (
+abbrev pub read_component_export_kind : Reader ComponentExportKind
+read_component_export_kind = choose (
     (0x00, choose ((0x11, give Module) ∷ []) nowhere) ∷
     (0x01, give Func) ∷
     (0x02, give Value) ∷
@@ -15,16 +15,16 @@ read_export_kind = choose (
     (0x05, give Instance) ∷
     (0x04, give Component) ∷ []) nowhere
 
-pub export_kind_lawful : (kind : ComponentExportKind) → Lawful (export_kind kind) (λ fuel. read_export_kind) kind
-export_kind_lawful Module = row _ _ 0x00 (row_byte _ _ 0x11 (λ fuel rest. refl))
-export_kind_lawful Func = row_byte _ _ 0x01 (λ fuel rest. refl)
-export_kind_lawful Value = row_byte _ _ 0x02 (λ fuel rest. refl)
-export_kind_lawful TypeKind = row_byte _ _ 0x03 (λ fuel rest. refl)
-export_kind_lawful Instance = row_byte _ _ 0x05 (λ fuel rest. refl)
-export_kind_lawful Component = row_byte _ _ 0x04 (λ fuel rest. refl)
+pub component_export_kind_lawful : (kind : ComponentExportKind) → Lawful (component_export_kind kind) (λ fuel. read_component_export_kind) kind
+component_export_kind_lawful Module = alternative _ _ 0x00 (row_byte _ _ 0x11 (λ fuel rest. refl))
+component_export_kind_lawful Func = row_byte _ _ 0x01 (λ fuel rest. refl)
+component_export_kind_lawful Value = row_byte _ _ 0x02 (λ fuel rest. refl)
+component_export_kind_lawful TypeKind = row_byte _ _ 0x03 (λ fuel rest. refl)
+component_export_kind_lawful Instance = row_byte _ _ 0x05 (λ fuel rest. refl)
+component_export_kind_lawful Component = row_byte _ _ 0x04 (λ fuel rest. refl)
 
-pub export_kind_sound : Sound export_kind read_export_kind
-export_kind_sound = choose_sound _ _ (
+pub component_export_kind_sound : Sound component_export_kind read_component_export_kind
+component_export_kind_sound = choose_sound _ _ (
   choose_sound _ _ (give_sound Module (λ bytes. (_, refl, refl)), tt) nowhere_sound,
   (
     give_sound Func (λ bytes. refl),

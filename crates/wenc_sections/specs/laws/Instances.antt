@@ -1,16 +1,16 @@
 -- What the code writes of instances serves as their forms.
 use Rattle.std.proofs.Common.{ℕ, List, refl, map, inl, inr}
 use Rattle.wenc_base.specs.Encode.{Serves, in_order, list_in_order}
-use Rattle.wenc_base.specs.Exports.{export_kind as core_kind}
+use Rattle.wenc_base.specs.Exports.{core_export_kind as core_kind}
 use Rattle.wenc_base.specs.Forms.{name, list}
 use Rattle.wenc_base.specs.Holder.{listed}
 use Rattle.wenc_base.specs.Number.{u32}
 use Rattle.wenc_base.specs.Piece.{Piece, Form, nothing, ◌▸◌, ◌⨾◌}
 use Rattle.wenc_base.specs.laws.Serves.{serves_itself, serves_then, tagged_serves, both_serve, order_serves, with_nothing, right_free, list_serves, lists_serve}
-use Rattle.wenc_parts.specs.Exports.{export_kind}
+use Rattle.wenc_parts.specs.Exports.{component_export_kind}
 use Rattle.wenc_parts.specs.Imports.{extern_name}
 use Rattle.wenc_parts.specs.Instances.{module_argument}
-use Rattle.wenc_sections.specs.Instances.{Argument, argument, CoreExport, core_export, CoreInstantiate, CoreExports, core_instance, Given, given, Exported, exported, Instantiate, Exports, instance}
+use Rattle.wenc_sections.specs.Instances.{Argument, argument, CoreExport, core_export, CoreInstantiate, CoreExports, core_instance, InstantiateArg, instantiate_arg, InlineExport, inline_export, Instantiate, Exports, instance}
 
 -- two pieces, and three
 pub two_serve : (p q : Piece) → Serves (in_order p q) (p ⨾ q)
@@ -69,29 +69,29 @@ module _ {A : Type 0} (seen : A → CoreExport) where
   pub core_exports_serve : (vs : List A) → Serves (0x01 ▸ list_in_order core_export_written vs) (core_instance (CoreExports (map seen vs)))
   core_exports_serve = tagged_list_serves core_export_written seen core_export core_export_serves 0x01
 
-module _ {A : Type 0} (seen : A → Given) where
+module _ {A : Type 0} (seen : A → InstantiateArg) where
   abbrev pub given_written : Form A
-  given_written g = in_order (name (seen g).name) (in_order (export_kind (seen g).kind) (u32 (seen g).index))
+  given_written g = in_order (name (seen g).name) (in_order (component_export_kind (seen g).kind) (u32 (seen g).index))
 
-  given_serves : (g : A) → Serves (given_written g) (given (seen g))
-  given_serves g = three_serve (name (seen g).name) (export_kind (seen g).kind) (u32 (seen g).index)
+  given_serves : (g : A) → Serves (given_written g) (instantiate_arg (seen g))
+  given_serves g = three_serve (name (seen g).name) (component_export_kind (seen g).kind) (u32 (seen g).index)
 
   pub instantiate_listed : (index : ℕ) (vs : List A) → Serves (listed (0x00 ▸ u32 index) given_written nothing vs) (instance (Instantiate index (map seen vs)))
-  instantiate_listed index = led_serves given_written seen given given_serves 0x00 (u32 index)
+  instantiate_listed index = led_serves given_written seen instantiate_arg given_serves 0x00 (u32 index)
 
   pub instantiate_serves : (index : ℕ) (vs : List A) → Serves (0x00 ▸ in_order (u32 index) (list_in_order given_written vs)) (instance (Instantiate index (map seen vs)))
-  instantiate_serves = numbered_serves given_written seen given given_serves 0x00
+  instantiate_serves = numbered_serves given_written seen instantiate_arg given_serves 0x00
 
-module _ {A : Type 0} (seen : A → Exported) where
+module _ {A : Type 0} (seen : A → InlineExport) where
   abbrev pub exported_written : Form A
-  exported_written e = in_order (extern_name (seen e).name) (in_order (export_kind (seen e).kind) (u32 (seen e).index))
+  exported_written e = in_order (extern_name (seen e).name) (in_order (component_export_kind (seen e).kind) (u32 (seen e).index))
 
-  exported_serves : (e : A) → Serves (exported_written e) (exported (seen e))
-  exported_serves e = three_serve (extern_name (seen e).name) (export_kind (seen e).kind) (u32 (seen e).index)
+  exported_serves : (e : A) → Serves (exported_written e) (inline_export (seen e))
+  exported_serves e = three_serve (extern_name (seen e).name) (component_export_kind (seen e).kind) (u32 (seen e).index)
 
   pub exports_listed : (vs : List A) → Serves (listed (0x01 ▸ nothing) exported_written nothing vs) (instance (Exports (map seen vs)))
-  exports_listed = alone_serves exported_written seen exported exported_serves 0x01
+  exports_listed = alone_serves exported_written seen inline_export exported_serves 0x01
 
   -- by the form itself
-  pub exports_serve : (vs : List A) → Serves (0x01 ▸ list_in_order (λ e. exported (seen e)) vs) (instance (Exports (map seen vs)))
-  exports_serve = tagged_list_serves (λ e. exported (seen e)) seen exported (λ e. serves_itself {p = exported (seen e)}) 0x01
+  pub exports_serve : (vs : List A) → Serves (0x01 ▸ list_in_order (λ e. inline_export (seen e)) vs) (instance (Exports (map seen vs)))
+  exports_serve = tagged_list_serves (λ e. inline_export (seen e)) seen inline_export (λ e. serves_itself {p = inline_export (seen e)}) 0x01

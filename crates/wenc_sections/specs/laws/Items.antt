@@ -1,21 +1,21 @@
 -- The laws of the items of flat sections.
 use Rattle.std.proofs.Common.{ℕ, List, [], ◌∷◌, Option, refl}
-use Rattle.wenc_base.specs.laws.Lawful.{Lawful, Reader, ◌>>=◌, give, nowhere, choose, done, row, then, last, whole_lawful}
+use Rattle.wenc_base.specs.laws.Lawful.{Lawful, Reader, ◌>>=◌, give, nowhere, choose, done, alternative, then, last, whole_lawful}
 use Rattle.wenc_base.specs.laws.Sound.{Sound, last_sound, then_sound, nowhere_sound, choose_sound, whole_sound}
 use Rattle.wenc_base.specs.laws.Numbers.{read_u32, u32_lawful, u32_sound}
 use Rattle.wenc_base.specs.laws.Forms.{read_name, name_lawful, name_sound, read_list, list_lawful, list_sound, read_option, option_lawful, option_sound, read_sized, sized_lawful, sized_sound}
-use Rattle.wenc_base.specs.laws.Exports.{read_export_kind as read_core_kind, export_kind_lawful as core_kind_lawful, export_kind_sound as core_kind_sound}
+use Rattle.wenc_base.specs.laws.Exports.{read_core_export_kind as read_core_kind, core_export_kind_lawful as core_kind_lawful, core_export_kind_sound as core_kind_sound}
 use Rattle.wenc_base.specs.declared.exports.ExportKind.{ExportKind}
 use Rattle.wenc_parts.specs.declared.exports.ComponentExportKind.{ComponentExportKind}
 use Rattle.wenc_parts.specs.declared.imports.ComponentTypeRef.{ComponentTypeRef}
 use Rattle.wenc_parts.specs.declared.instances.ModuleArg.{ModuleArg}
 use Rattle.wenc_parts.specs.Imports.{ExternName}
-use Rattle.wenc_parts.specs.laws.Exports.{read_export_kind, export_kind_lawful, export_kind_sound}
+use Rattle.wenc_parts.specs.laws.Exports.{read_component_export_kind, component_export_kind_lawful, component_export_kind_sound}
 use Rattle.wenc_parts.specs.laws.Imports.{read_type_reference, type_reference_lawful, type_reference_sound, read_extern_name, extern_name_lawful, extern_name_sound}
 use Rattle.wenc_parts.specs.laws.Instances.{read_module_argument, module_argument_lawful, module_argument_sound}
 use Rattle.wenc_sections.specs.Imports.{Import, import_item}
 use Rattle.wenc_sections.specs.Exports.{Export, export_item}
-use Rattle.wenc_sections.specs.Instances.{Argument, argument, CoreExport, core_export, CoreInstance, CoreInstantiate, CoreExports, core_instance, Given, given, Exported, exported, Instance, Instantiate, Exports, instance}
+use Rattle.wenc_sections.specs.Instances.{Argument, argument, CoreExport, core_export, CoreInstance, CoreInstantiate, CoreExports, core_instance, InstantiateArg, instantiate_arg, InlineExport, inline_export, Instance, Instantiate, Exports, instance}
 use Rattle.wenc_sections.specs.Start.{Start, started, start_content, start}
 
 -- ---- imports and exports
@@ -35,15 +35,15 @@ import_sound = then_sound _ extern_name_sound (λ name. last_sound (imported nam
 abbrev pub ascribed : ExternName → ComponentExportKind → ℕ → Option ComponentTypeRef → Export
 ascribed name kind index what = record { name = name; kind = kind; index = index; what = what }
 
-abbrev pub read_export : Reader Export
-read_export = read_extern_name >>= λ name. read_export_kind >>= λ kind. read_u32 >>= λ index. read_option read_type_reference >>= λ what. give (ascribed name kind index what)
+abbrev pub read_inline_export : Reader Export
+read_inline_export = read_extern_name >>= λ name. read_component_export_kind >>= λ kind. read_u32 >>= λ index. read_option read_type_reference >>= λ what. give (ascribed name kind index what)
 
-pub export_lawful : (e : Export) → Lawful (export_item e) (λ fuel. read_export) e
-export_lawful e = then _ (extern_name_lawful e.name) (then _ (export_kind_lawful e.kind) (then _ (u32_lawful e.index) (last (ascribed e.name e.kind e.index) (option_lawful type_reference_lawful e.what))))
+pub inline_export_lawful : (e : Export) → Lawful (export_item e) (λ fuel. read_inline_export) e
+inline_export_lawful e = then _ (extern_name_lawful e.name) (then _ (component_export_kind_lawful e.kind) (then _ (u32_lawful e.index) (last (ascribed e.name e.kind e.index) (option_lawful type_reference_lawful e.what))))
 
-pub export_sound : Sound export_item read_export
-export_sound =
-    then_sound _ extern_name_sound (λ name. then_sound _ export_kind_sound (λ kind. then_sound _ u32_sound (λ index. last_sound (ascribed name kind index) (option_sound type_reference_sound)
+pub inline_export_sound : Sound export_item read_inline_export
+inline_export_sound =
+    then_sound _ extern_name_sound (λ name. then_sound _ component_export_kind_sound (λ kind. then_sound _ u32_sound (λ index. last_sound (ascribed name kind index) (option_sound type_reference_sound)
     (λ what c rest r b q a p bytes o. (a, o, (b, p, (c, q, r)))))))
 
 -- ---- instances of core modules
@@ -63,23 +63,23 @@ argument_sound = then_sound _ name_sound (λ name. last_sound (passed name) modu
 abbrev core_exported : List ℕ → ExportKind → ℕ → CoreExport
 core_exported name kind index = record { name = name; kind = kind; index = index }
 
-abbrev pub read_core_export : Reader CoreExport
-read_core_export = read_name >>= λ name. read_core_kind >>= λ kind. read_u32 >>= λ index. give (core_exported name kind index)
+abbrev pub read_inline_core_export : Reader CoreExport
+read_inline_core_export = read_name >>= λ name. read_core_kind >>= λ kind. read_u32 >>= λ index. give (core_exported name kind index)
 
-pub core_export_lawful : (e : CoreExport) → Lawful (core_export e) (λ fuel. read_core_export) e
-core_export_lawful e = then _ (name_lawful e.name) (then _ (core_kind_lawful e.kind) (last (core_exported e.name e.kind) (u32_lawful e.index)))
+pub inline_core_export_lawful : (e : CoreExport) → Lawful (core_export e) (λ fuel. read_inline_core_export) e
+inline_core_export_lawful e = then _ (name_lawful e.name) (then _ (core_kind_lawful e.kind) (last (core_exported e.name e.kind) (u32_lawful e.index)))
 
-pub core_export_sound : Sound core_export read_core_export
+pub core_export_sound : Sound core_export read_inline_core_export
 core_export_sound = then_sound _ name_sound (λ name. then_sound _ core_kind_sound (λ kind. last_sound (core_exported name kind) u32_sound (λ index b rest r a q bytes p. (a, p, (b, q, r)))))
 
 abbrev pub read_core_instance : Reader CoreInstance
 read_core_instance = choose (
     (0x00, read_u32 >>= λ module_index. read_list read_argument >>= λ arguments. give (CoreInstantiate module_index arguments)) ∷
-    (0x01, read_list read_core_export >>= λ exports. give (CoreExports exports)) ∷ []) nowhere
+    (0x01, read_list read_inline_core_export >>= λ exports. give (CoreExports exports)) ∷ []) nowhere
 
 pub core_instance_lawful : (i : CoreInstance) → Lawful (core_instance i) (λ fuel. read_core_instance) i
-core_instance_lawful (CoreInstantiate module_index arguments) = row _ _ 0x00 (then _ (u32_lawful module_index) (last (CoreInstantiate module_index) (list_lawful argument_lawful arguments)))
-core_instance_lawful (CoreExports exports) = row _ _ 0x01 (last CoreExports (list_lawful core_export_lawful exports))
+core_instance_lawful (CoreInstantiate module_index arguments) = alternative _ _ 0x00 (then _ (u32_lawful module_index) (last (CoreInstantiate module_index) (list_lawful argument_lawful arguments)))
+core_instance_lawful (CoreExports exports) = alternative _ _ 0x01 (last CoreExports (list_lawful inline_core_export_lawful exports))
 
 pub core_instance_sound : Sound core_instance read_core_instance
 core_instance_sound = choose_sound _ _ (
@@ -89,38 +89,38 @@ core_instance_sound = choose_sound _ _ (
 
 -- ---- instances of components
 
-abbrev named : List ℕ → ComponentExportKind → ℕ → Given
-named name kind index = record { name = name; kind = kind; index = index }
+abbrev item_named : List ℕ → ComponentExportKind → ℕ → InstantiateArg
+item_named name kind index = record { name = name; kind = kind; index = index }
 
-abbrev pub read_given : Reader Given
-read_given = read_name >>= λ name. read_export_kind >>= λ kind. read_u32 >>= λ index. give (named name kind index)
+abbrev pub read_given : Reader InstantiateArg
+read_given = read_name >>= λ name. read_component_export_kind >>= λ kind. read_u32 >>= λ index. give (item_named name kind index)
 
-pub given_lawful : (g : Given) → Lawful (given g) (λ fuel. read_given) g
-given_lawful g = then _ (name_lawful g.name) (then _ (export_kind_lawful g.kind) (last (named g.name g.kind) (u32_lawful g.index)))
+pub given_lawful : (g : InstantiateArg) → Lawful (instantiate_arg g) (λ fuel. read_given) g
+given_lawful g = then _ (name_lawful g.name) (then _ (component_export_kind_lawful g.kind) (last (item_named g.name g.kind) (u32_lawful g.index)))
 
-pub given_sound : Sound given read_given
-given_sound = then_sound _ name_sound (λ name. then_sound _ export_kind_sound (λ kind. last_sound (named name kind) u32_sound (λ index b rest r a q bytes p. (a, p, (b, q, r)))))
+pub given_sound : Sound instantiate_arg read_given
+given_sound = then_sound _ name_sound (λ name. then_sound _ component_export_kind_sound (λ kind. last_sound (item_named name kind) u32_sound (λ index b rest r a q bytes p. (a, p, (b, q, r)))))
 
-abbrev out : ExternName → ComponentExportKind → ℕ → Exported
+abbrev out : ExternName → ComponentExportKind → ℕ → InlineExport
 out name kind index = record { name = name; kind = kind; index = index }
 
-abbrev pub read_exported : Reader Exported
-read_exported = read_extern_name >>= λ name. read_export_kind >>= λ kind. read_u32 >>= λ index. give (out name kind index)
+abbrev pub read_inline_exported : Reader InlineExport
+read_inline_exported = read_extern_name >>= λ name. read_component_export_kind >>= λ kind. read_u32 >>= λ index. give (out name kind index)
 
-pub exported_lawful : (e : Exported) → Lawful (exported e) (λ fuel. read_exported) e
-exported_lawful e = then _ (extern_name_lawful e.name) (then _ (export_kind_lawful e.kind) (last (out e.name e.kind) (u32_lawful e.index)))
+pub exported_lawful : (e : InlineExport) → Lawful (inline_export e) (λ fuel. read_inline_exported) e
+exported_lawful e = then _ (extern_name_lawful e.name) (then _ (component_export_kind_lawful e.kind) (last (out e.name e.kind) (u32_lawful e.index)))
 
-pub exported_sound : Sound exported read_exported
-exported_sound = then_sound _ extern_name_sound (λ name. then_sound _ export_kind_sound (λ kind. last_sound (out name kind) u32_sound (λ index b rest r a q bytes p. (a, p, (b, q, r)))))
+pub exported_sound : Sound inline_export read_inline_exported
+exported_sound = then_sound _ extern_name_sound (λ name. then_sound _ component_export_kind_sound (λ kind. last_sound (out name kind) u32_sound (λ index b rest r a q bytes p. (a, p, (b, q, r)))))
 
 abbrev pub read_instance : Reader Instance
 read_instance = choose (
     (0x00, read_u32 >>= λ component_index. read_list read_given >>= λ arguments. give (Instantiate component_index arguments)) ∷
-    (0x01, read_list read_exported >>= λ exports. give (Exports exports)) ∷ []) nowhere
+    (0x01, read_list read_inline_exported >>= λ exports. give (Exports exports)) ∷ []) nowhere
 
 pub instance_lawful : (i : Instance) → Lawful (instance i) (λ fuel. read_instance) i
-instance_lawful (Instantiate component_index arguments) = row _ _ 0x00 (then _ (u32_lawful component_index) (last (Instantiate component_index) (list_lawful given_lawful arguments)))
-instance_lawful (Exports exports) = row _ _ 0x01 (last Exports (list_lawful exported_lawful exports))
+instance_lawful (Instantiate component_index arguments) = alternative _ _ 0x00 (then _ (u32_lawful component_index) (last (Instantiate component_index) (list_lawful given_lawful arguments)))
+instance_lawful (Exports exports) = alternative _ _ 0x01 (last Exports (list_lawful exported_lawful exports))
 
 pub instance_sound : Sound instance read_instance
 instance_sound = choose_sound _ _ (

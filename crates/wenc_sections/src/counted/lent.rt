@@ -1,7 +1,7 @@
 ghost use Rattle.std.specs.Prelude.{◌≡◌, true};
 ghost use Rattle.wenc_base.specs.Holder.{is_finished, ContainsSome};
 ghost use Rattle.wenc_base.specs.Lender.{GivesUp};
-ghost use Rattle.wenc_base.specs.Openings.{given_up};
+ghost use Rattle.wenc_base.specs.Openings.{member_given_up};
 
 use super::{Counted, CountedKind};
 use std::alloc::Allocator;
@@ -24,27 +24,27 @@ impl<K: LentKind, A: Allocator> Counted<K, A> {
     /// Gives up the item that is being written, and says whether there was one: the section is as it was before that
     /// item. It takes no memory.
     pub fn discard_unfinished(&mut self) -> bool
-        ensures { GivesUp self.new (given_up self.old) (is_finished self.old) result }
+        ensures { GivesUp self.new (member_given_up self.old) (is_finished self.old) result }
     {
         self.items.discard_unfinished()
     }
 }
 
 impl<K: LentKind, A: Allocator> Lender for Counted<K, A> {
-    ghost use Rattle.wenc_base.specs.Openings.{lengthened, member_text, closed, no_room, is_opened};
+    ghost use Rattle.wenc_base.specs.Openings.{member_appended, member_text, member_ended, no_room_in_holder, is_bare};
     ghost use Rattle.wenc_base.specs.laws.Holders.{opened_is_unfinished, lengthened_twice};
 
     ghost finished = { is_finished };
 
-    ghost opened = { is_opened };
+    ghost opened = { is_bare };
 
-    ghost written = { lengthened };
+    ghost written = { member_appended };
 
     ghost is_whole = { λ s. K.is_item (member_text s) };
 
-    ghost ended = { closed };
+    ghost ended = { member_ended };
 
-    ghost refuses = { no_room };
+    ghost refuses = { no_room_in_holder };
 
     ghost begins = { opened_is_unfinished };
 

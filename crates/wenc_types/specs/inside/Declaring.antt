@@ -1,9 +1,9 @@
 -- What is always so of a type with declarations.
 use Rattle.std.specs.Prelude.{◌≡◌, ℕ, ◌+◌, ◌≤◌, length, Option, Some, None}
 use Rattle.wenc_base.specs.Piece.{Form}
-use Rattle.wenc_base.specs.Openings.{OpeningIsIn}
+use Rattle.wenc_base.specs.Openings.{OpeningStands}
 use Rattle.wenc_base.specs.declared.holder.openings.Opening.{Opening}
-use Rattle.wenc_types.specs.Declarations.{Declaring, DeclaresSome, taken_back}
+use Rattle.wenc_types.specs.Declarations.{TypeState, DeclaresSome, type_given_up}
 use Rattle.wenc_types.specs.declared.counts.Counts.{Counts}
 use Rattle.wenc_types.specs.declared.counts.Sort.{Sort}
 use Rattle.wenc_types.specs.declared.counts.Sort.TheVariants.{CoreType, «Type» as TypeSort}
@@ -26,8 +26,8 @@ total n = n.core_types + n.types + n.instances
 
 -- It has some declarations, but for a type that is being written.
 pub record IsDeclaring {D : Type 0} (form : Form D) (sort : D → Option Sort)
-    (t : Declaring) : Type 0 where
+    (t : TypeState) : Type 0 where
   pub enough : total t.counts ≤ t.held.count
   pub counted : OpenedIsIn t.held.opening t.begun t.counts
-  pub opening : OpeningIsIn t.held.opening t.held.count (length t.held.body)
-  pub settled : ∥ DeclaresSome form sort (taken_back t) ∥₁
+  pub opening : OpeningStands t.held.opening t.held.count (length t.held.body)
+  pub settled : ∥ DeclaresSome form sort (type_given_up t) ∥₁

@@ -4,7 +4,7 @@ use Rattle.wenc_base.specs.Encode.{Serves}
 use Rattle.wenc_base.specs.Forms.{list}
 use Rattle.wenc_base.specs.Piece.{each, ◌▸◌}
 use Rattle.wenc_base.specs.laws.Forms.{list_lawful, read_option, option_lawful}
-use Rattle.wenc_base.specs.laws.Lawful.{Lawful, Reader, ◌>>=◌, give, nowhere, choose, row, then, last, deeper, nothing_lawful}
+use Rattle.wenc_base.specs.laws.Lawful.{Lawful, Reader, ◌>>=◌, give, nowhere, choose, alternative, then, last, deeper, nothing_lawful}
 use Rattle.wenc_base.specs.laws.Numbers.{read_u32, u32_lawful, count_lawful}
 use Rattle.wenc_base.specs.laws.Serves.{serves_itself, tagged_serves, both_serve}
 use Rattle.wenc_base.specs.laws.Types.{read_val_type, val_type_lawful}
@@ -12,79 +12,79 @@ use Rattle.wenc_parts.specs.laws.Aliases.{read_alias, alias_lawful}
 use Rattle.wenc_parts.specs.laws.Imports.{read_extern_name, extern_name_lawful, read_type_reference, type_reference_lawful}
 use Rattle.wenc_parts.specs.declared.types.ComponentValType.{ComponentValType}
 use Rattle.wenc_parts.specs.laws.Types.{primitive_rows, result_list_lawful}
-use Rattle.wenc_types.specs.DefinedTypes.{Named, Primitive, function_type_of}
+use Rattle.wenc_types.specs.DefinedTypes.{LabelledType, Primitive, function_type_of}
 use Rattle.wenc_types.specs.laws.CoreTypes.{read_core_type, core_type_lawful}
-use Rattle.wenc_types.specs.laws.DefinedTypes.{named_lawful, defined_rows, defined_row, to_function, function_rows}
-use Rattle.wenc_types.specs.ComponentTypes.{TypeOf, DefinedType, FunctionType, ComponentType, InstanceType, ResourceType, InstanceDeclaration, CoreTyped, Typed, Aliased, Exported, ComponentDeclaration, Imported, Declared, InstanceDeclarations, no_instance, and_instance, ComponentDeclarations, no_component, and_component, instance_count, component_count, instances_of, components_of, type_of, instance_declaration, component_declaration, each_instance, each_component}
+use Rattle.wenc_types.specs.laws.DefinedTypes.{labelled_type_lawful, defined_rows, defined_row, to_function, function_rows}
+use Rattle.wenc_types.specs.ComponentTypes.{DefType, DefinedType, FunctionType, ComponentType, InstanceType, ResourceType, InstanceDeclaration, CoreTyped, Typed, Aliased, Exported, ComponentDeclaration, Imported, Declared, InstanceDeclarations, no_instance, and_instance, ComponentDeclarations, no_component, and_component, instance_count, component_count, instances_of, components_of, def_type, instance_declaration, component_declaration, each_instance, each_component}
 
 -- ---- readers, each by the reader of a type
 
-abbrev pub instance_rows : {A : Type 0} → Reader TypeOf → (InstanceDeclaration → A) → List (ℕ × Reader A)
+abbrev pub instance_rows : {A : Type 0} → Reader DefType → (InstanceDeclaration → A) → List (ℕ × Reader A)
 instance_rows read make =
     (0x00, read_core_type >>= λ ty. give (make (CoreTyped ty))) ∷
     (0x01, read >>= λ ty. give (make (Typed ty))) ∷
     (0x02, read_alias >>= λ to. give (make (Aliased to))) ∷
     (0x04, read_extern_name >>= λ name. read_type_reference >>= λ ty. give (make (Exported name ty))) ∷ []
 
-abbrev pub read_instance_declaration : Reader TypeOf → Reader InstanceDeclaration
+abbrev pub read_instance_declaration : Reader DefType → Reader InstanceDeclaration
 read_instance_declaration read = choose (instance_rows read (λ d. d)) nowhere
 
-abbrev pub component_rows : Reader TypeOf → List (ℕ × Reader ComponentDeclaration)
+abbrev pub component_rows : Reader DefType → List (ℕ × Reader ComponentDeclaration)
 component_rows read = (0x03, read_extern_name >>= λ name. read_type_reference >>= λ ty. give (Imported name ty)) ∷ instance_rows read Declared
 
-abbrev pub read_component_declaration : Reader TypeOf → Reader ComponentDeclaration
+abbrev pub read_component_declaration : Reader DefType → Reader ComponentDeclaration
 read_component_declaration read = choose (component_rows read) nowhere
 
-abbrev pub instance_times : Reader TypeOf → ℕ → Reader InstanceDeclarations
+abbrev pub instance_times : Reader DefType → ℕ → Reader InstanceDeclarations
 instance_times read zero = give no_instance
 instance_times read (suc n) = read_instance_declaration read >>= λ d. instance_times read n >>= λ ds. give (and_instance d ds)
 
-abbrev pub component_times : Reader TypeOf → ℕ → Reader ComponentDeclarations
+abbrev pub component_times : Reader DefType → ℕ → Reader ComponentDeclarations
 component_times read zero = give no_component
 component_times read (suc n) = read_component_declaration read >>= λ d. component_times read n >>= λ ds. give (and_component d ds)
 
-abbrev pub type_rows : Reader TypeOf → List (ℕ × Reader TypeOf)
+abbrev pub type_rows : Reader DefType → List (ℕ × Reader DefType)
 type_rows read =
     (0x41, read_u32 >>= λ n. component_times read n >>= λ ds. give (ComponentType ds)) ∷
     (0x42, read_u32 >>= λ n. instance_times read n >>= λ ds. give (InstanceType ds)) ∷
     (0x3f, read_val_type >>= λ rep. read_option read_u32 >>= λ dtor. give (ResourceType rep dtor)) ∷ []
 
-abbrev pub later_rows : Reader TypeOf → List (ℕ × Reader TypeOf)
+abbrev pub later_rows : Reader DefType → List (ℕ × Reader DefType)
 later_rows read = function_rows FunctionType ++ type_rows read
 
-abbrev pub read_type : ℕ → Reader TypeOf
+abbrev pub read_type : ℕ → Reader DefType
 read_type zero = nowhere
 read_type (suc fuel) = choose (primitive_rows (λ p. DefinedType (Primitive p)) ++ (defined_rows DefinedType ++ later_rows (read_type fuel))) nowhere
 
 -- ---- laws
 
-function_lawful : (is_async : Bool) (params : List Named) (answer : Option ComponentValType)
+function_lawful : (is_async : Bool) (params : List LabelledType) (answer : Option ComponentValType)
     → Lawful (function_type_of is_async params answer) (λ fuel. read_type (suc fuel)) (FunctionType (to_function is_async params answer))
 function_lawful false params answer =
-    row _ _ 0x40 (then _ (list_lawful named_lawful params) (last (λ a. FunctionType (to_function false params a)) (result_list_lawful answer)))
+    alternative _ _ 0x40 (then _ (list_lawful labelled_type_lawful params) (last (λ a. FunctionType (to_function false params a)) (result_list_lawful answer)))
 function_lawful true params answer =
-    row _ _ 0x43 (then _ (list_lawful named_lawful params) (last (λ a. FunctionType (to_function true params a)) (result_list_lawful answer)))
+    alternative _ _ 0x43 (then _ (list_lawful labelled_type_lawful params) (last (λ a. FunctionType (to_function true params a)) (result_list_lawful answer)))
 
 mutual
-  pub type_lawful : (t : TypeOf) → Lawful (type_of t) read_type t
+  pub type_lawful : (t : DefType) → Lawful (def_type t) read_type t
   type_lawful (DefinedType ty) = deeper (defined_row DefinedType (λ fuel. later_rows (read_type fuel)) (λ fuel. nowhere) ty)
   type_lawful (FunctionType f) = deeper (function_lawful f.is_async f.params f.answer)
-  type_lawful (ComponentType ds) = deeper (row _ _ 0x41 (then _ (count_lawful (component_count ds)) (last ComponentType (components_lawful ds))))
-  type_lawful (InstanceType ds) = deeper (row _ _ 0x42 (then _ (count_lawful (instance_count ds)) (last InstanceType (instances_lawful ds))))
-  type_lawful (ResourceType rep dtor) = deeper (row _ _ 0x3f (then _ (val_type_lawful rep) (last (ResourceType rep) (option_lawful u32_lawful dtor))))
+  type_lawful (ComponentType ds) = deeper (alternative _ _ 0x41 (then _ (count_lawful (component_count ds)) (last ComponentType (components_lawful ds))))
+  type_lawful (InstanceType ds) = deeper (alternative _ _ 0x42 (then _ (count_lawful (instance_count ds)) (last InstanceType (instances_lawful ds))))
+  type_lawful (ResourceType rep dtor) = deeper (alternative _ _ 0x3f (then _ (val_type_lawful rep) (last (ResourceType rep) (option_lawful u32_lawful dtor))))
 
   pub instance_declaration_lawful : (d : InstanceDeclaration) → Lawful (instance_declaration d) (λ fuel. read_instance_declaration (read_type fuel)) d
-  instance_declaration_lawful (CoreTyped ty) = row _ _ 0x00 (last CoreTyped (core_type_lawful ty))
-  instance_declaration_lawful (Typed ty) = row _ _ 0x01 (last Typed (type_lawful ty))
-  instance_declaration_lawful (Aliased to) = row _ _ 0x02 (last Aliased (alias_lawful to))
-  instance_declaration_lawful (Exported name ty) = row _ _ 0x04 (then _ (extern_name_lawful name) (last (Exported name) (type_reference_lawful ty)))
+  instance_declaration_lawful (CoreTyped ty) = alternative _ _ 0x00 (last CoreTyped (core_type_lawful ty))
+  instance_declaration_lawful (Typed ty) = alternative _ _ 0x01 (last Typed (type_lawful ty))
+  instance_declaration_lawful (Aliased to) = alternative _ _ 0x02 (last Aliased (alias_lawful to))
+  instance_declaration_lawful (Exported name ty) = alternative _ _ 0x04 (then _ (extern_name_lawful name) (last (Exported name) (type_reference_lawful ty)))
 
   pub component_declaration_lawful : (d : ComponentDeclaration) → Lawful (component_declaration d) (λ fuel. read_component_declaration (read_type fuel)) d
-  component_declaration_lawful (Imported name ty) = row _ _ 0x03 (then _ (extern_name_lawful name) (last (Imported name) (type_reference_lawful ty)))
-  component_declaration_lawful (Declared (CoreTyped ty)) = row _ _ 0x00 (last (λ t. Declared (CoreTyped t)) (core_type_lawful ty))
-  component_declaration_lawful (Declared (Typed ty)) = row _ _ 0x01 (last (λ t. Declared (Typed t)) (type_lawful ty))
-  component_declaration_lawful (Declared (Aliased to)) = row _ _ 0x02 (last (λ a. Declared (Aliased a)) (alias_lawful to))
-  component_declaration_lawful (Declared (Exported name ty)) = row _ _ 0x04 (then _ (extern_name_lawful name) (last (λ t. Declared (Exported name t)) (type_reference_lawful ty)))
+  component_declaration_lawful (Imported name ty) = alternative _ _ 0x03 (then _ (extern_name_lawful name) (last (Imported name) (type_reference_lawful ty)))
+  component_declaration_lawful (Declared (CoreTyped ty)) = alternative _ _ 0x00 (last (λ t. Declared (CoreTyped t)) (core_type_lawful ty))
+  component_declaration_lawful (Declared (Typed ty)) = alternative _ _ 0x01 (last (λ t. Declared (Typed t)) (type_lawful ty))
+  component_declaration_lawful (Declared (Aliased to)) = alternative _ _ 0x02 (last (λ a. Declared (Aliased a)) (alias_lawful to))
+  component_declaration_lawful (Declared (Exported name ty)) = alternative _ _ 0x04 (then _ (extern_name_lawful name) (last (λ t. Declared (Exported name t)) (type_reference_lawful ty)))
 
   pub instances_lawful : (ds : InstanceDeclarations) → Lawful (each_instance ds) (λ fuel. instance_times (read_type fuel) (instance_count ds)) ds
   instances_lawful no_instance = nothing_lawful no_instance
@@ -113,8 +113,8 @@ each_component_serves [] = serves_itself
 each_component_serves (d ∷ ds) = both_serve serves_itself (each_component_serves ds)
 
 -- a list of them
-pub instances_serve : (ds : List InstanceDeclaration) → Serves (0x42 ▸ list instance_declaration ds) (type_of (InstanceType (instances_of ds)))
+pub instances_serve : (ds : List InstanceDeclaration) → Serves (0x42 ▸ list instance_declaration ds) (def_type (InstanceType (instances_of ds)))
 instances_serve ds = rw (instances_counted ds) (tagged_serves 0x42 (both_serve serves_itself (each_instance_serves ds)))
 
-pub components_serve : (ds : List ComponentDeclaration) → Serves (0x41 ▸ list component_declaration ds) (type_of (ComponentType (components_of ds)))
+pub components_serve : (ds : List ComponentDeclaration) → Serves (0x41 ▸ list component_declaration ds) (def_type (ComponentType (components_of ds)))
 components_serve ds = rw (components_counted ds) (tagged_serves 0x41 (both_serve serves_itself (each_component_serves ds)))

@@ -11,18 +11,18 @@ use Rattle.wenc_base.specs.declared.types.groups.GroupTree.{GroupTree}
 use Rattle.wenc_base.specs.declared.types.groups.GroupTree.TheVariants as groups
 use Rattle.wenc_base.specs.declared.types.storage.FieldType.{FieldType}
 use Rattle.wenc_base.specs.declared.types.sub.SubType.{SubType}
-use Rattle.wenc_base.specs.Composites.{params_of, results_of, composite_view, sub_view, group_view, Sub, sub_type_of, Group, Single, Rec, guard_before, standing, Composite}
+use Rattle.wenc_base.specs.Composites.{params_of, results_of, composite_view, sub_view, rec_type_view, Sub, sub_type_of, RecType, Single, Rec, guard_before, standing, Composite}
 use Rattle.wenc_base.specs.Delimited.{AlikeIsEqual}
 use Rattle.wenc_base.specs.Forms.{list}
 use Rattle.wenc_base.specs.declared.imports.EntityType.{EntityType}
 use Rattle.wenc_base.specs.laws.Composites.{read_extension, extension_lawful, extension_sound, sub_of, final_rows, final_row, final_rows_sound, read_types, types_lawful, types_sound, read_group, group_lawful, group_sound, same_params, same_results, same_element, same_fields}
 use Rattle.wenc_base.specs.laws.Entities.{read_entity_type, entity_type_lawful, entity_type_sound}
 use Rattle.wenc_base.specs.laws.Forms.{read_list, list_lawful, list_sound, read_name, name_lawful, name_sound}
-use Rattle.wenc_base.specs.laws.Lawful.{Lawful, Reader, ◌>>=◌, give, nowhere, choose, row, then, last}
-use Rattle.wenc_base.specs.laws.Sound.{Sound, behind, RowsAreSound, both_tables, last_sound, then_sound, nowhere_sound, choose_sound}
+use Rattle.wenc_base.specs.laws.Lawful.{Lawful, Reader, ◌>>=◌, give, nowhere, choose, alternative, then, last}
+use Rattle.wenc_base.specs.laws.Sound.{Sound, sound_behind, RowsAreSound, both_tables, last_sound, then_sound, nowhere_sound, choose_sound}
 use Rattle.wenc_base.specs.Piece.{Form, Wide}
 use Rattle.wenc_base.specs.laws.Numbers.{read_u32, u32_lawful, u32_sound}
-use Rattle.wenc_types.specs.CoreTypes.{ModuleDeclaration, Import, Defined, Outer, Export, module_declaration, module_type, CoreType, Grouped, Module, core_type}
+use Rattle.wenc_types.specs.CoreTypes.{ModuleDeclaration, ModuleImport, ModuleRecType, ModuleOuter, ModuleExport, module_declaration, module_type, CoreType, Grouped, Module, core_type}
 use Rattle.wenc_types.specs.CoreTypeTrees.{module_declaration_view, core_type_view}
 use Rattle.wenc_types.specs.declared.core_type_tree.ModuleDecl.{ModuleDecl}
 use Rattle.wenc_types.specs.declared.core_type_tree.ModuleDecl.TheVariants as decls
@@ -33,32 +33,32 @@ use Rattle.wenc_types.specs.declared.core_type_tree.CoreTypeTree.TheVariants as 
 
 abbrev pub declaration_rows : {A : Type 0} → (ModuleDeclaration → A) → List (ℕ × Reader A)
 declaration_rows make =
-    (0x00, read_name >>= λ from. read_name >>= λ name. read_entity_type >>= λ ty. give (make (Import from name ty))) ∷
-    (0x01, read_group >>= λ g. give (make (Defined g))) ∷
-    (0x02, choose ((0x10, choose ((0x01, read_u32 >>= λ count. read_u32 >>= λ number. give (make (Outer count number))) ∷ []) nowhere) ∷ []) nowhere) ∷
-    (0x03, read_name >>= λ name. read_entity_type >>= λ ty. give (make (Export name ty))) ∷ []
+    (0x00, read_name >>= λ from. read_name >>= λ name. read_entity_type >>= λ ty. give (make (ModuleImport from name ty))) ∷
+    (0x01, read_group >>= λ g. give (make (ModuleRecType g))) ∷
+    (0x02, choose ((0x10, choose ((0x01, read_u32 >>= λ count. read_u32 >>= λ number. give (make (ModuleOuter count number))) ∷ []) nowhere) ∷ []) nowhere) ∷
+    (0x03, read_name >>= λ name. read_entity_type >>= λ ty. give (make (ModuleExport name ty))) ∷ []
 
 -- a declaration, where other rows may follow in the table
 pub declaration_row : {A : Type 0} (make : ModuleDeclaration → A) (rows : ℕ → List (ℕ × Reader A)) (other : ℕ → Reader A) (d : ModuleDeclaration)
     → Lawful (module_declaration d) (λ fuel. choose (declaration_rows make ++ rows fuel) (other fuel)) (make d)
-declaration_row make rows other (Import from name ty) =
-    row _ _ 0x00 (then _ (name_lawful from) (then _ (name_lawful name) (last (λ t. make (Import from name t)) (entity_type_lawful ty))))
-declaration_row make rows other (Defined g) = row _ _ 0x01 (last (λ h. make (Defined h)) (group_lawful g))
-declaration_row make rows other (Outer count number) =
-    row _ _ 0x02 (row _ _ 0x10 (row _ _ 0x01 (then _ (u32_lawful count) (last (λ n. make (Outer count n)) (u32_lawful number)))))
-declaration_row make rows other (Export name ty) = row _ _ 0x03 (then _ (name_lawful name) (last (λ t. make (Export name t)) (entity_type_lawful ty)))
+declaration_row make rows other (ModuleImport from name ty) =
+    alternative _ _ 0x00 (then _ (name_lawful from) (then _ (name_lawful name) (last (λ t. make (ModuleImport from name t)) (entity_type_lawful ty))))
+declaration_row make rows other (ModuleRecType g) = alternative _ _ 0x01 (last (λ h. make (ModuleRecType h)) (group_lawful g))
+declaration_row make rows other (ModuleOuter count number) =
+    alternative _ _ 0x02 (alternative _ _ 0x10 (alternative _ _ 0x01 (then _ (u32_lawful count) (last (λ n. make (ModuleOuter count n)) (u32_lawful number)))))
+declaration_row make rows other (ModuleExport name ty) = alternative _ _ 0x03 (then _ (name_lawful name) (last (λ t. make (ModuleExport name t)) (entity_type_lawful ty)))
 
 pub module_declaration_rows_sound : RowsAreSound module_declaration (declaration_rows (λ d. d))
 module_declaration_rows_sound = (
-  then_sound _ name_sound (λ from. then_sound _ name_sound (λ name. last_sound (Import from name) entity_type_sound (λ ty b rest r a q bytes p. (bytes, refl, (a, p, (b, q, r)))))),
+  then_sound _ name_sound (λ from. then_sound _ name_sound (λ name. last_sound (ModuleImport from name) entity_type_sound (λ ty b rest r a q bytes p. (bytes, refl, (a, p, (b, q, r)))))),
   (
-    last_sound Defined group_sound (λ g bytes rest r. (bytes, refl, r)),
+    last_sound ModuleRecType group_sound (λ g bytes rest r. (bytes, refl, r)),
     (
       choose_sound _ _ (
-        choose_sound _ _ (then_sound _ u32_sound (λ count. last_sound (Outer count) u32_sound (λ n middle rest r bytes p. (_, refl, (_, refl, (bytes, refl, (middle, p, r)))))), tt) nowhere_sound,
+        choose_sound _ _ (then_sound _ u32_sound (λ count. last_sound (ModuleOuter count) u32_sound (λ n middle rest r bytes p. (_, refl, (_, refl, (bytes, refl, (middle, p, r)))))), tt) nowhere_sound,
         tt,
       ) nowhere_sound,
-      (then_sound _ name_sound (λ name. last_sound (Export name) entity_type_sound (λ ty middle rest r bytes p. (bytes, refl, (middle, p, r)))), tt),
+      (then_sound _ name_sound (λ name. last_sound (ModuleExport name) entity_type_sound (λ ty middle rest r bytes p. (bytes, refl, (middle, p, r)))), tt),
     ),
   ),
 )
@@ -83,7 +83,7 @@ abbrev pub read_module_type : Reader (List ModuleDeclaration)
 read_module_type = choose ((0x50, read_declarations (λ ds. ds)) ∷ []) nowhere
 
 pub module_type_lawful : (ds : List ModuleDeclaration) → Lawful (module_type ds) (λ fuel. read_module_type) ds
-module_type_lawful ds = row _ _ 0x50 (declarations_lawful (λ es. es) ds)
+module_type_lawful ds = alternative _ _ 0x50 (declarations_lawful (λ es. es) ds)
 
 -- ---- core types
 
@@ -91,19 +91,19 @@ module_type_lawful ds = row _ _ 0x50 (declarations_lawful (λ es. es) ds)
 abbrev pub read_open : {A : Type 0} → (Sub → A) → Reader A
 read_open make = choose ((0x50, read_extension (λ supertype c. make (sub_of false supertype c))) ∷ []) nowhere
 
-abbrev pub standing_rows : {A : Type 0} → (Group → A) → List (ℕ × Reader A)
+abbrev pub standing_rows : {A : Type 0} → (RecType → A) → List (ℕ × Reader A)
 standing_rows make = final_rows (λ s. make (Single s)) ++ ((0x4e, read_types make) ∷ (0x00, read_open (λ s. make (Single s))) ∷ [])
 
 -- a group with guards, where other rows may follow in the table
-pub standing_row : {A : Type 0} (make : Group → A) (rows : ℕ → List (ℕ × Reader A)) (other : ℕ → Reader A) (g : Group)
+pub standing_row : {A : Type 0} (make : RecType → A) (rows : ℕ → List (ℕ × Reader A)) (other : ℕ → Reader A) (g : RecType)
     → Lawful (standing true g) (λ fuel. choose (standing_rows make ++ rows fuel) (other fuel)) (make g)
 standing_row {A} make rows other (Single s) = of s.is_final s.supertype s.composite
   where
     of : (is_final : Bool) (supertype : Option ℕ) (c : Composite)
         → Lawful (guard_before is_final (sub_type_of is_final supertype c)) (λ fuel. choose (standing_rows make ++ rows fuel) (other fuel)) (make (Single (sub_of is_final supertype c)))
     of true supertype c = final_row (λ t. make (Single t)) (λ fuel. (0x4e, read_types make) ∷ (0x00, read_open (λ t. make (Single t))) ∷ rows fuel) other supertype c
-    of false supertype c = row _ _ 0x00 (row _ _ 0x50 (extension_lawful (λ t d. make (Single (sub_of false t d))) supertype c))
-standing_row make rows other (Rec types) = row _ _ 0x4e (types_lawful make types)
+    of false supertype c = alternative _ _ 0x00 (alternative _ _ 0x50 (extension_lawful (λ t d. make (Single (sub_of false t d))) supertype c))
+standing_row make rows other (Rec types) = alternative _ _ 0x4e (types_lawful make types)
 
 abbrev pub core_type_rows : {A : Type 0} → (CoreType → A) → List (ℕ × Reader A)
 core_type_rows make = standing_rows (λ g. make (Grouped g)) ++ ((0x50, read_declarations (λ ds. make (Module ds))) ∷ [])
@@ -112,7 +112,7 @@ core_type_rows make = standing_rows (λ g. make (Grouped g)) ++ ((0x50, read_dec
 pub core_type_row : {A : Type 0} (make : CoreType → A) (rows : ℕ → List (ℕ × Reader A)) (other : ℕ → Reader A) (t : CoreType)
     → Lawful (core_type t) (λ fuel. choose (core_type_rows make ++ rows fuel) (other fuel)) (make t)
 core_type_row make rows other (Grouped g) = standing_row (λ h. make (Grouped h)) (λ fuel. (0x50, read_declarations (λ ds. make (Module ds))) ∷ rows fuel) other g
-core_type_row make rows other (Module ds) = row _ _ 0x50 (declarations_lawful (λ es. make (Module es)) ds)
+core_type_row make rows other (Module ds) = alternative _ _ 0x50 (declarations_lawful (λ es. make (Module es)) ds)
 
 abbrev pub read_core_type : Reader CoreType
 read_core_type = choose (core_type_rows (λ t. t)) nowhere
@@ -123,8 +123,8 @@ core_type_lawful t = core_type_row (λ u. u) (λ fuel. []) _ t
 -- ---- what is found is read
 
 open_sound : {A : Type 0} (form : Form A) (make : Sub → A)
-    → ((supertype : Option ℕ) (c : Composite) (bytes rest : List ℕ) → (sub_type_of false supertype c).Reads Wide bytes rest → (form (make (sub_of false supertype c))).Reads Wide (0x00 ∷ bytes) rest) → Sound (behind 0x00 form) (read_open make)
-open_sound form make k = choose_sound _ _ (extension_sound (behind 0x00 form) 0x50 (λ supertype c. make (sub_of false supertype c)) k, tt) nowhere_sound
+    → ((supertype : Option ℕ) (c : Composite) (bytes rest : List ℕ) → (sub_type_of false supertype c).Reads Wide bytes rest → (form (make (sub_of false supertype c))).Reads Wide (0x00 ∷ bytes) rest) → Sound (sound_behind 0x00 form) (read_open make)
+open_sound form make k = choose_sound _ _ (extension_sound (sound_behind 0x00 form) 0x50 (λ supertype c. make (sub_of false supertype c)) k, tt) nowhere_sound
 
 pub core_type_sound : Sound core_type read_core_type
 core_type_sound = choose_sound _ _ (both_tables core_type (standing_rows Grouped) ((0x50, read_declarations (λ ds. Module ds)) ∷ [])
@@ -187,7 +187,7 @@ sub_sees eq sees s t e =
 pub group_sees : {A : Type 0} (eq : GroupTree A → GroupTree A → Bool) (of : SubType A → SubType A → Bool) → ByComposites of
     → ((s t : SubType A) → of s t ≡ eq (groups.Sub s) (groups.Sub t))
     → ((ts us : Vec (SubType A) A) → pointwise of ts.items us.items ≡ eq (groups.Rec ts) (groups.Rec us))
-    → SeesAlike eq group_view
+    → SeesAlike eq rec_type_view
 group_sees eq of sees s r (groups.Sub x) (groups.Sub y) e = rw (← s x x, ← s x y) (sub_sees of sees x y cc)
 group_sees eq of sees s r (groups.Sub x) (groups.Rec us) e = absurd cc
 group_sees eq of sees s r (groups.Rec ts) (groups.Sub y) e = absurd cc
@@ -196,7 +196,7 @@ group_sees eq of sees s r (groups.Rec ts) (groups.Rec us) e = rw (← r ts ts, �
 -- declarations, by what their kinds have
 pub declaration_sees : {A : Type 0} (eq : ModuleDecl A → ModuleDecl A → Bool)
     → ((m n k l : String A) (t : EntityType) → string_bytes m ≡ string_bytes k → string_bytes n ≡ string_bytes l → eq (decls.Import m n t) (decls.Import m n t) ≡ eq (decls.Import m n t) (decls.Import k l t))
-    → SeesAlike (λ g h. eq (decls.«Type» g) (decls.«Type» h)) group_view
+    → SeesAlike (λ g h. eq (decls.«Type» g) (decls.«Type» h)) rec_type_view
     → ((n l : String A) (t : EntityType) → string_bytes n ≡ string_bytes l → eq (decls.Export n t) (decls.Export n t) ≡ eq (decls.Export n t) (decls.Export l t))
     → SeesAlike eq module_declaration_view
 declaration_sees eq i g x (decls.Import m n t) (decls.Import k l u) e =
@@ -229,8 +229,8 @@ pub core_type_sees : {A : Type 0} (eq : CoreTypeTree A → CoreTypeTree A → Bo
     → ((ds es : Vec (ModuleDecl A) A) → pointwise of ds.items es.items ≡ eq (trees.Module ds) (trees.Module es))
     → SeesAlike eq core_type_view
 core_type_sees eq of sees g m (trees.Group x) (trees.Group y) e =
-    let same : group_view x ≡ group_view y = cc in
-    rw (← g x x, ← g x y) (sees (decls.«Type» x) (decls.«Type» y) (ap Defined same))
+    let same : rec_type_view x ≡ rec_type_view y = cc in
+    rw (← g x x, ← g x y) (sees (decls.«Type» x) (decls.«Type» y) (ap ModuleRecType same))
 core_type_sees eq of sees g m (trees.Group x) (trees.Module es) e = absurd cc
 core_type_sees eq of sees g m (trees.Module ds) (trees.Group y) e = absurd cc
 core_type_sees eq of sees g m (trees.Module ds) (trees.Module es) e = rw (← m ds ds, ← m ds es) (each_sees of module_declaration_view sees ds.items es.items cc)

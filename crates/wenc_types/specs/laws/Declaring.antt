@@ -2,14 +2,14 @@
 use Rattle.std.proofs.Common.{◌≡◌, ℕ, ◌+◌, ◌-◌, ◌≤◌, Bool, true, false, is_none, List, [], ◌∷◌, ◌++◌, Option, Some, None, refl, ap, sym, subst, arith}
 use Rattle.std.proofs.Math.Logic.{∥∥₁_map, ∥∥₁_map₂}
 use Rattle.wenc_base.specs.Encode.{Serves}
-use Rattle.wenc_base.specs.Holder.{Held, is_finished, with_member, held_text, held, EncodeCause}
+use Rattle.wenc_base.specs.Holder.{HolderState, is_finished, with_member, held_text, held_members, EncodeCause}
 use Rattle.wenc_base.specs.Piece.{Form, HasForm, ◌▸◌, refused_for}
-use Rattle.wenc_base.specs.Openings.{given_up, member_text}
+use Rattle.wenc_base.specs.Openings.{member_given_up, member_text}
 use Rattle.wenc_base.specs.laws.Members.{finished_back, back_twice, opened_back, lengthened_back, closed_as_it_is, closed_as_more, within_finished, within_opened, within_lengthened, within_back}
 use Rattle.wenc_base.specs.declared.holder.openings.Opening.{Opening}
-use Rattle.wenc_types.specs.ComponentTypes.{ComponentType, InstanceType, components_of, instances_of, type_of, component_declaration, instance_declaration}
+use Rattle.wenc_types.specs.ComponentTypes.{ComponentType, InstanceType, components_of, instances_of, def_type, component_declaration, instance_declaration}
 use Rattle.wenc_types.specs.CoreTypes.{module_declaration, Module, core_type}
-use Rattle.wenc_types.specs.Declarations.{module_sort, component_sort, instance_sort, Declaring, no_declarations, Settled, Declares, IsDeclaration, DeclaresSome, counted, uncounted, lead_of, begun, written, ended, taken_back}
+use Rattle.wenc_types.specs.Declarations.{module_sort, component_sort, instance_sort, TypeState, no_declarations, NoneBegun, Declares, IsDeclaration, DeclaresSome, one_more, one_less, lead_of, type_begun, type_appended, type_ended, type_given_up}
 use Rattle.wenc_types.specs.inside.Declaring.{IsDeclaring, HasOne, OpenedIsIn, total}
 use Rattle.wenc_types.specs.laws.Declarations.{declares_next, back_again, module_serves, component_serves, instance_serves}
 use Rattle.wenc_types.specs.declared.counts.Counts.{Counts}
@@ -19,30 +19,30 @@ use Rattle.wenc_types.specs.declared.counts.Sort.TheVariants.{CoreType, «Type»
 -- ---- counts
 
 -- one more of a sort makes one more at most
-total_counted : (sort : Option Sort) (n : Counts) → total (counted sort n) ≤ total n + 1
+total_counted : (sort : Option Sort) (n : Counts) → total (one_more sort n) ≤ total n + 1
 total_counted None n = omega arith
 total_counted (Some CoreType) n = omega arith
 total_counted (Some TypeSort) n = omega arith
 total_counted (Some Instance) n = omega arith
 
-total_uncounted : (sort : Option Sort) (n : Counts) → HasOne sort n → total (uncounted sort n) + 1 ≤ total n
+total_uncounted : (sort : Option Sort) (n : Counts) → HasOne sort n → total (one_less sort n) + 1 ≤ total n
 total_uncounted None n one = absurd one
 total_uncounted (Some CoreType) n one = omega arith
 total_uncounted (Some TypeSort) n one = omega arith
 total_uncounted (Some Instance) n one = omega arith
 
-has_one : (sort : Sort) (n : Counts) → HasOne (Some sort) (counted (Some sort) n)
+has_one : (sort : Sort) (n : Counts) → HasOne (Some sort) (one_more (Some sort) n)
 has_one CoreType n = omega arith
 has_one TypeSort n = omega arith
 has_one Instance n = omega arith
 
-counted_uncounted : (sort : Option Sort) (n : Counts) → HasOne sort n → counted sort (uncounted sort n) ≡ n
+counted_uncounted : (sort : Option Sort) (n : Counts) → HasOne sort n → one_more sort (one_less sort n) ≡ n
 counted_uncounted None n one = absurd one
 counted_uncounted (Some CoreType) n one = let e : n.core_types - 1 + 1 ≡ n.core_types = omega arith in rw e refl
 counted_uncounted (Some TypeSort) n one = let e : n.types - 1 + 1 ≡ n.types = omega arith in rw e refl
 counted_uncounted (Some Instance) n one = let e : n.instances - 1 + 1 ≡ n.instances = omega arith in rw e refl
 
--- what is being written is one of the sorts
+-- what is being type_appended is one of the sorts
 one_at : (o : Option Opening) (sort : Option Sort) (n : Counts) → is_none o ≡ false → OpenedIsIn o sort n → HasOne sort n
 one_at None sort n e c = cc
 one_at (Some o) sort n e c = c
@@ -55,128 +55,128 @@ still_none : (o : Option Opening) (sort : Option Sort) (n m : Counts) → is_non
 still_none None sort n m e s = s
 still_none (Some o) sort n m e s = cc
 
-counted_back : (o : Option Opening) (h : Held) (m : Counts) → OpenedIsIn (given_up (record { kept = h.kept; count = h.count; body = h.body; opening = o })).opening None m
+counted_back : (o : Option Opening) (h : HolderState) (m : Counts) → OpenedIsIn (member_given_up (record { kept = h.kept; count = h.count; body = h.body; opening = o })).opening None m
 counted_back None h m = refl
 counted_back (Some o) h m = refl
 
-enough_back : (o : Option Opening) (h : Held) (sort : Option Sort) (n : Counts) → OpenedIsIn o sort n → total n ≤ h.count
-    → total (uncounted sort n) ≤ (given_up (record { kept = h.kept; count = h.count; body = h.body; opening = o })).count
+enough_back : (o : Option Opening) (h : HolderState) (sort : Option Sort) (n : Counts) → OpenedIsIn o sort n → total n ≤ h.count
+    → total (one_less sort n) ≤ (member_given_up (record { kept = h.kept; count = h.count; body = h.body; opening = o })).count
 enough_back None h sort n c e = rw c e
 enough_back (Some o) h sort n c e = omega (arith, total_uncounted sort n c)
 
 -- ---- declarations
 
 module _ {D : Type 0} (form : Form D) (sort : D → Option Sort) where
-  abbrev HasSome : Declaring → Type 0
+  abbrev HasSome : TypeState → Type 0
   HasSome t = ∥ DeclaresSome form sort t ∥₁
 
-  some_more : (t : Declaring) (text : List ℕ) (s : Option Sort) → DeclaresSome form sort t → IsDeclaration form sort text s
-      → DeclaresSome form sort (record { held = with_member t.held text; counts = counted s t.counts; begun = t.begun })
+  some_more : (t : TypeState) (text : List ℕ) (s : Option Sort) → DeclaresSome form sort t → IsDeclaration form sort text s
+      → DeclaresSome form sort (record { held_members = with_member t.held text; counts = one_more s t.counts; type_begun = t.begun })
   some_more t text s some one = record {
     declarations = some.declarations ++ one.declaration ∷ [];
     declared = rw one.sort_is (declares_next form sort t (with_member t.held text) one.declaration some.declarations (ap (with_member t.held) one.text_is) one.fits some.declared);
   }
 
-  pub settled : (t : Declaring) → is_finished t.held ≡ true → IsDeclaring form sort t → Settled t
+  pub settled : (t : TypeState) → is_finished t.held ≡ true → IsDeclaring form sort t → NoneBegun t
   settled t finished d = record { finished = finished; none_begun = none_at t.held.opening t.begun t.counts finished d.counted }
 
-  settled_back : (t : Declaring) → Settled t → taken_back t ≡ t
+  settled_back : (t : TypeState) → NoneBegun t → type_given_up t ≡ t
   settled_back t s = rw (finished_back t.held s.finished, s.none_begun) refl
 
   -- what is finished declares some
-  pub declares_some : (t : Declaring) → is_finished t.held ≡ true → IsDeclaring form sort t → ∥ DeclaresSome form sort t ∥₁
+  pub declares_some : (t : TypeState) → is_finished t.held ≡ true → IsDeclaring form sort t → ∥ DeclaresSome form sort t ∥₁
   declares_some t finished d = subst HasSome (settled_back t (settled t finished d)) d.settled
 
   pub declaring_none : IsDeclaring form sort no_declarations
   declaring_none = record {
     enough = omega arith;
-    counted = refl;
+    one_more = refl;
     opening = tt;
     settled = ∣ record { declarations = []; declared = record { contained = record { finished = refl; count = refl; body = refl; fit = tt }; counts = refl } } ∣₁;
   }
 
   -- a declaration is added
-  pub declaring_added : (t : Declaring) (text : List ℕ) (s : Option Sort) → is_finished t.held ≡ true → IsDeclaration form sort text s → IsDeclaring form sort t
-      → IsDeclaring form sort (record { held = with_member t.held text; counts = counted s t.counts; begun = t.begun })
+  pub declaring_added : (t : TypeState) (text : List ℕ) (s : Option Sort) → is_finished t.held ≡ true → IsDeclaration form sort text s → IsDeclaring form sort t
+      → IsDeclaring form sort (record { held_members = with_member t.held text; counts = one_more s t.counts; type_begun = t.begun })
   declaring_added t text s finished one d =
       let none = settled t finished d in
-      let next : Declaring = record { held = with_member t.held text; counts = counted s t.counts; begun = t.begun } in
+      let next : TypeState = record { held_members = with_member t.held text; counts = one_more s t.counts; type_begun = t.begun } in
       let some : ∥ DeclaresSome form sort next ∥₁ = ∥∥₁_map₂ (declares_some t finished d) ∣ one ∣₁ (some_more t text s) in
       record {
         enough = omega (arith, d.enough, total_counted s t.counts);
-        counted = still_none t.held.opening t.begun t.counts (counted s t.counts) finished none.none_begun;
+        one_more = still_none t.held.opening t.begun t.counts (one_more s t.counts) finished none.none_begun;
         opening = within_finished (with_member t.held text) finished;
         settled = subst HasSome (sym (settled_back next (record { finished = finished; none_begun = none.none_begun }))) some;
       }
 
-  -- a type is begun
-  pub declaring_begun : (t : Declaring) (s : Sort) → is_finished t.held ≡ true → IsDeclaring form sort t → IsDeclaring form sort (begun s t)
+  -- a type is type_begun
+  pub declaring_begun : (t : TypeState) (s : Sort) → is_finished t.held ≡ true → IsDeclaring form sort t → IsDeclaring form sort (type_begun s t)
   declaring_begun t s finished d =
       let none = settled t finished d in
-      let back : taken_back (begun s t) ≡ t = rw (opened_back t.held (lead_of s) finished, back_again s t.counts, ← none.none_begun) refl in
+      let back : type_given_up (type_begun s t) ≡ t = rw (opened_back t.held (lead_of s) finished, back_again s t.counts, ← none.none_begun) refl in
       record {
         enough = omega (arith, d.enough, total_counted (Some s) t.counts);
-        counted = has_one s t.counts;
+        one_more = has_one s t.counts;
         opening = within_opened t.held (lead_of s);
         settled = subst HasSome (sym back) (declares_some t finished d);
       }
 
-  -- more of it is written
-  pub declaring_written : (t : Declaring) (text : List ℕ) → is_finished t.held ≡ false → IsDeclaring form sort t → IsDeclaring form sort (written t text)
+  -- more of it is type_appended
+  pub declaring_written : (t : TypeState) (text : List ℕ) → is_finished t.held ≡ false → IsDeclaring form sort t → IsDeclaring form sort (type_appended t text)
   declaring_written t text unfinished d = record {
     enough = d.enough;
-    counted = d.counted;
+    one_more = d.counted;
     opening = within_lengthened t.held text d.opening;
     settled =
-        let back : taken_back (written t text) ≡ taken_back t = rw (lengthened_back t.held text unfinished d.opening) refl in
+        let back : type_given_up (type_appended t text) ≡ type_given_up t = rw (lengthened_back t.held text unfinished d.opening) refl in
         subst HasSome (sym back) d.settled;
   }
 
-  -- it is ended, as a declaration
-  pub declaring_ended : (t : Declaring) → ∥ IsDeclaration form sort (member_text t.held) t.begun ∥₁ → IsDeclaring form sort t → IsDeclaring form sort (ended t)
+  -- it is type_ended, as a declaration
+  pub declaring_ended : (t : TypeState) → ∥ IsDeclaration form sort (member_text t.held) t.begun ∥₁ → IsDeclaring form sort t → IsDeclaring form sort (type_ended t)
   declaring_ended t whole d = at (is_finished t.held) refl
     where
-      at : (b : Bool) → is_finished t.held ≡ b → IsDeclaring form sort (ended t)
+      at : (b : Bool) → is_finished t.held ≡ b → IsDeclaring form sort (type_ended t)
       at true finished =
           let none = settled t finished d in
-          let same : ended t ≡ t = rw (closed_as_it_is t.held finished, ← none.none_begun) refl in
+          let same : type_ended t ≡ t = rw (closed_as_it_is t.held finished, ← none.none_begun) refl in
           subst (IsDeclaring form sort) (sym same) d
       at false unfinished =
-          let back : Declaring = taken_back t in
-          let more : ∥ DeclaresSome form sort (record { held = with_member back.held (member_text t.held); counts = counted t.begun back.counts; begun = None }) ∥₁ =
+          let back : TypeState = type_given_up t in
+          let more : ∥ DeclaresSome form sort (record { held_members = with_member back.held (member_text t.held); counts = one_more t.begun back.counts; type_begun = None }) ∥₁ =
           ∥∥₁_map₂ d.settled whole (some_more back (member_text t.held) t.begun) in
           let one : HasOne t.begun t.counts = one_at t.held.opening t.begun t.counts unfinished d.counted in
           record {
             enough = d.enough;
-            counted = refl;
+            one_more = refl;
             opening = tt;
             settled = rw (closed_as_more t.held unfinished d.opening, counted_uncounted t.begun t.counts one) at more;
           }
 
   -- or it is given up
-  pub declaring_taken_back : (t : Declaring) → IsDeclaring form sort t → IsDeclaring form sort (taken_back t)
+  pub declaring_taken_back : (t : TypeState) → IsDeclaring form sort t → IsDeclaring form sort (type_given_up t)
   declaring_taken_back t d = record {
     enough = enough_back t.held.opening t.held t.begun t.counts d.counted d.enough;
-    counted = counted_back t.held.opening t.held (uncounted t.begun t.counts);
+    one_more = counted_back t.held.opening t.held (one_less t.begun t.counts);
     opening = within_back t.held;
     settled =
-        let again : taken_back (taken_back t) ≡ taken_back t = rw (back_twice t.held) refl in
+        let again : type_given_up (type_given_up t) ≡ type_given_up t = rw (back_twice t.held) refl in
         subst HasSome (sym again) d.settled;
   }
 
 -- ---- the texts of what is finished
 
-has_form : {D V : Type 0} (form : Form D) (sort : D → Option Sort) (b : ℕ) (whole : Form V) (value : List D → V) (t : Declaring)
-    → ((ds : List D) → Declares form sort t ds → Serves (b ▸ held t.held) (refused_for (EncodeCause t.held) (whole (value ds)))) → (held t.held).Fits → ∥ DeclaresSome form sort t ∥₁ → ∥ HasForm whole (b ∷ held_text t.held) ∥₁
+has_form : {D V : Type 0} (form : Form D) (sort : D → Option Sort) (b : ℕ) (whole : Form V) (value : List D → V) (t : TypeState)
+    → ((ds : List D) → Declares form sort t ds → Serves (b ▸ held_members t.held) (refused_for (EncodeCause t.held) (whole (value ds)))) → (held_members t.held).Fits → ∥ DeclaresSome form sort t ∥₁ → ∥ HasForm whole (b ∷ held_text t.held) ∥₁
 has_form form sort b whole value t serve fits some = ∥∥₁_map some (λ s.
     let serves = serve s.declarations s.declared in
     record { value = value s.declarations; fits = serves.fits fits; is = serves.text })
 
-pub module_has_form : (t : Declaring) → (held t.held).Fits → ∥ DeclaresSome module_declaration module_sort t ∥₁ → ∥ HasForm core_type (0x50 ∷ held_text t.held) ∥₁
+pub module_has_form : (t : TypeState) → (held_members t.held).Fits → ∥ DeclaresSome module_declaration module_sort t ∥₁ → ∥ HasForm core_type (0x50 ∷ held_text t.held) ∥₁
 module_has_form t = has_form module_declaration module_sort 0x50 core_type Module t (module_serves t)
 
-pub component_has_form : (t : Declaring) → (held t.held).Fits → ∥ DeclaresSome component_declaration component_sort t ∥₁ → ∥ HasForm type_of (0x41 ∷ held_text t.held) ∥₁
-component_has_form t = has_form component_declaration component_sort 0x41 type_of (λ ds. ComponentType (components_of ds)) t (component_serves t)
+pub component_has_form : (t : TypeState) → (held_members t.held).Fits → ∥ DeclaresSome component_declaration component_sort t ∥₁ → ∥ HasForm def_type (0x41 ∷ held_text t.held) ∥₁
+component_has_form t = has_form component_declaration component_sort 0x41 def_type (λ ds. ComponentType (components_of ds)) t (component_serves t)
 
-pub instance_has_form : (t : Declaring) → (held t.held).Fits → ∥ DeclaresSome instance_declaration instance_sort t ∥₁ → ∥ HasForm type_of (0x42 ∷ held_text t.held) ∥₁
-instance_has_form t = has_form instance_declaration instance_sort 0x42 type_of (λ ds. InstanceType (instances_of ds)) t (instance_serves t)
+pub instance_has_form : (t : TypeState) → (held_members t.held).Fits → ∥ DeclaresSome instance_declaration instance_sort t ∥₁ → ∥ HasForm def_type (0x42 ∷ held_text t.held) ∥₁
+instance_has_form t = has_form instance_declaration instance_sort 0x42 def_type (λ ds. InstanceType (instances_of ds)) t (instance_serves t)

@@ -1,26 +1,26 @@
 -- The laws of types of values that components define, and of types of functions.
 use Rattle.std.proofs.Common.{ℕ, Bool, true, false, List, [], ◌∷◌, ◌++◌, Option, refl}
 use Rattle.wenc_base.specs.laws.Forms.{read_list, list_lawful, list_sound, read_name, name_lawful, name_sound, read_option, option_lawful, option_sound}
-use Rattle.wenc_base.specs.laws.Lawful.{Lawful, Reader, ◌>>=◌, give, nowhere, choose, row, row_byte, then, last}
+use Rattle.wenc_base.specs.laws.Lawful.{Lawful, Reader, ◌>>=◌, give, nowhere, choose, alternative, row_byte, then, last}
 use Rattle.wenc_base.specs.laws.Sound.{Sound, RowsAreSound, give_sound, last_sound, then_sound, nowhere_sound, choose_sound}
 use Rattle.wenc_base.specs.Piece.{Form, Wide}
 use Rattle.wenc_base.specs.laws.Numbers.{read_u32, u32_lawful, u32_sound}
 use Rattle.wenc_parts.specs.declared.types.ComponentValType.{ComponentValType}
 use Rattle.wenc_parts.specs.laws.Types.{primitive_rows, primitive_row, read_value_type, value_type_lawful, value_type_sound, read_result_list, result_list_lawful}
-use Rattle.wenc_types.specs.DefinedTypes.{Named, named, Case, case, Defined, Primitive, Record, Variant, ListOf, MapOf, FixedLengthList, Tuple, Flags, Enumeration, OptionOf, ResultOf, Own, Borrow, Future, Stream, defined_type, Function, function_type_of, function_type}
+use Rattle.wenc_types.specs.DefinedTypes.{LabelledType, labelled_type, Case, case, DefValType, Primitive, Record, Variant, ListOf, MapOf, FixedLengthList, Tuple, Flags, Enumeration, OptionOf, ResultOf, Own, Borrow, Future, Stream, def_val_type, Function, function_type_of, function_type}
 
 -- ---- parts
 
-abbrev to_named : List ℕ → ComponentValType → Named
+abbrev to_named : List ℕ → ComponentValType → LabelledType
 to_named name ty = record { name = name; ty = ty }
 
-abbrev pub read_named : Reader Named
-read_named = read_name >>= λ name. read_value_type >>= λ ty. give (to_named name ty)
+abbrev pub read_labelled_type : Reader LabelledType
+read_labelled_type = read_name >>= λ name. read_value_type >>= λ ty. give (to_named name ty)
 
-pub named_lawful : (f : Named) → Lawful (named f) (λ fuel. read_named) f
-named_lawful f = then _ (name_lawful f.name) (last (to_named f.name) (value_type_lawful f.ty))
+pub labelled_type_lawful : (f : LabelledType) → Lawful (labelled_type f) (λ fuel. read_labelled_type) f
+labelled_type_lawful f = then _ (name_lawful f.name) (last (to_named f.name) (value_type_lawful f.ty))
 
-pub named_sound : Sound named read_named
+pub named_sound : Sound labelled_type read_labelled_type
 named_sound = then_sound _ name_sound (λ name. last_sound (to_named name) value_type_sound (λ ty middle rest r bytes p. (middle, p, r)))
 
 abbrev to_case : List ℕ → Option ComponentValType → Case
@@ -41,9 +41,9 @@ case_sound = then_sound _ name_sound (λ name. then_sound _ (option_sound value_
 
 -- ---- defined types
 
-abbrev pub defined_rows : {A : Type 0} → (Defined → A) → List (ℕ × Reader A)
+abbrev pub defined_rows : {A : Type 0} → (DefValType → A) → List (ℕ × Reader A)
 defined_rows make =
-    (0x72, read_list read_named >>= λ fields. give (make (Record fields))) ∷
+    (0x72, read_list read_labelled_type >>= λ fields. give (make (Record fields))) ∷
     (0x71, read_list read_case >>= λ cases. give (make (Variant cases))) ∷
     (0x70, read_value_type >>= λ element. give (make (ListOf element))) ∷
     (0x6f, read_list read_value_type >>= λ elements. give (make (Tuple elements))) ∷
@@ -59,28 +59,28 @@ defined_rows make =
     (0x63, read_value_type >>= λ key. read_value_type >>= λ value. give (make (MapOf key value))) ∷ []
 
 -- a defined type, where other rows may follow in the table
-pub defined_row : {A : Type 0} (make : Defined → A) (rows : ℕ → List (ℕ × Reader A)) (other : ℕ → Reader A) (t : Defined)
-    → Lawful (defined_type t) (λ fuel. choose (primitive_rows (λ p. make (Primitive p)) ++ (defined_rows make ++ rows fuel)) (other fuel)) (make t)
+pub defined_row : {A : Type 0} (make : DefValType → A) (rows : ℕ → List (ℕ × Reader A)) (other : ℕ → Reader A) (t : DefValType)
+    → Lawful (def_val_type t) (λ fuel. choose (primitive_rows (λ p. make (Primitive p)) ++ (defined_rows make ++ rows fuel)) (other fuel)) (make t)
 defined_row make rows other (Primitive p) = primitive_row (λ q. make (Primitive q)) (λ fuel. defined_rows make ++ rows fuel) other p
-defined_row make rows other (Record fields) = row _ _ 0x72 (last (λ fs. make (Record fs)) (list_lawful named_lawful fields))
-defined_row make rows other (Variant cases) = row _ _ 0x71 (last (λ cs. make (Variant cs)) (list_lawful case_lawful cases))
-defined_row make rows other (ListOf element) = row _ _ 0x70 (last (λ t. make (ListOf t)) (value_type_lawful element))
-defined_row make rows other (Tuple elements) = row _ _ 0x6f (last (λ ts. make (Tuple ts)) (list_lawful value_type_lawful elements))
-defined_row make rows other (Flags names) = row _ _ 0x6e (last (λ ns. make (Flags ns)) (list_lawful name_lawful names))
-defined_row make rows other (Enumeration names) = row _ _ 0x6d (last (λ ns. make (Enumeration ns)) (list_lawful name_lawful names))
-defined_row make rows other (OptionOf ty) = row _ _ 0x6b (last (λ t. make (OptionOf t)) (value_type_lawful ty))
+defined_row make rows other (Record fields) = alternative _ _ 0x72 (last (λ fs. make (Record fs)) (list_lawful labelled_type_lawful fields))
+defined_row make rows other (Variant cases) = alternative _ _ 0x71 (last (λ cs. make (Variant cs)) (list_lawful case_lawful cases))
+defined_row make rows other (ListOf element) = alternative _ _ 0x70 (last (λ t. make (ListOf t)) (value_type_lawful element))
+defined_row make rows other (Tuple elements) = alternative _ _ 0x6f (last (λ ts. make (Tuple ts)) (list_lawful value_type_lawful elements))
+defined_row make rows other (Flags names) = alternative _ _ 0x6e (last (λ ns. make (Flags ns)) (list_lawful name_lawful names))
+defined_row make rows other (Enumeration names) = alternative _ _ 0x6d (last (λ ns. make (Enumeration ns)) (list_lawful name_lawful names))
+defined_row make rows other (OptionOf ty) = alternative _ _ 0x6b (last (λ t. make (OptionOf t)) (value_type_lawful ty))
 defined_row make rows other (ResultOf ok error) =
-    row _ _ 0x6a (then _ (option_lawful value_type_lawful ok) (last (λ e. make (ResultOf ok e)) (option_lawful value_type_lawful error)))
-defined_row make rows other (Own number) = row _ _ 0x69 (last (λ n. make (Own n)) (u32_lawful number))
-defined_row make rows other (Borrow number) = row _ _ 0x68 (last (λ n. make (Borrow n)) (u32_lawful number))
+    alternative _ _ 0x6a (then _ (option_lawful value_type_lawful ok) (last (λ e. make (ResultOf ok e)) (option_lawful value_type_lawful error)))
+defined_row make rows other (Own number) = alternative _ _ 0x69 (last (λ n. make (Own n)) (u32_lawful number))
+defined_row make rows other (Borrow number) = alternative _ _ 0x68 (last (λ n. make (Borrow n)) (u32_lawful number))
 defined_row make rows other (FixedLengthList element length) =
-    row _ _ 0x67 (then _ (value_type_lawful element) (last (λ n. make (FixedLengthList element n)) (u32_lawful length)))
-defined_row make rows other (Stream ty) = row _ _ 0x66 (last (λ t. make (Stream t)) (option_lawful value_type_lawful ty))
-defined_row make rows other (Future ty) = row _ _ 0x65 (last (λ t. make (Future t)) (option_lawful value_type_lawful ty))
-defined_row make rows other (MapOf key value) = row _ _ 0x63 (then _ (value_type_lawful key) (last (λ t. make (MapOf key t)) (value_type_lawful value)))
+    alternative _ _ 0x67 (then _ (value_type_lawful element) (last (λ n. make (FixedLengthList element n)) (u32_lawful length)))
+defined_row make rows other (Stream ty) = alternative _ _ 0x66 (last (λ t. make (Stream t)) (option_lawful value_type_lawful ty))
+defined_row make rows other (Future ty) = alternative _ _ 0x65 (last (λ t. make (Future t)) (option_lawful value_type_lawful ty))
+defined_row make rows other (MapOf key value) = alternative _ _ 0x63 (then _ (value_type_lawful key) (last (λ t. make (MapOf key t)) (value_type_lawful value)))
 
--- each row of a table of defined types
-pub defined_rows_sound : {A : Type 0} (form : Form A) (make : Defined → A) → ((t : Defined) (bytes rest : List ℕ) → (defined_type t).Reads Wide bytes rest → (form (make t)).Reads Wide bytes rest) → RowsAreSound form (defined_rows make)
+-- each alternative of a table of defined types
+pub defined_rows_sound : {A : Type 0} (form : Form A) (make : DefValType → A) → ((t : DefValType) (bytes rest : List ℕ) → (def_val_type t).Reads Wide bytes rest → (form (make t)).Reads Wide bytes rest) → RowsAreSound form (defined_rows make)
 defined_rows_sound form make k = (
   last_sound (λ fields. make (Record fields)) (list_sound named_sound) (λ v bytes rest r. k (Record v) _ rest (bytes, refl, r)),
   (
@@ -122,30 +122,30 @@ defined_rows_sound form make k = (
   ),
 )
 
-abbrev pub read_defined : Reader Defined
+abbrev pub read_defined : Reader DefValType
 read_defined = choose (primitive_rows Primitive ++ defined_rows (λ t. t)) nowhere
 
-pub defined_type_lawful : (t : Defined) → Lawful (defined_type t) (λ fuel. read_defined) t
+pub defined_type_lawful : (t : DefValType) → Lawful (def_val_type t) (λ fuel. read_defined) t
 defined_type_lawful t = defined_row (λ u. u) (λ fuel. []) _ t
 
 -- ---- types of functions
 
-abbrev pub to_function : Bool → List Named → Option ComponentValType → Function
+abbrev pub to_function : Bool → List LabelledType → Option ComponentValType → Function
 to_function is_async params answer = record { is_async = is_async; params = params; answer = answer }
 
 abbrev read_signature : {A : Type 0} → Bool → (Function → A) → Reader A
-read_signature is_async make = read_list read_named >>= λ params. read_result_list >>= λ answer. give (make (to_function is_async params answer))
+read_signature is_async make = read_list read_labelled_type >>= λ params. read_result_list >>= λ answer. give (make (to_function is_async params answer))
 
 abbrev pub function_rows : {A : Type 0} → (Function → A) → List (ℕ × Reader A)
 function_rows make = (0x40, read_signature false make) ∷ (0x43, read_signature true make) ∷ []
 
 -- the type of a function, where other rows may follow in the table
-pub function_row : {A : Type 0} (make : Function → A) (rows : ℕ → List (ℕ × Reader A)) (other : ℕ → Reader A) (is_async : Bool) (params : List Named) (answer : Option ComponentValType)
+pub function_row : {A : Type 0} (make : Function → A) (rows : ℕ → List (ℕ × Reader A)) (other : ℕ → Reader A) (is_async : Bool) (params : List LabelledType) (answer : Option ComponentValType)
     → Lawful (function_type_of is_async params answer) (λ fuel. choose (function_rows make ++ rows fuel) (other fuel)) (make (to_function is_async params answer))
 function_row make rows other false params answer =
-    row _ _ 0x40 (then _ (list_lawful named_lawful params) (last (λ a. make (to_function false params a)) (result_list_lawful answer)))
+    alternative _ _ 0x40 (then _ (list_lawful labelled_type_lawful params) (last (λ a. make (to_function false params a)) (result_list_lawful answer)))
 function_row make rows other true params answer =
-    row _ _ 0x43 (then _ (list_lawful named_lawful params) (last (λ a. make (to_function true params a)) (result_list_lawful answer)))
+    alternative _ _ 0x43 (then _ (list_lawful labelled_type_lawful params) (last (λ a. make (to_function true params a)) (result_list_lawful answer)))
 
 abbrev pub read_function : Reader Function
 read_function = choose (function_rows (λ f. f)) nowhere

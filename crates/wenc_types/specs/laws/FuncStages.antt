@@ -1,7 +1,7 @@
 -- What remains to be written of the type of a function, from stage to stage.
 use Rattle.std.proofs.Common.{◌≡◌, ℕ, Bool, true, false, List, [], ◌∷◌, ◌++◌, ap}
 use Rattle.wenc_base.specs.Forms.{list}
-use Rattle.wenc_types.specs.DefinedTypes.{Named, named}
+use Rattle.wenc_types.specs.DefinedTypes.{LabelledType, labelled_type}
 use Rattle.wenc_types.specs.FuncStages.{async_byte, BeforeParams, params_from, Remains, RestMakesWhole}
 use Rattle.wenc_types.specs.declared.func_type.FuncStage.{FuncStage}
 use Rattle.wenc_types.specs.declared.func_type.FuncStage.TheVariants.{Start, Tagged, Params, Done}
@@ -12,10 +12,10 @@ after_tag true bytes r = record { value = record { is_async = true; params = r.v
 after_tag false bytes r = record { value = record { is_async = false; params = r.value.0; answer = r.value.1 }; fits = r.fits; is = ap (λ (t : List ℕ). 0x40 ∷ t) r.is }
 
 -- behind the parameters
-after_params : (stage : FuncStage) (params : List Named) (bytes : List ℕ) → BeforeParams stage → (params_from stage params).Fits → Remains Params bytes → Remains stage ((params_from stage params).text ++ bytes)
+after_params : (stage : FuncStage) (params : List LabelledType) (bytes : List ℕ) → BeforeParams stage → (params_from stage params).Fits → Remains Params bytes → Remains stage ((params_from stage params).text ++ bytes)
 after_params Start params bytes before fit r =
-    after_tag false ((list named params).text ++ bytes) (record { value = (params, r.value); fits = (fit, r.fits); is = ap (λ (t : List ℕ). (list named params).text ++ t) r.is })
-after_params Tagged params bytes before fit r = record { value = (params, r.value); fits = (fit, r.fits); is = ap (λ (t : List ℕ). (list named params).text ++ t) r.is }
+    after_tag false ((list labelled_type params).text ++ bytes) (record { value = (params, r.value); fits = (fit, r.fits); is = ap (λ (t : List ℕ). (list labelled_type params).text ++ t) r.is })
+after_params Tagged params bytes before fit r = record { value = (params, r.value); fits = (fit, r.fits); is = ap (λ (t : List ℕ). (list labelled_type params).text ++ t) r.is }
 after_params Params params bytes before fit r = absurd before
 after_params Done params bytes before fit r = absurd before
 
@@ -23,7 +23,7 @@ module _ {T : Type 0} (is_whole : T → Type 0) (written : T → List ℕ → T)
   pub tag_goes_on : (is_async : Bool) → new ≡ written old (async_byte is_async ∷ []) → RestMakesWhole is_whole written Start old → RestMakesWhole is_whole written Tagged new
   tag_goes_on is_async e whole text r = rw (e, joins old (async_byte is_async ∷ []) text) (whole (async_byte is_async ∷ text) (after_tag is_async text r))
 
-  pub params_go_on : (stage : FuncStage) (params : List Named) → BeforeParams stage → new ≡ written old (params_from stage params).text → (params_from stage params).Fits
+  pub params_go_on : (stage : FuncStage) (params : List LabelledType) → BeforeParams stage → new ≡ written old (params_from stage params).text → (params_from stage params).Fits
       → RestMakesWhole is_whole written stage old → RestMakesWhole is_whole written Params new
   params_go_on stage params before e fit whole text r =
       let lead : List ℕ = (params_from stage params).text in

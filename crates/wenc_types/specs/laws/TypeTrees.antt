@@ -4,7 +4,7 @@ use Rattle.std.specs.String.{string_bytes}
 use Rattle.wenc_base.specs.declared.types.ValType.{ValType}
 use Rattle.wenc_parts.specs.declared.types.ComponentValType.{ComponentValType}
 use Rattle.wenc_types.specs.ComponentTypes.{DefinedType, ComponentType, InstanceType, ResourceType, instances_of, components_of}
-use Rattle.wenc_types.specs.DefinedTypes.{Named, Case, Defined, Primitive, Record, Variant, ListOf, MapOf, FixedLengthList, Tuple, Flags, Enumeration, OptionOf, ResultOf, Own, Borrow, Future, Stream}
+use Rattle.wenc_types.specs.DefinedTypes.{LabelledType, Case, DefValType, Primitive, Record, Variant, ListOf, MapOf, FixedLengthList, Tuple, Flags, Enumeration, OptionOf, ResultOf, Own, Borrow, Future, Stream}
 use Rattle.wenc_types.specs.TypeTrees.{named_view, case_view, defined_view, type_view, instance_declaration_view, component_declaration_view}
 use Rattle.wenc_types.specs.declared.defined_tree.CaseTree.{CaseTree}
 use Rattle.wenc_types.specs.declared.defined_tree.DefinedTree.{DefinedTree}
@@ -21,8 +21,8 @@ use Rattle.wenc_types.specs.laws.CoreTypes.{SeesAlike}
 pub named_sees : {A : Type 0} (eq : String A × ComponentValType → String A × ComponentValType → Bool)
     → ((m n : String A) (t : ComponentValType) → string_bytes m ≡ string_bytes n → eq (m, t) (m, t) ≡ eq (m, t) (n, t)) → SeesAlike eq named_view
 named_sees eq names f g e =
-    let types : f.1 ≡ g.1 = ap (λ (v : Named). v.ty) e in
-    subst (λ (t : ComponentValType). eq f f ≡ eq f (g.0, t)) types (names f.0 g.0 f.1 (ap (λ (v : Named). v.name) e))
+    let types : f.1 ≡ g.1 = ap (λ (v : LabelledType). v.ty) e in
+    subst (λ (t : ComponentValType). eq f f ≡ eq f (g.0, t)) types (names f.0 g.0 f.1 (ap (λ (v : LabelledType). v.name) e))
 
 abbrev case_with : {A : Type 0} → String A → Option ComponentValType → CaseTree A
 case_with name ty = record { name = name; ty = ty }
@@ -34,7 +34,7 @@ case_sees eq names c d e =
     subst (λ (t : Option ComponentValType). eq c c ≡ eq c (case_with d.name t)) types (names c.name d.name c.ty (ap (λ (v : Case). v.name) e))
 
 -- the trees that are seen as this type
-abbrev ShapeOf : {A : Type 0} → Defined → DefinedTree A → Type 0
+abbrev ShapeOf : {A : Type 0} → DefValType → DefinedTree A → Type 0
 ShapeOf (Primitive p) t = t ≡ trees.Primitive p
 ShapeOf {A} (Record fields) t = (v : Vec (String A × ComponentValType) A) × (fields ≡ map named_view v.items) × (t ≡ trees.Record v)
 ShapeOf {A} (Variant cases) t = (v : Vec (CaseTree A) A) × (cases ≡ map case_view v.items) × (t ≡ trees.Variant v)
@@ -76,7 +76,7 @@ pub defined_sees : {A : Type 0} (eq : DefinedTree A → DefinedTree A → Bool)
     → SeesAlike (λ (v w : Vec (String A) A). eq (trees.Flags v) (trees.Flags w)) (λ v. map string_bytes v.items)
     → SeesAlike (λ (v w : Vec (String A) A). eq (trees.Enum v) (trees.Enum w)) (λ v. map string_bytes v.items)
     → SeesAlike eq defined_view
-defined_sees {A} eq records variants tuples flags enums a b e = of a (subst (λ (d : Defined). ShapeOf d b) (sym e) (shape_of b))
+defined_sees {A} eq records variants tuples flags enums a b e = of a (subst (λ (d : DefValType). ShapeOf d b) (sym e) (shape_of b))
   where
     of : (a : DefinedTree A) → ShapeOf (defined_view a) b → eq a a ≡ eq a b
     of (trees.Primitive p) h = rw h refl

@@ -3,7 +3,7 @@ use Rattle.std.proofs.lemmas.List.{map-id}
 use Rattle.wenc_base.specs.laws.Forms.{read_list}
 use Rattle.wenc_base.specs.laws.Numbers.{read_u32}
 use Rattle.wenc_canon.specs.Canonicals.{Lift}
-use Rattle.wenc_canon.specs.laws.Canonicals.{read_option}
+use Rattle.wenc_canon.specs.laws.Canonicals.{read_canonical_option}
 use Rattle.wenc_read.specs.laws.Tables.{at_first}
 use Rattle.wenc_decode.proofs.Tables.{made_of_three}
 use Rattle.wenc_decode.proofs.canonicals.lifted.Goals as goal
@@ -11,4 +11,4 @@ use Rattle.wenc_decode.proofs.canonicals.lifted.Goals as goal
 pub returns-in_ok-ty-in-0-default : goal.returns-in_ok-ty-in-0-default
 returns-in_ok-ty-in-0-default g c =
     at_first _ _ 0x00 _ _ _ c.in_ok-rest.ensures (search rules)
-    ∙ made_of_three (λ f os t. Lift f os t) read_u32 (read_list read_option) read_u32 _ _ _ _ _ _ _ c.in_ok-core_func-in-0-default.ensures (rw (map-id c.in_ok-options-in-0-default.options.items) at c.in_ok-options-in-0-default.ensures) c.in_ok-ty-in-0-default.ensures
+    ∙ made_of_three (λ f os t. Lift f os t) read_u32 (read_list read_canonical_option) read_u32 _ _ _ _ _ _ _ c.in_ok-core_func-in-0-default.ensures (rw (map-id c.in_ok-options-in-0-default.options.items) at c.in_ok-options-in-0-default.ensures) c.in_ok-ty-in-0-default.ensures

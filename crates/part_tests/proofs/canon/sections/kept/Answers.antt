@@ -3,7 +3,7 @@ use Rattle.wenc_base.specs.Holder.{holding}
 use Rattle.wenc_base.specs.Number.{groups}
 use Rattle.wenc_base.specs.Piece.{HasForm}
 use Rattle.wenc_base.specs.laws.Members.{keeps_some}
-use Rattle.wenc_canon.specs.Canonicals.{canonical, Provided, TaskCancel}
+use Rattle.wenc_canon.specs.Canonicals.{canonical, OfBuiltin, TaskCancel}
 use Rattle.part_tests.proofs.canon.sections.kept.Goals as goal
 
 pub returns : goal.returns
@@ -13,5 +13,5 @@ returns c = rw (c.over.ensures, c.in_ok-from_array.ensures.items)
     ∣ record {
       members = (0x05 ∷ []) ∷ [];
       contained = record { finished = refl; count = refl; body = refl; fit = (tt, tt) };
-      each = (record { value = Provided TaskCancel tt; fits = tt; is = refl }, tt);
+      each = (record { value = OfBuiltin TaskCancel tt; fits = tt; is = refl }, tt);
     } ∣₁)

@@ -2,7 +2,7 @@ use Rattle.std.proofs.Common.{rules, ◌≡◌, List, take, drop, length, arith,
 use Rattle.std.proofs.Math.Seq.{take-length}
 use Rattle.wenc_base.specs.Forms.{list}
 use Rattle.wenc_base.specs.Holder.{listed}
-use Rattle.wenc_base.specs.Openings.{lengthened, no_room}
+use Rattle.wenc_base.specs.Openings.{member_appended, no_room_in_holder}
 use Rattle.wenc_base.specs.Piece.{nothing, verbatim, behind_bytes}
 use Rattle.wenc_base.specs.laws.Lenders.{extends_as}
 use Rattle.wenc_base.specs.laws.Serves.{listed_behind}
@@ -13,7 +13,7 @@ use Rattle.wenc_base.proofs.holder.Holder.append_listed.Goals as goal
 pub returns-in_err-encode_listed : goal.returns-in_err-encode_listed
 returns-in_err-encode_listed g c =
     let piece = listed (verbatim c.args.lead.now) g.T.Encode.piece nothing in
-    extends_as g.I.Iterator.next_gives c.args.values c.args.self.now _ c.from_residual.result (lengthened c.args.self.now) (no_room c.args.self.now)
+    extends_as g.I.Iterator.next_gives c.args.values c.args.self.now _ c.from_residual.result (member_appended c.args.self.now) (no_room_in_holder c.args.self.now)
     piece (λ vs. behind_bytes c.args.lead.now (list g.T.Encode.piece vs)) (listed_behind c.args.lead.now g.T.Encode.piece)
     (refused_own g.I.Iterator.next_gives c.args.values piece c.args.self.now _
     c.from_residual.result c.in_err-encode_listed.field-0.0 c.from_residual.ensures.1 (search rules) c.in_err-encode_listed.ensures.warranted)
@@ -28,7 +28,7 @@ returns g c =
     let start : c.len-start.result ≡ length before = search rules in
     let cut = came_after g.I.Iterator.next_gives c.args.values piece c.len-start.result before after (omega (arith, start)) c.in_ok-encode_listed.ensures.ok in
     let same : take c.len-start.result after ≡ before = cut ∙ rw start (take-length before) in
-    extends_as g.I.Iterator.next_gives c.args.values c.args.self.now _ c.keep_in_room.result (lengthened c.args.self.now) (no_room c.args.self.now)
+    extends_as g.I.Iterator.next_gives c.args.values c.args.self.now _ c.keep_in_room.result (member_appended c.args.self.now) (no_room_in_holder c.args.self.now)
     piece (λ vs. behind_bytes c.args.lead.now (list g.T.Encode.piece vs)) (listed_behind c.args.lead.now g.T.Encode.piece)
     (kept_or_cut g.I.Iterator.next_gives c.args.values piece c.args.self.now _ (drop c.self.inside.kept after) c.keep_in_room.result (rw (← c.self.view_is) came)
     (search (front, rules)) (search rules)

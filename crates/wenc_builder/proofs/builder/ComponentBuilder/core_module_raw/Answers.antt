@@ -1,6 +1,6 @@
 use Rattle.std.proofs.Common.{refl}
 use Rattle.wenc_base.specs.laws.Serves.{serves_itself}
-use Rattle.wenc_builder.specs.Space.{defined_as}
+use Rattle.wenc_builder.specs.Space.{indices_in}
 use Rattle.std.specs.Option.{option_copied}
 use Rattle.wenc_builder.specs.Entry.{module_entry}
 use Rattle.wenc_builder.specs.Item.{ModuleItem}
@@ -11,7 +11,7 @@ use Rattle.wenc_builder.proofs.builder.ComponentBuilder.core_module_raw.Goals as
 
 pub returns : goal.returns
 returns g c =
-    alone_enters c.args.self.now c.stand_alone.new.self c.stand_alone.result (module_entry (option_copied c.args.debug_name) c.args.bytes.now) (defined_as spaces.CoreModules 1) (option_copied c.args.debug_name)
+    alone_enters c.args.self.now c.stand_alone.new.self c.stand_alone.result (module_entry (option_copied c.args.debug_name) c.args.bytes.now) (indices_in spaces.CoreModules 1) (option_copied c.args.debug_name)
     (record { alone = refl; defined = refl; named = refl }) (rw c.into.ensures serves_itself) c.stand_alone.ensures
 
 pub stand_alone-requires : goal.stand_alone-requires

@@ -1,6 +1,6 @@
 use Rattle.std.proofs.Common.{refl}
 use Rattle.wenc_base.specs.laws.Serves.{serves_itself}
-use Rattle.wenc_builder.specs.Space.{defined_as}
+use Rattle.wenc_builder.specs.Space.{indices_in}
 use Rattle.wenc_builder.specs.Entry.{raw_entry}
 use Rattle.wenc_builder.specs.Item.{RawItem}
 use Rattle.wenc_builder.proofs.Texts.{raw_serves}

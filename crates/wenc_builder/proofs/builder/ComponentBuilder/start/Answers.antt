@@ -1,6 +1,6 @@
 use Rattle.std.proofs.Common.{refl}
 use Rattle.wenc_base.specs.laws.Serves.{serves_itself}
-use Rattle.wenc_builder.specs.Space.{defined_as}
+use Rattle.wenc_builder.specs.Space.{indices_in}
 use Rattle.std.proofs.Common.{None}
 use Rattle.wenc_sections.specs.Start.{started}
 use Rattle.wenc_builder.specs.Entry.{entry}
@@ -12,7 +12,7 @@ use Rattle.wenc_builder.proofs.builder.ComponentBuilder.start.Goals as goal
 
 pub returns : goal.returns
 returns g c =
-    alone_enters c.args.self.now c.stand_alone.new.self c.stand_alone.result (entry (StartItem (started c.args.function_index (g.V.AsSlice.items c.args.args) c.args.results)) None) (defined_as spaces.Values c.args.results) None
+    alone_enters c.args.self.now c.stand_alone.new.self c.stand_alone.result (entry (StartItem (started c.args.function_index (g.V.AsSlice.items c.args.args) c.args.results)) None) (indices_in spaces.Values c.args.results) None
     (record { alone = refl; defined = refl; named = refl }) (rw c.into.ensures serves_itself) c.stand_alone.ensures
 
 pub stand_alone-requires : goal.stand_alone-requires

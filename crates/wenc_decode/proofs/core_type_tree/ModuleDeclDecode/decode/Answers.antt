@@ -1,9 +1,9 @@
 use Rattle.std.proofs.Common.{rules, ◌∙◌}
 use Rattle.wenc_base.specs.laws.Composites.{read_group}
 use Rattle.wenc_read.specs.laws.Tables.{at_first}
-use Rattle.wenc_types.specs.CoreTypes.{Defined}
+use Rattle.wenc_types.specs.CoreTypes.{ModuleRecType}
 use Rattle.wenc_decode.proofs.Tables.{made_of}
 use Rattle.wenc_decode.proofs.core_type_tree.ModuleDeclDecode.decode.Goals as goal
 
 pub returns-in_ok-ty-in-1-default : goal.returns-in_ok-ty-in-1-default
-returns-in_ok-ty-in-1-default g c = at_first _ _ 0x01 _ _ _ c.in_ok-rest.ensures (search rules) ∙ made_of Defined read_group _ _ _ c.in_ok-ty-in-1-default.ensures
+returns-in_ok-ty-in-1-default g c = at_first _ _ 0x01 _ _ _ c.in_ok-rest.ensures (search rules) ∙ made_of ModuleRecType read_group _ _ _ c.in_ok-ty-in-1-default.ensures

@@ -2,9 +2,9 @@ use Rattle.std.proofs.Common.{rules, ◌∙◌}
 use Rattle.wenc_base.specs.laws.Forms.{read_list}
 use Rattle.wenc_read.specs.laws.Tables.{at_first}
 use Rattle.wenc_sections.specs.Instances.{Exports}
-use Rattle.wenc_sections.specs.laws.Items.{read_exported}
+use Rattle.wenc_sections.specs.laws.Items.{read_inline_exported}
 use Rattle.wenc_decode.proofs.Tables.{made_of}
 use Rattle.wenc_decode.proofs.instances.InstanceTreeDecode.decode.Goals as goal
 
 pub returns-in_ok-exports-in-1-default : goal.returns-in_ok-exports-in-1-default
-returns-in_ok-exports-in-1-default g c = at_first _ _ 0x01 _ _ _ c.in_ok-rest.ensures (search rules) ∙ made_of Exports (read_list read_exported) _ _ _ c.in_ok-exports-in-1-default.ensures
+returns-in_ok-exports-in-1-default g c = at_first _ _ 0x01 _ _ _ c.in_ok-rest.ensures (search rules) ∙ made_of Exports (read_list read_inline_exported) _ _ _ c.in_ok-exports-in-1-default.ensures

@@ -1,16 +1,16 @@
 use Rattle.std.proofs.Common.{sym, ◌∙◌}
-use Rattle.wenc_base.specs.Holder.{held}
+use Rattle.wenc_base.specs.Holder.{held_members}
 use Rattle.wenc_base.specs.Piece.{HasForm, ◌▸◌}
 use Rattle.wenc_base.specs.laws.Holders.{adds_as}
 use Rattle.wenc_base.specs.laws.Members.{keeps_took}
-use Rattle.wenc_types.specs.ComponentTypes.{type_of}
+use Rattle.wenc_types.specs.ComponentTypes.{def_type}
 use Rattle.wenc_types.specs.laws.Declarations.{instance_serves}
 use Rattle.wenc_types.specs.laws.Declaring.{instance_has_form}
 use Rattle.wenc_sections.proofs.types.Counted+ComponentTypes+A.instance.Goals as goal
 
 pub invariant_of-self : goal.invariant_of-self
 invariant_of-self g c =
-    keeps_took (HasForm type_of) (0x42 ▸ held c.args.ty.now.held) c.self.inside.items c.add_encoded.new.self c.add_encoded.result
+    keeps_took (HasForm def_type) (0x42 ▸ held_members c.args.ty.now.held) c.self.inside.items c.add_encoded.new.self c.add_encoded.result
     (λ fits. instance_has_form c.args.ty.now fits (c.is_finished.ensures.declares (sym c.is_finished.ensures.finished ∙ c.if-not-is_finished.false))) c.add_encoded.ensures.added c.self.invariant
 
 pub returns-clause-declared : goal.returns-clause-declared

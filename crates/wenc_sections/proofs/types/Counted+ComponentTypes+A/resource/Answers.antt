@@ -1,7 +1,7 @@
 use Rattle.wenc_base.specs.Piece.{HasForm}
 use Rattle.wenc_base.specs.laws.Holders.{adds_as}
 use Rattle.wenc_base.specs.laws.Members.{keeps_took, serves_form}
-use Rattle.wenc_types.specs.ComponentTypes.{type_of, ResourceType}
+use Rattle.wenc_types.specs.ComponentTypes.{def_type, ResourceType}
 use Rattle.wenc_sections.proofs.Served.{resource_serves}
 use Rattle.wenc_sections.proofs.types.Counted+ComponentTypes+A.resource.Goals as goal
 
@@ -10,5 +10,5 @@ returns g c = rw (← c.self.view_is) (adds_as _ c.add_encoded.new.self _ (resou
 
 pub invariant_of-self : goal.invariant_of-self
 invariant_of-self g c =
-    keeps_took (HasForm type_of) _ c.self.inside.items c.add_encoded.new.self c.add_encoded.result
-    (serves_form type_of (ResourceType c.args.rep c.args.dtor) (resource_serves c.args.rep c.args.dtor)) c.add_encoded.ensures.added c.self.invariant
+    keeps_took (HasForm def_type) _ c.self.inside.items c.add_encoded.new.self c.add_encoded.result
+    (serves_form def_type (ResourceType c.args.rep c.args.dtor) (resource_serves c.args.rep c.args.dtor)) c.add_encoded.ensures.added c.self.invariant

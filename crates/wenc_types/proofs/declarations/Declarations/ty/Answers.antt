@@ -1,8 +1,8 @@
 use Rattle.std.proofs.Common.{◌∷◌, []}
 use Rattle.wenc_base.specs.laws.Members.{written_text}
-use Rattle.wenc_types.specs.ComponentTypes.{Typed, type_of}
+use Rattle.wenc_types.specs.ComponentTypes.{Typed, def_type}
 use Rattle.wenc_types.proofs.declarations.Declarations.ty.Goals as goal
 
 pub new-requires-clause-whole : goal.new-requires-clause-whole
 new-requires-clause-whole g c t = λ fits.
-    rw (c.in_ok-begin.ensures.ok, written_text c.args.self.now.held (0x01 ∷ []) (type_of t).text) (∣ g.met.K.DeclaringKind.declares (Typed t) fits ∣₁)
+    rw (c.in_ok-begin.ensures.ok, written_text c.args.self.now.held (0x01 ∷ []) (def_type t).text) (∣ g.met.K.DeclaringKind.declares (Typed t) fits ∣₁)

@@ -1,7 +1,7 @@
 use Rattle.std.proofs.Common.{◌∷◌, sym, ◌∙◌}
 use Rattle.wenc_base.specs.Holder.{held_text}
 use Rattle.wenc_base.specs.laws.Members.{form_ends}
-use Rattle.wenc_types.specs.ComponentTypes.{type_of}
+use Rattle.wenc_types.specs.ComponentTypes.{def_type}
 use Rattle.wenc_types.specs.laws.Declarations.{instance_serves}
 use Rattle.wenc_types.specs.laws.Declaring.{instance_has_form}
 use Rattle.wenc_types.proofs.Serving.{ends_for}
@@ -9,7 +9,7 @@ use Rattle.wenc_types.proofs.ty.ComponentTypeEncoder.instance.Goals as goal
 
 pub end_with-requires-clause-whole : goal.end_with-requires-clause-whole
 end_with-requires-clause-whole g c = λ fits.
-    form_ends type_of g.L.Lender.is_whole g.L.Lender.written c.args.self.lender.now c.args.self.whole (0x42 ∷ held_text c.args.ty.now.held)
+    form_ends def_type g.L.Lender.is_whole g.L.Lender.written c.args.self.lender.now c.args.self.whole (0x42 ∷ held_text c.args.ty.now.held)
     (instance_has_form c.args.ty.now fits (c.is_finished.ensures.declares (sym c.is_finished.ensures.finished ∙ c.if-not-is_finished.false)))
 
 pub returns-clause-declared : goal.returns-clause-declared

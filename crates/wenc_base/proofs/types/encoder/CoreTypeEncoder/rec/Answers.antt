@@ -1,5 +1,5 @@
 use Rattle.std.proofs.Common.{◌∷◌, [], map}
-use Rattle.wenc_base.specs.Composites.{Rec, group, sub_type, sub_view}
+use Rattle.wenc_base.specs.Composites.{Rec, rec_type, sub_type, sub_view}
 use Rattle.wenc_base.specs.Forms.{list}
 use Rattle.wenc_base.specs.Piece.{◌▸◌}
 use Rattle.wenc_base.specs.laws.Lenders.{extends_as}
@@ -11,7 +11,7 @@ pub returns : goal.returns
 returns g c =
     extends_as g.I.Iterator.next_gives c.args.types c.args.self.lender.now c.end_with_list.new.self c.end_with_list.result
     (λ bytes. g.L.Lender.ended (g.L.Lender.written c.args.self.lender.now bytes)) (g.L.Lender.refuses c.args.self.lender.now)
-    (λ vs. 0x4e ▸ list (λ s. sub_type (sub_view s.now)) vs) (λ ts. group (Rec (map (λ s. sub_view s.now) ts)))
+    (λ vs. 0x4e ▸ list (λ s. sub_type (sub_view s.now)) vs) (λ ts. rec_type (Rec (map (λ s. sub_view s.now) ts)))
     (listed_serves (λ s. sub_type (sub_view s.now)) (λ s. sub_view s.now) sub_type (λ s. serves_itself) (0x4e ∷ [])) c.end_with_list.ensures
 
 pub end_with_list-requires-clause-whole : goal.end_with_list-requires-clause-whole
