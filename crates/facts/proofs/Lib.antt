@@ -4,4 +4,4 @@ pub mod Functions
 pub mod ListedRuns
 pub mod NeverUnfinished
 pub mod Options
-pub mod PlacedRuns
+pub mod IndexedRuns

@@ -13,14 +13,14 @@ use wenc_base::Fault;
 use wenc_builder::ComponentBuilder;
 use wenc_parts::ComponentValType;
 
-/// An option: the builder holds its entry behind those that it held, and the answer is its place.
+/// An option: the builder holds its entry behind those that it held, and the answer is its index.
 pub fn option_built<A: Allocator>(
     builder: &mut ComponentBuilder<A>,
     ty: ComponentValType,
 ) -> Result<u32, Fault>
     ensures held { (es : List Entry) → Holds builder.old es → OnOk result
         (Holds builder.new (es ++ type_entry None (DefinedType (OptionOf ty)) ∷ [])) }
-    ensures placed { (es : List Entry) → Holds builder.old es → IfOk result
+    ensures indexed { (es : List Entry) → Holds builder.old es → IfOk result
         (λ i. i ≡ next_index (items es) (space_number spaces.Types)) }
 {
     encoded_types_are_entries();
@@ -34,7 +34,7 @@ pub fn option_built<A: Allocator>(
 }
 
 /// One that is dropped and given up: the builder holds what it held.
-#[tactic(auto, using(wenc_builder::specs::laws::Lent::begun_given_up))]
+#[tactic(auto, using(wenc_builder::specs::laws::LenderState::begun_given_up))]
 pub fn option_given_up<A: Allocator>(builder: &mut ComponentBuilder<A>) -> Result<bool, Fault>
     ensures unfinished { OnOk result (result ≡ Ok true) }
     ensures back { (es : List Entry) → Holds builder.old es → OnOk result (Holds builder.new es) }

@@ -1,5 +1,5 @@
 //! What runs of commands tell, from the contract of `build` alone.
-ghost use Rattle.facts.specs.Placed.{IsPlacedAt};
+ghost use Rattle.facts.specs.Indexed.{IsIndexedAt};
 ghost use Rattle.std.specs.Prelude.{◌≡◌, ◌↔◌, ◌++◌, ◌∷◌, ℕ, List, map, length, IfSome, IfOk, IfErr, Ok, Some, Option as Optional, Result as Outcome};
 ghost use Rattle.wasm_encoder.specs.Command.{CommandTree, command_view};
 ghost use Rattle.wasm_encoder.specs.Ran.{Ran};
@@ -33,19 +33,19 @@ pub fn two_runs<A: Allocator + Copy, B: Allocator, C: Allocator>(
     }
 }
 
-/// A run: every answered index is its item's place. Where there is none, it isn't for something unfinished.
-pub fn placed_run<A: Allocator + Copy, B: Allocator>(
+/// A run: every answered index is its item's index. Where there is none, it isn't for something unfinished.
+pub fn indexed_run<A: Allocator + Copy, B: Allocator>(
     alloc: A,
     commands: &[Command<B>],
 ) -> Result<Built<A>, Fault>
-    ensures places { IfOk result (λ b. (es : List Entry)
+    ensures indices { IfOk result (λ b. (es : List Entry)
         → Ran (map command_view commands.now) b.answers.items es
         → (front : List CommandTree) (c : CommandTree) (behind : List CommandTree)
         (so_far : List (Outcome (Optional ℕ) FaultSpec)) (i : ℕ)
         (later : List (Outcome (Optional ℕ) FaultSpec))
         → map command_view commands.now ≡ front ++ c ∷ behind
         → b.answers.items ≡ so_far ++ Ok (Some i) ∷ later
-        → length front ≡ length so_far → IsPlacedAt c es i) }
+        → length front ≡ length so_far → IsIndexedAt c es i) }
     ensures never_unfinished { IfErr result (λ fault. fault ≡ Unfinished → ⊥) }
 {
     build(alloc, commands)

@@ -5,7 +5,7 @@ use crate::checks::{bytes, yes};
 use std::alloc::{Allocator, Global};
 use std::process::Abort;
 use sweeping::{sweep_encode, sweep_section};
-use wenc_base::{Encode, Fault, Lent};
+use wenc_base::{Encode, Fault, ByRef};
 use wenc_sections::{Counted, LentKind};
 use wenc_types::{Declarations, DeclaredKind};
 
@@ -58,7 +58,7 @@ impl<L: Lending> Makes<L> for Begin {
 pub fn state<L: Lending>(alloc: Global, of: &L) -> Result<Vec<u8>, Fault> {
     let ([items, core_types, types, instances], is_empty, is_finished) = of.asked();
     let counts = ((items, core_types), (types, instances));
-    bytes(alloc, &(counts, (is_empty, is_finished), Lent(of)))
+    bytes(alloc, &(counts, (is_empty, is_finished), ByRef(of)))
 }
 
 /// This is all that can be asked of it.

@@ -8,7 +8,7 @@ use std::alloc::Global;
 use std::process::Abort;
 use sweeping::members::{Adds, Members, sweep_add};
 use sweeping::{LARGE, NAME, TEXT, sweep_encode, sweep_section};
-use wenc_base::{CustomSection, Fault, Lent, NameMap};
+use wenc_base::{CustomSection, Fault, ByRef, NameMap};
 use wenc_parts::ComponentSection;
 use wenc_sections::{ComponentNameSection, NamesOf, Sort};
 
@@ -30,7 +30,7 @@ impl<'a> Members<'a> for Names<'a> {
     }
 
     fn state(&self, alloc: Global) -> Result<Vec<u8>, Fault> {
-        bytes(alloc, &(self.0.is_empty(), Lent(&self.0)))
+        bytes(alloc, &(self.0.is_empty(), ByRef(&self.0)))
     }
 }
 

@@ -18,9 +18,9 @@ use Rattle.wenc_builder.specs.Space.{index_of}
 use Rattle.wenc_sections.specs.Names.{Subsection}
 use Rattle.wenc_builder.specs.laws.Answered.{answered, answered_with, entry_never_unfinished}
 use Rattle.wasm_encoder.specs.Command.{CommandTree, AppendNames}
-use Rattle.wasm_encoder.specs.Cause.{one_or_none, added, place_added, added_cause, cause}
+use Rattle.wasm_encoder.specs.Cause.{one_or_none, added, index_added, added_cause, cause}
 use Rattle.wasm_encoder.specs.Ran.{IsRefusal}
-use Rattle.wasm_encoder.specs.inside.Steps.{Answers, placed, placeless}
+use Rattle.wasm_encoder.specs.inside.Steps.{Answers, indexed, without_index}
 
 -- what warrants an entry's refusal is never that something is unfinished
 pub refusal : (es : List Entry) (x : Entry) (fault : Fault) → IsWarranted (EntryCause es x) fault → IsRefusal (EntryCause es x) fault
@@ -39,7 +39,7 @@ refusal_as one other leads fault r = (still_warranted one other leads fault r.0,
 
 -- After these entries an answer is due to a command that adds these, and leaves them held.
 abbrev pub IsDueTo : List Entry → List Entry → (Fault → Type 0) → State → Result (Option ℕ) Fault → Type 0
-IsDueTo es xs cause new (Ok answer) = Holds new (es ++ xs) × (answer ≡ place_added es xs) × NoCause cause
+IsDueTo es xs cause new (Ok answer) = Holds new (es ++ xs) × (answer ≡ index_added es xs) × NoCause cause
 IsDueTo es xs cause new (Err fault) = Holds new es × IsRefusal cause fault
 
 -- That is an answer of each command which adds these, where that cause is among its own.
@@ -49,7 +49,7 @@ due old new (Ok answer) c d = record {
   held = λ es h.
       let k = d es h in
       let e : k.0 ≡ added es c = sym k.2 in
-      (subst (λ (xs : List Entry). Holds new (es ++ xs)) e k.4.0, (subst (λ (xs : List Entry). answer ≡ place_added es xs) e k.4.1, k.3.1 k.4.2));
+      (subst (λ (xs : List Entry). Holds new (es ++ xs)) e k.4.0, (subst (λ (xs : List Entry). answer ≡ index_added es xs) e k.4.1, k.3.1 k.4.2));
 }
 due old new (Err fault) c d = record {
   held = λ es h. let k = d es h in (k.4.0, refusal_as k.1 (cause es c) k.3.0 fault k.4.1);
@@ -57,37 +57,37 @@ due old new (Err fault) c d = record {
 
 -- a call that adds this entry
 pub entered : (old new : State) (r : Result ℕ Fault) (c : CommandTree) (x : Entry) → ((es : List Entry) → added es c ≡ x ∷ []) → ((es : List Entry) → IsAmong (EntryCause es x) (cause es c))
-    → Enters old new r x → Answers old new (placed r) c
-entered old new r c x adds caused e = due old new (placed r) c (λ es h. (x ∷ [], EntryCause es x, adds es, caused es, is_due r es (answered old new r x es e h)))
+    → Enters old new r x → Answers old new (indexed r) c
+entered old new r c x adds caused e = due old new (indexed r) c (λ es h. (x ∷ [], EntryCause es x, adds es, caused es, is_due r es (answered old new r x es e h)))
   where
     is_due : (r : Result ℕ Fault) (es : List Entry)
         → MatchResult r (λ i. Holds new (es ++ x ∷ []) × (Some i ≡ index_of (items es) x.item) × NoCause (EntryCause es x)) (λ fault. Holds new es × IsWarranted (EntryCause es x) fault)
-        → IsDueTo es (x ∷ []) (EntryCause es x) new (placed r)
+        → IsDueTo es (x ∷ []) (EntryCause es x) new (indexed r)
     is_due (Ok i) es a = a
     is_due (Err fault) es a = (a.0, refusal es x fault a.1)
 
--- a call that adds an entry which has no place
-pub entered_placeless : (old new : State) (r : Result (Unit {0}) Fault) (c : CommandTree) (x : Entry) → ((es : List Entry) → added es c ≡ x ∷ []) → ((es : List Entry) → IsAmong (EntryCause es x) (cause es c))
-    → ((es : List Entry) → index_of (items es) x.item ≡ None) → EntersWithoutIndex old new r x → Answers old new (placeless r) c
-entered_placeless old new r c x adds caused nowhere e = due old new (placeless r) c (λ es h. (x ∷ [], EntryCause es x, adds es, caused es, is_due r es (answered_with old new r x (λ _ _. Unit {0}) (λ _ _. Unit {0}) es e h)))
+-- a call that adds an entry which has no index
+pub entered_without_index : (old new : State) (r : Result (Unit {0}) Fault) (c : CommandTree) (x : Entry) → ((es : List Entry) → added es c ≡ x ∷ []) → ((es : List Entry) → IsAmong (EntryCause es x) (cause es c))
+    → ((es : List Entry) → index_of (items es) x.item ≡ None) → EntersWithoutIndex old new r x → Answers old new (without_index r) c
+entered_without_index old new r c x adds caused nowhere e = due old new (without_index r) c (λ es h. (x ∷ [], EntryCause es x, adds es, caused es, is_due r es (answered_with old new r x (λ _ _. Unit {0}) (λ _ _. Unit {0}) es e h)))
   where
     is_due : (r : Result (Unit {0}) Fault) (es : List Entry)
         → MatchResult r (λ u. Holds new (es ++ x ∷ []) × Unit {0} × NoCause (EntryCause es x)) (λ fault. Holds new es × IsWarranted (EntryCause es x) fault)
-        → IsDueTo es (x ∷ []) (EntryCause es x) new (placeless r)
+        → IsDueTo es (x ∷ []) (EntryCause es x) new (without_index r)
     is_due (Ok u) es a = (a.0, sym (nowhere es), a.2)
     is_due (Err fault) es a = (a.0, refusal es x fault a.1)
 
--- the section of names has no place
+-- the section of names has no index
 names_nowhere : (xs : List Item) (names : List Subsection) (x : Entry) → named_entry names ≡ Some x → index_of xs x.item ≡ None
 names_nowhere xs [] x e = absurd cc
 names_nowhere xs (n ∷ names) x e = subst (λ (y : Entry). index_of xs y.item ≡ None) (same_Some _ x e) refl
 
 -- the call that adds the names so far
-pub names_entered : (old new : State) (r : Result (Unit {0}) Fault) → AddsNames old new r → Answers old new (placeless r) AppendNames
-names_entered old new r a = due old new (placeless r) AppendNames (λ es h. (one_or_none (names_entry es), added_cause es (one_or_none (names_entry es)), refl, itself_among, is_due r es (names_entry es) h (names_nowhere (items es) _) (a.held es h)))
+pub names_entered : (old new : State) (r : Result (Unit {0}) Fault) → AddsNames old new r → Answers old new (without_index r) AppendNames
+names_entered old new r a = due old new (without_index r) AppendNames (λ es h. (one_or_none (names_entry es), added_cause es (one_or_none (names_entry es)), refl, itself_among, is_due r es (names_entry es) h (names_nowhere (items es) _) (a.held es h)))
   where
     is_due : (r : Result (Unit {0}) Fault) (es : List Entry) (o : Option Entry) → Holds old es → ((x : Entry) → o ≡ Some x → index_of (items es) x.item ≡ None)
-        → MatchOption o ((r ≡ Ok tt) × (new ≡ old)) (λ x. EntersWithoutIndex old new r x) → IsDueTo es (one_or_none o) (added_cause es (one_or_none o)) new (placeless r)
+        → MatchOption o ((r ≡ Ok tt) × (new ≡ old)) (λ x. EntersWithoutIndex old new r x) → IsDueTo es (one_or_none o) (added_cause es (one_or_none o)) new (without_index r)
     is_due (Ok u) es None h none m = (rw (m.1, append-nil es) h, refl, λ fault c. c)
     is_due (Err fault) es None h none m = absurd cc
     is_due (Ok u) es (Some x) h none m = let k = answered_with old new (Ok u) x (λ _ _. Unit {0}) (λ _ _. Unit {0}) es m h in (k.0, sym (none x refl), k.2)

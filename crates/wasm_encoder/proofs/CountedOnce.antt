@@ -11,9 +11,9 @@ use Rattle.wenc_builder.specs.declared.builder.space.Space.TheVariants.{CoreModu
 use Rattle.wenc_builder.specs.laws.Step.{space_within}
 
 -- one entry more
-place_push : (k : ℕ) (es : List Entry) (x : Entry) → next_index (items (es ++ x ∷ [])) k ≡ next_index (items es) k + defined_in k x.item
-place_push k [] x = omega arith
-place_push k (e ∷ es) x = omega (arith, place_push k es x)
+index_push : (k : ℕ) (es : List Entry) (x : Entry) → next_index (items (es ++ x ∷ [])) k ≡ next_index (items es) k + defined_in k x.item
+index_push k [] x = omega arith
+index_push k (e ∷ es) x = omega (arith, index_push k es x)
 
 -- the count of a space, by the list that is held
 counted : (s : State) (es : List Entry) (space : Space) → Holds s es → count_in s space ≡ next_index (items es) (space_number space)
@@ -43,7 +43,7 @@ module _ (old new : State) (i : ℕ) (x : Entry) (space : Space) (es : List Entr
       let k : ℕ = space_number other in
       let here : count_in new other ≡ next_index (items (es ++ x ∷ [])) k = counted new (es ++ x ∷ []) other (e.held es h).0 in
       let adds : defined_in k x.item ≡ number_in k (some_in space 1) = ap (λ (o : Option Indices). number_in k o) d in
-      omega (arith, here, place_push k es x, adds, counted old es other h)
+      omega (arith, here, index_push k es x, adds, counted old es other h)
 
   pub raised : count_in new space ≡ count_in old space + 1
   raised = more space ∙ rw (eq-eqb (space_number space) (space_number space) refl) refl

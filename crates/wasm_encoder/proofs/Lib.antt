@@ -5,5 +5,5 @@ pub mod Run
 pub mod AllLawful
 pub mod Neighbours
 pub mod CountedOnce
-pub mod NamedPlaces
+pub mod NamedIndices
 pub mod NestedRuns

@@ -13,7 +13,7 @@ use Rattle.wenc_builder.specs.Sections.{whole}
 use Rattle.wasm_encoder.specs.Command.{CommandTree, Component, Commands, no_more, then, command_view, row_view, commands_view, debug_name_view}
 use Rattle.wasm_encoder.specs.Cause.{added, led, cause, first_cause}
 use Rattle.wasm_encoder.specs.Ran.{IsRefusal}
-use Rattle.wasm_encoder.specs.inside.Steps.{Answers, StepsStop, placed}
+use Rattle.wasm_encoder.specs.inside.Steps.{Answers, StepsStop, indexed}
 use Rattle.wasm_encoder.specs.declared.command.Command.{Command, Row_of-Command, end_of-Command, more_of-Command, items-the_row-Command, items_hidden-the_row-Command-0}
 use Rattle.wasm_encoder.specs.declared.command.Command as commands
 use Rattle.wasm_encoder.proofs.Called.{refusal_as, entered}
@@ -74,7 +74,7 @@ refused_inside name inner fault s r = record { held = λ es h. (h, refusal_as (f
 
 -- they were accepted, and what they led to was handed in
 pub entered_inside : (name : Option (List ℕ)) (inner : Commands) (old new : State) (r : Result ℕ Fault) → NoCause (first_cause [] inner)
-    → Enters old new r (component_entry name (whole (items (led [] inner)))) → Answers old new (placed r) (Component name inner)
+    → Enters old new r (component_entry name (whole (items (led [] inner)))) → Answers old new (indexed r) (Component name inner)
 entered_inside name inner old new r none e = entered old new r (Component name inner) (component_entry name (whole (items (led [] inner)))) (λ es. refl) caused e
   where
     caused : (es : List Entry) → IsAmong (EntryCause es (component_entry name (whole (items (led [] inner))))) (cause es (Component name inner))

@@ -8,7 +8,7 @@ use Rattle.wenc_builder.specs.Cause.{EntryCause, BeginCause}
 use Rattle.wenc_builder.specs.Entry.{Entry, items, type_entry, core_type_entry}
 use Rattle.wenc_builder.specs.Holds.{Holds}
 use Rattle.wenc_builder.specs.Item.{item}
-use Rattle.wenc_builder.specs.Lent.{no_room_in_section}
+use Rattle.wenc_builder.specs.LenderState.{no_room_in_section}
 use Rattle.wenc_builder.specs.Space.{next_index, index_at}
 use Rattle.wenc_builder.specs.laws.Typed.{IsWrittenType, WritingCause, opening_due, writing_due, written_free, written_holds, type_is_written, core_type_is_written}
 use Rattle.wenc_parts.specs.declared.component.ComponentSectionId.TheVariants as ids
@@ -48,14 +48,14 @@ writes_core_type name t = record { typed = tt; adds = λ es. refl; caused = λ e
 pub type_accepted : (old lent new last : State) (index : ℕ) (c : CommandTree) (x : Entry) (d : Draft) → Writes c x d → lent ≡ item_begun old d → ((es : List Entry) → Holds old es → index ≡ next_index (items es) d.space)
     → NoCause (BeginCause old d) → new ≡ item_ended (item_appended lent (item x.item).text) → (item x.item).Fits → NoCause (EndingCause lent x)
     → last ≡ new → Answers old last (Ok (Some index)) c
-type_accepted old lent new last index c x d w begun placed opens wrote fits writes same = due old last (Ok (Some index)) c (λ es h. (
+type_accepted old lent new last index c x d w begun indexed opens wrote fits writes same = due old last (Ok (Some index)) c (λ es h. (
   x ∷ [],
   EntryCause es x,
   w.adds es,
   w.caused es,
   (
     written_whole old lent last es x d w.written begun opens (same ∙ wrote) fits writes h,
-    subst (λ (o : Option _). Some index ≡ index_at (items es) o) (sym w.written.defined) (ap (λ (n : ℕ). Some n) (placed es h)),
+    subst (λ (o : Option _). Some index ≡ index_at (items es) o) (sym w.written.defined) (ap (λ (n : ℕ). Some n) (indexed es h)),
     written_free old es x d w.written h opens (subst (λ (s : State). NoCause (EndingCause s x)) begun writes),
   ),
 ))

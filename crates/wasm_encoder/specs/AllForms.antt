@@ -35,7 +35,7 @@ use Rattle.wenc_types.specs.CoreTypes.{module_declaration, module_type}
 use Rattle.wenc_types.specs.CoreTypes.{core_type}
 use Rattle.wenc_types.specs.DefinedTypes.{labelled_type as named_type, case}
 use Rattle.wenc_types.specs.DefinedTypes.{def_val_type, function_type}
-use Rattle.wenc_base.specs.Names.{name_association as named_place}
+use Rattle.wenc_base.specs.Names.{name_association}
 
 -- a form's name
 pub data FormName : Type 0 where
@@ -124,8 +124,8 @@ pub data FormName : Type 0 where
   VersionedTools : FormName
   -- what tools did, and the tools
   ProducersFields : FormName
-  -- a place, and its name in a name map
-  NamedPlaces : FormName
+  -- an index, and its name in a name map
+  NameAssociations : FormName
   -- of what names are of
   ItemSorts : FormName
   -- ---- sections, behind their ids
@@ -215,7 +215,7 @@ form_row (CanonicalFields kinds) = of (fields kinds)
 form_row CanonicalFunctions = of canonical
 form_row VersionedTools = of producer
 form_row ProducersFields = of producers_field
-form_row NamedPlaces = of named_place
+form_row NameAssociations = of name_association
 form_row ItemSorts = of item_sort
 form_row CustomSections = of custom
 form_row NameSections = of names_section

@@ -44,14 +44,14 @@ abbrev mutual
   led es no_more = es
   led es (then c cs) = led (es ++ added es c) cs
 
--- the place of what is added, where that has one
-abbrev pub place_added : List Entry → List Entry → Option ℕ
-place_added es [] = None
-place_added es (x ∷ xs) = index_of (items es) x.item
+-- the index of what is added, where that has one
+abbrev pub index_added : List Entry → List Entry → Option ℕ
+index_added es [] = None
+index_added es (x ∷ xs) = index_of (items es) x.item
 
 -- what an accepted command answers
 abbrev pub answer_of : List Entry → CommandTree → Option ℕ
-answer_of es c = place_added es (added es c)
+answer_of es c = index_added es (added es c)
 
 -- why what is to be added after these entries is refused
 abbrev pub added_cause : List Entry → List Entry → Fault → Type 0

@@ -12,7 +12,7 @@ use Rattle.wasm_encoder.specs.Cause.{added, answer_of, cause}
 abbrev pub IsRefusal : (Fault → Type 0) → Fault → Type 0
 IsRefusal cause fault = IsWarranted cause fault × (fault ≡ Unfinished → ⊥)
 
--- After these entries the command may get this answer: where it has no cause, the place of its
+-- After these entries the command may get this answer: where it has no cause, the index of its
 -- item, if that has one.
 abbrev pub IsDue : List Entry → CommandTree → Result (Option ℕ) Fault → Type 0
 IsDue es c (Ok answer) = (answer ≡ answer_of es c) × NoCause (cause es c)

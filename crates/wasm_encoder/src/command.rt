@@ -14,7 +14,7 @@ ghost use Rattle.wasm_encoder.specs.Command.{CoreType, «Type»};
 ghost use Rattle.wasm_encoder.specs.Command.{command_view, commands_view, debug_name_view};
 ghost use Rattle.wasm_encoder.specs.Ran.{Ran, IsRefusal, IsStopped};
 ghost use Rattle.wenc_builder.specs.Raw.{HasNoRaw, IsEncodable};
-ghost use Rattle.wasm_encoder.specs.inside.Steps.{StepsRun, placed as placed_of, placeless as placeless_of};
+ghost use Rattle.wasm_encoder.specs.inside.Steps.{StepsRun, indexed as indexed_of, without_index as without_index_of};
 
 use std::alloc::{Allocator, Global};
 use wenc_base::{CustomSection, Fault};
@@ -123,35 +123,35 @@ fn run<A: Allocator, B: Allocator + Copy>(
     ensures { StepsRun builder.old builder.new result (command_view command.now) }
 {
     match command {
-        Command::CoreModule { n, bytes } => placed(builder.core_module_raw(debug_name(n), bytes)),
+        Command::CoreModule { n, bytes } => indexed(builder.core_module_raw(debug_name(n), bytes)),
         Command::CoreInstance { n, instance } => {
-            placed(builder.core_instance_tree(debug_name(n), instance))
+            indexed(builder.core_instance_tree(debug_name(n), instance))
         }
         Command::CoreType { n, ty } => core_type_of(builder, debug_name(n), ty),
         Command::Component { n, commands } => match run_all(commands, alloc) {
-            Ok(inner) => placed(builder.component(debug_name(n), inner)),
+            Ok(inner) => indexed(builder.component(debug_name(n), inner)),
             Err(fault) => Ok(Err(fault)),
         },
-        Command::ComponentRaw { n, bytes } => placed(builder.component_raw(debug_name(n), bytes)),
-        Command::Instance { n, instance } => placed(builder.instance_tree(debug_name(n), instance)),
-        Command::Alias { n, alias } => placed(builder.alias(debug_name(n), alias.as_alias())),
+        Command::ComponentRaw { n, bytes } => indexed(builder.component_raw(debug_name(n), bytes)),
+        Command::Instance { n, instance } => indexed(builder.instance_tree(debug_name(n), instance)),
+        Command::Alias { n, alias } => indexed(builder.alias(debug_name(n), alias.as_alias())),
         Command::Type { n, ty } => type_of(builder, debug_name(n), ty),
-        Command::Canon { n, canon } => placed(builder.canonical_tree(debug_name(n), canon)),
+        Command::Canon { n, canon } => indexed(builder.canonical_tree(debug_name(n), canon)),
         Command::Start {
             function,
             args,
             results,
-        } => placed(builder.start(*function, args, *results)),
-        Command::Import { name, ty } => placed(builder.import(name.as_name(), *ty)),
+        } => indexed(builder.start(*function, args, *results)),
+        Command::Import { name, ty } => indexed(builder.import(name.as_name(), *ty)),
         Command::Export {
             name,
             kind,
             index,
             ty,
-        } => placed(builder.export(name.as_name(), *kind, *index, *ty)),
-        Command::AppendNames => placeless(builder.append_names()),
-        Command::Custom { name, data } => placeless(custom(builder, name.as_str(), data)),
-        Command::RawCustom { bytes } => placeless(builder.raw_custom_section(bytes)),
+        } => indexed(builder.export(name.as_name(), *kind, *index, *ty)),
+        Command::AppendNames => without_index(builder.append_names()),
+        Command::Custom { name, data } => without_index(custom(builder, name.as_str(), data)),
+        Command::RawCustom { bytes } => without_index(builder.raw_custom_section(bytes)),
     }
 }
 
@@ -228,8 +228,8 @@ fn custom<B: Allocator>(
 }
 
 /// What a call answers that answers an index.
-fn placed(answer: Result<u32, Fault>) -> Result<Result<Option<u32>, Fault>, Fault>
-    ensures { result ≡ Ok (placed_of answer) }
+fn indexed(answer: Result<u32, Fault>) -> Result<Result<Option<u32>, Fault>, Fault>
+    ensures { result ≡ Ok (indexed_of answer) }
 {
     match answer {
         Ok(index) => Ok(Ok(Some(index))),
@@ -238,8 +238,8 @@ fn placed(answer: Result<u32, Fault>) -> Result<Result<Option<u32>, Fault>, Faul
 }
 
 /// What a call answers that answers none.
-fn placeless(answer: Result<(), Fault>) -> Result<Result<Option<u32>, Fault>, Fault>
-    ensures { result ≡ Ok (placeless_of answer) }
+fn without_index(answer: Result<(), Fault>) -> Result<Result<Option<u32>, Fault>, Fault>
+    ensures { result ≡ Ok (without_index_of answer) }
 {
     match answer {
         Ok(()) => Ok(Ok(None)),

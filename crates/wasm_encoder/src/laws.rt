@@ -33,7 +33,7 @@ mod of_builders;
 mod of_holders;
 
 pub use of_builders::{
-    encoded_types_are_entries, indices_are_no_primitives, named_places_ascend, neighbours_differ,
+    encoded_types_are_entries, indices_are_no_primitives, named_indices_ascend, neighbours_differ,
     nested_runs, one_item_counts_once,
 };
 pub use of_holders::what_is_finished_has_some;
@@ -198,7 +198,7 @@ pub fn openings_are_members()
         (ds ++ CoreTyped ty ∷ []) }
 {}
 
-/// A call that adds an intrinsic and answers `Ok` has added it: there is one function more, so that a call which leaves
+/// A call that adds an builtin and answers `Ok` has added it: there is one function more, so that a call which leaves
 /// the section as it was can't answer `Ok`.
 pub fn an_added_function_is_one_more()
     ensures one_more { (old new : HolderState) (i : Builtin) (values : Values (row i).fields)

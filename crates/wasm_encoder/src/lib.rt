@@ -12,7 +12,7 @@ pub use command::{Built, Command, build};
 pub use wenc_base::{
     AbstractHeapType, ArrayType, CompositeType, CoreTypeEncoder, CustomSection, Delimited,
     DelimitedEq, Encode, EntityType, ExportKind, Fault, FieldType, FuncType, GlobalType, GroupTree,
-    HeapType, Holder, Lender, Lent, MemoryType, Module, NameMap, ProducersField, ProducersSection,
+    HeapType, Holder, Lender, ByRef, MemoryType, Module, NameMap, ProducersField, ProducersSection,
     RawCustomSection, RawSection, RefType, Section, SectionId, StorageType, StructType, SubType,
     TableType, TagType, Tagged, ValType, Verbatim, WithSize, encode_list, encoding_size,
     section_size,

@@ -10,7 +10,7 @@ use Rattle.wasm_encoder.specs.Command.{CommandTree, CoreModule, Canon}
 use Rattle.wasm_encoder.specs.Ran.{IsTyped, IsStopped}
 use Rattle.std.specs.Result.{IsErr, IsErrAnd}
 use Rattle.wenc.specs.Fields.{number_word, numbers, hex, kind}
-use Rattle.wenc.specs.Intrinsics.{intrinsic}
+use Rattle.wenc.specs.Builtins.{builtin}
 use Rattle.wenc.specs.Parts.{parted}
 use Rattle.wenc.specs.Script.{has_empty, import_of, import, export_of, export, alias_of, alias_export, core_module, start_of, start_command, append_names, command_of, line_command, with_line, commands_from, script}
 use Rattle.wenc.specs.inside.Steps.{Translates}
@@ -97,14 +97,14 @@ by_word : (a b c d e f : Bool) (verb : List ℕ) (words : List (List ℕ)) → U
     else if d then core_module words
     else if e then start_command words
     else if f then append_names words
-    else option_map (Canon None) (intrinsic verb words))
+    else option_map (Canon None) (builtin verb words))
 by_word true b c d e f verb words = import_untyped words
 by_word false true c d e f verb words = export_untyped words
 by_word false false true d e f verb words = alias_untyped words
 by_word false false false true e f verb words = module_untyped words
 by_word false false false false true f verb words = start_untyped words
 by_word false false false false false true verb words = names_untyped words
-by_word false false false false false false verb words = canon_untyped (intrinsic verb words)
+by_word false false false false false false verb words = canon_untyped (builtin verb words)
 
 command_untyped : (words : List (List ℕ)) → Untyped (command_of words)
 command_untyped [] = tt

@@ -1,6 +1,6 @@
 pub mod Parts
 pub mod Fields
-pub mod Intrinsics
+pub mod Builtins
 pub mod Script
 pub mod Words
 pub mod Parsed

@@ -8,7 +8,7 @@ use Rattle.wenc_parts.specs.Aliases.{InstanceExport}
 use Rattle.wasm_encoder.specs.Command.{CommandTree, CoreModule, Alias, Canon, Start, Import, Export}
 use Rattle.wasm_encoder.specs.Command.{AppendNames}
 use Rattle.wenc.specs.Fields.{number_word, numbers, hex, kind, reference_word}
-use Rattle.wenc.specs.Intrinsics.{intrinsic}
+use Rattle.wenc.specs.Builtins.{builtin}
 use Rattle.wenc.specs.Parts.{parted}
 
 -- ---- lines
@@ -67,7 +67,7 @@ abbrev pub append_names : List (List ℕ) → Option CommandTree
 append_names [] = Some AppendNames
 append_names other = None
 
--- the intrinsics have words of their own
+-- the builtins have words of their own
 abbrev pub command_by : List ℕ → List (List ℕ) → Option CommandTree
 command_by verb words =
     if bytes_eq verb (codes "import") then import words
@@ -76,7 +76,7 @@ command_by verb words =
     else if bytes_eq verb (codes "core-module") then core_module words
     else if bytes_eq verb (codes "start_command") then start_command words
     else if bytes_eq verb (codes "append-names") then append_names words
-    else option_map (Canon None) (intrinsic verb words)
+    else option_map (Canon None) (builtin verb words)
 
 abbrev pub command_of : List (List ℕ) → Option CommandTree
 command_of [] = None

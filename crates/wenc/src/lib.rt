@@ -5,7 +5,7 @@
 pub mod digits;
 pub mod failure;
 pub mod input;
-pub mod intrinsic;
+pub mod builtin;
 pub mod kind;
 pub mod line;
 pub mod list;

@@ -3,7 +3,7 @@ ghost use Rattle.wasm_encoder.specs.Command.{command_view};
 ghost use Rattle.wenc.specs.Script.{import, export, alias_export, core_module, start_command, append_names, command_of, line_command};
 ghost use Rattle.wenc.specs.Words.{words_left};
 
-use crate::intrinsic::intrinsic;
+use crate::builtin::builtin;
 use crate::kind::{kind, reference};
 use crate::number::{bytes, number};
 use crate::words::Words;
@@ -131,7 +131,7 @@ fn command_of(alloc: Global, words: Words) -> Result<Option<Command>, AllocError
         "core-module" => core_module(alloc, words),
         "start" => start(alloc, words),
         "append-names" => Ok(append_names(words)),
-        _ => match intrinsic(verb, words) {
+        _ => match builtin(verb, words) {
             Some(canon) => Ok(Some(Command::Canon { n: None, canon })),
             None => Ok(None),
         },

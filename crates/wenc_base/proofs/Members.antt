@@ -31,7 +31,7 @@ free_next cause (w ∷ vs) v free last fault h = elim h [
   | inr p ↦ free_next cause vs v (free_rest cause w vs free) last fault p.1
 ]
 
--- the cause of the value at a place is the list's, where no earlier one has a cause
+-- the cause of the value at an index is the list's, where no earlier one has a cause
 cause_of_member : {A : Type 0} (cause : A → Fault → Type 0) (vs : List A) (i : ℕ) (v : A) (fault : Fault) → NoCause (member_cause cause (take i vs)) → i < length vs → v ≡ get_or vs i v → cause v fault → member_cause cause vs fault
 cause_of_member cause [] i v fault free lt e h = absurd (omega arith)
 cause_of_member cause (w ∷ vs) zero v fault free lt e h = inl (rw e at h)
@@ -59,7 +59,7 @@ written_next {A} form start vs v now next w e fits free = record {
     texts : List A → List ℕ
     texts vs = flat_map (λ v. (form v).text) vs
 
--- one more, at its place in the list
+-- one more, at its index in the list
 pub written_at : {A : Type 0} (form : Form A) (start : List ℕ) (vs : List A) (i : ℕ) (v : A) (now next : List ℕ)
     → Written form start (take i vs) now → i < length vs → v ≡ get_or vs i v → next ≡ now ++ (form v).text → (form v).Fits → NoCause (form v).Cause → Written form start (take (i + 1) vs) next
 written_at form start vs i v now next w lt is e fits free =

@@ -11,9 +11,9 @@ use Rattle.wenc_base.specs.declared.fault.Fault.TheVariants.{Memory, TooMany, To
 use Rattle.wenc_base.proofs.Groups.{size_1, size_of_u32}
 
 pub short_name_added : (old new : HolderState) (entry : NameAssociation) → new ≡ with_member old (name_association entry).text → is_finished old ≡ true
-    → old.count < 4294967295 → length old.body < 4294967040 → length entry.name < 128 → entry.place < 2 ^ 32
+    → old.count < 4294967295 → length old.body < 4294967040 → length entry.name < 128 → entry.index < 2 ^ 32
     → IsUtf8 entry.name → AddsMember (name_association entry) old new (Ok tt)
-short_name_added old new entry state finished few small short place utf8 = record {
+short_name_added old new entry state finished few small short index utf8 = record {
   ok = record { state = state; fits = fits; free = none };
   err = tt;
   warranted = tt;
@@ -25,9 +25,9 @@ short_name_added old new entry state finished few small short place utf8 = recor
         omega (
           arith,
           size_1 (length entry.name) short,
-          size_of_u32 entry.place place,
+          size_of_u32 entry.index index,
           short,
-          length-append (unsigned_text entry.place) (unsigned_text (length entry.name) ++ entry.name),
+          length-append (unsigned_text entry.index) (unsigned_text (length entry.name) ++ entry.name),
           length-append (unsigned_text (length entry.name)) entry.name,
         )
 
@@ -38,7 +38,7 @@ short_name_added old new entry state finished few small short place utf8 = recor
     uncounted Unfinished h = h
 
     fits : (name_association entry).Fits
-    fits = (place, (omega (arith, short), utf8))
+    fits = (index, (omega (arith, short), utf8))
 
     none : NoCause (AddCause old (name_association entry).text (name_association entry).Cause)
     none fault h = elim h [ inl own ↦ (name_association_lawful entry).free fits fault own | inr more ↦ elim more [ inl count ↦ uncounted fault count | inr stopped ↦ absurd cc ] ]

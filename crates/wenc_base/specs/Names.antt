@@ -1,4 +1,4 @@
--- Names of items, by their places (WebAssembly 3.0, binary format, "Name Maps"; component model,
+-- Names of items, by their indices (WebAssembly 3.0, binary format, "Name Maps"; component model,
 -- binary format, "Name Section").
 use Rattle.std.specs.Prelude.{ℕ, List}
 use Rattle.std.specs.List.{flat_map}
@@ -6,14 +6,14 @@ use Rattle.wenc_base.specs.Piece.{Form, ◌⨾◌}
 use Rattle.wenc_base.specs.Number.{u32}
 use Rattle.wenc_base.specs.Forms.{name as name_form, list}
 
--- a name, and the place of what it names
+-- a name, and the index of what it names
 pub record NameAssociation : Type 0 where
-  pub place : ℕ
+  pub index : ℕ
   pub name : List ℕ
 
 -- as it stands in a name map
 abbrev pub name_association : Form NameAssociation
-name_association n = u32 n.place ⨾ name_form n.name
+name_association n = u32 n.index ⨾ name_form n.name
 
 -- names one behind the other
 abbrev pub names_text : List NameAssociation → List ℕ

@@ -37,12 +37,12 @@ abbrev pub member_given_up : HolderState → HolderState
 member_given_up h = member_given_up_at h h.opening
 
 -- A member is being written, and nothing stands behind its lead.
-abbrev pub is_bare_at : List ℕ → Option Opening → Bool
-is_bare_at body None = false
-is_bare_at body (Some o) = length body == o.lead_end
+abbrev pub is_opened_at : List ℕ → Option Opening → Bool
+is_opened_at body None = false
+is_opened_at body (Some o) = length body == o.lead_end
 
-abbrev pub is_bare : HolderState → Bool
-is_bare h = is_bare_at h.body h.opening
+abbrev pub is_opened : HolderState → Bool
+is_opened h = is_opened_at h.body h.opening
 
 -- what is written of that member, its lead with it
 abbrev pub member_text_at : List ℕ → Option Opening → List ℕ

@@ -400,15 +400,15 @@ impl<T: Encode, U: Encode, V: Encode> Encode for (T, U, V) {
     ghost unfinished = { λ t. T.unfinished t.0 };
 
     fn encode<A: Allocator>(&self, sink: &mut Vec<u8, A>) -> Result<(), Fault> {
-        (Lent(&self.0), (Lent(&self.1), Lent(&self.2))).encode(sink)
+        (ByRef(&self.0), (ByRef(&self.1), ByRef(&self.2))).encode(sink)
     }
 }
 
 /// A value that is lent.
 #[derive(Clone, Copy)]
-pub struct Lent<'a, T>(pub &'a T);
+pub struct ByRef<'a, T>(pub &'a T);
 
-impl<'a, T: Encode> Encode for Lent<'a, T> {
+impl<'a, T: Encode> Encode for ByRef<'a, T> {
     ghost piece = { λ l. T.piece l.0.now };
 
     ghost unfinished = { λ l. T.unfinished l.0.now };

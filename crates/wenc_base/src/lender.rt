@@ -104,12 +104,12 @@ pub trait Lender {
 
 impl<A: Allocator> Lender for Holder<A> {
     ghost use Rattle.wenc_base.specs.Holder.{is_finished};
-    ghost use Rattle.wenc_base.specs.Openings.{member_appended, member_ended, no_room_in_holder, is_bare};
+    ghost use Rattle.wenc_base.specs.Openings.{member_appended, member_ended, no_room_in_holder, is_opened};
     ghost use Rattle.wenc_base.specs.laws.Holders.{opened_is_unfinished, lengthened_twice};
 
     ghost finished = { is_finished };
 
-    ghost opened = { is_bare };
+    ghost opened = { is_opened };
 
     ghost written = { member_appended };
 

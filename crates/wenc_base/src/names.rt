@@ -55,7 +55,7 @@ impl<A: Allocator> NameMap<A> {
     /// too many names (`TooMany`), or too many bytes in the name or in the map (`TooLarge`).
     #[tactic(auto, using(crate::proofs::Groups::size_of_u32))]
     pub fn append(&mut self, idx: u32, name: &str) -> Result<(), Fault>
-        ensures { let entry : NameAssociation = record { place = idx; name = name.now } in
+        ensures { let entry : NameAssociation = record { index = idx; name = name.now } in
             AddsMember (name_association entry) self.old self.new result }
     {
         if name.len() < 1 << 7 && self.names.len() < NEARLY_FULL && self.count < u32::MAX {
@@ -74,7 +74,7 @@ impl<A: Allocator> NameMap<A> {
     #[cold]
     #[inline(never)]
     fn append_long(&mut self, idx: u32, name: &str) -> Result<(), Fault>
-        ensures { let entry : NameAssociation = record { place = idx; name = name.now } in
+        ensures { let entry : NameAssociation = record { index = idx; name = name.now } in
             AddsMember (name_association entry) self.old self.new result }
     {
         let body = self.names.len();

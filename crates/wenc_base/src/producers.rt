@@ -5,7 +5,7 @@ ghost use Rattle.wenc_base.specs.Piece.{refused_for};
 ghost use Rattle.wenc_base.specs.declared.fault.Fault.TheVariants.{Unfinished};
 ghost use Rattle.wenc_base.specs.Producers.{Producer, producer, producers_field, producers_held, FieldCause, held_field};
 
-use crate::encode::{Encode, Lent};
+use crate::encode::{Encode, ByRef};
 use crate::fault::Fault;
 use crate::holder::{Holder, section_size};
 use crate::section::{Section, SectionId};
@@ -142,7 +142,7 @@ impl<A: Allocator> ProducersSection<A> {
         }
         let count = self.fields.len();
         let body = self.fields.as_slice().len();
-        self.fields.add_encoded(&(name, Lent(field)))?;
+        self.fields.add_encoded(&(name, ByRef(field)))?;
         let longer = self.fields.as_slice().len() as u64 + LABEL_SIZE;
         if let Err(fault) = section_size(self.fields.len(), longer) {
             self.fields.cut_back(count, body);
@@ -175,7 +175,7 @@ impl<A: Allocator> Encode for ProducersSection<A> {
         }
         let longer = self.fields.as_slice().len() as u64 + LABEL_SIZE;
         let size = section_size(self.fields.len(), longer)?;
-        (size, "producers", Lent(&self.fields)).encode(sink)
+        (size, "producers", ByRef(&self.fields)).encode(sink)
     }
 }
 

@@ -1,4 +1,4 @@
--- Something that stands alone, with places in a space.
+-- Something that stands alone, with indices in a space.
 use Rattle.std.proofs.Common.{◌≡◌, ℕ, ◌<◌, true, is_none, List, length, Option, Some, None, Result, Ok, Err, sym, inl, inr, arith, subst}
 use Rattle.std.proofs.lemmas.List.{get_or-set_same}
 use Rattle.std.specs.Result.{OnOk, OnErr, IfErr}
@@ -8,7 +8,7 @@ use Rattle.wenc_base.specs.declared.fault.Fault.{Fault}
 use Rattle.wenc_base.specs.laws.Serves.{still_warranted}
 use Rattle.wenc_builder.specs.Builder.{State, Namespace, no_names, namespace_at, namespace_with}
 use Rattle.wenc_builder.specs.Cause.{SpaceCause, CallCause}
-use Rattle.wenc_builder.specs.inside.Takes.{TakesAlone, TakesNoPlace, with_alone}
+use Rattle.wenc_builder.specs.inside.Takes.{TakesAlone, TakesNoIndex, with_alone}
 use Rattle.wenc_builder.specs.inside.Layout.{Buffered}
 use Rattle.wenc_builder.specs.Space.{Indices}
 use Rattle.wenc_builder.specs.inside.Spaces.{Spaced}
@@ -23,10 +23,10 @@ there : (old : State) (d : Indices) (name : Option (List ℕ)) (text : List ℕ)
     → namespace_at (with_alone old.settled (Some d) name text).spaces d.space ≡ space_after old d name
 there old d name text h l = get_or-set_same old.settled.spaces d.space (space_after old d name) no_names (omega arith)
 
-pub alone_without_places : (b : Buffered) (s : Spaced) (old new : State) (fault : Fault) (d : Indices) (name : Option (List ℕ)) (p : Piece) → Agree b.writing s.taking → builder_view b s ≡ old
+pub alone_without_indices : (b : Buffered) (s : Spaced) (old new : State) (fault : Fault) (d : Indices) (name : Option (List ℕ)) (p : Piece) → Agree b.writing s.taking → builder_view b s ≡ old
     → is_none b.writing ≡ true → new ≡ old → length old.settled.spaces ≡ 13 → d.space < 13 → IsWarranted (SpaceCause (space_after old d name)) fault
     → TakesAlone old new (Err fault) d name p
-alone_without_places b s old new fault d name p a view w same all within refused = record {
+alone_without_indices b s old new fault d name p a view w same all within refused = record {
   told = tt;
   ok = tt;
   fits = tt;
@@ -76,11 +76,11 @@ alone_taken b s old new index d name p a view w is counted all within fits space
     free fault (inl (inr (inr c))) = c
     free fault (inr c) = let none = settled_before b s old a view w in let unfinished = c.1 in cc
 
--- ---- without a place
+-- ---- without an index
 
 pub stood_nowhere : (b : Buffered) (s : Spaced) (old new : State) (result : Result (Unit {0}) Fault) (p : Piece) → Agree b.writing s.taking → builder_view b s ≡ old
     → is_none b.writing ≡ true → OnOk result (new ≡ record { settled = with_alone old.settled None None p.text; begun = None }) → OnOk result p.Fits → OnOk result (NoCause p.Cause) → OnErr result (new ≡ old) → IfErr result (IsWarranted p.Cause)
-    → TakesNoPlace old new result p
+    → TakesNoIndex old new result p
 stood_nowhere b s old new (Ok u) p a view w is fits own same refused = record {
   told = tt;
   ok = is;

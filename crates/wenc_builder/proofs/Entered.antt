@@ -14,60 +14,60 @@ use Rattle.wenc_builder.specs.Builder.{Content, with_entry, State, builder_is_fi
 use Rattle.wenc_builder.specs.Holds.{Holds}
 use Rattle.wenc_builder.specs.Cause.{CallCause, EnterCause}
 use Rattle.wenc_builder.specs.Enters.{IsCountAt, EntersWith, Enters, EntersWithoutIndex, TakesWith, Takes, TakesDraft}
-use Rattle.wenc_builder.specs.inside.Takes.{TakesAlone, TakesNoPlace, with_alone}
+use Rattle.wenc_builder.specs.inside.Takes.{TakesAlone, TakesNoIndex, with_alone}
 use Rattle.wenc_builder.specs.laws.Caused.{adding_never_unfinished}
 use Rattle.wenc_builder.specs.laws.Fits.{HasRoom}
 use Rattle.wenc_builder.specs.laws.Never.{never_unfinished}
-use Rattle.wenc_builder.specs.laws.Step.{holds_step, holds_index, places_within}
+use Rattle.wenc_builder.specs.laws.Step.{holds_step, holds_index, indices_within}
 use Rattle.wenc_builder.specs.laws.Typed.{drafted}
 
--- This content is the one with this entry, which takes these places.
-pub record IsEntry (old : State) (x : Entry) (after : Content) (places : Option Indices) : Type 0 where
+-- This content is the one with this entry, which takes these indices.
+pub record IsEntry (old : State) (x : Entry) (after : Content) (indices : Option Indices) : Type 0 where
   pub content : after ≡ with_entry old.settled x
-  pub defined : defines x.item ≡ places
+  pub defined : defines x.item ≡ indices
 
--- This entry's item is collected in the section with this id, takes one place in this space, and has this name or none.
+-- This entry's item is collected in the section with this id, takes one index in this space, and has this name or none.
 pub record IsDraftOf (x : Entry) (id space : ℕ) (name : Option (List ℕ)) : Type 0 where
   pub section : collected x.item ≡ Some id
   pub defined : defines x.item ≡ Some (record { space = space; number = 1 })
   pub named : x.name ≡ name
 
--- This entry's item stands alone, takes these places, and has this name or none.
-pub record IsAloneOf (x : Entry) (places : Option Indices) (name : Option (List ℕ)) : Type 0 where
+-- This entry's item stands alone, takes these indices, and has this name or none.
+pub record IsAloneOf (x : Entry) (indices : Option Indices) (name : Option (List ℕ)) : Type 0 where
   pub alone : collected x.item ≡ None
-  pub defined : defines x.item ≡ places
+  pub defined : defines x.item ≡ indices
   pub named : x.name ≡ name
 
 draft_is : {p : Piece} (old : State) (x : Entry) (id space : ℕ) (name : Option (List ℕ)) → IsDraftOf x id space name → Serves p (item x.item)
     → IsEntry old x (content_of (item_begun old (draft id space name p.text))) (Some (record { space = space; number = 1 }))
 draft_is {p} old x id space name w s = record { content = drafted old x (draft id space name p.text) w.section w.defined w.named (sym s.text); defined = w.defined }
 
-alone_is : {p : Piece} (old : State) (x : Entry) (places : Option Indices) (name : Option (List ℕ)) → IsAloneOf x places name → Serves p (item x.item)
-    → IsEntry old x (with_alone old.settled places name p.text) places
-alone_is old x places name w s = record { content = rw (w.alone, w.defined, w.named, s.text) refl; defined = w.defined }
+alone_is : {p : Piece} (old : State) (x : Entry) (indices : Option Indices) (name : Option (List ℕ)) → IsAloneOf x indices name → Serves p (item x.item)
+    → IsEntry old x (with_alone old.settled indices name p.text) indices
+alone_is old x indices name w s = record { content = rw (w.alone, w.defined, w.named, s.text) refl; defined = w.defined }
 
 -- ---- its causes
 
-same_call : (old : State) (one other : Fault → Type 0) (after : Content) (places : Option Indices) (fault : Fault) → (one fault → other fault) → CallCause old one after places fault → CallCause old other after places fault
-same_call old one other after places fault f (inl (inl c)) = inl (inl (f c))
-same_call old one other after places fault f (inl (inr c)) = inl (inr c)
-same_call old one other after places fault f (inr c) = inr c
+same_call : (old : State) (one other : Fault → Type 0) (after : Content) (indices : Option Indices) (fault : Fault) → (one fault → other fault) → CallCause old one after indices fault → CallCause old other after indices fault
+same_call old one other after indices fault f (inl (inl c)) = inl (inl (f c))
+same_call old one other after indices fault f (inl (inr c)) = inl (inr c)
+same_call old one other after indices fault f (inr c) = inr c
 
-module _ {p : Piece} (old : State) (x : Entry) (after : Content) (places : Option Indices) (w : IsEntry old x after places) (s : Serves p (item x.item)) where
-  to_entry : (fault : Fault) → CallCause old p.Cause after places fault → EnterCause old x fault
+module _ {p : Piece} (old : State) (x : Entry) (after : Content) (indices : Option Indices) (w : IsEntry old x after indices) (s : Serves p (item x.item)) where
+  to_entry : (fault : Fault) → CallCause old p.Cause after indices fault → EnterCause old x fault
   to_entry fault c =
-      let P : Content → Type 0 = λ k. CallCause old p.Cause k places fault in
+      let P : Content → Type 0 = λ k. CallCause old p.Cause k indices fault in
       let Q : Option Indices → Type 0 = λ k. CallCause old p.Cause (with_entry old.settled x) k fault in
       same_call old p.Cause (item x.item).Cause (with_entry old.settled x) (defines x.item) fault (s.among fault) (subst Q (sym w.defined) (subst P w.content c))
 
-  from_entry : NoCause (item x.item).Cause → (fault : Fault) → EnterCause old x fault → CallCause old p.Cause after places fault
+  from_entry : NoCause (item x.item).Cause → (fault : Fault) → EnterCause old x fault → CallCause old p.Cause after indices fault
   from_entry none fault c =
-      let P : Content → Type 0 = λ k. CallCause old p.Cause k places fault in
+      let P : Content → Type 0 = λ k. CallCause old p.Cause k indices fault in
       let Q : Option Indices → Type 0 = λ k. CallCause old p.Cause (with_entry old.settled x) k fault in
       subst P (sym w.content) (subst Q w.defined (same_call old (item x.item).Cause p.Cause (with_entry old.settled x) (defines x.item) fault (λ own. absurd (none fault own)) c))
 
   -- nothing is against the entry where nothing was against the call
-  entry_free : NoCause (CallCause old p.Cause after places) → NoCause (EnterCause old x)
+  entry_free : NoCause (CallCause old p.Cause after indices) → NoCause (EnterCause old x)
   entry_free none fault c = none fault (from_entry (s.free (λ f k. none f (inl (inl k)))) fault c)
 
 only_unfinished : (old : State) (x : Entry) → EnterCause old x Unfinished → builder_is_finished old ≡ false
@@ -78,10 +78,10 @@ only_unfinished old x (inr c) = c.1
 
 -- ---- its call
 
-pub enters : {R : Type 0} {p : Piece} (old new next : State) (result : Result R Fault) (x : Entry) (after : Content) (places : Option Indices) (Told : R → Type 0) (Tells : List Entry → R → Type 0) (Counts : Option Indices → R → Type 0)
-    → IsEntry old x after places → Serves p (item x.item) → next ≡ settled_in after → ((es : List Entry) → Holds old es → (r : R) → Told r → Tells es r) → ((r : R) → Told r → Counts places r)
-    → TakesWith old new next result after places p Told → EntersWith old new result x Tells Counts
-enters {R} {p} old new next result x after places Told Tells Counts w s done tells counts t = record {
+pub enters : {R : Type 0} {p : Piece} (old new next : State) (result : Result R Fault) (x : Entry) (after : Content) (indices : Option Indices) (Told : R → Type 0) (Tells : List Entry → R → Type 0) (Counts : Option Indices → R → Type 0)
+    → IsEntry old x after indices → Serves p (item x.item) → next ≡ settled_in after → ((es : List Entry) → Holds old es → (r : R) → Told r → Tells es r) → ((r : R) → Told r → Counts indices r)
+    → TakesWith old new next result after indices p Told → EntersWith old new result x Tells Counts
+enters {R} {p} old new next result x after indices Told Tells Counts w s done tells counts t = record {
   held = held result t.ok t.told t.fits t.free;
   state = state result t.ok;
   counted = counted result t.told;
@@ -95,10 +95,10 @@ enters {R} {p} old new next result x after places Told Tells Counts w s done tel
     is_step : new ≡ next → new ≡ step old x
     is_step e = e ∙ done ∙ ap settled_in w.content
 
-    room : NoCause (CallCause old p.Cause after places) → HasRoom (with_entry old.settled x).sections.current
-    room none fault c = entry_free old x after places w s none fault (inl (inr (inr c)))
+    room : NoCause (CallCause old p.Cause after indices) → HasRoom (with_entry old.settled x).sections.current
+    room none fault c = entry_free old x after indices w s none fault (inl (inr (inr c)))
 
-    held : (r : Result R Fault) → OnOk r (new ≡ next) → IfOk r Told → OnOk r p.Fits → OnOk r (NoCause (CallCause old p.Cause after places)) → (es : List Entry) → Holds old es → IfOk r (λ a. Holds new (es ++ x ∷ []) × Tells es a)
+    held : (r : Result R Fault) → OnOk r (new ≡ next) → IfOk r Told → OnOk r p.Fits → OnOk r (NoCause (CallCause old p.Cause after indices)) → (es : List Entry) → Holds old es → IfOk r (λ a. Holds new (es ++ x ∷ []) × Tells es a)
     held (Ok a) e f fit none es h = (rw (is_step e) (holds_step old es x (s.fits fit) (room none) h), tells es h a f)
     held (Err fault) e f fit none es h = tt
 
@@ -114,47 +114,47 @@ enters {R} {p} old new next result x after places Told Tells Counts w s done tel
     fits (Ok a) f = s.fits f
     fits (Err fault) f = tt
 
-    free : (r : Result R Fault) → OnOk r (NoCause (CallCause old p.Cause after places)) → OnOk r (NoCause (EnterCause old x))
-    free (Ok a) none = entry_free old x after places w s none
+    free : (r : Result R Fault) → OnOk r (NoCause (CallCause old p.Cause after indices)) → OnOk r (NoCause (EnterCause old x))
+    free (Ok a) none = entry_free old x after indices w s none
     free (Err fault) none = tt
 
-    warranted : (r : Result R Fault) → IfErr r (IsWarranted (CallCause old p.Cause after places)) → IfErr r (IsWarranted (EnterCause old x))
+    warranted : (r : Result R Fault) → IfErr r (IsWarranted (CallCause old p.Cause after indices)) → IfErr r (IsWarranted (EnterCause old x))
     warranted (Ok a) f = tt
-    warranted (Err fault) f = still_warranted _ _ (to_entry old x after places w s) fault f
+    warranted (Err fault) f = still_warranted _ _ (to_entry old x after indices w s) fault f
 
-    only : (r : Result R Fault) → IfErr r (IsWarranted (CallCause old p.Cause after places)) → r ≡ Err Unfinished → builder_is_finished old ≡ false
+    only : (r : Result R Fault) → IfErr r (IsWarranted (CallCause old p.Cause after indices)) → r ≡ Err Unfinished → builder_is_finished old ≡ false
     only (Ok a) f e = cc
     only (Err (Memory m)) f e = cc
     only (Err TooMany) f e = cc
     only (Err TooLarge) f e = cc
-    only (Err Unfinished) f e = only_unfinished old x (to_entry old x after places w s Unfinished f)
+    only (Err Unfinished) f e = only_unfinished old x (to_entry old x after indices w s Unfinished f)
 
--- the number of items in a space is the place of what comes next
-place_told : (old : State) (x : Entry) (d : Indices) → defines x.item ≡ Some d → (es : List Entry) → Holds old es → (i : ℕ) → i ≡ (namespace_at old.settled.spaces d.space).count → IsIndexOf (items es) x.item i
-place_told old x d e es h i f = rw e (holds_index old es d.space i h (places_within x.item d e) f)
+-- the number of items in a space is the index of what comes next
+index_told : (old : State) (x : Entry) (d : Indices) → defines x.item ≡ Some d → (es : List Entry) → Holds old es → (i : ℕ) → i ≡ (namespace_at old.settled.spaces d.space).count → IsIndexOf (items es) x.item i
+index_told old x d e es h i f = rw e (holds_index old es d.space i h (indices_within x.item d e) f)
 
 pub draft_enters : {p : Piece} (old new : State) (result : Result ℕ Fault) (x : Entry) (id space : ℕ) (name : Option (List ℕ)) → IsDraftOf x id space name → Serves p (item x.item)
     → TakesDraft old new result (draft id space name) p → Enters old new result x
 draft_enters {p} old new result x id space name w s t =
     let d : Draft = draft id space name p.text in
-    enters old new (item_ended (item_begun old d)) result x (content_of (item_begun old d)) (Some (draft_indices d)) _ _ (IsCountAt old) (draft_is old x id space name w s) s refl (place_told old x (draft_indices d) w.defined) (λ i f. f) t
+    enters old new (item_ended (item_begun old d)) result x (content_of (item_begun old d)) (Some (draft_indices d)) _ _ (IsCountAt old) (draft_is old x id space name w s) s refl (index_told old x (draft_indices d) w.defined) (λ i f. f) t
 
 pub alone_enters : {p : Piece} (old new : State) (result : Result ℕ Fault) (x : Entry) (d : Indices) (name : Option (List ℕ)) → IsAloneOf x (Some d) name → Serves p (item x.item)
     → TakesAlone old new result d name p → Enters old new result x
 alone_enters {p} old new result x d name w s t =
     let after = with_alone old.settled (Some d) name p.text in
-    enters old new (settled_in after) result x after (Some d) _ _ (IsCountAt old) (alone_is old x (Some d) name w s) s refl (place_told old x d w.defined) (λ i f. f) t
+    enters old new (settled_in after) result x after (Some d) _ _ (IsCountAt old) (alone_is old x (Some d) name w s) s refl (index_told old x d w.defined) (λ i f. f) t
 
-pub placeless_enters : {p : Piece} (old new : State) (result : Result (Unit {0}) Fault) (x : Entry) → IsAloneOf x None None → Serves p (item x.item) → TakesNoPlace old new result p → EntersWithoutIndex old new result x
-placeless_enters {p} old new result x w s t =
+pub without_index_enters : {p : Piece} (old new : State) (result : Result (Unit {0}) Fault) (x : Entry) → IsAloneOf x None None → Serves p (item x.item) → TakesNoIndex old new result p → EntersWithoutIndex old new result x
+without_index_enters {p} old new result x w s t =
     let after = with_alone old.settled None None p.text in
-    enters old new (settled_in after) result x after None _ _ (λ places r. Unit {0}) (alone_is old x None None w s) s refl (λ es h r u. tt) (λ r u. tt) t
+    enters old new (settled_in after) result x after None _ _ (λ indices r. Unit {0}) (alone_is old x None None w s) s refl (λ es h r u. tt) (λ r u. tt) t
 
 -- ---- a piece for another that has no cause where it fits
 
-takes_as : {R : Type 0} {p q : Piece} (old new next : State) (result : Result R Fault) (after : Content) (places : Option Indices) (Told : R → Type 0) → (p.Fits → q.Fits) → ((fault : Fault) → p.Cause fault → q.Cause fault)
-    → (q.Fits → NoCause q.Cause) → TakesWith old new next result after places p Told → TakesWith old new next result after places q Told
-takes_as {p} {q} old new next (Ok r) after places Told fits among lawful t = record {
+takes_as : {R : Type 0} {p q : Piece} (old new next : State) (result : Result R Fault) (after : Content) (indices : Option Indices) (Told : R → Type 0) → (p.Fits → q.Fits) → ((fault : Fault) → p.Cause fault → q.Cause fault)
+    → (q.Fits → NoCause q.Cause) → TakesWith old new next result after indices p Told → TakesWith old new next result after indices q Told
+takes_as {p} {q} old new next (Ok r) after indices Told fits among lawful t = record {
   told = t.told;
   ok = t.ok;
   fits = fits t.fits;
@@ -164,17 +164,17 @@ takes_as {p} {q} old new next (Ok r) after places Told fits among lawful t = rec
   unfinished_first = t.unfinished_first;
 }
   where
-    free : NoCause (CallCause old q.Cause after places)
+    free : NoCause (CallCause old q.Cause after indices)
     free fault (inl (inl c)) = lawful (fits t.fits) fault c
     free fault (inl (inr c)) = t.free fault (inl (inr c))
     free fault (inr c) = t.free fault (inr c)
-takes_as {p} {q} old new next (Err fault) after places Told fits among lawful t = record {
+takes_as {p} {q} old new next (Err fault) after indices Told fits among lawful t = record {
   told = tt;
   ok = tt;
   fits = tt;
   free = tt;
   err = t.err;
-  warranted = still_warranted _ _ (λ f c. same_call old p.Cause q.Cause after places f (among f) c) fault t.warranted;
+  warranted = still_warranted _ _ (λ f c. same_call old p.Cause q.Cause after indices f (among f) c) fault t.warranted;
   unfinished_first = t.unfinished_first;
 }
 

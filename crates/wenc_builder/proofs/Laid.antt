@@ -67,13 +67,13 @@ pub begun : (h opened new : HolderState) (gap : List ℕ) (closed_len : ℕ) (ki
     → buffer_view h closed_len kind earlier ≡ now → now.writing ≡ None → OpensAnother now.settled.current (kind_id k) → length gap ≡ 11 → count ≡ h.count → content_size h.count (length h.body) < 2 ^ 32 → items_end ≡ length (all_bytes h)
     → opened ≡ holding (all_bytes h ++ gap) 0 [] → BeginsMember opened new outcome [] → outcome ≡ Ok tt
     → IsLaidOut new closed_len (Some k) (Some (record { kind = kind; count = count; closed_len = closed_len; items_end = items_end }))
-begun h opened new gap closed_len kind earlier k count items_end now outcome l view none apart g c f s is o accepted = record { places = rw new_is (went_apart h gap closed_len kind k count items_end members.0 g c f s other) }
+begun h opened new gap closed_len kind earlier k count items_end now outcome l view none apart g c f s is o accepted = record { indices = rw new_is (went_apart h gap closed_len kind k count items_end members.0 g c f s other) }
   where
     idle : (earlier ≡ None) × (h.opening ≡ None)
     idle = none_is_written h closed_len kind earlier (ap (λ (b : Buffered). b.writing) view ∙ none)
 
     members : MembersAreIn kind closed_len h × BegunIsIn h.opening h.count (length h.body)
-    members = (rw idle.0 at l).places
+    members = (rw idle.0 at l).indices
 
     other : OpensAnother (open_view kind h.count h.body) (kind_id k)
     other = rw (← view, idle.0, idle.1) at apart
@@ -124,7 +124,7 @@ some_is_written_at h closed_len kind (Some x) opening o l e = rw (ap (λ (x : Ho
 
 pub some_is_written : (h : HolderState) (closed_len : ℕ) (kind : Option Kind) (earlier : Option Earlier) (now : Buffered) → IsLaidOut h closed_len kind earlier → buffer_view h closed_len kind earlier ≡ now
     → is_none now.writing ≡ false → is_finished h ≡ false
-some_is_written h closed_len kind earlier now l view e = some_is_written_at h closed_len kind earlier h.opening refl l.places (rw (← view) at e)
+some_is_written h closed_len kind earlier now l view e = some_is_written_at h closed_len kind earlier h.opening refl l.indices (rw (← view) at e)
 
 all_of_it : (n size : ℕ) (k : Kind) (closed body text : List ℕ) → 1 ≤ n
     → SectionCause (entered (record { closed = closed; current = Some (record { id = kind_id k; count = n - 1; body = take size body }) }) (kind_id k) (drop size body ++ text)).current TooLarge
@@ -142,7 +142,7 @@ large_at : (h : HolderState) (text : List ℕ) (closed_len : ℕ) (kind : Option
     → SectionCause (buffered_content (buffer_appended (buffer_view h closed_len kind earlier) text)).current TooLarge → 2 ^ 32 ≤ content_size h.count (length (h.body ++ text))
 large_at h text closed_len kind None None o l f large = let finished = rw o at f in cc
 large_at h text closed_len None None (Some x) o l f large = let none = l.0.2 in cc
-large_at h text closed_len (Some k) None (Some x) o l f large = let places = rw o at l.1 in all_of_it h.count x.member_start k (take closed_len h.kept) h.body text places.1 (rw o at large)
+large_at h text closed_len (Some k) None (Some x) o l f large = let indices = rw o at l.1 in all_of_it h.count x.member_start k (take closed_len h.kept) h.body text indices.1 (rw o at large)
 large_at h text closed_len None (Some e) opening o l f large = absurd l.another
 large_at h text closed_len (Some k) (Some e) opening o l f large =
     let one : h.count ≡ 1 = ap (λ (x : HolderState). x.count) l.first in
@@ -163,7 +163,7 @@ too_large_at : (h : HolderState) (text : List ℕ) (closed_len : ℕ) (kind : Op
     → 2 ^ 32 ≤ content_size h.count (length (h.body ++ text)) → SectionCause (buffered_content (buffer_appended (buffer_view h closed_len kind earlier) text)).current TooLarge
 too_large_at h text closed_len kind None None o l f large = let finished = rw o at f in cc
 too_large_at h text closed_len None None (Some x) o l f large = let none = l.0.2 in cc
-too_large_at h text closed_len (Some k) None (Some x) o l f large = let places = rw o at l.1 in rw o (part_of_it h.count x.member_start k (take closed_len h.kept) h.body text places.1 large)
+too_large_at h text closed_len (Some k) None (Some x) o l f large = let indices = rw o at l.1 in rw o (part_of_it h.count x.member_start k (take closed_len h.kept) h.body text indices.1 large)
 too_large_at h text closed_len None (Some e) opening o l f large = absurd l.another
 too_large_at h text closed_len (Some k) (Some e) opening o l f large =
     let one : h.count ≡ 1 = ap (λ (x : HolderState). x.count) l.first in
@@ -174,8 +174,8 @@ lengthened_at : (h : HolderState) (text : List ℕ) (closed_len : ℕ) (kind : O
 lengthened_at h text closed_len kind None None o l f = let finished = rw o at f in cc
 lengthened_at h text closed_len None None (Some x) o l f = let none = l.0.2 in cc
 lengthened_at h text closed_len (Some k) None (Some x) o l f =
-    let places = rw o at l.1 in
-    rw (o, take-append-le x.member_start h.body text places.0, drop-append-le x.member_start h.body text places.0) refl
+    let indices = rw o at l.1 in
+    rw (o, take-append-le x.member_start h.body text indices.0, drop-append-le x.member_start h.body text indices.0) refl
 lengthened_at h text closed_len kind (Some e) opening o l f = refl
 
 still_at : (h : HolderState) (text : List ℕ) (closed_len : ℕ) (kind : Option Kind) (earlier : Option Earlier) (opening : Option Opening) → h.opening ≡ opening → EarlierIsIn h closed_len kind earlier → is_finished h ≡ false
@@ -183,8 +183,8 @@ still_at : (h : HolderState) (text : List ℕ) (closed_len : ℕ) (kind : Option
 still_at h text closed_len kind None None o l f = let finished = rw o at f in cc
 still_at h text closed_len None None (Some x) o l f = let none = l.0.2 in cc
 still_at h text closed_len (Some k) None (Some x) o l f =
-    let places = rw o at l.1 in
-    (l.0, rw o (omega (arith, places.0, length-append h.body text), places.1))
+    let indices = rw o at l.1 in
+    (l.0, rw o (omega (arith, indices.0, length-append h.body text), indices.1))
 still_at h text closed_len kind (Some e) opening o l f = record {
   first = ap (λ (x : HolderState). member_appended x text) l.first;
   gap = l.gap;
@@ -199,17 +199,17 @@ module _ (old : HolderState) (closed_len : ℕ) (kind : Option Kind) (earlier : 
   unfinished = some_is_written old closed_len kind earlier now laid view writing
 
   pub longer_view : (text : List ℕ) → buffer_view (member_appended old text) closed_len kind earlier ≡ buffer_appended now text
-  longer_view text = rw (← view) (lengthened_at old text closed_len kind earlier old.opening refl laid.places unfinished)
+  longer_view text = rw (← view) (lengthened_at old text closed_len kind earlier old.opening refl laid.indices unfinished)
 
   pub still_laid : (text : List ℕ) → IsLaidOut (member_appended old text) closed_len kind earlier
-  still_laid text = record { places = still_at old text closed_len kind earlier old.opening refl laid.places unfinished }
+  still_laid text = record { indices = still_at old text closed_len kind earlier old.opening refl laid.indices unfinished }
 
   -- there is room in the holder where there is room in the section
   room_there : (text : List ℕ) (fault : Fault) → no_room_in_holder old text fault → NoRoom (section_appended now text) fault
-  room_there text fault p = (p.0, rw (← view) (too_large_at old text closed_len kind earlier old.opening refl laid.places unfinished p.1))
+  room_there text fault p = (p.0, rw (← view) (too_large_at old text closed_len kind earlier old.opening refl laid.indices unfinished p.1))
 
   room_back : (text : List ℕ) (fault : Fault) → NoRoom (section_appended now text) fault → no_room_in_holder old text fault
-  room_back text fault p = (p.0, large_at old text closed_len kind earlier old.opening refl laid.places unfinished (rw (← view) at p.1))
+  room_back text fault p = (p.0, large_at old text closed_len kind earlier old.opening refl laid.indices unfinished (rw (← view) at p.1))
 
   there : (cause : Fault → Type 0) (text : List ℕ) (fault : Fault) → either cause (no_room_in_holder old text) fault → either cause (NoRoom (section_appended now text)) fault
   there cause text fault c = elim c [ inl own ↦ inl own | inr p ↦ inr (room_there text fault p) ]
@@ -252,7 +252,7 @@ back_fits_at (Some k) bytes count closed_len items_end n f s l = omega (arith, f
 
 pub back_fits : (h : HolderState) (closed_len : ℕ) (kind : Option Kind) (earlier : Option Earlier) (e : Earlier) → IsLaidOut h closed_len kind earlier → earlier ≡ Some e → content_size e.count (e.items_end - kept_before e.kind e.closed_len) < 2 ^ 32
 back_fits h closed_len kind earlier e l is =
-    let a : IsApart h kind e = (rw is at l).places in
+    let a : IsApart h kind e = (rw is at l).indices in
     back_fits_at e.kind h.kept e.count e.closed_len e.items_end a.counted a.fits a.section (omega (arith, a.gap))
 
 -- ---- something that stands alone
@@ -293,7 +293,7 @@ pub can_close : (h kept : HolderState) (text : List ℕ) (closed_len : ℕ) (kin
     → (items_end ≤ length kept.kept) × SectionIsIn kind closed_len items_end × SectionFits (earlier_view kept.kept (record { kind = kind; count = count; closed_len = closed_len; items_end = items_end }))
 can_close h kept text closed_len kind earlier count items_end now l view none c f e k =
     let idle = none_is_written h closed_len kind earlier (ap (λ (b : Buffered). b.writing) view ∙ none) in
-    let members : MembersAreIn kind closed_len h × BegunIsIn h.opening h.count (length h.body) = (rw idle.0 at l).places in
+    let members : MembersAreIn kind closed_len h × BegunIsIn h.opening h.count (length h.body) = (rw idle.0 at l).indices in
     rw (k, c, e) (omega (arith, length-append (all_bytes h) text), section_at h closed_len kind members.0, rw (earlier_is h text closed_len kind members.0) (fits_at h kind f))
 
 -- and then all bytes are closed
@@ -303,11 +303,11 @@ pub stood : (h kept new : HolderState) (text : List ℕ) (closed_len new_len : �
     → IsLaidOut new new_len None earlier × (buffer_view new new_len None earlier ≡ buffer_with now text)
 stood h kept new text closed_len new_len kind earlier count items_end now l view none c e k w n =
     let idle = none_is_written h closed_len kind earlier (ap (λ (b : Buffered). b.writing) view ∙ none) in
-    let members : MembersAreIn kind closed_len h × BegunIsIn h.opening h.count (length h.body) = (rw idle.0 at l).places in
+    let members : MembersAreIn kind closed_len h × BegunIsIn h.opening h.count (length h.body) = (rw idle.0 at l).indices in
     let all : new ≡ holding (sections_text (record { closed = take closed_len h.kept; current = open_view kind h.count h.body }) ++ text) 0 [] =
     w ∙ rw (k, c, e) (ap (λ (b : List ℕ). holding b 0 []) (closed_is h text closed_len kind members.0)) in
     let closed = sections_text (record { closed = take closed_len h.kept; current = open_view kind h.count h.body }) ++ text in
-    rw (n, all, idle.0) (record { places = ((refl, refl, refl), tt) }, rw (← view, idle.0, idle.1, take_all (length closed) closed (omega arith)) refl)
+    rw (n, all, idle.0) (record { indices = ((refl, refl, refl), tt) }, rw (← view, idle.0, idle.1, take_all (length closed) closed (omega arith)) refl)
 
 -- ---- all bytes
 
@@ -321,5 +321,5 @@ pub all_is : (h : HolderState) (closed_len : ℕ) (kind : Option Kind) (earlier 
     → sections_text now.settled ≡ take closed_len h.kept ++ (open_head kind h.count (length h.body) ++ h.body)
 all_is h closed_len kind earlier now l view none =
     let idle = none_is_written h closed_len kind earlier (ap (λ (b : Buffered). b.writing) view ∙ none) in
-    let members : MembersAreIn kind closed_len h × BegunIsIn h.opening h.count (length h.body) = (rw idle.0 at l).places in
+    let members : MembersAreIn kind closed_len h × BegunIsIn h.opening h.count (length h.body) = (rw idle.0 at l).indices in
     rw (← view, idle.0, idle.1) (all_at h closed_len kind members.0)

@@ -21,10 +21,10 @@ use Rattle.wenc_builder.specs.Cause.{SectionCause}
 use Rattle.wenc_builder.specs.Enters.{Enters, EntersListed, Takes, TakesDraft}
 use Rattle.wenc_builder.specs.inside.Takes.{AppendsListed, TakesListed}
 use Rattle.wenc_builder.specs.inside.Layout.{kind_id, draft_of}
-use Rattle.wenc_builder.specs.Lent.{no_room_in_section}
+use Rattle.wenc_builder.specs.LenderState.{no_room_in_section}
 use Rattle.wenc_builder.specs.declared.builder.kind.Kind.TheVariants as kinds
 use Rattle.wenc_builder.specs.declared.builder.space.Space.{Space}
-use Rattle.wenc_builder.specs.laws.Lent.{still_begun, appended_twice}
+use Rattle.wenc_builder.specs.laws.LenderState.{still_begun, appended_twice}
 use Rattle.wenc_builder.specs.laws.Caused.{section_grows}
 use Rattle.wenc_builder.proofs.Entered.{IsDraftOf, draft_enters}
 use Rattle.wenc_builder.proofs.Taken.{not_begun, added, partly_written}

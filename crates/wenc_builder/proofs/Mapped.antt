@@ -33,8 +33,8 @@ pub unnamed_free : (h : HolderState) (count number : ℕ) → NamesFit h → cou
 unnamed_free h count number fits less = space_free (namespace_with (space_view count h.count h.body) number None) less fits.1 fits.2
 
 -- nor against those of which the first has a name that was accepted
-pub named_free : (old new : HolderState) (now : Namespace) (count number : ℕ) (given : Option (List ℕ)) (name : List ℕ) → NamesFit old → Accepted (name_association (record { place = count; name = name })) old new
+pub named_free : (old new : HolderState) (now : Namespace) (count number : ℕ) (given : Option (List ℕ)) (name : List ℕ) → NamesFit old → Accepted (name_association (record { index = count; name = name })) old new
     → space_view count old.count old.body ≡ now → given ≡ Some name → count + number < 2 ^ 32 → (fault : Fault) → SpaceCause (namespace_with now number given) fault → ⊥
 named_free old new now count number given name fits a view is less =
-    let more = rw a.state at (named_fit old new (record { place = count; name = name }) fits a) in
+    let more = rw a.state at (named_fit old new (record { index = count; name = name }) fits a) in
     rw (← view, is) (space_free (namespace_with (space_view count old.count old.body) number (Some name)) less more.1 more.2)

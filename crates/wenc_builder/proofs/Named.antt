@@ -24,7 +24,7 @@ use Rattle.wenc_builder.specs.Entry.{Entry, entry, custom_entry, names}
 use Rattle.wenc_builder.specs.Builder.{namespace_at, State, builder_is_finished}
 use Rattle.wenc_builder.specs.Cause.{CallCause}
 use Rattle.wenc_builder.specs.Enters.{EntersWithoutIndex}
-use Rattle.wenc_builder.specs.inside.Takes.{TakesNoPlace, with_alone}
+use Rattle.wenc_builder.specs.inside.Takes.{TakesNoIndex, with_alone}
 use Rattle.wenc_builder.specs.Holds.{Holds}
 use Rattle.wenc_builder.specs.Names.{named_sorts, by_sort, named_entry, AddsNames, names_held, space_names, none_named, kept_names}
 use Rattle.wenc_builder.specs.Space.{space_number}
@@ -32,12 +32,12 @@ use Rattle.wenc_builder.specs.declared.builder.space.Space.{Space}
 use Rattle.wenc_builder.specs.laws.Step.{space_within}
 use Rattle.wenc_builder.specs.Item.{CustomItem, item}
 use Rattle.wenc_builder.specs.inside.Layout.{Buffered, buffer_with}
-use Rattle.wenc_builder.specs.Lent.{IsItemText}
+use Rattle.wenc_builder.specs.LenderState.{IsItemText}
 use Rattle.wenc_builder.specs.inside.Spaces.{Spaced}
 use Rattle.wenc_builder.specs.inside.View.{Agree, builder_view}
 use Rattle.wenc_base.proofs.Bytes.{last_below}
 use Rattle.wenc_builder.proofs.Alone.{stood_nowhere}
-use Rattle.wenc_builder.proofs.Entered.{placeless_enters, unfinished_enters}
+use Rattle.wenc_builder.proofs.Entered.{without_index_enters, unfinished_enters}
 use Rattle.wenc_builder.proofs.Viewed.{finished_is}
 
 -- the subsections, one behind the other
@@ -179,9 +179,9 @@ module _ {N : Type 0} (seen : N → Sort × HolderState) where
 
 -- ---- the call
 
-module _ {N : Type 0} (seen : N → Sort × HolderState) (ns : List N) (old new : State) (result : Result (Unit {0}) Fault) (is : map seen ns ≡ kept_names old) (some : none_named (map seen ns) ≡ false) (t : TakesNoPlace old new result (written seen ns)) where
+module _ {N : Type 0} (seen : N → Sort × HolderState) (ns : List N) (old new : State) (result : Result (Unit {0}) Fault) (is : map seen ns ≡ kept_names old) (some : none_named (map seen ns) ≡ false) (t : TakesNoIndex old new result (written seen ns)) where
   as_kept : (bytes : List ℕ) → (seen_names seen ns).text ≡ bytes → EntersWithoutIndex old new result (custom_entry names_label bytes)
-  as_kept bytes e = placeless_enters old new result (custom_entry names_label bytes) (record { alone = refl; defined = refl; named = refl }) (names_serve seen ns bytes e) t
+  as_kept bytes e = without_index_enters old new result (custom_entry names_label bytes) (record { alone = refl; defined = refl; named = refl }) (names_serve seen ns bytes e) t
 
   seen_text : (seen_names seen ns).text ≡ all_names (map seen ns)
   seen_text = sym (flat_map-map (λ p. (space_names p).text) seen ns)

@@ -9,7 +9,7 @@ use Rattle.wenc_builder.specs.Builder.{Sections, content_of, item_appended}
 use Rattle.wenc_builder.specs.Cause.{SectionCause, NoRoom}
 use Rattle.wenc_builder.specs.inside.HoldsSome.{HoldsSome}
 use Rattle.wenc_builder.specs.inside.Layout.{Buffered, section_begun, section_appended, buffer_begun, buffer_appended, buffer_ended, buffer_given_up, buffer_with}
-use Rattle.wenc_builder.specs.Lent.{IsItemText, is_whole}
+use Rattle.wenc_builder.specs.LenderState.{IsItemText, is_whole}
 use Rattle.wenc_builder.specs.inside.Spaces.{Spaced, spaces_begun, spaces_ended, spaces_given_up}
 use Rattle.wenc_builder.specs.inside.View.{builder_view, IsBuilder}
 use Rattle.wenc_builder.specs.laws.Held.{some_begun, some_appended, some_ended, some_given_up, some_alone}
@@ -57,9 +57,9 @@ module _ (b : Buffered) (s : Spaced) (i : IsBuilder b s) where
     not_taken : s.taking ≡ None
     not_taken = not_taking b.writing s.taking i.agree (writing_none b finished)
 
-    -- a place that was given up at once
-    pub placed_back : (space number : ℕ) (name : Option (List ℕ)) → IsBuilder b (spaces_given_up (spaces_begun s space number name))
-    placed_back space number name =
+    -- an index that was given up at once
+    pub indexed_back : (space number : ℕ) (name : Option (List ℕ)) → IsBuilder b (spaces_given_up (spaces_begun s space number name))
+    indexed_back space number name =
         let same : spaces_given_up (spaces_begun s space number name) ≡ s = rw (← not_taken) refl in
         subst (IsBuilder b) (sym same) i
 
@@ -76,13 +76,13 @@ module _ (b : Buffered) (s : Spaced) (i : IsBuilder b s) where
       holds = some_alone (builder_view b s) (Some (record { space = space; number = number })) name text whole i.holds;
     }
 
-    pub placeless_stands : (text : List ℕ) → ∥ IsItemText None None text ∥₁ → IsBuilder (buffer_with b text) s
-    placeless_stands text whole = record {
+    pub without_index_stands : (text : List ℕ) → ∥ IsItemText None None text ∥₁ → IsBuilder (buffer_with b text) s
+    without_index_stands text whole = record {
       agree = rw not_taken tt;
       holds = some_alone (builder_view b s) None None text whole i.holds;
     }
 
-    pub placeless_outcome : (new : Buffered) (outcome : Result (Unit {0}) Fault) (p : Piece) → (p.Fits → ∥ IsItemText None None p.text ∥₁) → OnOk outcome p.Fits
+    pub without_index_outcome : (new : Buffered) (outcome : Result (Unit {0}) Fault) (p : Piece) → (p.Fits → ∥ IsItemText None None p.text ∥₁) → OnOk outcome p.Fits
         → OnOk outcome (new ≡ buffer_with b p.text) → OnErr outcome (new ≡ b) → IsBuilder new s
-    placeless_outcome new (Ok u) p whole fits ok err = rw ok (placeless_stands p.text (whole fits))
-    placeless_outcome new (Err f) p whole fits ok err = rw err i
+    without_index_outcome new (Ok u) p whole fits ok err = rw ok (without_index_stands p.text (whole fits))
+    without_index_outcome new (Err f) p whole fits ok err = rw err i

@@ -9,7 +9,7 @@ use Rattle.wenc_builder.specs.Builder.{entered, Content, State, namespace_at, co
 use Rattle.wenc_builder.specs.Cause.{SectionCause, SpaceCause}
 use Rattle.wenc_builder.specs.Enters.{TakesWith, Takes, TakesDraft, BeginsItem}
 use Rattle.wenc_builder.specs.inside.Layout.{Buffered}
-use Rattle.wenc_builder.specs.Lent.{no_room_in_section}
+use Rattle.wenc_builder.specs.LenderState.{no_room_in_section}
 use Rattle.wenc_builder.specs.Space.{Indices}
 use Rattle.wenc_builder.specs.inside.Spaces.{Spaced}
 use Rattle.wenc_builder.specs.inside.View.{Agree, builder_view}
@@ -28,9 +28,9 @@ none_is (Some x) e = cc
 -- ---- an item is begun
 
 -- nothing is taken while another item is being written
-pub unfinished_before : {R : Type 0} (b : Buffered) (s : Spaced) (old new next : State) (after : Content) (places : Option Indices) (p : Piece) (Told : R → Type 0) → Agree b.writing s.taking → builder_view b s ≡ old
-    → is_none b.writing ≡ false → new ≡ old → TakesWith old new next (Err Unfinished) after places p Told
-unfinished_before b s old new next after places p Told a view w same = record {
+pub unfinished_before : {R : Type 0} (b : Buffered) (s : Spaced) (old new next : State) (after : Content) (indices : Option Indices) (p : Piece) (Told : R → Type 0) → Agree b.writing s.taking → builder_view b s ≡ old
+    → is_none b.writing ≡ false → new ≡ old → TakesWith old new next (Err Unfinished) after indices p Told
+unfinished_before b s old new next after indices p Told a view w same = record {
   told = tt;
   ok = tt;
   fits = tt;
@@ -147,7 +147,7 @@ not_written old begun written new whole fault index id space name p t refused w 
 pub begins_lent : {E : Type 0} (index : E → ℕ) (lent : E → State) (old new : State) (i : ℕ) (e : E) (d : Draft) → d.space < 13 → Takes old new (item_begun old d) (Ok i) d nothing → index e ≡ i → lent e ≡ new → BeginsItem index lent old (Ok e) d
 begins_lent index lent old new i e d within t is same = record {
   begun = same ∙ t.ok;
-  placed = λ es h. holds_index old es d.space (index e) h within (is ∙ t.told);
+  indexed = λ es h. holds_index old es d.space (index e) h within (is ∙ t.told);
   free = t.free;
   warranted = tt;
   unfinished_first = λ u. absurd (never i (t.unfinished_first u));
@@ -157,7 +157,7 @@ begins_lent index lent old new i e d within t is same = record {
     never j q = cc
 
 pub begins_refused : {E : Type 0} (index : E → ℕ) (lent : E → State) (old new next : State) (fault : Fault) (d : Draft) → Takes old new next (Err fault) d nothing → BeginsItem index lent old (Err fault) d
-begins_refused index lent old new next fault d t = record { begun = tt; placed = tt; free = tt; warranted = t.warranted; unfinished_first = λ u. rw (erred fault (Err fault) refl (t.unfinished_first u)) refl }
+begins_refused index lent old new next fault d t = record { begun = tt; indexed = tt; free = tt; warranted = t.warranted; unfinished_first = λ u. rw (erred fault (Err fault) refl (t.unfinished_first u)) refl }
   where
     erred : (f : Fault) (r : Result ℕ Fault) → r ≡ Err f → r ≡ Err Unfinished → f ≡ Unfinished
     erred f r e u = cc

@@ -1,4 +1,4 @@
--- An item that took a place in a space can be given up.
+-- An item that took an index in a space can be given up.
 use Rattle.std.proofs.Common.{◌≡◌, ℕ, ◌<◌, ◌≤◌, List, length, length-append, set, get_or, Option, Some, None, refl, arith, sym, ◌∙◌, ap, subst}
 use Rattle.std.proofs.lemmas.List.{take_at, take_all, get_or-set_same, get_or_default, set-set, set-get_or, length-set}
 use Rattle.wenc_base.specs.Names.{name_association}
@@ -12,7 +12,7 @@ undo_at i s = record { space = i; count = s.count; name_association = s.named; l
 
 before_with : (i n : ℕ) (s : Namespace) (name : Option (List ℕ)) → spaces_before (undo_at i s) (namespace_with s n name).names ≡ s
 before_with i n s None = rw (take_all (length s.names) s.names (omega arith)) refl
-before_with i n s (Some name) = rw (take_at s.names (name_association (record { place = s.count; name = name })).text (length s.names) refl) refl
+before_with i n s (Some name) = rw (take_at s.names (name_association (record { index = s.count; name = name })).text (length s.names) refl) refl
 
 back_at : (spaces : List Namespace) (i n : ℕ) (old new : Namespace) (name : Option (List ℕ)) → i < length spaces → new ≡ namespace_with old n name
     → spaces_before (undo_at i old) (namespace_at (set spaces i new) i).names ≡ old
@@ -25,7 +25,7 @@ kept spaces i n old new name h e f = rw (back_at spaces i n old new name h f, se
 -- a space has no less than it had
 no_less : (n : ℕ) (s : Namespace) (name : Option (List ℕ)) → (s.named ≤ (namespace_with s n name).named) × (length s.names ≤ length (namespace_with s n name).names)
 no_less n s None = (omega arith, omega arith)
-no_less n s (Some name) = (omega arith, omega (arith, length-append s.names (name_association (record { place = s.count; name = name })).text))
+no_less n s (Some name) = (omega arith, omega (arith, length-append s.names (name_association (record { index = s.count; name = name })).text))
 
 settled_is : (spaces : List Namespace) (undo : Option Undo) (now : Spaced) → spaced_view spaces undo ≡ now → now.taking ≡ None → spaces ≡ now.settled
 settled_is spaces None now e t = ap (λ (x : Spaced). x.settled) e

@@ -8,7 +8,7 @@ use Rattle.wenc_base.specs.laws.Serves.{still_warranted}
 use Rattle.wenc_builder.specs.Builder.{Sections, Content, State, builder_is_finished, content_of, item_appended, item_ended}
 use Rattle.wenc_builder.specs.inside.Layout.{Writing, Buffered, buffered_content, buffer_appended, section_appended, buffer_ended}
 use Rattle.wenc_builder.specs.Cause.{NoRoom}
-use Rattle.wenc_builder.specs.Lent.{no_room_in_section}
+use Rattle.wenc_builder.specs.LenderState.{no_room_in_section}
 use Rattle.wenc_builder.specs.inside.Spaces.{Taking, Spaced, taken, spaces_ended}
 use Rattle.wenc_builder.specs.inside.View.{Agree, begun_of, builder_view}
 

@@ -82,7 +82,7 @@ namespace_with s number None = record { count = s.count + number; name_associati
 namespace_with s number (Some name) = record {
   count = s.count + number;
   name_association = s.named + 1;
-  names = s.names ++ (name_association (record { place = s.count; name = name })).text;
+  names = s.names ++ (name_association (record { index = s.count; name = name })).text;
 }
 
 abbrev pub namespace_at : List Namespace → ℕ → Namespace
@@ -94,7 +94,7 @@ pub record Content : Type 0 where
   pub sections : Sections
   pub spaces : List Namespace
 
--- the spaces, where these places are taken in one of them
+-- the spaces, where these indices are taken in one of them
 abbrev pub spaces_with : List Namespace → Option Indices → Option (List ℕ) → List Namespace
 spaces_with spaces None name = spaces
 spaces_with spaces (Some d) name =
@@ -148,7 +148,7 @@ content_of s = content_with s.settled s.begun
 abbrev pub count_in : State → Space → ℕ
 count_in s space = (namespace_at (content_of s).spaces (space_number space)).count
 
--- what is to be written: an item of the section with this id, which takes one place in this space
+-- what is to be written: an item of the section with this id, which takes one index in this space
 pub record Draft : Type 0 where
   pub id : ℕ
   pub space : ℕ
@@ -162,7 +162,7 @@ draft id space name text = record { id = id; space = space; name = name; text = 
 abbrev pub draft_in : ComponentSectionId → Space → Option (List ℕ) → List ℕ → Draft
 draft_in section space name text = draft (section_number section) (space_number space) name text
 
--- its place
+-- its index
 abbrev pub draft_indices : Draft → Indices
 draft_indices d = record { space = d.space; number = 1 }
 

@@ -35,25 +35,25 @@ SpaceCause s TooMany = (2 ^ 32 ≤ s.count) ⊎ (2 ^ 32 ≤ s.named)
 SpaceCause s TooLarge = 2 ^ 32 ≤ number_size s.named + length s.names
 SpaceCause s Unfinished = ⊥
 
--- too much of what the space of these places is
-abbrev pub PlaceCause : (ℕ → Namespace) → Option Indices → Fault → Type 0
-PlaceCause space None fault = ⊥
-PlaceCause space (Some d) fault = SpaceCause (space d.space) fault
+-- too much of what the space of these indices is
+abbrev pub IndexCause : (ℕ → Namespace) → Option Indices → Fault → Type 0
+IndexCause space None fault = ⊥
+IndexCause space (Some d) fault = SpaceCause (space d.space) fault
 
 -- Adding an item makes too much: of what keeps it from being encoded, of what its space is then, or
 -- of what the open section is then.
 abbrev pub AddingCause : (Fault → Type 0) → (ℕ → Namespace) → Option Indices → Option OpenSection
     → Fault → Type 0
-AddingCause cause space places current fault =
-    cause fault ⊎ (PlaceCause space places fault ⊎ SectionCause current fault)
+AddingCause cause space indices current fault =
+    cause fault ⊎ (IndexCause space indices fault ⊎ SectionCause current fault)
 
 -- ---- calls
 
 -- why a call that would leave this content is refused: it makes too much, or an item is being
 -- written
 abbrev pub CallCause : State → (Fault → Type 0) → Content → Option Indices → Fault → Type 0
-CallCause old cause after places fault =
-    AddingCause cause (namespace_at after.spaces) places after.sections.current fault
+CallCause old cause after indices fault =
+    AddingCause cause (namespace_at after.spaces) indices after.sections.current fault
     ⊎ ((fault ≡ Unfinished) × (builder_is_finished old ≡ false))
 
 -- why an item can't be begun as this draft

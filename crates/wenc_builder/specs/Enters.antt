@@ -14,7 +14,7 @@ use Rattle.wenc_builder.specs.Builder.{Draft, draft_indices, item_begun, content
 use Rattle.wenc_builder.specs.Holds.{Holds}
 use Rattle.wenc_builder.specs.Cause.{CallCause, BeginCause, EnterCause}
 
--- This is the number of items in the space of these places.
+-- This is the number of items in the space of these indices.
 abbrev pub IsCountAt : State → Option Indices → ℕ → Type 0
 IsCountAt s None i = ⊥
 IsCountAt s (Some d) i = i ≡ (namespace_at s.settled.spaces d.space).count
@@ -42,7 +42,7 @@ Enters old new result x =
 -- The same, where the entry has no next_index.
 abbrev pub EntersWithoutIndex : State → State → Result (Unit {0}) Fault → Entry → Type 0
 EntersWithoutIndex old new result x =
-    EntersWith old new result x (λ es r. Unit {0}) (λ places r. Unit {0})
+    EntersWith old new result x (λ es r. Unit {0}) (λ indices r. Unit {0})
 
 -- The same of a call whose entry is made of the values that an iterator gives: of all of them, or
 -- of those that came before it was refused.
@@ -56,26 +56,26 @@ pub record EntersListed {S B : Type 0} (steps : S → Option B → S → Type 0)
 pub record BeginsItem {E : Type 0} (index : E → ℕ) (lent : E → State) (old : State)
     (result : Result E Fault) (d : Draft) : Type 0 where
   pub begun : IfOk result (λ e. lent e ≡ item_begun old d)
-  pub placed : IfOk result
+  pub indexed : IfOk result
       (λ e. (es : List Entry) → Holds old es → index e ≡ next_index (items es) d.space)
   pub free : OnOk result (NoCause (BeginCause old d))
   pub warranted : IfErr result (IsWarranted (BeginCause old d))
   pub unfinished_first : builder_is_finished old ≡ false → result ≡ Err Unfinished
 
--- A call that writes this piece takes these places or none, which leaves `next` and would leave
+-- A call that writes this piece takes these indices or none, which leaves `next` and would leave
 -- this content when it is done, and says this of its answer; or it is refused for a cause and
 -- changes nothing.
 pub record TakesWith {R : Type 0} (old new next : State) (result : Result R Fault)
-    (after : Content) (places : Option Indices) (p : Piece) (Told : R → Type 0) : Type 0 where
+    (after : Content) (indices : Option Indices) (p : Piece) (Told : R → Type 0) : Type 0 where
   pub told : IfOk result Told
   pub ok : OnOk result (new ≡ next)
   pub fits : OnOk result p.Fits
-  pub free : OnOk result (NoCause (CallCause old p.Cause after places))
+  pub free : OnOk result (NoCause (CallCause old p.Cause after indices))
   pub err : OnErr result (new ≡ old)
-  pub warranted : IfErr result (IsWarranted (CallCause old p.Cause after places))
+  pub warranted : IfErr result (IsWarranted (CallCause old p.Cause after indices))
   pub unfinished_first : builder_is_finished old ≡ false → result ≡ Err Unfinished
 
--- The same where the answer is the number of items in the places' space.
+-- The same where the answer is the number of items in the indices' space.
 abbrev pub TakesIndices : State → State → State → Result ℕ Fault → Content → Indices → Piece
     → Type 0
 TakesIndices old new next result after d p =

@@ -100,14 +100,14 @@ items es = map (λ e. e.item) es
 
 abbrev pub named_as : ℕ → Option (List ℕ) → List NameAssociation
 named_as n None = []
-named_as n (Some name) = record { place = n; name = name } ∷ []
+named_as n (Some name) = record { index = n; name = name } ∷ []
 
--- the name of what takes these places, if they are in space k
+-- the name of what takes these indices, if they are in space k
 abbrev pub named_in : ℕ → Option Indices → ℕ → Option (List ℕ) → List NameAssociation
 named_in k None n name = []
 named_in k (Some d) n name = if nat_eq d.space k then named_as n name else []
 
--- the places and names of the named entries in space k, of which the first has place n
+-- the indices and names of the named entries in space k, of which the first has index n
 abbrev pub names_from : ℕ → ℕ → List Entry → List NameAssociation
 names_from k n [] = []
 names_from k n (e ∷ es) =

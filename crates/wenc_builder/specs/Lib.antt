@@ -7,7 +7,7 @@ pub mod Raw
 pub mod Holds
 pub mod Cause
 pub mod Enters
-pub mod Lent
+pub mod LenderState
 pub mod Names
 pub mod inside
 pub mod laws

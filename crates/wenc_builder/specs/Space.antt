@@ -71,7 +71,7 @@ canonical_space (Lift function options ty) = Funcs
 canonical_space (Lower function options) = CoreFuncs
 canonical_space (OfBuiltin i values) = CoreFuncs
 
--- so many places in this space
+-- so many indices in this space
 pub record Indices : Type 0 where
   pub space : ℕ
   pub number : ℕ
@@ -82,7 +82,7 @@ indices_in s number = record { space = space_number s; number = number }
 abbrev pub some_in : Space → ℕ → Option Indices
 some_in s number = Some (indices_in s number)
 
--- the places that an item takes, where it takes any
+-- the indices that an item takes, where it takes any
 abbrev pub defines : Item → Option Indices
 defines (ModuleItem bytes) = some_in CoreModules 1
 defines (CoreInstanceItem instance) = some_in CoreInstances 1
@@ -98,7 +98,7 @@ defines (ExportItem export) = some_in (kind_space export.kind) 1
 defines (CustomItem custom) = None
 defines (RawItem bytes) = None
 
--- how many of these places are in space k
+-- how many of these indices are in space k
 abbrev pub number_in : ℕ → Option Indices → ℕ
 number_in k None = 0
 number_in k (Some d) = if nat_eq d.space k then d.number else 0
@@ -112,7 +112,7 @@ abbrev pub next_index : List Item → ℕ → ℕ
 next_index [] k = 0
 next_index (x ∷ xs) k = defined_in k x + next_index xs k
 
--- This is the first of these places, for an item that comes next.
+-- This is the first of these indices, for an item that comes next.
 abbrev pub IsIndexAt : List Item → Option Indices → ℕ → Type 0
 IsIndexAt xs None i = ⊥
 IsIndexAt xs (Some d) i = i ≡ next_index xs d.space
@@ -120,7 +120,7 @@ IsIndexAt xs (Some d) i = i ≡ next_index xs d.space
 abbrev pub IsIndexOf : List Item → Item → ℕ → Type 0
 IsIndexOf xs x i = IsIndexAt xs (defines x) i
 
--- the first of these places, where there are any
+-- the first of these indices, where there are any
 abbrev pub index_at : List Item → Option Indices → Option ℕ
 index_at xs None = None
 index_at xs (Some d) = Some (next_index xs d.space)

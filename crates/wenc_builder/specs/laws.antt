@@ -4,7 +4,7 @@ pub mod Never
 pub mod Caused
 pub mod Answered
 pub mod Held
-pub mod Lent
+pub mod LenderState
 pub mod Typed
 pub mod Fits
 pub mod Reading

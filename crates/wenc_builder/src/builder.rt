@@ -17,9 +17,9 @@ ghost use Rattle.wenc_builder.specs.Entry.{import_entry, export_entry, alias_ent
 ghost use Rattle.wenc_builder.specs.Builder.{builder_is_finished, sections_text, count_in, item_begun, item_ended, item_given_up};
 ghost use Rattle.wenc_builder.specs.Holds.{Holds};
 ghost use Rattle.wenc_builder.specs.Enters.{Enters, EntersListed, EntersWithoutIndex, Takes, TakesDraft};
-ghost use Rattle.wenc_builder.specs.inside.Takes.{TakesAlone, TakesNoPlace, AppendsListed, TakesListed, IsItemPiece};
+ghost use Rattle.wenc_builder.specs.inside.Takes.{TakesAlone, TakesNoIndex, AppendsListed, TakesListed, IsItemPiece};
 ghost use Rattle.wenc_builder.specs.Space.{indices_in, some_in, canonical_space};
-ghost use Rattle.wenc_builder.specs.Lent.{is_whole};
+ghost use Rattle.wenc_builder.specs.LenderState.{is_whole};
 ghost use Rattle.wenc_builder.specs.Raw.{HasNoRaw};
 ghost use Rattle.wenc_builder.specs.inside.Layout.{draft_of, kind_id};
 ghost use Rattle.wenc_builder.specs.Names.{AddsNames};
@@ -319,7 +319,7 @@ impl<A: Allocator> ComponentBuilder<A> {
         }
     }
 
-    /// Adds what stands alone, with so many places in a space, of which the first has a debug name or none. Answers
+    /// Adds what stands alone, with so many indices in a space, of which the first has a debug name or none. Answers
     /// the index of that.
     fn stand_alone<E: Encode>(
         &mut self,
@@ -350,10 +350,10 @@ impl<A: Allocator> ComponentBuilder<A> {
         }
     }
 
-    /// Adds what stands alone and has no place.
-    fn place_nowhere<E: Encode>(&mut self, section: &E) -> Result<(), Fault>
+    /// Adds what stands alone and has no index.
+    fn add_alone<E: Encode>(&mut self, section: &E) -> Result<(), Fault>
         requires { IsItemPiece None None (E.piece section.now) }
-        ensures { TakesNoPlace self.old self.new result (E.piece section.now) }
+        ensures { TakesNoIndex self.old self.new result (E.piece section.now) }
     {
         if !self.buffer.is_finished() {
             return Err(Fault::Unfinished);
@@ -361,7 +361,7 @@ impl<A: Allocator> ComponentBuilder<A> {
         self.buffer.stand_alone(section)
     }
 
-    /// Adds a canonical function, which has its place in this space, with a debug name or none. Answers its index.
+    /// Adds a canonical function, which has its index in this space, with a debug name or none. Answers its index.
     fn add_canonical<B: Allocator>(
         &mut self,
         space: Space,
@@ -375,7 +375,7 @@ impl<A: Allocator> ComponentBuilder<A> {
         self.add(Kind::CanonicalFunction, space, name, function)
     }
 
-    /// Adds the intrinsic of this row, which has these fields, with the row's name as its debug name. Answers its index.
+    /// Adds the builtin of this row, which has these fields, with the row's name as its debug name. Answers its index.
     fn provide<F: Fields>(&mut self, row: Row, fields: &F) -> Result<u32, Fault>
         requires row { row_with row.opcode ≡ (row.name.now is row.opcode takes F.kinds) }
         ensures { Enters self.old self.new result (canonical_entry (Some row.name.now)
@@ -389,7 +389,7 @@ impl<A: Allocator> ComponentBuilder<A> {
         )
     }
 
-    /// The same of an intrinsic that has options behind these fields.
+    /// The same of an builtin that has options behind these fields.
     fn provide_with<F: Fields, I: Iterator<Item = CanonicalOption> + Drop>(
         &mut self,
         row: Row,
@@ -414,7 +414,7 @@ impl<A: Allocator> ComponentBuilder<A> {
         )
     }
 
-    /// Adds the intrinsic of this row, which has a slot of a task, of this value type: its debug name is the row's with
+    /// Adds the builtin of this row, which has a slot of a task, of this value type: its debug name is the row's with
     /// the number of the slot behind it. Answers its index.
     fn provide_for_slot(&mut self, row: Row, ty: ValType, slot: u32) -> Result<u32, Fault>
     where
@@ -500,7 +500,7 @@ impl<A: Allocator> ComponentBuilder<A> {
         self.alias(debug_name, alias)
     }
 
-    /// Adds an alias, with a debug name or none, and answers its index. It takes a place in the space of
+    /// Adds an alias, with a debug name or none, and answers its index. It takes an index in the space of
     /// what it stands for (component model, binary format, "Alias Definitions").
     pub fn alias(&mut self, debug_name: Option<&str>, alias: Alias<'_>) -> Result<u32, Fault>
         ensures { Enters self.old self.new result
@@ -644,7 +644,7 @@ impl<A: Allocator> ComponentBuilder<A> {
         ensures { EntersWithoutIndex self.old self.new result
             (custom_entry section.now.name.now section.now.data.now) }
     {
-        self.place_nowhere(&Tagged(ComponentSectionId::CoreCustom.into(), section))
+        self.add_alone(&Tagged(ComponentSectionId::CoreCustom.into(), section))
     }
 
     /// Adds a custom section with these bytes behind its id. Nothing checks that they are such a section's. Refused as
@@ -653,7 +653,7 @@ impl<A: Allocator> ComponentBuilder<A> {
         ensures { EntersWithoutIndex self.old self.new result (raw_entry section.now) }
     {
         let raw = RawCustomSection(section);
-        self.place_nowhere(&Tagged(ComponentSectionId::CoreCustom.into(), &raw))
+        self.add_alone(&Tagged(ComponentSectionId::CoreCustom.into(), &raw))
     }
 
     /// Whether no item is being written. Then the builder holds some entries, whoever made which calls.
@@ -665,7 +665,7 @@ impl<A: Allocator> ComponentBuilder<A> {
         self.buffer.is_finished()
     }
 
-    /// Gives up the item that is being written, with its index, its debug name and its place in a section, and says
+    /// Gives up the item that is being written, with its index, its debug name and its index in a section, and says
     /// whether there was one. It takes no memory.
     pub fn discard_unfinished(&mut self) -> bool
         ensures { GivesUp self.new (item_given_up self.old)
@@ -704,12 +704,12 @@ impl<A: Allocator> ComponentBuilder<A> {
 /// finishes the builder is refused with `Unfinished`; `discard_unfinished` gives the item up.
 impl<A: Allocator> Lender for ComponentBuilder<A> {
     ghost use Rattle.wenc_builder.specs.Builder.{builder_is_finished, item_appended, item_ended};
-    ghost use Rattle.wenc_builder.specs.Lent.{builder_is_bare, is_whole, no_room_in_section};
-    ghost use Rattle.wenc_builder.specs.laws.Lent.{bare_is_begun, still_begun, appended_twice};
+    ghost use Rattle.wenc_builder.specs.LenderState.{builder_is_opened, is_whole, no_room_in_section};
+    ghost use Rattle.wenc_builder.specs.laws.LenderState.{opened_is_begun, still_begun, appended_twice};
 
     ghost finished = { builder_is_finished };
 
-    ghost opened = { builder_is_bare };
+    ghost opened = { builder_is_opened };
 
     ghost written = { item_appended };
 
@@ -719,7 +719,7 @@ impl<A: Allocator> Lender for ComponentBuilder<A> {
 
     ghost refuses = { no_room_in_section };
 
-    ghost begins = { bare_is_begun };
+    ghost begins = { opened_is_begun };
 
     ghost stays = { still_begun };
 

@@ -186,8 +186,8 @@ row ThreadSpawnIndirect = codes "thread.spawn-indirect" is 0x41 takes Index ∷ 
 row ThreadAvailableParallelism = codes "thread.available-parallelism" is 0x42 takes []
 
 -- all of them
-abbrev pub intrinsics : List Builtin
-intrinsics =
+abbrev pub builtins : List Builtin
+builtins =
     ResourceNew ∷ ResourceDrop ∷ ResourceRep ∷ TaskCancel ∷ SubtaskCancel ∷ TaskReturn ∷
     ContextGet ∷ ContextSet ∷ ThreadYield ∷ SubtaskDrop ∷ StreamNew ∷ StreamRead ∷ StreamWrite ∷
     StreamCancelRead ∷ StreamCancelWrite ∷ StreamDropReadable ∷ StreamDropWritable ∷ FutureNew ∷
@@ -211,14 +211,14 @@ slots_text [] vs = []
 slots_text (f ∷ []) v = slot_text f v
 slots_text (f ∷ g ∷ fs) vs = slot_text f vs.0 ++ slots_text (g ∷ fs) vs.1
 
--- the name of an intrinsic with these values
+-- the name of an builtin with these values
 abbrev pub name_of : (i : Builtin) → Values (row i).fields → List ℕ
 name_of i values = (row i).name ++ slots_text (row i).fields values
 
 -- ---- canonical functions
 
 -- A core function that is lifted, with its options and its type; a function that is lowered, with
--- its options; or an intrinsic with the values of its fields.
+-- its options; or an builtin with the values of its fields.
 pub data Canonical : Type 0 where
   Lift : ℕ → List CanonicalOption → ℕ → Canonical
   Lower : ℕ → List CanonicalOption → Canonical
@@ -238,7 +238,7 @@ canonical_name (OfBuiltin i values) = (row i).name
 
 -- ---- what the calls of a section add
 
--- this intrinsic, with the values of its fields
+-- this builtin, with the values of its fields
 abbrev pub Adds : HolderState → HolderState → Result (Unit {0}) Fault → (i : Builtin) → Values (row i).fields
     → Type 0
 Adds old new outcome i values = AddsMember (canonical (OfBuiltin i values)) old new outcome

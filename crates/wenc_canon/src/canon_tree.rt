@@ -163,7 +163,7 @@ pub enum CanonTree<A: Allocator = Global> {
     BackpressureDec,
     /// `thread.index`: gives the index of the current thread.
     ThreadIndex,
-    /// `thread.new-indirect`: makes a thread of a function of this type, by its place in a table.
+    /// `thread.new-indirect`: makes a thread of a function of this type, by its index in a table.
     ThreadNewIndirect {
         /// The index of the type.
         ty: u32,
@@ -190,7 +190,7 @@ pub enum CanonTree<A: Allocator = Global> {
     FutureForward(u32),
     /// `thread.spawn-ref`: starts a thread in a shared function of this type, by a reference to it.
     ThreadSpawnRef(u32),
-    /// `thread.spawn-indirect`: starts a thread in a shared function of this type, by its place in a table.
+    /// `thread.spawn-indirect`: starts a thread in a shared function of this type, by its index in a table.
     ThreadSpawnIndirect {
         /// The index of the type.
         ty: u32,

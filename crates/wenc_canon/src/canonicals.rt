@@ -10,7 +10,7 @@ ghost use Rattle.wenc_base.specs.laws.Serves.{serves_itself};
 ghost use Rattle.wenc_canon.specs.Canonicals.{AddsWithOptions, Lift, Lower, canonical, ◌is◌takes◌};
 ghost use Rattle.wenc_canon.specs.inside.Rows.{row_with, provided_by, and_options, provided_with};
 
-mod intrinsics;
+mod builtins;
 
 use crate::fields::Fields;
 use crate::rows::{self, Row};
@@ -19,7 +19,7 @@ use std::marker::Model;
 use wenc_base::{Delimited, DelimitedEq, Encode, Fault, Holder, Tagged};
 use wenc_parts::{ComponentSection, ComponentSectionId};
 
-/// An option of a function that is lifted or lowered, or of an intrinsic that reads or writes values
+/// An option of a function that is lifted or lowered, or of an builtin that reads or writes values
 /// (component model, binary format, `canonopt`).
 #[derive(Clone, Copy, Debug, PartialEq, Eq)]
 pub enum CanonicalOption {
@@ -214,7 +214,7 @@ impl<A: Allocator> CanonicalFunctionSection<A> {
             .add_listed(&Tagged(rows::LOWER.opcode, &lead), options, &())
     }
 
-    /// Adds the intrinsic of this row, which has these fields.
+    /// Adds the builtin of this row, which has these fields.
     fn add_row<F: Fields>(&mut self, row: Row, fields: &F) -> Result<(), Fault>
         requires row { row_with row.opcode ≡ (row.name.now is row.opcode takes F.kinds) }
         ensures { AddsMember (canonical (provided_by row.opcode F.kinds (F.values fields.now)))
@@ -223,7 +223,7 @@ impl<A: Allocator> CanonicalFunctionSection<A> {
         self.functions.add_encoded(&Tagged(row.opcode, fields))
     }
 
-    /// Adds the intrinsic of this row, which has these fields, and options behind them.
+    /// Adds the builtin of this row, which has these fields, and options behind them.
     fn add_row_with_options<F: Fields, I: Iterator<Item = CanonicalOption> + Drop>(
         &mut self,
         row: Row,

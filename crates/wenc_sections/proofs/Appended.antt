@@ -46,10 +46,10 @@ no_room_for_name before text fault c = no_room_behind before (name text).text 0x
 
 -- ---- names that are held
 
--- no name is empty, with its place
+-- no name is empty, with its index
 some_bytes : (ns : List NameAssociation) → length ns ≤ length (names_text ns)
 some_bytes [] = omega arith
-some_bytes (n ∷ ns) = omega (arith, some_bytes ns, groups_some 128 9 n.place, length-append (name_association n).text (names_text ns), length-append (unsigned_text n.place) (name n.name).text)
+some_bytes (n ∷ ns) = omega (arith, some_bytes ns, groups_some 128 9 n.index, length-append (name_association n).text (names_text ns), length-append (unsigned_text n.index) (name n.name).text)
 
 names_fit : (sort : Sort) (held : HolderState) (ns : List NameAssociation) → Contains name_association held ns → (held_subsection sort held).Fits → (subsection (ItemNames sort ns)).Fits
 names_fit sort held ns holds h =

@@ -6,9 +6,9 @@ ghost use Rattle.wenc_base.specs.Openings.{HasMembers};
 ghost use Rattle.wenc_parts.specs.SectionIds.{section_number};
 ghost use Rattle.wenc_parts.specs.declared.component.ComponentSectionId.{ComponentSectionId};
 
-mod lent;
+mod lender;
 
-pub use lent::LentKind;
+pub use lender::LentKind;
 use std::alloc::{Allocator, Global};
 use std::marker::{Model, PhantomData};
 use wenc_base::{Encode, Fault, Holder};

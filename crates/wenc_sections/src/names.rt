@@ -8,7 +8,7 @@ ghost use Rattle.wenc_base.specs.laws.Serves.{serves_itself};
 use std::alloc::{Allocator, Global};
 use std::marker::Model;
 use wenc_base::{
-    CustomSection, Delimited, Encode, Fault, Lent, NameMap, Tagged, Verbatim, WithSize,
+    CustomSection, Delimited, Encode, Fault, ByRef, NameMap, Tagged, Verbatim, WithSize,
 };
 use wenc_parts::component::{
     COMPONENT_SORT, CORE_INSTANCE_SORT, CORE_MODULE_SORT, CORE_SORT, CORE_TYPE_SORT, FUNCTION_SORT,
@@ -95,7 +95,7 @@ impl<'a, A: Allocator> Encode for NamesOf<'a, A> {
         let Ok(size) = u32::try_from(sort.len() + self.1.size()) else {
             return Err(Fault::TooLarge);
         };
-        Tagged(ITEM_NAMES, &(size, Verbatim(sort), Lent(self.1))).encode(sink)
+        Tagged(ITEM_NAMES, &(size, Verbatim(sort), ByRef(self.1))).encode(sink)
     }
 }
 

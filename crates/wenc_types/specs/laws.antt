@@ -1,6 +1,6 @@
 -- Why the laws hold, and what follows of the definitions: for proofs, here and in the crates above.
 pub mod Declarations
-pub mod Declaring
+pub mod TypeState
 pub mod CoreTypes
 pub mod DefinedTypes
 pub mod FuncStages

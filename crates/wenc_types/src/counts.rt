@@ -2,7 +2,7 @@
 ghost use Rattle.std.specs.Prelude.{◌≡◌, ◌<◌};
 ghost use Rattle.wenc_parts.specs.Aliases.{alias_view};
 ghost use Rattle.wenc_types.specs.Declarations.{sort_of_kind, sort_of_alias, one_more, one_less, no_counts};
-ghost use Rattle.wenc_types.specs.inside.Declaring.{total};
+ghost use Rattle.wenc_types.specs.inside.TypeState.{total};
 
 use wenc_parts::{Alias, ComponentExportKind, ComponentOuterAliasKind};
 

@@ -68,13 +68,13 @@ pub struct Declarations<K: DeclaredKind, A: Allocator = Global> {
 
 impl<K: DeclaredKind, A: Allocator> Model for Declarations<K, A> {
     ghost use Rattle.wenc_types.specs.Declarations.{TypeState};
-    ghost use Rattle.wenc_types.specs.inside.Declaring.{IsDeclaring};
+    ghost use Rattle.wenc_types.specs.inside.TypeState.{IsTypeState};
 
     ghost Value = { TypeState };
 
     ghost view = { λ t. record { held_members = t.held; counts = t.counts; type_begun = t.begun } };
 
-    ghost invariant = { λ t. IsDeclaring K.form K.sort
+    ghost invariant = { λ t. IsTypeState K.form K.sort
         (record { held_members = t.held; counts = t.counts; type_begun = t.begun }) };
 }
 
@@ -256,14 +256,14 @@ impl<K: DeclaredKind, A: Allocator> Encode for Declarations<K, A> {
 }
 
 impl<K: DeclaredKind, A: Allocator> Lender for Declarations<K, A> {
-    ghost use Rattle.wenc_base.specs.Openings.{no_room_in_holder, is_bare, member_text};
+    ghost use Rattle.wenc_base.specs.Openings.{no_room_in_holder, is_opened, member_text};
     ghost use Rattle.wenc_base.specs.laws.Holders.{opened_is_unfinished};
     ghost use Rattle.wenc_types.specs.Declarations.{IsDeclaration, type_appended, type_ended};
     ghost use Rattle.wenc_types.specs.laws.Declarations.{written_twice};
 
     ghost finished = { λ t. is_finished t.held };
 
-    ghost opened = { λ t. is_bare t.held };
+    ghost opened = { λ t. is_opened t.held };
 
     ghost type_appended = { type_appended };
 

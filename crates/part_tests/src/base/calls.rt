@@ -92,7 +92,7 @@ pub enum Piece<'a> {
     Texts(&'a [u8], &'a [&'a str]),
     Numbers(&'a [u8], &'a [u32]),
     Close(&'a [u8]),
-    Lent(Lent<'a>),
+    EncoderCall(EncoderCall<'a>),
 }
 
 /// A holder that is finished has no member to write at. No test wants this answer.
@@ -112,13 +112,13 @@ pub fn write(to: &mut Held<'_>, piece: Piece<'_>) -> Result<(), Fault> {
         Piece::Texts(lead, texts) => to.append_listed(lead, texts.iter().copied()),
         Piece::Numbers(lead, numbers) => to.append_listed(lead, numbers.iter().copied()),
         Piece::Close(text) => to.close(text),
-        Piece::Lent(call) => lend(to, call),
+        Piece::EncoderCall(call) => lend(to, call),
     }
 }
 
 /// A call of a lender.
 #[derive(Clone, Copy)]
-pub enum Lent<'a> {
+pub enum EncoderCall<'a> {
     Text(&'a str),
     Number(u32),
     Size(usize),
@@ -130,19 +130,19 @@ pub enum Lent<'a> {
     EndWithSizes(&'a [u8], &'a [usize]),
 }
 
-fn lend(to: &mut Held<'_>, call: Lent<'_>) -> Result<(), Fault> {
+fn lend(to: &mut Held<'_>, call: EncoderCall<'_>) -> Result<(), Fault> {
     if to.is_finished() {
         return WHOLE;
     }
     match call {
-        Lent::Text(text) => to.append_value(&text),
-        Lent::Number(number) => to.append_value(&number),
-        Lent::Size(size) => to.append_value(&size),
-        Lent::List(lead, sizes) => to.append_list(lead, sizes.iter().copied()),
-        Lent::EndWithTruth(truth) => to.end_with(&truth),
-        Lent::EndWithNumber(number) => to.end_with(&number),
-        Lent::EndWithSize(size) => to.end_with(&size),
-        Lent::EndWithTexts(lead, texts) => to.end_with_list(lead, texts.iter().copied()),
-        Lent::EndWithSizes(lead, sizes) => to.end_with_list(lead, sizes.iter().copied()),
+        EncoderCall::Text(text) => to.append_value(&text),
+        EncoderCall::Number(number) => to.append_value(&number),
+        EncoderCall::Size(size) => to.append_value(&size),
+        EncoderCall::List(lead, sizes) => to.append_list(lead, sizes.iter().copied()),
+        EncoderCall::EndWithTruth(truth) => to.end_with(&truth),
+        EncoderCall::EndWithNumber(number) => to.end_with(&number),
+        EncoderCall::EndWithSize(size) => to.end_with(&size),
+        EncoderCall::EndWithTexts(lead, texts) => to.end_with_list(lead, texts.iter().copied()),
+        EncoderCall::EndWithSizes(lead, sizes) => to.end_with_list(lead, sizes.iter().copied()),
     }
 }

@@ -3,7 +3,7 @@
 use crate::base::calls::{Held, Member, Piece, add_member, write};
 use crate::base::values::{added, begun};
 use std::alloc::Global;
-use wenc_base::{Encode, Fault, Lender, Lent, Verbatim};
+use wenc_base::{Encode, Fault, Lender, ByRef, Verbatim};
 
 pub type Answer = Result<(), Fault>;
 
@@ -98,7 +98,7 @@ fn is_whole(holder: &Held<'_>, sink: &mut Vec<u8>, members: Members<'_>, section
 }
 
 fn is_list(holder: &Held<'_>, sink: &mut Vec<u8>, text: &[u8]) -> bool {
-    Lent(holder).encode(sink) == DONE && added(sink.as_slice()) == Some(text)
+    ByRef(holder).encode(sink) == DONE && added(sink.as_slice()) == Some(text)
 }
 
 fn is_begun(holder: &Held<'_>, members: Members<'_>, is_opened: bool) -> bool {

@@ -2,7 +2,7 @@ use crate::accepted::ok;
 use crate::base::values::check_all;
 use std::alloc::Global;
 use sweeping::hexed::text;
-use wenc_base::{Fault, Lent, WithSize};
+use wenc_base::{Fault, ByRef, WithSize};
 
 const CONTENT: (u32, &str, bool) = (128, "a", false);
 
@@ -13,7 +13,7 @@ const NESTED: &[((&str, u32, Option<bool>), &[u8])] = &[(
     &[0x01, 0x62, 0x01, 0x01, 0x01],
 )];
 
-const LENT: &[(Lent<'static, u32>, &[u8])] = &[(Lent(&128), &[0x80, 0x01])];
+const LENT: &[(ByRef<'static, u32>, &[u8])] = &[(ByRef(&128), &[0x80, 0x01])];
 
 const NO_SIZE: &[(WithSize<'static, ()>, &[u8])] = &[(WithSize(&()), &[0x00])];
 

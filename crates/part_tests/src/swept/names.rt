@@ -6,7 +6,7 @@ use refusing::Refusing;
 use std::alloc::Global;
 use sweeping::members::{Adds, Members, sweep_calls, sweep_clones};
 use sweeping::{LARGE, NAME};
-use wenc_base::{Fault, Lent, NameMap, encoding_size};
+use wenc_base::{Fault, ByRef, NameMap, encoding_size};
 
 #[derive(Drop)]
 struct Names<'a>(NameMap<&'a Refusing>);
@@ -27,7 +27,7 @@ impl<'a> Members<'a> for Names<'a> {
     /// Its size, its length, whether it is empty, and its text.
     fn state(&self, alloc: Global) -> Result<Vec<u8>, Fault> {
         let counts = (self.0.size(), (self.0.len(), self.0.is_empty()));
-        bytes(alloc, &(counts, Lent(&self.0)))
+        bytes(alloc, &(counts, ByRef(&self.0)))
     }
 }
 

@@ -6,7 +6,7 @@ use std::alloc::Global;
 use std::process::Abort;
 use sweeping::NAME;
 use sweeping::members::{Adds, Members, sweep_calls, sweep_clones};
-use wenc_base::{Fault, Lent, ProducersField, ProducersSection};
+use wenc_base::{Fault, ByRef, ProducersField, ProducersSection};
 
 /// A field of tools.
 #[derive(Drop)]
@@ -100,7 +100,7 @@ impl<'a> Members<'a> for Fields<'a> {
     }
 
     fn state(&self, alloc: Global) -> Result<Vec<u8>, Fault> {
-        bytes(alloc, &(Lent(&self.section), Lent(&self.none)))
+        bytes(alloc, &(ByRef(&self.section), ByRef(&self.none)))
     }
 }
 

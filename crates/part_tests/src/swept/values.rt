@@ -1,7 +1,7 @@
 use crate::swept::{check, check_call, check_each};
 use std::alloc::Allocator;
 use sweeping::{Appends, LARGE, NAME, TEXT};
-use wenc_base::{Fault, Lent, Tagged, Verbatim, WithSize, encode_list};
+use wenc_base::{Fault, ByRef, Tagged, Verbatim, WithSize, encode_list};
 
 const LARGE_SIZES: &[usize] = &[4294967295];
 
@@ -33,7 +33,7 @@ const NUMBER_LAST: &[(&str, &[u8], u32)] = &[(NAME, TEXT, LARGE)];
 
 const TWO_NUMBERS: &[(u32, &str, u32)] = &[(1, "abcd", LARGE)];
 
-const LENT: &[Lent<'static, &str>] = &[Lent(&NAME)];
+const LENT: &[ByRef<'static, &str>] = &[ByRef(&NAME)];
 
 // Nothing of the first growth is left for the size of four letters.
 const SIZES: &[WithSize<'static, &str>] = &[WithSize(&NAME), WithSize(&"abcd")];

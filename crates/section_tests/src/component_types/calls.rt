@@ -9,14 +9,14 @@ use wenc_types::{ComponentType, ComponentTypeEncoder, Declarations, DeclaringKin
 
 /// What an encoder of types borrows.
 pub trait Lends {
-    type Lent: Lender;
+    type Encoded: Lender;
 
     /// Begins a type.
-    fn encoder(&mut self) -> Result<ComponentTypeEncoder<'_, Self::Lent>, Fault>;
+    fn encoder(&mut self) -> Result<ComponentTypeEncoder<'_, Self::Encoded>, Fault>;
 }
 
 impl<K: DeclaringKind, A: Allocator> Lends for Declarations<K, A> {
-    type Lent = Declarations<K, A>;
+    type Encoded = Declarations<K, A>;
 
     fn encoder(&mut self) -> Result<ComponentTypeEncoder<'_, Declarations<K, A>>, Fault> {
         self.ty()
@@ -24,7 +24,7 @@ impl<K: DeclaringKind, A: Allocator> Lends for Declarations<K, A> {
 }
 
 impl<A: Allocator> Lends for ComponentTypeSection<A> {
-    type Lent = ComponentTypeSection<A>;
+    type Encoded = ComponentTypeSection<A>;
 
     fn encoder(&mut self) -> Result<ComponentTypeEncoder<'_, ComponentTypeSection<A>>, Fault> {
         self.ty()

@@ -10,14 +10,14 @@ use wenc_types::ModuleType;
 
 /// What an encoder of core types borrows.
 pub trait Lends {
-    type Lent: Lender;
+    type Encoded: Lender;
 
     /// Begins a type.
-    fn encoder(&mut self) -> Result<CoreTypeEncoder<'_, Self::Lent>, Fault>;
+    fn encoder(&mut self) -> Result<CoreTypeEncoder<'_, Self::Encoded>, Fault>;
 }
 
 impl<A: Allocator> Lends for ModuleType<A> {
-    type Lent = ModuleType<A>;
+    type Encoded = ModuleType<A>;
 
     fn encoder(&mut self) -> Result<CoreTypeEncoder<'_, ModuleType<A>>, Fault> {
         self.ty()
@@ -25,7 +25,7 @@ impl<A: Allocator> Lends for ModuleType<A> {
 }
 
 impl<A: Allocator> Lends for CoreTypeSection<A> {
-    type Lent = CoreTypeSection<A>;
+    type Encoded = CoreTypeSection<A>;
 
     fn encoder(&mut self) -> Result<CoreTypeEncoder<'_, CoreTypeSection<A>>, Fault> {
         Ok(self.ty()?.core())

@@ -27,7 +27,7 @@ struct Held {
 }
 
 impl Lends for Held {
-    type Lent = Holder;
+    type Encoded = Holder;
 
     fn encoder(&mut self) -> Result<CoreTypeEncoder<'_, Holder>, Fault> {
         self.holder.open(&[])?;

@@ -25,11 +25,11 @@ StepsRun old new outcome c =
     MatchResult outcome (λ answer. Answers old new answer c) (λ fault. StepsStop old fault c)
 
 -- the answer of a call that answers an index
-abbrev pub placed : Result ℕ Fault → Result (Option ℕ) Fault
-placed (Ok index) = Ok (Some index)
-placed (Err fault) = Err fault
+abbrev pub indexed : Result ℕ Fault → Result (Option ℕ) Fault
+indexed (Ok index) = Ok (Some index)
+indexed (Err fault) = Err fault
 
 -- and of one that answers none
-abbrev pub placeless : Result (Unit {0}) Fault → Result (Option ℕ) Fault
-placeless (Ok done) = Ok None
-placeless (Err fault) = Err fault
+abbrev pub without_index : Result (Unit {0}) Fault → Result (Option ℕ) Fault
+without_index (Ok done) = Ok None
+without_index (Err fault) = Err fault

@@ -9,7 +9,7 @@ ghost use Rattle.wenc_builder.specs.Enters.{Enters};
 ghost use Rattle.wenc_builder.specs.Entry.{Entry, items as items_of, names, type_entry, core_type_entry};
 ghost use Rattle.wenc_builder.specs.Holds.{Holds};
 ghost use Rattle.wenc_builder.specs.Item.{Item};
-ghost use Rattle.wenc_builder.specs.Lent.{no_room_in_section};
+ghost use Rattle.wenc_builder.specs.LenderState.{no_room_in_section};
 ghost use Rattle.wenc_builder.specs.Sections.{Section, Run, runs};
 ghost use Rattle.wenc_builder.specs.Space.{defines, some_in, next_index};
 ghost use Rattle.wenc_builder.specs.Cause.{BeginCause};
@@ -46,13 +46,13 @@ pub fn one_item_counts_once()
         → (other ≡ space → ⊥) → count_in new other ≡ count_in old other }
 {}
 
-/// The places in a space's list of names ascend, and each is below the space's count, where no start has a name. So it
+/// The indices in a space's list of names ascend, and each is below the space's count, where no start has a name. So it
 /// is with all that commands lead to.
-pub fn named_places_ascend()
+pub fn named_indices_ascend()
     ensures ascending { (es : List Entry) (k : ℕ) → AllByRecursion StartIsNameless es
-        → IsStrictlyIncreasing (map (λ n. n.place) (names es k)) }
+        → IsStrictlyIncreasing (map (λ n. n.index) (names es k)) }
     ensures below { (es : List Entry) (k : ℕ) → AllByRecursion StartIsNameless es
-        → AllByRecursion (λ n. n.place < next_index (items_of es) k) (names es k) }
+        → AllByRecursion (λ n. n.index < next_index (items_of es) k) (names es k) }
     ensures led_to { (commands : List CommandTree) (answers : List (Result (Option ℕ) Fault))
         (es : List Entry) → Ran commands answers es → AllByRecursion StartIsNameless es }
 {}

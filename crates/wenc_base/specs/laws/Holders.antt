@@ -9,7 +9,7 @@ use Rattle.wenc_base.specs.Number.{unsigned_text}
 use Rattle.wenc_base.specs.Forms.{list, sized}
 use Rattle.wenc_base.specs.Holder.{HolderState, is_finished, section_text, with_member, Contains, AddCause, Accepted, AddsMember, AddsListed}
 use Rattle.wenc_base.specs.laws.Serves.{still_warranted, either_free, left_free, right_free}
-use Rattle.wenc_base.specs.Openings.{member_begun, member_appended, member_ended, member_given_up, is_bare, is_bare_at}
+use Rattle.wenc_base.specs.Openings.{member_begun, member_appended, member_ended, member_given_up, is_opened, is_opened_at}
 use Rattle.wenc_base.specs.declared.holder.openings.Opening.{Opening}
 use Rattle.wenc_base.specs.declared.fault.Fault.{Fault}
 use Rattle.std.proofs.lemmas.Grind.{flat_map-append}
@@ -87,10 +87,10 @@ contains_opened form h member members lead more e fits c =
     contains_next form h (member_ended (member_appended (member_begun h lead) more)) member members (rw (e, none_of h.opening c.finished, append_assoc h.body lead more) refl) fits c
 
 -- what is opened is being written
-pub opened_is_unfinished : (h : HolderState) → is_bare h ≡ true → is_finished h ≡ false
+pub opened_is_unfinished : (h : HolderState) → is_opened h ≡ true → is_finished h ≡ false
 opened_is_unfinished h opened = at h.opening opened
   where
-    at : (o : Option Opening) → is_bare_at h.body o ≡ true → is_none o ≡ false
+    at : (o : Option Opening) → is_opened_at h.body o ≡ true → is_none o ≡ false
     at None opened = cc
     at (Some o) opened = refl
 

@@ -7,13 +7,13 @@ use Rattle.wenc_base.specs.laws.Lawful.{Lawful, Reader, ◌>>=◌, give, then, l
 use Rattle.wenc_base.specs.laws.Numbers.{read_u32, u32_lawful}
 
 abbrev named_so : ℕ → List ℕ → NameAssociation
-named_so place name = record { place = place; name = name }
+named_so index name = record { index = index; name = name }
 
 abbrev pub read_name_association : Reader NameAssociation
-read_name_association = read_u32 >>= λ place. read_name >>= λ name. give (named_so place name)
+read_name_association = read_u32 >>= λ index. read_name >>= λ name. give (named_so index name)
 
 pub name_association_lawful : (n : NameAssociation) → Lawful (name_association n) (λ fuel. read_name_association) n
-name_association_lawful n = then _ (u32_lawful n.place) (last (named_so n.place) (name_lawful n.name))
+name_association_lawful n = then _ (u32_lawful n.index) (last (named_so n.index) (name_lawful n.name))
 
 abbrev pub read_name_map : Reader (List NameAssociation)
 read_name_map = read_list read_name_association

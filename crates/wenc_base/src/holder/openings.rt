@@ -5,7 +5,7 @@ ghost use Rattle.wenc_base.specs.Forms.{list};
 ghost use Rattle.wenc_base.specs.Piece.{verbatim, behind_bytes};
 ghost use Rattle.wenc_base.specs.Holder.{is_finished, content_size, AddCause};
 ghost use Rattle.wenc_base.specs.Lender.{ExtendsListed, GivesUp};
-ghost use Rattle.wenc_base.specs.Openings.{member_appended, member_ended, member_given_up, no_room_in_holder, is_bare, BeginsMember, AppendsToMember};
+ghost use Rattle.wenc_base.specs.Openings.{member_appended, member_ended, member_given_up, no_room_in_holder, is_opened, BeginsMember, AppendsToMember};
 
 use super::{Holder, encode_listed, next_count, size_fits};
 use crate::encode::{Encode, Verbatim};
@@ -48,7 +48,7 @@ impl<A: Allocator> Holder<A> {
 
     /// Whether a member is being written of which there is the lead alone.
     pub fn is_opened(&self) -> bool
-        ensures { result ≡ is_bare self.now }
+        ensures { result ≡ is_opened self.now }
     {
         match self.opening {
             Some(opening) => self.bytes.len() - self.kept == opening.lead_end,

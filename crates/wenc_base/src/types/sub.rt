@@ -7,7 +7,7 @@ ghost use Rattle.wenc_base.specs.laws.Serves.{serves_itself};
 
 use super::composite::CompositeType;
 use crate::delimited::{Delimited, DelimitedEq};
-use crate::encode::{Encode, Lent, Tagged};
+use crate::encode::{Encode, ByRef, Tagged};
 use crate::fault::Fault;
 use std::alloc::{Allocator, Global};
 
@@ -80,7 +80,7 @@ fn encode_extension<T: Encode, A: Allocator>(
         Appends extension.text extension.Cause ⊥ sink.old.items sink.new.items result }
     ensures fits { OnOk result (tag ▸ (option number (Some index) ⨾ T.piece ty.now)).Fits }
 {
-    Tagged(tag, &Tagged(0x01, &(index, Lent(ty)))).encode(sink)
+    Tagged(tag, &Tagged(0x01, &(index, ByRef(ty)))).encode(sink)
 }
 
 impl<A: Allocator> Encode for &SubType<A> {
@@ -89,6 +89,6 @@ impl<A: Allocator> Encode for &SubType<A> {
     ghost piece = { λ s. sub_type (sub_view s.now) };
 
     fn encode<B: Allocator>(&self, sink: &mut Vec<u8, B>) -> Result<(), Fault> {
-        Lent(*self).encode(sink)
+        ByRef(*self).encode(sink)
     }
 }

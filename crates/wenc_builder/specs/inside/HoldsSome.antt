@@ -7,10 +7,10 @@ use Rattle.wenc_builder.specs.Cause.{SectionCause}
 use Rattle.wenc_builder.specs.Entry.{Entry}
 use Rattle.wenc_builder.specs.Holds.{Holds}
 
--- an item that is being written takes one place more of its space, with a name or none
-abbrev pub IsPlaced : Content → Option BegunItem → Type 0
-IsPlaced c None = Unit {0}
-IsPlaced c (Some b) =
+-- an item that is being written takes one index more of its space, with a name or none
+abbrev pub IsIndexed : Content → Option BegunItem → Type 0
+IsIndexed c None = Unit {0}
+IsIndexed c (Some b) =
     ∥ ((name : Option (List ℕ)) ×
     (b.after ≡ namespace_with (namespace_at c.spaces b.space) 1 name)) ∥₁
 
@@ -22,5 +22,5 @@ HasRoomFor c (Some b) = NoCause (SectionCause (entered c.sections b.id b.text).c
 -- It holds some entries, but for an item that is being written.
 pub record HoldsSome (s : State) : Type 0 where
   pub settled : ∥ ((es : List Entry) × Holds (settled_in s.settled) es) ∥₁
-  pub placed : IsPlaced s.settled s.begun
+  pub indexed : IsIndexed s.settled s.begun
   pub room : HasRoomFor s.settled s.begun

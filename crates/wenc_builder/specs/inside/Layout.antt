@@ -37,7 +37,7 @@ kind_id CanonicalFunction = section_number ids.CanonicalFunction
 kind_id Import = section_number ids.Import
 kind_id Export = section_number ids.Export
 
--- an item of this kind, which takes one place in this space
+-- an item of this kind, which takes one index in this space
 abbrev pub draft_of : Kind → Space → Option (List ℕ) → List ℕ → Draft
 draft_of kind space name text = draft (kind_id kind) (space_number space) name text
 
@@ -149,7 +149,7 @@ buffer_view h closed_len kind (Some e) = record {
   writing = Some (record { id = id_of kind; text = h.body });
 }
 
--- a gap and its items stand between these two places, where there is a section
+-- a gap and its items stand between these two indices, where there is a section
 abbrev pub SectionIsIn : Option Kind → ℕ → ℕ → Type 0
 SectionIsIn None closed_len items_end = closed_len ≡ items_end
 SectionIsIn (Some k) closed_len items_end = closed_len + 11 ≤ items_end
@@ -190,7 +190,7 @@ EarlierIsIn h closed_len kind (Some e) = IsApart h kind e
 
 pub record IsLaidOut (h : HolderState) (closed_len : ℕ) (kind : Option Kind)
     (earlier : Option Earlier) : Type 0 where
-  pub places : EarlierIsIn h closed_len kind earlier
+  pub indices : EarlierIsIn h closed_len kind earlier
 
 -- ---- an item behind a gap
 

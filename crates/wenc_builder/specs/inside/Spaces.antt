@@ -5,12 +5,12 @@ use Rattle.wenc_base.specs.Holder.{HolderState, holding, content_size}
 use Rattle.wenc_builder.specs.Builder.{Namespace, no_names, namespace_at, namespace_with}
 use Rattle.wenc_builder.specs.declared.builder.spaces.Undo.{Undo}
 
--- the space that an item is taking a place in, as it is with that item
+-- the space that an item is taking an index in, as it is with that item
 pub record Taking : Type 0 where
   pub space : ℕ
   pub after : Namespace
 
--- settled spaces, and the one that an item is taking a place in
+-- settled spaces, and the one that an item is taking an index in
 pub record Spaced : Type 0 where
   pub settled : List Namespace
   pub taking : Option Taking

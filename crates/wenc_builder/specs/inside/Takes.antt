@@ -8,17 +8,17 @@ use Rattle.wenc_base.specs.declared.fault.Fault.{Fault}
 use Rattle.wenc_builder.specs.Builder.{State, settled_in, Content, stood_alone, spaces_with}
 use Rattle.wenc_builder.specs.Builder.{builder_is_finished, Draft, item_appended}
 use Rattle.wenc_builder.specs.Enters.{TakesWith, TakesIndices, TakesDraft}
-use Rattle.wenc_builder.specs.Lent.{IsItemText, no_room_in_section}
+use Rattle.wenc_builder.specs.LenderState.{IsItemText, no_room_in_section}
 use Rattle.wenc_builder.specs.Space.{Indices}
 
--- what stands alone, with its places and its name or none
+-- what stands alone, with its indices and its name or none
 abbrev pub with_alone : Content → Option Indices → Option (List ℕ) → List ℕ → Content
-with_alone c places name text =
-    record { sections = stood_alone c.sections text; spaces = spaces_with c.spaces places name }
+with_alone c indices name text =
+    record { sections = stood_alone c.sections text; spaces = spaces_with c.spaces indices name }
 
 -- If it fits, this piece is such an item.
 abbrev pub IsItemPiece : Option ℕ → Option Indices → Piece → Type 0
-IsItemPiece section places p = p.Fits → ∥ IsItemText section places p.text ∥₁
+IsItemPiece section indices p = p.Fits → ∥ IsItemText section indices p.text ∥₁
 
 -- A call adds what stands alone, as `TakesIndices` says.
 abbrev pub TakesAlone : State → State → Result ℕ Fault → Indices → Option (List ℕ) → Piece → Type 0
@@ -26,9 +26,9 @@ TakesAlone old new result d name p =
     TakesIndices old new (settled_in (with_alone old.settled (Some d) name p.text)) result
     (with_alone old.settled (Some d) name p.text) d p
 
--- The same of what stands alone and has no place.
-abbrev pub TakesNoPlace : State → State → Result (Unit {0}) Fault → Piece → Type 0
-TakesNoPlace old new result p =
+-- The same of what stands alone and has no index.
+abbrev pub TakesNoIndex : State → State → Result (Unit {0}) Fault → Piece → Type 0
+TakesNoIndex old new result p =
     TakesWith old new (settled_in (with_alone old.settled None None p.text)) result
     (with_alone old.settled None None p.text) None p (λ r. Unit {0})
 

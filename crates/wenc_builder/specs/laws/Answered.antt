@@ -11,17 +11,17 @@ use Rattle.wenc_builder.specs.Space.{Indices, defines, IsIndexAt, IsIndexOf, ind
 use Rattle.wenc_builder.specs.Entry.{Entry, items}
 use Rattle.wenc_builder.specs.Builder.{OpenSection, Namespace, namespace_at, with_entry, State}
 use Rattle.wenc_builder.specs.Holds.{open_of, namespace_of, Holds}
-use Rattle.wenc_builder.specs.Cause.{SectionCause, SpaceCause, PlaceCause, AddingCause, EnterCause, EntryCause}
+use Rattle.wenc_builder.specs.Cause.{SectionCause, SpaceCause, IndexCause, AddingCause, EnterCause, EntryCause}
 use Rattle.wenc_builder.specs.Enters.{IsCountAt, EntersWith, Enters}
 use Rattle.wenc_builder.specs.laws.Caused.{adding_never_unfinished}
 use Rattle.wenc_builder.specs.laws.Never.{never_unfinished}
-use Rattle.wenc_builder.specs.laws.Step.{sections_step, spaces_hold_more, places_within}
+use Rattle.wenc_builder.specs.laws.Step.{sections_step, spaces_hold_more, indices_within}
 
 -- what the content with one more entry is, by the list that is held then
 current_is : (old : State) (es : List Entry) (x : Entry) → Holds old es → (with_entry old.settled x).sections.current ≡ open_of (runs (items (es ++ x ∷ [])))
 current_is old es x h = (sections_step old es x h).last
 
--- the spaces agree at these places
+-- the spaces agree at these indices
 abbrev Agrees : (ℕ → Namespace) → (ℕ → Namespace) → Option Indices → Type 0
 Agrees one other None = Unit {0}
 Agrees one other (Some d) = one d.space ≡ other d.space
@@ -29,19 +29,19 @@ Agrees one other (Some d) = one d.space ≡ other d.space
 space_is : (old : State) (es : List Entry) (x : Entry) (o : Option Indices) → defines x.item ≡ o → Holds old es
     → Agrees (namespace_at (with_entry old.settled x).spaces) (namespace_of (es ++ x ∷ [])) o
 space_is old es x None e h = tt
-space_is old es x (Some d) e h = (spaces_hold_more old.settled.spaces es x h.spaces).each d.space (places_within x.item d e)
+space_is old es x (Some d) e h = (spaces_hold_more old.settled.spaces es x h.spaces).each d.space (indices_within x.item d e)
 
 backwards : (one other : ℕ → Namespace) (d : Option Indices) → Agrees one other d → Agrees other one d
 backwards one other None e = tt
 backwards one other (Some d) e = sym e
 
-place_moved : (one other : ℕ → Namespace) (d : Option Indices) (f : Fault) → Agrees one other d → PlaceCause one d f → PlaceCause other d f
-place_moved one other None f e c = c
-place_moved one other (Some d) f e c = subst (λ (n : Namespace). SpaceCause n f) e c
+index_moved : (one other : ℕ → Namespace) (d : Option Indices) (f : Fault) → Agrees one other d → IndexCause one d f → IndexCause other d f
+index_moved one other None f e c = c
+index_moved one other (Some d) f e c = subst (λ (n : Namespace). SpaceCause n f) e c
 
 moved : (cause : Fault → Type 0) (s t : ℕ → Namespace) (d : Option Indices) (o p : Option OpenSection) (f : Fault) → Agrees s t d → o ≡ p → AddingCause cause s d o f → AddingCause cause t d p f
 moved cause s t d o p f e q (inl c) = inl c
-moved cause s t d o p f e q (inr (inl c)) = inr (inl (place_moved s t d f e c))
+moved cause s t d o p f e q (inr (inl c)) = inr (inl (index_moved s t d f e c))
 moved cause s t d o p f e q (inr (inr c)) = inr (inr (subst (λ (n : Option OpenSection). SectionCause n f) q c))
 
 -- the call's cause is the entry's
@@ -63,14 +63,14 @@ pub answered_with : {R : Type 0} (old new : State) (result : Result R Fault) (x 
 answered_with old new (Ok r) x Told Counted es e h = ((e.held es h).0, (e.held es h).1, λ fault c. e.free fault (from_entry old es x h fault c))
 answered_with old new (Err fault) x Told Counted es e h = (rw e.err h, still_warranted _ _ (to_entry old es x h) fault e.warranted)
 
-place_is : (xs : List Item) (d : Option Indices) (i : ℕ) → IsIndexAt xs d i → Some i ≡ index_at xs d
-place_is xs None i p = absurd p
-place_is xs (Some d) i p = ap (λ (n : ℕ). Some n) p
+index_is : (xs : List Item) (d : Option Indices) (i : ℕ) → IsIndexAt xs d i → Some i ≡ index_at xs d
+index_is xs None i p = absurd p
+index_is xs (Some d) i p = ap (λ (n : ℕ). Some n) p
 
--- the same where the answer is the entry's place
+-- the same where the answer is the entry's index
 pub answered : (old new : State) (result : Result ℕ Fault) (x : Entry) (es : List Entry) → Enters old new result x → Holds old es
     → MatchResult result (λ i. Holds new (es ++ x ∷ []) × (Some i ≡ index_of (items es) x.item) × ((fault : Fault) → EntryCause es x fault → ⊥)) (λ fault. Holds new es × IsWarranted (EntryCause es x) fault)
 answered old new (Ok i) x es e h =
     let a = answered_with old new (Ok i) x (λ es i. IsIndexOf (items es) x.item i) (IsCountAt old) es e h in
-    (a.0, place_is (items es) (defines x.item) i a.1, a.2)
+    (a.0, index_is (items es) (defines x.item) i a.1, a.2)
 answered old new (Err fault) x es e h = answered_with old new (Err fault) x (λ es i. IsIndexOf (items es) x.item i) (IsCountAt old) es e h

@@ -6,7 +6,7 @@ use Rattle.wenc_base.specs.Number.{number_size}
 use Rattle.wenc_base.specs.declared.fault.Fault.{Fault}
 use Rattle.wenc_base.specs.declared.fault.Fault.TheVariants.{Memory, TooMany, TooLarge, Unfinished}
 use Rattle.wenc_builder.specs.Builder.{OpenSection, entered, entered_at, Namespace, no_names, namespace_at, State, content_of, Draft, draft, draft_indices, space_with, item_begun}
-use Rattle.wenc_builder.specs.Cause.{SectionCause, SpaceCause, PlaceCause, AddingCause, CallCause, NoRoom}
+use Rattle.wenc_builder.specs.Cause.{SectionCause, SpaceCause, IndexCause, AddingCause, CallCause, NoRoom}
 use Rattle.wenc_base.specs.Fault.{either}
 use Rattle.wenc_builder.specs.Space.{Indices}
 
@@ -21,14 +21,14 @@ cause_is (Some o) TooLarge c = inr refl
 cause_is (Some o) Unfinished c = absurd c
 
 -- nothing is unfinished in what an item makes too much of
-place_never_unfinished : (space : ℕ → Namespace) (d : Option Indices) → PlaceCause space d Unfinished → ⊥
-place_never_unfinished space None c = c
-place_never_unfinished space (Some d) c = c
+index_never_unfinished : (space : ℕ → Namespace) (d : Option Indices) → IndexCause space d Unfinished → ⊥
+index_never_unfinished space None c = c
+index_never_unfinished space (Some d) c = c
 
-pub adding_never_unfinished : (cause : Fault → Type 0) (space : ℕ → Namespace) (places : Option Indices) (current : Option OpenSection) → (cause Unfinished → ⊥) → AddingCause cause space places current Unfinished → ⊥
-adding_never_unfinished cause space places current own (inl c) = own c
-adding_never_unfinished cause space places current own (inr (inl c)) = place_never_unfinished space places c
-adding_never_unfinished cause space places current own (inr (inr c)) = elim (cause_is current Unfinished c) [ inl e ↦ cc | inr e ↦ cc ]
+pub adding_never_unfinished : (cause : Fault → Type 0) (space : ℕ → Namespace) (indices : Option Indices) (current : Option OpenSection) → (cause Unfinished → ⊥) → AddingCause cause space indices current Unfinished → ⊥
+adding_never_unfinished cause space indices current own (inl c) = own c
+adding_never_unfinished cause space indices current own (inr (inl c)) = index_never_unfinished space indices c
+adding_never_unfinished cause space indices current own (inr (inr c)) = elim (cause_is current Unfinished c) [ inl e ↦ cc | inr e ↦ cc ]
 
 -- a space that fits has no cause
 pub space_free : (s : Namespace) → s.count < 2 ^ 32 → s.named < 2 ^ 32 → number_size s.named + length s.names < 2 ^ 32 → (fault : Fault) → SpaceCause s fault → ⊥

@@ -10,9 +10,9 @@ use Rattle.wenc_builder.specs.Entry.{Entry, entry}
 use Rattle.wenc_builder.specs.Holds.{Holds}
 use Rattle.wenc_builder.specs.Item.{item}
 use Rattle.wenc_builder.specs.Cause.{NoRoom}
-use Rattle.wenc_builder.specs.Lent.{IsItemText, IsWhole, is_whole}
+use Rattle.wenc_builder.specs.LenderState.{IsItemText, IsWhole, is_whole}
 use Rattle.wenc_builder.specs.Space.{Indices}
-use Rattle.wenc_builder.specs.inside.HoldsSome.{IsPlaced, HasRoomFor, HoldsSome}
+use Rattle.wenc_builder.specs.inside.HoldsSome.{IsIndexed, HasRoomFor, HoldsSome}
 use Rattle.wenc_builder.specs.laws.Fits.{HasRoom}
 use Rattle.wenc_builder.specs.laws.Step.{holds_step}
 
@@ -21,7 +21,7 @@ SettledIs c = ∥ ((es : List Entry) × Holds (settled_in c) es) ∥₁
 
 -- what holds a list holds some
 pub some_of : (c : Content) (es : List Entry) → Holds (settled_in c) es → HoldsSome (settled_in c)
-some_of c es h = record { settled = ∣ (es, h) ∣₁; placed = tt; room = tt }
+some_of c es h = record { settled = ∣ (es, h) ∣₁; indexed = tt; room = tt }
 
 some_more : (c : Content) (x : Entry) → (item x.item).Fits → HasRoom (with_entry c x).sections.current → SettledIs c → SettledIs (with_entry c x)
 some_more c x fits room s = ∥∥₁_map s (λ h. (h.0 ++ x ∷ [], holds_step (settled_in c) h.0 x fits room h.1))
@@ -36,11 +36,11 @@ holds_some s finished h = finished_at s.settled s.begun finished h.settled
 
 -- an item is begun, in a section that isn't too much
 pub some_begun : (s : State) (d : Draft) → HasRoom (entered s.settled.sections d.id d.text).current → HoldsSome s → HoldsSome (item_begun s d)
-some_begun s d room h = record { settled = h.settled; placed = ∣ (d.name, refl) ∣₁; room = room }
+some_begun s d room h = record { settled = h.settled; indexed = ∣ (d.name, refl) ∣₁; room = room }
 
-placed_longer : (c : Content) (b : Option BegunItem) (text : List ℕ) → IsPlaced c b → IsPlaced c (begun_appended b text)
-placed_longer c None text p = tt
-placed_longer c (Some b) text p = p
+indexed_longer : (c : Content) (b : Option BegunItem) (text : List ℕ) → IsIndexed c b → IsIndexed c (begun_appended b text)
+indexed_longer c None text p = tt
+indexed_longer c (Some b) text p = p
 
 -- a section with a begun_appended text has as many items
 longer_room_at : (id count : ℕ) (body longer_body : List ℕ) → HasRoom (Some (record { id = id; count = count; body = body }))
@@ -67,11 +67,11 @@ room_longer c (Some b) text room large = longer_room c.sections.closed c.section
 pub some_appended : (s : State) (text : List ℕ) → NoCause (NoRoom (content_of (item_appended s text)).sections.current) → HoldsSome s → HoldsSome (item_appended s text)
 some_appended s text large h = record {
   settled = h.settled;
-  placed = placed_longer s.settled s.begun text h.placed;
+  indexed = indexed_longer s.settled s.begun text h.indexed;
   room = room_longer s.settled s.begun text h.room large;
 }
 
-ended_at : (c : Content) (b : Option BegunItem) → SettledIs c → IsPlaced c b → HasRoomFor c b → ∥ IsWhole b ∥₁ → SettledIs (content_with c b)
+ended_at : (c : Content) (b : Option BegunItem) → SettledIs c → IsIndexed c b → HasRoomFor c b → ∥ IsWhole b ∥₁ → SettledIs (content_with c b)
 ended_at c None s p room whole = s
 ended_at c (Some b) s p room whole = ∥∥₁_elim whole ∥∥₁_prop (λ w. ∥∥₁_elim p ∥∥₁_prop (λ n.
     let one : with_entry c (entry w.value n.0) ≡ content_with c (Some b) = rw (w.collects, w.takes, ← w.is, ← n.1) refl in
@@ -88,19 +88,19 @@ whole_is_begun s whole = at s.begun whole
 
 -- it is item_ended, whole
 pub some_ended : (s : State) → ∥ is_whole s ∥₁ → HoldsSome s → HoldsSome (item_ended s)
-some_ended s whole h = record { settled = ended_at s.settled s.begun h.settled h.placed h.room whole; placed = tt; room = tt }
+some_ended s whole h = record { settled = ended_at s.settled s.begun h.settled h.indexed h.room whole; indexed = tt; room = tt }
 
 -- or it is given up
 pub some_given_up : (s : State) → HoldsSome s → HoldsSome (item_given_up s)
-some_given_up s h = record { settled = h.settled; placed = tt; room = tt }
+some_given_up s h = record { settled = h.settled; indexed = tt; room = tt }
 
 -- what stands alone is added
-pub some_alone : (s : State) (places : Option Indices) (name : Option (List ℕ)) (text : List ℕ) → ∥ IsItemText None places text ∥₁ → HoldsSome s → HoldsSome (settled_in (with_alone s.settled places name text))
-some_alone s places name text whole h = record {
+pub some_alone : (s : State) (indices : Option Indices) (name : Option (List ℕ)) (text : List ℕ) → ∥ IsItemText None indices text ∥₁ → HoldsSome s → HoldsSome (settled_in (with_alone s.settled indices name text))
+some_alone s indices name text whole h = record {
   settled = ∥∥₁_elim whole ∥∥₁_prop (λ w.
-      let one : with_entry s.settled (entry w.value name) ≡ with_alone s.settled places name text = rw (w.collects, w.takes, ← w.is) refl in
+      let one : with_entry s.settled (entry w.value name) ≡ with_alone s.settled indices name text = rw (w.collects, w.takes, ← w.is) refl in
       let room = subst (λ (k : Content). HasRoom k.sections.current) (sym one) (λ fault c. c) in
       subst SettledIs one (some_more s.settled (entry w.value name) w.fits room h.settled));
-  placed = tt;
+  indexed = tt;
   room = tt;
 }

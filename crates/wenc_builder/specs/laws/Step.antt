@@ -21,9 +21,9 @@ pub items_push : (es : List Entry) (x : Entry) → items (es ++ x ∷ []) ≡ it
 items_push [] x = refl
 items_push (e ∷ es) x = ap (λ (r : List Item). e.item ∷ r) (items_push es x)
 
-place_push : (k : ℕ) (es : List Entry) (x : Entry) → next_index (items (es ++ x ∷ [])) k ≡ next_index (items es) k + defined_in k x.item
-place_push k [] x = omega arith
-place_push k (e ∷ es) x = omega (arith, place_push k es x)
+index_push : (k : ℕ) (es : List Entry) (x : Entry) → next_index (items (es ++ x ∷ [])) k ≡ next_index (items es) k + defined_in k x.item
+index_push k [] x = omega arith
+index_push k (e ∷ es) x = omega (arith, index_push k es x)
 
 names_push : (k n : ℕ) (es : List Entry) (x : Entry) → names_from k n (es ++ x ∷ []) ≡ names_from k n es ++ named_in k (defines x.item) (n + next_index (items es) k) x.name
 names_push k n [] x = rw (add-zero n) (append-nil (named_in k (defines x.item) n x.name))
@@ -43,11 +43,11 @@ with_its_name ns n number (Some name) = rw (length-append ns (record { next_inde
 
 in_its_space : (k : ℕ) (es : List Entry) (x : Entry) (d : Indices) → defines x.item ≡ Some d → d.space ≡ k → namespace_of (es ++ x ∷ []) k ≡ namespace_with (namespace_of es k) d.number x.name
 in_its_space k es x d w e =
-    rw (place_push k es x, names_push k 0 es x, w, eq-eqb d.space k e, zero-add (next_index (items es) k)) (with_its_name (names es k) (next_index (items es) k) d.number x.name)
+    rw (index_push k es x, names_push k 0 es x, w, eq-eqb d.space k e, zero-add (next_index (items es) k)) (with_its_name (names es k) (next_index (items es) k) d.number x.name)
 
 nothing_more : (k : ℕ) (es : List Entry) (x : Entry) → defined_in k x.item ≡ 0 → ((n : ℕ) → named_in k (defines x.item) n x.name ≡ []) → namespace_of (es ++ x ∷ []) k ≡ namespace_of es k
 nothing_more k es x d e =
-    rw (place_push k es x, names_push k 0 es x, d, e (0 + next_index (items es) k), add-zero (next_index (items es) k), append-nil (names_from k 0 es)) refl
+    rw (index_push k es x, names_push k 0 es x, d, e (0 + next_index (items es) k), add-zero (next_index (items es) k), append-nil (names_from k 0 es)) refl
 
 in_another : (k : ℕ) (es : List Entry) (x : Entry) (d : Indices) → defines x.item ≡ Some d → (d.space ≡ k → ⊥) → namespace_of (es ++ x ∷ []) k ≡ namespace_of es k
 in_another k es x d w apart = nothing_more k es x (rw (w, ne_eqb d.space k apart) refl) (λ n. rw (w, ne_eqb d.space k apart) refl)
@@ -120,17 +120,17 @@ space_within Types = lit< tt
 within_at : (s : Space) (number : ℕ) (d : Indices) → some_in s number ≡ Some d → d.space < 13
 within_at s number d e = subst (λ (k : Indices). k.space < 13) (same_Some _ d e) (space_within s)
 
-pub places_within : (x : Item) (d : Indices) → defines x ≡ Some d → d.space < 13
-places_within (ModuleItem bytes) d e = within_at CoreModules 1 d e
-places_within (CoreInstanceItem instance) d e = within_at CoreInstances 1 d e
-places_within (CoreTypeItem ty) d e = within_at CoreTypes 1 d e
-places_within (ComponentItem bytes) d e = within_at Components 1 d e
-places_within (InstanceItem instance) d e = within_at Instances 1 d e
-places_within (AliasItem to) d e = within_at (alias_space to) 1 d e
-places_within (TypeItem ty) d e = within_at Types 1 d e
-places_within (CanonItem function) d e = within_at (canonical_space function) 1 d e
-places_within (StartItem start) d e = within_at Values start.results d e
-places_within (ImportItem import) d e = within_at (kind_space (kind_of import.what)) 1 d e
-places_within (ExportItem export) d e = within_at (kind_space export.kind) 1 d e
-places_within (CustomItem custom) d e = cc
-places_within (RawItem bytes) d e = cc
+pub indices_within : (x : Item) (d : Indices) → defines x ≡ Some d → d.space < 13
+indices_within (ModuleItem bytes) d e = within_at CoreModules 1 d e
+indices_within (CoreInstanceItem instance) d e = within_at CoreInstances 1 d e
+indices_within (CoreTypeItem ty) d e = within_at CoreTypes 1 d e
+indices_within (ComponentItem bytes) d e = within_at Components 1 d e
+indices_within (InstanceItem instance) d e = within_at Instances 1 d e
+indices_within (AliasItem to) d e = within_at (alias_space to) 1 d e
+indices_within (TypeItem ty) d e = within_at Types 1 d e
+indices_within (CanonItem function) d e = within_at (canonical_space function) 1 d e
+indices_within (StartItem start) d e = within_at Values start.results d e
+indices_within (ImportItem import) d e = within_at (kind_space (kind_of import.what)) 1 d e
+indices_within (ExportItem export) d e = within_at (kind_space export.kind) 1 d e
+indices_within (CustomItem custom) d e = cc
+indices_within (RawItem bytes) d e = cc

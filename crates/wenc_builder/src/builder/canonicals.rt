@@ -41,7 +41,7 @@ impl<A: Allocator> ComponentBuilder<A> {
         self.provide(rows::THREAD_SPAWN_REF, &ty)
     }
 
-    /// `thread.spawn-indirect`: starts a thread in a shared function of this type, by its place in a table.
+    /// `thread.spawn-indirect`: starts a thread in a shared function of this type, by its index in a table.
     pub fn thread_spawn_indirect(&mut self, ty: u32, table: u32) -> Result<u32, Fault>
         ensures { Enters self.old self.new result
             (provided_entry canon.ThreadSpawnIndirect (ty, table)) }
@@ -347,7 +347,7 @@ impl<A: Allocator> ComponentBuilder<A> {
         self.provide(rows::THREAD_INDEX, &())
     }
 
-    /// `thread.new-indirect`: makes a thread of a function of this type, by its place in a table.
+    /// `thread.new-indirect`: makes a thread of a function of this type, by its index in a table.
     pub fn thread_new_indirect(&mut self, ty: u32, table: u32) -> Result<u32, Fault>
         ensures { Enters self.old self.new result
             (provided_entry canon.ThreadNewIndirect (ty, table)) }

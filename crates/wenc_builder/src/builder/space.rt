@@ -48,7 +48,7 @@ impl Space {
         }
     }
 
-    /// The place of this space among all, from 0 to 12, in the order in which a builder tells their counts.
+    /// The index of this space among all, from 0 to 12, in the order in which a builder tells their counts.
     pub fn number(self) -> usize
         ensures is { result ≡ space_number self }
         ensures within { space_number self < 13 }

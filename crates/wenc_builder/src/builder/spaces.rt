@@ -19,7 +19,7 @@ use wenc_sections::Sort;
 /// How many spaces there are.
 pub const SPACES: usize = 13;
 
-/// What a space was before an item took a place in it.
+/// What a space was before an item took an index in it.
 #[derive(Clone, Copy)]
 pub struct Undo {
     pub space: usize,
@@ -136,7 +136,7 @@ impl<A: Allocator> Spaces<A> {
         Ok(index)
     }
 
-    /// The item that took a place is there to stay.
+    /// The item that took an index is there to stay.
     pub fn end(&mut self)
         requires { is_none self.old.taking ≡ false }
         ensures { self.new ≡ spaces_ended self.old }
@@ -144,7 +144,7 @@ impl<A: Allocator> Spaces<A> {
         self.undo = None;
     }
 
-    /// Gives up the item that took a place. It takes no memory.
+    /// Gives up the item that took an index. It takes no memory.
     pub fn give_up(&mut self)
         requires { is_none self.old.taking ≡ false }
         ensures { self.new ≡ spaces_given_up self.old }

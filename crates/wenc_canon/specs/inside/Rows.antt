@@ -1,11 +1,11 @@
--- The intrinsic that an opcode and the values of its fields say, for the code that writes them.
+-- The builtin that an opcode and the values of its fields say, for the code that writes them.
 use Rattle.std.specs.Prelude.{ℕ, ◌==◌, false, if◌then◌else◌, List, [], ◌∷◌, ◌++◌, None}
 use Rattle.wenc_base.specs.Piece.{Piece, ◌▸◌}
 use Rattle.wenc_base.specs.declared.types.ValType.TheVariants.{I32}
 use Rattle.wenc_canon.specs.declared.canonicals.CanonicalOption.{CanonicalOption}
 use Rattle.wenc_canon.specs.Canonicals.{Field, Index, Options, Flag, Zero, CoreType, Results, Slot}
 use Rattle.wenc_canon.specs.Canonicals.{Value, Values, fields, Builtin, ResourceNew, Row, row}
-use Rattle.wenc_canon.specs.Canonicals.{intrinsics, Canonical, Lift, Lower, OfBuiltin}
+use Rattle.wenc_canon.specs.Canonicals.{builtins, Canonical, Lift, Lower, OfBuiltin}
 
 -- the byte that a canonical function begins with
 abbrev pub row_first_byte : Canonical → ℕ
@@ -13,14 +13,14 @@ row_first_byte (Lift function options type_index) = 0x00
 row_first_byte (Lower function options) = 0x01
 row_first_byte (OfBuiltin i values) = (row i).opcode
 
--- the intrinsic with this opcode, of these
+-- the builtin with this opcode, of these
 abbrev pub first_with : ℕ → List Builtin → Builtin
 first_with opcode [] = ResourceNew
 first_with opcode (i ∷ is) = if (row i).opcode == opcode then i else first_with opcode is
 
 -- the row with this opcode
 abbrev pub row_with : ℕ → Row
-row_with opcode = row (first_with opcode intrinsics)
+row_with opcode = row (first_with opcode builtins)
 
 -- some value
 abbrev pub any_value : (f : Field) → Value f
@@ -53,10 +53,10 @@ as_values (f ∷ []) (g ∷ []) v = as_value f g v
 as_values (f ∷ h ∷ fs) (g ∷ k ∷ gs) vs = (as_value f g vs.0, as_values (h ∷ fs) (k ∷ gs) vs.1)
 as_values fs gs vs = any_values gs
 
--- the intrinsic with this opcode and these values
+-- the builtin with this opcode and these values
 abbrev pub provided_by : ℕ → (fs : List Field) → Values fs → Canonical
 provided_by opcode fs vs =
-    let i : Builtin = first_with opcode intrinsics in
+    let i : Builtin = first_with opcode builtins in
     OfBuiltin i (as_values fs (row i).fields vs)
 
 -- ---- fields, and options behind them
@@ -75,6 +75,6 @@ values_then (f ∷ g ∷ fs) vs os = (vs.0, values_then (g ∷ fs) vs.1 os)
 abbrev pub row_then : ℕ → (fs : List Field) → Values fs → List CanonicalOption → Piece
 row_then opcode fs vs os = opcode ▸ fields (and_options fs) (values_then fs vs os)
 
--- the intrinsic that it is
+-- the builtin that it is
 abbrev pub provided_with : ℕ → (fs : List Field) → Values fs → List CanonicalOption → Canonical
 provided_with opcode fs vs os = provided_by opcode (and_options fs) (values_then fs vs os)

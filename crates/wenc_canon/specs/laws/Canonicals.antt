@@ -9,7 +9,7 @@ use Rattle.wenc_base.specs.laws.Types.{read_val_type, val_type_lawful, val_type_
 use Rattle.wenc_parts.specs.laws.Types.{read_result_list, result_list_lawful, result_list_sound}
 use Rattle.wenc_canon.specs.declared.canonicals.CanonicalOption.{CanonicalOption}
 use Rattle.wenc_canon.specs.declared.canonicals.CanonicalOption.TheVariants.{UTF8, UTF16, CompactUTF16, Memory, Realloc, PostReturn, Async, Callback, CoreType as CoreTypeOption, Gc}
-use Rattle.wenc_canon.specs.Canonicals.{canonical_option, Field, Index, Options, Flag, Zero, CoreType, Results, Slot, Value, field, Values, fields, Builtin, ResourceNew, row, intrinsics, Canonical, Lift, Lower, OfBuiltin, canonical, Adds, AddsWithOptions}
+use Rattle.wenc_canon.specs.Canonicals.{canonical_option, Field, Index, Options, Flag, Zero, CoreType, Results, Slot, Value, field, Values, fields, Builtin, ResourceNew, row, builtins, Canonical, Lift, Lower, OfBuiltin, canonical, Adds, AddsWithOptions}
 
 -- ---- options
 
@@ -115,12 +115,12 @@ abbrev pub rows : List (ℕ × Reader Canonical)
 rows =
     (0x00, choose ((0x00, read_u32 >>= λ f. read_list read_canonical_option >>= λ os. read_u32 >>= λ t. give (Lift f os t)) ∷ []) nowhere) ∷
     (0x01, choose ((0x00, read_u32 >>= λ f. read_list read_canonical_option >>= λ os. give (Lower f os)) ∷ []) nowhere) ∷
-    map read_provided intrinsics
+    map read_provided builtins
 
 abbrev pub read_canonical : Reader Canonical
 read_canonical = choose rows nowhere
 
--- An opcode picks its intrinsic's own row. One clause is for the first intrinsic, the other for each of the others.
+-- An opcode picks its builtin's own row. One clause is for the first builtin, the other for each of the others.
 own_row : (i : Builtin) → pick rows nowhere (row i).opcode ≡ (read_provided i).1
 own_row ResourceNew = refl
 own_row other = refl
@@ -142,7 +142,7 @@ canonical_sound = choose_sound _ _ (
   ) nowhere_sound,
   (
     choose_sound _ _ (then_sound _ u32_sound (λ f. last_sound (Lower f) (list_sound canonical_option_sound) (λ os middle rest r bytes p. (_, refl, (_, refl, (middle, p, r))))), tt) nowhere_sound,
-    provided_sound intrinsics,
+    provided_sound builtins,
   ),
 ) nowhere_sound
 

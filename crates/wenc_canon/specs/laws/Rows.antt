@@ -1,4 +1,4 @@
--- What is written of a row is the intrinsic that its opcode and values say.
+-- What is written of a row is the builtin that its opcode and values say.
 use Rattle.std.proofs.Common.{◌≡◌, ℕ, List, [], ◌∷◌, refl, ap, subst, sym, append_assoc, inl, inr}
 use Rattle.wenc_base.specs.Encode.{Serves, in_order}
 use Rattle.wenc_base.specs.Forms.{list}

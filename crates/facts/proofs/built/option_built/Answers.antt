@@ -9,5 +9,5 @@ returns-in-Ok-option-clause-held g c es h =
     let written = c.in-Ok-option.ensures in
     c.encoded_types_are_entries.ensures.type_written c.args.builder.now _ _ es None (DefinedType (OptionOf c.args.ty)) begun.begun begun.free (sym (search rules) ∙ written.ok) written.fits written.free h
 
-pub returns-in-Ok-option-clause-placed : goal.returns-in-Ok-option-clause-placed
-returns-in-Ok-option-clause-placed g c es h = c.in-Ok.ensures.begun.placed es h
+pub returns-in-Ok-option-clause-indexed : goal.returns-in-Ok-option-clause-indexed
+returns-in-Ok-option-clause-indexed g c es h = c.in-Ok.ensures.begun.indexed es h

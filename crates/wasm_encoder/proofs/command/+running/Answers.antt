@@ -14,7 +14,7 @@ use Rattle.wenc_sections.specs.InstanceTrees.{core_instance_tree_view, instance_
 use Rattle.wasm_encoder.specs.Command.{CommandTree, CoreModule, CoreInstance, ComponentRaw, Instance, Alias, Canon, Start, Import, Export, command_view, commands_view, debug_name_view}
 use Rattle.wasm_encoder.specs.Cause.{led, first_cause}
 use Rattle.wasm_encoder.specs.Ran.{IsRefusal}
-use Rattle.wasm_encoder.specs.inside.Steps.{Answers, placed}
+use Rattle.wasm_encoder.specs.inside.Steps.{Answers, indexed}
 use Rattle.wasm_encoder.proofs.Called.{memory_alone, entered, names_entered}
 use Rattle.wasm_encoder.proofs.command.Command.TheLaws.{the_size}
 use Rattle.wasm_encoder.proofs.Nested.{component_view, inner_more, inner_refused, inner_stopped, inner_all, refused_inside, entered_inside}
@@ -26,14 +26,14 @@ run-returns-in-CoreModule g t c =
     let n = debug_name_view c.in-CoreModule.n in
     let v = c.in-CoreModule.bytes.items in
     let e : Enters c.args.builder.now c.core_module_raw.new.self c.core_module_raw.result (module_entry n v) = rw (← c.debug_name.ensures, ← c.deref.ensures.value) c.core_module_raw.ensures in
-    rw (c.placed.ensures, c.in-CoreModule.is) (entered c.args.builder.now c.core_module_raw.new.self c.core_module_raw.result (CoreModule n v) (module_entry n v) (λ es. refl) (λ es. itself_among) e)
+    rw (c.indexed.ensures, c.in-CoreModule.is) (entered c.args.builder.now c.core_module_raw.new.self c.core_module_raw.result (CoreModule n v) (module_entry n v) (λ es. refl) (λ es. itself_among) e)
 
 pub run-returns-in-CoreInstance : goal.run-returns-in-CoreInstance
 run-returns-in-CoreInstance g t c =
     let n = debug_name_view c.in-CoreInstance.n in
     let v = core_instance_tree_view c.in-CoreInstance.instance in
     let e : Enters c.args.builder.now c.core_instance_tree.new.self c.core_instance_tree.result (core_instance_entry n v) = rw (← c.debug_name-in-CoreInstance.ensures) c.core_instance_tree.ensures in
-    rw (c.placed-in-CoreInstance.ensures, c.in-CoreInstance.is) (entered c.args.builder.now c.core_instance_tree.new.self c.core_instance_tree.result (CoreInstance n v) (core_instance_entry n v) (λ es. refl) (λ es. itself_among) e)
+    rw (c.indexed-in-CoreInstance.ensures, c.in-CoreInstance.is) (entered c.args.builder.now c.core_instance_tree.new.self c.core_instance_tree.result (CoreInstance n v) (core_instance_entry n v) (λ es. refl) (λ es. itself_among) e)
 
 pub run-returns-in-Ok : goal.run-returns-in-Ok
 run-returns-in-Ok g t c =
@@ -41,8 +41,8 @@ run-returns-in-Ok g t c =
     let inner = commands_view c.in-Component.commands.items in
     let accepted : Holds c.in-Ok.inner (led [] inner) × NoCause (first_cause [] inner) = c.in-Ok.ensures.accepted in
     let e : Enters c.args.builder.now c.component.new.self c.component.result (component_entry n (whole (items (led [] inner)))) = rw (← c.debug_name-in-Ok.ensures) (c.component.ensures.entered (led [] inner) accepted.0) in
-    let P : CommandTree → Type 0 = λ v. Answers c.args.builder.now c.component.new.self (placed c.component.result) v in
-    rw (c.placed-in-Ok.ensures, c.in-Component.is) (subst P (sym (component_view c.in-Component.n c.in-Component.commands)) (entered_inside n inner c.args.builder.now c.component.new.self c.component.result accepted.1 e))
+    let P : CommandTree → Type 0 = λ v. Answers c.args.builder.now c.component.new.self (indexed c.component.result) v in
+    rw (c.indexed-in-Ok.ensures, c.in-Component.is) (subst P (sym (component_view c.in-Component.n c.in-Component.commands)) (entered_inside n inner c.args.builder.now c.component.new.self c.component.result accepted.1 e))
 
 pub run-returns-in-Err : goal.run-returns-in-Err
 run-returns-in-Err g t c =
@@ -57,33 +57,33 @@ run-returns-in-ComponentRaw g t c =
     let n = debug_name_view c.in-ComponentRaw.n in
     let v = c.in-ComponentRaw.bytes.items in
     let e : Enters c.args.builder.now c.component_raw.new.self c.component_raw.result (component_entry n v) = rw (← c.debug_name-in-ComponentRaw.ensures, ← c.deref-in-ComponentRaw.ensures.value) c.component_raw.ensures in
-    rw (c.placed-in-ComponentRaw.ensures, c.in-ComponentRaw.is) (entered c.args.builder.now c.component_raw.new.self c.component_raw.result (ComponentRaw n v) (component_entry n v) (λ es. refl) (λ es. itself_among) e)
+    rw (c.indexed-in-ComponentRaw.ensures, c.in-ComponentRaw.is) (entered c.args.builder.now c.component_raw.new.self c.component_raw.result (ComponentRaw n v) (component_entry n v) (λ es. refl) (λ es. itself_among) e)
 
 pub run-returns-in-Instance : goal.run-returns-in-Instance
 run-returns-in-Instance g t c =
     let n = debug_name_view c.in-Instance.n in
     let v = instance_tree_view c.in-Instance.instance in
     let e : Enters c.args.builder.now c.instance_tree.new.self c.instance_tree.result (instance_entry n v) = rw (← c.debug_name-in-Instance.ensures) c.instance_tree.ensures in
-    rw (c.placed-in-Instance.ensures, c.in-Instance.is) (entered c.args.builder.now c.instance_tree.new.self c.instance_tree.result (Instance n v) (instance_entry n v) (λ es. refl) (λ es. itself_among) e)
+    rw (c.indexed-in-Instance.ensures, c.in-Instance.is) (entered c.args.builder.now c.instance_tree.new.self c.instance_tree.result (Instance n v) (instance_entry n v) (λ es. refl) (λ es. itself_among) e)
 
 pub run-returns-in-Alias : goal.run-returns-in-Alias
 run-returns-in-Alias g t c =
     let n = debug_name_view c.in-Alias.n in
     let v = alias_tree_view c.in-Alias.alias in
     let e : Enters c.args.builder.now c.alias.new.self c.alias.result (alias_entry n v) = rw (← c.as_alias.ensures, ← c.debug_name-in-Alias.ensures) c.alias.ensures in
-    rw (c.placed-in-Alias.ensures, c.in-Alias.is) (entered c.args.builder.now c.alias.new.self c.alias.result (Alias n v) (alias_entry n v) (λ es. refl) (λ es. itself_among) e)
+    rw (c.indexed-in-Alias.ensures, c.in-Alias.is) (entered c.args.builder.now c.alias.new.self c.alias.result (Alias n v) (alias_entry n v) (λ es. refl) (λ es. itself_among) e)
 
 pub run-returns-in-Canon : goal.run-returns-in-Canon
 run-returns-in-Canon g t c =
     let n = debug_name_view c.in-Canon.n in
     let v = canon_view c.in-Canon.canon in
     let e : Enters c.args.builder.now c.canonical_tree.new.self c.canonical_tree.result (canonical_tree_entry n v) = rw (← c.debug_name-in-Canon.ensures) c.canonical_tree.ensures in
-    rw (c.placed-in-Canon.ensures, c.in-Canon.is) (entered c.args.builder.now c.canonical_tree.new.self c.canonical_tree.result (Canon n v) (canonical_tree_entry n v) (λ es. refl) (λ es. itself_among) e)
+    rw (c.indexed-in-Canon.ensures, c.in-Canon.is) (entered c.args.builder.now c.canonical_tree.new.self c.canonical_tree.result (Canon n v) (canonical_tree_entry n v) (λ es. refl) (λ es. itself_among) e)
 
 pub run-returns-in-Start : goal.run-returns-in-Start
 run-returns-in-Start g t c =
     let s = c.in-Start in
-    rw (c.placed-in-Start.ensures, c.in-Start.is)
+    rw (c.indexed-in-Start.ensures, c.in-Start.is)
     (entered c.args.builder.now c.start.new.self c.start.result (Start s.function s.args.items s.results) (start_entry s.function s.args.items s.results) (λ es. refl) (λ es. itself_among) c.start.ensures)
 
 pub run-returns-in-Import : goal.run-returns-in-Import
@@ -91,18 +91,18 @@ run-returns-in-Import g t c =
     let n = name_tree_view c.in-Import.name in
     let ty = c.in-Import.ty in
     let e : Enters c.args.builder.now c.import.new.self c.import.result (import_entry n ty) = subst (λ m. Enters c.args.builder.now c.import.new.self c.import.result (import_entry m ty)) c.as_name.ensures c.import.ensures in
-    rw (c.placed-in-Import.ensures, c.in-Import.is) (entered c.args.builder.now c.import.new.self c.import.result (Import (record { name = n; what = ty })) (import_entry n ty) (λ es. refl) (λ es. itself_among) e)
+    rw (c.indexed-in-Import.ensures, c.in-Import.is) (entered c.args.builder.now c.import.new.self c.import.result (Import (record { name = n; what = ty })) (import_entry n ty) (λ es. refl) (λ es. itself_among) e)
 
 pub run-returns-in-Export : goal.run-returns-in-Export
 run-returns-in-Export g t c =
     let x = c.in-Export in
     let n = name_tree_view x.name in
     let e : Enters c.args.builder.now c.export.new.self c.export.result (export_entry n x.kind x.index x.ty) = subst (λ m. Enters c.args.builder.now c.export.new.self c.export.result (export_entry m x.kind x.index x.ty)) c.as_name-in-Export.ensures c.export.ensures in
-    rw (c.placed-in-Export.ensures, c.in-Export.is)
+    rw (c.indexed-in-Export.ensures, c.in-Export.is)
     (entered c.args.builder.now c.export.new.self c.export.result (Export (record { name = n; kind = x.kind; index = x.index; what = x.ty })) (export_entry n x.kind x.index x.ty) (λ es. refl) (λ es. itself_among) e)
 
 pub run-returns-in-AppendNames : goal.run-returns-in-AppendNames
-run-returns-in-AppendNames g t c = rw (c.placeless.ensures, c.in-AppendNames.is) (names_entered c.args.builder.now c.append_names.new.self c.append_names.result c.append_names.ensures)
+run-returns-in-AppendNames g t c = rw (c.without_index.ensures, c.in-AppendNames.is) (names_entered c.args.builder.now c.append_names.new.self c.append_names.result c.append_names.ensures)
 
 pub run_all-loop-command-preserved : goal.run_all-loop-command-preserved
 run_all-loop-command-preserved g t c =

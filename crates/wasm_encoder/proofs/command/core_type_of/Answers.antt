@@ -14,7 +14,7 @@ returns-in-Ok-tree g c =
     let n = option_copied c.args.debug_name in
     let t = core_type_view c.args.ty.now in
     let e = c.in-Ok.ensures.begun in
-    type_accepted c.args.builder.now _ _ _ c.in-Ok.index (CoreType n t) (core_type_entry n t) (draft_in ids.CoreType spaces.CoreTypes n []) (writes_core_type n t) e.begun e.placed e.free c.in-Ok-tree.ensures.ok c.in-Ok-tree.ensures.fits c.in-Ok-tree.ensures.free (search rules)
+    type_accepted c.args.builder.now _ _ _ c.in-Ok.index (CoreType n t) (core_type_entry n t) (draft_in ids.CoreType spaces.CoreTypes n []) (writes_core_type n t) e.begun e.indexed e.free c.in-Ok-tree.ensures.ok c.in-Ok-tree.ensures.fits c.in-Ok-tree.ensures.free (search rules)
 
 pub returns-in-Err-tree : goal.returns-in-Err-tree
 returns-in-Err-tree g c =

@@ -3,7 +3,7 @@ use Rattle.wenc_builder.specs.Entry.{type_entry, core_type_entry}
 use Rattle.wenc_builder.specs.Builder.{draft_in}
 use Rattle.wenc_parts.specs.declared.component.ComponentSectionId.TheVariants as ids
 use Rattle.wenc_builder.specs.declared.builder.space.Space.TheVariants as spaces
-use Rattle.wenc_builder.specs.laws.Lent.{begun_given_up, written_given_up}
+use Rattle.wenc_builder.specs.laws.LenderState.{begun_given_up, written_given_up}
 use Rattle.wenc_builder.specs.laws.Typed.{type_is_written, core_type_is_written}
 use Rattle.wasm_encoder.proofs.Typed.{written_whole}
 use Rattle.wasm_encoder.proofs.laws.of_builders.encoded_types_are_entries.Goals as goal

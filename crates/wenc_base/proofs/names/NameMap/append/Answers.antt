@@ -6,7 +6,7 @@ use Rattle.wenc_base.proofs.names.NameMap.append.Goals as goal
 
 pub returns-then-self-lt4294967295 : goal.returns-then-self-lt4294967295
 returns-then-self-lt4294967295 g c =
-    let entry : NameAssociation = record { place = c.args.idx; name = c.args.name.now } in
+    let entry : NameAssociation = record { index = c.args.idx; name = c.args.name.now } in
     let old : List ℕ = c.self.inside.names.items in
     let index : List ℕ = unsigned_text c.args.idx in
     let size : List ℕ = unsigned_text (length c.args.name.now) in

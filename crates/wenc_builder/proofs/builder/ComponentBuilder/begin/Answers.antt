@@ -1,7 +1,7 @@
 use Rattle.wenc_builder.specs.Space.{space_number}
 use Rattle.wenc_builder.specs.inside.Layout.{kind_id}
 use Rattle.std.specs.Option.{option_copied}
-use Rattle.wenc_builder.proofs.Standing.{placed_back, begun_stands}
+use Rattle.wenc_builder.proofs.Standing.{indexed_back, begun_stands}
 use Rattle.std.proofs.Common.{sym}
 use Rattle.wenc_builder.specs.laws.Step.{space_within}
 use Rattle.wenc_builder.proofs.Taken.{space_refused}
@@ -18,7 +18,7 @@ invariant_of-self g c = rw c.in-Err.ensures.err c.self.invariant
 
 pub invariant_of-self-in-Err-begin : goal.invariant_of-self-in-Err-begin
 invariant_of-self-in-Err-begin g c =
-    rw (c.in-Err-begin.ensures.err, c.give_up.ensures, c.in-Ok.ensures.ok) (placed_back c.self.inside.buffer c.self.inside.spaces c.self.invariant (sym c.if-not-is_finished.ensures) (space_number c.args.space) 1 (option_copied c.args.name))
+    rw (c.in-Err-begin.ensures.err, c.give_up.ensures, c.in-Ok.ensures.ok) (indexed_back c.self.inside.buffer c.self.inside.spaces c.self.invariant (sym c.if-not-is_finished.ensures) (space_number c.args.space) 1 (option_copied c.args.name))
 
 pub invariant_of-self-in_default : goal.invariant_of-self-in_default
 invariant_of-self-in_default g c =

@@ -4,14 +4,14 @@ use Rattle.wenc_builder.specs.Space.{indices_in}
 use Rattle.wenc_builder.specs.Entry.{custom_entry}
 use Rattle.wenc_builder.specs.Item.{CustomItem}
 use Rattle.wenc_builder.specs.declared.builder.space.Space.TheVariants as spaces
-use Rattle.wenc_builder.proofs.Entered.{placeless_enters}
+use Rattle.wenc_builder.proofs.Entered.{without_index_enters}
 use Rattle.wenc_builder.proofs.Texts.{item_piece}
 use Rattle.wenc_builder.proofs.builder.ComponentBuilder.custom_section.Goals as goal
 
 pub returns : goal.returns
 returns g c =
-    placeless_enters c.args.self.now c.place_nowhere.new.self c.place_nowhere.result (custom_entry c.args.section.now.name.now c.args.section.now.data.now)
-    (record { alone = refl; defined = refl; named = refl }) (rw c.into.ensures serves_itself) c.place_nowhere.ensures
+    without_index_enters c.args.self.now c.add_alone.new.self c.add_alone.result (custom_entry c.args.section.now.name.now c.args.section.now.data.now)
+    (record { alone = refl; defined = refl; named = refl }) (rw c.into.ensures serves_itself) c.add_alone.ensures
 
-pub place_nowhere-requires : goal.place_nowhere-requires
-place_nowhere-requires g c = rw c.into.ensures (item_piece (CustomItem (record { label = c.args.section.now.name.now; bytes = c.args.section.now.data.now })) serves_itself)
+pub add_alone-requires : goal.add_alone-requires
+add_alone-requires g c = rw c.into.ensures (item_piece (CustomItem (record { label = c.args.section.now.name.now; bytes = c.args.section.now.data.now })) serves_itself)

@@ -5,14 +5,14 @@ use Rattle.wenc_builder.specs.Entry.{raw_entry}
 use Rattle.wenc_builder.specs.Item.{RawItem}
 use Rattle.wenc_builder.proofs.Texts.{raw_serves}
 use Rattle.wenc_builder.specs.declared.builder.space.Space.TheVariants as spaces
-use Rattle.wenc_builder.proofs.Entered.{placeless_enters}
+use Rattle.wenc_builder.proofs.Entered.{without_index_enters}
 use Rattle.wenc_builder.proofs.Texts.{item_piece}
 use Rattle.wenc_builder.proofs.builder.ComponentBuilder.raw_custom_section.Goals as goal
 
 pub returns : goal.returns
 returns g c =
-    placeless_enters c.args.self.now c.place_nowhere.new.self c.place_nowhere.result (raw_entry c.args.section.now)
-    (record { alone = refl; defined = refl; named = refl }) (rw c.into.ensures (raw_serves c.args.section.now)) c.place_nowhere.ensures
+    without_index_enters c.args.self.now c.add_alone.new.self c.add_alone.result (raw_entry c.args.section.now)
+    (record { alone = refl; defined = refl; named = refl }) (rw c.into.ensures (raw_serves c.args.section.now)) c.add_alone.ensures
 
-pub place_nowhere-requires : goal.place_nowhere-requires
-place_nowhere-requires g c = rw c.into.ensures (item_piece (RawItem c.args.section.now) (raw_serves c.args.section.now))
+pub add_alone-requires : goal.add_alone-requires
+add_alone-requires g c = rw c.into.ensures (item_piece (RawItem c.args.section.now) (raw_serves c.args.section.now))

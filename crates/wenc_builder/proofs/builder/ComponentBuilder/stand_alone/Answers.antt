@@ -1,16 +1,16 @@
 use Rattle.wenc_builder.specs.Space.{space_number}
-use Rattle.wenc_builder.proofs.Standing.{placed_back, alone_stands}
+use Rattle.wenc_builder.proofs.Standing.{indexed_back, alone_stands}
 use Rattle.std.proofs.Common.{sym}
 use Rattle.std.specs.Option.{option_copied}
 use Rattle.wenc_builder.specs.Space.{indices_in}
 use Rattle.wenc_builder.specs.laws.Step.{space_within}
-use Rattle.wenc_builder.proofs.Alone.{alone_without_places}
+use Rattle.wenc_builder.proofs.Alone.{alone_without_indices}
 use Rattle.wenc_builder.proofs.builder.ComponentBuilder.stand_alone.Goals as goal
 
 pub returns-in-Err : goal.returns-in-Err
 returns-in-Err g c =
     let e = c.in-Err.ensures in
-    alone_without_places c.self.inside.buffer c.self.inside.spaces c.args.self.now _ c.in-Err.fault (indices_in c.args.space c.args.number) (option_copied c.args.name) _ c.self.invariant.agree c.self.view_is (sym c.if-not-is_finished.ensures)
+    alone_without_indices c.self.inside.buffer c.self.inside.spaces c.args.self.now _ c.in-Err.fault (indices_in c.args.space c.args.number) (option_copied c.args.name) _ c.self.invariant.agree c.self.view_is (sym c.if-not-is_finished.ensures)
     (rw e.err c.self.view_is) (rw (← c.self.view_is) e.all) (space_within c.args.space) (rw (← c.self.view_is) e.warranted)
 
 pub invariant_of-self : goal.invariant_of-self
@@ -22,4 +22,4 @@ invariant_of-self-in-Ok-stand_alone g c =
 
 pub invariant_of-self-in-Err-stand_alone : goal.invariant_of-self-in-Err-stand_alone
 invariant_of-self-in-Err-stand_alone g c =
-    rw (c.in-Err-stand_alone.ensures.err, c.give_up.ensures, c.in-Ok.ensures.ok) (placed_back c.self.inside.buffer c.self.inside.spaces c.self.invariant (sym c.if-not-is_finished.ensures) (space_number c.args.space) c.args.number (option_copied c.args.name))
+    rw (c.in-Err-stand_alone.ensures.err, c.give_up.ensures, c.in-Ok.ensures.ok) (indexed_back c.self.inside.buffer c.self.inside.spaces c.self.invariant (sym c.if-not-is_finished.ensures) (space_number c.args.space) c.args.number (option_copied c.args.name))

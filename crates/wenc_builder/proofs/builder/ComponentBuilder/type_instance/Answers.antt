@@ -5,7 +5,7 @@ use Rattle.wenc_base.specs.laws.Serves.{serves_itself}
 use Rattle.wenc_types.specs.ComponentTypes.{InstanceType, instances_of}
 use Rattle.wenc_types.specs.laws.ComponentTypes.{type_lawful}
 use Rattle.wenc_types.specs.laws.Declarations.{instance_serves}
-use Rattle.wenc_types.specs.laws.Declaring.{instance_has_form}
+use Rattle.wenc_types.specs.laws.TypeState.{instance_has_form}
 use Rattle.wenc_builder.specs.Entry.{type_entry}
 use Rattle.wenc_builder.specs.Item.{TypeItem}
 use Rattle.wenc_builder.specs.inside.Layout.{kind_id}

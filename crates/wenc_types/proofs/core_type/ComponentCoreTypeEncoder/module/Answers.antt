@@ -3,7 +3,7 @@ use Rattle.wenc_base.specs.Holder.{held_text}
 use Rattle.wenc_base.specs.laws.Members.{form_ends}
 use Rattle.wenc_types.specs.CoreTypes.{core_type}
 use Rattle.wenc_types.specs.laws.Declarations.{module_serves}
-use Rattle.wenc_types.specs.laws.Declaring.{module_has_form}
+use Rattle.wenc_types.specs.laws.TypeState.{module_has_form}
 use Rattle.wenc_types.proofs.Serving.{ends_for}
 use Rattle.wenc_types.proofs.core_type.ComponentCoreTypeEncoder.module.Goals as goal
 

@@ -2,7 +2,7 @@ use Rattle.std.proofs.Common.{Ok, refl}
 use Rattle.wenc_base.specs.laws.Holders.{adds_as}
 use Rattle.wenc_base.specs.laws.Members.{was_finished}
 use Rattle.wenc_types.specs.laws.Declarations.{declares_next}
-use Rattle.wenc_types.specs.laws.Declaring.{declaring_added}
+use Rattle.wenc_types.specs.laws.TypeState.{declaring_added}
 use Rattle.wenc_types.proofs.declarations.Declarations.add.Goals as goal
 
 pub invariant_of-self-2 : goal.invariant_of-self-2

@@ -1,4 +1,4 @@
-use Rattle.wenc_types.specs.laws.Declaring.{declaring_ended}
+use Rattle.wenc_types.specs.laws.TypeState.{declaring_ended}
 use Rattle.wenc_types.proofs.declarations.DeclarationsLender.end_member.Goals as goal
 
 pub invariant_of-self : goal.invariant_of-self

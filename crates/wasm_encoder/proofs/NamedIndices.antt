@@ -1,4 +1,4 @@
--- The places in a list of names.
+-- The indices in a list of names.
 use Rattle.std.proofs.Common.{◌≡◌, ℕ, zero, suc, ◌+◌, ◌<◌, ◌≤◌, List, [], ◌∷◌, ◌++◌, map, Option, Some, None, Result, Ok, Err, refl, subst, ◌⊎◌, inl, inr, arith}
 use Rattle.std.proofs.lemmas.Bool.Decides.{eqb_tells}
 use Rattle.std.proofs.lemmas.Option.{same_Some}
@@ -48,37 +48,37 @@ item_takes (CustomItem c) name nameless d e = absurd cc
 item_takes (RawItem bytes) name nameless d e = absurd cc
 item_takes other name nameless d e = inr (subst (λ (d : Indices). 0 < d.number) (same_Some _ d e) (omega arith))
 
-abbrev places : List NameAssociation → List ℕ
-places ns = map (λ n. n.place) ns
+abbrev indices : List NameAssociation → List ℕ
+indices ns = map (λ n. n.index) ns
 
-ascends_more : (k n : ℕ) (o : Option Indices) (name : Option (List ℕ)) (rest : List NameAssociation) → TakesNamed o name → AscendFrom (n + number_in k o) (places rest) → AscendFrom n (places (named_in k o n name ++ rest))
-ascends_more k n None name rest takes h = from_less (n + 0) n (places rest) (omega arith) h
+ascends_more : (k n : ℕ) (o : Option Indices) (name : Option (List ℕ)) (rest : List NameAssociation) → TakesNamed o name → AscendFrom (n + number_in k o) (indices rest) → AscendFrom n (indices (named_in k o n name ++ rest))
+ascends_more k n None name rest takes h = from_less (n + 0) n (indices rest) (omega arith) h
 ascends_more k n (Some d) None rest takes h =
     elim (eqb_tells d.space k) [
-      | inl t ↦ let g = rw t.0 at h in rw t.0 (from_less (n + d.number) n (places rest) (omega arith) g)
-      | inr t ↦ let g = rw t.0 at h in rw t.0 (from_less (n + 0) n (places rest) (omega arith) g)
+      | inl t ↦ let g = rw t.0 at h in rw t.0 (from_less (n + d.number) n (indices rest) (omega arith) g)
+      | inr t ↦ let g = rw t.0 at h in rw t.0 (from_less (n + 0) n (indices rest) (omega arith) g)
     ]
 ascends_more k n (Some d) (Some name) rest takes h =
     elim (eqb_tells d.space k) [
-      | inl t ↦ let g = rw t.0 at h in rw t.0 (omega arith, from_less (n + d.number) (n + 1) (places rest) (omega (arith, taken (takes d refl))) g)
-      | inr t ↦ let g = rw t.0 at h in rw t.0 (from_less (n + 0) n (places rest) (omega arith) g)
+      | inl t ↦ let g = rw t.0 at h in rw t.0 (omega arith, from_less (n + d.number) (n + 1) (indices rest) (omega (arith, taken (takes d refl))) g)
+      | inr t ↦ let g = rw t.0 at h in rw t.0 (from_less (n + 0) n (indices rest) (omega arith) g)
     ]
   where
     taken : ((Some name ≡ None) ⊎ (0 < d.number)) → 0 < d.number
     taken (inl e) = absurd cc
     taken (inr lt) = lt
 
-ascend : (k n : ℕ) (es : List Entry) → AllByRecursion StartIsNameless es → AscendFrom n (places (names_from k n es))
+ascend : (k n : ℕ) (es : List Entry) → AllByRecursion StartIsNameless es → AscendFrom n (indices (names_from k n es))
 ascend k n [] h = tt
 ascend k n (e ∷ es) h = ascends_more k n (defines e.item) e.name (names_from k (n + defined_in k e.item) es) (item_takes e.item e.name h.0) (ascend k (n + defined_in k e.item) es h.1)
 
-pub ascending : (es : List Entry) (k : ℕ) → AllByRecursion StartIsNameless es → IsStrictlyIncreasing (places (names es k))
-ascending es k h = increasing 0 (places (names es k)) (ascend k 0 es h)
+pub ascending : (es : List Entry) (k : ℕ) → AllByRecursion StartIsNameless es → IsStrictlyIncreasing (indices (names es k))
+ascending es k h = increasing 0 (indices (names es k)) (ascend k 0 es h)
 
 -- ---- and they are below the count
 
 abbrev AreBelow : ℕ → List NameAssociation → Type 0
-AreBelow bound = AllByRecursion (λ n. n.place < bound)
+AreBelow bound = AllByRecursion (λ n. n.index < bound)
 
 below_more : (k n bound : ℕ) (o : Option Indices) (name : Option (List ℕ)) (rest : List NameAssociation) → TakesNamed o name → n + number_in k o ≤ bound → AreBelow bound rest → AreBelow bound (named_in k o n name ++ rest)
 below_more k n bound None name rest takes le h = h

@@ -39,7 +39,7 @@ impl<A: Allocator> CanonicalFunctionSection<A> {
         self.add_row(rows::THREAD_SPAWN_REF, &ty)
     }
 
-    /// `thread.spawn-indirect`: starts a thread in a shared function of this type, by its place in a
+    /// `thread.spawn-indirect`: starts a thread in a shared function of this type, by its index in a
     /// table.
     pub fn thread_spawn_indirect(&mut self, ty: u32, table: u32) -> Result<(), Fault>
         ensures { Adds self.old self.new result canon.ThreadSpawnIndirect (ty, table) }
@@ -333,7 +333,7 @@ impl<A: Allocator> CanonicalFunctionSection<A> {
         self.add_row(rows::THREAD_INDEX, &())
     }
 
-    /// `thread.new-indirect`: makes a thread of a function of this type, by its place in a table.
+    /// `thread.new-indirect`: makes a thread of a function of this type, by its index in a table.
     pub fn thread_new_indirect(&mut self, ty: u32, table: u32) -> Result<(), Fault>
         ensures { Adds self.old self.new result canon.ThreadNewIndirect (ty, table) }
     {

@@ -10,7 +10,7 @@ use Rattle.wenc_base.specs.declared.holder.openings.Opening.{Opening}
 use Rattle.wenc_types.specs.ComponentTypes.{ComponentType, InstanceType, components_of, instances_of, def_type, component_declaration, instance_declaration}
 use Rattle.wenc_types.specs.CoreTypes.{module_declaration, Module, core_type}
 use Rattle.wenc_types.specs.Declarations.{module_sort, component_sort, instance_sort, TypeState, no_declarations, NoneBegun, Declares, IsDeclaration, DeclaresSome, one_more, one_less, lead_of, type_begun, type_appended, type_ended, type_given_up}
-use Rattle.wenc_types.specs.inside.Declaring.{IsDeclaring, HasOne, OpenedIsIn, total}
+use Rattle.wenc_types.specs.inside.TypeState.{IsTypeState, HasOne, OpenedIsIn, total}
 use Rattle.wenc_types.specs.laws.Declarations.{declares_next, back_again, module_serves, component_serves, instance_serves}
 use Rattle.wenc_types.specs.declared.counts.Counts.{Counts}
 use Rattle.wenc_types.specs.declared.counts.Sort.{Sort}
@@ -77,17 +77,17 @@ module _ {D : Type 0} (form : Form D) (sort : D → Option Sort) where
     declared = rw one.sort_is (declares_next form sort t (with_member t.held text) one.declaration some.declarations (ap (with_member t.held) one.text_is) one.fits some.declared);
   }
 
-  pub settled : (t : TypeState) → is_finished t.held ≡ true → IsDeclaring form sort t → NoneBegun t
+  pub settled : (t : TypeState) → is_finished t.held ≡ true → IsTypeState form sort t → NoneBegun t
   settled t finished d = record { finished = finished; none_begun = none_at t.held.opening t.begun t.counts finished d.counted }
 
   settled_back : (t : TypeState) → NoneBegun t → type_given_up t ≡ t
   settled_back t s = rw (finished_back t.held s.finished, s.none_begun) refl
 
   -- what is finished declares some
-  pub declares_some : (t : TypeState) → is_finished t.held ≡ true → IsDeclaring form sort t → ∥ DeclaresSome form sort t ∥₁
+  pub declares_some : (t : TypeState) → is_finished t.held ≡ true → IsTypeState form sort t → ∥ DeclaresSome form sort t ∥₁
   declares_some t finished d = subst HasSome (settled_back t (settled t finished d)) d.settled
 
-  pub declaring_none : IsDeclaring form sort no_declarations
+  pub declaring_none : IsTypeState form sort no_declarations
   declaring_none = record {
     enough = omega arith;
     one_more = refl;
@@ -96,8 +96,8 @@ module _ {D : Type 0} (form : Form D) (sort : D → Option Sort) where
   }
 
   -- a declaration is added
-  pub declaring_added : (t : TypeState) (text : List ℕ) (s : Option Sort) → is_finished t.held ≡ true → IsDeclaration form sort text s → IsDeclaring form sort t
-      → IsDeclaring form sort (record { held_members = with_member t.held text; counts = one_more s t.counts; type_begun = t.begun })
+  pub declaring_added : (t : TypeState) (text : List ℕ) (s : Option Sort) → is_finished t.held ≡ true → IsDeclaration form sort text s → IsTypeState form sort t
+      → IsTypeState form sort (record { held_members = with_member t.held text; counts = one_more s t.counts; type_begun = t.begun })
   declaring_added t text s finished one d =
       let none = settled t finished d in
       let next : TypeState = record { held_members = with_member t.held text; counts = one_more s t.counts; type_begun = t.begun } in
@@ -110,7 +110,7 @@ module _ {D : Type 0} (form : Form D) (sort : D → Option Sort) where
       }
 
   -- a type is type_begun
-  pub declaring_begun : (t : TypeState) (s : Sort) → is_finished t.held ≡ true → IsDeclaring form sort t → IsDeclaring form sort (type_begun s t)
+  pub declaring_begun : (t : TypeState) (s : Sort) → is_finished t.held ≡ true → IsTypeState form sort t → IsTypeState form sort (type_begun s t)
   declaring_begun t s finished d =
       let none = settled t finished d in
       let back : type_given_up (type_begun s t) ≡ t = rw (opened_back t.held (lead_of s) finished, back_again s t.counts, ← none.none_begun) refl in
@@ -122,7 +122,7 @@ module _ {D : Type 0} (form : Form D) (sort : D → Option Sort) where
       }
 
   -- more of it is type_appended
-  pub declaring_written : (t : TypeState) (text : List ℕ) → is_finished t.held ≡ false → IsDeclaring form sort t → IsDeclaring form sort (type_appended t text)
+  pub declaring_written : (t : TypeState) (text : List ℕ) → is_finished t.held ≡ false → IsTypeState form sort t → IsTypeState form sort (type_appended t text)
   declaring_written t text unfinished d = record {
     enough = d.enough;
     one_more = d.counted;
@@ -133,14 +133,14 @@ module _ {D : Type 0} (form : Form D) (sort : D → Option Sort) where
   }
 
   -- it is type_ended, as a declaration
-  pub declaring_ended : (t : TypeState) → ∥ IsDeclaration form sort (member_text t.held) t.begun ∥₁ → IsDeclaring form sort t → IsDeclaring form sort (type_ended t)
+  pub declaring_ended : (t : TypeState) → ∥ IsDeclaration form sort (member_text t.held) t.begun ∥₁ → IsTypeState form sort t → IsTypeState form sort (type_ended t)
   declaring_ended t whole d = at (is_finished t.held) refl
     where
-      at : (b : Bool) → is_finished t.held ≡ b → IsDeclaring form sort (type_ended t)
+      at : (b : Bool) → is_finished t.held ≡ b → IsTypeState form sort (type_ended t)
       at true finished =
           let none = settled t finished d in
           let same : type_ended t ≡ t = rw (closed_as_it_is t.held finished, ← none.none_begun) refl in
-          subst (IsDeclaring form sort) (sym same) d
+          subst (IsTypeState form sort) (sym same) d
       at false unfinished =
           let back : TypeState = type_given_up t in
           let more : ∥ DeclaresSome form sort (record { held_members = with_member back.held (member_text t.held); counts = one_more t.begun back.counts; type_begun = None }) ∥₁ =
@@ -154,7 +154,7 @@ module _ {D : Type 0} (form : Form D) (sort : D → Option Sort) where
           }
 
   -- or it is given up
-  pub declaring_taken_back : (t : TypeState) → IsDeclaring form sort t → IsDeclaring form sort (type_given_up t)
+  pub declaring_taken_back : (t : TypeState) → IsTypeState form sort t → IsTypeState form sort (type_given_up t)
   declaring_taken_back t d = record {
     enough = enough_back t.held.opening t.held t.begun t.counts d.counted d.enough;
     one_more = counted_back t.held.opening t.held (one_less t.begun t.counts);

@@ -7,12 +7,12 @@ use Rattle.wasm_encoder.specs.Command.{CommandTree}
 
 -- The command's item is one of these, and this is its next_index: what the items in front of it define
 -- in its space.
-pub record IsPlacedAt (c : CommandTree) (es : List Entry) (i : ℕ) : Type 0 where
+pub record IsIndexedAt (c : CommandTree) (es : List Entry) (i : ℕ) : Type 0 where
   pub front : List Entry
   pub entry : Entry
   pub rest : List Entry
   pub split : es ≡ front ++ entry ∷ rest
   pub adds : added front c ≡ entry ∷ []
-  pub places : Indices
-  pub defined : defines entry.item ≡ Some places
-  pub index : i ≡ next_index (items front) places.space
+  pub indices : Indices
+  pub defined : defines entry.item ≡ Some indices
+  pub index : i ≡ next_index (items front) indices.space

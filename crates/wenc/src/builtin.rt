@@ -1,17 +1,17 @@
 ghost use Rattle.std.specs.Prelude.{◌≡◌, ◌∷◌, [], drop, option_map};
 ghost use Rattle.wenc_canon.specs.CanonTrees.{canon_view};
-ghost use Rattle.wenc_canon.specs.Canonicals.{Index, Flag, intrinsics};
-ghost use Rattle.wenc.specs.Intrinsics.{values_said, one_of, intrinsic};
+ghost use Rattle.wenc_canon.specs.Canonicals.{Index, Flag, builtins};
+ghost use Rattle.wenc.specs.Builtins.{values_said, one_of, builtin};
 ghost use Rattle.wenc.specs.Words.{words_left};
 
 use crate::number::{flag, number};
 use crate::words::Words;
 use wasm_encoder::CanonTree;
 
-/// The intrinsic that a word names, with the words behind it. One with options, a core type or a result has no words.
+/// The builtin that a word names, with the words behind it. One with options, a core type or a result has no words.
 /// Those of resources and tasks come first.
-pub fn intrinsic(verb: &str, words: Words) -> Option<CanonTree>
-    ensures { option_map canon_view result ≡ intrinsic verb.now (words_left words.entry) }
+pub fn builtin(verb: &str, words: Words) -> Option<CanonTree>
+    ensures { option_map canon_view result ≡ builtin verb.now (words_left words.entry) }
 {
     match verb {
         "resource.new" => Some(CanonTree::ResourceNew(index(words)?)),
@@ -29,7 +29,7 @@ pub fn intrinsic(verb: &str, words: Words) -> Option<CanonTree>
 /// The same from those of streams on.
 fn of_stream(verb: &str, words: Words) -> Option<CanonTree>
     ensures { option_map canon_view result ≡
-        one_of (drop 10 intrinsics) verb.now (words_left words.entry) }
+        one_of (drop 10 builtins) verb.now (words_left words.entry) }
 {
     match verb {
         "stream.new" => Some(CanonTree::StreamNew(index(words)?)),
@@ -51,7 +51,7 @@ fn of_stream(verb: &str, words: Words) -> Option<CanonTree>
 /// The same from those of futures on.
 fn of_future(verb: &str, words: Words) -> Option<CanonTree>
     ensures { option_map canon_view result ≡
-        one_of (drop 17 intrinsics) verb.now (words_left words.entry) }
+        one_of (drop 17 builtins) verb.now (words_left words.entry) }
 {
     match verb {
         "future.new" => Some(CanonTree::FutureNew(index(words)?)),
@@ -73,7 +73,7 @@ fn of_future(verb: &str, words: Words) -> Option<CanonTree>
 /// The same from those of error contexts on: these, those of sets of waitables, and of backpressure.
 fn of_error_context(verb: &str, words: Words) -> Option<CanonTree>
     ensures { option_map canon_view result ≡
-        one_of (drop 24 intrinsics) verb.now (words_left words.entry) }
+        one_of (drop 24 builtins) verb.now (words_left words.entry) }
 {
     match verb {
         "error-context.new" | "error-context.debug-message" => None,
@@ -92,7 +92,7 @@ fn of_error_context(verb: &str, words: Words) -> Option<CanonTree>
 /// The same of the last ones: those of threads, and those that forward.
 fn of_thread(verb: &str, words: Words) -> Option<CanonTree>
     ensures { option_map canon_view result ≡
-        one_of (drop 34 intrinsics) verb.now (words_left words.entry) }
+        one_of (drop 34 builtins) verb.now (words_left words.entry) }
 {
     match verb {
         "thread.index" => alone(words, CanonTree::ThreadIndex),

@@ -31,12 +31,12 @@ impl<K: LentKind, A: Allocator> Counted<K, A> {
 }
 
 impl<K: LentKind, A: Allocator> Lender for Counted<K, A> {
-    ghost use Rattle.wenc_base.specs.Openings.{member_appended, member_text, member_ended, no_room_in_holder, is_bare};
+    ghost use Rattle.wenc_base.specs.Openings.{member_appended, member_text, member_ended, no_room_in_holder, is_opened};
     ghost use Rattle.wenc_base.specs.laws.Holders.{opened_is_unfinished, lengthened_twice};
 
     ghost finished = { is_finished };
 
-    ghost opened = { is_bare };
+    ghost opened = { is_opened };
 
     ghost written = { member_appended };
 

@@ -25,7 +25,7 @@ abbrev pub total : Counts → ℕ
 total n = n.core_types + n.types + n.instances
 
 -- It has some declarations, but for a type that is being written.
-pub record IsDeclaring {D : Type 0} (form : Form D) (sort : D → Option Sort)
+pub record IsTypeState {D : Type 0} (form : Form D) (sort : D → Option Sort)
     (t : TypeState) : Type 0 where
   pub enough : total t.counts ≤ t.held.count
   pub counted : OpenedIsIn t.held.opening t.begun t.counts

@@ -1,4 +1,4 @@
--- From a run to the places of its items.
+-- From a run to the indices of its items.
 use Rattle.std.proofs.Common.{◌≡◌, ℕ, List, [], ◌∷◌, ◌++◌, length, Option, Some, None, Result, Ok, Err, refl, sym, subst, ◌∙◌, append_assoc, append-nil, arith}
 use Rattle.std.proofs.lemmas.Option.{same_Some}
 use Rattle.wenc_base.specs.declared.fault.Fault.{Fault}
@@ -6,9 +6,9 @@ use Rattle.wenc_builder.specs.Entry.{Entry, items}
 use Rattle.wenc_builder.specs.Names.{names_entry}
 use Rattle.wenc_builder.specs.Space.{Indices, defines, next_index, index_at, index_of}
 use Rattle.wasm_encoder.specs.Command.{CommandTree, AppendNames}
-use Rattle.wasm_encoder.specs.Cause.{one_or_none, added, place_added}
+use Rattle.wasm_encoder.specs.Cause.{one_or_none, added, index_added}
 use Rattle.wasm_encoder.specs.Ran.{entries_after, RanFrom}
-use Rattle.facts.specs.Placed.{IsPlacedAt}
+use Rattle.facts.specs.Indexed.{IsIndexedAt}
 
 -- what is led to begins with what was there
 pub grown : (es : List Entry) (cs : List CommandTree) (answers : List (Result (Option ℕ) Fault)) (all : List Entry) → RanFrom es cs answers all → (more : List Entry) × (all ≡ es ++ more)
@@ -29,19 +29,19 @@ one_added : (es : List Entry) (c : CommandTree) → (o : Option Entry) × (added
 one_added es AppendNames = (names_entry es, refl)
 one_added es other = (Some _, refl)
 
-placed_by : (c : CommandTree) (es all more : List Entry) (o : Option Entry) (i : ℕ) → added es c ≡ one_or_none o → all ≡ (es ++ one_or_none o) ++ more → Some i ≡ place_added es (one_or_none o) → IsPlacedAt c all i
-placed_by c es all more None i a s e = absurd cc
-placed_by c es all more (Some x) i a s e =
+indexed_by : (c : CommandTree) (es all more : List Entry) (o : Option Entry) (i : ℕ) → added es c ≡ one_or_none o → all ≡ (es ++ one_or_none o) ++ more → Some i ≡ index_added es (one_or_none o) → IsIndexedAt c all i
+indexed_by c es all more None i a s e = absurd cc
+indexed_by c es all more (Some x) i a s e =
     let k = at_defined es (defines x.item) i e in
-    record { front = es; entry = x; rest = more; split = s ∙ append_assoc es (x ∷ []) more; adds = a; places = k.0; defined = k.1; index = k.2 }
+    record { front = es; entry = x; rest = more; split = s ∙ append_assoc es (x ∷ []) more; adds = a; indices = k.0; defined = k.1; index = k.2 }
 
 -- an answered index is its item's next_index
-pub placed_at : (es : List Entry) (front : List CommandTree) (c : CommandTree) (behind : List CommandTree) (so_far : List (Result (Option ℕ) Fault)) (i : ℕ) (later : List (Result (Option ℕ) Fault)) (all : List Entry)
-    → length front ≡ length so_far → RanFrom es (front ++ c ∷ behind) (so_far ++ Ok (Some i) ∷ later) all → IsPlacedAt c all i
-placed_at es [] c behind [] i later all n r =
+pub indexed_at : (es : List Entry) (front : List CommandTree) (c : CommandTree) (behind : List CommandTree) (so_far : List (Result (Option ℕ) Fault)) (i : ℕ) (later : List (Result (Option ℕ) Fault)) (all : List Entry)
+    → length front ≡ length so_far → RanFrom es (front ++ c ∷ behind) (so_far ++ Ok (Some i) ∷ later) all → IsIndexedAt c all i
+indexed_at es [] c behind [] i later all n r =
     let o = one_added es c in
     let k = grown (es ++ added es c) behind later all r.1 in
-    placed_by c es all k.0 o.0 i o.1 (subst (λ (xs : List Entry). all ≡ (es ++ xs) ++ k.0) o.1 k.1) (subst (λ (xs : List Entry). Some i ≡ place_added es xs) o.1 r.0.0)
-placed_at es [] c behind (a ∷ so_far) i later all n r = absurd (omega (arith, n))
-placed_at es (b ∷ front) c behind [] i later all n r = absurd (omega (arith, n))
-placed_at es (b ∷ front) c behind (a ∷ so_far) i later all n r = placed_at (entries_after es b a) front c behind so_far i later all (omega (arith, n)) r.1
+    indexed_by c es all k.0 o.0 i o.1 (subst (λ (xs : List Entry). all ≡ (es ++ xs) ++ k.0) o.1 k.1) (subst (λ (xs : List Entry). Some i ≡ index_added es xs) o.1 r.0.0)
+indexed_at es [] c behind (a ∷ so_far) i later all n r = absurd (omega (arith, n))
+indexed_at es (b ∷ front) c behind [] i later all n r = absurd (omega (arith, n))
+indexed_at es (b ∷ front) c behind (a ∷ so_far) i later all n r = indexed_at (entries_after es b a) front c behind so_far i later all (omega (arith, n)) r.1

@@ -1,5 +1,5 @@
-use Rattle.wasm_encoder.proofs.NamedPlaces.{ascending, below, led_nameless}
-use Rattle.wasm_encoder.proofs.laws.of_builders.named_places_ascend.Goals as goal
+use Rattle.wasm_encoder.proofs.NamedIndices.{ascending, below, led_nameless}
+use Rattle.wasm_encoder.proofs.laws.of_builders.named_indices_ascend.Goals as goal
 
 pub returns-clause-ascending : goal.returns-clause-ascending
 returns-clause-ascending c = ascending

@@ -5,7 +5,7 @@ use Rattle.std.specs.Prelude.{ℕ, if◌then◌else◌, List, [], ◌∷◌, Opt
 use Rattle.std.specs.Option.{option_and_then}
 use Rattle.std.specs.Str.{bytes_eq}
 use Rattle.wenc_canon.specs.Canonicals.{Field, Index, Flag, Zero, Value, Values, Builtin, row}
-use Rattle.wenc_canon.specs.Canonicals.{intrinsics, Canonical, OfBuiltin}
+use Rattle.wenc_canon.specs.Canonicals.{builtins, Canonical, OfBuiltin}
 use Rattle.wenc.specs.Fields.{number_word, flag_word}
 
 -- what words say of a field, and the words behind
@@ -27,12 +27,12 @@ values_said (f ∷ []) words = option_and_then word_is_over (said f words)
 values_said (f ∷ g ∷ fs) words =
     option_and_then (λ s. option_map (λ vs. (s.0, vs)) (values_said (g ∷ fs) s.1)) (said f words)
 
--- one of these intrinsics
+-- one of these builtins
 abbrev pub one_of : List Builtin → List ℕ → List (List ℕ) → Option Canonical
 one_of [] verb words = None
 one_of (i ∷ is) verb words =
     if bytes_eq verb (row i).name then option_map (OfBuiltin i) (values_said (row i).fields words)
     else one_of is verb words
 
-abbrev pub intrinsic : List ℕ → List (List ℕ) → Option Canonical
-intrinsic = one_of intrinsics
+abbrev pub builtin : List ℕ → List (List ℕ) → Option Canonical
+builtin = one_of builtins

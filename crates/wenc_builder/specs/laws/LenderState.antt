@@ -4,15 +4,15 @@ use Rattle.wenc_builder.specs.Item.{item}
 use Rattle.wenc_builder.specs.Entry.{Entry}
 use Rattle.wenc_builder.specs.Builder.{BegunItem, State, builder_is_finished, Draft, item_begun, begun_appended, item_appended, item_given_up}
 use Rattle.wenc_builder.specs.Holds.{Holds}
-use Rattle.wenc_builder.specs.Lent.{item_is_bare, builder_is_bare}
+use Rattle.wenc_builder.specs.LenderState.{item_is_opened, builder_is_opened}
 use Rattle.wenc_builder.specs.declared.builder.space.Space.TheVariants as spaces
 
-bare_is_begun_at : (b : Option BegunItem) → item_is_bare b ≡ true → is_none b ≡ false
+bare_is_begun_at : (b : Option BegunItem) → item_is_opened b ≡ true → is_none b ≡ false
 bare_is_begun_at None e = cc
 bare_is_begun_at (Some b) e = refl
 
-pub bare_is_begun : (s : State) → builder_is_bare s ≡ true → builder_is_finished s ≡ false
-bare_is_begun s e = bare_is_begun_at s.begun e
+pub opened_is_begun : (s : State) → builder_is_opened s ≡ true → builder_is_finished s ≡ false
+opened_is_begun s e = bare_is_begun_at s.begun e
 
 still_begun_at : (b : Option BegunItem) (text : List ℕ) → is_none b ≡ false → is_none (begun_appended b text) ≡ false
 still_begun_at None text e = cc

@@ -1,6 +1,0 @@
-use Rattle.std.proofs.Common.{sym}
-use Rattle.wenc_builder.proofs.Standing.{placeless_outcome}
-use Rattle.wenc_builder.proofs.builder.ComponentBuilder.place_nowhere.Goals as goal
-
-pub invariant_of-self : goal.invariant_of-self
-invariant_of-self g c = placeless_outcome c.self.inside.buffer c.self.inside.spaces c.self.invariant (sym c.if-not-is_finished.ensures) c.stand_alone.new.self c.stand_alone.result (g.E.Encode.piece c.args.section.now) c.requires c.stand_alone.ensures.fits c.stand_alone.ensures.ok c.stand_alone.ensures.err
