@@ -7,7 +7,7 @@ use Rattle.wenc_base.specs.declared.fault.Fault.{Fault}
 use Rattle.wenc_base.specs.Holder.{HolderState, Contains}
 use Rattle.wenc_base.specs.Lender.{Extended}
 use Rattle.wenc_base.specs.Openings.{member_begun, member_appended, member_ended}
-use Rattle.wenc_base.specs.laws.Holders.{contains_opened, lengthened_twice}
+use Rattle.wenc_base.specs.laws.Holders.{contains_opened, member_appended_twice}
 use Rattle.wenc_parts.specs.Types.{result_list}
 use Rattle.wenc_parts.specs.declared.types.ComponentValType.{ComponentValType}
 use Rattle.wenc_types.specs.ComponentTypes.{DefType, FunctionType, def_type}
@@ -23,7 +23,7 @@ function_is_one_more : (h : HolderState) (ps : List LabelledType) (answer : Opti
     → Contains def_type (member_ended (member_appended (member_appended (member_begun h []) (0x40 ∷ (list labelled_type ps).text)) (result_list answer).text)) (types ++ function ps answer ∷ [])
 function_is_one_more h ps answer types fits answers c =
     subst (λ (d : HolderState). Contains def_type (member_ended d) (types ++ function ps answer ∷ []))
-    (sym (lengthened_twice (member_begun h []) (0x40 ∷ (list labelled_type ps).text) (result_list answer).text))
+    (sym (member_appended_twice (member_begun h []) (0x40 ∷ (list labelled_type ps).text) (result_list answer).text))
     (contains_opened def_type h (function ps answer) types [] ((0x40 ∷ (list labelled_type ps).text) ++ (result_list answer).text) refl (fits, answers) c)
 
 -- A function type that was written in two parts, its parameters and then what it answers, is one type more.

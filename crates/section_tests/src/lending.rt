@@ -6,7 +6,7 @@ use std::alloc::{Allocator, Global};
 use std::process::Abort;
 use sweeping::{sweep_encode, sweep_section};
 use wenc_base::{Encode, Fault, ByRef};
-use wenc_sections::{Counted, LentKind};
+use wenc_sections::{Counted, EncoderKind};
 use wenc_types::{Declarations, DeclaredKind};
 
 /// How many items or declarations there are, and the core types, types and instances that are
@@ -136,7 +136,7 @@ impl<K: OwnKind, A: Allocator + Clone> Lending for Declarations<K, A> {
 }
 
 /// A kind of section that has types.
-pub trait TypeKind: LentKind + Sized {
+pub trait TypeKind: EncoderKind + Sized {
     fn add_short<A: Allocator>(section: &mut Counted<Self, A>) -> Result<(), Fault>;
 
     fn begin<A: Allocator>(section: &mut Counted<Self, A>) -> Result<(), Fault>;

@@ -38,46 +38,46 @@ pub record ExtendsListed {T S B : Type 0} (steps : S → Option B → S → Type
 
 -- With this piece more, if it fits, what is being written is a whole member.
 abbrev pub MakesWhole : {T : Type 0} → (T → Type 0) → (T → List ℕ → T) → T → Piece → Type 0
-MakesWhole is_whole written lender p = p.Fits → ∥ is_whole (written lender p.text) ∥₁
+MakesWhole is_whole appended lender p = p.Fits → ∥ is_whole (appended lender p.text) ∥₁
 
 -- A last call adds this piece to the member and ends it, or is refused for a cause and changes
 -- nothing.
 abbrev pub Ends : {T : Type 0} → (T → List ℕ → T) → (T → T) → (T → List ℕ → Fault → Type 0) → T → T
     → Result (Unit {0}) Fault → Piece → Type 0
-Ends written ended refuses old new outcome p =
-    Extends old new (ended (written old p.text)) outcome p (refuses old p.text)
+Ends appended ended refuses old new outcome p =
+    Extends old new (ended (appended old p.text)) outcome p (refuses old p.text)
 
 -- The same where the piece is made of the values that an iterator gives.
 abbrev pub EndsListed : {T S B : Type 0} → (T → List ℕ → T) → (T → T)
     → (T → List ℕ → Fault → Type 0) → (S → Option B → S → Type 0) → S → T → T
     → Result (Unit {0}) Fault → (List B → Piece) → Type 0
-EndsListed written ended refuses steps values old new outcome piece =
-    ExtendsListed steps values old new outcome (λ bytes. ended (written old bytes)) (refuses old)
+EndsListed appended ended refuses steps values old new outcome piece =
+    ExtendsListed steps values old new outcome (λ bytes. ended (appended old bytes)) (refuses old)
     piece
 
 -- The same of two lists, of which the second comes when the first is added. A call that is refused
 -- may have added the first.
-pub record EndsLists {T S R B C : Type 0} (written : T → List ℕ → T) (ended : T → T)
+pub record EndsLists {T S R B C : Type 0} (appended : T → List ℕ → T) (ended : T → T)
     (refuses : T → List ℕ → Fault → Type 0)
     (steps : S → Option B → S → Type 0) (values : S) (more_steps : R → Option C → R → Type 0)
     (more : R) (old new : T) (outcome : Result (Unit {0}) Fault)
     (piece : List B → Piece) (more_piece : List C → Piece) : Type 0 where
   pub ok : OnOk outcome (WholeRun steps values (λ run. WholeRun more_steps more (λ last.
-      let between = written old (piece run.items).text in
-      (new ≡ ended (written between (more_piece last.items).text))
+      let between = appended old (piece run.items).text in
+      (new ≡ ended (appended between (more_piece last.items).text))
       × (piece run.items).Fits × (more_piece last.items).Fits
       × NoCause (either (piece run.items).Cause (refuses old (piece run.items).text))
       × NoCause
       (either (more_piece last.items).Cause (refuses between (more_piece last.items).text)))))
   pub err : OnErr outcome
-      ((new ≡ old) ⊎ WholeRun steps values (λ run. new ≡ written old (piece run.items).text))
+      ((new ≡ old) ⊎ WholeRun steps values (λ run. new ≡ appended old (piece run.items).text))
   pub warranted : IfErr outcome
       (λ fault. SomeRun steps values (λ run.
       IsWarranted (either (piece run.items).Cause (refuses old (piece run.items).text)) fault)
       ⊎ WholeRun steps values (λ run. SomeRun more_steps more (λ last.
       IsWarranted
       (either (more_piece last.items).Cause
-      (refuses (written old (piece run.items).text) (more_piece last.items).text)) fault)))
+      (refuses (appended old (piece run.items).text) (more_piece last.items).text)) fault)))
 
 -- A call begins a member and lends what has it to an encoder, or is refused for a cause.
 pub record Lends {T E : Type 0} (lent : E → T) (next : T) (finished : Bool)

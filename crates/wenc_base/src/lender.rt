@@ -22,7 +22,7 @@ pub trait Lender {
     ghost opened: { Self → Bool };
 
     /// The value with more bytes of the member.
-    ghost written: { Self → List ℕ → Self };
+    ghost appended: { Self → List ℕ → Self };
 
     /// What was written since the opening is a whole member of the kind that was opened.
     ghost is_whole: { Self → Type 0 };
@@ -38,17 +38,18 @@ pub trait Lender {
 
     /// The member stays unfinished.
     ghost stays: { (x : Self) (text : List ℕ)
-        → finished x ≡ false → finished (written x text) ≡ false };
+        → finished x ≡ false → finished (appended x text) ≡ false };
 
     /// Bytes and then more are all of them.
     ghost joins: { (x : Self) (text more : List ℕ)
-        → written (written x text) more ≡ written x (text ++ more) };
+        → appended (appended x text) more ≡ appended x (text ++ more) };
 
     /// Adds the text of a value to the member. A refused call changes nothing.
     fn append_value<E: Encode>(&mut self, value: &E) -> Result<(), Fault>
         requires { finished self.old ≡ false }
-        ensures appended { Extends self.old self.new (written self.old (E.piece value.now).text)
-            result (E.piece value.now) (refuses self.old (E.piece value.now).text) }
+        ensures appended { Extends self.old self.new
+            (Self.appended self.old (E.piece value.now).text) result (E.piece value.now)
+            (refuses self.old (E.piece value.now).text) }
         ensures unfinished_value { E.unfinished value.now → result ≡ Err Unfinished };
 
     /// Adds these bytes to the member, then the values as a list. A refused call changes nothing.
@@ -60,7 +61,7 @@ pub trait Lender {
         requires unfinished { finished self.old ≡ false }
         requires can { I.can_next values }
         requires ends { IsFinite (I.remaining values) }
-        ensures { ExtendsListed I.next_gives values self.old self.new result (written self.old)
+        ensures { ExtendsListed I.next_gives values self.old self.new result (appended self.old)
             (refuses self.old) (λ vs. behind_bytes lead.now (list T.piece vs)) };
 
     /// Ends the member, which is whole. It takes no memory.
@@ -71,8 +72,8 @@ pub trait Lender {
     /// Adds the text of a value to the member, which is whole then, and ends it. A refused call changes nothing.
     fn end_with<E: Encode>(&mut self, value: &E) -> Result<(), Fault>
         requires unfinished { finished self.old ≡ false }
-        requires whole { MakesWhole is_whole written self.old (E.piece value.now) }
-        ensures ended { Ends written Self.ended refuses self.old self.new result
+        requires whole { MakesWhole is_whole appended self.old (E.piece value.now) }
+        ensures ended { Ends appended Self.ended refuses self.old self.new result
             (E.piece value.now) }
         ensures unfinished_value { E.unfinished value.now → result ≡ Err Unfinished }
     {
@@ -90,10 +91,10 @@ pub trait Lender {
     ) -> Result<(), Fault>
         requires unfinished { finished self.old ≡ false }
         requires whole { (vs : List T)
-            → MakesWhole is_whole written self.old (behind_bytes lead.now (list T.piece vs)) }
+            → MakesWhole is_whole appended self.old (behind_bytes lead.now (list T.piece vs)) }
         requires can { I.can_next values }
         requires ends { IsFinite (I.remaining values) }
-        ensures { EndsListed written Self.ended refuses I.next_gives values self.old self.new
+        ensures { EndsListed appended Self.ended refuses I.next_gives values self.old self.new
             result (λ vs. behind_bytes lead.now (list T.piece vs)) }
     {
         self.append_list(lead, values)?;
@@ -105,13 +106,13 @@ pub trait Lender {
 impl<A: Allocator> Lender for Holder<A> {
     ghost use Rattle.wenc_base.specs.Holder.{is_finished};
     ghost use Rattle.wenc_base.specs.Openings.{member_appended, member_ended, no_room_in_holder, is_opened};
-    ghost use Rattle.wenc_base.specs.laws.Holders.{opened_is_unfinished, lengthened_twice};
+    ghost use Rattle.wenc_base.specs.laws.Holders.{opened_is_unfinished, member_appended_twice};
 
     ghost finished = { is_finished };
 
     ghost opened = { is_opened };
 
-    ghost written = { member_appended };
+    ghost appended = { member_appended };
 
     // Its members are any bytes.
     ghost is_whole = { λ _. Unit {0} };
@@ -124,7 +125,7 @@ impl<A: Allocator> Lender for Holder<A> {
 
     ghost stays = { λ _ _ unfinished. unfinished };
 
-    ghost joins = { lengthened_twice };
+    ghost joins = { member_appended_twice };
 
     fn append_value<E: Encode>(&mut self, value: &E) -> Result<(), Fault> {
         self.append_encoded(value)

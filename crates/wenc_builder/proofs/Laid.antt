@@ -169,14 +169,14 @@ too_large_at h text closed_len (Some k) (Some e) opening o l f large =
     let one : h.count ≡ 1 = ap (λ (x : HolderState). x.count) l.first in
     one_of_it e.kind k e.count _ _ (h.body ++ text) l.another (rw one at large)
 
-lengthened_at : (h : HolderState) (text : List ℕ) (closed_len : ℕ) (kind : Option Kind) (earlier : Option Earlier) (opening : Option Opening) → h.opening ≡ opening → EarlierIsIn h closed_len kind earlier → is_finished h ≡ false
+appended_at : (h : HolderState) (text : List ℕ) (closed_len : ℕ) (kind : Option Kind) (earlier : Option Earlier) (opening : Option Opening) → h.opening ≡ opening → EarlierIsIn h closed_len kind earlier → is_finished h ≡ false
     → buffer_view (member_appended h text) closed_len kind earlier ≡ buffer_appended (buffer_view h closed_len kind earlier) text
-lengthened_at h text closed_len kind None None o l f = let finished = rw o at f in cc
-lengthened_at h text closed_len None None (Some x) o l f = let none = l.0.2 in cc
-lengthened_at h text closed_len (Some k) None (Some x) o l f =
+appended_at h text closed_len kind None None o l f = let finished = rw o at f in cc
+appended_at h text closed_len None None (Some x) o l f = let none = l.0.2 in cc
+appended_at h text closed_len (Some k) None (Some x) o l f =
     let indices = rw o at l.1 in
     rw (o, take-append-le x.member_start h.body text indices.0, drop-append-le x.member_start h.body text indices.0) refl
-lengthened_at h text closed_len kind (Some e) opening o l f = refl
+appended_at h text closed_len kind (Some e) opening o l f = refl
 
 still_at : (h : HolderState) (text : List ℕ) (closed_len : ℕ) (kind : Option Kind) (earlier : Option Earlier) (opening : Option Opening) → h.opening ≡ opening → EarlierIsIn h closed_len kind earlier → is_finished h ≡ false
     → EarlierIsIn (member_appended h text) closed_len kind earlier
@@ -199,7 +199,7 @@ module _ (old : HolderState) (closed_len : ℕ) (kind : Option Kind) (earlier : 
   unfinished = some_is_written old closed_len kind earlier now laid view writing
 
   pub longer_view : (text : List ℕ) → buffer_view (member_appended old text) closed_len kind earlier ≡ buffer_appended now text
-  longer_view text = rw (← view) (lengthened_at old text closed_len kind earlier old.opening refl laid.indices unfinished)
+  longer_view text = rw (← view) (appended_at old text closed_len kind earlier old.opening refl laid.indices unfinished)
 
   pub still_laid : (text : List ℕ) → IsLaidOut (member_appended old text) closed_len kind earlier
   still_laid text = record { indices = still_at old text closed_len kind earlier old.opening refl laid.indices unfinished }

@@ -24,7 +24,7 @@ use Rattle.wenc_builder.specs.inside.Layout.{kind_id, draft_of}
 use Rattle.wenc_builder.specs.LenderState.{no_room_in_section}
 use Rattle.wenc_builder.specs.declared.builder.kind.Kind.TheVariants as kinds
 use Rattle.wenc_builder.specs.declared.builder.space.Space.{Space}
-use Rattle.wenc_builder.specs.laws.LenderState.{still_begun, appended_twice}
+use Rattle.wenc_builder.specs.laws.LenderState.{still_begun, item_appended_twice}
 use Rattle.wenc_builder.specs.laws.Caused.{section_grows}
 use Rattle.wenc_builder.proofs.Entered.{IsDraftOf, draft_enters}
 use Rattle.wenc_builder.proofs.Taken.{not_begun, added, partly_written}
@@ -43,7 +43,7 @@ room_grows s text more fault p = (p.0, room_grows_at s s.begun text more refl p.
 
 -- no room behind a text is no room for both
 room_behind : (s : State) (text more : List ℕ) (fault : Fault) → no_room_in_section (item_appended s text) more fault → no_room_in_section s (text ++ more) fault
-room_behind s text more fault p = (p.0, subst (λ (x : State). SectionCause (content_of x).sections.current TooLarge) (appended_twice s text more) p.1)
+room_behind s text more fault p = (p.0, subst (λ (x : State). SectionCause (content_of x).sections.current TooLarge) (item_appended_twice s text more) p.1)
 
 module _ {S B : Type 0} (steps : S → Option B → S → Type 0) (values : S) (old : State) (begun : builder_is_finished old ≡ false) (lead : Piece) (form : Form B) (tail : Piece) where
   abbrev Whole : List B → Piece
@@ -88,10 +88,10 @@ module _ {S B : Type 0} (steps : S → Option B → S → Type 0) (values : S) (
       texts = (list form came).text
 
       next_is : next ≡ item_appended old (lead.text ++ texts)
-      next_is = second.ok.3.state ∙ ap (λ (s : State). item_appended s texts) first.ok ∙ appended_twice old lead.text texts
+      next_is = second.ok.3.state ∙ ap (λ (s : State). item_appended s texts) first.ok ∙ item_appended_twice old lead.text texts
 
       whole_is : item_appended next tail.text ≡ item_appended old (Whole came).text
-      whole_is = ap (λ (s : State). item_appended s tail.text) next_is ∙ appended_twice old (lead.text ++ texts) tail.text ∙ ap (λ (t : List ℕ). item_appended old t) (append_assoc lead.text texts tail.text)
+      whole_is = ap (λ (s : State). item_appended s tail.text) next_is ∙ item_appended_twice old (lead.text ++ texts) tail.text ∙ ap (λ (t : List ℕ). item_appended old t) (append_assoc lead.text texts tail.text)
 
       there : (f : Fault) → either tail.Cause (no_room_in_section next tail.text) f → either (Whole came).Cause (no_room_in_section old (Whole came).text) f
       there f c = elim c [

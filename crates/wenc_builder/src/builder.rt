@@ -705,17 +705,17 @@ impl<A: Allocator> ComponentBuilder<A> {
 impl<A: Allocator> Lender for ComponentBuilder<A> {
     ghost use Rattle.wenc_builder.specs.Builder.{builder_is_finished, item_appended, item_ended};
     ghost use Rattle.wenc_builder.specs.LenderState.{builder_is_opened, is_whole, no_room_in_section};
-    ghost use Rattle.wenc_builder.specs.laws.LenderState.{opened_is_begun, still_begun, appended_twice};
+    ghost use Rattle.wenc_builder.specs.laws.LenderState.{opened_is_begun, still_begun, item_appended_twice};
 
     ghost finished = { builder_is_finished };
 
     ghost opened = { builder_is_opened };
 
-    ghost written = { item_appended };
+    ghost appended = { item_appended };
 
     ghost is_whole = { is_whole };
 
-    ghost item_ended = { item_ended };
+    ghost ended = { item_ended };
 
     ghost refuses = { no_room_in_section };
 
@@ -723,7 +723,7 @@ impl<A: Allocator> Lender for ComponentBuilder<A> {
 
     ghost stays = { still_begun };
 
-    ghost joins = { appended_twice };
+    ghost joins = { item_appended_twice };
 
     fn append_value<E: Encode>(&mut self, value: &E) -> Result<(), Fault> {
         self.buffer.append(value)

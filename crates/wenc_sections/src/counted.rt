@@ -8,7 +8,7 @@ ghost use Rattle.wenc_parts.specs.declared.component.ComponentSectionId.{Compone
 
 mod lender;
 
-pub use lender::LentKind;
+pub use lender::EncoderKind;
 use std::alloc::{Allocator, Global};
 use std::marker::{Model, PhantomData};
 use wenc_base::{Encode, Fault, Holder};

@@ -21,7 +21,7 @@ pub mod types;
 pub use aliases::ComponentAliasSection;
 pub use component::Component;
 pub use components::NestedComponentSection;
-pub use counted::{Counted, LentKind};
+pub use counted::{Counted, EncoderKind};
 pub use exports::ComponentExportSection;
 pub use imports::ComponentImportSection;
 pub use instance_trees::{CoreInstanceTree, InstanceTree};

@@ -9,7 +9,7 @@ ghost use Rattle.wenc_types.specs.ComponentTypes.{InstanceDeclaration, Component
 ghost use Rattle.wenc_types.specs.Declarations.{ComponentDeclares, InstanceDeclares};
 ghost use Rattle.wenc_types.specs.declared.func_type.FuncStage.TheVariants as stages;
 
-use crate::counted::{Counted, CountedKind, LentKind};
+use crate::counted::{Counted, CountedKind, EncoderKind};
 use std::alloc::{Allocator, Global};
 use wenc_base::{Fault, Tagged, ValType};
 use wenc_parts::ComponentSectionId;
@@ -33,7 +33,7 @@ impl CountedKind for CoreTypes {
     ghost is_item = { HasForm core_type };
 }
 
-impl LentKind for CoreTypes {}
+impl EncoderKind for CoreTypes {}
 
 /// The section of core types (component model, binary format, "Core Definitions").
 ///
@@ -80,7 +80,7 @@ impl CountedKind for ComponentTypes {
     ghost is_item = { HasForm def_type };
 }
 
-impl LentKind for ComponentTypes {}
+impl EncoderKind for ComponentTypes {}
 
 /// The section of types (component model, binary format, "Type Definitions").
 ///

@@ -26,7 +26,7 @@ pub struct ComponentCoreTypeEncoder<'a, L: Lender> {
     lender: &'a mut L,
     ghost opened: { L.opened lender.now ≡ true },
     ghost whole: { (t : CoreType)
-        → MakesWhole L.is_whole L.written lender.now (core_type t) },
+        → MakesWhole L.is_whole L.appended lender.now (core_type t) },
 }
 
 impl<'a, L: Lender> ComponentCoreTypeEncoder<'a, L> {
@@ -34,7 +34,7 @@ impl<'a, L: Lender> ComponentCoreTypeEncoder<'a, L> {
     pub fn new(lender: &'a mut L) -> Self
         requires opened { L.opened lender.old ≡ true }
         requires whole { (t : CoreType)
-            → MakesWhole L.is_whole L.written lender.old (core_type t) }
+            → MakesWhole L.is_whole L.appended lender.old (core_type t) }
         ensures same_reference { result.lender.ghost_name ≡ lender.entry.ghost_name }
         ensures now { result.lender.now ≡ lender.old }
     {
@@ -44,11 +44,11 @@ impl<'a, L: Lender> ComponentCoreTypeEncoder<'a, L> {
     /// This module type, which ends the type. It is refused with `Unfinished` where the module type is unfinished, and
     /// where there would be too many bytes in what was lent (`TooLarge`).
     pub fn module<A: Allocator>(self, ty: &ModuleType<A>) -> Result<(), Fault>
-        ensures ended { Ends L.written L.ended L.refuses
+        ensures ended { Ends L.appended L.ended L.refuses
             self.entry.lender.now self.exit.0.now result
             (0x50 ▸ held_members ty.now.held) }
         ensures declared { (ds : List ModuleDeclaration) → ModuleDeclares ty.now ds
-            → Ends L.written L.ended L.refuses self.entry.lender.now self.exit.0.now result
+            → Ends L.appended L.ended L.refuses self.entry.lender.now self.exit.0.now result
             (refused_for (EncodeCause ty.now.held) (core_type (Module ds))) }
         ensures unfinished { is_finished ty.now.held ≡ false → result ≡ Err Unfinished }
     {
@@ -61,7 +61,7 @@ impl<'a, L: Lender> ComponentCoreTypeEncoder<'a, L> {
     /// The type of this tree, which ends the type. It is refused where a list in it is too long (`TooMany`), or where
     /// there would be too many bytes (`TooLarge`).
     pub fn tree<A: Allocator>(self, ty: &CoreTypeTree<A>) -> Result<(), Fault>
-        ensures { Ends L.written L.ended L.refuses self.entry.lender.now self.exit.0.now result
+        ensures { Ends L.appended L.ended L.refuses self.entry.lender.now self.exit.0.now result
             (core_type (core_type_view ty.now)) }
     {
         self.lender.end_with(ty)

@@ -259,17 +259,17 @@ impl<K: DeclaredKind, A: Allocator> Lender for Declarations<K, A> {
     ghost use Rattle.wenc_base.specs.Openings.{no_room_in_holder, is_opened, member_text};
     ghost use Rattle.wenc_base.specs.laws.Holders.{opened_is_unfinished};
     ghost use Rattle.wenc_types.specs.Declarations.{IsDeclaration, type_appended, type_ended};
-    ghost use Rattle.wenc_types.specs.laws.Declarations.{written_twice};
+    ghost use Rattle.wenc_types.specs.laws.Declarations.{type_appended_twice};
 
     ghost finished = { λ t. is_finished t.held };
 
     ghost opened = { λ t. is_opened t.held };
 
-    ghost type_appended = { type_appended };
+    ghost appended = { type_appended };
 
     ghost is_whole = { λ t. IsDeclaration K.form K.sort (member_text t.held) t.begun };
 
-    ghost type_ended = { type_ended };
+    ghost ended = { type_ended };
 
     ghost refuses = { λ t. no_room_in_holder t.held };
 
@@ -277,7 +277,7 @@ impl<K: DeclaredKind, A: Allocator> Lender for Declarations<K, A> {
 
     ghost stays = { λ _ _ unfinished. unfinished };
 
-    ghost joins = { written_twice };
+    ghost joins = { type_appended_twice };
 
     fn append_value<E: Encode>(&mut self, value: &E) -> Result<(), Fault> {
         self.held.append_encoded(value)

@@ -26,7 +26,7 @@ pub struct ComponentDefinedTypeEncoder<'a, L: Lender> {
     lender: &'a mut L,
     ghost unfinished: { L.finished lender.now ≡ false },
     ghost whole: { (t : DefValType)
-        → MakesWhole L.is_whole L.written lender.now (def_val_type t) },
+        → MakesWhole L.is_whole L.appended lender.now (def_val_type t) },
 }
 
 impl<'a, L: Lender> ComponentDefinedTypeEncoder<'a, L> {
@@ -34,7 +34,7 @@ impl<'a, L: Lender> ComponentDefinedTypeEncoder<'a, L> {
     pub fn new(lender: &'a mut L) -> Self
         requires opened { L.opened lender.old ≡ true }
         requires whole { (t : DefValType)
-            → MakesWhole L.is_whole L.written lender.old (def_val_type t) }
+            → MakesWhole L.is_whole L.appended lender.old (def_val_type t) }
         ensures same_reference { result.lender.ghost_name ≡ lender.entry.ghost_name }
         ensures now { result.lender.now ≡ lender.old }
     {
@@ -43,7 +43,7 @@ impl<'a, L: Lender> ComponentDefinedTypeEncoder<'a, L> {
 
     /// The type of this tree.
     pub fn tree<A: Allocator>(self, ty: &DefinedTree<A>) -> Result<(), Fault>
-        ensures { Ends L.written L.ended L.refuses self.entry.lender.now self.exit.0.now result
+        ensures { Ends L.appended L.ended L.refuses self.entry.lender.now self.exit.0.now result
             (def_val_type (defined_view ty.now)) }
     {
         self.lender.end_with(ty)
@@ -51,7 +51,7 @@ impl<'a, L: Lender> ComponentDefinedTypeEncoder<'a, L> {
 
     /// A primitive type.
     pub fn primitive(self, ty: PrimitiveValType) -> Result<(), Fault>
-        ensures { Ends L.written L.ended L.refuses self.entry.lender.now self.exit.0.now result
+        ensures { Ends L.appended L.ended L.refuses self.entry.lender.now self.exit.0.now result
             (def_val_type (Primitive ty)) }
     {
         self.lender.end_with(&ty)
@@ -63,7 +63,7 @@ impl<'a, L: Lender> ComponentDefinedTypeEncoder<'a, L> {
         F: Iterator<Item = (&'b str, ComponentValType)> + Drop,
         requires can { F.can_next fields }
         requires ends { IsFinite (F.remaining fields) }
-        ensures { EndsListed L.written L.ended L.refuses F.next_gives fields
+        ensures { EndsListed L.appended L.ended L.refuses F.next_gives fields
             self.entry.lender.now self.exit.0.now result
             (λ fs. def_val_type (Record (map lent_named fs))) }
     {
@@ -76,7 +76,7 @@ impl<'a, L: Lender> ComponentDefinedTypeEncoder<'a, L> {
         C: Iterator<Item = (&'b str, Option<ComponentValType>)> + Drop,
         requires can { C.can_next cases }
         requires ends { IsFinite (C.remaining cases) }
-        ensures { EndsListed L.written L.ended L.refuses C.next_gives cases
+        ensures { EndsListed L.appended L.ended L.refuses C.next_gives cases
             self.entry.lender.now self.exit.0.now result
             (λ cs. def_val_type (Variant (map lent_case cs))) }
     {
@@ -86,7 +86,7 @@ impl<'a, L: Lender> ComponentDefinedTypeEncoder<'a, L> {
 
     /// A list of any length.
     pub fn list(self, ty: ComponentValType) -> Result<(), Fault>
-        ensures { Ends L.written L.ended L.refuses self.entry.lender.now self.exit.0.now result
+        ensures { Ends L.appended L.ended L.refuses self.entry.lender.now self.exit.0.now result
             (def_val_type (ListOf ty)) }
     {
         self.lender.end_with(&Tagged(0x70, &ty))
@@ -94,7 +94,7 @@ impl<'a, L: Lender> ComponentDefinedTypeEncoder<'a, L> {
 
     /// A map from keys to values.
     pub fn map(self, key: ComponentValType, value: ComponentValType) -> Result<(), Fault>
-        ensures { Ends L.written L.ended L.refuses self.entry.lender.now self.exit.0.now result
+        ensures { Ends L.appended L.ended L.refuses self.entry.lender.now self.exit.0.now result
             (def_val_type (MapOf key value)) }
     {
         self.lender.end_with(&Tagged(0x63, &(key, value)))
@@ -102,7 +102,7 @@ impl<'a, L: Lender> ComponentDefinedTypeEncoder<'a, L> {
 
     /// A list of this length, from 0 to 4294967295.
     pub fn fixed_length_list(self, ty: ComponentValType, length: u32) -> Result<(), Fault>
-        ensures { Ends L.written L.ended L.refuses self.entry.lender.now self.exit.0.now result
+        ensures { Ends L.appended L.ended L.refuses self.entry.lender.now self.exit.0.now result
             (def_val_type (FixedLengthList ty length)) }
     {
         self.lender.end_with(&Tagged(0x67, &(ty, length)))
@@ -114,7 +114,7 @@ impl<'a, L: Lender> ComponentDefinedTypeEncoder<'a, L> {
         T: Iterator<Item = ComponentValType> + Drop,
         requires can { T.can_next types }
         requires ends { IsFinite (T.remaining types) }
-        ensures { EndsListed L.written L.ended L.refuses T.next_gives types
+        ensures { EndsListed L.appended L.ended L.refuses T.next_gives types
             self.entry.lender.now self.exit.0.now result
             (λ ts. def_val_type (Tuple ts)) }
     {
@@ -125,7 +125,7 @@ impl<'a, L: Lender> ComponentDefinedTypeEncoder<'a, L> {
     pub fn flags<'b, F: Iterator<Item = &'b str> + Drop>(self, names: F) -> Result<(), Fault>
         requires can { F.can_next names }
         requires ends { IsFinite (F.remaining names) }
-        ensures { EndsListed L.written L.ended L.refuses F.next_gives names
+        ensures { EndsListed L.appended L.ended L.refuses F.next_gives names
             self.entry.lender.now self.exit.0.now result
             (λ ns. def_val_type (Flags (map (λ n. n.now) ns))) }
     {
@@ -136,7 +136,7 @@ impl<'a, L: Lender> ComponentDefinedTypeEncoder<'a, L> {
     pub fn enum_type<'b, C: Iterator<Item = &'b str> + Drop>(self, cases: C) -> Result<(), Fault>
         requires can { C.can_next cases }
         requires ends { IsFinite (C.remaining cases) }
-        ensures { EndsListed L.written L.ended L.refuses C.next_gives cases
+        ensures { EndsListed L.appended L.ended L.refuses C.next_gives cases
             self.entry.lender.now self.exit.0.now result
             (λ ns. def_val_type (Enumeration (map (λ n. n.now) ns))) }
     {
@@ -145,7 +145,7 @@ impl<'a, L: Lender> ComponentDefinedTypeEncoder<'a, L> {
 
     /// A value of this type, or none.
     pub fn option(self, ty: ComponentValType) -> Result<(), Fault>
-        ensures { Ends L.written L.ended L.refuses self.entry.lender.now self.exit.0.now result
+        ensures { Ends L.appended L.ended L.refuses self.entry.lender.now self.exit.0.now result
             (def_val_type (OptionOf ty)) }
     {
         self.lender.end_with(&Tagged(0x6b, &ty))
@@ -157,7 +157,7 @@ impl<'a, L: Lender> ComponentDefinedTypeEncoder<'a, L> {
         ok: Option<ComponentValType>,
         err: Option<ComponentValType>,
     ) -> Result<(), Fault>
-        ensures { Ends L.written L.ended L.refuses self.entry.lender.now self.exit.0.now result
+        ensures { Ends L.appended L.ended L.refuses self.entry.lender.now self.exit.0.now result
             (def_val_type (ResultOf ok err)) }
     {
         self.lender.end_with(&Tagged(0x6a, &(ok, err)))
@@ -165,7 +165,7 @@ impl<'a, L: Lender> ComponentDefinedTypeEncoder<'a, L> {
 
     /// A handle that owns a resource of the type with this index.
     pub fn own(self, index: u32) -> Result<(), Fault>
-        ensures { Ends L.written L.ended L.refuses self.entry.lender.now self.exit.0.now result
+        ensures { Ends L.appended L.ended L.refuses self.entry.lender.now self.exit.0.now result
             (def_val_type (Own index)) }
     {
         self.lender.end_with(&Tagged(0x69, &index))
@@ -173,7 +173,7 @@ impl<'a, L: Lender> ComponentDefinedTypeEncoder<'a, L> {
 
     /// A handle that borrows a resource of the type with this index.
     pub fn borrow(self, index: u32) -> Result<(), Fault>
-        ensures { Ends L.written L.ended L.refuses self.entry.lender.now self.exit.0.now result
+        ensures { Ends L.appended L.ended L.refuses self.entry.lender.now self.exit.0.now result
             (def_val_type (Borrow index)) }
     {
         self.lender.end_with(&Tagged(0x68, &index))
@@ -181,7 +181,7 @@ impl<'a, L: Lender> ComponentDefinedTypeEncoder<'a, L> {
 
     /// What comes later: a value of this type, or none.
     pub fn future(self, payload: Option<ComponentValType>) -> Result<(), Fault>
-        ensures { Ends L.written L.ended L.refuses self.entry.lender.now self.exit.0.now result
+        ensures { Ends L.appended L.ended L.refuses self.entry.lender.now self.exit.0.now result
             (def_val_type (Future payload)) }
     {
         self.lender.end_with(&Tagged(0x65, &payload))
@@ -189,7 +189,7 @@ impl<'a, L: Lender> ComponentDefinedTypeEncoder<'a, L> {
 
     /// What comes one by one: values of this type, or none.
     pub fn stream(self, payload: Option<ComponentValType>) -> Result<(), Fault>
-        ensures { Ends L.written L.ended L.refuses self.entry.lender.now self.exit.0.now result
+        ensures { Ends L.appended L.ended L.refuses self.entry.lender.now self.exit.0.now result
             (def_val_type (Stream payload)) }
     {
         self.lender.end_with(&Tagged(0x66, &payload))

@@ -54,7 +54,7 @@ pub struct ComponentFuncTypeEncoder<'a, L: Lender> {
     lender: &'a mut L,
     stage: FuncStage,
     ghost going_on: { goes_on stage (L.finished lender.now) ≡ true },
-    ghost whole: { RestMakesWhole L.is_whole L.written stage lender.now },
+    ghost whole: { RestMakesWhole L.is_whole L.appended stage lender.now },
 }
 
 impl<'a, L: Lender> ComponentFuncTypeEncoder<'a, L> {
@@ -62,7 +62,7 @@ impl<'a, L: Lender> ComponentFuncTypeEncoder<'a, L> {
     pub fn new(lender: &'a mut L) -> Self
         requires opened { L.opened lender.old ≡ true }
         requires whole { (f : Function)
-            → MakesWhole L.is_whole L.written lender.old (function_type f) }
+            → MakesWhole L.is_whole L.appended lender.old (function_type f) }
         ensures same_reference { result.lender.ghost_name ≡ lender.entry.ghost_name }
         ensures now { result.lender.now ≡ lender.old }
         ensures stage { result.stage ≡ stages.Start }
@@ -85,7 +85,7 @@ impl<'a, L: Lender> ComponentFuncTypeEncoder<'a, L> {
         requires { self.old.stage ≡ stages.Start }
         ensures same_reference { self.new.lender.ghost_name ≡ self.old.lender.ghost_name }
         ensures appended { Extends self.old.lender.now self.new.lender.now
-            (L.written self.old.lender.now (async_byte is_async ∷ [])) result
+            (L.appended self.old.lender.now (async_byte is_async ∷ [])) result
             (byte (async_byte is_async))
             (L.refuses self.old.lender.now (async_byte is_async ∷ [])) }
         ensures next { OnOk result (self.new.stage ≡ stages.Tagged) }
@@ -107,7 +107,7 @@ impl<'a, L: Lender> ComponentFuncTypeEncoder<'a, L> {
         ensures same_reference { self.new.lender.ghost_name ≡ self.old.lender.ghost_name }
         ensures appended { ExtendsListed P.next_gives params
             self.old.lender.now self.new.lender.now result
-            (L.written self.old.lender.now) (L.refuses self.old.lender.now)
+            (L.appended self.old.lender.now) (L.refuses self.old.lender.now)
             (λ ps. params_from self.old.stage (map lent_named ps)) }
         ensures next { OnOk result (self.new.stage ≡ stages.Params) }
         ensures back { OnErr result (self.new.stage ≡ self.old.stage) }
@@ -125,7 +125,7 @@ impl<'a, L: Lender> ComponentFuncTypeEncoder<'a, L> {
     pub fn result(&mut self, ty: Option<ComponentValType>) -> Result<(), Fault>
         requires { self.old.stage ≡ stages.Params }
         ensures same_reference { self.new.lender.ghost_name ≡ self.old.lender.ghost_name }
-        ensures ended { Ends L.written L.ended L.refuses
+        ensures ended { Ends L.appended L.ended L.refuses
             self.old.lender.now self.new.lender.now result (result_list ty) }
         ensures next { OnOk result (self.new.stage ≡ stages.Done) }
         ensures back { OnErr result (self.new.stage ≡ self.old.stage) }
@@ -144,7 +144,7 @@ where
     requires can { I.can_next values }
     requires ends { IsFinite (I.remaining values) }
     ensures { ExtendsListed I.next_gives values lender.old lender.new result
-        (L.written lender.old) (L.refuses lender.old)
+        (L.appended lender.old) (L.refuses lender.old)
         (λ vs. behind_bytes lead.now (list labelled_type (map lent_named vs))) }
 {
     lender.append_list(lead, values)

@@ -29,7 +29,7 @@ use wenc_base::{Fault, Lender, Tagged, ValType};
 pub struct ComponentTypeEncoder<'a, L: Lender> {
     lender: &'a mut L,
     ghost opened: { L.opened lender.now ≡ true },
-    ghost whole: { (t : DefType) → MakesWhole L.is_whole L.written lender.now (def_type t) },
+    ghost whole: { (t : DefType) → MakesWhole L.is_whole L.appended lender.now (def_type t) },
 }
 
 impl<'a, L: Lender> ComponentTypeEncoder<'a, L> {
@@ -37,7 +37,7 @@ impl<'a, L: Lender> ComponentTypeEncoder<'a, L> {
     pub fn new(lender: &'a mut L) -> Self
         requires opened { L.opened lender.old ≡ true }
         requires whole { (t : DefType)
-            → MakesWhole L.is_whole L.written lender.old (def_type t) }
+            → MakesWhole L.is_whole L.appended lender.old (def_type t) }
         ensures same_reference { result.lender.ghost_name ≡ lender.entry.ghost_name }
         ensures now { result.lender.now ≡ lender.old }
     {
@@ -47,11 +47,11 @@ impl<'a, L: Lender> ComponentTypeEncoder<'a, L> {
     /// This component type, which ends the type. It is refused with `Unfinished` where the component type is
     /// unfinished, and where there would be too many bytes in what was lent (`TooLarge`).
     pub fn component<A: Allocator>(self, ty: &ComponentType<A>) -> Result<(), Fault>
-        ensures ended { Ends L.written L.ended L.refuses
+        ensures ended { Ends L.appended L.ended L.refuses
             self.entry.lender.now self.exit.0.now result
             (0x41 ▸ held_members ty.now.held) }
         ensures declared { (ds : List ComponentDeclaration) → ComponentDeclares ty.now ds
-            → Ends L.written L.ended L.refuses self.entry.lender.now self.exit.0.now result
+            → Ends L.appended L.ended L.refuses self.entry.lender.now self.exit.0.now result
             (refused_for (EncodeCause ty.now.held)
             (def_type (ComponentTypeSpec (components_of ds)))) }
         ensures unfinished { is_finished ty.now.held ≡ false → result ≡ Err Unfinished }
@@ -64,11 +64,11 @@ impl<'a, L: Lender> ComponentTypeEncoder<'a, L> {
 
     /// This instance type, which ends the type. It is refused as `component` is.
     pub fn instance<A: Allocator>(self, ty: &InstanceType<A>) -> Result<(), Fault>
-        ensures ended { Ends L.written L.ended L.refuses
+        ensures ended { Ends L.appended L.ended L.refuses
             self.entry.lender.now self.exit.0.now result
             (0x42 ▸ held_members ty.now.held) }
         ensures declared { (ds : List InstanceDeclaration) → InstanceDeclares ty.now ds
-            → Ends L.written L.ended L.refuses self.entry.lender.now self.exit.0.now result
+            → Ends L.appended L.ended L.refuses self.entry.lender.now self.exit.0.now result
             (refused_for (EncodeCause ty.now.held)
             (def_type (InstanceTypeSpec (instances_of ds)))) }
         ensures unfinished { is_finished ty.now.held ≡ false → result ≡ Err Unfinished }
@@ -82,7 +82,7 @@ impl<'a, L: Lender> ComponentTypeEncoder<'a, L> {
     /// The type of this tree, which ends the type. It is refused where a list in it is too long (`TooMany`), or where
     /// there would be too many bytes (`TooLarge`).
     pub fn tree<A: Allocator>(self, ty: &TypeTree<A>) -> Result<(), Fault>
-        ensures { Ends L.written L.ended L.refuses self.entry.lender.now self.exit.0.now result
+        ensures { Ends L.appended L.ended L.refuses self.entry.lender.now self.exit.0.now result
             (def_type (type_view ty.now)) }
     {
         self.lender.end_with(ty)
@@ -111,7 +111,7 @@ impl<'a, L: Lender> ComponentTypeEncoder<'a, L> {
     /// is dropped, where there is such a function. This ends the type. It is refused where there would be too many
     /// bytes in what was lent (`TooLarge`).
     pub fn resource(self, rep: ValType, dtor: Option<u32>) -> Result<(), Fault>
-        ensures { Ends L.written L.ended L.refuses self.entry.lender.now self.exit.0.now result
+        ensures { Ends L.appended L.ended L.refuses self.entry.lender.now self.exit.0.now result
             (def_type (ResourceType rep dtor)) }
     {
         self.lender.end_with(&Tagged(0x3f, &(rep, dtor)))

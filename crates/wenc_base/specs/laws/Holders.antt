@@ -95,5 +95,5 @@ opened_is_unfinished h opened = at h.opening opened
     at (Some o) opened = refl
 
 -- bytes and then more are all of them
-pub lengthened_twice : (h : HolderState) (text more : List ℕ) → member_appended (member_appended h text) more ≡ member_appended h (text ++ more)
-lengthened_twice h text more = rw (append_assoc h.body text more) refl
+pub member_appended_twice : (h : HolderState) (text more : List ℕ) → member_appended (member_appended h text) more ≡ member_appended h (text ++ more)
+member_appended_twice h text more = rw (append_assoc h.body text more) refl

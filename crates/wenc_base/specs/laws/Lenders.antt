@@ -77,5 +77,5 @@ made_of steps values making made old new (Err f) next refuses piece make runs a 
 }
 
 -- what serves makes a member whole where that does which it serves as
-pub whole_for : {T : Type 0} {p q : Piece} (is_whole : T → Type 0) (written : T → List ℕ → T) (x : T) → Serves p q → MakesWhole is_whole written x q → MakesWhole is_whole written x p
-whole_for is_whole written x s whole fits = subst (λ (t : List ℕ). ∥ is_whole (written x t) ∥₁) (sym s.text) (whole (s.fits fits))
+pub whole_for : {T : Type 0} {p q : Piece} (is_whole : T → Type 0) (appended : T → List ℕ → T) (x : T) → Serves p q → MakesWhole is_whole appended x q → MakesWhole is_whole appended x p
+whole_for is_whole appended x s whole fits = subst (λ (t : List ℕ). ∥ is_whole (appended x t) ∥₁) (sym s.text) (whole (s.fits fits))

@@ -50,8 +50,8 @@ opened_back h lead finished =
     let counts : h.count + 1 - 1 ≡ h.count = omega arith in
     rw (counts, take_at h.body lead (length h.body) refl) (closed_as_it_is h finished)
 
-pub lengthened_back : (h : HolderState) (text : List ℕ) → is_finished h ≡ false → IsWithin h → member_given_up (member_appended h text) ≡ member_given_up h
-lengthened_back h text unfinished within = at h.opening unfinished within
+pub appended_back : (h : HolderState) (text : List ℕ) → is_finished h ≡ false → IsWithin h → member_given_up (member_appended h text) ≡ member_given_up h
+appended_back h text unfinished within = at h.opening unfinished within
   where
     at : (o : Option Opening) → is_none o ≡ false → OpeningStands o h.count (length h.body) → member_given_up (held_as h.kept h.count (h.body ++ text) o) ≡ member_given_up (held_as h.kept h.count h.body o)
     at None e w = cc
@@ -113,8 +113,8 @@ within_finished h finished = at h.opening finished
 pub within_opened : (h : HolderState) (lead : List ℕ) → IsWithin (member_begun h lead)
 within_opened h lead = (omega (arith, length-append h.body lead), omega arith)
 
-pub within_lengthened : (h : HolderState) (text : List ℕ) → IsWithin h → IsWithin (member_appended h text)
-within_lengthened h text within = at h.opening within
+pub within_appended : (h : HolderState) (text : List ℕ) → IsWithin h → IsWithin (member_appended h text)
+within_appended h text within = at h.opening within
   where
     at : (o : Option Opening) → OpeningStands o h.count (length h.body) → OpeningStands o h.count (length (h.body ++ text))
     at None w = tt
@@ -174,16 +174,16 @@ module _ (P : List ℕ → Type 0) where
   }
 
   -- more is written of it
-  pub keeps_lengthened : (h : HolderState) (text : List ℕ) → is_finished h ≡ false → HasMembers P h → HasMembers P (member_appended h text)
-  keeps_lengthened h text unfinished k = record {
-    settled = subst (λ (s : HolderState). ∥ ContainsSome P s ∥₁) (sym (lengthened_back h text unfinished k.opening)) k.settled;
-    opening = within_lengthened h text k.opening;
+  pub keeps_appended : (h : HolderState) (text : List ℕ) → is_finished h ≡ false → HasMembers P h → HasMembers P (member_appended h text)
+  keeps_appended h text unfinished k = record {
+    settled = subst (λ (s : HolderState). ∥ ContainsSome P s ∥₁) (sym (appended_back h text unfinished k.opening)) k.settled;
+    opening = within_appended h text k.opening;
   }
 
   -- or the same of a call that may be refused
-  pub keeps_longer : (old new : HolderState) → is_finished old ≡ false → IsLonger old new → HasMembers P old → HasMembers P new
-  keeps_longer old new unfinished (inl same) k = rw same k
-  keeps_longer old new unfinished (inr more) k = rw more.1 (keeps_lengthened old more.0 unfinished k)
+  pub keeps_more : (old new : HolderState) → is_finished old ≡ false → IsLonger old new → HasMembers P old → HasMembers P new
+  keeps_more old new unfinished (inl same) k = rw same k
+  keeps_more old new unfinished (inr more) k = rw more.1 (keeps_appended old more.0 unfinished k)
 
   -- it is ended, as such a text
   pub keeps_closed : (h : HolderState) → ∥ P (member_text h) ∥₁ → HasMembers P h → HasMembers P (member_ended h)

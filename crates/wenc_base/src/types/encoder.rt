@@ -31,7 +31,7 @@ pub struct CoreTypeEncoder<'a, L: Lender> {
     guard: bool,
     ghost unfinished: { L.finished lender.now ≡ false },
     ghost whole: { (g : RecType)
-        → MakesWhole L.is_whole L.written lender.now (standing guard g) },
+        → MakesWhole L.is_whole L.appended lender.now (standing guard g) },
 }
 
 impl<'a, L: Lender> CoreTypeEncoder<'a, L> {
@@ -40,7 +40,7 @@ impl<'a, L: Lender> CoreTypeEncoder<'a, L> {
     pub fn new(lender: &'a mut L, guard: bool) -> Self
         requires opened { L.opened lender.old ≡ true }
         requires whole { (g : RecType)
-            → MakesWhole L.is_whole L.written lender.old (standing guard g) }
+            → MakesWhole L.is_whole L.appended lender.old (standing guard g) }
         ensures same_reference { result.lender.ghost_name ≡ lender.entry.ghost_name }
         ensures now { result.lender.now ≡ lender.old }
         ensures guard { result.guard ≡ guard }
@@ -57,7 +57,7 @@ impl<'a, L: Lender> CoreTypeEncoder<'a, L> {
         requires params_end { IsFinite (P.remaining params) }
         requires can_results { R.can_next results }
         requires results_end { IsFinite (R.remaining results) }
-        ensures { EndsLists L.written L.ended L.refuses P.next_gives params R.next_gives results
+        ensures { EndsLists L.appended L.ended L.refuses P.next_gives params R.next_gives results
             self.entry.lender.now self.exit.0.now result
             (λ ts. 0x60 ▸ list val_type ts) (list val_type) }
     {
@@ -67,7 +67,7 @@ impl<'a, L: Lender> CoreTypeEncoder<'a, L> {
 
     /// This function type, which is final.
     pub fn func_type<A: Allocator>(self, ty: &FuncType<A>) -> Result<(), Fault>
-        ensures { Ends L.written L.ended L.refuses self.entry.lender.now self.exit.0.now result
+        ensures { Ends L.appended L.ended L.refuses self.entry.lender.now self.exit.0.now result
             (composite_type (function_view ty.now)) }
     {
         self.lender.end_with(ty)
@@ -75,7 +75,7 @@ impl<'a, L: Lender> CoreTypeEncoder<'a, L> {
 
     /// A final array type, whose elements are stored so, and can be changed or not.
     pub fn array(self, ty: &StorageType, mutable: bool) -> Result<(), Fault>
-        ensures { Ends L.written L.ended L.refuses self.entry.lender.now self.exit.0.now result
+        ensures { Ends L.appended L.ended L.refuses self.entry.lender.now self.exit.0.now result
             (composite_type (Array (record { element_type = ty.now; mutable = mutable }))) }
     {
         let element_type = *ty;
@@ -89,7 +89,7 @@ impl<'a, L: Lender> CoreTypeEncoder<'a, L> {
     pub fn struct_<I: Iterator<Item = FieldType> + Drop>(self, fields: I) -> Result<(), Fault>
         requires can { I.can_next fields }
         requires ends { IsFinite (I.remaining fields) }
-        ensures { EndsListed L.written L.ended L.refuses I.next_gives fields
+        ensures { EndsListed L.appended L.ended L.refuses I.next_gives fields
             self.entry.lender.now self.exit.0.now result
             (λ fs. composite_type (Struct fs)) }
     {
@@ -98,7 +98,7 @@ impl<'a, L: Lender> CoreTypeEncoder<'a, L> {
 
     /// This type.
     pub fn subtype<A: Allocator>(self, ty: &SubType<A>) -> Result<(), Fault>
-        ensures { Ends L.written L.ended L.refuses self.entry.lender.now self.exit.0.now result
+        ensures { Ends L.appended L.ended L.refuses self.entry.lender.now self.exit.0.now result
             (standing self.entry.guard (Single (sub_view ty.now))) }
     {
         let guard = self.guard;
@@ -111,7 +111,7 @@ impl<'a, L: Lender> CoreTypeEncoder<'a, L> {
         I: Iterator<Item = &'b SubType<A>> + Drop,
         requires can { I.can_next types }
         requires ends { IsFinite (I.remaining types) }
-        ensures { EndsListed L.written L.ended L.refuses I.next_gives types
+        ensures { EndsListed L.appended L.ended L.refuses I.next_gives types
             self.entry.lender.now self.exit.0.now result
             (λ ts. rec_type (Rec (map (λ s. sub_view s.now) ts))) }
     {
@@ -120,7 +120,7 @@ impl<'a, L: Lender> CoreTypeEncoder<'a, L> {
 
     /// The type or types of this tree.
     pub fn group<A: Allocator>(self, ty: &GroupTree<A>) -> Result<(), Fault>
-        ensures { Ends L.written L.ended L.refuses self.entry.lender.now self.exit.0.now result
+        ensures { Ends L.appended L.ended L.refuses self.entry.lender.now self.exit.0.now result
             (standing self.entry.guard (rec_type_view ty.now)) }
     {
         let guard = self.guard;

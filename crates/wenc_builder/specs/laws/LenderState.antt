@@ -25,8 +25,8 @@ longer_twice : (b : Option BegunItem) (text more : List ℕ) → begun_appended 
 longer_twice None text more = refl
 longer_twice (Some b) text more = ap (λ (t : List ℕ). let longest : BegunItem = record { id = b.id; text = t; space = b.space; after = b.after } in Some longest) (append_assoc b.text text more)
 
-pub appended_twice : (s : State) (text more : List ℕ) → item_appended (item_appended s text) more ≡ item_appended s (text ++ more)
-appended_twice s text more = ap (λ (b : Option BegunItem). let t : State = record { settled = s.settled; begun = b } in t) (longer_twice s.begun text more)
+pub item_appended_twice : (s : State) (text more : List ℕ) → item_appended (item_appended s text) more ≡ item_appended s (text ++ more)
+item_appended_twice s text more = ap (λ (b : Option BegunItem). let t : State = record { settled = s.settled; begun = b } in t) (longer_twice s.begun text more)
 
 -- An item that was begun and given up, whatever was written of it: what was held is held.
 pub begun_given_up : (old lent new : State) (es : List Entry) (d : Draft) → lent ≡ item_begun old d → new ≡ item_given_up lent → Holds old es → Holds new es

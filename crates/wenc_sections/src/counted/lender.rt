@@ -8,11 +8,11 @@ use std::alloc::Allocator;
 use wenc_base::{Encode, Fault, Lender};
 
 /// A kind whose items are written by encoders.
-pub trait LentKind: CountedKind {}
+pub trait EncoderKind: CountedKind {}
 
 /// From the call that begins an item on, until its encoder has ended it, the section is unfinished, and what grows or
 /// encodes it is refused with `Unfinished`.
-impl<K: LentKind, A: Allocator> Counted<K, A> {
+impl<K: EncoderKind, A: Allocator> Counted<K, A> {
     /// Whether no item is being written. Then it has some items, whoever made which calls.
     pub fn is_finished(&self) -> bool
         ensures finished { result ≡ is_finished self.now }
@@ -30,15 +30,15 @@ impl<K: LentKind, A: Allocator> Counted<K, A> {
     }
 }
 
-impl<K: LentKind, A: Allocator> Lender for Counted<K, A> {
+impl<K: EncoderKind, A: Allocator> Lender for Counted<K, A> {
     ghost use Rattle.wenc_base.specs.Openings.{member_appended, member_text, member_ended, no_room_in_holder, is_opened};
-    ghost use Rattle.wenc_base.specs.laws.Holders.{opened_is_unfinished, lengthened_twice};
+    ghost use Rattle.wenc_base.specs.laws.Holders.{opened_is_unfinished, member_appended_twice};
 
     ghost finished = { is_finished };
 
     ghost opened = { is_opened };
 
-    ghost written = { member_appended };
+    ghost appended = { member_appended };
 
     ghost is_whole = { λ s. K.is_item (member_text s) };
 
@@ -50,7 +50,7 @@ impl<K: LentKind, A: Allocator> Lender for Counted<K, A> {
 
     ghost stays = { λ _ _ unfinished. unfinished };
 
-    ghost joins = { lengthened_twice };
+    ghost joins = { member_appended_twice };
 
     fn append_value<E: Encode>(&mut self, value: &E) -> Result<(), Fault> {
         self.items.append_encoded(value)

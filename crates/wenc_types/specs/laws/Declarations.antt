@@ -5,7 +5,7 @@ use Rattle.wenc_base.specs.Encode.{Serves}
 use Rattle.wenc_base.specs.Forms.{list}
 use Rattle.wenc_base.specs.Holder.{HolderState, held_members, with_member, EncodeCause}
 use Rattle.wenc_base.specs.Piece.{Piece, Form, ◌▸◌, refused_for}
-use Rattle.wenc_base.specs.laws.Holders.{contains_next, contains_opened, given_up_is_before, lengthened_twice}
+use Rattle.wenc_base.specs.laws.Holders.{contains_next, contains_opened, given_up_is_before, member_appended_twice}
 use Rattle.wenc_base.specs.laws.Serves.{serves_itself}
 use Rattle.wenc_base.specs.declared.fault.Fault.{Fault}
 use Rattle.wenc_types.specs.ComponentTypes.{InstanceDeclaration, ComponentDeclaration, ComponentType, InstanceType, instances_of, components_of, def_type, instance_declaration, component_declaration}
@@ -49,8 +49,8 @@ declares_next form sort t new d ds e fits h = record {
 -- ---- a type that is type_appended by an encoder
 
 -- bytes and then more are all of them
-pub written_twice : (t : TypeState) (text more : List ℕ) → type_appended (type_appended t text) more ≡ type_appended t (text ++ more)
-written_twice t text more = ap (λ (h : HolderState). with_held t h) (lengthened_twice t.held text more)
+pub type_appended_twice : (t : TypeState) (text more : List ℕ) → type_appended (type_appended t text) more ≡ type_appended t (text ++ more)
+type_appended_twice t text more = ap (λ (h : HolderState). with_held t h) (member_appended_twice t.held text more)
 
 -- what is type_ended is one declaration more
 pub declares_ended : {D : Type 0} (form : Form D) (sort : D → Option Sort) (t : TypeState) (s : Sort) (d : D) (ds : List D) (text : List ℕ)
@@ -66,8 +66,8 @@ back_again TypeSort n = let e : n.types + 1 - 1 ≡ n.types = omega arith in rw 
 back_again Instance n = let e : n.instances + 1 - 1 ≡ n.instances = omega arith in rw e refl
 
 -- what is given up leaves no trace
-pub taken_back_is_before : (t : TypeState) (s : Sort) (text : List ℕ) → NoneBegun t → type_given_up (type_appended (type_begun s t) text) ≡ t
-taken_back_is_before t s text settled =
+pub type_given_up_is_before : (t : TypeState) (s : Sort) (text : List ℕ) → NoneBegun t → type_given_up (type_appended (type_begun s t) text) ≡ t
+type_given_up_is_before t s text settled =
     rw (back_again s t.counts, given_up_is_before t.held (lead_of s) text settled.finished, ← settled.none_begun) refl
 
 -- A rec_type that an encoder without guards wrote is one declaration more of a module type.

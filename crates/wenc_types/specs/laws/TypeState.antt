@@ -5,7 +5,7 @@ use Rattle.wenc_base.specs.Encode.{Serves}
 use Rattle.wenc_base.specs.Holder.{HolderState, is_finished, with_member, held_text, held_members, EncodeCause}
 use Rattle.wenc_base.specs.Piece.{Form, HasForm, ◌▸◌, refused_for}
 use Rattle.wenc_base.specs.Openings.{member_given_up, member_text}
-use Rattle.wenc_base.specs.laws.Members.{finished_back, back_twice, opened_back, lengthened_back, closed_as_it_is, closed_as_more, within_finished, within_opened, within_lengthened, within_back}
+use Rattle.wenc_base.specs.laws.Members.{finished_back, back_twice, opened_back, appended_back, closed_as_it_is, closed_as_more, within_finished, within_opened, within_appended, within_back}
 use Rattle.wenc_base.specs.declared.holder.openings.Opening.{Opening}
 use Rattle.wenc_types.specs.ComponentTypes.{ComponentType, InstanceType, components_of, instances_of, def_type, component_declaration, instance_declaration}
 use Rattle.wenc_types.specs.CoreTypes.{module_declaration, Module, core_type}
@@ -126,9 +126,9 @@ module _ {D : Type 0} (form : Form D) (sort : D → Option Sort) where
   declaring_written t text unfinished d = record {
     enough = d.enough;
     one_more = d.counted;
-    opening = within_lengthened t.held text d.opening;
+    opening = within_appended t.held text d.opening;
     settled =
-        let back : type_given_up (type_appended t text) ≡ type_given_up t = rw (lengthened_back t.held text unfinished d.opening) refl in
+        let back : type_given_up (type_appended t text) ≡ type_given_up t = rw (appended_back t.held text unfinished d.opening) refl in
         subst HasSome (sym back) d.settled;
   }
 
@@ -154,8 +154,8 @@ module _ {D : Type 0} (form : Form D) (sort : D → Option Sort) where
           }
 
   -- or it is given up
-  pub declaring_taken_back : (t : TypeState) → IsTypeState form sort t → IsTypeState form sort (type_given_up t)
-  declaring_taken_back t d = record {
+  pub declaring_given_up : (t : TypeState) → IsTypeState form sort t → IsTypeState form sort (type_given_up t)
+  declaring_given_up t d = record {
     enough = enough_back t.held.opening t.held t.begun t.counts d.counted d.enough;
     one_more = counted_back t.held.opening t.held (one_less t.begun t.counts);
     opening = within_back t.held;

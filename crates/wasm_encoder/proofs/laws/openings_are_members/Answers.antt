@@ -6,7 +6,7 @@ use Rattle.wenc_types.specs.ComponentTypes.{CoreTyped, Typed, Declared, def_type
 use Rattle.wenc_types.specs.CoreTypes.{ModuleRecType, core_type, module_declaration}
 use Rattle.wenc_types.specs.Declarations.{module_sort, component_sort, instance_sort}
 use Rattle.wenc_types.specs.declared.counts.Sort.TheVariants as sorts
-use Rattle.wenc_types.specs.laws.Declarations.{taken_back_is_before, declares_ended}
+use Rattle.wenc_types.specs.laws.Declarations.{type_given_up_is_before, declares_ended}
 use Rattle.wasm_encoder.proofs.laws.openings_are_members.Goals as goal
 
 pub returns-clause-given_up : goal.returns-clause-given_up
@@ -22,7 +22,7 @@ pub returns-clause-core_type_ended_in_section : goal.returns-clause-core_type_en
 returns-clause-core_type_ended_in_section c = λ section t types fits contains. contains_opened core_type section t types [] (core_type t).text refl fits contains
 
 pub returns-clause-type_given_up : goal.returns-clause-type_given_up
-returns-clause-type_given_up c = λ t sort text settled. taken_back_is_before t sort text settled
+returns-clause-type_given_up c = λ t sort text settled. type_given_up_is_before t sort text settled
 
 pub returns-clause-type_ended_in_module : goal.returns-clause-type_ended_in_module
 returns-clause-type_ended_in_module c = λ t g ds fits declares. declares_ended module_declaration module_sort t sorts.«Type» (ModuleRecType g) ds (rec_type g).text refl fits refl declares

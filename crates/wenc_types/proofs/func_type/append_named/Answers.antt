@@ -9,6 +9,6 @@ use Rattle.wenc_types.proofs.func_type.append_named.Goals as goal
 pub returns : goal.returns
 returns g c =
     extends_as g.I.Iterator.next_gives c.args.values c.args.lender.now c.append_list.new.self c.append_list.result
-    (g.L.Lender.written c.args.lender.now) (g.L.Lender.refuses c.args.lender.now)
+    (g.L.Lender.appended c.args.lender.now) (g.L.Lender.refuses c.args.lender.now)
     (λ vs. behind_bytes c.args.lead.now (list lent_field vs)) (λ vs. behind_bytes c.args.lead.now (list labelled_type (map lent_named vs)))
     (fields_serve c.args.lead.now) c.append_list.ensures

@@ -5,8 +5,8 @@ use Rattle.wenc_types.proofs.Serving.{names_serve, ends_listed_for}
 use Rattle.wenc_types.proofs.defined_type.ComponentDefinedTypeEncoder.enum_type.Goals as goal
 
 pub returns : goal.returns
-returns g c = ends_listed_for g.L.Lender.written g.L.Lender.ended g.L.Lender.refuses (names_serve (0x6d ∷ [])) c.end_with_list.ensures
+returns g c = ends_listed_for g.L.Lender.appended g.L.Lender.ended g.L.Lender.refuses (names_serve (0x6d ∷ [])) c.end_with_list.ensures
 
 pub end_with_list-requires-clause-whole : goal.end_with_list-requires-clause-whole
 end_with_list-requires-clause-whole g c vs =
-    whole_for g.L.Lender.is_whole g.L.Lender.written c.args.self.lender.now (names_serve (0x6d ∷ []) vs) (c.args.self.whole (Enumeration (map (λ n. n.now) vs)))
+    whole_for g.L.Lender.is_whole g.L.Lender.appended c.args.self.lender.now (names_serve (0x6d ∷ []) vs) (c.args.self.whole (Enumeration (map (λ n. n.now) vs)))

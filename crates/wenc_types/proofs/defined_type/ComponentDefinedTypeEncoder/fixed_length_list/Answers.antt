@@ -6,8 +6,8 @@ use Rattle.wenc_types.proofs.Serving.{pair_serves, ends_for}
 use Rattle.wenc_types.proofs.defined_type.ComponentDefinedTypeEncoder.fixed_length_list.Goals as goal
 
 pub returns : goal.returns
-returns g c = ends_for g.L.Lender.written g.L.Lender.ended g.L.Lender.refuses (pair_serves 0x67 (value_type c.args.ty) (u32 c.args.length)) c.end_with.ensures.ended
+returns g c = ends_for g.L.Lender.appended g.L.Lender.ended g.L.Lender.refuses (pair_serves 0x67 (value_type c.args.ty) (u32 c.args.length)) c.end_with.ensures.ended
 
 pub end_with-requires-clause-whole : goal.end_with-requires-clause-whole
 end_with-requires-clause-whole g c =
-    whole_for g.L.Lender.is_whole g.L.Lender.written c.args.self.lender.now (pair_serves 0x67 (value_type c.args.ty) (u32 c.args.length)) (c.args.self.whole (FixedLengthList c.args.ty c.args.length))
+    whole_for g.L.Lender.is_whole g.L.Lender.appended c.args.self.lender.now (pair_serves 0x67 (value_type c.args.ty) (u32 c.args.length)) (c.args.self.whole (FixedLengthList c.args.ty c.args.length))

@@ -6,8 +6,8 @@ use Rattle.wenc_types.proofs.Serving.{pair_serves, ends_for}
 use Rattle.wenc_types.proofs.defined_type.ComponentDefinedTypeEncoder.result.Goals as goal
 
 pub returns : goal.returns
-returns g c = ends_for g.L.Lender.written g.L.Lender.ended g.L.Lender.refuses (pair_serves 0x6a (option value_type c.args.ok) (option value_type c.args.err)) c.end_with.ensures.ended
+returns g c = ends_for g.L.Lender.appended g.L.Lender.ended g.L.Lender.refuses (pair_serves 0x6a (option value_type c.args.ok) (option value_type c.args.err)) c.end_with.ensures.ended
 
 pub end_with-requires-clause-whole : goal.end_with-requires-clause-whole
 end_with-requires-clause-whole g c =
-    whole_for g.L.Lender.is_whole g.L.Lender.written c.args.self.lender.now (pair_serves 0x6a (option value_type c.args.ok) (option value_type c.args.err)) (c.args.self.whole (ResultOf c.args.ok c.args.err))
+    whole_for g.L.Lender.is_whole g.L.Lender.appended c.args.self.lender.now (pair_serves 0x6a (option value_type c.args.ok) (option value_type c.args.err)) (c.args.self.whole (ResultOf c.args.ok c.args.err))

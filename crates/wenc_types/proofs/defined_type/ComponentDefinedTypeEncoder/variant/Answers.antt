@@ -9,13 +9,13 @@ use Rattle.wenc_types.proofs.defined_type.ComponentDefinedTypeEncoder.variant.Go
 pub returns : goal.returns
 returns g c =
     let lender = c.args.self.lender.now in
-    ends_listed_for g.L.Lender.written g.L.Lender.ended g.L.Lender.refuses cases_serve
+    ends_listed_for g.L.Lender.appended g.L.Lender.ended g.L.Lender.refuses cases_serve
     (made_of g.C.Iterator.next_gives c.args.cases _ c.map.result lender c.end_with_list.new.self c.end_with_list.result
-    (λ bytes. g.L.Lender.ended (g.L.Lender.written lender bytes)) (g.L.Lender.refuses lender)
+    (λ bytes. g.L.Lender.ended (g.L.Lender.appended lender bytes)) (g.L.Lender.refuses lender)
     (λ cs. 0x71 ▸ list case_of cs) made_case
     (λ p t e. let q = c.map.ensures.runs p t e in (q.0, q.1, (q.2.0, q.2.3 made_case (search rules))))
     c.end_with_list.ensures)
 
 pub end_with_list-requires-clause-whole : goal.end_with_list-requires-clause-whole
 end_with_list-requires-clause-whole g c vs =
-    whole_for g.L.Lender.is_whole g.L.Lender.written c.args.self.lender.now (made_cases_serve vs) (c.args.self.whole (Variant (map seen_case vs)))
+    whole_for g.L.Lender.is_whole g.L.Lender.appended c.args.self.lender.now (made_cases_serve vs) (c.args.self.whole (Variant (map seen_case vs)))

@@ -10,7 +10,7 @@ invariant_of-self-2 g c =
     let lender = c.args.self.now.lender.now in
     record {
       going_on = search rules;
-      whole = tag_goes_on g.L.Lender.is_whole g.L.Lender.written g.L.Lender.joins lender c.append_value.new.self c.args.is_async
+      whole = tag_goes_on g.L.Lender.is_whole g.L.Lender.appended g.L.Lender.joins lender c.append_value.new.self c.args.is_async
           (elim c.if-is_async.branch [ then-is_async w ↦ search rules | else-is_async w ↦ search rules ])
-          (subst (λ (s : FuncStage). RestMakesWhole g.L.Lender.is_whole g.L.Lender.written s lender) c.requires c.args.self.now.whole);
+          (subst (λ (s : FuncStage). RestMakesWhole g.L.Lender.is_whole g.L.Lender.appended s lender) c.requires c.args.self.now.whole);
     }

@@ -14,6 +14,6 @@ invariant_of-self g c =
     let added = (rw (c.lead.ensures) at c.in-Ok.ensures.ok) in
     record {
       going_on = search rules;
-      whole = params_go_on g.L.Lender.is_whole g.L.Lender.written g.L.Lender.joins c.args.self.now.lender.now c.append_named.new.lender c.args.self.now.stage (map lent_named added.0.items) c.requires.stage
+      whole = params_go_on g.L.Lender.is_whole g.L.Lender.appended g.L.Lender.joins c.args.self.now.lender.now c.append_named.new.lender c.args.self.now.stage (map lent_named added.0.items) c.requires.stage
           added.3.state added.3.fits c.args.self.now.whole;
     }

@@ -9,8 +9,8 @@ use Rattle.wenc_types.proofs.ty.ComponentTypeEncoder.component.Goals as goal
 
 pub end_with-requires-clause-whole : goal.end_with-requires-clause-whole
 end_with-requires-clause-whole g c = λ fits.
-    form_ends def_type g.L.Lender.is_whole g.L.Lender.written c.args.self.lender.now c.args.self.whole (0x41 ∷ held_text c.args.ty.now.held)
+    form_ends def_type g.L.Lender.is_whole g.L.Lender.appended c.args.self.lender.now c.args.self.whole (0x41 ∷ held_text c.args.ty.now.held)
     (component_has_form c.args.ty.now fits (c.is_finished.ensures.declares (sym c.is_finished.ensures.finished ∙ c.if-not-is_finished.false)))
 
 pub returns-clause-declared : goal.returns-clause-declared
-returns-clause-declared g c = λ ds h. ends_for g.L.Lender.written g.L.Lender.ended g.L.Lender.refuses (component_serves c.args.ty.now ds h) c.end_with.ensures.ended
+returns-clause-declared g c = λ ds h. ends_for g.L.Lender.appended g.L.Lender.ended g.L.Lender.refuses (component_serves c.args.ty.now ds h) c.end_with.ensures.ended
