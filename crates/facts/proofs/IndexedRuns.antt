@@ -35,7 +35,7 @@ indexed_by c es all more (Some x) i a s e =
     let k = at_defined es (defines x.item) i e in
     record { front = es; entry = x; rest = more; split = s ∙ append_assoc es (x ∷ []) more; adds = a; indices = k.0; defined = k.1; index = k.2 }
 
--- an answered index is its item's next_index
+-- an answered index is its item's index
 pub indexed_at : (es : List Entry) (front : List CommandTree) (c : CommandTree) (behind : List CommandTree) (so_far : List (Result (Option ℕ) Fault)) (i : ℕ) (later : List (Result (Option ℕ) Fault)) (all : List Entry)
     → length front ≡ length so_far → RanFrom es (front ++ c ∷ behind) (so_far ++ Ok (Some i) ∷ later) all → IsIndexedAt c all i
 indexed_at es [] c behind [] i later all n r =

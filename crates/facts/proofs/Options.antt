@@ -1,4 +1,4 @@
--- Declarations of component types, that were type_appended.
+-- Declarations of component types, that were written.
 use Rattle.std.proofs.Common.{◌≡◌, List, [], ◌∷◌, ◌++◌, refl, Result, Ok, Err, OnOk}
 use Rattle.wenc_base.specs.declared.fault.Fault.{Fault}
 use Rattle.wenc_parts.specs.declared.types.ComponentValType.{ComponentValType}
@@ -8,7 +8,7 @@ use Rattle.wenc_types.specs.DefinedTypes.{def_val_type, OptionOf}
 use Rattle.wenc_types.specs.declared.counts.Sort.TheVariants.{«Type» as TypeSort}
 use Rattle.wenc_types.specs.laws.Declarations.{declares_ended}
 
--- An option that was type_appended is one declaration more.
+-- An option that was written is one declaration more.
 pub an_option : (t lent own new last : TypeState) (ty : ComponentValType) (outcome : Result (Unit {0}) Fault) → lent ≡ type_begun TypeSort t → own ≡ lent
     → OnOk outcome (new ≡ type_ended (type_appended own (def_val_type (OptionOf ty)).text)) → OnOk outcome (def_val_type (OptionOf ty)).Fits → last ≡ new
     → OnOk outcome ((ds : List ComponentDeclaration) → ComponentDeclares t ds → ComponentDeclares last (ds ++ Declared (Typed (DefinedType (OptionOf ty))) ∷ []))

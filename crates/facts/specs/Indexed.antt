@@ -5,7 +5,7 @@ use Rattle.wenc_builder.specs.Space.{Indices, defines, next_index}
 use Rattle.wasm_encoder.specs.Cause.{added}
 use Rattle.wasm_encoder.specs.Command.{CommandTree}
 
--- The command's item is one of these, and this is its next_index: what the items in front of it define
+-- The command's item is one of these, and this is its index: what the items in front of it define
 -- in its space.
 pub record IsIndexedAt (c : CommandTree) (es : List Entry) (i : ℕ) : Type 0 where
   pub front : List Entry

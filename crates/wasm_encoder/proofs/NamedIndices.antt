@@ -38,7 +38,7 @@ increasing n (x ∷ y ∷ ys) h (suc k) lt =
 
 -- ---- what an entry names
 
--- what is named takes a next_index
+-- what is named takes an index
 abbrev TakesNamed : Option Indices → Option (List ℕ) → Type 0
 TakesNamed o name = (d : Indices) → o ≡ Some d → (name ≡ None) ⊎ (0 < d.number)
 

@@ -21,11 +21,11 @@ use Rattle.wasm_encoder.specs.Ran.{IsTyped}
 use Rattle.wasm_encoder.specs.inside.Steps.{Answers, StepsStop}
 use Rattle.wasm_encoder.proofs.Called.{refusal, refusal_as, due}
 
--- why an item can't be written and item_ended by what was lent
+-- why an item can't be written and ended by what was lent
 abbrev EndingCause : State → Entry → Fault → Type 0
 EndingCause lent x = either (item x.item).Cause (no_room_in_section lent (item x.item).text)
 
--- an item that was begun, written and item_ended, and was refused nowhere, is one entry more
+-- an item that was begun, written and ended, and was refused nowhere, is one entry more
 pub written_whole : (old lent new : State) (es : List Entry) (x : Entry) (d : Draft) → IsWrittenType x d → lent ≡ item_begun old d → NoCause (BeginCause old d) → new ≡ item_ended (item_appended lent (item x.item).text)
     → (item x.item).Fits → NoCause (EndingCause lent x) → Holds old es → Holds new (es ++ x ∷ [])
 written_whole old lent new es x d w begun opens wrote fits writes h =

@@ -76,7 +76,7 @@ pub data FormName : Type 0 where
   ValueTypes : FormName
   ResultLists : FormName
   ExportKinds : FormName
-  -- of types that are imported or inline_export
+  -- of types that are imported or exported
   Bounds : FormName
   TypeReferences : FormName
   NameOptions : FormName
@@ -106,11 +106,11 @@ pub data FormName : Type 0 where
   Aliases : FormName
   Imports : FormName
   Exports : FormName
-  -- what a core module is instantiate_arg under a name
+  -- what a core module is given under a name
   Arguments : FormName
   CoreExports : FormName
   CoreInstances : FormName
-  -- what a component is instantiate_arg under a name
+  -- what a component is given under a name
   ComponentArguments : FormName
   InstanceExports : FormName
   Instances : FormName

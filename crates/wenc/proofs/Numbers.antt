@@ -18,7 +18,7 @@ number_by_value : (word : List ℕ) → 0 < length word → number_word word ≡
 number_by_value [] h = absurd (omega (arith, h))
 number_by_value (b ∷ word) h = refl
 
--- the next digit makes the number_word too large, or isn't one
+-- the next digit makes the number too large, or isn't one
 pub number_stops : (word : List ℕ) (i n : ℕ) → i < length word → at_most_32_bits (value_behind 0 word) ≡ at_most_32_bits (value_behind n (drop i word))
     → 2 ^ 32 ≤ n * 10 + (get_or word i 0 - 48) → number_word word ≡ None
 number_stops word i n h same large =

@@ -1,4 +1,4 @@
--- What a word says: a number_word, a flag_word, bytes, a kind.
+-- What a word says: a number, a flag, bytes, a kind.
 use Rattle.hex.specs.Hex.{decode_of}
 use Rattle.hex.specs.declared.error.FromHexError.{FromHexError}
 use Rattle.std.specs.Prelude.{ℕ, ◌+◌, ◌-◌, ◌*◌, ◌^◌, ◌&&◌, nat_le, nat_lt, if◌then◌else◌, List, []}
@@ -28,7 +28,7 @@ abbrev pub number_word : List ℕ → Option ℕ
 number_word [] = None
 number_word (b ∷ bytes) = at_most_32_bits (value_behind 0 (b ∷ bytes))
 
--- one number_word more, where all are numbers
+-- one number more, where all are numbers
 abbrev pub number_before : Option ℕ → Option (List ℕ) → Option (List ℕ)
 number_before None ns = None
 number_before (Some n) None = None
@@ -49,7 +49,7 @@ abbrev pub decoded : Result (List ℕ) FromHexError → Option (List ℕ)
 decoded (Ok bytes) = Some bytes
 decoded (Err error) = None
 
--- an even number_word of hexadecimal digits, or `-` for no bytes
+-- an even number of hexadecimal digits, or `-` for no bytes
 abbrev pub hex : List ℕ → Option (List ℕ)
 hex word = if bytes_eq word (codes "-") then Some [] else decoded (decode_of word)
 

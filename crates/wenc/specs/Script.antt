@@ -50,7 +50,7 @@ abbrev pub core_module : List (List ℕ) → Option CommandTree
 core_module (bytes ∷ []) = option_map (CoreModule None) (hex bytes)
 core_module other = None
 
--- start_command F R A..
+-- start F R A..
 abbrev pub start_of : Option ℕ → Option ℕ → Option (List ℕ) → Option CommandTree
 start_of None results arguments = None
 start_of (Some f) None arguments = None
@@ -102,7 +102,7 @@ abbrev pub with_line : ℕ → Option CommandTree → Result (List CommandTree) 
 with_line n None behind = Err n
 with_line n (Some c) behind = with_command c behind
 
--- the commands of the lines, of which the first has number_word n, or the number_word of the first bad one;
+-- the commands of the lines, of which the first has number n, or the number of the first bad one;
 -- an empty line says nothing
 abbrev pub commands_from : ℕ → List (List ℕ) → Result (List CommandTree) ℕ
 commands_from n [] = Ok []
@@ -110,7 +110,7 @@ commands_from n ([] ∷ lines) = commands_from (n + 1) lines
 commands_from n ((b ∷ line) ∷ lines) =
     with_line n (line_command (b ∷ line)) (commands_from (n + 1) lines)
 
--- The commands that a script says, or the number_word of its first bad line. Lines end by LF, and the
+-- The commands that a script says, or the number of its first bad line. Lines end by LF, and the
 -- last may lack it.
 abbrev pub script : List ℕ → Result (List CommandTree) ℕ
 script text = commands_from 1 (parted 10 text)

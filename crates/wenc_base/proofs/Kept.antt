@@ -1,7 +1,7 @@
 -- Bytes in the middle of a list are replaced by fewer ones, and what stands behind them moves up.
 use Rattle.std.proofs.Common.{◌≡◌, ℕ, ◌+◌, ◌-◌, ◌≤◌, ◌<◌, ◌^◌, List, ◌++◌, length, take, drop, refl, arith, append_assoc, length-drop, length-append, length-take-le, take-append-drop, Option, ap, rules}
 use Rattle.std.proofs.lemmas.Slice.{take-put_mid, drop-put_mid, overwrites}
-use Rattle.std.proofs.lemmas.List.{indices, take_at, drop_at, take-append-le, drop-append-le}
+use Rattle.std.proofs.lemmas.List.{places, take_at, drop_at, take-append-le, drop-append-le}
 use Rattle.std.proofs.lemmas.List.Edits.{take-paste}
 use Rattle.wenc_base.specs.Holder.{HolderState, content_size, with_kept}
 use Rattle.wenc_base.specs.declared.holder.openings.Opening.{Opening}
@@ -16,7 +16,7 @@ pub filled : (xs head : List ℕ) (e n : ℕ) → e ≤ n → n ≤ length xs �
     → take (length xs - (n - e - length head)) (paste (put_mid e (length head) xs head) (e + length head) (drop n (put_mid e (length head) xs head)) (length xs - n))
     ≡ take e xs ++ (head ++ drop n xs)
 filled xs head e n order room short =
-    let at_most : e + length head ≤ length (put_mid e (length head) xs head) = search (rules, indices, arith) in
+    let at_most : e + length head ≤ length (put_mid e (length head) xs head) = search (rules, places, arith) in
     let front : take (e + length head) (put_mid e (length head) xs head) ≡ take e xs ++ head = take-put_mid e (length head) xs head (e + length head) refl (omega arith) in
     let back : drop n (put_mid e (length head) xs head) ≡ drop n xs = drop-put_mid e (length head) xs head n (omega arith) (omega arith) refl in
     let cut : length xs - (n - e - length head) ≡ e + length head + (length xs - n) = omega arith in

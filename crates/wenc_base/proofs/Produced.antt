@@ -35,7 +35,7 @@ field_added old new field tools a small finished = record {
       | inr more ↦ a.free fault (inr more)
     ]
 
--- the same of the tools that are held_members
+-- the same of the tools that are held
 pub typed_field : (old new : HolderState) (outcome : Result (Unit {0}) Fault) (field : List ℕ) (tools : HolderState) (each : List Producer) → Contains producer tools each
     → AddsMember (refused_for (FieldCause old field tools) (held_field field tools)) old new outcome
     → AddsMember (refused_for (FieldCause old field tools) (producers_field (record { field = field; tools = each }))) old new outcome

@@ -119,7 +119,7 @@ module _ {S B : Type 0} (steps : S → Option B → S → Type 0) (values : S) (
         warranted = (second.ok.0, second.ok.1, still_warranted _ _ there f a.warranted);
       }
 
--- ---- an item that is begun, written so, and item_ended or given up
+-- ---- an item that is begun, written so, and ended or given up
 
 module _ {S B : Type 0} (steps : S → Option B → S → Type 0) (values : S) (old : State) (id space : ℕ) (name : Option (List ℕ)) (piece : List B → Piece) where
   abbrev TakesIt : State → Result ℕ Fault → Type 0

@@ -1,4 +1,4 @@
--- An item that is begun, written and item_ended, or given up.
+-- An item that is begun, written and ended, or given up.
 use Rattle.std.proofs.Common.{◌≡◌, ℕ, ◌<◌, true, false, is_none, List, [], length, Option, Some, None, Result, Ok, Err, refl, sym, ap, ◌∙◌, inr}
 use Rattle.wenc_base.specs.Fault.{IsWarranted, NoCause, either}
 use Rattle.wenc_base.specs.Piece.{Piece, nothing}

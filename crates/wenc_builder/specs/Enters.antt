@@ -34,12 +34,12 @@ pub record EntersWith {R : Type 0} (old new : State) (result : Result R Fault) (
   pub warranted : IfErr result (IsWarranted (EnterCause old x))
   pub unfinished : (builder_is_finished old ≡ false) ↔ (result ≡ Err Unfinished)
 
--- The same, where the answer is the entry's next_index: the number of items that its space had.
+-- The same, where the answer is the entry's index: the number of items that its space had.
 abbrev pub Enters : State → State → Result ℕ Fault → Entry → Type 0
 Enters old new result x =
     EntersWith old new result x (λ es i. IsIndexOf (items es) x.item i) (IsCountAt old)
 
--- The same, where the entry has no next_index.
+-- The same, where the entry has no index.
 abbrev pub EntersWithoutIndex : State → State → Result (Unit {0}) Fault → Entry → Type 0
 EntersWithoutIndex old new result x =
     EntersWith old new result x (λ es r. Unit {0}) (λ indices r. Unit {0})
@@ -51,7 +51,7 @@ pub record EntersListed {S B : Type 0} (steps : S → Option B → S → Type 0)
   pub ok : OnOk result (WholeRun steps values (λ run. Enters old new result (x run.items)))
   pub refused : OnErr result (SomeRun steps values (λ run. Enters old new result (x run.items)))
 
--- A call begins an item and lends the builder to an encoder, with the item's next_index; or it is
+-- A call begins an item and lends the builder to an encoder, with the item's place; or it is
 -- refused for a cause.
 pub record BeginsItem {E : Type 0} (index : E → ℕ) (lent : E → State) (old : State)
     (result : Result E Fault) (d : Draft) : Type 0 where
@@ -82,12 +82,12 @@ TakesIndices old new next result after d p =
     TakesWith old new next result after (Some d) p
     (λ i. i ≡ (namespace_at old.settled.spaces d.space).count)
 
--- The same of the next_index of a draft.
+-- The same of the place of a draft.
 abbrev pub Takes : State → State → State → Result ℕ Fault → Draft → Piece → Type 0
 Takes old new next result d p =
     TakesIndices old new next result (content_of (item_begun old d)) (draft_indices d) p
 
--- The same of an item that is written and item_ended too.
+-- The same of an item that is written and ended too.
 abbrev pub TakesDraft : State → State → Result ℕ Fault → (List ℕ → Draft) → Piece → Type 0
 TakesDraft old new result d p =
     Takes old new (item_ended (item_begun old (d p.text))) result (d p.text) p

@@ -91,7 +91,7 @@ abbrev pub IsNoneWithin : List ℕ → Type 0
 IsNoneWithin bytes = (s : Section) (rest : List ℕ) → (section_piece s).Reads Wide bytes rest
     → AreWithin 100 (s ∷ []) → ⊥
 
--- Sections are read within depth 100, of so many bytes in all, up to this next_index; the next one
+-- Sections are read within depth 100, of so many bytes in all, up to this place; the next one
 -- isn't, and P holds of the bytes from there on.
 pub record StopsAt (all : ℕ) (bytes : List ℕ) (next_index : ℕ) (P : List ℕ → Type 0) : Type 0 where
   pub before : List Section

@@ -16,7 +16,7 @@ use Rattle.wenc_parts.specs.Instances.{module_argument}
 
 -- ---- of core modules
 
--- what a module is instantiate_arg under a name
+-- what a module is given under a name
 pub record Argument : Type 0 where
   pub name : List ℕ
   pub value : ModuleArg
@@ -24,7 +24,7 @@ pub record Argument : Type 0 where
 abbrev pub argument : Form Argument
 argument a = name a.name ⨾ module_argument a.value
 
--- a core item, inline_export under a name
+-- a core item, exported under a name
 pub record CoreExport : Type 0 where
   pub name : List ℕ
   pub kind : ExportKind
@@ -45,7 +45,7 @@ core_instance (CoreExports exports) = 0x01 ▸ list core_export exports
 
 -- ---- of components
 
--- what a component is instantiate_arg under a name
+-- what a component is given under a name
 pub record InstantiateArg : Type 0 where
   pub name : List ℕ
   pub kind : ComponentExportKind
@@ -54,7 +54,7 @@ pub record InstantiateArg : Type 0 where
 abbrev pub instantiate_arg : Form InstantiateArg
 instantiate_arg g = name g.name ⨾ component_export_kind g.kind ⨾ u32 g.index
 
--- an item, inline_export under a name
+-- an item, exported under a name
 pub record InlineExport : Type 0 where
   pub name : ExternName
   pub kind : ComponentExportKind

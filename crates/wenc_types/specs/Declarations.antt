@@ -1,4 +1,4 @@
--- Module, component and instance types: their declarations, one by one, and what is one_more.
+-- Module, component and instance types: their declarations, one by one, and what is counted.
 use Rattle.std.specs.Prelude.{◌≡◌, ℕ, ◌+◌, ◌-◌, List, [], ◌∷◌, ◌++◌, Option, Some, None, Result}
 use Rattle.std.specs.Prelude.{OnOk, OnErr, true}
 use Rattle.wenc_base.specs.Holder.{HolderState, no_members, is_finished, Contains, AddsMember}
@@ -78,7 +78,7 @@ counts_of sort (d ∷ ds) = one_more (sort d) (counts_of sort ds)
 
 -- ---- what contracts see of a type with declarations
 
--- `type_begun`: what is being type_appended counts as this.
+-- `begun`: what is being written counts as this.
 pub record TypeState : Type 0 where
   pub held : HolderState
   pub counts : Counts
@@ -87,7 +87,7 @@ pub record TypeState : Type 0 where
 abbrev pub no_declarations : TypeState
 no_declarations = record { held = no_members; counts = no_counts; type_begun = None }
 
--- nothing is being type_appended
+-- nothing is being written
 pub record NoneBegun (t : TypeState) : Type 0 where
   pub finished : is_finished t.held ≡ true
   pub none_begun : t.begun ≡ None
@@ -143,7 +143,7 @@ abbrev pub AddsToComponent : TypeState → TypeState → Result (Unit {0}) Fault
     → ComponentDeclaration → Type 0
 AddsToComponent = AddsDeclaration component_declaration component_sort
 
--- ---- a type that is type_appended by an encoder
+-- ---- a type that is written by an encoder
 
 -- its first byte
 abbrev pub lead_of : Sort → List ℕ

@@ -6,7 +6,7 @@ use Rattle.wenc_base.specs.Forms.{list, option}
 use Rattle.wenc_base.specs.Number.{u32}
 use Rattle.wenc_base.specs.Piece.{Form, Wide, ◌▸◌, ◌⨾◌}
 use Rattle.wenc_base.specs.laws.Delimited.{list_equal}
-use Rattle.wenc_base.specs.laws.Lawful.{Lawful, Reader, ◌>>=◌, give, nowhere, choose, alternative, row_byte, first_of_two, then, last}
+use Rattle.wenc_base.specs.laws.Lawful.{Lawful, Reader, ◌>>=◌, give, nowhere, choose, row_lawful, row_byte, first_of_two, then, last}
 use Rattle.wenc_base.specs.laws.Sound.{Sound, sound_behind, RowsAreSound, both_tables, give_sound, last_sound, then_sound, nowhere_sound, choose_sound}
 use Rattle.wenc_base.specs.laws.Numbers.{read_u32, u32_lawful, u32_sound}
 use Rattle.wenc_base.specs.laws.Forms.{read_flag, flag_lawful, flag_sound, read_list, list_lawful, list_sound, read_option, option_lawful, option_sound}
@@ -65,11 +65,11 @@ composite_rows make =
 pub composite_row : {A : Type 0} (make : Composite → A) (rows : ℕ → List (ℕ × Reader A)) (other : ℕ → Reader A) (c : Composite)
     → Lawful (composite_type c) (λ fuel. choose (composite_rows make ++ rows fuel) (other fuel)) (make c)
 composite_row make rows other (Func params results) =
-    alternative _ _ 0x60 (then _ (list_lawful val_type_lawful params) (last (λ types. make (Func params types)) (list_lawful val_type_lawful results)))
-composite_row make rows other (Array f) = alternative _ _ 0x5e (last (λ g. make (Array g)) (field_type_lawful f))
-composite_row make rows other (Struct fields) = alternative _ _ 0x5f (last (λ fs. make (Struct fs)) (list_lawful field_type_lawful fields))
+    row_lawful _ _ 0x60 (then _ (list_lawful val_type_lawful params) (last (λ types. make (Func params types)) (list_lawful val_type_lawful results)))
+composite_row make rows other (Array f) = row_lawful _ _ 0x5e (last (λ g. make (Array g)) (field_type_lawful f))
+composite_row make rows other (Struct fields) = row_lawful _ _ 0x5f (last (λ fs. make (Struct fs)) (list_lawful field_type_lawful fields))
 
--- each alternative of a table of composite types
+-- each row of a table of composite types
 pub composite_rows_sound : {A : Type 0} (form : Form A) (make : Composite → A) → ((c : Composite) (bytes rest : List ℕ) → (composite_type c).Reads Wide bytes rest → (form (make c)).Reads Wide bytes rest) → RowsAreSound form (composite_rows make)
 composite_rows_sound form make k = (
   then_sound _ (list_sound val_type_sound) (λ params. last_sound (λ results. make (Func params results)) (list_sound val_type_sound) (λ results middle rest r bytes p. k (Func params results) _ rest (bytes, refl, (middle, p, r)))),
@@ -98,7 +98,7 @@ pub extension_lawful : {A : Type 0} (make : Option ℕ → Composite → A) (sup
     → Lawful (option u32 supertype ⨾ composite_type c) (λ fuel. read_extension make) (make supertype c)
 extension_lawful make supertype c = then _ (option_lawful u32_lawful supertype) (last (make supertype) (composite_type_lawful c))
 
--- each of what is extended, sound_behind the byte that says how
+-- each of what is extended, behind the byte that says how
 pub extension_sound : {A : Type 0} (form : Form A) (b : ℕ) (make : Option ℕ → Composite → A)
     → ((supertype : Option ℕ) (c : Composite) (bytes rest : List ℕ) → (b ▸ (option u32 supertype ⨾ composite_type c)).Reads Wide bytes rest → (form (make supertype c)).Reads Wide bytes rest) → Sound (sound_behind b form) (read_extension make)
 extension_sound form b make k = then_sound _ (option_sound u32_sound) (λ supertype. last_sound (make supertype) composite_type_sound (λ c middle rest r bytes p. k supertype c _ rest (bytes, refl, (middle, p, r))))
@@ -120,9 +120,9 @@ final_rows make = composite_rows (λ c. make (final c)) ++ ((0x4f, read_closed (
 pub final_row : {A : Type 0} (make : Sub → A) (rows : ℕ → List (ℕ × Reader A)) (other : ℕ → Reader A) (supertype : Option ℕ) (c : Composite)
     → Lawful (sub_type_of true supertype c) (λ fuel. choose (final_rows make ++ rows fuel) (other fuel)) (make (sub_of true supertype c))
 final_row make rows other None c = composite_row (λ d. make (final d)) (λ fuel. (0x4f, read_closed (λ n d. make (sub_of true (Some n) d))) ∷ rows fuel) other c
-final_row make rows other (Some n) c = alternative _ _ 0x4f (closed_lawful (λ m d. make (sub_of true (Some m) d)) n c)
+final_row make rows other (Some n) c = row_lawful _ _ 0x4f (closed_lawful (λ m d. make (sub_of true (Some m) d)) n c)
 
--- each alternative of a table of types that can't be extended
+-- each row of a table of types that can't be extended
 pub final_rows_sound : {A : Type 0} (form : Form A) (make : Sub → A)
     → ((supertype : Option ℕ) (c : Composite) (bytes rest : List ℕ) → (sub_type_of true supertype c).Reads Wide bytes rest → (form (make (sub_of true supertype c))).Reads Wide bytes rest) → RowsAreSound form (final_rows make)
 final_rows_sound form make k = both_tables form (composite_rows (λ c. make (final c))) ((0x4f, read_closed (λ n c. make (sub_of true (Some n) c))) ∷ []) (composite_rows_sound form (λ c. make (final c)) (λ c. k None c)) (
@@ -144,9 +144,9 @@ sub_row {A} make rows other s = of s.is_final s.supertype s.composite
     of : (is_final : Bool) (supertype : Option ℕ) (c : Composite)
         → Lawful (sub_type_of is_final supertype c) (λ fuel. choose (sub_rows make ++ rows fuel) (other fuel)) (make (sub_of is_final supertype c))
     of true supertype c = final_row make (λ fuel. (0x50, read_extension (λ t d. make (sub_of false t d))) ∷ rows fuel) other supertype c
-    of false supertype c = alternative _ _ 0x50 (extension_lawful (λ t d. make (sub_of false t d)) supertype c)
+    of false supertype c = row_lawful _ _ 0x50 (extension_lawful (λ t d. make (sub_of false t d)) supertype c)
 
--- each alternative of a table of sub types
+-- each row of a table of sub types
 pub sub_rows_sound : {A : Type 0} (form : Form A) (make : Sub → A) → ((s : Sub) (bytes rest : List ℕ) → (sub_type s).Reads Wide bytes rest → (form (make s)).Reads Wide bytes rest) → RowsAreSound form (sub_rows make)
 sub_rows_sound form make k = both_tables form (final_rows make) ((0x50, read_extension (λ supertype c. make (sub_of false supertype c))) ∷ []) (final_rows_sound form make (λ supertype c. k (sub_of true supertype c))) (extension_sound form 0x50 (λ supertype c. make (sub_of false supertype c)) (λ supertype c. k (sub_of false supertype c)), tt)
 
@@ -170,16 +170,16 @@ types_lawful make types = last (λ ts. make (Rec ts)) (list_lawful sub_type_lawf
 abbrev pub group_rows : {A : Type 0} → (RecType → A) → List (ℕ × Reader A)
 group_rows make = sub_rows (λ s. make (Single s)) ++ ((0x4e, read_types make) ∷ [])
 
--- a rec_type, where other rows may follow in the table
+-- a group, where other rows may follow in the table
 pub group_row : {A : Type 0} (make : RecType → A) (rows : ℕ → List (ℕ × Reader A)) (other : ℕ → Reader A) (g : RecType)
     → Lawful (rec_type g) (λ fuel. choose (group_rows make ++ rows fuel) (other fuel)) (make g)
 group_row make rows other (Single s) = sub_row (λ t. make (Single t)) (λ fuel. (0x4e, read_types make) ∷ rows fuel) other s
-group_row make rows other (Rec types) = alternative _ _ 0x4e (types_lawful make types)
+group_row make rows other (Rec types) = row_lawful _ _ 0x4e (types_lawful make types)
 
 pub types_sound : {A : Type 0} (form : Form A) (b : ℕ) (make : RecType → A) → ((types : List Sub) (bytes rest : List ℕ) → (b ▸ list sub_type types).Reads Wide bytes rest → (form (make (Rec types))).Reads Wide bytes rest) → Sound (sound_behind b form) (read_types make)
 types_sound form b make k = last_sound (λ types. make (Rec types)) (list_sound sub_type_sound) (λ types bytes rest r. k types _ rest (bytes, refl, r))
 
--- each alternative of a table of groups
+-- each row of a table of groups
 pub group_rows_sound : {A : Type 0} (form : Form A) (make : RecType → A) → ((g : RecType) (bytes rest : List ℕ) → (rec_type g).Reads Wide bytes rest → (form (make g)).Reads Wide bytes rest) → RowsAreSound form (group_rows make)
 group_rows_sound form make k = both_tables form (sub_rows (λ s. make (Single s))) ((0x4e, read_types make) ∷ []) (sub_rows_sound form (λ s. make (Single s)) (λ s. k (Single s))) (types_sound form 0x4e make (λ types. k (Rec types)), tt)
 

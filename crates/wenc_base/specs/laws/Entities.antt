@@ -3,7 +3,7 @@ use Rattle.std.proofs.Common.{ℕ, Bool, true, false, List, [], ◌∷◌, ◌++
 use Rattle.wenc_base.specs.Piece.{Form, Wide, ◌▸◌, ◌⨾◌}
 use Rattle.wenc_base.specs.Number.{u64}
 use Rattle.wenc_base.specs.Forms.{option}
-use Rattle.wenc_base.specs.laws.Lawful.{Lawful, Reader, ◌>>=◌, give, nowhere, choose, alternative, then, last}
+use Rattle.wenc_base.specs.laws.Lawful.{Lawful, Reader, ◌>>=◌, give, nowhere, choose, row_lawful, then, last}
 use Rattle.wenc_base.specs.laws.Numbers.{read_u32, u32_lawful, u32_sound, read_u64, u64_lawful, u64_sound}
 use Rattle.wenc_base.specs.laws.Sound.{Sound, sound_behind, behind_value, RowsAreSound, both_tables, last_sound, then_sound, nowhere_sound, choose_sound}
 use Rattle.wenc_base.specs.laws.Forms.{read_flag, flag_lawful, flag_sound}
@@ -48,20 +48,20 @@ read_limits make = choose (limit_rows make) nowhere
 
 unshared_lawful : {A : Type 0} (make : Bool → ℕ → Option ℕ → A) (rows : List (ℕ × Reader A)) (is_long : Bool) (minimum : ℕ) (maximum : Option ℕ)
     → Lawful (limits false is_long minimum maximum) (λ fuel. choose (unshared_rows make ++ rows) nowhere) (make is_long minimum maximum)
-unshared_lawful make rows false n None = alternative _ _ 0x00 (last (λ k. make false k None) (u64_lawful n))
-unshared_lawful make rows false n (Some m) = alternative _ _ 0x01 (then _ (u64_lawful n) (last (λ k. make false n (Some k)) (u64_lawful m)))
-unshared_lawful make rows true n None = alternative _ _ 0x04 (last (λ k. make true k None) (u64_lawful n))
-unshared_lawful make rows true n (Some m) = alternative _ _ 0x05 (then _ (u64_lawful n) (last (λ k. make true n (Some k)) (u64_lawful m)))
+unshared_lawful make rows false n None = row_lawful _ _ 0x00 (last (λ k. make false k None) (u64_lawful n))
+unshared_lawful make rows false n (Some m) = row_lawful _ _ 0x01 (then _ (u64_lawful n) (last (λ k. make false n (Some k)) (u64_lawful m)))
+unshared_lawful make rows true n None = row_lawful _ _ 0x04 (last (λ k. make true k None) (u64_lawful n))
+unshared_lawful make rows true n (Some m) = row_lawful _ _ 0x05 (then _ (u64_lawful n) (last (λ k. make true n (Some k)) (u64_lawful m)))
 
 pub limits_lawful : {A : Type 0} (make : OfLimits A) (is_shared is_long : Bool) (minimum : ℕ) (maximum : Option ℕ)
     → Lawful (limits is_shared is_long minimum maximum) (λ fuel. read_limits make) (make is_shared is_long minimum maximum)
 limits_lawful make false is_long n m = unshared_lawful (make false) (shared_rows (make true)) is_long n m
-limits_lawful make true false n None = alternative _ _ 0x02 (last (λ k. make true false k None) (u64_lawful n))
-limits_lawful make true false n (Some m) = alternative _ _ 0x03 (then _ (u64_lawful n) (last (λ k. make true false n (Some k)) (u64_lawful m)))
-limits_lawful make true true n None = alternative _ _ 0x06 (last (λ k. make true true k None) (u64_lawful n))
-limits_lawful make true true n (Some m) = alternative _ _ 0x07 (then _ (u64_lawful n) (last (λ k. make true true n (Some k)) (u64_lawful m)))
+limits_lawful make true false n None = row_lawful _ _ 0x02 (last (λ k. make true false k None) (u64_lawful n))
+limits_lawful make true false n (Some m) = row_lawful _ _ 0x03 (then _ (u64_lawful n) (last (λ k. make true false n (Some k)) (u64_lawful m)))
+limits_lawful make true true n None = row_lawful _ _ 0x06 (last (λ k. make true true k None) (u64_lawful n))
+limits_lawful make true true n (Some m) = row_lawful _ _ 0x07 (then _ (u64_lawful n) (last (λ k. make true true n (Some k)) (u64_lawful m)))
 
--- a minimum alone, and both, sound_behind a byte
+-- a minimum alone, and both, behind a byte
 least_sound : {A : Type 0} (form : Form A) (b : ℕ) (make : ℕ → Option ℕ → A) → ((n : ℕ) (bytes rest : List ℕ) → (b ▸ u64 n).Reads Wide bytes rest → (form (make n None)).Reads Wide bytes rest) → Sound (sound_behind b form) (at_least make)
 least_sound form b make k = last_sound (λ n. make n None) u64_sound (λ n bytes rest r. k n _ rest (bytes, refl, r))
 
@@ -134,7 +134,7 @@ abbrev pub read_tag_type : Reader TagType
 read_tag_type = choose ((0x00, read_u32 >>= λ n. give (record { func_type_idx = n })) ∷ []) nowhere
 
 pub tag_type_lawful : (t : TagType) → Lawful (tag_type t) (λ fuel. read_tag_type) t
-tag_type_lawful t = alternative _ _ 0x00 (last _ (u32_lawful t.func_type_idx))
+tag_type_lawful t = row_lawful _ _ 0x00 (last _ (u32_lawful t.func_type_idx))
 
 pub tag_type_sound : Sound tag_type read_tag_type
 tag_type_sound = choose_sound _ _ (last_sound _ u32_sound (λ n bytes rest r. (bytes, refl, r)), tt) nowhere_sound
@@ -148,11 +148,11 @@ read_entity_type = choose (
     (0x04, read_tag_type >>= λ t. give (Tag t)) ∷ []) nowhere
 
 pub entity_type_lawful : (e : EntityType) → Lawful (entity_type e) (λ fuel. read_entity_type) e
-entity_type_lawful (Function n) = alternative _ _ 0x00 (last Function (u32_lawful n))
-entity_type_lawful (Table t) = alternative _ _ 0x01 (last Table (table_type_lawful t))
-entity_type_lawful (Memory m) = alternative _ _ 0x02 (last Memory (memory_type_lawful m))
-entity_type_lawful (Global g) = alternative _ _ 0x03 (last Global (global_type_lawful g))
-entity_type_lawful (Tag t) = alternative _ _ 0x04 (last Tag (tag_type_lawful t))
+entity_type_lawful (Function n) = row_lawful _ _ 0x00 (last Function (u32_lawful n))
+entity_type_lawful (Table t) = row_lawful _ _ 0x01 (last Table (table_type_lawful t))
+entity_type_lawful (Memory m) = row_lawful _ _ 0x02 (last Memory (memory_type_lawful m))
+entity_type_lawful (Global g) = row_lawful _ _ 0x03 (last Global (global_type_lawful g))
+entity_type_lawful (Tag t) = row_lawful _ _ 0x04 (last Tag (tag_type_lawful t))
 
 pub entity_type_sound : Sound entity_type read_entity_type
 entity_type_sound = choose_sound _ _ (

@@ -8,7 +8,7 @@ use Rattle.wenc_base.specs.Number.{u32}
 use Rattle.wenc_base.specs.Piece.{Payload, Form, Wide, each, raw}
 use Rattle.wenc_base.specs.laws.Sound.{Then, Sound, ThenAll, SoundWhole, weaken, behind_value, then_sound, last_sound, give_sound, nowhere_sound, choose_sound, times_sound, whole_sound}
 use Rattle.wenc_base.specs.Forms.{flag, list, option, utf8, name, AreBytes, sized, byte_list, counted}
-use Rattle.wenc_base.specs.laws.Lawful.{Lawful, LawfulWhole, Reader, ◌>>=◌, give, nowhere, times, choose, alternative, row_byte, then, last, done, each_lawful, whole_lawful, raw_lawful}
+use Rattle.wenc_base.specs.laws.Lawful.{Lawful, LawfulWhole, Reader, ◌>>=◌, give, nowhere, times, choose, row_lawful, row_byte, then, last, done, each_lawful, whole_lawful, raw_lawful}
 use Rattle.wenc_base.specs.laws.Numbers.{read_u32, u32_lawful, count_lawful, size_lawful, size_free, u32_sound, groups_are_read}
 use Rattle.std.proofs.lemmas.Str.{IsUtf8-from_is_utf8, is_utf8-from_IsUtf8}
 
@@ -45,7 +45,7 @@ read_option read = choose ((0, give None) ∷ (1, read >>= λ v. give (Some v)) 
 
 pub option_lawful : {A : Type 0} {form : Form A} {read : ℕ → Reader A} → ((v : A) → Lawful (form v) read v) → (o : Option A) → Lawful (option form o) (λ fuel. read_option (read fuel)) o
 option_lawful laws None = row_byte _ _ 0 (λ fuel rest. refl)
-option_lawful laws (Some v) = alternative _ _ 1 (last Some (laws v))
+option_lawful laws (Some v) = row_lawful _ _ 1 (last Some (laws v))
 
 pub option_sound : {A : Type 0} {form : Form A} {read : Reader A} → Sound form read → Sound (option form) (read_option read)
 option_sound s = choose_sound _ _ (give_sound None (λ bytes. refl), (last_sound Some s (λ v bytes rest r. (bytes, refl, r)), tt)) nowhere_sound

@@ -32,10 +32,10 @@ abbrev pub times : {A : Type 0} → Reader A → ℕ → Reader (List A)
 times read zero = give []
 times read (suc n) = read >>= λ v. times read n >>= λ vs. give (v ∷ vs)
 
--- the alternative of the first byte, or else the other reader, from that byte on
+-- the row of the first byte, or else the other reader, from that byte on
 abbrev pub pick : {A : Type 0} → List (ℕ × Reader A) → Reader A → ℕ → Reader A
 pick [] other b bytes = other (b ∷ bytes)
-pick (alternative ∷ table) other b bytes = elim (eqb b alternative.0) [ true ↦ alternative.1 bytes | false ↦ pick table other b bytes ]
+pick (row ∷ table) other b bytes = elim (eqb b row.0) [ true ↦ row.1 bytes | false ↦ pick table other b bytes ]
 
 -- A reader by the first byte. It stays shut, so that antt finds the table of a reader that is given.
 unfoldable pub choose : {A : Type 0} → List (ℕ × Reader A) → Reader A → Reader A
@@ -125,7 +125,7 @@ nothing_lawful v = record {
   finds = λ fuel le mode bytes rest r. rw r refl;
 }
 
--- a byte that a alternative has, and no more
+-- a byte that a row has, and no more
 pub row_byte : {A : Type 0} {v : A} (table : ℕ → List (ℕ × Reader A)) (other : ℕ → Reader A) (b : ℕ) → ((fuel : ℕ) (rest : List ℕ) → pick (table fuel) (other fuel) b rest ≡ Some (v, rest)) → Lawful (byte b) (λ fuel. choose (table fuel) (other fuel)) v
 unfolding choose
 row_byte table other b e = record {
@@ -152,10 +152,10 @@ refused_lawful cause l free never = record {
 
 -- ---- choices by the first byte
 
--- a piece behind a byte that a alternative has
-pub alternative : {A : Type 0} {p : Piece} {v : A} (table : ℕ → List (ℕ × Reader A)) (other : ℕ → Reader A) (b : ℕ) → Lawful p (λ fuel. pick (table fuel) (other fuel) b) v → Lawful (b ▸ p) (λ fuel. choose (table fuel) (other fuel)) v
+-- a piece behind a byte that a row has
+pub row_lawful : {A : Type 0} {p : Piece} {v : A} (table : ℕ → List (ℕ × Reader A)) (other : ℕ → Reader A) (b : ℕ) → Lawful p (λ fuel. pick (table fuel) (other fuel) b) v → Lawful (b ▸ p) (λ fuel. choose (table fuel) (other fuel)) v
 unfolding choose
-alternative {p = p} table other b l = record {
+row_lawful {p = p} table other b l = record {
   text_is_read = λ mode rest h. (p.text ++ rest, refl, l.text_is_read mode rest h);
   strict_is_text = λ bytes rest r. r.1 ∙ ap (λ (t : List ℕ). b ∷ t) (l.strict_is_text r.0 rest r.2);
   fits = λ bytes rest r. l.fits r.0 rest r.2;
@@ -178,11 +178,11 @@ row_also {p = p} {v = v} table other b c l k = record {
   finds = λ fuel le mode bytes rest r. elim r.1 [ inl e ↦ rw e (l.finds fuel (omega arith) mode r.0 rest r.2) | inr w ↦ rw w.1 (k.finds fuel (omega arith) mode r.0 rest r.2) ];
 }
 
--- a byte that a alternative has, then a piece
+-- a byte that a row has, then a piece
 pub first_byte : {A : Type 0} {q : Piece} {v : A} (table : ℕ → List (ℕ × Reader A)) (other : ℕ → Reader A) (b : ℕ)
     → Lawful q (λ fuel. pick (table fuel) (other fuel) b) v → Lawful (byte b ⨾ q) (λ fuel. choose (table fuel) (other fuel)) v
 first_byte table other b l =
-    let r = alternative table other b l in
+    let r = row_lawful table other b l in
     record {
       text_is_read = λ mode rest h. r.text_is_read mode rest h.1;
       strict_is_text = r.strict_is_text;
@@ -197,7 +197,7 @@ first_byte table other b l =
 pub first_of_two : {A : Type 0} (p q : Piece) {v : A} (table : ℕ → List (ℕ × Reader A)) (other : ℕ → Reader A) (b : ℕ)
     → Lawful (p ⨾ q) (λ fuel. pick (table fuel) (other fuel) b) v → Lawful ((b ▸ p) ⨾ q) (λ fuel. choose (table fuel) (other fuel)) v
 first_of_two p q table other b l =
-    let r = alternative table other b l in
+    let r = row_lawful table other b l in
     record {
       text_is_read = λ mode rest h. (let s = r.text_is_read mode rest h in (s.2.0, (s.0, s.1, s.2.1), s.2.2));
       strict_is_text = λ bytes rest s. r.strict_is_text bytes rest (s.1.0, s.1.1, (s.0, s.1.2, s.2));
@@ -220,23 +220,23 @@ or_widely_lawful a b = record {
   finds = λ fuel le mode bytes rest r. elim r [ inl e ↦ a.finds fuel (omega arith) mode bytes rest e | inr w ↦ b.finds fuel (omega arith) mode bytes rest w.1 ];
 }
 
--- no alternative is the byte's
+-- no row is the byte's
 abbrev pub IsPast : {A : Type 0} → List (ℕ × Reader A) → ℕ → Type 0
 IsPast [] b = Unit {0}
-IsPast (alternative ∷ table) b = (b ≢ alternative.0) × IsPast table b
+IsPast (row ∷ table) b = (b ≢ row.0) × IsPast table b
 
 other_than : (b c : ℕ) → b ≢ c → eqb b c ≡ false
 other_than b c h = grind (arith, nat_tests)
 
 pick_past : {A : Type 0} (table : List (ℕ × Reader A)) (other : Reader A) (b : ℕ) (bytes : List ℕ) → IsPast table b → pick table other b bytes ≡ other (b ∷ bytes)
 pick_past [] other b bytes h = refl
-pick_past (alternative ∷ table) other b bytes h = rw (other_than b alternative.0 h.0, pick) (pick_past table other b bytes h.1)
+pick_past (row ∷ table) other b bytes h = rw (other_than b row.0 h.0, pick) (pick_past table other b bytes h.1)
 
 -- Where the piece is, its first byte is one of which P holds.
 pub record Starts (p : Piece) (P : ℕ → Type 0) : Type 0 where
   pub starts : (mode : Spelling) (bytes rest : List ℕ) → p.Reads mode bytes rest → (b : ℕ) × (more : List ℕ) × (bytes ≡ b ∷ more) × P b
 
--- a piece whose first byte is in no alternative
+-- a piece whose first byte is in no row
 pub past : {A : Type 0} {p : Piece} {v : A} (table : ℕ → List (ℕ × Reader A)) (other : ℕ → Reader A) → ((fuel : ℕ) → Starts p (IsPast (table fuel))) → Lawful p other v → Lawful p (λ fuel. choose (table fuel) (other fuel)) v
 unfolding choose
 past table other begins l = record {

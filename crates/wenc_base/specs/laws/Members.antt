@@ -181,9 +181,9 @@ module _ (P : List ℕ → Type 0) where
   }
 
   -- or the same of a call that may be refused
-  pub keeps_more : (old new : HolderState) → is_finished old ≡ false → IsLonger old new → HasMembers P old → HasMembers P new
-  keeps_more old new unfinished (inl same) k = rw same k
-  keeps_more old new unfinished (inr more) k = rw more.1 (keeps_appended old more.0 unfinished k)
+  pub keeps_longer : (old new : HolderState) → is_finished old ≡ false → IsLonger old new → HasMembers P old → HasMembers P new
+  keeps_longer old new unfinished (inl same) k = rw same k
+  keeps_longer old new unfinished (inr more) k = rw more.1 (keeps_appended old more.0 unfinished k)
 
   -- it is ended, as such a text
   pub keeps_closed : (h : HolderState) → ∥ P (member_text h) ∥₁ → HasMembers P h → HasMembers P (member_ended h)

@@ -31,7 +31,7 @@ pub weaken : {A : Type 0} (P Q : A → List ℕ → Type 0) (found : Option (A �
 weaken P Q None k h = tt
 weaken P Q (Some x) k h = k x.0 x.1 h
 
--- what is left of a form sound_behind this value of another one
+-- what is left of a form behind this value of another one
 abbrev pub behind_value : {A B : Type 0} → Form A → A → Form B → Form B
 behind_value part v form w = record {
   Fits = (form w).Fits;
@@ -40,7 +40,7 @@ behind_value part v form w = record {
   Reads = λ mode middle rest. (bytes : List ℕ) → (part v).Reads mode bytes middle → (form w).Reads mode bytes rest;
 }
 
--- a value, then what is read sound_behind it
+-- a value, then what is read behind it
 pub then_sound : {A B : Type 0} {part : Form A} {read : Reader A} {form : Form B} (next : A → Reader B) → Sound part read → ((v : A) → Sound (behind_value part v form) (next v)) → Sound form (read >>= next)
 then_sound {part = part} {read = read} {form = form} next s k = record {
   reads = λ bytes. sound_goes_on (λ v middle. (part v).Reads Wide bytes middle) (λ w rest. (form w).Reads Wide bytes rest) next (read bytes) (s.reads bytes) (λ v middle r.
@@ -63,7 +63,7 @@ nowhere_sound = record { reads = λ bytes. tt }
 
 -- ---- choices by the first byte
 
--- what is read sound_behind this byte
+-- what is read behind this byte
 abbrev pub sound_behind : {A : Type 0} → ℕ → Form A → Form A
 sound_behind b form v = record {
   Fits = (form v).Fits;
@@ -72,7 +72,7 @@ sound_behind b form v = record {
   Reads = λ mode bytes rest. (form v).Reads mode (b ∷ bytes) rest;
 }
 
--- each row finds only what is read sound_behind its byte
+-- each row finds only what is read behind its byte
 abbrev pub RowsAreSound : {A : Type 0} → Form A → List (ℕ × Reader A) → Type 0
 RowsAreSound form [] = Unit {0}
 RowsAreSound form (row ∷ table) = Sound (sound_behind row.0 form) row.1 × RowsAreSound form table

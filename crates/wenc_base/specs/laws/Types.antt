@@ -2,7 +2,7 @@
 use Rattle.std.proofs.Common.{ℕ, Bool, true, false, List, [], ◌∷◌, ◌++◌, refl, arith, inl, inr}
 use Rattle.wenc_base.specs.Piece.{Form, Wide, ◌▸◌}
 use Rattle.wenc_base.specs.laws.Sound.{Sound, RowsAreSound, both_tables, given_rows, give_sound, last_sound, nowhere_sound, choose_sound}
-use Rattle.wenc_base.specs.laws.Lawful.{Lawful, Reader, ◌>>=◌, give, nowhere, choose, alternative, row_byte, or_widely_lawful, past, last}
+use Rattle.wenc_base.specs.laws.Lawful.{Lawful, Reader, ◌>>=◌, give, nowhere, choose, row_lawful, row_byte, or_widely_lawful, past, last}
 use Rattle.wenc_base.specs.laws.Numbers.{read_index, index_lawful, index_sound, index_starts}
 use Rattle.wenc_base.specs.declared.types.ValType.{ValType}
 use Rattle.wenc_base.specs.declared.types.ValType.TheVariants.{I32, I64, F32, F64, V128, Ref}
@@ -47,7 +47,7 @@ abstract_row make rows other Exn = row_byte _ _ 0x69 (λ fuel rest. refl)
 abbrev pub abstract_types : List AbstractHeapType
 abstract_types = NoExn ∷ NoFunc ∷ NoExtern ∷ None ∷ Func ∷ Extern ∷ Any ∷ Eq ∷ I31 ∷ Struct ∷ Array ∷ Exn ∷ []
 
--- each alternative of a table of abstract types
+-- each row of a table of abstract types
 abstract_rows_sound : {A : Type 0} (form : Form A) (make : AbstractHeapType → A) → ((t : AbstractHeapType) (rest : List ℕ) → (form (make t)).Reads Wide (abstract_byte t ∷ rest) rest) → RowsAreSound form (abstract_rows make)
 abstract_rows_sound form make k = given_rows form abstract_byte make k abstract_types
 
@@ -88,10 +88,10 @@ module _ {A : Type 0} (make : RefType → A) (rows : ℕ → List (ℕ × Reader
   short t = abstract_row (λ u. make (to true (Abstract u))) (λ fuel. long_rows make ++ rows fuel) other t
 
   long : (h : HeapType) → Lawful (0x63 ▸ heap_type h) table (make (to true h))
-  long h = alternative _ _ 0x63 (last (λ g. make (to true g)) (heap_type_lawful h))
+  long h = row_lawful _ _ 0x63 (last (λ g. make (to true g)) (heap_type_lawful h))
 
   reference_row : (is_nullable : Bool) (h : HeapType) → Lawful (reference_to is_nullable h) table (make (to is_nullable h))
-  reference_row false h = alternative _ _ 0x64 (last (λ g. make (to false g)) (heap_type_lawful h))
+  reference_row false h = row_lawful _ _ 0x64 (last (λ g. make (to false g)) (heap_type_lawful h))
   reference_row true (Concrete n) = long (Concrete n)
   reference_row true (Abstract Func) = or_widely_lawful (short Func) (long (Abstract Func))
   reference_row true (Abstract Extern) = or_widely_lawful (short Extern) (long (Abstract Extern))
@@ -109,7 +109,7 @@ long_nullable (Abstract Extern) bytes rest r = inr (tt, (bytes, refl, r))
 long_nullable (Abstract t) bytes rest r = inl (bytes, refl, r)
 long_nullable (Concrete n) bytes rest r = (bytes, refl, r)
 
--- each alternative of a table of references
+-- each row of a table of references
 pub reference_rows_sound : {A : Type 0} (form : Form A) (make : RefType → A) → ((r : RefType) (bytes rest : List ℕ) → (reference r).Reads Wide bytes rest → (form (make r)).Reads Wide bytes rest) → RowsAreSound form (reference_rows make)
 reference_rows_sound form make k = both_tables form (abstract_rows (λ t. make (to true (Abstract t)))) (long_rows make) (abstract_rows_sound form (λ t. make (to true (Abstract t))) (λ t rest. k (to true (Abstract t)) _ rest (short_nullable t rest))) (
   last_sound (λ h. make (to true h)) heap_type_sound (λ h bytes rest r. k (to true h) _ rest (long_nullable h bytes rest r)),
@@ -152,7 +152,7 @@ read_val_type = choose (val_type_rows (λ t. t)) nowhere
 pub val_type_lawful : (t : ValType) → Lawful (val_type t) (λ fuel. read_val_type) t
 val_type_lawful t = val_type_row (λ u. u) (λ fuel. []) _ t
 
--- each alternative of a table of value types
+-- each row of a table of value types
 pub val_type_rows_sound : {A : Type 0} (form : Form A) (make : ValType → A) → ((t : ValType) (bytes rest : List ℕ) → (val_type t).Reads Wide bytes rest → (form (make t)).Reads Wide bytes rest) → RowsAreSound form (val_type_rows make)
 val_type_rows_sound form make k = both_tables form (reference_rows (λ r. make (Ref r))) (number_rows make) (reference_rows_sound form (λ r. make (Ref r)) (λ r. k (Ref r))) (
   give_sound _ (λ bytes. k I32 _ bytes refl),

@@ -1,4 +1,4 @@
--- The index spaces with the item that is being written in one of them, and what that was spaces_before.
+-- The index spaces with the item that is being written in one of them, and what that was before.
 use Rattle.std.specs.Prelude.{◌≡◌, ℕ, List, [], ◌<◌, ◌≤◌, ◌^◌, length, take, replicate, Option}
 use Rattle.std.specs.Prelude.{Some, None, slice_set}
 use Rattle.wenc_base.specs.Holder.{HolderState, holding, content_size}

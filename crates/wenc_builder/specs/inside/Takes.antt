@@ -33,7 +33,7 @@ TakesNoIndex old new result p =
     (with_alone old.settled None None p.text) None p (λ r. Unit {0})
 
 -- A call appends a piece to the item that is being written, which is made of the values that an
--- iterator gives; where it is refused, it may have item_appended a part.
+-- iterator gives; where it is refused, it may have appended a part.
 pub record AppendsListed {S B : Type 0} (steps : S → Option B → S → Type 0) (values : S)
     (old new : State) (outcome : Result (Unit {0}) Fault) (piece : List B → Piece) : Type 0 where
   pub ok : OnOk outcome

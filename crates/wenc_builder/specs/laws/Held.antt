@@ -42,7 +42,7 @@ indexed_longer : (c : Content) (b : Option BegunItem) (text : List ℕ) → IsIn
 indexed_longer c None text p = tt
 indexed_longer c (Some b) text p = p
 
--- a section with a begun_appended text has as many items
+-- a section with a longer text has as many items
 longer_room_at : (id count : ℕ) (body longer_body : List ℕ) → HasRoom (Some (record { id = id; count = count; body = body }))
     → NoCause (NoRoom (Some (record { id = id; count = count; body = longer_body }))) → HasRoom (Some (record { id = id; count = count; body = longer_body }))
 longer_room_at id count body longer_body room large (Memory e) c = c
@@ -86,7 +86,7 @@ whole_is_begun s whole = at s.begun whole
     at None w = absurd (∥∥₁_elim w (λ a b. absurd a) (λ n. n))
     at (Some b) w = refl
 
--- it is item_ended, whole
+-- it is ended, whole
 pub some_ended : (s : State) → ∥ is_whole s ∥₁ → HoldsSome s → HoldsSome (item_ended s)
 some_ended s whole h = record { settled = ended_at s.settled s.begun h.settled h.indexed h.room whole; indexed = tt; room = tt }
 

@@ -6,7 +6,7 @@ use Rattle.std.specs.List.{flat_map}
 use Rattle.std.specs.Prelude.{IsTrue}
 use Rattle.wenc_base.specs.Piece.{Piece, Spelling, Strict, only_where, ReadsEach}
 use Rattle.wenc_base.specs.laws.Forms.{read_byte_list, byte_list_lawful, read_counted, counted_lawful}
-use Rattle.wenc_base.specs.laws.Lawful.{Lawful, LawfulWhole, Reader, go_on, ◌>>=◌, give, nowhere, pick, choose, alternative, row_byte, IsPast, Starts, past, last, only_where_lawful, then_whole, made, last_whole, to_end, at_end, before_end, deeper_whole, whole_once}
+use Rattle.wenc_base.specs.laws.Lawful.{Lawful, LawfulWhole, Reader, go_on, ◌>>=◌, give, nowhere, pick, choose, row_lawful, row_byte, IsPast, Starts, past, last, only_where_lawful, then_whole, made, last_whole, to_end, at_end, before_end, deeper_whole, whole_once}
 use Rattle.wenc_base.specs.laws.Sections.{read_custom, custom_lawful}
 use Rattle.wenc_builder.specs.Item.{Item, ModuleItem, CoreInstanceItem, CoreTypeItem, ComponentItem, InstanceItem, AliasItem, TypeItem, CanonItem, StartItem, ImportItem, ExportItem, CustomItem, RawItem, collected, item}
 use Rattle.wenc_base.specs.declared.fault.Fault.TheVariants.{Unfinished}
@@ -104,11 +104,11 @@ run_starts id xs = record { starts = λ mode bytes rest r. (id, r.1.0, r.1.1, is
 -- a section without a raw item has all laws
 section_piece_lawful : (s : Section) → HasNoRaw (members s) → Lawful (section_piece s) read_section_piece s
 section_piece_lawful (Run id xs) h =
-    past _ _ (λ fuel. run_starts id xs) (only_where_lawful _ (alternative (λ fuel. []) read_run id (last (Run id) (counted_lawful (item_of_lawful id) xs))))
-section_piece_lawful (Alone (CustomItem c)) h = only_where_lawful _ (alternative _ _ 0 (last (λ x. Alone (CustomItem x)) (custom_lawful c)))
-section_piece_lawful (Alone (ModuleItem bs)) h = only_where_lawful _ (alternative _ _ 1 (last (λ x. Alone (ModuleItem x)) (byte_list_lawful bs)))
-section_piece_lawful (Alone (ComponentItem bs)) h = only_where_lawful _ (alternative _ _ 4 (last (λ x. Alone (ComponentItem x)) (byte_list_lawful bs)))
-section_piece_lawful (Alone (StartItem s)) h = only_where_lawful _ (alternative _ _ 9 (last (λ x. Alone (StartItem x)) (start_lawful s)))
+    past _ _ (λ fuel. run_starts id xs) (only_where_lawful _ (row_lawful (λ fuel. []) read_run id (last (Run id) (counted_lawful (item_of_lawful id) xs))))
+section_piece_lawful (Alone (CustomItem c)) h = only_where_lawful _ (row_lawful _ _ 0 (last (λ x. Alone (CustomItem x)) (custom_lawful c)))
+section_piece_lawful (Alone (ModuleItem bs)) h = only_where_lawful _ (row_lawful _ _ 1 (last (λ x. Alone (ModuleItem x)) (byte_list_lawful bs)))
+section_piece_lawful (Alone (ComponentItem bs)) h = only_where_lawful _ (row_lawful _ _ 4 (last (λ x. Alone (ComponentItem x)) (byte_list_lawful bs)))
+section_piece_lawful (Alone (StartItem s)) h = only_where_lawful _ (row_lawful _ _ 9 (last (λ x. Alone (StartItem x)) (start_lawful s)))
 section_piece_lawful (Alone (RawItem bs)) h = absurd h.0
 section_piece_lawful (Alone other) h = vacuous (never_unfinished other) (λ e. cc)
 
@@ -141,7 +141,7 @@ abbrev read_preamble : Reader (Unit {0})
 read_preamble = only 0x00 (only 0x61 (only 0x73 (only 0x6d (only 0x0d (only 0x00 (only 0x01 (only 0x00 (give tt))))))))
 
 preamble_lawful : Lawful preamble (λ fuel. read_preamble) tt
-preamble_lawful = alternative _ _ 0x00 (alternative _ _ 0x61 (alternative _ _ 0x73 (alternative _ _ 0x6d (alternative _ _ 0x0d (alternative _ _ 0x00 (alternative _ _ 0x01 (row_byte _ _ 0x00 (λ fuel rest. refl))))))))
+preamble_lawful = row_lawful _ _ 0x00 (row_lawful _ _ 0x61 (row_lawful _ _ 0x73 (row_lawful _ _ 0x6d (row_lawful _ _ 0x0d (row_lawful _ _ 0x00 (row_lawful _ _ 0x01 (row_byte _ _ 0x00 (λ fuel rest. refl))))))))
 
 abbrev read_component : ℕ → List ℕ → Option (List Section)
 read_component fuel bytes = go_on (read_preamble bytes) (λ u rest. read_sections fuel rest)

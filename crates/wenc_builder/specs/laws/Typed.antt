@@ -74,7 +74,7 @@ module _ (old : State) (es : List Entry) (x : Entry) (d : Draft) (w : IsWrittenT
       whole_free old d.id d.space d.name (item x.item).text (item x.item).Cause (λ f k. opening f (subst (λ (e : Draft). BeginCause old e f) (sym bare_is) k)) (λ f k. writing f (subst (λ (e : Draft). WritingCause old x e f) (sym bare_is) k))
       fault (to_whole fault c)
 
--- an item that was begun, written and item_ended, and was refused nowhere, is one entry more
+-- an item that was begun, written and ended, and was refused nowhere, is one entry more
 pub written_holds : (old new : State) (es : List Entry) (x : Entry) (d : Draft) → IsWrittenType x d → NoCause (BeginCause old d) → (item x.item).Fits → NoCause (WritingCause old x d)
     → new ≡ item_ended (item_appended (item_begun old d) (item x.item).text) → Holds old es → Holds new (es ++ x ∷ [])
 written_holds old new es x d w opening fits writing e h = rw (e ∙ is_step) (holds_step old es x fits room h)

@@ -147,13 +147,13 @@ flat_finds D l = record { finds = λ bytes rest r. rw (l.finds l.depth (omega ar
 pub too_deep_finds : {A : Type 0} {p : Piece} {v : A} (D : Type 0) → D → Finds p too_deep v D
 too_deep_finds D d = record { finds = λ bytes rest r. d }
 
--- a piece sound_behind a byte that a row has
+-- a piece behind a byte that a row has
 pub row_finds : {A : Type 0} {p : Piece} {v : A} {D : Type 0} (table : List (ℕ × DeepReader A)) (other : DeepReader A) (b : ℕ) (read : DeepReader A) → ((bytes rest : List ℕ) → take_row table other bytes b rest ≡ read rest)
     → Finds p read v D → Finds (b ▸ p) (select table other) v D
 unfolding select
 row_finds {v = v} {D = D} table other b read is_row f = record { finds = λ bytes rest r. rw (r.1, is_row (b ∷ r.0) r.0) (f.finds r.0 rest r.2) }
 
--- the other reader finds nothing sound_behind the bytes of the table
+-- the other reader finds nothing behind the bytes of the table
 abbrev pub ReadsApart : {A : Type 0} → DeepReader A → List (ℕ × DeepReader A) → Type 0
 ReadsApart other [] = Unit {0}
 ReadsApart other (row ∷ table) = ((rest : List ℕ) → other (row.0 ∷ rest) ≡ Err Bad) × ReadsApart other table

@@ -4,7 +4,7 @@ use Rattle.wenc_base.specs.Piece.{Piece, Form, Wide, byte, ◌▸◌, ◌⨾◌}
 use Rattle.wenc_base.specs.laws.Sound.{Sound, sound_behind, give_sound, last_sound, then_sound, nowhere_sound, choose_sound}
 use Rattle.wenc_base.specs.Number.{u32}
 use Rattle.wenc_base.specs.Forms.{name as name_form}
-use Rattle.wenc_base.specs.laws.Lawful.{Lawful, Reader, ◌>>=◌, give, nowhere, choose, alternative, row_byte, first_byte, first_of_two, then, last}
+use Rattle.wenc_base.specs.laws.Lawful.{Lawful, Reader, ◌>>=◌, give, nowhere, choose, row_lawful, row_byte, first_byte, first_of_two, then, last}
 use Rattle.wenc_base.specs.laws.Numbers.{read_u32, u32_lawful, u32_sound}
 use Rattle.wenc_base.specs.laws.Forms.{read_name, name_lawful, name_sound}
 use Rattle.wenc_base.specs.declared.exports.ExportKind.{ExportKind}
@@ -26,8 +26,8 @@ read_outer_kind = choose (
     (0x04, give outers.Component) ∷ []) nowhere
 
 pub outer_kind_lawful : (kind : ComponentOuterAliasKind) → Lawful (outer_kind kind) (λ fuel. read_outer_kind) kind
-outer_kind_lawful outers.CoreModule = alternative _ _ 0x00 (row_byte _ _ 0x11 (λ fuel rest. refl))
-outer_kind_lawful outers.CoreType = alternative _ _ 0x00 (row_byte _ _ 0x10 (λ fuel rest. refl))
+outer_kind_lawful outers.CoreModule = row_lawful _ _ 0x00 (row_byte _ _ 0x11 (λ fuel rest. refl))
+outer_kind_lawful outers.CoreType = row_lawful _ _ 0x00 (row_byte _ _ 0x10 (λ fuel rest. refl))
 outer_kind_lawful outers.«Type» = row_byte _ _ 0x03 (λ fuel rest. refl)
 outer_kind_lawful outers.Component = row_byte _ _ 0x04 (λ fuel rest. refl)
 
@@ -39,7 +39,7 @@ outer_kind_sound = choose_sound _ _ (
 
 -- ---- aliases
 
--- what stands sound_behind the byte that says which form it is
+-- what stands behind the byte that says which form it is
 abbrev pub read_export : ComponentExportKind → Reader AliasOf
 read_export kind = read_u32 >>= λ instance. read_name >>= λ name. give (InstanceExport instance kind name)
 
@@ -75,27 +75,27 @@ export_lawful : (kind : ComponentExportKind) (instance : ℕ) (name : List ℕ) 
 export_lawful kind instance name = then _ (u32_lawful instance) (last (InstanceExport instance kind) (name_lawful name))
 
 core_export_lawful : (kind : ExportKind) (instance : ℕ) (name : List ℕ) → Lawful (0x01 ▸ u32 instance ⨾ name_form name) (λ fuel. read_core_export kind) (CoreInstanceExport instance kind name)
-core_export_lawful kind instance name = alternative _ _ 0x01 (then _ (u32_lawful instance) (last (CoreInstanceExport instance kind) (name_lawful name)))
+core_export_lawful kind instance name = row_lawful _ _ 0x01 (then _ (u32_lawful instance) (last (CoreInstanceExport instance kind) (name_lawful name)))
 
 outer_lawful : (kind : ComponentOuterAliasKind) (count number : ℕ) → Lawful (u32 count ⨾ u32 number) (λ fuel. read_outer kind) (Outer kind count number)
 outer_lawful kind count number = then _ (u32_lawful count) (last (Outer kind count) (u32_lawful number))
 
 pub alias_lawful : (a : AliasOf) → Lawful (alias a) (λ fuel. read_alias) a
-alias_lawful (InstanceExport i kinds.Module n) = first_of_two (byte 0x11) (0x00 ▸ u32 i ⨾ name_form n) _ _ 0x00 (first_byte _ _ 0x11 (alternative _ _ 0x00 (export_lawful kinds.Module i n)))
-alias_lawful (InstanceExport i kinds.Func n) = first_byte _ _ 0x01 (alternative _ _ 0x00 (export_lawful kinds.Func i n))
-alias_lawful (InstanceExport i kinds.Value n) = first_byte _ _ 0x02 (alternative _ _ 0x00 (export_lawful kinds.Value i n))
-alias_lawful (InstanceExport i kinds.«Type» n) = first_byte _ _ 0x03 (alternative _ _ 0x00 (export_lawful kinds.«Type» i n))
-alias_lawful (InstanceExport i kinds.Instance n) = first_byte _ _ 0x05 (alternative _ _ 0x00 (export_lawful kinds.Instance i n))
-alias_lawful (InstanceExport i kinds.Component n) = first_byte _ _ 0x04 (alternative _ _ 0x00 (export_lawful kinds.Component i n))
-alias_lawful (CoreInstanceExport i cores.Func n) = alternative _ _ 0x00 (first_byte _ _ 0x00 (core_export_lawful cores.Func i n))
-alias_lawful (CoreInstanceExport i cores.Table n) = alternative _ _ 0x00 (first_byte _ _ 0x01 (core_export_lawful cores.Table i n))
-alias_lawful (CoreInstanceExport i cores.Memory n) = alternative _ _ 0x00 (first_byte _ _ 0x02 (core_export_lawful cores.Memory i n))
-alias_lawful (CoreInstanceExport i cores.Global n) = alternative _ _ 0x00 (first_byte _ _ 0x03 (core_export_lawful cores.Global i n))
-alias_lawful (CoreInstanceExport i cores.Tag n) = alternative _ _ 0x00 (first_byte _ _ 0x04 (core_export_lawful cores.Tag i n))
-alias_lawful (Outer outers.CoreModule c n) = first_of_two (byte 0x11) (0x02 ▸ u32 c ⨾ u32 n) _ _ 0x00 (first_byte _ _ 0x11 (alternative _ _ 0x02 (outer_lawful outers.CoreModule c n)))
-alias_lawful (Outer outers.CoreType c n) = first_of_two (byte 0x10) (0x02 ▸ u32 c ⨾ u32 n) _ _ 0x00 (first_byte _ _ 0x10 (alternative _ _ 0x02 (outer_lawful outers.CoreType c n)))
-alias_lawful (Outer outers.«Type» c n) = first_byte _ _ 0x03 (alternative _ _ 0x02 (outer_lawful outers.«Type» c n))
-alias_lawful (Outer outers.Component c n) = first_byte _ _ 0x04 (alternative _ _ 0x02 (outer_lawful outers.Component c n))
+alias_lawful (InstanceExport i kinds.Module n) = first_of_two (byte 0x11) (0x00 ▸ u32 i ⨾ name_form n) _ _ 0x00 (first_byte _ _ 0x11 (row_lawful _ _ 0x00 (export_lawful kinds.Module i n)))
+alias_lawful (InstanceExport i kinds.Func n) = first_byte _ _ 0x01 (row_lawful _ _ 0x00 (export_lawful kinds.Func i n))
+alias_lawful (InstanceExport i kinds.Value n) = first_byte _ _ 0x02 (row_lawful _ _ 0x00 (export_lawful kinds.Value i n))
+alias_lawful (InstanceExport i kinds.«Type» n) = first_byte _ _ 0x03 (row_lawful _ _ 0x00 (export_lawful kinds.«Type» i n))
+alias_lawful (InstanceExport i kinds.Instance n) = first_byte _ _ 0x05 (row_lawful _ _ 0x00 (export_lawful kinds.Instance i n))
+alias_lawful (InstanceExport i kinds.Component n) = first_byte _ _ 0x04 (row_lawful _ _ 0x00 (export_lawful kinds.Component i n))
+alias_lawful (CoreInstanceExport i cores.Func n) = row_lawful _ _ 0x00 (first_byte _ _ 0x00 (core_export_lawful cores.Func i n))
+alias_lawful (CoreInstanceExport i cores.Table n) = row_lawful _ _ 0x00 (first_byte _ _ 0x01 (core_export_lawful cores.Table i n))
+alias_lawful (CoreInstanceExport i cores.Memory n) = row_lawful _ _ 0x00 (first_byte _ _ 0x02 (core_export_lawful cores.Memory i n))
+alias_lawful (CoreInstanceExport i cores.Global n) = row_lawful _ _ 0x00 (first_byte _ _ 0x03 (core_export_lawful cores.Global i n))
+alias_lawful (CoreInstanceExport i cores.Tag n) = row_lawful _ _ 0x00 (first_byte _ _ 0x04 (core_export_lawful cores.Tag i n))
+alias_lawful (Outer outers.CoreModule c n) = first_of_two (byte 0x11) (0x02 ▸ u32 c ⨾ u32 n) _ _ 0x00 (first_byte _ _ 0x11 (row_lawful _ _ 0x02 (outer_lawful outers.CoreModule c n)))
+alias_lawful (Outer outers.CoreType c n) = first_of_two (byte 0x10) (0x02 ▸ u32 c ⨾ u32 n) _ _ 0x00 (first_byte _ _ 0x10 (row_lawful _ _ 0x02 (outer_lawful outers.CoreType c n)))
+alias_lawful (Outer outers.«Type» c n) = first_byte _ _ 0x03 (row_lawful _ _ 0x02 (outer_lawful outers.«Type» c n))
+alias_lawful (Outer outers.Component c n) = first_byte _ _ 0x04 (row_lawful _ _ 0x02 (outer_lawful outers.Component c n))
 
 -- ---- what is found is read
 

@@ -1,6 +1,6 @@
 -- The laws of the kinds of exports.
 use Rattle.std.proofs.Common.{[], ◌∷◌, refl}
-use Rattle.wenc_base.specs.laws.Lawful.{Lawful, Reader, give, nowhere, choose, alternative, row_byte}
+use Rattle.wenc_base.specs.laws.Lawful.{Lawful, Reader, give, nowhere, choose, row_lawful, row_byte}
 use Rattle.wenc_base.specs.laws.Sound.{Sound, give_sound, nowhere_sound, choose_sound}
 use Rattle.wenc_parts.specs.declared.exports.ComponentExportKind.{ComponentExportKind}
 use Rattle.wenc_parts.specs.declared.exports.ComponentExportKind.TheVariants.{Module, Func, Value, «Type» as TypeKind, Instance, Component}
@@ -16,7 +16,7 @@ read_component_export_kind = choose (
     (0x04, give Component) ∷ []) nowhere
 
 pub component_export_kind_lawful : (kind : ComponentExportKind) → Lawful (component_export_kind kind) (λ fuel. read_component_export_kind) kind
-component_export_kind_lawful Module = alternative _ _ 0x00 (row_byte _ _ 0x11 (λ fuel rest. refl))
+component_export_kind_lawful Module = row_lawful _ _ 0x00 (row_byte _ _ 0x11 (λ fuel rest. refl))
 component_export_kind_lawful Func = row_byte _ _ 0x01 (λ fuel rest. refl)
 component_export_kind_lawful Value = row_byte _ _ 0x02 (λ fuel rest. refl)
 component_export_kind_lawful TypeKind = row_byte _ _ 0x03 (λ fuel rest. refl)

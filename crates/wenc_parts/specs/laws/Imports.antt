@@ -3,7 +3,7 @@ use Rattle.std.specs.Prelude.{nat_lt}
 use Rattle.std.proofs.Common.{◌≡◌, ℕ, suc, Bool, true, false, true≢false, cond, ◌++◌, List, [], ◌∷◌, Option, Some, None, refl, sym, ap, subst, inl, inr}
 use Rattle.wenc_base.specs.Forms.{name, list}
 use Rattle.wenc_parts.specs.Exports.{component_export_kind}
-use Rattle.wenc_base.specs.laws.Lawful.{Lawful, Reader, ◌>>=◌, give, nowhere, choose, alternative, row_also, row_byte, then, last}
+use Rattle.wenc_base.specs.laws.Lawful.{Lawful, Reader, ◌>>=◌, give, nowhere, choose, row_lawful, row_also, row_byte, then, last}
 use Rattle.wenc_base.specs.laws.Sound.{Then, Sound, give_sound, last_sound, then_sound, nowhere_sound, choose_sound}
 use Rattle.wenc_base.specs.Piece.{Wide}
 use Rattle.wenc_base.specs.laws.Numbers.{read_u32, u32_lawful, u32_sound}
@@ -21,7 +21,7 @@ abbrev pub read_type_bounds : Reader TypeBounds
 read_type_bounds = choose ((0x00, read_u32 >>= λ n. give (Eq n)) ∷ (0x01, give SubResource) ∷ []) nowhere
 
 pub type_bounds_lawful : (b : TypeBounds) → Lawful (type_bounds b) (λ fuel. read_type_bounds) b
-type_bounds_lawful (Eq n) = alternative _ _ 0x00 (last Eq (u32_lawful n))
+type_bounds_lawful (Eq n) = row_lawful _ _ 0x00 (last Eq (u32_lawful n))
 type_bounds_lawful SubResource = row_byte _ _ 0x01 (λ fuel rest. refl)
 
 pub type_bounds_sound : Sound type_bounds read_type_bounds
@@ -37,12 +37,12 @@ read_type_reference = choose (
     (0x04, read_u32 >>= λ n. give (Component n)) ∷ []) nowhere
 
 pub type_reference_lawful : (r : ComponentTypeRef) → Lawful (type_reference r) (λ fuel. read_type_reference) r
-type_reference_lawful (Module n) = alternative _ _ 0x00 (alternative _ _ 0x11 (last Module (u32_lawful n)))
-type_reference_lawful (Func n) = alternative _ _ 0x01 (last Func (u32_lawful n))
-type_reference_lawful (Value t) = alternative _ _ 0x02 (last Value (value_type_lawful t))
-type_reference_lawful (TypeRef b) = alternative _ _ 0x03 (last TypeRef (type_bounds_lawful b))
-type_reference_lawful (Instance n) = alternative _ _ 0x05 (last Instance (u32_lawful n))
-type_reference_lawful (Component n) = alternative _ _ 0x04 (last Component (u32_lawful n))
+type_reference_lawful (Module n) = row_lawful _ _ 0x00 (row_lawful _ _ 0x11 (last Module (u32_lawful n)))
+type_reference_lawful (Func n) = row_lawful _ _ 0x01 (last Func (u32_lawful n))
+type_reference_lawful (Value t) = row_lawful _ _ 0x02 (last Value (value_type_lawful t))
+type_reference_lawful (TypeRef b) = row_lawful _ _ 0x03 (last TypeRef (type_bounds_lawful b))
+type_reference_lawful (Instance n) = row_lawful _ _ 0x05 (last Instance (u32_lawful n))
+type_reference_lawful (Component n) = row_lawful _ _ 0x04 (last Component (u32_lawful n))
 
 pub type_reference_sound : Sound type_reference read_type_reference
 type_reference_sound = choose_sound _ _ (
@@ -68,9 +68,9 @@ read_name_option = choose (
     (0x02, read_name >>= λ text. give (ExternalId text)) ∷ []) nowhere
 
 pub name_option_lawful : (o : NameOption) → Lawful (name_option o) (λ fuel. read_name_option) o
-name_option_lawful (Implements text) = alternative _ _ 0x00 (last Implements (name_lawful text))
-name_option_lawful (VersionSuffix text) = alternative _ _ 0x01 (last VersionSuffix (name_lawful text))
-name_option_lawful (ExternalId text) = alternative _ _ 0x02 (last ExternalId (name_lawful text))
+name_option_lawful (Implements text) = row_lawful _ _ 0x00 (last Implements (name_lawful text))
+name_option_lawful (VersionSuffix text) = row_lawful _ _ 0x01 (last VersionSuffix (name_lawful text))
+name_option_lawful (ExternalId text) = row_lawful _ _ 0x02 (last ExternalId (name_lawful text))
 
 pub name_option_sound : Sound name_option read_name_option
 name_option_sound = choose_sound _ _ (
@@ -138,7 +138,7 @@ they_ascend (Some i) (Some v) (Some e) = refl
 name_with_lawful : (text : List ℕ) (options : List NameOption) → ascend_from 0 options ≡ true → Lawful (name_with text options) (λ fuel. read_extern_name) (with_options text options)
 name_with_lawful text [] e = row_also _ _ 0x00 0x01 (last plain_name (name_lawful text)) (last plain_name (name_lawful text))
 name_with_lawful text (o ∷ os) e =
-    alternative _ _ 0x02 (then _ (name_lawful text) (given_last (o ∷ os) (λ bytes. rw e refl) (list_lawful name_option_lawful (o ∷ os))))
+    row_lawful _ _ 0x02 (then _ (name_lawful text) (given_last (o ∷ os) (λ bytes. rw e refl) (list_lawful name_option_lawful (o ∷ os))))
   where
     given_last : (options : List NameOption) → ((bytes : List ℕ) → given_options text options bytes ≡ Some (with_options text options, bytes)) → Lawful (list name_option options) (λ fuel. read_list read_name_option) options
         → Lawful (list name_option options) (λ fuel. read_list read_name_option >>= given_options text) (with_options text options)

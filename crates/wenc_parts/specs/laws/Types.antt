@@ -1,6 +1,6 @@
 -- The laws of value types.
 use Rattle.std.proofs.Common.{◌≡◌, ap, ℕ, List, [], ◌∷◌, ◌++◌, Option, Some, None, refl, arith}
-use Rattle.wenc_base.specs.laws.Lawful.{Lawful, Reader, ◌>>=◌, give, nowhere, choose, alternative, row_byte, past, last}
+use Rattle.wenc_base.specs.laws.Lawful.{Lawful, Reader, ◌>>=◌, give, nowhere, choose, row_lawful, row_byte, past, last}
 use Rattle.wenc_base.specs.laws.Numbers.{read_index, index_lawful, index_sound, index_starts}
 use Rattle.wenc_parts.specs.declared.types.PrimitiveValType.{PrimitiveValType}
 use Rattle.wenc_parts.specs.declared.types.PrimitiveValType.TheVariants.{Bool, S8, U8, S16, U16, S32, U32, S64, U64, F32, F64, Char, String, ErrorContext}
@@ -49,7 +49,7 @@ primitive_row make rows other ErrorContext = row_byte _ _ 0x64 (λ fuel rest. re
 abbrev pub primitives : List PrimitiveValType
 primitives = Bool ∷ S8 ∷ U8 ∷ S16 ∷ U16 ∷ S32 ∷ U32 ∷ S64 ∷ U64 ∷ F32 ∷ F64 ∷ Char ∷ String ∷ ErrorContext ∷ []
 
--- each alternative of a table of primitive types
+-- each row of a table of primitive types
 pub primitive_rows_sound : {A : Type 0} (form : Form A) (make : PrimitiveValType → A) → ((p : PrimitiveValType) (rest : List ℕ) → (form (make p)).Reads Wide (primitive_byte p ∷ rest) rest) → RowsAreSound form (primitive_rows make)
 primitive_rows_sound form make k = given_rows form primitive_byte make k primitives
 
@@ -76,8 +76,8 @@ abbrev pub read_result_list : Reader (Option ComponentValType)
 read_result_list = choose ((0x00, read_value_type >>= λ t. give (Some t)) ∷ (0x01, choose ((0x00, give None) ∷ []) nowhere) ∷ []) nowhere
 
 pub result_list_lawful : (r : Option ComponentValType) → Lawful (result_list r) (λ fuel. read_result_list) r
-result_list_lawful (Some t) = alternative _ _ 0x00 (last Some (value_type_lawful t))
-result_list_lawful None = alternative _ _ 0x01 (row_byte _ _ 0x00 (λ fuel rest. refl))
+result_list_lawful (Some t) = row_lawful _ _ 0x00 (last Some (value_type_lawful t))
+result_list_lawful None = row_lawful _ _ 0x01 (row_byte _ _ 0x00 (λ fuel rest. refl))
 
 pub result_list_sound : Sound result_list read_result_list
 result_list_sound = choose_sound _ _ (

@@ -1,6 +1,6 @@
 -- The laws of the items of flat sections.
 use Rattle.std.proofs.Common.{ℕ, List, [], ◌∷◌, Option, refl}
-use Rattle.wenc_base.specs.laws.Lawful.{Lawful, Reader, ◌>>=◌, give, nowhere, choose, done, alternative, then, last, whole_lawful}
+use Rattle.wenc_base.specs.laws.Lawful.{Lawful, Reader, ◌>>=◌, give, nowhere, choose, done, row_lawful, then, last, whole_lawful}
 use Rattle.wenc_base.specs.laws.Sound.{Sound, last_sound, then_sound, nowhere_sound, choose_sound, whole_sound}
 use Rattle.wenc_base.specs.laws.Numbers.{read_u32, u32_lawful, u32_sound}
 use Rattle.wenc_base.specs.laws.Forms.{read_name, name_lawful, name_sound, read_list, list_lawful, list_sound, read_option, option_lawful, option_sound, read_sized, sized_lawful, sized_sound}
@@ -78,8 +78,8 @@ read_core_instance = choose (
     (0x01, read_list read_inline_core_export >>= λ exports. give (CoreExports exports)) ∷ []) nowhere
 
 pub core_instance_lawful : (i : CoreInstance) → Lawful (core_instance i) (λ fuel. read_core_instance) i
-core_instance_lawful (CoreInstantiate module_index arguments) = alternative _ _ 0x00 (then _ (u32_lawful module_index) (last (CoreInstantiate module_index) (list_lawful argument_lawful arguments)))
-core_instance_lawful (CoreExports exports) = alternative _ _ 0x01 (last CoreExports (list_lawful inline_core_export_lawful exports))
+core_instance_lawful (CoreInstantiate module_index arguments) = row_lawful _ _ 0x00 (then _ (u32_lawful module_index) (last (CoreInstantiate module_index) (list_lawful argument_lawful arguments)))
+core_instance_lawful (CoreExports exports) = row_lawful _ _ 0x01 (last CoreExports (list_lawful inline_core_export_lawful exports))
 
 pub core_instance_sound : Sound core_instance read_core_instance
 core_instance_sound = choose_sound _ _ (
@@ -119,8 +119,8 @@ read_instance = choose (
     (0x01, read_list read_inline_exported >>= λ exports. give (Exports exports)) ∷ []) nowhere
 
 pub instance_lawful : (i : Instance) → Lawful (instance i) (λ fuel. read_instance) i
-instance_lawful (Instantiate component_index arguments) = alternative _ _ 0x00 (then _ (u32_lawful component_index) (last (Instantiate component_index) (list_lawful given_lawful arguments)))
-instance_lawful (Exports exports) = alternative _ _ 0x01 (last Exports (list_lawful exported_lawful exports))
+instance_lawful (Instantiate component_index arguments) = row_lawful _ _ 0x00 (then _ (u32_lawful component_index) (last (Instantiate component_index) (list_lawful given_lawful arguments)))
+instance_lawful (Exports exports) = row_lawful _ _ 0x01 (last Exports (list_lawful exported_lawful exports))
 
 pub instance_sound : Sound instance read_instance
 instance_sound = choose_sound _ _ (

@@ -3,7 +3,7 @@ use Rattle.std.proofs.Common.{◌≡◌, ℕ, List, [], ◌∷◌, refl}
 use Rattle.wenc_base.specs.Holder.{HolderState, Contains}
 use Rattle.wenc_base.specs.Names.{NameAssociation, name_association}
 use Rattle.wenc_base.specs.laws.Forms.{read_name, name_lawful, read_sized, sized_lawful, read_bytes, bytes_lawful}
-use Rattle.wenc_base.specs.laws.Lawful.{Lawful, Reader, ◌>>=◌, give, nowhere, choose, done, go_on, alternative, row_byte, then, last, then_whole, whole_lawful, refused_lawful}
+use Rattle.wenc_base.specs.laws.Lawful.{Lawful, Reader, ◌>>=◌, give, nowhere, choose, done, go_on, row_lawful, row_byte, then, last, then_whole, whole_lawful, refused_lawful}
 use Rattle.wenc_base.specs.laws.Names.{read_name_map, name_map_lawful, held_names}
 use Rattle.wenc_sections.specs.declared.names.Sort.{Sort}
 use Rattle.wenc_sections.specs.declared.names.Sort.TheVariants.{CoreFunc, CoreTable, CoreMemory, CoreGlobal, CoreTag, CoreType, CoreModule, CoreInstance, Func, Value, «Type» as TypeSort, Component, Instance}
@@ -32,14 +32,14 @@ read_sort = choose (
     (0x05, give Instance) ∷ []) nowhere
 
 pub sort_lawful : (sort : Sort) → Lawful (item_sort sort) (λ fuel. read_sort) sort
-sort_lawful CoreFunc = alternative _ _ 0x00 (row_byte _ _ 0x00 (λ fuel rest. refl))
-sort_lawful CoreTable = alternative _ _ 0x00 (row_byte _ _ 0x01 (λ fuel rest. refl))
-sort_lawful CoreMemory = alternative _ _ 0x00 (row_byte _ _ 0x02 (λ fuel rest. refl))
-sort_lawful CoreGlobal = alternative _ _ 0x00 (row_byte _ _ 0x03 (λ fuel rest. refl))
-sort_lawful CoreTag = alternative _ _ 0x00 (row_byte _ _ 0x04 (λ fuel rest. refl))
-sort_lawful CoreType = alternative _ _ 0x00 (row_byte _ _ 0x10 (λ fuel rest. refl))
-sort_lawful CoreModule = alternative _ _ 0x00 (row_byte _ _ 0x11 (λ fuel rest. refl))
-sort_lawful CoreInstance = alternative _ _ 0x00 (row_byte _ _ 0x12 (λ fuel rest. refl))
+sort_lawful CoreFunc = row_lawful _ _ 0x00 (row_byte _ _ 0x00 (λ fuel rest. refl))
+sort_lawful CoreTable = row_lawful _ _ 0x00 (row_byte _ _ 0x01 (λ fuel rest. refl))
+sort_lawful CoreMemory = row_lawful _ _ 0x00 (row_byte _ _ 0x02 (λ fuel rest. refl))
+sort_lawful CoreGlobal = row_lawful _ _ 0x00 (row_byte _ _ 0x03 (λ fuel rest. refl))
+sort_lawful CoreTag = row_lawful _ _ 0x00 (row_byte _ _ 0x04 (λ fuel rest. refl))
+sort_lawful CoreType = row_lawful _ _ 0x00 (row_byte _ _ 0x10 (λ fuel rest. refl))
+sort_lawful CoreModule = row_lawful _ _ 0x00 (row_byte _ _ 0x11 (λ fuel rest. refl))
+sort_lawful CoreInstance = row_lawful _ _ 0x00 (row_byte _ _ 0x12 (λ fuel rest. refl))
 sort_lawful Func = row_byte _ _ 0x01 (λ fuel rest. refl)
 sort_lawful Value = row_byte _ _ 0x02 (λ fuel rest. refl)
 sort_lawful TypeSort = row_byte _ _ 0x03 (λ fuel rest. refl)
@@ -59,10 +59,10 @@ abbrev pub read_subsection : Reader Subsection
 read_subsection = choose ((0x00, read_component_name) ∷ (0x01, read_item_names) ∷ []) nowhere
 
 pub component_name_lawful : (text : List ℕ) → Lawful (subsection (ComponentName text)) (λ fuel. read_subsection) (ComponentName text)
-component_name_lawful text = alternative _ _ 0x00 (sized_lawful (whole_lawful (last ComponentName (name_lawful text))))
+component_name_lawful text = row_lawful _ _ 0x00 (sized_lawful (whole_lawful (last ComponentName (name_lawful text))))
 
 pub item_names_lawful : (sort : Sort) (names : List NameAssociation) → Lawful (subsection (ItemNames sort names)) (λ fuel. read_subsection) (ItemNames sort names)
-item_names_lawful sort names = alternative _ _ 0x01 (sized_lawful (whole_lawful (then _ (sort_lawful sort) (last (ItemNames sort) (name_map_lawful names)))))
+item_names_lawful sort names = row_lawful _ _ 0x01 (sized_lawful (whole_lawful (then _ (sort_lawful sort) (last (ItemNames sort) (name_map_lawful names)))))
 
 -- the names that are held are a subsection
 pub held_subsection_is : (sort : Sort) (held : HolderState) (names : List NameAssociation) → Contains name_association held names → (held_subsection sort held).text ≡ (subsection (ItemNames sort names)).text

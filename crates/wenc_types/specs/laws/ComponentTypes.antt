@@ -4,7 +4,7 @@ use Rattle.wenc_base.specs.Encode.{Serves}
 use Rattle.wenc_base.specs.Forms.{list}
 use Rattle.wenc_base.specs.Piece.{each, ◌▸◌}
 use Rattle.wenc_base.specs.laws.Forms.{list_lawful, read_option, option_lawful}
-use Rattle.wenc_base.specs.laws.Lawful.{Lawful, Reader, ◌>>=◌, give, nowhere, choose, alternative, then, last, deeper, nothing_lawful}
+use Rattle.wenc_base.specs.laws.Lawful.{Lawful, Reader, ◌>>=◌, give, nowhere, choose, row_lawful, then, last, deeper, nothing_lawful}
 use Rattle.wenc_base.specs.laws.Numbers.{read_u32, u32_lawful, count_lawful}
 use Rattle.wenc_base.specs.laws.Serves.{serves_itself, tagged_serves, both_serve}
 use Rattle.wenc_base.specs.laws.Types.{read_val_type, val_type_lawful}
@@ -61,30 +61,30 @@ read_type (suc fuel) = choose (primitive_rows (λ p. DefinedType (Primitive p)) 
 function_lawful : (is_async : Bool) (params : List LabelledType) (answer : Option ComponentValType)
     → Lawful (function_type_of is_async params answer) (λ fuel. read_type (suc fuel)) (FunctionType (to_function is_async params answer))
 function_lawful false params answer =
-    alternative _ _ 0x40 (then _ (list_lawful labelled_type_lawful params) (last (λ a. FunctionType (to_function false params a)) (result_list_lawful answer)))
+    row_lawful _ _ 0x40 (then _ (list_lawful labelled_type_lawful params) (last (λ a. FunctionType (to_function false params a)) (result_list_lawful answer)))
 function_lawful true params answer =
-    alternative _ _ 0x43 (then _ (list_lawful labelled_type_lawful params) (last (λ a. FunctionType (to_function true params a)) (result_list_lawful answer)))
+    row_lawful _ _ 0x43 (then _ (list_lawful labelled_type_lawful params) (last (λ a. FunctionType (to_function true params a)) (result_list_lawful answer)))
 
 mutual
   pub type_lawful : (t : DefType) → Lawful (def_type t) read_type t
   type_lawful (DefinedType ty) = deeper (defined_row DefinedType (λ fuel. later_rows (read_type fuel)) (λ fuel. nowhere) ty)
   type_lawful (FunctionType f) = deeper (function_lawful f.is_async f.params f.answer)
-  type_lawful (ComponentType ds) = deeper (alternative _ _ 0x41 (then _ (count_lawful (component_count ds)) (last ComponentType (components_lawful ds))))
-  type_lawful (InstanceType ds) = deeper (alternative _ _ 0x42 (then _ (count_lawful (instance_count ds)) (last InstanceType (instances_lawful ds))))
-  type_lawful (ResourceType rep dtor) = deeper (alternative _ _ 0x3f (then _ (val_type_lawful rep) (last (ResourceType rep) (option_lawful u32_lawful dtor))))
+  type_lawful (ComponentType ds) = deeper (row_lawful _ _ 0x41 (then _ (count_lawful (component_count ds)) (last ComponentType (components_lawful ds))))
+  type_lawful (InstanceType ds) = deeper (row_lawful _ _ 0x42 (then _ (count_lawful (instance_count ds)) (last InstanceType (instances_lawful ds))))
+  type_lawful (ResourceType rep dtor) = deeper (row_lawful _ _ 0x3f (then _ (val_type_lawful rep) (last (ResourceType rep) (option_lawful u32_lawful dtor))))
 
   pub instance_declaration_lawful : (d : InstanceDeclaration) → Lawful (instance_declaration d) (λ fuel. read_instance_declaration (read_type fuel)) d
-  instance_declaration_lawful (CoreTyped ty) = alternative _ _ 0x00 (last CoreTyped (core_type_lawful ty))
-  instance_declaration_lawful (Typed ty) = alternative _ _ 0x01 (last Typed (type_lawful ty))
-  instance_declaration_lawful (Aliased to) = alternative _ _ 0x02 (last Aliased (alias_lawful to))
-  instance_declaration_lawful (Exported name ty) = alternative _ _ 0x04 (then _ (extern_name_lawful name) (last (Exported name) (type_reference_lawful ty)))
+  instance_declaration_lawful (CoreTyped ty) = row_lawful _ _ 0x00 (last CoreTyped (core_type_lawful ty))
+  instance_declaration_lawful (Typed ty) = row_lawful _ _ 0x01 (last Typed (type_lawful ty))
+  instance_declaration_lawful (Aliased to) = row_lawful _ _ 0x02 (last Aliased (alias_lawful to))
+  instance_declaration_lawful (Exported name ty) = row_lawful _ _ 0x04 (then _ (extern_name_lawful name) (last (Exported name) (type_reference_lawful ty)))
 
   pub component_declaration_lawful : (d : ComponentDeclaration) → Lawful (component_declaration d) (λ fuel. read_component_declaration (read_type fuel)) d
-  component_declaration_lawful (Imported name ty) = alternative _ _ 0x03 (then _ (extern_name_lawful name) (last (Imported name) (type_reference_lawful ty)))
-  component_declaration_lawful (Declared (CoreTyped ty)) = alternative _ _ 0x00 (last (λ t. Declared (CoreTyped t)) (core_type_lawful ty))
-  component_declaration_lawful (Declared (Typed ty)) = alternative _ _ 0x01 (last (λ t. Declared (Typed t)) (type_lawful ty))
-  component_declaration_lawful (Declared (Aliased to)) = alternative _ _ 0x02 (last (λ a. Declared (Aliased a)) (alias_lawful to))
-  component_declaration_lawful (Declared (Exported name ty)) = alternative _ _ 0x04 (then _ (extern_name_lawful name) (last (λ t. Declared (Exported name t)) (type_reference_lawful ty)))
+  component_declaration_lawful (Imported name ty) = row_lawful _ _ 0x03 (then _ (extern_name_lawful name) (last (Imported name) (type_reference_lawful ty)))
+  component_declaration_lawful (Declared (CoreTyped ty)) = row_lawful _ _ 0x00 (last (λ t. Declared (CoreTyped t)) (core_type_lawful ty))
+  component_declaration_lawful (Declared (Typed ty)) = row_lawful _ _ 0x01 (last (λ t. Declared (Typed t)) (type_lawful ty))
+  component_declaration_lawful (Declared (Aliased to)) = row_lawful _ _ 0x02 (last (λ a. Declared (Aliased a)) (alias_lawful to))
+  component_declaration_lawful (Declared (Exported name ty)) = row_lawful _ _ 0x04 (then _ (extern_name_lawful name) (last (λ t. Declared (Exported name t)) (type_reference_lawful ty)))
 
   pub instances_lawful : (ds : InstanceDeclarations) → Lawful (each_instance ds) (λ fuel. instance_times (read_type fuel) (instance_count ds)) ds
   instances_lawful no_instance = nothing_lawful no_instance

@@ -18,7 +18,7 @@ use Rattle.wenc_base.specs.declared.imports.EntityType.{EntityType}
 use Rattle.wenc_base.specs.laws.Composites.{read_extension, extension_lawful, extension_sound, sub_of, final_rows, final_row, final_rows_sound, read_types, types_lawful, types_sound, read_group, group_lawful, group_sound, same_params, same_results, same_element, same_fields}
 use Rattle.wenc_base.specs.laws.Entities.{read_entity_type, entity_type_lawful, entity_type_sound}
 use Rattle.wenc_base.specs.laws.Forms.{read_list, list_lawful, list_sound, read_name, name_lawful, name_sound}
-use Rattle.wenc_base.specs.laws.Lawful.{Lawful, Reader, ◌>>=◌, give, nowhere, choose, alternative, then, last}
+use Rattle.wenc_base.specs.laws.Lawful.{Lawful, Reader, ◌>>=◌, give, nowhere, choose, row_lawful, then, last}
 use Rattle.wenc_base.specs.laws.Sound.{Sound, sound_behind, RowsAreSound, both_tables, last_sound, then_sound, nowhere_sound, choose_sound}
 use Rattle.wenc_base.specs.Piece.{Form, Wide}
 use Rattle.wenc_base.specs.laws.Numbers.{read_u32, u32_lawful, u32_sound}
@@ -42,11 +42,11 @@ declaration_rows make =
 pub declaration_row : {A : Type 0} (make : ModuleDeclaration → A) (rows : ℕ → List (ℕ × Reader A)) (other : ℕ → Reader A) (d : ModuleDeclaration)
     → Lawful (module_declaration d) (λ fuel. choose (declaration_rows make ++ rows fuel) (other fuel)) (make d)
 declaration_row make rows other (ModuleImport from name ty) =
-    alternative _ _ 0x00 (then _ (name_lawful from) (then _ (name_lawful name) (last (λ t. make (ModuleImport from name t)) (entity_type_lawful ty))))
-declaration_row make rows other (ModuleRecType g) = alternative _ _ 0x01 (last (λ h. make (ModuleRecType h)) (group_lawful g))
+    row_lawful _ _ 0x00 (then _ (name_lawful from) (then _ (name_lawful name) (last (λ t. make (ModuleImport from name t)) (entity_type_lawful ty))))
+declaration_row make rows other (ModuleRecType g) = row_lawful _ _ 0x01 (last (λ h. make (ModuleRecType h)) (group_lawful g))
 declaration_row make rows other (ModuleOuter count number) =
-    alternative _ _ 0x02 (alternative _ _ 0x10 (alternative _ _ 0x01 (then _ (u32_lawful count) (last (λ n. make (ModuleOuter count n)) (u32_lawful number)))))
-declaration_row make rows other (ModuleExport name ty) = alternative _ _ 0x03 (then _ (name_lawful name) (last (λ t. make (ModuleExport name t)) (entity_type_lawful ty)))
+    row_lawful _ _ 0x02 (row_lawful _ _ 0x10 (row_lawful _ _ 0x01 (then _ (u32_lawful count) (last (λ n. make (ModuleOuter count n)) (u32_lawful number)))))
+declaration_row make rows other (ModuleExport name ty) = row_lawful _ _ 0x03 (then _ (name_lawful name) (last (λ t. make (ModuleExport name t)) (entity_type_lawful ty)))
 
 pub module_declaration_rows_sound : RowsAreSound module_declaration (declaration_rows (λ d. d))
 module_declaration_rows_sound = (
@@ -83,7 +83,7 @@ abbrev pub read_module_type : Reader (List ModuleDeclaration)
 read_module_type = choose ((0x50, read_declarations (λ ds. ds)) ∷ []) nowhere
 
 pub module_type_lawful : (ds : List ModuleDeclaration) → Lawful (module_type ds) (λ fuel. read_module_type) ds
-module_type_lawful ds = alternative _ _ 0x50 (declarations_lawful (λ es. es) ds)
+module_type_lawful ds = row_lawful _ _ 0x50 (declarations_lawful (λ es. es) ds)
 
 -- ---- core types
 
@@ -102,8 +102,8 @@ standing_row {A} make rows other (Single s) = of s.is_final s.supertype s.compos
     of : (is_final : Bool) (supertype : Option ℕ) (c : Composite)
         → Lawful (guard_before is_final (sub_type_of is_final supertype c)) (λ fuel. choose (standing_rows make ++ rows fuel) (other fuel)) (make (Single (sub_of is_final supertype c)))
     of true supertype c = final_row (λ t. make (Single t)) (λ fuel. (0x4e, read_types make) ∷ (0x00, read_open (λ t. make (Single t))) ∷ rows fuel) other supertype c
-    of false supertype c = alternative _ _ 0x00 (alternative _ _ 0x50 (extension_lawful (λ t d. make (Single (sub_of false t d))) supertype c))
-standing_row make rows other (Rec types) = alternative _ _ 0x4e (types_lawful make types)
+    of false supertype c = row_lawful _ _ 0x00 (row_lawful _ _ 0x50 (extension_lawful (λ t d. make (Single (sub_of false t d))) supertype c))
+standing_row make rows other (Rec types) = row_lawful _ _ 0x4e (types_lawful make types)
 
 abbrev pub core_type_rows : {A : Type 0} → (CoreType → A) → List (ℕ × Reader A)
 core_type_rows make = standing_rows (λ g. make (Grouped g)) ++ ((0x50, read_declarations (λ ds. make (Module ds))) ∷ [])
@@ -112,7 +112,7 @@ core_type_rows make = standing_rows (λ g. make (Grouped g)) ++ ((0x50, read_dec
 pub core_type_row : {A : Type 0} (make : CoreType → A) (rows : ℕ → List (ℕ × Reader A)) (other : ℕ → Reader A) (t : CoreType)
     → Lawful (core_type t) (λ fuel. choose (core_type_rows make ++ rows fuel) (other fuel)) (make t)
 core_type_row make rows other (Grouped g) = standing_row (λ h. make (Grouped h)) (λ fuel. (0x50, read_declarations (λ ds. make (Module ds))) ∷ rows fuel) other g
-core_type_row make rows other (Module ds) = alternative _ _ 0x50 (declarations_lawful (λ es. make (Module es)) ds)
+core_type_row make rows other (Module ds) = row_lawful _ _ 0x50 (declarations_lawful (λ es. make (Module es)) ds)
 
 abbrev pub read_core_type : Reader CoreType
 read_core_type = choose (core_type_rows (λ t. t)) nowhere

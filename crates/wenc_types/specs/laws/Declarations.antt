@@ -16,7 +16,7 @@ use Rattle.wenc_types.specs.declared.counts.Counts.{Counts}
 use Rattle.wenc_types.specs.declared.counts.Sort.{Sort}
 use Rattle.wenc_types.specs.declared.counts.Sort.TheVariants.{CoreType, «Type» as TypeSort, Instance}
 
--- the order in which two are one_more is the same
+-- the order in which two are counted is the same
 counted_swapped : (a b : Option Sort) (n : Counts) → one_more a (one_more b n) ≡ one_more b (one_more a n)
 counted_swapped None b n = refl
 counted_swapped (Some s) None n = refl
@@ -34,7 +34,7 @@ pub counts_next : {D : Type 0} (sort : D → Option Sort) (ds : List D) (d : D) 
 counts_next sort [] d = refl
 counts_next sort (e ∷ ds) d = ap (one_more (sort e)) (counts_next sort ds d) ∙ counted_swapped (sort e) (sort d) (counts_of sort ds)
 
--- What is type_appended of a declaration is its text.
+-- What is written of a declaration is its text.
 pub is_declaration : {D : Type 0} (form : Form D) (sort : D → Option Sort) {p : Piece} {s : Option Sort} (d : D) → Serves p (form d) → s ≡ sort d → p.Fits → IsDeclaration form sort p.text s
 is_declaration form sort d serves e fits = record { declaration = d; fits = serves.fits fits; text_is = serves.text; sort_is = e }
 
@@ -46,13 +46,13 @@ declares_next form sort t new d ds e fits h = record {
   counts = rw h.counts (sym (counts_next sort ds d));
 }
 
--- ---- a type that is type_appended by an encoder
+-- ---- a type that is written by an encoder
 
 -- bytes and then more are all of them
 pub type_appended_twice : (t : TypeState) (text more : List ℕ) → type_appended (type_appended t text) more ≡ type_appended t (text ++ more)
 type_appended_twice t text more = ap (λ (h : HolderState). with_held t h) (member_appended_twice t.held text more)
 
--- what is type_ended is one declaration more
+-- what is ended is one declaration more
 pub declares_ended : {D : Type 0} (form : Form D) (sort : D → Option Sort) (t : TypeState) (s : Sort) (d : D) (ds : List D) (text : List ℕ)
     → (form d).text ≡ lead_of s ++ text → (form d).Fits → sort d ≡ Some s → Declares form sort t ds → Declares form sort (type_ended (type_appended (type_begun s t) text)) (ds ++ d ∷ [])
 declares_ended form sort t s d ds text e fits is h = record {
@@ -70,7 +70,7 @@ pub type_given_up_is_before : (t : TypeState) (s : Sort) (text : List ℕ) → N
 type_given_up_is_before t s text settled =
     rw (back_again s t.counts, given_up_is_before t.held (lead_of s) text settled.finished, ← settled.none_begun) refl
 
--- A rec_type that an encoder without guards wrote is one declaration more of a module type.
+-- A group that an encoder without guards wrote is one declaration more of a module type.
 pub declares_written : (t lent new : TypeState) (guard : Bool) (g : RecType) (outcome : Result (Unit {0}) Fault) → lent ≡ type_begun TypeSort t → guard ≡ false
     → OnOk outcome (new ≡ type_ended (type_appended lent (standing guard g).text)) → OnOk outcome (standing guard g).Fits → OnOk outcome ((ds : List ModuleDeclaration) → ModuleDeclares t ds → ModuleDeclares new (ds ++ ModuleRecType g ∷ []))
 declares_written t lent new guard g (Ok u) begins unguarded wrote fits =

@@ -1,7 +1,7 @@
 -- The laws of types of values that components define, and of types of functions.
 use Rattle.std.proofs.Common.{ℕ, Bool, true, false, List, [], ◌∷◌, ◌++◌, Option, refl}
 use Rattle.wenc_base.specs.laws.Forms.{read_list, list_lawful, list_sound, read_name, name_lawful, name_sound, read_option, option_lawful, option_sound}
-use Rattle.wenc_base.specs.laws.Lawful.{Lawful, Reader, ◌>>=◌, give, nowhere, choose, alternative, row_byte, then, last}
+use Rattle.wenc_base.specs.laws.Lawful.{Lawful, Reader, ◌>>=◌, give, nowhere, choose, row_lawful, row_byte, then, last}
 use Rattle.wenc_base.specs.laws.Sound.{Sound, RowsAreSound, give_sound, last_sound, then_sound, nowhere_sound, choose_sound}
 use Rattle.wenc_base.specs.Piece.{Form, Wide}
 use Rattle.wenc_base.specs.laws.Numbers.{read_u32, u32_lawful, u32_sound}
@@ -62,24 +62,24 @@ defined_rows make =
 pub defined_row : {A : Type 0} (make : DefValType → A) (rows : ℕ → List (ℕ × Reader A)) (other : ℕ → Reader A) (t : DefValType)
     → Lawful (def_val_type t) (λ fuel. choose (primitive_rows (λ p. make (Primitive p)) ++ (defined_rows make ++ rows fuel)) (other fuel)) (make t)
 defined_row make rows other (Primitive p) = primitive_row (λ q. make (Primitive q)) (λ fuel. defined_rows make ++ rows fuel) other p
-defined_row make rows other (Record fields) = alternative _ _ 0x72 (last (λ fs. make (Record fs)) (list_lawful labelled_type_lawful fields))
-defined_row make rows other (Variant cases) = alternative _ _ 0x71 (last (λ cs. make (Variant cs)) (list_lawful case_lawful cases))
-defined_row make rows other (ListOf element) = alternative _ _ 0x70 (last (λ t. make (ListOf t)) (value_type_lawful element))
-defined_row make rows other (Tuple elements) = alternative _ _ 0x6f (last (λ ts. make (Tuple ts)) (list_lawful value_type_lawful elements))
-defined_row make rows other (Flags names) = alternative _ _ 0x6e (last (λ ns. make (Flags ns)) (list_lawful name_lawful names))
-defined_row make rows other (Enumeration names) = alternative _ _ 0x6d (last (λ ns. make (Enumeration ns)) (list_lawful name_lawful names))
-defined_row make rows other (OptionOf ty) = alternative _ _ 0x6b (last (λ t. make (OptionOf t)) (value_type_lawful ty))
+defined_row make rows other (Record fields) = row_lawful _ _ 0x72 (last (λ fs. make (Record fs)) (list_lawful labelled_type_lawful fields))
+defined_row make rows other (Variant cases) = row_lawful _ _ 0x71 (last (λ cs. make (Variant cs)) (list_lawful case_lawful cases))
+defined_row make rows other (ListOf element) = row_lawful _ _ 0x70 (last (λ t. make (ListOf t)) (value_type_lawful element))
+defined_row make rows other (Tuple elements) = row_lawful _ _ 0x6f (last (λ ts. make (Tuple ts)) (list_lawful value_type_lawful elements))
+defined_row make rows other (Flags names) = row_lawful _ _ 0x6e (last (λ ns. make (Flags ns)) (list_lawful name_lawful names))
+defined_row make rows other (Enumeration names) = row_lawful _ _ 0x6d (last (λ ns. make (Enumeration ns)) (list_lawful name_lawful names))
+defined_row make rows other (OptionOf ty) = row_lawful _ _ 0x6b (last (λ t. make (OptionOf t)) (value_type_lawful ty))
 defined_row make rows other (ResultOf ok error) =
-    alternative _ _ 0x6a (then _ (option_lawful value_type_lawful ok) (last (λ e. make (ResultOf ok e)) (option_lawful value_type_lawful error)))
-defined_row make rows other (Own number) = alternative _ _ 0x69 (last (λ n. make (Own n)) (u32_lawful number))
-defined_row make rows other (Borrow number) = alternative _ _ 0x68 (last (λ n. make (Borrow n)) (u32_lawful number))
+    row_lawful _ _ 0x6a (then _ (option_lawful value_type_lawful ok) (last (λ e. make (ResultOf ok e)) (option_lawful value_type_lawful error)))
+defined_row make rows other (Own number) = row_lawful _ _ 0x69 (last (λ n. make (Own n)) (u32_lawful number))
+defined_row make rows other (Borrow number) = row_lawful _ _ 0x68 (last (λ n. make (Borrow n)) (u32_lawful number))
 defined_row make rows other (FixedLengthList element length) =
-    alternative _ _ 0x67 (then _ (value_type_lawful element) (last (λ n. make (FixedLengthList element n)) (u32_lawful length)))
-defined_row make rows other (Stream ty) = alternative _ _ 0x66 (last (λ t. make (Stream t)) (option_lawful value_type_lawful ty))
-defined_row make rows other (Future ty) = alternative _ _ 0x65 (last (λ t. make (Future t)) (option_lawful value_type_lawful ty))
-defined_row make rows other (MapOf key value) = alternative _ _ 0x63 (then _ (value_type_lawful key) (last (λ t. make (MapOf key t)) (value_type_lawful value)))
+    row_lawful _ _ 0x67 (then _ (value_type_lawful element) (last (λ n. make (FixedLengthList element n)) (u32_lawful length)))
+defined_row make rows other (Stream ty) = row_lawful _ _ 0x66 (last (λ t. make (Stream t)) (option_lawful value_type_lawful ty))
+defined_row make rows other (Future ty) = row_lawful _ _ 0x65 (last (λ t. make (Future t)) (option_lawful value_type_lawful ty))
+defined_row make rows other (MapOf key value) = row_lawful _ _ 0x63 (then _ (value_type_lawful key) (last (λ t. make (MapOf key t)) (value_type_lawful value)))
 
--- each alternative of a table of defined types
+-- each row of a table of defined types
 pub defined_rows_sound : {A : Type 0} (form : Form A) (make : DefValType → A) → ((t : DefValType) (bytes rest : List ℕ) → (def_val_type t).Reads Wide bytes rest → (form (make t)).Reads Wide bytes rest) → RowsAreSound form (defined_rows make)
 defined_rows_sound form make k = (
   last_sound (λ fields. make (Record fields)) (list_sound named_sound) (λ v bytes rest r. k (Record v) _ rest (bytes, refl, r)),
@@ -143,9 +143,9 @@ function_rows make = (0x40, read_signature false make) ∷ (0x43, read_signature
 pub function_row : {A : Type 0} (make : Function → A) (rows : ℕ → List (ℕ × Reader A)) (other : ℕ → Reader A) (is_async : Bool) (params : List LabelledType) (answer : Option ComponentValType)
     → Lawful (function_type_of is_async params answer) (λ fuel. choose (function_rows make ++ rows fuel) (other fuel)) (make (to_function is_async params answer))
 function_row make rows other false params answer =
-    alternative _ _ 0x40 (then _ (list_lawful labelled_type_lawful params) (last (λ a. make (to_function false params a)) (result_list_lawful answer)))
+    row_lawful _ _ 0x40 (then _ (list_lawful labelled_type_lawful params) (last (λ a. make (to_function false params a)) (result_list_lawful answer)))
 function_row make rows other true params answer =
-    alternative _ _ 0x43 (then _ (list_lawful labelled_type_lawful params) (last (λ a. make (to_function true params a)) (result_list_lawful answer)))
+    row_lawful _ _ 0x43 (then _ (list_lawful labelled_type_lawful params) (last (λ a. make (to_function true params a)) (result_list_lawful answer)))
 
 abbrev pub read_function : Reader Function
 read_function = choose (function_rows (λ f. f)) nowhere

@@ -42,7 +42,7 @@ counted_uncounted (Some CoreType) n one = let e : n.core_types - 1 + 1 ≡ n.cor
 counted_uncounted (Some TypeSort) n one = let e : n.types - 1 + 1 ≡ n.types = omega arith in rw e refl
 counted_uncounted (Some Instance) n one = let e : n.instances - 1 + 1 ≡ n.instances = omega arith in rw e refl
 
--- what is being type_appended is one of the sorts
+-- what is being written is one of the sorts
 one_at : (o : Option Opening) (sort : Option Sort) (n : Counts) → is_none o ≡ false → OpenedIsIn o sort n → HasOne sort n
 one_at None sort n e c = cc
 one_at (Some o) sort n e c = c
@@ -109,7 +109,7 @@ module _ {D : Type 0} (form : Form D) (sort : D → Option Sort) where
         settled = subst HasSome (sym (settled_back next (record { finished = finished; none_begun = none.none_begun }))) some;
       }
 
-  -- a type is type_begun
+  -- a type is begun
   pub declaring_begun : (t : TypeState) (s : Sort) → is_finished t.held ≡ true → IsTypeState form sort t → IsTypeState form sort (type_begun s t)
   declaring_begun t s finished d =
       let none = settled t finished d in
@@ -121,7 +121,7 @@ module _ {D : Type 0} (form : Form D) (sort : D → Option Sort) where
         settled = subst HasSome (sym back) (declares_some t finished d);
       }
 
-  -- more of it is type_appended
+  -- more of it is written
   pub declaring_written : (t : TypeState) (text : List ℕ) → is_finished t.held ≡ false → IsTypeState form sort t → IsTypeState form sort (type_appended t text)
   declaring_written t text unfinished d = record {
     enough = d.enough;
@@ -132,7 +132,7 @@ module _ {D : Type 0} (form : Form D) (sort : D → Option Sort) where
         subst HasSome (sym back) d.settled;
   }
 
-  -- it is type_ended, as a declaration
+  -- it is ended, as a declaration
   pub declaring_ended : (t : TypeState) → ∥ IsDeclaration form sort (member_text t.held) t.begun ∥₁ → IsTypeState form sort t → IsTypeState form sort (type_ended t)
   declaring_ended t whole d = at (is_finished t.held) refl
     where
