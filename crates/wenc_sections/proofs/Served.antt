@@ -15,7 +15,7 @@ use Rattle.wenc_sections.specs.Exports.{export_item}
 use Rattle.wenc_sections.specs.Imports.{import_item}
 use Rattle.wenc_sections.specs.Instances.{inline_export}
 use Rattle.wenc_sections.specs.Start.{started, start}
-use Rattle.wenc_sections.specs.laws.Instances.{two_serve, three_serve}
+use Rattle.wenc_base.specs.laws.Serves.{two_serve, three_serve}
 use Rattle.wenc_sections.specs.laws.Items.{imported, ascribed}
 use Rattle.wenc_types.specs.ComponentTypes.{def_type, ResourceType}
 
