@@ -2,7 +2,7 @@
 use Rattle.std.proofs.Common.{◌≡◌, ℕ, List, [], ◌∷◌, ◌++◌, Option, Some, None, refl, subst, inl, inr}
 use Rattle.std.proofs.lemmas.List.{append-nil}
 use Rattle.std.proofs.lemmas.Option.{some_pair_parts}
-use Rattle.wenc_base.specs.laws.Lawful.{Reader, ◌>>=◌, go_on, give, nowhere, pick, choose}
+use Rattle.wenc_base.specs.Readers.{Reader, ◌>>=◌, go_on, give, nowhere, pick, choose}
 use Rattle.wenc_read.specs.inside.Gives.{read_byte}
 use Rattle.wenc_decode.proofs.Tables.{tested}
 

@@ -1,7 +1,7 @@
 -- What a table of values that are a byte each finds.
 use Rattle.std.proofs.Common.{◌≡◌, ℕ, true, false, eqb, List, [], ◌∷◌, ◌++◌, map, Some, None, refl, inl, inr, ◌⊎◌, ap}
 use Rattle.std.proofs.lemmas.Option.{same_Some, some_pair_parts}
-use Rattle.wenc_base.specs.laws.Lawful.{Reader, ◌>>=◌, give, pick, choose}
+use Rattle.wenc_base.specs.Readers.{Reader, ◌>>=◌, give, pick, choose}
 use Rattle.wenc_read.specs.inside.Gives.{Fails, read_byte}
 use Rattle.wenc_read.specs.declared.refusal.Refusal.{Refusal}
 use Rattle.wenc_read.specs.declared.refusal.Refusal.TheVariants as refusals

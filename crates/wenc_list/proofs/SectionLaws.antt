@@ -11,7 +11,8 @@ use Rattle.wenc_base.specs.Forms.{list, name, AreBytes}
 use Rattle.wenc_base.specs.Number.{u32}
 use Rattle.wenc_base.specs.Piece.{Form, Wide, only_where, each, raw, ◌⨾⨾◌}
 use Rattle.wenc_base.specs.laws.Forms.{read_list, name_lawful, name_sound, read_bytes, bytes_lawful, bytes_sound, list_lawful, list_sound}
-use Rattle.wenc_base.specs.laws.Lawful.{Lawful, LawfulWhole, ◌>>=◌, give, then, last, then_whole, whole_lawful}
+use Rattle.wenc_base.specs.Readers.{Lawful, ◌>>=◌, give}
+use Rattle.wenc_base.specs.laws.Lawful.{LawfulWhole, then, last, then_whole, whole_lawful}
 use Rattle.wenc_base.specs.laws.Numbers.{read_u32, u32_lawful, count_lawful, u32_sound}
 use Rattle.wenc_base.specs.laws.Sound.{Then, ThenAll, Sound, SoundWhole, sound_goes_on, last_sound, then_sound, whole_sound, then_whole_sound}
 use Rattle.wenc_builder.specs.Item.{Item, ModuleItem, CoreInstanceItem, CoreTypeItem, ComponentItem, InstanceItem, AliasItem, TypeItem, CanonItem, StartItem, ImportItem, ExportItem, CustomItem, RawItem, collected, item}

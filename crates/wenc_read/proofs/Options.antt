@@ -1,6 +1,6 @@
 -- The options of a name, read one after the other.
 use Rattle.std.proofs.Common.{◌≡◌, ◌≢◌, ◌≤◌, ◌+◌, ◌-◌, ℕ, zero, suc, Bool, true, false, cond, nat_lt, List, ◌∷◌, Option, Some, None, refl, subst, ◌∙◌, arith, le-ltb}
-use Rattle.wenc_base.specs.laws.Lawful.{◌>>=◌, go_on, give, times}
+use Rattle.wenc_base.specs.Readers.{◌>>=◌, go_on, give, times}
 use Rattle.wenc_parts.specs.Imports.{ExternName, NameOption}
 use Rattle.wenc_parts.specs.laws.Imports.{read_name_option, with_option, with_options, option_number, ascend_from, given_options}
 use Rattle.wenc_read.specs.inside.Names.{ascending, read_options}

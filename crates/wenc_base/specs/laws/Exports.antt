@@ -1,7 +1,8 @@
 -- The law of the kinds of exports.
 use Rattle.std.proofs.Common.{[], ◌∷◌, refl}
 use Rattle.wenc_base.specs.Exports.{core_export_kind, export_kind_byte}
-use Rattle.wenc_base.specs.laws.Lawful.{Lawful, Reader, give, nowhere, choose, row_byte}
+use Rattle.wenc_base.specs.Readers.{Lawful, Reader, give, nowhere, choose}
+use Rattle.wenc_base.specs.laws.Lawful.{row_byte}
 use Rattle.wenc_base.specs.laws.Sound.{Sound, given_rows, nowhere_sound, choose_sound}
 use Rattle.wenc_base.specs.declared.exports.ExportKind.{ExportKind}
 use Rattle.wenc_base.specs.declared.exports.ExportKind.TheVariants.{Func, Table, Memory, Global, Tag}

@@ -8,7 +8,8 @@ use Rattle.wenc_base.specs.Number.{u32}
 use Rattle.wenc_base.specs.Piece.{Payload, Form, Wide, each, raw}
 use Rattle.wenc_base.specs.laws.Sound.{Then, Sound, ThenAll, SoundWhole, weaken, behind_value, then_sound, last_sound, give_sound, nowhere_sound, choose_sound, times_sound, whole_sound}
 use Rattle.wenc_base.specs.Forms.{flag, list, option, utf8, name, AreBytes, sized, byte_list, counted}
-use Rattle.wenc_base.specs.laws.Lawful.{Lawful, LawfulWhole, Reader, ◌>>=◌, give, nowhere, times, choose, row_lawful, row_byte, then, last, done, each_lawful, whole_lawful, raw_lawful}
+use Rattle.wenc_base.specs.Readers.{Lawful, Reader, ◌>>=◌, give, nowhere, times, choose}
+use Rattle.wenc_base.specs.laws.Lawful.{LawfulWhole, row_lawful, row_byte, then, last, done, each_lawful, whole_lawful, raw_lawful}
 use Rattle.wenc_base.specs.laws.Numbers.{read_u32, u32_lawful, count_lawful, size_lawful, size_free, u32_sound, groups_are_read}
 use Rattle.std.proofs.lemmas.Str.{IsUtf8-from_is_utf8, is_utf8-from_IsUtf8}
 

@@ -1,4 +1,4 @@
--- The laws of a piece and of its reader, and what follows from them.
+-- What follows from the laws of a piece and of its reader.
 use Rattle.std.proofs.Common.{◌≡◌, ℕ, zero, suc, ◌+◌, ◌≤◌, ◌≢◌, Bool, true, false, cond, eqb, List, [], ◌∷◌, ◌++◌, length, Option, Some, None, refl, sym, ap, ◌∙◌, append_assoc, arith, inl, inr}
 use Rattle.std.proofs.lemmas.Option.{some_pair_parts, same_Some}
 use Rattle.std.proofs.lemmas.Bool.Decides.{nat_tests}
@@ -6,54 +6,11 @@ use Rattle.wenc_base.specs.FormLaws.{FormLaws}
 use Rattle.wenc_base.specs.Fault.{NoCause}
 use Rattle.wenc_base.specs.declared.fault.Fault.{Fault}
 use Rattle.wenc_base.specs.declared.fault.Fault.TheVariants.{Unfinished}
+use Rattle.wenc_base.specs.Readers.{Reader, go_on, ◌>>=◌, give, nowhere, times, pick, choose, Lawful, LawfulForm}
 use Rattle.wenc_base.specs.Piece.{Piece, Payload, Form, Spelling, Strict, Wide, nothing, byte, refused_for, ◌▸◌, also, or_widely, ◌⨾◌, only_where, each, all_of, end, raw, ◌⨾⨾◌}
 use Rattle.std.proofs.lemmas.List.{append-nil}
 
--- ---- readers
-
-abbrev pub Reader : Type 0 → Type 0
-Reader A = List ℕ → Option (A × List ℕ)
-
-abbrev pub go_on : {A B : Type 0} → Option (A × List ℕ) → (A → List ℕ → Option B) → Option B
-go_on None next = None
-go_on (Some x) next = next x.0 x.1
-
-infixl 10 ◌>>=◌
-abbrev pub ◌>>=◌ : {A B : Type 0} → Reader A → (A → Reader B) → Reader B
-(read >>= next) bytes = go_on (read bytes) next
-
-abbrev pub give : {A : Type 0} → A → Reader A
-give v bytes = Some (v, bytes)
-
-abbrev pub nowhere : {A : Type 0} → Reader A
-nowhere bytes = None
-
-abbrev pub times : {A : Type 0} → Reader A → ℕ → Reader (List A)
-times read zero = give []
-times read (suc n) = read >>= λ v. times read n >>= λ vs. give (v ∷ vs)
-
--- the row of the first byte, or else the other reader, from that byte on
-abbrev pub pick : {A : Type 0} → List (ℕ × Reader A) → Reader A → ℕ → Reader A
-pick [] other b bytes = other (b ∷ bytes)
-pick (row ∷ table) other b bytes = elim (eqb b row.0) [ true ↦ row.1 bytes | false ↦ pick table other b bytes ]
-
--- A reader by the first byte. It stays shut, so that antt finds the table of a reader that is given.
-unfoldable pub choose : {A : Type 0} → List (ℕ × Reader A) → Reader A → Reader A
-choose table other [] = None
-choose table other (b ∷ bytes) = pick table other b bytes
-
--- ---- the laws
-
--- A reader takes how deep it may call itself. It finds v wherever the piece is.
--- What is read widely may be shorter than the text, so that only what is read strictly is sure to fit.
-pub record Lawful {A : Type 0} (p : Piece) (read : ℕ → Reader A) (v : A) : Type 0 where
-  pub text_is_read : (mode : Spelling) (rest : List ℕ) → p.Fits → p.Reads mode (p.text ++ rest) rest
-  pub strict_is_text : (bytes rest : List ℕ) → p.Reads Strict bytes rest → bytes ≡ p.text ++ rest
-  pub fits : (bytes rest : List ℕ) → p.Reads Strict bytes rest → p.Fits
-  pub free : p.Fits → NoCause p.Cause
-  pub never : p.Cause Unfinished → ⊥
-  pub depth : ℕ
-  pub finds : (fuel : ℕ) → depth ≤ fuel → (mode : Spelling) (bytes rest : List ℕ) → p.Reads mode bytes rest → read fuel bytes ≡ Some (v, rest)
+-- ---- the laws of a piece that fills the bytes
 
 pub record LawfulWhole {A : Type 0} (w : Payload) (read : ℕ → List ℕ → Option A) (v : A) : Type 0 where
   pub text_is_read : (mode : Spelling) → w.Fits → w.ReadsAll mode w.text
@@ -95,10 +52,6 @@ pub whole_wide_reads_strict : {A : Type 0} {w : Payload} {read : ℕ → List �
 whole_wide_reads_strict one bytes r = rw (one.strict_is_text bytes r) (one.text_is_read Wide (one.fits bytes r))
 
 -- ---- the laws of a form
-
--- each value's piece is lawful, and the values share a reader
-abbrev pub LawfulForm : {A : Type 0} → Form A → (ℕ → Reader A) → Type 0
-LawfulForm {A} form read = (v : A) → Lawful (form v) read v
 
 -- they follow from the laws of each value
 pub form_laws : {A : Type 0} {form : Form A} {read : ℕ → Reader A} → LawfulForm form read → FormLaws form

@@ -7,7 +7,8 @@ use Rattle.wenc_base.specs.Number.{groups, MayGoOn, complement, ReadsGroups, las
 use Rattle.wenc_base.specs.laws.Groups.{limit, groups_below, groups_from}
 use Rattle.wenc_base.specs.Fault.{NoCause, count_cause, size_cause}
 use Rattle.wenc_base.specs.declared.fault.Fault.TheVariants.{Memory, TooMany, TooLarge, Unfinished}
-use Rattle.wenc_base.specs.laws.Lawful.{Lawful, Reader, Starts, refused_lawful}
+use Rattle.wenc_base.specs.Readers.{Lawful, Reader}
+use Rattle.wenc_base.specs.laws.Lawful.{Starts, refused_lawful}
 use Rattle.wenc_base.specs.laws.Sound.{Then, Sound}
 use Rattle.std.proofs.lemmas.List.{append-nil}
 

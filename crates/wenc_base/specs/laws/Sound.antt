@@ -1,7 +1,8 @@
 -- What a reader finds is read: the other way round of `finds`.
 use Rattle.std.proofs.Common.{◌≡◌, ℕ, zero, suc, true, false, eqb, List, [], ◌∷◌, ◌++◌, length, map, Option, Some, None, refl, sym, ap, subst, inl, inr, ◌⊎◌}
 use Rattle.wenc_base.specs.Piece.{Form, Payload, Wide, each, all_of}
-use Rattle.wenc_base.specs.laws.Lawful.{Reader, go_on, ◌>>=◌, give, nowhere, times, pick, choose, done, all_read}
+use Rattle.wenc_base.specs.Readers.{Reader, go_on, ◌>>=◌, give, nowhere, times, pick, choose}
+use Rattle.wenc_base.specs.laws.Lawful.{done, all_read}
 use Rattle.std.proofs.lemmas.Bool.{eqb-true}
 
 -- P of what was found, if anything was

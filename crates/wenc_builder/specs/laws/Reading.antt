@@ -6,7 +6,8 @@ use Rattle.std.specs.List.{flat_map}
 use Rattle.std.specs.Prelude.{IsTrue}
 use Rattle.wenc_base.specs.Piece.{Piece, Spelling, Strict, only_where, ReadsEach}
 use Rattle.wenc_base.specs.laws.Forms.{read_byte_list, byte_list_lawful, read_counted, counted_lawful}
-use Rattle.wenc_base.specs.laws.Lawful.{Lawful, LawfulWhole, Reader, go_on, ◌>>=◌, give, nowhere, pick, choose, row_lawful, row_byte, IsPast, Starts, past, last, only_where_lawful, then_whole, made, last_whole, to_end, at_end, before_end, deeper_whole, whole_once}
+use Rattle.wenc_base.specs.Readers.{Lawful, Reader, go_on, ◌>>=◌, give, nowhere, pick, choose}
+use Rattle.wenc_base.specs.laws.Lawful.{LawfulWhole, row_lawful, row_byte, IsPast, Starts, past, last, only_where_lawful, then_whole, made, last_whole, to_end, at_end, before_end, deeper_whole, whole_once}
 use Rattle.wenc_base.specs.laws.Sections.{read_custom, custom_lawful}
 use Rattle.wenc_builder.specs.Item.{Item, ModuleItem, CoreInstanceItem, CoreTypeItem, ComponentItem, InstanceItem, AliasItem, TypeItem, CanonItem, StartItem, ImportItem, ExportItem, CustomItem, RawItem, collected, item}
 use Rattle.wenc_base.specs.declared.fault.Fault.TheVariants.{Unfinished}

@@ -1,7 +1,8 @@
 -- The laws of canonical functions.
 use Rattle.std.proofs.Common.{◌≡◌, ℕ, ◌+◌, List, [], ◌∷◌, map, Option, Ok, refl, ap, arith}
 use Rattle.wenc_base.specs.Holder.{HolderState}
-use Rattle.wenc_base.specs.laws.Lawful.{Lawful, Reader, ◌>>=◌, give, nowhere, choose, pick, row_lawful as in_row, row_byte, nothing_lawful, then, last}
+use Rattle.wenc_base.specs.Readers.{Lawful, Reader, ◌>>=◌, give, nowhere, choose, pick}
+use Rattle.wenc_base.specs.laws.Lawful.{row_lawful as in_row, row_byte, nothing_lawful, then, last}
 use Rattle.wenc_base.specs.laws.Sound.{Sound, RowsAreSound, give_sound, last_sound, then_sound, nowhere_sound, choose_sound}
 use Rattle.wenc_base.specs.laws.Numbers.{read_u32, u32_lawful, u32_sound}
 use Rattle.wenc_base.specs.laws.Forms.{read_flag, flag_lawful, flag_sound, read_list, list_lawful, list_sound}

@@ -1,7 +1,7 @@
 -- Readers of what nests: they find a value, or the first flaw that is met.
 use Rattle.std.specs.Prelude.{◌≡◌, ℕ, zero, suc, List, [], ◌∷◌, Option, Some, None, Result, Ok, Err}
 use Rattle.std.specs.Prelude.{nat_eq, if◌then◌else◌}
-use Rattle.wenc_base.specs.laws.Lawful.{Reader}
+use Rattle.wenc_base.specs.Readers.{Reader}
 use Rattle.wenc_read.specs.inside.Gives.{read_byte}
 use Rattle.wenc_read.specs.declared.refusal.Refusal.{Refusal}
 use Rattle.wenc_read.specs.declared.refusal.Refusal.TheVariants as refusals

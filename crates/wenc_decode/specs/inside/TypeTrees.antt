@@ -1,6 +1,6 @@
 -- Readers of types that nest, by how deep they may.
 use Rattle.std.specs.Prelude.{ℕ, zero, suc, false, true, List, [], ◌∷◌}
-use Rattle.wenc_base.specs.laws.Lawful.{Reader, ◌>>=◌, give}
+use Rattle.wenc_base.specs.Readers.{Reader, ◌>>=◌, give}
 use Rattle.wenc_base.specs.laws.Numbers.{read_u32}
 use Rattle.wenc_parts.specs.laws.Aliases.{read_alias}
 use Rattle.wenc_parts.specs.laws.Imports.{read_extern_name, read_type_reference}

@@ -3,7 +3,7 @@ use Rattle.std.proofs.Common.{◌≡◌, ℕ, zero, suc, ◌<◌, true, false, e
 use Rattle.std.proofs.lemmas.Bool.{eqb-true}
 use Rattle.std.specs.List.{AllByRecursion}
 use Rattle.wenc_base.specs.Piece.{Piece, Form, Wide, nothing, ◌▸◌, ◌⨾◌, only_where, each}
-use Rattle.wenc_base.specs.laws.Lawful.{Lawful, Reader}
+use Rattle.wenc_base.specs.Readers.{Lawful, Reader}
 use Rattle.wenc_base.specs.laws.Sound.{Then, Sound, sound_behind}
 use Rattle.wenc_decode.specs.inside.Outcomes.{Bad, Deep, Outcome, DeepReader, found, flat, on, ◌>>>◌, yield, refuse, too_deep, repeat, take_row, select}
 

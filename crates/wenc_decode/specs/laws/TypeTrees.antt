@@ -6,7 +6,8 @@ use Rattle.wenc_base.specs.Number.{u32}
 use Rattle.wenc_base.specs.Piece.{Form, Wide, only_where, each}
 use Rattle.wenc_base.specs.laws.Forms.{list_lawful, list_sound, option_lawful, option_sound}
 use Rattle.wenc_base.specs.declared.types.ValType.{ValType}
-use Rattle.wenc_base.specs.laws.Lawful.{◌>>=◌, give, choose, then, last}
+use Rattle.wenc_base.specs.Readers.{◌>>=◌, give, choose}
+use Rattle.wenc_base.specs.laws.Lawful.{then, last}
 use Rattle.wenc_base.specs.laws.Numbers.{read_u32, u32_lawful, count_lawful, u32_sound}
 use Rattle.wenc_base.specs.laws.Sound.{Then, Sound, sound_behind, then_sound, last_sound, nowhere_sound, choose_sound, both_tables}
 use Rattle.wenc_base.specs.laws.Types.{val_type_lawful, val_type_sound}

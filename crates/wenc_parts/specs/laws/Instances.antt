@@ -1,7 +1,8 @@
 -- The law of what a core module is given.
 use Rattle.std.proofs.Common.{[], ◌∷◌, refl}
 use Rattle.wenc_base.specs.laws.Sound.{Sound, last_sound, nowhere_sound, choose_sound}
-use Rattle.wenc_base.specs.laws.Lawful.{Lawful, Reader, ◌>>=◌, give, nowhere, choose, row_lawful, last}
+use Rattle.wenc_base.specs.Readers.{Lawful, Reader, ◌>>=◌, give, nowhere, choose}
+use Rattle.wenc_base.specs.laws.Lawful.{row_lawful, last}
 use Rattle.wenc_base.specs.laws.Numbers.{read_u32, u32_lawful, u32_sound}
 use Rattle.wenc_parts.specs.declared.instances.ModuleArg.{ModuleArg}
 use Rattle.wenc_parts.specs.declared.instances.ModuleArg.TheVariants.{Instance}

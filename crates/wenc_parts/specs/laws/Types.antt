@@ -1,6 +1,7 @@
 -- The laws of value types.
 use Rattle.std.proofs.Common.{◌≡◌, ap, ℕ, List, [], ◌∷◌, ◌++◌, Option, Some, None, refl, arith}
-use Rattle.wenc_base.specs.laws.Lawful.{Lawful, Reader, ◌>>=◌, give, nowhere, choose, row_lawful, row_byte, past, last}
+use Rattle.wenc_base.specs.Readers.{Lawful, Reader, ◌>>=◌, give, nowhere, choose}
+use Rattle.wenc_base.specs.laws.Lawful.{row_lawful, row_byte, past, last}
 use Rattle.wenc_base.specs.laws.Numbers.{read_index, index_lawful, index_sound, index_starts}
 use Rattle.wenc_parts.specs.declared.types.PrimitiveValType.{PrimitiveValType}
 use Rattle.wenc_parts.specs.declared.types.PrimitiveValType.TheVariants.{Bool, S8, U8, S16, U16, S32, U32, S64, U64, F32, F64, Char, String, ErrorContext}

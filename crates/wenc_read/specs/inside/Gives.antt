@@ -1,6 +1,6 @@
 -- What a function that reads returns, by the reader of the form.
 use Rattle.std.specs.Prelude.{◌≡◌, ℕ, List, [], ◌∷◌, Option, Some, None, Result, Ok, Err}
-use Rattle.wenc_base.specs.laws.Lawful.{Reader}
+use Rattle.wenc_base.specs.Readers.{Reader}
 use Rattle.wenc_read.specs.declared.refusal.Refusal.{Refusal}
 use Rattle.wenc_read.specs.declared.refusal.Refusal.TheVariants as refusals
 

@@ -1,7 +1,7 @@
 -- How the options of a name are read, one after the other.
 use Rattle.std.specs.Prelude.{ℕ, List, Some, None, cond}
 use Rattle.std.specs.String.{string_bytes}
-use Rattle.wenc_base.specs.laws.Lawful.{Reader, ◌>>=◌, times}
+use Rattle.wenc_base.specs.Readers.{Reader, ◌>>=◌, times}
 use Rattle.wenc_parts.specs.Imports.{options_view, ExternName, NameOption, Implements}
 use Rattle.wenc_parts.specs.Imports.{VersionSuffix, ExternalId}
 use Rattle.wenc_parts.specs.laws.Imports.{read_name_option, with_options, ascend_from}

@@ -1,7 +1,7 @@
 -- What a table of first bytes finds.
 use Rattle.std.proofs.Common.{◌≡◌, ℕ, List, [], ◌∷◌, Some, refl}
 use Rattle.std.proofs.lemmas.Option.{some_pair_parts}
-use Rattle.wenc_base.specs.laws.Lawful.{Reader, pick, choose}
+use Rattle.wenc_base.specs.Readers.{Reader, pick, choose}
 use Rattle.wenc_read.specs.inside.Gives.{read_byte}
 
 -- what stands behind a first byte, by the row of that byte

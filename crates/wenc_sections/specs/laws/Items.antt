@@ -1,6 +1,7 @@
 -- The laws of the items of flat sections.
 use Rattle.std.proofs.Common.{ℕ, List, [], ◌∷◌, Option, refl}
-use Rattle.wenc_base.specs.laws.Lawful.{Lawful, Reader, ◌>>=◌, give, nowhere, choose, done, row_lawful, then, last, whole_lawful}
+use Rattle.wenc_base.specs.Readers.{Lawful, Reader, ◌>>=◌, give, nowhere, choose}
+use Rattle.wenc_base.specs.laws.Lawful.{done, row_lawful, then, last, whole_lawful}
 use Rattle.wenc_base.specs.laws.Sound.{Sound, last_sound, then_sound, nowhere_sound, choose_sound, whole_sound}
 use Rattle.wenc_base.specs.laws.Numbers.{read_u32, u32_lawful, u32_sound}
 use Rattle.wenc_base.specs.laws.Forms.{read_name, name_lawful, name_sound, read_list, list_lawful, list_sound, read_option, option_lawful, option_sound, read_sized, sized_lawful, sized_sound}
