@@ -14,7 +14,7 @@ use Rattle.wenc_base.specs.laws.Forms.{read_list, name_lawful, name_sound, read_
 use Rattle.wenc_base.specs.Readers.{Lawful, ◌>>=◌, give}
 use Rattle.wenc_base.specs.laws.Lawful.{LawfulWhole, then, last, then_whole, whole_lawful}
 use Rattle.wenc_base.specs.laws.Numbers.{read_u32, u32_lawful, count_lawful, u32_sound}
-use Rattle.wenc_base.specs.laws.Sound.{Then, ThenAll, Sound, SoundWhole, sound_goes_on, last_sound, then_sound, whole_sound, then_whole_sound}
+use Rattle.wenc_base.specs.laws.Sound.{Then, ThenAll, Sound, SoundWhole, sound_goes_on, last_tells, then_tells, whole_sound, then_whole_sound}
 use Rattle.wenc_builder.specs.Item.{Item, ModuleItem, CoreInstanceItem, CoreTypeItem, ComponentItem, InstanceItem, AliasItem, TypeItem, CanonItem, StartItem, ImportItem, ExportItem, CustomItem, RawItem, collected, item}
 use Rattle.wenc_builder.specs.Sections.{Section, Run, Alone, members, collects, item_of, section_piece}
 use Rattle.wenc_canon.specs.laws.Canonicals.{canonical_lawful, canonical_sound}
@@ -53,18 +53,18 @@ row_tells d (row ∷ table) h id =
 
 item_tells : (d id : ℕ) → Tells (ItemWithin d id) (GoesIn d id) (read_content_item d id)
 item_tells d id = row_tells d (content_rows d) (
-  flat_tells _ (last_sound CoreInstanceItem core_instance_sound (λ i bytes rest r. (tt, (refl, r)))),
+  flat_tells _ (last_tells CoreInstanceItem core_instance_sound (λ i bytes rest r. (tt, (refl, r)))),
   (
-    flat_tells _ (last_sound CoreTypeItem core_type_sound (λ t bytes rest r. (tt, (refl, r)))),
+    flat_tells _ (last_tells CoreTypeItem core_type_sound (λ t bytes rest r. (tt, (refl, r)))),
     (
-      flat_tells _ (last_sound InstanceItem instance_sound (λ i bytes rest r. (tt, (refl, r)))),
+      flat_tells _ (last_tells InstanceItem instance_sound (λ i bytes rest r. (tt, (refl, r)))),
       (
-        flat_tells _ (last_sound AliasItem alias_sound (λ to bytes rest r. (tt, (refl, r)))),
+        flat_tells _ (last_tells AliasItem alias_sound (λ to bytes rest r. (tt, (refl, r)))),
         (
           last_tells (OpensTypes d) _ TypeItem (type_tells d) (λ bytes g. (refl, g)) (λ t bytes rest r. (r.0, (refl, r.1))),
           (
-            flat_tells _ (last_sound CanonItem canonical_sound (λ f bytes rest r. (tt, (refl, r)))),
-            (flat_tells _ (last_sound ImportItem import_sound (λ i bytes rest r. (tt, (refl, r)))), (flat_tells _ (last_sound ExportItem inline_export_sound (λ e bytes rest r. (tt, (refl, r)))), tt)),
+            flat_tells _ (last_tells CanonItem canonical_sound (λ f bytes rest r. (tt, (refl, r)))),
+            (flat_tells _ (last_tells ImportItem import_sound (λ i bytes rest r. (tt, (refl, r)))), (flat_tells _ (last_tells ExportItem inline_export_sound (λ e bytes rest r. (tt, (refl, r)))), tt)),
           ),
         ),
       ),
@@ -175,7 +175,7 @@ start_lawful : (s : Start) → Lawful (start_content s) (λ fuel. read_u32 >>= �
 start_lawful s = then _ (u32_lawful s.function) (then _ (list_lawful u32_lawful s.arguments) (last (started s.function s.arguments) (u32_lawful s.results)))
 
 start_sound : Sound start_content (read_u32 >>= λ function. read_list read_u32 >>= λ arguments. read_u32 >>= λ results. give (started function arguments results))
-start_sound = then_sound _ u32_sound (λ function. then_sound _ (list_sound u32_sound) (λ arguments. last_sound (started function arguments) u32_sound (λ results b rest r a q bytes p. (a, p, (b, q, r)))))
+start_sound = then_tells _ u32_sound (λ function. then_tells _ (list_sound u32_sound) (λ arguments. last_tells (started function arguments) u32_sound (λ results b rest r a q bytes p. (a, p, (b, q, r)))))
 
 single_told : {A : Type 0} (P : A → Type 0) (Q : List Item → Type 0) (D : Type 0) (make : A → Item) (some : Option A) → ThenAll P some → ((v : A) → P v → Q (make v ∷ [])) → ToldAll Q D (single make some)
 single_told P Q D make None h k = tt

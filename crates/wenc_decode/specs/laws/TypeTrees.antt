@@ -9,7 +9,7 @@ use Rattle.wenc_base.specs.declared.types.ValType.{ValType}
 use Rattle.wenc_base.specs.Readers.{◌>>=◌, give, choose}
 use Rattle.wenc_base.specs.laws.Lawful.{then, last}
 use Rattle.wenc_base.specs.laws.Numbers.{read_u32, u32_lawful, count_lawful, u32_sound}
-use Rattle.wenc_base.specs.laws.Sound.{Then, Sound, sound_behind, then_sound, last_sound, nowhere_sound, choose_sound, both_tables}
+use Rattle.wenc_base.specs.laws.Sound.{Then, Sound, sound_behind, then_tells, last_tells, nowhere_tells, choose_tells, both_tables}
 use Rattle.wenc_base.specs.laws.Types.{val_type_lawful, val_type_sound}
 use Rattle.wenc_parts.specs.declared.types.ComponentValType.{ComponentValType}
 use Rattle.wenc_parts.specs.laws.Aliases.{read_alias, alias_lawful, alias_sound}
@@ -30,22 +30,22 @@ use Rattle.wenc_decode.specs.laws.Levels.{one_level}
 -- ---- what doesn't nest
 
 defined_sound : Sound def_val_type read_defined
-defined_sound = choose_sound _ _ (both_tables def_val_type (primitive_rows Primitive) (defined_rows (λ t. t)) (primitive_rows_sound def_val_type Primitive (λ p rest. refl)) (defined_rows_sound def_val_type (λ t. t) (λ t bytes rest r. r))) nowhere_sound
+defined_sound = choose_tells _ _ (both_tables def_val_type (primitive_rows Primitive) (defined_rows (λ t. t)) (primitive_rows_sound def_val_type Primitive (λ p rest. refl)) (defined_rows_sound def_val_type (λ t. t) (λ t bytes rest r. r))) nowhere_tells
 
 abbrev Shallow : ℕ → Form DefType
 Shallow d t = only_where (depth t ≤ d) (def_type t)
 
 shallow_sound : (d : ℕ) → Sound (Shallow d) (read_defined >>= λ ty. give (DefinedType ty))
-shallow_sound d = last_sound DefinedType defined_sound (λ ty bytes rest r. (omega arith, r))
+shallow_sound d = last_tells DefinedType defined_sound (λ ty bytes rest r. (omega arith, r))
 
 sync_sound : (d : ℕ) → Sound (sound_behind 0x40 (Shallow d)) (read_function_type false)
-sync_sound d = then_sound _ (list_sound named_sound) (λ params. last_sound (λ answer. FunctionType (to_function false params answer)) result_list_sound (λ answer middle rest r bytes p. (omega arith, (bytes, refl, (middle, p, r)))))
+sync_sound d = then_tells _ (list_sound named_sound) (λ params. last_tells (λ answer. FunctionType (to_function false params answer)) result_list_sound (λ answer middle rest r bytes p. (omega arith, (bytes, refl, (middle, p, r)))))
 
 async_sound : (d : ℕ) → Sound (sound_behind 0x43 (Shallow d)) (read_function_type true)
-async_sound d = then_sound _ (list_sound named_sound) (λ params. last_sound (λ answer. FunctionType (to_function true params answer)) result_list_sound (λ answer middle rest r bytes p. (omega arith, (bytes, refl, (middle, p, r)))))
+async_sound d = then_tells _ (list_sound named_sound) (λ params. last_tells (λ answer. FunctionType (to_function true params answer)) result_list_sound (λ answer middle rest r bytes p. (omega arith, (bytes, refl, (middle, p, r)))))
 
 resource_sound : (d : ℕ) → Sound (sound_behind 0x3f (Shallow d)) read_resource_type
-resource_sound d = then_sound _ val_type_sound (λ rep. last_sound (ResourceType rep) (option_sound u32_sound) (λ dtor middle rest r bytes p. (omega arith, (bytes, refl, (middle, p, r)))))
+resource_sound d = then_tells _ val_type_sound (λ rep. last_tells (ResourceType rep) (option_sound u32_sound) (λ dtor middle rest r bytes p. (omega arith, (bytes, refl, (middle, p, r)))))
 
 -- ---- declarations
 
@@ -62,19 +62,19 @@ ComponentWithin d x = only_where (opened x ≤ d) (component_declaration x)
 
 instance_tells : (d : ℕ) {read : DeepReader DefType} → Tells (Shallow d) (OpensTypes d) read → Tells (DeclaredWithin d) (ByteThen 0x01 (OpensTypes d)) (read_instance_declaration read)
 instance_tells d t = select_tells (ByteThen 0x01 (OpensTypes d)) _ _ (
-  flat_tells _ (last_sound CoreTyped core_type_sound (λ ty bytes rest r. (omega arith, (bytes, refl, r)))),
+  flat_tells _ (last_tells CoreTyped core_type_sound (λ ty bytes rest r. (omega arith, (bytes, refl, r)))),
   (
     last_tells (OpensTypes d) _ Typed t (λ bytes g. (bytes, refl, g)) (λ ty bytes rest r. (r.0, (bytes, refl, r.1))),
     (
-      flat_tells _ (last_sound Aliased alias_sound (λ to bytes rest r. (omega arith, (bytes, refl, r)))),
-      (flat_tells _ (then_sound _ extern_name_sound (λ name. last_sound (Exported name) type_reference_sound (λ ty middle rest r bytes p. (omega arith, (bytes, refl, (middle, p, r)))))), tt),
+      flat_tells _ (last_tells Aliased alias_sound (λ to bytes rest r. (omega arith, (bytes, refl, r)))),
+      (flat_tells _ (then_tells _ extern_name_sound (λ name. last_tells (Exported name) type_reference_sound (λ ty middle rest r bytes p. (omega arith, (bytes, refl, (middle, p, r)))))), tt),
     ),
   ),
 ) (refuse_tells _)
 
 component_tells : (d : ℕ) {read : DeepReader DefType} → Tells (Shallow d) (OpensTypes d) read → Tells (ComponentWithin d) (ByteThen 0x01 (OpensTypes d)) (read_component_declaration read)
 component_tells d t = select_tells (ByteThen 0x01 (OpensTypes d)) _ _ (
-  flat_tells _ (then_sound _ extern_name_sound (λ name. last_sound (Imported name) type_reference_sound (λ ty middle rest r bytes p. (omega arith, (bytes, refl, (middle, p, r)))))),
+  flat_tells _ (then_tells _ extern_name_sound (λ name. last_tells (Imported name) type_reference_sound (λ ty middle rest r bytes p. (omega arith, (bytes, refl, (middle, p, r)))))),
   tt,
 ) (last_tells (ByteThen 0x01 (OpensTypes d)) _ Declared (instance_tells d t) (λ bytes g. g) (λ x bytes rest r. (r.0, r.1)))
 

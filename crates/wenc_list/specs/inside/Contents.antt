@@ -3,8 +3,7 @@ use Rattle.std.specs.Prelude.{ℕ, List, [], ◌∷◌, length, take, drop, Opti
 use Rattle.std.specs.Prelude.{Err, nat_eq, nat_lt, if◌then◌else◌}
 use Rattle.wenc_base.specs.Custom.{Custom}
 use Rattle.wenc_base.specs.laws.Forms.{read_name, read_list, read_bytes}
-use Rattle.wenc_base.specs.Readers.{Reader, go_on, ◌>>=◌, give}
-use Rattle.wenc_base.specs.laws.Lawful.{done}
+use Rattle.wenc_base.specs.Readers.{Reader, go_on, ◌>>=◌, give, done}
 use Rattle.wenc_base.specs.laws.Numbers.{read_u32}
 use Rattle.wenc_builder.specs.Item.{Item, ModuleItem, CoreInstanceItem, CoreTypeItem, ComponentItem}
 use Rattle.wenc_builder.specs.Item.{InstanceItem, AliasItem, TypeItem, CanonItem, StartItem}
