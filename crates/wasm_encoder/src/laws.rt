@@ -160,9 +160,9 @@ pub fn sections_are_their_items()
 /// A member that is written piece by piece, a type of a section, and a type that a module type, a component type or an
 /// instance type declares: given up it leaves no trace, and ended it is one more, where it can be encoded.
 pub fn openings_are_members()
-    ensures member_given_up { (h : HolderState) (lead more : List ℕ) → is_finished h ≡ true
+    ensures given_up { (h : HolderState) (lead more : List ℕ) → is_finished h ≡ true
         → member_given_up (member_appended (member_begun h lead) more) ≡ h }
-    ensures type_ended { (h : HolderState) (members : List (List ℕ)) (lead more : List ℕ)
+    ensures ended { (h : HolderState) (members : List (List ℕ)) (lead more : List ℕ)
         → Contains verbatim h members
         → Contains verbatim (member_ended (member_appended (member_begun h lead) more))
         (members ++ (lead ++ more) ∷ []) }

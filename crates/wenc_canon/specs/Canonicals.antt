@@ -239,12 +239,12 @@ canonical_name (OfBuiltin i values) = (row i).name
 -- ---- what the calls of a section add
 
 -- this builtin, with the values of its fields
-abbrev pub Adds : HolderState → HolderState → Result (Unit {0}) Fault → (i : Builtin) → Values (row i).fields
-    → Type 0
+abbrev pub Adds : HolderState → HolderState → Result (Unit {0}) Fault → (i : Builtin)
+    → Values (row i).fields → Type 0
 Adds old new outcome i values = AddsMember (canonical (OfBuiltin i values)) old new outcome
 
 -- a function that is made of the options which an iterator gives
-abbrev pub AddsWithOptions : {S : Type 0} → (S → Option CanonicalOption → S → Type 0) → S → HolderState
-    → HolderState → Result (Unit {0}) Fault → (List CanonicalOption → Canonical) → Type 0
+abbrev pub AddsWithOptions : {S : Type 0} → (S → Option CanonicalOption → S → Type 0) → S
+    → HolderState → HolderState → Result (Unit {0}) Fault → (List CanonicalOption → Canonical) → Type 0
 AddsWithOptions steps options old new outcome function =
     AddsListed steps options (λ os. canonical (function os)) old new outcome

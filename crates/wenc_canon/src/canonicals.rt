@@ -8,7 +8,7 @@ ghost use Rattle.wenc_base.specs.Piece.{HasForm};
 ghost use Rattle.wenc_base.specs.laws.Delimited.{itself};
 ghost use Rattle.wenc_base.specs.laws.Serves.{serves_itself};
 ghost use Rattle.wenc_canon.specs.Canonicals.{AddsWithOptions, Lift, Lower, canonical, ◌is◌takes◌};
-ghost use Rattle.wenc_canon.specs.inside.Rows.{row_with, provided_by, and_options, provided_with};
+ghost use Rattle.wenc_canon.specs.inside.Rows.{row_with, builtin_by, and_options, builtin_with};
 
 mod builtins;
 
@@ -217,7 +217,7 @@ impl<A: Allocator> CanonicalFunctionSection<A> {
     /// Adds the builtin of this row, which has these fields.
     fn add_row<F: Fields>(&mut self, row: Row, fields: &F) -> Result<(), Fault>
         requires row { row_with row.opcode ≡ (row.name.now is row.opcode takes F.kinds) }
-        ensures { AddsMember (canonical (provided_by row.opcode F.kinds (F.values fields.now)))
+        ensures { AddsMember (canonical (builtin_by row.opcode F.kinds (F.values fields.now)))
             self.old self.new result }
     {
         self.functions.add_encoded(&Tagged(row.opcode, fields))
@@ -234,7 +234,7 @@ impl<A: Allocator> CanonicalFunctionSection<A> {
         requires ends { IsFinite (I.remaining options) }
         requires row { row_with row.opcode ≡ (row.name.now is row.opcode takes and_options F.kinds) }
         ensures { AddsWithOptions I.next_gives options self.old self.new result
-            (provided_with row.opcode F.kinds (F.values fields.now)) }
+            (builtin_with row.opcode F.kinds (F.values fields.now)) }
     {
         self.functions
             .add_listed(&Tagged(row.opcode, fields), options, &())

@@ -32,7 +32,7 @@ pub struct ListedSection<A: Allocator = Global> {
 pub struct Listing<A: Allocator = Global> {
     /// Its sections, in their order.
     pub sections: Vec<ListedSection<A>, A>,
-    /// How many places its items take in each index space, in the order in which a builder tells its counts: core modules,
+    /// How many indices its items take in each space, in the order in which a builder tells its counts: core modules,
     /// core functions, core types, core memories, core tables, core instances, core tags, core globals, functions,
     /// instances, values, components, types.
     pub counts: [u128; 13],

@@ -70,7 +70,7 @@ impl<A: Allocator> Holder<A> {
     /// the value is.
     pub fn append_encoded<E: Encode>(&mut self, value: &E) -> Result<(), Fault>
         requires { is_finished self.old ≡ false }
-        ensures member_appended { AppendsToMember self.old self.new
+        ensures appended { AppendsToMember self.old self.new
             (member_appended self.old (E.piece value.now).text) result (E.piece value.now) }
         ensures unfinished_value { E.unfinished value.now → result ≡ Err Unfinished }
     {

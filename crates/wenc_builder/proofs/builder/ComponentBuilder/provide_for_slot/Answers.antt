@@ -1,7 +1,7 @@
 use Rattle.std.proofs.Common.{List, ℕ, [], ◌∷◌, Some, refl, subst, ◌∙◌}
 use Rattle.wenc_canon.specs.Canonicals.{CoreType, Slot}
-use Rattle.wenc_canon.specs.inside.Rows.{provided_by}
-use Rattle.wenc_canon.specs.laws.Rows.{provided_serves, two_fields}
+use Rattle.wenc_canon.specs.inside.Rows.{builtin_by}
+use Rattle.wenc_canon.specs.laws.Rows.{builtin_serves, two_fields}
 use Rattle.wenc_builder.specs.Entry.{canonical_entry}
 use Rattle.wenc_builder.specs.Enters.{Enters}
 use Rattle.wenc_builder.specs.Item.{CanonItem}
@@ -15,12 +15,12 @@ use Rattle.wenc_builder.proofs.builder.ComponentBuilder.provide_for_slot.Goals a
 
 pub add-requires : goal.add-requires
 add-requires g c =
-    item_piece (CanonItem (provided_by c.args.row.opcode (CoreType ∷ Slot ∷ []) (c.args.ty, c.args.slot)))
-    (provided_serves c.args.row.name.now c.args.row.opcode (CoreType ∷ Slot ∷ []) (c.args.ty, c.args.slot) (two_fields CoreType Slot c.args.ty c.args.slot) c.requires.row)
+    item_piece (CanonItem (builtin_by c.args.row.opcode (CoreType ∷ Slot ∷ []) (c.args.ty, c.args.slot)))
+    (builtin_serves c.args.row.name.now c.args.row.opcode (CoreType ∷ Slot ∷ []) (c.args.ty, c.args.slot) (two_fields CoreType Slot c.args.ty c.args.slot) c.requires.row)
 
 pub returns : goal.returns
 returns g c =
-    let P : List ℕ → Type 0 = λ name. Enters c.args.self.now c.add.new.self c.add.result (canonical_entry (Some name) (provided_by c.args.row.opcode (CoreType ∷ Slot ∷ []) (c.args.ty, c.args.slot))) in
+    let P : List ℕ → Type 0 = λ name. Enters c.args.self.now c.add.new.self c.add.result (canonical_entry (Some name) (builtin_by c.args.row.opcode (CoreType ∷ Slot ∷ []) (c.args.ty, c.args.slot))) in
     subst P (c.as_str.ensures.value ∙ c.in_ok-name.ensures.ok)
-    (draft_enters c.args.self.now c.add.new.self c.add.result (canonical_entry (Some c.as_str.result.now) (provided_by c.args.row.opcode (CoreType ∷ Slot ∷ []) (c.args.ty, c.args.slot))) (kind_id kinds.CanonicalFunction) (space_number spaces.CoreFuncs) (Some c.as_str.result.now)
-    (record { section = refl; defined = refl; named = refl }) (provided_serves c.args.row.name.now c.args.row.opcode (CoreType ∷ Slot ∷ []) (c.args.ty, c.args.slot) (two_fields CoreType Slot c.args.ty c.args.slot) c.requires.row) c.add.ensures)
+    (draft_enters c.args.self.now c.add.new.self c.add.result (canonical_entry (Some c.as_str.result.now) (builtin_by c.args.row.opcode (CoreType ∷ Slot ∷ []) (c.args.ty, c.args.slot))) (kind_id kinds.CanonicalFunction) (space_number spaces.CoreFuncs) (Some c.as_str.result.now)
+    (record { section = refl; defined = refl; named = refl }) (builtin_serves c.args.row.name.now c.args.row.opcode (CoreType ∷ Slot ∷ []) (c.args.ty, c.args.slot) (two_fields CoreType Slot c.args.ty c.args.slot) c.requires.row) c.add.ensures)
