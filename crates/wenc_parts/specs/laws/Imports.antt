@@ -210,9 +210,9 @@ extern_name_sound = choose_tells _ _ (
 ) nowhere_tells
   where
     tested : (text : List ℕ) (options : List NameOption) (rest : List ℕ)
-        → Told (λ x. (middle : List ℕ) → (list name_option options).Reads Wide middle rest → (bytes : List ℕ) → (name text).Reads Wide bytes middle → (extern_name x.0).Reads Wide (0x02 ∷ bytes) x.1) ⊥ (given_options text options rest)
+        → Told (λ (x : ExternName × List ℕ). (middle : List ℕ) → (list name_option options).Reads Wide middle rest → (bytes : List ℕ) → (name text).Reads Wide bytes middle → (extern_name x.0).Reads Wide (0x02 ∷ bytes) x.1) ⊥ (given_options text options rest)
     tested text options rest =
-        elim (are_options options) as (λ t. are_options options ≡ t → Told (λ x. (middle : List ℕ) → (list name_option options).Reads Wide middle rest → (bytes : List ℕ) → (name text).Reads Wide bytes middle → (extern_name x.0).Reads Wide (0x02 ∷ bytes) x.1) ⊥ (cond t (Ok (with_options text options, rest)) (Err Bad))) [
+        elim (are_options options) as (λ t. are_options options ≡ t → Told (λ (x : ExternName × List ℕ). (middle : List ℕ) → (list name_option options).Reads Wide middle rest → (bytes : List ℕ) → (name text).Reads Wide bytes middle → (extern_name x.0).Reads Wide (0x02 ∷ bytes) x.1) ⊥ (cond t (Ok (with_options text options, rest)) (Err Bad))) [
           | true ↦ λ e. λ middle r bytes p. options_sound text options bytes middle rest e p r
           | false ↦ λ e. tt
         ] refl
