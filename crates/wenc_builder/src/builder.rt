@@ -376,7 +376,7 @@ impl<A: Allocator> ComponentBuilder<A> {
     }
 
     /// Adds the builtin of this row, which has these fields, with the row's name as its debug name. Answers its index.
-    fn provide<F: Fields>(&mut self, row: Row, fields: &F) -> Result<u32, Fault>
+    fn add_builtin<F: Fields>(&mut self, row: Row, fields: &F) -> Result<u32, Fault>
         requires row { row_with row.opcode ≡ (row.name.now is row.opcode takes F.kinds) }
         ensures { Enters self.old self.new result (canonical_entry (Some row.name.now)
             (builtin_by row.opcode F.kinds (F.values fields.now))) }
@@ -389,8 +389,8 @@ impl<A: Allocator> ComponentBuilder<A> {
         )
     }
 
-    /// The same of an builtin that has options behind these fields.
-    fn provide_with<F: Fields, I: Iterator<Item = CanonicalOption> + Drop>(
+    /// The same of a builtin that has options behind these fields.
+    fn add_builtin_with<F: Fields, I: Iterator<Item = CanonicalOption> + Drop>(
         &mut self,
         row: Row,
         fields: &F,
@@ -416,7 +416,7 @@ impl<A: Allocator> ComponentBuilder<A> {
 
     /// Adds the builtin of this row, which has a slot of a task, of this value type: its debug name is the row's with
     /// the number of the slot behind it. Answers its index.
-    fn provide_for_slot(&mut self, row: Row, ty: ValType, slot: u32) -> Result<u32, Fault>
+    fn add_builtin_for_slot(&mut self, row: Row, ty: ValType, slot: u32) -> Result<u32, Fault>
     where
         A: Clone,
         requires row { row_with row.opcode ≡

@@ -211,14 +211,14 @@ slots_text [] vs = []
 slots_text (f ∷ []) v = slot_text f v
 slots_text (f ∷ g ∷ fs) vs = slot_text f vs.0 ++ slots_text (g ∷ fs) vs.1
 
--- the name of an builtin with these values
+-- the name of a builtin with these values
 abbrev pub name_of : (i : Builtin) → Values (row i).fields → List ℕ
 name_of i values = (row i).name ++ slots_text (row i).fields values
 
 -- ---- canonical functions
 
 -- A core function that is lifted, with its options and its type; a function that is lowered, with
--- its options; or an builtin with the values of its fields.
+-- its options; or a builtin with the values of its fields.
 pub data Canonical : Type 0 where
   Lift : ℕ → List CanonicalOption → ℕ → Canonical
   Lower : ℕ → List CanonicalOption → Canonical

@@ -19,7 +19,7 @@ use std::marker::Model;
 use wenc_base::{Delimited, DelimitedEq, Encode, Fault, Holder, Tagged};
 use wenc_parts::{ComponentSection, ComponentSectionId};
 
-/// An option of a function that is lifted or lowered, or of an builtin that reads or writes values
+/// An option of a function that is lifted or lowered, or of a builtin that reads or writes values
 /// (component model, binary format, `canonopt`).
 #[derive(Clone, Copy, Debug, PartialEq, Eq)]
 pub enum CanonicalOption {
@@ -232,7 +232,8 @@ impl<A: Allocator> CanonicalFunctionSection<A> {
     ) -> Result<(), Fault>
         requires can { I.can_next options }
         requires ends { IsFinite (I.remaining options) }
-        requires row { row_with row.opcode ≡ (row.name.now is row.opcode takes and_options F.kinds) }
+        requires row { row_with row.opcode
+            ≡ (row.name.now is row.opcode takes and_options F.kinds) }
         ensures { AddsWithOptions I.next_gives options self.old self.new result
             (builtin_with row.opcode F.kinds (F.values fields.now)) }
     {

@@ -96,7 +96,7 @@ fn section<A: Allocator + Copy>(
     }
 }
 
-/// The sections up to the end, behind the front of so many bytes, and how many places their items take.
+/// The sections up to the end, behind the front of so many bytes, and how many indices their items take.
 fn sections<A: Allocator + Copy>(
     alloc: A,
     all: usize,
@@ -121,7 +121,7 @@ fn sections<A: Allocator + Copy>(
     Ok((sections, counts))
 }
 
-/// The sections of a component with their items, each at its place, and how many places the items take. Modules and nested
+/// The sections of a component with their items, each at its place, and how many indices the items take. Modules and nested
 /// components are bytes, which are not read (component model, binary format, "Component Definitions").
 ///
 /// Besides what the encoder writes, these spellings are read: numbers that are padded, to 5 bytes at most (10 where they

@@ -102,7 +102,8 @@ impl<A: Allocator> Holder<A> {
     /// holder stays unfinished.
     pub fn close(&mut self, text: &[u8]) -> Result<(), Fault>
         requires { is_finished self.old ≡ false }
-        ensures { AppendsToMember self.old self.new (member_ended (member_appended self.old text.now)) result
+        ensures { AppendsToMember self.old self.new
+            (member_ended (member_appended self.old text.now)) result
             (verbatim text.now) }
     {
         self.append(text)?;

@@ -11,7 +11,7 @@ use Rattle.wenc_builder.specs.declared.builder.kind.Kind.TheVariants as kinds
 use Rattle.wenc_builder.specs.declared.builder.space.Space.TheVariants as spaces
 use Rattle.wenc_builder.proofs.Entered.{draft_enters}
 use Rattle.wenc_builder.proofs.Texts.{item_piece}
-use Rattle.wenc_builder.proofs.builder.ComponentBuilder.provide_for_slot.Goals as goal
+use Rattle.wenc_builder.proofs.builder.ComponentBuilder.add_builtin_for_slot.Goals as goal
 
 pub add-requires : goal.add-requires
 add-requires g c =

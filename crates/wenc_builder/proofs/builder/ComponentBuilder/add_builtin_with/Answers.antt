@@ -8,7 +8,7 @@ use Rattle.wenc_builder.specs.Item.{CanonItem}
 use Rattle.wenc_builder.specs.declared.builder.space.Space.TheVariants as spaces
 use Rattle.wenc_builder.proofs.Listed.{options_enter}
 use Rattle.wenc_builder.proofs.Texts.{item_piece}
-use Rattle.wenc_builder.proofs.builder.ComponentBuilder.provide_with.Goals as goal
+use Rattle.wenc_builder.proofs.builder.ComponentBuilder.add_builtin_with.Goals as goal
 
 pub add_listed-requires-clause-whole : goal.add_listed-requires-clause-whole
 add_listed-requires-clause-whole g c os =
