@@ -1,5 +1,5 @@
 -- The options of a name, read one after the other.
-use Rattle.std.proofs.Common.{◌≡◌, ◌≢◌, ◌≤◌, ◌+◌, ◌-◌, ℕ, zero, suc, Bool, true, false, cond, nat_lt, List, ◌∷◌, Result, Ok, Err, refl, subst, ◌∙◌, arith, le-ltb}
+use Rattle.std.proofs.Common.{◌≡◌, ◌≢◌, ◌≤◌, ◌<◌, ◌+◌, ◌-◌, ℕ, zero, suc, Bool, true, false, cond, nat_lt, List, ◌∷◌, Result, Ok, Err, refl, subst, ◌∙◌, arith, le-ltb, lt-ltb}
 use Rattle.wenc_base.specs.Readers.{Flaw, Bad, Deep, ◌>>=◌, go_on, give, times}
 use Rattle.wenc_base.specs.laws.Sound.{Told, Fewer, Several, times_told}
 use Rattle.wenc_parts.specs.Imports.{ExternName, NameOption, name_option}
@@ -14,7 +14,7 @@ pub goes_on : (text : List ℕ) (least n : ℕ) (o : NameOption) (bytes middle :
     → read_options text least (suc n) bytes ≡ go_on (read_options text (suc (option_number o)) n middle) (λ name. give (with_option o name))
 goes_on text least n o bytes middle e lt = rw e (behind (times read_name_option n middle))
   where
-    ascended : (b : Bool) (name : ExternName) (rest : List ℕ) → cond b (Ok (with_option o name, rest)) None ≡ go_on (cond b (Ok (name, rest)) (Err Bad)) (λ m. give (with_option o m))
+    ascended : (b : Bool) (name : ExternName) (rest : List ℕ) → cond b (Ok (with_option o name, rest)) (Err Bad) ≡ go_on (cond b (Ok (name, rest)) (Err Bad)) (λ m. give (with_option o m))
     ascended true name rest = refl
     ascended false name rest = refl
 
@@ -23,7 +23,7 @@ goes_on text least n o bytes middle e lt = rw e (behind (times read_name_option 
     behind (Ok x) = rw (lt, ascend_from) (ascended (ascend_from (suc (option_number o)) x.0) (with_options text x.0) x.1)
 
 -- an option that comes too late
-pub is_late : (text : List ℕ) (least n : ℕ) (o : NameOption) (bytes middle : List ℕ) → read_name_option bytes ≡ Ok (o, middle) → nat_lt (option_number o) least ≡ true → read_options text least (suc n) bytes ≡ Err Bad
+is_late : (text : List ℕ) (least n : ℕ) (o : NameOption) (bytes middle : List ℕ) → read_name_option bytes ≡ Ok (o, middle) → nat_lt (option_number o) least ≡ true → read_options text least (suc n) bytes ≡ Err Bad
 is_late text least n o bytes middle e lt = rw e (behind (times read_name_option n middle) (times_told (λ bytes. ⊥) name_option_sound n middle))
   where
     behind : (found : Found) → Told (Several name_option n middle) (Fewer name_option (λ bytes. ⊥) n middle) found → go_on (go_on found (λ os. give (o ∷ os))) (ascending text least) ≡ Err Bad
@@ -56,3 +56,7 @@ one_more text least (suc n) number o bytes middle rest name made some e is le fo
 pub some_given : (text : List ℕ) (count : ℕ) (bytes : List ℕ) → count ≢ 0 → (times read_name_option count >>= given_options text) bytes ≡ read_options text 0 count bytes
 some_given text zero bytes some = absurd (some refl)
 some_given text (suc n) bytes some = some_ascend text n bytes
+
+pub late : (text : List ℕ) (least count number : ℕ) (o : NameOption) (bytes middle : List ℕ) → count ≢ 0 → read_name_option bytes ≡ Ok (o, middle) → number ≡ option_number o → number < least → read_options text least count bytes ≡ Err Bad
+late text least zero number o bytes middle some e is lt = absurd (some refl)
+late text least (suc n) number o bytes middle some e is lt = is_late text least n o bytes middle e (lt-ltb _ _ (subst (λ (k : _). k < least) is lt))

@@ -1,5 +1,6 @@
 -- What a table of first bytes finds, and where a reader stops.
 use Rattle.std.proofs.Common.{◌≡◌, ℕ, List, [], ◌∷◌, Result, Ok, refl}
+use Rattle.wenc_base.specs.laws.Lawful.{same_Ok_pair}
 use Rattle.wenc_base.specs.Readers.{Flaw, Reader, go_on, read_byte, pick, choose}
 use Rattle.wenc_read.specs.declared.refusal.Refusal.{Refusal}
 use Rattle.wenc_read.specs.declared.refusal.Refusal.TheVariants as refusals
@@ -9,6 +10,11 @@ use Rattle.wenc_read.specs.inside.Gives.{Fails}
 pub at_first : {A : Type 0} (table : List (ℕ × Reader A)) (other : Reader A) (b first : ℕ) (bytes rest : List ℕ) → read_byte bytes ≡ Ok (first, rest) → first ≡ b → choose table other bytes ≡ pick table other b rest
 unfolding choose
 at_first table other b first bytes rest e d = rw (e, d) refl
+
+-- where there is a first byte, it begins the bytes
+pub first_there : (bytes rest : List ℕ) (b : ℕ) → read_byte bytes ≡ Ok (b, rest) → bytes ≡ b ∷ rest
+first_there [] rest b e = absurd cc
+first_there (c ∷ bytes) rest b e = let same = same_Ok_pair c b bytes rest e in rw (same.0, same.1) refl
 
 -- what fails fails whatever is made of it
 pub fails_on : {A B : Type 0} (e : Refusal) (found : Result (A × List ℕ) Flaw) (next : A → List ℕ → Result B Flaw) → Fails e found → Fails e (go_on found next)
