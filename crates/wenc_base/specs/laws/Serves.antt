@@ -51,15 +51,15 @@ first_among {one} {next} {one'} {next'} a b = (there, free)
     free none fault (inl c) = a.1 (λ f k. none f (inl k)) fault c
     free none fault (inr c) = b.1 (λ f k. none f (inr ((λ g l. none g (inl l)), k))) fault c
 
--- or of two whose order is swapped
-swapped : {one other : Fault → Type 0} (fault : Fault) → either one other fault → either other one fault
-swapped fault (inl c) = inr c
-swapped fault (inr c) = inl c
+-- or of two whose order is turned
+swapped : (one other : Fault → Type 0) (fault : Fault) → either one other fault → either other one fault
+swapped one other fault (inl c) = inr c
+swapped one other fault (inr c) = inl c
 
 pub turned_among : {one next one' next' : Fault → Type 0} → IsAmong one one' → IsAmong next next' → IsAmong (first_of one next) (either next' one')
-turned_among a b =
+turned_among {one' = one'} {next' = next'} a b =
     let f = first_among a b in
-    ((λ fault c. swapped fault (f.0 fault c)), λ none. f.1 (λ fault c. none fault (swapped fault c)))
+    ((λ fault c. swapped one' next' fault (f.0 fault c)), λ none fault c. f.1 none fault (swapped next' one' fault c))
 
 -- one of two
 pub both_among : {one next one' next' : Fault → Type 0} → IsAmong one one' → IsAmong next next' → IsAmong (either one next) (either one' next')
