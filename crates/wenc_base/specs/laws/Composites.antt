@@ -24,7 +24,7 @@ use Rattle.wenc_base.specs.declared.types.groups.GroupTree.TheVariants as groups
 use Rattle.wenc_base.specs.declared.types.storage.StorageType.{StorageType}
 use Rattle.wenc_base.specs.declared.types.storage.StorageType.TheVariants.{I8, I16, Val}
 use Rattle.wenc_base.specs.declared.types.storage.FieldType.{FieldType}
-use Rattle.wenc_base.specs.Composites.{storage_type, field_type, Composite, Func, Array, Struct, composite_type, Sub, sub_type_of, sub_type, final, RecType, Single, Rec, rec_type, params_of, results_of, function_view, array_view, structure_view, composite_view, sub_view, rec_type_view}
+use Rattle.wenc_base.specs.Composites.{storage_type, field_type, Composite, Func, Array, Struct, composite_type, Sub, sub_type_of, sub_type, final, RecType, Single, Rec, rec_type, params_of, results_of, func_type_view, array_view, structure_view, composite_view, sub_view, rec_type_view}
 
 -- ---- fields
 
@@ -211,10 +211,10 @@ fields_of (Array f) = f ∷ []
 fields_of (Struct fields) = fields
 
 -- types that are seen alike have the same lists
-pub same_params : {A : Type 0} (f g : FuncType A) → function_view f ≡ function_view g → params_of f ≡ params_of g
+pub same_params : {A : Type 0} (f g : FuncType A) → func_type_view f ≡ func_type_view g → params_of f ≡ params_of g
 same_params f g e = ap params e
 
-pub same_results : {A : Type 0} (f g : FuncType A) → function_view f ≡ function_view g → results_of f ≡ results_of g
+pub same_results : {A : Type 0} (f g : FuncType A) → func_type_view f ≡ func_type_view g → results_of f ≡ results_of g
 same_results f g e = ap results e
 
 pub same_fields : {A : Type 0} (s t : StructType A) → structure_view s ≡ structure_view t → s.fields.items ≡ t.fields.items
@@ -227,7 +227,7 @@ same_element a b e =
 
 -- two composite types that are seen alike are of one kind
 pub by_kind : {A : Type 0} (eq : CompositeType A → CompositeType A → Bool)
-    → ((f g : FuncType A) → function_view f ≡ function_view g → eq (composites.Func f) (composites.Func g) ≡ true)
+    → ((f g : FuncType A) → func_type_view f ≡ func_type_view g → eq (composites.Func f) (composites.Func g) ≡ true)
     → ((a b : ArrayType) → array_view a ≡ array_view b → eq (composites.Array a) (composites.Array b) ≡ true)
     → ((s t : StructType A) → structure_view s ≡ structure_view t → eq (composites.Struct s) (composites.Struct t) ≡ true)
     → AlikeIsEqual eq composite_view
