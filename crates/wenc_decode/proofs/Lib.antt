@@ -1,3 +1,4 @@
 pub mod Rows
 pub mod SubTypes
 pub mod Tables
+pub mod ValTypes

@@ -48,7 +48,7 @@ fn resource_type<A: Allocator + Copy>(
 /// `depth_left` times inside one another, and what is behind it. It is refused where none is spelled, as too deep where more
 /// of them open, and for want of memory.
 #[cycle(types)]
-#[tactic(auto, using(crate::specs::laws::Levels::one_level, wenc_read::specs::laws::Tables::first_there), unfolding(wenc_base::specs::Readers::choose))]
+#[tactic(auto, using(crate::specs::laws::Levels::one_level), unfolding(wenc_base::specs::Readers::choose))]
 pub fn type_of<A: Allocator + Copy>(
     alloc: A,
     depth_left: u32,

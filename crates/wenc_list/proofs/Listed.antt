@@ -22,7 +22,7 @@ use Rattle.wenc_list.specs.inside.Faults.{IsFaultHere}
 use Rattle.wenc_list.specs.declared.fault.ListFault.{ListFault}
 use Rattle.wenc_list.specs.declared.fault.ListFault.TheVariants as faults
 use Rattle.wenc_list.specs.declared.listing.ListedSection.{ListedSection}
-use Rattle.wenc_list.proofs.SectionLaws.{ArePast, FillsWithin, Fills, content_told, content_agrees, frame_told, frame_finds, section_reads, section_framed, members_of}
+use Rattle.wenc_list.proofs.SectionLaws.{ArePast, FillsWithin, Fills, content_told, content_agrees, Framed, frame_told, frame_finds, section_reads, section_framed, members_of}
 
 -- ---- frames
 
@@ -37,7 +37,7 @@ not_both : {A : Type 0} (some : Result A Flaw) (v : A) → some ≡ Ok v → som
 not_both some v a b = absurd cc
 
 pub is_framed : (bytes : List ℕ) (id : ℕ) (content rest : List ℕ) → read_frame bytes ≡ Ok ((id, content), rest) → IsFramed bytes id content rest
-is_framed bytes id content rest e = told_ok (λ x. IsFramed bytes x.0.0 x.0.1 x.1) ⊥ (read_frame bytes) ((id, content), rest) (frame_told bytes) e
+is_framed bytes id content rest e = told_ok (Framed bytes) ⊥ (read_frame bytes) ((id, content), rest) (frame_told bytes) e
 
 -- bytes have one frame
 pub record SameFrame (id other : ℕ) (content inside rest after : List ℕ) : Type 0 where
@@ -261,7 +261,7 @@ same_sections (s ∷ ss) (t ∷ ts) bytes a b v w =
 pub frame_fault : (refusal : Refusal) (place : ℕ) (bytes : List ℕ) → Fails refusal (read_frame bytes) → IsFaultHere place bytes (fault_of_frame refusal place)
 frame_fault refusals.Memory place bytes h = tt
 frame_fault refusals.Malformed place bytes h = no_frame place bytes h
-frame_fault refusals.TooDeep place bytes h = absurd (told_deep (λ x. IsFramed bytes x.0.0 x.0.1 x.1) ⊥ (read_frame bytes) (frame_told bytes) h)
+frame_fault refusals.TooDeep place bytes h = absurd (told_deep (Framed bytes) ⊥ (read_frame bytes) (frame_told bytes) h)
 
 pub content_fault : (refusal : Refusal) (place : ℕ) (bytes : List ℕ) (id : ℕ) (content rest : List ℕ) → AreBytes content → read_frame bytes ≡ Ok ((id, content), rest) → Fails refusal (read_content 100 id content) → IsFaultHere place bytes (fault_of_content refusal id place)
 content_fault refusals.Memory place bytes id content rest are e h = tt

@@ -245,18 +245,21 @@ content_agrees d id xs content (inr h) = rw h.1 (alone_agrees d id h.0 content h
 
 -- ---- frames
 
-pub frame_told : (bytes : List ℕ) → Told (λ x. IsFramed bytes x.0.0 x.0.1 x.1) ⊥ (read_frame bytes)
+abbrev pub Framed : List ℕ → (ℕ × List ℕ) × List ℕ → Type 0
+Framed bytes x = IsFramed bytes x.0.0 x.0.1 x.1
+
+pub frame_told : (bytes : List ℕ) → Told (Framed bytes) ⊥ (read_frame bytes)
 frame_told [] = tt
 frame_told (id ∷ bytes) =
     elim (cases_lt 11 id) [
       | inl lt ↦ rw (lt-ltb 11 id lt, cond) tt
-      | inr le ↦ rw (le-ltb 11 id le, cond) (told_on (λ x. (u32 x.0).Reads Wide bytes x.1) ⊥ (λ x. IsFramed (id ∷ bytes) x.0.0 x.0.1 x.1) ⊥ (cut id) (read_u32 bytes) (u32_sound.tells bytes) (λ e. e) (λ x r. inside le x.0 x.1 r))
+      | inr le ↦ rw (le-ltb 11 id le, cond) (told_on (λ x. (u32 x.0).Reads Wide bytes x.1) ⊥ (Framed (id ∷ bytes)) ⊥ (cut id) (read_u32 bytes) (u32_sound.tells bytes) (λ e. e) (λ x r. inside le x.0 x.1 r))
     ]
   where
     cut : ℕ → ℕ → List ℕ → Result ((ℕ × List ℕ) × List ℕ) Flaw
     cut id size rest = cond (ltb (length rest) size) (Err Bad) (Ok ((id, take size rest), drop size rest))
 
-    inside : id ≤ 11 → (size : ℕ) (rest : List ℕ) → (u32 size).Reads Wide bytes rest → Told (λ x. IsFramed (id ∷ bytes) x.0.0 x.0.1 x.1) ⊥ (cut id size rest)
+    inside : id ≤ 11 → (size : ℕ) (rest : List ℕ) → (u32 size).Reads Wide bytes rest → Told (Framed (id ∷ bytes)) ⊥ (cut id size rest)
     inside le size rest r =
         elim (cases_lt (length rest) size) [
           | inl lt ↦ rw (lt-ltb (length rest) size lt, cond) tt

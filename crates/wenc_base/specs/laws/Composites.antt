@@ -28,7 +28,7 @@ use Rattle.wenc_base.specs.Composites.{storage_type, field_type, Composite, Func
 
 -- ---- fields
 
-abbrev small_rows : List (ℕ × Reader StorageType)
+abbrev pub small_rows : List (ℕ × Reader StorageType)
 small_rows = (0x78, give I8) ∷ (0x77, give I16) ∷ []
 
 abbrev pub read_storage_type : Reader StorageType

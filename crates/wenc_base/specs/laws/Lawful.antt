@@ -191,7 +191,7 @@ IsPast (row ∷ table) b = (b ≢ row.0) × IsPast table b
 other_than : (b c : ℕ) → b ≢ c → eqb b c ≡ false
 other_than b c h = grind (arith, nat_tests)
 
-pick_past : {A : Type 0} (table : List (ℕ × Reader A)) (other : Reader A) (b : ℕ) (bytes : List ℕ) → IsPast table b → pick table other b bytes ≡ other (b ∷ bytes)
+pub pick_past : {A : Type 0} (table : List (ℕ × Reader A)) (other : Reader A) (b : ℕ) (bytes : List ℕ) → IsPast table b → pick table other b bytes ≡ other (b ∷ bytes)
 pick_past [] other b bytes h = refl
 pick_past (row ∷ table) other b bytes h = rw (other_than b row.0 h.0, pick) (pick_past table other b bytes h.1)
 

@@ -126,7 +126,7 @@ reference_lawful r = reference_row (λ s. s) (λ fuel. []) _ r.nullable r.heap_t
 pub reference_sound : Sound reference read_reference
 reference_sound = choose_tells _ _ (reference_rows_sound reference (λ r. r) (λ r bytes rest h. h)) nowhere_tells
 
-abbrev number_rows : {A : Type 0} → (ValType → A) → List (ℕ × Reader A)
+abbrev pub number_rows : {A : Type 0} → (ValType → A) → List (ℕ × Reader A)
 number_rows make =
     (0x7f, give (make I32)) ∷
     (0x7e, give (make I64)) ∷
