@@ -1,4 +1,3 @@
-pub mod Loop
 pub mod Rows
 pub mod SubTypes
 pub mod Tables

@@ -3,7 +3,7 @@ use Rattle.std.proofs.lemmas.Result.{err_from_is_err_and}
 use Rattle.std.proofs.lemmas.List.{map_push}
 use Rattle.wenc_types.specs.laws.TypeTrees.{view_defined, view_component, view_instance}
 use Rattle.wenc_types.specs.TypeTrees.{instance_declaration_view, component_declaration_view}
-use Rattle.wenc_decode.specs.inside.Outcomes.{repeat}
+use Rattle.wenc_base.specs.Readers.{times}
 use Rattle.wenc_decode.specs.inside.TypeTrees.{read_type, read_instance_declaration, read_component_declaration}
 use Rattle.wenc_decode.specs.laws.Repeats.{at_start, goes_on, stops, is_done}
 use Rattle.wenc_decode.specs.laws.Levels.{component_found, component_fails, instance_found, instance_fails}
@@ -14,37 +14,37 @@ pub instance_decls-returns-in_err-decl : goal.instance_decls-returns-in_err-decl
 instance_decls-returns-in_err-decl g t c =
     let read = read_instance_declaration (read_type c.args.depth_left) in
     let p = err_from_is_err_and c.from_residual.result c.from_residual.ensures.1 in
-    rw (p.1, p.2) (stops c.in_err-decl.field-0.0 read (map instance_declaration_view c.loop.decls.items) c.args.count c.loop.counter c.loop.rest.now (repeat read c.args.count c.args.bytes.now) c.loop-test.true c.in_err-decl.ensures c.loop.invariant)
+    rw (p.1, p.2) (stops c.in_err-decl.field-0.0 read (map instance_declaration_view c.loop.decls.items) c.args.count c.loop.counter c.loop.rest.now (times read c.args.count c.args.bytes.now) c.loop-test.true c.in_err-decl.ensures c.loop.invariant)
 
 pub instance_decls-loop-preserved : goal.instance_decls-loop-preserved
 instance_decls-loop-preserved g t c =
     let read = read_instance_declaration (read_type c.args.depth_left) in
     let v = c.in_ok-decl.decl in
     let e : map instance_declaration_view c.push.new.self.items ≡ map instance_declaration_view c.loop.decls.items ++ instance_declaration_view v ∷ [] = rw c.in_ok-push.ensures.items (map_push instance_declaration_view c.loop.decls.items v) in
-    rw e (goes_on read (map instance_declaration_view c.loop.decls.items) c.args.count c.loop.counter c.loop.rest.now (instance_declaration_view v) c.in_ok-decl.after.now (repeat read c.args.count c.args.bytes.now) c.loop-test.true c.in_ok-decl.ensures c.loop.invariant)
+    rw e (goes_on read (map instance_declaration_view c.loop.decls.items) c.args.count c.loop.counter c.loop.rest.now (instance_declaration_view v) c.in_ok-decl.after.now (times read c.args.count c.args.bytes.now) c.loop-test.true c.in_ok-decl.ensures c.loop.invariant)
 
 pub instance_decls-returns : goal.instance_decls-returns
 instance_decls-returns g t c =
     let read = read_instance_declaration (read_type c.args.depth_left) in
-    is_done read (map instance_declaration_view c.loop.decls.items) c.args.count c.loop.counter c.loop.rest.now (repeat read c.args.count c.args.bytes.now) c.loop-test.false c.loop.invariant
+    is_done read (map instance_declaration_view c.loop.decls.items) c.args.count c.loop.counter c.loop.rest.now (times read c.args.count c.args.bytes.now) c.loop-test.false c.loop.invariant
 
 pub component_decls-returns-in_err-decl : goal.component_decls-returns-in_err-decl
 component_decls-returns-in_err-decl g t c =
     let read = read_component_declaration (read_type c.args.depth_left) in
     let p = err_from_is_err_and c.from_residual.result c.from_residual.ensures.1 in
-    rw (p.1, p.2) (stops c.in_err-decl.field-0.0 read (map component_declaration_view c.loop.decls.items) c.args.count c.loop.counter c.loop.rest.now (repeat read c.args.count c.args.bytes.now) c.loop-test.true c.in_err-decl.ensures c.loop.invariant)
+    rw (p.1, p.2) (stops c.in_err-decl.field-0.0 read (map component_declaration_view c.loop.decls.items) c.args.count c.loop.counter c.loop.rest.now (times read c.args.count c.args.bytes.now) c.loop-test.true c.in_err-decl.ensures c.loop.invariant)
 
 pub component_decls-loop-preserved : goal.component_decls-loop-preserved
 component_decls-loop-preserved g t c =
     let read = read_component_declaration (read_type c.args.depth_left) in
     let v = c.in_ok-decl.decl in
     let e : map component_declaration_view c.push.new.self.items ≡ map component_declaration_view c.loop.decls.items ++ component_declaration_view v ∷ [] = rw c.in_ok-push.ensures.items (map_push component_declaration_view c.loop.decls.items v) in
-    rw e (goes_on read (map component_declaration_view c.loop.decls.items) c.args.count c.loop.counter c.loop.rest.now (component_declaration_view v) c.in_ok-decl.after.now (repeat read c.args.count c.args.bytes.now) c.loop-test.true c.in_ok-decl.ensures c.loop.invariant)
+    rw e (goes_on read (map component_declaration_view c.loop.decls.items) c.args.count c.loop.counter c.loop.rest.now (component_declaration_view v) c.in_ok-decl.after.now (times read c.args.count c.args.bytes.now) c.loop-test.true c.in_ok-decl.ensures c.loop.invariant)
 
 pub component_decls-returns : goal.component_decls-returns
 component_decls-returns g t c =
     let read = read_component_declaration (read_type c.args.depth_left) in
-    is_done read (map component_declaration_view c.loop.decls.items) c.args.count c.loop.counter c.loop.rest.now (repeat read c.args.count c.args.bytes.now) c.loop-test.false c.loop.invariant
+    is_done read (map component_declaration_view c.loop.decls.items) c.args.count c.loop.counter c.loop.rest.now (times read c.args.count c.args.bytes.now) c.loop-test.false c.loop.invariant
 
 pub instance_decls-loop-init : goal.instance_decls-loop-init
 instance_decls-loop-init g t c = rw c.new-decls.ensures.items (at_start (read_instance_declaration (read_type c.args.depth_left)) c.args.count c.args.bytes.now)

@@ -1,7 +1,7 @@
 use Rattle.std.proofs.Common.{rules, ◌∙◌, false, true, Some, [], ◌∷◌, refl}
 use Rattle.wenc_base.specs.Composites.{final}
 use Rattle.wenc_base.specs.laws.Composites.{composite_rows, read_closed, read_extension, sub_of, sub_rows}
-use Rattle.wenc_base.specs.laws.Lawful.{nowhere}
+use Rattle.wenc_base.specs.Readers.{nowhere}
 use Rattle.wenc_read.specs.laws.Tables.{at_first}
 use Rattle.wenc_decode.proofs.Rows.{wraps}
 use Rattle.wenc_decode.proofs.SubTypes.{composites_follow}

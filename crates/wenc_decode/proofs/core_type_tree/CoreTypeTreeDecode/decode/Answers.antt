@@ -2,7 +2,7 @@ use Rattle.std.proofs.Common.{rules, ◌∙◌, sym, [], ◌∷◌, false, refl}
 use Rattle.wenc_base.specs.Composites.{Single}
 use Rattle.wenc_base.specs.laws.Composites.{final_rows, read_extension, read_types, sub_of}
 use Rattle.wenc_base.specs.laws.Forms.{read_list}
-use Rattle.wenc_base.specs.laws.Lawful.{choose, nowhere}
+use Rattle.wenc_base.specs.Readers.{choose, nowhere}
 use Rattle.wenc_read.specs.laws.Tables.{at_first}
 use Rattle.wenc_types.specs.CoreTypes.{Grouped, Module}
 use Rattle.wenc_types.specs.laws.CoreTypes.{read_declarations, read_module_declaration, read_open}
