@@ -5,7 +5,7 @@ use Rattle.std.specs.Str.{is_utf8}
 use Rattle.std.proofs.lemmas.Bool.{cases_lt, lt-ltb, le-ltb}
 use Rattle.std.proofs.lemmas.List.{take_at, drop_at, take-append-drop, length-take-le, length-append}
 use Rattle.wenc_base.specs.Number.{u32}
-use Rattle.wenc_base.specs.Piece.{Payload, Form, Wide, each, raw}
+use Rattle.wenc_base.specs.Piece.{Payload, Form, Wide, raw}
 use Rattle.wenc_base.specs.laws.Sound.{Told, Sound, SoundWhole, weaken, made_told, behind_value, then_tells, last_tells, give_tells, nowhere_tells, choose_tells, Fewer, Several, times_told, whole_sound}
 use Rattle.wenc_base.specs.Forms.{flag, list, option, utf8, name, AreBytes, sized, byte_list, counted}
 use Rattle.wenc_base.specs.Readers.{Flaw, Bad, made, Lawful, Reader, ◌>>=◌, give, nowhere, times, choose, done}
