@@ -4,7 +4,7 @@ ghost use Rattle.wenc_base.specs.Readers.{times};
 ghost use Rattle.wenc_decode.specs.inside.TypeTrees.{read_imported, read_exported_type, read_component_declaration, read_instance_declaration};
 ghost use Rattle.wenc_decode.specs.inside.TypeTrees.{read_type, read_component_type, read_instance_type};
 ghost use Rattle.wenc_decode.specs.inside.Types.{read_function_type, read_resource_type};
-ghost use Rattle.wenc_read.specs.inside.Gives.{Gives};
+ghost use Rattle.wenc_read.specs.Gives.{Gives};
 ghost use Rattle.wenc_types.specs.TypeTrees.{type_view, instance_declaration_view, component_declaration_view};
 
 use crate::decode::Decode;

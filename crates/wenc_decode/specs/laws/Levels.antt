@@ -4,7 +4,7 @@ use Rattle.wenc_base.specs.Readers.{times, choose}
 use Rattle.wenc_base.specs.laws.Numbers.{read_u32}
 use Rattle.wenc_read.specs.declared.refusal.Refusal.{Refusal}
 use Rattle.wenc_types.specs.ComponentTypes.{ComponentType, InstanceType, ComponentDeclaration, InstanceDeclaration, components_of, instances_of}
-use Rattle.wenc_read.specs.inside.Gives.{Fails}
+use Rattle.wenc_read.specs.Gives.{Fails}
 use Rattle.wenc_read.specs.laws.Tables.{fails_on}
 use Rattle.wenc_decode.specs.inside.TypeTrees.{type_rows, read_shallow, read_type, read_component_declaration, read_instance_declaration, read_component_type, read_instance_type}
 

@@ -3,7 +3,7 @@ use Rattle.std.proofs.Common.{◌≡◌, ℕ, suc, ◌-◌, ◌+◌, ◌≤◌, 
 use Rattle.std.proofs.lemmas.List.{append-nil}
 use Rattle.wenc_base.specs.Readers.{Flaw, Reader, go_on, times}
 use Rattle.wenc_read.specs.declared.refusal.Refusal.{Refusal}
-use Rattle.wenc_read.specs.inside.Gives.{Fails}
+use Rattle.wenc_read.specs.Gives.{Fails}
 use Rattle.wenc_read.specs.laws.Tables.{fails_on}
 
 -- what was read before, and what is still read
