@@ -65,7 +65,8 @@ fn push_sections<A: Allocator>(
 
 /// Appends the numbers, each behind a space.
 fn push_spaced<A: Allocator>(text: &mut String<A>, numbers: &[u128]) -> Result<(), AllocError>
-    ensures { OnOk result (string_bytes text.new ≡ string_bytes text.old ++ with_space numbers.now) }
+    ensures { OnOk result
+        (string_bytes text.new ≡ string_bytes text.old ++ with_space numbers.now) }
 {
     for number in numbers {
         write!(text, " {number}")?;

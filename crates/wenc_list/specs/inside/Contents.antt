@@ -73,7 +73,8 @@ labelled_section label bytes = record { label = label; bytes = bytes }
 
 -- a name, and the data that belong to it
 abbrev pub read_custom_content : List ℕ → Result Custom Flaw
-read_custom_content content = go_on (read_name content) (λ label. read_bytes (labelled_section label))
+read_custom_content content =
+    go_on (read_name content) (λ label. read_bytes (labelled_section label))
 
 abbrev pub read_start_content : List ℕ → Result Start Flaw
 read_start_content =
