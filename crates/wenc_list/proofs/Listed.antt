@@ -13,7 +13,7 @@ use Rattle.wenc_base.specs.laws.Sound.{Told, Agrees}
 use Rattle.wenc_builder.specs.Item.{Item, CustomItem}
 use Rattle.wenc_builder.specs.Sections.{Section, members, item_of, section_piece, sections, preamble}
 use Rattle.wenc_decode.specs.Depth.{Front, OpensTypes}
-use Rattle.wenc_read.specs.inside.Gives.{Fails}
+use Rattle.wenc_read.specs.Gives.{Fails}
 use Rattle.wenc_read.specs.declared.refusal.Refusal.{Refusal}
 use Rattle.wenc_read.specs.declared.refusal.Refusal.TheVariants as refusals
 use Rattle.wenc_list.specs.inside.Contents.{read_content, read_frame, fault_of_frame, fault_of_content}

@@ -7,7 +7,7 @@ ghost use Rattle.wenc_base.specs.laws.Forms.{read_raw};
 ghost use Rattle.wenc_base.specs.laws.Sections.{labelled_section, read_custom_content};
 ghost use Rattle.wenc_list.specs.inside.Contents.{read_items, read_content, read_frame};
 ghost use Rattle.wenc_list.specs.Items.{item_view};
-ghost use Rattle.wenc_read.specs.inside.Gives.{Gives};
+ghost use Rattle.wenc_read.specs.Gives.{Gives};
 ghost use Rattle.wenc_read.specs.declared.refusal.Refusal.TheVariants.{Memory};
 ghost use Rattle.wenc_sections.specs.Start.{started};
 ghost use Rattle.wenc_sections.specs.laws.Items.{read_start_content};
