@@ -41,7 +41,8 @@ impl<A: Allocator> OptionTree<A> {
 
     /// The name with this option.
     fn put(self, named: Named<A>) -> Named<A>
-        ensures { name_options_view result ≡ with_option (option_view self) (name_options_view named) }
+        ensures { name_options_view result
+            ≡ with_option (option_view self) (name_options_view named) }
     {
         let Named { name, options } = named;
         let options = match self {

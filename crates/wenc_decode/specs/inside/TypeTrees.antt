@@ -15,7 +15,8 @@ use Rattle.wenc_decode.specs.inside.Types.{read_function_type, read_resource_typ
 -- ---- declarations, by the reader of a type
 
 abbrev pub read_exported_type : Reader InstanceDeclaration
-read_exported_type = read_extern_name >>= λ name. read_type_reference >>= λ ty. give (Exported name ty)
+read_exported_type =
+    read_extern_name >>= λ name. read_type_reference >>= λ ty. give (Exported name ty)
 
 abbrev pub read_imported : Reader ComponentDeclaration
 read_imported = read_extern_name >>= λ name. read_type_reference >>= λ ty. give (Imported name ty)
@@ -64,7 +65,8 @@ deep_type_rows components instances =
 unfoldable pub read_deep_type : ℕ → Reader DefType
 read_deep_type zero = choose (deep_type_rows too_deep too_deep) read_shallow
 read_deep_type (suc depth) =
-    choose (deep_type_rows (read_components (read_deep_type depth)) (read_instances (read_deep_type depth)))
+    choose (deep_type_rows (read_components (read_deep_type depth))
+    (read_instances (read_deep_type depth)))
     read_shallow
 
 -- the declarations of a component type, or of an instance type, where so many may still open
