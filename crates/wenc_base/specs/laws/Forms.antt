@@ -161,14 +161,20 @@ bytes_sound P make bytes k = tested (are_bytes bytes) refl
     tested true e = k (passed_bytes bytes e)
     tested false e = tt
 
+abbrev pub read_raw : List ℕ → Result (List ℕ) Flaw
+read_raw = read_bytes (λ bytes. bytes)
+
+pub raw_sound : SoundWhole (raw AreBytes) read_raw
+raw_sound = record { tells = λ bytes. bytes_sound (λ bs. (raw AreBytes bs).ReadsAll Wide bytes) (λ bs. bs) bytes (λ h. (h, refl)) }
+
 abbrev pub read_byte_list : Reader (List ℕ)
-read_byte_list = read_sized (read_bytes (λ bytes. bytes))
+read_byte_list = read_sized read_raw
 
 pub byte_list_lawful : (bs : List ℕ) → Lawful (byte_list bs) (λ fuel. read_byte_list) bs
 byte_list_lawful bs = sized_lawful (bytes_lawful (λ bytes. bytes) bs)
 
 pub byte_list_sound : Sound byte_list read_byte_list
-byte_list_sound = sized_sound (record { tells = λ bytes. bytes_sound (λ bs. (raw AreBytes bs).ReadsAll Wide bytes) (λ bs. bs) bytes (λ h. (h, refl)) })
+byte_list_sound = sized_sound raw_sound
 
 -- ---- counted sections
 
