@@ -1,0 +1,78 @@
+//! WebAssembly components, written by a proved library under the names of `wasm-encoder`.
+//!
+//! A program that makes components by `wasm_encoder::ComponentBuilder` changes its `use` line:
+//!
+//! ```
+//! use wenc::{ComponentBuilder, ComponentExportKind, ExportKind, PrimitiveValType};
+//!
+//! /// A component around a core module that exports the function "run": it exports that function.
+//! fn wrapped(module: &[u8]) -> Vec<u8> {
+//!     let mut builder = ComponentBuilder::default();
+//!     let module = builder.core_module_raw(None, module);
+//!     let instance = builder.core_instantiate(None, module, []);
+//!     let core_run = builder.core_alias_export(None, instance, "run", ExportKind::Func);
+//!     let (ty, mut function) = builder.type_function(None);
+//!     function.params([("n", PrimitiveValType::U32)]).result(None);
+//!     let run = builder.lift_func(None, core_run, ty, []);
+//!     builder.export("run", ComponentExportKind::Func, run, None);
+//!     builder.finish()
+//! }
+//!
+//! assert_eq!(wrapped(b"\0asm\x01\0\0\0").len(), 64);
+//! ```
+//!
+//! # What is proved
+//!
+//! The library, which is linked from `libwenc.a`, is proved: each accepted call adds exactly the item that was handed over,
+//! answers that item's place in its index space, and the finished bytes have one reading, the accepted items in their order. A
+//! refused call changes nothing. [`list`] answers what that reading is.
+//!
+//! This crate isn't proved. It hands items over: imports, exports, aliases and what is bytes already by calls of their own, the
+//! rest as the bytes that stand for one item in its section. These the library reads back, and adds what it read; what is no
+//! text of exactly one item it refuses. So a mistake here could name another item than was meant, but not break a component.
+//! What isn't read back either is that the declarations of `src/sys.rs` fit the library's.
+//!
+//! # Refusals
+//!
+//! Under upstream's names a refused call panics, as upstream does or would. Each such call has a form with `try_` in front, which
+//! answers an [`Error`]:
+//!
+//! ```
+//! use wenc::{ComponentBuilder, ComponentTypeRef, Error, PrimitiveValType};
+//!
+//! let mut builder = ComponentBuilder::default();
+//! builder.start(7, vec![], u32::MAX);
+//! let byte = ComponentTypeRef::Value(PrimitiveValType::U8.into());
+//! assert_eq!(builder.try_import("v", byte), Err(Error::TooMany));
+//! assert_eq!(builder.value_count(), u32::MAX);
+//! ```
+#![deny(missing_docs)]
+
+mod builder;
+mod core;
+mod encode;
+mod error;
+mod list;
+mod parts;
+mod sys;
+mod text;
+mod twins;
+mod types;
+
+pub use builder::ComponentBuilder;
+pub use core::{
+    AbstractHeapType, ArrayType, CompositeType, CoreTypeEncoder, CustomSection, EntityType,
+    FieldType, FuncType, GlobalType, HeapType, MemoryType, Module, RawCustomSection, RawSection,
+    RefType, Section, SectionId, StorageType, StructType, SubType, TableType, TagType, ValType,
+};
+pub use encode::{encoding_size, Encode};
+pub use error::Error;
+pub use list::{list, ListFault, ListedSection, Listing};
+pub use parts::{
+    Alias, CanonicalOption, ComponentExportKind, ComponentExternName, ComponentOuterAliasKind,
+    ComponentTypeRef, ComponentValType, ExportKind, ModuleArg, PrimitiveValType, TypeBounds,
+};
+pub use types::{
+    ComponentCoreTypeEncoder, ComponentDefinedTypeEncoder, ComponentFuncTypeEncoder, ComponentType,
+    ComponentTypeEncoder, InstanceType, ModuleType,
+};
