@@ -10,17 +10,8 @@ use crate::error::told;
 use crate::sys::Handle;
 use crate::text::Text;
 use crate::twins::twins;
-use crate::{CustomSection, Error};
+use crate::{ComponentSectionId, CustomSection, Error};
 use std::fmt;
-
-/// Sections whose items cross by their texts, by their ids in the binary format.
-mod section {
-    pub(super) const CORE_INSTANCE: u8 = 2;
-    pub(super) const CORE_TYPE: u8 = 3;
-    pub(super) const INSTANCE: u8 = 5;
-    pub(super) const TYPE: u8 = 7;
-    pub(super) const CANON: u8 = 8;
-}
 
 /// Index spaces, by the library's numbers.
 mod space {
@@ -86,7 +77,7 @@ pub struct ComponentBuilder {
 
 /// A type that an encoder was handed out for, and that isn't whole.
 struct Open {
-    section: u8,
+    section: ComponentSectionId,
     index: u32,
     is_named: bool,
     /// How many bytes the debug name has.
@@ -142,6 +133,32 @@ impl ComponentBuilder {
             self.whole()?;
             self.handle.raw_custom_section(section)
         }
+
+        /// Adds the item that has this text in the binary format: the bytes that stand for it in a section of this kind, or what
+        /// is in a section that is one item. The answer is its index; a custom section has none. Upstream has no such call.
+        ///
+        /// An import and an export have their name as their debug name, a function that the component model provides its own.
+        ///
+        /// It is refused where the text isn't that of exactly one item, or has types more than 100 deep in each other.
+        ///
+        /// ```
+        /// use wenc::{ComponentBuilder, ComponentSectionId, Error};
+        ///
+        /// let mut builder = ComponentBuilder::default();
+        /// assert_eq!(builder.raw_item(ComponentSectionId::Type, Some("flag"), &[0x7f]), Some(0));
+        /// let two = builder.try_raw_item(ComponentSectionId::Type, None, &[0x7f, 0x7f]);
+        /// assert_eq!(two, Err(Error::Malformed));
+        /// ```
+        fn raw_item | try_raw_item(
+            &mut self,
+            section: ComponentSectionId,
+            debug_name: Option<&str>,
+            text: &[u8],
+        ) -> Option<u32> {
+            self.whole()?;
+            let index = self.handle.item(section.into(), debug_name, text)?;
+            Ok((section != ComponentSectionId::CoreCustom).then_some(index))
+        }
     }
 
     /// How many core modules there are.
@@ -156,7 +173,7 @@ impl ComponentBuilder {
 
     /// How many core types there are, with one that isn't whole.
     pub fn core_type_count(&self) -> u32 {
-        self.count(space::CORE_TYPES) + self.opened(section::CORE_TYPE)
+        self.count(space::CORE_TYPES) + self.opened(ComponentSectionId::CoreType)
     }
 
     /// How many core memories there are.
@@ -206,7 +223,7 @@ impl ComponentBuilder {
 
     /// How many types there are, with one that isn't whole.
     pub fn type_count(&self) -> u32 {
-        self.count(space::TYPES) + self.opened(section::TYPE)
+        self.count(space::TYPES) + self.opened(ComponentSectionId::Type)
     }
 
     /// Whether no encoder is to write a type yet.
@@ -236,7 +253,7 @@ impl ComponentBuilder {
     }
 
     /// 1 where a type of this section is open.
-    fn opened(&self, section: u8) -> u32 {
+    fn opened(&self, section: ComponentSectionId) -> u32 {
         self.open
             .as_ref()
             .is_some_and(|open| open.section == section)
@@ -255,7 +272,7 @@ impl ComponentBuilder {
     #[inline]
     fn item(
         &mut self,
-        section: u8,
+        section: ComponentSectionId,
         debug_name: Option<&str>,
         write: impl FnOnce(&mut Text),
     ) -> Result<u32, Error> {
@@ -263,12 +280,13 @@ impl ComponentBuilder {
         self.text.cut_back(0);
         write(&mut self.text);
         self.text.written()?;
-        self.handle.item(section, debug_name, self.text.as_slice())
+        self.handle
+            .item(section.into(), debug_name, self.text.as_slice())
     }
 
     /// Opens a type, whose index is the number of items that this space has.
     #[inline]
-    fn open(&mut self, section: u8, space: u8, debug_name: Option<&str>) -> Result<u32, Error> {
+    fn open(&mut self, section: ComponentSectionId, space: u8, debug_name: Option<&str>) -> Result<u32, Error> {
         self.whole()?;
         let index = self.count(space);
         if index == u32::MAX {
@@ -307,7 +325,7 @@ impl ComponentBuilder {
         // An encoder stands for an open type.
         let open = self.open.as_ref().ok_or(Error::OutOfTurn)?;
         let (debug_name, text) = open.parts(&self.text);
-        match self.handle.item(open.section, debug_name, text) {
+        match self.handle.item(open.section.into(), debug_name, text) {
             Ok(index) => {
                 debug_assert_eq!(index, open.index);
                 self.open = None;

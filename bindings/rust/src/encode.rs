@@ -4,8 +4,8 @@ use crate::error::told;
 use crate::text::{Text, Write};
 use crate::{
     AbstractHeapType, Alias, ArrayType, CanonicalOption, ComponentExportKind, ComponentExternName,
-    ComponentOuterAliasKind, ComponentType, ComponentTypeRef, ComponentValType, EntityType, Error,
-    ExportKind, FieldType, GlobalType, HeapType, InstanceType, MemoryType, ModuleArg, ModuleType,
+    ComponentOuterAliasKind, ComponentSectionId, ComponentType, ComponentTypeRef, ComponentValType,
+    EntityType, Error, ExportKind, FieldType, GlobalType, HeapType, InstanceType, MemoryType, ModuleArg, ModuleType,
     PrimitiveValType, RefType, StorageType, TableType, TagType, TypeBounds, ValType,
 };
 
@@ -130,8 +130,8 @@ macro_rules! written {
 
 written! {
     AbstractHeapType, Alias<'_>, ArrayType, CanonicalOption, ComponentExportKind,
-    ComponentExternName<'_>, ComponentOuterAliasKind, ComponentType, ComponentTypeRef,
-    ComponentValType, EntityType, ExportKind, FieldType, GlobalType, HeapType, InstanceType,
+    ComponentExternName<'_>, ComponentOuterAliasKind, ComponentSectionId, ComponentType,
+    ComponentTypeRef, ComponentValType, EntityType, ExportKind, FieldType, GlobalType, HeapType, InstanceType,
     MemoryType, ModuleArg, ModuleType, PrimitiveValType, RefType, StorageType, TableType, TagType,
     TypeBounds, ValType,
 }

@@ -15,7 +15,7 @@ pub enum Error {
     /// A type that an encoder was to write isn't whole: the encoder was dropped before its last call, or that was
     /// refused. `discard_unfinished` gives the type up.
     Unfinished,
-    /// What was handed in stands for no item: a raw part, such as a module type's text, that isn't one.
+    /// A text that isn't that of exactly one item; [`raw_item`](crate::ComponentBuilder::raw_item) alone takes such a text.
     Malformed,
     /// Component and instance types stand in each other more than 100 deep.
     TooDeep,

@@ -70,7 +70,8 @@ pub use error::Error;
 pub use list::{list, ListFault, ListedSection, Listing};
 pub use parts::{
     Alias, CanonicalOption, ComponentExportKind, ComponentExternName, ComponentOuterAliasKind,
-    ComponentTypeRef, ComponentValType, ExportKind, ModuleArg, PrimitiveValType, TypeBounds,
+    ComponentSectionId, ComponentTypeRef, ComponentValType, ExportKind, ModuleArg,
+    PrimitiveValType, TypeBounds,
 };
 pub use types::{
     ComponentCoreTypeEncoder, ComponentDefinedTypeEncoder, ComponentFuncTypeEncoder, ComponentType,

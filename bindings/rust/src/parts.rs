@@ -5,6 +5,7 @@ mod kinds;
 mod names;
 mod options;
 mod references;
+mod sections;
 mod values;
 
 pub use aliases::{Alias, ComponentOuterAliasKind};
@@ -12,5 +13,6 @@ pub use kinds::{ComponentExportKind, ExportKind, ModuleArg};
 pub use names::ComponentExternName;
 pub use options::CanonicalOption;
 pub use references::{ComponentTypeRef, TypeBounds};
+pub use sections::ComponentSectionId;
 pub(crate) use values::ResultList;
 pub use values::{ComponentValType, PrimitiveValType};

@@ -19,6 +19,19 @@ pub(crate) struct Text {
     refused: Option<Error>,
 }
 
+/// A number in groups of seven bits, least first, and how many there are; each but the last has its top bit set.
+fn groups(mut number: u64) -> ([u8; 10], usize) {
+    let mut groups = [0; 10];
+    let mut len = 1;
+    while number >= 0x80 {
+        groups[len - 1] = number as u8 | 0x80;
+        number >>= 7;
+        len += 1;
+    }
+    groups[len - 1] = number as u8;
+    (groups, len)
+}
+
 impl Text {
     /// Goes on with these bytes.
     pub(crate) fn of(bytes: Vec<u8>) -> Self {
@@ -122,18 +135,11 @@ impl Text {
         }
     }
 
-    /// A number in groups of seven bits, least first; each byte but the last has its top bit set.
+    /// A number of 64 bits.
     #[inline(never)]
-    pub(crate) fn wide(&mut self, mut number: u64) -> &mut Self {
-        let mut groups = [0; 10];
-        let mut len = 0;
-        while number >= 0x80 {
-            groups[len] = number as u8 | 0x80;
-            number >>= 7;
-            len += 1;
-        }
-        groups[len] = number as u8;
-        self.raw(&groups[..=len])
+    pub(crate) fn wide(&mut self, number: u64) -> &mut Self {
+        let (groups, len) = groups(number);
+        self.raw(&groups[..len])
     }
 
     /// An index where a signed number stands: bit 6 of its last byte is the sign, and isn't set.
@@ -241,12 +247,10 @@ impl Text {
         let Ok(came) = u32::try_from(came) else {
             return self.refuse(Error::TooMany);
         };
-        let mut number = Text::default();
-        number.index(came);
-        if self.refused.is_some() || !self.has_room(number.len()) {
-            return;
+        let (groups, len) = groups(came.into());
+        if self.refused.is_none() && self.has_room(len) {
+            self.bytes.splice(place..begin, groups.into_iter().take(len));
         }
-        self.bytes.splice(place..begin, number.bytes);
     }
 
     pub(crate) fn names<'a, I>(&mut self, names: I) -> &mut Self

@@ -1,10 +1,9 @@
 //! Functions that cross the border to core modules, and the provided ones that take options.
 
-use super::section;
 use crate::parts::ResultList;
 use crate::text::Text;
 use crate::twins::twins;
-use crate::{CanonicalOption, ComponentBuilder, ComponentValType, Error};
+use crate::{CanonicalOption, ComponentBuilder, ComponentSectionId, ComponentValType, Error};
 
 /// Writes the options of a canonical function.
 #[inline]
@@ -21,7 +20,7 @@ impl ComponentBuilder {
     /// Adds a function that the component model provides, which has a debug name of its own.
     #[inline]
     pub(super) fn provided(&mut self, write: impl FnOnce(&mut Text)) -> Result<u32, Error> {
-        self.item(section::CANON, None, write)
+        self.item(ComponentSectionId::CanonicalFunction, None, write)
     }
 
     twins! {
@@ -32,7 +31,7 @@ impl ComponentBuilder {
             O::IntoIter: ExactSizeIterator,
         }
         {
-            self.item(section::CANON, debug_name, |text| {
+            self.item(ComponentSectionId::CanonicalFunction, debug_name, |text| {
                 text.bytes([0x01, 0x00]).index(func_index);
                 write_options(text, options);
             })
@@ -51,7 +50,7 @@ impl ComponentBuilder {
             O::IntoIter: ExactSizeIterator,
         }
         {
-            self.item(section::CANON, debug_name, |text| {
+            self.item(ComponentSectionId::CanonicalFunction, debug_name, |text| {
                 text.bytes([0x00, 0x00]).index(core_func_index);
                 write_options(text, options);
                 text.index(type_index);

@@ -1,8 +1,10 @@
 //! Instances, of core modules and of components.
 
-use super::section;
 use crate::twins::twins;
-use crate::{ComponentBuilder, ComponentExportKind, ComponentExternName, ExportKind, ModuleArg};
+use crate::{
+    ComponentBuilder, ComponentExportKind, ComponentExternName, ComponentSectionId, ExportKind,
+    ModuleArg,
+};
 
 impl ComponentBuilder {
     twins! {
@@ -18,7 +20,7 @@ impl ComponentBuilder {
             A::IntoIter: ExactSizeIterator,
         }
         {
-            self.item(section::CORE_INSTANCE, debug_name, |text| {
+            self.item(ComponentSectionId::CoreInstance, debug_name, |text| {
                 text.byte(0x00).index(module_index).list(args, |text, (name, arg)| {
                     text.name(name).put(arg);
                 });
@@ -36,7 +38,7 @@ impl ComponentBuilder {
             E::IntoIter: ExactSizeIterator,
         }
         {
-            self.item(section::CORE_INSTANCE, debug_name, |text| {
+            self.item(ComponentSectionId::CoreInstance, debug_name, |text| {
                 text.byte(0x01).list(exports, |text, (name, kind, index)| {
                     text.name(name).put(kind).index(index);
                 });
@@ -56,7 +58,7 @@ impl ComponentBuilder {
             S: AsRef<str>,
         }
         {
-            self.item(section::INSTANCE, debug_name, |text| {
+            self.item(ComponentSectionId::Instance, debug_name, |text| {
                 text.byte(0x00).index(component_index).list(args, |text, (name, kind, index)| {
                     text.name(name.as_ref()).put(kind).index(index);
                 });
@@ -75,7 +77,7 @@ impl ComponentBuilder {
             N: Into<ComponentExternName<'a>>,
         }
         {
-            self.item(section::INSTANCE, debug_name, |text| {
+            self.item(ComponentSectionId::Instance, debug_name, |text| {
                 text.byte(0x01).list(exports, |text, (name, kind, index)| {
                     text.put(name.into()).put(kind).index(index);
                 });

@@ -1,11 +1,12 @@
 //! Types.
 
-use super::{section, space};
+use super::space;
 use crate::twins::twins;
 use crate::types::Target;
 use crate::{
     ComponentBuilder, ComponentCoreTypeEncoder, ComponentDefinedTypeEncoder,
-    ComponentFuncTypeEncoder, ComponentType, ComponentTypeEncoder, Error, InstanceType, ValType,
+    ComponentFuncTypeEncoder, ComponentSectionId, ComponentType, ComponentTypeEncoder, Error,
+    InstanceType, ValType,
 };
 
 impl ComponentBuilder {
@@ -16,7 +17,7 @@ impl ComponentBuilder {
         /// refused, the builder is unfinished: what adds to it or takes it is refused, until
         /// [`discard_unfinished`](Self::discard_unfinished) gives the type up.
         fn core_type | try_core_type(&mut self, debug_name: Option<&str>) -> (u32, ComponentCoreTypeEncoder<'_>) {
-            let index = self.open(section::CORE_TYPE, space::CORE_TYPES, debug_name)?;
+            let index = self.open(ComponentSectionId::CoreType, space::CORE_TYPES, debug_name)?;
             Ok((index, ComponentCoreTypeEncoder::new(Target::Builder(self))))
         }
 
@@ -28,14 +29,14 @@ impl ComponentBuilder {
 
         /// Adds a type of instances. It is refused where the type isn't whole, and where types in it stand more than 100 deep.
         fn type_instance | try_type_instance(&mut self, debug_name: Option<&str>, ty: &InstanceType) -> u32 {
-            self.item(section::TYPE, debug_name, |text| {
+            self.item(ComponentSectionId::Type, debug_name, |text| {
                 text.put(ty);
             })
         }
 
         /// Adds a type of components. It is refused where the type isn't whole, and where types in it stand more than 100 deep.
         fn type_component | try_type_component(&mut self, debug_name: Option<&str>, ty: &ComponentType) -> u32 {
-            self.item(section::TYPE, debug_name, |text| {
+            self.item(ComponentSectionId::Type, debug_name, |text| {
                 text.put(ty);
             })
         }
@@ -74,7 +75,7 @@ impl ComponentBuilder {
 
         /// Adds a type of resources: what represents one, and the core function that is called when it is dropped.
         fn type_resource | try_type_resource(&mut self, debug_name: Option<&str>, rep: ValType, dtor: Option<u32>) -> u32 {
-            self.item(section::TYPE, debug_name, |text| {
+            self.item(ComponentSectionId::Type, debug_name, |text| {
                 text.byte(0x3f).put(rep).option(dtor);
             })
         }
@@ -82,6 +83,6 @@ impl ComponentBuilder {
 
     #[inline]
     fn open_type(&mut self, debug_name: Option<&str>) -> Result<u32, Error> {
-        self.open(section::TYPE, space::TYPES, debug_name)
+        self.open(ComponentSectionId::Type, space::TYPES, debug_name)
     }
 }
