@@ -286,7 +286,12 @@ impl ComponentBuilder {
 
     /// Opens a type, whose index is the number of items that this space has.
     #[inline]
-    fn open(&mut self, section: ComponentSectionId, space: u8, debug_name: Option<&str>) -> Result<u32, Error> {
+    fn open(
+        &mut self,
+        section: ComponentSectionId,
+        space: u8,
+        debug_name: Option<&str>,
+    ) -> Result<u32, Error> {
         self.whole()?;
         let index = self.count(space);
         if index == u32::MAX {

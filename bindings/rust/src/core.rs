@@ -2,12 +2,14 @@
 
 mod composites;
 mod custom;
-mod entities;
 mod encoder;
+mod entities;
 mod module;
 mod values;
 
-pub use composites::{ArrayType, CompositeType, FieldType, FuncType, StorageType, StructType, SubType};
+pub use composites::{
+    ArrayType, CompositeType, FieldType, FuncType, StorageType, StructType, SubType,
+};
 pub use custom::{CustomSection, RawCustomSection, RawSection, Section, SectionId};
 pub use encoder::CoreTypeEncoder;
 pub use entities::{EntityType, GlobalType, MemoryType, TableType, TagType};

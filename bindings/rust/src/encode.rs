@@ -5,8 +5,9 @@ use crate::text::{Text, Write};
 use crate::{
     AbstractHeapType, Alias, ArrayType, CanonicalOption, ComponentExportKind, ComponentExternName,
     ComponentOuterAliasKind, ComponentSectionId, ComponentType, ComponentTypeRef, ComponentValType,
-    EntityType, Error, ExportKind, FieldType, GlobalType, HeapType, InstanceType, MemoryType, ModuleArg, ModuleType,
-    PrimitiveValType, RefType, StorageType, TableType, TagType, TypeBounds, ValType,
+    EntityType, Error, ExportKind, FieldType, GlobalType, HeapType, InstanceType, MemoryType,
+    ModuleArg, ModuleType, PrimitiveValType, RefType, StorageType, TableType, TagType, TypeBounds,
+    ValType,
 };
 
 /// What has a text in the binary format. A builder's calls don't go this way; it is for sections of core modules that a

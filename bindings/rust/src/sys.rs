@@ -285,7 +285,14 @@ impl Handle {
         let (reference, of) = numbers(reference);
         // SAFETY: as above.
         index(|index| unsafe {
-            wenc_import(self.0.get(), name.as_ptr(), name.len(), reference, of, index)
+            wenc_import(
+                self.0.get(),
+                name.as_ptr(),
+                name.len(),
+                reference,
+                of,
+                index,
+            )
         })
     }
 
@@ -301,7 +308,20 @@ impl Handle {
         // SAFETY: as above.
         index(|index| unsafe {
             wenc_import_named(
-                self.0.get(), at, len, a, a_at, a_len, b, b_at, b_len, c, c_at, c_len, reference, of,
+                self.0.get(),
+                at,
+                len,
+                a,
+                a_at,
+                a_len,
+                b,
+                b_at,
+                b_len,
+                c,
+                c_at,
+                c_len,
+                reference,
+                of,
                 index,
             )
         })
@@ -337,8 +357,23 @@ impl Handle {
         // SAFETY: as above.
         index(|index| unsafe {
             wenc_export_named(
-                self.0.get(), at, len, a, a_at, a_len, b, b_at, b_len, c, c_at, c_len, kind, item,
-                reference, of, index,
+                self.0.get(),
+                at,
+                len,
+                a,
+                a_at,
+                a_len,
+                b,
+                b_at,
+                b_len,
+                c,
+                c_at,
+                c_len,
+                kind,
+                item,
+                reference,
+                of,
+                index,
             )
         })
     }
@@ -355,7 +390,17 @@ impl Handle {
         let (at, len, kind) = (name.as_ptr(), name.len(), kind.into());
         // SAFETY: as above.
         index(|index| unsafe {
-            wenc_alias_export(self.0.get(), named, debug, debug_len, instance, kind, at, len, index)
+            wenc_alias_export(
+                self.0.get(),
+                named,
+                debug,
+                debug_len,
+                instance,
+                kind,
+                at,
+                len,
+                index,
+            )
         })
     }
 
@@ -372,7 +417,15 @@ impl Handle {
         // SAFETY: as above.
         index(|index| unsafe {
             wenc_alias_core_export(
-                self.0.get(), named, debug, debug_len, instance, kind, at, len, index,
+                self.0.get(),
+                named,
+                debug,
+                debug_len,
+                instance,
+                kind,
+                at,
+                len,
+                index,
             )
         })
     }
@@ -387,15 +440,20 @@ impl Handle {
         let (named, debug, debug_len) = flagged(debug_name);
         // SAFETY: as above.
         index(|index| unsafe {
-            wenc_alias_outer(self.0.get(), named, debug, debug_len, kind, count, item, index)
+            wenc_alias_outer(
+                self.0.get(),
+                named,
+                debug,
+                debug_len,
+                kind,
+                count,
+                item,
+                index,
+            )
         })
     }
 
-    pub(crate) fn core_module(
-        &self,
-        debug_name: Option<&str>,
-        bytes: &[u8],
-    ) -> Result<u32, Error> {
+    pub(crate) fn core_module(&self, debug_name: Option<&str>, bytes: &[u8]) -> Result<u32, Error> {
         let (named, debug, debug_len) = flagged(debug_name);
         let (at, len) = (bytes.as_ptr(), bytes.len());
         // SAFETY: as above.
@@ -417,11 +475,7 @@ impl Handle {
         })
     }
 
-    pub(crate) fn component(
-        &self,
-        debug_name: Option<&str>,
-        nested: Handle,
-    ) -> Result<u32, Error> {
+    pub(crate) fn component(&self, debug_name: Option<&str>, nested: Handle) -> Result<u32, Error> {
         let (named, debug, debug_len) = flagged(debug_name);
         // SAFETY: as above; `nested` is another handle, since it is owned, and is null or whole when it is dropped.
         index(|index| unsafe {
@@ -460,7 +514,16 @@ impl Handle {
         let (at, len, section) = (text.as_ptr(), text.len(), section.into());
         // SAFETY: as above.
         index(|index| unsafe {
-            wenc_item(self.0.get(), section, named, debug, debug_len, at, len, index)
+            wenc_item(
+                self.0.get(),
+                section,
+                named,
+                debug,
+                debug_len,
+                at,
+                len,
+                index,
+            )
         })
     }
 
@@ -514,15 +577,22 @@ pub(crate) fn list(bytes: &[u8]) -> Result<(Vec<ListedSection>, [u64; 13]), List
     let mut room = ROOM.min(bytes.len() / 2);
     loop {
         let mut sections: Vec<Listed> = Vec::new();
-        sections.try_reserve_exact(room).map_err(|_| ListFault::Memory)?;
+        sections
+            .try_reserve_exact(room)
+            .map_err(|_| ListFault::Memory)?;
         let mut counts = [0; 13];
         let mut number = 0;
         // SAFETY: `bytes` is one slice; there is room for `room` sections, at a pointer that isn't null; the counts and the
         // number are locals.
         let status = unsafe {
             wenc_list(
-                bytes.as_ptr(), bytes.len(), sections.as_mut_ptr(), room, counts.as_mut_ptr(),
-                counts.len(), &mut number,
+                bytes.as_ptr(),
+                bytes.len(),
+                sections.as_mut_ptr(),
+                room,
+                counts.as_mut_ptr(),
+                counts.len(),
+                &mut number,
             )
         };
         let place = number;
@@ -543,7 +613,9 @@ pub(crate) fn list(bytes: &[u8]) -> Result<(Vec<ListedSection>, [u64; 13]), List
         // SAFETY: there are `number` sections, and the call has written all of them.
         unsafe { sections.set_len(number) };
         let mut listed = Vec::new();
-        listed.try_reserve_exact(number).map_err(|_| ListFault::Memory)?;
+        listed
+            .try_reserve_exact(number)
+            .map_err(|_| ListFault::Memory)?;
         listed.extend(sections.iter().map(|section| ListedSection {
             // Ids are at most 11.
             id: section.id as u8,

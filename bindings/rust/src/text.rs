@@ -249,7 +249,8 @@ impl Text {
         };
         let (groups, len) = groups(came.into());
         if self.refused.is_none() && self.has_room(len) {
-            self.bytes.splice(place..begin, groups.into_iter().take(len));
+            self.bytes
+                .splice(place..begin, groups.into_iter().take(len));
         }
     }
 
@@ -327,7 +328,10 @@ mod tests {
         let wide = text(|text| {
             text.wide(u64::MAX);
         });
-        assert_eq!(wide, [0xff, 0xff, 0xff, 0xff, 0xff, 0xff, 0xff, 0xff, 0xff, 0x01]);
+        assert_eq!(
+            wide,
+            [0xff, 0xff, 0xff, 0xff, 0xff, 0xff, 0xff, 0xff, 0xff, 0x01]
+        );
     }
 
     /// Tells another number of items than it has.

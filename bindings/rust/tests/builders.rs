@@ -85,12 +85,15 @@ fn a_text_of_no_item_is_refused() {
 #[test]
 fn a_type_that_is_not_whole_refuses_all_that_adds() {
     let mut b = builder();
-    drop(b.type_defined(Some("t")));
+    let _ = b.type_defined(Some("t"));
     assert!(!b.is_finished());
     assert_eq!(b.type_count(), 1);
     assert_eq!(b.core_type_count(), 0);
     let unfinished = Err(Error::Unfinished);
-    assert_eq!(b.try_export("g", ComponentExportKind::Func, 0, None), unfinished);
+    assert_eq!(
+        b.try_export("g", ComponentExportKind::Func, 0, None),
+        unfinished
+    );
     assert_eq!(b.try_import("g", BYTE), unfinished);
     assert_eq!(b.try_resource_drop(0), unfinished);
     assert_eq!(b.try_core_module_raw(None, &[]), unfinished);
@@ -108,10 +111,13 @@ fn a_type_that_is_not_whole_refuses_all_that_adds() {
 fn what_is_given_up_leaves_no_trace() {
     let mut b = builder();
     b.task_cancel();
-    let _ = b.type_function(Some("f")).1.params([("p", PrimitiveValType::U8)]);
+    let _ = b
+        .type_function(Some("f"))
+        .1
+        .params([("p", PrimitiveValType::U8)]);
     assert!(b.discard_unfinished());
     assert!(!b.discard_unfinished());
-    drop(b.core_type(Some("c")));
+    let _ = b.core_type(Some("c"));
     assert_eq!(b.core_type_count(), 1);
     assert!(b.discard_unfinished());
     assert_eq!((b.type_count(), b.core_type_count()), (0, 0));
@@ -138,7 +144,10 @@ fn a_declaration_that_is_not_whole_refuses_what_takes_the_type() {
 
     let mut module = ModuleType::new();
     let _ = module.ty();
-    assert_eq!(b.core_type(None).1.try_module(&module), Err(Error::Unfinished));
+    assert_eq!(
+        b.core_type(None).1.try_module(&module),
+        Err(Error::Unfinished)
+    );
     assert!(b.discard_unfinished() && module.discard_unfinished());
     b.core_type(None).1.module(&module);
     assert_eq!(

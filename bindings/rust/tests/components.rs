@@ -58,16 +58,16 @@ fn neighbours_of_one_kind_share_a_section() {
     let mut b = builder();
     assert_eq!(b.alias(None, FUNCTION), 0);
     assert_eq!(b.alias(None, OUTER_TYPE), 0);
-    assert_eq!(
-        behind_header(b),
-        "06 0a 02 01 00 00 01 66 03 02 00 01"
-    );
+    assert_eq!(behind_header(b), "06 0a 02 01 00 00 01 66 03 02 00 01");
 }
 
 #[test]
 fn outer_aliases_are_of_four_kinds() {
     let kinds = [
-        (ComponentOuterAliasKind::CoreModule, "06 06 01 00 11 02 01 02"),
+        (
+            ComponentOuterAliasKind::CoreModule,
+            "06 06 01 00 11 02 01 02",
+        ),
         (ComponentOuterAliasKind::CoreType, "06 06 01 00 10 02 01 02"),
         (ComponentOuterAliasKind::Type, "06 05 01 03 02 01 02"),
         (ComponentOuterAliasKind::Component, "06 05 01 04 02 01 02"),
@@ -146,7 +146,9 @@ fn a_name_has_options() {
     b.instantiate_exports(None, [(name, ComponentExportKind::Module, 3)]);
     assert_eq!(
         behind_header(b),
-        format!("0a 0c 01 {text} 01 00 0b 0f 01 {text} 01 00 01 02 7d 05 0f 01 01 01 {text} 00 11 03")
+        format!(
+            "0a 0c 01 {text} 01 00 0b 0f 01 {text} 01 00 01 02 7d 05 0f 01 01 01 {text} 00 11 03"
+        )
     );
 }
 
@@ -298,12 +300,10 @@ fn types_that_refer_to_each_other_are_one_core_type() {
     let takes = CompositeType::Func(FuncType::new([ValType::I32], []));
     let mut b = builder();
     let (index, ty) = b.core_type(None);
-    ty.core().rec([subtype(true, nullary()), subtype(true, takes)]);
+    ty.core()
+        .rec([subtype(true, nullary()), subtype(true, takes)]);
     assert_eq!((index, b.core_type_count()), (0, 1));
-    assert_eq!(
-        behind_header(b),
-        "03 0a 01 4e 02 60 00 00 60 01 7f 00"
-    );
+    assert_eq!(behind_header(b), "03 0a 01 4e 02 60 00 00 60 01 7f 00");
 }
 
 #[test]
@@ -313,8 +313,14 @@ fn core_types_are_written_by_each_call() {
         mutable: true,
     };
     let mut b = builder();
-    b.core_type(None).1.core().function([ValType::I64], [ValType::FUNCREF]);
-    b.core_type(None).1.core().func_type(&FuncType::new([], [ValType::V128]));
+    b.core_type(None)
+        .1
+        .core()
+        .function([ValType::I64], [ValType::FUNCREF]);
+    b.core_type(None)
+        .1
+        .core()
+        .func_type(&FuncType::new([], [ValType::V128]));
     b.core_type(None).1.core().array(&StorageType::I8, false);
     b.core_type(None).1.core().struct_([field, field]);
     b.core_type(None).1.core().subtype(&SubType {
@@ -391,9 +397,13 @@ fn each_type_of_values_is_written_by_its_call() {
     let byte = || PrimitiveValType::U8;
     let mut b = builder();
     b.type_defined(None).1.primitive(PrimitiveValType::Bool);
-    b.type_defined(None).1.record([("a", byte()), ("b", byte())]);
+    b.type_defined(None)
+        .1
+        .record([("a", byte()), ("b", byte())]);
     b.type_defined(None).1.list(byte());
-    b.type_defined(None).1.map(byte(), ComponentValType::Type(0));
+    b.type_defined(None)
+        .1
+        .map(byte(), ComponentValType::Type(0));
     b.type_defined(None).1.fixed_length_list(byte(), 128);
     b.type_defined(None).1.tuple([byte(), byte()]);
     b.type_defined(None).1.flags(["a", "b"]);
@@ -434,11 +444,13 @@ fn a_component_type_counts_what_it_declares() {
     ty.ty().instance(&inner);
     ty.ty().resource(ValType::I32, Some(0));
     ty.core_type().module(&ModuleType::new());
-    ty.alias(OUTER_TYPE).alias(FUNCTION).alias(Alias::InstanceExport {
-        instance: 0,
-        kind: ComponentExportKind::Instance,
-        name: "i",
-    });
+    ty.alias(OUTER_TYPE)
+        .alias(FUNCTION)
+        .alias(Alias::InstanceExport {
+            instance: 0,
+            kind: ComponentExportKind::Instance,
+            name: "i",
+        });
     ty.import("i", ComponentTypeRef::Instance(0));
     ty.export("r", ComponentTypeRef::Type(TypeBounds::SubResource));
     let counts = (ty.core_type_count(), ty.type_count(), ty.instance_count());
@@ -633,7 +645,10 @@ fn without_names_nothing_is_appended() {
 fn debug_names_are_those_that_were_given() {
     let mut b = builder();
     b.type_defined(Some("t")).1.list(PrimitiveValType::U8);
-    b.type_function(Some("")).1.params([("p", PrimitiveValType::U8)]).result(None);
+    b.type_function(Some(""))
+        .1
+        .params([("p", PrimitiveValType::U8)])
+        .result(None);
     b.core_module_raw(Some("é"), &[]);
     b.append_names();
     assert_eq!(
@@ -677,6 +692,16 @@ fn an_item_of_each_section_is_added_by_its_text() {
 #[test]
 fn numbers_say_how_long_they_are() {
     assert_eq!(encoding_size(624_485), 3);
-    let sizes = [0, 0x7f, 0x80, 0x3fff, 0x4000, 0x1f_ffff, 0x20_0000, 0xfff_ffff, u32::MAX];
+    let sizes = [
+        0,
+        0x7f,
+        0x80,
+        0x3fff,
+        0x4000,
+        0x1f_ffff,
+        0x20_0000,
+        0xfff_ffff,
+        u32::MAX,
+    ];
     assert_eq!(sizes.map(encoding_size), [1, 1, 2, 2, 3, 3, 4, 4, 5]);
 }

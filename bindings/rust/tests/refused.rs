@@ -145,7 +145,8 @@ type Call = fn(&mut ComponentBuilder, &Given) -> Result<(), Error>;
 /// Calls that ask for memory, of each kind.
 const CALLS: &[(&str, Call)] = &[
     ("import", |b, given| {
-        b.try_import(&given.text, ComponentTypeRef::Func(0)).map(drop)
+        b.try_import(&given.text, ComponentTypeRef::Func(0))
+            .map(drop)
     }),
     ("import with options", |b, given| {
         let name = ComponentExternName {
@@ -203,8 +204,12 @@ const CALLS: &[(&str, Call)] = &[
             .map(drop)
     }),
     ("core_instantiate", |b, given| {
-        b.try_core_instantiate(Some("d"), 0, [(given.text.as_str(), ModuleArg::Instance(0))])
-            .map(drop)
+        b.try_core_instantiate(
+            Some("d"),
+            0,
+            [(given.text.as_str(), ModuleArg::Instance(0))],
+        )
+        .map(drop)
     }),
     ("instantiate_exports", |b, given| {
         let export = (given.text.as_str(), ComponentExportKind::Func, 0);

@@ -115,7 +115,16 @@ fn import(b: &mut Builder, name: &[u8], reference: u32) -> (u32, u32) {
 
 fn item(b: &mut Builder, section: u32, text: &[u8]) -> (u32, u32) {
     indexed(|index| unsafe {
-        wenc_item(b, section, false, b"".as_ptr(), 0, text.as_ptr(), text.len(), index)
+        wenc_item(
+            b,
+            section,
+            false,
+            b"".as_ptr(),
+            0,
+            text.as_ptr(),
+            text.len(),
+            index,
+        )
     })
 }
 
@@ -153,7 +162,10 @@ fn a_refused_call_changes_nothing() {
     assert_eq!(count(&mut b, 13), (BAD_ARGUMENT, 77));
     // A builder is there already.
     assert_eq!(unsafe { wenc_new(&mut b) }, BAD_ARGUMENT);
-    assert_eq!(unsafe { wenc_bytes(&mut b, [0; 8].as_mut_ptr(), 8) }, UNFINISHED);
+    assert_eq!(
+        unsafe { wenc_bytes(&mut b, [0; 8].as_mut_ptr(), 8) },
+        UNFINISHED
+    );
     assert_eq!(start(&mut b, u32::MAX), (DONE, 0));
     assert_eq!(start(&mut b, 1), (TOO_MANY, 77));
     assert_eq!(import(&mut b, b"v", 2), (TOO_MANY, 77));
@@ -184,7 +196,10 @@ fn a_finished_builder_gives_its_bytes_alone() {
     assert_eq!(finished(&mut outer), b"\0asm\x0d\0\x01\0");
     assert_eq!(finished(&mut b), bytes);
     let mut less = [0; 8];
-    assert_eq!(unsafe { wenc_bytes(&mut b, less.as_mut_ptr(), 8) }, BAD_ARGUMENT);
+    assert_eq!(
+        unsafe { wenc_bytes(&mut b, less.as_mut_ptr(), 8) },
+        BAD_ARGUMENT
+    );
     assert_eq!(less, [0; 8]);
     free(outer);
     free(b);
@@ -200,7 +215,10 @@ fn a_handle_of_no_builder_is_refused() {
     assert_eq!(unsafe { wenc_append_names(&mut b) }, NO_BUILDER);
     let mut len = 77;
     assert_eq!(unsafe { wenc_finish(&mut b, &mut len) }, NO_BUILDER);
-    assert_eq!(unsafe { wenc_bytes(&mut b, [0; 8].as_mut_ptr(), 8) }, NO_BUILDER);
+    assert_eq!(
+        unsafe { wenc_bytes(&mut b, [0; 8].as_mut_ptr(), 8) },
+        NO_BUILDER
+    );
     assert_eq!(len, 77);
     free(b);
 }

@@ -3,8 +3,8 @@
 use crate::sys::Options;
 use crate::twins::twins;
 use crate::{
-    Alias, ComponentBuilder, ComponentExportKind, ComponentExternName, ComponentTypeRef, ExportKind,
-    Module,
+    Alias, ComponentBuilder, ComponentExportKind, ComponentExternName, ComponentTypeRef,
+    ExportKind, Module,
 };
 
 impl ComponentBuilder {

@@ -137,7 +137,10 @@ impl Declarations {
 
     /// Whether the declarations and their number have a size.
     fn fits(&self) -> Result<(), Error> {
-        let size = self.text.len().checked_add(encoding_size(self.counts.declarations));
+        let size = self
+            .text
+            .len()
+            .checked_add(encoding_size(self.counts.declarations));
         match size.map(u32::try_from) {
             Some(Ok(_)) => Ok(()),
             _ => Err(Error::TooLarge),
