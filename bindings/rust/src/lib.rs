@@ -46,6 +46,22 @@
 //! assert_eq!(builder.try_import("v", byte), Err(Error::TooMany));
 //! assert_eq!(builder.value_count(), u32::MAX);
 //! ```
+//!
+//! # What differs from upstream
+//!
+//! - A type whose encoder is dropped before its last call is told: the builder is unfinished then, and refuses what adds to it
+//!   or takes it, until [`discard_unfinished`](ComponentBuilder::discard_unfinished). Upstream goes on, and what comes is no
+//!   component. So it is with [`ModuleType`], [`ComponentType`] and [`InstanceType`].
+//! - Types of components and instances that stand in each other more than 100 deep are refused.
+//! - [`append_names`](ComponentBuilder::append_names) writes the names of instances once, and those of values.
+//!   [`thread_yield_then_promote`](ComponentBuilder::thread_yield_then_promote) has the debug name of its own row.
+//! - The number that stands before a list is that of the items that came.
+//! - Of core types there are those of WebAssembly 3.0: no continuations, descriptors, exact references, and nothing that is
+//!   shared but memories. So [`HeapType`], [`CompositeType`], [`TableType`], [`MemoryType`], [`GlobalType`] and [`TagType`] have
+//!   fewer fields. Of core modules there are custom and raw sections alone, and of components no sections by hand.
+//! - Own: the `try_` forms, [`Error`], [`list`], [`component_ref`](ComponentBuilder::component_ref),
+//!   [`raw_item`](ComponentBuilder::raw_item), [`thread_spawn_indirect`](ComponentBuilder::thread_spawn_indirect) on the builder,
+//!   `is_finished` and `discard_unfinished`.
 #![deny(missing_docs)]
 
 mod builder;

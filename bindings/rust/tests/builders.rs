@@ -3,6 +3,7 @@
 mod hex;
 
 use hex::behind_header;
+use std::panic::{catch_unwind, AssertUnwindSafe};
 use std::thread;
 use wenc::*;
 
@@ -222,4 +223,28 @@ fn errors_tell_what_they_are() {
         let error: Box<dyn std::error::Error + Send + Sync> = error.into();
         assert_eq!(error.to_string(), text);
     }
+}
+
+#[test]
+fn parameters_that_panic_leave_the_type_to_be_given_up() {
+    let mut b = builder();
+    {
+        let (_, mut ty) = b.type_function(None);
+        let params = ["p", "q"].iter().map(|name| match *name {
+            "p" => ("p", PrimitiveValType::U8),
+            _ => panic!("no more"),
+        });
+        let call = AssertUnwindSafe(|| {
+            ty.params(params).result(None);
+        });
+        assert!(catch_unwind(call).is_err());
+        let no_params: [(&str, ComponentValType); 0] = [];
+        assert_eq!(ty.try_params(no_params).err(), Some(Error::OutOfTurn));
+    }
+    assert!(b.discard_unfinished());
+    b.type_function(None)
+        .1
+        .params([("r", PrimitiveValType::U8)])
+        .result(None);
+    assert_eq!(behind_header(b), "07 08 01 40 01 01 72 7d 01 00");
 }

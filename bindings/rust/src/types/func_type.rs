@@ -12,6 +12,8 @@ enum Stage {
     Tagged,
     Params,
     Done,
+    /// A call was left amid its writing: what it was given panicked.
+    Broken,
 }
 
 /// Writes the type of a function: perhaps whether it is asynchronous, then what it takes, then what it answers. The call of
@@ -65,20 +67,21 @@ impl<'a> ComponentFuncTypeEncoder<'a> {
             T: Into<ComponentValType>,
         }
         {
-            let is_tagged = match self.stage {
-                Stage::Start => false,
-                Stage::Tagged => true,
-                Stage::Params | Stage::Done => return Err(Error::OutOfTurn),
-            };
-            self.target.append(|text| {
-                if !is_tagged {
+            let stage = self.stage;
+            if !matches!(stage, Stage::Start | Stage::Tagged) {
+                return Err(Error::OutOfTurn);
+            }
+            self.stage = Stage::Broken;
+            let written = self.target.append(|text| {
+                if stage == Stage::Start {
                     text.byte(tag(false));
                 }
                 text.list(params, |text, (name, ty)| {
                     text.name(name).put(ty.into());
                 });
-            })?;
-            self.stage = Stage::Params;
+            });
+            self.stage = if written.is_ok() { Stage::Params } else { stage };
+            written?;
             Ok(self)
         }
 
