@@ -64,6 +64,7 @@
 //!   `is_finished` and `discard_unfinished`.
 #![deny(missing_docs)]
 
+mod brief;
 mod builder;
 mod core;
 mod encode;

@@ -3,7 +3,12 @@
 //! Nothing here is proved, and nothing need be: what a text says is read back by the proved library, which refuses what is no
 //! item's text.
 
-use crate::Error;
+use crate::brief::{Brief, ToBrief, MOST};
+use crate::parts::ResultList;
+use crate::{
+    CanonicalOption, ComponentExportKind, ComponentOuterAliasKind, ComponentSectionId,
+    ComponentTypeRef, ComponentValType, Error, ExportKind, ModuleArg, PrimitiveValType, TypeBounds,
+};
 
 /// What has a text in the binary format.
 pub(crate) trait Write {
@@ -15,11 +20,16 @@ pub(crate) trait Write {
 /// refused.
 #[derive(Clone, Debug, Default)]
 pub(crate) struct Text {
+    /// The text is at its front; what is behind is room.
     bytes: Vec<u8>,
+    len: usize,
     refused: Option<Error>,
 }
 
-/// A number in groups of seven bits, least first, and how many there are; each but the last has its top bit set.
+/// The least room that a text asks for.
+const LEAST: usize = 64;
+
+/// A number in groups of seven bits, and how many there are.
 fn groups(mut number: u64) -> ([u8; 10], usize) {
     let mut groups = [0; 10];
     let mut len = 1;
@@ -35,31 +45,34 @@ fn groups(mut number: u64) -> ([u8; 10], usize) {
 impl Text {
     /// Goes on with these bytes.
     pub(crate) fn of(bytes: Vec<u8>) -> Self {
+        let len = bytes.len();
         Self {
             bytes,
+            len,
             refused: None,
         }
     }
 
     /// The bytes, whether or not all was written.
-    pub(crate) fn into_bytes(self) -> Vec<u8> {
+    pub(crate) fn into_bytes(mut self) -> Vec<u8> {
+        self.bytes.truncate(self.len);
         self.bytes
     }
 
     #[inline]
     pub(crate) fn as_slice(&self) -> &[u8] {
-        &self.bytes
+        &self.bytes[..self.len]
     }
 
     #[inline]
     pub(crate) fn len(&self) -> usize {
-        self.bytes.len()
+        self.len
     }
 
     /// Leaves the first `len` bytes.
     #[inline]
     pub(crate) fn cut_back(&mut self, len: usize) {
-        self.bytes.truncate(len);
+        self.len = len.min(self.len);
     }
 
     /// Whether all was written since this was last asked.
@@ -84,114 +97,108 @@ impl Text {
     /// Whether there is room for so many bytes more.
     #[inline]
     fn has_room(&mut self, more: usize) -> bool {
-        self.bytes.capacity() - self.bytes.len() >= more || self.grow(more)
+        self.bytes.len() - self.len >= more || self.grow(more)
     }
 
     #[cold]
     #[inline(never)]
     fn grow(&mut self, more: usize) -> bool {
-        let grown = self.bytes.try_reserve(more).is_ok();
-        if !grown {
+        let bytes = &mut self.bytes;
+        let len = self.len.saturating_add(more);
+        let len = len.max(bytes.len().saturating_mul(2)).max(LEAST);
+        if bytes.try_reserve_exact(len - bytes.len()).is_err() {
             self.refuse(Error::NoMemory);
+            return false;
         }
-        grown
+        bytes.resize(len, 0);
+        true
+    }
+
+    /// Appends a text of at most eight bytes. There is room for eight.
+    #[inline]
+    fn set_brief(&mut self, text: Brief) {
+        self.bytes[self.len..][..MOST].copy_from_slice(&text.to_bytes());
+        self.len += text.len();
+    }
+
+    /// Appends bytes for which there is room.
+    #[inline]
+    fn set_raw(&mut self, bytes: &[u8]) {
+        self.bytes[self.len..][..bytes.len()].copy_from_slice(bytes);
+        self.len += bytes.len();
+    }
+
+    /// Appends a text of at most eight bytes.
+    #[inline]
+    pub(crate) fn brief(&mut self, text: Brief) -> &mut Self {
+        if self.has_room(MOST) {
+            self.set_brief(text);
+        }
+        self
     }
 
     /// Appends bytes as they are.
     #[inline]
     pub(crate) fn raw(&mut self, bytes: &[u8]) -> &mut Self {
         if self.has_room(bytes.len()) {
-            self.bytes.extend_from_slice(bytes);
-        }
-        self
-    }
-
-    /// Appends bytes whose number is known.
-    #[inline]
-    pub(crate) fn bytes<const N: usize>(&mut self, bytes: [u8; N]) -> &mut Self {
-        if self.has_room(N) {
-            self.bytes.extend_from_slice(&bytes);
+            self.set_raw(bytes);
         }
         self
     }
 
     #[inline]
     pub(crate) fn byte(&mut self, byte: u8) -> &mut Self {
-        self.bytes([byte])
+        self.brief(Brief::byte(byte))
+    }
+
+    #[inline]
+    pub(crate) fn index(&mut self, index: u32) -> &mut Self {
+        self.brief(Brief::index(index))
     }
 
     #[inline]
     pub(crate) fn flag(&mut self, flag: bool) -> &mut Self {
-        self.byte(u8::from(flag))
-    }
-
-    /// An index or a count.
-    #[inline]
-    pub(crate) fn index(&mut self, index: u32) -> &mut Self {
-        match index {
-            0..=0x7f => self.byte(index as u8),
-            0x80..=0x3fff => self.bytes([index as u8 | 0x80, (index >> 7) as u8]),
-            _ => self.wide(index.into()),
-        }
+        self.byte(flag.into())
     }
 
     /// A number of 64 bits.
-    #[inline(never)]
     pub(crate) fn wide(&mut self, number: u64) -> &mut Self {
         let (groups, len) = groups(number);
         self.raw(&groups[..len])
     }
 
-    /// An index where a signed number stands: bit 6 of its last byte is the sign, and isn't set.
+    /// Bytes behind their number, and a text of at most eight bytes behind them.
     #[inline]
-    pub(crate) fn signed(&mut self, index: u32) -> &mut Self {
-        match index {
-            0..=0x3f => self.byte(index as u8),
-            0x40..=0x1fff => self.bytes([index as u8 | 0x80, (index >> 7) as u8]),
-            _ => self.signed_long(index),
-        }
-    }
-
-    #[inline(never)]
-    fn signed_long(&mut self, mut index: u32) -> &mut Self {
-        let mut groups = [0; 5];
-        let mut len = 0;
-        while index >= 0x40 {
-            groups[len] = index as u8 | 0x80;
-            index >>= 7;
-            len += 1;
-        }
-        groups[len] = index as u8;
-        self.raw(&groups[..=len])
-    }
-
-    /// A length, before as many bytes.
-    #[inline]
-    fn length(&mut self, len: usize) -> bool {
-        match u32::try_from(len) {
-            Ok(len) => {
-                self.index(len);
-                true
-            }
-            Err(_) => {
-                self.refuse(Error::TooLarge);
-                false
+    fn between(&mut self, bytes: &[u8], behind: Option<Brief>) -> &mut Self {
+        let Ok(len) = u32::try_from(bytes.len()) else {
+            self.refuse(Error::TooLarge);
+            return self;
+        };
+        if self.has_room(bytes.len().saturating_add(2 * MOST)) {
+            self.set_brief(Brief::index(len));
+            self.set_raw(bytes);
+            if let Some(behind) = behind {
+                self.set_brief(behind);
             }
         }
+        self
     }
 
     /// Bytes behind their number.
     #[inline]
     pub(crate) fn list_of_bytes(&mut self, bytes: &[u8]) -> &mut Self {
-        if self.length(bytes.len()) {
-            self.raw(bytes);
-        }
-        self
+        self.between(bytes, None)
     }
 
     #[inline]
     pub(crate) fn name(&mut self, name: &str) -> &mut Self {
-        self.list_of_bytes(name.as_bytes())
+        self.between(name.as_bytes(), None)
+    }
+
+    /// A name, and a text of at most eight bytes behind it.
+    #[inline]
+    pub(crate) fn named(&mut self, name: &str, behind: Brief) -> &mut Self {
+        self.between(name.as_bytes(), Some(behind))
     }
 
     #[inline]
@@ -210,8 +217,18 @@ impl Text {
 
     /// The number of items that come, then each.
     #[inline]
-    pub(crate) fn list<I>(
+    pub(crate) fn list<I>(&mut self, items: I, each: impl FnMut(&mut Self, I::Item)) -> &mut Self
+    where
+        I: IntoIterator<IntoIter: ExactSizeIterator>,
+    {
+        self.list_behind(None, items, each)
+    }
+
+    /// A byte, the number of items that come, then each.
+    #[inline]
+    pub(crate) fn list_behind<I>(
         &mut self,
+        front: impl Into<Option<u8>>,
         items: I,
         mut each: impl FnMut(&mut Self, I::Item),
     ) -> &mut Self
@@ -219,46 +236,52 @@ impl Text {
         I: IntoIterator<IntoIter: ExactSizeIterator>,
     {
         let items = items.into_iter();
-        let place = self.len();
         let told = items.len();
-        match u32::try_from(told) {
-            Ok(told) => self.index(told),
-            Err(_) => {
-                self.refuse(Error::TooMany);
-                return self;
-            }
+        let Ok(number) = u32::try_from(told) else {
+            self.refuse(Error::TooMany);
+            return self;
         };
-        let begin = self.len();
+        let number = Brief::index(number);
+        self.brief(match front.into() {
+            None => number,
+            Some(front) => Brief::byte(front).then(number),
+        });
+        let begin = self.len;
         let mut came = 0;
         for item in items {
             each(self, item);
             came += 1;
         }
         if came != told {
-            self.number_anew(place, begin, came);
+            self.number_anew(number.len(), begin, came);
         }
         self
     }
 
-    /// Puts the number of items that came in the place of the one that their iterator told.
+    /// Puts the number of items that came in the place of the one that their iterator told, and that has `told` bytes.
     #[cold]
     #[inline(never)]
-    fn number_anew(&mut self, place: usize, begin: usize, came: usize) {
-        let Ok(came) = u32::try_from(came) else {
-            return self.refuse(Error::TooMany);
+    fn number_anew(&mut self, told: usize, begin: usize, came: usize) {
+        let end = self.len;
+        match u32::try_from(came) {
+            Ok(came) => self.index(came),
+            Err(_) => return self.refuse(Error::TooMany),
         };
-        let (groups, len) = groups(came.into());
-        if self.refused.is_none() && self.has_room(len) {
-            self.bytes
-                .splice(place..begin, groups.into_iter().take(len));
+        if self.refused.is_some() {
+            return;
         }
+        // The number is at the end: it comes before the items, and all of it to where the other one is.
+        self.bytes[begin..self.len].rotate_right(self.len - end);
+        self.bytes.copy_within(begin..self.len, begin - told);
+        self.len -= told;
     }
 
-    pub(crate) fn names<'a, I>(&mut self, names: I) -> &mut Self
+    /// A byte, the number of names that come, then each.
+    pub(crate) fn names<'a, I>(&mut self, front: u8, names: I) -> &mut Self
     where
         I: IntoIterator<Item = &'a str, IntoIter: ExactSizeIterator>,
     {
-        self.list(names, |text, name| {
+        self.list_behind(front, names, |text, name| {
             text.name(name);
         })
     }
@@ -271,11 +294,21 @@ impl<T: Write + ?Sized> Write for &T {
     }
 }
 
-impl Write for u32 {
-    #[inline]
-    fn write(&self, text: &mut Text) {
-        text.index(*self);
-    }
+macro_rules! briefs {
+    ($($part:ty),* $(,)?) => {
+        $(impl Write for $part {
+            #[inline]
+            fn write(&self, text: &mut Text) {
+                text.brief(self.brief());
+            }
+        })*
+    };
+}
+
+briefs! {
+    u32, CanonicalOption, ComponentExportKind, ComponentOuterAliasKind, ComponentSectionId,
+    ComponentTypeRef, ComponentValType, ExportKind, ModuleArg, PrimitiveValType, ResultList,
+    TypeBounds,
 }
 
 #[cfg(test)]
@@ -287,40 +320,6 @@ mod tests {
         write(&mut text);
         text.written().unwrap();
         text.into_bytes()
-    }
-
-    fn index(n: u32) -> Vec<u8> {
-        text(|text| {
-            text.index(n);
-        })
-    }
-
-    fn signed(n: u32) -> Vec<u8> {
-        text(|text| {
-            text.signed(n);
-        })
-    }
-
-    #[test]
-    fn indices_take_as_few_bytes_as_they_can() {
-        assert_eq!(index(0), [0x00]);
-        assert_eq!(index(127), [0x7f]);
-        assert_eq!(index(128), [0x80, 0x01]);
-        assert_eq!(index(16383), [0xff, 0x7f]);
-        assert_eq!(index(16384), [0x80, 0x80, 0x01]);
-        assert_eq!(index(624_485), [0xe5, 0x8e, 0x26]);
-        assert_eq!(index(u32::MAX), [0xff, 0xff, 0xff, 0xff, 0x0f]);
-    }
-
-    #[test]
-    fn a_signed_index_keeps_its_sign_clear() {
-        assert_eq!(signed(63), [0x3f]);
-        assert_eq!(signed(64), [0xc0, 0x00]);
-        assert_eq!(signed(127), [0xff, 0x00]);
-        assert_eq!(signed(128), [0x80, 0x01]);
-        assert_eq!(signed(8191), [0xff, 0x3f]);
-        assert_eq!(signed(8192), [0x80, 0xc0, 0x00]);
-        assert_eq!(signed(u32::MAX), [0xff, 0xff, 0xff, 0xff, 0x0f]);
     }
 
     #[test]
@@ -365,6 +364,23 @@ mod tests {
         assert_eq!(list(200, 1), [0x72, 1, 0]);
         assert_eq!(list(1, 200)[..4], [0x72, 0xc8, 0x01, 0]);
         assert_eq!(list(1, 200).len(), 1 + 2 + 128 + 2 * 72);
+    }
+
+    #[test]
+    fn a_text_grows_as_it_is_written() {
+        let name = "n".repeat(300);
+        let long = text(|text| {
+            for index in 0..100 {
+                text.named(&name, Brief::index(index)).byte(0xff);
+            }
+        });
+        let mut expected = Vec::new();
+        for index in 0..100 {
+            expected.extend([0xac, 0x02]);
+            expected.extend_from_slice(name.as_bytes());
+            expected.extend([index, 0xff]);
+        }
+        assert_eq!(long, expected);
     }
 
     #[test]

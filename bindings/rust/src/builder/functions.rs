@@ -1,5 +1,6 @@
 //! Functions that cross the border to core modules, and the provided ones that take options.
 
+use crate::brief::{Brief, ToBrief};
 use crate::parts::ResultList;
 use crate::text::Text;
 use crate::twins::twins;
@@ -32,7 +33,7 @@ impl ComponentBuilder {
         }
         {
             self.item(ComponentSectionId::CanonicalFunction, debug_name, |text| {
-                text.bytes([0x01, 0x00]).index(func_index);
+                text.brief(Brief::pair(0x01, 0x00).then(func_index.brief()));
                 write_options(text, options);
             })
         }
@@ -51,7 +52,7 @@ impl ComponentBuilder {
         }
         {
             self.item(ComponentSectionId::CanonicalFunction, debug_name, |text| {
-                text.bytes([0x00, 0x00]).index(core_func_index);
+                text.brief(Brief::pair(0x00, 0x00).then(core_func_index.brief()));
                 write_options(text, options);
                 text.index(type_index);
             })
@@ -78,7 +79,7 @@ impl ComponentBuilder {
         }
         {
             self.provided(|text| {
-                text.byte(0x0f).index(ty);
+                text.brief(Brief::byte(0x0f).then(ty.brief()));
                 write_options(text, options);
             })
         }
@@ -91,7 +92,7 @@ impl ComponentBuilder {
         }
         {
             self.provided(|text| {
-                text.byte(0x10).index(ty);
+                text.brief(Brief::byte(0x10).then(ty.brief()));
                 write_options(text, options);
             })
         }
@@ -104,7 +105,7 @@ impl ComponentBuilder {
         }
         {
             self.provided(|text| {
-                text.byte(0x16).index(ty);
+                text.brief(Brief::byte(0x16).then(ty.brief()));
                 write_options(text, options);
             })
         }
@@ -117,7 +118,7 @@ impl ComponentBuilder {
         }
         {
             self.provided(|text| {
-                text.byte(0x17).index(ty);
+                text.brief(Brief::byte(0x17).then(ty.brief()));
                 write_options(text, options);
             })
         }

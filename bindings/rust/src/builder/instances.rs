@@ -1,5 +1,6 @@
 //! Instances, of core modules and of components.
 
+use crate::brief::ToBrief;
 use crate::twins::twins;
 use crate::{
     ComponentBuilder, ComponentExportKind, ComponentExternName, ComponentSectionId, ExportKind,
@@ -22,7 +23,7 @@ impl ComponentBuilder {
         {
             self.item(ComponentSectionId::CoreInstance, debug_name, |text| {
                 text.byte(0x00).index(module_index).list(args, |text, (name, arg)| {
-                    text.name(name).put(arg);
+                    text.named(name, arg.brief());
                 });
             })
         }
@@ -39,8 +40,8 @@ impl ComponentBuilder {
         }
         {
             self.item(ComponentSectionId::CoreInstance, debug_name, |text| {
-                text.byte(0x01).list(exports, |text, (name, kind, index)| {
-                    text.name(name).put(kind).index(index);
+                text.list_behind(0x01, exports, |text, (name, kind, index)| {
+                    text.named(name, kind.brief().then(index.brief()));
                 });
             })
         }
@@ -60,7 +61,7 @@ impl ComponentBuilder {
         {
             self.item(ComponentSectionId::Instance, debug_name, |text| {
                 text.byte(0x00).index(component_index).list(args, |text, (name, kind, index)| {
-                    text.name(name.as_ref()).put(kind).index(index);
+                    text.named(name.as_ref(), kind.brief().then(index.brief()));
                 });
             })
         }
@@ -78,8 +79,8 @@ impl ComponentBuilder {
         }
         {
             self.item(ComponentSectionId::Instance, debug_name, |text| {
-                text.byte(0x01).list(exports, |text, (name, kind, index)| {
-                    text.put(name.into()).put(kind).index(index);
+                text.list_behind(0x01, exports, |text, (name, kind, index)| {
+                    text.put(name.into()).brief(kind.brief().then(index.brief()));
                 });
             })
         }

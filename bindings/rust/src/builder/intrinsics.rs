@@ -1,5 +1,6 @@
 //! Core functions that the component model provides. Each has the name of its row as its debug name.
 
+use crate::brief::{Brief, ToBrief};
 use crate::twins::twins;
 use crate::{ComponentBuilder, ValType};
 
@@ -8,21 +9,21 @@ impl ComponentBuilder {
         /// `resource.new`: makes an owned handle of a resource of this type.
         fn resource_new | try_resource_new(&mut self, ty: u32) -> u32 {
             self.provided(|text| {
-                text.byte(0x02).index(ty);
+                text.brief(Brief::byte(0x02).then(ty.brief()));
             })
         }
 
         /// `resource.drop`: drops a handle of a resource of this type.
         fn resource_drop | try_resource_drop(&mut self, ty: u32) -> u32 {
             self.provided(|text| {
-                text.byte(0x03).index(ty);
+                text.brief(Brief::byte(0x03).then(ty.brief()));
             })
         }
 
         /// `resource.rep`: gives what represents a resource of this type.
         fn resource_rep | try_resource_rep(&mut self, ty: u32) -> u32 {
             self.provided(|text| {
-                text.byte(0x04).index(ty);
+                text.brief(Brief::byte(0x04).then(ty.brief()));
             })
         }
 
@@ -57,7 +58,7 @@ impl ComponentBuilder {
         /// `thread.yield`: lets others run.
         fn thread_yield | try_thread_yield(&mut self) -> u32 {
             self.provided(|text| {
-                text.bytes([0x0c, 0x00]);
+                text.brief(Brief::pair(0x0c, 0x00));
             })
         }
 
@@ -71,7 +72,7 @@ impl ComponentBuilder {
         /// `stream.new`: makes a stream of this type.
         fn stream_new | try_stream_new(&mut self, ty: u32) -> u32 {
             self.provided(|text| {
-                text.byte(0x0e).index(ty);
+                text.brief(Brief::byte(0x0e).then(ty.brief()));
             })
         }
 
@@ -92,21 +93,21 @@ impl ComponentBuilder {
         /// `stream.drop-readable`: drops the end from which a stream of this type is read.
         fn stream_drop_readable | try_stream_drop_readable(&mut self, ty: u32) -> u32 {
             self.provided(|text| {
-                text.byte(0x13).index(ty);
+                text.brief(Brief::byte(0x13).then(ty.brief()));
             })
         }
 
         /// `stream.drop-writable`: drops the end to which a stream of this type is written.
         fn stream_drop_writable | try_stream_drop_writable(&mut self, ty: u32) -> u32 {
             self.provided(|text| {
-                text.byte(0x14).index(ty);
+                text.brief(Brief::byte(0x14).then(ty.brief()));
             })
         }
 
         /// `future.new`: makes a future of this type.
         fn future_new | try_future_new(&mut self, ty: u32) -> u32 {
             self.provided(|text| {
-                text.byte(0x15).index(ty);
+                text.brief(Brief::byte(0x15).then(ty.brief()));
             })
         }
 
@@ -127,14 +128,14 @@ impl ComponentBuilder {
         /// `future.drop-readable`: drops the end from which a future of this type is read.
         fn future_drop_readable | try_future_drop_readable(&mut self, ty: u32) -> u32 {
             self.provided(|text| {
-                text.byte(0x1a).index(ty);
+                text.brief(Brief::byte(0x1a).then(ty.brief()));
             })
         }
 
         /// `future.drop-writable`: drops the end to which a future of this type is written.
         fn future_drop_writable | try_future_drop_writable(&mut self, ty: u32) -> u32 {
             self.provided(|text| {
-                text.byte(0x1b).index(ty);
+                text.brief(Brief::byte(0x1b).then(ty.brief()));
             })
         }
 
@@ -155,14 +156,14 @@ impl ComponentBuilder {
         /// `waitable-set.wait`: waits for one of a set; what happened is told in this memory.
         fn waitable_set_wait | try_waitable_set_wait(&mut self, memory: u32) -> u32 {
             self.provided(|text| {
-                text.bytes([0x20, 0x00]).index(memory);
+                text.brief(Brief::pair(0x20, 0x00).then(memory.brief()));
             })
         }
 
         /// `waitable-set.poll`: asks for one of a set; what happened is told in this memory.
         fn waitable_set_poll | try_waitable_set_poll(&mut self, memory: u32) -> u32 {
             self.provided(|text| {
-                text.bytes([0x21, 0x00]).index(memory);
+                text.brief(Brief::pair(0x21, 0x00).then(memory.brief()));
             })
         }
 
@@ -218,56 +219,56 @@ impl ComponentBuilder {
         /// `thread.suspend`: suspends the thread.
         fn thread_suspend | try_thread_suspend(&mut self) -> u32 {
             self.provided(|text| {
-                text.bytes([0x29, 0x00]);
+                text.brief(Brief::pair(0x29, 0x00));
             })
         }
 
         /// `thread.suspend-then-resume`: suspends the thread, and another goes on.
         fn thread_suspend_then_resume | try_thread_suspend_then_resume(&mut self) -> u32 {
             self.provided(|text| {
-                text.bytes([0x2a, 0x00]);
+                text.brief(Brief::pair(0x2a, 0x00));
             })
         }
 
         /// `thread.yield-then-resume`: lets another thread go on first.
         fn thread_yield_then_resume | try_thread_yield_then_resume(&mut self) -> u32 {
             self.provided(|text| {
-                text.bytes([0x2b, 0x00]);
+                text.brief(Brief::pair(0x2b, 0x00));
             })
         }
 
         /// `thread.suspend-then-promote`: suspends the thread, and another comes to the front.
         fn thread_suspend_then_promote | try_thread_suspend_then_promote(&mut self) -> u32 {
             self.provided(|text| {
-                text.bytes([0x2c, 0x00]);
+                text.brief(Brief::pair(0x2c, 0x00));
             })
         }
 
         /// `thread.yield-then-promote`: lets another thread come to the front first. Upstream gives it the debug name of `thread.yield-then-resume`.
         fn thread_yield_then_promote | try_thread_yield_then_promote(&mut self) -> u32 {
             self.provided(|text| {
-                text.bytes([0x2d, 0x00]);
+                text.brief(Brief::pair(0x2d, 0x00));
             })
         }
 
         /// `stream.forward`: hands what is left of one stream of this type on to another.
         fn stream_forward | try_stream_forward(&mut self, ty: u32) -> u32 {
             self.provided(|text| {
-                text.byte(0x2e).index(ty);
+                text.brief(Brief::byte(0x2e).then(ty.brief()));
             })
         }
 
         /// `future.forward`: hands the value of one future of this type on to another.
         fn future_forward | try_future_forward(&mut self, ty: u32) -> u32 {
             self.provided(|text| {
-                text.byte(0x2f).index(ty);
+                text.brief(Brief::byte(0x2f).then(ty.brief()));
             })
         }
 
         /// `thread.spawn-ref`: makes a thread that calls a function of this core type.
         fn thread_spawn_ref | try_thread_spawn_ref(&mut self, ty: u32) -> u32 {
             self.provided(|text| {
-                text.byte(0x40).index(ty);
+                text.brief(Brief::byte(0x40).then(ty.brief()));
             })
         }
 

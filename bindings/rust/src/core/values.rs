@@ -1,5 +1,6 @@
 //! Core types of values.
 
+use crate::brief::Brief;
 use crate::text::{Text, Write};
 
 /// A core type of values.
@@ -131,7 +132,7 @@ impl Write for HeapType {
     fn write(&self, text: &mut Text) {
         match self {
             Self::Abstract(ty) => text.put(ty),
-            Self::Concrete(index) => text.signed(*index),
+            Self::Concrete(index) => text.brief(Brief::signed(*index)),
         };
     }
 }

@@ -1,5 +1,6 @@
 //! Aliases.
 
+use crate::brief::{Brief, ToBrief};
 use crate::text::{Text, Write};
 use crate::{ComponentExportKind, ExportKind};
 
@@ -29,14 +30,14 @@ impl ComponentOuterAliasKind {
     }
 }
 
-impl Write for ComponentOuterAliasKind {
-    fn write(&self, text: &mut Text) {
+impl ToBrief for ComponentOuterAliasKind {
+    fn brief(&self) -> Brief {
         match self {
-            Self::CoreModule => text.bytes([0x00, 0x11]),
-            Self::CoreType => text.bytes([0x00, 0x10]),
-            Self::Type => text.byte(0x03),
-            Self::Component => text.byte(0x04),
-        };
+            Self::CoreModule => Brief::pair(0x00, 0x11),
+            Self::CoreType => Brief::pair(0x00, 0x10),
+            Self::Type => Brief::byte(0x03),
+            Self::Component => Brief::byte(0x04),
+        }
     }
 }
 

@@ -1,6 +1,6 @@
 //! Kinds of items.
 
-use crate::text::{Text, Write};
+use crate::brief::{Brief, ToBrief};
 
 /// The kind of an item that a component exports, or that is aliased.
 #[derive(Clone, Copy, Debug, PartialEq, Eq)]
@@ -34,13 +34,13 @@ impl ComponentExportKind {
     }
 }
 
-impl Write for ComponentExportKind {
+impl ToBrief for ComponentExportKind {
     #[inline]
-    fn write(&self, text: &mut Text) {
+    fn brief(&self) -> Brief {
         match self {
-            Self::Module => text.bytes([0x00, 0x11]),
-            _ => text.byte(self.number()),
-        };
+            Self::Module => Brief::pair(0x00, 0x11),
+            _ => Brief::byte(self.number()),
+        }
     }
 }
 
@@ -60,10 +60,10 @@ pub enum ExportKind {
     Tag = 4,
 }
 
-impl Write for ExportKind {
+impl ToBrief for ExportKind {
     #[inline]
-    fn write(&self, text: &mut Text) {
-        text.byte(*self as u8);
+    fn brief(&self) -> Brief {
+        Brief::byte(*self as u8)
     }
 }
 
@@ -74,10 +74,10 @@ pub enum ModuleArg {
     Instance(u32),
 }
 
-impl Write for ModuleArg {
+impl ToBrief for ModuleArg {
     #[inline]
-    fn write(&self, text: &mut Text) {
+    fn brief(&self) -> Brief {
         let Self::Instance(index) = self;
-        text.byte(0x12).index(*index);
+        Brief::byte(0x12).then(index.brief())
     }
 }

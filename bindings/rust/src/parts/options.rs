@@ -1,6 +1,6 @@
 //! Options of canonical functions.
 
-use crate::text::{Text, Write};
+use crate::brief::{Brief, ToBrief};
 
 /// How a function's values cross between the component and its core modules.
 #[derive(Clone, Copy, Debug, PartialEq, Eq)]
@@ -27,19 +27,24 @@ pub enum CanonicalOption {
     Gc,
 }
 
-impl Write for CanonicalOption {
-    fn write(&self, text: &mut Text) {
-        match self {
-            Self::UTF8 => text.byte(0x00),
-            Self::UTF16 => text.byte(0x01),
-            Self::CompactUTF16 => text.byte(0x02),
-            Self::Memory(index) => text.byte(0x03).index(*index),
-            Self::Realloc(index) => text.byte(0x04).index(*index),
-            Self::PostReturn(index) => text.byte(0x05).index(*index),
-            Self::Async => text.byte(0x06),
-            Self::Callback(index) => text.byte(0x07).index(*index),
-            Self::CoreType(index) => text.byte(0x08).index(*index),
-            Self::Gc => text.byte(0x09),
+impl ToBrief for CanonicalOption {
+    #[inline]
+    fn brief(&self) -> Brief {
+        let (number, index) = match self {
+            Self::UTF8 => (0x00, None),
+            Self::UTF16 => (0x01, None),
+            Self::CompactUTF16 => (0x02, None),
+            Self::Memory(index) => (0x03, Some(index)),
+            Self::Realloc(index) => (0x04, Some(index)),
+            Self::PostReturn(index) => (0x05, Some(index)),
+            Self::Async => (0x06, None),
+            Self::Callback(index) => (0x07, Some(index)),
+            Self::CoreType(index) => (0x08, Some(index)),
+            Self::Gc => (0x09, None),
         };
+        match index {
+            None => Brief::byte(number),
+            Some(index) => Brief::byte(number).then(index.brief()),
+        }
     }
 }

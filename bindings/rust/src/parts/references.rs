@@ -1,6 +1,6 @@
 //! References to types: of what is imported, and of what an export is said to be.
 
-use crate::text::{Text, Write};
+use crate::brief::{Brief, ToBrief};
 use crate::{ComponentExportKind, ComponentValType};
 
 /// What is known of a type that is imported or exported.
@@ -12,12 +12,13 @@ pub enum TypeBounds {
     SubResource,
 }
 
-impl Write for TypeBounds {
-    fn write(&self, text: &mut Text) {
+impl ToBrief for TypeBounds {
+    #[inline]
+    fn brief(&self) -> Brief {
         match self {
-            Self::Eq(index) => text.byte(0x00).index(*index),
-            Self::SubResource => text.byte(0x01),
-        };
+            Self::Eq(index) => Brief::byte(0x00).then(index.brief()),
+            Self::SubResource => Brief::byte(0x01),
+        }
     }
 }
 
@@ -52,17 +53,16 @@ impl ComponentTypeRef {
     }
 }
 
-impl Write for ComponentTypeRef {
+impl ToBrief for ComponentTypeRef {
     #[inline]
-    fn write(&self, text: &mut Text) {
-        text.put(self.kind());
-        match self {
+    fn brief(&self) -> Brief {
+        self.kind().brief().then(match self {
             Self::Module(index)
             | Self::Func(index)
             | Self::Instance(index)
-            | Self::Component(index) => text.index(*index),
-            Self::Value(ty) => text.put(ty),
-            Self::Type(bounds) => text.put(bounds),
-        };
+            | Self::Component(index) => index.brief(),
+            Self::Value(ty) => ty.brief(),
+            Self::Type(bounds) => bounds.brief(),
+        })
     }
 }

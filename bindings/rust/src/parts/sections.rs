@@ -1,6 +1,6 @@
 //! Kinds of sections.
 
-use crate::text::{Text, Write};
+use crate::brief::{Brief, ToBrief};
 
 /// The sections that a component has, by their ids in the binary format.
 #[derive(Clone, Copy, Debug, PartialEq, Eq, PartialOrd, Ord)]
@@ -39,8 +39,8 @@ impl From<ComponentSectionId> for u8 {
     }
 }
 
-impl Write for ComponentSectionId {
-    fn write(&self, text: &mut Text) {
-        text.byte(*self as u8);
+impl ToBrief for ComponentSectionId {
+    fn brief(&self) -> Brief {
+        Brief::byte(*self as u8)
     }
 }

@@ -1,6 +1,6 @@
 //! Types of values.
 
-use crate::text::{Text, Write};
+use crate::brief::{Brief, ToBrief};
 
 /// A primitive type of values.
 #[derive(Clone, Copy, Debug, PartialEq, Eq, Hash)]
@@ -58,10 +58,10 @@ impl PrimitiveValType {
     }
 }
 
-impl Write for PrimitiveValType {
+impl ToBrief for PrimitiveValType {
     #[inline]
-    fn write(&self, text: &mut Text) {
-        text.byte(self.number());
+    fn brief(&self) -> Brief {
+        Brief::byte(self.number())
     }
 }
 
@@ -74,13 +74,13 @@ pub enum ComponentValType {
     Type(u32),
 }
 
-impl Write for ComponentValType {
+impl ToBrief for ComponentValType {
     #[inline]
-    fn write(&self, text: &mut Text) {
+    fn brief(&self) -> Brief {
         match self {
-            Self::Primitive(ty) => text.put(ty),
-            Self::Type(index) => text.signed(*index),
-        };
+            Self::Primitive(ty) => ty.brief(),
+            Self::Type(index) => Brief::signed(*index),
+        }
     }
 }
 
@@ -94,12 +94,12 @@ impl From<PrimitiveValType> for ComponentValType {
 /// What a function answers: a value of one type, or nothing.
 pub(crate) struct ResultList(pub(crate) Option<ComponentValType>);
 
-impl Write for ResultList {
+impl ToBrief for ResultList {
     #[inline]
-    fn write(&self, text: &mut Text) {
+    fn brief(&self) -> Brief {
         match self.0 {
-            Some(ty) => text.byte(0x00).put(ty),
-            None => text.bytes([0x01, 0x00]),
-        };
+            Some(ty) => Brief::byte(0x00).then(ty.brief()),
+            None => Brief::pair(0x01, 0x00),
+        }
     }
 }

@@ -1,6 +1,7 @@
 //! The encoder of types of values.
 
 use super::Target;
+use crate::brief::{Brief, ToBrief};
 use crate::text::Text;
 use crate::twins::twins;
 use crate::{ComponentValType, Error, PrimitiveValType};
@@ -8,6 +9,15 @@ use crate::{ComponentValType, Error, PrimitiveValType};
 /// Writes one type of values. Each of its calls is the last.
 #[derive(Debug)]
 pub struct ComponentDefinedTypeEncoder<'a>(Target<'a>);
+
+/// A type of values, or none.
+#[inline]
+fn maybe(ty: Option<ComponentValType>) -> Brief {
+    match ty {
+        None => Brief::byte(0x00),
+        Some(ty) => Brief::byte(0x01).then(ty.brief()),
+    }
+}
 
 impl<'t> ComponentDefinedTypeEncoder<'t> {
     #[inline]
@@ -37,8 +47,8 @@ impl<'t> ComponentDefinedTypeEncoder<'t> {
         }
         {
             self.end(|text| {
-                text.byte(0x72).list(fields, |text, (name, ty)| {
-                    text.name(name).put(ty.into());
+                text.list_behind(0x72, fields, |text, (name, ty)| {
+                    text.named(name, ty.into().brief());
                 });
             })
         }
@@ -51,8 +61,8 @@ impl<'t> ComponentDefinedTypeEncoder<'t> {
         }
         {
             self.end(|text| {
-                text.byte(0x71).list(cases, |text, (name, ty)| {
-                    text.name(name).option(ty).byte(0x00);
+                text.list_behind(0x71, cases, |text, (name, ty)| {
+                    text.named(name, maybe(ty).then(Brief::byte(0x00)));
                 });
             })
         }
@@ -60,21 +70,21 @@ impl<'t> ComponentDefinedTypeEncoder<'t> {
         /// A list.
         fn list | try_list(self, ty: impl Into<ComponentValType>) -> () {
             self.end(|text| {
-                text.byte(0x70).put(ty.into());
+                text.brief(Brief::byte(0x70).then(ty.into().brief()));
             })
         }
 
         /// A map.
         fn map | try_map(self, key: impl Into<ComponentValType>, value: impl Into<ComponentValType>) -> () {
             self.end(|text| {
-                text.byte(0x63).put(key.into()).put(value.into());
+                text.brief(Brief::byte(0x63).then(key.into().brief())).put(value.into());
             })
         }
 
         /// A list of so many elements.
         fn fixed_length_list | try_fixed_length_list(self, ty: impl Into<ComponentValType>, elements: u32) -> () {
             self.end(|text| {
-                text.byte(0x67).put(ty.into()).index(elements);
+                text.brief(Brief::byte(0x67).then(ty.into().brief())).index(elements);
             })
         }
 
@@ -87,7 +97,7 @@ impl<'t> ComponentDefinedTypeEncoder<'t> {
         }
         {
             self.end(|text| {
-                text.byte(0x6f).list(types, |text, ty| {
+                text.list_behind(0x6f, types, |text, ty| {
                     text.put(ty.into());
                 });
             })
@@ -101,7 +111,7 @@ impl<'t> ComponentDefinedTypeEncoder<'t> {
         }
         {
             self.end(|text| {
-                text.byte(0x6e).names(names);
+                text.names(0x6e, names);
             })
         }
 
@@ -113,49 +123,49 @@ impl<'t> ComponentDefinedTypeEncoder<'t> {
         }
         {
             self.end(|text| {
-                text.byte(0x6d).names(tags);
+                text.names(0x6d, tags);
             })
         }
 
         /// A value or none.
         fn option | try_option(self, ty: impl Into<ComponentValType>) -> () {
             self.end(|text| {
-                text.byte(0x6b).put(ty.into());
+                text.brief(Brief::byte(0x6b).then(ty.into().brief()));
             })
         }
 
         /// What went well or what went wrong, each with a value or none.
         fn result | try_result(self, ok: Option<ComponentValType>, err: Option<ComponentValType>) -> () {
             self.end(|text| {
-                text.byte(0x6a).option(ok).option(err);
+                text.brief(Brief::byte(0x6a).then(maybe(ok))).brief(maybe(err));
             })
         }
 
         /// A resource that is given away, by its type's index.
         fn own | try_own(self, idx: u32) -> () {
             self.end(|text| {
-                text.byte(0x69).index(idx);
+                text.brief(Brief::byte(0x69).then(idx.brief()));
             })
         }
 
         /// A resource that is lent, by its type's index.
         fn borrow | try_borrow(self, idx: u32) -> () {
             self.end(|text| {
-                text.byte(0x68).index(idx);
+                text.brief(Brief::byte(0x68).then(idx.brief()));
             })
         }
 
         /// A value that comes later, or that something is done.
         fn future | try_future(self, payload: Option<ComponentValType>) -> () {
             self.end(|text| {
-                text.byte(0x65).option(payload);
+                text.brief(Brief::byte(0x65).then(maybe(payload)));
             })
         }
 
         /// Values that come one by one.
         fn stream | try_stream(self, payload: Option<ComponentValType>) -> () {
             self.end(|text| {
-                text.byte(0x66).option(payload);
+                text.brief(Brief::byte(0x66).then(maybe(payload)));
             })
         }
     }

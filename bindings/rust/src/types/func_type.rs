@@ -1,6 +1,7 @@
 //! The encoder of types of functions.
 
 use super::Target;
+use crate::brief::ToBrief;
 use crate::parts::ResultList;
 use crate::twins::twins;
 use crate::{ComponentValType, Error};
@@ -73,11 +74,9 @@ impl<'a> ComponentFuncTypeEncoder<'a> {
             }
             self.stage = Stage::Broken;
             let written = self.target.append(|text| {
-                if stage == Stage::Start {
-                    text.byte(tag(false));
-                }
-                text.list(params, |text, (name, ty)| {
-                    text.name(name).put(ty.into());
+                let front = (stage == Stage::Start).then(|| tag(false));
+                text.list_behind(front, params, |text, (name, ty)| {
+                    text.named(name, ty.into().brief());
                 });
             });
             self.stage = if written.is_ok() { Stage::Params } else { stage };

@@ -51,7 +51,7 @@ impl ModuleType {
         /// Declares a core type that an enclosing component has, so many components further out, under this index there.
         fn alias_outer_core_type | try_alias_outer_core_type(&mut self, count: u32, index: u32) -> &mut Self {
             self.0.add(Declared::CoreType, |text| {
-                text.bytes([0x02, 0x10, 0x01]).index(count).index(index);
+                text.raw(&[0x02, 0x10, 0x01]).index(count).index(index);
             })?;
             Ok(self)
         }
