@@ -73,6 +73,8 @@ pub struct ComponentBuilder {
     /// The text of an item that is handed over; of an open type its debug name first, then what was written of it.
     text: Text,
     open: Option<Open>,
+    /// How many types there are, where the last answer that told it is known. It saves a question.
+    types: Option<u32>,
 }
 
 /// A type that an encoder was handed out for, and that isn't whole.
@@ -86,6 +88,7 @@ struct Open {
 
 impl Open {
     /// The debug name at the front of the text, and what is behind it.
+    #[inline]
     fn parts<'t>(&self, text: &'t Text) -> (Option<&'t str>, &'t [u8]) {
         let (name, text) = text.as_slice().split_at(self.name_len);
         if !self.is_named {
@@ -102,6 +105,7 @@ impl ComponentBuilder {
             handle: Handle::new()?,
             text: Text::default(),
             open: None,
+            types: None,
         })
     }
 
@@ -155,7 +159,7 @@ impl ComponentBuilder {
             debug_name: Option<&str>,
             text: &[u8],
         ) -> Option<u32> {
-            self.whole()?;
+            self.begin(true)?;
             let index = self.handle.item(section.into(), debug_name, text)?;
             Ok((section != ComponentSectionId::CoreCustom).then_some(index))
         }
@@ -268,6 +272,23 @@ impl ComponentBuilder {
         }
     }
 
+    /// Begins a call that adds an item, which may be a type.
+    #[inline]
+    fn begin(&mut self, is_type: bool) -> Result<(), Error> {
+        if is_type {
+            self.types = None;
+        }
+        self.whole()
+    }
+
+    /// The item with this index was added to this section by its text.
+    #[inline]
+    fn added(&mut self, section: ComponentSectionId, index: u32) {
+        if section == ComponentSectionId::Type {
+            self.types = index.checked_add(1);
+        }
+    }
+
     /// Adds the item that is written to this section.
     #[inline]
     fn item(
@@ -280,8 +301,10 @@ impl ComponentBuilder {
         self.text.cut_back(0);
         write(&mut self.text);
         self.text.written()?;
-        self.handle
-            .item(section.into(), debug_name, self.text.as_slice())
+        let text = self.text.as_slice();
+        let index = self.handle.item(section.into(), debug_name, text)?;
+        self.added(section, index);
+        Ok(index)
     }
 
     /// Opens a type, whose index is the number of items that this space has.
@@ -293,7 +316,10 @@ impl ComponentBuilder {
         debug_name: Option<&str>,
     ) -> Result<u32, Error> {
         self.whole()?;
-        let index = self.count(space);
+        let index = match self.types {
+            Some(types) if space == space::TYPES => types,
+            _ => self.count(space),
+        };
         if index == u32::MAX {
             return Err(Error::TooMany);
         }
@@ -332,8 +358,11 @@ impl ComponentBuilder {
         let (debug_name, text) = open.parts(&self.text);
         match self.handle.item(open.section.into(), debug_name, text) {
             Ok(index) => {
-                debug_assert_eq!(index, open.index);
+                // It was handed out before, by an answer of the library too.
+                assert_eq!(index, open.index, "the index of an open type");
+                let section = open.section;
                 self.open = None;
+                self.added(section, index);
                 Ok(())
             }
             Err(error) => {

@@ -248,3 +248,39 @@ fn parameters_that_panic_leave_the_type_to_be_given_up() {
         .result(None);
     assert_eq!(behind_header(b), "07 08 01 40 01 01 72 7d 01 00");
 }
+
+#[test]
+fn indices_of_types_go_on_whatever_added_the_last_one() {
+    let mut b = builder();
+    let mut indices = Vec::new();
+    let encoded = |b: &mut ComponentBuilder| {
+        let (index, ty) = b.type_defined(None);
+        ty.primitive(PrimitiveValType::U8);
+        index
+    };
+    indices.push(encoded(&mut b));
+    indices.push(b.import("t", ComponentTypeRef::Type(TypeBounds::SubResource)));
+    indices.push(encoded(&mut b));
+    indices.push(b.export("u", ComponentExportKind::Type, 0, None));
+    indices.push(encoded(&mut b));
+    indices.push(b.alias_export(0, "v", ComponentExportKind::Type));
+    indices.push(encoded(&mut b));
+    let outer = Alias::Outer {
+        kind: ComponentOuterAliasKind::Type,
+        count: 0,
+        index: 0,
+    };
+    indices.push(b.alias(None, outer));
+    indices.push(encoded(&mut b));
+    indices.push(b.raw_item(ComponentSectionId::Type, None, b"\x7f").unwrap());
+    indices.push(encoded(&mut b));
+    indices.push(b.type_resource(None, ValType::I32, None));
+    indices.push(encoded(&mut b));
+    indices.push(b.type_instance(None, &InstanceType::new()));
+    indices.push(encoded(&mut b));
+    let _ = b.type_function(None);
+    b.discard_unfinished();
+    indices.push(encoded(&mut b));
+    assert_eq!(indices, Vec::from_iter(0..16));
+    assert_eq!(b.type_count(), 16);
+}

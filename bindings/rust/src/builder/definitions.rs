@@ -20,7 +20,7 @@ impl ComponentBuilder {
         /// assert_eq!(builder.finish()[8..], *b"\x0a\x0a\x01\x02\x01v\x01\x02\x01x\x02\x7d");
         /// ```
         fn import | try_import<'a>(&mut self, name: impl Into<ComponentExternName<'a>>, ty: ComponentTypeRef) -> u32 {
-            self.whole()?;
+            self.begin(ty.kind() == ComponentExportKind::Type)?;
             let name = name.into();
             if name.is_plain() {
                 self.handle.import(&name.name, ty)
@@ -38,7 +38,7 @@ impl ComponentBuilder {
             idx: u32,
             ty: Option<ComponentTypeRef>,
         ) -> u32 {
-            self.whole()?;
+            self.begin(kind == ComponentExportKind::Type)?;
             let name = name.into();
             if name.is_plain() {
                 self.handle.export(&name.name, kind.number(), idx, ty)
@@ -61,13 +61,13 @@ impl ComponentBuilder {
 
         /// Adds an alias of what an instance exports under this name, which is its debug name too.
         fn alias_export | try_alias_export(&mut self, instance: u32, name: &str, kind: ComponentExportKind) -> u32 {
-            self.whole()?;
+            self.begin(kind == ComponentExportKind::Type)?;
             self.handle.alias_export(Some(name), instance, kind.number(), name)
         }
 
         /// Adds an alias.
         fn alias | try_alias(&mut self, debug_name: Option<&str>, alias: Alias<'_>) -> u32 {
-            self.whole()?;
+            self.begin(true)?;
             match alias {
                 Alias::InstanceExport { instance, kind, name } => {
                     self.handle.alias_export(debug_name, instance, kind.number(), name)
