@@ -58,12 +58,12 @@ pub enum ListFault {
 impl fmt::Display for ListFault {
     fn fmt(&self, f: &mut fmt::Formatter<'_>) -> fmt::Result {
         match self {
-            Self::Memory => f.write_str("no memory"),
-            Self::TooLarge => f.write_str("too large"),
-            Self::NotAComponent { place } => write!(f, "no component's header at {place}"),
-            Self::BadSection { place } => write!(f, "no section at {place}"),
-            Self::BadItem { place } => write!(f, "no items of the section at {place}"),
-            Self::TooDeep { place } => write!(f, "types nest too deep at {place}"),
+            Self::Memory => f.write_str("Memory"),
+            Self::TooLarge => f.write_str("TooLarge"),
+            Self::NotAComponent { place } => write!(f, "NotAComponent at {place}"),
+            Self::BadSection { place } => write!(f, "BadSection at {place}"),
+            Self::BadItem { place } => write!(f, "BadItem at {place}"),
+            Self::TooDeep { place } => write!(f, "TooDeep at {place}"),
         }
     }
 }

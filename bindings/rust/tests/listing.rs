@@ -138,6 +138,17 @@ fn the_first_section_that_is_not_read_is_told() {
 
 #[test]
 fn faults_tell_what_they_are() {
-    let error: Box<dyn std::error::Error> = fault(b"\x06\x05\x01").into();
-    assert_eq!(error.to_string(), "no section at 8");
+    let place = 8;
+    let faults = [
+        (ListFault::Memory, "Memory"),
+        (ListFault::TooLarge, "TooLarge"),
+        (ListFault::NotAComponent { place: 0 }, "NotAComponent at 0"),
+        (ListFault::BadSection { place }, "BadSection at 8"),
+        (ListFault::BadItem { place }, "BadItem at 8"),
+        (ListFault::TooDeep { place }, "TooDeep at 8"),
+    ];
+    for (fault, text) in faults {
+        let fault: Box<dyn std::error::Error> = fault.into();
+        assert_eq!(fault.to_string(), text);
+    }
 }
