@@ -47,6 +47,11 @@
 //! assert_eq!(builder.value_count(), u32::MAX);
 //! ```
 //!
+//! # Building
+//!
+//! `bindings/archive` proves the library, builds it, and writes `bindings/out/libwenc.a`: one file, which asks the C library for
+//! memory and nothing else. The build script of this crate links it from there, or from the folder that `WENC_LIB` names.
+//!
 //! # What differs from upstream
 //!
 //! - A type whose encoder is dropped before its last call is told: the builder is unfinished then, and refuses what adds to it
