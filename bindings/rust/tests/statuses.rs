@@ -57,7 +57,6 @@ extern "C" {
         text_len: usize,
         index: *mut u32,
     ) -> u32;
-    fn wenc_raw_custom_section(builder: *mut Builder, bytes: *const u8, len: usize) -> u32;
     fn wenc_append_names(builder: *mut Builder) -> u32;
     fn wenc_count(builder: *mut Builder, space: u32, count: *mut u32) -> u32;
     fn wenc_list(
@@ -171,8 +170,6 @@ fn a_refused_call_changes_nothing() {
     assert_eq!(import(&mut b, b"v", 2), (TOO_MANY, 77));
     // Pages of zeros that nobody looks at take no memory.
     let large = vec![0; 1 << 32];
-    let added = unsafe { wenc_raw_custom_section(&mut b, large.as_ptr(), large.len()) };
-    assert!(added == DONE || added == TOO_LARGE);
     assert_eq!(item(&mut b, 1, &large), (TOO_LARGE, 77));
     free(b);
 }
