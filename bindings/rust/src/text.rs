@@ -69,10 +69,11 @@ impl Text {
         self.len
     }
 
-    /// Leaves the first `len` bytes.
+    /// Leaves the first `len` bytes, and forgets what was refused.
     #[inline]
     pub(crate) fn cut_back(&mut self, len: usize) {
         self.len = len.min(self.len);
+        self.refused = None;
     }
 
     /// Whether all was written since this was last asked.
@@ -364,6 +365,15 @@ mod tests {
         assert_eq!(list(200, 1), [0x72, 1, 0]);
         assert_eq!(list(1, 200)[..4], [0x72, 0xc8, 0x01, 0]);
         assert_eq!(list(1, 200).len(), 1 + 2 + 128 + 2 * 72);
+    }
+
+    #[test]
+    fn what_is_cut_back_is_not_refused() {
+        let mut text = Text::default();
+        text.byte(1).refuse(Error::TooLarge);
+        text.cut_back(0);
+        assert_eq!(text.written(), Ok(()));
+        assert_eq!(text.byte(2).as_slice(), [2]);
     }
 
     #[test]
