@@ -3,7 +3,7 @@
 mod definitions;
 mod functions;
 mod instances;
-mod intrinsics;
+mod builtins;
 mod types;
 
 use crate::error::told;

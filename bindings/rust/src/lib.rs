@@ -24,7 +24,7 @@
 //! # What is proved
 //!
 //! The library, which is linked from `libwenc.a`, is proved: each accepted call adds exactly the item that was handed over,
-//! answers that item's place in its index space, and the finished bytes have one reading, the accepted items in their order. A
+//! answers that item's index in its space, and the finished bytes have one reading, the accepted items in their order. A
 //! refused call changes nothing. [`list`] answers what that reading is.
 //!
 //! This crate isn't proved. It hands items over: imports, exports, aliases and what is bytes already by calls of their own, the
