@@ -1,7 +1,7 @@
 -- The tables of value types, and what is made of what they find.
-use Rattle.std.proofs.Common.{ℕ, true, false, List, [], ◌∷◌, ◌++◌, map, refl}
+use Rattle.std.proofs.Common.{ℕ, true, false, List, [], ◌∷◌, map, refl}
 use Rattle.wenc_base.specs.Readers.{give}
-use Rattle.wenc_base.specs.Types.{abstract_byte, reference_to}
+use Rattle.wenc_base.specs.Types.{abstract_byte}
 use Rattle.wenc_base.specs.declared.types.HeapType.TheVariants.{Abstract}
 use Rattle.wenc_base.specs.declared.types.RefType.{RefType}
 use Rattle.wenc_base.specs.declared.types.ValType.{ValType}

@@ -1,5 +1,5 @@
 -- The readers of sections are exact.
-use Rattle.std.proofs.Common.{◌≡◌, ◌≢◌, ℕ, zero, suc, ◌<◌, ◌≤◌, true, false, true≢false, cond, eqb, ltb, List, [], ◌∷◌, ◌++◌, length, take, drop, Option, Some, None, Result, Ok, Err, refl, sym, ap, subst, ◌∙◌, inl, inr, ◌⊎◌, arith, length-append}
+use Rattle.std.proofs.Common.{◌≡◌, ◌≢◌, ℕ, zero, suc, ◌<◌, ◌≤◌, true, false, true≢false, cond, eqb, ltb, List, [], ◌∷◌, ◌++◌, length, take, drop, Some, None, Result, Ok, Err, refl, sym, ap, subst, ◌∙◌, inl, inr, ◌⊎◌, arith, length-append}
 use Rattle.std.proofs.lemmas.Bool.{cases_lt, lt-ltb, le-ltb}
 use Rattle.std.proofs.lemmas.Bool.Decides.{eqb_tells}
 use Rattle.std.proofs.lemmas.List.{take_at, drop_at, take-append-drop, length-take-le}
@@ -10,7 +10,7 @@ use Rattle.wenc_base.specs.Forms.{list, name, AreBytes}
 use Rattle.wenc_base.specs.Number.{u32}
 use Rattle.wenc_base.specs.Piece.{Form, Wide, only_where, each, raw, ◌⨾⨾◌}
 use Rattle.wenc_base.specs.laws.Forms.{read_raw, raw_sound, bytes_lawful}
-use Rattle.wenc_base.specs.Readers.{Flaw, Bad, Deep, Reader, ◌>>=◌, give, times, all_read, done}
+use Rattle.wenc_base.specs.Readers.{Flaw, Bad, Deep, Reader, ◌>>=◌, times, all_read, done}
 use Rattle.wenc_base.specs.laws.Lawful.{last, whole_lawful}
 use Rattle.wenc_base.specs.laws.Sections.{read_custom_content, custom_content_lawful, custom_content_sound}
 use Rattle.wenc_base.specs.laws.Numbers.{read_u32, u32_lawful, count_lawful, u32_sound}

@@ -2,9 +2,9 @@
 use Rattle.std.proofs.Common.{ℕ, List, [], ◌∷◌, Option, refl}
 use Rattle.wenc_base.specs.Readers.{Lawful, Reader, ◌>>=◌, give, nowhere, choose, done}
 use Rattle.wenc_base.specs.laws.Lawful.{row_lawful, then, last, whole_lawful}
-use Rattle.wenc_base.specs.laws.Sound.{Sound, last_tells, then_tells, nowhere_tells, choose_tells, whole_sound}
+use Rattle.wenc_base.specs.laws.Sound.{Sound, last_tells, then_tells, nowhere_tells, choose_tells}
 use Rattle.wenc_base.specs.laws.Numbers.{read_u32, u32_lawful, u32_sound}
-use Rattle.wenc_base.specs.laws.Forms.{read_name, name_lawful, name_sound, read_list, list_lawful, list_sound, read_option, option_lawful, option_sound, read_sized, sized_lawful, sized_sound}
+use Rattle.wenc_base.specs.laws.Forms.{read_name, name_lawful, name_sound, read_list, list_lawful, list_sound, read_option, option_lawful, option_sound, read_sized, sized_lawful}
 use Rattle.wenc_base.specs.laws.Exports.{read_core_export_kind as read_core_kind, core_export_kind_lawful as core_kind_lawful, core_export_kind_sound as core_kind_sound}
 use Rattle.wenc_base.specs.declared.exports.ExportKind.{ExportKind}
 use Rattle.wenc_parts.specs.declared.exports.ComponentExportKind.{ComponentExportKind}
