@@ -6,7 +6,7 @@ use Rattle.wenc_base.specs.Fault.{NoCause}
 use Rattle.wenc_base.specs.declared.fault.Fault.{Fault}
 use Rattle.wenc_builder.specs.Entry.{Entry}
 use Rattle.wasm_encoder.specs.Cause.{added, answer_of, led, cause, first_cause}
-use Rattle.wasm_encoder.specs.Command.{CommandTree, Commands, no_more, then, listed_answers}
+use Rattle.wasm_encoder.specs.Command.{CommandTree, Commands, no_more, then, commands_listed}
 use Rattle.wasm_encoder.specs.Ran.{RanFrom}
 
 first_free : (es : List Entry) (c : CommandTree) (cs : Commands) → NoCause (first_cause es (then c cs)) → NoCause (cause es c)
@@ -16,13 +16,13 @@ later_free : (es : List Entry) (c : CommandTree) (cs : Commands) → NoCause (fi
 later_free es c cs none fault k = none fault (inr (first_free es c cs none, k))
 
 pub inner_runs : (es : List Entry) (inner : Commands) → NoCause (first_cause es inner)
-    → (answers : List (Result (Option ℕ) Fault)) × RanFrom es (listed_answers inner) answers (led es inner) × AllByRecursion IsOk answers
+    → (answers : List (Result (Option ℕ) Fault)) × RanFrom es (commands_listed inner) answers (led es inner) × AllByRecursion IsOk answers
 inner_runs es no_more none = ([], refl, tt)
 inner_runs es (then c cs) none =
     let k = inner_runs (es ++ added es c) cs (later_free es c cs none) in
     (Ok (answer_of es c) ∷ k.0, ((refl, first_free es c cs none), k.1), (refl, k.2))
 
-pub runs_inner : (es : List Entry) (inner : Commands) (answers : List (Result (Option ℕ) Fault)) (all : List Entry) → RanFrom es (listed_answers inner) answers all → AllByRecursion IsOk answers
+pub runs_inner : (es : List Entry) (inner : Commands) (answers : List (Result (Option ℕ) Fault)) (all : List Entry) → RanFrom es (commands_listed inner) answers all → AllByRecursion IsOk answers
     → (all ≡ led es inner) × NoCause (first_cause es inner)
 runs_inner es no_more [] all r ok = (sym r, λ fault k. k)
 runs_inner es no_more (a ∷ answers) all r ok = absurd r

@@ -42,9 +42,9 @@ mutual
     no_more : Commands
     then : (first : CommandTree) (rest : Commands) → Commands
 
-abbrev pub listed_answers : Commands → List CommandTree
-listed_answers no_more = []
-listed_answers (then c cs) = c ∷ listed_answers cs
+abbrev pub commands_listed : Commands → List CommandTree
+commands_listed no_more = []
+commands_listed (then c cs) = c ∷ commands_listed cs
 
 -- ---- the code's commands as pure ones
 

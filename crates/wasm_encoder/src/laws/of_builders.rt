@@ -22,7 +22,7 @@ ghost use Rattle.wenc_parts.specs.declared.types.PrimitiveValType.{PrimitiveValT
 ghost use Rattle.wenc_types.specs.ComponentTypes.{DefType, def_type};
 ghost use Rattle.wenc_types.specs.CoreTypes.{CoreType, core_type};
 ghost use Rattle.wasm_encoder.specs.Cause.{led, first_cause};
-ghost use Rattle.wasm_encoder.specs.Command.{CommandTree, Commands, listed_answers};
+ghost use Rattle.wasm_encoder.specs.Command.{CommandTree, Commands, commands_listed};
 ghost use Rattle.wasm_encoder.specs.Nameless.{StartIsNameless};
 ghost use Rattle.wasm_encoder.specs.Ran.{Ran};
 
@@ -68,9 +68,9 @@ pub fn indices_are_no_primitives()
 pub fn nested_runs()
     ensures there { (inner : Commands) → NoCause (first_cause [] inner)
         → (answers : List (Result (Option ℕ) Fault))
-        × Ran (listed_answers inner) answers (led [] inner) × AllByRecursion IsOk answers }
+        × Ran (commands_listed inner) answers (led [] inner) × AllByRecursion IsOk answers }
     ensures back { (inner : Commands) (answers : List (Result (Option ℕ) Fault)) (all : List Entry)
-        → Ran (listed_answers inner) answers all → AllByRecursion IsOk answers
+        → Ran (commands_listed inner) answers all → AllByRecursion IsOk answers
         → (all ≡ led [] inner) × NoCause (first_cause [] inner) }
 {}
 
