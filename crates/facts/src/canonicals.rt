@@ -11,7 +11,8 @@ ghost use Rattle.wenc_canon.specs.Canonicals.{canonical, Lift, Lower, OfBuiltin}
 #[tactic(auto, unfolding(wenc_base::specs::Number::groups))]
 pub fn canonical_functions()
     // core function 1 is lifted to type 2
-    ensures lift { (canonical (Lift 1 (CanonicalOption.Memory 0 ∷ CanonicalOption.Async ∷ []) 2)).text
+    ensures lift { (canonical
+        (Lift 1 (CanonicalOption.Memory 0 ∷ CanonicalOption.Async ∷ []) 2)).text
         ≡ 0x00 ∷ 0x00 ∷ 0x01 ∷ 0x02 ∷ 0x03 ∷ 0x00 ∷ 0x06 ∷ 0x02 ∷ [] }
     ensures lower { (canonical (Lower 3 [])).text ≡ 0x01 ∷ 0x00 ∷ 0x03 ∷ 0x00 ∷ [] }
     ensures padded_lower { (canonical (Lower 3 [])).Reads Wide

@@ -11,7 +11,8 @@ ghost use Rattle.wenc_parts.specs.declared.imports.ComponentTypeRef.{ComponentTy
 pub fn components()
     ensures none { whole []
         ≡ 0x00 ∷ 0x61 ∷ 0x73 ∷ 0x6d ∷ 0x0d ∷ 0x00 ∷ 0x01 ∷ 0x00 ∷ [] }
-    ensures import_and_export { whole (items (import_entry (plain_name (0x66 ∷ [])) (ComponentTypeRef.Func 0)
+    ensures import_and_export { whole (items
+        (import_entry (plain_name (0x66 ∷ [])) (ComponentTypeRef.Func 0)
         ∷ export_entry (plain_name (0x67 ∷ [])) ComponentExportKind.Func 0 None ∷ []))
         ≡ 0x00 ∷ 0x61 ∷ 0x73 ∷ 0x6d ∷ 0x0d ∷ 0x00 ∷ 0x01 ∷ 0x00
         ∷ 0x0a ∷ 0x06 ∷ 0x01 ∷ 0x00 ∷ 0x01 ∷ 0x66 ∷ 0x01 ∷ 0x00

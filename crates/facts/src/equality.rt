@@ -135,7 +135,8 @@ pub fn groups_of_types<A: Allocator>(one: &GroupTree<A>, other: &GroupTree<A>) -
 }
 
 pub fn declarations_of_modules<A: Allocator>(one: &ModuleDecl<A>, other: &ModuleDecl<A>) -> bool
-    ensures { IsTrue result ↔ (module_declaration_view one.now ≡ module_declaration_view other.now) }
+    ensures { IsTrue result
+        ↔ (module_declaration_view one.now ≡ module_declaration_view other.now) }
 {
     one == other
 }

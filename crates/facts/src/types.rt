@@ -36,7 +36,11 @@ pub fn defined_types()
       answer = Some (primitive String);
     })).text
         ≡ 0x40 ∷ 0x02 ∷ 0x01 ∷ 0x61 ∷ 0x73 ∷ 0x01 ∷ 0x62 ∷ 0x73 ∷ 0x00 ∷ 0x73 ∷ [] }
-    ensures asynchronous { (function_type (record { is_async = true; params = []; answer = None })).text
+    ensures asynchronous { (function_type (record {
+      is_async = true;
+      params = [];
+      answer = None;
+    })).text
         ≡ 0x43 ∷ 0x00 ∷ 0x01 ∷ 0x00 ∷ [] }
 {}
 

@@ -6,7 +6,7 @@ ghost use Rattle.wenc_base.specs.Composites.{RecType, rec_type};
 ghost use Rattle.wenc_base.specs.Fault.{NoCause};
 ghost use Rattle.wenc_base.specs.FormLaws.{FormLaws};
 ghost use Rattle.wenc_base.specs.Forms.{name, counted};
-ghost use Rattle.wenc_base.specs.Holder.{HolderState, Contains, is_finished, held_members, held_section};
+ghost use Rattle.wenc_base.specs.Holder.{HolderState, Contains, is_finished, held_members, held_section, Accepted};
 ghost use Rattle.wenc_base.specs.Number.{unsigned_text, signed_text, IsUnsignedText, IsSignedText};
 ghost use Rattle.wenc_base.specs.Number.{u32 as number};
 ghost use Rattle.wenc_base.specs.Openings.{member_begun, member_appended, member_ended, member_given_up};
@@ -157,22 +157,31 @@ pub fn sections_are_their_items()
         → (producers_held section).text ≡ (producers_section fields).text }
 {}
 
+/// What contained some values of a form, and accepted one more, contains these and that one.
+pub fn what_is_added_is_contained()
+    ensures { (f : FormName) (v : value_of f) (members : List (value_of f)) (old new : HolderState)
+        → Accepted (form_of f v) old new → Contains (form_of f) old members
+        → Contains (form_of f) new (members ++ v ∷ []) }
+{}
+
 /// A member that is written piece by piece, a type of a section, and a type that a module type, a component type or an
 /// instance type declares: given up it leaves no trace, and ended it is one more, where it can be encoded.
 pub fn openings_are_members()
-    ensures member_given_up { (h : HolderState) (lead more : List ℕ) → is_finished h ≡ true
+    ensures given_up { (h : HolderState) (lead more : List ℕ) → is_finished h ≡ true
         → member_given_up (member_appended (member_begun h lead) more) ≡ h }
-    ensures type_ended { (h : HolderState) (members : List (List ℕ)) (lead more : List ℕ)
+    ensures ended { (h : HolderState) (members : List (List ℕ)) (lead more : List ℕ)
         → Contains verbatim h members
         → Contains verbatim (member_ended (member_appended (member_begun h lead) more))
         (members ++ (lead ++ more) ∷ []) }
     ensures type_ended_in_section { (section : HolderState) (t : DefType) (types : List DefType)
         → (def_type t).Fits → Contains def_type section types
-        → Contains def_type (member_ended (member_appended (member_begun section []) (def_type t).text))
+        → Contains def_type
+        (member_ended (member_appended (member_begun section []) (def_type t).text))
         (types ++ t ∷ []) }
-    ensures core_type_ended_in_section { (section : HolderState) (t : CoreType) (types : List CoreType)
-        → (core_type t).Fits → Contains core_type section types
-        → Contains core_type (member_ended (member_appended (member_begun section []) (core_type t).text))
+    ensures core_type_ended_in_section { (section : HolderState) (t : CoreType)
+        (types : List CoreType) → (core_type t).Fits → Contains core_type section types
+        → Contains core_type
+        (member_ended (member_appended (member_begun section []) (core_type t).text))
         (types ++ t ∷ []) }
     ensures type_given_up { (t : TypeState) (sort : Sort) (text : List ℕ) → NoneBegun t
         → type_given_up (type_appended (type_begun sort t) text) ≡ t }
@@ -180,25 +189,29 @@ pub fn openings_are_members()
         → (rec_type g).Fits → ModuleDeclares t ds
         → ModuleDeclares (type_ended (type_appended (type_begun sorts.«Type» t) (rec_type g).text))
         (ds ++ ModuleRecType g ∷ []) }
-    ensures type_ended_in_component { (t : TypeState) (ty : DefType) (ds : List ComponentDeclaration)
-        → (def_type ty).Fits → ComponentDeclares t ds
-        → ComponentDeclares (type_ended (type_appended (type_begun sorts.«Type» t) (def_type ty).text))
+    ensures type_ended_in_component { (t : TypeState) (ty : DefType)
+        (ds : List ComponentDeclaration) → (def_type ty).Fits → ComponentDeclares t ds
+        → ComponentDeclares
+        (type_ended (type_appended (type_begun sorts.«Type» t) (def_type ty).text))
         (ds ++ component.Declared (Typed ty) ∷ []) }
     ensures core_type_ended_in_component { (t : TypeState) (ty : CoreType)
         (ds : List ComponentDeclaration) → (core_type ty).Fits → ComponentDeclares t ds
-        → ComponentDeclares (type_ended (type_appended (type_begun sorts.CoreType t) (core_type ty).text))
+        → ComponentDeclares
+        (type_ended (type_appended (type_begun sorts.CoreType t) (core_type ty).text))
         (ds ++ component.Declared (CoreTyped ty) ∷ []) }
     ensures type_ended_in_instance { (t : TypeState) (ty : DefType) (ds : List InstanceDeclaration)
         → (def_type ty).Fits → InstanceDeclares t ds
-        → InstanceDeclares (type_ended (type_appended (type_begun sorts.«Type» t) (def_type ty).text))
+        → InstanceDeclares
+        (type_ended (type_appended (type_begun sorts.«Type» t) (def_type ty).text))
         (ds ++ Typed ty ∷ []) }
     ensures core_type_ended_in_instance { (t : TypeState) (ty : CoreType)
         (ds : List InstanceDeclaration) → (core_type ty).Fits → InstanceDeclares t ds
-        → InstanceDeclares (type_ended (type_appended (type_begun sorts.CoreType t) (core_type ty).text))
+        → InstanceDeclares
+        (type_ended (type_appended (type_begun sorts.CoreType t) (core_type ty).text))
         (ds ++ CoreTyped ty ∷ []) }
 {}
 
-/// A call that adds an builtin and answers `Ok` has added it: there is one function more, so that a call which leaves
+/// A call that adds a builtin and answers `Ok` has added it: there is one function more, so that a call which leaves
 /// the section as it was can't answer `Ok`.
 pub fn an_added_function_is_one_more()
     ensures one_more { (old new : HolderState) (i : Builtin) (values : Values (row i).fields)

@@ -12,17 +12,17 @@ pub use command::{Built, Command, build};
 pub use wenc_base::{
     AbstractHeapType, ArrayType, CompositeType, CoreTypeEncoder, CustomSection, Delimited,
     DelimitedEq, Encode, EntityType, ExportKind, Fault, FieldType, FuncType, GlobalType, GroupTree,
-    HeapType, Holder, Lender, ByRef, MemoryType, Module, NameMap, ProducersField, ProducersSection,
+    HeapType, Holder, Lender, MemoryType, Module, NameMap, ProducersField, ProducersSection,
     RawCustomSection, RawSection, RefType, Section, SectionId, StorageType, StructType, SubType,
-    TableType, TagType, Tagged, ValType, Verbatim, WithSize, encode_list, encoding_size,
-    section_size,
+    TableType, TagType, ValType, encode_list, encoding_size, section_size,
 };
-pub use wenc_builder::ComponentBuilder;
+pub use wenc_builder::{ComponentBuilder, Space};
 pub use wenc_canon::{CanonTree, CanonicalFunctionSection, CanonicalOption};
+pub use wenc_list::{ItemTree, ListFault, ListedSection, Listing, list};
 pub use wenc_parts::{
     Alias, AliasTree, ComponentExportKind, ComponentExternName, ComponentOuterAliasKind,
     ComponentSection, ComponentSectionId, ComponentTypeRef, ComponentValType, ModuleArg,
-    NameOptions, NameTree, PrimitiveValType, ResultList, TypeBounds,
+    NameOptions, NameTree, PrimitiveValType, TypeBounds,
 };
 pub use wenc_sections::{
     Component, ComponentAliasSection, ComponentExportSection, ComponentImportSection,

@@ -82,7 +82,8 @@ fn core_module(alloc: Global, words: Words) -> Result<Option<Command>, AllocErro
 
 /// `start F R A..`
 fn start(alloc: Global, words: Words) -> Result<Option<Command>, AllocError>
-    ensures { IfOk result (λ c. option_map command_view c ≡ start_command (words_left words.entry)) }
+    ensures { IfOk result
+        (λ c. option_map command_view c ≡ start_command (words_left words.entry)) }
 {
     let mut words = words;
     let (Some(function), Some(results)) = (words.next(), words.next()) else {

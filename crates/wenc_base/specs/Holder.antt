@@ -127,7 +127,8 @@ pub record AddsMember (p : Piece) (old new : HolderState)
 
 -- The same where the piece is made of the values that an iterator gives.
 pub record AddsListed {S B : Type 0} (steps : S → Option B → S → Type 0) (values : S)
-    (piece : List B → Piece) (old new : HolderState) (outcome : Result (Unit {0}) Fault) : Type 0 where
+    (piece : List B → Piece) (old new : HolderState)
+    (outcome : Result (Unit {0}) Fault) : Type 0 where
   pub ok : OnOk outcome
       (WholeRun steps values (λ run. Accepted (piece run.items) old new))
   pub err : OnErr outcome (new ≡ old)

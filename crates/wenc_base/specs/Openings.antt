@@ -4,7 +4,8 @@ use Rattle.std.specs.Prelude.{◌≡◌, ◌==◌, Bool, ℕ, ◌+◌, ◌-◌, 
 use Rattle.std.specs.Prelude.{take, drop, Option, Some, None, Result, Err, OnOk, OnErr, IfErr}
 use Rattle.wenc_base.specs.Fault.{IsWarranted, NoCause}
 use Rattle.wenc_base.specs.Piece.{Piece}
-use Rattle.wenc_base.specs.Holder.{HolderState, is_finished, holding, content_size, AddCause, ContainsSome}
+use Rattle.wenc_base.specs.Holder.{HolderState, is_finished, holding, content_size, AddCause}
+use Rattle.wenc_base.specs.Holder.{ContainsSome}
 use Rattle.wenc_base.specs.Lender.{Extends}
 use Rattle.wenc_base.specs.declared.fault.Fault.{Fault}
 use Rattle.wenc_base.specs.declared.fault.Fault.TheVariants.{TooLarge, Unfinished}
@@ -78,5 +79,7 @@ no_room_in_holder h text fault =
 
 -- A call adds this piece to a member and leaves it so, or is refused for a cause and changes
 -- nothing.
-abbrev pub AppendsToMember : HolderState → HolderState → HolderState → Result (Unit {0}) Fault → Piece → Type 0
-AppendsToMember old new next outcome p = Extends old new next outcome p (no_room_in_holder old p.text)
+abbrev pub AppendsToMember : HolderState → HolderState → HolderState → Result (Unit {0}) Fault
+    → Piece → Type 0
+AppendsToMember old new next outcome p =
+    Extends old new next outcome p (no_room_in_holder old p.text)

@@ -33,7 +33,8 @@ producers_section fields = sized (name producers_label ⨾⨾ all_of (list produ
 
 -- the same section, where its fields are held
 abbrev pub producers_held : HolderState → Piece
-producers_held h = refused_for (EncodeCause h) (sized (name producers_label ⨾⨾ all_of (held_members h)))
+producers_held h =
+    refused_for (EncodeCause h) (sized (name producers_label ⨾⨾ all_of (held_members h)))
 
 -- a field with the tools that are held
 abbrev pub held_field : List ℕ → HolderState → Piece

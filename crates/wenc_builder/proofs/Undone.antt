@@ -8,7 +8,7 @@ use Rattle.wenc_builder.specs.declared.builder.spaces.Undo.{Undo}
 
 -- what a space was is what the names up to its length say
 abbrev undo_at : ℕ → Namespace → Undo
-undo_at i s = record { space = i; count = s.count; name_association = s.named; len = length s.names }
+undo_at i s = record { space = i; count = s.count; named = s.named; len = length s.names }
 
 before_with : (i n : ℕ) (s : Namespace) (name : Option (List ℕ)) → spaces_before (undo_at i s) (namespace_with s n name).names ≡ s
 before_with i n s None = rw (take_all (length s.names) s.names (omega arith)) refl
@@ -38,7 +38,7 @@ thirteen spaces (Some u) h = h.0
 pub begun_view : (spaces : List Namespace) (undo : Option Undo) (now : Spaced) (i n : ℕ) (one new : Namespace) (count names len : ℕ) (name : Option (List ℕ))
     → i < 13 → CanUndo spaces undo → spaced_view spaces undo ≡ now → now.taking ≡ None → one ≡ get_or spaces i one → new ≡ namespace_with one n name
     → count ≡ one.count → names ≡ one.named → len ≡ length one.names
-    → spaced_view (set spaces i new) (Some (record { space = i; count = count; name_association = names; len = len }))
+    → spaced_view (set spaces i new) (Some (record { space = i; count = count; named = names; len = len }))
     ≡ spaces_begun now i n name
 begun_view spaces undo now i n one new count names len name h k e t o f c m l =
     let inside : i < length spaces = omega (arith, thirteen spaces undo k) in
@@ -48,7 +48,7 @@ begun_view spaces undo now i n one new count names len name h k e t o f c m l =
 
 pub begun_can : (spaces : List Namespace) (undo : Option Undo) (i n : ℕ) (one new : Namespace) (count names len : ℕ) (name : Option (List ℕ))
     → i < 13 → CanUndo spaces undo → new ≡ namespace_with one n name → names ≡ one.named → len ≡ length one.names
-    → CanUndo (set spaces i new) (Some (record { space = i; count = count; name_association = names; len = len }))
+    → CanUndo (set spaces i new) (Some (record { space = i; count = count; named = names; len = len }))
 begun_can spaces undo i n one new count names len name h k f m l =
     let inside : i < length spaces = omega (arith, thirteen spaces undo k) in
     rw (m, l, get_or-set_same spaces i new no_names inside, f) (length-set spaces i (namespace_with one n name) ∙ thirteen spaces undo k, h, (no_less n one name).0, (no_less n one name).1)

@@ -67,21 +67,21 @@ with_item s x = with_item_at (collected x) s (item x).text
 -- how many items a space has, how many of them have names, and the text of those names
 pub record Namespace : Type 0 where
   pub count : ℕ
-  pub name_association : ℕ
+  pub named : ℕ
   pub names : List ℕ
 
 abbrev pub space_view : ℕ → ℕ → List ℕ → Namespace
-space_view count name_association names = record { count = count; name_association = name_association; names = names }
+space_view count named names = record { count = count; named = named; names = names }
 
 abbrev pub no_names : Namespace
-no_names = record { count = 0; name_association = 0; names = [] }
+no_names = record { count = 0; named = 0; names = [] }
 
 -- so many more items, the first of them with this name or none
 abbrev pub namespace_with : Namespace → ℕ → Option (List ℕ) → Namespace
-namespace_with s number None = record { count = s.count + number; name_association = s.named; names = s.names }
+namespace_with s number None = record { count = s.count + number; named = s.named; names = s.names }
 namespace_with s number (Some name) = record {
   count = s.count + number;
-  name_association = s.named + 1;
+  named = s.named + 1;
   names = s.names ++ (name_association (record { index = s.count; name = name })).text;
 }
 

@@ -69,8 +69,8 @@ abbrev pub canonical_entry : Option (List ℕ) → Canonical → Entry
 canonical_entry debug_name function = entry (CanonItem function) debug_name
 
 -- it has the debug name that is its own
-abbrev pub provided_entry : (i : Builtin) → Values (row i).fields → Entry
-provided_entry i values = canonical_entry (Some (name_of i values)) (OfBuiltin i values)
+abbrev pub builtin_entry : (i : Builtin) → Values (row i).fields → Entry
+builtin_entry i values = canonical_entry (Some (name_of i values)) (OfBuiltin i values)
 
 -- the debug name of a canonical function: its own, or where it is lifted or lowered this one
 abbrev pub canonical_name : Option (List ℕ) → Canonical → Option (List ℕ)

@@ -20,7 +20,8 @@ no_room_in_section s text = NoRoom (content_of (item_appended s text)).sections.
 
 -- These bytes are the text of an item that the section with this id collects, and that takes these
 -- indices; or of one that is a section of its own.
-pub record IsItemText (section : Option ℕ) (indices : Option Indices) (bytes : List ℕ) : Type 0 where
+pub record IsItemText (section : Option ℕ) (indices : Option Indices)
+    (bytes : List ℕ) : Type 0 where
   pub value : Item
   pub collects : collected value ≡ section
   pub takes : defines value ≡ indices

@@ -9,7 +9,7 @@ ghost use Rattle.wenc_base.specs.declared.fault.Fault.TheVariants.{Unfinished};
 ghost use Rattle.wenc_parts.specs.Imports.{extern_name_view};
 ghost use Rattle.wenc_parts.specs.Aliases.{alias_view};
 ghost use Rattle.wenc_canon.specs.Canonicals.{◌is◌takes◌, CoreType, Slot, slot_text};
-ghost use Rattle.wenc_canon.specs.inside.Rows.{row_with, provided_by, and_options, provided_with};
+ghost use Rattle.wenc_canon.specs.inside.Rows.{row_with, builtin_by, and_options, builtin_with};
 ghost use Rattle.wenc_canon.specs.CanonTrees.{canon_view};
 ghost use Rattle.wenc_builder.specs.Sections.{Section, runs, Reading, whole};
 ghost use Rattle.wenc_builder.specs.Entry.{Entry, items, module_entry, component_entry, canonical_entry, start_entry, custom_entry, raw_entry};
@@ -376,10 +376,10 @@ impl<A: Allocator> ComponentBuilder<A> {
     }
 
     /// Adds the builtin of this row, which has these fields, with the row's name as its debug name. Answers its index.
-    fn provide<F: Fields>(&mut self, row: Row, fields: &F) -> Result<u32, Fault>
+    fn add_builtin<F: Fields>(&mut self, row: Row, fields: &F) -> Result<u32, Fault>
         requires row { row_with row.opcode ≡ (row.name.now is row.opcode takes F.kinds) }
         ensures { Enters self.old self.new result (canonical_entry (Some row.name.now)
-            (provided_by row.opcode F.kinds (F.values fields.now))) }
+            (builtin_by row.opcode F.kinds (F.values fields.now))) }
     {
         self.add(
             Kind::CanonicalFunction,
@@ -389,8 +389,8 @@ impl<A: Allocator> ComponentBuilder<A> {
         )
     }
 
-    /// The same of an builtin that has options behind these fields.
-    fn provide_with<F: Fields, I: Iterator<Item = CanonicalOption> + Drop>(
+    /// The same of a builtin that has options behind these fields.
+    fn add_builtin_with<F: Fields, I: Iterator<Item = CanonicalOption> + Drop>(
         &mut self,
         row: Row,
         fields: &F,
@@ -402,7 +402,7 @@ impl<A: Allocator> ComponentBuilder<A> {
         requires ends { IsFinite (I.remaining options) }
         ensures { EntersListed I.next_gives options self.old self.new result
             (λ os. canonical_entry (Some row.name.now)
-            (provided_with row.opcode F.kinds (F.values fields.now) os)) }
+            (builtin_with row.opcode F.kinds (F.values fields.now) os)) }
     {
         self.add_listed(
             Kind::CanonicalFunction,
@@ -416,14 +416,14 @@ impl<A: Allocator> ComponentBuilder<A> {
 
     /// Adds the builtin of this row, which has a slot of a task, of this value type: its debug name is the row's with
     /// the number of the slot behind it. Answers its index.
-    fn provide_for_slot(&mut self, row: Row, ty: ValType, slot: u32) -> Result<u32, Fault>
+    fn add_builtin_for_slot(&mut self, row: Row, ty: ValType, slot: u32) -> Result<u32, Fault>
     where
         A: Clone,
         requires row { row_with row.opcode ≡
             (row.name.now is row.opcode takes CoreType ∷ Slot ∷ []) }
         ensures { Enters self.old self.new result
             (canonical_entry (Some (row.name.now ++ slot_text Slot slot))
-            (provided_by row.opcode (CoreType ∷ Slot ∷ []) (ty, slot))) }
+            (builtin_by row.opcode (CoreType ∷ Slot ∷ []) (ty, slot))) }
     {
         if !self.is_finished() {
             return Err(Fault::Unfinished);

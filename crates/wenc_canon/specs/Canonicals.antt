@@ -211,14 +211,14 @@ slots_text [] vs = []
 slots_text (f ∷ []) v = slot_text f v
 slots_text (f ∷ g ∷ fs) vs = slot_text f vs.0 ++ slots_text (g ∷ fs) vs.1
 
--- the name of an builtin with these values
+-- the name of a builtin with these values
 abbrev pub name_of : (i : Builtin) → Values (row i).fields → List ℕ
 name_of i values = (row i).name ++ slots_text (row i).fields values
 
 -- ---- canonical functions
 
 -- A core function that is lifted, with its options and its type; a function that is lowered, with
--- its options; or an builtin with the values of its fields.
+-- its options; or a builtin with the values of its fields.
 pub data Canonical : Type 0 where
   Lift : ℕ → List CanonicalOption → ℕ → Canonical
   Lower : ℕ → List CanonicalOption → Canonical
@@ -239,12 +239,12 @@ canonical_name (OfBuiltin i values) = (row i).name
 -- ---- what the calls of a section add
 
 -- this builtin, with the values of its fields
-abbrev pub Adds : HolderState → HolderState → Result (Unit {0}) Fault → (i : Builtin) → Values (row i).fields
-    → Type 0
+abbrev pub Adds : HolderState → HolderState → Result (Unit {0}) Fault → (i : Builtin)
+    → Values (row i).fields → Type 0
 Adds old new outcome i values = AddsMember (canonical (OfBuiltin i values)) old new outcome
 
 -- a function that is made of the options which an iterator gives
-abbrev pub AddsWithOptions : {S : Type 0} → (S → Option CanonicalOption → S → Type 0) → S → HolderState
-    → HolderState → Result (Unit {0}) Fault → (List CanonicalOption → Canonical) → Type 0
+abbrev pub AddsWithOptions : {S : Type 0} → (S → Option CanonicalOption → S → Type 0) → S
+    → HolderState → HolderState → Result (Unit {0}) Fault → (List CanonicalOption → Canonical) → Type 0
 AddsWithOptions steps options old new outcome function =
     AddsListed steps options (λ os. canonical (function os)) old new outcome

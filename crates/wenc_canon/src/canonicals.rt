@@ -8,7 +8,7 @@ ghost use Rattle.wenc_base.specs.Piece.{HasForm};
 ghost use Rattle.wenc_base.specs.laws.Delimited.{itself};
 ghost use Rattle.wenc_base.specs.laws.Serves.{serves_itself};
 ghost use Rattle.wenc_canon.specs.Canonicals.{AddsWithOptions, Lift, Lower, canonical, ◌is◌takes◌};
-ghost use Rattle.wenc_canon.specs.inside.Rows.{row_with, provided_by, and_options, provided_with};
+ghost use Rattle.wenc_canon.specs.inside.Rows.{row_with, builtin_by, and_options, builtin_with};
 
 mod builtins;
 
@@ -19,7 +19,7 @@ use std::marker::Model;
 use wenc_base::{Delimited, DelimitedEq, Encode, Fault, Holder, Tagged};
 use wenc_parts::{ComponentSection, ComponentSectionId};
 
-/// An option of a function that is lifted or lowered, or of an builtin that reads or writes values
+/// An option of a function that is lifted or lowered, or of a builtin that reads or writes values
 /// (component model, binary format, `canonopt`).
 #[derive(Clone, Copy, Debug, PartialEq, Eq)]
 pub enum CanonicalOption {
@@ -217,7 +217,7 @@ impl<A: Allocator> CanonicalFunctionSection<A> {
     /// Adds the builtin of this row, which has these fields.
     fn add_row<F: Fields>(&mut self, row: Row, fields: &F) -> Result<(), Fault>
         requires row { row_with row.opcode ≡ (row.name.now is row.opcode takes F.kinds) }
-        ensures { AddsMember (canonical (provided_by row.opcode F.kinds (F.values fields.now)))
+        ensures { AddsMember (canonical (builtin_by row.opcode F.kinds (F.values fields.now)))
             self.old self.new result }
     {
         self.functions.add_encoded(&Tagged(row.opcode, fields))
@@ -232,9 +232,10 @@ impl<A: Allocator> CanonicalFunctionSection<A> {
     ) -> Result<(), Fault>
         requires can { I.can_next options }
         requires ends { IsFinite (I.remaining options) }
-        requires row { row_with row.opcode ≡ (row.name.now is row.opcode takes and_options F.kinds) }
+        requires row { row_with row.opcode
+            ≡ (row.name.now is row.opcode takes and_options F.kinds) }
         ensures { AddsWithOptions I.next_gives options self.old self.new result
-            (provided_with row.opcode F.kinds (F.values fields.now)) }
+            (builtin_with row.opcode F.kinds (F.values fields.now)) }
     {
         self.functions
             .add_listed(&Tagged(row.opcode, fields), options, &())

@@ -8,7 +8,7 @@ use std::alloc::Allocator;
 use wenc_base::{Encode, Fault, ValType};
 use wenc_parts::ResultList;
 
-/// What stands behind the opcode of an builtin, in front of its options if it takes some (component model, binary
+/// What stands behind the opcode of a builtin, in front of its options if it takes some (component model, binary
 /// format, "Canonical Definitions").
 pub trait Fields: Encode {
     /// The fields, one by one.

@@ -22,7 +22,8 @@ ByteThen b P bytes = (rest : List ℕ) × (bytes ≡ b ∷ rest) × P rest
 -- A type of a component or of an instance opens here, and then so many more inside one another,
 -- each before anything that is no declaration.
 abbrev pub OpensTypes : ℕ → List ℕ → Type 0
-OpensTypes zero bytes = ByteThen 0x41 (λ rest. Unit {0}) bytes ⊎ ByteThen 0x42 (λ rest. Unit {0}) bytes
+OpensTypes zero bytes =
+    ByteThen 0x41 (λ rest. Unit {0}) bytes ⊎ ByteThen 0x42 (λ rest. Unit {0}) bytes
 OpensTypes (suc more) bytes =
     ByteThen 0x41 (Front component_declaration (ByteThen 0x01 (OpensTypes more))) bytes
     ⊎ ByteThen 0x42 (Front instance_declaration (ByteThen 0x01 (OpensTypes more))) bytes

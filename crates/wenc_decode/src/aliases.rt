@@ -74,7 +74,8 @@ fn export_alone<A: Allocator + Copy>(
     kind: ComponentExportKind,
     bytes: &[u8],
 ) -> Result<(AliasTree<A>, &[u8]), Refusal>
-    ensures { Gives (λ x. (alias_tree_view x.0, x.1.now)) result (read_exported_alias kind bytes.now) }
+    ensures { Gives (λ x. (alias_tree_view x.0, x.1.now)) result
+        (read_exported_alias kind bytes.now) }
 {
     match byte(bytes)? {
         (0x00, rest) => export(alloc, kind, rest),

@@ -1,4 +1,4 @@
 pub mod Listed
-pub mod Places
+pub mod Indices
 pub mod SectionLaws
 pub mod Faults

@@ -126,7 +126,7 @@ no_item place bytes id content rest other e bad = (
     content = content;
     rest = rest;
     framed = is_framed bytes id content rest e;
-    labelled_section = labelled_other id content other;
+    labelled = labelled_other id content other;
     never = λ s after r. never_read 100 id (members s) content (fills_here bytes id content rest e s after r) bad;
   },
 )

@@ -75,7 +75,7 @@ AreFrom all (s ∷ ss) bytes rest =
     (middle : List ℕ) × (section_piece (section_view s)).Reads Wide bytes middle ×
     (all ≡ s.place + length bytes) × BeginsWith s.id bytes × AreFrom all ss middle rest
 
--- how many places in space k the items of these sections take
+-- how many indices in space k the items of these sections take
 abbrev pub count_of_sections : ℕ → List Section → ℕ
 count_of_sections k ss = next_index (flat_map members ss) k
 

@@ -1,4 +1,4 @@
-//! How many places items take in each index space.
+//! How many indices items take in each index space.
 ghost use Rattle.std.specs.Prelude.{◌≡◌, ℕ, ◌+◌, ◌<◌, ◌^◌, map, slice_index};
 ghost use Rattle.wenc_builder.specs.Space.{space_number, some_in, number_in, defined_in, next_index};
 ghost use Rattle.wenc_list.specs.Items.{item_view};
@@ -7,7 +7,7 @@ use crate::item::ItemTree;
 use std::alloc::Allocator;
 use wenc_builder::Space;
 
-/// Counts so many places more in a space.
+/// Counts so many indices more in a space.
 fn add(counts: &mut [u128; 13], space: Space, number: u32)
     requires { slice_index counts.old (space_number space) + number < 2 ^ 128 }
     ensures { (k : ℕ)
@@ -16,24 +16,26 @@ fn add(counts: &mut [u128; 13], space: Space, number: u32)
     counts[space.number()] += u128::from(number);
 }
 
-/// Counts the places that an item takes.
+/// Counts the indices that an item takes.
 fn add_item<A: Allocator>(counts: &mut [u128; 13], item: &ItemTree<A>)
     requires { (k : ℕ)
         → slice_index counts.old k + defined_in k (item_view item.now) < 2 ^ 128 }
     ensures { (k : ℕ)
         → slice_index counts.new k ≡ slice_index counts.old k + defined_in k (item_view item.now) }
 {
-    match item.places() {
+    match item.indices() {
         Some((space, number)) => add(counts, space, number),
         None => {}
     }
 }
 
-/// Counts the places that the items take.
+/// Counts the indices that the items take.
 pub(crate) fn count<A: Allocator>(counts: &mut [u128; 13], items: &[ItemTree<A>])
-    requires { (k : ℕ) → slice_index counts.old k + next_index (map item_view items.now) k < 2 ^ 128 }
+    requires { (k : ℕ)
+        → slice_index counts.old k + next_index (map item_view items.now) k < 2 ^ 128 }
     ensures { (k : ℕ)
-        → slice_index counts.new k ≡ slice_index counts.old k + next_index (map item_view items.now) k }
+        → slice_index counts.new k
+        ≡ slice_index counts.old k + next_index (map item_view items.now) k }
 {
     for item in items {
         add_item(counts, item);

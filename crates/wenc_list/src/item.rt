@@ -81,8 +81,8 @@ impl<A: Allocator> ItemTree<A> {
     ghost use Rattle.wenc_builder.specs.Space.{indices_in, defines};
     ghost use Rattle.wenc_list.specs.Items.{item_view};
 
-    /// The space in which the item takes places, and how many; `None` of a custom section.
-    pub fn places(&self) -> Option<(Space, u32)>
+    /// The space in which the item takes indices, and how many; `None` of a custom section.
+    pub fn indices(&self) -> Option<(Space, u32)>
         ensures { option_map (λ p. indices_in p.0 p.1) result ≡ defines (item_view self.now) }
     {
         match self {

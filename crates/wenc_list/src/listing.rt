@@ -32,7 +32,7 @@ pub struct ListedSection<A: Allocator = Global> {
 pub struct Listing<A: Allocator = Global> {
     /// Its sections, in their order.
     pub sections: Vec<ListedSection<A>, A>,
-    /// How many places its items take in each index space, in the order in which a builder tells its counts: core modules,
+    /// How many indices its items take in each space, in the order in which a builder tells its counts: core modules,
     /// core functions, core types, core memories, core tables, core instances, core tags, core globals, functions,
     /// instances, values, components, types.
     pub counts: [u128; 13],
@@ -96,7 +96,7 @@ fn section<A: Allocator + Copy>(
     }
 }
 
-/// The sections up to the end, behind the front of so many bytes, and how many places their items take.
+/// The sections up to the end, behind the front of so many bytes, and how many indices their items take.
 fn sections<A: Allocator + Copy>(
     alloc: A,
     all: usize,
@@ -121,7 +121,7 @@ fn sections<A: Allocator + Copy>(
     Ok((sections, counts))
 }
 
-/// The sections of a component with their items, each at its place, and how many places the items take. Modules and nested
+/// The sections of a component with their items, each at its place, and how many indices the items take. Modules and nested
 /// components are bytes, which are not read (component model, binary format, "Component Definitions").
 ///
 /// Besides what the encoder writes, these spellings are read: numbers that are padded, to 5 bytes at most (10 where they

@@ -34,7 +34,8 @@ pub data AliasOf : Type 0 where
   Outer : (kind : ComponentOuterAliasKind) (count : ℕ) (number : ℕ) → AliasOf
 
 abbrev pub alias : Form AliasOf
-alias (InstanceExport instance kind name) = component_export_kind kind ⨾ 0x00 ▸ u32 instance ⨾ name_form name
+alias (InstanceExport instance kind name) =
+    component_export_kind kind ⨾ 0x00 ▸ u32 instance ⨾ name_form name
 alias (CoreInstanceExport instance kind name) =
     0x00 ▸ core_kind kind ⨾ 0x01 ▸ u32 instance ⨾ name_form name
 alias (Outer kind count number) = outer_kind kind ⨾ 0x02 ▸ u32 count ⨾ u32 number

@@ -81,7 +81,8 @@ impl ComponentTypeRef {
     pub fn kind(&self) -> ComponentExportKind
         ensures is { result ≡ kind_of self.now }
         ensures begins { (rest : List ℕ)
-            × ((type_reference self.now).text ≡ (component_export_kind (kind_of self.now)).text ++ rest) }
+            × ((type_reference self.now).text
+                ≡ (component_export_kind (kind_of self.now)).text ++ rest) }
     {
         match self {
             ComponentTypeRef::Module(_) => ComponentExportKind::Module,

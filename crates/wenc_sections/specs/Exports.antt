@@ -16,4 +16,5 @@ pub record Export : Type 0 where
   pub what : Option ComponentTypeRef
 
 abbrev pub export_item : Form Export
-export_item e = extern_name e.name ⨾ component_export_kind e.kind ⨾ u32 e.index ⨾ option type_reference e.what
+export_item e =
+    extern_name e.name ⨾ component_export_kind e.kind ⨾ u32 e.index ⨾ option type_reference e.what

@@ -8,7 +8,8 @@ use Rattle.wenc_parts.specs.declared.exports.ComponentExportKind.{ComponentExpor
 use Rattle.wenc_parts.specs.declared.imports.NameTree.{NameTree}
 use Rattle.wenc_parts.specs.declared.instances.ModuleArg.{ModuleArg}
 use Rattle.wenc_sections.specs.Instances.{Argument, CoreExport, CoreInstance, CoreInstantiate}
-use Rattle.wenc_sections.specs.Instances.{CoreExports, InstantiateArg, InlineExport, inline_export, Instance}
+use Rattle.wenc_sections.specs.Instances.{CoreExports, InstantiateArg, InlineExport, inline_export}
+use Rattle.wenc_sections.specs.Instances.{Instance}
 use Rattle.wenc_sections.specs.Instances.{Instantiate, Exports}
 use Rattle.wenc_sections.specs.declared.instance_trees.CoreInstanceTree.{CoreInstanceTree}
 use Rattle.wenc_sections.specs.declared.instance_trees.CoreInstanceTree.TheVariants as core_trees

@@ -69,7 +69,8 @@ pub data Instance : Type 0 where
   Exports : (exports : List InlineExport) → Instance
 
 abbrev pub instance : Form Instance
-instance (Instantiate component_index arguments) = 0x00 ▸ u32 component_index ⨾ list instantiate_arg arguments
+instance (Instantiate component_index arguments) =
+    0x00 ▸ u32 component_index ⨾ list instantiate_arg arguments
 instance (Exports exports) = 0x01 ▸ list inline_export exports
 
 -- ---- what an iterator gives, as pure values
@@ -80,8 +81,9 @@ argument_view a = record { name = a.0.now; value = a.1 }
 abbrev pub core_export_view : Bor (List ℕ) × ExportKind × ℕ → CoreExport
 core_export_view e = record { name = e.0.now; kind = e.1; index = e.2 }
 
-abbrev pub given_view : Bor (List ℕ) × ComponentExportKind × ℕ → InstantiateArg
-given_view g = record { name = g.0.now; kind = g.1; index = g.2 }
+abbrev pub instantiate_arg_view : Bor (List ℕ) × ComponentExportKind × ℕ → InstantiateArg
+instantiate_arg_view g = record { name = g.0.now; kind = g.1; index = g.2 }
 
-abbrev pub exported_view : {A : Type 0} → ComponentExternName A × ComponentExportKind × ℕ → InlineExport
-exported_view e = record { name = extern_name_view e.0; kind = e.1; index = e.2 }
+abbrev pub inline_export_view : {A : Type 0} → ComponentExternName A × ComponentExportKind × ℕ
+    → InlineExport
+inline_export_view e = record { name = extern_name_view e.0; kind = e.1; index = e.2 }

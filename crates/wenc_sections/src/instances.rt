@@ -3,7 +3,7 @@ ghost use Rattle.std.specs.Iterator.{IsFinite};
 ghost use Rattle.wenc_base.specs.Holder.{AddsListed};
 ghost use Rattle.wenc_sections.specs.Instances.{CoreInstantiate, CoreExports, core_instance};
 ghost use Rattle.wenc_sections.specs.Instances.{argument_view, core_export_view};
-ghost use Rattle.wenc_sections.specs.Instances.{Instantiate, Exports, instance, given_view, exported_view};
+ghost use Rattle.wenc_sections.specs.Instances.{Instantiate, Exports, instance, instantiate_arg_view, inline_export_view};
 
 use crate::counted::{Counted, CountedKind};
 use std::alloc::{Allocator, Global};
@@ -117,7 +117,7 @@ impl<A: Allocator> Counted<Instances, A> {
         requires can { I.can_next args }
         requires ends { IsFinite (I.remaining args) }
         ensures { AddsListed I.next_gives args
-            (λ vs. instance (Instantiate component_index (map given_view vs)))
+            (λ vs. instance (Instantiate component_index (map instantiate_arg_view vs)))
             self.old self.new result }
     {
         let lead = Tagged(INSTANTIATE, &component_index);
@@ -134,7 +134,7 @@ impl<A: Allocator> Counted<Instances, A> {
         requires can { I.can_next exports }
         requires ends { IsFinite (I.remaining exports) }
         ensures { AddsListed I.next_gives exports
-            (λ vs. instance (Exports (map exported_view vs))) self.old self.new result }
+            (λ vs. instance (Exports (map inline_export_view vs))) self.old self.new result }
     {
         let lead = Tagged(EXPORTS, &());
         self.items.add_listed(&lead, exports, &())

@@ -2,7 +2,8 @@
 use Rattle.std.specs.Prelude.{map}
 use Rattle.std.specs.String.{string_bytes}
 use Rattle.wenc_base.specs.Composites.{rec_type_view}
-use Rattle.wenc_types.specs.CoreTypes.{ModuleDeclaration, ModuleImport, ModuleRecType, ModuleOuter, ModuleExport, CoreType}
+use Rattle.wenc_types.specs.CoreTypes.{ModuleDeclaration, ModuleImport, ModuleRecType, ModuleOuter}
+use Rattle.wenc_types.specs.CoreTypes.{ModuleExport, CoreType}
 use Rattle.wenc_types.specs.CoreTypes.{Grouped, Module}
 use Rattle.wenc_types.specs.declared.core_type_tree.ModuleDecl.{ModuleDecl}
 use Rattle.wenc_types.specs.declared.core_type_tree.ModuleDecl.TheVariants as decls

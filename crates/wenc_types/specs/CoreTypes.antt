@@ -16,7 +16,8 @@ pub data ModuleDeclaration : Type 0 where
   ModuleExport : (name : List ℕ) (ty : EntityType) → ModuleDeclaration
 
 abbrev pub module_declaration : Form ModuleDeclaration
-module_declaration (ModuleImport from name ty) = 0x00 ▸ (name_form from ⨾ name_form name ⨾ entity_type ty)
+module_declaration (ModuleImport from name ty) =
+    0x00 ▸ (name_form from ⨾ name_form name ⨾ entity_type ty)
 module_declaration (ModuleRecType g) = 0x01 ▸ rec_type g
 module_declaration (ModuleOuter count number) = 0x02 ▸ 0x10 ▸ 0x01 ▸ (u32 count ⨾ u32 number)
 module_declaration (ModuleExport name ty) = 0x03 ▸ (name_form name ⨾ entity_type ty)

@@ -14,7 +14,8 @@ use Rattle.wenc_parts.specs.declared.exports.ComponentExportKind.TheVariants as 
 use Rattle.wenc_types.specs.ComponentTypes.{InstanceDeclaration, CoreTyped, Typed, Aliased}
 use Rattle.wenc_types.specs.ComponentTypes.{Exported, ComponentDeclaration, Imported, Declared}
 use Rattle.wenc_types.specs.ComponentTypes.{instance_declaration, component_declaration}
-use Rattle.wenc_types.specs.CoreTypes.{ModuleDeclaration, ModuleImport, ModuleRecType, ModuleOuter as OuterType}
+use Rattle.wenc_types.specs.CoreTypes.{ModuleDeclaration, ModuleImport, ModuleRecType}
+use Rattle.wenc_types.specs.CoreTypes.{ModuleOuter as OuterType}
 use Rattle.wenc_types.specs.CoreTypes.{ModuleExport, module_declaration}
 use Rattle.wenc_types.specs.declared.counts.Counts.{Counts}
 use Rattle.wenc_types.specs.declared.counts.Sort.{Sort}
@@ -82,10 +83,10 @@ counts_of sort (d ∷ ds) = one_more (sort d) (counts_of sort ds)
 pub record TypeState : Type 0 where
   pub held : HolderState
   pub counts : Counts
-  pub type_begun : Option Sort
+  pub begun : Option Sort
 
 abbrev pub no_declarations : TypeState
-no_declarations = record { held = no_members; counts = no_counts; type_begun = None }
+no_declarations = record { held = no_members; counts = no_counts; begun = None }
 
 -- nothing is being written
 pub record NoneBegun (t : TypeState) : Type 0 where
@@ -126,7 +127,7 @@ pub record AddsDeclaration {D : Type 0} (form : Form D) (sort : D → Option Sor
     (old new : TypeState) (outcome : Result (Unit {0}) Fault) (d : D) : Type 0 where
   pub added : AddsMember (form d) old.held new.held outcome
   pub counts : OnOk outcome (new.counts ≡ one_more (sort d) old.counts)
-  pub type_begun : OnOk outcome (new.begun ≡ old.begun)
+  pub begun : OnOk outcome (new.begun ≡ old.begun)
   pub declared : OnOk outcome
       ((ds : List D) → Declares form sort old ds → Declares form sort new (ds ++ d ∷ []))
   pub err : OnErr outcome (new ≡ old)
@@ -152,7 +153,7 @@ lead_of TypeSort = 0x01 ∷ []
 lead_of Instance = []
 
 abbrev pub with_held : TypeState → HolderState → TypeState
-with_held t held = record { held = held; counts = t.counts; type_begun = t.begun }
+with_held t held = record { held = held; counts = t.counts; begun = t.begun }
 
 -- one type more, of which there is the first byte
 abbrev pub type_begun : Sort → TypeState → TypeState
@@ -160,7 +161,7 @@ type_begun sort t =
     record {
       held = member_begun t.held (lead_of sort);
       counts = one_more (Some sort) t.counts;
-      type_begun = Some sort;
+      begun = Some sort;
     }
 
 -- more of that type
@@ -169,7 +170,7 @@ type_appended t text = with_held t (member_appended t.held text)
 
 -- the type is whole
 abbrev pub type_ended : TypeState → TypeState
-type_ended t = record { held = member_ended t.held; counts = t.counts; type_begun = None }
+type_ended t = record { held = member_ended t.held; counts = t.counts; begun = None }
 
 -- one less of this sort
 abbrev pub one_less : Option Sort → Counts → Counts
@@ -183,4 +184,5 @@ one_less (Some Instance) n =
 
 -- as it was before that type
 abbrev pub type_given_up : TypeState → TypeState
-type_given_up t = record { held = member_given_up t.held; counts = one_less t.begun t.counts; type_begun = None }
+type_given_up t =
+    record { held = member_given_up t.held; counts = one_less t.begun t.counts; begun = None }

@@ -72,10 +72,10 @@ impl<K: DeclaredKind, A: Allocator> Model for Declarations<K, A> {
 
     ghost Value = { TypeState };
 
-    ghost view = { λ t. record { held_members = t.held; counts = t.counts; type_begun = t.begun } };
+    ghost view = { λ t. record { held = t.held; counts = t.counts; begun = t.begun } };
 
     ghost invariant = { λ t. IsTypeState K.form K.sort
-        (record { held_members = t.held; counts = t.counts; type_begun = t.begun }) };
+        (record { held = t.held; counts = t.counts; begun = t.begun }) };
 }
 
 impl<K: DeclaredKind, A: Allocator> Declarations<K, A> {

@@ -70,7 +70,7 @@ impl<A: Allocator> Holder<A> {
     /// the value is.
     pub fn append_encoded<E: Encode>(&mut self, value: &E) -> Result<(), Fault>
         requires { is_finished self.old ≡ false }
-        ensures member_appended { AppendsToMember self.old self.new
+        ensures appended { AppendsToMember self.old self.new
             (member_appended self.old (E.piece value.now).text) result (E.piece value.now) }
         ensures unfinished_value { E.unfinished value.now → result ≡ Err Unfinished }
     {
@@ -102,7 +102,8 @@ impl<A: Allocator> Holder<A> {
     /// holder stays unfinished.
     pub fn close(&mut self, text: &[u8]) -> Result<(), Fault>
         requires { is_finished self.old ≡ false }
-        ensures { AppendsToMember self.old self.new (member_ended (member_appended self.old text.now)) result
+        ensures { AppendsToMember self.old self.new
+            (member_ended (member_appended self.old text.now)) result
             (verbatim text.now) }
     {
         self.append(text)?;

@@ -1,7 +1,8 @@
 -- What a builder stays through all calls.
 use Rattle.std.specs.Prelude.{◌≡◌, ℕ, List, Option, Some, None}
 use Rattle.wenc_base.specs.Fault.{NoCause}
-use Rattle.wenc_builder.specs.Builder.{namespace_at, namespace_with, entered, Content, BegunItem, State}
+use Rattle.wenc_builder.specs.Builder.{namespace_at, namespace_with, entered, Content, BegunItem}
+use Rattle.wenc_builder.specs.Builder.{State}
 use Rattle.wenc_builder.specs.Builder.{settled_in}
 use Rattle.wenc_builder.specs.Cause.{SectionCause}
 use Rattle.wenc_builder.specs.Entry.{Entry}

@@ -37,12 +37,14 @@ TakesNoIndex old new result p =
 pub record AppendsListed {S B : Type 0} (steps : S → Option B → S → Type 0) (values : S)
     (old new : State) (outcome : Result (Unit {0}) Fault) (piece : List B → Piece) : Type 0 where
   pub ok : OnOk outcome
-      (WholeRun steps values (λ run. Extended new (item_appended old) (no_room_in_section old) (piece run.items)))
+      (WholeRun steps values (λ run.
+      Extended new (item_appended old) (no_room_in_section old) (piece run.items)))
   pub settled : OnErr outcome (new.settled ≡ old.settled)
   pub still : builder_is_finished new ≡ false
   pub warranted : IfErr outcome
       (λ fault. SomeRun steps values (λ run.
-      IsWarranted (either (piece run.items).Cause (no_room_in_section old (piece run.items).text)) fault))
+      IsWarranted
+      (either (piece run.items).Cause (no_room_in_section old (piece run.items).text)) fault))
 
 -- The same of an item whose text is made of the values that an iterator gives.
 pub record TakesListed {S B : Type 0} (steps : S → Option B → S → Type 0) (values : S)

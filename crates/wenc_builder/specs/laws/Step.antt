@@ -36,10 +36,10 @@ texts_push [] n = append-nil (name_association n).text
 texts_push (m ∷ ns) n = rw (texts_push ns n) (sym (append_assoc (name_association m).text (names_text ns) (name_association n).text))
 
 with_its_name : (ns : List NameAssociation) (n number : ℕ) (name : Option (List ℕ))
-    → record { count = n + number; name_association = length (ns ++ named_as n name); names = names_text (ns ++ named_as n name) }
-    ≡ namespace_with (record { count = n; name_association = length ns; names = names_text ns }) number name
+    → record { count = n + number; named = length (ns ++ named_as n name); names = names_text (ns ++ named_as n name) }
+    ≡ namespace_with (record { count = n; named = length ns; names = names_text ns }) number name
 with_its_name ns n number None = rw (append-nil ns) refl
-with_its_name ns n number (Some name) = rw (length-append ns (record { next_index = n; name = name } ∷ []), texts_push ns (record { next_index = n; name = name })) refl
+with_its_name ns n number (Some name) = rw (length-append ns (record { index = n; name = name } ∷ []), texts_push ns (record { index = n; name = name })) refl
 
 in_its_space : (k : ℕ) (es : List Entry) (x : Entry) (d : Indices) → defines x.item ≡ Some d → d.space ≡ k → namespace_of (es ++ x ∷ []) k ≡ namespace_with (namespace_of es k) d.number x.name
 in_its_space k es x d w e =

@@ -4,7 +4,7 @@ ghost use Rattle.std.specs.Prelude.{map};
 ghost use Rattle.wenc_builder.specs.Enters.{EntersListed};
 ghost use Rattle.wenc_builder.specs.Entry.{core_instance_entry, instance_entry};
 ghost use Rattle.wenc_sections.specs.Instances.{CoreInstantiate, CoreExports, argument_view, core_export_view};
-ghost use Rattle.wenc_sections.specs.Instances.{Instantiate, Exports, given_view, exported_view};
+ghost use Rattle.wenc_sections.specs.Instances.{Instantiate, Exports, instantiate_arg_view, inline_export_view};
 
 use super::ComponentBuilder;
 use super::kind::Kind;
@@ -77,7 +77,7 @@ impl<A: Allocator> ComponentBuilder<A> {
         requires ends { IsFinite (I.remaining args) }
         ensures { EntersListed I.next_gives args self.old self.new result
             (λ items. instance_entry (option_copied debug_name.entry)
-            (Instantiate component_index (map given_view items))) }
+            (Instantiate component_index (map instantiate_arg_view items))) }
     {
         let lead = Tagged(INSTANTIATE, &component_index);
         self.add_listed(
@@ -100,7 +100,7 @@ impl<A: Allocator> ComponentBuilder<A> {
         requires ends { IsFinite (I.remaining exports) }
         ensures { EntersListed I.next_gives exports self.old self.new result
             (λ items. instance_entry (option_copied debug_name.entry)
-            (Exports (map exported_view items))) }
+            (Exports (map inline_export_view items))) }
     {
         let lead = Tagged(EXPORTS, &());
         self.add_listed(

@@ -10,7 +10,8 @@ use Rattle.wenc_canon.specs.Canonicals.{Lift, Lower, canonical}
 abbrev pub operand_behind : {A : Type 0} → ℕ → Operands A → Piece
 operand_behind opcode (operands.Lifted function ty options) =
     canonical (Lift function options.now.items ty)
-operand_behind opcode (operands.Lowered function options) = canonical (Lower function options.now.items)
+operand_behind opcode (operands.Lowered function options) =
+    canonical (Lower function options.now.items)
 operand_behind opcode operands.Nothing = opcode ▸ fields [] tt
 operand_behind opcode operands.NotCancellable = opcode ▸ fields (Zero ∷ []) tt
 operand_behind opcode (operands.Index n) = opcode ▸ fields (Index ∷ []) n

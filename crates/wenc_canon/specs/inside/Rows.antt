@@ -54,8 +54,8 @@ as_values (f ∷ h ∷ fs) (g ∷ k ∷ gs) vs = (as_value f g vs.0, as_values (
 as_values fs gs vs = any_values gs
 
 -- the builtin with this opcode and these values
-abbrev pub provided_by : ℕ → (fs : List Field) → Values fs → Canonical
-provided_by opcode fs vs =
+abbrev pub builtin_by : ℕ → (fs : List Field) → Values fs → Canonical
+builtin_by opcode fs vs =
     let i : Builtin = first_with opcode builtins in
     OfBuiltin i (as_values fs (row i).fields vs)
 
@@ -76,5 +76,5 @@ abbrev pub row_then : ℕ → (fs : List Field) → Values fs → List Canonical
 row_then opcode fs vs os = opcode ▸ fields (and_options fs) (values_then fs vs os)
 
 -- the builtin that it is
-abbrev pub provided_with : ℕ → (fs : List Field) → Values fs → List CanonicalOption → Canonical
-provided_with opcode fs vs os = provided_by opcode (and_options fs) (values_then fs vs os)
+abbrev pub builtin_with : ℕ → (fs : List Field) → Values fs → List CanonicalOption → Canonical
+builtin_with opcode fs vs os = builtin_by opcode (and_options fs) (values_then fs vs os)

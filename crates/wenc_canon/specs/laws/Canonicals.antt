@@ -108,20 +108,20 @@ fields_sound (f ∷ g ∷ fs) = then_sound _ (field_sound f) (λ v. last_sound (
 
 -- ---- canonical functions
 
-abbrev pub read_provided : Builtin → ℕ × Reader Canonical
-read_provided i = ((row i).opcode, read_fields (row i).fields >>= λ vs. give (OfBuiltin i vs))
+abbrev pub read_builtin : Builtin → ℕ × Reader Canonical
+read_builtin i = ((row i).opcode, read_fields (row i).fields >>= λ vs. give (OfBuiltin i vs))
 
 abbrev pub rows : List (ℕ × Reader Canonical)
 rows =
     (0x00, choose ((0x00, read_u32 >>= λ f. read_list read_canonical_option >>= λ os. read_u32 >>= λ t. give (Lift f os t)) ∷ []) nowhere) ∷
     (0x01, choose ((0x00, read_u32 >>= λ f. read_list read_canonical_option >>= λ os. give (Lower f os)) ∷ []) nowhere) ∷
-    map read_provided builtins
+    map read_builtin builtins
 
 abbrev pub read_canonical : Reader Canonical
 read_canonical = choose rows nowhere
 
 -- An opcode picks its builtin's own row. One clause is for the first builtin, the other for each of the others.
-own_row : (i : Builtin) → pick rows nowhere (row i).opcode ≡ (read_provided i).1
+own_row : (i : Builtin) → pick rows nowhere (row i).opcode ≡ (read_builtin i).1
 own_row ResourceNew = refl
 own_row other = refl
 
@@ -130,9 +130,9 @@ canonical_lawful (Lift f os t) = in_row _ _ 0x00 (in_row _ _ 0x00 (then _ (u32_l
 canonical_lawful (Lower f os) = in_row _ _ 0x01 (in_row _ _ 0x00 (then _ (u32_lawful f) (last (Lower f) (list_lawful canonical_option_lawful os))))
 canonical_lawful (OfBuiltin i vs) = in_row _ _ (row i).opcode (rw (own_row i) (last (OfBuiltin i) (fields_lawful (row i).fields vs)))
 
-provided_sound : (is : List Builtin) → RowsAreSound canonical (map read_provided is)
-provided_sound [] = tt
-provided_sound (i ∷ is) = (last_sound (OfBuiltin i) (fields_sound (row i).fields) (λ vs bytes rest r. (bytes, refl, r)), provided_sound is)
+builtins_sound : (is : List Builtin) → RowsAreSound canonical (map read_builtin is)
+builtins_sound [] = tt
+builtins_sound (i ∷ is) = (last_sound (OfBuiltin i) (fields_sound (row i).fields) (λ vs bytes rest r. (bytes, refl, r)), builtins_sound is)
 
 pub canonical_sound : Sound canonical read_canonical
 canonical_sound = choose_sound _ _ (
@@ -142,7 +142,7 @@ canonical_sound = choose_sound _ _ (
   ) nowhere_sound,
   (
     choose_sound _ _ (then_sound _ u32_sound (λ f. last_sound (Lower f) (list_sound canonical_option_sound) (λ os middle rest r bytes p. (_, refl, (_, refl, (middle, p, r))))), tt) nowhere_sound,
-    provided_sound builtins,
+    builtins_sound builtins,
   ),
 ) nowhere_sound
 

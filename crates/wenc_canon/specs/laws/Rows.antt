@@ -8,7 +8,7 @@ use Rattle.wenc_base.specs.Piece.{Piece, nothing, ◌▸◌, ◌⨾◌, behind_b
 use Rattle.wenc_base.specs.laws.Serves.{serves_itself, serves_then, order_serves, tagged_serves, both_serve, behind_is, with_nothing, either_free, left_free, right_free}
 use Rattle.wenc_canon.specs.declared.canonicals.CanonicalOption.{CanonicalOption}
 use Rattle.wenc_canon.specs.Canonicals.{canonical_option, Field, Index, Options, Flag, Zero, CoreType, Results, Slot, Value, field, Values, fields, Row, ◌is◌takes◌, Lift, Lower, canonical}
-use Rattle.wenc_canon.specs.inside.Rows.{row_with, as_value, as_values, provided_by, and_options, values_then, row_then, provided_with}
+use Rattle.wenc_canon.specs.inside.Rows.{row_with, as_value, as_values, builtin_by, and_options, values_then, row_then, builtin_with}
 
 same_value : (f : Field) (v : Value f) → as_value f f v ≡ v
 same_value Index n = refl
@@ -25,8 +25,8 @@ same_values (f ∷ []) v = same_value f v
 same_values (f ∷ g ∷ fs) vs = rw (same_value f vs.0, same_values (g ∷ fs) vs.1) refl
 
 -- in a row that takes these fields
-pub provided_serves : {p : Piece} (name : List ℕ) (opcode : ℕ) (fs : List Field) (vs : Values fs) → Serves p (fields fs vs) → row_with opcode ≡ (name is opcode takes fs) → Serves (opcode ▸ p) (canonical (provided_by opcode fs vs))
-provided_serves {p} name opcode fs vs s e =
+pub builtin_serves : {p : Piece} (name : List ℕ) (opcode : ℕ) (fs : List Field) (vs : Values fs) → Serves p (fields fs vs) → row_with opcode ≡ (name is opcode takes fs) → Serves (opcode ▸ p) (canonical (builtin_by opcode fs vs))
+builtin_serves {p} name opcode fs vs s e =
     let own : Serves (opcode ▸ p) (opcode ▸ fields fs (as_values fs fs vs)) = rw (same_values fs vs) (tagged_serves opcode s) in
     subst (λ (r : Row). Serves (opcode ▸ p) (r.opcode ▸ fields r.fields (as_values fs r.fields vs))) (sym e) own
 
@@ -63,9 +63,9 @@ row_serves {p} opcode fs vs os s = serves_then (front_serves (opcode ∷ []) p (
 -- ---- what a holder is given
 
 -- a row with options
-pub provided_with_serves : {p : Piece} (name : List ℕ) (opcode : ℕ) (fs : List Field) (vs : Values fs) → Serves p (fields fs vs) → row_with opcode ≡ (name is opcode takes and_options fs) → (os : List CanonicalOption)
-    → Serves (listed (opcode ▸ p) canonical_option nothing os) (canonical (provided_with opcode fs vs os))
-provided_with_serves {p} name opcode fs vs s e os = serves_then (both_serve {p = opcode ▸ p} {p' = opcode ▸ p} serves_itself (with_nothing {p = list canonical_option os})) (serves_then (row_serves opcode fs vs os s) (provided_serves name opcode (and_options fs) (values_then fs vs os) serves_itself e))
+pub builtin_with_serves : {p : Piece} (name : List ℕ) (opcode : ℕ) (fs : List Field) (vs : Values fs) → Serves p (fields fs vs) → row_with opcode ≡ (name is opcode takes and_options fs) → (os : List CanonicalOption)
+    → Serves (listed (opcode ▸ p) canonical_option nothing os) (canonical (builtin_with opcode fs vs os))
+builtin_with_serves {p} name opcode fs vs s e os = serves_then (both_serve {p = opcode ▸ p} {p' = opcode ▸ p} serves_itself (with_nothing {p = list canonical_option os})) (serves_then (row_serves opcode fs vs os s) (builtin_serves name opcode (and_options fs) (values_then fs vs os) serves_itself e))
 
 pub lift_serves : (function type_index : ℕ) (os : List CanonicalOption) → Serves (listed (0x00 ▸ 0x00 ▸ u32 function) canonical_option (u32 type_index) os) (canonical (Lift function os type_index))
 lift_serves function type_index os = front_serves (0x00 ∷ 0x00 ∷ []) (u32 function) (list canonical_option os ⨾ u32 type_index)

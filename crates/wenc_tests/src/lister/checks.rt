@@ -3,7 +3,7 @@
 use crate::accepted::ok;
 use std::alloc::{Allocator, Global};
 use std::process::Abort;
-use wasm_encoder::{Encode, Fault, Verbatim};
+use wenc_base::{Encode, Fault, Verbatim};
 use wenc_list::{ItemTree, ListFault, Listing, list};
 
 /// The bytes in front of the first section.

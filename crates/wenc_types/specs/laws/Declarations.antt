@@ -40,7 +40,7 @@ is_declaration form sort d serves e fits = record { declaration = d; fits = serv
 
 -- a member more is a declaration more
 pub declares_next : {D : Type 0} (form : Form D) (sort : D → Option Sort) (t : TypeState) (new : HolderState) (d : D) (ds : List D) → new ≡ with_member t.held (form d).text → (form d).Fits → Declares form sort t ds
-    → Declares form sort (record { held_members = new; counts = one_more (sort d) t.counts; type_begun = t.begun }) (ds ++ d ∷ [])
+    → Declares form sort (record { held = new; counts = one_more (sort d) t.counts; begun = t.begun }) (ds ++ d ∷ [])
 declares_next form sort t new d ds e fits h = record {
   contained = contains_next form t.held new d ds e fits h.contained;
   counts = rw h.counts (sym (counts_next sort ds d));

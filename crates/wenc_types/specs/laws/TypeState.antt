@@ -71,7 +71,7 @@ module _ {D : Type 0} (form : Form D) (sort : D → Option Sort) where
   HasSome t = ∥ DeclaresSome form sort t ∥₁
 
   some_more : (t : TypeState) (text : List ℕ) (s : Option Sort) → DeclaresSome form sort t → IsDeclaration form sort text s
-      → DeclaresSome form sort (record { held_members = with_member t.held text; counts = one_more s t.counts; type_begun = t.begun })
+      → DeclaresSome form sort (record { held = with_member t.held text; counts = one_more s t.counts; begun = t.begun })
   some_more t text s some one = record {
     declarations = some.declarations ++ one.declaration ∷ [];
     declared = rw one.sort_is (declares_next form sort t (with_member t.held text) one.declaration some.declarations (ap (with_member t.held) one.text_is) one.fits some.declared);
@@ -90,21 +90,21 @@ module _ {D : Type 0} (form : Form D) (sort : D → Option Sort) where
   pub declaring_none : IsTypeState form sort no_declarations
   declaring_none = record {
     enough = omega arith;
-    one_more = refl;
+    counted = refl;
     opening = tt;
     settled = ∣ record { declarations = []; declared = record { contained = record { finished = refl; count = refl; body = refl; fit = tt }; counts = refl } } ∣₁;
   }
 
   -- a declaration is added
   pub declaring_added : (t : TypeState) (text : List ℕ) (s : Option Sort) → is_finished t.held ≡ true → IsDeclaration form sort text s → IsTypeState form sort t
-      → IsTypeState form sort (record { held_members = with_member t.held text; counts = one_more s t.counts; type_begun = t.begun })
+      → IsTypeState form sort (record { held = with_member t.held text; counts = one_more s t.counts; begun = t.begun })
   declaring_added t text s finished one d =
       let none = settled t finished d in
-      let next : TypeState = record { held_members = with_member t.held text; counts = one_more s t.counts; type_begun = t.begun } in
+      let next : TypeState = record { held = with_member t.held text; counts = one_more s t.counts; begun = t.begun } in
       let some : ∥ DeclaresSome form sort next ∥₁ = ∥∥₁_map₂ (declares_some t finished d) ∣ one ∣₁ (some_more t text s) in
       record {
         enough = omega (arith, d.enough, total_counted s t.counts);
-        one_more = still_none t.held.opening t.begun t.counts (one_more s t.counts) finished none.none_begun;
+        counted = still_none t.held.opening t.begun t.counts (one_more s t.counts) finished none.none_begun;
         opening = within_finished (with_member t.held text) finished;
         settled = subst HasSome (sym (settled_back next (record { finished = finished; none_begun = none.none_begun }))) some;
       }
@@ -116,7 +116,7 @@ module _ {D : Type 0} (form : Form D) (sort : D → Option Sort) where
       let back : type_given_up (type_begun s t) ≡ t = rw (opened_back t.held (lead_of s) finished, back_again s t.counts, ← none.none_begun) refl in
       record {
         enough = omega (arith, d.enough, total_counted (Some s) t.counts);
-        one_more = has_one s t.counts;
+        counted = has_one s t.counts;
         opening = within_opened t.held (lead_of s);
         settled = subst HasSome (sym back) (declares_some t finished d);
       }
@@ -125,7 +125,7 @@ module _ {D : Type 0} (form : Form D) (sort : D → Option Sort) where
   pub declaring_written : (t : TypeState) (text : List ℕ) → is_finished t.held ≡ false → IsTypeState form sort t → IsTypeState form sort (type_appended t text)
   declaring_written t text unfinished d = record {
     enough = d.enough;
-    one_more = d.counted;
+    counted = d.counted;
     opening = within_appended t.held text d.opening;
     settled =
         let back : type_given_up (type_appended t text) ≡ type_given_up t = rw (appended_back t.held text unfinished d.opening) refl in
@@ -143,12 +143,12 @@ module _ {D : Type 0} (form : Form D) (sort : D → Option Sort) where
           subst (IsTypeState form sort) (sym same) d
       at false unfinished =
           let back : TypeState = type_given_up t in
-          let more : ∥ DeclaresSome form sort (record { held_members = with_member back.held (member_text t.held); counts = one_more t.begun back.counts; type_begun = None }) ∥₁ =
+          let more : ∥ DeclaresSome form sort (record { held = with_member back.held (member_text t.held); counts = one_more t.begun back.counts; begun = None }) ∥₁ =
           ∥∥₁_map₂ d.settled whole (some_more back (member_text t.held) t.begun) in
           let one : HasOne t.begun t.counts = one_at t.held.opening t.begun t.counts unfinished d.counted in
           record {
             enough = d.enough;
-            one_more = refl;
+            counted = refl;
             opening = tt;
             settled = rw (closed_as_more t.held unfinished d.opening, counted_uncounted t.begun t.counts one) at more;
           }
@@ -157,7 +157,7 @@ module _ {D : Type 0} (form : Form D) (sort : D → Option Sort) where
   pub declaring_given_up : (t : TypeState) → IsTypeState form sort t → IsTypeState form sort (type_given_up t)
   declaring_given_up t d = record {
     enough = enough_back t.held.opening t.held t.begun t.counts d.counted d.enough;
-    one_more = counted_back t.held.opening t.held (one_less t.begun t.counts);
+    counted = counted_back t.held.opening t.held (one_less t.begun t.counts);
     opening = within_back t.held;
     settled =
         let again : type_given_up (type_given_up t) ≡ type_given_up t = rw (back_twice t.held) refl in

@@ -1,5 +1,5 @@
 use Rattle.std.proofs.Common.{◌≡◌, ◌+◌, take, take_all, arith}
-use Rattle.wenc_list.proofs.Places.{place_more, place_front}
+use Rattle.wenc_list.proofs.Indices.{place_more, place_front}
 use Rattle.wenc_list.proofs.counts.count.Goals as goal
 
 pub add_item-requires : goal.add_item-requires

@@ -3,7 +3,7 @@ use Rattle.std.proofs.lemmas.List.{map_push}
 use Rattle.std.proofs.lemmas.Result.{err_from_is_err_and}
 use Rattle.wenc_list.specs.Items.{section_view}
 use Rattle.wenc_list.proofs.Listed.{section_shorter, from_few, from_more, from_each, within_more, stops_here}
-use Rattle.wenc_list.proofs.Places.{count_more, are_few}
+use Rattle.wenc_list.proofs.Indices.{count_more, are_few}
 use Rattle.wenc_list.proofs.listing.sections.Goals as goal
 
 pub returns-in_err-section-clause-fault : goal.returns-in_err-section-clause-fault

@@ -1,4 +1,4 @@
--- How many places items take.
+-- How many indices items take.
 use Rattle.std.proofs.Common.{◌≡◌, ℕ, ◌+◌, ◌<◌, ◌≤◌, ◌^◌, cond, List, [], ◌∷◌, ◌++◌, length, map, take, drop, get_or, set, eqb, Option, Some, None, refl, sym, ap, ◌∙◌, inl, inr, arith, get_or-set_other, get_or-set_same}
 use Rattle.std.proofs.lemmas.Bool.Decides.{eqb_tells}
 use Rattle.std.proofs.lemmas.List.{take_more, take-append-drop, map-append}
@@ -64,7 +64,7 @@ module _ {A : Type 0} where
   pub count_more : (ss : List (ListedSection A)) (s : ListedSection A) (k : ℕ) → count_of_sections k (map section_view (ss ++ s ∷ [])) ≡ count_of_sections k (map section_view ss) + next_index (map item_view s.items.items) k
   count_more ss s k = rw (map-append section_view ss (s ∷ [])) (count-append (map section_view ss) (section_view s) k ∙ ap (λ (xs : List Item). count_of_sections k (map section_view ss) + next_index xs k) (section_members s))
 
--- ---- what is read takes few places
+-- ---- what is read takes few indices
 
 at_most : (s : Space) (n k : ℕ) → number_in k (some_in s n) ≤ n
 at_most s n k = elim (eqb_tells (space_number s) k) [ inl t ↦ rw (t.0, cond) (omega arith) | inr t ↦ rw (t.0, cond) (omega arith) ]

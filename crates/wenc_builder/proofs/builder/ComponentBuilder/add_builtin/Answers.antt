@@ -1,0 +1,24 @@
+use Rattle.std.proofs.Common.{Some, refl}
+use Rattle.wenc_canon.specs.Canonicals.{Values}
+use Rattle.wenc_canon.specs.inside.Rows.{builtin_by}
+use Rattle.wenc_canon.specs.laws.Rows.{builtin_serves}
+use Rattle.wenc_builder.specs.Entry.{canonical_entry}
+use Rattle.wenc_builder.specs.Item.{CanonItem}
+use Rattle.wenc_builder.specs.inside.Layout.{kind_id}
+use Rattle.wenc_builder.specs.Space.{space_number}
+use Rattle.wenc_builder.specs.declared.builder.kind.Kind.TheVariants as kinds
+use Rattle.wenc_builder.specs.declared.builder.space.Space.TheVariants as spaces
+use Rattle.wenc_builder.proofs.Entered.{draft_enters}
+use Rattle.wenc_builder.proofs.Texts.{item_piece}
+use Rattle.wenc_builder.proofs.builder.ComponentBuilder.add_builtin.Goals as goal
+
+pub add-requires : goal.add-requires
+add-requires g c =
+    let values : Values g.F.Fields.kinds = g.F.Fields.values c.args.fields.now in
+    item_piece (CanonItem (builtin_by c.args.row.opcode g.F.Fields.kinds values)) (builtin_serves c.args.row.name.now c.args.row.opcode g.F.Fields.kinds values (g.met.F.Fields.written c.args.fields.now) c.requires.row)
+
+pub returns : goal.returns
+returns g c =
+    let values : Values g.F.Fields.kinds = g.F.Fields.values c.args.fields.now in
+    draft_enters c.args.self.now c.add.new.self c.add.result (canonical_entry (Some c.args.row.name.now) (builtin_by c.args.row.opcode g.F.Fields.kinds values)) (kind_id kinds.CanonicalFunction) (space_number spaces.CoreFuncs) (Some c.args.row.name.now)
+    (record { section = refl; defined = refl; named = refl }) (builtin_serves c.args.row.name.now c.args.row.opcode g.F.Fields.kinds values (g.met.F.Fields.written c.args.fields.now) c.requires.row) c.add.ensures
