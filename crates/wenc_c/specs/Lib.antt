@@ -1,0 +1,5 @@
+pub mod Handles
+pub mod Names
+pub mod Numbers
+pub mod Owned
+pub mod Sessions
