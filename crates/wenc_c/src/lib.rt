@@ -15,3 +15,4 @@ mod placed;
 mod refused;
 mod session;
 mod texts;
+mod written;
