@@ -11,7 +11,7 @@ use Rattle.std.proofs.lemmas.Slice.Eq.{bytes_eq-Decides}
 use Rattle.std.specs.String.{string_bytes}
 use denote.RattleType.{RattleType}
 use mir.Syntax.{Dict}
-use Rattle.wenc_base.specs.Composites.{Composite, Sub, params_of, results_of, function_view, structure_view, composite_view, sub_view, rec_type_view}
+use Rattle.wenc_base.specs.Composites.{Composite, Sub, params_of, results_of, func_type_view, structure_view, composite_view, sub_view, rec_type_view}
 use Rattle.wenc_base.specs.laws.Composites.{same_params, same_results, same_fields, same_element}
 use Rattle.wenc_base.specs.declared.types.composite.FuncType.{FuncType}
 use Rattle.wenc_base.specs.declared.types.composite.StructType.{StructType}
@@ -166,7 +166,7 @@ same_lists eq each (x ∷ xs) (y ∷ ys) = both _ _ (each x y) (same_lists eq ea
 
 -- ---- types with lists, by what is seen of them
 
-pub functions : (A : RattleType) (al : Ghosts A.Denot) (d e : Dict) (f g : FuncType A.Denot) → Decides ((function_eq' A al d e).it f g) (function_view f ≡ function_view g)
+pub functions : (A : RattleType) (al : Ghosts A.Denot) (d e : Dict) (f g : FuncType A.Denot) → Decides ((function_eq' A al d e).it f g) (func_type_view f ≡ func_type_view g)
 functions A al d e f g =
     both _ _ (same_lists value_eq'.it values (params_of f) (params_of g)) (same_lists value_eq'.it values (results_of f) (results_of g)) (λ p q. cc) (same_params f g) (same_results f g)
 

@@ -1,8 +1,10 @@
 //! The callers that the pages CALLING.md show.
 ghost use Rattle.std.specs.Prelude.{◌≡◌, ◌++◌, ◌∷◌, [], IfOk, IfSome, None, codes};
 ghost use Rattle.wenc.specs.Run.{PrintsAccepted};
+ghost use Rattle.wenc_base.specs.Holder.{no_members, with_member};
 ghost use Rattle.wenc_builder.specs.Entry.{import_entry, export_entry, items};
 ghost use Rattle.wenc_builder.specs.Sections.{whole};
+ghost use Rattle.wenc_canon.specs.Canonicals.{canonical, OfBuiltin, ResourceDrop};
 ghost use Rattle.wenc_parts.specs.declared.exports.ComponentExportKind.{ComponentExportKind};
 ghost use Rattle.wenc_parts.specs.declared.imports.ComponentTypeRef.{ComponentTypeRef};
 ghost use Rattle.wenc_parts.specs.Imports.{extern_name, extern_name_view, plain_name, type_reference};
@@ -11,6 +13,7 @@ use std::alloc::{Allocator, Global};
 use wenc::run;
 use wenc_base::{Encode, Fault};
 use wenc_builder::ComponentBuilder;
+use wenc_canon::CanonicalFunctionSection;
 use wenc_parts::{ComponentExportKind, ComponentExternName, ComponentTypeRef};
 
 /// The bytes of a value, in a vector of their own.
@@ -34,6 +37,16 @@ pub fn import_bytes<A: Allocator>(
     let mut bytes = Vec::new(alloc);
     (name, ty).encode(&mut bytes)?;
     Ok(bytes)
+}
+
+/// A section that drops handles of a resource.
+pub fn dropping<A: Allocator>(alloc: A, ty: u32) -> Result<CanonicalFunctionSection<A>, Fault>
+    ensures { IfOk result (λ s.
+        s ≡ with_member no_members (canonical (OfBuiltin ResourceDrop ty)).text) }
+{
+    let mut section = CanonicalFunctionSection::new(alloc);
+    section.resource_drop(ty)?;
+    Ok(section)
 }
 
 /// A component that imports a function and exports it again. What it is follows from the contracts of the

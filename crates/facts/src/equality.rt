@@ -1,7 +1,7 @@
 //! Two values are equal exactly where they are the same value, and ids of sections are ordered by their numbers.
 ghost use Rattle.std.specs.Prelude.{◌≡◌, ◌↔◌, IsTrue, nat_lt};
 ghost use Rattle.std.specs.Ordering.{nat_cmp};
-ghost use Rattle.wenc_base.specs.Composites.{function_view, structure_view, composite_view, sub_view, rec_type_view};
+ghost use Rattle.wenc_base.specs.Composites.{func_type_view, structure_view, composite_view, sub_view, rec_type_view};
 ghost use Rattle.wenc_canon.specs.CanonTrees.{canon_view};
 ghost use Rattle.wenc_parts.specs.SectionIds.{section_number};
 ghost use Rattle.wenc_types.specs.CoreTypeTrees.{core_type_view, module_declaration_view};
@@ -105,7 +105,7 @@ pub fn entity_types(one: EntityType, other: EntityType) -> bool
 }
 
 pub fn function_types<A: Allocator>(one: &FuncType<A>, other: &FuncType<A>) -> bool
-    ensures { IsTrue result ↔ (function_view one.now ≡ function_view other.now) }
+    ensures { IsTrue result ↔ (func_type_view one.now ≡ func_type_view other.now) }
 {
     one == other
 }

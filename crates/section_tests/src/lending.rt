@@ -5,7 +5,7 @@ use crate::checks::{bytes, yes};
 use std::alloc::{Allocator, Global};
 use std::process::Abort;
 use sweeping::{sweep_encode, sweep_section};
-use wenc_base::{Encode, Fault, ByRef};
+use wenc_base::{ByRef, Encode, Fault};
 use wenc_sections::{Counted, EncoderKind};
 use wenc_types::{Declarations, DeclaredKind};
 

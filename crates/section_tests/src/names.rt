@@ -8,7 +8,7 @@ use std::alloc::Global;
 use std::process::Abort;
 use sweeping::members::{Adds, Members, sweep_add};
 use sweeping::{LARGE, NAME, TEXT, sweep_encode, sweep_section};
-use wenc_base::{CustomSection, Fault, ByRef, NameMap};
+use wenc_base::{ByRef, CustomSection, Fault, NameMap};
 use wenc_parts::ComponentSection;
 use wenc_sections::{ComponentNameSection, NamesOf, Sort};
 

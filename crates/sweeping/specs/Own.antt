@@ -1,7 +1,8 @@
 -- A type of a stranger's own, with a byte for each value.
 use Rattle.std.proofs.Common.{[], ◌∷◌, refl}
 use Rattle.wenc_base.specs.Piece.{Form, byte}
-use Rattle.wenc_base.specs.laws.Lawful.{Lawful, Reader, give, nowhere, choose, row_byte}
+use Rattle.wenc_base.specs.Readers.{Lawful, Reader, give, nowhere, choose}
+use Rattle.wenc_base.specs.laws.Lawful.{row_byte}
 use Rattle.sweeping.specs.declared.own.Light.{Light}
 use Rattle.sweeping.specs.declared.own.Light.TheVariants.{Red, Green}
 

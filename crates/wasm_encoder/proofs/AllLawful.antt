@@ -11,7 +11,8 @@ use Rattle.wenc_base.specs.laws.Entities.{table_type_lawful, memory_type_lawful,
 use Rattle.wenc_base.specs.laws.Exports.{core_export_kind_lawful as core_kind_lawful}
 use Rattle.wenc_base.specs.laws.Forms.{flag_lawful, name_lawful, byte_list_lawful, read_list, list_lawful, option_lawful, counted_lawful}
 use Rattle.wenc_base.specs.laws.Names.{name_association_lawful}
-use Rattle.wenc_base.specs.laws.Lawful.{form_laws, Lawful, Reader, ◌>>=◌, give, nowhere, choose, then, last}
+use Rattle.wenc_base.specs.Readers.{Lawful, Reader, ◌>>=◌, give, nowhere, choose}
+use Rattle.wenc_base.specs.laws.Lawful.{form_laws, then, last}
 use Rattle.wenc_base.specs.laws.Numbers.{read_u32, u32_lawful, u64_lawful, index_lawful, i64_lawful}
 use Rattle.wenc_base.specs.laws.Sections.{custom_lawful, producer_lawful, producers_field_lawful, producers_section_lawful}
 use Rattle.wenc_base.specs.laws.Types.{abstract_type_lawful, heap_type_lawful, to, reference_lawful, val_type_lawful}

@@ -133,7 +133,10 @@ fn run<A: Allocator, B: Allocator + Copy>(
             Err(fault) => Ok(Err(fault)),
         },
         Command::ComponentRaw { n, bytes } => indexed(builder.component_raw(debug_name(n), bytes)),
-        Command::Instance { n, instance } => indexed(builder.instance_tree(debug_name(n), instance)),
+        Command::Instance { n, instance } => indexed(builder.instance_tree(
+            debug_name(n),
+            instance,
+        )),
         Command::Alias { n, alias } => indexed(builder.alias(debug_name(n), alias.as_alias())),
         Command::Type { n, ty } => type_of(builder, debug_name(n), ty),
         Command::Canon { n, canon } => indexed(builder.canonical_tree(debug_name(n), canon)),

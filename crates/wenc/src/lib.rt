@@ -2,10 +2,10 @@
 //! answers and the component that they build; or it lists a component's sections.
 #![tactic(auto)]
 
+pub mod builtin;
 pub mod digits;
 pub mod failure;
 pub mod input;
-pub mod builtin;
 pub mod kind;
 pub mod line;
 pub mod list;

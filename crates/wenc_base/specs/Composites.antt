@@ -89,8 +89,8 @@ params_of f = f.params.items
 abbrev pub results_of : {A : Type 0} → FuncType A → List ValType
 results_of f = f.results.items
 
-abbrev pub function_view : {A : Type 0} → FuncType A → Composite
-function_view f = Func (params_of f) (results_of f)
+abbrev pub func_type_view : {A : Type 0} → FuncType A → Composite
+func_type_view f = Func (params_of f) (results_of f)
 
 abbrev pub array_view : ArrayType → Composite
 array_view a = Array a.0
@@ -99,7 +99,7 @@ abbrev pub structure_view : {A : Type 0} → StructType A → Composite
 structure_view s = Struct s.fields.items
 
 abbrev pub composite_view : {A : Type 0} → CompositeType A → Composite
-composite_view (composites.Func f) = function_view f
+composite_view (composites.Func f) = func_type_view f
 composite_view (composites.Array a) = array_view a
 composite_view (composites.Struct s) = structure_view s
 

@@ -3,7 +3,7 @@
 use Rattle.std.specs.Prelude.{◌≡◌, ℕ, Bool, true, Option, Some, None}
 use Rattle.wenc_base.specs.Encode.{Serves}
 use Rattle.wenc_base.specs.Piece.{Form, ◌⨾◌}
-use Rattle.wenc_base.specs.laws.Lawful.{Reader, LawfulForm}
+use Rattle.wenc_base.specs.Readers.{Reader, LawfulForm}
 
 -- one reader finds each value of the form where its piece is
 abbrev pub IsReadable : {A : Type 0} → Form A → Type 0

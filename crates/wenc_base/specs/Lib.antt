@@ -16,4 +16,5 @@ pub mod Names
 pub mod Lender
 pub mod Openings
 pub mod FormLaws
+pub mod Readers
 pub mod laws

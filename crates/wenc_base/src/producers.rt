@@ -5,7 +5,7 @@ ghost use Rattle.wenc_base.specs.Piece.{refused_for};
 ghost use Rattle.wenc_base.specs.declared.fault.Fault.TheVariants.{Unfinished};
 ghost use Rattle.wenc_base.specs.Producers.{Producer, producer, producers_field, producers_held, FieldCause, held_field};
 
-use crate::encode::{Encode, ByRef};
+use crate::encode::{ByRef, Encode};
 use crate::fault::Fault;
 use crate::holder::{Holder, section_size};
 use crate::section::{Section, SectionId};

@@ -51,7 +51,7 @@ pub record EntersListed {S B : Type 0} (steps : S → Option B → S → Type 0)
   pub ok : OnOk result (WholeRun steps values (λ run. Enters old new result (x run.items)))
   pub refused : OnErr result (SomeRun steps values (λ run. Enters old new result (x run.items)))
 
--- A call begins an item and lends the builder to an encoder, with the item's place; or it is
+-- A call begins an item and lends the builder to an encoder, with the item's index; or it is
 -- refused for a cause.
 pub record BeginsItem {E : Type 0} (index : E → ℕ) (lent : E → State) (old : State)
     (result : Result E Fault) (d : Draft) : Type 0 where
@@ -82,7 +82,7 @@ TakesIndices old new next result after d p =
     TakesWith old new next result after (Some d) p
     (λ i. i ≡ (namespace_at old.settled.spaces d.space).count)
 
--- The same of the place of a draft.
+-- The same of the index of a draft.
 abbrev pub Takes : State → State → State → Result ℕ Fault → Draft → Piece → Type 0
 Takes old new next result d p =
     TakesIndices old new next result (content_of (item_begun old d)) (draft_indices d) p

@@ -1,4 +1,4 @@
--- Index spaces: which one an item defines in, and the place that it gets (component model,
+-- Index spaces: which one an item defines in, and the index that it gets (component model,
 -- explainer, "Index Spaces").
 use Rattle.std.specs.Prelude.{◌≡◌, ℕ, ◌+◌, List, [], ◌∷◌, Option, Some, None, nat_eq, if◌then◌else◌}
 use Rattle.wenc_parts.specs.declared.exports.ComponentExportKind.{ComponentExportKind}
@@ -107,7 +107,7 @@ number_in k (Some d) = if nat_eq d.space k then d.number else 0
 abbrev pub defined_in : ℕ → Item → ℕ
 defined_in k x = number_in k (defines x)
 
--- how many the items take in space k: the place there of what comes next
+-- how many the items take in space k: the index there of what comes next
 abbrev pub next_index : List Item → ℕ → ℕ
 next_index [] k = 0
 next_index (x ∷ xs) k = defined_in k x + next_index xs k

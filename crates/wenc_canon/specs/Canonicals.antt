@@ -231,10 +231,10 @@ canonical (Lower function options) = 0x01 ▸ 0x00 ▸ u32 function ⨾ list can
 canonical (OfBuiltin i values) = (row i).opcode ▸ fields (row i).fields values
 
 -- its name, without the number of a slot
-abbrev pub canonical_name : Canonical → List ℕ
-canonical_name (Lift function options type_index) = codes "lift"
-canonical_name (Lower function options) = codes "lower"
-canonical_name (OfBuiltin i values) = (row i).name
+abbrev pub builtin_name : Canonical → List ℕ
+builtin_name (Lift function options type_index) = codes "lift"
+builtin_name (Lower function options) = codes "lower"
+builtin_name (OfBuiltin i values) = (row i).name
 
 -- ---- what the calls of a section add
 

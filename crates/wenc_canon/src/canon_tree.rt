@@ -205,11 +205,11 @@ impl<A: Allocator> CanonTree<A> {
     ghost use Rattle.std.specs.Prelude.{◌≡◌};
     ghost use Rattle.wenc_canon.specs.CanonTrees.{canon_view};
     ghost use Rattle.wenc_canon.specs.inside.Operands.{operand_behind};
-    ghost use Rattle.wenc_canon.specs.Canonicals.{canonical_name};
+    ghost use Rattle.wenc_canon.specs.Canonicals.{builtin_name};
 
     /// The name of the function, without the number of a slot.
     pub fn name(&self) -> &'static str
-        ensures { result.now ≡ canonical_name (canon_view self.now) }
+        ensures { result.now ≡ builtin_name (canon_view self.now) }
     {
         self.parts().0.name
     }
@@ -218,7 +218,7 @@ impl<A: Allocator> CanonTree<A> {
     #[tactic(auto, using(wenc_base::specs::laws::Serves::serves_itself))]
     #[inline(always)]
     fn parts(&self) -> (Row, Operands<'_, A>)
-        ensures name { result.0.name.now ≡ canonical_name (canon_view self.now) }
+        ensures name { result.0.name.now ≡ builtin_name (canon_view self.now) }
         ensures form { Serves (operand_behind result.0.opcode result.1)
             (canonical (canon_view self.now)) }
     {

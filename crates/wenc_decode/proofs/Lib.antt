@@ -1,4 +1,4 @@
-pub mod Loop
 pub mod Rows
 pub mod SubTypes
 pub mod Tables
+pub mod ValTypes

@@ -3,7 +3,6 @@ pub mod Aliases
 pub mod Canonicals
 pub mod CoreTypes
 pub mod Entities
-pub mod Outcomes
 pub mod Tables
 pub mod TypeTrees
 pub mod Types

@@ -1,5 +1,4 @@
 -- Why the readers find what is read and nothing else: for proofs, here and in the crates above.
 pub mod Levels
-pub mod Outcomes
 pub mod Repeats
 pub mod TypeTrees

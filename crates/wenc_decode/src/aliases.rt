@@ -43,7 +43,7 @@ fn outer<A: Allocator + Copy>(
 }
 
 /// An export of a core instance.
-#[tactic(auto, unfolding(wenc_base::specs::laws::Lawful::choose))]
+#[tactic(auto, unfolding(wenc_base::specs::Readers::choose))]
 fn core_export<A: Allocator + Copy>(
     alloc: A,
     kind: ExportKind,
@@ -67,7 +67,7 @@ fn core_export<A: Allocator + Copy>(
 }
 
 /// An export of an instance, of a kind that is no outer item's.
-#[tactic(auto, unfolding(wenc_base::specs::laws::Lawful::choose))]
+#[tactic(auto, unfolding(wenc_base::specs::Readers::choose))]
 #[inline(always)]
 fn export_alone<A: Allocator + Copy>(
     alloc: A,
@@ -84,7 +84,7 @@ fn export_alone<A: Allocator + Copy>(
 }
 
 /// Either, by the byte behind the sort.
-#[tactic(auto, unfolding(wenc_base::specs::laws::Lawful::choose))]
+#[tactic(auto, unfolding(wenc_base::specs::Readers::choose))]
 fn either<A: Allocator + Copy>(
     alloc: A,
     kind: ComponentExportKind,
@@ -102,7 +102,7 @@ fn either<A: Allocator + Copy>(
 }
 
 /// What is of a core sort, behind the sort's first byte.
-#[tactic(auto, unfolding(wenc_base::specs::laws::Lawful::choose))]
+#[tactic(auto, unfolding(wenc_base::specs::Readers::choose))]
 fn core<A: Allocator + Copy>(alloc: A, bytes: &[u8]) -> Result<(AliasTree<A>, &[u8]), Refusal>
     ensures { Gives (λ x. (alias_tree_view x.0, x.1.now)) result (read_core_alias bytes.now) }
 {
@@ -135,7 +135,7 @@ impl<A: Allocator + Copy> Decode<A> for AliasTree<A> {
 
     ghost read = { read_alias };
 
-    #[tactic(auto, unfolding(wenc_base::specs::laws::Lawful::choose))]
+    #[tactic(auto, unfolding(wenc_base::specs::Readers::choose))]
     fn decode<'a>(alloc: A, bytes: &'a [u8]) -> Result<(AliasTree<A>, &'a [u8]), Refusal> {
         match byte(bytes)? {
             (0x00, rest) => core(alloc, rest),

@@ -1,5 +1,5 @@
 //! Canonical functions, each by its opcode.
-ghost use Rattle.wenc_base.specs.laws.Lawful.{pick, nowhere};
+ghost use Rattle.wenc_base.specs.Readers.{pick, nowhere};
 ghost use Rattle.wenc_canon.specs.CanonTrees.{canon_view};
 ghost use Rattle.wenc_canon.specs.laws.Canonicals.{rows};
 ghost use Rattle.wenc_decode.specs.inside.Canonicals.{read_zero, read_lifted, read_lowered, stream_rows, future_rows, error_context_rows, thread_rows};
@@ -22,7 +22,7 @@ impl<A: Allocator + Copy> Decode<A> for CanonicalOption {
 
     ghost read = { read_canonical_option };
 
-    #[tactic(auto, unfolding(wenc_base::specs::laws::Lawful::choose))]
+    #[tactic(auto, unfolding(wenc_base::specs::Readers::choose))]
     fn decode<'a>(alloc: A, bytes: &'a [u8]) -> Result<(CanonicalOption, &'a [u8]), Refusal> {
         match byte(bytes)? {
             (0x00, rest) => Ok((CanonicalOption::UTF8, rest)),
@@ -56,7 +56,7 @@ impl<A: Allocator + Copy> Decode<A> for CanonicalOption {
 }
 
 /// The byte `00`.
-#[tactic(auto, unfolding(wenc_base::specs::laws::Lawful::choose))]
+#[tactic(auto, unfolding(wenc_base::specs::Readers::choose))]
 fn zero(bytes: &[u8]) -> Result<((), &[u8]), Refusal>
     ensures { Gives (λ x. (tt, x.1.now)) result (read_zero bytes.now) }
 {
@@ -67,7 +67,7 @@ fn zero(bytes: &[u8]) -> Result<((), &[u8]), Refusal>
 }
 
 /// A core function that is lifted, behind its opcode.
-#[tactic(auto, unfolding(wenc_base::specs::laws::Lawful::choose))]
+#[tactic(auto, unfolding(wenc_base::specs::Readers::choose))]
 fn lifted<A: Allocator + Copy>(alloc: A, bytes: &[u8]) -> Result<(CanonTree<A>, &[u8]), Refusal>
     ensures { Gives (λ x. (canon_view x.0, x.1.now)) result (read_lifted bytes.now) }
 {
@@ -88,7 +88,7 @@ fn lifted<A: Allocator + Copy>(alloc: A, bytes: &[u8]) -> Result<(CanonTree<A>, 
 }
 
 /// A function that is lowered, behind its opcode.
-#[tactic(auto, unfolding(wenc_base::specs::laws::Lawful::choose))]
+#[tactic(auto, unfolding(wenc_base::specs::Readers::choose))]
 fn lowered<A: Allocator + Copy>(alloc: A, bytes: &[u8]) -> Result<(CanonTree<A>, &[u8]), Refusal>
     ensures { Gives (λ x. (canon_view x.0, x.1.now)) result (read_lowered bytes.now) }
 {
@@ -315,7 +315,7 @@ impl<A: Allocator + Copy> Decode<A> for CanonTree<A> {
 
     ghost read = { read_canonical };
 
-    #[tactic(auto, unfolding(wenc_base::specs::laws::Lawful::choose))]
+    #[tactic(auto, unfolding(wenc_base::specs::Readers::choose))]
     fn decode<'a>(alloc: A, bytes: &'a [u8]) -> Result<(CanonTree<A>, &'a [u8]), Refusal> {
         let (opcode, rest) = byte(bytes)?;
         function(alloc, opcode, rest)

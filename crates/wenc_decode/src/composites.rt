@@ -22,7 +22,7 @@ impl<A: Allocator + Copy> Decode<A> for StorageType {
 
     ghost read = { read_storage_type };
 
-    #[tactic(auto, unfolding(wenc_base::specs::laws::Lawful::choose))]
+    #[tactic(auto, unfolding(wenc_base::specs::Readers::choose))]
     fn decode<'a>(alloc: A, bytes: &'a [u8]) -> Result<(StorageType, &'a [u8]), Refusal> {
         match byte(bytes)? {
             (0x78, rest) => Ok((StorageType::I8, rest)),
@@ -65,7 +65,7 @@ impl<A: Allocator + Copy> Decode<A> for CompositeType<A> {
 
     ghost read = { read_composite };
 
-    #[tactic(auto, unfolding(wenc_base::specs::laws::Lawful::choose))]
+    #[tactic(auto, unfolding(wenc_base::specs::Readers::choose))]
     fn decode<'a>(alloc: A, bytes: &'a [u8]) -> Result<(CompositeType<A>, &'a [u8]), Refusal> {
         match byte(bytes)? {
             (0x60, rest) => {
@@ -96,7 +96,7 @@ impl<A: Allocator + Copy> Decode<A> for SubType<A> {
 
     ghost read = { read_sub_type };
 
-    #[tactic(auto, unfolding(wenc_base::specs::laws::Lawful::choose))]
+    #[tactic(auto, unfolding(wenc_base::specs::Readers::choose))]
     fn decode<'a>(alloc: A, bytes: &'a [u8]) -> Result<(SubType<A>, &'a [u8]), Refusal> {
         match byte(bytes)? {
             (0x50, rest) => open(alloc, rest),
@@ -133,7 +133,7 @@ pub(crate) fn open<A: Allocator + Copy>(
 }
 
 /// A type that extends another and can't be extended.
-#[tactic(auto, unfolding(wenc_base::specs::laws::Lawful::choose))]
+#[tactic(auto, unfolding(wenc_base::specs::Readers::choose))]
 fn closed<A: Allocator + Copy>(alloc: A, bytes: &[u8]) -> Result<(SubType<A>, &[u8]), Refusal>
     ensures { Gives (λ x. (sub_view x.0, x.1.now)) result
         (read_closed (λ n c. sub_of true (Some n) c) bytes.now) }
@@ -162,7 +162,7 @@ impl<A: Allocator + Copy> Decode<A> for GroupTree<A> {
 
     ghost read = { read_group };
 
-    #[tactic(auto, unfolding(wenc_base::specs::laws::Lawful::choose))]
+    #[tactic(auto, unfolding(wenc_base::specs::Readers::choose))]
     fn decode<'a>(alloc: A, bytes: &'a [u8]) -> Result<(GroupTree<A>, &'a [u8]), Refusal> {
         match byte(bytes)? {
             (0x4e, rest) => {

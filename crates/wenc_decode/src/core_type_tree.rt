@@ -11,7 +11,7 @@ use wenc_read::{Refusal, byte};
 use wenc_types::{CoreTypeTree, ModuleDecl};
 
 /// An alias of a type of a component around, behind its first byte.
-#[tactic(auto, unfolding(wenc_base::specs::laws::Lawful::choose))]
+#[tactic(auto, unfolding(wenc_base::specs::Readers::choose))]
 fn outer_type<A: Allocator + Copy>(
     alloc: A,
     bytes: &[u8],
@@ -42,7 +42,7 @@ impl<A: Allocator + Copy> Decode<A> for ModuleDecl<A> {
 
     ghost read = { read_module_declaration };
 
-    #[tactic(auto, unfolding(wenc_base::specs::laws::Lawful::choose))]
+    #[tactic(auto, unfolding(wenc_base::specs::Readers::choose))]
     fn decode<'a>(alloc: A, bytes: &'a [u8]) -> Result<(ModuleDecl<A>, &'a [u8]), Refusal> {
         match byte(bytes)? {
             (0x00, rest) => {
@@ -67,7 +67,7 @@ impl<A: Allocator + Copy> Decode<A> for ModuleDecl<A> {
 }
 
 /// A type that can be extended, behind its guard.
-#[tactic(auto, unfolding(wenc_base::specs::laws::Lawful::choose))]
+#[tactic(auto, unfolding(wenc_base::specs::Readers::choose))]
 fn guarded<A: Allocator + Copy>(alloc: A, bytes: &[u8]) -> Result<(CoreTypeTree<A>, &[u8]), Refusal>
     ensures { Gives (λ x. (core_type_view x.0, x.1.now)) result (read_guarded bytes.now) }
 {
@@ -90,7 +90,7 @@ impl<A: Allocator + Copy> Decode<A> for CoreTypeTree<A> {
 
     ghost read = { read_core_type };
 
-    #[tactic(auto, unfolding(wenc_base::specs::laws::Lawful::choose))]
+    #[tactic(auto, unfolding(wenc_base::specs::Readers::choose))]
     fn decode<'a>(alloc: A, bytes: &'a [u8]) -> Result<(CoreTypeTree<A>, &'a [u8]), Refusal> {
         match byte(bytes)? {
             (0x50, rest) => {

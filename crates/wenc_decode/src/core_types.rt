@@ -64,7 +64,7 @@ impl<A: Allocator + Copy> Decode<A> for RefType {
 
     ghost read = { read_reference };
 
-    #[tactic(auto, unfolding(wenc_base::specs::laws::Lawful::choose))]
+    #[tactic(auto, unfolding(wenc_base::specs::Readers::choose))]
     fn decode<'a>(alloc: A, bytes: &'a [u8]) -> Result<(RefType, &'a [u8]), Refusal> {
         match byte(bytes)? {
             (0x63, rest) => reference(alloc, true, rest),
@@ -108,7 +108,7 @@ impl<A: Allocator + Copy> Decode<A> for ValType {
 
     ghost read = { read_val_type };
 
-    #[tactic(auto, unfolding(wenc_base::specs::laws::Lawful::choose))]
+    #[tactic(auto, unfolding(wenc_base::specs::Readers::choose))]
     fn decode<'a>(alloc: A, bytes: &'a [u8]) -> Result<(ValType, &'a [u8]), Refusal> {
         match byte(bytes)? {
             (0x7f, rest) => Ok((ValType::I32, rest)),

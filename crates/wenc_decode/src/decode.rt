@@ -1,6 +1,6 @@
 //! The trait `Decode`, and what every form is made of: numbers, flags, texts, lists and options.
 ghost use Rattle.std.specs.Prelude.{◌≡◌, ◌≤◌, ◌<◌, List, length, map};
-ghost use Rattle.wenc_base.specs.laws.Lawful.{Reader, times};
+ghost use Rattle.wenc_base.specs.Readers.{Reader, times};
 ghost use Rattle.wenc_read.specs.inside.Gives.{Gives};
 
 use std::alloc::Allocator;
@@ -130,7 +130,7 @@ impl<A: Allocator + Copy, T: Decode<A>> Decode<A> for Option<T> {
 
     ghost read = { read_option T.read };
 
-    #[tactic(auto, unfolding(wenc_base::specs::laws::Lawful::choose))]
+    #[tactic(auto, unfolding(wenc_base::specs::Readers::choose))]
     fn decode<'a>(alloc: A, bytes: &'a [u8]) -> Result<(Option<T>, &'a [u8]), Refusal> {
         match byte(bytes)? {
             (0x00, rest) => Ok((None, rest)),

@@ -1,5 +1,5 @@
 //! Types of values that components define.
-ghost use Rattle.wenc_base.specs.laws.Lawful.{pick, nowhere};
+ghost use Rattle.wenc_base.specs.Readers.{pick, nowhere};
 ghost use Rattle.wenc_decode.specs.inside.Types.{read_defined_row, handle_rows};
 ghost use Rattle.wenc_read.specs.inside.Gives.{Gives};
 ghost use Rattle.wenc_types.specs.TypeTrees.{defined_view};
@@ -45,7 +45,7 @@ impl<A: Allocator + Copy> Decode<A> for CaseTree<A> {
 
     ghost read = { read_case };
 
-    #[tactic(auto, unfolding(wenc_base::specs::laws::Lawful::choose))]
+    #[tactic(auto, unfolding(wenc_base::specs::Readers::choose))]
     fn decode<'a>(alloc: A, bytes: &'a [u8]) -> Result<(CaseTree<A>, &'a [u8]), Refusal> {
         let (name, rest) = String::decode(alloc, bytes)?;
         let (ty, rest) = Option::decode(alloc, rest)?;

@@ -51,7 +51,7 @@ impl<A: Allocator + Copy> Decode<A> for MemoryType {
 
     ghost read = { read_memory_type };
 
-    #[tactic(auto, unfolding(wenc_base::specs::laws::Lawful::choose))]
+    #[tactic(auto, unfolding(wenc_base::specs::Readers::choose))]
     fn decode<'a>(_alloc: A, bytes: &'a [u8]) -> Result<(MemoryType, &'a [u8]), Refusal> {
         match byte(bytes)? {
             (0x00, rest) => memory(false, false, false, rest),
@@ -98,7 +98,7 @@ impl<A: Allocator + Copy> Decode<A> for TableType {
 
     ghost read = { read_table_type };
 
-    #[tactic(auto, unfolding(wenc_base::specs::laws::Lawful::choose))]
+    #[tactic(auto, unfolding(wenc_base::specs::Readers::choose))]
     fn decode<'a>(alloc: A, bytes: &'a [u8]) -> Result<(TableType, &'a [u8]), Refusal> {
         let (element_type, rest) = RefType::decode(alloc, bytes)?;
         match byte(rest)? {
@@ -138,7 +138,7 @@ impl<A: Allocator + Copy> Decode<A> for TagType {
 
     ghost read = { read_tag_type };
 
-    #[tactic(auto, unfolding(wenc_base::specs::laws::Lawful::choose))]
+    #[tactic(auto, unfolding(wenc_base::specs::Readers::choose))]
     fn decode<'a>(alloc: A, bytes: &'a [u8]) -> Result<(TagType, &'a [u8]), Refusal> {
         match byte(bytes)? {
             (0x00, rest) => {
@@ -160,7 +160,7 @@ impl<A: Allocator + Copy> Decode<A> for EntityType {
 
     ghost read = { read_entity_type };
 
-    #[tactic(auto, unfolding(wenc_base::specs::laws::Lawful::choose))]
+    #[tactic(auto, unfolding(wenc_base::specs::Readers::choose))]
     fn decode<'a>(alloc: A, bytes: &'a [u8]) -> Result<(EntityType, &'a [u8]), Refusal> {
         match byte(bytes)? {
             (0x00, rest) => {
@@ -198,7 +198,7 @@ impl<A: Allocator + Copy> Decode<A> for ExportKind {
 
     ghost read = { read_core_export_kind };
 
-    #[tactic(auto, unfolding(wenc_base::specs::laws::Lawful::choose))]
+    #[tactic(auto, unfolding(wenc_base::specs::Readers::choose))]
     fn decode<'a>(_alloc: A, bytes: &'a [u8]) -> Result<(ExportKind, &'a [u8]), Refusal> {
         match byte(bytes)? {
             (0x00, rest) => Ok((ExportKind::Func, rest)),

@@ -16,7 +16,7 @@ impl<A: Allocator + Copy> Decode<A> for ModuleArg {
 
     ghost read = { read_module_argument };
 
-    #[tactic(auto, unfolding(wenc_base::specs::laws::Lawful::choose))]
+    #[tactic(auto, unfolding(wenc_base::specs::Readers::choose))]
     fn decode<'a>(alloc: A, bytes: &'a [u8]) -> Result<(ModuleArg, &'a [u8]), Refusal> {
         match byte(bytes)? {
             (0x12, rest) => {
@@ -84,7 +84,7 @@ impl<A: Allocator + Copy> Decode<A> for CoreInstanceTree<A> {
 
     ghost read = { read_core_instance };
 
-    #[tactic(auto, unfolding(wenc_base::specs::laws::Lawful::choose))]
+    #[tactic(auto, unfolding(wenc_base::specs::Readers::choose))]
     fn decode<'a>(alloc: A, bytes: &'a [u8]) -> Result<(CoreInstanceTree<A>, &'a [u8]), Refusal> {
         match byte(bytes)? {
             (0x00, rest) => {
@@ -158,7 +158,7 @@ impl<A: Allocator + Copy> Decode<A> for InstanceTree<A> {
 
     ghost read = { read_instance };
 
-    #[tactic(auto, unfolding(wenc_base::specs::laws::Lawful::choose))]
+    #[tactic(auto, unfolding(wenc_base::specs::Readers::choose))]
     fn decode<'a>(alloc: A, bytes: &'a [u8]) -> Result<(InstanceTree<A>, &'a [u8]), Refusal> {
         match byte(bytes)? {
             (0x00, rest) => {

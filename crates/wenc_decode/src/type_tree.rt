@@ -1,6 +1,6 @@
 //! Types that components define. Those of components and instances nest, down to a depth.
 ghost use Rattle.std.specs.Prelude.{map};
-ghost use Rattle.wenc_decode.specs.inside.Outcomes.{Yields, repeat};
+ghost use Rattle.wenc_base.specs.Readers.{times};
 ghost use Rattle.wenc_decode.specs.inside.TypeTrees.{read_imported, read_exported_type, read_component_declaration, read_instance_declaration};
 ghost use Rattle.wenc_decode.specs.inside.TypeTrees.{read_type, read_component_type, read_instance_type};
 ghost use Rattle.wenc_decode.specs.inside.Types.{read_function_type, read_resource_type};
@@ -48,13 +48,13 @@ fn resource_type<A: Allocator + Copy>(
 /// `depth_left` times inside one another, and what is behind it. It is refused where none is spelled, as too deep where more
 /// of them open, and for want of memory.
 #[cycle(types)]
-#[tactic(auto, using(crate::specs::laws::Levels::one_level), unfolding(crate::specs::inside::Outcomes::select))]
+#[tactic(auto, using(crate::specs::laws::Levels::one_level), unfolding(wenc_base::specs::Readers::choose))]
 pub fn type_of<A: Allocator + Copy>(
     alloc: A,
     depth_left: u32,
     bytes: &[u8],
 ) -> Result<(TypeTree<A>, &[u8]), Refusal>
-    ensures { Yields (λ x. (type_view x.0, x.1.now)) result (read_type depth_left bytes.now) }
+    ensures { Gives (λ x. (type_view x.0, x.1.now)) result (read_type depth_left bytes.now) }
 {
     match byte(bytes)? {
         (0x41, rest) => component_type(alloc, depth_left, rest),
@@ -76,7 +76,7 @@ fn component_type<A: Allocator + Copy>(
     depth_left: u32,
     bytes: &[u8],
 ) -> Result<(TypeTree<A>, &[u8]), Refusal>
-    ensures { Yields (λ x. (type_view x.0, x.1.now)) result
+    ensures { Gives (λ x. (type_view x.0, x.1.now)) result
         (read_component_type depth_left bytes.now) }
 {
     if depth_left == 0 {
@@ -94,7 +94,7 @@ fn instance_type<A: Allocator + Copy>(
     depth_left: u32,
     bytes: &[u8],
 ) -> Result<(TypeTree<A>, &[u8]), Refusal>
-    ensures { Yields (λ x. (type_view x.0, x.1.now)) result
+    ensures { Gives (λ x. (type_view x.0, x.1.now)) result
         (read_instance_type depth_left bytes.now) }
 {
     if depth_left == 0 {
@@ -113,8 +113,8 @@ fn component_decls<A: Allocator + Copy>(
     count: u32,
     bytes: &[u8],
 ) -> Result<(Vec<ComponentDecl<A>, A>, &[u8]), Refusal>
-    ensures { Yields (λ x. (map component_declaration_view x.0.items, x.1.now)) result
-        (repeat (read_component_declaration (read_type depth_left)) count bytes.now) }
+    ensures { Gives (λ x. (map component_declaration_view x.0.items, x.1.now)) result
+        (times (read_component_declaration (read_type depth_left)) count bytes.now) }
 {
     let mut decls = Vec::new(alloc);
     let mut rest = bytes;
@@ -134,8 +134,8 @@ fn instance_decls<A: Allocator + Copy>(
     count: u32,
     bytes: &[u8],
 ) -> Result<(Vec<InstanceDecl<A>, A>, &[u8]), Refusal>
-    ensures { Yields (λ x. (map instance_declaration_view x.0.items, x.1.now)) result
-        (repeat (read_instance_declaration (read_type depth_left)) count bytes.now) }
+    ensures { Gives (λ x. (map instance_declaration_view x.0.items, x.1.now)) result
+        (times (read_instance_declaration (read_type depth_left)) count bytes.now) }
 {
     let mut decls = Vec::new(alloc);
     let mut rest = bytes;
@@ -149,13 +149,13 @@ fn instance_decls<A: Allocator + Copy>(
 
 /// What a component type declares.
 #[cycle(types)]
-#[tactic(auto, unfolding(crate::specs::inside::Outcomes::select))]
+#[tactic(auto, using(wenc_read::specs::laws::Tables::first_there), unfolding(wenc_base::specs::Readers::choose))]
 fn component_decl<A: Allocator + Copy>(
     alloc: A,
     depth_left: u32,
     bytes: &[u8],
 ) -> Result<(ComponentDecl<A>, &[u8]), Refusal>
-    ensures { Yields (λ x. (component_declaration_view x.0, x.1.now)) result
+    ensures { Gives (λ x. (component_declaration_view x.0, x.1.now)) result
         (read_component_declaration (read_type depth_left) bytes.now) }
 {
     match byte(bytes)? {
@@ -169,13 +169,13 @@ fn component_decl<A: Allocator + Copy>(
 
 /// What an instance type declares.
 #[cycle(types)]
-#[tactic(auto, unfolding(crate::specs::inside::Outcomes::select))]
+#[tactic(auto, unfolding(wenc_base::specs::Readers::choose))]
 fn instance_decl<A: Allocator + Copy>(
     alloc: A,
     depth_left: u32,
     bytes: &[u8],
 ) -> Result<(InstanceDecl<A>, &[u8]), Refusal>
-    ensures { Yields (λ x. (instance_declaration_view x.0, x.1.now)) result
+    ensures { Gives (λ x. (instance_declaration_view x.0, x.1.now)) result
         (read_instance_declaration (read_type depth_left) bytes.now) }
 {
     match byte(bytes)? {

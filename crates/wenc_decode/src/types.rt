@@ -42,7 +42,7 @@ impl<A: Allocator + Copy> Decode<A> for ComponentValType {
 
     ghost read = { read_value_type };
 
-    #[tactic(auto, unfolding(wenc_base::specs::laws::Lawful::choose))]
+    #[tactic(auto, unfolding(wenc_base::specs::Readers::choose))]
     #[inline(always)]
     fn decode<'a>(_alloc: A, bytes: &'a [u8]) -> Result<(ComponentValType, &'a [u8]), Refusal> {
         let (first, rest) = byte(bytes)?;
@@ -67,7 +67,7 @@ impl<A: Allocator + Copy> Decode<A> for ResultList {
 
     ghost read = { read_result_list };
 
-    #[tactic(auto, unfolding(wenc_base::specs::laws::Lawful::choose))]
+    #[tactic(auto, unfolding(wenc_base::specs::Readers::choose))]
     #[inline(always)]
     fn decode<'a>(alloc: A, bytes: &'a [u8]) -> Result<(ResultList, &'a [u8]), Refusal> {
         match byte(bytes)? {

@@ -35,26 +35,26 @@ defined_nowhere some d k e f = ap (λ (o : Option Indices). number_in k o) (sym 
 pub own_space : (s : Space) (n : ℕ) → number_in (space_number s) (some_in s n) ≡ n
 own_space s n = elim (eqb_tells (space_number s) (space_number s)) [ inl t ↦ rw (t.0, cond) refl | inr t ↦ absurd (t.1 refl) ]
 
-pub place-append : (xs ys : List Item) (k : ℕ) → next_index (xs ++ ys) k ≡ next_index xs k + next_index ys k
-place-append [] ys k = omega arith
-place-append (x ∷ xs) ys k = omega (arith, place-append xs ys k)
+pub index-append : (xs ys : List Item) (k : ℕ) → next_index (xs ++ ys) k ≡ next_index xs k + next_index ys k
+index-append [] ys k = omega arith
+index-append (x ∷ xs) ys k = omega (arith, index-append xs ys k)
 
 count-append : (ss : List Section) (t : Section) (k : ℕ) → count_of_sections k (ss ++ t ∷ []) ≡ count_of_sections k ss + next_index (members t) k
-count-append [] t k = place-append (members t) [] k ∙ omega arith
-count-append (s ∷ ss) t k = place-append (members s) (flat_map members (ss ++ t ∷ [])) k ∙ omega (arith, count-append ss t k, place-append (members s) (flat_map members ss) k)
+count-append [] t k = index-append (members t) [] k ∙ omega arith
+count-append (s ∷ ss) t k = index-append (members s) (flat_map members (ss ++ t ∷ [])) k ∙ omega (arith, count-append ss t k, index-append (members s) (flat_map members ss) k)
 
 module _ {A : Type 0} where
   -- one item more
-  pub place_more : (items : List (ItemTree A)) (i : ℕ) (x : ItemTree A) (k : ℕ) → i < length items → x ≡ get_or items i x → next_index (map item_view (take (i + 1) items)) k ≡ next_index (map item_view (take i items)) k + defined_in k (item_view x)
-  place_more items i x k lt e =
+  pub index_more : (items : List (ItemTree A)) (i : ℕ) (x : ItemTree A) (k : ℕ) → i < length items → x ≡ get_or items i x → next_index (map item_view (take (i + 1) items)) k ≡ next_index (map item_view (take i items)) k + defined_in k (item_view x)
+  index_more items i x k lt e =
       let parts : take (i + 1) items ≡ take i items ++ x ∷ [] = take_more items i x lt ∙ ap (λ (y : ItemTree A). take i items ++ y ∷ []) (sym e) in
-      rw (parts, map-append item_view (take i items) (x ∷ [])) (place-append (map item_view (take i items)) (item_view x ∷ []) k ∙ omega arith)
+      rw (parts, map-append item_view (take i items) (x ∷ [])) (index-append (map item_view (take i items)) (item_view x ∷ []) k ∙ omega arith)
 
   -- the first of them take no more than all
-  pub place_front : (items : List (ItemTree A)) (i k : ℕ) → next_index (map item_view (take i items)) k ≤ next_index (map item_view items) k
-  place_front items i k =
+  pub index_front : (items : List (ItemTree A)) (i k : ℕ) → next_index (map item_view (take i items)) k ≤ next_index (map item_view items) k
+  index_front items i k =
       let both : next_index (map item_view items) k ≡ next_index (map item_view (take i items)) k + next_index (map item_view (drop i items)) k =
-      ap (λ (xs : List (ItemTree A)). next_index (map item_view xs) k) (sym (take-append-drop i items)) ∙ rw (map-append item_view (take i items) (drop i items)) (place-append (map item_view (take i items)) (map item_view (drop i items)) k) in
+      ap (λ (xs : List (ItemTree A)). next_index (map item_view xs) k) (sym (take-append-drop i items)) ∙ rw (map-append item_view (take i items) (drop i items)) (index-append (map item_view (take i items)) (map item_view (drop i items)) k) in
       omega (arith, both)
 
   pub section_members : (s : ListedSection A) → members (section_view s) ≡ map item_view s.items.items

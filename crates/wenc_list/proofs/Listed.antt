@@ -1,17 +1,17 @@
 -- What a section says of the bytes, and what a list of sections says.
-use Rattle.std.proofs.Common.{◌≡◌, ℕ, zero, suc, ◌+◌, ◌<◌, ◌≤◌, cond, List, [], ◌∷◌, ◌++◌, length, map, drop, Option, Some, None, Result, Ok, Err, refl, sym, ap, ◌∙◌, inl, inr, arith, length-append}
+use Rattle.std.proofs.Common.{◌≡◌, ℕ, zero, suc, ◌+◌, ◌<◌, ◌≤◌, cond, List, [], ◌∷◌, ◌++◌, length, map, drop, Result, Ok, Err, refl, sym, ap, ◌∙◌, inl, inr, arith, length-append}
 use Rattle.std.proofs.lemmas.Bool.Decides.{eqb_tells}
-use Rattle.std.proofs.lemmas.Option.{some_pair_parts}
 use Rattle.std.specs.List.{AllByRecursion}
 use Rattle.wenc_base.specs.Forms.{name, AreBytes}
 use Rattle.wenc_base.specs.Number.{ReadsGroups, last, more}
 use Rattle.wenc_base.specs.Piece.{Wide, each}
 use Rattle.wenc_base.specs.laws.Forms.{bytes_pass, name_lawful}
-use Rattle.wenc_base.specs.laws.Sound.{Then}
+use Rattle.wenc_base.specs.Readers.{Flaw, Bad, Deep}
+use Rattle.wenc_base.specs.laws.Lawful.{same_Ok, same_Ok_pair}
+use Rattle.wenc_base.specs.laws.Sound.{Told, Agrees}
 use Rattle.wenc_builder.specs.Item.{Item, CustomItem}
 use Rattle.wenc_builder.specs.Sections.{Section, members, item_of, section_piece, sections, preamble}
 use Rattle.wenc_decode.specs.Depth.{Front, OpensTypes}
-use Rattle.wenc_decode.specs.inside.Outcomes.{Flaw, Bad, Deep, IsFlaw}
 use Rattle.wenc_read.specs.inside.Gives.{Fails}
 use Rattle.wenc_read.specs.declared.refusal.Refusal.{Refusal}
 use Rattle.wenc_read.specs.declared.refusal.Refusal.TheVariants as refusals
@@ -22,15 +22,22 @@ use Rattle.wenc_list.specs.inside.Faults.{IsFaultHere}
 use Rattle.wenc_list.specs.declared.fault.ListFault.{ListFault}
 use Rattle.wenc_list.specs.declared.fault.ListFault.TheVariants as faults
 use Rattle.wenc_list.specs.declared.listing.ListedSection.{ListedSection}
-use Rattle.wenc_list.proofs.SectionLaws.{ToldAll, AgreesAll, ArePast, FillsWithin, Fills, content_told, content_agrees, frame_told, frame_finds, section_reads, section_framed, members_of}
+use Rattle.wenc_list.proofs.SectionLaws.{ArePast, FillsWithin, Fills, content_told, content_agrees, Framed, frame_told, frame_finds, section_reads, section_framed, members_of}
 
 -- ---- frames
 
-of_frame : (P : (ℕ × List ℕ) → List ℕ → Type 0) (some : Option ((ℕ × List ℕ) × List ℕ)) (x : (ℕ × List ℕ) × List ℕ) → some ≡ Some x → Then P some → P x.0 x.1
-of_frame P some x e h = rw e at h
+-- what was found, and what wasn't
+told_ok : {A : Type 0} (P : A → Type 0) (D : Type 0) (some : Result A Flaw) (v : A) → Told P D some → some ≡ Ok v → P v
+told_ok P D some v h e = rw e at h
 
-pub is_framed : (bytes : List ℕ) (id : ℕ) (content rest : List ℕ) → read_frame bytes ≡ Some ((id, content), rest) → IsFramed bytes id content rest
-is_framed bytes id content rest e = of_frame (λ f r. IsFramed bytes f.0 f.1 r) (read_frame bytes) ((id, content), rest) e (frame_told bytes)
+told_deep : {A : Type 0} (P : A → Type 0) (D : Type 0) (some : Result A Flaw) → Told P D some → some ≡ Err Deep → D
+told_deep P D some h e = rw e at h
+
+not_both : {A : Type 0} (some : Result A Flaw) (v : A) → some ≡ Ok v → some ≡ Err Bad → ⊥
+not_both some v a b = absurd cc
+
+pub is_framed : (bytes : List ℕ) (id : ℕ) (content rest : List ℕ) → read_frame bytes ≡ Ok ((id, content), rest) → IsFramed bytes id content rest
+is_framed bytes id content rest e = told_ok (Framed bytes) ⊥ (read_frame bytes) ((id, content), rest) (frame_told bytes) e
 
 -- bytes have one frame
 pub record SameFrame (id other : ℕ) (content inside rest after : List ℕ) : Type 0 where
@@ -38,9 +45,9 @@ pub record SameFrame (id other : ℕ) (content inside rest after : List ℕ) : T
   pub content_is : content ≡ inside
   pub rest_is : rest ≡ after
 
-pub same_frame : (bytes : List ℕ) (id other : ℕ) (content inside rest after : List ℕ) → read_frame bytes ≡ Some ((id, content), rest) → IsFramed bytes other inside after → SameFrame id other content inside rest after
+pub same_frame : (bytes : List ℕ) (id other : ℕ) (content inside rest after : List ℕ) → read_frame bytes ≡ Ok ((id, content), rest) → IsFramed bytes other inside after → SameFrame id other content inside rest after
 same_frame bytes id other content inside rest after e f =
-    let parts = some_pair_parts (id, content) (other, inside) rest after (sym e ∙ frame_finds bytes other inside after f) in
+    let parts = same_Ok_pair (id, content) (other, inside) rest after (sym e ∙ frame_finds bytes other inside after f) in
     record {
       id_is = ap (λ (x : ℕ × List ℕ). x.0) parts.0;
       content_is = ap (λ (x : ℕ × List ℕ). x.1) parts.0;
@@ -49,13 +56,10 @@ same_frame bytes id other content inside rest after e f =
 
 -- ---- what stands against a section
 
-never_framed : (bytes : List ℕ) (id : ℕ) (content rest : List ℕ) → read_frame bytes ≡ None → IsFramed bytes id content rest → ⊥
-never_framed bytes id content rest e f = nothing (sym e ∙ frame_finds bytes id content rest f)
-  where
-    nothing : {A : Type 0} {x : A} → None ≡ Some x → ⊥
-    nothing e = absurd cc
+never_framed : (bytes : List ℕ) (id : ℕ) (content rest : List ℕ) → read_frame bytes ≡ Err Bad → IsFramed bytes id content rest → ⊥
+never_framed bytes id content rest e f = not_both (read_frame bytes) ((id, content), rest) (frame_finds bytes id content rest f) e
 
-pub no_frame : (place : ℕ) (bytes : List ℕ) → read_frame bytes ≡ None → IsFaultHere place bytes (faults.BadSection place)
+pub no_frame : (place : ℕ) (bytes : List ℕ) → read_frame bytes ≡ Err Bad → IsFaultHere place bytes (faults.BadSection place)
 no_frame place bytes e = (
   refl,
   (λ s rest r w. (let f = section_framed s bytes rest r in never_framed bytes f.id f.content rest e f.framed)),
@@ -71,13 +75,13 @@ never_read : (d id : ℕ) (xs : List Item) (content : List ℕ) → Fills id xs 
 never_read d id xs content fills e = rw e at (content_agrees d id xs content fills)
 
 -- what fills the frame of a section that is read here
-fills_here : (bytes : List ℕ) (id : ℕ) (content rest : List ℕ) → read_frame bytes ≡ Some ((id, content), rest) → (s : Section) (after : List ℕ) → (section_piece s).Reads Wide bytes after → Fills id (members s) content
+fills_here : (bytes : List ℕ) (id : ℕ) (content rest : List ℕ) → read_frame bytes ≡ Ok ((id, content), rest) → (s : Section) (after : List ℕ) → (section_piece s).Reads Wide bytes after → Fills id (members s) content
 fills_here bytes id content rest e s after r =
     let f = section_framed s bytes after r in
     let same = same_frame bytes id f.id content f.content rest after e f.framed in
     rw (same.id_is, same.content_is) f.fills
 
-pub none_within : (bytes : List ℕ) (id : ℕ) (content rest : List ℕ) (flaw : Flaw) → read_frame bytes ≡ Some ((id, content), rest) → read_content 100 id content ≡ Err flaw → IsNoneWithin bytes
+pub none_within : (bytes : List ℕ) (id : ℕ) (content rest : List ℕ) (flaw : Flaw) → read_frame bytes ≡ Ok ((id, content), rest) → read_content 100 id content ≡ Err flaw → IsNoneWithin bytes
 none_within bytes id content rest flaw e bad s after r w = against 100 id (members s) content flaw (fills_here bytes id content rest e s after r) bad w.0
 
 -- a name that is read leaves bytes
@@ -92,9 +96,6 @@ behind_bytes (b ∷ front) rest h = behind_bytes front rest h.1
 name_leaves : (label content bytes : List ℕ) → (name label).Reads Wide content bytes → AreBytes content → AreBytes bytes
 name_leaves label content bytes r h = behind_bytes label bytes (rw r.2.1 at (groups_leave 4 (length label) content r.0 r.1.1 h))
 
-not_both : (some : Result (List Item) Flaw) (xs : List Item) → some ≡ Ok xs → some ≡ Err Bad → ⊥
-not_both some xs a b = absurd cc
-
 -- so a custom section with a name is read
 labelled_read : (label content bytes : List ℕ) → (name label).Reads Wide content bytes → AreBytes content → read_content 100 0 content ≡ Err Bad → ⊥
 labelled_read label content bytes r h e = not_both (read_content 100 0 content) (CustomItem (labelled_section label bytes) ∷ []) found e
@@ -102,7 +103,7 @@ labelled_read label content bytes r h e = not_both (read_content 100 0 content) 
     found : read_content 100 0 content ≡ Ok (CustomItem (labelled_section label bytes) ∷ [])
     found = rw ((name_lawful label).finds (name_lawful label).depth (omega arith) Wide content bytes r, bytes_pass bytes (name_leaves label content bytes r h)) refl
 
-pub no_label : (place : ℕ) (bytes : List ℕ) (id : ℕ) (content rest : List ℕ) → id ≡ 0 → AreBytes content → read_frame bytes ≡ Some ((id, content), rest) → read_content 100 id content ≡ Err Bad → IsFaultHere place bytes (faults.BadSection place)
+pub no_label : (place : ℕ) (bytes : List ℕ) (id : ℕ) (content rest : List ℕ) → id ≡ 0 → AreBytes content → read_frame bytes ≡ Ok ((id, content), rest) → read_content 100 id content ≡ Err Bad → IsFaultHere place bytes (faults.BadSection place)
 no_label place bytes id content rest zero_id are e bad = (
   refl,
   none_within bytes id content rest Bad e bad,
@@ -117,7 +118,7 @@ labelled_other : (id : ℕ) (content : List ℕ) → (id ≡ 0 → ⊥) → IsLa
 labelled_other zero content no0 = absurd (no0 refl)
 labelled_other (suc id) content no0 = tt
 
-pub no_item : (place : ℕ) (bytes : List ℕ) (id : ℕ) (content rest : List ℕ) → (id ≡ 0 → ⊥) → read_frame bytes ≡ Some ((id, content), rest) → read_content 100 id content ≡ Err Bad → IsFaultHere place bytes (faults.BadItem place)
+pub no_item : (place : ℕ) (bytes : List ℕ) (id : ℕ) (content rest : List ℕ) → (id ≡ 0 → ⊥) → read_frame bytes ≡ Ok ((id, content), rest) → read_content 100 id content ≡ Err Bad → IsFaultHere place bytes (faults.BadItem place)
 no_item place bytes id content rest other e bad = (
   refl,
   none_within bytes id content rest Bad e bad,
@@ -131,15 +132,12 @@ no_item place bytes id content rest other e bad = (
   },
 )
 
-told_deep : {A : Type 0} (P : A → Type 0) (D : Type 0) (some : Result A Flaw) → ToldAll P D some → some ≡ Err Deep → D
-told_deep P D some h e = rw e at h
-
 reached_at : (id : ℕ) (content : List ℕ) → Front (item_of id) (λ bytes. (id ≡ 7) × OpensTypes 100 bytes) content → (id ≡ 7) × Front (item_of 7) (OpensTypes 100) content
 reached_at id content f =
     let here : Front (item_of id) (OpensTypes 100) content = record { count = f.count; middle = f.middle; counted = f.counted; before = f.before; left = f.left; read = f.read; fewer = f.fewer; next = f.next.1 } in
     (f.next.0, rw f.next.0 at here)
 
-pub goes_deep : (place : ℕ) (bytes : List ℕ) (id : ℕ) (content rest : List ℕ) → read_frame bytes ≡ Some ((id, content), rest) → read_content 100 id content ≡ Err Deep → IsFaultHere place bytes (faults.TooDeep place)
+pub goes_deep : (place : ℕ) (bytes : List ℕ) (id : ℕ) (content rest : List ℕ) → read_frame bytes ≡ Ok ((id, content), rest) → read_content 100 id content ≡ Err Deep → IsFaultHere place bytes (faults.TooDeep place)
 goes_deep place bytes id content rest e deep =
     let f = is_framed bytes id content rest e in
     let g = reached_at id content (told_deep (FillsWithin 100 id content) _ (read_content 100 id content) (content_told 100 id content f.known) deep) in (
@@ -150,16 +148,13 @@ goes_deep place bytes id content rest e deep =
 
 -- ---- a section that is read
 
-told_ok : {A : Type 0} (P : A → Type 0) (D : Type 0) (some : Result A Flaw) (v : A) → ToldAll P D some → some ≡ Ok v → P v
-told_ok P D some v h e = rw e at h
-
-filled_here : (bytes : List ℕ) (id : ℕ) (content rest : List ℕ) (xs : List Item) → read_frame bytes ≡ Some ((id, content), rest) → read_content 100 id content ≡ Ok xs → FillsWithin 100 id content xs
+filled_here : (bytes : List ℕ) (id : ℕ) (content rest : List ℕ) (xs : List Item) → read_frame bytes ≡ Ok ((id, content), rest) → read_content 100 id content ≡ Ok xs → FillsWithin 100 id content xs
 filled_here bytes id content rest xs e ok = told_ok (FillsWithin 100 id content) _ (read_content 100 id content) xs (content_told 100 id content (is_framed bytes id content rest e).known) ok
 
-pub is_read : (bytes : List ℕ) (id : ℕ) (content rest : List ℕ) (xs : List Item) → read_frame bytes ≡ Some ((id, content), rest) → read_content 100 id content ≡ Ok xs → (section_piece (item_section id xs)).Reads Wide bytes rest
+pub is_read : (bytes : List ℕ) (id : ℕ) (content rest : List ℕ) (xs : List Item) → read_frame bytes ≡ Ok ((id, content), rest) → read_content 100 id content ≡ Ok xs → (section_piece (item_section id xs)).Reads Wide bytes rest
 is_read bytes id content rest xs e ok = section_reads id xs bytes content rest (is_framed bytes id content rest e) (filled_here bytes id content rest xs e ok).0
 
-pub is_within : (bytes : List ℕ) (id : ℕ) (content rest : List ℕ) (xs : List Item) → read_frame bytes ≡ Some ((id, content), rest) → read_content 100 id content ≡ Ok xs → AreWithin 100 (item_section id xs ∷ [])
+pub is_within : (bytes : List ℕ) (id : ℕ) (content rest : List ℕ) (xs : List Item) → read_frame bytes ≡ Ok ((id, content), rest) → read_content 100 id content ≡ Ok xs → AreWithin 100 (item_section id xs ∷ [])
 is_within bytes id content rest xs e ok = (rw (members_of id xs) (filled_here bytes id content rest xs e ok).1, tt)
 
 -- ---- sections, one behind the other
@@ -237,18 +232,10 @@ only_memory all bytes (faults.TooDeep place) f ss r w = absurd (stopped all byte
 filled_by : (id : ℕ) (xs : List Item) (content : List ℕ) → Fills id xs content → AllByRecursion (HasDepth 100) xs → read_content 100 id content ≡ Ok xs
 filled_by id xs content fills w = found (read_content 100 id content) refl (content_agrees 100 id xs content fills)
   where
-    found : (some : Result (List Item) Flaw) → read_content 100 id content ≡ some → AgreesAll (ArePast 100 xs) xs some → read_content 100 id content ≡ Ok xs
+    found : (some : Result (List Item) Flaw) → read_content 100 id content ≡ some → Agrees (ArePast 100 xs) xs some → read_content 100 id content ≡ Ok xs
     found (Ok ys) e a = e ∙ ap (λ (zs : List Item). Ok zs) a
     found (Err Bad) e a = absurd a
     found (Err Deep) e a = absurd (a w)
-
-ok_or : {A : Type 0} → A → Result A Flaw → A
-ok_or d (Ok v) = v
-ok_or d (Err flaw) = d
-
-same_ok : {A : Type 0} (x y : A) (some : Result A Flaw) → some ≡ Ok x → some ≡ Ok y → x ≡ y
-unfolding ok_or
-same_ok x y some e f = ap (ok_or x) (sym e ∙ f)
 
 same_section : (s t : Section) (bytes rest after : List ℕ) → (section_piece s).Reads Wide bytes rest → (section_piece t).Reads Wide bytes after → AreWithin 100 (s ∷ []) → AreWithin 100 (t ∷ []) → s ≡ t
 same_section s t bytes rest after r q v w =
@@ -257,7 +244,7 @@ same_section s t bytes rest after r q v w =
     let same = same_frame bytes f.id g.id f.content g.content rest after (frame_finds bytes f.id f.content rest f.framed) g.framed in
     let one = filled_by f.id (members s) f.content f.fills v.0 in
     let other : read_content 100 f.id f.content ≡ Ok (members t) = rw (same.id_is, same.content_is) (filled_by g.id (members t) g.content g.fills w.0) in
-    let items : members s ≡ members t = same_ok (members s) (members t) (read_content 100 f.id f.content) one other in
+    let items : members s ≡ members t = same_Ok (members s) (members t) (sym one ∙ other) in
     sym f.is ∙ rw (same.id_is, items) g.is
 
 pub same_sections : (ss ts : List Section) (bytes : List ℕ) → (sections ss).ReadsAll Wide bytes → (sections ts).ReadsAll Wide bytes → AreWithin 100 ss → AreWithin 100 ts → ss ≡ ts
@@ -274,9 +261,9 @@ same_sections (s ∷ ss) (t ∷ ts) bytes a b v w =
 pub frame_fault : (refusal : Refusal) (place : ℕ) (bytes : List ℕ) → Fails refusal (read_frame bytes) → IsFaultHere place bytes (fault_of_frame refusal place)
 frame_fault refusals.Memory place bytes h = tt
 frame_fault refusals.Malformed place bytes h = no_frame place bytes h
-frame_fault refusals.TooDeep place bytes h = absurd h
+frame_fault refusals.TooDeep place bytes h = absurd (told_deep (Framed bytes) ⊥ (read_frame bytes) (frame_told bytes) h)
 
-pub content_fault : (refusal : Refusal) (place : ℕ) (bytes : List ℕ) (id : ℕ) (content rest : List ℕ) → AreBytes content → read_frame bytes ≡ Some ((id, content), rest) → IsFlaw refusal (read_content 100 id content) → IsFaultHere place bytes (fault_of_content refusal id place)
+pub content_fault : (refusal : Refusal) (place : ℕ) (bytes : List ℕ) (id : ℕ) (content rest : List ℕ) → AreBytes content → read_frame bytes ≡ Ok ((id, content), rest) → Fails refusal (read_content 100 id content) → IsFaultHere place bytes (fault_of_content refusal id place)
 content_fault refusals.Memory place bytes id content rest are e h = tt
 content_fault refusals.Malformed place bytes id content rest are e h =
     elim (eqb_tells id 0) [

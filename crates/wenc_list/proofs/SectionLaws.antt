@@ -11,15 +11,14 @@ use Rattle.wenc_base.specs.Forms.{list, name, AreBytes}
 use Rattle.wenc_base.specs.Number.{u32}
 use Rattle.wenc_base.specs.Piece.{Form, Wide, only_where, each, raw, ◌⨾⨾◌}
 use Rattle.wenc_base.specs.laws.Forms.{read_list, name_lawful, name_sound, read_bytes, bytes_lawful, bytes_sound, list_lawful, list_sound}
-use Rattle.wenc_base.specs.laws.Lawful.{Lawful, LawfulWhole, ◌>>=◌, give, then, last, then_whole, whole_lawful}
+use Rattle.wenc_base.specs.Readers.{Flaw, Bad, Deep, Reader, ◌>>=◌, give, times, all_read, Lawful}
+use Rattle.wenc_base.specs.laws.Lawful.{LawfulWhole, then, last, then_whole, whole_lawful}
 use Rattle.wenc_base.specs.laws.Numbers.{read_u32, u32_lawful, count_lawful, u32_sound}
-use Rattle.wenc_base.specs.laws.Sound.{Then, ThenAll, Sound, SoundWhole, sound_goes_on, last_sound, then_sound, whole_sound, then_whole_sound}
+use Rattle.wenc_base.specs.laws.Sound.{Told, Tells, Sound, SoundWhole, weaken, deep_where, sound_tells, told_on, then_tells, last_tells, nowhere_tells, tested, Fewer, Several, times_told, each_plain, all_told, whole_sound, then_whole_sound, Agrees, Finds, or_deeper, nothing_finds, then_finds, last_finds, lawful_finds}
 use Rattle.wenc_builder.specs.Item.{Item, ModuleItem, CoreInstanceItem, CoreTypeItem, ComponentItem, InstanceItem, AliasItem, TypeItem, CanonItem, StartItem, ImportItem, ExportItem, CustomItem, RawItem, collected, item}
 use Rattle.wenc_builder.specs.Sections.{Section, Run, Alone, members, collects, item_of, section_piece}
 use Rattle.wenc_canon.specs.laws.Canonicals.{canonical_lawful, canonical_sound}
 use Rattle.wenc_decode.specs.Depth.{Front, OpensTypes}
-use Rattle.wenc_decode.specs.inside.Outcomes.{Flaw, Bad, Deep, Outcome, DeepReader, flat, ◌>>>◌, repeat, reserved}
-use Rattle.wenc_decode.specs.laws.Outcomes.{Told, Tells, told_on, told_flat, flat_tells, refuse_tells, last_tells, Fewer, Several, repeat_told, each_plain, SameOutcome, Finds, or_deeper, nothing_finds, then_finds, last_finds, flat_finds, tested}
 use Rattle.wenc_decode.specs.laws.TypeTrees.{type_tells, type_finds, front_of}
 use Rattle.wenc_parts.specs.laws.Aliases.{alias_lawful, alias_sound}
 use Rattle.wenc_sections.specs.Start.{Start, started, start_content}
@@ -38,12 +37,12 @@ ItemWithin d id x = only_where (HasDepth d x) (item_of id x)
 abbrev GoesIn : ℕ → ℕ → List ℕ → Type 0
 GoesIn d id bytes = (id ≡ 7) × OpensTypes d bytes
 
-abbrev RowsOf : ℕ → List (ℕ × DeepReader Item) → Type 0
+abbrev RowsOf : ℕ → List (ℕ × Reader Item) → Type 0
 RowsOf d [] = Unit {0}
 RowsOf d (row ∷ table) = Tells (ItemWithin d row.0) (GoesIn d row.0) row.1 × RowsOf d table
 
-row_tells : (d : ℕ) (table : List (ℕ × DeepReader Item)) → RowsOf d table → (id : ℕ) → Tells (ItemWithin d id) (GoesIn d id) (content_row_of table id)
-row_tells d [] h id = refuse_tells _
+row_tells : (d : ℕ) (table : List (ℕ × Reader Item)) → RowsOf d table → (id : ℕ) → Tells (ItemWithin d id) (GoesIn d id) (content_row_of table id)
+row_tells d [] h id = nowhere_tells
 row_tells d (row ∷ table) h id =
     elim (tested id row.0) [
       | inl e ↦ rw (e.0, content_row_of) (subst (λ (k : ℕ). Tells (ItemWithin d k) (GoesIn d k) row.1) (sym e.1) h.0)
@@ -52,18 +51,18 @@ row_tells d (row ∷ table) h id =
 
 item_tells : (d id : ℕ) → Tells (ItemWithin d id) (GoesIn d id) (read_content_item d id)
 item_tells d id = row_tells d (content_rows d) (
-  flat_tells _ (last_sound CoreInstanceItem core_instance_sound (λ i bytes rest r. (tt, (refl, r)))),
+  sound_tells _ (last_tells CoreInstanceItem core_instance_sound (λ i bytes rest r. (tt, (refl, r)))),
   (
-    flat_tells _ (last_sound CoreTypeItem core_type_sound (λ t bytes rest r. (tt, (refl, r)))),
+    sound_tells _ (last_tells CoreTypeItem core_type_sound (λ t bytes rest r. (tt, (refl, r)))),
     (
-      flat_tells _ (last_sound InstanceItem instance_sound (λ i bytes rest r. (tt, (refl, r)))),
+      sound_tells _ (last_tells InstanceItem instance_sound (λ i bytes rest r. (tt, (refl, r)))),
       (
-        flat_tells _ (last_sound AliasItem alias_sound (λ to bytes rest r. (tt, (refl, r)))),
+        sound_tells _ (last_tells AliasItem alias_sound (λ to bytes rest r. (tt, (refl, r)))),
         (
-          last_tells (OpensTypes d) _ TypeItem (type_tells d) (λ bytes g. (refl, g)) (λ t bytes rest r. (r.0, (refl, r.1))),
+          deep_where (OpensTypes d) _ (last_tells TypeItem (type_tells d) (λ t bytes rest r. (r.0, (refl, r.1)))) (λ bytes g. (refl, g)),
           (
-            flat_tells _ (last_sound CanonItem canonical_sound (λ f bytes rest r. (tt, (refl, r)))),
-            (flat_tells _ (last_sound ImportItem import_sound (λ i bytes rest r. (tt, (refl, r)))), (flat_tells _ (last_sound ExportItem inline_export_sound (λ e bytes rest r. (tt, (refl, r)))), tt)),
+            sound_tells _ (last_tells CanonItem canonical_sound (λ f bytes rest r. (tt, (refl, r)))),
+            (sound_tells _ (last_tells ImportItem import_sound (λ i bytes rest r. (tt, (refl, r)))), (sound_tells _ (last_tells ExportItem inline_export_sound (λ e bytes rest r. (tt, (refl, r)))), tt)),
           ),
         ),
       ),
@@ -76,14 +75,14 @@ abbrev IsPast : ℕ → Item → Type 0
 IsPast d x = HasDepth d x → ⊥
 
 collected_finds : (d : ℕ) (x : Item) (id : ℕ) → collected x ≡ Some id → Finds (item x) (read_content_item d id) x (IsPast d x)
-collected_finds d (CoreInstanceItem i) id e = rw (← same_Some 2 id e) (flat_finds _ (last CoreInstanceItem (core_instance_lawful i)))
-collected_finds d (CoreTypeItem t) id e = rw (← same_Some 3 id e) (flat_finds _ (last CoreTypeItem (core_type_lawful t)))
-collected_finds d (InstanceItem i) id e = rw (← same_Some 5 id e) (flat_finds _ (last InstanceItem (instance_lawful i)))
-collected_finds d (AliasItem to) id e = rw (← same_Some 6 id e) (flat_finds _ (last AliasItem (alias_lawful to)))
+collected_finds d (CoreInstanceItem i) id e = rw (← same_Some 2 id e) (lawful_finds _ (last CoreInstanceItem (core_instance_lawful i)))
+collected_finds d (CoreTypeItem t) id e = rw (← same_Some 3 id e) (lawful_finds _ (last CoreTypeItem (core_type_lawful t)))
+collected_finds d (InstanceItem i) id e = rw (← same_Some 5 id e) (lawful_finds _ (last InstanceItem (instance_lawful i)))
+collected_finds d (AliasItem to) id e = rw (← same_Some 6 id e) (lawful_finds _ (last AliasItem (alias_lawful to)))
 collected_finds d (TypeItem t) id e = rw (← same_Some 7 id e) (or_deeper _ (λ lt within. omega arith) (last_finds TypeItem (type_finds d t)))
-collected_finds d (CanonItem f) id e = rw (← same_Some 8 id e) (flat_finds _ (last CanonItem (canonical_lawful f)))
-collected_finds d (ImportItem i) id e = rw (← same_Some 10 id e) (flat_finds _ (last ImportItem (import_lawful i)))
-collected_finds d (ExportItem x) id e = rw (← same_Some 11 id e) (flat_finds _ (last ExportItem (inline_export_lawful x)))
+collected_finds d (CanonItem f) id e = rw (← same_Some 8 id e) (lawful_finds _ (last CanonItem (canonical_lawful f)))
+collected_finds d (ImportItem i) id e = rw (← same_Some 10 id e) (lawful_finds _ (last ImportItem (import_lawful i)))
+collected_finds d (ExportItem x) id e = rw (← same_Some 11 id e) (lawful_finds _ (last ExportItem (inline_export_lawful x)))
 collected_finds d other id e = absurd cc
 
 item_finds : (d id : ℕ) (x : Item) → Finds (item_of id x) (read_content_item d id) x (IsPast d x)
@@ -93,29 +92,13 @@ item_finds d id x = record { finds = λ bytes rest r. (collected_finds d x id r.
 abbrev pub ArePast : ℕ → List Item → Type 0
 ArePast d xs = AllByRecursion (HasDepth d) xs → ⊥
 
-each_finds : (d id : ℕ) (xs : List Item) → Finds (each (item_of id) xs) (repeat (read_content_item d id) (length xs)) xs (ArePast d xs)
+each_finds : (d id : ℕ) (xs : List Item) → Finds (each (item_of id) xs) (times (read_content_item d id) (length xs)) xs (ArePast d xs)
 each_finds d id [] = nothing_finds [] _
 each_finds d id (x ∷ xs) = then_finds _ (or_deeper _ (λ no all. no all.0) (item_finds d id x)) (last_finds _ (or_deeper _ (λ no all. no all.1) (each_finds d id xs)))
 
 -- ---- all of a content
 
-abbrev pub ToldAll : {A : Type 0} → (A → Type 0) → Type 0 → Result A Flaw → Type 0
-ToldAll P Goes (Ok v) = P v
-ToldAll P Goes (Err Bad) = Unit {0}
-ToldAll P Goes (Err Deep) = Goes
-
-abbrev pub AgreesAll : {A : Type 0} → Type 0 → A → Result A Flaw → Type 0
-AgreesAll IsDeeper v (Ok w) = w ≡ v
-AgreesAll IsDeeper v (Err Bad) = ⊥
-AgreesAll IsDeeper v (Err Deep) = IsDeeper
-
-filled_told : {A : Type 0} (P : A → List ℕ → Type 0) (D : Type 0) (some : Outcome A) → Told P D some → ToldAll (λ v. P v []) D (reserved some)
-filled_told P D (Ok (v, [])) h = h
-filled_told P D (Ok (v, b ∷ rest)) h = tt
-filled_told P D (Err Bad) h = tt
-filled_told P D (Err Deep) h = h
-
-filled_agrees : {A : Type 0} (D : Type 0) (v : A) (some : Outcome A) → SameOutcome D (v, []) some → AgreesAll D v (reserved some)
+filled_agrees : {A : Type 0} (D : Type 0) (v : A) (found : Result (A × List ℕ) Flaw) → Agrees D (v, []) found → Agrees D v (all_read found)
 filled_agrees D v (Ok (w, [])) e = ap (λ (z : _ × List ℕ). z.0) e
 filled_agrees D v (Ok (w, b ∷ rest)) e = absurd (more (ap (λ (z : _ × List ℕ). z.1) e))
   where
@@ -124,29 +107,24 @@ filled_agrees D v (Ok (w, b ∷ rest)) e = absurd (more (ap (λ (z : _ × List �
 filled_agrees D v (Err Bad) h = h
 filled_agrees D v (Err Deep) h = h
 
-told_weaker : {A : Type 0} (P Q : A → List ℕ → Type 0) (D E : Type 0) (some : Outcome A) → Told P D some → ((v : A) (rest : List ℕ) → P v rest → Q v rest) → (D → E) → Told Q E some
-told_weaker P Q D E (Ok x) h k m = k x.0 x.1 h
-told_weaker P Q D E (Err Bad) h k m = tt
-told_weaker P Q D E (Err Deep) h k m = m h
-
 -- a count and so many items
-abbrev Listed : ℕ → ℕ → List ℕ → List Item → List ℕ → Type 0
-Listed d id content xs rest = AllByRecursion (HasDepth d) xs × (list (item_of id) xs).Reads Wide content rest
+abbrev Listed : ℕ → ℕ → List ℕ → List Item × List ℕ → Type 0
+Listed d id content x = AllByRecursion (HasDepth d) x.0 × (list (item_of id) x.0).Reads Wide content x.1
 
-items_listed : (d id n : ℕ) (content middle rest : List ℕ) (xs : List Item) → (u32 n).Reads Wide content middle → Several (ItemWithin d id) n middle xs rest → Listed d id content xs rest
+items_listed : (d id n : ℕ) (content middle rest : List ℕ) (xs : List Item) → (u32 n).Reads Wide content middle → Several (ItemWithin d id) n middle (xs, rest) → Listed d id content (xs, rest)
 items_listed d id n content middle rest xs c s = let plain = each_plain (item_of id) (HasDepth d) xs middle rest s.1 in (plain.1, (middle, rw s.0 c, plain.0))
 
-items_told : (d id : ℕ) (content : List ℕ) → ToldAll (λ xs. Listed d id content xs []) (Front (item_of id) (GoesIn d id) content) (read_items d id content)
+items_told : (d id : ℕ) (content : List ℕ) → Told (λ xs. Listed d id content (xs, [])) (Front (item_of id) (GoesIn d id) content) (read_items d id content)
 items_told d id content =
-    filled_told (Listed d id content) (Front (item_of id) (GoesIn d id) content) ((flat read_u32 >>> repeat (read_content_item d id)) content)
-    (told_on (λ n middle. (u32 n).Reads Wide content middle) ⊥ (Listed d id content) (Front (item_of id) (GoesIn d id) content) (repeat (read_content_item d id)) (flat read_u32 content) (told_flat (λ n middle. (u32 n).Reads Wide content middle) ⊥ u32_sound content (λ n middle r. r)) (λ e. absurd e) (λ n middle c.
-    told_weaker (Several (ItemWithin d id) n middle) (Listed d id content) (Fewer (ItemWithin d id) (GoesIn d id) n middle) (Front (item_of id) (GoesIn d id) content) (repeat (read_content_item d id) n middle) (repeat_told (GoesIn d id) (item_tells d id) n middle)
-    (λ xs rest s. items_listed d id n content middle rest xs c s) (λ f. front_of (item_of id) (HasDepth d) (GoesIn d id) n content middle c f)))
+    all_told (Listed d id content) (Front (item_of id) (GoesIn d id) content) ((read_u32 >>= times (read_content_item d id)) content)
+    (told_on (λ x. (u32 x.0).Reads Wide content x.1) ⊥ (Listed d id content) (Front (item_of id) (GoesIn d id) content) (times (read_content_item d id)) (read_u32 content) (u32_sound.tells content) (λ e. absurd e) (λ x c.
+    weaken (Several (ItemWithin d id) x.0 x.1) (Listed d id content) (Fewer (ItemWithin d id) (GoesIn d id) x.0 x.1) (Front (item_of id) (GoesIn d id) content) (times (read_content_item d id) x.0 x.1)
+    (λ y s. items_listed d id x.0 content x.1 y.1 y.0 c s) (λ f. front_of (item_of id) (HasDepth d) (GoesIn d id) x.0 content x.1 c f) (times_told (GoesIn d id) (item_tells d id) x.0 x.1)))
 
-items_agree : (d id : ℕ) (xs : List Item) (content : List ℕ) → (list (item_of id) xs).Reads Wide content [] → AgreesAll (ArePast d xs) xs (read_items d id content)
+items_agree : (d id : ℕ) (xs : List Item) (content : List ℕ) → (list (item_of id) xs).Reads Wide content [] → Agrees (ArePast d xs) xs (read_items d id content)
 items_agree d id xs content r =
-    let all : Finds (list (item_of id) xs) (flat read_u32 >>> repeat (read_content_item d id)) xs (ArePast d xs) = then_finds _ (flat_finds _ (count_lawful (length xs))) (each_finds d id xs) in
-    filled_agrees (ArePast d xs) xs ((flat read_u32 >>> repeat (read_content_item d id)) content) (all.finds content [] r)
+    let all : Finds (list (item_of id) xs) (read_u32 >>= times (read_content_item d id)) xs (ArePast d xs) = then_finds _ (lawful_finds _ (count_lawful (length xs))) (each_finds d id xs) in
+    filled_agrees (ArePast d xs) xs ((read_u32 >>= times (read_content_item d id)) content) (all.finds content [] r)
 
 -- ---- what stands alone
 
@@ -168,20 +146,21 @@ custom_whole : (c : Custom) → LawfulWhole (name c.label ⨾⨾ raw AreBytes c.
 custom_whole c = then_whole _ (name_lawful c.label) (bytes_lawful (labelled_section c.label) c.bytes)
 
 raw_sound : SoundWhole (raw AreBytes) read_raw
-raw_sound = record { reads = λ bytes. bytes_sound (λ bs. (raw AreBytes bs).ReadsAll Wide bytes) (λ bs. bs) bytes (λ h. (h, refl)) }
+raw_sound = record { tells = λ bytes. bytes_sound (λ bs. (raw AreBytes bs).ReadsAll Wide bytes) (λ bs. bs) bytes (λ h. (h, refl)) }
 
 start_lawful : (s : Start) → Lawful (start_content s) (λ fuel. read_u32 >>= λ function. read_list read_u32 >>= λ arguments. read_u32 >>= λ results. give (started function arguments results)) s
 start_lawful s = then _ (u32_lawful s.function) (then _ (list_lawful u32_lawful s.arguments) (last (started s.function s.arguments) (u32_lawful s.results)))
 
 start_sound : Sound start_content (read_u32 >>= λ function. read_list read_u32 >>= λ arguments. read_u32 >>= λ results. give (started function arguments results))
-start_sound = then_sound _ u32_sound (λ function. then_sound _ (list_sound u32_sound) (λ arguments. last_sound (started function arguments) u32_sound (λ results b rest r a q bytes p. (a, p, (b, q, r)))))
+start_sound = then_tells _ u32_sound (λ function. then_tells _ (list_sound u32_sound) (λ arguments. last_tells (started function arguments) u32_sound (λ results b rest r a q bytes p. (a, p, (b, q, r)))))
 
-single_told : {A : Type 0} (P : A → Type 0) (Q : List Item → Type 0) (D : Type 0) (make : A → Item) (some : Option A) → ThenAll P some → ((v : A) → P v → Q (make v ∷ [])) → ToldAll Q D (single make some)
-single_told P Q D make None h k = tt
-single_told P Q D make (Some v) h k = k v h
+single_told : {A : Type 0} (P : A → Type 0) (Q : List Item → Type 0) (D : Type 0) (make : A → Item) (found : Result A Flaw) → Told P ⊥ found → ((v : A) → P v → Q (make v ∷ [])) → Told Q D (single make found)
+single_told P Q D make (Ok v) h k = k v h
+single_told P Q D make (Err Bad) h k = tt
+single_told P Q D make (Err Deep) h k = absurd h
 
-single_agrees : {A : Type 0} (D : Type 0) (make : A → Item) (v : A) (some : Option A) → some ≡ Some v → AgreesAll D (make v ∷ []) (single make some)
-single_agrees D make v some e = rw e refl
+single_agrees : {A : Type 0} (D : Type 0) (make : A → Item) (v : A) (found : Result A Flaw) → found ≡ Ok v → Agrees D (make v ∷ []) (single make found)
+single_agrees D make v found e = rw e refl
 
 -- ---- the ids
 
@@ -219,33 +198,28 @@ known_id id h =
 
 -- ---- contents
 
-told_all_weaker : {A : Type 0} (P Q : A → Type 0) (D : Type 0) (some : Result A Flaw) → ToldAll P D some → ((v : A) → P v → Q v) → ToldAll Q D some
-told_all_weaker P Q D (Ok v) h k = k v h
-told_all_weaker P Q D (Err Bad) h k = tt
-told_all_weaker P Q D (Err Deep) h k = h
-
 -- these items fill the section, and none is too deep
 abbrev pub FillsWithin : ℕ → ℕ → List ℕ → List Item → Type 0
 FillsWithin d id content xs = Fills id xs content × AllByRecursion (HasDepth d) xs
 
-pub content_told : (d id : ℕ) (content : List ℕ) → id ≤ 11 → ToldAll (FillsWithin d id content) (Front (item_of id) (GoesIn d id) content) (read_content d id content)
+pub content_told : (d id : ℕ) (content : List ℕ) → id ≤ 11 → Told (FillsWithin d id content) (Front (item_of id) (GoesIn d id) content) (read_content d id content)
 content_told d id content le =
     let Goes = Front (item_of id) (GoesIn d id) content in
     let Is = FillsWithin d id content in
     elim (tested id 0) [
-      | inl e ↦ rw (e.0, cond) (single_told _ Is Goes CustomItem (read_custom_content content) (custom_sound.reads content) (λ c r. (inr (CustomItem c, refl, (e.1, r)), (tt, tt))))
+      | inl e ↦ rw (e.0, cond) (single_told _ Is Goes CustomItem (read_custom_content content) (custom_sound.tells content) (λ c r. (inr (CustomItem c, refl, (e.1, r)), (tt, tt))))
       | inr no0 ↦
           elim (tested id 1) [
-            | inl e ↦ rw (no0, cond, e.0, cond) (single_told _ Is Goes ModuleItem (read_raw content) (raw_sound.reads content) (λ bs r. (inr (ModuleItem bs, refl, (e.1, r)), (tt, tt))))
+            | inl e ↦ rw (no0, cond, e.0, cond) (single_told _ Is Goes ModuleItem (read_raw content) (raw_sound.tells content) (λ bs r. (inr (ModuleItem bs, refl, (e.1, r)), (tt, tt))))
             | inr no1 ↦
                 elim (tested id 4) [
-                  | inl e ↦ rw (no0, cond, no1, cond, e.0, cond) (single_told _ Is Goes ComponentItem (read_raw content) (raw_sound.reads content) (λ bs r. (inr (ComponentItem bs, refl, (e.1, r)), (tt, tt))))
+                  | inl e ↦ rw (no0, cond, no1, cond, e.0, cond) (single_told _ Is Goes ComponentItem (read_raw content) (raw_sound.tells content) (λ bs r. (inr (ComponentItem bs, refl, (e.1, r)), (tt, tt))))
                   | inr no4 ↦
                       elim (tested id 9) [
-                        | inl e ↦ rw (no0, cond, no1, cond, no4, cond, e.0, cond) (single_told _ Is Goes StartItem (read_start_content content) ((whole_sound start_sound).reads content) (λ s r. (inr (StartItem s, refl, (e.1, r)), (tt, tt))))
+                        | inl e ↦ rw (no0, cond, no1, cond, no4, cond, e.0, cond) (single_told _ Is Goes StartItem (read_start_content content) ((whole_sound start_sound).tells content) (λ s r. (inr (StartItem s, refl, (e.1, r)), (tt, tt))))
                         | inr no9 ↦
                             let is : collects id ≡ true = collecting id le (differs id 0 no0) (differs id 1 no1) (differs id 4 no4) (differs id 9 no9) in
-                            rw (no0, cond, no1, cond, no4, cond, no9, cond) (told_all_weaker (λ xs. Listed d id content xs []) Is Goes (read_items d id content) (items_told d id content) (λ xs l. (inl (is, l.1), l.0)))
+                            rw (no0, cond, no1, cond, no4, cond, no9, cond) (weaken (λ xs. Listed d id content (xs, [])) Is Goes Goes (read_items d id content) (λ xs l. (inl (is, l.1), l.0)) (λ g. g) (items_told d id content))
                       ]
                 ]
           ]
@@ -257,39 +231,42 @@ content_told d id content le =
     differs : (b c : ℕ) → eqb b c ≡ false → b ≢ c
     differs b c f e = true≢false (sym (itself c) ∙ rw e at f)
 
-alone_agrees : (d id : ℕ) (x : Item) (content : List ℕ) → AloneIn id x content → AgreesAll (ArePast d (x ∷ [])) (x ∷ []) (read_content d id content)
+alone_agrees : (d id : ℕ) (x : Item) (content : List ℕ) → AloneIn id x content → Agrees (ArePast d (x ∷ [])) (x ∷ []) (read_content d id content)
 alone_agrees d id (CustomItem c) content a = rw a.0 (single_agrees _ CustomItem c (read_custom_content content) ((custom_whole c).finds (custom_whole c).depth (omega arith) Wide content a.1))
 alone_agrees d id (ModuleItem bs) content a = rw a.0 (single_agrees _ ModuleItem bs (read_raw content) ((bytes_lawful (λ b. b) bs).finds (bytes_lawful (λ b. b) bs).depth (omega arith) Wide content a.1))
 alone_agrees d id (ComponentItem bs) content a = rw a.0 (single_agrees _ ComponentItem bs (read_raw content) ((bytes_lawful (λ b. b) bs).finds (bytes_lawful (λ b. b) bs).depth (omega arith) Wide content a.1))
 alone_agrees d id (StartItem s) content a = rw a.0 (single_agrees _ StartItem s (read_start_content content) ((whole_lawful (start_lawful s)).finds (whole_lawful (start_lawful s)).depth (omega arith) Wide content a.1))
 alone_agrees d id other content a = absurd a
 
-pub content_agrees : (d id : ℕ) (xs : List Item) (content : List ℕ) → Fills id xs content → AgreesAll (ArePast d xs) xs (read_content d id content)
+pub content_agrees : (d id : ℕ) (xs : List Item) (content : List ℕ) → Fills id xs content → Agrees (ArePast d xs) xs (read_content d id content)
 content_agrees d id xs content (inl h) =
     rw (other_than id 0 (apart id 0 h.0 refl), cond, other_than id 1 (apart id 1 h.0 refl), cond, other_than id 4 (apart id 4 h.0 refl), cond, other_than id 9 (apart id 9 h.0 refl), cond) (items_agree d id xs content h.1)
 content_agrees d id xs content (inr h) = rw h.1 (alone_agrees d id h.0 content h.2)
 
 -- ---- frames
 
-pub frame_told : (bytes : List ℕ) → Then (λ f rest. IsFramed bytes f.0 f.1 rest) (read_frame bytes)
+abbrev pub Framed : List ℕ → (ℕ × List ℕ) × List ℕ → Type 0
+Framed bytes x = IsFramed bytes x.0.0 x.0.1 x.1
+
+pub frame_told : (bytes : List ℕ) → Told (Framed bytes) ⊥ (read_frame bytes)
 frame_told [] = tt
 frame_told (id ∷ bytes) =
     elim (cases_lt 11 id) [
       | inl lt ↦ rw (lt-ltb 11 id lt, cond) tt
-      | inr le ↦ rw (le-ltb 11 id le, cond) (sound_goes_on (λ size rest. (u32 size).Reads Wide bytes rest) (λ f rest. IsFramed (id ∷ bytes) f.0 f.1 rest) (cut id) (read_u32 bytes) (u32_sound.reads bytes) (λ size rest r. inside le size rest r))
+      | inr le ↦ rw (le-ltb 11 id le, cond) (told_on (λ x. (u32 x.0).Reads Wide bytes x.1) ⊥ (Framed (id ∷ bytes)) ⊥ (cut id) (read_u32 bytes) (u32_sound.tells bytes) (λ e. e) (λ x r. inside le x.0 x.1 r))
     ]
   where
-    cut : ℕ → ℕ → List ℕ → Option ((ℕ × List ℕ) × List ℕ)
-    cut id size rest = cond (ltb (length rest) size) None (Some ((id, take size rest), drop size rest))
+    cut : ℕ → ℕ → List ℕ → Result ((ℕ × List ℕ) × List ℕ) Flaw
+    cut id size rest = cond (ltb (length rest) size) (Err Bad) (Ok ((id, take size rest), drop size rest))
 
-    inside : id ≤ 11 → (size : ℕ) (rest : List ℕ) → (u32 size).Reads Wide bytes rest → Then (λ f after. IsFramed (id ∷ bytes) f.0 f.1 after) (cut id size rest)
+    inside : id ≤ 11 → (size : ℕ) (rest : List ℕ) → (u32 size).Reads Wide bytes rest → Told (Framed (id ∷ bytes)) ⊥ (cut id size rest)
     inside le size rest r =
         elim (cases_lt (length rest) size) [
           | inl lt ↦ rw (lt-ltb (length rest) size lt, cond) tt
           | inr ge ↦ rw (le-ltb (length rest) size ge, cond) (record { middle = bytes; begins = refl; known = le; sized = rw (length-take-le size rest ge, take-append-drop size rest) r })
         ]
 
-pub frame_finds : (bytes : List ℕ) (id : ℕ) (content rest : List ℕ) → IsFramed bytes id content rest → read_frame bytes ≡ Some ((id, content), rest)
+pub frame_finds : (bytes : List ℕ) (id : ℕ) (content rest : List ℕ) → IsFramed bytes id content rest → read_frame bytes ≡ Ok ((id, content), rest)
 frame_finds bytes id content rest f =
     rw (f.begins, le-ltb 11 id f.known, (u32_lawful (length content)).finds (u32_lawful (length content)).depth (omega arith) Wide f.middle (content ++ rest) f.sized, le-ltb (length (content ++ rest)) (length content) (omega (arith, length-append content rest)), take_at content rest (length content) refl, drop_at content rest (length content) refl) refl
 
@@ -352,10 +329,10 @@ members_of id xs = elim (collects id) as (λ b. members (cond b (Run id xs) (alo
 
 -- ---- a count and its items
 
-pub items_filled : (d id n : ℕ) (content middle rest : List ℕ) (xs : List Item) → read_u32 content ≡ Some (n, middle) → repeat (read_content_item d id) n middle ≡ Ok (xs, rest) → length rest ≡ 0 → read_items d id content ≡ Ok xs
+pub items_filled : (d id n : ℕ) (content middle rest : List ℕ) (xs : List Item) → read_u32 content ≡ Ok (n, middle) → times (read_content_item d id) n middle ≡ Ok (xs, rest) → length rest ≡ 0 → read_items d id content ≡ Ok xs
 items_filled d id n content middle [] xs e r nil = rw (e, r) refl
 items_filled d id n content middle (b ∷ rest) xs e r nil = absurd (omega arith)
 
-pub items_left : (d id n : ℕ) (content middle rest : List ℕ) (xs : List Item) → read_u32 content ≡ Some (n, middle) → repeat (read_content_item d id) n middle ≡ Ok (xs, rest) → (length rest ≡ 0 → ⊥) → read_items d id content ≡ Err Bad
+pub items_left : (d id n : ℕ) (content middle rest : List ℕ) (xs : List Item) → read_u32 content ≡ Ok (n, middle) → times (read_content_item d id) n middle ≡ Ok (xs, rest) → (length rest ≡ 0 → ⊥) → read_items d id content ≡ Err Bad
 items_left d id n content middle [] xs e r some = absurd (some refl)
 items_left d id n content middle (b ∷ rest) xs e r some = rw (e, r) refl

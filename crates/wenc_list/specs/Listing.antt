@@ -93,12 +93,12 @@ IsNoneWithin bytes = (s : Section) (rest : List ℕ) → (section_piece s).Reads
 
 -- Sections are read within depth 100, of so many bytes in all, up to this place; the next one
 -- isn't, and P holds of the bytes from there on.
-pub record StopsAt (all : ℕ) (bytes : List ℕ) (next_index : ℕ) (P : List ℕ → Type 0) : Type 0 where
+pub record StopsAt (all : ℕ) (bytes : List ℕ) (place : ℕ) (P : List ℕ → Type 0) : Type 0 where
   pub before : List Section
   pub left : List ℕ
   pub read : (each section_piece before).Reads Wide bytes left
   pub within : AreWithin 100 before
-  pub is_place : all ≡ next_index + length left
+  pub is_place : all ≡ place + length left
   pub some_left : 0 < length left
   pub none_within : IsNoneWithin left
   pub cause : P left
@@ -106,10 +106,10 @@ pub record StopsAt (all : ℕ) (bytes : List ℕ) (next_index : ℕ) (P : List �
 -- the fault has its cause, behind the header
 abbrev pub IsFaultBehind : ℕ → List ℕ → ListFault → Type 0
 IsFaultBehind all bytes faults.Memory = Unit {0}
-IsFaultBehind all bytes (faults.NotAComponent next_index) = ⊥
-IsFaultBehind all bytes (faults.BadSection next_index) = StopsAt all bytes next_index IsBadSection
-IsFaultBehind all bytes (faults.BadItem next_index) = StopsAt all bytes next_index IsBadItem
-IsFaultBehind all bytes (faults.TooDeep next_index) = StopsAt all bytes next_index IsTooDeep
+IsFaultBehind all bytes (faults.NotAComponent place) = ⊥
+IsFaultBehind all bytes (faults.BadSection place) = StopsAt all bytes place IsBadSection
+IsFaultBehind all bytes (faults.BadItem place) = StopsAt all bytes place IsBadItem
+IsFaultBehind all bytes (faults.TooDeep place) = StopsAt all bytes place IsTooDeep
 
 abbrev pub HasNoHeader : List ℕ → Type 0
 HasNoHeader bytes = (rest : List ℕ) → preamble.Reads Wide bytes rest → ⊥
@@ -117,6 +117,6 @@ HasNoHeader bytes = (rest : List ℕ) → preamble.Reads Wide bytes rest → ⊥
 -- the fault has its cause
 abbrev pub IsFaultOf : List ℕ → ListFault → Type 0
 IsFaultOf bytes faults.Memory = Unit {0}
-IsFaultOf bytes (faults.NotAComponent next_index) = (next_index ≡ 0) × HasNoHeader bytes
+IsFaultOf bytes (faults.NotAComponent place) = (place ≡ 0) × HasNoHeader bytes
 IsFaultOf bytes fault =
     (behind : List ℕ) × preamble.Reads Wide bytes behind × IsFaultBehind (length bytes) behind fault

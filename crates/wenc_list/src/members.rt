@@ -1,7 +1,8 @@
 //! What a section collects: so many items of one kind.
 ghost use Rattle.std.specs.Prelude.{map};
 ghost use Rattle.wenc_builder.specs.Item.{Item};
-ghost use Rattle.wenc_decode.specs.inside.Outcomes.{DeepReader, Yields, flat, repeat};
+ghost use Rattle.wenc_base.specs.Readers.{Reader, times};
+ghost use Rattle.wenc_read.specs.inside.Gives.{Gives};
 ghost use Rattle.wenc_list.specs.inside.Contents.{read_content_item};
 ghost use Rattle.wenc_list.specs.Items.{item_view};
 
@@ -20,17 +21,17 @@ const DEPTH: u32 = 100;
 /// A kind of items that a section collects.
 trait Member<A: Allocator + Copy> {
     /// What finds an item.
-    ghost read: { DeepReader Item };
+    ghost read: { Reader Item };
 
     /// The item that begins the bytes.
     fn item<'a>(alloc: A, bytes: &'a [u8]) -> Result<(ItemTree<A>, &'a [u8]), Refusal>
-        ensures { Yields (λ x. (item_view x.0, x.1.now)) result (read bytes.now) };
+        ensures { Gives (λ x. (item_view x.0, x.1.now)) result (read bytes.now) };
 }
 
 impl<A: Allocator + Copy> Member<A> for CoreInstanceTree<A> {
     ghost use Rattle.wenc_list.specs.inside.Contents.{read_core_instance_item};
 
-    ghost read = { flat read_core_instance_item };
+    ghost read = { read_core_instance_item };
 
     #[inline(always)]
     fn item<'a>(alloc: A, bytes: &'a [u8]) -> Result<(ItemTree<A>, &'a [u8]), Refusal> {
@@ -42,7 +43,7 @@ impl<A: Allocator + Copy> Member<A> for CoreInstanceTree<A> {
 impl<A: Allocator + Copy> Member<A> for CoreTypeTree<A> {
     ghost use Rattle.wenc_list.specs.inside.Contents.{read_core_type_item};
 
-    ghost read = { flat read_core_type_item };
+    ghost read = { read_core_type_item };
 
     #[inline(always)]
     fn item<'a>(alloc: A, bytes: &'a [u8]) -> Result<(ItemTree<A>, &'a [u8]), Refusal> {
@@ -54,7 +55,7 @@ impl<A: Allocator + Copy> Member<A> for CoreTypeTree<A> {
 impl<A: Allocator + Copy> Member<A> for InstanceTree<A> {
     ghost use Rattle.wenc_list.specs.inside.Contents.{read_instance_item};
 
-    ghost read = { flat read_instance_item };
+    ghost read = { read_instance_item };
 
     #[inline(always)]
     fn item<'a>(alloc: A, bytes: &'a [u8]) -> Result<(ItemTree<A>, &'a [u8]), Refusal> {
@@ -66,7 +67,7 @@ impl<A: Allocator + Copy> Member<A> for InstanceTree<A> {
 impl<A: Allocator + Copy> Member<A> for AliasTree<A> {
     ghost use Rattle.wenc_list.specs.inside.Contents.{read_alias_item};
 
-    ghost read = { flat read_alias_item };
+    ghost read = { read_alias_item };
 
     #[inline(always)]
     fn item<'a>(alloc: A, bytes: &'a [u8]) -> Result<(ItemTree<A>, &'a [u8]), Refusal> {
@@ -90,7 +91,7 @@ impl<A: Allocator + Copy> Member<A> for TypeTree<A> {
 impl<A: Allocator + Copy> Member<A> for CanonTree<A> {
     ghost use Rattle.wenc_list.specs.inside.Contents.{read_canonical_item};
 
-    ghost read = { flat read_canonical_item };
+    ghost read = { read_canonical_item };
 
     #[inline(always)]
     fn item<'a>(alloc: A, bytes: &'a [u8]) -> Result<(ItemTree<A>, &'a [u8]), Refusal> {
@@ -105,7 +106,7 @@ struct Imports;
 impl<A: Allocator + Copy> Member<A> for Imports {
     ghost use Rattle.wenc_list.specs.inside.Contents.{read_import_item};
 
-    ghost read = { flat read_import_item };
+    ghost read = { read_import_item };
 
     #[inline(always)]
     fn item<'a>(alloc: A, bytes: &'a [u8]) -> Result<(ItemTree<A>, &'a [u8]), Refusal> {
@@ -121,7 +122,7 @@ struct Exports;
 impl<A: Allocator + Copy> Member<A> for Exports {
     ghost use Rattle.wenc_list.specs.inside.Contents.{read_export_item};
 
-    ghost read = { flat read_export_item };
+    ghost read = { read_export_item };
 
     #[inline(always)]
     fn item<'a>(alloc: A, bytes: &'a [u8]) -> Result<(ItemTree<A>, &'a [u8]), Refusal> {
@@ -143,9 +144,9 @@ impl<A: Allocator + Copy> Member<A> for Exports {
 struct Nothing;
 
 impl<A: Allocator + Copy> Member<A> for Nothing {
-    ghost use Rattle.wenc_decode.specs.inside.Outcomes.{refuse};
+    ghost use Rattle.wenc_base.specs.Readers.{nowhere};
 
-    ghost read = { refuse };
+    ghost read = { nowhere };
 
     fn item<'a>(_alloc: A, _bytes: &'a [u8]) -> Result<(ItemTree<A>, &'a [u8]), Refusal> {
         Err(Refusal::Malformed)
@@ -158,8 +159,8 @@ fn members<'a, A: Allocator + Copy, T: Member<A>>(
     count: u32,
     bytes: &'a [u8],
 ) -> Result<(Vec<ItemTree<A>, A>, &'a [u8]), Refusal>
-    ensures { Yields (λ x. (map item_view x.0.items, x.1.now)) result
-        (repeat T.read count bytes.now) }
+    ensures { Gives (λ x. (map item_view x.0.items, x.1.now)) result
+        (times T.read count bytes.now) }
 {
     let mut items = Vec::with_capacity(alloc, room_for(count, bytes))?;
     let mut rest = bytes;
@@ -179,8 +180,8 @@ pub(crate) fn collected<A: Allocator + Copy>(
     count: u32,
     bytes: &[u8],
 ) -> Result<(Vec<ItemTree<A>, A>, &[u8]), Refusal>
-    ensures { Yields (λ x. (map item_view x.0.items, x.1.now)) result
-        (repeat (read_content_item 100 id) count bytes.now) }
+    ensures { Gives (λ x. (map item_view x.0.items, x.1.now)) result
+        (times (read_content_item 100 id) count bytes.now) }
 {
     match id {
         2 => members::<A, CoreInstanceTree<A>>(alloc, count, bytes),

@@ -2,11 +2,10 @@
 ghost use Rattle.std.specs.Prelude.{◌≡◌, ◌∷◌, [], map, IfOk, IfErr};
 ghost use Rattle.std.specs.String.{string_bytes};
 ghost use Rattle.wenc_base.specs.Forms.{AreBytes};
-ghost use Rattle.wenc_decode.specs.inside.Outcomes.{Yields};
 ghost use Rattle.wenc_list.specs.inside.Contents.{labelled_section, read_custom_content, read_start_content, read_raw};
 ghost use Rattle.wenc_list.specs.inside.Contents.{read_items, read_content, read_frame};
 ghost use Rattle.wenc_list.specs.Items.{item_view};
-ghost use Rattle.wenc_read.specs.inside.Gives.{Gives, GivesAll};
+ghost use Rattle.wenc_read.specs.inside.Gives.{Gives};
 ghost use Rattle.wenc_read.specs.declared.refusal.Refusal.TheVariants.{Memory};
 ghost use Rattle.wenc_sections.specs.Start.{started};
 
@@ -23,7 +22,7 @@ pub(crate) fn are_bytes(bytes: &[u8])
 
 /// The bytes as they are.
 fn copied<A: Allocator>(alloc: A, bytes: &[u8]) -> Result<Vec<u8, A>, Refusal>
-    ensures { GivesAll (λ v. v.items) result (read_raw bytes.now) }
+    ensures { Gives (λ v. v.items) result (read_raw bytes.now) }
 {
     are_bytes(bytes);
     Ok(Vec::from_slice(alloc, bytes)?)
@@ -31,7 +30,7 @@ fn copied<A: Allocator>(alloc: A, bytes: &[u8]) -> Result<Vec<u8, A>, Refusal>
 
 /// What fills a custom section.
 fn custom<A: Allocator + Copy>(alloc: A, content: &[u8]) -> Result<(String<A>, Vec<u8, A>), Refusal>
-    ensures { GivesAll (λ x. labelled_section (string_bytes x.0) x.1.items) result
+    ensures { Gives (λ x. labelled_section (string_bytes x.0) x.1.items) result
         (read_custom_content content.now) }
 {
     let (name, rest) = name_of(alloc, content)?;
@@ -41,7 +40,7 @@ fn custom<A: Allocator + Copy>(alloc: A, content: &[u8]) -> Result<(String<A>, V
 
 /// What fills the section of a start.
 fn start<A: Allocator + Copy>(alloc: A, content: &[u8]) -> Result<(u32, Vec<u32, A>, u32), Refusal>
-    ensures { GivesAll (λ x. started x.0 x.1.items x.2) result (read_start_content content.now) }
+    ensures { Gives (λ x. started x.0 x.1.items x.2) result (read_start_content content.now) }
 {
     let (function, rest) = u32_of(content)?;
     let (args, rest) = Vec::decode(alloc, rest)?;
@@ -60,7 +59,7 @@ fn items<A: Allocator + Copy>(
     id: u8,
     content: &[u8],
 ) -> Result<Vec<ItemTree<A>, A>, Refusal>
-    ensures { Yields (λ v. map item_view v.items) result (read_items 100 id content.now) }
+    ensures { Gives (λ v. map item_view v.items) result (read_items 100 id content.now) }
 {
     let (count, rest) = u32_of(content)?;
     let (items, rest) = collected(alloc, id, count, rest)?;
@@ -88,7 +87,7 @@ fn custom_alone<A: Allocator + Copy>(
     alloc: A,
     content: &[u8],
 ) -> Result<Vec<ItemTree<A>, A>, Refusal>
-    ensures { Yields (λ v. map item_view v.items) result (read_content 100 0 content.now) }
+    ensures { Gives (λ v. map item_view v.items) result (read_content 100 0 content.now) }
 {
     let (name, data) = custom(alloc, content)?;
     single(alloc, ItemTree::Custom { name, data })
@@ -100,7 +99,7 @@ fn module_alone<A: Allocator + Copy>(
     alloc: A,
     content: &[u8],
 ) -> Result<Vec<ItemTree<A>, A>, Refusal>
-    ensures { Yields (λ v. map item_view v.items) result (read_content 100 1 content.now) }
+    ensures { Gives (λ v. map item_view v.items) result (read_content 100 1 content.now) }
 {
     single(alloc, ItemTree::Module(copied(alloc, content)?))
 }
@@ -111,7 +110,7 @@ fn component_alone<A: Allocator + Copy>(
     alloc: A,
     content: &[u8],
 ) -> Result<Vec<ItemTree<A>, A>, Refusal>
-    ensures { Yields (λ v. map item_view v.items) result (read_content 100 4 content.now) }
+    ensures { Gives (λ v. map item_view v.items) result (read_content 100 4 content.now) }
 {
     single(alloc, ItemTree::Component(copied(alloc, content)?))
 }
@@ -122,7 +121,7 @@ fn start_alone<A: Allocator + Copy>(
     alloc: A,
     content: &[u8],
 ) -> Result<Vec<ItemTree<A>, A>, Refusal>
-    ensures { Yields (λ v. map item_view v.items) result (read_content 100 9 content.now) }
+    ensures { Gives (λ v. map item_view v.items) result (read_content 100 9 content.now) }
 {
     let (function, args, results) = start(alloc, content)?;
     let item = ItemTree::Start {
@@ -140,7 +139,7 @@ pub(crate) fn content<A: Allocator + Copy>(
     id: u8,
     content: &[u8],
 ) -> Result<Vec<ItemTree<A>, A>, Refusal>
-    ensures { Yields (λ v. map item_view v.items) result (read_content 100 id content.now) }
+    ensures { Gives (λ v. map item_view v.items) result (read_content 100 id content.now) }
 {
     match id {
         0 => custom_alone(alloc, content),

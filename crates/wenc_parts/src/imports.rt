@@ -82,7 +82,7 @@ impl ComponentTypeRef {
         ensures is { result ≡ kind_of self.now }
         ensures begins { (rest : List ℕ)
             × ((type_reference self.now).text
-                ≡ (component_export_kind (kind_of self.now)).text ++ rest) }
+            ≡ (component_export_kind (kind_of self.now)).text ++ rest) }
     {
         match self {
             ComponentTypeRef::Module(_) => ComponentExportKind::Module,

@@ -63,7 +63,7 @@ impl<A: Allocator> OptionTree<A> {
 }
 
 /// An option of a name.
-#[tactic(auto, unfolding(wenc_base::specs::laws::Lawful::choose))]
+#[tactic(auto, unfolding(wenc_base::specs::Readers::choose))]
 fn option_of<A: Allocator>(alloc: A, bytes: &[u8]) -> Result<(OptionTree<A>, &[u8]), Refusal>
     ensures { Gives (λ x. (option_view x.0, x.1.now)) result (read_name_option bytes.now) }
 {
@@ -131,7 +131,7 @@ fn with_options<A: Allocator + Copy>(
 
 /// The name of an import or an export, with its options (component model, binary format, "Import and Export Definitions"). It
 /// is refused where there is none, or where its options don't stand in the order of their numbers, each at most once.
-#[tactic(auto, unfolding(wenc_base::specs::laws::Lawful::choose))]
+#[tactic(auto, unfolding(wenc_base::specs::Readers::choose))]
 #[inline(always)]
 pub fn extern_name_of<A: Allocator + Copy>(
     alloc: A,

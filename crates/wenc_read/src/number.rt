@@ -1,7 +1,8 @@
 //! Numbers.
 ghost use Rattle.std.specs.Prelude.{◌≡◌, ◌^◌, ◌≤◌, ◌<◌, ◌+◌, ◌-◌, ◌*◌};
 ghost use Rattle.wenc_base.specs.laws.Numbers.{read_groups, read_u32, read_u64, read_index};
-ghost use Rattle.wenc_read.specs.inside.Gives.{Gives, read_byte};
+ghost use Rattle.wenc_base.specs.Readers.{read_byte};
+ghost use Rattle.wenc_read.specs.inside.Gives.{Gives};
 
 use crate::refusal::Refusal;
 

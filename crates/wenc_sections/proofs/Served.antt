@@ -6,7 +6,7 @@ use Rattle.wenc_base.specs.Number.{u32}
 use Rattle.wenc_base.specs.Piece.{◌▸◌}
 use Rattle.wenc_base.specs.Types.{val_type}
 use Rattle.wenc_base.specs.declared.types.ValType.{ValType}
-use Rattle.wenc_base.specs.laws.Serves.{serves_itself, tagged_serves, order_serves, list_is_list, sized_serves}
+use Rattle.wenc_base.specs.laws.Serves.{serves_itself, tagged_serves, order_serves, two_serve, three_serve, list_is_list, sized_serves}
 use Rattle.wenc_parts.specs.Exports.{component_export_kind}
 use Rattle.wenc_parts.specs.Imports.{ExternName, extern_name, type_reference}
 use Rattle.wenc_parts.specs.declared.exports.ComponentExportKind.{ComponentExportKind}
@@ -15,7 +15,6 @@ use Rattle.wenc_sections.specs.Exports.{export_item}
 use Rattle.wenc_sections.specs.Imports.{import_item}
 use Rattle.wenc_sections.specs.Instances.{inline_export}
 use Rattle.wenc_sections.specs.Start.{started, start}
-use Rattle.wenc_sections.specs.laws.Instances.{two_serve, three_serve}
 use Rattle.wenc_sections.specs.laws.Items.{imported, ascribed}
 use Rattle.wenc_types.specs.ComponentTypes.{def_type, ResourceType}
 

@@ -8,7 +8,7 @@ ghost use Rattle.wenc_base.specs.laws.Serves.{serves_itself};
 use std::alloc::{Allocator, Global};
 use std::marker::Model;
 use wenc_base::{
-    CustomSection, Delimited, Encode, Fault, ByRef, NameMap, Tagged, Verbatim, WithSize,
+    ByRef, CustomSection, Delimited, Encode, Fault, NameMap, Tagged, Verbatim, WithSize,
 };
 use wenc_parts::component::{
     COMPONENT_SORT, CORE_INSTANCE_SORT, CORE_MODULE_SORT, CORE_SORT, CORE_TYPE_SORT, FUNCTION_SORT,

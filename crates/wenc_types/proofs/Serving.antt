@@ -11,7 +11,7 @@ use Rattle.wenc_base.specs.Forms.{list, option, name as name_form}
 use Rattle.wenc_base.specs.Number.{u32}
 use Rattle.wenc_base.specs.Piece.{Piece, Form, nothing, byte, verbatim, ◌▸◌, ◌⨾◌, behind_bytes}
 use Rattle.wenc_base.specs.declared.imports.EntityType.{EntityType}
-use Rattle.wenc_base.specs.laws.Serves.{serves_itself, serves_then, tagged_serves, behind_is, order_serves, list_is_list, list_serves, lists_serve, listed_serves}
+use Rattle.wenc_base.specs.laws.Serves.{serves_itself, serves_then, tagged_serves, behind_is, order_serves, two_serve, list_is_list, list_serves, lists_serve, listed_serves}
 use Rattle.wenc_parts.specs.Imports.{ExternName, extern_name, type_reference}
 use Rattle.wenc_parts.specs.Types.{value_type, result_list}
 use Rattle.wenc_parts.specs.declared.imports.ComponentTypeRef.{ComponentTypeRef}
@@ -31,13 +31,9 @@ use Rattle.wenc_types.specs.declared.type_tree.TypeTree.TheVariants as types
 use Rattle.wenc_types.specs.laws.ComponentTypes.{instances_serve, components_serve}
 use Rattle.wenc_types.specs.laws.TypeTrees.{view_instance, view_component}
 
--- one piece, then another, whichever refusal is met first
-pub order_is_order : (p q : Piece) → Serves (in_order p q) (p ⨾ q)
-order_is_order p q = order_serves (serves_itself {p = p}) (serves_itself {p = q})
-
--- the same behind a byte
+-- two pieces behind a byte
 pub pair_serves : (b : ℕ) (p q : Piece) → Serves (b ▸ in_order p q) (b ▸ (p ⨾ q))
-pair_serves b p q = tagged_serves b (order_is_order p q)
+pair_serves b p q = tagged_serves b (two_serve p q)
 
 -- ---- an encoder's last call, of which one piece or the other is told
 
@@ -57,13 +53,13 @@ module_tree_serves ds = tagged_serves 0x50 (list_serves (λ d. module_declaratio
 
 pub import_serves : (from name : List ℕ) (ty : EntityType)
     → Serves (0x00 ▸ in_order (name_form from) (in_order (name_form name) (entity_type ty))) (module_declaration (ModuleImport from name ty))
-import_serves from name ty = tagged_serves 0x00 (order_serves (serves_itself {p = name_form from}) (order_is_order (name_form name) (entity_type ty)))
+import_serves from name ty = tagged_serves 0x00 (order_serves (serves_itself {p = name_form from}) (two_serve (name_form name) (entity_type ty)))
 
 pub outer_serves : (count number : ℕ)
     → Serves (0x02 ▸ in_order (verbatim (0x10 ∷ 0x01 ∷ [])) (in_order (u32 count) (u32 number))) (module_declaration (ModuleOuter count number))
 outer_serves count number =
     let sort_and_kind : List ℕ = 0x10 ∷ 0x01 ∷ [] in
-    tagged_serves 0x02 (serves_then (order_serves (serves_itself {p = verbatim sort_and_kind}) (order_is_order (u32 count) (u32 number))) (behind_is sort_and_kind (u32 count ⨾ u32 number)))
+    tagged_serves 0x02 (serves_then (order_serves (serves_itself {p = verbatim sort_and_kind}) (two_serve (u32 count) (u32 number))) (behind_is sort_and_kind (u32 count ⨾ u32 number)))
 
 -- ---- types of values
 
@@ -83,7 +79,7 @@ abbrev pub lent_field : Form (Bor (List ℕ) × ComponentValType)
 lent_field f = in_order (name_form f.0.now) (value_type f.1)
 
 fields_tree_serve : {A : Type 0} (fields : List (String A × ComponentValType)) → Serves (list_in_order field_tree fields) (list labelled_type (map named_view fields))
-fields_tree_serve = list_serves field_tree named_view labelled_type (λ f. order_is_order (name_form (string_bytes f.0)) (value_type f.1))
+fields_tree_serve = list_serves field_tree named_view labelled_type (λ f. two_serve (name_form (string_bytes f.0)) (value_type f.1))
 
 pub record_tree_serves : {A : Type 0} (fields : List (String A × ComponentValType)) → Serves (0x72 ▸ list_in_order field_tree fields) (def_val_type (Record (map named_view fields)))
 record_tree_serves fields = tagged_serves 0x72 (fields_tree_serve fields)
@@ -99,7 +95,7 @@ tuple_tree_serves elements = tagged_serves 0x6f (list_is_list value_type element
 
 -- fields, cases and names that an iterator gives
 pub fields_serve : (lead : List ℕ) (vs : List (Bor (List ℕ) × ComponentValType)) → Serves (behind_bytes lead (list lent_field vs)) (behind_bytes lead (list labelled_type (map lent_named vs)))
-fields_serve = listed_serves lent_field lent_named labelled_type (λ f. order_is_order (name_form f.0.now) (value_type f.1))
+fields_serve = listed_serves lent_field lent_named labelled_type (λ f. two_serve (name_form f.0.now) (value_type f.1))
 
 pub names_serve : (lead : List ℕ) (vs : List (Bor (List ℕ))) → Serves (behind_bytes lead (list (λ n. name_form n.now) vs)) (behind_bytes lead (list name_form (map (λ n. n.now) vs)))
 names_serve = listed_serves (λ (n : Bor (List ℕ)). name_form n.now) (λ n. n.now) name_form (λ n. serves_itself)

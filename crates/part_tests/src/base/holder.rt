@@ -1,7 +1,7 @@
 //! Members of a holder.
 
 use crate::accepted::{all_are_well, ok};
-use crate::base::calls::{Held, EncoderCall, Listed, Member, Piece};
+use crate::base::calls::{EncoderCall, Held, Listed, Member, Piece};
 use crate::base::refusals::LARGE;
 use crate::base::steps::{DONE, MANY, Step, UNFINISHED, first_wrong};
 use refusing::Refusing;
@@ -200,7 +200,10 @@ const UNFINISHED_PIECES: &[Step<'static>] = &[
 const VALUES_AND_LISTS: &[Step<'static>] = &[
     Step::Member(Member::Open(&[]), DONE),
     Step::Piece(Piece::EncoderCall(EncoderCall::Text("f")), DONE),
-    Step::Piece(Piece::EncoderCall(EncoderCall::List(&[0x60], &[1, 128])), DONE),
+    Step::Piece(
+        Piece::EncoderCall(EncoderCall::List(&[0x60], &[1, 128])),
+        DONE,
+    ),
     Step::Piece(Piece::Texts(&[2, 3], &["g"]), DONE),
     Step::Piece(Piece::EncoderCall(EncoderCall::EndWithTruth(true)), DONE),
     Step::Whole(
@@ -212,7 +215,10 @@ const VALUES_AND_LISTS: &[Step<'static>] = &[
 
 const ENDED_WITH_A_LIST: &[Step<'static>] = &[
     Step::Member(Member::Open(&[9]), DONE),
-    Step::Piece(Piece::EncoderCall(EncoderCall::EndWithTexts(&[8], &["f"])), DONE),
+    Step::Piece(
+        Piece::EncoderCall(EncoderCall::EndWithTexts(&[8], &["f"])),
+        DONE,
+    ),
     Step::Member(Member::Open(&[]), DONE),
     Step::Piece(Piece::EncoderCall(EncoderCall::Number(7)), DONE),
     Step::Piece(Piece::EncoderCall(EncoderCall::List(&[], &[])), DONE),
@@ -228,7 +234,10 @@ const ENDED_WITH_A_LIST: &[Step<'static>] = &[
 const REFUSED_VALUES: &[Step<'static>] = &[
     Step::Member(Member::Open(&[1]), DONE),
     Step::Piece(Piece::EncoderCall(EncoderCall::Size(LARGE)), MANY),
-    Step::Piece(Piece::EncoderCall(EncoderCall::List(&[2], &[3, LARGE])), MANY),
+    Step::Piece(
+        Piece::EncoderCall(EncoderCall::List(&[2], &[3, LARGE])),
+        MANY,
+    ),
     Step::Begun(1, &[1], true),
 ];
 
@@ -236,7 +245,10 @@ const REFUSED_ENDS: &[Step<'static>] = &[
     Step::Member(Member::Open(&[1]), DONE),
     Step::Piece(Piece::EncoderCall(EncoderCall::EndWithSize(LARGE)), MANY),
     Step::Begun(1, &[1], true),
-    Step::Piece(Piece::EncoderCall(EncoderCall::EndWithSizes(&[2], &[3, LARGE])), MANY),
+    Step::Piece(
+        Piece::EncoderCall(EncoderCall::EndWithSizes(&[2], &[3, LARGE])),
+        MANY,
+    ),
     Step::Begun(1, &[1], true),
     Step::Piece(Piece::EncoderCall(EncoderCall::EndWithNumber(2)), DONE),
     Step::Whole(1, &[1, 2], &[3, 1, 1, 2]),

@@ -3,7 +3,7 @@
 use crate::base::calls::{Held, Member, Piece, add_member, write};
 use crate::base::values::{added, begun};
 use std::alloc::Global;
-use wenc_base::{Encode, Fault, Lender, ByRef, Verbatim};
+use wenc_base::{ByRef, Encode, Fault, Lender, Verbatim};
 
 pub type Answer = Result<(), Fault>;
 

@@ -2,7 +2,7 @@ use crate::accepted::ok;
 use crate::base::values::check_all;
 use std::alloc::Global;
 use sweeping::hexed::text;
-use wenc_base::{Fault, ByRef, WithSize};
+use wenc_base::{ByRef, Fault, WithSize};
 
 const CONTENT: (u32, &str, bool) = (128, "a", false);
 

@@ -6,7 +6,7 @@ use refusing::Refusing;
 use std::alloc::Global;
 use sweeping::members::{Adds, Members, sweep_calls, sweep_clones};
 use sweeping::{LARGE, NAME};
-use wenc_base::{Fault, ByRef, NameMap, encoding_size};
+use wenc_base::{ByRef, Fault, NameMap, encoding_size};
 
 #[derive(Drop)]
 struct Names<'a>(NameMap<&'a Refusing>);

@@ -6,7 +6,7 @@ use std::alloc::Global;
 use std::process::Abort;
 use sweeping::NAME;
 use sweeping::members::{Adds, Members, sweep_calls, sweep_clones};
-use wenc_base::{Fault, ByRef, ProducersField, ProducersSection};
+use wenc_base::{ByRef, Fault, ProducersField, ProducersSection};
 
 /// A field of tools.
 #[derive(Drop)]

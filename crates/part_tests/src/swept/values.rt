@@ -1,7 +1,7 @@
 use crate::swept::{check, check_call, check_each};
 use std::alloc::Allocator;
 use sweeping::{Appends, LARGE, NAME, TEXT};
-use wenc_base::{Fault, ByRef, Tagged, Verbatim, WithSize, encode_list};
+use wenc_base::{ByRef, Fault, Tagged, Verbatim, WithSize, encode_list};
 
 const LARGE_SIZES: &[usize] = &[4294967295];
 

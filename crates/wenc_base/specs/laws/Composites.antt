@@ -6,8 +6,9 @@ use Rattle.wenc_base.specs.Forms.{list, option}
 use Rattle.wenc_base.specs.Number.{u32}
 use Rattle.wenc_base.specs.Piece.{Form, Wide, ◌▸◌, ◌⨾◌}
 use Rattle.wenc_base.specs.laws.Delimited.{list_equal}
-use Rattle.wenc_base.specs.laws.Lawful.{Lawful, Reader, ◌>>=◌, give, nowhere, choose, row_lawful, row_byte, first_of_two, then, last}
-use Rattle.wenc_base.specs.laws.Sound.{Sound, sound_behind, RowsAreSound, both_tables, give_sound, last_sound, then_sound, nowhere_sound, choose_sound}
+use Rattle.wenc_base.specs.Readers.{Lawful, Reader, ◌>>=◌, give, nowhere, choose}
+use Rattle.wenc_base.specs.laws.Lawful.{row_lawful, row_byte, first_of_two, then, last}
+use Rattle.wenc_base.specs.laws.Sound.{Sound, sound_behind, RowsAreSound, both_tables, give_tells, last_tells, then_tells, nowhere_tells, choose_tells}
 use Rattle.wenc_base.specs.laws.Numbers.{read_u32, u32_lawful, u32_sound}
 use Rattle.wenc_base.specs.laws.Forms.{read_flag, flag_lawful, flag_sound, read_list, list_lawful, list_sound, read_option, option_lawful, option_sound}
 use Rattle.wenc_base.specs.laws.Types.{val_type_rows, val_type_row, val_type_rows_sound, read_val_type, val_type_lawful, val_type_sound}
@@ -23,11 +24,11 @@ use Rattle.wenc_base.specs.declared.types.groups.GroupTree.TheVariants as groups
 use Rattle.wenc_base.specs.declared.types.storage.StorageType.{StorageType}
 use Rattle.wenc_base.specs.declared.types.storage.StorageType.TheVariants.{I8, I16, Val}
 use Rattle.wenc_base.specs.declared.types.storage.FieldType.{FieldType}
-use Rattle.wenc_base.specs.Composites.{storage_type, field_type, Composite, Func, Array, Struct, composite_type, Sub, sub_type_of, sub_type, final, RecType, Single, Rec, rec_type, params_of, results_of, function_view, array_view, structure_view, composite_view, sub_view, rec_type_view}
+use Rattle.wenc_base.specs.Composites.{storage_type, field_type, Composite, Func, Array, Struct, composite_type, Sub, sub_type_of, sub_type, final, RecType, Single, Rec, rec_type, params_of, results_of, func_type_view, array_view, structure_view, composite_view, sub_view, rec_type_view}
 
 -- ---- fields
 
-abbrev small_rows : List (ℕ × Reader StorageType)
+abbrev pub small_rows : List (ℕ × Reader StorageType)
 small_rows = (0x78, give I8) ∷ (0x77, give I16) ∷ []
 
 abbrev pub read_storage_type : Reader StorageType
@@ -39,7 +40,7 @@ storage_type_lawful I16 = row_byte _ _ 0x77 (λ fuel rest. refl)
 storage_type_lawful (Val t) = val_type_row Val (λ fuel. small_rows) _ t
 
 pub storage_type_sound : Sound storage_type read_storage_type
-storage_type_sound = choose_sound _ _ (both_tables storage_type (val_type_rows Val) small_rows (val_type_rows_sound storage_type Val (λ t bytes rest r. r)) (give_sound I8 (λ bytes. refl), (give_sound I16 (λ bytes. refl), tt))) nowhere_sound
+storage_type_sound = choose_tells _ _ (both_tables storage_type (val_type_rows Val) small_rows (val_type_rows_sound storage_type Val (λ t bytes rest r. r)) (give_tells I8 (λ bytes. refl), (give_tells I16 (λ bytes. refl), tt))) nowhere_tells
 
 abbrev field_of : StorageType → Bool → FieldType
 field_of t mutable = record { element_type = t; mutable = mutable }
@@ -51,7 +52,7 @@ pub field_type_lawful : (f : FieldType) → Lawful (field_type f) (λ fuel. read
 field_type_lawful f = then _ (storage_type_lawful f.element_type) (last (field_of f.element_type) (flag_lawful f.mutable))
 
 pub field_type_sound : Sound field_type read_field_type
-field_type_sound = then_sound _ storage_type_sound (λ t. last_sound (field_of t) flag_sound (λ mutable middle rest r bytes p. (middle, p, r)))
+field_type_sound = then_tells _ storage_type_sound (λ t. last_tells (field_of t) flag_sound (λ mutable middle rest r bytes p. (middle, p, r)))
 
 -- ---- composite types
 
@@ -72,10 +73,10 @@ composite_row make rows other (Struct fields) = row_lawful _ _ 0x5f (last (λ fs
 -- each row of a table of composite types
 pub composite_rows_sound : {A : Type 0} (form : Form A) (make : Composite → A) → ((c : Composite) (bytes rest : List ℕ) → (composite_type c).Reads Wide bytes rest → (form (make c)).Reads Wide bytes rest) → RowsAreSound form (composite_rows make)
 composite_rows_sound form make k = (
-  then_sound _ (list_sound val_type_sound) (λ params. last_sound (λ results. make (Func params results)) (list_sound val_type_sound) (λ results middle rest r bytes p. k (Func params results) _ rest (bytes, refl, (middle, p, r)))),
+  then_tells _ (list_sound val_type_sound) (λ params. last_tells (λ results. make (Func params results)) (list_sound val_type_sound) (λ results middle rest r bytes p. k (Func params results) _ rest (bytes, refl, (middle, p, r)))),
   (
-    last_sound (λ f. make (Array f)) field_type_sound (λ f bytes rest r. k (Array f) _ rest (bytes, refl, r)),
-    (last_sound (λ fields. make (Struct fields)) (list_sound field_type_sound) (λ fields bytes rest r. k (Struct fields) _ rest (bytes, refl, r)), tt),
+    last_tells (λ f. make (Array f)) field_type_sound (λ f bytes rest r. k (Array f) _ rest (bytes, refl, r)),
+    (last_tells (λ fields. make (Struct fields)) (list_sound field_type_sound) (λ fields bytes rest r. k (Struct fields) _ rest (bytes, refl, r)), tt),
   ),
 )
 
@@ -86,7 +87,7 @@ pub composite_type_lawful : (c : Composite) → Lawful (composite_type c) (λ fu
 composite_type_lawful c = composite_row (λ d. d) (λ fuel. []) _ c
 
 pub composite_type_sound : Sound composite_type read_composite
-composite_type_sound = choose_sound _ _ (composite_rows_sound composite_type (λ c. c) (λ c bytes rest r. r)) nowhere_sound
+composite_type_sound = choose_tells _ _ (composite_rows_sound composite_type (λ c. c) (λ c bytes rest r. r)) nowhere_tells
 
 -- ---- sub types
 
@@ -101,7 +102,7 @@ extension_lawful make supertype c = then _ (option_lawful u32_lawful supertype) 
 -- each of what is extended, behind the byte that says how
 pub extension_sound : {A : Type 0} (form : Form A) (b : ℕ) (make : Option ℕ → Composite → A)
     → ((supertype : Option ℕ) (c : Composite) (bytes rest : List ℕ) → (b ▸ (option u32 supertype ⨾ composite_type c)).Reads Wide bytes rest → (form (make supertype c)).Reads Wide bytes rest) → Sound (sound_behind b form) (read_extension make)
-extension_sound form b make k = then_sound _ (option_sound u32_sound) (λ supertype. last_sound (make supertype) composite_type_sound (λ c middle rest r bytes p. k supertype c _ rest (bytes, refl, (middle, p, r))))
+extension_sound form b make k = then_tells _ (option_sound u32_sound) (λ supertype. last_tells (make supertype) composite_type_sound (λ c middle rest r bytes p. k supertype c _ rest (bytes, refl, (middle, p, r))))
 
 -- what is extended by a type that can't be extended: it has no long spelling without that
 abbrev pub read_closed : {A : Type 0} → (ℕ → Composite → A) → Reader A
@@ -126,10 +127,10 @@ final_row make rows other (Some n) c = row_lawful _ _ 0x4f (closed_lawful (λ m 
 pub final_rows_sound : {A : Type 0} (form : Form A) (make : Sub → A)
     → ((supertype : Option ℕ) (c : Composite) (bytes rest : List ℕ) → (sub_type_of true supertype c).Reads Wide bytes rest → (form (make (sub_of true supertype c))).Reads Wide bytes rest) → RowsAreSound form (final_rows make)
 final_rows_sound form make k = both_tables form (composite_rows (λ c. make (final c))) ((0x4f, read_closed (λ n c. make (sub_of true (Some n) c))) ∷ []) (composite_rows_sound form (λ c. make (final c)) (λ c. k None c)) (
-  choose_sound _ _ (
-    then_sound _ u32_sound (λ n. last_sound (λ c. make (sub_of true (Some n) c)) composite_type_sound (λ c middle rest r bytes p. k (Some n) c _ rest (_, refl, (middle, (bytes, refl, p), r)))),
+  choose_tells _ _ (
+    then_tells _ u32_sound (λ n. last_tells (λ c. make (sub_of true (Some n) c)) composite_type_sound (λ c middle rest r bytes p. k (Some n) c _ rest (_, refl, (middle, (bytes, refl, p), r)))),
     tt,
-  ) nowhere_sound,
+  ) nowhere_tells,
   tt,
 )
 
@@ -157,7 +158,7 @@ pub sub_type_lawful : (s : Sub) → Lawful (sub_type s) (λ fuel. read_sub_type)
 sub_type_lawful s = sub_row (λ t. t) (λ fuel. []) _ s
 
 pub sub_type_sound : Sound sub_type read_sub_type
-sub_type_sound = choose_sound _ _ (sub_rows_sound sub_type (λ s. s) (λ s bytes rest r. r)) nowhere_sound
+sub_type_sound = choose_tells _ _ (sub_rows_sound sub_type (λ s. s) (λ s bytes rest r. r)) nowhere_tells
 
 -- ---- groups
 
@@ -177,7 +178,7 @@ group_row make rows other (Single s) = sub_row (λ t. make (Single t)) (λ fuel.
 group_row make rows other (Rec types) = row_lawful _ _ 0x4e (types_lawful make types)
 
 pub types_sound : {A : Type 0} (form : Form A) (b : ℕ) (make : RecType → A) → ((types : List Sub) (bytes rest : List ℕ) → (b ▸ list sub_type types).Reads Wide bytes rest → (form (make (Rec types))).Reads Wide bytes rest) → Sound (sound_behind b form) (read_types make)
-types_sound form b make k = last_sound (λ types. make (Rec types)) (list_sound sub_type_sound) (λ types bytes rest r. k types _ rest (bytes, refl, r))
+types_sound form b make k = last_tells (λ types. make (Rec types)) (list_sound sub_type_sound) (λ types bytes rest r. k types _ rest (bytes, refl, r))
 
 -- each row of a table of groups
 pub group_rows_sound : {A : Type 0} (form : Form A) (make : RecType → A) → ((g : RecType) (bytes rest : List ℕ) → (rec_type g).Reads Wide bytes rest → (form (make g)).Reads Wide bytes rest) → RowsAreSound form (group_rows make)
@@ -190,7 +191,7 @@ pub group_lawful : (g : RecType) → Lawful (rec_type g) (λ fuel. read_group) g
 group_lawful g = group_row (λ h. h) (λ fuel. []) _ g
 
 pub group_sound : Sound rec_type read_group
-group_sound = choose_sound _ _ (group_rows_sound rec_type (λ g. g) (λ g bytes rest r. r)) nowhere_sound
+group_sound = choose_tells _ _ (group_rows_sound rec_type (λ g. g) (λ g bytes rest r. r)) nowhere_tells
 
 -- ---- equal types
 
@@ -210,10 +211,10 @@ fields_of (Array f) = f ∷ []
 fields_of (Struct fields) = fields
 
 -- types that are seen alike have the same lists
-pub same_params : {A : Type 0} (f g : FuncType A) → function_view f ≡ function_view g → params_of f ≡ params_of g
+pub same_params : {A : Type 0} (f g : FuncType A) → func_type_view f ≡ func_type_view g → params_of f ≡ params_of g
 same_params f g e = ap params e
 
-pub same_results : {A : Type 0} (f g : FuncType A) → function_view f ≡ function_view g → results_of f ≡ results_of g
+pub same_results : {A : Type 0} (f g : FuncType A) → func_type_view f ≡ func_type_view g → results_of f ≡ results_of g
 same_results f g e = ap results e
 
 pub same_fields : {A : Type 0} (s t : StructType A) → structure_view s ≡ structure_view t → s.fields.items ≡ t.fields.items
@@ -226,7 +227,7 @@ same_element a b e =
 
 -- two composite types that are seen alike are of one kind
 pub by_kind : {A : Type 0} (eq : CompositeType A → CompositeType A → Bool)
-    → ((f g : FuncType A) → function_view f ≡ function_view g → eq (composites.Func f) (composites.Func g) ≡ true)
+    → ((f g : FuncType A) → func_type_view f ≡ func_type_view g → eq (composites.Func f) (composites.Func g) ≡ true)
     → ((a b : ArrayType) → array_view a ≡ array_view b → eq (composites.Array a) (composites.Array b) ≡ true)
     → ((s t : StructType A) → structure_view s ≡ structure_view t → eq (composites.Struct s) (composites.Struct t) ≡ true)
     → AlikeIsEqual eq composite_view

@@ -3,9 +3,10 @@ use Rattle.std.proofs.Common.{ℕ, Bool, true, false, List, [], ◌∷◌, ◌++
 use Rattle.wenc_base.specs.Piece.{Form, Wide, ◌▸◌, ◌⨾◌}
 use Rattle.wenc_base.specs.Number.{u64}
 use Rattle.wenc_base.specs.Forms.{option}
-use Rattle.wenc_base.specs.laws.Lawful.{Lawful, Reader, ◌>>=◌, give, nowhere, choose, row_lawful, then, last}
+use Rattle.wenc_base.specs.Readers.{Lawful, Reader, ◌>>=◌, give, nowhere, choose}
+use Rattle.wenc_base.specs.laws.Lawful.{row_lawful, then, last}
 use Rattle.wenc_base.specs.laws.Numbers.{read_u32, u32_lawful, u32_sound, read_u64, u64_lawful, u64_sound}
-use Rattle.wenc_base.specs.laws.Sound.{Sound, sound_behind, behind_value, RowsAreSound, both_tables, last_sound, then_sound, nowhere_sound, choose_sound}
+use Rattle.wenc_base.specs.laws.Sound.{Sound, sound_behind, behind_value, RowsAreSound, both_tables, last_tells, then_tells, nowhere_tells, choose_tells}
 use Rattle.wenc_base.specs.laws.Forms.{read_flag, flag_lawful, flag_sound}
 use Rattle.wenc_base.specs.laws.Types.{read_reference, reference_lawful, reference_sound, read_val_type, val_type_lawful, val_type_sound}
 use Rattle.wenc_base.specs.declared.types.RefType.{RefType}
@@ -63,10 +64,10 @@ limits_lawful make true true n (Some m) = row_lawful _ _ 0x07 (then _ (u64_lawfu
 
 -- a minimum alone, and both, behind a byte
 least_sound : {A : Type 0} (form : Form A) (b : ℕ) (make : ℕ → Option ℕ → A) → ((n : ℕ) (bytes rest : List ℕ) → (b ▸ u64 n).Reads Wide bytes rest → (form (make n None)).Reads Wide bytes rest) → Sound (sound_behind b form) (at_least make)
-least_sound form b make k = last_sound (λ n. make n None) u64_sound (λ n bytes rest r. k n _ rest (bytes, refl, r))
+least_sound form b make k = last_tells (λ n. make n None) u64_sound (λ n bytes rest r. k n _ rest (bytes, refl, r))
 
 between_sound : {A : Type 0} (form : Form A) (b : ℕ) (make : ℕ → Option ℕ → A) → ((n m : ℕ) (bytes rest : List ℕ) → (b ▸ (u64 n ⨾ u64 m)).Reads Wide bytes rest → (form (make n (Some m))).Reads Wide bytes rest) → Sound (sound_behind b form) (between make)
-between_sound form b make k = then_sound _ u64_sound (λ n. last_sound (λ m. make n (Some m)) u64_sound (λ m middle rest r bytes p. k n m _ rest (bytes, refl, (middle, p, r))))
+between_sound form b make k = then_tells _ u64_sound (λ n. last_tells (λ m. make n (Some m)) u64_sound (λ m middle rest r bytes p. k n m _ rest (bytes, refl, (middle, p, r))))
 
 unshared_rows_sound : {A : Type 0} (form : Form A) (make : Bool → ℕ → Option ℕ → A)
     → ((is_long : Bool) (n : ℕ) (m : Option ℕ) (bytes rest : List ℕ) → (limits false is_long n m).Reads Wide bytes rest → (form (make is_long n m)).Reads Wide bytes rest) → RowsAreSound form (unshared_rows make)
@@ -105,7 +106,7 @@ pub table_type_lawful : (t : TableType) → Lawful (table_type t) (λ fuel. read
 table_type_lawful t = then _ (reference_lawful t.element_type) (unshared_lawful (table_of t.element_type) [] t.table64 t.minimum t.maximum)
 
 pub table_type_sound : Sound table_type read_table_type
-table_type_sound = then_sound _ reference_sound (λ t. choose_sound _ _ (unshared_rows_sound (behind_value reference t table_type) (table_of t) (λ is_long n m middle rest r bytes p. (middle, p, r))) nowhere_sound)
+table_type_sound = then_tells _ reference_sound (λ t. choose_tells _ _ (unshared_rows_sound (behind_value reference t table_type) (table_of t) (λ is_long n m middle rest r bytes p. (middle, p, r))) nowhere_tells)
 
 abbrev memory_of : OfLimits MemoryType
 memory_of is_shared is_long n m = record { minimum = n; maximum = m; memory64 = is_long; shared = is_shared }
@@ -117,7 +118,7 @@ pub memory_type_lawful : (m : MemoryType) → Lawful (memory_type m) (λ fuel. r
 memory_type_lawful m = limits_lawful memory_of m.shared m.memory64 m.minimum m.maximum
 
 pub memory_type_sound : Sound memory_type read_memory_type
-memory_type_sound = choose_sound _ _ (both_tables memory_type (unshared_rows (memory_of false)) (shared_rows (memory_of true)) (unshared_rows_sound memory_type (memory_of false) (λ is_long n m bytes rest r. r)) (shared_rows_sound memory_type (memory_of true) (λ is_long n m bytes rest r. r))) nowhere_sound
+memory_type_sound = choose_tells _ _ (both_tables memory_type (unshared_rows (memory_of false)) (shared_rows (memory_of true)) (unshared_rows_sound memory_type (memory_of false) (λ is_long n m bytes rest r. r)) (shared_rows_sound memory_type (memory_of true) (λ is_long n m bytes rest r. r))) nowhere_tells
 
 -- ---- the others
 
@@ -128,7 +129,7 @@ pub global_type_lawful : (g : GlobalType) → Lawful (global_type g) (λ fuel. r
 global_type_lawful g = then _ (val_type_lawful g.val_type) (last _ (flag_lawful g.mutable))
 
 pub global_type_sound : Sound global_type read_global_type
-global_type_sound = then_sound _ val_type_sound (λ t. last_sound _ flag_sound (λ mutable middle rest r bytes p. (middle, p, r)))
+global_type_sound = then_tells _ val_type_sound (λ t. last_tells _ flag_sound (λ mutable middle rest r bytes p. (middle, p, r)))
 
 abbrev pub read_tag_type : Reader TagType
 read_tag_type = choose ((0x00, read_u32 >>= λ n. give (record { func_type_idx = n })) ∷ []) nowhere
@@ -137,7 +138,7 @@ pub tag_type_lawful : (t : TagType) → Lawful (tag_type t) (λ fuel. read_tag_t
 tag_type_lawful t = row_lawful _ _ 0x00 (last _ (u32_lawful t.func_type_idx))
 
 pub tag_type_sound : Sound tag_type read_tag_type
-tag_type_sound = choose_sound _ _ (last_sound _ u32_sound (λ n bytes rest r. (bytes, refl, r)), tt) nowhere_sound
+tag_type_sound = choose_tells _ _ (last_tells _ u32_sound (λ n bytes rest r. (bytes, refl, r)), tt) nowhere_tells
 
 abbrev pub read_entity_type : Reader EntityType
 read_entity_type = choose (
@@ -155,13 +156,13 @@ entity_type_lawful (Global g) = row_lawful _ _ 0x03 (last Global (global_type_la
 entity_type_lawful (Tag t) = row_lawful _ _ 0x04 (last Tag (tag_type_lawful t))
 
 pub entity_type_sound : Sound entity_type read_entity_type
-entity_type_sound = choose_sound _ _ (
-  last_sound Function u32_sound (λ n bytes rest r. (bytes, refl, r)),
+entity_type_sound = choose_tells _ _ (
+  last_tells Function u32_sound (λ n bytes rest r. (bytes, refl, r)),
   (
-    last_sound Table table_type_sound (λ t bytes rest r. (bytes, refl, r)),
+    last_tells Table table_type_sound (λ t bytes rest r. (bytes, refl, r)),
     (
-      last_sound Memory memory_type_sound (λ m bytes rest r. (bytes, refl, r)),
-      (last_sound Global global_type_sound (λ g bytes rest r. (bytes, refl, r)), (last_sound Tag tag_type_sound (λ t bytes rest r. (bytes, refl, r)), tt)),
+      last_tells Memory memory_type_sound (λ m bytes rest r. (bytes, refl, r)),
+      (last_tells Global global_type_sound (λ g bytes rest r. (bytes, refl, r)), (last_tells Tag tag_type_sound (λ t bytes rest r. (bytes, refl, r)), tt)),
     ),
   ),
-) nowhere_sound
+) nowhere_tells

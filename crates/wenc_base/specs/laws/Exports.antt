@@ -1,8 +1,9 @@
 -- The law of the kinds of exports.
 use Rattle.std.proofs.Common.{[], ◌∷◌, refl}
 use Rattle.wenc_base.specs.Exports.{core_export_kind, export_kind_byte}
-use Rattle.wenc_base.specs.laws.Lawful.{Lawful, Reader, give, nowhere, choose, row_byte}
-use Rattle.wenc_base.specs.laws.Sound.{Sound, given_rows, nowhere_sound, choose_sound}
+use Rattle.wenc_base.specs.Readers.{Lawful, Reader, give, nowhere, choose}
+use Rattle.wenc_base.specs.laws.Lawful.{row_byte}
+use Rattle.wenc_base.specs.laws.Sound.{Sound, given_rows, nowhere_tells, choose_tells}
 use Rattle.wenc_base.specs.declared.exports.ExportKind.{ExportKind}
 use Rattle.wenc_base.specs.declared.exports.ExportKind.TheVariants.{Func, Table, Memory, Global, Tag}
 
@@ -17,4 +18,4 @@ core_export_kind_lawful Global = row_byte _ _ 0x03 (λ fuel rest. refl)
 core_export_kind_lawful Tag = row_byte _ _ 0x04 (λ fuel rest. refl)
 
 pub core_export_kind_sound : Sound core_export_kind read_core_export_kind
-core_export_kind_sound = choose_sound _ _ (given_rows core_export_kind export_kind_byte (λ kind. kind) (λ kind rest. refl) (Func ∷ Table ∷ Memory ∷ Global ∷ Tag ∷ [])) nowhere_sound
+core_export_kind_sound = choose_tells _ _ (given_rows core_export_kind export_kind_byte (λ kind. kind) (λ kind rest. refl) (Func ∷ Table ∷ Memory ∷ Global ∷ Tag ∷ [])) nowhere_tells

@@ -1,14 +1,15 @@
 -- The laws of forms made of others.
-use Rattle.std.proofs.Common.{true≢false, ◌≡◌, ℕ, ◌≤◌, ◌^◌, Bool, true, false, cond, List, [], ◌∷◌, ◌++◌, length, take, drop, Option, Some, None, refl, sym, ◌∙◌, append_assoc, arith, inl, inr}
+use Rattle.std.proofs.Common.{true≢false, ◌≡◌, ℕ, ◌≤◌, ◌^◌, Bool, true, false, cond, List, [], ◌∷◌, ◌++◌, length, take, drop, Option, Some, None, Result, Ok, Err, refl, sym, ◌∙◌, append_assoc, arith, inl, inr}
 use Rattle.std.specs.Prelude.{nat_lt}
 use Rattle.std.specs.Str.{is_utf8}
 use Rattle.std.proofs.lemmas.Bool.{cases_lt, lt-ltb, le-ltb}
 use Rattle.std.proofs.lemmas.List.{take_at, drop_at, take-append-drop, length-take-le, length-append}
 use Rattle.wenc_base.specs.Number.{u32}
 use Rattle.wenc_base.specs.Piece.{Payload, Form, Wide, each, raw}
-use Rattle.wenc_base.specs.laws.Sound.{Then, Sound, ThenAll, SoundWhole, weaken, behind_value, then_sound, last_sound, give_sound, nowhere_sound, choose_sound, times_sound, whole_sound}
+use Rattle.wenc_base.specs.laws.Sound.{Told, Sound, SoundWhole, weaken, made_told, behind_value, then_tells, last_tells, give_tells, nowhere_tells, choose_tells, Fewer, Several, times_told, whole_sound}
 use Rattle.wenc_base.specs.Forms.{flag, list, option, utf8, name, AreBytes, sized, byte_list, counted}
-use Rattle.wenc_base.specs.laws.Lawful.{Lawful, LawfulWhole, Reader, ◌>>=◌, give, nowhere, times, choose, row_lawful, row_byte, then, last, done, each_lawful, whole_lawful, raw_lawful}
+use Rattle.wenc_base.specs.Readers.{Flaw, Bad, made, Lawful, Reader, ◌>>=◌, give, nowhere, times, choose, done}
+use Rattle.wenc_base.specs.laws.Lawful.{LawfulWhole, row_lawful, row_byte, then, last, each_lawful, whole_lawful, raw_lawful}
 use Rattle.wenc_base.specs.laws.Numbers.{read_u32, u32_lawful, count_lawful, size_lawful, size_free, u32_sound, groups_are_read}
 use Rattle.std.proofs.lemmas.Str.{IsUtf8-from_is_utf8, is_utf8-from_IsUtf8}
 
@@ -22,7 +23,7 @@ flag_lawful false = row_byte _ _ 0 (λ fuel rest. refl)
 flag_lawful true = row_byte _ _ 1 (λ fuel rest. refl)
 
 pub flag_sound : Sound flag read_flag
-flag_sound = choose_sound _ _ (give_sound false (λ bytes. refl), (give_sound true (λ bytes. refl), tt)) nowhere_sound
+flag_sound = choose_tells _ _ (give_tells false (λ bytes. refl), (give_tells true (λ bytes. refl), tt)) nowhere_tells
 
 -- ---- lists
 
@@ -34,8 +35,8 @@ list_lawful laws vs = then _ (count_lawful (length vs)) (each_lawful laws vs)
 
 pub list_sound : {A : Type 0} {form : Form A} {read : Reader A} → Sound form read → Sound (list form) (read_list read)
 list_sound {form = form} {read = read} s =
-    then_sound _ u32_sound (λ n. record {
-      reads = λ middle. weaken (λ vs rest. (length vs ≡ n) × (each form vs).Reads Wide middle rest) (λ vs rest. (behind_value u32 n (list form) vs).Reads Wide middle rest) (times read n middle) (λ vs rest h. (λ bytes r. (middle, rw h.0 r, h.1))) (times_sound s n middle);
+    then_tells _ u32_sound (λ n. record {
+      tells = λ middle. weaken (Several form n middle) (λ x. (behind_value u32 n (list form) x.0).Reads Wide middle x.1) (Fewer form (λ bytes. ⊥) n middle) ⊥ (times read n middle) (λ x h. (λ bytes r. (middle, rw h.0 r, h.1))) (λ f. f.4) (times_told (λ bytes. ⊥) s n middle);
     })
 
 -- ---- options
@@ -48,13 +49,13 @@ option_lawful laws None = row_byte _ _ 0 (λ fuel rest. refl)
 option_lawful laws (Some v) = row_lawful _ _ 1 (last Some (laws v))
 
 pub option_sound : {A : Type 0} {form : Form A} {read : Reader A} → Sound form read → Sound (option form) (read_option read)
-option_sound s = choose_sound _ _ (give_sound None (λ bytes. refl), (last_sound Some s (λ v bytes rest r. (bytes, refl, r)), tt)) nowhere_sound
+option_sound s = choose_tells _ _ (give_tells None (λ bytes. refl), (last_tells Some s (λ v bytes rest r. (bytes, refl, r)), tt)) nowhere_tells
 
 -- ---- names
 
 -- so many bytes, which are text
 unfoldable pub text_at : ℕ → Reader (List ℕ)
-text_at n bytes = cond (nat_lt (length bytes) n) None (cond (is_utf8 (take n bytes)) (Some (take n bytes, drop n bytes)) None)
+text_at n bytes = cond (nat_lt (length bytes) n) (Err Bad) (cond (is_utf8 (take n bytes)) (Ok (take n bytes, drop n bytes)) (Err Bad))
 
 abbrev pub read_text : ℕ → Reader (List ℕ)
 read_text n bytes = text_at n bytes
@@ -71,7 +72,7 @@ utf8_lawful bs = record {
   finds = λ fuel le mode bytes rest r. rw (r.1, le-ltb (length (bs ++ rest)) (length bs) (omega (arith, length-append bs rest)), take_at bs rest (length bs) refl, drop_at bs rest (length bs) refl, is_utf8-from_IsUtf8 bs r.0) refl;
 }
 
-text_sound : (n : ℕ) (bytes : List ℕ) → Then (λ t rest. (length t ≡ n) × (utf8 t).Reads Wide bytes rest) (read_text n bytes)
+text_sound : (n : ℕ) (bytes : List ℕ) → Told (λ (x : List ℕ × List ℕ). (length x.0 ≡ n) × (utf8 x.0).Reads Wide bytes x.1) ⊥ (read_text n bytes)
 unfolding text_at
 text_sound n bytes =
     elim (cases_lt (length bytes) n) [
@@ -79,7 +80,7 @@ text_sound n bytes =
       | inr ge ↦ rw (le-ltb (length bytes) n ge, cond) (tested (is_utf8 (take n bytes)) refl ge)
     ]
   where
-    tested : (t : Bool) → is_utf8 (take n bytes) ≡ t → n ≤ length bytes → Then (λ t rest. (length t ≡ n) × (utf8 t).Reads Wide bytes rest) (cond t (Some (take n bytes, drop n bytes)) None)
+    tested : (t : Bool) → is_utf8 (take n bytes) ≡ t → n ≤ length bytes → Told (λ (x : List ℕ × List ℕ). (length x.0 ≡ n) × (utf8 x.0).Reads Wide bytes x.1) ⊥ (cond t (Ok (take n bytes, drop n bytes)) (Err Bad))
     tested true e le = (length-take-le n bytes le, (IsUtf8-from_is_utf8 (take n bytes) e, sym (take-append-drop n bytes)))
     tested false e le = tt
 
@@ -90,24 +91,20 @@ pub name_lawful : (bs : List ℕ) → Lawful (name bs) (λ fuel. read_name) bs
 name_lawful bs = then _ (size_lawful (length bs)) (utf8_lawful bs)
 
 pub name_sound : Sound name read_name
-name_sound = then_sound _ u32_sound (λ n. record {
-  reads = λ middle. weaken (λ t rest. (length t ≡ n) × (utf8 t).Reads Wide middle rest) (λ t rest. (behind_value u32 n name t).Reads Wide middle rest) (read_text n middle) (λ t rest h. (λ bytes r. (middle, rw h.0 r, h.1))) (text_sound n middle);
+name_sound = then_tells _ u32_sound (λ n. record {
+  tells = λ middle. weaken (λ x. (length x.0 ≡ n) × (utf8 x.0).Reads Wide middle x.1) (λ x. (behind_value u32 n name x.0).Reads Wide middle x.1) ⊥ ⊥ (read_text n middle) (λ x h. (λ bytes r. (middle, rw h.0 r, h.1))) (λ e. e) (text_sound n middle);
 })
 
 -- ---- with a size
 
-abbrev pub in_front_of : {A : Type 0} → List ℕ → Option A → Option (A × List ℕ)
-in_front_of rest None = None
-in_front_of rest (Some v) = Some (v, rest)
-
 -- so many bytes, which are all that is read
-abbrev pub read_filling : {A : Type 0} → (List ℕ → Option A) → ℕ → Reader A
-read_filling read n bytes = cond (nat_lt (length bytes) n) None (in_front_of (drop n bytes) (read (take n bytes)))
+abbrev pub read_filling : {A : Type 0} → (List ℕ → Result A Flaw) → ℕ → Reader A
+read_filling read n bytes = cond (nat_lt (length bytes) n) (Err Bad) (made (λ v. (v, drop n bytes)) (read (take n bytes)))
 
-abbrev pub read_sized : {A : Type 0} → (List ℕ → Option A) → Reader A
+abbrev pub read_sized : {A : Type 0} → (List ℕ → Result A Flaw) → Reader A
 read_sized read = read_u32 >>= read_filling read
 
-pub sized_lawful : {A : Type 0} {w : Payload} {read : ℕ → List ℕ → Option A} {v : A} → LawfulWhole w read v → Lawful (sized w) (λ fuel. read_sized (read fuel)) v
+pub sized_lawful : {A : Type 0} {w : Payload} {read : ℕ → List ℕ → Result A Flaw} {v : A} → LawfulWhole w read v → Lawful (sized w) (λ fuel. read_sized (read fuel)) v
 sized_lawful {w = w} a = record {
   text_is_read = λ mode rest h. (w.text, rw append_assoc ((u32_lawful (length w.text)).text_is_read mode (w.text ++ rest) h.0), a.text_is_read mode h.1);
   strict_is_text = λ bytes rest r.
@@ -121,19 +118,15 @@ sized_lawful {w = w} a = record {
       rw (groups_are_read mode 128 (2 ^ 32) 4 (length r.0) bytes (r.0 ++ rest) (omega arith) r.1.0 r.1.1, le-ltb (length (r.0 ++ rest)) (length r.0) (omega (arith, length-append r.0 rest)), take_at r.0 rest (length r.0) refl, drop_at r.0 rest (length r.0) refl, a.finds fuel le mode r.0 r.2) refl;
 }
 
-filling_sound : {A : Type 0} (P : A → Type 0) (Q : A → List ℕ → Type 0) (rest : List ℕ) (found : Option A) → ThenAll P found → ((v : A) → P v → Q v rest) → Then Q (in_front_of rest found)
-filling_sound P Q rest None h k = tt
-filling_sound P Q rest (Some v) h k = k v h
-
-pub sized_sound : {A : Type 0} {form : A → Payload} {read : List ℕ → Option A} → SoundWhole form read → Sound (λ v. sized (form v)) (read_sized read)
-sized_sound {A} {form = form} {read = read} s = then_sound _ u32_sound (λ n. record { reads = λ middle. inside n middle })
+pub sized_sound : {A : Type 0} {form : A → Payload} {read : List ℕ → Result A Flaw} → SoundWhole form read → Sound (λ v. sized (form v)) (read_sized read)
+sized_sound {A} {form = form} {read = read} s = then_tells _ u32_sound (λ n. record { tells = λ middle. inside n middle })
   where
-    inside : (n : ℕ) (middle : List ℕ) → Then (λ v rest. (bytes : List ℕ) → (u32 n).Reads Wide bytes middle → (sized (form v)).Reads Wide bytes rest) (read_filling read n middle)
+    inside : (n : ℕ) (middle : List ℕ) → Told (λ x. (bytes : List ℕ) → (u32 n).Reads Wide bytes middle → (sized (form x.0)).Reads Wide bytes x.1) ⊥ (read_filling read n middle)
     inside n middle =
         elim (cases_lt (length middle) n) [
           | inl lt ↦ rw (lt-ltb (length middle) n lt, cond) tt
-          | inr ge ↦ rw (le-ltb (length middle) n ge, cond) (filling_sound (λ v. (form v).ReadsAll Wide (take n middle)) (λ v rest. (bytes : List ℕ) → (u32 n).Reads Wide bytes middle → (sized (form v)).Reads Wide bytes rest)
-              (drop n middle) (read (take n middle)) (s.reads (take n middle)) (λ v h. (λ bytes r. (take n middle, rw (length-take-le n middle ge, take-append-drop n middle) r, h))))
+          | inr ge ↦ rw (le-ltb (length middle) n ge, cond) (made_told (λ v. (form v).ReadsAll Wide (take n middle)) (λ x. (bytes : List ℕ) → (u32 n).Reads Wide bytes middle → (sized (form x.0)).Reads Wide bytes x.1) ⊥
+              (λ v. (v, drop n middle)) (read (take n middle)) (s.tells (take n middle)) (λ v h. (λ bytes r. (take n middle, rw (length-take-le n middle ge, take-append-drop n middle) r, h))))
         ]
 
 -- ---- lists of bytes
@@ -155,16 +148,16 @@ passed_bytes (b ∷ bytes) e =
     ]
 
 -- any bytes
-abbrev pub read_bytes : {A : Type 0} → (List ℕ → A) → List ℕ → Option A
-read_bytes make bytes = cond (are_bytes bytes) (Some (make bytes)) None
+abbrev pub read_bytes : {A : Type 0} → (List ℕ → A) → List ℕ → Result A Flaw
+read_bytes make bytes = cond (are_bytes bytes) (Ok (make bytes)) (Err Bad)
 
 pub bytes_lawful : {A : Type 0} (make : List ℕ → A) (bs : List ℕ) → LawfulWhole (raw AreBytes bs) (λ fuel. read_bytes make) (make bs)
 bytes_lawful make bs = raw_lawful AreBytes are_bytes bs make (bytes_pass bs)
 
-pub bytes_sound : {A : Type 0} (P : A → Type 0) (make : List ℕ → A) (bytes : List ℕ) → (AreBytes bytes → P (make bytes)) → ThenAll P (read_bytes make bytes)
+pub bytes_sound : {A : Type 0} (P : A → Type 0) (make : List ℕ → A) (bytes : List ℕ) → (AreBytes bytes → P (make bytes)) → Told P ⊥ (read_bytes make bytes)
 bytes_sound P make bytes k = tested (are_bytes bytes) refl
   where
-    tested : (t : Bool) → are_bytes bytes ≡ t → ThenAll P (cond t (Some (make bytes)) None)
+    tested : (t : Bool) → are_bytes bytes ≡ t → Told P ⊥ (cond t (Ok (make bytes)) (Err Bad))
     tested true e = k (passed_bytes bytes e)
     tested false e = tt
 
@@ -175,7 +168,7 @@ pub byte_list_lawful : (bs : List ℕ) → Lawful (byte_list bs) (λ fuel. read_
 byte_list_lawful bs = sized_lawful (bytes_lawful (λ bytes. bytes) bs)
 
 pub byte_list_sound : Sound byte_list read_byte_list
-byte_list_sound = sized_sound (record { reads = λ bytes. bytes_sound (λ bs. (raw AreBytes bs).ReadsAll Wide bytes) (λ bs. bs) bytes (λ h. (h, refl)) })
+byte_list_sound = sized_sound (record { tells = λ bytes. bytes_sound (λ bs. (raw AreBytes bs).ReadsAll Wide bytes) (λ bs. bs) bytes (λ h. (h, refl)) })
 
 -- ---- counted sections
 

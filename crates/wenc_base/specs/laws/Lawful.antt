@@ -1,76 +1,43 @@
--- The laws of a piece and of its reader, and what follows from them.
-use Rattle.std.proofs.Common.{◌≡◌, ℕ, zero, suc, ◌+◌, ◌≤◌, ◌≢◌, Bool, true, false, cond, eqb, List, [], ◌∷◌, ◌++◌, length, Option, Some, None, refl, sym, ap, ◌∙◌, append_assoc, arith, inl, inr}
-use Rattle.std.proofs.lemmas.Option.{some_pair_parts, same_Some}
+-- What follows from the laws of a piece and of its reader.
+use Rattle.std.proofs.Common.{◌≡◌, ℕ, zero, suc, ◌+◌, ◌≤◌, ◌≢◌, Bool, true, false, cond, eqb, List, [], ◌∷◌, ◌++◌, length, Result, Ok, Err, refl, sym, ap, ◌∙◌, append_assoc, arith, inl, inr}
 use Rattle.std.proofs.lemmas.Bool.Decides.{nat_tests}
 use Rattle.wenc_base.specs.FormLaws.{FormLaws}
 use Rattle.wenc_base.specs.Fault.{NoCause}
 use Rattle.wenc_base.specs.declared.fault.Fault.{Fault}
 use Rattle.wenc_base.specs.declared.fault.Fault.TheVariants.{Unfinished}
+use Rattle.wenc_base.specs.Readers.{Flaw, Bad, Reader, go_on, ◌>>=◌, give, times, pick, choose, all_read, done, made, Lawful, LawfulForm}
 use Rattle.wenc_base.specs.Piece.{Piece, Payload, Form, Spelling, Strict, Wide, nothing, byte, refused_for, ◌▸◌, also, or_widely, ◌⨾◌, only_where, each, all_of, end, raw, ◌⨾⨾◌}
 use Rattle.std.proofs.lemmas.List.{append-nil}
 
--- ---- readers
+-- ---- the laws of a piece that fills the bytes
 
-abbrev pub Reader : Type 0 → Type 0
-Reader A = List ℕ → Option (A × List ℕ)
-
-abbrev pub go_on : {A B : Type 0} → Option (A × List ℕ) → (A → List ℕ → Option B) → Option B
-go_on None next = None
-go_on (Some x) next = next x.0 x.1
-
-infixl 10 ◌>>=◌
-abbrev pub ◌>>=◌ : {A B : Type 0} → Reader A → (A → Reader B) → Reader B
-(read >>= next) bytes = go_on (read bytes) next
-
-abbrev pub give : {A : Type 0} → A → Reader A
-give v bytes = Some (v, bytes)
-
-abbrev pub nowhere : {A : Type 0} → Reader A
-nowhere bytes = None
-
-abbrev pub times : {A : Type 0} → Reader A → ℕ → Reader (List A)
-times read zero = give []
-times read (suc n) = read >>= λ v. times read n >>= λ vs. give (v ∷ vs)
-
--- the row of the first byte, or else the other reader, from that byte on
-abbrev pub pick : {A : Type 0} → List (ℕ × Reader A) → Reader A → ℕ → Reader A
-pick [] other b bytes = other (b ∷ bytes)
-pick (row ∷ table) other b bytes = elim (eqb b row.0) [ true ↦ row.1 bytes | false ↦ pick table other b bytes ]
-
--- A reader by the first byte. It stays shut, so that antt finds the table of a reader that is given.
-unfoldable pub choose : {A : Type 0} → List (ℕ × Reader A) → Reader A → Reader A
-choose table other [] = None
-choose table other (b ∷ bytes) = pick table other b bytes
-
--- ---- the laws
-
--- A reader takes how deep it may call itself. It finds v wherever the piece is.
--- What is read widely may be shorter than the text, so that only what is read strictly is sure to fit.
-pub record Lawful {A : Type 0} (p : Piece) (read : ℕ → Reader A) (v : A) : Type 0 where
-  pub text_is_read : (mode : Spelling) (rest : List ℕ) → p.Fits → p.Reads mode (p.text ++ rest) rest
-  pub strict_is_text : (bytes rest : List ℕ) → p.Reads Strict bytes rest → bytes ≡ p.text ++ rest
-  pub fits : (bytes rest : List ℕ) → p.Reads Strict bytes rest → p.Fits
-  pub free : p.Fits → NoCause p.Cause
-  pub never : p.Cause Unfinished → ⊥
-  pub depth : ℕ
-  pub finds : (fuel : ℕ) → depth ≤ fuel → (mode : Spelling) (bytes rest : List ℕ) → p.Reads mode bytes rest → read fuel bytes ≡ Some (v, rest)
-
-pub record LawfulWhole {A : Type 0} (w : Payload) (read : ℕ → List ℕ → Option A) (v : A) : Type 0 where
+pub record LawfulWhole {A : Type 0} (w : Payload) (read : ℕ → List ℕ → Result A Flaw) (v : A) : Type 0 where
   pub text_is_read : (mode : Spelling) → w.Fits → w.ReadsAll mode w.text
   pub strict_is_text : (bytes : List ℕ) → w.ReadsAll Strict bytes → bytes ≡ w.text
   pub fits : (bytes : List ℕ) → w.ReadsAll Strict bytes → w.Fits
   pub free : w.Fits → NoCause w.Cause
   pub never : w.Cause Unfinished → ⊥
   pub depth : ℕ
-  pub finds : (fuel : ℕ) → depth ≤ fuel → (mode : Spelling) (bytes : List ℕ) → w.ReadsAll mode bytes → read fuel bytes ≡ Some v
+  pub finds : (fuel : ℕ) → depth ≤ fuel → (mode : Spelling) (bytes : List ℕ) → w.ReadsAll mode bytes → read fuel bytes ≡ Ok v
 
 -- ---- what follows
+
+ok_or : {A : Type 0} → A → Result A Flaw → A
+ok_or d (Ok v) = v
+ok_or d (Err flaw) = d
+
+pub same_Ok : {A : Type 0} (x y : A) → ◌≡◌ {A = Result A Flaw} (Ok x) (Ok y) → x ≡ y
+unfolding ok_or
+same_Ok x y e = ap (ok_or x) e
+
+pub same_Ok_pair : {A B : Type 0} (v w : A) (r s : B) → ◌≡◌ {A = Result (A × B) Flaw} (Ok (v, r)) (Ok (w, s)) → (v ≡ w) × (r ≡ s)
+same_Ok_pair {A} {B} v w r s e = let same = same_Ok (v, r) (w, s) e in (ap (λ (x : A × B). x.0) same, ap (λ (x : A × B). x.1) same)
 
 -- two values that one reader finds
 pub reads_once : {A : Type 0} {p q : Piece} {read : ℕ → Reader A} {v w : A} → Lawful p read v → Lawful q read w
     → (mode other : Spelling) (bytes r s : List ℕ) → p.Reads mode bytes r → q.Reads other bytes s → (v ≡ w) × (r ≡ s)
 reads_once {v = v} {w = w} one two mode other bytes r s a b =
-    some_pair_parts v w r s (sym (one.finds (one.depth + two.depth) (omega arith) mode bytes r a) ∙ two.finds (one.depth + two.depth) (omega arith) other bytes s b)
+    same_Ok_pair v w r s (sym (one.finds (one.depth + two.depth) (omega arith) mode bytes r a) ∙ two.finds (one.depth + two.depth) (omega arith) other bytes s b)
 
 -- no text begins another
 pub delimited : {A : Type 0} {p q : Piece} {read : ℕ → Reader A} {v w : A} → Lawful p read v → Lawful q read w
@@ -79,10 +46,10 @@ delimited {p = p} {q = q} one two r s h k e =
     reads_once one two Strict Strict (p.text ++ r) r s (one.text_is_read Strict r h) (rw e (two.text_is_read Strict s k))
 
 -- two values that one reader finds in all of the bytes
-pub whole_once : {A : Type 0} {p q : Payload} {read : ℕ → List ℕ → Option A} {v w : A} → LawfulWhole p read v → LawfulWhole q read w
+pub whole_once : {A : Type 0} {p q : Payload} {read : ℕ → List ℕ → Result A Flaw} {v w : A} → LawfulWhole p read v → LawfulWhole q read w
     → (mode other : Spelling) (bytes : List ℕ) → p.ReadsAll mode bytes → q.ReadsAll other bytes → v ≡ w
 whole_once {v = v} {w = w} one two mode other bytes a b =
-    same_Some v w (sym (one.finds (one.depth + two.depth) (omega arith) mode bytes a) ∙ two.finds (one.depth + two.depth) (omega arith) other bytes b)
+    same_Ok v w (sym (one.finds (one.depth + two.depth) (omega arith) mode bytes a) ∙ two.finds (one.depth + two.depth) (omega arith) other bytes b)
 
 -- what is read strictly is read widely
 pub wide_reads_strict : {A : Type 0} {p : Piece} {read : ℕ → Reader A} {v : A} → Lawful p read v
@@ -90,15 +57,11 @@ pub wide_reads_strict : {A : Type 0} {p : Piece} {read : ℕ → Reader A} {v : 
 wide_reads_strict one bytes rest r = rw (one.strict_is_text bytes rest r) (one.text_is_read Wide rest (one.fits bytes rest r))
 
 -- the same of all of the bytes
-pub whole_wide_reads_strict : {A : Type 0} {w : Payload} {read : ℕ → List ℕ → Option A} {v : A} → LawfulWhole w read v
+pub whole_wide_reads_strict : {A : Type 0} {w : Payload} {read : ℕ → List ℕ → Result A Flaw} {v : A} → LawfulWhole w read v
     → (bytes : List ℕ) → w.ReadsAll Strict bytes → w.ReadsAll Wide bytes
 whole_wide_reads_strict one bytes r = rw (one.strict_is_text bytes r) (one.text_is_read Wide (one.fits bytes r))
 
 -- ---- the laws of a form
-
--- each value's piece is lawful, and the values share a reader
-abbrev pub LawfulForm : {A : Type 0} → Form A → (ℕ → Reader A) → Type 0
-LawfulForm {A} form read = (v : A) → Lawful (form v) read v
 
 -- they follow from the laws of each value
 pub form_laws : {A : Type 0} {form : Form A} {read : ℕ → Reader A} → LawfulForm form read → FormLaws form
@@ -126,7 +89,7 @@ nothing_lawful v = record {
 }
 
 -- a byte that a row has, and no more
-pub row_byte : {A : Type 0} {v : A} (table : ℕ → List (ℕ × Reader A)) (other : ℕ → Reader A) (b : ℕ) → ((fuel : ℕ) (rest : List ℕ) → pick (table fuel) (other fuel) b rest ≡ Some (v, rest)) → Lawful (byte b) (λ fuel. choose (table fuel) (other fuel)) v
+pub row_byte : {A : Type 0} {v : A} (table : ℕ → List (ℕ × Reader A)) (other : ℕ → Reader A) (b : ℕ) → ((fuel : ℕ) (rest : List ℕ) → pick (table fuel) (other fuel) b rest ≡ Ok (v, rest)) → Lawful (byte b) (λ fuel. choose (table fuel) (other fuel)) v
 unfolding choose
 row_byte table other b e = record {
   text_is_read = λ mode rest h. refl;
@@ -228,7 +191,7 @@ IsPast (row ∷ table) b = (b ≢ row.0) × IsPast table b
 other_than : (b c : ℕ) → b ≢ c → eqb b c ≡ false
 other_than b c h = grind (arith, nat_tests)
 
-pick_past : {A : Type 0} (table : List (ℕ × Reader A)) (other : Reader A) (b : ℕ) (bytes : List ℕ) → IsPast table b → pick table other b bytes ≡ other (b ∷ bytes)
+pub pick_past : {A : Type 0} (table : List (ℕ × Reader A)) (other : Reader A) (b : ℕ) (bytes : List ℕ) → IsPast table b → pick table other b bytes ≡ other (b ∷ bytes)
 pick_past [] other b bytes h = refl
 pick_past (row ∷ table) other b bytes h = rw (other_than b row.0 h.0, pick) (pick_past table other b bytes h.1)
 
@@ -305,20 +268,11 @@ deeper {p = p} {read = read} {v = v} a = record {
   finds = finds;
 }
   where
-    finds : (fuel : ℕ) → suc a.depth ≤ fuel → (mode : Spelling) (bytes rest : List ℕ) → p.Reads mode bytes rest → read fuel bytes ≡ Some (v, rest)
+    finds : (fuel : ℕ) → suc a.depth ≤ fuel → (mode : Spelling) (bytes rest : List ℕ) → p.Reads mode bytes rest → read fuel bytes ≡ Ok (v, rest)
     finds zero le mode bytes rest r = absurd (omega arith)
     finds (suc fuel) le mode bytes rest r = a.finds fuel (omega arith) mode bytes rest r
 
 -- ---- all of the bytes
-
--- what was found, where no byte is left
-abbrev pub all_read : {A : Type 0} → Option (A × List ℕ) → Option A
-all_read None = None
-all_read (Some (v, [])) = Some v
-all_read (Some (v, b ∷ rest)) = None
-
-abbrev pub done : {A : Type 0} → Reader A → List ℕ → Option A
-done read bytes = all_read (read bytes)
 
 pub whole_lawful : {A : Type 0} {p : Piece} {read : ℕ → Reader A} {v : A} → Lawful p read v → LawfulWhole (all_of p) (λ fuel. done (read fuel)) v
 whole_lawful {p = p} a = record {
@@ -333,7 +287,7 @@ whole_lawful {p = p} a = record {
 
 -- any bytes of which P holds, as is tested
 pub raw_lawful : {A : Type 0} (P : List ℕ → Type 0) (is_so : List ℕ → Bool) (bs : List ℕ) (make : List ℕ → A) → (P bs → is_so bs ≡ true)
-    → LawfulWhole (raw P bs) (λ fuel bytes. cond (is_so bytes) (Some (make bytes)) None) (make bs)
+    → LawfulWhole (raw P bs) (λ fuel bytes. cond (is_so bytes) (Ok (make bytes)) (Err Bad)) (make bs)
 raw_lawful P is_so bs make test = record {
   text_is_read = λ mode h. (h, refl);
   strict_is_text = λ bytes r. r.1;
@@ -344,7 +298,7 @@ raw_lawful P is_so bs make test = record {
   finds = λ fuel le mode bytes r. rw (r.1, test r.0) refl;
 }
 
-pub then_whole : {A B : Type 0} {p : Piece} {q : Payload} {read : ℕ → Reader A} {v : A} (next : ℕ → A → List ℕ → Option B) {w : B} → Lawful p read v → LawfulWhole q (λ fuel. next fuel v) w → LawfulWhole (p ⨾⨾ q) (λ fuel bytes. go_on (read fuel bytes) (next fuel)) w
+pub then_whole : {A B : Type 0} {p : Piece} {q : Payload} {read : ℕ → Reader A} {v : A} (next : ℕ → A → List ℕ → Result B Flaw) {w : B} → Lawful p read v → LawfulWhole q (λ fuel. next fuel v) w → LawfulWhole (p ⨾⨾ q) (λ fuel bytes. go_on (read fuel bytes) (next fuel)) w
 then_whole {p = p} {q = q} next a b = record {
   text_is_read = λ mode h. (q.text, a.text_is_read mode q.text h.0, b.text_is_read mode h.1);
   strict_is_text = λ bytes r. a.strict_is_text bytes r.0 r.1 ∙ ap (λ (t : List ℕ). p.text ++ t) (b.strict_is_text r.0 r.2);
@@ -355,11 +309,7 @@ then_whole {p = p} {q = q} next a b = record {
   finds = λ fuel le mode bytes r. rw (a.finds fuel (omega arith) mode bytes r.0 r.1) (b.finds fuel (omega arith) mode r.0 r.2);
 }
 
-abbrev pub made : {A B : Type 0} → (A → B) → Option A → Option B
-made make None = None
-made make (Some v) = Some (make v)
-
-pub last_whole : {A B : Type 0} {w : Payload} {read : ℕ → List ℕ → Option A} {v : A} (make : A → B) → LawfulWhole w read v → LawfulWhole w (λ fuel bytes. made make (read fuel bytes)) (make v)
+pub last_whole : {A B : Type 0} {w : Payload} {read : ℕ → List ℕ → Result A Flaw} {v : A} (make : A → B) → LawfulWhole w read v → LawfulWhole w (λ fuel bytes. made make (read fuel bytes)) (make v)
 last_whole make a = record {
   text_is_read = a.text_is_read;
   strict_is_text = a.strict_is_text;
@@ -373,11 +323,11 @@ last_whole make a = record {
 -- ---- up to the end
 
 -- What is made where no byte is left, or else of what is read next. It stays shut, as `choose` does.
-unfoldable pub to_end : {A B : Type 0} → B → Reader A → (A → List ℕ → Option B) → List ℕ → Option B
-to_end none read next [] = Some none
+unfoldable pub to_end : {A B : Type 0} → B → Reader A → (A → List ℕ → Result B Flaw) → List ℕ → Result B Flaw
+to_end none read next [] = Ok none
 to_end none read next (b ∷ bytes) = go_on (read (b ∷ bytes)) next
 
-pub at_end : {A B : Type 0} (none : B) (read : ℕ → Reader A) (next : ℕ → A → List ℕ → Option B) → LawfulWhole end (λ fuel. to_end none (read fuel) (next fuel)) none
+pub at_end : {A B : Type 0} (none : B) (read : ℕ → Reader A) (next : ℕ → A → List ℕ → Result B Flaw) → LawfulWhole end (λ fuel. to_end none (read fuel) (next fuel)) none
 unfolding to_end
 at_end none read next = record {
   text_is_read = λ mode h. refl;
@@ -389,13 +339,13 @@ at_end none read next = record {
   finds = λ fuel le mode bytes r. rw r refl;
 }
 
-some_left : {A B : Type 0} (none : B) (read : Reader A) (next : A → List ℕ → Option B) (bytes : List ℕ) (x : A × List ℕ) → read [] ≡ None → read bytes ≡ Some x → to_end none read next bytes ≡ go_on (read bytes) next
+some_left : {A B : Type 0} (none : B) (read : Reader A) (next : A → List ℕ → Result B Flaw) (bytes : List ℕ) (x : A × List ℕ) → read [] ≡ Err Bad → read bytes ≡ Ok x → to_end none read next bytes ≡ go_on (read bytes) next
 unfolding to_end
 some_left none read next [] x nowhere found = absurd cc
 some_left none read next (b ∷ bytes) x nowhere found = refl
 
-pub before_end : {A B : Type 0} {p : Piece} {q : Payload} {v : A} {w : B} (none : B) (read : ℕ → Reader A) (next : ℕ → A → List ℕ → Option B)
-    → ((fuel : ℕ) → read fuel [] ≡ None) → Lawful p read v → LawfulWhole q (λ fuel. next fuel v) w → LawfulWhole (p ⨾⨾ q) (λ fuel. to_end none (read fuel) (next fuel)) w
+pub before_end : {A B : Type 0} {p : Piece} {q : Payload} {v : A} {w : B} (none : B) (read : ℕ → Reader A) (next : ℕ → A → List ℕ → Result B Flaw)
+    → ((fuel : ℕ) → read fuel [] ≡ Err Bad) → Lawful p read v → LawfulWhole q (λ fuel. next fuel v) w → LawfulWhole (p ⨾⨾ q) (λ fuel. to_end none (read fuel) (next fuel)) w
 before_end {v = v} none read next some a b =
     let l = then_whole next a b in
     record {
@@ -408,7 +358,7 @@ before_end {v = v} none read next some a b =
       finds = λ fuel le mode bytes r. some_left none (read fuel) (next fuel) bytes (v, r.0) (some fuel) (a.finds fuel (omega arith) mode bytes r.0 r.1) ∙ l.finds fuel (omega arith) mode bytes r;
     }
 
-pub deeper_whole : {A : Type 0} {p : Payload} {read : ℕ → List ℕ → Option A} {v : A} → LawfulWhole p (λ fuel. read (suc fuel)) v → LawfulWhole p read v
+pub deeper_whole : {A : Type 0} {p : Payload} {read : ℕ → List ℕ → Result A Flaw} {v : A} → LawfulWhole p (λ fuel. read (suc fuel)) v → LawfulWhole p read v
 deeper_whole {p = p} {read = read} {v = v} a = record {
   text_is_read = a.text_is_read;
   strict_is_text = a.strict_is_text;
@@ -419,6 +369,6 @@ deeper_whole {p = p} {read = read} {v = v} a = record {
   finds = finds;
 }
   where
-    finds : (fuel : ℕ) → suc a.depth ≤ fuel → (mode : Spelling) (bytes : List ℕ) → p.ReadsAll mode bytes → read fuel bytes ≡ Some v
+    finds : (fuel : ℕ) → suc a.depth ≤ fuel → (mode : Spelling) (bytes : List ℕ) → p.ReadsAll mode bytes → read fuel bytes ≡ Ok v
     finds zero le mode bytes r = absurd (omega arith)
     finds (suc fuel) le mode bytes r = a.finds fuel (omega arith) mode bytes r

@@ -1,5 +1,5 @@
 -- The laws of the forms of numbers.
-use Rattle.std.proofs.Common.{◌≡◌, ℕ, ℤ, pos, negsuc, zero, suc, ◌+◌, ◌*◌, ◌/◌, ◌%◌, ◌-◌, ◌^◌, ◌<◌, ◌≤◌, cond, ltb, List, [], ◌∷◌, ◌++◌, map, Option, Some, None, refl, ap, ◌∙◌, arith, inl, inr}
+use Rattle.std.proofs.Common.{◌≡◌, ℕ, ℤ, pos, negsuc, zero, suc, ◌+◌, ◌*◌, ◌/◌, ◌%◌, ◌-◌, ◌^◌, ◌<◌, ◌≤◌, cond, ltb, List, [], ◌∷◌, ◌++◌, map, Result, Ok, Err, refl, ap, ◌∙◌, arith, inl, inr}
 use Rattle.std.specs.Prelude.{if◌then◌else◌, nat_lt}
 use Rattle.std.proofs.lemmas.Bool.{cases_lt, le-ltb, lt-ltb}
 use Rattle.wenc_base.specs.Piece.{Piece, Spelling, Strict, Wide}
@@ -7,8 +7,9 @@ use Rattle.wenc_base.specs.Number.{groups, MayGoOn, complement, ReadsGroups, las
 use Rattle.wenc_base.specs.laws.Groups.{limit, groups_below, groups_from}
 use Rattle.wenc_base.specs.Fault.{NoCause, count_cause, size_cause}
 use Rattle.wenc_base.specs.declared.fault.Fault.TheVariants.{Memory, TooMany, TooLarge, Unfinished}
-use Rattle.wenc_base.specs.laws.Lawful.{Lawful, Reader, Starts, refused_lawful}
-use Rattle.wenc_base.specs.laws.Sound.{Then, Sound}
+use Rattle.wenc_base.specs.Readers.{Flaw, Bad, Deep, Lawful, Reader}
+use Rattle.wenc_base.specs.laws.Lawful.{Starts, refused_lawful}
+use Rattle.wenc_base.specs.laws.Sound.{Told, Sound}
 use Rattle.std.proofs.lemmas.List.{append-nil}
 
 may_go_on : (mode : Spelling) (top n : ℕ) → top ≤ n → MayGoOn mode top n
@@ -45,19 +46,19 @@ strict_groups top _ n _ rest (more {room = room} {b = b} {high = high} {bytes = 
     rw (groups_from top room n on, head, tail) (ap (λ (t : List ℕ). b ∷ t) (strict_groups top room high bytes rest r))
 
 -- a byte from 128 on in front of what was found behind it, where the number is below `bound`
-abbrev pub raised : ℕ → ℕ → Option (ℕ × List ℕ) → Option (ℕ × List ℕ)
-raised bound b None = None
-raised bound b (Some x) = if nat_lt (b - 128 + 128 * x.0) bound then Some (b - 128 + 128 * x.0, x.1) else None
+abbrev pub raised : ℕ → ℕ → Result (ℕ × List ℕ) Flaw → Result (ℕ × List ℕ) Flaw
+raised bound b (Ok x) = if nat_lt (b - 128 + 128 * x.0) bound then Ok (b - 128 + 128 * x.0, x.1) else Err Bad
+raised bound b (Err flaw) = Err flaw
 
 -- Reads groups up to the last, which is below `top`. At most `room` bytes come before it.
 unfoldable pub read_groups : ℕ → ℕ → ℕ → Reader ℕ
-read_groups top bound room [] = None
-read_groups top bound zero (b ∷ bytes) = if nat_lt b top then Some (b, bytes) else None
+read_groups top bound room [] = Err Bad
+read_groups top bound zero (b ∷ bytes) = if nat_lt b top then Ok (b, bytes) else Err Bad
 read_groups top bound (suc room) (b ∷ bytes) =
-    if nat_lt b top then Some (b, bytes) else if nat_lt b 128 then None else if nat_lt b 256 then raised bound b (read_groups top bound room bytes) else None
+    if nat_lt b top then Ok (b, bytes) else if nat_lt b 128 then Err Bad else if nat_lt b 256 then raised bound b (read_groups top bound room bytes) else Err Bad
 
 -- it finds the number
-pub groups_are_read : (mode : Spelling) (top bound room n : ℕ) (bytes rest : List ℕ) → top ≤ 128 → n < bound → ReadsGroups mode top room n bytes rest → read_groups top bound room bytes ≡ Some (n, rest)
+pub groups_are_read : (mode : Spelling) (top bound room n : ℕ) (bytes rest : List ℕ) → top ≤ 128 → n < bound → ReadsGroups mode top room n bytes rest → read_groups top bound room bytes ≡ Ok (n, rest)
 unfolding read_groups
 groups_are_read mode top bound zero n bytes rest small below (last lt) = rw (lt-ltb n top lt) refl
 groups_are_read mode top bound (suc room) n bytes rest small below (last lt) = rw (lt-ltb n top lt) refl
@@ -66,18 +67,19 @@ groups_are_read mode top bound _ n _ rest small below (more {room = room} {b = b
     rw (le-ltb b top (omega arith), le-ltb b 128 low, lt-ltb b 256 byte, groups_are_read mode top bound room high bytes rest small (omega arith) r, value, lt-ltb n bound below) refl
 
 -- What it finds is read: a number below the bound.
-abbrev Found : ℕ → ℕ → ℕ → List ℕ → ℕ → List ℕ → Type 0
-Found top bound room bytes n rest = (n < bound) × ReadsGroups Wide top room n bytes rest
+abbrev Found : ℕ → ℕ → ℕ → List ℕ → ℕ × List ℕ → Type 0
+Found top bound room bytes x = (x.0 < bound) × ReadsGroups Wide top room x.0 bytes x.1
 
-raised_sound : (top bound room b : ℕ) (bytes : List ℕ) (found : Option (ℕ × List ℕ)) → 128 ≤ b → b < 256 → Then (Found top bound room bytes) found → Then (Found top bound (suc room) (b ∷ bytes)) (raised bound b found)
-raised_sound top bound room b bytes None low high h = tt
-raised_sound top bound room b bytes (Some x) low high h =
+raised_sound : (top bound room b : ℕ) (bytes : List ℕ) (found : Result (ℕ × List ℕ) Flaw) → 128 ≤ b → b < 256 → Told (Found top bound room bytes) ⊥ found → Told (Found top bound (suc room) (b ∷ bytes)) ⊥ (raised bound b found)
+raised_sound top bound room b bytes (Err Bad) low high h = tt
+raised_sound top bound room b bytes (Err Deep) low high h = h
+raised_sound top bound room b bytes (Ok x) low high h =
     elim (cases_lt (b - 128 + 128 * x.0) bound) [
       | inl lt ↦ rw (lt-ltb (b - 128 + 128 * x.0) bound lt, cond) (lt, more {n = b - 128 + 128 * x.0} {b = b} {high = x.0} low high tt (omega arith) h.1)
       | inr ge ↦ rw (le-ltb (b - 128 + 128 * x.0) bound ge, cond) tt
     ]
 
-groups_sound : (top bound room : ℕ) (bytes : List ℕ) → top ≤ bound → Then (Found top bound room bytes) (read_groups top bound room bytes)
+groups_sound : (top bound room : ℕ) (bytes : List ℕ) → top ≤ bound → Told (Found top bound room bytes) ⊥ (read_groups top bound room bytes)
 unfolding read_groups
 groups_sound top bound zero [] le = tt
 groups_sound top bound (suc room) [] le = tt
@@ -157,7 +159,7 @@ pub size_lawful : (n : ℕ) → Lawful (size n) (λ fuel. read_u32) n
 size_lawful n = refused_lawful (size_cause n) (u32_lawful n) (size_free n) (λ c. c)
 
 pub u32_sound : Sound u32 read_u32
-u32_sound = record { reads = λ bytes. groups_sound 128 (2 ^ 32) 4 bytes (omega arith) }
+u32_sound = record { tells = λ bytes. groups_sound 128 (2 ^ 32) 4 bytes (omega arith) }
 
 abbrev pub read_u64 : Reader ℕ
 read_u64 = read_groups 128 (2 ^ 64) 9
@@ -166,7 +168,7 @@ pub u64_lawful : (n : ℕ) → Lawful (u64 n) (λ fuel. read_u64) n
 u64_lawful n = number_lawful 128 9 9 (2 ^ 64) n (omega arith) (omega arith) (omega arith)
 
 pub u64_sound : Sound u64 read_u64
-u64_sound = record { reads = λ bytes. groups_sound 128 (2 ^ 64) 9 bytes (omega arith) }
+u64_sound = record { tells = λ bytes. groups_sound 128 (2 ^ 64) 9 bytes (omega arith) }
 
 abbrev pub read_index : Reader ℕ
 read_index = read_groups 64 (2 ^ 32) 4
@@ -175,7 +177,7 @@ pub index_lawful : (n : ℕ) → Lawful (index n) (λ fuel. read_index) n
 index_lawful n = number_lawful 64 4 9 (2 ^ 32) n (omega arith) (omega arith) (omega arith)
 
 pub index_sound : Sound index read_index
-index_sound = record { reads = λ bytes. groups_sound 64 (2 ^ 32) 4 bytes (omega arith) }
+index_sound = record { tells = λ bytes. groups_sound 64 (2 ^ 32) 4 bytes (omega arith) }
 
 -- an index begins with a byte below 64 or from 128 on
 pub index_starts : (P : ℕ → Type 0) → ((b : ℕ) → b < 64 → P b) → ((b : ℕ) → 128 ≤ b → P b) → (n : ℕ) → Starts (index n) P
@@ -191,17 +193,17 @@ abbrev lower : ℕ → ℤ → ℤ
 lower b (pos high) = pos (b - 128 + 128 * high)
 lower b (negsuc high) = negsuc (255 - b + 128 * high)
 
-lowered : ℕ → Option (ℤ × List ℕ) → Option (ℤ × List ℕ)
-lowered b None = None
-lowered b (Some x) = Some (lower b x.0, x.1)
+lowered : ℕ → Result (ℤ × List ℕ) Flaw → Result (ℤ × List ℕ) Flaw
+lowered b (Ok x) = Ok (lower b x.0, x.1)
+lowered b (Err flaw) = Err flaw
 
 -- reads groups up to the last, whose bit 6 says whether the number is negative
 pub read_signed : Reader ℤ
-read_signed [] = None
-read_signed (b ∷ bytes) = cond (ltb b 64) (Some (pos b, bytes)) (cond (ltb b 128) (Some (negsuc (127 - b), bytes)) (lowered b (read_signed bytes)))
+read_signed [] = Err Bad
+read_signed (b ∷ bytes) = cond (ltb b 64) (Ok (pos b, bytes)) (cond (ltb b 128) (Ok (negsuc (127 - b), bytes)) (lowered b (read_signed bytes)))
 
 -- it finds a number from 0 on
-pos_is_read : (room n : ℕ) (bytes rest : List ℕ) → ReadsGroups Strict 64 room n bytes rest → read_signed bytes ≡ Some (pos n, rest)
+pos_is_read : (room n : ℕ) (bytes rest : List ℕ) → ReadsGroups Strict 64 room n bytes rest → read_signed bytes ≡ Ok (pos n, rest)
 unfolding read_signed lowered
 pos_is_read room n bytes rest (last lt) = rw (lt-ltb n 64 lt) refl
 pos_is_read _ n _ rest (more {room = room} {b = b} {high = high} {bytes = bytes} low byte on sum r) =
@@ -210,7 +212,7 @@ pos_is_read _ n _ rest (more {room = room} {b = b} {high = high} {bytes = bytes}
 
 -- and a number below 0, where the groups are turned over, and those behind them
 negsuc_is_read : (room n : ℕ) (front behind rest : List ℕ) → ReadsGroups Strict 64 room n front behind
-    → read_signed (map complement front ++ rest) ≡ Some (negsuc n, map complement behind ++ rest)
+    → read_signed (map complement front ++ rest) ≡ Ok (negsuc n, map complement behind ++ rest)
 unfolding read_signed lowered
 negsuc_is_read room n front behind rest (last lt) =
     let value : 127 - (127 - n) ≡ n = omega arith in

@@ -2,7 +2,8 @@
 use Rattle.std.proofs.Common.{ℕ, List, refl}
 use Rattle.wenc_base.specs.Piece.{Wide, raw, ◌⨾⨾◌}
 use Rattle.wenc_base.specs.Forms.{name, AreBytes}
-use Rattle.wenc_base.specs.laws.Lawful.{Lawful, Reader, ◌>>=◌, give, done, go_on, then, last, then_whole, whole_lawful}
+use Rattle.wenc_base.specs.Readers.{Lawful, Reader, ◌>>=◌, give, go_on, done}
+use Rattle.wenc_base.specs.laws.Lawful.{then, last, then_whole, whole_lawful}
 use Rattle.wenc_base.specs.laws.Forms.{read_name, name_lawful, name_sound, read_list, list_lawful, read_sized, sized_lawful, sized_sound, read_bytes, bytes_lawful, bytes_sound}
 use Rattle.wenc_base.specs.laws.Sound.{Sound, then_whole_sound}
 use Rattle.wenc_base.specs.Custom.{Custom, custom}

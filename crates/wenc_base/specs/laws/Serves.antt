@@ -52,16 +52,14 @@ first_among {one} {next} {one'} {next'} a b = (there, free)
     free none fault (inr c) = b.1 (λ f k. none f (inr ((λ g l. none g (inl l)), k))) fault c
 
 -- or of two whose order is turned
-pub turned_among : {one next one' next' : Fault → Type 0} → IsAmong one one' → IsAmong next next' → IsAmong (first_of one next) (either next' one')
-turned_among {one} {next} {one'} {next'} a b = (there, free)
-  where
-    there : (fault : Fault) → first_of one next fault → either next' one' fault
-    there fault (inl c) = inr (a.0 fault c)
-    there fault (inr c) = inl (b.0 fault c.1)
+swapped : (one other : Fault → Type 0) (fault : Fault) → either one other fault → either other one fault
+swapped one other fault (inl c) = inr c
+swapped one other fault (inr c) = inl c
 
-    free : NoCause (first_of one next) → NoCause (either next' one')
-    free none fault (inr c) = a.1 (λ f k. none f (inl k)) fault c
-    free none fault (inl c) = b.1 (λ f k. none f (inr ((λ g l. none g (inl l)), k))) fault c
+pub turned_among : {one next one' next' : Fault → Type 0} → IsAmong one one' → IsAmong next next' → IsAmong (first_of one next) (either next' one')
+turned_among {one' = one'} {next' = next'} a b =
+    let f = first_among a b in
+    ((λ fault c. swapped one' next' fault (f.0 fault c)), λ none fault c. f.1 none fault (swapped next' one' fault c))
 
 -- one of two
 pub both_among : {one next one' next' : Fault → Type 0} → IsAmong one one' → IsAmong next next' → IsAmong (either one next) (either one' next')
@@ -138,6 +136,13 @@ pub order_serves : {p q p' q' : Piece} → Serves p p' → Serves q q' → Serve
 order_serves {p} {q} {p'} {q'} a b =
     let c : IsAmong (first_of p.Cause q.Cause) (either p'.Cause q'.Cause) = first_among (a.among, a.free) (b.among, b.free) in
     record { text = rw (a.text, b.text) refl; fits = λ h. (a.fits h.0, b.fits h.1); among = c.0; free = c.1 }
+
+-- two pieces, and three, whichever refusal is met first
+pub two_serve : (p q : Piece) → Serves (in_order p q) (p ⨾ q)
+two_serve p q = order_serves (serves_itself {p = p}) (serves_itself {p = q})
+
+pub three_serve : (p q r : Piece) → Serves (in_order p (in_order q r)) (p ⨾ q ⨾ r)
+three_serve p q r = order_serves (serves_itself {p = p}) (two_serve q r)
 
 pub sized_serves : {p q : Piece} → Serves p q → Serves (sized_in_order p) (sized (all_of q))
 sized_serves {p} {q} a =

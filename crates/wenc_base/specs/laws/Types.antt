@@ -1,8 +1,9 @@
 -- The laws of value types of core modules.
 use Rattle.std.proofs.Common.{ℕ, Bool, true, false, List, [], ◌∷◌, ◌++◌, refl, arith, inl, inr}
 use Rattle.wenc_base.specs.Piece.{Form, Wide, ◌▸◌}
-use Rattle.wenc_base.specs.laws.Sound.{Sound, RowsAreSound, both_tables, given_rows, give_sound, last_sound, nowhere_sound, choose_sound}
-use Rattle.wenc_base.specs.laws.Lawful.{Lawful, Reader, ◌>>=◌, give, nowhere, choose, row_lawful, row_byte, or_widely_lawful, past, last}
+use Rattle.wenc_base.specs.laws.Sound.{Sound, RowsAreSound, both_tables, given_rows, give_tells, last_tells, nowhere_tells, choose_tells}
+use Rattle.wenc_base.specs.Readers.{Lawful, Reader, ◌>>=◌, give, nowhere, choose}
+use Rattle.wenc_base.specs.laws.Lawful.{row_lawful, row_byte, or_widely_lawful, past, last}
 use Rattle.wenc_base.specs.laws.Numbers.{read_index, index_lawful, index_sound, index_starts}
 use Rattle.wenc_base.specs.declared.types.ValType.{ValType}
 use Rattle.wenc_base.specs.declared.types.ValType.TheVariants.{I32, I64, F32, F64, V128, Ref}
@@ -58,7 +59,7 @@ pub abstract_type_lawful : (t : AbstractHeapType) → Lawful (abstract_type t) (
 abstract_type_lawful t = abstract_row (λ u. u) (λ fuel. []) _ t
 
 pub abstract_type_sound : Sound abstract_type read_abstract
-abstract_type_sound = choose_sound _ _ (abstract_rows_sound abstract_type (λ t. t) (λ t rest. refl)) nowhere_sound
+abstract_type_sound = choose_tells _ _ (abstract_rows_sound abstract_type (λ t. t) (λ t rest. refl)) nowhere_tells
 
 abbrev pub read_heap_type : Reader HeapType
 read_heap_type = choose (abstract_rows Abstract) (read_index >>= λ n. give (Concrete n))
@@ -68,7 +69,7 @@ heap_type_lawful (Abstract t) = abstract_row Abstract (λ fuel. []) _ t
 heap_type_lawful (Concrete n) = past _ _ (λ fuel. index_starts _ (λ b lt. omega arith) (λ b le. omega arith) n) (last Concrete (index_lawful n))
 
 pub heap_type_sound : Sound heap_type read_heap_type
-heap_type_sound = choose_sound _ _ (abstract_rows_sound heap_type Abstract (λ t rest. refl)) (last_sound Concrete index_sound (λ n bytes rest r. r))
+heap_type_sound = choose_tells _ _ (abstract_rows_sound heap_type Abstract (λ t rest. refl)) (last_tells Concrete index_sound (λ n bytes rest r. r))
 
 abbrev pub to : Bool → HeapType → RefType
 to nullable heap_type = record { nullable = nullable; heap_type = heap_type }
@@ -112,8 +113,8 @@ long_nullable (Concrete n) bytes rest r = (bytes, refl, r)
 -- each row of a table of references
 pub reference_rows_sound : {A : Type 0} (form : Form A) (make : RefType → A) → ((r : RefType) (bytes rest : List ℕ) → (reference r).Reads Wide bytes rest → (form (make r)).Reads Wide bytes rest) → RowsAreSound form (reference_rows make)
 reference_rows_sound form make k = both_tables form (abstract_rows (λ t. make (to true (Abstract t)))) (long_rows make) (abstract_rows_sound form (λ t. make (to true (Abstract t))) (λ t rest. k (to true (Abstract t)) _ rest (short_nullable t rest))) (
-  last_sound (λ h. make (to true h)) heap_type_sound (λ h bytes rest r. k (to true h) _ rest (long_nullable h bytes rest r)),
-  (last_sound (λ h. make (to false h)) heap_type_sound (λ h bytes rest r. k (to false h) _ rest (bytes, refl, r)), tt),
+  last_tells (λ h. make (to true h)) heap_type_sound (λ h bytes rest r. k (to true h) _ rest (long_nullable h bytes rest r)),
+  (last_tells (λ h. make (to false h)) heap_type_sound (λ h bytes rest r. k (to false h) _ rest (bytes, refl, r)), tt),
 )
 
 abbrev pub read_reference : Reader RefType
@@ -123,9 +124,9 @@ pub reference_lawful : (r : RefType) → Lawful (reference r) (λ fuel. read_ref
 reference_lawful r = reference_row (λ s. s) (λ fuel. []) _ r.nullable r.heap_type
 
 pub reference_sound : Sound reference read_reference
-reference_sound = choose_sound _ _ (reference_rows_sound reference (λ r. r) (λ r bytes rest h. h)) nowhere_sound
+reference_sound = choose_tells _ _ (reference_rows_sound reference (λ r. r) (λ r bytes rest h. h)) nowhere_tells
 
-abbrev number_rows : {A : Type 0} → (ValType → A) → List (ℕ × Reader A)
+abbrev pub number_rows : {A : Type 0} → (ValType → A) → List (ℕ × Reader A)
 number_rows make =
     (0x7f, give (make I32)) ∷
     (0x7e, give (make I64)) ∷
@@ -155,9 +156,9 @@ val_type_lawful t = val_type_row (λ u. u) (λ fuel. []) _ t
 -- each row of a table of value types
 pub val_type_rows_sound : {A : Type 0} (form : Form A) (make : ValType → A) → ((t : ValType) (bytes rest : List ℕ) → (val_type t).Reads Wide bytes rest → (form (make t)).Reads Wide bytes rest) → RowsAreSound form (val_type_rows make)
 val_type_rows_sound form make k = both_tables form (reference_rows (λ r. make (Ref r))) (number_rows make) (reference_rows_sound form (λ r. make (Ref r)) (λ r. k (Ref r))) (
-  give_sound _ (λ bytes. k I32 _ bytes refl),
-  (give_sound _ (λ bytes. k I64 _ bytes refl), (give_sound _ (λ bytes. k F32 _ bytes refl), (give_sound _ (λ bytes. k F64 _ bytes refl), (give_sound _ (λ bytes. k V128 _ bytes refl), tt)))),
+  give_tells _ (λ bytes. k I32 _ bytes refl),
+  (give_tells _ (λ bytes. k I64 _ bytes refl), (give_tells _ (λ bytes. k F32 _ bytes refl), (give_tells _ (λ bytes. k F64 _ bytes refl), (give_tells _ (λ bytes. k V128 _ bytes refl), tt)))),
 )
 
 pub val_type_sound : Sound val_type read_val_type
-val_type_sound = choose_sound _ _ (val_type_rows_sound val_type (λ t. t) (λ t bytes rest r. r)) nowhere_sound
+val_type_sound = choose_tells _ _ (val_type_rows_sound val_type (λ t. t) (λ t bytes rest r. r)) nowhere_tells

@@ -69,9 +69,9 @@ impl<A: Allocator> FuncType<A> {
 
 /// As a composite type.
 impl<A: Allocator> Encode for FuncType<A> {
-    ghost use Rattle.wenc_base.specs.Composites.{composite_type, function_view};
+    ghost use Rattle.wenc_base.specs.Composites.{composite_type, func_type_view};
 
-    ghost piece = { λ f. composite_type (function_view f) };
+    ghost piece = { λ f. composite_type (func_type_view f) };
 
     fn encode<B: Allocator>(&self, sink: &mut Vec<u8, B>) -> Result<(), Fault> {
         Tagged(0x60, &(self.params(), self.results())).encode(sink)
@@ -79,12 +79,12 @@ impl<A: Allocator> Encode for FuncType<A> {
 }
 
 impl<A: Allocator> Delimited for FuncType<A> {
-    ghost use Rattle.wenc_base.specs.Composites.{Composite, composite_type, function_view};
+    ghost use Rattle.wenc_base.specs.Composites.{Composite, composite_type, func_type_view};
     ghost use Rattle.wenc_base.specs.laws.Composites.{read_composite, composite_type_lawful};
 
     ghost Seen = { Composite };
 
-    ghost seen = { function_view };
+    ghost seen = { func_type_view };
 
     ghost form = { composite_type };
 

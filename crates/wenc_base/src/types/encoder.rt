@@ -1,6 +1,6 @@
 ghost use Rattle.std.specs.Iterator.{IsFinite};
 ghost use Rattle.std.specs.Prelude.{◌≡◌, true, false, map};
-ghost use Rattle.wenc_base.specs.Composites.{RecType, Single, Rec, Struct, Array, composite_type, function_view, sub_view, rec_type, rec_type_view, standing};
+ghost use Rattle.wenc_base.specs.Composites.{RecType, Single, Rec, Struct, Array, composite_type, func_type_view, sub_view, rec_type, rec_type_view, standing};
 ghost use Rattle.wenc_base.specs.Forms.{list};
 ghost use Rattle.wenc_base.specs.Lender.{Ends, EndsListed, EndsLists, MakesWhole};
 ghost use Rattle.wenc_base.specs.Piece.{◌▸◌};
@@ -68,7 +68,7 @@ impl<'a, L: Lender> CoreTypeEncoder<'a, L> {
     /// This function type, which is final.
     pub fn func_type<A: Allocator>(self, ty: &FuncType<A>) -> Result<(), Fault>
         ensures { Ends L.appended L.ended L.refuses self.entry.lender.now self.exit.0.now result
-            (composite_type (function_view ty.now)) }
+            (composite_type (func_type_view ty.now)) }
     {
         self.lender.end_with(ty)
     }

@@ -7,7 +7,7 @@ ghost use Rattle.wenc_base.specs.laws.Serves.{serves_itself};
 
 use super::composite::CompositeType;
 use crate::delimited::{Delimited, DelimitedEq};
-use crate::encode::{Encode, ByRef, Tagged};
+use crate::encode::{ByRef, Encode, Tagged};
 use crate::fault::Fault;
 use std::alloc::{Allocator, Global};
 

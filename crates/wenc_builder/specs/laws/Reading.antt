@@ -1,12 +1,13 @@
 -- Why the bytes of a component have one reading.
-use Rattle.std.proofs.Common.{◌≡◌, ◌↔◌, ◌⊎◌, ℕ, zero, suc, false, true≢false, List, [], ◌∷◌, Option, Some, None, refl, sym, ap, ◌∙◌, inl, inr}
+use Rattle.std.proofs.Common.{◌≡◌, ◌↔◌, ◌⊎◌, ℕ, zero, suc, false, true≢false, List, [], ◌∷◌, Option, Some, None, Result, Err, refl, sym, ap, ◌∙◌, inl, inr}
 use Rattle.std.proofs.lemmas.Bool.Decides.{eqb_tells}
 use Rattle.std.proofs.lemmas.Option.{same_Some}
 use Rattle.std.specs.List.{flat_map}
 use Rattle.std.specs.Prelude.{IsTrue}
 use Rattle.wenc_base.specs.Piece.{Piece, Spelling, Strict, only_where, ReadsEach}
 use Rattle.wenc_base.specs.laws.Forms.{read_byte_list, byte_list_lawful, read_counted, counted_lawful}
-use Rattle.wenc_base.specs.laws.Lawful.{Lawful, LawfulWhole, Reader, go_on, ◌>>=◌, give, nowhere, pick, choose, row_lawful, row_byte, IsPast, Starts, past, last, only_where_lawful, then_whole, made, last_whole, to_end, at_end, before_end, deeper_whole, whole_once}
+use Rattle.wenc_base.specs.Readers.{Flaw, Bad, Lawful, Reader, go_on, ◌>>=◌, give, nowhere, pick, choose, made}
+use Rattle.wenc_base.specs.laws.Lawful.{LawfulWhole, row_lawful, row_byte, IsPast, Starts, past, last, only_where_lawful, then_whole, last_whole, to_end, at_end, before_end, deeper_whole, whole_once}
 use Rattle.wenc_base.specs.laws.Sections.{read_custom, custom_lawful}
 use Rattle.wenc_builder.specs.Item.{Item, ModuleItem, CoreInstanceItem, CoreTypeItem, ComponentItem, InstanceItem, AliasItem, TypeItem, CanonItem, StartItem, ImportItem, ExportItem, CustomItem, RawItem, collected, item}
 use Rattle.wenc_base.specs.declared.fault.Fault.TheVariants.{Unfinished}
@@ -83,7 +84,7 @@ alone_rows =
 
 -- an id, then its items
 abbrev read_run : ℕ → Reader Section
-read_run fuel [] = None
+read_run fuel [] = Err Bad
 read_run fuel (id ∷ bytes) = (read_counted (read_item id fuel) >>= λ xs. give (Run id xs)) bytes
 
 -- a section, by its id
@@ -115,16 +116,16 @@ section_piece_lawful (Alone other) h = vacuous (never_unfinished other) (λ e. c
 -- ---- components
 
 -- a section in front of those that are read next
-abbrev sections_before : (List ℕ → Option (List Section)) → Section → List ℕ → Option (List Section)
+abbrev sections_before : (List ℕ → Result (List Section) Flaw) → Section → List ℕ → Result (List Section) Flaw
 sections_before read s rest = made (λ (ss : List Section). s ∷ ss) (read rest)
 
 -- sections up to the end
-abbrev read_sections : ℕ → List ℕ → Option (List Section)
-read_sections zero bytes = None
+abbrev read_sections : ℕ → List ℕ → Result (List Section) Flaw
+read_sections zero bytes = Err Bad
 read_sections (suc fuel) bytes = to_end [] (read_section_piece fuel) (sections_before (read_sections fuel)) bytes
 
 -- no section is without a byte
-nothing_left : (fuel : ℕ) → read_section_piece fuel [] ≡ None
+nothing_left : (fuel : ℕ) → read_section_piece fuel [] ≡ Err Bad
 unfolding choose
 nothing_left fuel = refl
 
@@ -143,7 +144,7 @@ read_preamble = only 0x00 (only 0x61 (only 0x73 (only 0x6d (only 0x0d (only 0x00
 preamble_lawful : Lawful preamble (λ fuel. read_preamble) tt
 preamble_lawful = row_lawful _ _ 0x00 (row_lawful _ _ 0x61 (row_lawful _ _ 0x73 (row_lawful _ _ 0x6d (row_lawful _ _ 0x0d (row_lawful _ _ 0x00 (row_lawful _ _ 0x01 (row_byte _ _ 0x00 (λ fuel rest. refl))))))))
 
-abbrev read_component : ℕ → List ℕ → Option (List Section)
+abbrev read_component : ℕ → List ℕ → Result (List Section) Flaw
 read_component fuel bytes = go_on (read_preamble bytes) (λ u rest. read_sections fuel rest)
 
 component_lawful : (ss : List Section) → SectionsHaveNoRaw ss → LawfulWhole (component ss) read_component ss

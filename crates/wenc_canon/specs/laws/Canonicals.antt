@@ -1,8 +1,9 @@
 -- The laws of canonical functions.
 use Rattle.std.proofs.Common.{◌≡◌, ℕ, ◌+◌, List, [], ◌∷◌, map, Option, Ok, refl, ap, arith}
 use Rattle.wenc_base.specs.Holder.{HolderState}
-use Rattle.wenc_base.specs.laws.Lawful.{Lawful, Reader, ◌>>=◌, give, nowhere, choose, pick, row_lawful as in_row, row_byte, nothing_lawful, then, last}
-use Rattle.wenc_base.specs.laws.Sound.{Sound, RowsAreSound, give_sound, last_sound, then_sound, nowhere_sound, choose_sound}
+use Rattle.wenc_base.specs.Readers.{Lawful, Reader, ◌>>=◌, give, nowhere, choose, pick}
+use Rattle.wenc_base.specs.laws.Lawful.{row_lawful as in_row, row_byte, nothing_lawful, then, last}
+use Rattle.wenc_base.specs.laws.Sound.{Sound, RowsAreSound, give_tells, last_tells, then_tells, nowhere_tells, choose_tells}
 use Rattle.wenc_base.specs.laws.Numbers.{read_u32, u32_lawful, u32_sound}
 use Rattle.wenc_base.specs.laws.Forms.{read_flag, flag_lawful, flag_sound, read_list, list_lawful, list_sound}
 use Rattle.wenc_base.specs.laws.Types.{read_val_type, val_type_lawful, val_type_sound}
@@ -39,28 +40,28 @@ canonical_option_lawful (CoreTypeOption n) = in_row _ _ 0x08 (last CoreTypeOptio
 canonical_option_lawful Gc = row_byte _ _ 0x09 (λ fuel rest. refl)
 
 pub canonical_option_sound : Sound canonical_option read_canonical_option
-canonical_option_sound = choose_sound _ _ (
-  give_sound UTF8 (λ bytes. refl),
+canonical_option_sound = choose_tells _ _ (
+  give_tells UTF8 (λ bytes. refl),
   (
-    give_sound UTF16 (λ bytes. refl),
+    give_tells UTF16 (λ bytes. refl),
     (
-      give_sound CompactUTF16 (λ bytes. refl),
+      give_tells CompactUTF16 (λ bytes. refl),
       (
-        last_sound Memory u32_sound (λ n bytes rest r. (bytes, refl, r)),
+        last_tells Memory u32_sound (λ n bytes rest r. (bytes, refl, r)),
         (
-          last_sound Realloc u32_sound (λ n bytes rest r. (bytes, refl, r)),
+          last_tells Realloc u32_sound (λ n bytes rest r. (bytes, refl, r)),
           (
-            last_sound PostReturn u32_sound (λ n bytes rest r. (bytes, refl, r)),
+            last_tells PostReturn u32_sound (λ n bytes rest r. (bytes, refl, r)),
             (
-              give_sound Async (λ bytes. refl),
-              (last_sound Callback u32_sound (λ n bytes rest r. (bytes, refl, r)), (last_sound CoreTypeOption u32_sound (λ n bytes rest r. (bytes, refl, r)), (give_sound Gc (λ bytes. refl), tt))),
+              give_tells Async (λ bytes. refl),
+              (last_tells Callback u32_sound (λ n bytes rest r. (bytes, refl, r)), (last_tells CoreTypeOption u32_sound (λ n bytes rest r. (bytes, refl, r)), (give_tells Gc (λ bytes. refl), tt))),
             ),
           ),
         ),
       ),
     ),
   ),
-) nowhere_sound
+) nowhere_tells
 
 -- ---- fields
 
@@ -86,7 +87,7 @@ pub field_sound : (f : Field) → Sound (field f) (read_field f)
 field_sound Index = u32_sound
 field_sound Options = list_sound canonical_option_sound
 field_sound Flag = flag_sound
-field_sound Zero = choose_sound _ _ (give_sound tt (λ bytes. refl), tt) nowhere_sound
+field_sound Zero = choose_tells _ _ (give_tells tt (λ bytes. refl), tt) nowhere_tells
 field_sound CoreType = val_type_sound
 field_sound Results = result_list_sound
 field_sound Slot = u32_sound
@@ -102,9 +103,9 @@ fields_lawful (f ∷ []) v = field_lawful f v
 fields_lawful (f ∷ g ∷ fs) vs = then _ (field_lawful f vs.0) (last _ (fields_lawful (g ∷ fs) vs.1))
 
 pub fields_sound : (fs : List Field) → Sound (fields fs) (read_fields fs)
-fields_sound [] = give_sound tt (λ bytes. refl)
+fields_sound [] = give_tells tt (λ bytes. refl)
 fields_sound (f ∷ []) = field_sound f
-fields_sound (f ∷ g ∷ fs) = then_sound _ (field_sound f) (λ v. last_sound (λ vs. (v, vs)) (fields_sound (g ∷ fs)) (λ vs middle rest r bytes p. (middle, p, r)))
+fields_sound (f ∷ g ∷ fs) = then_tells _ (field_sound f) (λ v. last_tells (λ vs. (v, vs)) (fields_sound (g ∷ fs)) (λ vs middle rest r bytes p. (middle, p, r)))
 
 -- ---- canonical functions
 
@@ -132,19 +133,19 @@ canonical_lawful (OfBuiltin i vs) = in_row _ _ (row i).opcode (rw (own_row i) (l
 
 builtins_sound : (is : List Builtin) → RowsAreSound canonical (map read_builtin is)
 builtins_sound [] = tt
-builtins_sound (i ∷ is) = (last_sound (OfBuiltin i) (fields_sound (row i).fields) (λ vs bytes rest r. (bytes, refl, r)), builtins_sound is)
+builtins_sound (i ∷ is) = (last_tells (OfBuiltin i) (fields_sound (row i).fields) (λ vs bytes rest r. (bytes, refl, r)), builtins_sound is)
 
 pub canonical_sound : Sound canonical read_canonical
-canonical_sound = choose_sound _ _ (
-  choose_sound _ _ (
-    then_sound _ u32_sound (λ f. then_sound _ (list_sound canonical_option_sound) (λ os. last_sound (Lift f os) u32_sound (λ t behind rest r middle q bytes p. (_, refl, (_, refl, (middle, p, (behind, q, r))))))),
+canonical_sound = choose_tells _ _ (
+  choose_tells _ _ (
+    then_tells _ u32_sound (λ f. then_tells _ (list_sound canonical_option_sound) (λ os. last_tells (Lift f os) u32_sound (λ t behind rest r middle q bytes p. (_, refl, (_, refl, (middle, p, (behind, q, r))))))),
     tt,
-  ) nowhere_sound,
+  ) nowhere_tells,
   (
-    choose_sound _ _ (then_sound _ u32_sound (λ f. last_sound (Lower f) (list_sound canonical_option_sound) (λ os middle rest r bytes p. (_, refl, (_, refl, (middle, p, r))))), tt) nowhere_sound,
+    choose_tells _ _ (then_tells _ u32_sound (λ f. last_tells (Lower f) (list_sound canonical_option_sound) (λ os middle rest r bytes p. (_, refl, (_, refl, (middle, p, r))))), tt) nowhere_tells,
     builtins_sound builtins,
   ),
-) nowhere_sound
+) nowhere_tells
 
 -- ---- what follows from an `Ok`
 

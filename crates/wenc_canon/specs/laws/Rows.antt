@@ -43,8 +43,8 @@ front_serves (b ∷ front) p q =
     let s = front_serves front p q in
     record { text = ap (λ (t : List ℕ). b ∷ t) s.text; fits = s.fits; among = s.among; free = s.free }
 
-three_serve : (p q r : Piece) → Serves ((p ⨾ q) ⨾ r) (p ⨾ (q ⨾ r))
-three_serve p q r = record {
+regrouped : (p q r : Piece) → Serves ((p ⨾ q) ⨾ r) (p ⨾ (q ⨾ r))
+regrouped p q r = record {
   text = append_assoc p.text q.text r.text;
   fits = λ h. (h.0.0, (h.0.1, h.1));
   among = λ fault c. elim c [ inl front ↦ elim front [ inl one ↦ inl one | inr two ↦ inr (inl two) ] | inr three ↦ inr (inr three) ];
@@ -55,7 +55,7 @@ three_serve p q r = record {
 fields_then : (fs : List Field) (vs : Values fs) (os : List CanonicalOption) → Serves (fields fs vs ⨾ list canonical_option os) (fields (and_options fs) (values_then fs vs os))
 fields_then [] vs os = behind_is [] (list canonical_option os)
 fields_then (f ∷ []) v os = serves_itself
-fields_then (f ∷ g ∷ fs) vs os = serves_then (three_serve (field f vs.0) (fields (g ∷ fs) vs.1) (list canonical_option os)) (both_serve {p = field f vs.0} {p' = field f vs.0} serves_itself (fields_then (g ∷ fs) vs.1 os))
+fields_then (f ∷ g ∷ fs) vs os = serves_then (regrouped (field f vs.0) (fields (g ∷ fs) vs.1) (list canonical_option os)) (both_serve {p = field f vs.0} {p' = field f vs.0} serves_itself (fields_then (g ∷ fs) vs.1 os))
 
 pub row_serves : {p : Piece} (opcode : ℕ) (fs : List Field) (vs : Values fs) (os : List CanonicalOption) → Serves p (fields fs vs) → Serves ((opcode ▸ p) ⨾ list canonical_option os) (row_then opcode fs vs os)
 row_serves {p} opcode fs vs os s = serves_then (front_serves (opcode ∷ []) p (list canonical_option os)) (tagged_serves opcode (serves_then (both_serve s serves_itself) (fields_then fs vs os)))

@@ -1,7 +1,7 @@
 -- What stands behind the first byte of an alias.
 use Rattle.std.specs.Prelude.{[], ◌∷◌}
 use Rattle.wenc_base.specs.declared.exports.ExportKind.TheVariants as cores
-use Rattle.wenc_base.specs.laws.Lawful.{Reader, choose, nowhere}
+use Rattle.wenc_base.specs.Readers.{Reader, choose, nowhere}
 use Rattle.wenc_parts.specs.Aliases.{AliasOf}
 use Rattle.wenc_parts.specs.declared.aliases.ComponentOuterAliasKind.TheVariants as outers
 use Rattle.wenc_parts.specs.declared.exports.ComponentExportKind.{ComponentExportKind}

@@ -2,7 +2,7 @@
 -- opcodes in parts.
 use Rattle.std.specs.Prelude.{ℕ, List, [], ◌∷◌, drop}
 use Rattle.wenc_base.specs.laws.Forms.{read_list}
-use Rattle.wenc_base.specs.laws.Lawful.{Reader, ◌>>=◌, give, nowhere, choose}
+use Rattle.wenc_base.specs.Readers.{Reader, ◌>>=◌, give, nowhere, choose}
 use Rattle.wenc_base.specs.laws.Numbers.{read_u32}
 use Rattle.wenc_canon.specs.Canonicals.{Canonical, Lift, Lower, Zero}
 use Rattle.wenc_canon.specs.laws.Canonicals.{read_canonical_option, read_field, rows}

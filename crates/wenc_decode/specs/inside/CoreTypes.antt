@@ -2,7 +2,7 @@
 use Rattle.std.specs.Prelude.{Bool, [], ◌∷◌}
 use Rattle.wenc_base.specs.declared.types.RefType.{RefType}
 use Rattle.wenc_base.specs.Composites.{Single}
-use Rattle.wenc_base.specs.laws.Lawful.{Reader, ◌>>=◌, give, nowhere, choose}
+use Rattle.wenc_base.specs.Readers.{Reader, ◌>>=◌, give, nowhere, choose}
 use Rattle.wenc_base.specs.laws.Numbers.{read_u32}
 use Rattle.wenc_base.specs.laws.Types.{read_heap_type, to}
 use Rattle.wenc_types.specs.CoreTypes.{ModuleDeclaration, ModuleOuter, CoreType, Grouped}

@@ -3,7 +3,7 @@ use Rattle.std.specs.Prelude.{ℕ, Bool, true, false, Option, Some, None}
 use Rattle.wenc_base.specs.declared.types.RefType.{RefType}
 use Rattle.wenc_base.specs.declared.memories.MemoryType.{MemoryType}
 use Rattle.wenc_base.specs.declared.tables.TableType.{TableType}
-use Rattle.wenc_base.specs.laws.Lawful.{Reader, ◌>>=◌, give}
+use Rattle.wenc_base.specs.Readers.{Reader, ◌>>=◌, give}
 use Rattle.wenc_base.specs.laws.Numbers.{read_u64}
 
 -- the maximum, where there is one

@@ -2,7 +2,7 @@
 -- type.
 use Rattle.std.specs.Prelude.{ℕ, Bool, List, [], ◌∷◌, drop}
 use Rattle.wenc_base.specs.laws.Forms.{read_list, read_option}
-use Rattle.wenc_base.specs.laws.Lawful.{Reader, ◌>>=◌, give, nowhere, pick}
+use Rattle.wenc_base.specs.Readers.{Reader, ◌>>=◌, give, nowhere, pick}
 use Rattle.wenc_base.specs.laws.Numbers.{read_u32}
 use Rattle.wenc_base.specs.laws.Types.{read_val_type}
 use Rattle.wenc_parts.specs.declared.types.PrimitiveValType.{PrimitiveValType}

@@ -1,37 +1,34 @@
 -- One level of a reader of types.
-use Rattle.std.proofs.Common.{◌≡◌, ℕ, zero, suc, ◌-◌, ◌<◌, List, Some, Ok, refl, arith}
+use Rattle.std.proofs.Common.{◌≡◌, ℕ, zero, suc, ◌-◌, ◌<◌, List, Ok, refl, arith}
+use Rattle.wenc_base.specs.Readers.{times, choose}
 use Rattle.wenc_base.specs.laws.Numbers.{read_u32}
 use Rattle.wenc_read.specs.declared.refusal.Refusal.{Refusal}
-use Rattle.wenc_read.specs.declared.refusal.Refusal.TheVariants as refusals
 use Rattle.wenc_types.specs.ComponentTypes.{ComponentType, InstanceType, ComponentDeclaration, InstanceDeclaration, components_of, instances_of}
-use Rattle.wenc_decode.specs.inside.Outcomes.{repeat, select, IsFlaw}
+use Rattle.wenc_read.specs.inside.Gives.{Fails}
+use Rattle.wenc_read.specs.laws.Tables.{fails_on}
 use Rattle.wenc_decode.specs.inside.TypeTrees.{type_rows, read_shallow, read_type, read_component_declaration, read_instance_declaration, read_component_type, read_instance_type}
 
-pub one_level : (depth : ℕ) → read_type depth ≡ select (type_rows (read_component_type depth) (read_instance_type depth)) read_shallow
+pub one_level : (depth : ℕ) → read_type depth ≡ choose (type_rows (read_component_type depth) (read_instance_type depth)) read_shallow
 unfolding read_type
 one_level zero = refl
 one_level (suc depth) = refl
 
 -- ---- declarations, behind a count
 
-pub component_found : (d n : ℕ) (bytes middle rest : List ℕ) (ds : List ComponentDeclaration) → 0 < d → read_u32 bytes ≡ Some (n, middle) → repeat (read_component_declaration (read_type (d - 1))) n middle ≡ Ok (ds, rest)
+pub component_found : (d n : ℕ) (bytes middle rest : List ℕ) (ds : List ComponentDeclaration) → 0 < d → read_u32 bytes ≡ Ok (n, middle) → times (read_component_declaration (read_type (d - 1))) n middle ≡ Ok (ds, rest)
     → read_component_type d bytes ≡ Ok (ComponentType (components_of ds), rest)
 component_found zero n bytes middle rest ds some e r = absurd (omega arith)
 component_found (suc d) n bytes middle rest ds some e r = let less : suc d - 1 ≡ d = omega arith in rw (e, rw less at r) refl
 
-pub component_fails : (d n : ℕ) (bytes middle : List ℕ) (flaw : Refusal) → 0 < d → read_u32 bytes ≡ Some (n, middle) → IsFlaw flaw (repeat (read_component_declaration (read_type (d - 1))) n middle) → IsFlaw flaw (read_component_type d bytes)
+pub component_fails : (d n : ℕ) (bytes middle : List ℕ) (flaw : Refusal) → 0 < d → read_u32 bytes ≡ Ok (n, middle) → Fails flaw (times (read_component_declaration (read_type (d - 1))) n middle) → Fails flaw (read_component_type d bytes)
 component_fails zero n bytes middle flaw some e r = absurd (omega arith)
-component_fails (suc d) n bytes middle refusals.Memory some e r = tt
-component_fails (suc d) n bytes middle refusals.Malformed some e r = let less : suc d - 1 ≡ d = omega arith in rw (e, rw less at r) refl
-component_fails (suc d) n bytes middle refusals.TooDeep some e r = let less : suc d - 1 ≡ d = omega arith in rw (e, rw less at r) refl
+component_fails (suc d) n bytes middle flaw some e r = let less : suc d - 1 ≡ d = omega arith in rw e (fails_on flaw (times (read_component_declaration (read_type d)) n middle) _ (rw less at r))
 
-pub instance_found : (d n : ℕ) (bytes middle rest : List ℕ) (ds : List InstanceDeclaration) → 0 < d → read_u32 bytes ≡ Some (n, middle) → repeat (read_instance_declaration (read_type (d - 1))) n middle ≡ Ok (ds, rest)
+pub instance_found : (d n : ℕ) (bytes middle rest : List ℕ) (ds : List InstanceDeclaration) → 0 < d → read_u32 bytes ≡ Ok (n, middle) → times (read_instance_declaration (read_type (d - 1))) n middle ≡ Ok (ds, rest)
     → read_instance_type d bytes ≡ Ok (InstanceType (instances_of ds), rest)
 instance_found zero n bytes middle rest ds some e r = absurd (omega arith)
 instance_found (suc d) n bytes middle rest ds some e r = let less : suc d - 1 ≡ d = omega arith in rw (e, rw less at r) refl
 
-pub instance_fails : (d n : ℕ) (bytes middle : List ℕ) (flaw : Refusal) → 0 < d → read_u32 bytes ≡ Some (n, middle) → IsFlaw flaw (repeat (read_instance_declaration (read_type (d - 1))) n middle) → IsFlaw flaw (read_instance_type d bytes)
+pub instance_fails : (d n : ℕ) (bytes middle : List ℕ) (flaw : Refusal) → 0 < d → read_u32 bytes ≡ Ok (n, middle) → Fails flaw (times (read_instance_declaration (read_type (d - 1))) n middle) → Fails flaw (read_instance_type d bytes)
 instance_fails zero n bytes middle flaw some e r = absurd (omega arith)
-instance_fails (suc d) n bytes middle refusals.Memory some e r = tt
-instance_fails (suc d) n bytes middle refusals.Malformed some e r = let less : suc d - 1 ≡ d = omega arith in rw (e, rw less at r) refl
-instance_fails (suc d) n bytes middle refusals.TooDeep some e r = let less : suc d - 1 ≡ d = omega arith in rw (e, rw less at r) refl
+instance_fails (suc d) n bytes middle flaw some e r = let less : suc d - 1 ≡ d = omega arith in rw e (fails_on flaw (times (read_instance_declaration (read_type d)) n middle) _ (rw less at r))

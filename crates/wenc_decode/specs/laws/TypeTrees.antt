@@ -1,14 +1,15 @@
 -- The reader of types that nest is exact: what it finds is read and no deeper, what is read is found, and where it says
 -- that a type is too deep, the bytes go so deep.
-use Rattle.std.proofs.Common.{◌≡◌, ℕ, zero, suc, ◌<◌, ◌≤◌, Bool, true, false, List, [], ◌∷◌, Option, Some, Ok, Err, refl, ap, ◌∙◌, inl, inr, arith}
+use Rattle.std.proofs.Common.{◌≡◌, ℕ, zero, suc, ◌<◌, ◌≤◌, Bool, true, false, List, [], ◌∷◌, Option, Result, Ok, Err, refl, ap, ◌∙◌, inl, inr, arith}
 use Rattle.std.specs.List.{AllByRecursion}
 use Rattle.wenc_base.specs.Number.{u32}
 use Rattle.wenc_base.specs.Piece.{Form, Wide, only_where, each}
 use Rattle.wenc_base.specs.laws.Forms.{list_lawful, list_sound, option_lawful, option_sound}
 use Rattle.wenc_base.specs.declared.types.ValType.{ValType}
-use Rattle.wenc_base.specs.laws.Lawful.{◌>>=◌, give, choose, then, last}
+use Rattle.wenc_base.specs.Readers.{Flaw, Bad, Reader, ◌>>=◌, give, too_deep, times, choose}
+use Rattle.wenc_base.specs.laws.Lawful.{then, last}
 use Rattle.wenc_base.specs.laws.Numbers.{read_u32, u32_lawful, count_lawful, u32_sound}
-use Rattle.wenc_base.specs.laws.Sound.{Then, Sound, sound_behind, then_sound, last_sound, nowhere_sound, choose_sound, both_tables}
+use Rattle.wenc_base.specs.laws.Sound.{Told, Tells, Sound, deep_where, sound_tells, told_on, then_tells, last_tells, nowhere_tells, too_deep_tells, sound_behind, RowsTell, both_tables, choose_tells, Fewer, Several, times_told, each_plain, Finds, agreed, or_deeper, nothing_finds, then_finds, last_finds, lawful_finds, too_deep_finds, row_finds, ReadsApart, other_finds}
 use Rattle.wenc_base.specs.laws.Types.{val_type_lawful, val_type_sound}
 use Rattle.wenc_parts.specs.declared.types.ComponentValType.{ComponentValType}
 use Rattle.wenc_parts.specs.laws.Aliases.{read_alias, alias_lawful, alias_sound}
@@ -20,31 +21,29 @@ use Rattle.wenc_types.specs.laws.ComponentTypes.{instances_counted, components_c
 use Rattle.wenc_types.specs.laws.CoreTypes.{read_core_type, core_type_lawful, core_type_sound}
 use Rattle.wenc_types.specs.laws.DefinedTypes.{labelled_type_lawful, named_sound, defined_type_lawful, defined_rows, defined_rows_sound, read_defined, to_function}
 use Rattle.wenc_decode.specs.Depth.{Front, ByteThen, OpensTypes}
-use Rattle.wenc_decode.specs.inside.Outcomes.{Bad, DeepReader, flat, ◌>>>◌, yield, too_deep, repeat, select}
 use Rattle.wenc_decode.specs.inside.TypeTrees.{read_exported_type, read_imported, read_instance_declaration, read_component_declaration, read_components, read_instances, read_shallow, type_rows, read_type, read_component_type, read_instance_type}
 use Rattle.wenc_decode.specs.inside.Types.{read_function_type, read_resource_type}
-use Rattle.wenc_decode.specs.laws.Outcomes.{Told, Tells, told_on, told_flat, flat_tells, refuse_tells, too_deep_tells, last_tells, RowsTell, select_tells, Fewer, Several, repeat_told, each_plain, Finds, agreed, or_deeper, nothing_finds, then_finds, last_finds, flat_finds, too_deep_finds, row_finds, ReadsApart, other_finds}
 use Rattle.wenc_decode.specs.laws.Levels.{one_level}
 
 -- ---- what doesn't nest
 
 defined_sound : Sound def_val_type read_defined
-defined_sound = choose_sound _ _ (both_tables def_val_type (primitive_rows Primitive) (defined_rows (λ t. t)) (primitive_rows_sound def_val_type Primitive (λ p rest. refl)) (defined_rows_sound def_val_type (λ t. t) (λ t bytes rest r. r))) nowhere_sound
+defined_sound = choose_tells _ _ (both_tables def_val_type (primitive_rows Primitive) (defined_rows (λ t. t)) (primitive_rows_sound def_val_type Primitive (λ p rest. refl)) (defined_rows_sound def_val_type (λ t. t) (λ t bytes rest r. r))) nowhere_tells
 
 abbrev Shallow : ℕ → Form DefType
 Shallow d t = only_where (depth t ≤ d) (def_type t)
 
 shallow_sound : (d : ℕ) → Sound (Shallow d) (read_defined >>= λ ty. give (DefinedType ty))
-shallow_sound d = last_sound DefinedType defined_sound (λ ty bytes rest r. (omega arith, r))
+shallow_sound d = last_tells DefinedType defined_sound (λ ty bytes rest r. (omega arith, r))
 
 sync_sound : (d : ℕ) → Sound (sound_behind 0x40 (Shallow d)) (read_function_type false)
-sync_sound d = then_sound _ (list_sound named_sound) (λ params. last_sound (λ answer. FunctionType (to_function false params answer)) result_list_sound (λ answer middle rest r bytes p. (omega arith, (bytes, refl, (middle, p, r)))))
+sync_sound d = then_tells _ (list_sound named_sound) (λ params. last_tells (λ answer. FunctionType (to_function false params answer)) result_list_sound (λ answer middle rest r bytes p. (omega arith, (bytes, refl, (middle, p, r)))))
 
 async_sound : (d : ℕ) → Sound (sound_behind 0x43 (Shallow d)) (read_function_type true)
-async_sound d = then_sound _ (list_sound named_sound) (λ params. last_sound (λ answer. FunctionType (to_function true params answer)) result_list_sound (λ answer middle rest r bytes p. (omega arith, (bytes, refl, (middle, p, r)))))
+async_sound d = then_tells _ (list_sound named_sound) (λ params. last_tells (λ answer. FunctionType (to_function true params answer)) result_list_sound (λ answer middle rest r bytes p. (omega arith, (bytes, refl, (middle, p, r)))))
 
 resource_sound : (d : ℕ) → Sound (sound_behind 0x3f (Shallow d)) read_resource_type
-resource_sound d = then_sound _ val_type_sound (λ rep. last_sound (ResourceType rep) (option_sound u32_sound) (λ dtor middle rest r bytes p. (omega arith, (bytes, refl, (middle, p, r)))))
+resource_sound d = then_tells _ val_type_sound (λ rep. last_tells (ResourceType rep) (option_sound u32_sound) (λ dtor middle rest r bytes p. (omega arith, (bytes, refl, (middle, p, r)))))
 
 -- ---- declarations
 
@@ -59,23 +58,23 @@ opened (Declared d) = declared_depth d
 abbrev ComponentWithin : ℕ → Form ComponentDeclaration
 ComponentWithin d x = only_where (opened x ≤ d) (component_declaration x)
 
-instance_tells : (d : ℕ) {read : DeepReader DefType} → Tells (Shallow d) (OpensTypes d) read → Tells (DeclaredWithin d) (ByteThen 0x01 (OpensTypes d)) (read_instance_declaration read)
-instance_tells d t = select_tells (ByteThen 0x01 (OpensTypes d)) _ _ (
-  flat_tells _ (last_sound CoreTyped core_type_sound (λ ty bytes rest r. (omega arith, (bytes, refl, r)))),
+instance_tells : (d : ℕ) {read : Reader DefType} → Tells (Shallow d) (OpensTypes d) read → Tells (DeclaredWithin d) (ByteThen 0x01 (OpensTypes d)) (read_instance_declaration read)
+instance_tells d t = choose_tells _ _ (
+  sound_tells _ (last_tells CoreTyped core_type_sound (λ ty bytes rest r. (omega arith, (bytes, refl, r)))),
   (
-    last_tells (OpensTypes d) _ Typed t (λ bytes g. (bytes, refl, g)) (λ ty bytes rest r. (r.0, (bytes, refl, r.1))),
+    deep_where (OpensTypes d) _ (last_tells Typed t (λ ty bytes rest r. (r.0, (bytes, refl, r.1)))) (λ bytes g. (bytes, refl, g)),
     (
-      flat_tells _ (last_sound Aliased alias_sound (λ to bytes rest r. (omega arith, (bytes, refl, r)))),
-      (flat_tells _ (then_sound _ extern_name_sound (λ name. last_sound (Exported name) type_reference_sound (λ ty middle rest r bytes p. (omega arith, (bytes, refl, (middle, p, r)))))), tt),
+      sound_tells _ (last_tells Aliased alias_sound (λ to bytes rest r. (omega arith, (bytes, refl, r)))),
+      (sound_tells _ (then_tells _ extern_name_sound (λ name. last_tells (Exported name) type_reference_sound (λ ty middle rest r bytes p. (omega arith, (bytes, refl, (middle, p, r)))))), tt),
     ),
   ),
-) (refuse_tells _)
+) nowhere_tells
 
-component_tells : (d : ℕ) {read : DeepReader DefType} → Tells (Shallow d) (OpensTypes d) read → Tells (ComponentWithin d) (ByteThen 0x01 (OpensTypes d)) (read_component_declaration read)
-component_tells d t = select_tells (ByteThen 0x01 (OpensTypes d)) _ _ (
-  flat_tells _ (then_sound _ extern_name_sound (λ name. last_sound (Imported name) type_reference_sound (λ ty middle rest r bytes p. (omega arith, (bytes, refl, (middle, p, r)))))),
+component_tells : (d : ℕ) {read : Reader DefType} → Tells (Shallow d) (OpensTypes d) read → Tells (ComponentWithin d) (ByteThen 0x01 (OpensTypes d)) (read_component_declaration read)
+component_tells d t = choose_tells _ _ (
+  sound_tells _ (then_tells _ extern_name_sound (λ name. last_tells (Imported name) type_reference_sound (λ ty middle rest r bytes p. (omega arith, (bytes, refl, (middle, p, r)))))),
   tt,
-) (last_tells (ByteThen 0x01 (OpensTypes d)) _ Declared (instance_tells d t) (λ bytes g. g) (λ x bytes rest r. (r.0, r.1)))
+) (last_tells Declared (instance_tells d t) (λ x bytes rest r. (r.0, r.1)))
 
 -- ---- lists of them
 
@@ -110,53 +109,53 @@ front_of form P Q n bytes middle c f = record {
 }
 
 -- a count, then so many values, of which something is made
-counted_told : {A B : Type 0} (form : Form A) (P : A → Type 0) (make : List A → B) (Goes : List ℕ → Type 0) (Q : B → List ℕ → Type 0) (Went : Type 0) {read : DeepReader A} → Tells (λ v. only_where (P v) (form v)) Goes read → (bytes : List ℕ)
-    → (Front form Goes bytes → Went) → ((n : ℕ) (middle rest : List ℕ) (vs : List A) → (u32 n).Reads Wide bytes middle → Several (λ v. only_where (P v) (form v)) n middle vs rest → Q (make vs) rest)
-    → Told Q Went ((flat read_u32 >>> λ n. repeat read n >>> λ vs. yield (make vs)) bytes)
+counted_told : {A B : Type 0} (form : Form A) (P : A → Type 0) (make : List A → B) (Goes : List ℕ → Type 0) (Q : B × List ℕ → Type 0) (Went : Type 0) {read : Reader A} → Tells (λ v. only_where (P v) (form v)) Goes read → (bytes : List ℕ)
+    → (Front form Goes bytes → Went) → ((n : ℕ) (middle rest : List ℕ) (vs : List A) → (u32 n).Reads Wide bytes middle → Several (λ v. only_where (P v) (form v)) n middle (vs, rest) → Q (make vs, rest))
+    → Told Q Went ((read_u32 >>= λ n. times read n >>= λ vs. give (make vs)) bytes)
 counted_told form P make Goes Q Went {read = read} t bytes go k =
-    told_on (λ n middle. (u32 n).Reads Wide bytes middle) ⊥ Q Went (λ n. repeat read n >>> λ vs. yield (make vs)) (flat read_u32 bytes) (told_flat (λ n middle. (u32 n).Reads Wide bytes middle) ⊥ u32_sound bytes (λ n middle r. r)) (λ e. absurd e) (λ n middle c.
-    told_on (Several (λ v. only_where (P v) (form v)) n middle) (Fewer (λ v. only_where (P v) (form v)) Goes n middle) Q Went (λ vs. yield (make vs)) (repeat read n middle) (repeat_told Goes t n middle)
-    (λ f. go (front_of form P Goes n bytes middle c f)) (λ vs rest s. k n middle rest vs c s))
+    told_on (λ x. (u32 x.0).Reads Wide bytes x.1) ⊥ Q Went (λ n. times read n >>= λ vs. give (make vs)) (read_u32 bytes) (u32_sound.tells bytes) (λ e. absurd e) (λ x c.
+    told_on (Several (λ v. only_where (P v) (form v)) x.0 x.1) (Fewer (λ v. only_where (P v) (form v)) Goes x.0 x.1) Q Went (λ vs. give (make vs)) (times read x.0 x.1) (times_told Goes t x.0 x.1)
+    (λ f. go (front_of form P Goes x.0 bytes x.1 c f)) (λ y s. k x.0 x.1 y.1 y.0 c s))
 
 -- ---- types of components and of instances
 
-instance_made : (d n : ℕ) (bytes middle rest : List ℕ) (ds : List InstanceDeclaration) → (u32 n).Reads Wide bytes middle → Several (DeclaredWithin d) n middle ds rest → (sound_behind 0x42 (Shallow (suc d)) (InstanceType (instances_of ds))).Reads Wide bytes rest
+instance_made : (d n : ℕ) (bytes middle rest : List ℕ) (ds : List InstanceDeclaration) → (u32 n).Reads Wide bytes middle → Several (DeclaredWithin d) n middle (ds, rest) → (sound_behind 0x42 (Shallow (suc d)) (InstanceType (instances_of ds))).Reads Wide bytes rest
 instance_made d n bytes middle rest ds c s =
     let plain = each_plain instance_declaration (λ x. declared_depth x ≤ d) ds middle rest s.1 in
     let within = instances_within d ds plain.1 in
     (omega arith, (bytes, refl, (middle, rw (instances_counted ds ∙ s.0) c, each_instance_reads ds middle rest plain.0)))
 
-component_made : (d n : ℕ) (bytes middle rest : List ℕ) (ds : List ComponentDeclaration) → (u32 n).Reads Wide bytes middle → Several (ComponentWithin d) n middle ds rest → (sound_behind 0x41 (Shallow (suc d)) (ComponentType (components_of ds))).Reads Wide bytes rest
+component_made : (d n : ℕ) (bytes middle rest : List ℕ) (ds : List ComponentDeclaration) → (u32 n).Reads Wide bytes middle → Several (ComponentWithin d) n middle (ds, rest) → (sound_behind 0x41 (Shallow (suc d)) (ComponentType (components_of ds))).Reads Wide bytes rest
 component_made d n bytes middle rest ds c s =
     let plain = each_plain component_declaration (λ x. opened x ≤ d) ds middle rest s.1 in
     let within = components_within d ds plain.1 in
     (omega arith, (bytes, refl, (middle, rw (components_counted ds ∙ s.0) c, each_component_reads ds middle rest plain.0)))
 
-instances_tell : (d : ℕ) {read : DeepReader DefType} → Tells (Shallow d) (OpensTypes d) read → Tells (sound_behind 0x42 (Shallow (suc d))) (λ bytes. OpensTypes (suc d) (0x42 ∷ bytes)) (read_instances read)
+instances_tell : (d : ℕ) {read : Reader DefType} → Tells (Shallow d) (OpensTypes d) read → Tells (sound_behind 0x42 (Shallow (suc d))) (λ bytes. OpensTypes (suc d) (0x42 ∷ bytes)) (read_instances read)
 instances_tell d {read = read} t = record {
-  tells = λ bytes. counted_told instance_declaration (λ x. declared_depth x ≤ d) (λ ds. InstanceType (instances_of ds)) (ByteThen 0x01 (OpensTypes d)) (λ v rest. (sound_behind 0x42 (Shallow (suc d)) v).Reads Wide bytes rest) (OpensTypes (suc d) (0x42 ∷ bytes)) (instance_tells d t) bytes
+  tells = λ bytes. counted_told instance_declaration (λ x. declared_depth x ≤ d) (λ ds. InstanceType (instances_of ds)) (ByteThen 0x01 (OpensTypes d)) (λ x. (sound_behind 0x42 (Shallow (suc d)) x.0).Reads Wide bytes x.1) (OpensTypes (suc d) (0x42 ∷ bytes)) (instance_tells d t) bytes
       (λ front. inr (bytes, refl, front)) (λ n middle rest ds c s. instance_made d n bytes middle rest ds c s);
 }
 
-components_tell : (d : ℕ) {read : DeepReader DefType} → Tells (Shallow d) (OpensTypes d) read → Tells (sound_behind 0x41 (Shallow (suc d))) (λ bytes. OpensTypes (suc d) (0x41 ∷ bytes)) (read_components read)
+components_tell : (d : ℕ) {read : Reader DefType} → Tells (Shallow d) (OpensTypes d) read → Tells (sound_behind 0x41 (Shallow (suc d))) (λ bytes. OpensTypes (suc d) (0x41 ∷ bytes)) (read_components read)
 components_tell d {read = read} t = record {
-  tells = λ bytes. counted_told component_declaration (λ x. opened x ≤ d) (λ ds. ComponentType (components_of ds)) (ByteThen 0x01 (OpensTypes d)) (λ v rest. (sound_behind 0x41 (Shallow (suc d)) v).Reads Wide bytes rest) (OpensTypes (suc d) (0x41 ∷ bytes)) (component_tells d t) bytes
+  tells = λ bytes. counted_told component_declaration (λ x. opened x ≤ d) (λ ds. ComponentType (components_of ds)) (ByteThen 0x01 (OpensTypes d)) (λ x. (sound_behind 0x41 (Shallow (suc d)) x.0).Reads Wide bytes x.1) (OpensTypes (suc d) (0x41 ∷ bytes)) (component_tells d t) bytes
       (λ front. inl (bytes, refl, front)) (λ n middle rest ds c s. component_made d n bytes middle rest ds c s);
 }
 
-shallow_rows : (d : ℕ) → RowsTell (Shallow d) (OpensTypes d) ((0x40, flat (read_function_type false)) ∷ (0x43, flat (read_function_type true)) ∷ (0x3f, flat read_resource_type) ∷ [])
-shallow_rows d = (flat_tells _ (sync_sound d), (flat_tells _ (async_sound d), (flat_tells _ (resource_sound d), tt)))
+shallow_rows : (d : ℕ) → RowsTell (Shallow d) (OpensTypes d) ((0x40, read_function_type false) ∷ (0x43, read_function_type true) ∷ (0x3f, read_resource_type) ∷ [])
+shallow_rows d = (sound_tells _ (sync_sound d), (sound_tells _ (async_sound d), (sound_tells _ (resource_sound d), tt)))
 
 pub type_tells : (d : ℕ) → Tells (Shallow d) (OpensTypes d) (read_type d)
 unfolding read_type
-type_tells zero = select_tells (OpensTypes zero) _ _ (
-  too_deep_tells _ (λ bytes. inl (bytes, refl, tt)),
-  (too_deep_tells _ (λ bytes. inr (bytes, refl, tt)), shallow_rows zero),
-) (flat_tells _ (shallow_sound zero))
-type_tells (suc d) = select_tells (OpensTypes (suc d)) _ _ (
+type_tells zero = choose_tells _ _ (
+  too_deep_tells (λ bytes. inl (bytes, refl, tt)),
+  (too_deep_tells (λ bytes. inr (bytes, refl, tt)), shallow_rows zero),
+) (sound_tells _ (shallow_sound zero))
+type_tells (suc d) = choose_tells _ _ (
   components_tell d (type_tells d),
   (instances_tell d (type_tells d), shallow_rows (suc d)),
-) (flat_tells _ (shallow_sound (suc d)))
+) (sound_tells _ (shallow_sound (suc d)))
 
 -- ---- what is read is found
 
@@ -185,24 +184,24 @@ nothing_shallow : read_shallow [] ≡ Err Bad
 unfolding choose
 nothing_shallow = refl
 
-defined_finds : (d : ℕ) (ty : DefValType) (D : Type 0) → Finds (def_val_type ty) (select (type_rows (read_component_type d) (read_instance_type d)) read_shallow) (DefinedType ty) D
-defined_finds d ty D = other_finds _ read_shallow (apart d) nothing_shallow (flat_finds D (last DefinedType (defined_type_lawful ty)))
+defined_finds : (d : ℕ) (ty : DefValType) (D : Type 0) → Finds (def_val_type ty) (choose (type_rows (read_component_type d) (read_instance_type d)) read_shallow) (DefinedType ty) D
+defined_finds d ty D = other_finds _ read_shallow (apart d) nothing_shallow (lawful_finds D (last DefinedType (defined_type_lawful ty)))
 
 function_finds : (d : ℕ) (is_async : Bool) (params : List LabelledType) (answer : Option ComponentValType) (D : Type 0)
-    → Finds (function_type_of is_async params answer) (select (type_rows (read_component_type d) (read_instance_type d)) read_shallow) (FunctionType (to_function is_async params answer)) D
-function_finds d false params answer D = row_finds _ _ 0x40 (flat (read_function_type false)) (λ bytes rest. refl) (flat_finds D (then _ (list_lawful labelled_type_lawful params) (last (λ a. FunctionType (to_function false params a)) (result_list_lawful answer))))
-function_finds d true params answer D = row_finds _ _ 0x43 (flat (read_function_type true)) (λ bytes rest. refl) (flat_finds D (then _ (list_lawful labelled_type_lawful params) (last (λ a. FunctionType (to_function true params a)) (result_list_lawful answer))))
+    → Finds (function_type_of is_async params answer) (choose (type_rows (read_component_type d) (read_instance_type d)) read_shallow) (FunctionType (to_function is_async params answer)) D
+function_finds d false params answer D = row_finds _ _ 0x40 ((read_function_type false)) (λ rest. refl) (lawful_finds D (then _ (list_lawful labelled_type_lawful params) (last (λ a. FunctionType (to_function false params a)) (result_list_lawful answer))))
+function_finds d true params answer D = row_finds _ _ 0x43 ((read_function_type true)) (λ rest. refl) (lawful_finds D (then _ (list_lawful labelled_type_lawful params) (last (λ a. FunctionType (to_function true params a)) (result_list_lawful answer))))
 
-resource_finds : (d : ℕ) (rep : ValType) (dtor : Option ℕ) (D : Type 0) → Finds (def_type (ResourceType rep dtor)) (select (type_rows (read_component_type d) (read_instance_type d)) read_shallow) (ResourceType rep dtor) D
-resource_finds d rep dtor D = row_finds _ _ 0x3f (flat read_resource_type) (λ bytes rest. refl) (flat_finds D (then _ (val_type_lawful rep) (last (ResourceType rep) (option_lawful u32_lawful dtor))))
+resource_finds : (d : ℕ) (rep : ValType) (dtor : Option ℕ) (D : Type 0) → Finds (def_type (ResourceType rep dtor)) (choose (type_rows (read_component_type d) (read_instance_type d)) read_shallow) (ResourceType rep dtor) D
+resource_finds d rep dtor D = row_finds _ _ 0x3f read_resource_type (λ rest. refl) (lawful_finds D (then _ (val_type_lawful rep) (last (ResourceType rep) (option_lawful u32_lawful dtor))))
 
 -- a declaration of an instance type is no import
-unmixed : (read : DeepReader DefType) → ReadsApart (read_instance_declaration read >>> λ d. yield (Declared d)) ((0x03, flat read_imported) ∷ [])
-unfolding select
+unmixed : (read : Reader DefType) → ReadsApart (read_instance_declaration read >>= λ d. give (Declared d)) ((0x03, read_imported) ∷ [])
+unfolding choose
 unmixed read = (λ rest. refl, tt)
 
-nothing_declared : (read : DeepReader DefType) → (read_instance_declaration read >>> λ d. yield (Declared d)) [] ≡ Err Bad
-unfolding select
+nothing_declared : (read : Reader DefType) → (read_instance_declaration read >>= λ d. give (Declared d)) [] ≡ Err Bad
+unfolding choose
 nothing_declared read = refl
 
 mutual
@@ -210,37 +209,37 @@ mutual
   type_finds d (DefinedType ty) = rw (one_level d) (defined_finds d ty (d < 0))
   type_finds d (FunctionType f) = rw (one_level d) (function_finds d f.is_async f.params f.answer (d < 0))
   type_finds d (ResourceType rep dtor) = rw (one_level d) (resource_finds d rep dtor (d < 0))
-  type_finds zero (ComponentType ds) = rw (one_level zero) (row_finds _ _ 0x41 too_deep (λ bytes rest. refl) (too_deep_finds _ (omega arith)))
-  type_finds zero (InstanceType ds) = rw (one_level zero) (row_finds _ _ 0x42 too_deep (λ bytes rest. refl) (too_deep_finds _ (omega arith)))
+  type_finds zero (ComponentType ds) = rw (one_level zero) (row_finds _ _ 0x41 too_deep (λ rest. refl) (too_deep_finds _ (omega arith)))
+  type_finds zero (InstanceType ds) = rw (one_level zero) (row_finds _ _ 0x42 too_deep (λ rest. refl) (too_deep_finds _ (omega arith)))
   type_finds (suc d) (ComponentType ds) =
-      rw (one_level (suc d)) (row_finds _ _ 0x41 (read_components (read_type d)) (λ bytes rest. refl)
-      (then_finds _ (flat_finds _ (count_lawful (component_count ds))) (rw (components_relisted ds) at (last_finds (λ l. ComponentType (components_of l)) (or_deeper (suc d < suc (component_depth ds)) (λ lt. omega arith) (components_find d ds))))))
+      rw (one_level (suc d)) (row_finds _ _ 0x41 (read_components (read_type d)) (λ rest. refl)
+      (then_finds _ (lawful_finds _ (count_lawful (component_count ds))) (rw (components_relisted ds) at (last_finds (λ l. ComponentType (components_of l)) (or_deeper (suc d < suc (component_depth ds)) (λ lt. omega arith) (components_find d ds))))))
   type_finds (suc d) (InstanceType ds) =
-      rw (one_level (suc d)) (row_finds _ _ 0x42 (read_instances (read_type d)) (λ bytes rest. refl)
-      (then_finds _ (flat_finds _ (count_lawful (instance_count ds))) (rw (instances_relisted ds) at (last_finds (λ l. InstanceType (instances_of l)) (or_deeper (suc d < suc (instance_depth ds)) (λ lt. omega arith) (instances_find d ds))))))
+      rw (one_level (suc d)) (row_finds _ _ 0x42 (read_instances (read_type d)) (λ rest. refl)
+      (then_finds _ (lawful_finds _ (count_lawful (instance_count ds))) (rw (instances_relisted ds) at (last_finds (λ l. InstanceType (instances_of l)) (or_deeper (suc d < suc (instance_depth ds)) (λ lt. omega arith) (instances_find d ds))))))
 
   instance_finds : (d : ℕ) (x : InstanceDeclaration) → Finds (instance_declaration x) (read_instance_declaration (read_type d)) x (d < declared_depth x)
-  instance_finds d (CoreTyped ty) = row_finds _ _ 0x00 (flat (read_core_type >>= λ t. give (CoreTyped t))) (λ bytes rest. refl) (flat_finds _ (last CoreTyped (core_type_lawful ty)))
-  instance_finds d (Typed ty) = row_finds _ _ 0x01 (read_type d >>> λ t. yield (Typed t)) (λ bytes rest. refl) (last_finds Typed (type_finds d ty))
-  instance_finds d (Aliased to) = row_finds _ _ 0x02 (flat (read_alias >>= λ t. give (Aliased t))) (λ bytes rest. refl) (flat_finds _ (last Aliased (alias_lawful to)))
-  instance_finds d (Exported name ty) = row_finds _ _ 0x04 (flat read_exported_type) (λ bytes rest. refl) (flat_finds _ (then _ (extern_name_lawful name) (last (Exported name) (type_reference_lawful ty))))
+  instance_finds d (CoreTyped ty) = row_finds _ _ 0x00 (read_core_type >>= λ t. give (CoreTyped t)) (λ rest. refl) (lawful_finds _ (last CoreTyped (core_type_lawful ty)))
+  instance_finds d (Typed ty) = row_finds _ _ 0x01 (read_type d >>= λ t. give (Typed t)) (λ rest. refl) (last_finds Typed (type_finds d ty))
+  instance_finds d (Aliased to) = row_finds _ _ 0x02 (read_alias >>= λ t. give (Aliased t)) (λ rest. refl) (lawful_finds _ (last Aliased (alias_lawful to)))
+  instance_finds d (Exported name ty) = row_finds _ _ 0x04 read_exported_type (λ rest. refl) (lawful_finds _ (then _ (extern_name_lawful name) (last (Exported name) (type_reference_lawful ty))))
 
   component_finds : (d : ℕ) (x : ComponentDeclaration) → Finds (component_declaration x) (read_component_declaration (read_type d)) x (d < opened x)
-  component_finds d (Imported name ty) = row_finds _ _ 0x03 (flat read_imported) (λ bytes rest. refl) (flat_finds _ (then _ (extern_name_lawful name) (last (Imported name) (type_reference_lawful ty))))
+  component_finds d (Imported name ty) = row_finds _ _ 0x03 read_imported (λ rest. refl) (lawful_finds _ (then _ (extern_name_lawful name) (last (Imported name) (type_reference_lawful ty))))
   component_finds d (Declared x) = other_finds _ _ (unmixed (read_type d)) (nothing_declared (read_type d)) (last_finds Declared (instance_finds d x))
 
-  instances_find : (d : ℕ) (ds : InstanceDeclarations) → Finds (each_instance ds) (repeat (read_instance_declaration (read_type d)) (instance_count ds)) (instance_list ds) (d < instance_depth ds)
+  instances_find : (d : ℕ) (ds : InstanceDeclarations) → Finds (each_instance ds) (times (read_instance_declaration (read_type d)) (instance_count ds)) (instance_list ds) (d < instance_depth ds)
   instances_find d no_instance = nothing_finds [] (d < 0)
   instances_find d (and_instance x ds) = then_finds _ (or_deeper _ (λ lt. omega arith) (instance_finds d x)) (last_finds _ (or_deeper _ (λ lt. omega arith) (instances_find d ds)))
 
-  components_find : (d : ℕ) (ds : ComponentDeclarations) → Finds (each_component ds) (repeat (read_component_declaration (read_type d)) (component_count ds)) (component_list ds) (d < component_depth ds)
+  components_find : (d : ℕ) (ds : ComponentDeclarations) → Finds (each_component ds) (times (read_component_declaration (read_type d)) (component_count ds)) (component_list ds) (d < component_depth ds)
   components_find d no_component = nothing_finds [] (d < 0)
   components_find d (and_component (Imported name ty) ds) = then_finds _ (or_deeper _ (λ lt. omega arith) (component_finds d (Imported name ty))) (last_finds _ (components_find d ds))
   components_find d (and_component (Declared x) ds) = then_finds _ (or_deeper _ (λ lt. omega arith) (component_finds d (Declared x))) (last_finds _ (or_deeper _ (λ lt. omega arith) (components_find d ds)))
 
 -- a type of values that is found is found as a type
-pub shallow_found : (d : ℕ) (ty : DefValType) (bytes rest : List ℕ) → read_defined bytes ≡ Some (ty, rest) → read_type d bytes ≡ Ok (DefinedType ty, rest)
-shallow_found d ty bytes rest e = agreed (d < 0) (DefinedType ty, rest) (read_type d bytes) ((type_finds d (DefinedType ty)).finds bytes rest (read_so (read_defined bytes) e (defined_sound.reads bytes))) (λ lt. omega arith)
+pub shallow_found : (d : ℕ) (ty : DefValType) (bytes rest : List ℕ) → read_defined bytes ≡ Ok (ty, rest) → read_type d bytes ≡ Ok (DefinedType ty, rest)
+shallow_found d ty bytes rest e = agreed (d < 0) (DefinedType ty, rest) (read_type d bytes) ((type_finds d (DefinedType ty)).finds bytes rest (read_so (read_defined bytes) e (defined_sound.tells bytes))) (λ lt. omega arith)
   where
-    read_so : (some : Option (DefValType × List ℕ)) → some ≡ Some (ty, rest) → Then (λ v after. (def_val_type v).Reads Wide bytes after) some → (def_val_type ty).Reads Wide bytes rest
+    read_so : (some : Result (DefValType × List ℕ) Flaw) → some ≡ Ok (ty, rest) → Told (λ x. (def_val_type x.0).Reads Wide bytes x.1) ⊥ some → (def_val_type ty).Reads Wide bytes rest
     read_so some e h = rw e at h

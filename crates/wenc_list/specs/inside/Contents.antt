@@ -1,16 +1,15 @@
 -- Readers of sections and of what is in them.
-use Rattle.std.specs.Prelude.{ℕ, List, [], ◌∷◌, length, take, drop, Option, Some, None, Result, Ok}
+use Rattle.std.specs.Prelude.{ℕ, List, [], ◌∷◌, length, take, drop, Result, Ok}
 use Rattle.std.specs.Prelude.{Err, nat_eq, nat_lt, if◌then◌else◌}
 use Rattle.wenc_base.specs.Custom.{Custom}
 use Rattle.wenc_base.specs.laws.Forms.{read_name, read_list, read_bytes}
-use Rattle.wenc_base.specs.laws.Lawful.{Reader, go_on, ◌>>=◌, give, done}
+use Rattle.wenc_base.specs.Readers.{Flaw, Bad, Reader, go_on, ◌>>=◌, give, nowhere, times, done}
+use Rattle.wenc_base.specs.Readers.{made}
 use Rattle.wenc_base.specs.laws.Numbers.{read_u32}
 use Rattle.wenc_builder.specs.Item.{Item, ModuleItem, CoreInstanceItem, CoreTypeItem, ComponentItem}
 use Rattle.wenc_builder.specs.Item.{InstanceItem, AliasItem, TypeItem, CanonItem, StartItem}
 use Rattle.wenc_builder.specs.Item.{ImportItem, ExportItem, CustomItem}
 use Rattle.wenc_canon.specs.laws.Canonicals.{read_canonical}
-use Rattle.wenc_decode.specs.inside.Outcomes.{Flaw, Bad, DeepReader, flat, ◌>>>◌, yield, refuse}
-use Rattle.wenc_decode.specs.inside.Outcomes.{repeat, reserved}
 use Rattle.wenc_decode.specs.inside.TypeTrees.{read_type}
 use Rattle.wenc_parts.specs.laws.Aliases.{read_alias}
 use Rattle.wenc_read.specs.declared.refusal.Refusal.{Refusal}
@@ -36,8 +35,8 @@ read_instance_item = read_instance >>= λ i. give (InstanceItem i)
 abbrev pub read_alias_item : Reader Item
 read_alias_item = read_alias >>= λ to. give (AliasItem to)
 
-abbrev pub read_type_item : ℕ → DeepReader Item
-read_type_item depth = read_type depth >>> λ t. yield (TypeItem t)
+abbrev pub read_type_item : ℕ → Reader Item
+read_type_item depth = read_type depth >>= λ t. give (TypeItem t)
 
 abbrev pub read_canonical_item : Reader Item
 read_canonical_item = read_canonical >>= λ f. give (CanonItem f)
@@ -49,22 +48,22 @@ abbrev pub read_export_item : Reader Item
 read_export_item = read_inline_export >>= λ e. give (ExportItem e)
 
 -- each kind's reader, by the id of the section that collects it
-abbrev pub content_rows : ℕ → List (ℕ × DeepReader Item)
+abbrev pub content_rows : ℕ → List (ℕ × Reader Item)
 content_rows depth =
-    (2, flat read_core_instance_item) ∷
-    (3, flat read_core_type_item) ∷
-    (5, flat read_instance_item) ∷
-    (6, flat read_alias_item) ∷
+    (2, read_core_instance_item) ∷
+    (3, read_core_type_item) ∷
+    (5, read_instance_item) ∷
+    (6, read_alias_item) ∷
     (7, read_type_item depth) ∷
-    (8, flat read_canonical_item) ∷
-    (10, flat read_import_item) ∷
-    (11, flat read_export_item) ∷ []
+    (8, read_canonical_item) ∷
+    (10, read_import_item) ∷
+    (11, read_export_item) ∷ []
 
-abbrev pub content_row_of : {A : Type 0} → List (ℕ × DeepReader A) → ℕ → DeepReader A
-content_row_of [] id = refuse
+abbrev pub content_row_of : {A : Type 0} → List (ℕ × Reader A) → ℕ → Reader A
+content_row_of [] id = nowhere
 content_row_of (row ∷ table) id = if nat_eq id row.0 then row.1 else content_row_of table id
 
-abbrev pub read_content_item : ℕ → ℕ → DeepReader Item
+abbrev pub read_content_item : ℕ → ℕ → Reader Item
 read_content_item depth id = content_row_of (content_rows depth) id
 
 -- ---- what fills a section
@@ -73,25 +72,24 @@ abbrev pub labelled_section : List ℕ → List ℕ → Custom
 labelled_section label bytes = record { label = label; bytes = bytes }
 
 -- a name, and the data that belong to it
-abbrev pub read_custom_content : List ℕ → Option Custom
+abbrev pub read_custom_content : List ℕ → Result Custom Flaw
 read_custom_content content = go_on (read_name content) (λ label. read_bytes (labelled_section label))
 
-abbrev pub read_start_content : List ℕ → Option Start
+abbrev pub read_start_content : List ℕ → Result Start Flaw
 read_start_content =
     done (read_u32 >>= λ function. read_list read_u32 >>= λ arguments. read_u32 >>= λ results. give
     (started function arguments results))
 
-abbrev pub read_raw : List ℕ → Option (List ℕ)
+abbrev pub read_raw : List ℕ → Result (List ℕ) Flaw
 read_raw = read_bytes (λ bytes. bytes)
 
 -- a count, and so many items
 abbrev pub read_items : ℕ → ℕ → List ℕ → Result (List Item) Flaw
-read_items depth id content = reserved ((flat read_u32 >>> repeat (read_content_item depth id)) content)
+read_items depth id = done (read_u32 >>= times (read_content_item depth id))
 
--- the items of what fills a section, made of what was read
-abbrev pub single : {A : Type 0} → (A → Item) → Option A → Result (List Item) Flaw
-single make None = Err Bad
-single make (Some v) = Ok (make v ∷ [])
+-- one item, made of what was read
+abbrev pub single : {A : Type 0} → (A → Item) → Result A Flaw → Result (List Item) Flaw
+single make found = made (λ v. make v ∷ []) found
 
 -- the items of a section with this id
 abbrev pub read_content : ℕ → ℕ → List ℕ → Result (List Item) Flaw
@@ -106,12 +104,12 @@ read_content depth id content =
 
 -- the id, at most 11, and the content of the section that begins here
 abbrev pub read_frame : Reader (ℕ × List ℕ)
-read_frame [] = None
+read_frame [] = Err Bad
 read_frame (id ∷ bytes) =
-    if nat_lt 11 id then None
+    if nat_lt 11 id then Err Bad
     else go_on (read_u32 bytes)
-    (λ size rest. if nat_lt (length rest) size then None
-    else Some ((id, take size rest), drop size rest))
+    (λ size rest. if nat_lt (length rest) size then Err Bad
+    else Ok ((id, take size rest), drop size rest))
 
 -- ---- faults
 

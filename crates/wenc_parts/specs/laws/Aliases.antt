@@ -1,10 +1,11 @@
 -- The laws of aliases.
 use Rattle.std.proofs.Common.{ℕ, List, [], ◌∷◌, refl}
 use Rattle.wenc_base.specs.Piece.{Piece, Form, Wide, byte, ◌▸◌, ◌⨾◌}
-use Rattle.wenc_base.specs.laws.Sound.{Sound, sound_behind, give_sound, last_sound, then_sound, nowhere_sound, choose_sound}
+use Rattle.wenc_base.specs.laws.Sound.{Sound, sound_behind, give_tells, last_tells, then_tells, nowhere_tells, choose_tells}
 use Rattle.wenc_base.specs.Number.{u32}
 use Rattle.wenc_base.specs.Forms.{name as name_form}
-use Rattle.wenc_base.specs.laws.Lawful.{Lawful, Reader, ◌>>=◌, give, nowhere, choose, row_lawful, row_byte, first_byte, first_of_two, then, last}
+use Rattle.wenc_base.specs.Readers.{Lawful, Reader, ◌>>=◌, give, nowhere, choose}
+use Rattle.wenc_base.specs.laws.Lawful.{row_lawful, row_byte, first_byte, first_of_two, then, last}
 use Rattle.wenc_base.specs.laws.Numbers.{read_u32, u32_lawful, u32_sound}
 use Rattle.wenc_base.specs.laws.Forms.{read_name, name_lawful, name_sound}
 use Rattle.wenc_base.specs.declared.exports.ExportKind.{ExportKind}
@@ -32,10 +33,10 @@ outer_kind_lawful outers.«Type» = row_byte _ _ 0x03 (λ fuel rest. refl)
 outer_kind_lawful outers.Component = row_byte _ _ 0x04 (λ fuel rest. refl)
 
 pub outer_kind_sound : Sound outer_kind read_outer_kind
-outer_kind_sound = choose_sound _ _ (
-  choose_sound _ _ (give_sound outers.CoreModule (λ bytes. (_, refl, refl)), (give_sound outers.CoreType (λ bytes. (_, refl, refl)), tt)) nowhere_sound,
-  (give_sound outers.«Type» (λ bytes. refl), (give_sound outers.Component (λ bytes. refl), tt)),
-) nowhere_sound
+outer_kind_sound = choose_tells _ _ (
+  choose_tells _ _ (give_tells outers.CoreModule (λ bytes. (_, refl, refl)), (give_tells outers.CoreType (λ bytes. (_, refl, refl)), tt)) nowhere_tells,
+  (give_tells outers.«Type» (λ bytes. refl), (give_tells outers.Component (λ bytes. refl), tt)),
+) nowhere_tells
 
 -- ---- aliases
 
@@ -104,13 +105,13 @@ abbrev IsAlias : Piece → Form AliasOf → AliasOf → Type 0
 IsAlias p form a = (bytes rest : List ℕ) → p.Reads Wide bytes rest → (form a).Reads Wide bytes rest
 
 export_sound : {form : Form AliasOf} (kind : ComponentExportKind) → ((i : ℕ) (n : List ℕ) → IsAlias (u32 i ⨾ name_form n) form (InstanceExport i kind n)) → Sound form (read_export kind)
-export_sound kind k = then_sound _ u32_sound (λ i. last_sound (InstanceExport i kind) name_sound (λ n middle rest r bytes p. k i n bytes rest (middle, p, r)))
+export_sound kind k = then_tells _ u32_sound (λ i. last_tells (InstanceExport i kind) name_sound (λ n middle rest r bytes p. k i n bytes rest (middle, p, r)))
 
 outer_sound : {form : Form AliasOf} (kind : ComponentOuterAliasKind) → ((c n : ℕ) → IsAlias (u32 c ⨾ u32 n) form (Outer kind c n)) → Sound form (read_outer kind)
-outer_sound kind k = then_sound _ u32_sound (λ c. last_sound (Outer kind c) u32_sound (λ n middle rest r bytes p. k c n bytes rest (middle, p, r)))
+outer_sound kind k = then_tells _ u32_sound (λ c. last_tells (Outer kind c) u32_sound (λ n middle rest r bytes p. k c n bytes rest (middle, p, r)))
 
 core_sound : {form : Form AliasOf} (kind : ExportKind) → ((i : ℕ) (n : List ℕ) → IsAlias (u32 i ⨾ name_form n) (sound_behind 0x01 form) (CoreInstanceExport i kind n)) → Sound form (read_core_export kind)
-core_sound kind k = choose_sound _ _ (then_sound _ u32_sound (λ i. last_sound (CoreInstanceExport i kind) name_sound (λ n middle rest r bytes p. k i n bytes rest (middle, p, r))), tt) nowhere_sound
+core_sound kind k = choose_tells _ _ (then_tells _ u32_sound (λ i. last_tells (CoreInstanceExport i kind) name_sound (λ n middle rest r bytes p. k i n bytes rest (middle, p, r))), tt) nowhere_tells
 
 -- of the core kind with this byte
 core_row : (kind : ExportKind) → Sound (sound_behind (export_kind_byte kind) (sound_behind 0x00 alias)) (read_core_export kind)
@@ -118,11 +119,11 @@ core_row kind = core_sound kind (λ i n bytes rest r. (_, refl, (_, refl, (_, re
 
 -- of a sort that is one byte
 only_row : (kind : ComponentExportKind) (b : ℕ) → ((rest : List ℕ) → (component_export_kind kind).Reads Wide (b ∷ rest) rest) → Sound (sound_behind b alias) (choose ((0x00, read_export kind) ∷ []) nowhere)
-only_row kind b k = choose_sound _ _ (export_sound kind (λ i n bytes rest r. (_, k _, (_, refl, r))), tt) nowhere_sound
+only_row kind b k = choose_tells _ _ (export_sound kind (λ i n bytes rest r. (_, k _, (_, refl, r))), tt) nowhere_tells
 
 either_sound : {form : Form AliasOf} (kind : ComponentExportKind) (outer : ComponentOuterAliasKind) → ((i : ℕ) (n : List ℕ) → IsAlias (0x00 ▸ u32 i ⨾ name_form n) form (InstanceExport i kind n))
     → ((c n : ℕ) → IsAlias (0x02 ▸ u32 c ⨾ u32 n) form (Outer outer c n)) → Sound form (read_either kind outer)
-either_sound kind outer k l = choose_sound _ _ (export_sound kind (λ i n bytes rest r. k i n _ rest (bytes, refl, r)), (outer_sound outer (λ c n bytes rest r. l c n _ rest (bytes, refl, r)), tt)) nowhere_sound
+either_sound kind outer k l = choose_tells _ _ (export_sound kind (λ i n bytes rest r. k i n _ rest (bytes, refl, r)), (outer_sound outer (λ c n bytes rest r. l c n _ rest (bytes, refl, r)), tt)) nowhere_tells
 
 core_rows_sound : Sound (sound_behind 0x00 alias) (choose (
     (0x00, read_core_export cores.Func) ∷
@@ -132,7 +133,7 @@ core_rows_sound : Sound (sound_behind 0x00 alias) (choose (
     (0x04, read_core_export cores.Tag) ∷
     (0x10, choose ((0x02, read_outer outers.CoreType) ∷ []) nowhere) ∷
     (0x11, read_either kinds.Module outers.CoreModule) ∷ []) nowhere)
-core_rows_sound = choose_sound _ _ (
+core_rows_sound = choose_tells _ _ (
   core_row cores.Func,
   (
     core_row cores.Table,
@@ -143,17 +144,17 @@ core_rows_sound = choose_sound _ _ (
         (
           core_row cores.Tag,
           (
-            choose_sound _ _ (outer_sound outers.CoreType (λ c n bytes rest r. (_, (_, refl, refl), (_, refl, r))), tt) nowhere_sound,
+            choose_tells _ _ (outer_sound outers.CoreType (λ c n bytes rest r. (_, (_, refl, refl), (_, refl, r))), tt) nowhere_tells,
             (either_sound kinds.Module outers.CoreModule (λ i n bytes rest r. (_, (_, refl, refl), r)) (λ c n bytes rest r. (_, (_, refl, refl), r)), tt),
           ),
         ),
       ),
     ),
   ),
-) nowhere_sound
+) nowhere_tells
 
 pub alias_sound : Sound alias read_alias
-alias_sound = choose_sound _ _ (
+alias_sound = choose_tells _ _ (
   core_rows_sound,
   (
     only_row kinds.Func 0x01 (λ rest. refl),
@@ -168,4 +169,4 @@ alias_sound = choose_sound _ _ (
       ),
     ),
   ),
-) nowhere_sound
+) nowhere_tells

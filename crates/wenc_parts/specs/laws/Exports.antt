@@ -1,7 +1,8 @@
 -- The laws of the kinds of exports.
 use Rattle.std.proofs.Common.{[], ◌∷◌, refl}
-use Rattle.wenc_base.specs.laws.Lawful.{Lawful, Reader, give, nowhere, choose, row_lawful, row_byte}
-use Rattle.wenc_base.specs.laws.Sound.{Sound, give_sound, nowhere_sound, choose_sound}
+use Rattle.wenc_base.specs.Readers.{Lawful, Reader, give, nowhere, choose}
+use Rattle.wenc_base.specs.laws.Lawful.{row_lawful, row_byte}
+use Rattle.wenc_base.specs.laws.Sound.{Sound, give_tells, nowhere_tells, choose_tells}
 use Rattle.wenc_parts.specs.declared.exports.ComponentExportKind.{ComponentExportKind}
 use Rattle.wenc_parts.specs.declared.exports.ComponentExportKind.TheVariants.{Module, Func, Value, «Type» as TypeKind, Instance, Component}
 use Rattle.wenc_parts.specs.Exports.{component_export_kind}
@@ -24,13 +25,13 @@ component_export_kind_lawful Instance = row_byte _ _ 0x05 (λ fuel rest. refl)
 component_export_kind_lawful Component = row_byte _ _ 0x04 (λ fuel rest. refl)
 
 pub component_export_kind_sound : Sound component_export_kind read_component_export_kind
-component_export_kind_sound = choose_sound _ _ (
-  choose_sound _ _ (give_sound Module (λ bytes. (_, refl, refl)), tt) nowhere_sound,
+component_export_kind_sound = choose_tells _ _ (
+  choose_tells _ _ (give_tells Module (λ bytes. (_, refl, refl)), tt) nowhere_tells,
   (
-    give_sound Func (λ bytes. refl),
+    give_tells Func (λ bytes. refl),
     (
-      give_sound Value (λ bytes. refl),
-      (give_sound TypeKind (λ bytes. refl), (give_sound Instance (λ bytes. refl), (give_sound Component (λ bytes. refl), tt))),
+      give_tells Value (λ bytes. refl),
+      (give_tells TypeKind (λ bytes. refl), (give_tells Instance (λ bytes. refl), (give_tells Component (λ bytes. refl), tt))),
     ),
   ),
-) nowhere_sound
+) nowhere_tells

@@ -1,10 +1,11 @@
 -- The laws of type references and of names.
 use Rattle.std.specs.Prelude.{nat_lt}
-use Rattle.std.proofs.Common.{◌≡◌, ℕ, suc, Bool, true, false, true≢false, cond, ◌++◌, List, [], ◌∷◌, Option, Some, None, refl, sym, ap, subst, inl, inr}
+use Rattle.std.proofs.Common.{◌≡◌, ℕ, suc, Bool, true, false, true≢false, cond, ◌++◌, List, [], ◌∷◌, Option, Some, None, Ok, Err, refl, sym, ap, subst, inl, inr}
 use Rattle.wenc_base.specs.Forms.{name, list}
 use Rattle.wenc_parts.specs.Exports.{component_export_kind}
-use Rattle.wenc_base.specs.laws.Lawful.{Lawful, Reader, ◌>>=◌, give, nowhere, choose, row_lawful, row_also, row_byte, then, last}
-use Rattle.wenc_base.specs.laws.Sound.{Then, Sound, give_sound, last_sound, then_sound, nowhere_sound, choose_sound}
+use Rattle.wenc_base.specs.Readers.{Bad, Lawful, Reader, ◌>>=◌, give, nowhere, choose}
+use Rattle.wenc_base.specs.laws.Lawful.{row_lawful, row_also, row_byte, then, last}
+use Rattle.wenc_base.specs.laws.Sound.{Told, Sound, give_tells, last_tells, then_tells, nowhere_tells, choose_tells}
 use Rattle.wenc_base.specs.Piece.{Wide}
 use Rattle.wenc_base.specs.laws.Numbers.{read_u32, u32_lawful, u32_sound}
 use Rattle.wenc_base.specs.laws.Forms.{read_name, name_lawful, name_sound, read_list, list_lawful, list_sound}
@@ -25,7 +26,7 @@ type_bounds_lawful (Eq n) = row_lawful _ _ 0x00 (last Eq (u32_lawful n))
 type_bounds_lawful SubResource = row_byte _ _ 0x01 (λ fuel rest. refl)
 
 pub type_bounds_sound : Sound type_bounds read_type_bounds
-type_bounds_sound = choose_sound _ _ (last_sound Eq u32_sound (λ n bytes rest r. (bytes, refl, r)), (give_sound SubResource (λ bytes. refl), tt)) nowhere_sound
+type_bounds_sound = choose_tells _ _ (last_tells Eq u32_sound (λ n bytes rest r. (bytes, refl, r)), (give_tells SubResource (λ bytes. refl), tt)) nowhere_tells
 
 abbrev pub read_type_reference : Reader ComponentTypeRef
 read_type_reference = choose (
@@ -45,19 +46,19 @@ type_reference_lawful (Instance n) = row_lawful _ _ 0x05 (last Instance (u32_law
 type_reference_lawful (Component n) = row_lawful _ _ 0x04 (last Component (u32_lawful n))
 
 pub type_reference_sound : Sound type_reference read_type_reference
-type_reference_sound = choose_sound _ _ (
-  choose_sound _ _ (last_sound Module u32_sound (λ n bytes rest r. (_, refl, (bytes, refl, r))), tt) nowhere_sound,
+type_reference_sound = choose_tells _ _ (
+  choose_tells _ _ (last_tells Module u32_sound (λ n bytes rest r. (_, refl, (bytes, refl, r))), tt) nowhere_tells,
   (
-    last_sound Func u32_sound (λ n bytes rest r. (bytes, refl, r)),
+    last_tells Func u32_sound (λ n bytes rest r. (bytes, refl, r)),
     (
-      last_sound Value value_type_sound (λ t bytes rest r. (bytes, refl, r)),
+      last_tells Value value_type_sound (λ t bytes rest r. (bytes, refl, r)),
       (
-        last_sound TypeRef type_bounds_sound (λ b bytes rest r. (bytes, refl, r)),
-        (last_sound Instance u32_sound (λ n bytes rest r. (bytes, refl, r)), (last_sound Component u32_sound (λ n bytes rest r. (bytes, refl, r)), tt)),
+        last_tells TypeRef type_bounds_sound (λ b bytes rest r. (bytes, refl, r)),
+        (last_tells Instance u32_sound (λ n bytes rest r. (bytes, refl, r)), (last_tells Component u32_sound (λ n bytes rest r. (bytes, refl, r)), tt)),
       ),
     ),
   ),
-) nowhere_sound
+) nowhere_tells
 
 -- ---- names
 
@@ -73,10 +74,10 @@ name_option_lawful (VersionSuffix text) = row_lawful _ _ 0x01 (last VersionSuffi
 name_option_lawful (ExternalId text) = row_lawful _ _ 0x02 (last ExternalId (name_lawful text))
 
 pub name_option_sound : Sound name_option read_name_option
-name_option_sound = choose_sound _ _ (
-  last_sound Implements name_sound (λ text bytes rest r. (bytes, refl, r)),
-  (last_sound VersionSuffix name_sound (λ text bytes rest r. (bytes, refl, r)), (last_sound ExternalId name_sound (λ text bytes rest r. (bytes, refl, r)), tt)),
-) nowhere_sound
+name_option_sound = choose_tells _ _ (
+  last_tells Implements name_sound (λ text bytes rest r. (bytes, refl, r)),
+  (last_tells VersionSuffix name_sound (λ text bytes rest r. (bytes, refl, r)), (last_tells ExternalId name_sound (λ text bytes rest r. (bytes, refl, r)), tt)),
+) nowhere_tells
 
 abbrev pub with_option : NameOption → ExternName → ExternName
 with_option (Implements text) n = record { name = n.name; implements = Some text; version_suffix = n.version_suffix; external_id = n.external_id }
@@ -116,7 +117,7 @@ are_options [] = false
 are_options (o ∷ os) = ascend_from 0 (o ∷ os)
 
 abbrev pub given_options : List ℕ → List NameOption → Reader ExternName
-given_options text options bytes = cond (are_options options) (Some (with_options text options, bytes)) None
+given_options text options bytes = cond (are_options options) (Ok (with_options text options, bytes)) (Err Bad)
 
 abbrev pub read_extern_name : Reader ExternName
 read_extern_name = choose (
@@ -140,7 +141,7 @@ name_with_lawful text [] e = row_also _ _ 0x00 0x01 (last plain_name (name_lawfu
 name_with_lawful text (o ∷ os) e =
     row_lawful _ _ 0x02 (then _ (name_lawful text) (given_last (o ∷ os) (λ bytes. rw e refl) (list_lawful name_option_lawful (o ∷ os))))
   where
-    given_last : (options : List NameOption) → ((bytes : List ℕ) → given_options text options bytes ≡ Some (with_options text options, bytes)) → Lawful (list name_option options) (λ fuel. read_list read_name_option) options
+    given_last : (options : List NameOption) → ((bytes : List ℕ) → given_options text options bytes ≡ Ok (with_options text options, bytes)) → Lawful (list name_option options) (λ fuel. read_list read_name_option) options
         → Lawful (list name_option options) (λ fuel. read_list read_name_option >>= given_options text) (with_options text options)
     given_last options is l = record {
       text_is_read = l.text_is_read;
@@ -200,18 +201,18 @@ options_sound text [] bytes middle rest e p r = refused e
 options_sound text (o ∷ os) bytes middle rest e p r = rw (same_options text (o ∷ os) e, own_name_option text (o ∷ os)) (bytes, refl, (middle, p, r))
 
 pub extern_name_sound : Sound extern_name read_extern_name
-extern_name_sound = choose_sound _ _ (
-  last_sound plain_name name_sound (λ text bytes rest r. (bytes, inl refl, r)),
+extern_name_sound = choose_tells _ _ (
+  last_tells plain_name name_sound (λ text bytes rest r. (bytes, inl refl, r)),
   (
-    last_sound plain_name name_sound (λ text bytes rest r. (bytes, inr (tt, refl), r)),
-    (then_sound _ name_sound (λ text. then_sound _ (list_sound name_option_sound) (λ options. record { reads = λ rest. tested text options rest })), tt),
+    last_tells plain_name name_sound (λ text bytes rest r. (bytes, inr (tt, refl), r)),
+    (then_tells _ name_sound (λ text. then_tells _ (list_sound name_option_sound) (λ options. record { tells = λ rest. tested text options rest })), tt),
   ),
-) nowhere_sound
+) nowhere_tells
   where
     tested : (text : List ℕ) (options : List NameOption) (rest : List ℕ)
-        → Then (λ n end. (middle : List ℕ) → (list name_option options).Reads Wide middle rest → (bytes : List ℕ) → (name text).Reads Wide bytes middle → (extern_name n).Reads Wide (0x02 ∷ bytes) end) (given_options text options rest)
+        → Told (λ (x : ExternName × List ℕ). (middle : List ℕ) → (list name_option options).Reads Wide middle rest → (bytes : List ℕ) → (name text).Reads Wide bytes middle → (extern_name x.0).Reads Wide (0x02 ∷ bytes) x.1) ⊥ (given_options text options rest)
     tested text options rest =
-        elim (are_options options) as (λ t. are_options options ≡ t → Then (λ n end. (middle : List ℕ) → (list name_option options).Reads Wide middle rest → (bytes : List ℕ) → (name text).Reads Wide bytes middle → (extern_name n).Reads Wide (0x02 ∷ bytes) end) (cond t (Some (with_options text options, rest)) None)) [
+        elim (are_options options) as (λ t. are_options options ≡ t → Told (λ (x : ExternName × List ℕ). (middle : List ℕ) → (list name_option options).Reads Wide middle rest → (bytes : List ℕ) → (name text).Reads Wide bytes middle → (extern_name x.0).Reads Wide (0x02 ∷ bytes) x.1) ⊥ (cond t (Ok (with_options text options, rest)) (Err Bad))) [
           | true ↦ λ e. λ middle r bytes p. options_sound text options bytes middle rest e p r
           | false ↦ λ e. tt
         ] refl

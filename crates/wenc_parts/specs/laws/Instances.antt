@@ -1,7 +1,8 @@
 -- The law of what a core module is given.
 use Rattle.std.proofs.Common.{[], ◌∷◌, refl}
-use Rattle.wenc_base.specs.laws.Sound.{Sound, last_sound, nowhere_sound, choose_sound}
-use Rattle.wenc_base.specs.laws.Lawful.{Lawful, Reader, ◌>>=◌, give, nowhere, choose, row_lawful, last}
+use Rattle.wenc_base.specs.laws.Sound.{Sound, last_tells, nowhere_tells, choose_tells}
+use Rattle.wenc_base.specs.Readers.{Lawful, Reader, ◌>>=◌, give, nowhere, choose}
+use Rattle.wenc_base.specs.laws.Lawful.{row_lawful, last}
 use Rattle.wenc_base.specs.laws.Numbers.{read_u32, u32_lawful, u32_sound}
 use Rattle.wenc_parts.specs.declared.instances.ModuleArg.{ModuleArg}
 use Rattle.wenc_parts.specs.declared.instances.ModuleArg.TheVariants.{Instance}
@@ -14,4 +15,4 @@ pub module_argument_lawful : (argument : ModuleArg) → Lawful (module_argument 
 module_argument_lawful (Instance n) = row_lawful _ _ 0x12 (last Instance (u32_lawful n))
 
 pub module_argument_sound : Sound module_argument read_module_argument
-module_argument_sound = choose_sound _ _ (last_sound Instance u32_sound (λ n bytes rest r. (bytes, refl, r)), tt) nowhere_sound
+module_argument_sound = choose_tells _ _ (last_tells Instance u32_sound (λ n bytes rest r. (bytes, refl, r)), tt) nowhere_tells

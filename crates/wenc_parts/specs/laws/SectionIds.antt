@@ -1,6 +1,7 @@
 -- The law of the ids of sections.
 use Rattle.std.proofs.Common.{[], ◌∷◌, refl}
-use Rattle.wenc_base.specs.laws.Lawful.{Lawful, Reader, give, nowhere, choose, row_byte}
+use Rattle.wenc_base.specs.Readers.{Lawful, Reader, give, nowhere, choose}
+use Rattle.wenc_base.specs.laws.Lawful.{row_byte}
 use Rattle.wenc_parts.specs.declared.component.ComponentSectionId.{ComponentSectionId}
 use Rattle.wenc_parts.specs.declared.component.ComponentSectionId.TheVariants.{CoreCustom, CoreModule, CoreInstance, CoreType, Component, Instance, Alias, «Type» as TypeSection, CanonicalFunction, Start, Import, Export}
 use Rattle.wenc_parts.specs.SectionIds.{section_id}

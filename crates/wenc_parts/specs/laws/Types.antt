@@ -1,6 +1,7 @@
 -- The laws of value types.
 use Rattle.std.proofs.Common.{◌≡◌, ap, ℕ, List, [], ◌∷◌, ◌++◌, Option, Some, None, refl, arith}
-use Rattle.wenc_base.specs.laws.Lawful.{Lawful, Reader, ◌>>=◌, give, nowhere, choose, row_lawful, row_byte, past, last}
+use Rattle.wenc_base.specs.Readers.{Lawful, Reader, ◌>>=◌, give, nowhere, choose}
+use Rattle.wenc_base.specs.laws.Lawful.{row_lawful, row_byte, past, last}
 use Rattle.wenc_base.specs.laws.Numbers.{read_index, index_lawful, index_sound, index_starts}
 use Rattle.wenc_parts.specs.declared.types.PrimitiveValType.{PrimitiveValType}
 use Rattle.wenc_parts.specs.declared.types.PrimitiveValType.TheVariants.{Bool, S8, U8, S16, U16, S32, U32, S64, U64, F32, F64, Char, String, ErrorContext}
@@ -8,7 +9,7 @@ use Rattle.wenc_parts.specs.declared.types.ComponentValType.{ComponentValType}
 use Rattle.wenc_parts.specs.declared.types.ComponentValType.TheVariants.{Primitive, «Type» as TypeIndex}
 use Rattle.wenc_parts.specs.declared.types.ResultList.{ResultList}
 use Rattle.wenc_base.specs.Piece.{Form, Wide}
-use Rattle.wenc_base.specs.laws.Sound.{Sound, RowsAreSound, given_rows, give_sound, last_sound, nowhere_sound, choose_sound}
+use Rattle.wenc_base.specs.laws.Sound.{Sound, RowsAreSound, given_rows, give_tells, last_tells, nowhere_tells, choose_tells}
 use Rattle.wenc_parts.specs.Types.{primitive_byte, primitive, value_type, result_list}
 
 abbrev pub primitive_rows : {A : Type 0} → (PrimitiveValType → A) → List (ℕ × Reader A)
@@ -60,7 +61,7 @@ pub primitive_lawful : (p : PrimitiveValType) → Lawful (primitive p) (λ fuel.
 primitive_lawful p = primitive_row (λ q. q) (λ fuel. []) _ p
 
 pub primitive_sound : Sound primitive read_primitive
-primitive_sound = choose_sound _ _ (primitive_rows_sound primitive (λ p. p) (λ p rest. refl)) nowhere_sound
+primitive_sound = choose_tells _ _ (primitive_rows_sound primitive (λ p. p) (λ p rest. refl)) nowhere_tells
 
 abbrev pub read_value_type : Reader ComponentValType
 read_value_type = choose (primitive_rows Primitive) (read_index >>= λ n. give (TypeIndex n))
@@ -70,7 +71,7 @@ value_type_lawful (Primitive p) = primitive_row Primitive (λ fuel. []) _ p
 value_type_lawful (TypeIndex n) = past _ _ (λ fuel. index_starts _ (λ b lt. omega arith) (λ b le. omega arith) n) (last TypeIndex (index_lawful n))
 
 pub value_type_sound : Sound value_type read_value_type
-value_type_sound = choose_sound _ _ (primitive_rows_sound value_type Primitive (λ p rest. refl)) (last_sound TypeIndex index_sound (λ n bytes rest r. r))
+value_type_sound = choose_tells _ _ (primitive_rows_sound value_type Primitive (λ p rest. refl)) (last_tells TypeIndex index_sound (λ n bytes rest r. r))
 
 abbrev pub read_result_list : Reader (Option ComponentValType)
 read_result_list = choose ((0x00, read_value_type >>= λ t. give (Some t)) ∷ (0x01, choose ((0x00, give None) ∷ []) nowhere) ∷ []) nowhere
@@ -80,10 +81,10 @@ result_list_lawful (Some t) = row_lawful _ _ 0x00 (last Some (value_type_lawful 
 result_list_lawful None = row_lawful _ _ 0x01 (row_byte _ _ 0x00 (λ fuel rest. refl))
 
 pub result_list_sound : Sound result_list read_result_list
-result_list_sound = choose_sound _ _ (
-  last_sound Some value_type_sound (λ t bytes rest r. (bytes, refl, r)),
-  (choose_sound _ _ (give_sound None (λ bytes. (_, refl, refl)), tt) nowhere_sound, tt),
-) nowhere_sound
+result_list_sound = choose_tells _ _ (
+  last_tells Some value_type_sound (λ t bytes rest r. (bytes, refl, r)),
+  (choose_tells _ _ (give_tells None (λ bytes. (_, refl, refl)), tt) nowhere_tells, tt),
+) nowhere_tells
 
 -- result lists with the same type are the same
 pub same_result_list : (a b : ResultList) → a.0 ≡ b.0 → a ≡ b

@@ -1,7 +1,7 @@
 -- How the options of a name are read, one after the other.
-use Rattle.std.specs.Prelude.{ℕ, List, Some, None, cond}
+use Rattle.std.specs.Prelude.{ℕ, List, Ok, Err, cond}
 use Rattle.std.specs.String.{string_bytes}
-use Rattle.wenc_base.specs.laws.Lawful.{Reader, ◌>>=◌, times}
+use Rattle.wenc_base.specs.Readers.{Bad, Reader, ◌>>=◌, times}
 use Rattle.wenc_parts.specs.Imports.{options_view, ExternName, NameOption, Implements}
 use Rattle.wenc_parts.specs.Imports.{VersionSuffix, ExternalId}
 use Rattle.wenc_parts.specs.laws.Imports.{read_name_option, with_options, ascend_from}
@@ -20,7 +20,7 @@ option_view (options.ExternalId text) = ExternalId (string_bytes text)
 -- where they ascend from this number on
 abbrev pub ascending : List ℕ → ℕ → List NameOption → Reader ExternName
 ascending text least options bytes =
-    cond (ascend_from least options) (Some (with_options text options, bytes)) None
+    cond (ascend_from least options) (Ok (with_options text options, bytes)) (Err Bad)
 
 -- so many options of a name
 abbrev pub read_options : List ℕ → ℕ → ℕ → Reader ExternName

@@ -1,13 +1,28 @@
--- What a table of first bytes finds.
-use Rattle.std.proofs.Common.{◌≡◌, ℕ, List, [], ◌∷◌, Some, refl}
-use Rattle.std.proofs.lemmas.Option.{some_pair_parts}
-use Rattle.wenc_base.specs.laws.Lawful.{Reader, pick, choose}
-use Rattle.wenc_read.specs.inside.Gives.{read_byte}
+-- What a table of first bytes finds, and where a reader stops.
+use Rattle.std.proofs.Common.{◌≡◌, ℕ, List, [], ◌∷◌, Result, Ok, refl}
+use Rattle.wenc_base.specs.laws.Lawful.{same_Ok_pair, IsPast, pick_past}
+use Rattle.wenc_base.specs.Readers.{Flaw, Reader, go_on, read_byte, pick, choose}
+use Rattle.wenc_read.specs.declared.refusal.Refusal.{Refusal}
+use Rattle.wenc_read.specs.declared.refusal.Refusal.TheVariants as refusals
+use Rattle.wenc_read.specs.inside.Gives.{Fails}
 
 -- what stands behind a first byte, by the row of that byte
-pub at_first : {A : Type 0} (table : List (ℕ × Reader A)) (other : Reader A) (b first : ℕ) (bytes rest : List ℕ) → read_byte bytes ≡ Some (first, rest) → first ≡ b → choose table other bytes ≡ pick table other b rest
+pub at_first : {A : Type 0} (table : List (ℕ × Reader A)) (other : Reader A) (b first : ℕ) (bytes rest : List ℕ) → read_byte bytes ≡ Ok (first, rest) → first ≡ b → choose table other bytes ≡ pick table other b rest
 unfolding choose
-at_first table other b first [] rest e d = absurd cc
-at_first table other b first (c ∷ bytes) rest e d =
-    let same = some_pair_parts c first bytes rest e in
-    rw (same.0, same.1, d) refl
+at_first table other b first bytes rest e d = rw (e, d) refl
+
+-- where there is a first byte, it begins the bytes
+pub first_there : (bytes rest : List ℕ) (b : ℕ) → read_byte bytes ≡ Ok (b, rest) → bytes ≡ b ∷ rest
+first_there [] rest b e = absurd cc
+first_there (c ∷ bytes) rest b e = let same = same_Ok_pair c b bytes rest e in rw (same.0, same.1) refl
+
+-- where the first byte is in no row, the other reader has all of the bytes
+pub past_rows : {A : Type 0} (table : List (ℕ × Reader A)) (other : Reader A) (b : ℕ) (bytes rest : List ℕ) → read_byte bytes ≡ Ok (b, rest) → IsPast table b → choose table other bytes ≡ other bytes
+unfolding choose
+past_rows table other b bytes rest e h = rw (first_there bytes rest b e) (pick_past table other b rest h)
+
+-- what fails fails whatever is made of it
+pub fails_on : {A B : Type 0} (e : Refusal) (found : Result (A × List ℕ) Flaw) (next : A → List ℕ → Result B Flaw) → Fails e found → Fails e (go_on found next)
+fails_on refusals.Memory found next h = tt
+fails_on refusals.Malformed found next h = rw h refl
+fails_on refusals.TooDeep found next h = rw h refl

@@ -6,18 +6,11 @@ use Rattle.wenc_base.specs.Forms.{name, list}
 use Rattle.wenc_base.specs.Holder.{listed}
 use Rattle.wenc_base.specs.Number.{u32}
 use Rattle.wenc_base.specs.Piece.{Piece, Form, nothing, ◌▸◌, ◌⨾◌}
-use Rattle.wenc_base.specs.laws.Serves.{serves_itself, serves_then, tagged_serves, both_serve, order_serves, with_nothing, right_free, list_serves, lists_serve}
+use Rattle.wenc_base.specs.laws.Serves.{serves_itself, serves_then, tagged_serves, both_serve, order_serves, two_serve, three_serve, with_nothing, right_free, list_serves, lists_serve}
 use Rattle.wenc_parts.specs.Exports.{component_export_kind}
 use Rattle.wenc_parts.specs.Imports.{extern_name}
 use Rattle.wenc_parts.specs.Instances.{module_argument}
 use Rattle.wenc_sections.specs.Instances.{Argument, argument, CoreExport, core_export, CoreInstantiate, CoreExports, core_instance, InstantiateArg, instantiate_arg, InlineExport, inline_export, Instantiate, Exports, instance}
-
--- two pieces, and three
-pub two_serve : (p q : Piece) → Serves (in_order p q) (p ⨾ q)
-two_serve p q = order_serves (serves_itself {p = p}) (serves_itself {p = q})
-
-pub three_serve : (p q r : Piece) → Serves (in_order p (in_order q r)) (p ⨾ q ⨾ r)
-three_serve p q r = order_serves (serves_itself {p = p}) (two_serve q r)
 
 tag_first : (b : ℕ) (p q : Piece) → Serves ((b ▸ p) ⨾ q) (b ▸ (p ⨾ q))
 tag_first b p q = record { text = refl; fits = λ h. h; among = λ fault c. c; free = λ none. none }

@@ -1,7 +1,8 @@
 -- The laws of the items of flat sections.
 use Rattle.std.proofs.Common.{ℕ, List, [], ◌∷◌, Option, refl}
-use Rattle.wenc_base.specs.laws.Lawful.{Lawful, Reader, ◌>>=◌, give, nowhere, choose, done, row_lawful, then, last, whole_lawful}
-use Rattle.wenc_base.specs.laws.Sound.{Sound, last_sound, then_sound, nowhere_sound, choose_sound, whole_sound}
+use Rattle.wenc_base.specs.Readers.{Lawful, Reader, ◌>>=◌, give, nowhere, choose, done}
+use Rattle.wenc_base.specs.laws.Lawful.{row_lawful, then, last, whole_lawful}
+use Rattle.wenc_base.specs.laws.Sound.{Sound, last_tells, then_tells, nowhere_tells, choose_tells, whole_sound}
 use Rattle.wenc_base.specs.laws.Numbers.{read_u32, u32_lawful, u32_sound}
 use Rattle.wenc_base.specs.laws.Forms.{read_name, name_lawful, name_sound, read_list, list_lawful, list_sound, read_option, option_lawful, option_sound, read_sized, sized_lawful, sized_sound}
 use Rattle.wenc_base.specs.laws.Exports.{read_core_export_kind as read_core_kind, core_export_kind_lawful as core_kind_lawful, core_export_kind_sound as core_kind_sound}
@@ -30,7 +31,7 @@ pub import_lawful : (i : Import) → Lawful (import_item i) (λ fuel. read_impor
 import_lawful i = then _ (extern_name_lawful i.name) (last (imported i.name) (type_reference_lawful i.what))
 
 pub import_sound : Sound import_item read_import
-import_sound = then_sound _ extern_name_sound (λ name. last_sound (imported name) type_reference_sound (λ what middle rest r bytes p. (middle, p, r)))
+import_sound = then_tells _ extern_name_sound (λ name. last_tells (imported name) type_reference_sound (λ what middle rest r bytes p. (middle, p, r)))
 
 abbrev pub ascribed : ExternName → ComponentExportKind → ℕ → Option ComponentTypeRef → Export
 ascribed name kind index what = record { name = name; kind = kind; index = index; what = what }
@@ -43,7 +44,7 @@ inline_export_lawful e = then _ (extern_name_lawful e.name) (then _ (component_e
 
 pub inline_export_sound : Sound export_item read_inline_export
 inline_export_sound =
-    then_sound _ extern_name_sound (λ name. then_sound _ component_export_kind_sound (λ kind. then_sound _ u32_sound (λ index. last_sound (ascribed name kind index) (option_sound type_reference_sound)
+    then_tells _ extern_name_sound (λ name. then_tells _ component_export_kind_sound (λ kind. then_tells _ u32_sound (λ index. last_tells (ascribed name kind index) (option_sound type_reference_sound)
     (λ what c rest r b q a p bytes o. (a, o, (b, p, (c, q, r)))))))
 
 -- ---- instances of core modules
@@ -58,7 +59,7 @@ pub argument_lawful : (a : Argument) → Lawful (argument a) (λ fuel. read_argu
 argument_lawful a = then _ (name_lawful a.name) (last (passed a.name) (module_argument_lawful a.value))
 
 pub argument_sound : Sound argument read_argument
-argument_sound = then_sound _ name_sound (λ name. last_sound (passed name) module_argument_sound (λ value middle rest r bytes p. (middle, p, r)))
+argument_sound = then_tells _ name_sound (λ name. last_tells (passed name) module_argument_sound (λ value middle rest r bytes p. (middle, p, r)))
 
 abbrev core_exported : List ℕ → ExportKind → ℕ → CoreExport
 core_exported name kind index = record { name = name; kind = kind; index = index }
@@ -70,7 +71,7 @@ pub inline_core_export_lawful : (e : CoreExport) → Lawful (core_export e) (λ 
 inline_core_export_lawful e = then _ (name_lawful e.name) (then _ (core_kind_lawful e.kind) (last (core_exported e.name e.kind) (u32_lawful e.index)))
 
 pub core_export_sound : Sound core_export read_inline_core_export
-core_export_sound = then_sound _ name_sound (λ name. then_sound _ core_kind_sound (λ kind. last_sound (core_exported name kind) u32_sound (λ index b rest r a q bytes p. (a, p, (b, q, r)))))
+core_export_sound = then_tells _ name_sound (λ name. then_tells _ core_kind_sound (λ kind. last_tells (core_exported name kind) u32_sound (λ index b rest r a q bytes p. (a, p, (b, q, r)))))
 
 abbrev pub read_core_instance : Reader CoreInstance
 read_core_instance = choose (
@@ -82,10 +83,10 @@ core_instance_lawful (CoreInstantiate module_index arguments) = row_lawful _ _ 0
 core_instance_lawful (CoreExports exports) = row_lawful _ _ 0x01 (last CoreExports (list_lawful inline_core_export_lawful exports))
 
 pub core_instance_sound : Sound core_instance read_core_instance
-core_instance_sound = choose_sound _ _ (
-  then_sound _ u32_sound (λ module_index. last_sound (CoreInstantiate module_index) (list_sound argument_sound) (λ arguments middle rest r bytes p. (bytes, refl, (middle, p, r)))),
-  (last_sound CoreExports (list_sound core_export_sound) (λ exports bytes rest r. (bytes, refl, r)), tt),
-) nowhere_sound
+core_instance_sound = choose_tells _ _ (
+  then_tells _ u32_sound (λ module_index. last_tells (CoreInstantiate module_index) (list_sound argument_sound) (λ arguments middle rest r bytes p. (bytes, refl, (middle, p, r)))),
+  (last_tells CoreExports (list_sound core_export_sound) (λ exports bytes rest r. (bytes, refl, r)), tt),
+) nowhere_tells
 
 -- ---- instances of components
 
@@ -99,7 +100,7 @@ pub given_lawful : (g : InstantiateArg) → Lawful (instantiate_arg g) (λ fuel.
 given_lawful g = then _ (name_lawful g.name) (then _ (component_export_kind_lawful g.kind) (last (item_named g.name g.kind) (u32_lawful g.index)))
 
 pub given_sound : Sound instantiate_arg read_given
-given_sound = then_sound _ name_sound (λ name. then_sound _ component_export_kind_sound (λ kind. last_sound (item_named name kind) u32_sound (λ index b rest r a q bytes p. (a, p, (b, q, r)))))
+given_sound = then_tells _ name_sound (λ name. then_tells _ component_export_kind_sound (λ kind. last_tells (item_named name kind) u32_sound (λ index b rest r a q bytes p. (a, p, (b, q, r)))))
 
 abbrev out : ExternName → ComponentExportKind → ℕ → InlineExport
 out name kind index = record { name = name; kind = kind; index = index }
@@ -111,7 +112,7 @@ pub exported_lawful : (e : InlineExport) → Lawful (inline_export e) (λ fuel. 
 exported_lawful e = then _ (extern_name_lawful e.name) (then _ (component_export_kind_lawful e.kind) (last (out e.name e.kind) (u32_lawful e.index)))
 
 pub exported_sound : Sound inline_export read_inline_exported
-exported_sound = then_sound _ extern_name_sound (λ name. then_sound _ component_export_kind_sound (λ kind. last_sound (out name kind) u32_sound (λ index b rest r a q bytes p. (a, p, (b, q, r)))))
+exported_sound = then_tells _ extern_name_sound (λ name. then_tells _ component_export_kind_sound (λ kind. last_tells (out name kind) u32_sound (λ index b rest r a q bytes p. (a, p, (b, q, r)))))
 
 abbrev pub read_instance : Reader Instance
 read_instance = choose (
@@ -123,10 +124,10 @@ instance_lawful (Instantiate component_index arguments) = row_lawful _ _ 0x00 (t
 instance_lawful (Exports exports) = row_lawful _ _ 0x01 (last Exports (list_lawful exported_lawful exports))
 
 pub instance_sound : Sound instance read_instance
-instance_sound = choose_sound _ _ (
-  then_sound _ u32_sound (λ component_index. last_sound (Instantiate component_index) (list_sound given_sound) (λ arguments middle rest r bytes p. (bytes, refl, (middle, p, r)))),
-  (last_sound Exports (list_sound exported_sound) (λ exports bytes rest r. (bytes, refl, r)), tt),
-) nowhere_sound
+instance_sound = choose_tells _ _ (
+  then_tells _ u32_sound (λ component_index. last_tells (Instantiate component_index) (list_sound given_sound) (λ arguments middle rest r bytes p. (bytes, refl, (middle, p, r)))),
+  (last_tells Exports (list_sound exported_sound) (λ exports bytes rest r. (bytes, refl, r)), tt),
+) nowhere_tells
 
 -- ---- sections
 
@@ -137,5 +138,5 @@ pub start_lawful : (s : Start) → Lawful (start s) (λ fuel. read_start) s
 start_lawful s = sized_lawful (whole_lawful (then _ (u32_lawful s.function) (then _ (list_lawful u32_lawful s.arguments) (last (started s.function s.arguments) (u32_lawful s.results)))))
 
 pub start_sound : Sound start read_start
-start_sound = sized_sound (whole_sound {form = start_content} (then_sound _ u32_sound (λ function. then_sound _ (list_sound u32_sound) (λ arguments. last_sound (started function arguments) u32_sound
+start_sound = sized_sound (whole_sound {form = start_content} (then_tells _ u32_sound (λ function. then_tells _ (list_sound u32_sound) (λ arguments. last_tells (started function arguments) u32_sound
     (λ results b rest r a q bytes p. (a, p, (b, q, r)))))))

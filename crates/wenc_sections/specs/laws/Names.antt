@@ -3,7 +3,8 @@ use Rattle.std.proofs.Common.{◌≡◌, ℕ, List, [], ◌∷◌, refl}
 use Rattle.wenc_base.specs.Holder.{HolderState, Contains}
 use Rattle.wenc_base.specs.Names.{NameAssociation, name_association}
 use Rattle.wenc_base.specs.laws.Forms.{read_name, name_lawful, read_sized, sized_lawful, read_bytes, bytes_lawful}
-use Rattle.wenc_base.specs.laws.Lawful.{Lawful, Reader, ◌>>=◌, give, nowhere, choose, done, go_on, row_lawful, row_byte, then, last, then_whole, whole_lawful, refused_lawful}
+use Rattle.wenc_base.specs.Readers.{Lawful, Reader, ◌>>=◌, give, nowhere, choose, go_on, done}
+use Rattle.wenc_base.specs.laws.Lawful.{row_lawful, row_byte, then, last, then_whole, whole_lawful, refused_lawful}
 use Rattle.wenc_base.specs.laws.Names.{read_name_map, name_map_lawful, held_names}
 use Rattle.wenc_sections.specs.declared.names.Sort.{Sort}
 use Rattle.wenc_sections.specs.declared.names.Sort.TheVariants.{CoreFunc, CoreTable, CoreMemory, CoreGlobal, CoreTag, CoreType, CoreModule, CoreInstance, Func, Value, «Type» as TypeSort, Component, Instance}

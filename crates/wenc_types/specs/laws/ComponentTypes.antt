@@ -4,7 +4,8 @@ use Rattle.wenc_base.specs.Encode.{Serves}
 use Rattle.wenc_base.specs.Forms.{list}
 use Rattle.wenc_base.specs.Piece.{each, ◌▸◌}
 use Rattle.wenc_base.specs.laws.Forms.{list_lawful, read_option, option_lawful}
-use Rattle.wenc_base.specs.laws.Lawful.{Lawful, Reader, ◌>>=◌, give, nowhere, choose, row_lawful, then, last, deeper, nothing_lawful}
+use Rattle.wenc_base.specs.Readers.{Lawful, Reader, ◌>>=◌, give, nowhere, choose}
+use Rattle.wenc_base.specs.laws.Lawful.{row_lawful, then, last, deeper, nothing_lawful}
 use Rattle.wenc_base.specs.laws.Numbers.{read_u32, u32_lawful, count_lawful}
 use Rattle.wenc_base.specs.laws.Serves.{serves_itself, tagged_serves, both_serve}
 use Rattle.wenc_base.specs.laws.Types.{read_val_type, val_type_lawful}

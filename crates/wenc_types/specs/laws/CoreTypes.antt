@@ -18,8 +18,9 @@ use Rattle.wenc_base.specs.declared.imports.EntityType.{EntityType}
 use Rattle.wenc_base.specs.laws.Composites.{read_extension, extension_lawful, extension_sound, sub_of, final_rows, final_row, final_rows_sound, read_types, types_lawful, types_sound, read_group, group_lawful, group_sound, same_params, same_results, same_element, same_fields}
 use Rattle.wenc_base.specs.laws.Entities.{read_entity_type, entity_type_lawful, entity_type_sound}
 use Rattle.wenc_base.specs.laws.Forms.{read_list, list_lawful, list_sound, read_name, name_lawful, name_sound}
-use Rattle.wenc_base.specs.laws.Lawful.{Lawful, Reader, ◌>>=◌, give, nowhere, choose, row_lawful, then, last}
-use Rattle.wenc_base.specs.laws.Sound.{Sound, sound_behind, RowsAreSound, both_tables, last_sound, then_sound, nowhere_sound, choose_sound}
+use Rattle.wenc_base.specs.Readers.{Lawful, Reader, ◌>>=◌, give, nowhere, choose}
+use Rattle.wenc_base.specs.laws.Lawful.{row_lawful, then, last}
+use Rattle.wenc_base.specs.laws.Sound.{Sound, sound_behind, RowsAreSound, both_tables, last_tells, then_tells, nowhere_tells, choose_tells}
 use Rattle.wenc_base.specs.Piece.{Form, Wide}
 use Rattle.wenc_base.specs.laws.Numbers.{read_u32, u32_lawful, u32_sound}
 use Rattle.wenc_types.specs.CoreTypes.{ModuleDeclaration, ModuleImport, ModuleRecType, ModuleOuter, ModuleExport, module_declaration, module_type, CoreType, Grouped, Module, core_type}
@@ -50,15 +51,15 @@ declaration_row make rows other (ModuleExport name ty) = row_lawful _ _ 0x03 (th
 
 pub module_declaration_rows_sound : RowsAreSound module_declaration (declaration_rows (λ d. d))
 module_declaration_rows_sound = (
-  then_sound _ name_sound (λ from. then_sound _ name_sound (λ name. last_sound (ModuleImport from name) entity_type_sound (λ ty b rest r a q bytes p. (bytes, refl, (a, p, (b, q, r)))))),
+  then_tells _ name_sound (λ from. then_tells _ name_sound (λ name. last_tells (ModuleImport from name) entity_type_sound (λ ty b rest r a q bytes p. (bytes, refl, (a, p, (b, q, r)))))),
   (
-    last_sound ModuleRecType group_sound (λ g bytes rest r. (bytes, refl, r)),
+    last_tells ModuleRecType group_sound (λ g bytes rest r. (bytes, refl, r)),
     (
-      choose_sound _ _ (
-        choose_sound _ _ (then_sound _ u32_sound (λ count. last_sound (ModuleOuter count) u32_sound (λ n middle rest r bytes p. (_, refl, (_, refl, (bytes, refl, (middle, p, r)))))), tt) nowhere_sound,
+      choose_tells _ _ (
+        choose_tells _ _ (then_tells _ u32_sound (λ count. last_tells (ModuleOuter count) u32_sound (λ n middle rest r bytes p. (_, refl, (_, refl, (bytes, refl, (middle, p, r)))))), tt) nowhere_tells,
         tt,
-      ) nowhere_sound,
-      (then_sound _ name_sound (λ name. last_sound (ModuleExport name) entity_type_sound (λ ty middle rest r bytes p. (bytes, refl, (middle, p, r)))), tt),
+      ) nowhere_tells,
+      (then_tells _ name_sound (λ name. last_tells (ModuleExport name) entity_type_sound (λ ty middle rest r bytes p. (bytes, refl, (middle, p, r)))), tt),
     ),
   ),
 )
@@ -70,7 +71,7 @@ pub module_declaration_lawful : (d : ModuleDeclaration) → Lawful (module_decla
 module_declaration_lawful d = declaration_row (λ e. e) (λ fuel. []) _ d
 
 pub module_declaration_sound : Sound module_declaration read_module_declaration
-module_declaration_sound = choose_sound _ _ module_declaration_rows_sound nowhere_sound
+module_declaration_sound = choose_tells _ _ module_declaration_rows_sound nowhere_tells
 
 abbrev pub read_declarations : {A : Type 0} → (List ModuleDeclaration → A) → Reader A
 read_declarations make = read_list read_module_declaration >>= λ ds. give (make ds)
@@ -124,14 +125,14 @@ core_type_lawful t = core_type_row (λ u. u) (λ fuel. []) _ t
 
 open_sound : {A : Type 0} (form : Form A) (make : Sub → A)
     → ((supertype : Option ℕ) (c : Composite) (bytes rest : List ℕ) → (sub_type_of false supertype c).Reads Wide bytes rest → (form (make (sub_of false supertype c))).Reads Wide (0x00 ∷ bytes) rest) → Sound (sound_behind 0x00 form) (read_open make)
-open_sound form make k = choose_sound _ _ (extension_sound (sound_behind 0x00 form) 0x50 (λ supertype c. make (sub_of false supertype c)) k, tt) nowhere_sound
+open_sound form make k = choose_tells _ _ (extension_sound (sound_behind 0x00 form) 0x50 (λ supertype c. make (sub_of false supertype c)) k, tt) nowhere_tells
 
 pub core_type_sound : Sound core_type read_core_type
-core_type_sound = choose_sound _ _ (both_tables core_type (standing_rows Grouped) ((0x50, read_declarations (λ ds. Module ds)) ∷ [])
+core_type_sound = choose_tells _ _ (both_tables core_type (standing_rows Grouped) ((0x50, read_declarations (λ ds. Module ds)) ∷ [])
     (both_tables core_type (final_rows (λ s. Grouped (Single s))) ((0x4e, read_types Grouped) ∷ (0x00, read_open (λ s. Grouped (Single s))) ∷ []) (final_rows_sound core_type (λ s. Grouped (Single s)) (λ supertype c bytes rest r. r)) (
       types_sound core_type 0x4e Grouped (λ types bytes rest r. r),
       (open_sound core_type (λ s. Grouped (Single s)) (λ supertype c bytes rest r. (bytes, refl, r)), tt),
-    )) (last_sound Module (list_sound module_declaration_sound) (λ ds bytes rest r. (bytes, refl, r)), tt)) nowhere_sound
+    )) (last_tells Module (list_sound module_declaration_sound) (λ ds bytes rest r. (bytes, refl, r)), tt)) nowhere_tells
 
 -- ---- equal values
 

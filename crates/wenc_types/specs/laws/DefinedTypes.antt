@@ -1,8 +1,9 @@
 -- The laws of types of values that components define, and of types of functions.
 use Rattle.std.proofs.Common.{ℕ, Bool, true, false, List, [], ◌∷◌, ◌++◌, Option, refl}
 use Rattle.wenc_base.specs.laws.Forms.{read_list, list_lawful, list_sound, read_name, name_lawful, name_sound, read_option, option_lawful, option_sound}
-use Rattle.wenc_base.specs.laws.Lawful.{Lawful, Reader, ◌>>=◌, give, nowhere, choose, row_lawful, row_byte, then, last}
-use Rattle.wenc_base.specs.laws.Sound.{Sound, RowsAreSound, give_sound, last_sound, then_sound, nowhere_sound, choose_sound}
+use Rattle.wenc_base.specs.Readers.{Lawful, Reader, ◌>>=◌, give, nowhere, choose}
+use Rattle.wenc_base.specs.laws.Lawful.{row_lawful, row_byte, then, last}
+use Rattle.wenc_base.specs.laws.Sound.{Sound, RowsAreSound, give_tells, last_tells, then_tells, nowhere_tells, choose_tells}
 use Rattle.wenc_base.specs.Piece.{Form, Wide}
 use Rattle.wenc_base.specs.laws.Numbers.{read_u32, u32_lawful, u32_sound}
 use Rattle.wenc_parts.specs.declared.types.ComponentValType.{ComponentValType}
@@ -21,7 +22,7 @@ pub labelled_type_lawful : (f : LabelledType) → Lawful (labelled_type f) (λ f
 labelled_type_lawful f = then _ (name_lawful f.name) (last (to_named f.name) (value_type_lawful f.ty))
 
 pub named_sound : Sound labelled_type read_labelled_type
-named_sound = then_sound _ name_sound (λ name. last_sound (to_named name) value_type_sound (λ ty middle rest r bytes p. (middle, p, r)))
+named_sound = then_tells _ name_sound (λ name. last_tells (to_named name) value_type_sound (λ ty middle rest r bytes p. (middle, p, r)))
 
 abbrev to_case : List ℕ → Option ComponentValType → Case
 to_case name ty = record { name = name; ty = ty }
@@ -37,7 +38,7 @@ pub case_lawful : (c : Case) → Lawful (case c) (λ fuel. read_case) c
 case_lawful c = then _ (name_lawful c.name) (then _ (option_lawful value_type_lawful c.ty) (row_byte _ _ 0x00 (λ fuel rest. refl)))
 
 pub case_sound : Sound case read_case
-case_sound = then_sound _ name_sound (λ name. then_sound _ (option_sound value_type_sound) (λ ty. choose_sound _ _ (give_sound (to_case name ty) (λ rest b q bytes p. (b, p, (_, q, refl))), tt) nowhere_sound))
+case_sound = then_tells _ name_sound (λ name. then_tells _ (option_sound value_type_sound) (λ ty. choose_tells _ _ (give_tells (to_case name ty) (λ rest b q bytes p. (b, p, (_, q, refl))), tt) nowhere_tells))
 
 -- ---- defined types
 
@@ -82,32 +83,32 @@ defined_row make rows other (MapOf key value) = row_lawful _ _ 0x63 (then _ (val
 -- each row of a table of defined types
 pub defined_rows_sound : {A : Type 0} (form : Form A) (make : DefValType → A) → ((t : DefValType) (bytes rest : List ℕ) → (def_val_type t).Reads Wide bytes rest → (form (make t)).Reads Wide bytes rest) → RowsAreSound form (defined_rows make)
 defined_rows_sound form make k = (
-  last_sound (λ fields. make (Record fields)) (list_sound named_sound) (λ v bytes rest r. k (Record v) _ rest (bytes, refl, r)),
+  last_tells (λ fields. make (Record fields)) (list_sound named_sound) (λ v bytes rest r. k (Record v) _ rest (bytes, refl, r)),
   (
-    last_sound (λ cases. make (Variant cases)) (list_sound case_sound) (λ v bytes rest r. k (Variant v) _ rest (bytes, refl, r)),
+    last_tells (λ cases. make (Variant cases)) (list_sound case_sound) (λ v bytes rest r. k (Variant v) _ rest (bytes, refl, r)),
     (
-      last_sound (λ t. make (ListOf t)) value_type_sound (λ v bytes rest r. k (ListOf v) _ rest (bytes, refl, r)),
+      last_tells (λ t. make (ListOf t)) value_type_sound (λ v bytes rest r. k (ListOf v) _ rest (bytes, refl, r)),
       (
-        last_sound (λ ts. make (Tuple ts)) (list_sound value_type_sound) (λ v bytes rest r. k (Tuple v) _ rest (bytes, refl, r)),
+        last_tells (λ ts. make (Tuple ts)) (list_sound value_type_sound) (λ v bytes rest r. k (Tuple v) _ rest (bytes, refl, r)),
         (
-          last_sound (λ ns. make (Flags ns)) (list_sound name_sound) (λ v bytes rest r. k (Flags v) _ rest (bytes, refl, r)),
+          last_tells (λ ns. make (Flags ns)) (list_sound name_sound) (λ v bytes rest r. k (Flags v) _ rest (bytes, refl, r)),
           (
-            last_sound (λ ns. make (Enumeration ns)) (list_sound name_sound) (λ v bytes rest r. k (Enumeration v) _ rest (bytes, refl, r)),
+            last_tells (λ ns. make (Enumeration ns)) (list_sound name_sound) (λ v bytes rest r. k (Enumeration v) _ rest (bytes, refl, r)),
             (
-              last_sound (λ t. make (OptionOf t)) value_type_sound (λ v bytes rest r. k (OptionOf v) _ rest (bytes, refl, r)),
+              last_tells (λ t. make (OptionOf t)) value_type_sound (λ v bytes rest r. k (OptionOf v) _ rest (bytes, refl, r)),
               (
-                then_sound _ (option_sound value_type_sound) (λ ok. last_sound (λ e. make (ResultOf ok e)) (option_sound value_type_sound) (λ e middle rest r bytes p. k (ResultOf ok e) _ rest (bytes, refl, (middle, p, r)))),
+                then_tells _ (option_sound value_type_sound) (λ ok. last_tells (λ e. make (ResultOf ok e)) (option_sound value_type_sound) (λ e middle rest r bytes p. k (ResultOf ok e) _ rest (bytes, refl, (middle, p, r)))),
                 (
-                  last_sound (λ n. make (Own n)) u32_sound (λ v bytes rest r. k (Own v) _ rest (bytes, refl, r)),
+                  last_tells (λ n. make (Own n)) u32_sound (λ v bytes rest r. k (Own v) _ rest (bytes, refl, r)),
                   (
-                    last_sound (λ n. make (Borrow n)) u32_sound (λ v bytes rest r. k (Borrow v) _ rest (bytes, refl, r)),
+                    last_tells (λ n. make (Borrow n)) u32_sound (λ v bytes rest r. k (Borrow v) _ rest (bytes, refl, r)),
                     (
-                      then_sound _ value_type_sound (λ t. last_sound (λ n. make (FixedLengthList t n)) u32_sound (λ n middle rest r bytes p. k (FixedLengthList t n) _ rest (bytes, refl, (middle, p, r)))),
+                      then_tells _ value_type_sound (λ t. last_tells (λ n. make (FixedLengthList t n)) u32_sound (λ n middle rest r bytes p. k (FixedLengthList t n) _ rest (bytes, refl, (middle, p, r)))),
                       (
-                        last_sound (λ t. make (Stream t)) (option_sound value_type_sound) (λ v bytes rest r. k (Stream v) _ rest (bytes, refl, r)),
+                        last_tells (λ t. make (Stream t)) (option_sound value_type_sound) (λ v bytes rest r. k (Stream v) _ rest (bytes, refl, r)),
                         (
-                          last_sound (λ t. make (Future t)) (option_sound value_type_sound) (λ v bytes rest r. k (Future v) _ rest (bytes, refl, r)),
-                          (then_sound _ value_type_sound (λ key. last_sound (λ t. make (MapOf key t)) value_type_sound (λ t middle rest r bytes p. k (MapOf key t) _ rest (bytes, refl, (middle, p, r)))), tt),
+                          last_tells (λ t. make (Future t)) (option_sound value_type_sound) (λ v bytes rest r. k (Future v) _ rest (bytes, refl, r)),
+                          (then_tells _ value_type_sound (λ key. last_tells (λ t. make (MapOf key t)) value_type_sound (λ t middle rest r bytes p. k (MapOf key t) _ rest (bytes, refl, (middle, p, r)))), tt),
                         ),
                       ),
                     ),

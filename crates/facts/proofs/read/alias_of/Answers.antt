@@ -10,5 +10,5 @@ pub returns : goal.returns
 returns g c = spelled (λ x. (alias_tree_view x.0, x.1.now)) c.decode.result c.decode.ensures
   where
     spelled : {X : Type 0} (view : X → AliasOf × List ℕ) (r : Result X Refusal) → Gives view r (read_alias c.args.bytes.now) → IfOk r (λ x. (alias (view x).0).Reads Wide c.args.bytes.now (view x).1)
-    spelled view (Ok x) e = rw e at (alias_sound.reads c.args.bytes.now)
+    spelled view (Ok x) e = rw e at (alias_sound.tells c.args.bytes.now)
     spelled view (Err e) h = tt

@@ -1,8 +1,8 @@
 use Rattle.std.proofs.Common.{◌≡◌, ◌++◌, ◌∷◌, [], map}
 use Rattle.std.proofs.lemmas.Result.{err_from_is_err_and}
 use Rattle.std.proofs.lemmas.List.{map_push}
-use Rattle.wenc_base.specs.laws.Lawful.{times}
-use Rattle.wenc_decode.proofs.Loop.{goes_on, stops, is_done}
+use Rattle.wenc_base.specs.Readers.{times}
+use Rattle.wenc_decode.specs.laws.Repeats.{goes_on, stops, is_done}
 use Rattle.wenc_decode.proofs.decode.members.Goals as goal
 
 pub returns-in_err-value : goal.returns-in_err-value

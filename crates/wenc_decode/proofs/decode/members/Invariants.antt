@@ -1,6 +1,6 @@
 use Rattle.std.proofs.Common.{◌≡◌, ◌-◌, map}
-use Rattle.wenc_base.specs.laws.Lawful.{times}
-use Rattle.wenc_decode.proofs.Loop.{with_front}
+use Rattle.wenc_base.specs.Readers.{times}
+use Rattle.wenc_decode.specs.laws.Repeats.{with_front}
 use Rattle.wenc_decode.proofs.decode.members.Given as goal
 
 abbrev pub invariant-loop : goal.invariant-loop

@@ -3,7 +3,7 @@ use Rattle.wenc_builder.specs.inside.Layout.{kind_id}
 use Rattle.wenc_builder.specs.Space.{space_number}
 use Rattle.std.proofs.Common.{Some}
 use Rattle.wenc_parts.specs.Imports.{extern_name, extern_name_view, type_reference}
-use Rattle.wenc_sections.specs.laws.Instances.{two_serve}
+use Rattle.wenc_base.specs.laws.Serves.{two_serve}
 use Rattle.wenc_builder.specs.Entry.{import_entry}
 use Rattle.wenc_builder.specs.Item.{ImportItem}
 use Rattle.wenc_builder.specs.declared.builder.kind.Kind.TheVariants as kinds

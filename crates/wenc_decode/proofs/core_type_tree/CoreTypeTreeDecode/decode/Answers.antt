@@ -1,9 +1,11 @@
-use Rattle.std.proofs.Common.{rules, ◌∙◌, sym, [], ◌∷◌, false, refl}
-use Rattle.wenc_base.specs.Composites.{Single}
+use Rattle.std.proofs.Common.{rules, ◌∙◌, sym, subst, [], ◌∷◌, false, refl, Result, List, ℕ}
+use Rattle.std.proofs.lemmas.Result.{err_from_is_err_and}
+use Rattle.wenc_base.specs.Composites.{Sub, Single}
 use Rattle.wenc_base.specs.laws.Composites.{final_rows, read_extension, read_types, sub_of}
 use Rattle.wenc_base.specs.laws.Forms.{read_list}
-use Rattle.wenc_base.specs.laws.Lawful.{choose, nowhere}
-use Rattle.wenc_read.specs.laws.Tables.{at_first}
+use Rattle.wenc_base.specs.Readers.{Flaw, give, choose, nowhere}
+use Rattle.wenc_read.specs.inside.Gives.{Fails}
+use Rattle.wenc_read.specs.laws.Tables.{at_first, fails_on}
 use Rattle.wenc_types.specs.CoreTypes.{Grouped, Module}
 use Rattle.wenc_types.specs.laws.CoreTypes.{read_declarations, read_module_declaration, read_open}
 use Rattle.wenc_decode.proofs.Rows.{found_alone, wraps}
@@ -19,3 +21,11 @@ returns-in_ok-ty-in_default g c =
     let alone = wraps (λ s. s) (final_rows (λ s. s)) (final_rows (λ s. s)) ((0x50, read_extension (λ n d. sub_of false n d)) ∷ []) (finals_follow (λ s. s) (λ s. s)) _ _ _ c.in_ok-rest.ensures (search rules) in
     wraps (λ s. Grouped (Single s)) (final_rows (λ s. s)) (final_rows (λ s. Grouped (Single s))) ((0x4e, read_types Grouped) ∷ (0x00, read_open (λ s. Grouped (Single s))) ∷ (0x50, read_declarations Module) ∷ []) (finals_follow (λ s. Grouped (Single s)) (λ s. s)) _ _ _ c.in_ok-rest.ensures (search rules)
     ∙ rw (sym (found_alone (choose (final_rows (λ s. s)) nowhere c.args.bytes.now)) ∙ sym alone ∙ c.in_ok-ty-in_default.ensures) refl
+
+pub returns-in_err-ty-in_default : goal.returns-in_err-ty-in_default
+returns-in_err-ty-in_default g c =
+    let p = err_from_is_err_and c.from_residual-in_err-ty-in_default.result c.from_residual-in_err-ty-in_default.ensures.1 in
+    let alone = wraps (λ s. s) (final_rows (λ s. s)) (final_rows (λ s. s)) ((0x50, read_extension (λ n d. sub_of false n d)) ∷ []) (finals_follow (λ s. s) (λ s. s)) _ _ _ c.in_ok-rest.ensures (search rules) in
+    rw (p.1, p.2, wraps (λ s. Grouped (Single s)) (final_rows (λ s. s)) (final_rows (λ s. Grouped (Single s))) ((0x4e, read_types Grouped) ∷ (0x00, read_open (λ s. Grouped (Single s))) ∷ (0x50, read_declarations Module) ∷ []) (finals_follow (λ s. Grouped (Single s)) (λ s. s)) _ _ _ c.in_ok-rest.ensures (search rules))
+    (fails_on c.in_err-ty-in_default.field-0.0 (choose (final_rows (λ s. s)) nowhere c.args.bytes.now) (λ s. give (Grouped (Single s)))
+    (subst (λ (found : Result (Sub × List ℕ) Flaw). Fails c.in_err-ty-in_default.field-0.0 found) (alone ∙ found_alone (choose (final_rows (λ s. s)) nowhere c.args.bytes.now)) c.in_err-ty-in_default.ensures))

@@ -1,6 +1,6 @@
 use Rattle.std.proofs.Common.{sym, ◌∙◌, ◌++◌}
 use Rattle.std.proofs.lemmas.Result.{err_from_is_err_and}
-use Rattle.wenc_base.specs.laws.Lawful.{nowhere}
+use Rattle.wenc_base.specs.Readers.{nowhere}
 use Rattle.wenc_parts.specs.Types.{primitive_byte}
 use Rattle.wenc_parts.specs.laws.Types.{primitive_rows}
 use Rattle.wenc_types.specs.DefinedTypes.{Primitive}
