@@ -1,3 +1,4 @@
 pub mod Answers
 pub mod Heap
+pub mod Reading
 pub mod Typed

@@ -2,4 +2,5 @@ pub mod Handles
 pub mod Names
 pub mod Numbers
 pub mod Owned
+pub mod Reads
 pub mod Sessions

@@ -5,14 +5,17 @@
 //! call answers a status, by the numbers of `Refused`; a refused one changes nothing.
 #![tactic(auto)]
 
+mod adding;
 mod aliases;
 mod alone;
 mod handle;
+mod items;
 mod life;
 mod named;
 mod numbers;
 mod placed;
 mod refused;
 mod session;
+mod spelled;
 mod texts;
 mod written;

@@ -1,16 +1,19 @@
 //! What a handle owns: a builder, and then the component that it finished.
 ghost use Rattle.std.specs.Option.{option_copied};
-ghost use Rattle.std.specs.Prelude.{◌≡◌, IfErr, IfOk};
+ghost use Rattle.std.specs.Prelude.{◌≡◌, IfErr, IfOk, None};
 ghost use Rattle.wenc_base.specs.Fault.{IsMemory};
 ghost use Rattle.wenc_builder.specs.Builder.{count_in};
+ghost use Rattle.wenc_builder.specs.Enters.{Enters, EntersWithoutIndex};
 ghost use Rattle.wenc_builder.specs.Entry.{import_entry, export_entry, alias_entry, module_entry, component_entry};
 ghost use Rattle.wenc_builder.specs.Entry.{start_entry, custom_entry, raw_entry};
 ghost use Rattle.wenc_builder.specs.Names.{AddsNames};
+ghost use Rattle.wenc_c.specs.Reads.{AddsReadTo, read_custom, read_one};
 ghost use Rattle.wenc_c.specs.Sessions.{AddsTo, AddsWithoutIndexTo, Copies, Counts, Does, Finishes, IsEmpty};
 ghost use Rattle.wenc_c.specs.Sessions.{IsFaultThat, Nests, of_builder};
 ghost use Rattle.wenc_parts.specs.Aliases.{alias_view};
 ghost use Rattle.wenc_parts.specs.Imports.{extern_name_view};
 
+use crate::adding::{add, add_custom};
 use crate::refused::Refused;
 use std::alloc::Global;
 use std::mem::replace;
@@ -192,6 +195,44 @@ impl Session {
     {
         match self {
             Session::Building(builder) => by_builder(builder.append_names()),
+            Session::Finished(_) => Err(Refused::Finished),
+        }
+    }
+
+    /// Adds the item with this text, which stands in the section with this id, from 1 to 11.
+    pub fn item(
+        &mut self,
+        alloc: Global,
+        section: u32,
+        debug_name: Option<&str>,
+        text: &[u8],
+    ) -> Result<u32, Refused>
+        ensures { AddsReadTo Enters self.old self.new result (option_copied debug_name.entry)
+            (read_one section text.now) }
+    {
+        match self {
+            Session::Building(builder) => {
+                if !builder.is_finished() {
+                    return Err(Refused::Fault(Fault::Unfinished));
+                }
+                add(builder, alloc, section, debug_name, text)
+            }
+            Session::Finished(_) => Err(Refused::Finished),
+        }
+    }
+
+    /// Adds the custom section with this content.
+    pub fn custom_item(&mut self, alloc: Global, text: &[u8]) -> Result<(), Refused>
+        ensures { AddsReadTo EntersWithoutIndex self.old self.new result None
+            (read_custom text.now) }
+    {
+        match self {
+            Session::Building(builder) => {
+                if !builder.is_finished() {
+                    return Err(Refused::Fault(Fault::Unfinished));
+                }
+                add_custom(builder, alloc, text)
+            }
             Session::Finished(_) => Err(Refused::Finished),
         }
     }
