@@ -1,4 +1,5 @@
 pub mod Handles
+pub mod Lists
 pub mod Names
 pub mod Numbers
 pub mod Owned

@@ -11,6 +11,7 @@ mod alone;
 mod handle;
 mod items;
 mod life;
+mod lists;
 mod named;
 mod numbers;
 mod placed;
