@@ -33,19 +33,25 @@ static uint32_t item(wenc_builder *builder, uint32_t section, const uint8_t *tex
 }
 
 static void build(wenc_builder *builder) {
-  uint32_t index, core_module, run;
+  uint32_t index, ty, run;
   wenc_builder nested = {NULL};
 
+  /* A nested component, which imports a function: type 0 takes and gives nothing. */
   check(wenc_new(&nested));
-  check(wenc_import(&nested, TEXT("f"), WENC_REF_FUNC, 0, &index));
+  ty = item(&nested, WENC_SECTION_TYPE, TEXT("\x40\x00\x01\x00"));
+  check(wenc_import(&nested, TEXT("f"), WENC_REF_FUNC, ty, &index));
   check(wenc_component(builder, UNNAMED, &nested, &index));
 
-  check(wenc_import(builder, TEXT("log"), WENC_REF_INSTANCE, 0, &index));
-  check(wenc_core_module(builder, UNNAMED, module, sizeof module, &core_module));
+  /* An instance that exports nothing is imported. */
+  ty = item(builder, WENC_SECTION_TYPE, TEXT("\x42\x00"));
+  check(wenc_import(builder, TEXT("log"), WENC_REF_INSTANCE, ty, &index));
+
+  /* Core module 0 is instantiated, and its function lifted: core function 0, no options, type 1. */
+  check(wenc_core_module(builder, UNNAMED, module, sizeof module, &index));
   item(builder, WENC_SECTION_CORE_INSTANCE, TEXT("\x00\x00\x00"));
   check(wenc_alias_core_export(builder, UNNAMED, 0, WENC_CORE_FUNC, TEXT("run"), &index));
   item(builder, WENC_SECTION_TYPE, TEXT("\x40\x00\x01\x00"));
-  run = item(builder, WENC_SECTION_CANON, TEXT("\x00\x00\x00\x00\x00"));
+  run = item(builder, WENC_SECTION_CANON, TEXT("\x00\x00\x00\x00\x01"));
   check(wenc_export(builder, TEXT("run"), WENC_FUNC, run, WENC_REF_NONE, 0, &index));
   check(wenc_append_names(builder));
 }

@@ -1,13 +1,15 @@
 -- What a call does to what a handle owns, and what C is told.
-use Rattle.std.specs.Prelude.{◌≡◌, ℕ, List, [], Option, Result, Ok, Err, OnErr, nat_eq}
+use Rattle.std.specs.Prelude.{◌≡◌, ◌↔◌, ℕ, List, [], Option, Result, Ok, Err, OnErr, nat_eq}
 use Rattle.std.specs.Prelude.{if◌then◌else◌, alloc_error, length, true, false}
+use Rattle.wenc_base.specs.Piece.{Spelling}
 use Rattle.wenc_base.specs.declared.fault.Fault.{Fault as Faults}
 use Rattle.wenc_base.specs.declared.fault.Fault.TheVariants.{Memory, TooMany, TooLarge, Unfinished}
 use Rattle.wenc_builder.specs.Builder.{State, builder_is_finished, count_in, sections_text}
 use Rattle.wenc_builder.specs.Entry.{Entry, items, component_entry}
 use Rattle.wenc_builder.specs.Enters.{Enters, EntersWithoutIndex}
 use Rattle.wenc_builder.specs.Holds.{Holds}
-use Rattle.wenc_builder.specs.Sections.{whole}
+use Rattle.wenc_builder.specs.Raw.{HasNoRaw}
+use Rattle.wenc_builder.specs.Sections.{Reading, Section, runs, whole}
 use Rattle.wenc_builder.specs.declared.builder.space.Space.{Space}
 use Rattle.wenc_c.specs.declared.refused.Refused.{Refused as Refusals}
 use Rattle.wenc_c.specs.declared.refused.Refused.TheVariants.{Fault, Malformed, TooDeep}
@@ -93,10 +95,13 @@ Counts space (sessions.Finished bytes) answer = answer ≡ Err Finished
 
 -- ---- the whole
 
--- The bytes are the whole of the items that the builder held, and it held some.
+-- The bytes are the whole of the items that the builder held, and it held some. Where none of them
+-- is raw the bytes have one reading, strictly and widely: the sections into which they are cut.
 pub record IsComponentOf (b : State) (bytes : List ℕ) : Type 0 where
   pub held : (es : List Entry) → Holds b es → bytes ≡ whole (items es)
   pub some : ∥ ((es : List Entry) × Holds b es × (bytes ≡ whole (items es))) ∥₁
+  pub one_reading : (es : List Entry) → Holds b es → HasNoRaw (items es) → (mode : Spelling)
+      (ss : List Section) → Reading mode bytes ss ↔ (ss ≡ runs (items es))
 
 -- The bytes of the component, of which there are so many.
 abbrev pub IsFinishedAs : (List ℕ → Type 0) → ℕ → Session → Type 0

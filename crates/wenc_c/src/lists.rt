@@ -1,7 +1,9 @@
 //! The lister.
 ghost use Rattle.std.specs.Prelude.{◌≡◌, ◌<◌, ◌⊎◌, ℕ, IfSome, List, None, Some, length, slice_index};
+ghost use Rattle.wenc_base.specs.Piece.{Wide};
+ghost use Rattle.wenc_builder.specs.Sections.{Reading, Section};
 ghost use Rattle.wenc_c.specs.Lists.{AreRows, Lists, list_fault_of, row_of};
-ghost use Rattle.wenc_list.specs.Listing.{IsFaultOf};
+ghost use Rattle.wenc_list.specs.Listing.{AreWithin, IsFaultOf};
 ghost use Rattle.wenc_list.specs.declared.fault.ListFault.{ListFault as Faults};
 ghost use Rattle.wenc_list.specs.declared.listing.ListedSection.{ListedSection as Sections};
 ghost use Rattle.std.specs.Global.{Global as Heap};
@@ -98,6 +100,9 @@ pub extern "C" fn wenc_list(
     // What is listed is the one wide reading of the bytes.
     ensures listed { result ≡ 0 → (ss : List (Sections Heap))
         × Lists bytes.now sections.old sections.new counts.new number.new ss }
+    // What is read within that depth is listed, unless memory is wanting or a count has more than 64 bits.
+    ensures found { (ss : List Section) → Reading Wide bytes.now ss → AreWithin 100 ss
+        → length counts.old ≡ 13 → (result ≡ 0) ⊎ ((result ≡ 1) ⊎ (result ≡ 3)) }
     // A fault has its cause: it names the first section that isn't read.
     ensures fault { (f : Faults) → list_fault_of result number.new ≡ Some f → IsFaultOf bytes.now f }
     ensures known { ¬ (result ≡ 0) → list_fault_of result number.new ≡ None

@@ -1,7 +1,7 @@
 //! Types as trees, which an encoder writes.
 ghost use Rattle.std.specs.Option.{option_copied};
-ghost use Rattle.std.specs.Prelude.{◌≡◌, List, true};
-ghost use Rattle.wenc_builder.specs.Builder.{builder_is_finished};
+ghost use Rattle.std.specs.Prelude.{◌≡◌, Err, List, true};
+ghost use Rattle.wenc_builder.specs.Builder.{builder_is_finished, item_given_up};
 ghost use Rattle.wenc_builder.specs.Enters.{Enters};
 ghost use Rattle.wenc_builder.specs.Entry.{Entry, core_type_entry, type_entry};
 ghost use Rattle.wenc_builder.specs.Holds.{Holds};
@@ -11,6 +11,14 @@ ghost use Rattle.wenc_types.specs.TypeTrees.{type_view};
 use wenc_base::Fault;
 use wenc_builder::ComponentBuilder;
 use wenc_types::{CoreTypeTree, TypeTree};
+
+/// Gives up the item that was being written when this fault was met.
+fn give_up(builder: &mut ComponentBuilder, fault: Fault) -> Result<u32, Fault>
+    ensures { (result ≡ Err fault) × (builder.new ≡ item_given_up builder.old) }
+{
+    builder.discard_unfinished();
+    Err(fault)
+}
 
 /// Adds a type, with a debug name or none, and answers its index. What is refused is given up.
 pub(crate) fn write_type(
@@ -26,10 +34,7 @@ pub(crate) fn write_type(
     match builder.ty(debug_name) {
         Ok((index, encoder)) => match encoder.tree(ty) {
             Ok(()) => Ok(index),
-            Err(fault) => {
-                builder.discard_unfinished();
-                Err(fault)
-            }
+            Err(fault) => give_up(builder, fault),
         },
         Err(fault) => Err(fault),
     }
@@ -49,10 +54,7 @@ pub(crate) fn write_core_type(
     match builder.core_type(debug_name) {
         Ok((index, encoder)) => match encoder.tree(ty) {
             Ok(()) => Ok(index),
-            Err(fault) => {
-                builder.discard_unfinished();
-                Err(fault)
-            }
+            Err(fault) => give_up(builder, fault),
         },
         Err(fault) => Err(fault),
     }

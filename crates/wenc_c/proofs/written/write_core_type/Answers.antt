@@ -21,7 +21,8 @@ pub returns-in-Err-tree : goal.returns-in-Err-tree
 returns-in-Err-tree c =
     let n = option_copied c.args.debug_name in
     let t = core_type_view c.args.ty.now in
-    writing_refused c.args.builder.now (core_type_entry n t) (draft_in ids.CoreType spaces.CoreTypes n []) (core_type_is_written n t) c.requires.settled _ _ c.in-Err-tree.fault c.in-Ok.ensures.begun.begun (c.discard_unfinished.ensures.same ∙ (search rules)) c.in-Err-tree.ensures.warranted
+    rw c.give_up.ensures.0
+    (writing_refused c.args.builder.now (core_type_entry n t) (draft_in ids.CoreType spaces.CoreTypes n []) (core_type_is_written n t) c.requires.settled _ _ c.in-Err-tree.fault c.in-Ok.ensures.begun.begun (c.give_up.ensures.1 ∙ (search rules)) c.in-Err-tree.ensures.warranted)
 
 pub returns-in-Err : goal.returns-in-Err
 returns-in-Err c =
