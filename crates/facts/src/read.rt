@@ -4,7 +4,7 @@ ghost use Rattle.wenc_base.specs.Piece.{Wide};
 ghost use Rattle.wenc_base.specs.Readers.{times};
 ghost use Rattle.wenc_base.specs.laws.Numbers.{read_u32};
 ghost use Rattle.wenc_parts.specs.Aliases.{alias, alias_tree_view};
-ghost use Rattle.wenc_read.specs.inside.Gives.{Gives};
+ghost use Rattle.wenc_read.specs.Gives.{Gives};
 
 use std::alloc::Allocator;
 use wenc_decode::Decode;

@@ -18,7 +18,10 @@ use wenc_sections::{
 /// An instance is imported.
 fn imported<A: Allocator>(alloc: A) -> Result<ComponentImportSection<A>, Fault>
     ensures { IfOk result (λ imports. imports
-        ≡ with_member no_members (import_item (record { name = plain_name (codes "i"); what = ComponentTypeRef.Instance 0 })).text) }
+        ≡ with_member no_members (import_item (record {
+          name = plain_name (codes "i");
+          what = ComponentTypeRef.Instance 0;
+        })).text) }
 {
     let mut imports = ComponentImportSection::new(alloc);
     imports.import("i".into(), ComponentTypeRef::Instance(0))?;
@@ -28,7 +31,8 @@ fn imported<A: Allocator>(alloc: A) -> Result<ComponentImportSection<A>, Fault>
 /// A function of it has an index.
 fn aliased<A: Allocator>(alloc: A) -> Result<ComponentAliasSection<A>, Fault>
     ensures { IfOk result (λ aliases. aliases
-        ≡ with_member no_members (alias (InstanceExport 0 ComponentExportKind.Func (codes "f"))).text) }
+        ≡ with_member no_members
+        (alias (InstanceExport 0 ComponentExportKind.Func (codes "f"))).text) }
 {
     let mut aliases = ComponentAliasSection::new(alloc);
     aliases.alias(Alias::InstanceExport {
@@ -42,7 +46,12 @@ fn aliased<A: Allocator>(alloc: A) -> Result<ComponentAliasSection<A>, Fault>
 /// The function is exported.
 fn exported<A: Allocator>(alloc: A) -> Result<ComponentExportSection<A>, Fault>
     ensures { IfOk result (λ exports. exports
-        ≡ with_member no_members (export_item (record { name = plain_name (codes "g"); kind = ComponentExportKind.Func; index = 0; what = None })).text) }
+        ≡ with_member no_members (export_item (record {
+          name = plain_name (codes "g");
+          kind = ComponentExportKind.Func;
+          index = 0;
+          what = None;
+        })).text) }
 {
     let mut exports = ComponentExportSection::new(alloc);
     exports.export("g".into(), ComponentExportKind::Func, 0, None)?;

@@ -28,7 +28,7 @@ use Rattle.wenc_sections.specs.laws.Names.{sort_lawful, names_section_lawful}
 use Rattle.wenc_sections.specs.laws.Items.{import_lawful, inline_export_lawful, argument_lawful, inline_core_export_lawful, core_instance_lawful, given_lawful, exported_lawful, instance_lawful, start_lawful}
 use Rattle.wenc_types.specs.laws.ComponentTypes.{type_lawful, instance_declaration_lawful, component_declaration_lawful}
 use Rattle.wenc_types.specs.laws.CoreTypes.{module_declaration_lawful, module_type_lawful, standing_rows, standing_row, core_type_lawful}
-use Rattle.wenc_types.specs.laws.DefinedTypes.{name_association_lawful as named_type_lawful, case_lawful, defined_type_lawful, function_type_lawful}
+use Rattle.wenc_types.specs.laws.DefinedTypes.{labelled_type_lawful, case_lawful, defined_type_lawful, function_type_lawful}
 use Rattle.wasm_encoder.specs.AllForms as forms
 use Rattle.wasm_encoder.specs.AllForms.{FormName, form_of}
 
@@ -113,7 +113,7 @@ lawful_of forms.GroupsInComponents = standing_readable
 lawful_of forms.ModuleDeclarations = (_, module_declaration_lawful)
 lawful_of forms.ModuleTypes = (_, module_type_lawful)
 lawful_of forms.CoreTypes = (_, core_type_lawful)
-lawful_of forms.NamedTypes = (_, named_type_lawful)
+lawful_of forms.LabelledTypes = (_, labelled_type_lawful)
 lawful_of forms.Cases = (_, case_lawful)
 lawful_of forms.DefinedTypes = (_, defined_type_lawful)
 lawful_of forms.FunctionTypes = (_, function_type_lawful)

@@ -33,7 +33,7 @@ use Rattle.wenc_types.specs.ComponentTypes.{instance_declaration}
 use Rattle.wenc_types.specs.ComponentTypes.{component_declaration}
 use Rattle.wenc_types.specs.CoreTypes.{module_declaration, module_type}
 use Rattle.wenc_types.specs.CoreTypes.{core_type}
-use Rattle.wenc_types.specs.DefinedTypes.{labelled_type as named_type, case}
+use Rattle.wenc_types.specs.DefinedTypes.{labelled_type, case}
 use Rattle.wenc_types.specs.DefinedTypes.{def_val_type, function_type}
 use Rattle.wenc_base.specs.Names.{name_association}
 
@@ -93,7 +93,7 @@ pub data FormName : Type 0 where
   -- in a component
   CoreTypes : FormName
   -- fields of records, and parameters
-  NamedTypes : FormName
+  LabelledTypes : FormName
   -- of variants
   Cases : FormName
   DefinedTypes : FormName
@@ -193,7 +193,7 @@ form_row GroupsInComponents = of (standing true)
 form_row ModuleDeclarations = of module_declaration
 form_row ModuleTypes = of module_type
 form_row CoreTypes = of core_type
-form_row NamedTypes = of named_type
+form_row LabelledTypes = of labelled_type
 form_row Cases = of case
 form_row DefinedTypes = of def_val_type
 form_row FunctionTypes = of function_type

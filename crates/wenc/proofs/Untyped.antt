@@ -10,9 +10,9 @@ use Rattle.wasm_encoder.specs.Command.{CommandTree, CoreModule, Canon}
 use Rattle.wasm_encoder.specs.Ran.{IsTyped, IsStopped}
 use Rattle.std.specs.Result.{IsErr, IsErrAnd}
 use Rattle.wenc.specs.Fields.{number_word, numbers, hex, kind}
-use Rattle.wenc.specs.Builtins.{builtin}
+use Rattle.wenc.specs.Builtins.{builtin_said}
 use Rattle.wenc.specs.Parts.{parted}
-use Rattle.wenc.specs.Script.{has_empty, import_of, import, export_of, export, alias_of, alias_export, core_module, start_of, start_command, append_names, command_of, line_command, with_line, commands_from, script}
+use Rattle.wenc.specs.Script.{has_empty, import_of, import_command, export_of, export_command, alias_said, alias_command, core_module_command, start_of, start_command, append_names_command, command_of, line_command, with_line, commands_from, script}
 use Rattle.wenc.specs.inside.Steps.{Translates}
 use Rattle.wenc.specs.declared.failure.Failure.{Failure}
 use Rattle.wenc.specs.declared.failure.Failure.TheVariants as failures
@@ -36,7 +36,7 @@ either : (b : Bool) (x y : Option CommandTree) → Untyped x → Untyped y → U
 either true x y one other = one
 either false x y one other = other
 
-import_untyped : (words : List (List ℕ)) → Untyped (import words)
+import_untyped : (words : List (List ℕ)) → Untyped (import_command words)
 import_untyped (name ∷ k ∷ i ∷ []) = of (kind k) (number_word i)
   where
     of : (k : Option ComponentExportKind) (i : Option ℕ) → Untyped (import_of name k i)
@@ -45,7 +45,7 @@ import_untyped (name ∷ k ∷ i ∷ []) = of (kind k) (number_word i)
     of (Some k) (Some i) = λ typed. typed
 import_untyped other = tt
 
-export_untyped : (words : List (List ℕ)) → Untyped (export words)
+export_untyped : (words : List (List ℕ)) → Untyped (export_command words)
 export_untyped (name ∷ k ∷ i ∷ []) = of (kind k) (number_word i)
   where
     of : (k : Option ComponentExportKind) (i : Option ℕ) → Untyped (export_of name k i)
@@ -54,16 +54,16 @@ export_untyped (name ∷ k ∷ i ∷ []) = of (kind k) (number_word i)
     of (Some k) (Some i) = λ typed. typed
 export_untyped other = tt
 
-alias_untyped : (words : List (List ℕ)) → Untyped (alias_export words)
+alias_untyped : (words : List (List ℕ)) → Untyped (alias_command words)
 alias_untyped (i ∷ k ∷ name ∷ []) = of (number_word i) (kind k)
   where
-    of : (i : Option ℕ) (k : Option ComponentExportKind) → Untyped (alias_of i k name)
+    of : (i : Option ℕ) (k : Option ComponentExportKind) → Untyped (alias_said i k name)
     of None k = tt
     of (Some i) None = tt
     of (Some i) (Some k) = λ typed. typed
 alias_untyped other = tt
 
-module_untyped : (words : List (List ℕ)) → Untyped (core_module words)
+module_untyped : (words : List (List ℕ)) → Untyped (core_module_command words)
 module_untyped (bytes ∷ []) = of (hex bytes)
   where
     of : (bytes : Option (List ℕ)) → Untyped (option_map (CoreModule None) bytes)
@@ -81,7 +81,7 @@ start_untyped (function ∷ results ∷ arguments) = of (number_word function) (
     of (Some f) (Some r) (Some values) = λ typed. typed
 start_untyped other = tt
 
-names_untyped : (words : List (List ℕ)) → Untyped (append_names words)
+names_untyped : (words : List (List ℕ)) → Untyped (append_names_command words)
 names_untyped [] = λ typed. typed
 names_untyped other = tt
 
@@ -91,26 +91,26 @@ canon_untyped (Some function) = λ typed. typed
 
 -- whichever of the words it is
 by_word : (a b c d e f : Bool) (verb : List ℕ) (words : List (List ℕ)) → Untyped (
-    if a then import words
-    else if b then export words
-    else if c then alias_export words
-    else if d then core_module words
+    if a then import_command words
+    else if b then export_command words
+    else if c then alias_command words
+    else if d then core_module_command words
     else if e then start_command words
-    else if f then append_names words
-    else option_map (Canon None) (builtin verb words))
+    else if f then append_names_command words
+    else option_map (Canon None) (builtin_said verb words))
 by_word true b c d e f verb words = import_untyped words
 by_word false true c d e f verb words = export_untyped words
 by_word false false true d e f verb words = alias_untyped words
 by_word false false false true e f verb words = module_untyped words
 by_word false false false false true f verb words = start_untyped words
 by_word false false false false false true verb words = names_untyped words
-by_word false false false false false false verb words = canon_untyped (builtin verb words)
+by_word false false false false false false verb words = canon_untyped (builtin_said verb words)
 
 command_untyped : (words : List (List ℕ)) → Untyped (command_of words)
 command_untyped [] = tt
 command_untyped (verb ∷ words) =
     by_word (bytes_eq verb (codes "import")) (bytes_eq verb (codes "export")) (bytes_eq verb (codes "alias-export"))
-    (bytes_eq verb (codes "core-module")) (bytes_eq verb (codes "start_command")) (bytes_eq verb (codes "append-names")) verb words
+    (bytes_eq verb (codes "core-module")) (bytes_eq verb (codes "start")) (bytes_eq verb (codes "append-names")) verb words
 
 line_untyped : (line : List ℕ) → Untyped (line_command line)
 line_untyped line =

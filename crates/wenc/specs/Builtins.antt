@@ -34,5 +34,5 @@ one_of (i ∷ is) verb words =
     if bytes_eq verb (row i).name then option_map (OfBuiltin i) (values_said (row i).fields words)
     else one_of is verb words
 
-abbrev pub builtin : List ℕ → List (List ℕ) → Option Canonical
-builtin = one_of builtins
+abbrev pub builtin_said : List ℕ → List (List ℕ) → Option Canonical
+builtin_said = one_of builtins

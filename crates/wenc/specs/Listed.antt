@@ -37,14 +37,14 @@ section_lines [] = []
 section_lines (s ∷ ss) = section_line s ++ section_lines ss
 
 -- numbers, each behind a space
-abbrev pub spaced : List ℕ → List ℕ
-spaced [] = []
-spaced (n ∷ ns) = 32 ∷ decimal n ++ spaced ns
+abbrev pub with_space : List ℕ → List ℕ
+with_space [] = []
+with_space (n ∷ ns) = 32 ∷ decimal n ++ with_space ns
 
 -- numbers, with a space between two
 abbrev pub counts_line : List ℕ → List ℕ
 counts_line [] = 10 ∷ []
-counts_line (n ∷ ns) = decimal n ++ spaced ns ++ 10 ∷ []
+counts_line (n ∷ ns) = decimal n ++ with_space ns ++ 10 ∷ []
 
 -- a line for each section, then one with the counts
 abbrev pub listing_text : {A : Type 0} → Listing A → List ℕ

@@ -8,7 +8,7 @@ use Rattle.wenc_parts.specs.Aliases.{InstanceExport}
 use Rattle.wasm_encoder.specs.Command.{CommandTree, CoreModule, Alias, Canon, Start, Import, Export}
 use Rattle.wasm_encoder.specs.Command.{AppendNames}
 use Rattle.wenc.specs.Fields.{number_word, numbers, hex, kind, reference_word}
-use Rattle.wenc.specs.Builtins.{builtin}
+use Rattle.wenc.specs.Builtins.{builtin_said}
 use Rattle.wenc.specs.Parts.{parted}
 
 -- ---- lines
@@ -20,9 +20,9 @@ import_of name (Some k) None = None
 import_of name (Some k) (Some i) =
     Some (Import (record { name = plain_name name; what = reference_word k i }))
 
-abbrev pub import : List (List ℕ) → Option CommandTree
-import (name ∷ k ∷ i ∷ []) = import_of name (kind k) (number_word i)
-import other = None
+abbrev pub import_command : List (List ℕ) → Option CommandTree
+import_command (name ∷ k ∷ i ∷ []) = import_of name (kind k) (number_word i)
+import_command other = None
 
 -- export NAME KIND I
 abbrev pub export_of : List ℕ → Option ComponentExportKind → Option ℕ → Option CommandTree
@@ -31,24 +31,24 @@ export_of name (Some k) None = None
 export_of name (Some k) (Some i) =
     Some (Export (record { name = plain_name name; kind = k; index = i; what = None }))
 
-abbrev pub export : List (List ℕ) → Option CommandTree
-export (name ∷ k ∷ i ∷ []) = export_of name (kind k) (number_word i)
-export other = None
+abbrev pub export_command : List (List ℕ) → Option CommandTree
+export_command (name ∷ k ∷ i ∷ []) = export_of name (kind k) (number_word i)
+export_command other = None
 
 -- alias-export I KIND NAME: the alias has its name as its debug name
-abbrev pub alias_of : Option ℕ → Option ComponentExportKind → List ℕ → Option CommandTree
-alias_of None k name = None
-alias_of (Some i) None name = None
-alias_of (Some i) (Some k) name = Some (Alias (Some name) (InstanceExport i k name))
+abbrev pub alias_said : Option ℕ → Option ComponentExportKind → List ℕ → Option CommandTree
+alias_said None k name = None
+alias_said (Some i) None name = None
+alias_said (Some i) (Some k) name = Some (Alias (Some name) (InstanceExport i k name))
 
-abbrev pub alias_export : List (List ℕ) → Option CommandTree
-alias_export (i ∷ k ∷ name ∷ []) = alias_of (number_word i) (kind k) name
-alias_export other = None
+abbrev pub alias_command : List (List ℕ) → Option CommandTree
+alias_command (i ∷ k ∷ name ∷ []) = alias_said (number_word i) (kind k) name
+alias_command other = None
 
 -- core-module HEX
-abbrev pub core_module : List (List ℕ) → Option CommandTree
-core_module (bytes ∷ []) = option_map (CoreModule None) (hex bytes)
-core_module other = None
+abbrev pub core_module_command : List (List ℕ) → Option CommandTree
+core_module_command (bytes ∷ []) = option_map (CoreModule None) (hex bytes)
+core_module_command other = None
 
 -- start F R A..
 abbrev pub start_of : Option ℕ → Option ℕ → Option (List ℕ) → Option CommandTree
@@ -63,20 +63,20 @@ start_command (function ∷ results ∷ arguments) =
 start_command other = None
 
 -- append-names
-abbrev pub append_names : List (List ℕ) → Option CommandTree
-append_names [] = Some AppendNames
-append_names other = None
+abbrev pub append_names_command : List (List ℕ) → Option CommandTree
+append_names_command [] = Some AppendNames
+append_names_command other = None
 
 -- the builtins have words of their own
 abbrev pub command_by : List ℕ → List (List ℕ) → Option CommandTree
 command_by verb words =
-    if bytes_eq verb (codes "import") then import words
-    else if bytes_eq verb (codes "export") then export words
-    else if bytes_eq verb (codes "alias-export") then alias_export words
-    else if bytes_eq verb (codes "core-module") then core_module words
-    else if bytes_eq verb (codes "start_command") then start_command words
-    else if bytes_eq verb (codes "append-names") then append_names words
-    else option_map (Canon None) (builtin verb words)
+    if bytes_eq verb (codes "import") then import_command words
+    else if bytes_eq verb (codes "export") then export_command words
+    else if bytes_eq verb (codes "alias-export") then alias_command words
+    else if bytes_eq verb (codes "core-module") then core_module_command words
+    else if bytes_eq verb (codes "start") then start_command words
+    else if bytes_eq verb (codes "append-names") then append_names_command words
+    else option_map (Canon None) (builtin_said verb words)
 
 abbrev pub command_of : List (List ℕ) → Option CommandTree
 command_of [] = None

@@ -1,7 +1,7 @@
 ghost use Rattle.std.specs.Prelude.{◌≡◌, ◌∷◌, [], drop, option_map};
 ghost use Rattle.wenc_canon.specs.CanonTrees.{canon_view};
 ghost use Rattle.wenc_canon.specs.Canonicals.{Index, Flag, builtins};
-ghost use Rattle.wenc.specs.Builtins.{values_said, one_of, builtin};
+ghost use Rattle.wenc.specs.Builtins.{values_said, one_of, builtin_said};
 ghost use Rattle.wenc.specs.Words.{words_left};
 
 use crate::number::{flag, number};
@@ -11,7 +11,7 @@ use wasm_encoder::CanonTree;
 /// The builtin that a word names, with the words behind it. One with options, a core type or a result has no words.
 /// Those of resources and tasks come first.
 pub fn builtin(verb: &str, words: Words) -> Option<CanonTree>
-    ensures { option_map canon_view result ≡ builtin verb.now (words_left words.entry) }
+    ensures { option_map canon_view result ≡ builtin_said verb.now (words_left words.entry) }
 {
     match verb {
         "resource.new" => Some(CanonTree::ResourceNew(index(words)?)),

@@ -1,6 +1,6 @@
 ghost use Rattle.std.specs.Prelude.{◌≡◌, IfOk, option_map};
 ghost use Rattle.wasm_encoder.specs.Command.{command_view};
-ghost use Rattle.wenc.specs.Script.{import, export, alias_export, core_module, start_command, append_names, command_of, line_command};
+ghost use Rattle.wenc.specs.Script.{import_command, export_command, alias_command, core_module_command, start_command, append_names_command, command_of, line_command};
 ghost use Rattle.wenc.specs.Words.{words_left};
 
 use crate::builtin::builtin;
@@ -12,7 +12,8 @@ use wasm_encoder::{AliasTree, Command, NameTree};
 
 /// `import NAME KIND I`
 fn import(alloc: Global, words: Words) -> Result<Option<Command>, AllocError>
-    ensures { IfOk result (λ c. option_map command_view c ≡ import (words_left words.entry)) }
+    ensures { IfOk result
+        (λ c. option_map command_view c ≡ import_command (words_left words.entry)) }
 {
     let Some((name, word, index)) = words.three() else {
         return Ok(None);
@@ -27,7 +28,8 @@ fn import(alloc: Global, words: Words) -> Result<Option<Command>, AllocError>
 
 /// `export NAME KIND I`
 fn export(alloc: Global, words: Words) -> Result<Option<Command>, AllocError>
-    ensures { IfOk result (λ c. option_map command_view c ≡ export (words_left words.entry)) }
+    ensures { IfOk result
+        (λ c. option_map command_view c ≡ export_command (words_left words.entry)) }
 {
     let Some((name, word, index)) = words.three() else {
         return Ok(None);
@@ -46,7 +48,8 @@ fn export(alloc: Global, words: Words) -> Result<Option<Command>, AllocError>
 
 /// `alias-export I KIND NAME`
 fn alias_export(alloc: Global, words: Words) -> Result<Option<Command>, AllocError>
-    ensures { IfOk result (λ c. option_map command_view c ≡ alias_export (words_left words.entry)) }
+    ensures { IfOk result
+        (λ c. option_map command_view c ≡ alias_command (words_left words.entry)) }
 {
     let Some((instance, word, name)) = words.three() else {
         return Ok(None);
@@ -68,7 +71,8 @@ fn alias_export(alloc: Global, words: Words) -> Result<Option<Command>, AllocErr
 
 /// `core-module HEX`
 fn core_module(alloc: Global, words: Words) -> Result<Option<Command>, AllocError>
-    ensures { IfOk result (λ c. option_map command_view c ≡ core_module (words_left words.entry)) }
+    ensures { IfOk result
+        (λ c. option_map command_view c ≡ core_module_command (words_left words.entry)) }
 {
     let mut words = words;
     let (Some(word), None) = (words.next(), words.next()) else {
@@ -108,7 +112,7 @@ fn start(alloc: Global, words: Words) -> Result<Option<Command>, AllocError>
 
 /// `append-names`
 fn append_names(words: Words) -> Option<Command>
-    ensures { option_map command_view result ≡ append_names (words_left words.entry) }
+    ensures { option_map command_view result ≡ append_names_command (words_left words.entry) }
 {
     let mut words = words;
     match words.next() {

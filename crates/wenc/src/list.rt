@@ -1,7 +1,7 @@
 //! The use `list`: the sections and counts of a component, of its bytes in hexadecimal.
 ghost use Rattle.std.specs.Prelude.{◌≡◌, ◌++◌, ◌⊎◌, IfOk, OnOk, MatchResult, string_bytes, Some};
 ghost use Rattle.wenc_list.specs.declared.fault.ListFault.TheVariants.{Memory};
-ghost use Rattle.wenc.specs.Listed.{without_line_end, text_bytes, section_line, section_lines, spaced, counts_line, listing_text, place_line, fault_line};
+ghost use Rattle.wenc.specs.Listed.{without_line_end, text_bytes, section_line, section_lines, with_space, counts_line, listing_text, place_line, fault_line};
 ghost use Rattle.wenc.specs.inside.ListSteps.{NotDecoded, ListsText, ReadsText, ReadsListing, ReportsUnlisted};
 ghost use Rattle.wenc.specs.ListRun.{EndsListing};
 ghost use Rattle.wenc.specs.Run.{Says};
@@ -65,7 +65,8 @@ fn push_sections<A: Allocator>(
 
 /// Appends the numbers, each behind a space.
 fn push_spaced<A: Allocator>(text: &mut String<A>, numbers: &[u128]) -> Result<(), AllocError>
-    ensures { OnOk result (string_bytes text.new ≡ string_bytes text.old ++ spaced numbers.now) }
+    ensures { OnOk result
+        (string_bytes text.new ≡ string_bytes text.old ++ with_space numbers.now) }
 {
     for number in numbers {
         write!(text, " {number}")?;

@@ -1,5 +1,5 @@
 -- What the code writes of composite types serves as their forms.
-use Rattle.std.proofs.Common.{ℕ, List, [], ◌∷◌, Bool, true, false, Option, Some, None}
+use Rattle.std.proofs.Common.{List}
 use Rattle.wenc_base.specs.Composites.{Func, Struct, composite_type, sub_type, Rec, rec_type, sub_view}
 use Rattle.wenc_base.specs.Encode.{Serves, in_order, list_in_order}
 use Rattle.wenc_base.specs.Piece.{◌▸◌}

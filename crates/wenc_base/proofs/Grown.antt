@@ -1,5 +1,5 @@
 -- What is added to a lender: values that an iterator gives, and what comes in several calls.
-use Rattle.std.proofs.Common.{◌≡◌, ℕ, ◌≤◌, ◌<◌, ◌^◌, List, [], ◌++◌, length, Option, Result, Ok, Err, OnOk, OnErr, IfErr, IsErrAnd, refl, ap, ◌∙◌, inl, inr, arith}
+use Rattle.std.proofs.Common.{◌≡◌, ℕ, ◌≤◌, ◌<◌, ◌^◌, List, length, Option, Result, Ok, Err, OnOk, OnErr, IfErr, IsErrAnd, refl, ap, ◌∙◌, inl, inr, arith}
 use Rattle.std.specs.Iterator.Runs.{SomeRun, WholeRun}
 use Rattle.wenc_base.specs.Encode.{Appended}
 use Rattle.wenc_base.specs.Fault.{IsWarranted, either}

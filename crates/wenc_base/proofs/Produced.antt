@@ -1,13 +1,12 @@
 -- A field that the producers section took.
 use Rattle.std.proofs.Common.{◌≡◌, ℕ, ◌+◌, ◌^◌, ◌<◌, true, List, ◌++◌, length, Result, Ok, refl, sym, ◌∙◌, inl, inr, arith}
 use Rattle.std.proofs.lemmas.List.{length-append}
-use Rattle.std.specs.List.{flat_map}
 use Rattle.wenc_base.specs.Encode.{Serves, in_order}
 use Rattle.wenc_base.specs.Fault.{NoCause}
-use Rattle.wenc_base.specs.Forms.{name, list}
+use Rattle.wenc_base.specs.Forms.{name}
 use Rattle.wenc_base.specs.Holder.{HolderState, is_finished, content_size, held_members, AddCause, Accepted, AddsMember, Contains}
 use Rattle.wenc_base.specs.Number.{groups, unsigned_text, u32}
-use Rattle.wenc_base.specs.Piece.{Piece, refused_for}
+use Rattle.wenc_base.specs.Piece.{refused_for}
 use Rattle.wenc_base.specs.Producers.{Producer, producer, Producers, producers_field, held_field, FieldCause, producers_label, producers_section, producers_held}
 use Rattle.wenc_base.specs.laws.Holders.{adds_as}
 use Rattle.wenc_base.specs.laws.Numbers.{size_free}

@@ -9,7 +9,7 @@ use Rattle.wenc_base.specs.Holder.{listed}
 use Rattle.wenc_base.specs.Number.{unsigned_text}
 use Rattle.wenc_base.specs.Piece.{Piece, Form}
 use Rattle.wenc_base.specs.declared.fault.Fault.{Fault}
-use Rattle.wenc_base.specs.declared.fault.Fault.TheVariants.{Memory, TooMany, TooLarge, Unfinished}
+use Rattle.wenc_base.specs.declared.fault.Fault.TheVariants.{TooMany}
 use Rattle.wenc_base.specs.laws.Numbers.{count_free}
 use Rattle.wenc_base.specs.laws.Serves.{drawn_is_list, either_free}
 use Rattle.wenc_base.proofs.Members.{cause_of_later, free_next, still_warranted, list_is_written}

@@ -1,4 +1,5 @@
--- Why the laws of the forms hold, and what follows of a holder: for proofs, here and in the crates above.
+-- Why the laws of the forms hold, and what follows of a holder: for proofs, here and in the crates
+-- above.
 pub mod Groups
 pub mod Lawful
 pub mod Sound

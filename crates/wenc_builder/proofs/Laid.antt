@@ -14,7 +14,7 @@ use Rattle.wenc_base.specs.declared.holder.openings.Opening.{Opening}
 use Rattle.wenc_base.specs.declared.fault.Fault.{Fault}
 use Rattle.wenc_base.specs.declared.fault.Fault.TheVariants.{Memory, TooMany, TooLarge, Unfinished}
 use Rattle.wenc_base.proofs.Groups.{size_1}
-use Rattle.wenc_builder.specs.Builder.{OpenSection, Sections, sections_text, entered, entered_at}
+use Rattle.wenc_builder.specs.Builder.{OpenSection, SectionsState, sections_text, entered, entered_at}
 use Rattle.wenc_builder.specs.Cause.{SectionCause, NoRoom}
 use Rattle.wenc_builder.specs.laws.Caused.{cause_is}
 use Rattle.wenc_builder.specs.inside.Layout.{kind_id, open_head, OpensAnother, Buffered, buffered_content, buffer_appended, section_appended, buffer_with, SectionFits, open_view, earlier_view, buffer_view, kept_before, kept_with, SectionIsIn, MembersAreIn, BegunIsIn, EarlierIsIn, IsApart, IsLaidOut}
@@ -110,7 +110,7 @@ apart_free_at : (closed : List ℕ) (o : Option OpenSection) (id : ℕ) → Open
 apart_free_at closed None id d fault c = one_free id fault c
 apart_free_at closed (Some o) id d fault c = one_free id fault (rw (ne_eqb o.id id d) at c)
 
-pub apart_free : (outcome : Result (Unit {0}) Fault) (s : Sections) (id : ℕ) → OpensAnother s.current id → OnOk outcome (NoCause (SectionCause (entered s id []).current))
+pub apart_free : (outcome : Result (Unit {0}) Fault) (s : SectionsState) (id : ℕ) → OpensAnother s.current id → OnOk outcome (NoCause (SectionCause (entered s id []).current))
 apart_free (Ok u) s id d = apart_free_at s.closed s.current id d
 apart_free (Err fault) s id d = tt
 

@@ -1,24 +1,23 @@
 -- Items that are made of the values which an iterator gives.
-use Rattle.std.proofs.Common.{◌≡◌, ℕ, inl, inr, List, [], ◌∷◌, ◌++◌, map, append_assoc, Option, None, Some, Result, Ok, Err, OnOk, OnErr, false, refl, sym, ◌∙◌, ap, subst}
-use Rattle.std.specs.Iterator.Runs.{SomeRun, WholeRun}
+use Rattle.std.proofs.Common.{◌≡◌, ℕ, inl, inr, List, [], ◌++◌, append_assoc, Option, None, Some, Result, Ok, Err, false, refl, sym, ◌∙◌, ap, subst}
 use Rattle.wenc_base.specs.Encode.{Serves}
 use Rattle.wenc_base.specs.Fault.{IsWarranted, either, NoCause}
 use Rattle.wenc_base.specs.Forms.{list}
 use Rattle.wenc_base.specs.Holder.{listed}
-use Rattle.wenc_base.specs.Lender.{Extends, Extended, ExtendsListed}
-use Rattle.wenc_base.specs.Piece.{Piece, Form, nothing, ◌▸◌, ◌⨾◌}
+use Rattle.wenc_base.specs.Lender.{Extends, ExtendsListed}
+use Rattle.wenc_base.specs.Piece.{Piece, Form, nothing}
 use Rattle.wenc_base.specs.declared.fault.Fault.{Fault}
 use Rattle.wenc_base.specs.declared.fault.Fault.TheVariants.{TooLarge}
-use Rattle.wenc_base.specs.laws.Serves.{still_warranted, serves_then}
+use Rattle.wenc_base.specs.laws.Serves.{still_warranted}
 use Rattle.wenc_base.proofs.Runs.{no_run}
-use Rattle.wenc_canon.specs.Canonicals.{Canonical, canonical, canonical_option}
+use Rattle.wenc_canon.specs.Canonicals.{Canonical, canonical}
 use Rattle.wenc_canon.specs.declared.canonicals.CanonicalOption.{CanonicalOption}
 use Rattle.wenc_builder.specs.Item.{item}
 use Rattle.wenc_builder.specs.Space.{canonical_space, space_number}
 use Rattle.wenc_builder.specs.Entry.{Entry, canonical_entry}
 use Rattle.wenc_builder.specs.Builder.{BegunItem, State, builder_is_finished, content_of, draft, item_begun, item_appended, item_ended, item_given_up}
 use Rattle.wenc_builder.specs.Cause.{SectionCause}
-use Rattle.wenc_builder.specs.Enters.{Enters, EntersListed, Takes, TakesDraft}
+use Rattle.wenc_builder.specs.Enters.{EntersListed, Takes, TakesDraft}
 use Rattle.wenc_builder.specs.inside.Takes.{AppendsListed, TakesListed}
 use Rattle.wenc_builder.specs.inside.Layout.{kind_id, draft_of}
 use Rattle.wenc_builder.specs.LenderState.{no_room_in_section}

@@ -5,7 +5,6 @@ use Rattle.std.proofs.Math.Seq.{take-suc}
 use Rattle.std.proofs.lemmas.Bool.Decides.{eqb_tells}
 use Rattle.std.proofs.lemmas.Grind.{flat_map-append}
 use Rattle.std.proofs.lemmas.List.Folds.{flat_map-map}
-use Rattle.std.specs.List.{flat_map}
 use Rattle.std.specs.Option.{MatchOption}
 use Rattle.std.specs.Result.{IfErr, OnOk, OnErr}
 use Rattle.wenc_base.specs.Encode.{Serves, in_order, sized_in_order}
@@ -14,15 +13,14 @@ use Rattle.wenc_base.specs.Forms.{AreBytes, name as name_form}
 use Rattle.wenc_base.specs.Holder.{HolderState, holding, held_text}
 use Rattle.wenc_base.specs.Names.{NameAssociation, names_text}
 use Rattle.wenc_base.specs.Number.{unsigned_text}
-use Rattle.wenc_base.specs.Piece.{Piece, AnyCause, ◌▸◌, each}
+use Rattle.wenc_base.specs.Piece.{Piece, ◌▸◌, each}
 use Rattle.wenc_base.specs.declared.fault.Fault.{Fault}
 use Rattle.wenc_base.specs.declared.fault.Fault.TheVariants.{Memory, TooMany, TooLarge, Unfinished}
 use Rattle.wenc_sections.specs.Names.{Subsection, subsection, subsections_text, ItemNames, item_names, item_sort, name_subsections, names_label}
 use Rattle.wenc_sections.specs.declared.names.Sort.{Sort}
 use Rattle.wenc_sections.specs.declared.names.Sort.TheVariants as sorts
-use Rattle.wenc_builder.specs.Entry.{Entry, entry, custom_entry, names}
+use Rattle.wenc_builder.specs.Entry.{Entry, custom_entry, names}
 use Rattle.wenc_builder.specs.Builder.{namespace_at, State, builder_is_finished}
-use Rattle.wenc_builder.specs.Cause.{CallCause}
 use Rattle.wenc_builder.specs.Enters.{EntersWithoutIndex}
 use Rattle.wenc_builder.specs.inside.Takes.{TakesNoIndex, with_alone}
 use Rattle.wenc_builder.specs.Holds.{Holds}

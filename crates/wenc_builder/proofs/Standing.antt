@@ -5,7 +5,7 @@ use Rattle.wenc_base.specs.declared.fault.Fault.{Fault}
 use Rattle.wenc_base.specs.Fault.{NoCause}
 use Rattle.wenc_base.specs.Piece.{Piece}
 use Rattle.wenc_base.specs.laws.Serves.{right_free}
-use Rattle.wenc_builder.specs.Builder.{Sections, content_of, item_appended}
+use Rattle.wenc_builder.specs.Builder.{SectionsState, content_of, item_appended}
 use Rattle.wenc_builder.specs.Cause.{SectionCause, NoRoom}
 use Rattle.wenc_builder.specs.inside.HoldsSome.{HoldsSome}
 use Rattle.wenc_builder.specs.inside.Layout.{Buffered, section_begun, section_appended, buffer_begun, buffer_appended, buffer_ended, buffer_given_up, buffer_with}
@@ -32,7 +32,7 @@ module _ (b : Buffered) (s : Spaced) (i : IsBuilder b s) where
   }
     where
       there : NoCause (NoRoom (content_of (item_appended (builder_view b s) text)).sections.current)
-      there = subst (λ (k : Sections). NoCause (NoRoom k.current)) (sym (appended_section b s (builder_view b s) text i.agree refl)) large
+      there = subst (λ (k : SectionsState). NoCause (NoRoom k.current)) (sym (appended_section b s (builder_view b s) text i.agree refl)) large
 
   pub value_stands : (new : Buffered) (outcome : Result (Unit {0}) Fault) (p : Piece) → Extends b new (buffer_appended b p.text) outcome p (NoRoom (section_appended b p.text)) → IsBuilder new s
   value_stands new (Ok u) p a = rw a.ok (longer_stands p.text (right_free a.free))

@@ -5,7 +5,7 @@ use Rattle.wenc_base.specs.Piece.{Piece, nothing}
 use Rattle.wenc_base.specs.declared.fault.Fault.{Fault}
 use Rattle.wenc_base.specs.declared.fault.Fault.TheVariants.{Unfinished}
 use Rattle.wenc_base.specs.laws.Serves.{still_warranted}
-use Rattle.wenc_builder.specs.Builder.{entered, Content, State, namespace_at, content_of, Draft, draft, space_with, item_begun, item_appended, item_ended, item_given_up}
+use Rattle.wenc_builder.specs.Builder.{entered, Content, State, namespace_at, Draft, draft, space_with, item_begun, item_appended, item_ended, item_given_up}
 use Rattle.wenc_builder.specs.Cause.{SectionCause, SpaceCause}
 use Rattle.wenc_builder.specs.Enters.{TakesWith, Takes, TakesDraft, BeginsItem}
 use Rattle.wenc_builder.specs.inside.Layout.{Buffered}

@@ -1,5 +1,5 @@
 -- What the calls of a builder write serves as items.
-use Rattle.std.proofs.Common.{◌≡◌, ℕ, List, true, false, is_none, Option, refl, subst, inl, inr}
+use Rattle.std.proofs.Common.{◌≡◌, ℕ, List, true, is_none, Option, refl, subst, inl, inr}
 use Rattle.wenc_base.specs.Encode.{Serves, in_order}
 use Rattle.wenc_base.specs.Forms.{option}
 use Rattle.wenc_base.specs.Number.{u32}

@@ -5,7 +5,7 @@ use Rattle.wenc_base.specs.Fault.{either}
 use Rattle.wenc_base.specs.Piece.{Piece}
 use Rattle.wenc_base.specs.declared.fault.Fault.{Fault}
 use Rattle.wenc_base.specs.laws.Serves.{still_warranted}
-use Rattle.wenc_builder.specs.Builder.{Sections, Content, State, builder_is_finished, content_of, item_appended, item_ended}
+use Rattle.wenc_builder.specs.Builder.{SectionsState, Content, State, builder_is_finished, content_of, item_appended, item_ended}
 use Rattle.wenc_builder.specs.inside.Layout.{Writing, Buffered, buffered_content, buffer_appended, section_appended, buffer_ended}
 use Rattle.wenc_builder.specs.Cause.{NoRoom}
 use Rattle.wenc_builder.specs.LenderState.{no_room_in_section}
@@ -86,10 +86,10 @@ module _ (b : Buffered) (s : Spaced) (now : State) (agree : Agree b.writing s.ta
   longer_view text = appended_is b s text agree ∙ ap (λ (n : State). item_appended n text) view
 
   there : (cause : Fault → Type 0) (text : List ℕ) (fault : Fault) → either cause (NoRoom (section_appended b text)) fault → either cause (no_room_in_section now text) fault
-  there cause text fault c = subst (λ (k : Sections). either cause (NoRoom k.current) fault) (sym (appended_section b s now text agree view)) c
+  there cause text fault c = subst (λ (k : SectionsState). either cause (NoRoom k.current) fault) (sym (appended_section b s now text agree view)) c
 
   back : (cause : Fault → Type 0) (text : List ℕ) (fault : Fault) → either cause (no_room_in_section now text) fault → either cause (NoRoom (section_appended b text)) fault
-  back cause text fault c = subst (λ (k : Sections). either cause (NoRoom k.current) fault) (appended_section b s now text agree view) c
+  back cause text fault c = subst (λ (k : SectionsState). either cause (NoRoom k.current) fault) (appended_section b s now text agree view) c
 
   pub appended_value : (new : Buffered) (outcome : Result (Unit {0}) Fault) (p : Piece) → Extends b new (buffer_appended b p.text) outcome p (NoRoom (section_appended b p.text))
       → Extends now (builder_view new s) (item_appended now p.text) outcome p (no_room_in_section now p.text)

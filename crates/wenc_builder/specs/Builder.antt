@@ -22,7 +22,7 @@ abbrev pub open_text_of : OpenSection → List ℕ
 open_text_of o = o.id ∷ section_text (holding [] o.count o.body)
 
 -- closed bytes, then the open section if there is one
-pub record Sections : Type 0 where
+pub record SectionsState : Type 0 where
   pub closed : List ℕ
   pub current : Option OpenSection
 
@@ -30,11 +30,11 @@ abbrev pub open_text : Option OpenSection → List ℕ
 open_text None = []
 open_text (Some o) = open_text_of o
 
-abbrev pub sections_text : Sections → List ℕ
+abbrev pub sections_text : SectionsState → List ℕ
 sections_text s = s.closed ++ open_text s.current
 
 -- one more item: in the open section if that is of its kind, else in a new one
-abbrev pub entered_at : List ℕ → Option OpenSection → ℕ → List ℕ → Sections
+abbrev pub entered_at : List ℕ → Option OpenSection → ℕ → List ℕ → SectionsState
 entered_at closed None id text =
     record { closed = closed; current = Some (record { id = id; count = 1; body = text }) }
 entered_at closed (Some o) id text =
@@ -48,18 +48,18 @@ entered_at closed (Some o) id text =
       current = Some (record { id = id; count = 1; body = text });
     })
 
-abbrev pub entered : Sections → ℕ → List ℕ → Sections
+abbrev pub entered : SectionsState → ℕ → List ℕ → SectionsState
 entered s id text = entered_at s.closed s.current id text
 
 -- an item that stands alone
-abbrev pub stood_alone : Sections → List ℕ → Sections
+abbrev pub stood_alone : SectionsState → List ℕ → SectionsState
 stood_alone s text = record { closed = sections_text s ++ text; current = None }
 
-abbrev pub with_item_at : Option ℕ → Sections → List ℕ → Sections
+abbrev pub with_item_at : Option ℕ → SectionsState → List ℕ → SectionsState
 with_item_at None s text = stood_alone s text
 with_item_at (Some id) s text = entered s id text
 
-abbrev pub with_item : Sections → Item → Sections
+abbrev pub with_item : SectionsState → Item → SectionsState
 with_item s x = with_item_at (collected x) s (item x).text
 
 -- ---- index spaces
@@ -91,7 +91,7 @@ namespace_at spaces k = slice_index_or spaces k no_names
 -- ---- a builder
 
 pub record Content : Type 0 where
-  pub sections : Sections
+  pub sections : SectionsState
   pub spaces : List Namespace
 
 -- the spaces, where these indices are taken in one of them

@@ -7,7 +7,7 @@ use Rattle.wenc_builder.specs.Space.{next_index}
 use Rattle.wenc_base.specs.Names.{names_text}
 use Rattle.wenc_builder.specs.Entry.{Entry, items, names}
 use Rattle.wenc_builder.specs.Raw.{IsEncodable}
-use Rattle.wenc_builder.specs.Builder.{OpenSection, Sections, sections_text, Namespace}
+use Rattle.wenc_builder.specs.Builder.{OpenSection, SectionsState, sections_text, Namespace}
 use Rattle.wenc_builder.specs.Builder.{namespace_at, State}
 
 -- the open section that the last section is, where it collects items
@@ -18,7 +18,7 @@ open_of (Run id xs ∷ []) =
 open_of (Alone x ∷ []) = None
 open_of (s ∷ t ∷ ss) = open_of (t ∷ ss)
 
-pub record SectionsHold (s : Sections) (xs : List Item) : Type 0 where
+pub record SectionsHold (s : SectionsState) (xs : List Item) : Type 0 where
   pub bytes : sections_text s ≡ whole xs
   pub last : s.current ≡ open_of (runs xs)
 

@@ -6,7 +6,7 @@ use Rattle.wenc_base.specs.Piece.{Piece, Form, nothing, each}
 use Rattle.wenc_base.specs.Holder.{HolderState, holding}
 use Rattle.wenc_base.specs.declared.fault.Fault.{Fault}
 use Rattle.wenc_base.specs.declared.fault.Fault.TheVariants.{Unfinished}
-use Rattle.wenc_sections.specs.Names.{Subsection, subsection, subsections_text, name_subsections}
+use Rattle.wenc_sections.specs.Names.{Subsection, subsections_text, name_subsections}
 use Rattle.wenc_sections.specs.Names.{names_label, held_subsection}
 use Rattle.wenc_sections.specs.declared.names.Sort.{Sort}
 use Rattle.wenc_sections.specs.declared.names.Sort.TheVariants as sorts

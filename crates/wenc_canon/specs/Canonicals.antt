@@ -245,6 +245,7 @@ Adds old new outcome i values = AddsMember (canonical (OfBuiltin i values)) old 
 
 -- a function that is made of the options which an iterator gives
 abbrev pub AddsWithOptions : {S : Type 0} → (S → Option CanonicalOption → S → Type 0) → S
-    → HolderState → HolderState → Result (Unit {0}) Fault → (List CanonicalOption → Canonical) → Type 0
+    → HolderState → HolderState → Result (Unit {0}) Fault → (List CanonicalOption → Canonical)
+    → Type 0
 AddsWithOptions steps options old new outcome function =
     AddsListed steps options (λ os. canonical (function os)) old new outcome

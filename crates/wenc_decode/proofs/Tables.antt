@@ -3,7 +3,7 @@ use Rattle.std.proofs.Common.{◌≡◌, ℕ, List, [], ◌∷◌, ◌++◌, map
 use Rattle.std.proofs.lemmas.Option.{same_Some}
 use Rattle.wenc_base.specs.laws.Sound.{tested}
 use Rattle.wenc_base.specs.Readers.{read_byte, Reader, ◌>>=◌, give, pick, choose}
-use Rattle.wenc_read.specs.inside.Gives.{Fails}
+use Rattle.wenc_read.specs.Gives.{Fails}
 use Rattle.wenc_read.specs.laws.Tables.{first_there, fails_on}
 use Rattle.wenc_read.specs.declared.refusal.Refusal.{Refusal}
 use Rattle.wenc_decode.specs.inside.Tables.{find}

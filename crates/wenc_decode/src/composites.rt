@@ -2,7 +2,7 @@
 ghost use Rattle.std.specs.Prelude.{Some, false, true};
 ghost use Rattle.wenc_base.specs.Composites.{composite_view, sub_view, rec_type_view};
 ghost use Rattle.wenc_base.specs.laws.Composites.{read_composite, read_sub_type, read_group, read_closed, read_extension, sub_of};
-ghost use Rattle.wenc_read.specs.inside.Gives.{Gives};
+ghost use Rattle.wenc_read.specs.Gives.{Gives};
 
 use crate::decode::Decode;
 use std::alloc::Allocator;

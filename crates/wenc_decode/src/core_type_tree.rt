@@ -1,6 +1,6 @@
 //! Core types in a component: groups with guards, and module types.
 ghost use Rattle.wenc_decode.specs.inside.CoreTypes.{read_outer_type, read_guarded};
-ghost use Rattle.wenc_read.specs.inside.Gives.{Gives};
+ghost use Rattle.wenc_read.specs.Gives.{Gives};
 ghost use Rattle.wenc_types.specs.CoreTypeTrees.{module_declaration_view, core_type_view};
 
 use crate::composites::open;

@@ -4,7 +4,7 @@ ghost use Rattle.wenc_base.specs.Types.{abstract_byte};
 ghost use Rattle.wenc_base.specs.laws.Types.{abstract_types, to as reference_to};
 ghost use Rattle.wenc_decode.specs.inside.CoreTypes.{read_referred};
 ghost use Rattle.wenc_decode.specs.inside.Tables.{find};
-ghost use Rattle.wenc_read.specs.inside.Gives.{Gives};
+ghost use Rattle.wenc_read.specs.Gives.{Gives};
 
 use crate::decode::Decode;
 use std::alloc::Allocator;

@@ -1,7 +1,7 @@
 //! Types of values that components define.
 ghost use Rattle.wenc_base.specs.Readers.{pick, nowhere};
 ghost use Rattle.wenc_decode.specs.inside.Types.{read_defined_row, handle_rows};
-ghost use Rattle.wenc_read.specs.inside.Gives.{Gives};
+ghost use Rattle.wenc_read.specs.Gives.{Gives};
 ghost use Rattle.wenc_types.specs.TypeTrees.{defined_view};
 
 use crate::decode::Decode;

@@ -1,6 +1,6 @@
 //! What modules import and export.
 ghost use Rattle.wenc_decode.specs.inside.Entities.{read_maximum, read_bounds, memory_so, table_so};
-ghost use Rattle.wenc_read.specs.inside.Gives.{Gives};
+ghost use Rattle.wenc_read.specs.Gives.{Gives};
 
 use crate::decode::Decode;
 use std::alloc::Allocator;

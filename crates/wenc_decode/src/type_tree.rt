@@ -1,10 +1,10 @@
 //! Types that components define. Those of components and instances nest, down to a depth.
 ghost use Rattle.std.specs.Prelude.{map};
 ghost use Rattle.wenc_base.specs.Readers.{times};
-ghost use Rattle.wenc_decode.specs.inside.TypeTrees.{read_imported, read_exported_type, read_component_declaration, read_instance_declaration};
-ghost use Rattle.wenc_decode.specs.inside.TypeTrees.{read_type, read_component_type, read_instance_type};
+ghost use Rattle.wenc_decode.specs.inside.TypeTrees.{read_imported, read_exported_type, read_deep_component_declaration, read_deep_instance_declaration};
+ghost use Rattle.wenc_decode.specs.inside.TypeTrees.{read_deep_type, read_component_type, read_instance_type};
 ghost use Rattle.wenc_decode.specs.inside.Types.{read_function_type, read_resource_type};
-ghost use Rattle.wenc_read.specs.inside.Gives.{Gives};
+ghost use Rattle.wenc_read.specs.Gives.{Gives};
 ghost use Rattle.wenc_types.specs.TypeTrees.{type_view, instance_declaration_view, component_declaration_view};
 
 use crate::decode::Decode;
@@ -54,7 +54,7 @@ pub fn type_of<A: Allocator + Copy>(
     depth_left: u32,
     bytes: &[u8],
 ) -> Result<(TypeTree<A>, &[u8]), Refusal>
-    ensures { Gives (λ x. (type_view x.0, x.1.now)) result (read_type depth_left bytes.now) }
+    ensures { Gives (λ x. (type_view x.0, x.1.now)) result (read_deep_type depth_left bytes.now) }
 {
     match byte(bytes)? {
         (0x41, rest) => component_type(alloc, depth_left, rest),
@@ -114,7 +114,7 @@ fn component_decls<A: Allocator + Copy>(
     bytes: &[u8],
 ) -> Result<(Vec<ComponentDecl<A>, A>, &[u8]), Refusal>
     ensures { Gives (λ x. (map component_declaration_view x.0.items, x.1.now)) result
-        (times (read_component_declaration (read_type depth_left)) count bytes.now) }
+        (times (read_deep_component_declaration (read_deep_type depth_left)) count bytes.now) }
 {
     let mut decls = Vec::new(alloc);
     let mut rest = bytes;
@@ -135,7 +135,7 @@ fn instance_decls<A: Allocator + Copy>(
     bytes: &[u8],
 ) -> Result<(Vec<InstanceDecl<A>, A>, &[u8]), Refusal>
     ensures { Gives (λ x. (map instance_declaration_view x.0.items, x.1.now)) result
-        (times (read_instance_declaration (read_type depth_left)) count bytes.now) }
+        (times (read_deep_instance_declaration (read_deep_type depth_left)) count bytes.now) }
 {
     let mut decls = Vec::new(alloc);
     let mut rest = bytes;
@@ -156,7 +156,7 @@ fn component_decl<A: Allocator + Copy>(
     bytes: &[u8],
 ) -> Result<(ComponentDecl<A>, &[u8]), Refusal>
     ensures { Gives (λ x. (component_declaration_view x.0, x.1.now)) result
-        (read_component_declaration (read_type depth_left) bytes.now) }
+        (read_deep_component_declaration (read_deep_type depth_left) bytes.now) }
 {
     match byte(bytes)? {
         (0x03, rest) => imported(alloc, rest),
@@ -176,7 +176,7 @@ fn instance_decl<A: Allocator + Copy>(
     bytes: &[u8],
 ) -> Result<(InstanceDecl<A>, &[u8]), Refusal>
     ensures { Gives (λ x. (instance_declaration_view x.0, x.1.now)) result
-        (read_instance_declaration (read_type depth_left) bytes.now) }
+        (read_deep_instance_declaration (read_deep_type depth_left) bytes.now) }
 {
     match byte(bytes)? {
         (0x00, rest) => {

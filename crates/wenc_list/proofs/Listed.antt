@@ -6,16 +6,17 @@ use Rattle.wenc_base.specs.Forms.{name, AreBytes}
 use Rattle.wenc_base.specs.Number.{ReadsGroups, last, more}
 use Rattle.wenc_base.specs.Piece.{Wide, each}
 use Rattle.wenc_base.specs.laws.Forms.{bytes_pass, name_lawful}
+use Rattle.wenc_base.specs.laws.Sections.{labelled_section}
 use Rattle.wenc_base.specs.Readers.{Flaw, Bad, Deep}
 use Rattle.wenc_base.specs.laws.Lawful.{same_Ok, same_Ok_pair}
 use Rattle.wenc_base.specs.laws.Sound.{Told, Agrees}
 use Rattle.wenc_builder.specs.Item.{Item, CustomItem}
 use Rattle.wenc_builder.specs.Sections.{Section, members, item_of, section_piece, sections, preamble}
 use Rattle.wenc_decode.specs.Depth.{Front, OpensTypes}
-use Rattle.wenc_read.specs.inside.Gives.{Fails}
+use Rattle.wenc_read.specs.Gives.{Fails}
 use Rattle.wenc_read.specs.declared.refusal.Refusal.{Refusal}
 use Rattle.wenc_read.specs.declared.refusal.Refusal.TheVariants as refusals
-use Rattle.wenc_list.specs.inside.Contents.{labelled_section, read_content, read_frame, fault_of_frame, fault_of_content}
+use Rattle.wenc_list.specs.inside.Contents.{read_content, read_frame, fault_of_frame, fault_of_content}
 use Rattle.wenc_list.specs.Items.{item_section, section_view}
 use Rattle.wenc_list.specs.Listing.{HasDepth, AreWithin, IsFramed, IsLabelled, AreFrom, BeginsWith, IsNoneWithin, StopsAt, IsFaultBehind}
 use Rattle.wenc_list.specs.inside.Faults.{IsFaultHere}

@@ -6,25 +6,25 @@ use Rattle.std.proofs.lemmas.List.{take_at, drop_at, take-append-drop, length-ta
 use Rattle.std.proofs.lemmas.Option.{same_Some}
 use Rattle.std.specs.List.{AllByRecursion}
 use Rattle.std.specs.Prelude.{IsTrue}
-use Rattle.wenc_base.specs.Custom.{Custom}
 use Rattle.wenc_base.specs.Forms.{list, name, AreBytes}
 use Rattle.wenc_base.specs.Number.{u32}
 use Rattle.wenc_base.specs.Piece.{Form, Wide, only_where, each, raw, ◌⨾⨾◌}
-use Rattle.wenc_base.specs.laws.Forms.{read_list, name_lawful, name_sound, read_bytes, bytes_lawful, bytes_sound, list_lawful, list_sound}
-use Rattle.wenc_base.specs.Readers.{Flaw, Bad, Deep, Reader, ◌>>=◌, give, times, all_read, Lawful}
-use Rattle.wenc_base.specs.laws.Lawful.{LawfulWhole, then, last, then_whole, whole_lawful}
+use Rattle.wenc_base.specs.laws.Forms.{read_raw, raw_sound, bytes_lawful}
+use Rattle.wenc_base.specs.Readers.{Flaw, Bad, Deep, Reader, ◌>>=◌, give, times, all_read, done}
+use Rattle.wenc_base.specs.laws.Lawful.{last, whole_lawful}
+use Rattle.wenc_base.specs.laws.Sections.{read_custom_content, custom_content_lawful, custom_content_sound}
 use Rattle.wenc_base.specs.laws.Numbers.{read_u32, u32_lawful, count_lawful, u32_sound}
-use Rattle.wenc_base.specs.laws.Sound.{Told, Tells, Sound, SoundWhole, weaken, deep_where, sound_tells, told_on, then_tells, last_tells, nowhere_tells, tested, Fewer, Several, times_told, each_plain, all_told, whole_sound, then_whole_sound, Agrees, Finds, or_deeper, nothing_finds, then_finds, last_finds, lawful_finds}
+use Rattle.wenc_base.specs.laws.Sound.{Told, Tells, weaken, deep_where, sound_tells, told_on, last_tells, nowhere_tells, tested, Fewer, Several, times_told, each_plain, all_told, whole_sound, Agrees, Finds, or_deeper, nothing_finds, then_finds, last_finds, lawful_finds}
 use Rattle.wenc_builder.specs.Item.{Item, ModuleItem, CoreInstanceItem, CoreTypeItem, ComponentItem, InstanceItem, AliasItem, TypeItem, CanonItem, StartItem, ImportItem, ExportItem, CustomItem, RawItem, collected, item}
 use Rattle.wenc_builder.specs.Sections.{Section, Run, Alone, members, collects, item_of, section_piece}
 use Rattle.wenc_canon.specs.laws.Canonicals.{canonical_lawful, canonical_sound}
 use Rattle.wenc_decode.specs.Depth.{Front, OpensTypes}
 use Rattle.wenc_decode.specs.laws.TypeTrees.{type_tells, type_finds, front_of}
 use Rattle.wenc_parts.specs.laws.Aliases.{alias_lawful, alias_sound}
-use Rattle.wenc_sections.specs.Start.{Start, started, start_content}
-use Rattle.wenc_sections.specs.laws.Items.{import_lawful, import_sound, inline_export_lawful, inline_export_sound, core_instance_lawful, core_instance_sound, instance_lawful, instance_sound}
+use Rattle.wenc_sections.specs.Start.{start_content}
+use Rattle.wenc_sections.specs.laws.Items.{import_lawful, import_sound, inline_export_lawful, inline_export_sound, core_instance_lawful, core_instance_sound, instance_lawful, instance_sound, read_start_content, start_content_lawful, start_content_sound}
 use Rattle.wenc_types.specs.laws.CoreTypes.{core_type_lawful, core_type_sound}
-use Rattle.wenc_list.specs.inside.Contents.{labelled_section, content_rows, content_row_of, read_content_item, read_custom_content, read_start_content, read_raw, read_items, single, read_content, read_frame}
+use Rattle.wenc_list.specs.inside.Contents.{content_rows, content_row_of, read_content_item, read_items, single, read_content, read_frame}
 use Rattle.wenc_list.specs.Items.{alone, item_section}
 use Rattle.wenc_list.specs.Listing.{HasDepth, IsFramed}
 
@@ -139,21 +139,6 @@ AloneIn id other content = ⊥
 abbrev pub Fills : ℕ → List Item → List ℕ → Type 0
 Fills id xs content = (IsTrue (collects id) × (list (item_of id) xs).Reads Wide content []) ⊎ ((x : Item) × (xs ≡ x ∷ []) × AloneIn id x content)
 
-custom_sound : SoundWhole (λ c. name c.label ⨾⨾ raw AreBytes c.bytes) read_custom_content
-custom_sound = then_whole_sound (λ c. name c.label ⨾⨾ raw AreBytes c.bytes) (λ label. read_bytes (labelled_section label)) name_sound (λ label bytes middle r. bytes_sound (λ c. (name c.label ⨾⨾ raw AreBytes c.bytes).ReadsAll Wide bytes) (labelled_section label) middle (λ h. (middle, r, (h, refl))))
-
-custom_whole : (c : Custom) → LawfulWhole (name c.label ⨾⨾ raw AreBytes c.bytes) (λ fuel. read_custom_content) c
-custom_whole c = then_whole _ (name_lawful c.label) (bytes_lawful (labelled_section c.label) c.bytes)
-
-raw_sound : SoundWhole (raw AreBytes) read_raw
-raw_sound = record { tells = λ bytes. bytes_sound (λ bs. (raw AreBytes bs).ReadsAll Wide bytes) (λ bs. bs) bytes (λ h. (h, refl)) }
-
-start_lawful : (s : Start) → Lawful (start_content s) (λ fuel. read_u32 >>= λ function. read_list read_u32 >>= λ arguments. read_u32 >>= λ results. give (started function arguments results)) s
-start_lawful s = then _ (u32_lawful s.function) (then _ (list_lawful u32_lawful s.arguments) (last (started s.function s.arguments) (u32_lawful s.results)))
-
-start_sound : Sound start_content (read_u32 >>= λ function. read_list read_u32 >>= λ arguments. read_u32 >>= λ results. give (started function arguments results))
-start_sound = then_tells _ u32_sound (λ function. then_tells _ (list_sound u32_sound) (λ arguments. last_tells (started function arguments) u32_sound (λ results b rest r a q bytes p. (a, p, (b, q, r)))))
-
 single_told : {A : Type 0} (P : A → Type 0) (Q : List Item → Type 0) (D : Type 0) (make : A → Item) (found : Result A Flaw) → Told P ⊥ found → ((v : A) → P v → Q (make v ∷ [])) → Told Q D (single make found)
 single_told P Q D make (Ok v) h k = k v h
 single_told P Q D make (Err Bad) h k = tt
@@ -207,7 +192,7 @@ content_told d id content le =
     let Goes = Front (item_of id) (GoesIn d id) content in
     let Is = FillsWithin d id content in
     elim (tested id 0) [
-      | inl e ↦ rw (e.0, cond) (single_told _ Is Goes CustomItem (read_custom_content content) (custom_sound.tells content) (λ c r. (inr (CustomItem c, refl, (e.1, r)), (tt, tt))))
+      | inl e ↦ rw (e.0, cond) (single_told _ Is Goes CustomItem (read_custom_content content) (custom_content_sound.tells content) (λ c r. (inr (CustomItem c, refl, (e.1, r)), (tt, tt))))
       | inr no0 ↦
           elim (tested id 1) [
             | inl e ↦ rw (no0, cond, e.0, cond) (single_told _ Is Goes ModuleItem (read_raw content) (raw_sound.tells content) (λ bs r. (inr (ModuleItem bs, refl, (e.1, r)), (tt, tt))))
@@ -216,7 +201,7 @@ content_told d id content le =
                   | inl e ↦ rw (no0, cond, no1, cond, e.0, cond) (single_told _ Is Goes ComponentItem (read_raw content) (raw_sound.tells content) (λ bs r. (inr (ComponentItem bs, refl, (e.1, r)), (tt, tt))))
                   | inr no4 ↦
                       elim (tested id 9) [
-                        | inl e ↦ rw (no0, cond, no1, cond, no4, cond, e.0, cond) (single_told _ Is Goes StartItem (read_start_content content) ((whole_sound start_sound).tells content) (λ s r. (inr (StartItem s, refl, (e.1, r)), (tt, tt))))
+                        | inl e ↦ rw (no0, cond, no1, cond, no4, cond, e.0, cond) (single_told _ Is Goes StartItem (done read_start_content content) ((whole_sound start_content_sound).tells content) (λ s r. (inr (StartItem s, refl, (e.1, r)), (tt, tt))))
                         | inr no9 ↦
                             let is : collects id ≡ true = collecting id le (differs id 0 no0) (differs id 1 no1) (differs id 4 no4) (differs id 9 no9) in
                             rw (no0, cond, no1, cond, no4, cond, no9, cond) (weaken (λ xs. Listed d id content (xs, [])) Is Goes Goes (read_items d id content) (λ xs l. (inl (is, l.1), l.0)) (λ g. g) (items_told d id content))
@@ -232,10 +217,10 @@ content_told d id content le =
     differs b c f e = true≢false (sym (itself c) ∙ rw e at f)
 
 alone_agrees : (d id : ℕ) (x : Item) (content : List ℕ) → AloneIn id x content → Agrees (ArePast d (x ∷ [])) (x ∷ []) (read_content d id content)
-alone_agrees d id (CustomItem c) content a = rw a.0 (single_agrees _ CustomItem c (read_custom_content content) ((custom_whole c).finds (custom_whole c).depth (omega arith) Wide content a.1))
+alone_agrees d id (CustomItem c) content a = rw a.0 (single_agrees _ CustomItem c (read_custom_content content) ((custom_content_lawful c).finds (custom_content_lawful c).depth (omega arith) Wide content a.1))
 alone_agrees d id (ModuleItem bs) content a = rw a.0 (single_agrees _ ModuleItem bs (read_raw content) ((bytes_lawful (λ b. b) bs).finds (bytes_lawful (λ b. b) bs).depth (omega arith) Wide content a.1))
 alone_agrees d id (ComponentItem bs) content a = rw a.0 (single_agrees _ ComponentItem bs (read_raw content) ((bytes_lawful (λ b. b) bs).finds (bytes_lawful (λ b. b) bs).depth (omega arith) Wide content a.1))
-alone_agrees d id (StartItem s) content a = rw a.0 (single_agrees _ StartItem s (read_start_content content) ((whole_lawful (start_lawful s)).finds (whole_lawful (start_lawful s)).depth (omega arith) Wide content a.1))
+alone_agrees d id (StartItem s) content a = rw a.0 (single_agrees _ StartItem s (done read_start_content content) ((whole_lawful (start_content_lawful s)).finds (whole_lawful (start_content_lawful s)).depth (omega arith) Wide content a.1))
 alone_agrees d id other content a = absurd a
 
 pub content_agrees : (d id : ℕ) (xs : List Item) (content : List ℕ) → Fills id xs content → Agrees (ArePast d xs) xs (read_content d id content)

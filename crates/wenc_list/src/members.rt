@@ -2,7 +2,7 @@
 ghost use Rattle.std.specs.Prelude.{map};
 ghost use Rattle.wenc_builder.specs.Item.{Item};
 ghost use Rattle.wenc_base.specs.Readers.{Reader, times};
-ghost use Rattle.wenc_read.specs.inside.Gives.{Gives};
+ghost use Rattle.wenc_read.specs.Gives.{Gives};
 ghost use Rattle.wenc_list.specs.inside.Contents.{read_content_item};
 ghost use Rattle.wenc_list.specs.Items.{item_view};
 

@@ -2,12 +2,15 @@
 ghost use Rattle.std.specs.Prelude.{◌≡◌, ◌∷◌, [], map, IfOk, IfErr};
 ghost use Rattle.std.specs.String.{string_bytes};
 ghost use Rattle.wenc_base.specs.Forms.{AreBytes};
-ghost use Rattle.wenc_list.specs.inside.Contents.{labelled_section, read_custom_content, read_start_content, read_raw};
+ghost use Rattle.wenc_base.specs.Readers.{done};
+ghost use Rattle.wenc_base.specs.laws.Forms.{read_raw};
+ghost use Rattle.wenc_base.specs.laws.Sections.{labelled_section, read_custom_content};
 ghost use Rattle.wenc_list.specs.inside.Contents.{read_items, read_content, read_frame};
 ghost use Rattle.wenc_list.specs.Items.{item_view};
-ghost use Rattle.wenc_read.specs.inside.Gives.{Gives};
+ghost use Rattle.wenc_read.specs.Gives.{Gives};
 ghost use Rattle.wenc_read.specs.declared.refusal.Refusal.TheVariants.{Memory};
 ghost use Rattle.wenc_sections.specs.Start.{started};
+ghost use Rattle.wenc_sections.specs.laws.Items.{read_start_content};
 
 use crate::item::ItemTree;
 use crate::members::collected;
@@ -40,7 +43,7 @@ fn custom<A: Allocator + Copy>(alloc: A, content: &[u8]) -> Result<(String<A>, V
 
 /// What fills the section of a start.
 fn start<A: Allocator + Copy>(alloc: A, content: &[u8]) -> Result<(u32, Vec<u32, A>, u32), Refusal>
-    ensures { Gives (λ x. started x.0 x.1.items x.2) result (read_start_content content.now) }
+    ensures { Gives (λ x. started x.0 x.1.items x.2) result (done read_start_content content.now) }
 {
     let (function, rest) = u32_of(content)?;
     let (args, rest) = Vec::decode(alloc, rest)?;

@@ -1,6 +1,6 @@
 //! Flags.
 ghost use Rattle.wenc_base.specs.laws.Forms.{read_flag};
-ghost use Rattle.wenc_read.specs.inside.Gives.{Gives};
+ghost use Rattle.wenc_read.specs.Gives.{Gives};
 
 use crate::number::byte;
 use crate::refusal::Refusal;

@@ -3,8 +3,8 @@ ghost use Rattle.std.specs.Prelude.{◌≡◌, ◌≤◌};
 ghost use Rattle.std.specs.String.{string_bytes};
 ghost use Rattle.wenc_parts.specs.Imports.{name_tree_view};
 ghost use Rattle.wenc_parts.specs.laws.Imports.{option_number, with_option, read_name_option, read_extern_name};
-ghost use Rattle.wenc_read.specs.inside.Gives.{Gives};
-ghost use Rattle.wenc_read.specs.inside.Names.{named_view, option_view, read_options};
+ghost use Rattle.wenc_read.specs.Gives.{Gives};
+ghost use Rattle.wenc_read.specs.inside.Names.{name_options_view, option_view, read_options};
 
 use crate::number::{byte, u32_of};
 use crate::refusal::Refusal;
@@ -41,7 +41,8 @@ impl<A: Allocator> OptionTree<A> {
 
     /// The name with this option.
     fn put(self, named: Named<A>) -> Named<A>
-        ensures { named_view result ≡ with_option (option_view self) (named_view named) }
+        ensures { name_options_view result
+            ≡ with_option (option_view self) (name_options_view named) }
     {
         let Named { name, options } = named;
         let options = match self {
@@ -94,7 +95,7 @@ fn options_from<A: Allocator + Copy>(
     bytes: &[u8],
 ) -> Result<(Named<A>, &[u8]), Refusal>
     requires { least ≤ 3 }
-    ensures { Gives (λ x. (named_view x.0, x.1.now)) result
+    ensures { Gives (λ x. (name_options_view x.0, x.1.now)) result
         (read_options (string_bytes name) least count bytes.now) }
 {
     if count == 0 {

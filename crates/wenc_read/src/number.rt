@@ -2,7 +2,7 @@
 ghost use Rattle.std.specs.Prelude.{◌≡◌, ◌^◌, ◌≤◌, ◌<◌, ◌+◌, ◌-◌, ◌*◌};
 ghost use Rattle.wenc_base.specs.laws.Numbers.{read_groups, read_u32, read_u64, read_index};
 ghost use Rattle.wenc_base.specs.Readers.{read_byte};
-ghost use Rattle.wenc_read.specs.inside.Gives.{Gives};
+ghost use Rattle.wenc_read.specs.Gives.{Gives};
 
 use crate::refusal::Refusal;
 

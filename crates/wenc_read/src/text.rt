@@ -1,7 +1,7 @@
 //! Texts.
 ghost use Rattle.std.specs.String.{string_bytes};
 ghost use Rattle.wenc_base.specs.laws.Forms.{read_name};
-ghost use Rattle.wenc_read.specs.inside.Gives.{Gives};
+ghost use Rattle.wenc_read.specs.Gives.{Gives};
 
 use crate::number::u32_of;
 use crate::refusal::Refusal;

@@ -5,7 +5,7 @@ use Rattle.std.specs.Str.{is_utf8}
 use Rattle.std.proofs.lemmas.Bool.{cases_lt, lt-ltb, le-ltb}
 use Rattle.std.proofs.lemmas.List.{take_at, drop_at, take-append-drop, length-take-le, length-append}
 use Rattle.wenc_base.specs.Number.{u32}
-use Rattle.wenc_base.specs.Piece.{Payload, Form, Wide, each, raw}
+use Rattle.wenc_base.specs.Piece.{Payload, Form, Wide, raw}
 use Rattle.wenc_base.specs.laws.Sound.{Told, Sound, SoundWhole, weaken, made_told, behind_value, then_tells, last_tells, give_tells, nowhere_tells, choose_tells, Fewer, Several, times_told, whole_sound}
 use Rattle.wenc_base.specs.Forms.{flag, list, option, utf8, name, AreBytes, sized, byte_list, counted}
 use Rattle.wenc_base.specs.Readers.{Flaw, Bad, made, Lawful, Reader, ◌>>=◌, give, nowhere, times, choose, done}
@@ -161,14 +161,20 @@ bytes_sound P make bytes k = tested (are_bytes bytes) refl
     tested true e = k (passed_bytes bytes e)
     tested false e = tt
 
+abbrev pub read_raw : List ℕ → Result (List ℕ) Flaw
+read_raw = read_bytes (λ bytes. bytes)
+
+pub raw_sound : SoundWhole (raw AreBytes) read_raw
+raw_sound = record { tells = λ bytes. bytes_sound (λ bs. (raw AreBytes bs).ReadsAll Wide bytes) (λ bs. bs) bytes (λ h. (h, refl)) }
+
 abbrev pub read_byte_list : Reader (List ℕ)
-read_byte_list = read_sized (read_bytes (λ bytes. bytes))
+read_byte_list = read_sized read_raw
 
 pub byte_list_lawful : (bs : List ℕ) → Lawful (byte_list bs) (λ fuel. read_byte_list) bs
 byte_list_lawful bs = sized_lawful (bytes_lawful (λ bytes. bytes) bs)
 
 pub byte_list_sound : Sound byte_list read_byte_list
-byte_list_sound = sized_sound (record { tells = λ bytes. bytes_sound (λ bs. (raw AreBytes bs).ReadsAll Wide bytes) (λ bs. bs) bytes (λ h. (h, refl)) })
+byte_list_sound = sized_sound raw_sound
 
 -- ---- counted sections
 

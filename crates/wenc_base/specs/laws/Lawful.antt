@@ -5,7 +5,7 @@ use Rattle.wenc_base.specs.FormLaws.{FormLaws}
 use Rattle.wenc_base.specs.Fault.{NoCause}
 use Rattle.wenc_base.specs.declared.fault.Fault.{Fault}
 use Rattle.wenc_base.specs.declared.fault.Fault.TheVariants.{Unfinished}
-use Rattle.wenc_base.specs.Readers.{Flaw, Bad, Reader, go_on, ◌>>=◌, give, times, pick, choose, all_read, done, made, Lawful, LawfulForm}
+use Rattle.wenc_base.specs.Readers.{Flaw, Bad, Reader, go_on, ◌>>=◌, give, times, pick, choose, done, made, Lawful, LawfulForm}
 use Rattle.wenc_base.specs.Piece.{Piece, Payload, Form, Spelling, Strict, Wide, nothing, byte, refused_for, ◌▸◌, also, or_widely, ◌⨾◌, only_where, each, all_of, end, raw, ◌⨾⨾◌}
 use Rattle.std.proofs.lemmas.List.{append-nil}
 

@@ -1,25 +1,32 @@
 -- The laws of custom sections.
-use Rattle.std.proofs.Common.{ℕ, List, refl}
+use Rattle.std.proofs.Common.{ℕ, List, Result, refl}
 use Rattle.wenc_base.specs.Piece.{Wide, raw, ◌⨾⨾◌}
 use Rattle.wenc_base.specs.Forms.{name, AreBytes}
-use Rattle.wenc_base.specs.Readers.{Lawful, Reader, ◌>>=◌, give, go_on, done}
-use Rattle.wenc_base.specs.laws.Lawful.{then, last, then_whole, whole_lawful}
-use Rattle.wenc_base.specs.laws.Forms.{read_name, name_lawful, name_sound, read_list, list_lawful, read_sized, sized_lawful, sized_sound, read_bytes, bytes_lawful, bytes_sound}
-use Rattle.wenc_base.specs.laws.Sound.{Sound, then_whole_sound}
+use Rattle.wenc_base.specs.Readers.{Flaw, Lawful, Reader, ◌>>=◌, give, go_on, done}
+use Rattle.wenc_base.specs.laws.Lawful.{LawfulWhole, then, last, then_whole, whole_lawful}
+use Rattle.wenc_base.specs.laws.Forms.{read_name, name_lawful, name_sound, read_list, list_lawful, read_sized, sized_lawful, read_bytes, bytes_lawful, bytes_sound}
+use Rattle.wenc_base.specs.laws.Sound.{SoundWhole, then_whole_sound}
 use Rattle.wenc_base.specs.Custom.{Custom, custom}
 use Rattle.wenc_base.specs.Producers.{Producer, producer, Producers, producers_field, producers_label, producers_section}
 
-abbrev behind_id : List ℕ → List ℕ → Custom
-behind_id label bytes = record { label = label; bytes = bytes }
+abbrev pub labelled_section : List ℕ → List ℕ → Custom
+labelled_section label bytes = record { label = label; bytes = bytes }
+
+-- a name, and the data that belong to it
+abbrev pub read_custom_content : List ℕ → Result Custom Flaw
+read_custom_content content = go_on (read_name content) (λ label. read_bytes (labelled_section label))
+
+pub custom_content_lawful : (c : Custom) → LawfulWhole (name c.label ⨾⨾ raw AreBytes c.bytes) (λ fuel. read_custom_content) c
+custom_content_lawful c = then_whole _ (name_lawful c.label) (bytes_lawful (labelled_section c.label) c.bytes)
+
+pub custom_content_sound : SoundWhole (λ c. name c.label ⨾⨾ raw AreBytes c.bytes) read_custom_content
+custom_content_sound = then_whole_sound (λ c. name c.label ⨾⨾ raw AreBytes c.bytes) (λ label. read_bytes (labelled_section label)) name_sound (λ label bytes middle r. bytes_sound (λ c. (name c.label ⨾⨾ raw AreBytes c.bytes).ReadsAll Wide bytes) (labelled_section label) middle (λ h. (middle, r, (h, refl))))
 
 abbrev pub read_custom : Reader Custom
-read_custom = read_sized (λ content. go_on (read_name content) (λ label. read_bytes (behind_id label)))
+read_custom = read_sized read_custom_content
 
 pub custom_lawful : (c : Custom) → Lawful (custom c) (λ fuel. read_custom) c
-custom_lawful c = sized_lawful (then_whole _ (name_lawful c.label) (bytes_lawful (behind_id c.label) c.bytes))
-
-pub custom_sound : Sound custom read_custom
-custom_sound = sized_sound (then_whole_sound (λ c. name c.label ⨾⨾ raw AreBytes c.bytes) (λ label. read_bytes (behind_id label)) name_sound (λ label bytes middle r. bytes_sound (λ c. (name c.label ⨾⨾ raw AreBytes c.bytes).ReadsAll Wide bytes) (behind_id label) middle (λ h. (middle, r, (h, refl)))))
+custom_lawful c = sized_lawful (custom_content_lawful c)
 
 abbrev versioned : List ℕ → List ℕ → Producer
 versioned tool version = record { tool = tool; version = version }

@@ -15,7 +15,8 @@ use Rattle.wenc_parts.specs.declared.component.ComponentSectionId.TheVariants as
 use Rattle.wenc_parts.specs.SectionIds.{section_number}
 use Rattle.wenc_sections.specs.Component.{preamble}
 use Rattle.wenc_builder.specs.Space.{space_number}
-use Rattle.wenc_builder.specs.Builder.{OpenSection, Sections, sections_text, entered, stood_alone}
+use Rattle.wenc_builder.specs.Builder.{OpenSection, SectionsState, sections_text, entered}
+use Rattle.wenc_builder.specs.Builder.{stood_alone}
 use Rattle.wenc_builder.specs.Builder.{open_text, Draft, draft}
 use Rattle.wenc_builder.specs.declared.builder.space.Space.{Space}
 use Rattle.wenc_builder.specs.declared.builder.kind.Kind.{Kind}
@@ -59,15 +60,15 @@ pub record Writing : Type 0 where
 
 -- settled sections, and the item that is being written behind them
 pub record Buffered : Type 0 where
-  pub settled : Sections
+  pub settled : SectionsState
   pub writing : Option Writing
 
-abbrev pub sections_with : Sections → Option Writing → Sections
+abbrev pub sections_with : SectionsState → Option Writing → SectionsState
 sections_with s None = s
 sections_with s (Some w) = entered s w.id w.text
 
 -- the sections, as they are with that item
-abbrev pub buffered_content : Buffered → Sections
+abbrev pub buffered_content : Buffered → SectionsState
 buffered_content b = sections_with b.settled b.writing
 
 -- the header alone

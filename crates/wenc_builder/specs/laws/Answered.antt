@@ -22,24 +22,24 @@ current_is : (old : State) (es : List Entry) (x : Entry) → Holds old es → (w
 current_is old es x h = (sections_step old es x h).last
 
 -- the spaces agree at these indices
-abbrev Agrees : (ℕ → Namespace) → (ℕ → Namespace) → Option Indices → Type 0
-Agrees one other None = Unit {0}
-Agrees one other (Some d) = one d.space ≡ other d.space
+abbrev SpacesAgree : (ℕ → Namespace) → (ℕ → Namespace) → Option Indices → Type 0
+SpacesAgree one other None = Unit {0}
+SpacesAgree one other (Some d) = one d.space ≡ other d.space
 
 space_is : (old : State) (es : List Entry) (x : Entry) (o : Option Indices) → defines x.item ≡ o → Holds old es
-    → Agrees (namespace_at (with_entry old.settled x).spaces) (namespace_of (es ++ x ∷ [])) o
+    → SpacesAgree (namespace_at (with_entry old.settled x).spaces) (namespace_of (es ++ x ∷ [])) o
 space_is old es x None e h = tt
 space_is old es x (Some d) e h = (spaces_hold_more old.settled.spaces es x h.spaces).each d.space (indices_within x.item d e)
 
-backwards : (one other : ℕ → Namespace) (d : Option Indices) → Agrees one other d → Agrees other one d
+backwards : (one other : ℕ → Namespace) (d : Option Indices) → SpacesAgree one other d → SpacesAgree other one d
 backwards one other None e = tt
 backwards one other (Some d) e = sym e
 
-index_moved : (one other : ℕ → Namespace) (d : Option Indices) (f : Fault) → Agrees one other d → IndexCause one d f → IndexCause other d f
+index_moved : (one other : ℕ → Namespace) (d : Option Indices) (f : Fault) → SpacesAgree one other d → IndexCause one d f → IndexCause other d f
 index_moved one other None f e c = c
 index_moved one other (Some d) f e c = subst (λ (n : Namespace). SpaceCause n f) e c
 
-moved : (cause : Fault → Type 0) (s t : ℕ → Namespace) (d : Option Indices) (o p : Option OpenSection) (f : Fault) → Agrees s t d → o ≡ p → AddingCause cause s d o f → AddingCause cause t d p f
+moved : (cause : Fault → Type 0) (s t : ℕ → Namespace) (d : Option Indices) (o p : Option OpenSection) (f : Fault) → SpacesAgree s t d → o ≡ p → AddingCause cause s d o f → AddingCause cause t d p f
 moved cause s t d o p f e q (inl c) = inl c
 moved cause s t d o p f e q (inr (inl c)) = inr (inl (index_moved s t d f e c))
 moved cause s t d o p f e q (inr (inr c)) = inr (inr (subst (λ (n : Option OpenSection). SectionCause n f) q c))

@@ -1,11 +1,9 @@
 -- What encoders are owed by a builder, and what they leave in it.
 use Rattle.std.proofs.Common.{◌≡◌, ℕ, List, ◌++◌, append_assoc, true, false, is_none, Option, None, Some, refl, ap}
-use Rattle.wenc_builder.specs.Item.{item}
 use Rattle.wenc_builder.specs.Entry.{Entry}
 use Rattle.wenc_builder.specs.Builder.{BegunItem, State, builder_is_finished, Draft, item_begun, begun_appended, item_appended, item_given_up}
 use Rattle.wenc_builder.specs.Holds.{Holds}
 use Rattle.wenc_builder.specs.LenderState.{item_is_opened, builder_is_opened}
-use Rattle.wenc_builder.specs.declared.builder.space.Space.TheVariants as spaces
 
 bare_is_begun_at : (b : Option BegunItem) → item_is_opened b ≡ true → is_none b ≡ false
 bare_is_begun_at None e = cc

@@ -6,7 +6,7 @@ use Rattle.std.specs.List.{flat_map}
 use Rattle.wenc_base.specs.Number.{unsigned_text}
 use Rattle.wenc_builder.specs.Item.{Item, collected, item}
 use Rattle.wenc_builder.specs.Sections.{Section, Run, Alone, joined, runs, section_piece, sections, preamble}
-use Rattle.wenc_builder.specs.Builder.{Sections, sections_text, open_text, open_text_of, with_item, with_item_at}
+use Rattle.wenc_builder.specs.Builder.{SectionsState, sections_text, open_text, open_text_of, with_item, with_item_at}
 use Rattle.wenc_builder.specs.Holds.{open_of, SectionsHold}
 
 abbrev item_text : Item → List ℕ
@@ -88,7 +88,7 @@ abbrev pub texts : List Section → List ℕ
 texts = flat_map piece_text
 
 -- the sections that these pieces leave, with these closed bytes, then hold one item more
-pub record Hold (front : List ℕ) (s : Sections) (ps : List Section) : Type 0 where
+pub record Hold (front : List ℕ) (s : SectionsState) (ps : List Section) : Type 0 where
   pub bytes : sections_text s ≡ front ++ texts ps
   pub last : s.current ≡ open_of ps
 
@@ -150,7 +150,7 @@ hold_more o front closed (p ∷ q ∷ ps) x h =
       last = r.last ∙ sym (open_skip p s.0 (pushed o (q ∷ ps) x) s.1 s.2);
     }
 
-pub sections_hold_more : (s : Sections) (xs : List Item) (x : Item) → SectionsHold s xs → SectionsHold (with_item s x) (xs ++ x ∷ [])
+pub sections_hold_more : (s : SectionsState) (xs : List Item) (x : Item) → SectionsHold s xs → SectionsHold (with_item s x) (xs ++ x ∷ [])
 sections_hold_more s xs x h =
     let bytes : s.closed ++ open_text (open_of (runs xs)) ≡ preamble.text ++ texts (runs xs) = rw (← h.last, ← same_texts (runs xs)) h.bytes in
     let same : s ≡ record { closed = s.closed; current = open_of (runs xs) } = rw (← h.last) refl in

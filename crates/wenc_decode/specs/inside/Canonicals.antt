@@ -14,13 +14,17 @@ abbrev pub read_lifted : Reader Canonical
 read_lifted =
     choose ((
       0x00,
-      read_u32 >>= λ f. read_list read_canonical_option >>= λ os. read_u32 >>= λ t. give (Lift f os t),
+      read_u32 >>= λ f. read_list read_canonical_option >>= λ os. read_u32 >>= λ t.
+          give (Lift f os t),
     ) ∷ [])
     nowhere
 
 abbrev pub read_lowered : Reader Canonical
 read_lowered =
-    choose ((0x00, read_u32 >>= λ f. read_list read_canonical_option >>= λ os. give (Lower f os)) ∷ [])
+    choose ((
+      0x00,
+      read_u32 >>= λ f. read_list read_canonical_option >>= λ os. give (Lower f os),
+    ) ∷ [])
     nowhere
 
 -- the table behind the rows of functions, resources and tasks

@@ -17,7 +17,10 @@ abbrev pub read_outer_type : Reader ModuleDeclaration
 read_outer_type =
     choose ((
       0x10,
-      choose ((0x01, read_u32 >>= λ count. read_u32 >>= λ number. give (ModuleOuter count number)) ∷ [])
+      choose ((
+        0x01,
+        read_u32 >>= λ count. read_u32 >>= λ number. give (ModuleOuter count number),
+      ) ∷ [])
           nowhere,
     ) ∷ []) nowhere
 

@@ -15,45 +15,46 @@ use Rattle.wenc_decode.specs.inside.Types.{read_function_type, read_resource_typ
 -- ---- declarations, by the reader of a type
 
 abbrev pub read_exported_type : Reader InstanceDeclaration
-read_exported_type = read_extern_name >>= λ name. read_type_reference >>= λ ty. give (Exported name ty)
+read_exported_type =
+    read_extern_name >>= λ name. read_type_reference >>= λ ty. give (Exported name ty)
 
 abbrev pub read_imported : Reader ComponentDeclaration
 read_imported = read_extern_name >>= λ name. read_type_reference >>= λ ty. give (Imported name ty)
 
-abbrev pub instance_rows : Reader DefType → List (ℕ × Reader InstanceDeclaration)
-instance_rows read =
+abbrev pub deep_instance_rows : Reader DefType → List (ℕ × Reader InstanceDeclaration)
+deep_instance_rows read =
     (0x00, read_core_type >>= λ ty. give (CoreTyped ty)) ∷
     (0x01, read >>= λ ty. give (Typed ty)) ∷
     (0x02, read_alias >>= λ to. give (Aliased to)) ∷
     (0x04, read_exported_type) ∷ []
 
-abbrev pub read_instance_declaration : Reader DefType → Reader InstanceDeclaration
-read_instance_declaration read = choose (instance_rows read) nowhere
+abbrev pub read_deep_instance_declaration : Reader DefType → Reader InstanceDeclaration
+read_deep_instance_declaration read = choose (deep_instance_rows read) nowhere
 
-abbrev pub read_component_declaration : Reader DefType → Reader ComponentDeclaration
-read_component_declaration read =
+abbrev pub read_deep_component_declaration : Reader DefType → Reader ComponentDeclaration
+read_deep_component_declaration read =
     choose ((0x03, read_imported) ∷ [])
-    (read_instance_declaration read >>= λ d. give (Declared d))
+    (read_deep_instance_declaration read >>= λ d. give (Declared d))
 
 -- ---- types
 
 -- declarations, behind the first byte of the type that has them
 abbrev pub read_components : Reader DefType → Reader DefType
 read_components read =
-    read_u32 >>= λ n. times (read_component_declaration read) n >>= λ ds. give
+    read_u32 >>= λ n. times (read_deep_component_declaration read) n >>= λ ds. give
     (ComponentType (components_of ds))
 
 abbrev pub read_instances : Reader DefType → Reader DefType
 read_instances read =
-    read_u32 >>= λ n. times (read_instance_declaration read) n >>= λ ds. give
+    read_u32 >>= λ n. times (read_deep_instance_declaration read) n >>= λ ds. give
     (InstanceType (instances_of ds))
 
 -- what doesn't nest
 abbrev pub read_shallow : Reader DefType
 read_shallow = read_defined >>= λ ty. give (DefinedType ty)
 
-abbrev pub type_rows : Reader DefType → Reader DefType → List (ℕ × Reader DefType)
-type_rows components instances =
+abbrev pub deep_type_rows : Reader DefType → Reader DefType → List (ℕ × Reader DefType)
+deep_type_rows components instances =
     (0x41, components) ∷
     (0x42, instances) ∷
     (0x40, read_function_type false) ∷
@@ -61,17 +62,18 @@ type_rows components instances =
     (0x3f, read_resource_type) ∷ []
 
 -- a type in which so many component and instance types may stand in one another
-unfoldable pub read_type : ℕ → Reader DefType
-read_type zero = choose (type_rows too_deep too_deep) read_shallow
-read_type (suc depth) =
-    choose (type_rows (read_components (read_type depth)) (read_instances (read_type depth)))
+unfoldable pub read_deep_type : ℕ → Reader DefType
+read_deep_type zero = choose (deep_type_rows too_deep too_deep) read_shallow
+read_deep_type (suc depth) =
+    choose (deep_type_rows (read_components (read_deep_type depth))
+    (read_instances (read_deep_type depth)))
     read_shallow
 
 -- the declarations of a component type, or of an instance type, where so many may still open
 abbrev pub read_component_type : ℕ → Reader DefType
 read_component_type zero = too_deep
-read_component_type (suc depth) = read_components (read_type depth)
+read_component_type (suc depth) = read_components (read_deep_type depth)
 
 abbrev pub read_instance_type : ℕ → Reader DefType
 read_instance_type zero = too_deep
-read_instance_type (suc depth) = read_instances (read_type depth)
+read_instance_type (suc depth) = read_instances (read_deep_type depth)

@@ -3,7 +3,7 @@ use Rattle.std.proofs.Common.{◌≡◌, ℕ, suc, ◌-◌, ◌+◌, ◌≤◌, 
 use Rattle.std.proofs.lemmas.List.{append-nil}
 use Rattle.wenc_base.specs.Readers.{Flaw, Reader, go_on, times}
 use Rattle.wenc_read.specs.declared.refusal.Refusal.{Refusal}
-use Rattle.wenc_read.specs.inside.Gives.{Fails}
+use Rattle.wenc_read.specs.Gives.{Fails}
 use Rattle.wenc_read.specs.laws.Tables.{fails_on}
 
 -- what was read before, and what is still read
@@ -14,16 +14,16 @@ regroup : {A : Type 0} (front : List A) (v : A) (read : Result (List A × List �
 regroup front v (Ok x) = ap (λ (vs : List _). Ok (vs, x.1)) (simp append_assoc)
 regroup front v (Err flaw) = refl
 
-whole : {A : Type 0} (read : Result (List A × List ℕ) Flaw) → with_front [] read ≡ read
-whole (Ok x) = refl
-whole (Err flaw) = refl
+times_whole : {A : Type 0} (read : Result (List A × List ℕ) Flaw) → with_front [] read ≡ read
+times_whole (Ok x) = refl
+times_whole (Err flaw) = refl
 
 pub at_start : {A : Type 0} (read : Reader A) (count : ℕ) (bytes : List ℕ) → with_front [] (times read (count - 0) bytes) ≡ times read count bytes
-at_start read count bytes = let all : count - 0 ≡ count = omega arith in rw all (whole (times read count bytes))
+at_start read count bytes = let all : count - 0 ≡ count = omega arith in rw all (times_whole (times read count bytes))
 
-pub goes_on : {A : Type 0} (read : Reader A) (front : List A) (count i : ℕ) (bytes : List ℕ) (v : A) (after : List ℕ) (total : Result (List A × List ℕ) Flaw) → i < count → read bytes ≡ Ok (v, after)
+pub times_go_on : {A : Type 0} (read : Reader A) (front : List A) (count i : ℕ) (bytes : List ℕ) (v : A) (after : List ℕ) (total : Result (List A × List ℕ) Flaw) → i < count → read bytes ≡ Ok (v, after)
     → with_front front (times read (count - i) bytes) ≡ total → with_front (front ++ v ∷ []) (times read (count - (i + 1)) after) ≡ total
-goes_on read front count i bytes v after total lt h so_far =
+times_go_on read front count i bytes v after total lt h so_far =
     let k : count - i ≡ suc (count - (i + 1)) = omega arith in
     let one : with_front front (times read (count - i) bytes) ≡ with_front (front ++ v ∷ []) (times read (count - (i + 1)) after) = rw (k, h) (regroup front v (times read (count - (i + 1)) after)) in
     sym one ∙ so_far

@@ -1,22 +1,20 @@
 -- Readers of sections and of what is in them.
 use Rattle.std.specs.Prelude.{ℕ, List, [], ◌∷◌, length, take, drop, Result, Ok}
 use Rattle.std.specs.Prelude.{Err, nat_eq, nat_lt, if◌then◌else◌}
-use Rattle.wenc_base.specs.Custom.{Custom}
-use Rattle.wenc_base.specs.laws.Forms.{read_name, read_list, read_bytes}
-use Rattle.wenc_base.specs.Readers.{Flaw, Bad, Reader, go_on, ◌>>=◌, give, nowhere, times, done}
-use Rattle.wenc_base.specs.Readers.{made}
+use Rattle.wenc_base.specs.laws.Forms.{read_raw}
+use Rattle.wenc_base.specs.laws.Sections.{read_custom_content}
+use Rattle.wenc_base.specs.Readers.{Flaw, Bad, Reader, go_on, ◌>>=◌, give, nowhere, times, done, made}
 use Rattle.wenc_base.specs.laws.Numbers.{read_u32}
 use Rattle.wenc_builder.specs.Item.{Item, ModuleItem, CoreInstanceItem, CoreTypeItem, ComponentItem}
 use Rattle.wenc_builder.specs.Item.{InstanceItem, AliasItem, TypeItem, CanonItem, StartItem}
 use Rattle.wenc_builder.specs.Item.{ImportItem, ExportItem, CustomItem}
 use Rattle.wenc_canon.specs.laws.Canonicals.{read_canonical}
-use Rattle.wenc_decode.specs.inside.TypeTrees.{read_type}
+use Rattle.wenc_decode.specs.inside.TypeTrees.{read_deep_type}
 use Rattle.wenc_parts.specs.laws.Aliases.{read_alias}
 use Rattle.wenc_read.specs.declared.refusal.Refusal.{Refusal}
 use Rattle.wenc_read.specs.declared.refusal.Refusal.TheVariants as refusals
-use Rattle.wenc_sections.specs.Start.{Start, started}
 use Rattle.wenc_sections.specs.laws.Items.{read_import, read_inline_export, read_core_instance}
-use Rattle.wenc_sections.specs.laws.Items.{read_instance}
+use Rattle.wenc_sections.specs.laws.Items.{read_instance, read_start_content}
 use Rattle.wenc_types.specs.laws.CoreTypes.{read_core_type}
 use Rattle.wenc_list.specs.declared.fault.ListFault.{ListFault}
 use Rattle.wenc_list.specs.declared.fault.ListFault.TheVariants as faults
@@ -36,7 +34,7 @@ abbrev pub read_alias_item : Reader Item
 read_alias_item = read_alias >>= λ to. give (AliasItem to)
 
 abbrev pub read_type_item : ℕ → Reader Item
-read_type_item depth = read_type depth >>= λ t. give (TypeItem t)
+read_type_item depth = read_deep_type depth >>= λ t. give (TypeItem t)
 
 abbrev pub read_canonical_item : Reader Item
 read_canonical_item = read_canonical >>= λ f. give (CanonItem f)
@@ -68,21 +66,6 @@ read_content_item depth id = content_row_of (content_rows depth) id
 
 -- ---- what fills a section
 
-abbrev pub labelled_section : List ℕ → List ℕ → Custom
-labelled_section label bytes = record { label = label; bytes = bytes }
-
--- a name, and the data that belong to it
-abbrev pub read_custom_content : List ℕ → Result Custom Flaw
-read_custom_content content = go_on (read_name content) (λ label. read_bytes (labelled_section label))
-
-abbrev pub read_start_content : List ℕ → Result Start Flaw
-read_start_content =
-    done (read_u32 >>= λ function. read_list read_u32 >>= λ arguments. read_u32 >>= λ results. give
-    (started function arguments results))
-
-abbrev pub read_raw : List ℕ → Result (List ℕ) Flaw
-read_raw = read_bytes (λ bytes. bytes)
-
 -- a count, and so many items
 abbrev pub read_items : ℕ → ℕ → List ℕ → Result (List Item) Flaw
 read_items depth id = done (read_u32 >>= times (read_content_item depth id))
@@ -97,7 +80,7 @@ read_content depth id content =
     if nat_eq id 0 then single CustomItem (read_custom_content content)
     else if nat_eq id 1 then single ModuleItem (read_raw content)
     else if nat_eq id 4 then single ComponentItem (read_raw content)
-    else if nat_eq id 9 then single StartItem (read_start_content content)
+    else if nat_eq id 9 then single StartItem (done read_start_content content)
     else read_items depth id content
 
 -- ---- sections

@@ -9,8 +9,8 @@ use Rattle.wenc_read.specs.declared.names.Named.{Named}
 use Rattle.wenc_read.specs.declared.names.OptionTree.{OptionTree}
 use Rattle.wenc_read.specs.declared.names.OptionTree.TheVariants as options
 
-abbrev pub named_view : {A : Type 0} → Named A → ExternName
-named_view n = options_view (string_bytes n.name) n.options
+abbrev pub name_options_view : {A : Type 0} → Named A → ExternName
+name_options_view n = options_view (string_bytes n.name) n.options
 
 abbrev pub option_view : {A : Type 0} → OptionTree A → NameOption
 option_view (options.Implements text) = Implements (string_bytes text)

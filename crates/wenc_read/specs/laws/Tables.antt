@@ -4,7 +4,7 @@ use Rattle.wenc_base.specs.laws.Lawful.{same_Ok_pair, IsPast, pick_past}
 use Rattle.wenc_base.specs.Readers.{Flaw, Reader, go_on, read_byte, pick, choose}
 use Rattle.wenc_read.specs.declared.refusal.Refusal.{Refusal}
 use Rattle.wenc_read.specs.declared.refusal.Refusal.TheVariants as refusals
-use Rattle.wenc_read.specs.inside.Gives.{Fails}
+use Rattle.wenc_read.specs.Gives.{Fails}
 
 -- what stands behind a first byte, by the row of that byte
 pub at_first : {A : Type 0} (table : List (ℕ × Reader A)) (other : Reader A) (b first : ℕ) (bytes rest : List ℕ) → read_byte bytes ≡ Ok (first, rest) → first ≡ b → choose table other bytes ≡ pick table other b rest

@@ -131,12 +131,18 @@ instance_sound = choose_tells _ _ (
 
 -- ---- sections
 
+abbrev pub read_start_content : Reader Start
+read_start_content = read_u32 >>= λ function. read_list read_u32 >>= λ arguments. read_u32 >>= λ results. give (started function arguments results)
+
+pub start_content_lawful : (s : Start) → Lawful (start_content s) (λ fuel. read_start_content) s
+start_content_lawful s = then _ (u32_lawful s.function) (then _ (list_lawful u32_lawful s.arguments) (last (started s.function s.arguments) (u32_lawful s.results)))
+
+pub start_content_sound : Sound start_content read_start_content
+start_content_sound = then_tells _ u32_sound (λ function. then_tells _ (list_sound u32_sound) (λ arguments. last_tells (started function arguments) u32_sound
+    (λ results b rest r a q bytes p. (a, p, (b, q, r)))))
+
 abbrev pub read_start : Reader Start
-read_start = read_sized (done (read_u32 >>= λ function. read_list read_u32 >>= λ arguments. read_u32 >>= λ results. give (started function arguments results)))
+read_start = read_sized (done read_start_content)
 
 pub start_lawful : (s : Start) → Lawful (start s) (λ fuel. read_start) s
-start_lawful s = sized_lawful (whole_lawful (then _ (u32_lawful s.function) (then _ (list_lawful u32_lawful s.arguments) (last (started s.function s.arguments) (u32_lawful s.results)))))
-
-pub start_sound : Sound start read_start
-start_sound = sized_sound (whole_sound {form = start_content} (then_tells _ u32_sound (λ function. then_tells _ (list_sound u32_sound) (λ arguments. last_tells (started function arguments) u32_sound
-    (λ results b rest r a q bytes p. (a, p, (b, q, r)))))))
+start_lawful s = sized_lawful (whole_lawful (start_content_lawful s))

@@ -1,4 +1,4 @@
-use Rattle.std.proofs.Common.{rules, ◌≡◌, List, take, drop, length, arith, ◌∙◌}
+use Rattle.std.proofs.Common.{rules, ◌≡◌, take, drop, length, arith, ◌∙◌}
 use Rattle.std.proofs.Math.Seq.{take-length}
 use Rattle.wenc_base.specs.Forms.{list}
 use Rattle.wenc_base.specs.Holder.{listed}

@@ -1,6 +1,3 @@
-use Rattle.std.proofs.Common.{Ok, Err, OnOk, Result, ◌≡◌, ◌++◌, List, ℕ}
-use Rattle.wenc_base.specs.Forms.{AreBytes}
-use Rattle.wenc_base.specs.declared.fault.Fault.{Fault}
 use Rattle.wenc_base.proofs.Bytes.{bytes_below, text_below}
 use Rattle.wenc_base.proofs.holder.kept.append.Goals as goal
 

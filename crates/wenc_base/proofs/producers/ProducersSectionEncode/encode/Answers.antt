@@ -1,4 +1,4 @@
-use Rattle.std.proofs.Common.{rules, ◌≡◌, ◌<◌, ◌+◌, ◌^◌, length}
+use Rattle.std.proofs.Common.{rules, ◌≡◌, ◌+◌, length}
 use Rattle.wenc_base.specs.Holder.{content_size}
 use Rattle.wenc_base.specs.laws.Serves.{appends_as, appends_finished, fits_as}
 use Rattle.wenc_base.proofs.Produced.{section_serves}

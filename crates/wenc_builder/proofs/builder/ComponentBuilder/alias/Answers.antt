@@ -7,7 +7,6 @@ use Rattle.wenc_builder.specs.Entry.{alias_entry}
 use Rattle.wenc_builder.specs.Item.{AliasItem}
 use Rattle.wenc_parts.specs.Aliases.{alias_view}
 use Rattle.wenc_builder.specs.declared.builder.kind.Kind.TheVariants as kinds
-use Rattle.wenc_builder.specs.declared.builder.space.Space.TheVariants as spaces
 use Rattle.wenc_builder.proofs.Entered.{draft_enters}
 use Rattle.wenc_builder.proofs.Texts.{item_piece}
 use Rattle.wenc_builder.proofs.builder.ComponentBuilder.alias.Goals as goal

@@ -1,15 +1,12 @@
 use Rattle.std.proofs.Common.{refl}
-use Rattle.wenc_base.specs.laws.Serves.{serves_itself}
 use Rattle.wenc_builder.specs.inside.Layout.{kind_id}
 use Rattle.wenc_builder.specs.Space.{space_number}
 use Rattle.std.proofs.Common.{Some}
 use Rattle.wenc_parts.specs.Imports.{extern_name_view}
-use Rattle.wenc_base.specs.laws.Serves.{order_serves}
 use Rattle.wenc_builder.specs.Entry.{export_entry}
 use Rattle.wenc_builder.specs.Item.{ExportItem}
 use Rattle.wenc_builder.proofs.Texts.{export_serves}
 use Rattle.wenc_builder.specs.declared.builder.kind.Kind.TheVariants as kinds
-use Rattle.wenc_builder.specs.declared.builder.space.Space.TheVariants as spaces
 use Rattle.wenc_builder.proofs.Entered.{draft_enters}
 use Rattle.wenc_builder.proofs.Texts.{item_piece}
 use Rattle.wenc_builder.proofs.builder.ComponentBuilder.export.Goals as goal

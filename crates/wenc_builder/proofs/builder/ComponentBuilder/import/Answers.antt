@@ -7,7 +7,6 @@ use Rattle.wenc_base.specs.laws.Serves.{two_serve}
 use Rattle.wenc_builder.specs.Entry.{import_entry}
 use Rattle.wenc_builder.specs.Item.{ImportItem}
 use Rattle.wenc_builder.specs.declared.builder.kind.Kind.TheVariants as kinds
-use Rattle.wenc_builder.specs.declared.builder.space.Space.TheVariants as spaces
 use Rattle.wenc_builder.proofs.Entered.{draft_enters}
 use Rattle.wenc_builder.proofs.Texts.{item_piece}
 use Rattle.wenc_builder.proofs.builder.ComponentBuilder.import.Goals as goal

@@ -1,10 +1,7 @@
 use Rattle.std.proofs.Common.{refl}
-use Rattle.wenc_base.specs.laws.Serves.{serves_itself}
-use Rattle.wenc_builder.specs.Space.{indices_in}
 use Rattle.wenc_builder.specs.Entry.{raw_entry}
 use Rattle.wenc_builder.specs.Item.{RawItem}
 use Rattle.wenc_builder.proofs.Texts.{raw_serves}
-use Rattle.wenc_builder.specs.declared.builder.space.Space.TheVariants as spaces
 use Rattle.wenc_builder.proofs.Entered.{without_index_enters}
 use Rattle.wenc_builder.proofs.Texts.{item_piece}
 use Rattle.wenc_builder.proofs.builder.ComponentBuilder.raw_custom_section.Goals as goal

@@ -1,5 +1,4 @@
 use Rattle.wenc_builder.proofs.Standing.{list_stands}
-use Rattle.std.proofs.Common.{◌++◌}
 use Rattle.wenc_base.specs.Piece.{behind_bytes}
 use Rattle.wenc_base.specs.Forms.{list}
 use Rattle.wenc_builder.proofs.Viewed.{appended_list}

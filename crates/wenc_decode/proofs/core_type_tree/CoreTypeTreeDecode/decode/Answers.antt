@@ -4,7 +4,7 @@ use Rattle.wenc_base.specs.Composites.{Sub, Single}
 use Rattle.wenc_base.specs.laws.Composites.{final_rows, read_extension, read_types, sub_of}
 use Rattle.wenc_base.specs.laws.Forms.{read_list}
 use Rattle.wenc_base.specs.Readers.{Flaw, give, choose, nowhere}
-use Rattle.wenc_read.specs.inside.Gives.{Fails}
+use Rattle.wenc_read.specs.Gives.{Fails}
 use Rattle.wenc_read.specs.laws.Tables.{at_first, fails_on}
 use Rattle.wenc_types.specs.CoreTypes.{Grouped, Module}
 use Rattle.wenc_types.specs.laws.CoreTypes.{read_declarations, read_module_declaration, read_open}

@@ -1,4 +1,3 @@
-use Rattle.std.proofs.Common.{◌++◌}
 use Rattle.wenc_base.specs.Piece.{behind_bytes}
 use Rattle.wenc_base.specs.Forms.{list}
 use Rattle.wenc_builder.proofs.Laid.{appended_list, list_laid}

@@ -1,5 +1,3 @@
-use Rattle.std.proofs.Common.{length}
-use Rattle.wenc_base.specs.Number.{unsigned_text}
 use Rattle.wenc_base.proofs.Bytes.{bytes_below, text_below}
 use Rattle.wenc_builder.specs.Builder.{sections_text}
 use Rattle.wenc_builder.proofs.Bytes.{content_below}
