@@ -10,7 +10,7 @@ use Rattle.wenc_builder.specs.Space.{Indices}
 use Rattle.wenc_base.specs.Readers.{Flaw, made}
 use Rattle.wenc_read.specs.declared.refusal.Refusal.{Refusal}
 use Rattle.wenc_read.specs.declared.refusal.Refusal.TheVariants as refusals
-use Rattle.wenc_read.specs.inside.Gives.{Fails}
+use Rattle.wenc_read.specs.Gives.{Fails}
 use Rattle.wenc_c.specs.Reads.{AddsRead, entry_of, of_refusal}
 use Rattle.wenc_c.specs.Sessions.{of_builder}
 use Rattle.wenc_c.specs.declared.refused.Refused.{Refused as Refusals}

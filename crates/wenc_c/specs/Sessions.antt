@@ -108,8 +108,8 @@ abbrev pub IsFinishedAs : (List ℕ → Type 0) → ℕ → Session → Type 0
 IsFinishedAs P size (sessions.Building b) = ⊥
 IsFinishedAs P size (sessions.Finished bytes) = (size ≡ length bytes.items) × P bytes.items
 
--- A component that was built is finished, or an item of it is unfinished and nothing is changed; one
--- that was finished is as it was.
+-- A component that was built is finished, or an item of it is unfinished and nothing is changed;
+-- one that was finished is as it was.
 abbrev pub Finishes : Session → Session → Result ℕ Refusals → Type 0
 Finishes (sessions.Building b) new (Ok size) = IsFinishedAs (IsComponentOf b) size new
 Finishes (sessions.Building b) new (Err refused) =

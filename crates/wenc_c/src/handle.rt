@@ -1,4 +1,5 @@
-//! The handle that C holds: a pointer to a session on the heap, or null. C sees `typedef struct { void *at; } wenc_builder;`.
+//! The handle that C holds: a pointer to a session on the heap, or null. C sees
+//! `typedef struct { void *at; } wenc_builder;`.
 ghost use Rattle.std.specs.Prelude.{◌≡◌, Option, Some, None, is_none, option_map};
 ghost use Rattle.std.specs.Option.{IsSome};
 ghost use Rattle.wenc_c.specs.declared.session.Session.{Session};
@@ -10,11 +11,13 @@ use std::marker::Model;
 use std::mem::replace;
 use std::ptr::null_mut;
 
+/// A pointer to a session, which it owns, or null. Dropped it forgets that.
 #[repr(C)]
 #[derive(Drop)]
 pub struct Handle {
     at: *mut u8,
     alloc: Global,
+    /// What it owns.
     pub ghost session: { Option Session },
 }
 

@@ -87,8 +87,9 @@ fn told_fault(fault: ListFault, place: &mut usize) -> u32
     }
 }
 
-/// Lists the component that these bytes are: how many sections it has, the first of them as far as there is room, and how many
-/// items there are in each of the 13 index spaces. Where it isn't listed, `number` is the place of what isn't read.
+/// Lists the component that these bytes are: how many sections it has, the first of them as far as there is room, and
+/// how many items there are in each of the 13 index spaces. Where it isn't listed, `number` is the place of what isn't
+/// read.
 #[unsafe(no_mangle)]
 pub extern "C" fn wenc_list(
     alloc: Global,
@@ -100,11 +101,13 @@ pub extern "C" fn wenc_list(
     // What is listed is the one wide reading of the bytes.
     ensures listed { result ≡ 0 → (ss : List (Sections Heap))
         × Lists bytes.now sections.old sections.new counts.new number.new ss }
-    // What is read within that depth is listed, unless memory is wanting or a count has more than 64 bits.
+    // What is read within that depth is listed, unless memory is wanting or a count has more
+    // than 64 bits.
     ensures found { (ss : List Section) → Reading Wide bytes.now ss → AreWithin 100 ss
         → length counts.old ≡ 13 → (result ≡ 0) ⊎ ((result ≡ 1) ⊎ (result ≡ 3)) }
     // A fault has its cause: it names the first section that isn't read.
-    ensures fault { (f : Faults) → list_fault_of result number.new ≡ Some f → IsFaultOf bytes.now f }
+    ensures fault { (f : Faults) → list_fault_of result number.new ≡ Some f
+        → IsFaultOf bytes.now f }
     ensures known { ¬ (result ≡ 0) → list_fault_of result number.new ≡ None
         → (result ≡ 3) ⊎ (result ≡ 7) }
     ensures argument { (length counts.old ≡ 13 → ⊥) → (result ≡ 7) × (number.new ≡ number.old) }

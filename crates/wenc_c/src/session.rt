@@ -21,8 +21,8 @@ use wenc_base::{CustomSection, Fault};
 use wenc_builder::{ComponentBuilder, Space};
 use wenc_parts::{Alias, ComponentExportKind, ComponentExternName, ComponentTypeRef};
 
-/// A component, while it is built and when it is finished. Each call is the builder's; a finished component refuses it, and
-/// a refused call changes nothing.
+/// A component, while it is built and when it is finished. Each call is the builder's; a finished component refuses
+/// it, and a refused call changes nothing.
 #[derive(Drop)]
 pub enum Session {
     /// It takes more items.
