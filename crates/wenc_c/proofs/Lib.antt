@@ -1,4 +1,3 @@
 pub mod Answers
 pub mod Heap
-pub mod Reading
 pub mod Typed

@@ -1,18 +1,18 @@
 -- An item that is begun, written by an encoder, and ended, is entered as by one call; and where it is refused nothing is changed.
-use Rattle.std.proofs.Common.{◌≡◌, ◌↔◌, ◌⊎◌, inl, inr, ℕ, Result, List, [], ◌∷◌, ◌++◌, Ok, Err, Option, Some, None, Bool, true, false, refl, sym, ap, subst, ◌∙◌}
+use Rattle.std.proofs.Common.{◌≡◌, inl, inr, ℕ, Result, List, [], Ok, Err, Option, Some, None, true, false, refl, sym, ap, subst, ◌∙◌}
 use Rattle.std.proofs.Math.Logic.{∥∥₁_elim}
 use Rattle.std.proofs.Math.Nat.{ℕ_set}
 use Rattle.std.specs.Prelude.{is_none}
 use Rattle.wenc_base.specs.Fault.{IsWarranted, NoCause, either}
 use Rattle.wenc_base.specs.declared.fault.Fault.{Fault}
-use Rattle.wenc_base.specs.declared.fault.Fault.TheVariants.{Memory, TooMany, TooLarge, Unfinished}
+use Rattle.wenc_base.specs.declared.fault.Fault.TheVariants.{Unfinished}
 use Rattle.wenc_base.specs.laws.Serves.{still_warranted}
-use Rattle.wenc_builder.specs.Builder.{BegunItem, Namespace, Content, State, step, content_of, with_entry, builder_is_finished, namespace_at, Draft, draft, draft_indices, item_begun, item_appended, item_ended, item_given_up}
-use Rattle.wenc_builder.specs.Cause.{BeginCause, CallCause, EnterCause, EntryCause}
+use Rattle.wenc_builder.specs.Builder.{BegunItem, Namespace, Content, State, step, content_of, builder_is_finished, namespace_at, Draft, draft, draft_indices, item_begun, item_appended, item_ended, item_given_up}
+use Rattle.wenc_builder.specs.Cause.{BeginCause, CallCause, EnterCause}
 use Rattle.wenc_builder.specs.Entry.{Entry, items}
 use Rattle.wenc_builder.specs.Enters.{Enters, IsCountAt}
 use Rattle.wenc_builder.specs.Holds.{Holds}
-use Rattle.wenc_builder.specs.Item.{Item, item}
+use Rattle.wenc_builder.specs.Item.{item}
 use Rattle.wenc_builder.specs.LenderState.{no_room_in_section}
 use Rattle.wenc_builder.specs.Space.{Indices, defines, next_index, IsIndexAt}
 use Rattle.wenc_builder.specs.laws.Answered.{to_entry}

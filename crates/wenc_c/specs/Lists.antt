@@ -2,7 +2,7 @@
 use Rattle.std.specs.Prelude.{◌≡◌, ◌<◌, ◌≤◌, ℕ, List, get_or, map, length, nat_eq, if◌then◌else◌}
 use Rattle.std.specs.Prelude.{slice_index, Option, Some, None}
 use Rattle.wenc_base.specs.Piece.{Wide}
-use Rattle.wenc_builder.specs.Sections.{Section, Reading}
+use Rattle.wenc_builder.specs.Sections.{Reading}
 use Rattle.wenc_list.specs.Items.{section_view}
 use Rattle.wenc_list.specs.Listing.{AreWithin, ArePlaced, count_of_sections}
 use Rattle.wenc_list.specs.declared.fault.ListFault.{ListFault}

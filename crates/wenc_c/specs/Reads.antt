@@ -1,6 +1,6 @@
 -- Items by their texts: what a text is, in the section with an id, and what a call did that was
 -- given it.
-use Rattle.std.specs.Prelude.{◌≡◌, ℕ, List, [], ◌∷◌, Option, Some, None, Result, Ok, Err, nat_eq}
+use Rattle.std.specs.Prelude.{◌≡◌, ℕ, List, Option, Some, None, Result, Ok, Err, nat_eq}
 use Rattle.std.specs.Prelude.{if◌then◌else◌}
 use Rattle.std.specs.Prelude.{alloc_error, Bool, false}
 use Rattle.wenc_base.specs.Fault.{IsWarranted}

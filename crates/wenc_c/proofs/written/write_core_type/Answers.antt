@@ -1,6 +1,6 @@
-use Rattle.std.proofs.Common.{rules, [], ◌∙◌, ap}
+use Rattle.std.proofs.Common.{rules, [], ◌∙◌}
 use Rattle.std.specs.Option.{option_copied}
-use Rattle.wenc_builder.specs.Builder.{draft_in, item_given_up}
+use Rattle.wenc_builder.specs.Builder.{draft_in}
 use Rattle.wenc_builder.specs.Entry.{core_type_entry}
 use Rattle.wenc_builder.specs.declared.builder.space.Space.TheVariants as spaces
 use Rattle.wenc_builder.specs.laws.Typed.{core_type_is_written}
