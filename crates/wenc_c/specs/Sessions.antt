@@ -19,7 +19,8 @@ use Rattle.wenc_c.specs.declared.session.Session.TheVariants as sessions
 
 -- ---- answers
 
--- the answer that a status tells, with what a call put out
+-- the answer that a status tells, with what a call put out; any other number is that of a bad
+-- argument
 abbrev pub answer_of : {R : Type 0} → ℕ → R → Result R Refusals
 answer_of status value =
     if nat_eq status 0 then Ok value
@@ -29,9 +30,9 @@ answer_of status value =
     else (if nat_eq status 4 then Err (Fault Unfinished)
     else (if nat_eq status 5 then Err Malformed
     else (if nat_eq status 6 then Err TooDeep
-    else (if nat_eq status 7 then Err BadArgument
     else (if nat_eq status 8 then Err Finished
-    else Err NoBuilder))))))))
+    else (if nat_eq status 9 then Err NoBuilder
+    else Err BadArgument))))))))
 
 -- that of a call that puts nothing out
 abbrev pub outcome_of : ℕ → Result (Unit {0}) Refusals

@@ -1,5 +1,5 @@
 //! A builder's life: it is begun, finished and freed.
-ghost use Rattle.std.specs.Prelude.{◌≡◌, None, Some};
+ghost use Rattle.std.specs.Prelude.{◌≡◌, ◌<◌, ◌⊎◌, None, Some};
 ghost use Rattle.wenc_c.specs.Handles.{CopiesAt, CountsAt, FinishesAt, OwnsEmpty};
 ghost use Rattle.wenc_c.specs.Numbers.{space_of};
 ghost use Rattle.wenc_c.specs.Sessions.{answer_of, outcome_of};
@@ -19,6 +19,7 @@ pub extern "C" fn wenc_new(alloc: Global, builder: &mut Handle) -> u32
     ensures held { result ≡ 0 → OwnsEmpty builder.new.session }
     ensures refused { ¬ (result ≡ 0) → builder.new.session ≡ builder.old.session }
     ensures owned { ¬ (builder.old.session ≡ None) → result ≡ 7 }
+    ensures memory { builder.old.session ≡ None → (result ≡ 0) ⊎ (result ≡ 1) }
 {
     if let Some(session) = builder.take(alloc) {
         builder.put(session);
@@ -72,6 +73,7 @@ pub extern "C" fn wenc_finish(alloc: Global, builder: &mut Handle, len: &mut usi
 pub extern "C" fn wenc_bytes(alloc: Global, builder: &mut Handle, bytes: &mut [u8]) -> u32
     ensures copied { CopiesAt builder.old.session bytes.old bytes.new (outcome_of result) }
     ensures same { builder.new.session ≡ builder.old.session }
+    ensures few { result < 10 }
 {
     let Some(session) = builder.take(alloc) else {
         return Refused::NoBuilder.number();

@@ -27,6 +27,7 @@ impl Refused {
         ensures told { (i : ℕ) → answer_of result i ≡ Err self }
         ensures outcome { outcome_of result ≡ Err self }
         ensures some { 0 < result }
+        ensures few { result < 10 }
     {
         match self {
             Refused::Fault(fault) => u32::from(fault.number()),
@@ -55,7 +56,8 @@ pub(crate) fn told(answer: Result<u32, Refused>, out: &mut u32) -> u32
 
 /// The same where nothing is put out.
 pub(crate) fn outcome(answer: Result<(), Refused>) -> u32
-    ensures { outcome_of result ≡ answer }
+    ensures told { outcome_of result ≡ answer }
+    ensures few { result < 10 }
 {
     match answer {
         Ok(()) => 0,
