@@ -20,7 +20,7 @@ use types.Kit.{now as at_once}
 use denote.RawPtr.{Testable, Ptr, RawPtr, block_ptr, null_ptr, ptr_val, in_a_block}
 use denote.Signature.{Slot, plain}
 use denote.Steps.{heard, nothing, only}
-use denote.RattleType.{Valss}
+use denote.RattleType.{RattleType, Valss}
 use denote.Struct.Struct.{within}
 use denote.Struct.Owning.{shape, to}
 use denote.Struct.Tuple.{Tuple}
@@ -162,6 +162,30 @@ module _ {M : Type 1} {𝓤 : Ura M} {𝓛 : Logic 𝓤} {K : Type 0} {Γ : List
       nothing t $ move t (2 ∷ 0 ∷ []) $ fjoin t $ feq_i t (List Val) (ptr_val h.at ∷ []) (ptr_val h.at ∷ []) refl $ fjoin t $
       feq_i t (List Val) (spelled h.at hv ∷ []) (spelled h.at hv ∷ []) refl $ fjoin t $
       fpack t (Valss (RawPtr ∷ Heap.the_row ∷ [])) (within (shape Held.the_type) (to Held.the_type h) (spelled h.at hv ∷ [])) (ptr_val h.at ∷ [], (hv ∷ [], tt)) $ fjoin t $ s)
+
+-- The same of a value that is placed.
+abbrev pub PlacedRow : RattleType
+PlacedRow = Placed.the_row Inner.the_row Heap.the_row ghosts
+
+abbrev pub holds : PlacedRow.Denot → Fml
+holds p = box_owns (ghosts.dealloc_token p.alloc) Inner.the_row p.at p.value
+
+module _ {M : Type 1} {𝓤 : Ura M} {𝓛 : Logic 𝓤} {K : Type 0} {Γ : List (Item 𝓤)} {G : Goal 𝓤 𝓛.H} where
+  pub placed_out : K → (p : PlacedRow.Denot) (vs : List Val)
+      → ((hv : Val) → vs ≡ spelled p.at hv ∷ [] → Fits S.al hv → Seq K 𝓛 (‵ (holds p) ∷ ‵ (handle S p.alloc hv) ∷ Γ) G)
+      → Seq K 𝓛 (‵ (PlacedRow.own_val p vs) ∷ Γ) G
+  placed_out t p vs k =
+      fsplit t $ fpick t (λ vss. fsplit t $ feq_l t (λ ev. fsplit t $ feq_l t (λ ep. fsplit t $
+      handle_tells S.al t p.alloc vss.1.0 (λ hv ea fa. move t (1 ∷ []) $ drop t $ move t (1 ∷ []) $
+      k hv (ev ∙ (λ j. vstruct (of_list (ep j ++ (ea j ++ []))) ∷ [])) fa))))
+
+  pub placed_in : K → (p : PlacedRow.Denot) (hv : Val)
+      → Step K 𝓛 (‵ (PlacedRow.own_val p (spelled p.at hv ∷ [])) ∷ Γ) G (‵ (holds p) ∷ ‵ (handle S p.alloc hv) ∷ Γ) G
+  placed_in t p hv = step (λ s.
+      let T = Placed.the_type Inner.the_row Heap.the_row ghosts in
+      nothing t $ move t (2 ∷ 0 ∷ []) $ fjoin t $ feq_i t (List Val) (ptr_val p.at ∷ []) (ptr_val p.at ∷ []) refl $ fjoin t $
+      feq_i t (List Val) (spelled p.at hv ∷ []) (spelled p.at hv ∷ []) refl $ fjoin t $
+      fpack t (Valss (RawPtr ∷ Heap.the_row ∷ [])) (within (shape T) (to T p) (spelled p.at hv ∷ [])) (ptr_val p.at ∷ [], (hv ∷ [], tt)) $ fjoin t $ s)
 
 -- It is of its type.
 pub handle_typed : (p : Ptr) (hv : Val) → Fits S.al hv → T (has_ty (box_ty S) (spelled p hv)) × WT (spelled p hv)
