@@ -1,0 +1,327 @@
+/* wenc: WebAssembly components, written and listed by proved code, for C.
+ *
+ * Link `libwenc.a`, which `bindings/archive` writes. It needs the C library's malloc, realloc and
+ * free, and nothing else.
+ *
+ * A builder makes one component, call by call, and hands out the index of each item. The calls are
+ * those of the crate `wenc_c`, whose contracts say what each does; in short:
+ *
+ *  - Each call but wenc_free answers a status. WENC_DONE is 0. A call that answers another status
+ *    has changed nothing: neither the builder, nor the builder that it was given, nor what an
+ *    argument points to, but where its comment says so.
+ *  - A text is a pointer and a number of bytes. It is UTF-8, without a 0 at its end, and may have
+ *    any bytes of UTF-8 in it. The call reads it and keeps nothing of it.
+ *  - A debug name, and an option of a name, is a flag, a pointer and a number of bytes. Where the
+ *    flag is false there is none, and the text is not looked at.
+ *  - An index is what a call put into `*index`: the number of items that its index space had
+ *    before. Indices are handed in as they are: nothing checks that there is an item with them,
+ *    nor that the component is valid.
+ *
+ * What a caller owes, since nothing tests it:
+ *
+ *  - A handle is one that wenc_new filled, or {NULL}. Each call takes either: on {NULL}, all but
+ *    wenc_new answer WENC_NO_BUILDER, and wenc_free does nothing. A copy of a handle is the same
+ *    builder, and once one of them was freed or given up the others are no handles.
+ *  - The two handles of wenc_component and wenc_component_ref are of two builders.
+ *  - A builder is used by one thread at a time. It may be handed to another thread.
+ *  - No pointer is NULL, not that of an empty text or list either ("" serves). Each points to as
+ *    much as its number says, and what a call writes to overlaps nothing else that it is given.
+ */
+#ifndef WENC_H
+#define WENC_H
+
+#include <stdbool.h>
+#include <stddef.h>
+#include <stdint.h>
+
+#ifdef __cplusplus
+extern "C" {
+#endif
+
+/* A builder, which lies on the heap, or none. Begin with {NULL}. */
+typedef struct {
+  void *at;
+} wenc_builder;
+
+/* What a call answers. */
+enum wenc_status {
+  WENC_DONE = 0,
+  /* The allocator refused memory. */
+  WENC_NO_MEMORY = 1,
+  /* An index space, a section, a list or a map of debug names would have more than 4294967295
+   * members. */
+  WENC_TOO_MANY = 2,
+  /* A text, a module, a component, a section or a map of debug names would have more than
+   * 4294967295 bytes; or a count of wenc_list has more than 64 bits. */
+  WENC_TOO_LARGE = 3,
+  /* The component isn't finished yet (wenc_bytes alone). */
+  WENC_UNFINISHED = 4,
+  /* A text that is not UTF-8, or bytes that are not the text of exactly one item. */
+  WENC_MALFORMED = 5,
+  /* Types of components and instances stand more than 100 deep in one another. */
+  WENC_TOO_DEEP = 6,
+  /* A number that stands for nothing; room for another number of bytes or counts than there are;
+   * or wenc_new on a handle that has a builder. */
+  WENC_BAD_ARGUMENT = 7,
+  /* The component is finished, and takes no more calls but wenc_finish, wenc_bytes, wenc_free. */
+  WENC_FINISHED = 8,
+  /* The handle is {NULL}. */
+  WENC_NO_BUILDER = 9,
+  /* wenc_list: the bytes don't begin with the header of a component. */
+  WENC_NOT_A_COMPONENT = 10,
+  /* wenc_list: an id above 11, no size, a size past the end, or a custom section without a name. */
+  WENC_BAD_SECTION = 11,
+  /* wenc_list: a section's content is not a count and so many items or, of a start, not one. */
+  WENC_BAD_ITEM = 12
+};
+
+/* Kinds of items, for exports and aliases of exports. */
+enum wenc_kind {
+  WENC_MODULE = 0,
+  WENC_FUNC = 1,
+  WENC_VALUE = 2,
+  WENC_TYPE = 3,
+  WENC_COMPONENT = 4,
+  WENC_INSTANCE = 5
+};
+
+/* What is imported, or the type that an export is given. It goes with a number, `of`. */
+enum wenc_ref {
+  /* A core module, a function, a component or an instance: `of` is the index of its type. */
+  WENC_REF_MODULE = 0,
+  WENC_REF_FUNC = 1,
+  /* A value of the type with this index. */
+  WENC_REF_VALUE = 2,
+  /* A type that is equal to the one with this index. */
+  WENC_REF_TYPE = 3,
+  WENC_REF_COMPONENT = 4,
+  WENC_REF_INSTANCE = 5,
+  /* A fresh resource type. `of` is not looked at. */
+  WENC_REF_RESOURCE = 6,
+  /* A value of a primitive type: `of` is one of wenc_primitive. */
+  WENC_REF_PRIMITIVE = 7,
+  /* No type, for exports alone. `of` is not looked at. */
+  WENC_REF_NONE = 8
+};
+
+/* Primitive types of values, by their bytes in the binary format. */
+enum wenc_primitive {
+  WENC_BOOL = 0x7f,
+  WENC_S8 = 0x7e,
+  WENC_U8 = 0x7d,
+  WENC_S16 = 0x7c,
+  WENC_U16 = 0x7b,
+  WENC_S32 = 0x7a,
+  WENC_U32 = 0x79,
+  WENC_S64 = 0x78,
+  WENC_U64 = 0x77,
+  WENC_F32 = 0x76,
+  WENC_F64 = 0x75,
+  WENC_CHAR = 0x74,
+  WENC_STRING = 0x73,
+  WENC_ERROR_CONTEXT = 0x64
+};
+
+/* Kinds of items that a core instance exports. */
+enum wenc_core_kind {
+  WENC_CORE_FUNC = 0,
+  WENC_CORE_TABLE = 1,
+  WENC_CORE_MEMORY = 2,
+  WENC_CORE_GLOBAL = 3,
+  WENC_CORE_TAG = 4
+};
+
+/* Kinds of items of an enclosing component. */
+enum wenc_outer_kind {
+  WENC_OUTER_CORE_MODULE = 0,
+  WENC_OUTER_CORE_TYPE = 1,
+  WENC_OUTER_TYPE = 2,
+  WENC_OUTER_COMPONENT = 3
+};
+
+/* Sections, by their ids in the binary format. */
+enum wenc_section {
+  WENC_SECTION_CUSTOM = 0,
+  WENC_SECTION_CORE_MODULE = 1,
+  WENC_SECTION_CORE_INSTANCE = 2,
+  WENC_SECTION_CORE_TYPE = 3,
+  WENC_SECTION_COMPONENT = 4,
+  WENC_SECTION_INSTANCE = 5,
+  WENC_SECTION_ALIAS = 6,
+  WENC_SECTION_TYPE = 7,
+  WENC_SECTION_CANON = 8,
+  WENC_SECTION_START = 9,
+  WENC_SECTION_IMPORT = 10,
+  WENC_SECTION_EXPORT = 11
+};
+
+/* Index spaces, in the order in which wenc_list tells their counts. */
+enum wenc_space {
+  WENC_CORE_MODULES = 0,
+  WENC_CORE_FUNCS = 1,
+  WENC_CORE_TYPES = 2,
+  WENC_CORE_MEMORIES = 3,
+  WENC_CORE_TABLES = 4,
+  WENC_CORE_INSTANCES = 5,
+  WENC_CORE_TAGS = 6,
+  WENC_CORE_GLOBALS = 7,
+  WENC_FUNCS = 8,
+  WENC_INSTANCES = 9,
+  WENC_VALUES = 10,
+  WENC_COMPONENTS = 11,
+  WENC_TYPES = 12,
+  /* How many there are. */
+  WENC_SPACES = 13
+};
+
+/* ---- a builder's life */
+
+/* Begins a component. The handle is {NULL} before: else WENC_BAD_ARGUMENT. It owns the builder
+ * then, until wenc_free, or until wenc_component gives it up.
+ * Also WENC_NO_MEMORY. */
+uint32_t wenc_new(wenc_builder *builder);
+
+/* Frees the builder with its component, finished or not. The handle is {NULL} then. */
+void wenc_free(wenc_builder *builder);
+
+/* Finishes the component, and puts the number of its bytes into `*len`. It takes no memory. Made
+ * again it says that number again.
+ * WENC_NO_BUILDER. */
+uint32_t wenc_finish(wenc_builder *builder, size_t *len);
+
+/* Copies the finished component to `bytes`, where `len` is the number that wenc_finish said: else
+ * WENC_BAD_ARGUMENT.
+ * Also WENC_UNFINISHED where wenc_finish wasn't made, WENC_NO_BUILDER. */
+uint32_t wenc_bytes(wenc_builder *builder, uint8_t *bytes, size_t len);
+
+/* ---- items
+ *
+ * Each of these calls adds an item and puts its index into `*index`, or is refused:
+ * WENC_NO_MEMORY, WENC_TOO_MANY, WENC_TOO_LARGE, WENC_MALFORMED where a text isn't UTF-8,
+ * WENC_BAD_ARGUMENT where a number stands for nothing, WENC_FINISHED, WENC_NO_BUILDER. */
+
+/* Imports an item under a plain name: `ref` is one of wenc_ref, with its number. The item has the
+ * name as its debug name. */
+uint32_t wenc_import(wenc_builder *builder, const uint8_t *name, size_t name_len, uint32_t ref,
+                     uint32_t of, uint32_t *index);
+
+/* Imports an item under a name with options: the interface that it implements, what follows the
+ * version that the name bears, and a name that it has elsewhere, each there or not. */
+uint32_t wenc_import_named(wenc_builder *builder, const uint8_t *name, size_t name_len,
+                           bool has_implements, const uint8_t *implements, size_t implements_len,
+                           bool has_version_suffix, const uint8_t *version_suffix,
+                           size_t version_suffix_len, bool has_external_id,
+                           const uint8_t *external_id, size_t external_id_len, uint32_t ref,
+                           uint32_t of, uint32_t *index);
+
+/* Exports the item of this kind (wenc_kind) with the index `item` under a plain name, with a type
+ * (`ref` and `of`) or none (WENC_REF_NONE). `*index` is the index of the exported item, which has
+ * the name as its debug name. */
+uint32_t wenc_export(wenc_builder *builder, const uint8_t *name, size_t name_len, uint32_t kind,
+                     uint32_t item, uint32_t ref, uint32_t of, uint32_t *index);
+
+/* The same under a name with options, as of wenc_import_named. */
+uint32_t wenc_export_named(wenc_builder *builder, const uint8_t *name, size_t name_len,
+                           bool has_implements, const uint8_t *implements, size_t implements_len,
+                           bool has_version_suffix, const uint8_t *version_suffix,
+                           size_t version_suffix_len, bool has_external_id,
+                           const uint8_t *external_id, size_t external_id_len, uint32_t kind,
+                           uint32_t item, uint32_t ref, uint32_t of, uint32_t *index);
+
+/* Adds an alias of what a component instance exports under a name: `kind` is one of wenc_kind. */
+uint32_t wenc_alias_export(wenc_builder *builder, bool named, const uint8_t *debug_name,
+                           size_t debug_name_len, uint32_t instance, uint32_t kind,
+                           const uint8_t *name, size_t name_len, uint32_t *index);
+
+/* Adds an alias of what a core instance exports under a name: `kind` is one of wenc_core_kind. */
+uint32_t wenc_alias_core_export(wenc_builder *builder, bool named, const uint8_t *debug_name,
+                                size_t debug_name_len, uint32_t instance, uint32_t kind,
+                                const uint8_t *name, size_t name_len, uint32_t *index);
+
+/* Adds an alias of an item of an enclosing component, `count` components further out (0 is this
+ * one): `kind` is one of wenc_outer_kind, `item` the index that the item has there. */
+uint32_t wenc_alias_outer(wenc_builder *builder, bool named, const uint8_t *debug_name,
+                          size_t debug_name_len, uint32_t kind, uint32_t count, uint32_t item,
+                          uint32_t *index);
+
+/* Adds the core module with these bytes. Nothing checks that they are a module's. */
+uint32_t wenc_core_module(wenc_builder *builder, bool named, const uint8_t *debug_name,
+                          size_t debug_name_len, const uint8_t *bytes, size_t len,
+                          uint32_t *index);
+
+/* Adds the component with these bytes. Nothing checks that they are a component's. */
+uint32_t wenc_component_bytes(wenc_builder *builder, bool named, const uint8_t *debug_name,
+                              size_t debug_name_len, const uint8_t *bytes, size_t len,
+                              uint32_t *index);
+
+/* Adds what another builder holds as a nested component, and frees that builder: its handle is
+ * {NULL} then. Where the call is refused, both are as they were: also where either is finished or
+ * {NULL}. */
+uint32_t wenc_component(wenc_builder *builder, bool named, const uint8_t *debug_name,
+                        size_t debug_name_len, wenc_builder *nested, uint32_t *index);
+
+/* Adds what another builder holds as a nested component, and leaves that builder as it is. */
+uint32_t wenc_component_ref(wenc_builder *builder, bool named, const uint8_t *debug_name,
+                            size_t debug_name_len, wenc_builder *nested, uint32_t *index);
+
+/* Has a function called, with the values that have these indices, when the component is
+ * instantiated. `results` is the number of values that it answers; `*index` is that of the first
+ * of them. */
+uint32_t wenc_start(wenc_builder *builder, uint32_t function, const uint32_t *args,
+                    size_t args_len, uint32_t results, uint32_t *index);
+
+/* Adds the item that has this text in the binary format: the bytes that stand for it in a section
+ * with this id (wenc_section). Of a section that is one item (a custom section, a core module, a
+ * component, a start) it is the section's content. Widely spelled texts are read too, such as
+ * padded numbers; what is written is the shortest text of what was read.
+ * An import and an export have their name as their debug name, a function that the component
+ * model provides its own; a start and a custom section have none: for these `debug_name` is only
+ * looked at for being UTF-8. A custom section has no index: `*index` stays as it is.
+ * WENC_MALFORMED also where `text` is not the text of exactly one item, WENC_TOO_DEEP,
+ * WENC_BAD_ARGUMENT where `section` is above 11. */
+uint32_t wenc_item(wenc_builder *builder, uint32_t section, bool named, const uint8_t *debug_name,
+                   size_t debug_name_len, const uint8_t *text, size_t text_len, uint32_t *index);
+
+/* ---- what has no index
+ *
+ * These are refused as the calls above. */
+
+/* Adds a custom section with this name and this data. */
+uint32_t wenc_custom_section(wenc_builder *builder, const uint8_t *name, size_t name_len,
+                             const uint8_t *data, size_t data_len);
+
+/* Adds a custom section with these bytes behind its id. Nothing checks that they are a section's. */
+uint32_t wenc_raw_custom_section(wenc_builder *builder, const uint8_t *bytes, size_t len);
+
+/* Adds a section of the debug names so far. Without names it adds nothing. */
+uint32_t wenc_append_names(wenc_builder *builder);
+
+/* Puts the number of items in an index space (wenc_space) into `*count`.
+ * WENC_BAD_ARGUMENT, WENC_FINISHED, WENC_NO_BUILDER. */
+uint32_t wenc_count(wenc_builder *builder, uint32_t space, uint32_t *count);
+
+/* ---- listing */
+
+/* A section that was read: where its id stands, counted in bytes from the front of the component,
+ * how many items it has (custom sections, modules, components and starts have one), and its id. */
+typedef struct {
+  size_t place;
+  size_t items;
+  uint32_t id;
+} wenc_listed;
+
+/* Lists the component that these bytes are. Puts the number of its sections into `*number`, the
+ * first `room` of them, or all where they are fewer, into `sections`, and into `counts` how many
+ * items there are in each index space, in the order of wenc_space. `counts_len` is WENC_SPACES:
+ * else WENC_BAD_ARGUMENT. Modules and nested components are not read.
+ * WENC_NOT_A_COMPONENT, WENC_BAD_SECTION, WENC_BAD_ITEM and WENC_TOO_DEEP say why the bytes are
+ * not listed: then `*number` is the place of the first section that is not read. Also
+ * WENC_NO_MEMORY, WENC_TOO_LARGE. */
+uint32_t wenc_list(const uint8_t *bytes, size_t len, wenc_listed *sections, size_t room,
+                   uint64_t *counts, size_t counts_len, size_t *number);
+
+#ifdef __cplusplus
+}
+#endif
+
+#endif

@@ -1,0 +1,62 @@
+-- What a call does by a handle: `None` is one that owns nothing.
+use Rattle.std.specs.Prelude.{◌≡◌, ℕ, List, Option, Some, None, Result, Err, true, false, Bool}
+use Rattle.std.specs.Str.{IsUtf8}
+use Rattle.wenc_builder.specs.Entry.{Entry}
+use Rattle.wenc_builder.specs.Names.{AddsNames}
+use Rattle.wenc_builder.specs.declared.builder.space.Space.{Space}
+use Rattle.wenc_c.specs.Sessions.{Does, AddsTo, AddsWithoutIndexTo, Nests, Counts, Finishes, Copies}
+use Rattle.wenc_c.specs.Sessions.{IsEmpty}
+use Rattle.wenc_c.specs.declared.refused.Refused.{Refused as Refusals}
+use Rattle.wenc_c.specs.declared.refused.Refused.TheVariants.{NoBuilder}
+use Rattle.wenc_c.specs.declared.session.Session.{Session}
+
+-- This was done to what the handle owns; or it owns nothing, and that is answered.
+abbrev pub At : {R : Type 0} → (Session → Session → Result R Refusals → Type 0) → Option Session
+    → Option Session → Result R Refusals → Type 0
+At did (Some s) (Some s') answer = did s s' answer
+At did (Some s) None answer = ⊥
+At did None new answer = (answer ≡ Err NoBuilder) × (new ≡ None)
+
+abbrev pub Adds : Option Session → Option Session → Result ℕ Refusals → Entry → Type 0
+Adds old new answer x = At (λ s s' a. AddsTo s s' a x) old new answer
+
+abbrev pub AddsWithoutIndex : Option Session → Option Session → Result (Unit {0}) Refusals → Entry
+    → Type 0
+AddsWithoutIndex old new answer x = At (λ s s' a. AddsWithoutIndexTo s s' a x) old new answer
+
+abbrev pub AddsNamesAt : Option Session → Option Session → Result (Unit {0}) Refusals → Type 0
+AddsNamesAt old new answer = At (Does AddsNames) old new answer
+
+abbrev pub NestsAt : Option (List ℕ) → Option Session → Option Session → Option Session
+    → Result ℕ Refusals → Type 0
+NestsAt name (Some inner) old new answer = At (Nests name inner) old new answer
+NestsAt name None old new answer = (answer ≡ Err NoBuilder) × (new ≡ old)
+
+abbrev pub CountsAt : Space → Option Session → Result ℕ Refusals → Type 0
+CountsAt space (Some s) answer = Counts space s answer
+CountsAt space None answer = answer ≡ Err NoBuilder
+
+abbrev pub FinishesAt : Option Session → Option Session → Result ℕ Refusals → Type 0
+FinishesAt old new answer = At Finishes old new answer
+
+abbrev pub CopiesAt : Option Session → List ℕ → List ℕ → Result (Unit {0}) Refusals → Type 0
+CopiesAt (Some s) old new answer = Copies s old new answer
+CopiesAt None old new answer = (answer ≡ Err NoBuilder) × (new ≡ old)
+
+abbrev pub OwnsEmpty : Option Session → Type 0
+OwnsEmpty (Some s) = IsEmpty s
+OwnsEmpty None = ⊥
+
+-- Nothing was looked at but the arguments, and this status says so.
+abbrev pub Refuses : ℕ → ℕ → Option Session → Option Session → Type 0
+Refuses status result old new = (result ≡ status) × (new ≡ old)
+
+-- ---- texts that are there or not
+
+abbrev pub IsText : Bool → List ℕ → Type 0
+IsText true text = IsUtf8 text
+IsText false text = Unit {0}
+
+abbrev pub text_if : Bool → List ℕ → Option (List ℕ)
+text_if true text = Some text
+text_if false text = None

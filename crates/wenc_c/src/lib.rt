@@ -1,0 +1,22 @@
+//! The builder and the lister for C, as a static library.
+//!
+//! C holds a handle, `typedef struct { void *at; } wenc_builder;`, which is null at first. `bindings/c/wenc.h`
+//! declares the calls, and nothing compares it with this crate: a `Global` crosses as nothing, and a slice as a pointer
+//! and a length. Each call answers a status, by the numbers of `Refused`; a refused one changes nothing.
+#![tactic(auto)]
+
+mod adding;
+mod aliases;
+mod alone;
+mod handle;
+mod items;
+mod life;
+mod lists;
+mod named;
+mod numbers;
+mod placed;
+mod refused;
+mod session;
+mod spelled;
+mod texts;
+mod written;

@@ -1,0 +1,109 @@
+//! A builder's life: it is begun, finished and freed.
+ghost use Rattle.std.specs.Prelude.{◌≡◌, ◌<◌, ◌⊎◌, None, Some};
+ghost use Rattle.wenc_c.specs.Handles.{CopiesAt, CountsAt, FinishesAt, OwnsEmpty};
+ghost use Rattle.wenc_c.specs.Numbers.{space_of};
+ghost use Rattle.wenc_c.specs.Sessions.{answer_of, outcome_of};
+ghost use Rattle.wenc_builder.specs.declared.builder.space.Space.{Space as Spaces};
+
+use crate::handle::Handle;
+use crate::numbers::space;
+use crate::refused::{Refused, outcome, told};
+use crate::session::Session;
+use std::alloc::{AllocError, Global};
+use wenc_base::Fault;
+
+/// Begins a component. The handle owns nothing before: else it is refused as a bad argument, and owns what it owned.
+#[unsafe(no_mangle)]
+pub extern "C" fn wenc_new(alloc: Global, builder: &mut Handle) -> u32
+    // What it owns then holds nothing.
+    ensures held { result ≡ 0 → OwnsEmpty builder.new.session }
+    ensures refused { ¬ (result ≡ 0) → builder.new.session ≡ builder.old.session }
+    ensures owned { ¬ (builder.old.session ≡ None) → result ≡ 7 }
+    ensures memory { builder.old.session ≡ None → (result ≡ 0) ⊎ (result ≡ 1) }
+{
+    if let Some(session) = builder.take(alloc) {
+        builder.put(session);
+        return Refused::BadArgument.number();
+    }
+    let session = match Session::new(alloc) {
+        Ok(session) => session,
+        Err(refused) => return refused.number(),
+    };
+    match Box::new(alloc, session) {
+        Ok(session) => {
+            builder.put(session);
+            0
+        }
+        Err(_) => Refused::Fault(Fault::Memory(AllocError)).number(),
+    }
+}
+
+/// Gives up what the handle owns, if anything. It owns nothing from now on.
+#[unsafe(no_mangle)]
+pub extern "C" fn wenc_free(alloc: Global, builder: &mut Handle)
+    ensures { builder.new.session ≡ None }
+{
+    drop(builder.take(alloc));
+}
+
+/// Finishes the component, and says how many bytes it has. One that is finished says it again.
+#[unsafe(no_mangle)]
+pub extern "C" fn wenc_finish(alloc: Global, builder: &mut Handle, len: &mut usize) -> u32
+    // The bytes are the whole of the items that were held.
+    ensures finished { FinishesAt builder.old.session builder.new.session
+        (answer_of result len.new) }
+    ensures kept { ¬ (result ≡ 0) → len.new ≡ len.old }
+{
+    let Some(mut session) = builder.take(alloc) else {
+        return Refused::NoBuilder.number();
+    };
+    let answer = session.finish(alloc);
+    builder.put(session);
+    match answer {
+        Ok(size) => {
+            *len = size;
+            0
+        }
+        Err(refused) => refused.number(),
+    }
+}
+
+/// Copies the bytes of the finished component, for which there is to be just that room.
+#[unsafe(no_mangle)]
+pub extern "C" fn wenc_bytes(alloc: Global, builder: &mut Handle, bytes: &mut [u8]) -> u32
+    ensures copied { CopiesAt builder.old.session bytes.old bytes.new (outcome_of result) }
+    ensures same { builder.new.session ≡ builder.old.session }
+    ensures few { result < 10 }
+{
+    let Some(session) = builder.take(alloc) else {
+        return Refused::NoBuilder.number();
+    };
+    let answer = session.copy(bytes);
+    builder.put(session);
+    outcome(answer)
+}
+
+/// Says how many items the space with this number has.
+#[unsafe(no_mangle)]
+pub extern "C" fn wenc_count(
+    alloc: Global,
+    builder: &mut Handle,
+    space_number: u32,
+    count: &mut u32,
+) -> u32
+    ensures counted { (s : Spaces) → space_of space_number ≡ Some s
+        → CountsAt s builder.old.session (answer_of result count.new) }
+    ensures number { space_of space_number ≡ None → result ≡ 7 }
+    ensures kept { ¬ (result ≡ 0) → count.new ≡ count.old }
+    ensures same { builder.new.session ≡ builder.old.session }
+{
+    let Some(space) = space(space_number) else {
+        return Refused::BadArgument.number();
+    };
+    let Some(session) = builder.take(alloc) else {
+        return Refused::NoBuilder.number();
+    };
+    let answer = session.count(space);
+    builder.put(session);
+    told(answer, count)
+}

@@ -1,0 +1,132 @@
+//! What the numbers of C stand for (`bindings/c/wenc.h` names them).
+ghost use Rattle.std.specs.Prelude.{◌≡◌};
+ghost use Rattle.wenc_c.specs.Numbers.{core_kind_of, given_type_of, kind_of, outer_kind_of, primitive_of, space_of, type_ref_of};
+
+use wenc_base::ExportKind;
+use wenc_builder::Space;
+use wenc_parts::{
+    ComponentExportKind, ComponentOuterAliasKind, ComponentTypeRef, ComponentValType,
+    PrimitiveValType, TypeBounds,
+};
+
+/// A primitive type, by its byte in the binary format.
+fn primitive(number: u32) -> Option<PrimitiveValType>
+    ensures { result ≡ primitive_of number }
+{
+    match number {
+        0x7f => Some(PrimitiveValType::Bool),
+        0x7e => Some(PrimitiveValType::S8),
+        0x7d => Some(PrimitiveValType::U8),
+        0x7c => Some(PrimitiveValType::S16),
+        0x7b => Some(PrimitiveValType::U16),
+        0x7a => Some(PrimitiveValType::S32),
+        0x79 => Some(PrimitiveValType::U32),
+        0x78 => Some(PrimitiveValType::S64),
+        0x77 => Some(PrimitiveValType::U64),
+        0x76 => Some(PrimitiveValType::F32),
+        0x75 => Some(PrimitiveValType::F64),
+        0x74 => Some(PrimitiveValType::Char),
+        0x73 => Some(PrimitiveValType::String),
+        0x64 => Some(PrimitiveValType::ErrorContext),
+        _ => None,
+    }
+}
+
+/// What is imported, by its sort and the number that goes with it: an index or a primitive type.
+pub(crate) fn type_ref(sort: u32, of: u32) -> Option<ComponentTypeRef>
+    ensures { result ≡ type_ref_of sort of }
+{
+    match sort {
+        0 => Some(ComponentTypeRef::Module(of)),
+        1 => Some(ComponentTypeRef::Func(of)),
+        2 => Some(ComponentTypeRef::Value(ComponentValType::Type(of))),
+        3 => Some(ComponentTypeRef::Type(TypeBounds::Eq(of))),
+        4 => Some(ComponentTypeRef::Component(of)),
+        5 => Some(ComponentTypeRef::Instance(of)),
+        6 => Some(ComponentTypeRef::Type(TypeBounds::SubResource)),
+        7 => match primitive(of) {
+            Some(primitive) => Some(ComponentTypeRef::Value(ComponentValType::Primitive(
+                primitive,
+            ))),
+            None => None,
+        },
+        _ => None,
+    }
+}
+
+/// The type that an export is given, or none.
+pub(crate) fn given_type(sort: u32, of: u32) -> Option<Option<ComponentTypeRef>>
+    ensures { result ≡ given_type_of sort of }
+{
+    match sort {
+        8 => Some(None),
+        _ => match type_ref(sort, of) {
+            Some(ty) => Some(Some(ty)),
+            None => None,
+        },
+    }
+}
+
+/// A kind of items.
+pub(crate) fn kind(number: u32) -> Option<ComponentExportKind>
+    ensures { result ≡ kind_of number }
+{
+    match number {
+        0 => Some(ComponentExportKind::Module),
+        1 => Some(ComponentExportKind::Func),
+        2 => Some(ComponentExportKind::Value),
+        3 => Some(ComponentExportKind::Type),
+        4 => Some(ComponentExportKind::Component),
+        5 => Some(ComponentExportKind::Instance),
+        _ => None,
+    }
+}
+
+/// A kind of items of a core instance.
+pub(crate) fn core_kind(number: u32) -> Option<ExportKind>
+    ensures { result ≡ core_kind_of number }
+{
+    match number {
+        0 => Some(ExportKind::Func),
+        1 => Some(ExportKind::Table),
+        2 => Some(ExportKind::Memory),
+        3 => Some(ExportKind::Global),
+        4 => Some(ExportKind::Tag),
+        _ => None,
+    }
+}
+
+/// A kind of items of an enclosing component.
+pub(crate) fn outer_kind(number: u32) -> Option<ComponentOuterAliasKind>
+    ensures { result ≡ outer_kind_of number }
+{
+    match number {
+        0 => Some(ComponentOuterAliasKind::CoreModule),
+        1 => Some(ComponentOuterAliasKind::CoreType),
+        2 => Some(ComponentOuterAliasKind::Type),
+        3 => Some(ComponentOuterAliasKind::Component),
+        _ => None,
+    }
+}
+
+/// An index space.
+pub(crate) fn space(number: u32) -> Option<Space>
+    ensures { result ≡ space_of number }
+{
+    match number {
+        0 => Some(Space::CoreModules),
+        1 => Some(Space::CoreFuncs),
+        2 => Some(Space::CoreTypes),
+        3 => Some(Space::CoreMemories),
+        4 => Some(Space::CoreTables),
+        5 => Some(Space::CoreInstances),
+        6 => Some(Space::CoreTags),
+        7 => Some(Space::CoreGlobals),
+        8 => Some(Space::Funcs),
+        9 => Some(Space::Instances),
+        10 => Some(Space::Values),
+        11 => Some(Space::Components),
+        12 => Some(Space::Types),
+        _ => None,
+    }
+}

@@ -1,0 +1,66 @@
+//! Why a call is refused, and how C is told.
+ghost use Rattle.std.specs.Prelude.{◌≡◌, ◌<◌, Err, ℕ};
+ghost use Rattle.wenc_c.specs.Sessions.{answer_of, outcome_of};
+
+use wenc_base::Fault;
+
+/// Why a call from outside was refused.
+#[derive(Clone, Copy)]
+pub enum Refused {
+    /// By the builder, or for want of memory.
+    Fault(Fault),
+    /// A text that is not UTF-8, or bytes that are no item's text.
+    Malformed,
+    /// Types stand too deep in one another.
+    TooDeep,
+    /// A number stands for nothing, or room is of another length.
+    BadArgument,
+    /// The component is finished.
+    Finished,
+    /// The handle owns nothing.
+    NoBuilder,
+}
+
+impl Refused {
+    /// The number by which C is told, from 1 to 9.
+    pub fn number(self) -> u32
+        ensures told { (i : ℕ) → answer_of result i ≡ Err self }
+        ensures outcome { outcome_of result ≡ Err self }
+        ensures some { 0 < result }
+        ensures few { result < 10 }
+    {
+        match self {
+            Refused::Fault(fault) => u32::from(fault.number()),
+            Refused::Malformed => 5,
+            Refused::TooDeep => 6,
+            Refused::BadArgument => 7,
+            Refused::Finished => 8,
+            Refused::NoBuilder => 9,
+        }
+    }
+}
+
+/// Tells C an answer: a status, and where it is 0 what is put out.
+pub(crate) fn told(answer: Result<u32, Refused>, out: &mut u32) -> u32
+    ensures told { answer_of result out.new ≡ answer }
+    ensures kept { ¬ (result ≡ 0) → out.new ≡ out.old }
+{
+    match answer {
+        Ok(value) => {
+            *out = value;
+            0
+        }
+        Err(refused) => refused.number(),
+    }
+}
+
+/// The same where nothing is put out.
+pub(crate) fn outcome(answer: Result<(), Refused>) -> u32
+    ensures told { outcome_of result ≡ answer }
+    ensures few { result < 10 }
+{
+    match answer {
+        Ok(()) => 0,
+        Err(refused) => refused.number(),
+    }
+}

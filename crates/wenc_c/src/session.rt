@@ -1,0 +1,294 @@
+//! What a handle owns: a builder, and then the component that it finished.
+ghost use Rattle.std.specs.Option.{option_copied};
+ghost use Rattle.std.specs.Prelude.{◌≡◌, IfErr, IfOk, None};
+ghost use Rattle.wenc_base.specs.Fault.{IsMemory};
+ghost use Rattle.wenc_builder.specs.Builder.{count_in};
+ghost use Rattle.wenc_builder.specs.Enters.{Enters, EntersWithoutIndex};
+ghost use Rattle.wenc_builder.specs.Entry.{import_entry, export_entry, alias_entry, module_entry, component_entry};
+ghost use Rattle.wenc_builder.specs.Entry.{start_entry, custom_entry, raw_entry};
+ghost use Rattle.wenc_builder.specs.Names.{AddsNames};
+ghost use Rattle.wenc_c.specs.Reads.{AddsReadTo, read_custom, read_one};
+ghost use Rattle.wenc_c.specs.Sessions.{AddsTo, AddsWithoutIndexTo, Copies, Counts, Does, Finishes, IsEmpty};
+ghost use Rattle.wenc_c.specs.Sessions.{IsFaultThat, Nests, of_builder};
+ghost use Rattle.wenc_parts.specs.Aliases.{alias_view};
+ghost use Rattle.wenc_parts.specs.Imports.{extern_name_view};
+
+use crate::adding::{add, add_custom};
+use crate::refused::Refused;
+use std::alloc::Global;
+use std::mem::replace;
+use wenc_base::{CustomSection, Fault};
+use wenc_builder::{ComponentBuilder, Space};
+use wenc_parts::{Alias, ComponentExportKind, ComponentExternName, ComponentTypeRef};
+
+/// A component, while it is built and when it is finished. Each call is the builder's; a finished component refuses
+/// it, and a refused call changes nothing.
+#[derive(Drop)]
+pub enum Session {
+    /// It takes more items.
+    Building(ComponentBuilder),
+    /// Its bytes.
+    Finished(Vec<u8>),
+}
+
+/// How many items a builder has in this space.
+fn count_of(builder: &ComponentBuilder, space: Space) -> u32
+    ensures { result ≡ count_in builder.now space }
+{
+    match space {
+        Space::CoreModules => builder.core_module_count(),
+        Space::CoreFuncs => builder.core_func_count(),
+        Space::CoreTypes => builder.core_type_count(),
+        Space::CoreMemories => builder.core_memory_count(),
+        Space::CoreTables => builder.core_table_count(),
+        Space::CoreInstances => builder.core_instance_count(),
+        Space::CoreTags => builder.core_tag_count(),
+        Space::CoreGlobals => builder.core_global_count(),
+        Space::Funcs => builder.func_count(),
+        Space::Instances => builder.instance_count(),
+        Space::Values => builder.value_count(),
+        Space::Components => builder.component_count(),
+        Space::Types => builder.type_count(),
+    }
+}
+
+/// What the builder answered.
+pub(crate) fn by_builder<T: Drop>(answer: Result<T, Fault>) -> Result<T, Refused>
+    ensures { result ≡ of_builder answer }
+{
+    match answer {
+        Ok(value) => Ok(value),
+        Err(fault) => Err(Refused::Fault(fault)),
+    }
+}
+
+impl Session {
+    /// A component without items. Refused for want of memory alone.
+    pub fn new(alloc: Global) -> Result<Session, Refused>
+        ensures held { IfOk result (λ s. IsEmpty s) }
+        ensures refused { IfErr result (λ r. IsFaultThat IsMemory r) }
+    {
+        match ComponentBuilder::new(alloc) {
+            Ok(builder) => Ok(Session::Building(builder)),
+            Err(fault) => Err(Refused::Fault(fault)),
+        }
+    }
+
+    /// Adds an import.
+    pub fn import(
+        &mut self,
+        name: ComponentExternName<'_>,
+        ty: ComponentTypeRef,
+    ) -> Result<u32, Refused>
+        ensures { AddsTo self.old self.new result (import_entry (extern_name_view name.entry) ty) }
+    {
+        match self {
+            Session::Building(builder) => by_builder(builder.import(name, ty)),
+            Session::Finished(_) => Err(Refused::Finished),
+        }
+    }
+
+    /// Adds an export.
+    pub fn export(
+        &mut self,
+        name: ComponentExternName<'_>,
+        kind: ComponentExportKind,
+        index: u32,
+        ty: Option<ComponentTypeRef>,
+    ) -> Result<u32, Refused>
+        ensures { AddsTo self.old self.new result
+            (export_entry (extern_name_view name.entry) kind index ty) }
+    {
+        match self {
+            Session::Building(builder) => by_builder(builder.export(name, kind, index, ty)),
+            Session::Finished(_) => Err(Refused::Finished),
+        }
+    }
+
+    /// Adds an alias.
+    pub fn alias(&mut self, debug_name: Option<&str>, alias: Alias<'_>) -> Result<u32, Refused>
+        ensures { AddsTo self.old self.new result
+            (alias_entry (option_copied debug_name.entry) (alias_view alias.entry)) }
+    {
+        match self {
+            Session::Building(builder) => by_builder(builder.alias(debug_name, alias)),
+            Session::Finished(_) => Err(Refused::Finished),
+        }
+    }
+
+    /// Adds the core module with these bytes.
+    pub fn core_module(&mut self, debug_name: Option<&str>, bytes: &[u8]) -> Result<u32, Refused>
+        ensures { AddsTo self.old self.new result
+            (module_entry (option_copied debug_name.entry) bytes.now) }
+    {
+        match self {
+            Session::Building(builder) => by_builder(builder.core_module_raw(debug_name, bytes)),
+            Session::Finished(_) => Err(Refused::Finished),
+        }
+    }
+
+    /// Adds the component with these bytes.
+    pub fn component_bytes(
+        &mut self,
+        debug_name: Option<&str>,
+        bytes: &[u8],
+    ) -> Result<u32, Refused>
+        ensures { AddsTo self.old self.new result
+            (component_entry (option_copied debug_name.entry) bytes.now) }
+    {
+        match self {
+            Session::Building(builder) => by_builder(builder.component_raw(debug_name, bytes)),
+            Session::Finished(_) => Err(Refused::Finished),
+        }
+    }
+
+    /// Adds another component, which is left as it is.
+    pub fn component(&mut self, debug_name: Option<&str>, nested: &Session) -> Result<u32, Refused>
+        ensures { Nests (option_copied debug_name.entry) nested.now self.old self.new result }
+    {
+        match nested {
+            Session::Building(nested) => match self {
+                Session::Building(builder) => {
+                    by_builder(builder.component_ref(debug_name, nested))
+                }
+                Session::Finished(_) => Err(Refused::Finished),
+            },
+            Session::Finished(_) => Err(Refused::Finished),
+        }
+    }
+
+    /// Adds a start.
+    pub fn start(&mut self, function: u32, args: &[u32], results: u32) -> Result<u32, Refused>
+        ensures { AddsTo self.old self.new result (start_entry function args.now results) }
+    {
+        match self {
+            Session::Building(builder) => by_builder(builder.start(function, args, results)),
+            Session::Finished(_) => Err(Refused::Finished),
+        }
+    }
+
+    /// Adds a custom section.
+    pub fn custom_section(&mut self, name: &str, data: &[u8]) -> Result<(), Refused>
+        ensures { AddsWithoutIndexTo self.old self.new result (custom_entry name.now data.now) }
+    {
+        match self {
+            Session::Building(builder) => {
+                by_builder(builder.custom_section(&CustomSection { name, data }))
+            }
+            Session::Finished(_) => Err(Refused::Finished),
+        }
+    }
+
+    /// Adds a custom section, by the bytes behind its id.
+    pub fn raw_custom_section(&mut self, bytes: &[u8]) -> Result<(), Refused>
+        ensures { AddsWithoutIndexTo self.old self.new result (raw_entry bytes.now) }
+    {
+        match self {
+            Session::Building(builder) => by_builder(builder.raw_custom_section(bytes)),
+            Session::Finished(_) => Err(Refused::Finished),
+        }
+    }
+
+    /// Adds a section of the debug names so far.
+    pub fn append_names(&mut self) -> Result<(), Refused>
+        ensures { Does AddsNames self.old self.new result }
+    {
+        match self {
+            Session::Building(builder) => by_builder(builder.append_names()),
+            Session::Finished(_) => Err(Refused::Finished),
+        }
+    }
+
+    /// Adds the item with this text, which stands in the section with this id, from 1 to 11.
+    pub fn item(
+        &mut self,
+        alloc: Global,
+        section: u32,
+        debug_name: Option<&str>,
+        text: &[u8],
+    ) -> Result<u32, Refused>
+        ensures { AddsReadTo Enters self.old self.new result (option_copied debug_name.entry)
+            (read_one section text.now) }
+    {
+        match self {
+            Session::Building(builder) => {
+                if !builder.is_finished() {
+                    return Err(Refused::Fault(Fault::Unfinished));
+                }
+                add(builder, alloc, section, debug_name, text)
+            }
+            Session::Finished(_) => Err(Refused::Finished),
+        }
+    }
+
+    /// Adds the custom section with this content.
+    pub fn custom_item(&mut self, alloc: Global, text: &[u8]) -> Result<(), Refused>
+        ensures { AddsReadTo EntersWithoutIndex self.old self.new result None
+            (read_custom text.now) }
+    {
+        match self {
+            Session::Building(builder) => {
+                if !builder.is_finished() {
+                    return Err(Refused::Fault(Fault::Unfinished));
+                }
+                add_custom(builder, alloc, text)
+            }
+            Session::Finished(_) => Err(Refused::Finished),
+        }
+    }
+
+    /// How many items this space has.
+    pub fn count(&self, space: Space) -> Result<u32, Refused>
+        ensures { Counts space self.now result }
+    {
+        match self {
+            Session::Building(builder) => Ok(count_of(builder, space)),
+            Session::Finished(_) => Err(Refused::Finished),
+        }
+    }
+
+    /// Finishes the component, and answers how many bytes it has. It takes no memory.
+    pub fn finish(&mut self, alloc: Global) -> Result<usize, Refused>
+        ensures { Finishes self.old self.new result }
+    {
+        match self {
+            Session::Building(builder) => {
+                if !builder.is_finished() {
+                    return Err(Refused::Fault(Fault::Unfinished));
+                }
+            }
+            Session::Finished(bytes) => return Ok(bytes.len()),
+        }
+        match replace(self, Session::Finished(Vec::new(alloc))) {
+            Session::Building(builder) => match builder.finish() {
+                Ok(bytes) => {
+                    let len = bytes.len();
+                    *self = Session::Finished(bytes);
+                    Ok(len)
+                }
+                Err(fault) => Err(Refused::Fault(fault)),
+            },
+            Session::Finished(bytes) => {
+                let len = bytes.len();
+                *self = Session::Finished(bytes);
+                Ok(len)
+            }
+        }
+    }
+
+    /// Copies the bytes of the finished component to room for just so many.
+    pub fn copy(&self, out: &mut [u8]) -> Result<(), Refused>
+        ensures { Copies self.now out.old out.new result }
+    {
+        match self {
+            Session::Building(_) => Err(Refused::Fault(Fault::Unfinished)),
+            Session::Finished(bytes) => {
+                if out.len() != bytes.len() {
+                    return Err(Refused::BadArgument);
+                }
+                out.copy_from_slice(bytes.as_slice());
+                Ok(())
+            }
+        }
+    }
+}
