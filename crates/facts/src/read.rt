@@ -2,7 +2,7 @@
 ghost use Rattle.std.specs.Prelude.{[], ◌∷◌, IfOk};
 ghost use Rattle.wenc_base.specs.Piece.{Wide};
 ghost use Rattle.wenc_base.specs.Readers.{times};
-ghost use Rattle.wenc_base.specs.laws.Numbers.{read_u32};
+ghost use Rattle.wenc_base.specs.reading.Numbers.{read_u32};
 ghost use Rattle.wenc_parts.specs.Aliases.{alias, alias_tree_view};
 ghost use Rattle.wenc_read.specs.Gives.{Gives};
 

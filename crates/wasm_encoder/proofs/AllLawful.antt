@@ -9,13 +9,16 @@ use Rattle.wenc_base.specs.laws.Composites.{storage_type_lawful, field_type_lawf
 use Rattle.wenc_base.specs.laws.Delimited.{pair_readable}
 use Rattle.wenc_base.specs.laws.Entities.{table_type_lawful, memory_type_lawful, global_type_lawful, tag_type_lawful, entity_type_lawful}
 use Rattle.wenc_base.specs.laws.Exports.{core_export_kind_lawful as core_kind_lawful}
-use Rattle.wenc_base.specs.laws.Forms.{flag_lawful, name_lawful, byte_list_lawful, read_list, list_lawful, option_lawful, counted_lawful}
+use Rattle.wenc_base.specs.laws.Forms.{flag_lawful, name_lawful, byte_list_lawful, list_lawful, option_lawful, counted_lawful}
+use Rattle.wenc_base.specs.reading.Forms.{read_list}
 use Rattle.wenc_base.specs.laws.Names.{name_association_lawful}
 use Rattle.wenc_base.specs.Readers.{Lawful, Reader, ◌>>=◌, give, nowhere, choose}
 use Rattle.wenc_base.specs.laws.Lawful.{form_laws, then, last}
-use Rattle.wenc_base.specs.laws.Numbers.{read_u32, u32_lawful, u64_lawful, index_lawful, i64_lawful}
+use Rattle.wenc_base.specs.laws.Numbers.{u32_lawful, u64_lawful, index_lawful, i64_lawful}
+use Rattle.wenc_base.specs.reading.Numbers.{read_u32}
 use Rattle.wenc_base.specs.laws.Sections.{custom_lawful, producer_lawful, producers_field_lawful, producers_section_lawful}
-use Rattle.wenc_base.specs.laws.Types.{abstract_type_lawful, heap_type_lawful, to, reference_lawful, val_type_lawful}
+use Rattle.wenc_base.specs.laws.Types.{abstract_type_lawful, heap_type_lawful, reference_lawful, val_type_lawful}
+use Rattle.wenc_base.specs.reading.Types.{to}
 use Rattle.wenc_canon.specs.laws.Canonicals.{canonical_option_lawful, field_lawful, fields_lawful, canonical_lawful}
 use Rattle.wenc_parts.specs.laws.Aliases.{outer_kind_lawful, alias_lawful}
 use Rattle.wenc_parts.specs.laws.Exports.{component_export_kind_lawful}
@@ -27,7 +30,8 @@ use Rattle.wenc_sections.specs.Start.{Start, started, start_content}
 use Rattle.wenc_sections.specs.laws.Names.{sort_lawful, names_section_lawful}
 use Rattle.wenc_sections.specs.laws.Items.{import_lawful, inline_export_lawful, argument_lawful, inline_core_export_lawful, core_instance_lawful, given_lawful, exported_lawful, instance_lawful, start_lawful}
 use Rattle.wenc_types.specs.laws.ComponentTypes.{type_lawful, instance_declaration_lawful, component_declaration_lawful}
-use Rattle.wenc_types.specs.laws.CoreTypes.{module_declaration_lawful, module_type_lawful, standing_rows, standing_row, core_type_lawful}
+use Rattle.wenc_types.specs.laws.CoreTypes.{module_declaration_lawful, module_type_lawful, standing_row, core_type_lawful}
+use Rattle.wenc_types.specs.reading.CoreTypes.{standing_rows}
 use Rattle.wenc_types.specs.laws.DefinedTypes.{labelled_type_lawful, case_lawful, defined_type_lawful, function_type_lawful}
 use Rattle.wasm_encoder.specs.AllForms as forms
 use Rattle.wasm_encoder.specs.AllForms.{FormName, form_of}

@@ -17,4 +17,5 @@ pub mod Lender
 pub mod Openings
 pub mod FormLaws
 pub mod Readers
+pub mod reading
 pub mod laws

@@ -37,7 +37,8 @@ pub trait DelimitedEq: Delimited + Eq {
 
 impl Delimited for bool {
     ghost use Rattle.wenc_base.specs.Forms.{flag};
-    ghost use Rattle.wenc_base.specs.laws.Forms.{read_flag, flag_lawful};
+    ghost use Rattle.wenc_base.specs.laws.Forms.{flag_lawful};
+    ghost use Rattle.wenc_base.specs.reading.Forms.{read_flag};
 
     ghost Seen = { Bool };
 
@@ -56,7 +57,8 @@ impl DelimitedEq for bool {
 
 impl Delimited for u32 {
     ghost use Rattle.wenc_base.specs.Number.{u32 as number};
-    ghost use Rattle.wenc_base.specs.laws.Numbers.{read_u32, u32_lawful};
+    ghost use Rattle.wenc_base.specs.laws.Numbers.{u32_lawful};
+    ghost use Rattle.wenc_base.specs.reading.Numbers.{read_u32};
 
     ghost Seen = { ℕ };
 
@@ -75,7 +77,8 @@ impl DelimitedEq for u32 {
 
 impl Delimited for u64 {
     ghost use Rattle.wenc_base.specs.Number.{u64 as long_number};
-    ghost use Rattle.wenc_base.specs.laws.Numbers.{read_u64, u64_lawful};
+    ghost use Rattle.wenc_base.specs.laws.Numbers.{u64_lawful};
+    ghost use Rattle.wenc_base.specs.reading.Numbers.{read_u64};
 
     ghost Seen = { ℕ };
 
@@ -94,7 +97,8 @@ impl DelimitedEq for u64 {
 
 impl Delimited for i64 {
     ghost use Rattle.wenc_base.specs.Number.{i64 as signed_number};
-    ghost use Rattle.wenc_base.specs.laws.Numbers.{read_signed, i64_lawful};
+    ghost use Rattle.wenc_base.specs.laws.Numbers.{i64_lawful};
+    ghost use Rattle.wenc_base.specs.reading.Numbers.{read_signed};
 
     ghost Seen = { ℤ };
 
@@ -113,7 +117,8 @@ impl DelimitedEq for i64 {
 
 impl Delimited for &str {
     ghost use Rattle.wenc_base.specs.Forms.{name};
-    ghost use Rattle.wenc_base.specs.laws.Forms.{read_name, name_lawful};
+    ghost use Rattle.wenc_base.specs.laws.Forms.{name_lawful};
+    ghost use Rattle.wenc_base.specs.reading.Forms.{read_name};
 
     ghost Seen = { List ℕ };
 
@@ -135,7 +140,8 @@ impl DelimitedEq for &str {
 impl<A: Allocator> Delimited for String<A> {
     ghost use Rattle.std.specs.String.{string_bytes};
     ghost use Rattle.wenc_base.specs.Forms.{name};
-    ghost use Rattle.wenc_base.specs.laws.Forms.{read_name, name_lawful};
+    ghost use Rattle.wenc_base.specs.laws.Forms.{name_lawful};
+    ghost use Rattle.wenc_base.specs.reading.Forms.{read_name};
 
     ghost Seen = { List ℕ };
 
@@ -157,7 +163,8 @@ impl<A: Allocator> DelimitedEq for String<A> {
 
 impl Delimited for &[u8] {
     ghost use Rattle.wenc_base.specs.Forms.{byte_list};
-    ghost use Rattle.wenc_base.specs.laws.Forms.{read_byte_list, byte_list_lawful};
+    ghost use Rattle.wenc_base.specs.laws.Forms.{byte_list_lawful};
+    ghost use Rattle.wenc_base.specs.reading.Forms.{read_byte_list};
 
     ghost Seen = { List ℕ };
 

@@ -44,7 +44,8 @@ impl Encode for ExportKind {
 
 impl Delimited for ExportKind {
     ghost use Rattle.wenc_base.specs.Exports.{core_export_kind};
-    ghost use Rattle.wenc_base.specs.laws.Exports.{read_core_export_kind, core_export_kind_lawful};
+    ghost use Rattle.wenc_base.specs.laws.Exports.{core_export_kind_lawful};
+    ghost use Rattle.wenc_base.specs.reading.Exports.{read_core_export_kind};
     ghost use Rattle.wenc_base.specs.declared.exports.ExportKind.{ExportKind as Seen'};
 
     ghost Seen = { Seen' };

@@ -28,7 +28,8 @@ impl Encode for GlobalType {
 
 impl Delimited for GlobalType {
     ghost use Rattle.wenc_base.specs.Entities.{global_type};
-    ghost use Rattle.wenc_base.specs.laws.Entities.{read_global_type, global_type_lawful};
+    ghost use Rattle.wenc_base.specs.laws.Entities.{global_type_lawful};
+    ghost use Rattle.wenc_base.specs.reading.Entities.{read_global_type};
     ghost use Rattle.wenc_base.specs.declared.globals.GlobalType.{GlobalType as Seen'};
 
     ghost Seen = { Seen' };

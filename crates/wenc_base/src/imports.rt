@@ -43,7 +43,8 @@ impl Encode for EntityType {
 
 impl Delimited for EntityType {
     ghost use Rattle.wenc_base.specs.Entities.{entity_type};
-    ghost use Rattle.wenc_base.specs.laws.Entities.{read_entity_type, entity_type_lawful};
+    ghost use Rattle.wenc_base.specs.laws.Entities.{entity_type_lawful};
+    ghost use Rattle.wenc_base.specs.reading.Entities.{read_entity_type};
     ghost use Rattle.wenc_base.specs.declared.imports.EntityType.{EntityType as Seen'};
 
     ghost Seen = { Seen' };

@@ -38,7 +38,8 @@ impl Encode for MemoryType {
 
 impl Delimited for MemoryType {
     ghost use Rattle.wenc_base.specs.Entities.{memory_type};
-    ghost use Rattle.wenc_base.specs.laws.Entities.{read_memory_type, memory_type_lawful};
+    ghost use Rattle.wenc_base.specs.laws.Entities.{memory_type_lawful};
+    ghost use Rattle.wenc_base.specs.reading.Entities.{read_memory_type};
     ghost use Rattle.wenc_base.specs.declared.memories.MemoryType.{MemoryType as Seen'};
 
     ghost Seen = { Seen' };

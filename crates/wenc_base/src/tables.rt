@@ -39,7 +39,8 @@ impl Encode for TableType {
 
 impl Delimited for TableType {
     ghost use Rattle.wenc_base.specs.Entities.{table_type};
-    ghost use Rattle.wenc_base.specs.laws.Entities.{read_table_type, table_type_lawful};
+    ghost use Rattle.wenc_base.specs.laws.Entities.{table_type_lawful};
+    ghost use Rattle.wenc_base.specs.reading.Entities.{read_table_type};
     ghost use Rattle.wenc_base.specs.declared.tables.TableType.{TableType as Seen'};
 
     ghost Seen = { Seen' };

@@ -25,7 +25,8 @@ impl Encode for TagType {
 
 impl Delimited for TagType {
     ghost use Rattle.wenc_base.specs.Entities.{tag_type};
-    ghost use Rattle.wenc_base.specs.laws.Entities.{read_tag_type, tag_type_lawful};
+    ghost use Rattle.wenc_base.specs.laws.Entities.{tag_type_lawful};
+    ghost use Rattle.wenc_base.specs.reading.Entities.{read_tag_type};
     ghost use Rattle.wenc_base.specs.declared.tags.TagType.{TagType as Seen'};
 
     ghost Seen = { Seen' };

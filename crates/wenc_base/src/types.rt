@@ -58,7 +58,8 @@ impl Encode for ValType {
 
 impl Delimited for ValType {
     ghost use Rattle.wenc_base.specs.Types.{val_type};
-    ghost use Rattle.wenc_base.specs.laws.Types.{read_val_type, val_type_lawful};
+    ghost use Rattle.wenc_base.specs.laws.Types.{val_type_lawful};
+    ghost use Rattle.wenc_base.specs.reading.Types.{read_val_type};
     ghost use Rattle.wenc_base.specs.declared.types.ValType.{ValType as Seen'};
 
     ghost Seen = { Seen' };
@@ -105,7 +106,8 @@ impl Encode for RefType {
 
 impl Delimited for RefType {
     ghost use Rattle.wenc_base.specs.Types.{reference};
-    ghost use Rattle.wenc_base.specs.laws.Types.{read_reference, reference_lawful};
+    ghost use Rattle.wenc_base.specs.laws.Types.{reference_lawful};
+    ghost use Rattle.wenc_base.specs.reading.Types.{read_reference};
     ghost use Rattle.wenc_base.specs.declared.types.RefType.{RefType as Seen'};
 
     ghost Seen = { Seen' };
@@ -147,7 +149,8 @@ impl Encode for HeapType {
 
 impl Delimited for HeapType {
     ghost use Rattle.wenc_base.specs.Types.{heap_type};
-    ghost use Rattle.wenc_base.specs.laws.Types.{read_heap_type, heap_type_lawful};
+    ghost use Rattle.wenc_base.specs.laws.Types.{heap_type_lawful};
+    ghost use Rattle.wenc_base.specs.reading.Types.{read_heap_type};
     ghost use Rattle.wenc_base.specs.declared.types.HeapType.{HeapType as Seen'};
 
     ghost Seen = { Seen' };
@@ -230,7 +233,8 @@ impl Encode for AbstractHeapType {
 
 impl Delimited for AbstractHeapType {
     ghost use Rattle.wenc_base.specs.Types.{abstract_type};
-    ghost use Rattle.wenc_base.specs.laws.Types.{read_abstract, abstract_type_lawful};
+    ghost use Rattle.wenc_base.specs.laws.Types.{abstract_type_lawful};
+    ghost use Rattle.wenc_base.specs.reading.Types.{read_abstract};
     ghost use Rattle.wenc_base.specs.declared.types.AbstractHeapType.{AbstractHeapType as Seen'};
 
     ghost Seen = { Seen' };

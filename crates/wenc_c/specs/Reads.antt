@@ -6,23 +6,23 @@ use Rattle.std.specs.Prelude.{alloc_error, Bool, false}
 use Rattle.wenc_base.specs.Fault.{IsWarranted}
 use Rattle.wenc_base.specs.declared.fault.Fault.{Fault as Faults}
 use Rattle.wenc_base.specs.declared.fault.Fault.TheVariants.{Memory, Unfinished}
-use Rattle.wenc_base.specs.laws.Forms.{read_list, read_name}
+use Rattle.wenc_base.specs.reading.Forms.{read_list, read_name}
 use Rattle.wenc_base.specs.Readers.{Flaw, Bad, Deep, Reader, ◌>>=◌, done, give, made}
-use Rattle.wenc_base.specs.laws.Numbers.{read_u32}
+use Rattle.wenc_base.specs.reading.Numbers.{read_u32}
 use Rattle.wenc_builder.specs.Builder.{State, builder_is_finished}
 use Rattle.wenc_builder.specs.Entry.{Entry, entry, canonical_name}
 use Rattle.wenc_builder.specs.Item.{Item, ModuleItem, CoreInstanceItem, CoreTypeItem, ComponentItem}
 use Rattle.wenc_builder.specs.Item.{InstanceItem, AliasItem, TypeItem, CanonItem, StartItem}
 use Rattle.wenc_builder.specs.Item.{ImportItem, ExportItem, CustomItem}
-use Rattle.wenc_canon.specs.laws.Canonicals.{read_canonical}
-use Rattle.wenc_decode.specs.inside.TypeTrees.{read_deep_type}
-use Rattle.wenc_parts.specs.laws.Aliases.{read_alias}
+use Rattle.wenc_canon.specs.reading.Canonicals.{read_canonical}
+use Rattle.wenc_decode.specs.reading.TypeTrees.{read_deep_type}
+use Rattle.wenc_parts.specs.reading.Aliases.{read_alias}
 use Rattle.wenc_read.specs.declared.refusal.Refusal.{Refusal}
 use Rattle.wenc_read.specs.declared.refusal.Refusal.TheVariants as refusals
 use Rattle.wenc_sections.specs.Start.{Start, started}
-use Rattle.wenc_sections.specs.laws.Items.{read_import, read_inline_export, read_core_instance}
-use Rattle.wenc_sections.specs.laws.Items.{read_instance}
-use Rattle.wenc_types.specs.laws.CoreTypes.{read_core_type}
+use Rattle.wenc_sections.specs.reading.Items.{read_import, read_inline_export, read_core_instance}
+use Rattle.wenc_sections.specs.reading.Items.{read_instance}
+use Rattle.wenc_types.specs.reading.CoreTypes.{read_core_type}
 use Rattle.wenc_c.specs.Handles.{At}
 use Rattle.wenc_c.specs.Sessions.{Answered}
 use Rattle.wenc_c.specs.declared.refused.Refused.{Refused as Refusals}

@@ -9,11 +9,11 @@ ghost use Rattle.wenc_builder.specs.Holds.{Holds};
 ghost use Rattle.wenc_builder.specs.Item.{CoreInstanceItem, CoreTypeItem, InstanceItem, AliasItem, TypeItem, CanonItem, StartItem};
 ghost use Rattle.wenc_builder.specs.Item.{ImportItem, ExportItem};
 ghost use Rattle.wenc_c.specs.Reads.{AddsRead, of_refusal, read_custom, read_one, read_start};
-ghost use Rattle.wenc_canon.specs.laws.Canonicals.{read_canonical};
-ghost use Rattle.wenc_decode.specs.inside.TypeTrees.{read_deep_type};
-ghost use Rattle.wenc_parts.specs.laws.Aliases.{read_alias};
-ghost use Rattle.wenc_sections.specs.laws.Items.{read_core_instance, read_import, read_inline_export, read_instance};
-ghost use Rattle.wenc_types.specs.laws.CoreTypes.{read_core_type};
+ghost use Rattle.wenc_canon.specs.reading.Canonicals.{read_canonical};
+ghost use Rattle.wenc_decode.specs.reading.TypeTrees.{read_deep_type};
+ghost use Rattle.wenc_parts.specs.reading.Aliases.{read_alias};
+ghost use Rattle.wenc_sections.specs.reading.Items.{read_core_instance, read_import, read_inline_export, read_instance};
+ghost use Rattle.wenc_types.specs.reading.CoreTypes.{read_core_type};
 
 use crate::items::{all, whole_export, whole_import, whole_start, whole_type};
 use crate::refused::Refused;

@@ -1,11 +1,11 @@
 //! Items by their texts: the bytes that stand for one in its section, in the component model's binary format.
 ghost use Rattle.wenc_base.specs.Readers.{done};
 ghost use Rattle.wenc_c.specs.Reads.{read_start};
-ghost use Rattle.wenc_decode.specs.inside.TypeTrees.{read_deep_type};
+ghost use Rattle.wenc_decode.specs.reading.TypeTrees.{read_deep_type};
 ghost use Rattle.wenc_parts.specs.Imports.{name_tree_view};
 ghost use Rattle.wenc_read.specs.Gives.{Gives};
 ghost use Rattle.wenc_sections.specs.Start.{started};
-ghost use Rattle.wenc_sections.specs.laws.Items.{ascribed, imported, read_import, read_inline_export};
+ghost use Rattle.wenc_sections.specs.reading.Items.{ascribed, imported, read_import, read_inline_export};
 ghost use Rattle.wenc_types.specs.TypeTrees.{type_view};
 
 use std::alloc::Global;

@@ -1,4 +1,5 @@
 pub mod Canonicals
 pub mod CanonTrees
 pub mod inside
+pub mod reading
 pub mod laws

@@ -417,7 +417,8 @@ impl<A: Allocator> Encode for CanonTree<A> {
 impl<A: Allocator> Delimited for CanonTree<A> {
     ghost use Rattle.wenc_canon.specs.Canonicals.{Canonical};
     ghost use Rattle.wenc_canon.specs.CanonTrees.{canon_view};
-    ghost use Rattle.wenc_canon.specs.laws.Canonicals.{read_canonical, canonical_lawful};
+    ghost use Rattle.wenc_canon.specs.laws.Canonicals.{canonical_lawful};
+    ghost use Rattle.wenc_canon.specs.reading.Canonicals.{read_canonical};
 
     ghost Seen = { Canonical };
 

@@ -68,7 +68,8 @@ impl Encode for CanonicalOption {
 
 impl Delimited for CanonicalOption {
     ghost use Rattle.wenc_canon.specs.Canonicals.{canonical_option};
-    ghost use Rattle.wenc_canon.specs.laws.Canonicals.{read_canonical_option, canonical_option_lawful};
+    ghost use Rattle.wenc_canon.specs.laws.Canonicals.{canonical_option_lawful};
+    ghost use Rattle.wenc_canon.specs.reading.Canonicals.{read_canonical_option};
     ghost use Rattle.wenc_canon.specs.declared.canonicals.CanonicalOption.{CanonicalOption as Seen'};
 
     ghost Seen = { Seen' };

@@ -4,5 +4,4 @@ pub mod Canonicals
 pub mod CoreTypes
 pub mod Entities
 pub mod Tables
-pub mod TypeTrees
 pub mod Types

@@ -1,7 +1,7 @@
 //! Canonical functions, each by its opcode.
 ghost use Rattle.wenc_base.specs.Readers.{pick, nowhere};
 ghost use Rattle.wenc_canon.specs.CanonTrees.{canon_view};
-ghost use Rattle.wenc_canon.specs.laws.Canonicals.{rows};
+ghost use Rattle.wenc_canon.specs.reading.Canonicals.{rows};
 ghost use Rattle.wenc_decode.specs.inside.Canonicals.{read_zero, read_lifted, read_lowered, stream_rows, future_rows, error_context_rows, thread_rows};
 ghost use Rattle.wenc_read.specs.Gives.{Gives};
 
@@ -14,7 +14,7 @@ use wenc_read::{Refusal, byte};
 
 impl<A: Allocator + Copy> Decode<A> for CanonicalOption {
     ghost use Rattle.wenc_canon.specs.declared.canonicals.CanonicalOption.{CanonicalOption as Value'};
-    ghost use Rattle.wenc_canon.specs.laws.Canonicals.{read_canonical_option};
+    ghost use Rattle.wenc_canon.specs.reading.Canonicals.{read_canonical_option};
 
     ghost Value = { Value' };
 
@@ -307,7 +307,7 @@ fn of_thread<A: Allocator + Copy>(
 
 impl<A: Allocator + Copy> Decode<A> for CanonTree<A> {
     ghost use Rattle.wenc_canon.specs.Canonicals.{Canonical};
-    ghost use Rattle.wenc_canon.specs.laws.Canonicals.{read_canonical};
+    ghost use Rattle.wenc_canon.specs.reading.Canonicals.{read_canonical};
 
     ghost Value = { Canonical };
 

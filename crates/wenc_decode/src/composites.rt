@@ -1,7 +1,7 @@
 //! The types that modules define, alone and in groups.
 ghost use Rattle.std.specs.Prelude.{Some, false, true};
 ghost use Rattle.wenc_base.specs.Composites.{composite_view, sub_view, rec_type_view};
-ghost use Rattle.wenc_base.specs.laws.Composites.{read_composite, read_sub_type, read_group, read_closed, read_extension, sub_of};
+ghost use Rattle.wenc_base.specs.reading.Composites.{read_composite, read_sub_type, read_group, read_closed, read_extension, sub_of};
 ghost use Rattle.wenc_read.specs.Gives.{Gives};
 
 use crate::decode::Decode;
@@ -14,7 +14,7 @@ use wenc_read::{Refusal, byte};
 
 impl<A: Allocator + Copy> Decode<A> for StorageType {
     ghost use Rattle.wenc_base.specs.declared.types.storage.StorageType.{StorageType as Value'};
-    ghost use Rattle.wenc_base.specs.laws.Composites.{read_storage_type};
+    ghost use Rattle.wenc_base.specs.reading.Composites.{read_storage_type};
 
     ghost Value = { Value' };
 
@@ -37,7 +37,7 @@ impl<A: Allocator + Copy> Decode<A> for StorageType {
 
 impl<A: Allocator + Copy> Decode<A> for FieldType {
     ghost use Rattle.wenc_base.specs.declared.types.storage.FieldType.{FieldType as Value'};
-    ghost use Rattle.wenc_base.specs.laws.Composites.{read_field_type};
+    ghost use Rattle.wenc_base.specs.reading.Composites.{read_field_type};
 
     ghost Value = { Value' };
 

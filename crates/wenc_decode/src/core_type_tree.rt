@@ -34,7 +34,7 @@ fn outer_type<A: Allocator + Copy>(
 
 impl<A: Allocator + Copy> Decode<A> for ModuleDecl<A> {
     ghost use Rattle.wenc_types.specs.CoreTypes.{ModuleDeclaration};
-    ghost use Rattle.wenc_types.specs.laws.CoreTypes.{read_module_declaration};
+    ghost use Rattle.wenc_types.specs.reading.CoreTypes.{read_module_declaration};
 
     ghost Value = { ModuleDeclaration };
 
@@ -82,7 +82,7 @@ fn guarded<A: Allocator + Copy>(alloc: A, bytes: &[u8]) -> Result<(CoreTypeTree<
 
 impl<A: Allocator + Copy> Decode<A> for CoreTypeTree<A> {
     ghost use Rattle.wenc_types.specs.CoreTypes.{CoreType};
-    ghost use Rattle.wenc_types.specs.laws.CoreTypes.{read_core_type};
+    ghost use Rattle.wenc_types.specs.reading.CoreTypes.{read_core_type};
 
     ghost Value = { CoreType };
 

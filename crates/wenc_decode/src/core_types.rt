@@ -1,7 +1,8 @@
 //! Value types of core modules.
 ghost use Rattle.std.specs.Prelude.{◌≡◌};
 ghost use Rattle.wenc_base.specs.Types.{abstract_byte};
-ghost use Rattle.wenc_base.specs.laws.Types.{abstract_types, to as reference_to};
+ghost use Rattle.wenc_base.specs.laws.Types.{abstract_types};
+ghost use Rattle.wenc_base.specs.reading.Types.{to as reference_to};
 ghost use Rattle.wenc_decode.specs.inside.CoreTypes.{read_referred};
 ghost use Rattle.wenc_decode.specs.inside.Tables.{find};
 ghost use Rattle.wenc_read.specs.Gives.{Gives};
@@ -34,7 +35,7 @@ fn abstract_of(byte: u8) -> Option<AbstractHeapType>
 
 impl<A: Allocator + Copy> Decode<A> for HeapType {
     ghost use Rattle.wenc_base.specs.declared.types.HeapType.{HeapType as Value'};
-    ghost use Rattle.wenc_base.specs.laws.Types.{read_heap_type};
+    ghost use Rattle.wenc_base.specs.reading.Types.{read_heap_type};
 
     ghost Value = { Value' };
 
@@ -56,7 +57,7 @@ impl<A: Allocator + Copy> Decode<A> for HeapType {
 
 impl<A: Allocator + Copy> Decode<A> for RefType {
     ghost use Rattle.wenc_base.specs.declared.types.RefType.{RefType as Value'};
-    ghost use Rattle.wenc_base.specs.laws.Types.{read_reference};
+    ghost use Rattle.wenc_base.specs.reading.Types.{read_reference};
 
     ghost Value = { Value' };
 
@@ -100,7 +101,7 @@ fn reference<A: Allocator + Copy>(
 
 impl<A: Allocator + Copy> Decode<A> for ValType {
     ghost use Rattle.wenc_base.specs.declared.types.ValType.{ValType as Value'};
-    ghost use Rattle.wenc_base.specs.laws.Types.{read_val_type};
+    ghost use Rattle.wenc_base.specs.reading.Types.{read_val_type};
 
     ghost Value = { Value' };
 

@@ -28,7 +28,7 @@ pub trait Decode<A: Allocator + Copy>: Drop {
 }
 
 impl<A: Allocator + Copy> Decode<A> for u32 {
-    ghost use Rattle.wenc_base.specs.laws.Numbers.{read_u32};
+    ghost use Rattle.wenc_base.specs.reading.Numbers.{read_u32};
     ghost use Rattle.std.specs.Prelude.{ℕ};
 
     ghost Value = { ℕ };
@@ -45,7 +45,7 @@ impl<A: Allocator + Copy> Decode<A> for u32 {
 
 impl<A: Allocator + Copy> Decode<A> for bool {
     ghost use Rattle.std.specs.Prelude.{Bool};
-    ghost use Rattle.wenc_base.specs.laws.Forms.{read_flag};
+    ghost use Rattle.wenc_base.specs.reading.Forms.{read_flag};
 
     ghost Value = { Bool };
 
@@ -61,7 +61,7 @@ impl<A: Allocator + Copy> Decode<A> for bool {
 impl<A: Allocator + Copy> Decode<A> for String<A> {
     ghost use Rattle.std.specs.Prelude.{ℕ};
     ghost use Rattle.std.specs.String.{string_bytes};
-    ghost use Rattle.wenc_base.specs.laws.Forms.{read_name};
+    ghost use Rattle.wenc_base.specs.reading.Forms.{read_name};
 
     ghost Value = { List ℕ };
 
@@ -105,7 +105,7 @@ fn members<'a, A: Allocator + Copy, T: Decode<A>>(
 
 /// How many, then so many values.
 impl<A: Allocator + Copy, T: Decode<A>> Decode<A> for Vec<T, A> {
-    ghost use Rattle.wenc_base.specs.laws.Forms.{read_list};
+    ghost use Rattle.wenc_base.specs.reading.Forms.{read_list};
 
     ghost Value = { List T.Value };
 
@@ -122,7 +122,7 @@ impl<A: Allocator + Copy, T: Decode<A>> Decode<A> for Vec<T, A> {
 /// A byte `00`, or a byte `01` and a value.
 impl<A: Allocator + Copy, T: Decode<A>> Decode<A> for Option<T> {
     ghost use Rattle.std.specs.Prelude.{Option as OptionOf, option_map};
-    ghost use Rattle.wenc_base.specs.laws.Forms.{read_option};
+    ghost use Rattle.wenc_base.specs.reading.Forms.{read_option};
 
     ghost Value = { OptionOf T.Value };
 

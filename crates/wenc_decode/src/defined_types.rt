@@ -15,7 +15,7 @@ use wenc_types::{CaseTree, DefinedTree};
 impl<A: Allocator + Copy> Decode<A> for (String<A>, ComponentValType) {
     ghost use Rattle.wenc_types.specs.DefinedTypes.{LabelledType};
     ghost use Rattle.wenc_types.specs.TypeTrees.{named_view};
-    ghost use Rattle.wenc_types.specs.laws.DefinedTypes.{read_labelled_type};
+    ghost use Rattle.wenc_types.specs.reading.DefinedTypes.{read_labelled_type};
 
     ghost Value = { LabelledType };
 
@@ -37,7 +37,7 @@ impl<A: Allocator + Copy> Decode<A> for (String<A>, ComponentValType) {
 impl<A: Allocator + Copy> Decode<A> for CaseTree<A> {
     ghost use Rattle.wenc_types.specs.DefinedTypes.{Case};
     ghost use Rattle.wenc_types.specs.TypeTrees.{case_view};
-    ghost use Rattle.wenc_types.specs.laws.DefinedTypes.{read_case};
+    ghost use Rattle.wenc_types.specs.reading.DefinedTypes.{read_case};
 
     ghost Value = { Case };
 
@@ -144,7 +144,7 @@ fn of_handle<A: Allocator + Copy>(
 
 impl<A: Allocator + Copy> Decode<A> for DefinedTree<A> {
     ghost use Rattle.wenc_types.specs.DefinedTypes.{DefValType};
-    ghost use Rattle.wenc_types.specs.laws.DefinedTypes.{read_defined};
+    ghost use Rattle.wenc_types.specs.reading.DefinedTypes.{read_defined};
 
     ghost Value = { DefValType };
 

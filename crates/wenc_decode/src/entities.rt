@@ -43,7 +43,7 @@ fn memory(
 
 impl<A: Allocator + Copy> Decode<A> for MemoryType {
     ghost use Rattle.wenc_base.specs.declared.memories.MemoryType.{MemoryType as Value'};
-    ghost use Rattle.wenc_base.specs.laws.Entities.{read_memory_type};
+    ghost use Rattle.wenc_base.specs.reading.Entities.{read_memory_type};
 
     ghost Value = { Value' };
 
@@ -90,7 +90,7 @@ fn table(
 
 impl<A: Allocator + Copy> Decode<A> for TableType {
     ghost use Rattle.wenc_base.specs.declared.tables.TableType.{TableType as Value'};
-    ghost use Rattle.wenc_base.specs.laws.Entities.{read_table_type};
+    ghost use Rattle.wenc_base.specs.reading.Entities.{read_table_type};
 
     ghost Value = { Value' };
 
@@ -113,7 +113,7 @@ impl<A: Allocator + Copy> Decode<A> for TableType {
 
 impl<A: Allocator + Copy> Decode<A> for GlobalType {
     ghost use Rattle.wenc_base.specs.declared.globals.GlobalType.{GlobalType as Value'};
-    ghost use Rattle.wenc_base.specs.laws.Entities.{read_global_type};
+    ghost use Rattle.wenc_base.specs.reading.Entities.{read_global_type};
 
     ghost Value = { Value' };
 
@@ -130,7 +130,7 @@ impl<A: Allocator + Copy> Decode<A> for GlobalType {
 
 impl<A: Allocator + Copy> Decode<A> for TagType {
     ghost use Rattle.wenc_base.specs.declared.tags.TagType.{TagType as Value'};
-    ghost use Rattle.wenc_base.specs.laws.Entities.{read_tag_type};
+    ghost use Rattle.wenc_base.specs.reading.Entities.{read_tag_type};
 
     ghost Value = { Value' };
 
@@ -152,7 +152,7 @@ impl<A: Allocator + Copy> Decode<A> for TagType {
 
 impl<A: Allocator + Copy> Decode<A> for EntityType {
     ghost use Rattle.wenc_base.specs.declared.imports.EntityType.{EntityType as Value'};
-    ghost use Rattle.wenc_base.specs.laws.Entities.{read_entity_type};
+    ghost use Rattle.wenc_base.specs.reading.Entities.{read_entity_type};
 
     ghost Value = { Value' };
 
@@ -190,7 +190,7 @@ impl<A: Allocator + Copy> Decode<A> for EntityType {
 
 impl<A: Allocator + Copy> Decode<A> for ExportKind {
     ghost use Rattle.wenc_base.specs.declared.exports.ExportKind.{ExportKind as Value'};
-    ghost use Rattle.wenc_base.specs.laws.Exports.{read_core_export_kind};
+    ghost use Rattle.wenc_base.specs.reading.Exports.{read_core_export_kind};
 
     ghost Value = { Value' };
 

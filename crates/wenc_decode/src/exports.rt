@@ -6,7 +6,7 @@ use wenc_read::{Refusal, byte};
 
 impl<A: Allocator + Copy> Decode<A> for ComponentExportKind {
     ghost use Rattle.wenc_parts.specs.declared.exports.ComponentExportKind.{ComponentExportKind as Value'};
-    ghost use Rattle.wenc_parts.specs.laws.Exports.{read_component_export_kind};
+    ghost use Rattle.wenc_parts.specs.reading.Exports.{read_component_export_kind};
 
     ghost Value = { Value' };
 

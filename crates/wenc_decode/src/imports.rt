@@ -6,7 +6,7 @@ use wenc_read::{Refusal, byte};
 
 impl<A: Allocator + Copy> Decode<A> for TypeBounds {
     ghost use Rattle.wenc_parts.specs.declared.imports.TypeBounds.{TypeBounds as Value'};
-    ghost use Rattle.wenc_parts.specs.laws.Imports.{read_type_bounds};
+    ghost use Rattle.wenc_parts.specs.reading.Imports.{read_type_bounds};
 
     ghost Value = { Value' };
 
@@ -29,7 +29,7 @@ impl<A: Allocator + Copy> Decode<A> for TypeBounds {
 
 impl<A: Allocator + Copy> Decode<A> for ComponentTypeRef {
     ghost use Rattle.wenc_parts.specs.declared.imports.ComponentTypeRef.{ComponentTypeRef as Value'};
-    ghost use Rattle.wenc_parts.specs.laws.Imports.{read_type_reference};
+    ghost use Rattle.wenc_parts.specs.reading.Imports.{read_type_reference};
 
     ghost Value = { Value' };
 

@@ -8,7 +8,7 @@ use wenc_sections::{CoreInstanceTree, InstanceTree};
 
 impl<A: Allocator + Copy> Decode<A> for ModuleArg {
     ghost use Rattle.wenc_parts.specs.declared.instances.ModuleArg.{ModuleArg as Value'};
-    ghost use Rattle.wenc_parts.specs.laws.Instances.{read_module_argument};
+    ghost use Rattle.wenc_parts.specs.reading.Instances.{read_module_argument};
 
     ghost Value = { Value' };
 
@@ -32,7 +32,7 @@ impl<A: Allocator + Copy> Decode<A> for ModuleArg {
 impl<A: Allocator + Copy> Decode<A> for (String<A>, ModuleArg) {
     ghost use Rattle.wenc_sections.specs.InstanceTrees.{argument_tree_view};
     ghost use Rattle.wenc_sections.specs.Instances.{Argument};
-    ghost use Rattle.wenc_sections.specs.laws.Items.{read_argument};
+    ghost use Rattle.wenc_sections.specs.reading.Items.{read_argument};
 
     ghost Value = { Argument };
 
@@ -54,7 +54,7 @@ impl<A: Allocator + Copy> Decode<A> for (String<A>, ModuleArg) {
 impl<A: Allocator + Copy> Decode<A> for (String<A>, ExportKind, u32) {
     ghost use Rattle.wenc_sections.specs.InstanceTrees.{core_export_tree_view};
     ghost use Rattle.wenc_sections.specs.Instances.{CoreExport};
-    ghost use Rattle.wenc_sections.specs.laws.Items.{read_inline_core_export};
+    ghost use Rattle.wenc_sections.specs.reading.Items.{read_inline_core_export};
 
     ghost Value = { CoreExport };
 
@@ -76,7 +76,7 @@ impl<A: Allocator + Copy> Decode<A> for (String<A>, ExportKind, u32) {
 impl<A: Allocator + Copy> Decode<A> for CoreInstanceTree<A> {
     ghost use Rattle.wenc_sections.specs.InstanceTrees.{core_instance_tree_view};
     ghost use Rattle.wenc_sections.specs.Instances.{CoreInstance};
-    ghost use Rattle.wenc_sections.specs.laws.Items.{read_core_instance};
+    ghost use Rattle.wenc_sections.specs.reading.Items.{read_core_instance};
 
     ghost Value = { CoreInstance };
 
@@ -105,7 +105,7 @@ impl<A: Allocator + Copy> Decode<A> for CoreInstanceTree<A> {
 impl<A: Allocator + Copy> Decode<A> for (String<A>, ComponentExportKind, u32) {
     ghost use Rattle.wenc_sections.specs.InstanceTrees.{given_tree_view};
     ghost use Rattle.wenc_sections.specs.Instances.{InstantiateArg};
-    ghost use Rattle.wenc_sections.specs.laws.Items.{read_given};
+    ghost use Rattle.wenc_sections.specs.reading.Items.{read_given};
 
     ghost Value = { InstantiateArg };
 
@@ -128,7 +128,7 @@ impl<A: Allocator + Copy> Decode<A> for (String<A>, ComponentExportKind, u32) {
 impl<A: Allocator + Copy> Decode<A> for (NameTree<A>, ComponentExportKind, u32) {
     ghost use Rattle.wenc_sections.specs.InstanceTrees.{exported_tree_view};
     ghost use Rattle.wenc_sections.specs.Instances.{InlineExport};
-    ghost use Rattle.wenc_sections.specs.laws.Items.{read_inline_exported};
+    ghost use Rattle.wenc_sections.specs.reading.Items.{read_inline_exported};
 
     ghost Value = { InlineExport };
 
@@ -150,7 +150,7 @@ impl<A: Allocator + Copy> Decode<A> for (NameTree<A>, ComponentExportKind, u32) 
 impl<A: Allocator + Copy> Decode<A> for InstanceTree<A> {
     ghost use Rattle.wenc_sections.specs.InstanceTrees.{instance_tree_view};
     ghost use Rattle.wenc_sections.specs.Instances.{Instance};
-    ghost use Rattle.wenc_sections.specs.laws.Items.{read_instance};
+    ghost use Rattle.wenc_sections.specs.reading.Items.{read_instance};
 
     ghost Value = { Instance };
 

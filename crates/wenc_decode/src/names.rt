@@ -6,7 +6,7 @@ use wenc_read::{Refusal, extern_name_of};
 
 impl<A: Allocator + Copy> Decode<A> for NameTree<A> {
     ghost use Rattle.wenc_parts.specs.Imports.{ExternName, name_tree_view};
-    ghost use Rattle.wenc_parts.specs.laws.Imports.{read_extern_name};
+    ghost use Rattle.wenc_parts.specs.reading.Imports.{read_extern_name};
 
     ghost Value = { ExternName };
 

@@ -1,17 +1,17 @@
 //! Types that components define. Those of components and instances nest, down to a depth.
 ghost use Rattle.std.specs.Prelude.{map};
 ghost use Rattle.wenc_base.specs.Readers.{times};
-ghost use Rattle.wenc_decode.specs.inside.TypeTrees.{read_imported, read_exported_type, read_deep_component_declaration, read_deep_instance_declaration};
-ghost use Rattle.wenc_decode.specs.inside.TypeTrees.{read_deep_type, read_component_type, read_instance_type};
-ghost use Rattle.wenc_decode.specs.inside.Types.{read_function_type, read_resource_type};
-ghost use Rattle.wenc_read.specs.Gives.{Gives};
+ghost use Rattle.wenc_decode.specs.reading.TypeTrees.{read_imported, read_exported_type, read_deep_component_declaration, read_deep_instance_declaration};
+ghost use Rattle.wenc_decode.specs.reading.TypeTrees.{read_deep_type, read_component_type, read_instance_type};
+ghost use Rattle.wenc_decode.specs.reading.TypeTrees.{read_function_type, read_resource_type};
+ghost use Rattle.wenc_read.specs.Gives.{Gives, GivesNested};
 ghost use Rattle.wenc_types.specs.TypeTrees.{type_view, instance_declaration_view, component_declaration_view};
 
 use crate::decode::Decode;
 use std::alloc::Allocator;
 use wenc_base::ValType;
 use wenc_parts::{AliasTree, ComponentTypeRef, NameTree, ResultList};
-use wenc_read::{Refusal, byte, u32_of};
+use wenc_read::{NestedRefusal, Refusal, byte, u32_of};
 use wenc_types::{ComponentDecl, CoreTypeTree, DefinedTree, InstanceDecl, TypeTree};
 
 /// The type of a function, behind its first byte.
@@ -53,15 +53,15 @@ pub fn type_of<A: Allocator + Copy>(
     alloc: A,
     depth_left: u32,
     bytes: &[u8],
-) -> Result<(TypeTree<A>, &[u8]), Refusal>
-    ensures { Gives (λ x. (type_view x.0, x.1.now)) result (read_deep_type depth_left bytes.now) }
+) -> Result<(TypeTree<A>, &[u8]), NestedRefusal>
+    ensures { GivesNested (λ x. (type_view x.0, x.1.now)) result (read_deep_type depth_left bytes.now) }
 {
     match byte(bytes)? {
         (0x41, rest) => component_type(alloc, depth_left, rest),
         (0x42, rest) => instance_type(alloc, depth_left, rest),
-        (0x40, rest) => function_type(alloc, false, rest),
-        (0x43, rest) => function_type(alloc, true, rest),
-        (0x3f, rest) => resource_type(alloc, rest),
+        (0x40, rest) => Ok(function_type(alloc, false, rest)?),
+        (0x43, rest) => Ok(function_type(alloc, true, rest)?),
+        (0x3f, rest) => Ok(resource_type(alloc, rest)?),
         _ => {
             let (ty, rest) = DefinedTree::decode(alloc, bytes)?;
             Ok((TypeTree::Defined(ty), rest))
@@ -75,12 +75,12 @@ fn component_type<A: Allocator + Copy>(
     alloc: A,
     depth_left: u32,
     bytes: &[u8],
-) -> Result<(TypeTree<A>, &[u8]), Refusal>
-    ensures { Gives (λ x. (type_view x.0, x.1.now)) result
+) -> Result<(TypeTree<A>, &[u8]), NestedRefusal>
+    ensures { GivesNested (λ x. (type_view x.0, x.1.now)) result
         (read_component_type depth_left bytes.now) }
 {
     if depth_left == 0 {
-        return Err(Refusal::TooDeep);
+        return Err(NestedRefusal::TooDeep);
     }
     let (count, rest) = u32_of(bytes)?;
     let (decls, rest) = component_decls(alloc, depth_left - 1, count, rest)?;
@@ -93,12 +93,12 @@ fn instance_type<A: Allocator + Copy>(
     alloc: A,
     depth_left: u32,
     bytes: &[u8],
-) -> Result<(TypeTree<A>, &[u8]), Refusal>
-    ensures { Gives (λ x. (type_view x.0, x.1.now)) result
+) -> Result<(TypeTree<A>, &[u8]), NestedRefusal>
+    ensures { GivesNested (λ x. (type_view x.0, x.1.now)) result
         (read_instance_type depth_left bytes.now) }
 {
     if depth_left == 0 {
-        return Err(Refusal::TooDeep);
+        return Err(NestedRefusal::TooDeep);
     }
     let (count, rest) = u32_of(bytes)?;
     let (decls, rest) = instance_decls(alloc, depth_left - 1, count, rest)?;
@@ -112,8 +112,8 @@ fn component_decls<A: Allocator + Copy>(
     depth_left: u32,
     count: u32,
     bytes: &[u8],
-) -> Result<(Vec<ComponentDecl<A>, A>, &[u8]), Refusal>
-    ensures { Gives (λ x. (map component_declaration_view x.0.items, x.1.now)) result
+) -> Result<(Vec<ComponentDecl<A>, A>, &[u8]), NestedRefusal>
+    ensures { GivesNested (λ x. (map component_declaration_view x.0.items, x.1.now)) result
         (times (read_deep_component_declaration (read_deep_type depth_left)) count bytes.now) }
 {
     let mut decls = Vec::new(alloc);
@@ -133,8 +133,8 @@ fn instance_decls<A: Allocator + Copy>(
     depth_left: u32,
     count: u32,
     bytes: &[u8],
-) -> Result<(Vec<InstanceDecl<A>, A>, &[u8]), Refusal>
-    ensures { Gives (λ x. (map instance_declaration_view x.0.items, x.1.now)) result
+) -> Result<(Vec<InstanceDecl<A>, A>, &[u8]), NestedRefusal>
+    ensures { GivesNested (λ x. (map instance_declaration_view x.0.items, x.1.now)) result
         (times (read_deep_instance_declaration (read_deep_type depth_left)) count bytes.now) }
 {
     let mut decls = Vec::new(alloc);
@@ -154,12 +154,12 @@ fn component_decl<A: Allocator + Copy>(
     alloc: A,
     depth_left: u32,
     bytes: &[u8],
-) -> Result<(ComponentDecl<A>, &[u8]), Refusal>
-    ensures { Gives (λ x. (component_declaration_view x.0, x.1.now)) result
+) -> Result<(ComponentDecl<A>, &[u8]), NestedRefusal>
+    ensures { GivesNested (λ x. (component_declaration_view x.0, x.1.now)) result
         (read_deep_component_declaration (read_deep_type depth_left) bytes.now) }
 {
     match byte(bytes)? {
-        (0x03, rest) => imported(alloc, rest),
+        (0x03, rest) => Ok(imported(alloc, rest)?),
         _ => {
             let (decl, rest) = instance_decl(alloc, depth_left, bytes)?;
             Ok((ComponentDecl::Decl(decl), rest))
@@ -174,8 +174,8 @@ fn instance_decl<A: Allocator + Copy>(
     alloc: A,
     depth_left: u32,
     bytes: &[u8],
-) -> Result<(InstanceDecl<A>, &[u8]), Refusal>
-    ensures { Gives (λ x. (instance_declaration_view x.0, x.1.now)) result
+) -> Result<(InstanceDecl<A>, &[u8]), NestedRefusal>
+    ensures { GivesNested (λ x. (instance_declaration_view x.0, x.1.now)) result
         (read_deep_instance_declaration (read_deep_type depth_left) bytes.now) }
 {
     match byte(bytes)? {
@@ -191,8 +191,8 @@ fn instance_decl<A: Allocator + Copy>(
             let (alias, rest) = AliasTree::decode(alloc, rest)?;
             Ok((InstanceDecl::Alias(alias), rest))
         }
-        (0x04, rest) => exported(alloc, rest),
-        _ => Err(Refusal::Malformed),
+        (0x04, rest) => Ok(exported(alloc, rest)?),
+        _ => Err(NestedRefusal::Flat(Refusal::Malformed)),
     }
 }
 

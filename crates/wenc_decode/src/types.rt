@@ -34,7 +34,7 @@ pub(crate) fn primitive_of(byte: u8) -> Option<PrimitiveValType>
 
 impl<A: Allocator + Copy> Decode<A> for ComponentValType {
     ghost use Rattle.wenc_parts.specs.declared.types.ComponentValType.{ComponentValType as Value'};
-    ghost use Rattle.wenc_parts.specs.laws.Types.{read_value_type};
+    ghost use Rattle.wenc_parts.specs.reading.Types.{read_value_type};
 
     ghost Value = { Value' };
 
@@ -59,7 +59,7 @@ impl<A: Allocator + Copy> Decode<A> for ComponentValType {
 impl<A: Allocator + Copy> Decode<A> for ResultList {
     ghost use Rattle.std.specs.Prelude.{Option as OptionOf};
     ghost use Rattle.wenc_parts.specs.declared.types.ComponentValType.{ComponentValType as ValueType};
-    ghost use Rattle.wenc_parts.specs.laws.Types.{read_result_list};
+    ghost use Rattle.wenc_parts.specs.reading.Types.{read_result_list};
 
     ghost Value = { OptionOf ValueType };
 

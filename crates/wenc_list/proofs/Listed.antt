@@ -6,14 +6,16 @@ use Rattle.wenc_base.specs.Forms.{name, AreBytes}
 use Rattle.wenc_base.specs.Number.{ReadsGroups, last, more}
 use Rattle.wenc_base.specs.Piece.{Wide, each}
 use Rattle.wenc_base.specs.laws.Forms.{bytes_pass, name_lawful}
-use Rattle.wenc_base.specs.laws.Sections.{labelled_section}
+use Rattle.wenc_base.specs.reading.Sections.{labelled_section}
 use Rattle.wenc_base.specs.Readers.{Flaw, Bad, Deep}
 use Rattle.wenc_base.specs.laws.Lawful.{same_Ok, same_Ok_pair}
 use Rattle.wenc_base.specs.laws.Sound.{Told, Agrees}
 use Rattle.wenc_builder.specs.Item.{Item, CustomItem}
 use Rattle.wenc_builder.specs.Sections.{Section, members, item_of, section_piece, sections, preamble}
 use Rattle.wenc_decode.specs.Depth.{Front, OpensTypes}
-use Rattle.wenc_read.specs.Gives.{Fails}
+use Rattle.wenc_read.specs.Gives.{Fails, FailsNested}
+use Rattle.wenc_read.specs.declared.refusal.NestedRefusal.{NestedRefusal}
+use Rattle.wenc_read.specs.declared.refusal.NestedRefusal.TheVariants.{Flat, TooDeep}
 use Rattle.wenc_read.specs.declared.refusal.Refusal.{Refusal}
 use Rattle.wenc_read.specs.declared.refusal.Refusal.TheVariants as refusals
 use Rattle.wenc_list.specs.inside.Contents.{read_content, read_frame, fault_of_frame, fault_of_content}
@@ -262,16 +264,15 @@ same_sections (s ∷ ss) (t ∷ ts) bytes a b v w =
 pub frame_fault : (refusal : Refusal) (place : ℕ) (bytes : List ℕ) → Fails refusal (read_frame bytes) → IsFaultHere place bytes (fault_of_frame refusal place)
 frame_fault refusals.Memory place bytes h = tt
 frame_fault refusals.Malformed place bytes h = no_frame place bytes h
-frame_fault refusals.TooDeep place bytes h = absurd (told_deep (Framed bytes) ⊥ (read_frame bytes) (frame_told bytes) h)
 
-pub content_fault : (refusal : Refusal) (place : ℕ) (bytes : List ℕ) (id : ℕ) (content rest : List ℕ) → AreBytes content → read_frame bytes ≡ Ok ((id, content), rest) → Fails refusal (read_content 100 id content) → IsFaultHere place bytes (fault_of_content refusal id place)
-content_fault refusals.Memory place bytes id content rest are e h = tt
-content_fault refusals.Malformed place bytes id content rest are e h =
+pub content_fault : (refusal : NestedRefusal) (place : ℕ) (bytes : List ℕ) (id : ℕ) (content rest : List ℕ) → AreBytes content → read_frame bytes ≡ Ok ((id, content), rest) → FailsNested refusal (read_content 100 id content) → IsFaultHere place bytes (fault_of_content refusal id place)
+content_fault (Flat refusals.Memory) place bytes id content rest are e h = tt
+content_fault (Flat refusals.Malformed) place bytes id content rest are e h =
     elim (eqb_tells id 0) [
       | inl t ↦ rw (t.0, cond) (no_label place bytes id content rest t.1 are e h)
       | inr t ↦ rw (t.0, cond) (no_item place bytes id content rest t.1 e h)
     ]
-content_fault refusals.TooDeep place bytes id content rest are e h = goes_deep place bytes id content rest e h
+content_fault TooDeep place bytes id content rest are e h = goes_deep place bytes id content rest e h
 
 -- ---- headers
 

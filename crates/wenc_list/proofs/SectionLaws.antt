@@ -9,11 +9,14 @@ use Rattle.std.specs.Prelude.{IsTrue}
 use Rattle.wenc_base.specs.Forms.{list, name, AreBytes}
 use Rattle.wenc_base.specs.Number.{u32}
 use Rattle.wenc_base.specs.Piece.{Form, Wide, only_where, each, raw, ◌⨾⨾◌}
-use Rattle.wenc_base.specs.laws.Forms.{read_raw, raw_sound, bytes_lawful}
+use Rattle.wenc_base.specs.laws.Forms.{raw_sound, bytes_lawful}
+use Rattle.wenc_base.specs.reading.Forms.{read_raw}
 use Rattle.wenc_base.specs.Readers.{Flaw, Bad, Deep, Reader, ◌>>=◌, times, all_read, done}
 use Rattle.wenc_base.specs.laws.Lawful.{last, whole_lawful}
-use Rattle.wenc_base.specs.laws.Sections.{read_custom_content, custom_content_lawful, custom_content_sound}
-use Rattle.wenc_base.specs.laws.Numbers.{read_u32, u32_lawful, count_lawful, u32_sound}
+use Rattle.wenc_base.specs.laws.Sections.{custom_content_lawful, custom_content_sound}
+use Rattle.wenc_base.specs.reading.Sections.{read_custom_content}
+use Rattle.wenc_base.specs.laws.Numbers.{u32_lawful, count_lawful, u32_sound}
+use Rattle.wenc_base.specs.reading.Numbers.{read_u32}
 use Rattle.wenc_base.specs.laws.Sound.{Told, Tells, weaken, deep_where, sound_tells, told_on, last_tells, nowhere_tells, tested, Fewer, Several, times_told, each_plain, all_told, whole_sound, Agrees, Finds, or_deeper, nothing_finds, then_finds, last_finds, lawful_finds}
 use Rattle.wenc_builder.specs.Item.{Item, ModuleItem, CoreInstanceItem, CoreTypeItem, ComponentItem, InstanceItem, AliasItem, TypeItem, CanonItem, StartItem, ImportItem, ExportItem, CustomItem, RawItem, collected, item}
 use Rattle.wenc_builder.specs.Sections.{Section, Run, Alone, members, collects, item_of, section_piece}
@@ -22,7 +25,8 @@ use Rattle.wenc_decode.specs.Depth.{Front, OpensTypes}
 use Rattle.wenc_decode.specs.laws.TypeTrees.{type_tells, type_finds, front_of}
 use Rattle.wenc_parts.specs.laws.Aliases.{alias_lawful, alias_sound}
 use Rattle.wenc_sections.specs.Start.{start_content}
-use Rattle.wenc_sections.specs.laws.Items.{import_lawful, import_sound, inline_export_lawful, inline_export_sound, core_instance_lawful, core_instance_sound, instance_lawful, instance_sound, read_start_content, start_content_lawful, start_content_sound}
+use Rattle.wenc_sections.specs.laws.Items.{import_lawful, import_sound, inline_export_lawful, inline_export_sound, core_instance_lawful, core_instance_sound, instance_lawful, instance_sound, start_content_lawful, start_content_sound}
+use Rattle.wenc_sections.specs.reading.Items.{read_start_content}
 use Rattle.wenc_types.specs.laws.CoreTypes.{core_type_lawful, core_type_sound}
 use Rattle.wenc_list.specs.inside.Contents.{content_rows, content_row_of, read_content_item, read_items, single, read_content, read_frame}
 use Rattle.wenc_list.specs.Items.{alone, item_section}

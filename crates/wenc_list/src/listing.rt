@@ -13,7 +13,7 @@ use crate::fault::ListFault;
 use crate::item::ItemTree;
 use crate::sections::{are_bytes, content, frame};
 use std::alloc::{Allocator, Global};
-use wenc_read::Refusal;
+use wenc_read::{NestedRefusal, Refusal};
 use wenc_sections::Component;
 
 /// A section that was read (component model, binary format, "Component Definitions").
@@ -55,19 +55,19 @@ fn frame_fault(refusal: Refusal, place: usize) -> ListFault
 {
     match refusal {
         Refusal::Memory => ListFault::Memory,
-        Refusal::Malformed | Refusal::TooDeep => ListFault::BadSection { place },
+        Refusal::Malformed => ListFault::BadSection { place },
     }
 }
 
 /// Why the content of a section with this id isn't read. Of a custom section only the name can be malformed.
-fn content_fault(refusal: Refusal, id: u8, place: usize) -> ListFault
+fn content_fault(refusal: NestedRefusal, id: u8, place: usize) -> ListFault
     ensures { result ≡ fault_of_content refusal id place }
 {
     match refusal {
-        Refusal::Memory => ListFault::Memory,
-        Refusal::Malformed if id == 0 => ListFault::BadSection { place },
-        Refusal::Malformed => ListFault::BadItem { place },
-        Refusal::TooDeep => ListFault::TooDeep { place },
+        NestedRefusal::Flat(Refusal::Memory) => ListFault::Memory,
+        NestedRefusal::Flat(Refusal::Malformed) if id == 0 => ListFault::BadSection { place },
+        NestedRefusal::Flat(Refusal::Malformed) => ListFault::BadItem { place },
+        NestedRefusal::TooDeep => ListFault::TooDeep { place },
     }
 }
 

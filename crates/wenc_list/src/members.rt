@@ -2,7 +2,7 @@
 ghost use Rattle.std.specs.Prelude.{map};
 ghost use Rattle.wenc_builder.specs.Item.{Item};
 ghost use Rattle.wenc_base.specs.Readers.{Reader, times};
-ghost use Rattle.wenc_read.specs.Gives.{Gives};
+ghost use Rattle.wenc_read.specs.Gives.{GivesNested};
 ghost use Rattle.wenc_list.specs.inside.Contents.{read_content_item};
 ghost use Rattle.wenc_list.specs.Items.{item_view};
 
@@ -11,7 +11,7 @@ use std::alloc::Allocator;
 use wenc_canon::CanonTree;
 use wenc_decode::{Decode, room_for, type_of};
 use wenc_parts::{AliasTree, ComponentExportKind, ComponentTypeRef, NameTree};
-use wenc_read::Refusal;
+use wenc_read::{NestedRefusal, Refusal};
 use wenc_sections::{CoreInstanceTree, InstanceTree};
 use wenc_types::{CoreTypeTree, TypeTree};
 
@@ -24,8 +24,8 @@ trait Member<A: Allocator + Copy> {
     ghost read: { Reader Item };
 
     /// The item that begins the bytes.
-    fn item<'a>(alloc: A, bytes: &'a [u8]) -> Result<(ItemTree<A>, &'a [u8]), Refusal>
-        ensures { Gives (λ x. (item_view x.0, x.1.now)) result (read bytes.now) };
+    fn item<'a>(alloc: A, bytes: &'a [u8]) -> Result<(ItemTree<A>, &'a [u8]), NestedRefusal>
+        ensures { GivesNested (λ x. (item_view x.0, x.1.now)) result (read bytes.now) };
 }
 
 impl<A: Allocator + Copy> Member<A> for CoreInstanceTree<A> {
@@ -34,7 +34,7 @@ impl<A: Allocator + Copy> Member<A> for CoreInstanceTree<A> {
     ghost read = { read_core_instance_item };
 
     #[inline(always)]
-    fn item<'a>(alloc: A, bytes: &'a [u8]) -> Result<(ItemTree<A>, &'a [u8]), Refusal> {
+    fn item<'a>(alloc: A, bytes: &'a [u8]) -> Result<(ItemTree<A>, &'a [u8]), NestedRefusal> {
         let (instance, rest) = CoreInstanceTree::decode(alloc, bytes)?;
         Ok((ItemTree::CoreInstance(instance), rest))
     }
@@ -46,7 +46,7 @@ impl<A: Allocator + Copy> Member<A> for CoreTypeTree<A> {
     ghost read = { read_core_type_item };
 
     #[inline(always)]
-    fn item<'a>(alloc: A, bytes: &'a [u8]) -> Result<(ItemTree<A>, &'a [u8]), Refusal> {
+    fn item<'a>(alloc: A, bytes: &'a [u8]) -> Result<(ItemTree<A>, &'a [u8]), NestedRefusal> {
         let (ty, rest) = CoreTypeTree::decode(alloc, bytes)?;
         Ok((ItemTree::CoreType(Box::new(alloc, ty)?), rest))
     }
@@ -58,7 +58,7 @@ impl<A: Allocator + Copy> Member<A> for InstanceTree<A> {
     ghost read = { read_instance_item };
 
     #[inline(always)]
-    fn item<'a>(alloc: A, bytes: &'a [u8]) -> Result<(ItemTree<A>, &'a [u8]), Refusal> {
+    fn item<'a>(alloc: A, bytes: &'a [u8]) -> Result<(ItemTree<A>, &'a [u8]), NestedRefusal> {
         let (instance, rest) = InstanceTree::decode(alloc, bytes)?;
         Ok((ItemTree::Instance(instance), rest))
     }
@@ -70,7 +70,7 @@ impl<A: Allocator + Copy> Member<A> for AliasTree<A> {
     ghost read = { read_alias_item };
 
     #[inline(always)]
-    fn item<'a>(alloc: A, bytes: &'a [u8]) -> Result<(ItemTree<A>, &'a [u8]), Refusal> {
+    fn item<'a>(alloc: A, bytes: &'a [u8]) -> Result<(ItemTree<A>, &'a [u8]), NestedRefusal> {
         let (alias, rest) = AliasTree::decode(alloc, bytes)?;
         Ok((ItemTree::Alias(alias), rest))
     }
@@ -82,7 +82,7 @@ impl<A: Allocator + Copy> Member<A> for TypeTree<A> {
     ghost read = { read_type_item 100 };
 
     #[inline(always)]
-    fn item<'a>(alloc: A, bytes: &'a [u8]) -> Result<(ItemTree<A>, &'a [u8]), Refusal> {
+    fn item<'a>(alloc: A, bytes: &'a [u8]) -> Result<(ItemTree<A>, &'a [u8]), NestedRefusal> {
         let (ty, rest) = type_of(alloc, DEPTH, bytes)?;
         Ok((ItemTree::Type(ty), rest))
     }
@@ -94,7 +94,7 @@ impl<A: Allocator + Copy> Member<A> for CanonTree<A> {
     ghost read = { read_canonical_item };
 
     #[inline(always)]
-    fn item<'a>(alloc: A, bytes: &'a [u8]) -> Result<(ItemTree<A>, &'a [u8]), Refusal> {
+    fn item<'a>(alloc: A, bytes: &'a [u8]) -> Result<(ItemTree<A>, &'a [u8]), NestedRefusal> {
         let (canon, rest) = CanonTree::decode(alloc, bytes)?;
         Ok((ItemTree::Canon(canon), rest))
     }
@@ -109,7 +109,7 @@ impl<A: Allocator + Copy> Member<A> for Imports {
     ghost read = { read_import_item };
 
     #[inline(always)]
-    fn item<'a>(alloc: A, bytes: &'a [u8]) -> Result<(ItemTree<A>, &'a [u8]), Refusal> {
+    fn item<'a>(alloc: A, bytes: &'a [u8]) -> Result<(ItemTree<A>, &'a [u8]), NestedRefusal> {
         let (name, rest) = NameTree::decode(alloc, bytes)?;
         let (ty, rest) = ComponentTypeRef::decode(alloc, rest)?;
         Ok((ItemTree::Import { name, ty }, rest))
@@ -125,7 +125,7 @@ impl<A: Allocator + Copy> Member<A> for Exports {
     ghost read = { read_export_item };
 
     #[inline(always)]
-    fn item<'a>(alloc: A, bytes: &'a [u8]) -> Result<(ItemTree<A>, &'a [u8]), Refusal> {
+    fn item<'a>(alloc: A, bytes: &'a [u8]) -> Result<(ItemTree<A>, &'a [u8]), NestedRefusal> {
         let (name, rest) = NameTree::decode(alloc, bytes)?;
         let (kind, rest) = ComponentExportKind::decode(alloc, rest)?;
         let (index, rest) = u32::decode(alloc, rest)?;
@@ -148,8 +148,8 @@ impl<A: Allocator + Copy> Member<A> for Nothing {
 
     ghost read = { nowhere };
 
-    fn item<'a>(_alloc: A, _bytes: &'a [u8]) -> Result<(ItemTree<A>, &'a [u8]), Refusal> {
-        Err(Refusal::Malformed)
+    fn item<'a>(_alloc: A, _bytes: &'a [u8]) -> Result<(ItemTree<A>, &'a [u8]), NestedRefusal> {
+        Err(NestedRefusal::Flat(Refusal::Malformed))
     }
 }
 
@@ -158,8 +158,8 @@ fn members<'a, A: Allocator + Copy, T: Member<A>>(
     alloc: A,
     count: u32,
     bytes: &'a [u8],
-) -> Result<(Vec<ItemTree<A>, A>, &'a [u8]), Refusal>
-    ensures { Gives (λ x. (map item_view x.0.items, x.1.now)) result
+) -> Result<(Vec<ItemTree<A>, A>, &'a [u8]), NestedRefusal>
+    ensures { GivesNested (λ x. (map item_view x.0.items, x.1.now)) result
         (times T.read count bytes.now) }
 {
     let mut items = Vec::with_capacity(alloc, room_for(count, bytes))?;
@@ -179,8 +179,8 @@ pub(crate) fn collected<A: Allocator + Copy>(
     id: u8,
     count: u32,
     bytes: &[u8],
-) -> Result<(Vec<ItemTree<A>, A>, &[u8]), Refusal>
-    ensures { Gives (λ x. (map item_view x.0.items, x.1.now)) result
+) -> Result<(Vec<ItemTree<A>, A>, &[u8]), NestedRefusal>
+    ensures { GivesNested (λ x. (map item_view x.0.items, x.1.now)) result
         (times (read_content_item 100 id) count bytes.now) }
 {
     match id {

@@ -3,20 +3,20 @@ ghost use Rattle.std.specs.Prelude.{◌≡◌, ◌∷◌, [], map, IfOk, IfErr};
 ghost use Rattle.std.specs.String.{string_bytes};
 ghost use Rattle.wenc_base.specs.Forms.{AreBytes};
 ghost use Rattle.wenc_base.specs.Readers.{done};
-ghost use Rattle.wenc_base.specs.laws.Forms.{read_raw};
-ghost use Rattle.wenc_base.specs.laws.Sections.{labelled_section, read_custom_content};
+ghost use Rattle.wenc_base.specs.reading.Forms.{read_raw};
+ghost use Rattle.wenc_base.specs.reading.Sections.{labelled_section, read_custom_content};
 ghost use Rattle.wenc_list.specs.inside.Contents.{read_items, read_content, read_frame};
 ghost use Rattle.wenc_list.specs.Items.{item_view};
-ghost use Rattle.wenc_read.specs.Gives.{Gives};
+ghost use Rattle.wenc_read.specs.Gives.{Gives, GivesNested};
 ghost use Rattle.wenc_read.specs.declared.refusal.Refusal.TheVariants.{Memory};
 ghost use Rattle.wenc_sections.specs.Start.{started};
-ghost use Rattle.wenc_sections.specs.laws.Items.{read_start_content};
+ghost use Rattle.wenc_sections.specs.reading.Items.{read_start_content};
 
 use crate::item::ItemTree;
 use crate::members::collected;
 use std::alloc::Allocator;
 use wenc_decode::Decode;
-use wenc_read::{Refusal, byte, name_of, u32_of};
+use wenc_read::{NestedRefusal, Refusal, byte, name_of, u32_of};
 
 /// A list of bytes has only bytes. The call does nothing.
 pub(crate) fn are_bytes(bytes: &[u8])
@@ -61,15 +61,15 @@ fn items<A: Allocator + Copy>(
     alloc: A,
     id: u8,
     content: &[u8],
-) -> Result<Vec<ItemTree<A>, A>, Refusal>
-    ensures { Gives (λ v. map item_view v.items) result (read_items 100 id content.now) }
+) -> Result<Vec<ItemTree<A>, A>, NestedRefusal>
+    ensures { GivesNested (λ v. map item_view v.items) result (read_items 100 id content.now) }
 {
     let (count, rest) = u32_of(content)?;
     let (items, rest) = collected(alloc, id, count, rest)?;
     if rest.is_empty() {
         Ok(items)
     } else {
-        Err(Refusal::Malformed)
+        Err(NestedRefusal::Flat(Refusal::Malformed))
     }
 }
 
@@ -141,14 +141,14 @@ pub(crate) fn content<A: Allocator + Copy>(
     alloc: A,
     id: u8,
     content: &[u8],
-) -> Result<Vec<ItemTree<A>, A>, Refusal>
-    ensures { Gives (λ v. map item_view v.items) result (read_content 100 id content.now) }
+) -> Result<Vec<ItemTree<A>, A>, NestedRefusal>
+    ensures { GivesNested (λ v. map item_view v.items) result (read_content 100 id content.now) }
 {
     match id {
-        0 => custom_alone(alloc, content),
-        1 => module_alone(alloc, content),
-        4 => component_alone(alloc, content),
-        9 => start_alone(alloc, content),
+        0 => Ok(custom_alone(alloc, content)?),
+        1 => Ok(module_alone(alloc, content)?),
+        4 => Ok(component_alone(alloc, content)?),
+        9 => Ok(start_alone(alloc, content)?),
         _ => items(alloc, id, content),
     }
 }

@@ -4,4 +4,5 @@ pub mod Exports
 pub mod Imports
 pub mod Instances
 pub mod Aliases
+pub mod reading
 pub mod laws

@@ -40,7 +40,8 @@ impl Encode for ComponentOuterAliasKind {
 
 impl Delimited for ComponentOuterAliasKind {
     ghost use Rattle.wenc_parts.specs.Aliases.{outer_kind};
-    ghost use Rattle.wenc_parts.specs.laws.Aliases.{read_outer_kind, outer_kind_lawful};
+    ghost use Rattle.wenc_parts.specs.laws.Aliases.{outer_kind_lawful};
+    ghost use Rattle.wenc_parts.specs.reading.Aliases.{read_outer_kind};
     ghost use Rattle.wenc_parts.specs.declared.aliases.ComponentOuterAliasKind.{ComponentOuterAliasKind as Seen'};
 
     ghost Seen = { Seen' };
@@ -120,7 +121,8 @@ impl<'a> Encode for Alias<'a> {
 
 impl<'a> Delimited for Alias<'a> {
     ghost use Rattle.wenc_parts.specs.Aliases.{AliasOf, alias, alias_view};
-    ghost use Rattle.wenc_parts.specs.laws.Aliases.{read_alias, alias_lawful};
+    ghost use Rattle.wenc_parts.specs.laws.Aliases.{alias_lawful};
+    ghost use Rattle.wenc_parts.specs.reading.Aliases.{read_alias};
 
     ghost Seen = { AliasOf };
 

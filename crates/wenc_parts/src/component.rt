@@ -140,7 +140,8 @@ impl Encode for ComponentSectionId {
 
 impl Delimited for ComponentSectionId {
     ghost use Rattle.wenc_parts.specs.SectionIds.{section_id};
-    ghost use Rattle.wenc_parts.specs.laws.SectionIds.{read_section, section_lawful};
+    ghost use Rattle.wenc_parts.specs.laws.SectionIds.{section_lawful};
+    ghost use Rattle.wenc_parts.specs.reading.SectionIds.{read_section};
     ghost use Rattle.wenc_parts.specs.declared.component.ComponentSectionId.{ComponentSectionId as Seen'};
 
     ghost Seen = { Seen' };

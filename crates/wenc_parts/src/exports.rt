@@ -46,7 +46,8 @@ impl Encode for ComponentExportKind {
 
 impl Delimited for ComponentExportKind {
     ghost use Rattle.wenc_parts.specs.Exports.{component_export_kind};
-    ghost use Rattle.wenc_parts.specs.laws.Exports.{read_component_export_kind, component_export_kind_lawful};
+    ghost use Rattle.wenc_parts.specs.laws.Exports.{component_export_kind_lawful};
+    ghost use Rattle.wenc_parts.specs.reading.Exports.{read_component_export_kind};
     ghost use Rattle.wenc_parts.specs.declared.exports.ComponentExportKind.{ComponentExportKind as Seen'};
 
     ghost Seen = { Seen' };

@@ -37,7 +37,8 @@ impl Encode for TypeBounds {
 
 impl Delimited for TypeBounds {
     ghost use Rattle.wenc_parts.specs.Imports.{type_bounds};
-    ghost use Rattle.wenc_parts.specs.laws.Imports.{read_type_bounds, type_bounds_lawful};
+    ghost use Rattle.wenc_parts.specs.laws.Imports.{type_bounds_lawful};
+    ghost use Rattle.wenc_parts.specs.reading.Imports.{read_type_bounds};
     ghost use Rattle.wenc_parts.specs.declared.imports.TypeBounds.{TypeBounds as Seen'};
 
     ghost Seen = { Seen' };
@@ -115,7 +116,8 @@ impl Encode for ComponentTypeRef {
 
 impl Delimited for ComponentTypeRef {
     ghost use Rattle.wenc_parts.specs.Imports.{type_reference};
-    ghost use Rattle.wenc_parts.specs.laws.Imports.{read_type_reference, type_reference_lawful};
+    ghost use Rattle.wenc_parts.specs.laws.Imports.{type_reference_lawful};
+    ghost use Rattle.wenc_parts.specs.reading.Imports.{read_type_reference};
     ghost use Rattle.wenc_parts.specs.declared.imports.ComponentTypeRef.{ComponentTypeRef as Seen'};
 
     ghost Seen = { Seen' };
@@ -201,7 +203,8 @@ impl<'a, A: Allocator> Encode for ComponentExternName<'a, A> {
 
 impl<'a, A: Allocator> Delimited for ComponentExternName<'a, A> {
     ghost use Rattle.wenc_parts.specs.Imports.{ExternName, extern_name, extern_name_view};
-    ghost use Rattle.wenc_parts.specs.laws.Imports.{read_extern_name, extern_name_lawful};
+    ghost use Rattle.wenc_parts.specs.laws.Imports.{extern_name_lawful};
+    ghost use Rattle.wenc_parts.specs.reading.Imports.{read_extern_name};
 
     ghost Seen = { ExternName };
 

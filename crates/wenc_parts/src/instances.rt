@@ -27,7 +27,8 @@ impl Encode for ModuleArg {
 
 impl Delimited for ModuleArg {
     ghost use Rattle.wenc_parts.specs.Instances.{module_argument};
-    ghost use Rattle.wenc_parts.specs.laws.Instances.{read_module_argument, module_argument_lawful};
+    ghost use Rattle.wenc_parts.specs.laws.Instances.{module_argument_lawful};
+    ghost use Rattle.wenc_parts.specs.reading.Instances.{read_module_argument};
     ghost use Rattle.wenc_parts.specs.declared.instances.ModuleArg.{ModuleArg as Seen'};
 
     ghost Seen = { Seen' };

@@ -76,7 +76,8 @@ impl Encode for PrimitiveValType {
 
 impl Delimited for PrimitiveValType {
     ghost use Rattle.wenc_parts.specs.Types.{primitive};
-    ghost use Rattle.wenc_parts.specs.laws.Types.{read_primitive, primitive_lawful};
+    ghost use Rattle.wenc_parts.specs.laws.Types.{primitive_lawful};
+    ghost use Rattle.wenc_parts.specs.reading.Types.{read_primitive};
     ghost use Rattle.wenc_parts.specs.declared.types.PrimitiveValType.{PrimitiveValType as Seen'};
 
     ghost Seen = { Seen' };
@@ -118,7 +119,8 @@ impl Encode for ComponentValType {
 
 impl Delimited for ComponentValType {
     ghost use Rattle.wenc_parts.specs.Types.{value_type};
-    ghost use Rattle.wenc_parts.specs.laws.Types.{read_value_type, value_type_lawful};
+    ghost use Rattle.wenc_parts.specs.laws.Types.{value_type_lawful};
+    ghost use Rattle.wenc_parts.specs.reading.Types.{read_value_type};
     ghost use Rattle.wenc_parts.specs.declared.types.ComponentValType.{ComponentValType as Seen'};
 
     ghost Seen = { Seen' };
@@ -155,7 +157,8 @@ impl Encode for ResultList {
 
 impl Delimited for ResultList {
     ghost use Rattle.wenc_parts.specs.Types.{result_list};
-    ghost use Rattle.wenc_parts.specs.laws.Types.{read_result_list, result_list_lawful};
+    ghost use Rattle.wenc_parts.specs.laws.Types.{result_list_lawful};
+    ghost use Rattle.wenc_parts.specs.reading.Types.{read_result_list};
     ghost use Rattle.std.specs.Prelude.{Option as Optional};
     ghost use Rattle.wenc_parts.specs.declared.types.ComponentValType.{ComponentValType as ValueType};
 

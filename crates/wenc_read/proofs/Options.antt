@@ -3,7 +3,8 @@ use Rattle.std.proofs.Common.{◌≡◌, ◌≢◌, ◌≤◌, ◌<◌, ◌+◌,
 use Rattle.wenc_base.specs.Readers.{Flaw, Bad, Deep, ◌>>=◌, go_on, give, times}
 use Rattle.wenc_base.specs.laws.Sound.{Told, Fewer, Several, times_told}
 use Rattle.wenc_parts.specs.Imports.{ExternName, NameOption, name_option}
-use Rattle.wenc_parts.specs.laws.Imports.{read_name_option, name_option_sound, with_option, with_options, option_number, ascend_from, given_options}
+use Rattle.wenc_parts.specs.laws.Imports.{name_option_sound}
+use Rattle.wenc_parts.specs.reading.Imports.{read_name_option, with_option, with_options, option_number, ascend_from, given_options}
 use Rattle.wenc_read.specs.inside.Names.{ascending, read_options}
 
 abbrev Found : Type 0

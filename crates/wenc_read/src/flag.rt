@@ -1,5 +1,5 @@
 //! Flags.
-ghost use Rattle.wenc_base.specs.laws.Forms.{read_flag};
+ghost use Rattle.wenc_base.specs.reading.Forms.{read_flag};
 ghost use Rattle.wenc_read.specs.Gives.{Gives};
 
 use crate::number::byte;

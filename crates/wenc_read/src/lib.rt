@@ -13,5 +13,5 @@ pub mod text;
 pub use flag::flag_of;
 pub use names::extern_name_of;
 pub use number::{byte, index_of, u32_of, u64_of};
-pub use refusal::Refusal;
+pub use refusal::{NestedRefusal, Refusal};
 pub use text::name_of;

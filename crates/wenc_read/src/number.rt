@@ -1,6 +1,6 @@
 //! Numbers.
 ghost use Rattle.std.specs.Prelude.{◌≡◌, ◌^◌, ◌≤◌, ◌<◌, ◌+◌, ◌-◌, ◌*◌};
-ghost use Rattle.wenc_base.specs.laws.Numbers.{read_groups, read_u32, read_u64, read_index};
+ghost use Rattle.wenc_base.specs.reading.Numbers.{read_groups, read_u32, read_u64, read_index};
 ghost use Rattle.wenc_base.specs.Readers.{read_byte};
 ghost use Rattle.wenc_read.specs.Gives.{Gives};
 
@@ -18,7 +18,7 @@ pub fn byte(bytes: &[u8]) -> Result<(u8, &[u8]), Refusal>
 }
 
 /// A number of 32 bits, whose last byte is below `top`. At most `room` bytes come before that.
-#[tactic(auto, unfolding(wenc_base::specs::laws::Numbers::read_groups))]
+#[tactic(auto, unfolding(wenc_base::specs::reading::Numbers::read_groups))]
 fn short_groups(top: u8, room: u8, bytes: &[u8]) -> Result<(u32, &[u8]), Refusal>
     requires { top ≤ 128 }
     ensures { Gives (λ x. (x.0, x.1.now)) result (read_groups top (2 ^ 32) room bytes.now) }
@@ -38,7 +38,7 @@ fn short_groups(top: u8, room: u8, bytes: &[u8]) -> Result<(u32, &[u8]), Refusal
 }
 
 /// The same of 64 bits.
-#[tactic(auto, unfolding(wenc_base::specs::laws::Numbers::read_groups))]
+#[tactic(auto, unfolding(wenc_base::specs::reading::Numbers::read_groups))]
 fn long_groups(room: u8, bytes: &[u8]) -> Result<(u64, &[u8]), Refusal>
     ensures { Gives (λ x. (x.0, x.1.now)) result (read_groups 128 (2 ^ 64) room bytes.now) }
 {
@@ -66,7 +66,7 @@ fn joined(low: u8, high: u32) -> u32
 }
 
 /// A number of 32 bits in at most 5 bytes, whose last byte is below `top`. Most have three at most.
-#[tactic(auto, unfolding(wenc_base::specs::laws::Numbers::read_groups))]
+#[tactic(auto, unfolding(wenc_base::specs::reading::Numbers::read_groups))]
 #[inline(always)]
 fn short_number(top: u8, bytes: &[u8]) -> Result<(u32, &[u8]), Refusal>
     requires { top ≤ 128 }

@@ -1,5 +1,6 @@
 //! Why nothing is read.
 ghost use Rattle.std.specs.Prelude.{◌≡◌};
+ghost use Rattle.wenc_read.specs.declared.refusal.NestedRefusal.TheVariants.{Flat};
 ghost use Rattle.wenc_read.specs.declared.refusal.Refusal.TheVariants.{Memory};
 
 use std::alloc::{AllocError, AllocFailed};
@@ -11,8 +12,6 @@ pub enum Refusal {
     Memory,
     /// The bytes begin with no value.
     Malformed,
-    /// A type in them nests too deep.
-    TooDeep,
 }
 
 impl From<AllocError> for Refusal {
@@ -28,5 +27,38 @@ impl<T: Drop> From<AllocFailed<T>> for Refusal {
 
     fn from(_error: AllocFailed<T>) -> Refusal {
         Refusal::Memory
+    }
+}
+
+/// Why nothing was read of what may nest.
+#[derive(Clone, Copy, Debug, PartialEq, Eq)]
+pub enum NestedRefusal {
+    /// As of what doesn't nest.
+    Flat(Refusal),
+    /// A type in the bytes nests too deep.
+    TooDeep,
+}
+
+impl From<Refusal> for NestedRefusal {
+    ghost from_gives = { λ refusal e. e ≡ Flat refusal };
+
+    fn from(refusal: Refusal) -> NestedRefusal {
+        NestedRefusal::Flat(refusal)
+    }
+}
+
+impl From<AllocError> for NestedRefusal {
+    ghost from_gives = { λ _ e. e ≡ Flat Memory };
+
+    fn from(_error: AllocError) -> NestedRefusal {
+        NestedRefusal::Flat(Refusal::Memory)
+    }
+}
+
+impl<T: Drop> From<AllocFailed<T>> for NestedRefusal {
+    ghost from_gives = { λ _ e. e ≡ Flat Memory };
+
+    fn from(_error: AllocFailed<T>) -> NestedRefusal {
+        NestedRefusal::Flat(Refusal::Memory)
     }
 }

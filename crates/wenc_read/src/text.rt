@@ -1,6 +1,6 @@
 //! Texts.
 ghost use Rattle.std.specs.String.{string_bytes};
-ghost use Rattle.wenc_base.specs.laws.Forms.{read_name};
+ghost use Rattle.wenc_base.specs.reading.Forms.{read_name};
 ghost use Rattle.wenc_read.specs.Gives.{Gives};
 
 use crate::number::u32_of;
@@ -9,7 +9,7 @@ use std::alloc::Allocator;
 
 /// A text behind its length in bytes (WebAssembly 3.0, binary format, "Names"). It is refused where its length is not there,
 /// is more than the bytes that are left, or bounds no UTF-8.
-#[tactic(auto, unfolding(wenc_base::specs::laws::Forms::text_at))]
+#[tactic(auto, unfolding(wenc_base::specs::reading::Forms::text_at))]
 #[inline(always)]
 pub fn name_of<A: Allocator>(alloc: A, bytes: &[u8]) -> Result<(String<A>, &[u8]), Refusal>
     ensures { Gives (λ x. (string_bytes x.0, x.1.now)) result (read_name bytes.now) }

@@ -15,7 +15,7 @@ use Rattle.wenc_sections.specs.Exports.{export_item}
 use Rattle.wenc_sections.specs.Imports.{import_item}
 use Rattle.wenc_sections.specs.Instances.{inline_export}
 use Rattle.wenc_sections.specs.Start.{started, start}
-use Rattle.wenc_sections.specs.laws.Items.{imported, ascribed}
+use Rattle.wenc_sections.specs.reading.Items.{imported, ascribed}
 use Rattle.wenc_types.specs.ComponentTypes.{def_type, ResourceType}
 
 pub import_serves : (name : ExternName) (what : ComponentTypeRef) → Serves (in_order (extern_name name) (type_reference what)) (import_item (imported name what))

@@ -5,4 +5,5 @@ pub mod Instances
 pub mod InstanceTrees
 pub mod Start
 pub mod Names
+pub mod reading
 pub mod laws

@@ -53,7 +53,8 @@ impl<A: Allocator> Encode for CoreInstanceTree<A> {
 impl<A: Allocator> Delimited for CoreInstanceTree<A> {
     ghost use Rattle.wenc_sections.specs.InstanceTrees.{core_instance_tree_view};
     ghost use Rattle.wenc_sections.specs.Instances.{CoreInstance, core_instance};
-    ghost use Rattle.wenc_sections.specs.laws.Items.{read_core_instance, core_instance_lawful};
+    ghost use Rattle.wenc_sections.specs.laws.Items.{core_instance_lawful};
+    ghost use Rattle.wenc_sections.specs.reading.Items.{read_core_instance};
 
     ghost Seen = { CoreInstance };
 
@@ -108,7 +109,8 @@ impl<A: Allocator> Encode for InstanceTree<A> {
 impl<A: Allocator> Delimited for InstanceTree<A> {
     ghost use Rattle.wenc_sections.specs.InstanceTrees.{instance_tree_view};
     ghost use Rattle.wenc_sections.specs.Instances.{Instance, instance};
-    ghost use Rattle.wenc_sections.specs.laws.Items.{read_instance, instance_lawful};
+    ghost use Rattle.wenc_sections.specs.laws.Items.{instance_lawful};
+    ghost use Rattle.wenc_sections.specs.reading.Items.{read_instance};
 
     ghost Seen = { Instance };
 

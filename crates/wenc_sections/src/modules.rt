@@ -27,7 +27,8 @@ impl<'a, A: Allocator> Encode for ModuleSection<'a, A> {
 impl<'a, A: Allocator> Delimited for ModuleSection<'a, A> {
     ghost use Rattle.std.specs.Prelude.{List, ℕ};
     ghost use Rattle.wenc_base.specs.Forms.{byte_list};
-    ghost use Rattle.wenc_base.specs.laws.Forms.{read_byte_list, byte_list_lawful};
+    ghost use Rattle.wenc_base.specs.laws.Forms.{byte_list_lawful};
+    ghost use Rattle.wenc_base.specs.reading.Forms.{read_byte_list};
 
     ghost Seen = { List ℕ };
 

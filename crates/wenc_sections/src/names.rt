@@ -313,7 +313,8 @@ impl<A: Allocator> Encode for ComponentNameSection<A> {
 impl<A: Allocator> Delimited for ComponentNameSection<A> {
     ghost use Rattle.std.specs.Prelude.{List, ℕ};
     ghost use Rattle.wenc_sections.specs.Names.{names_section};
-    ghost use Rattle.wenc_sections.specs.laws.Names.{read_names_section, names_section_lawful};
+    ghost use Rattle.wenc_sections.specs.laws.Names.{names_section_lawful};
+    ghost use Rattle.wenc_sections.specs.reading.Names.{read_names_section};
 
     ghost Seen = { List ℕ };
 

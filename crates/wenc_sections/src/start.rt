@@ -40,7 +40,8 @@ impl<A: AsSlice<u32>> Encode for ComponentStartSection<A> {
 
 impl<A: AsSlice<u32>> Delimited for ComponentStartSection<A> {
     ghost use Rattle.wenc_sections.specs.Start.{Start, started, start};
-    ghost use Rattle.wenc_sections.specs.laws.Items.{read_start, start_lawful};
+    ghost use Rattle.wenc_sections.specs.laws.Items.{start_lawful};
+    ghost use Rattle.wenc_sections.specs.reading.Items.{read_start};
 
     ghost Seen = { Start };
 

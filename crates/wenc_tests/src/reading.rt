@@ -10,7 +10,7 @@ use wasm_encoder::{
     TypeBounds, TypeTree, ValType,
 };
 use wenc_decode::{Decode, type_of};
-use wenc_read::{Refusal, extern_name_of, name_of};
+use wenc_read::{NestedRefusal, Refusal, extern_name_of, name_of};
 
 /// A name, and four bytes.
 const NAMED: &[u8] = b"\x04test\x0b\x16\x21\x2c";
@@ -115,7 +115,7 @@ fn is_instance(ty: &TypeTree) -> bool {
 
 #[test]
 fn instance_types(rt: HostRuntime) {
-    assert!(rt; type_of(rt.alloc(), 0, INSTANCE).err() == Some(Refusal::TooDeep));
+    assert!(rt; type_of(rt.alloc(), 0, INSTANCE).err() == Some(NestedRefusal::TooDeep));
     let (ty, rest) = ok(&rt, type_of(rt.alloc(), 1, INSTANCE));
     assert!(rt; is_instance(&ty) && rest == [0xee].as_slice());
 }
@@ -217,13 +217,14 @@ enum Reading {
     Alias,
 }
 
-fn refusal(reading: &Reading, heap: &Refusing) -> Option<Refusal> {
-    match reading {
+fn refusal(reading: &Reading, heap: &Refusing) -> Option<NestedRefusal> {
+    let flat = match reading {
         Reading::Name => name_of(heap, NAMED).err(),
         Reading::NameWithOptions => extern_name_of(heap, OPTIONS).err(),
-        Reading::Type => type_of(heap, 1, INSTANCE).err(),
+        Reading::Type => return type_of(heap, 1, INSTANCE).err(),
         Reading::Alias => AliasTree::decode(heap, ALIASES).err(),
-    }
+    };
+    flat.map(|refusal| NestedRefusal::Flat(refusal))
 }
 
 /// Each request is refused in turn, of which there is at least one.
@@ -235,7 +236,7 @@ fn sweep(rt: &impl Abort, heap: &Refusing, reading: &Reading) {
             assert!(rt; n > 1 && refusal.is_none());
             return;
         }
-        assert!(rt; refusal == Some(Refusal::Memory) && heap.requests() == n);
+        assert!(rt; refusal == Some(NestedRefusal::Flat(Refusal::Memory)) && heap.requests() == n);
     }
     panic!(rt; "there is no end")
 }

@@ -6,4 +6,5 @@ pub mod FuncStages
 pub mod CoreTypeTrees
 pub mod TypeTrees
 pub mod inside
+pub mod reading
 pub mod laws

@@ -50,7 +50,8 @@ impl<A: Allocator> Encode for CoreTypeTree<A> {
 impl<A: Allocator> Delimited for CoreTypeTree<A> {
     ghost use Rattle.wenc_types.specs.CoreTypes.{CoreType, core_type};
     ghost use Rattle.wenc_types.specs.CoreTypeTrees.{core_type_view};
-    ghost use Rattle.wenc_types.specs.laws.CoreTypes.{read_core_type, core_type_lawful};
+    ghost use Rattle.wenc_types.specs.laws.CoreTypes.{core_type_lawful};
+    ghost use Rattle.wenc_types.specs.reading.CoreTypes.{read_core_type};
 
     ghost Seen = { CoreType };
 
@@ -132,7 +133,8 @@ impl<A: Allocator> Encode for ModuleDecl<A> {
 impl<A: Allocator> Delimited for ModuleDecl<A> {
     ghost use Rattle.wenc_types.specs.CoreTypes.{ModuleDeclaration, module_declaration};
     ghost use Rattle.wenc_types.specs.CoreTypeTrees.{module_declaration_view};
-    ghost use Rattle.wenc_types.specs.laws.CoreTypes.{read_module_declaration, module_declaration_lawful};
+    ghost use Rattle.wenc_types.specs.laws.CoreTypes.{module_declaration_lawful};
+    ghost use Rattle.wenc_types.specs.reading.CoreTypes.{read_module_declaration};
 
     ghost Seen = { ModuleDeclaration };
 

@@ -96,7 +96,8 @@ impl<A: Allocator> Encode for DefinedTree<A> {
 impl<A: Allocator> Delimited for DefinedTree<A> {
     ghost use Rattle.wenc_types.specs.DefinedTypes.{DefValType, def_val_type};
     ghost use Rattle.wenc_types.specs.TypeTrees.{defined_view};
-    ghost use Rattle.wenc_types.specs.laws.DefinedTypes.{read_defined, defined_type_lawful};
+    ghost use Rattle.wenc_types.specs.laws.DefinedTypes.{defined_type_lawful};
+    ghost use Rattle.wenc_types.specs.reading.DefinedTypes.{read_defined};
 
     ghost Seen = { DefValType };
 
@@ -149,7 +150,8 @@ impl<A: Allocator> Encode for CaseTree<A> {
 impl<A: Allocator> Delimited for CaseTree<A> {
     ghost use Rattle.wenc_types.specs.DefinedTypes.{Case, case};
     ghost use Rattle.wenc_types.specs.TypeTrees.{case_view};
-    ghost use Rattle.wenc_types.specs.laws.DefinedTypes.{read_case, case_lawful};
+    ghost use Rattle.wenc_types.specs.laws.DefinedTypes.{case_lawful};
+    ghost use Rattle.wenc_types.specs.reading.DefinedTypes.{read_case};
 
     ghost Seen = { Case };
 

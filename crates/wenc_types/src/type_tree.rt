@@ -141,7 +141,8 @@ impl<A: Allocator> Encode for ComponentDecl<A> {
 impl<A: Allocator> Delimited for TypeTree<A> {
     ghost use Rattle.wenc_types.specs.ComponentTypes.{DefType, def_type};
     ghost use Rattle.wenc_types.specs.TypeTrees.{type_view};
-    ghost use Rattle.wenc_types.specs.laws.ComponentTypes.{read_type, type_lawful};
+    ghost use Rattle.wenc_types.specs.laws.ComponentTypes.{type_lawful};
+    ghost use Rattle.wenc_types.specs.reading.ComponentTypes.{read_type};
 
     ghost Seen = { DefType };
 
@@ -157,7 +158,8 @@ impl<A: Allocator> Delimited for TypeTree<A> {
 impl<A: Allocator> Delimited for InstanceDecl<A> {
     ghost use Rattle.wenc_types.specs.ComponentTypes.{InstanceDeclaration, instance_declaration};
     ghost use Rattle.wenc_types.specs.TypeTrees.{instance_declaration_view};
-    ghost use Rattle.wenc_types.specs.laws.ComponentTypes.{read_type, read_instance_declaration, instance_declaration_lawful};
+    ghost use Rattle.wenc_types.specs.laws.ComponentTypes.{instance_declaration_lawful};
+    ghost use Rattle.wenc_types.specs.reading.ComponentTypes.{read_type, read_instance_declaration};
 
     ghost Seen = { InstanceDeclaration };
 
@@ -176,7 +178,8 @@ impl<A: Allocator> Delimited for InstanceDecl<A> {
 impl<A: Allocator> Delimited for ComponentDecl<A> {
     ghost use Rattle.wenc_types.specs.ComponentTypes.{ComponentDeclaration, component_declaration};
     ghost use Rattle.wenc_types.specs.TypeTrees.{component_declaration_view};
-    ghost use Rattle.wenc_types.specs.laws.ComponentTypes.{read_type, read_component_declaration, component_declaration_lawful};
+    ghost use Rattle.wenc_types.specs.laws.ComponentTypes.{component_declaration_lawful};
+    ghost use Rattle.wenc_types.specs.reading.ComponentTypes.{read_type, read_component_declaration};
 
     ghost Seen = { ComponentDeclaration };
 

@@ -6,12 +6,13 @@ use Rattle.wenc_base.specs.Forms.{list, option}
 use Rattle.wenc_base.specs.Number.{u32}
 use Rattle.wenc_base.specs.Piece.{Form, Wide, ◌▸◌, ◌⨾◌}
 use Rattle.wenc_base.specs.laws.Delimited.{list_equal}
-use Rattle.wenc_base.specs.Readers.{Lawful, Reader, ◌>>=◌, give, nowhere, choose}
+use Rattle.wenc_base.specs.Readers.{Lawful, Reader, choose}
 use Rattle.wenc_base.specs.laws.Lawful.{row_lawful, row_byte, first_of_two, then, last}
 use Rattle.wenc_base.specs.laws.Sound.{Sound, sound_behind, RowsAreSound, both_tables, give_tells, last_tells, then_tells, nowhere_tells, choose_tells}
-use Rattle.wenc_base.specs.laws.Numbers.{read_u32, u32_lawful, u32_sound}
-use Rattle.wenc_base.specs.laws.Forms.{read_flag, flag_lawful, flag_sound, read_list, list_lawful, list_sound, read_option, option_lawful, option_sound}
-use Rattle.wenc_base.specs.laws.Types.{val_type_rows, val_type_row, val_type_rows_sound, read_val_type, val_type_lawful, val_type_sound}
+use Rattle.wenc_base.specs.laws.Numbers.{u32_lawful, u32_sound}
+use Rattle.wenc_base.specs.laws.Forms.{flag_lawful, flag_sound, list_lawful, list_sound, option_lawful, option_sound}
+use Rattle.wenc_base.specs.laws.Types.{val_type_row, val_type_rows_sound, val_type_lawful, val_type_sound}
+use Rattle.wenc_base.specs.reading.Types.{val_type_rows}
 use Rattle.wenc_base.specs.declared.types.ValType.{ValType}
 use Rattle.wenc_base.specs.declared.types.composite.FuncType.{FuncType}
 use Rattle.wenc_base.specs.declared.types.composite.ArrayType.{ArrayType}
@@ -25,14 +26,9 @@ use Rattle.wenc_base.specs.declared.types.storage.StorageType.{StorageType}
 use Rattle.wenc_base.specs.declared.types.storage.StorageType.TheVariants.{I8, I16, Val}
 use Rattle.wenc_base.specs.declared.types.storage.FieldType.{FieldType}
 use Rattle.wenc_base.specs.Composites.{storage_type, field_type, Composite, Func, Array, Struct, composite_type, Sub, sub_type_of, sub_type, final, RecType, Single, Rec, rec_type, params_of, results_of, func_type_view, array_view, structure_view, composite_view, sub_view, rec_type_view}
+use Rattle.wenc_base.specs.reading.Composites.{composite_rows, field_of, final_rows, group_rows, read_closed, read_composite, read_extension, read_field_type, read_group, read_storage_type, read_sub_type, read_types, small_rows, sub_of, sub_rows}
 
 -- ---- fields
-
-abbrev pub small_rows : List (ℕ × Reader StorageType)
-small_rows = (0x78, give I8) ∷ (0x77, give I16) ∷ []
-
-abbrev pub read_storage_type : Reader StorageType
-read_storage_type = choose (val_type_rows Val ++ small_rows) nowhere
 
 pub storage_type_lawful : (t : StorageType) → Lawful (storage_type t) (λ fuel. read_storage_type) t
 storage_type_lawful I8 = row_byte _ _ 0x78 (λ fuel rest. refl)
@@ -42,12 +38,6 @@ storage_type_lawful (Val t) = val_type_row Val (λ fuel. small_rows) _ t
 pub storage_type_sound : Sound storage_type read_storage_type
 storage_type_sound = choose_tells _ _ (both_tables storage_type (val_type_rows Val) small_rows (val_type_rows_sound storage_type Val (λ t bytes rest r. r)) (give_tells I8 (λ bytes. refl), (give_tells I16 (λ bytes. refl), tt))) nowhere_tells
 
-abbrev field_of : StorageType → Bool → FieldType
-field_of t mutable = record { element_type = t; mutable = mutable }
-
-abbrev pub read_field_type : Reader FieldType
-read_field_type = read_storage_type >>= λ t. read_flag >>= λ mutable. give (field_of t mutable)
-
 pub field_type_lawful : (f : FieldType) → Lawful (field_type f) (λ fuel. read_field_type) f
 field_type_lawful f = then _ (storage_type_lawful f.element_type) (last (field_of f.element_type) (flag_lawful f.mutable))
 
@@ -55,12 +45,6 @@ pub field_type_sound : Sound field_type read_field_type
 field_type_sound = then_tells _ storage_type_sound (λ t. last_tells (field_of t) flag_sound (λ mutable middle rest r bytes p. (middle, p, r)))
 
 -- ---- composite types
-
-abbrev pub composite_rows : {A : Type 0} → (Composite → A) → List (ℕ × Reader A)
-composite_rows make =
-    (0x60, read_list read_val_type >>= λ params. read_list read_val_type >>= λ results. give (make (Func params results))) ∷
-    (0x5e, read_field_type >>= λ f. give (make (Array f))) ∷
-    (0x5f, read_list read_field_type >>= λ fields. give (make (Struct fields))) ∷ []
 
 -- a composite type, where other rows may follow in the table
 pub composite_row : {A : Type 0} (make : Composite → A) (rows : ℕ → List (ℕ × Reader A)) (other : ℕ → Reader A) (c : Composite)
@@ -80,9 +64,6 @@ composite_rows_sound form make k = (
   ),
 )
 
-abbrev pub read_composite : Reader Composite
-read_composite = choose (composite_rows (λ c. c)) nowhere
-
 pub composite_type_lawful : (c : Composite) → Lawful (composite_type c) (λ fuel. read_composite) c
 composite_type_lawful c = composite_row (λ d. d) (λ fuel. []) _ c
 
@@ -90,10 +71,6 @@ pub composite_type_sound : Sound composite_type read_composite
 composite_type_sound = choose_tells _ _ (composite_rows_sound composite_type (λ c. c) (λ c bytes rest r. r)) nowhere_tells
 
 -- ---- sub types
-
--- what is extended, if anything, and how
-abbrev pub read_extension : {A : Type 0} → (Option ℕ → Composite → A) → Reader A
-read_extension make = read_option read_u32 >>= λ supertype. read_composite >>= λ c. give (make supertype c)
 
 pub extension_lawful : {A : Type 0} (make : Option ℕ → Composite → A) (supertype : Option ℕ) (c : Composite)
     → Lawful (option u32 supertype ⨾ composite_type c) (λ fuel. read_extension make) (make supertype c)
@@ -104,18 +81,8 @@ pub extension_sound : {A : Type 0} (form : Form A) (b : ℕ) (make : Option ℕ 
     → ((supertype : Option ℕ) (c : Composite) (bytes rest : List ℕ) → (b ▸ (option u32 supertype ⨾ composite_type c)).Reads Wide bytes rest → (form (make supertype c)).Reads Wide bytes rest) → Sound (sound_behind b form) (read_extension make)
 extension_sound form b make k = then_tells _ (option_sound u32_sound) (λ supertype. last_tells (make supertype) composite_type_sound (λ c middle rest r bytes p. k supertype c _ rest (bytes, refl, (middle, p, r))))
 
--- what is extended by a type that can't be extended: it has no long spelling without that
-abbrev pub read_closed : {A : Type 0} → (ℕ → Composite → A) → Reader A
-read_closed make = choose ((0x01, read_u32 >>= λ n. read_composite >>= λ c. give (make n c)) ∷ []) nowhere
-
 closed_lawful : {A : Type 0} (make : ℕ → Composite → A) (n : ℕ) (c : Composite) → Lawful (option u32 (Some n) ⨾ composite_type c) (λ fuel. read_closed make) (make n c)
 closed_lawful make n c = first_of_two (u32 n) (composite_type c) _ _ 0x01 (then _ (u32_lawful n) (last (make n) (composite_type_lawful c)))
-
-abbrev pub sub_of : Bool → Option ℕ → Composite → Sub
-sub_of is_final supertype c = record { is_final = is_final; supertype = supertype; composite = c }
-
-abbrev pub final_rows : {A : Type 0} → (Sub → A) → List (ℕ × Reader A)
-final_rows make = composite_rows (λ c. make (final c)) ++ ((0x4f, read_closed (λ n c. make (sub_of true (Some n) c))) ∷ [])
 
 -- a type that can't be extended, where other rows may follow in the table
 pub final_row : {A : Type 0} (make : Sub → A) (rows : ℕ → List (ℕ × Reader A)) (other : ℕ → Reader A) (supertype : Option ℕ) (c : Composite)
@@ -134,9 +101,6 @@ final_rows_sound form make k = both_tables form (composite_rows (λ c. make (fin
   tt,
 )
 
-abbrev pub sub_rows : {A : Type 0} → (Sub → A) → List (ℕ × Reader A)
-sub_rows make = final_rows make ++ ((0x50, read_extension (λ supertype c. make (sub_of false supertype c))) ∷ [])
-
 -- a sub type, where other rows may follow in the table
 pub sub_row : {A : Type 0} (make : Sub → A) (rows : ℕ → List (ℕ × Reader A)) (other : ℕ → Reader A) (s : Sub)
     → Lawful (sub_type s) (λ fuel. choose (sub_rows make ++ rows fuel) (other fuel)) (make s)
@@ -151,9 +115,6 @@ sub_row {A} make rows other s = of s.is_final s.supertype s.composite
 pub sub_rows_sound : {A : Type 0} (form : Form A) (make : Sub → A) → ((s : Sub) (bytes rest : List ℕ) → (sub_type s).Reads Wide bytes rest → (form (make s)).Reads Wide bytes rest) → RowsAreSound form (sub_rows make)
 sub_rows_sound form make k = both_tables form (final_rows make) ((0x50, read_extension (λ supertype c. make (sub_of false supertype c))) ∷ []) (final_rows_sound form make (λ supertype c. k (sub_of true supertype c))) (extension_sound form 0x50 (λ supertype c. make (sub_of false supertype c)) (λ supertype c. k (sub_of false supertype c)), tt)
 
-abbrev pub read_sub_type : Reader Sub
-read_sub_type = choose (sub_rows (λ s. s)) nowhere
-
 pub sub_type_lawful : (s : Sub) → Lawful (sub_type s) (λ fuel. read_sub_type) s
 sub_type_lawful s = sub_row (λ t. t) (λ fuel. []) _ s
 
@@ -162,14 +123,8 @@ sub_type_sound = choose_tells _ _ (sub_rows_sound sub_type (λ s. s) (λ s bytes
 
 -- ---- groups
 
-abbrev pub read_types : {A : Type 0} → (RecType → A) → Reader A
-read_types make = read_list read_sub_type >>= λ types. give (make (Rec types))
-
 pub types_lawful : {A : Type 0} (make : RecType → A) (types : List Sub) → Lawful (list sub_type types) (λ fuel. read_types make) (make (Rec types))
 types_lawful make types = last (λ ts. make (Rec ts)) (list_lawful sub_type_lawful types)
-
-abbrev pub group_rows : {A : Type 0} → (RecType → A) → List (ℕ × Reader A)
-group_rows make = sub_rows (λ s. make (Single s)) ++ ((0x4e, read_types make) ∷ [])
 
 -- a group, where other rows may follow in the table
 pub group_row : {A : Type 0} (make : RecType → A) (rows : ℕ → List (ℕ × Reader A)) (other : ℕ → Reader A) (g : RecType)
@@ -183,9 +138,6 @@ types_sound form b make k = last_tells (λ types. make (Rec types)) (list_sound 
 -- each row of a table of groups
 pub group_rows_sound : {A : Type 0} (form : Form A) (make : RecType → A) → ((g : RecType) (bytes rest : List ℕ) → (rec_type g).Reads Wide bytes rest → (form (make g)).Reads Wide bytes rest) → RowsAreSound form (group_rows make)
 group_rows_sound form make k = both_tables form (sub_rows (λ s. make (Single s))) ((0x4e, read_types make) ∷ []) (sub_rows_sound form (λ s. make (Single s)) (λ s. k (Single s))) (types_sound form 0x4e make (λ types. k (Rec types)), tt)
-
-abbrev pub read_group : Reader RecType
-read_group = choose (group_rows (λ g. g)) nowhere
 
 pub group_lawful : (g : RecType) → Lawful (rec_type g) (λ fuel. read_group) g
 group_lawful g = group_row (λ h. h) (λ fuel. []) _ g

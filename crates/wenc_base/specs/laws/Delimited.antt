@@ -5,7 +5,8 @@ use Rattle.std.specs.Cmp.{IsEquivalence}
 use Rattle.std.specs.Cmp.Lexicographic.{pointwise}
 use Rattle.wenc_base.specs.Delimited.{IsReadable, IsWritten, AlikeIsEqual, option_seen, pair}
 use Rattle.wenc_base.specs.Forms.{option, list}
-use Rattle.wenc_base.specs.laws.Forms.{option_lawful, list_lawful, read_option, read_list}
+use Rattle.wenc_base.specs.laws.Forms.{option_lawful, list_lawful}
+use Rattle.wenc_base.specs.reading.Forms.{read_option, read_list}
 use Rattle.wenc_base.specs.Readers.{◌>>=◌, give}
 use Rattle.wenc_base.specs.laws.Lawful.{delimited, then, last}
 use Rattle.wenc_base.specs.Piece.{Form}

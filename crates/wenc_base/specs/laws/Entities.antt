@@ -1,15 +1,14 @@
 -- The laws of types of what modules import and export.
-use Rattle.std.proofs.Common.{ℕ, Bool, true, false, List, [], ◌∷◌, ◌++◌, Option, Some, None, refl}
+use Rattle.std.proofs.Common.{ℕ, Bool, true, false, List, [], ◌++◌, Option, Some, None, refl}
 use Rattle.wenc_base.specs.Piece.{Form, Wide, ◌▸◌, ◌⨾◌}
 use Rattle.wenc_base.specs.Number.{u64}
 use Rattle.wenc_base.specs.Forms.{option}
-use Rattle.wenc_base.specs.Readers.{Lawful, Reader, ◌>>=◌, give, nowhere, choose}
+use Rattle.wenc_base.specs.Readers.{Lawful, Reader, nowhere, choose}
 use Rattle.wenc_base.specs.laws.Lawful.{row_lawful, then, last}
-use Rattle.wenc_base.specs.laws.Numbers.{read_u32, u32_lawful, u32_sound, read_u64, u64_lawful, u64_sound}
+use Rattle.wenc_base.specs.laws.Numbers.{u32_lawful, u32_sound, u64_lawful, u64_sound}
 use Rattle.wenc_base.specs.laws.Sound.{Sound, sound_behind, behind_value, RowsAreSound, both_tables, last_tells, then_tells, nowhere_tells, choose_tells}
-use Rattle.wenc_base.specs.laws.Forms.{read_flag, flag_lawful, flag_sound}
-use Rattle.wenc_base.specs.laws.Types.{read_reference, reference_lawful, reference_sound, read_val_type, val_type_lawful, val_type_sound}
-use Rattle.wenc_base.specs.declared.types.RefType.{RefType}
+use Rattle.wenc_base.specs.laws.Forms.{flag_lawful, flag_sound}
+use Rattle.wenc_base.specs.laws.Types.{reference_lawful, reference_sound, val_type_lawful, val_type_sound}
 use Rattle.wenc_base.specs.declared.tables.TableType.{TableType}
 use Rattle.wenc_base.specs.declared.memories.MemoryType.{MemoryType}
 use Rattle.wenc_base.specs.declared.globals.GlobalType.{GlobalType}
@@ -18,34 +17,9 @@ use Rattle.wenc_base.specs.declared.imports.EntityType.{EntityType}
 use Rattle.wenc_base.specs.declared.imports.EntityType.TheVariants.{Function, Table, Memory, Global, Tag}
 use Rattle.wenc_base.specs.Types.{reference}
 use Rattle.wenc_base.specs.Entities.{limits, table_type, memory_type, global_type, tag_type, entity_type}
+use Rattle.wenc_base.specs.reading.Entities.{OfLimits, at_least, between, memory_of, read_entity_type, read_global_type, read_limits, read_memory_type, read_table_type, read_tag_type, shared_rows, table_of, unshared_rows}
 
 -- ---- limits
-
--- what is made of whether it is shared, whether it is of 64 bits, the minimum and the maximum
-abbrev pub OfLimits : Type 0 → Type 0
-OfLimits A = Bool → Bool → ℕ → Option ℕ → A
-
-abbrev at_least : {A : Type 0} → (ℕ → Option ℕ → A) → Reader A
-at_least make = read_u64 >>= λ n. give (make n None)
-
-abbrev between : {A : Type 0} → (ℕ → Option ℕ → A) → Reader A
-between make = read_u64 >>= λ n. read_u64 >>= λ m. give (make n (Some m))
-
--- of what is shared, or isn't; what is made of whether it is of 64 bits, the minimum and the maximum
-abbrev unshared_rows : {A : Type 0} → (Bool → ℕ → Option ℕ → A) → List (ℕ × Reader A)
-unshared_rows make = (0x00, at_least (make false)) ∷ (0x01, between (make false)) ∷ (0x04, at_least (make true)) ∷ (0x05, between (make true)) ∷ []
-
-abbrev shared_rows : {A : Type 0} → (Bool → ℕ → Option ℕ → A) → List (ℕ × Reader A)
-shared_rows make = (0x02, at_least (make false)) ∷ (0x03, between (make false)) ∷ (0x06, at_least (make true)) ∷ (0x07, between (make true)) ∷ []
-
-abbrev pub limit_rows : {A : Type 0} → OfLimits A → List (ℕ × Reader A)
-limit_rows make = unshared_rows (make false) ++ shared_rows (make true)
-
-abbrev pub read_unshared : {A : Type 0} → (Bool → ℕ → Option ℕ → A) → Reader A
-read_unshared make = choose (unshared_rows make) nowhere
-
-abbrev pub read_limits : {A : Type 0} → OfLimits A → Reader A
-read_limits make = choose (limit_rows make) nowhere
 
 unshared_lawful : {A : Type 0} (make : Bool → ℕ → Option ℕ → A) (rows : List (ℕ × Reader A)) (is_long : Bool) (minimum : ℕ) (maximum : Option ℕ)
     → Lawful (limits false is_long minimum maximum) (λ fuel. choose (unshared_rows make ++ rows) nowhere) (make is_long minimum maximum)
@@ -96,23 +70,11 @@ limits_fit is_shared is_long n (Some m) h k = (h, k)
 
 -- ---- what has limits
 
-abbrev table_of : RefType → Bool → ℕ → Option ℕ → TableType
-table_of r is_long n m = record { element_type = r; table64 = is_long; minimum = n; maximum = m }
-
-abbrev pub read_table_type : Reader TableType
-read_table_type = read_reference >>= λ r. read_unshared (table_of r)
-
 pub table_type_lawful : (t : TableType) → Lawful (table_type t) (λ fuel. read_table_type) t
 table_type_lawful t = then _ (reference_lawful t.element_type) (unshared_lawful (table_of t.element_type) [] t.table64 t.minimum t.maximum)
 
 pub table_type_sound : Sound table_type read_table_type
 table_type_sound = then_tells _ reference_sound (λ t. choose_tells _ _ (unshared_rows_sound (behind_value reference t table_type) (table_of t) (λ is_long n m middle rest r bytes p. (middle, p, r))) nowhere_tells)
-
-abbrev memory_of : OfLimits MemoryType
-memory_of is_shared is_long n m = record { minimum = n; maximum = m; memory64 = is_long; shared = is_shared }
-
-abbrev pub read_memory_type : Reader MemoryType
-read_memory_type = read_limits memory_of
 
 pub memory_type_lawful : (m : MemoryType) → Lawful (memory_type m) (λ fuel. read_memory_type) m
 memory_type_lawful m = limits_lawful memory_of m.shared m.memory64 m.minimum m.maximum
@@ -122,31 +84,17 @@ memory_type_sound = choose_tells _ _ (both_tables memory_type (unshared_rows (me
 
 -- ---- the others
 
-abbrev pub read_global_type : Reader GlobalType
-read_global_type = read_val_type >>= λ t. read_flag >>= λ mutable. give (record { val_type = t; mutable = mutable })
-
 pub global_type_lawful : (g : GlobalType) → Lawful (global_type g) (λ fuel. read_global_type) g
 global_type_lawful g = then _ (val_type_lawful g.val_type) (last _ (flag_lawful g.mutable))
 
 pub global_type_sound : Sound global_type read_global_type
 global_type_sound = then_tells _ val_type_sound (λ t. last_tells _ flag_sound (λ mutable middle rest r bytes p. (middle, p, r)))
 
-abbrev pub read_tag_type : Reader TagType
-read_tag_type = choose ((0x00, read_u32 >>= λ n. give (record { func_type_idx = n })) ∷ []) nowhere
-
 pub tag_type_lawful : (t : TagType) → Lawful (tag_type t) (λ fuel. read_tag_type) t
 tag_type_lawful t = row_lawful _ _ 0x00 (last _ (u32_lawful t.func_type_idx))
 
 pub tag_type_sound : Sound tag_type read_tag_type
 tag_type_sound = choose_tells _ _ (last_tells _ u32_sound (λ n bytes rest r. (bytes, refl, r)), tt) nowhere_tells
-
-abbrev pub read_entity_type : Reader EntityType
-read_entity_type = choose (
-    (0x00, read_u32 >>= λ n. give (Function n)) ∷
-    (0x01, read_table_type >>= λ t. give (Table t)) ∷
-    (0x02, read_memory_type >>= λ m. give (Memory m)) ∷
-    (0x03, read_global_type >>= λ g. give (Global g)) ∷
-    (0x04, read_tag_type >>= λ t. give (Tag t)) ∷ []) nowhere
 
 pub entity_type_lawful : (e : EntityType) → Lawful (entity_type e) (λ fuel. read_entity_type) e
 entity_type_lawful (Function n) = row_lawful _ _ 0x00 (last Function (u32_lawful n))

@@ -1,14 +1,12 @@
 -- The law of the kinds of exports.
 use Rattle.std.proofs.Common.{[], ◌∷◌, refl}
 use Rattle.wenc_base.specs.Exports.{core_export_kind, export_kind_byte}
-use Rattle.wenc_base.specs.Readers.{Lawful, Reader, give, nowhere, choose}
+use Rattle.wenc_base.specs.Readers.{Lawful}
 use Rattle.wenc_base.specs.laws.Lawful.{row_byte}
 use Rattle.wenc_base.specs.laws.Sound.{Sound, given_rows, nowhere_tells, choose_tells}
 use Rattle.wenc_base.specs.declared.exports.ExportKind.{ExportKind}
 use Rattle.wenc_base.specs.declared.exports.ExportKind.TheVariants.{Func, Table, Memory, Global, Tag}
-
-abbrev pub read_core_export_kind : Reader ExportKind
-read_core_export_kind = choose ((0x00, give Func) ∷ (0x01, give Table) ∷ (0x02, give Memory) ∷ (0x03, give Global) ∷ (0x04, give Tag) ∷ []) nowhere
+use Rattle.wenc_base.specs.reading.Exports.{read_core_export_kind}
 
 pub core_export_kind_lawful : (kind : ExportKind) → Lawful (core_export_kind kind) (λ fuel. read_core_export_kind) kind
 core_export_kind_lawful Func = row_byte _ _ 0x00 (λ fuel rest. refl)

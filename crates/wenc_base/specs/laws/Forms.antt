@@ -1,6 +1,5 @@
 -- The laws of forms made of others.
 use Rattle.std.proofs.Common.{true≢false, ◌≡◌, ℕ, ◌≤◌, ◌^◌, Bool, true, false, cond, List, [], ◌∷◌, ◌++◌, length, take, drop, Option, Some, None, Result, Ok, Err, refl, sym, ◌∙◌, append_assoc, arith, inl, inr}
-use Rattle.std.specs.Prelude.{nat_lt}
 use Rattle.std.specs.Str.{is_utf8}
 use Rattle.std.proofs.lemmas.Bool.{cases_lt, lt-ltb, le-ltb}
 use Rattle.std.proofs.lemmas.List.{take_at, drop_at, take-append-drop, length-take-le, length-append}
@@ -8,15 +7,13 @@ use Rattle.wenc_base.specs.Number.{u32}
 use Rattle.wenc_base.specs.Piece.{Payload, Form, Wide, raw}
 use Rattle.wenc_base.specs.laws.Sound.{Told, Sound, SoundWhole, weaken, made_told, behind_value, then_tells, last_tells, give_tells, nowhere_tells, choose_tells, Fewer, Several, times_told, whole_sound}
 use Rattle.wenc_base.specs.Forms.{flag, list, option, utf8, name, AreBytes, sized, byte_list, counted}
-use Rattle.wenc_base.specs.Readers.{Flaw, Bad, made, Lawful, Reader, ◌>>=◌, give, nowhere, times, choose, done}
+use Rattle.wenc_base.specs.Readers.{Flaw, Bad, Lawful, Reader, times, done}
 use Rattle.wenc_base.specs.laws.Lawful.{LawfulWhole, row_lawful, row_byte, then, last, each_lawful, whole_lawful, raw_lawful}
-use Rattle.wenc_base.specs.laws.Numbers.{read_u32, u32_lawful, count_lawful, size_lawful, size_free, u32_sound, groups_are_read}
+use Rattle.wenc_base.specs.laws.Numbers.{u32_lawful, count_lawful, size_lawful, size_free, u32_sound, groups_are_read}
 use Rattle.std.proofs.lemmas.Str.{IsUtf8-from_is_utf8, is_utf8-from_IsUtf8}
+use Rattle.wenc_base.specs.reading.Forms.{are_bytes, read_byte_list, read_bytes, read_filling, read_flag, read_list, read_name, read_option, read_raw, read_sized, read_text, text_at}
 
 -- ---- flags
-
-abbrev pub read_flag : Reader Bool
-read_flag = choose ((0, give false) ∷ (1, give true) ∷ []) nowhere
 
 pub flag_lawful : (b : Bool) → Lawful (flag b) (λ fuel. read_flag) b
 flag_lawful false = row_byte _ _ 0 (λ fuel rest. refl)
@@ -26,9 +23,6 @@ pub flag_sound : Sound flag read_flag
 flag_sound = choose_tells _ _ (give_tells false (λ bytes. refl), (give_tells true (λ bytes. refl), tt)) nowhere_tells
 
 -- ---- lists
-
-abbrev pub read_list : {A : Type 0} → Reader A → Reader (List A)
-read_list read = read_u32 >>= times read
 
 pub list_lawful : {A : Type 0} {form : Form A} {read : ℕ → Reader A} → ((v : A) → Lawful (form v) read v) → (vs : List A) → Lawful (list form vs) (λ fuel. read_list (read fuel)) vs
 list_lawful laws vs = then _ (count_lawful (length vs)) (each_lawful laws vs)
@@ -41,9 +35,6 @@ list_sound {form = form} {read = read} s =
 
 -- ---- options
 
-abbrev pub read_option : {A : Type 0} → Reader A → Reader (Option A)
-read_option read = choose ((0, give None) ∷ (1, read >>= λ v. give (Some v)) ∷ []) nowhere
-
 pub option_lawful : {A : Type 0} {form : Form A} {read : ℕ → Reader A} → ((v : A) → Lawful (form v) read v) → (o : Option A) → Lawful (option form o) (λ fuel. read_option (read fuel)) o
 option_lawful laws None = row_byte _ _ 0 (λ fuel rest. refl)
 option_lawful laws (Some v) = row_lawful _ _ 1 (last Some (laws v))
@@ -52,13 +43,6 @@ pub option_sound : {A : Type 0} {form : Form A} {read : Reader A} → Sound form
 option_sound s = choose_tells _ _ (give_tells None (λ bytes. refl), (last_tells Some s (λ v bytes rest r. (bytes, refl, r)), tt)) nowhere_tells
 
 -- ---- names
-
--- so many bytes, which are text
-unfoldable pub text_at : ℕ → Reader (List ℕ)
-text_at n bytes = cond (nat_lt (length bytes) n) (Err Bad) (cond (is_utf8 (take n bytes)) (Ok (take n bytes, drop n bytes)) (Err Bad))
-
-abbrev pub read_text : ℕ → Reader (List ℕ)
-read_text n bytes = text_at n bytes
 
 pub utf8_lawful : (bs : List ℕ) → Lawful (utf8 bs) (λ fuel. read_text (length bs)) bs
 unfolding text_at
@@ -84,9 +68,6 @@ text_sound n bytes =
     tested true e le = (length-take-le n bytes le, (IsUtf8-from_is_utf8 (take n bytes) e, sym (take-append-drop n bytes)))
     tested false e le = tt
 
-abbrev pub read_name : Reader (List ℕ)
-read_name = read_u32 >>= read_text
-
 pub name_lawful : (bs : List ℕ) → Lawful (name bs) (λ fuel. read_name) bs
 name_lawful bs = then _ (size_lawful (length bs)) (utf8_lawful bs)
 
@@ -96,13 +77,6 @@ name_sound = then_tells _ u32_sound (λ n. record {
 })
 
 -- ---- with a size
-
--- so many bytes, which are all that is read
-abbrev pub read_filling : {A : Type 0} → (List ℕ → Result A Flaw) → ℕ → Reader A
-read_filling read n bytes = cond (nat_lt (length bytes) n) (Err Bad) (made (λ v. (v, drop n bytes)) (read (take n bytes)))
-
-abbrev pub read_sized : {A : Type 0} → (List ℕ → Result A Flaw) → Reader A
-read_sized read = read_u32 >>= read_filling read
 
 pub sized_lawful : {A : Type 0} {w : Payload} {read : ℕ → List ℕ → Result A Flaw} {v : A} → LawfulWhole w read v → Lawful (sized w) (λ fuel. read_sized (read fuel)) v
 sized_lawful {w = w} a = record {
@@ -131,10 +105,6 @@ sized_sound {A} {form = form} {read = read} s = then_tells _ u32_sound (λ n. re
 
 -- ---- lists of bytes
 
-abbrev pub are_bytes : List ℕ → Bool
-are_bytes [] = true
-are_bytes (b ∷ bytes) = cond (nat_lt b 256) (are_bytes bytes) false
-
 pub bytes_pass : (bytes : List ℕ) → AreBytes bytes → are_bytes bytes ≡ true
 bytes_pass [] h = refl
 bytes_pass (b ∷ bytes) h = rw (lt-ltb b 256 h.0) (bytes_pass bytes h.1)
@@ -147,10 +117,6 @@ passed_bytes (b ∷ bytes) e =
       | inr ge ↦ absurd (true≢false (sym (rw (le-ltb b 256 ge) at e)))
     ]
 
--- any bytes
-abbrev pub read_bytes : {A : Type 0} → (List ℕ → A) → List ℕ → Result A Flaw
-read_bytes make bytes = cond (are_bytes bytes) (Ok (make bytes)) (Err Bad)
-
 pub bytes_lawful : {A : Type 0} (make : List ℕ → A) (bs : List ℕ) → LawfulWhole (raw AreBytes bs) (λ fuel. read_bytes make) (make bs)
 bytes_lawful make bs = raw_lawful AreBytes are_bytes bs make (bytes_pass bs)
 
@@ -161,14 +127,8 @@ bytes_sound P make bytes k = tested (are_bytes bytes) refl
     tested true e = k (passed_bytes bytes e)
     tested false e = tt
 
-abbrev pub read_raw : List ℕ → Result (List ℕ) Flaw
-read_raw = read_bytes (λ bytes. bytes)
-
 pub raw_sound : SoundWhole (raw AreBytes) read_raw
 raw_sound = record { tells = λ bytes. bytes_sound (λ bs. (raw AreBytes bs).ReadsAll Wide bytes) (λ bs. bs) bytes (λ h. (h, refl)) }
-
-abbrev pub read_byte_list : Reader (List ℕ)
-read_byte_list = read_sized read_raw
 
 pub byte_list_lawful : (bs : List ℕ) → Lawful (byte_list bs) (λ fuel. read_byte_list) bs
 byte_list_lawful bs = sized_lawful (bytes_lawful (λ bytes. bytes) bs)

@@ -2,10 +2,12 @@
 use Rattle.std.proofs.Common.{◌≡◌, ℕ, List, refl}
 use Rattle.wenc_base.specs.Holder.{HolderState, held_text, Contains}
 use Rattle.wenc_base.specs.Names.{NameAssociation, name_association, name_map}
-use Rattle.wenc_base.specs.laws.Forms.{read_name, name_lawful, read_list, list_lawful}
+use Rattle.wenc_base.specs.laws.Forms.{name_lawful, list_lawful}
+use Rattle.wenc_base.specs.reading.Forms.{read_name, read_list}
 use Rattle.wenc_base.specs.Readers.{Lawful, Reader, ◌>>=◌, give}
 use Rattle.wenc_base.specs.laws.Lawful.{then, last}
-use Rattle.wenc_base.specs.laws.Numbers.{read_u32, u32_lawful}
+use Rattle.wenc_base.specs.laws.Numbers.{u32_lawful}
+use Rattle.wenc_base.specs.reading.Numbers.{read_u32}
 
 abbrev named_so : ℕ → List ℕ → NameAssociation
 named_so index name = record { index = index; name = name }

@@ -1,16 +1,16 @@
 -- The laws of the forms of numbers.
-use Rattle.std.proofs.Common.{◌≡◌, ℕ, ℤ, pos, negsuc, zero, suc, ◌+◌, ◌*◌, ◌/◌, ◌%◌, ◌-◌, ◌^◌, ◌<◌, ◌≤◌, cond, ltb, List, [], ◌∷◌, ◌++◌, map, Result, Ok, Err, refl, ap, ◌∙◌, arith, inl, inr}
-use Rattle.std.specs.Prelude.{if◌then◌else◌, nat_lt}
+use Rattle.std.proofs.Common.{◌≡◌, ℕ, ℤ, pos, negsuc, zero, suc, ◌+◌, ◌*◌, ◌/◌, ◌%◌, ◌-◌, ◌^◌, ◌<◌, ◌≤◌, cond, List, [], ◌∷◌, ◌++◌, map, Result, Ok, Err, refl, ap, ◌∙◌, arith, inl, inr}
 use Rattle.std.proofs.lemmas.Bool.{cases_lt, le-ltb, lt-ltb}
 use Rattle.wenc_base.specs.Piece.{Piece, Spelling, Strict, Wide}
 use Rattle.wenc_base.specs.Number.{groups, MayGoOn, complement, ReadsGroups, last, more, u32, count, size, u64, i64, index}
 use Rattle.wenc_base.specs.laws.Groups.{limit, groups_below, groups_from}
 use Rattle.wenc_base.specs.Fault.{NoCause, count_cause, size_cause}
 use Rattle.wenc_base.specs.declared.fault.Fault.TheVariants.{Memory, TooMany, TooLarge, Unfinished}
-use Rattle.wenc_base.specs.Readers.{Flaw, Bad, Deep, Lawful, Reader}
+use Rattle.wenc_base.specs.Readers.{Flaw, Bad, Deep, Lawful}
 use Rattle.wenc_base.specs.laws.Lawful.{Starts, refused_lawful}
 use Rattle.wenc_base.specs.laws.Sound.{Told, Sound}
 use Rattle.std.proofs.lemmas.List.{append-nil}
+use Rattle.wenc_base.specs.reading.Numbers.{lowered, raised, read_groups, read_index, read_signed, read_u32, read_u64}
 
 may_go_on : (mode : Spelling) (top n : ℕ) → top ≤ n → MayGoOn mode top n
 may_go_on Strict top n h = h
@@ -44,18 +44,6 @@ strict_groups top _ n _ rest (more {room = room} {b = b} {high = high} {bytes = 
     let head : n % 128 + 128 ≡ b = omega arith in
     let tail : n / 128 ≡ high = omega arith in
     rw (groups_from top room n on, head, tail) (ap (λ (t : List ℕ). b ∷ t) (strict_groups top room high bytes rest r))
-
--- a byte from 128 on in front of what was found behind it, where the number is below `bound`
-abbrev pub raised : ℕ → ℕ → Result (ℕ × List ℕ) Flaw → Result (ℕ × List ℕ) Flaw
-raised bound b (Ok x) = if nat_lt (b - 128 + 128 * x.0) bound then Ok (b - 128 + 128 * x.0, x.1) else Err Bad
-raised bound b (Err flaw) = Err flaw
-
--- Reads groups up to the last, which is below `top`. At most `room` bytes come before it.
-unfoldable pub read_groups : ℕ → ℕ → ℕ → Reader ℕ
-read_groups top bound room [] = Err Bad
-read_groups top bound zero (b ∷ bytes) = if nat_lt b top then Ok (b, bytes) else Err Bad
-read_groups top bound (suc room) (b ∷ bytes) =
-    if nat_lt b top then Ok (b, bytes) else if nat_lt b 128 then Err Bad else if nat_lt b 256 then raised bound b (read_groups top bound room bytes) else Err Bad
 
 -- it finds the number
 pub groups_are_read : (mode : Spelling) (top bound room n : ℕ) (bytes rest : List ℕ) → top ≤ 128 → n < bound → ReadsGroups mode top room n bytes rest → read_groups top bound room bytes ≡ Ok (n, rest)
@@ -126,9 +114,6 @@ number_lawful top room larger bound n small le below = record {
     same : n < bound → groups top larger n ≡ groups top room n
     same h = same_in_room top room larger n le (omega arith)
 
-abbrev pub read_u32 : Reader ℕ
-read_u32 = read_groups 128 (2 ^ 32) 4
-
 pub u32_lawful : (n : ℕ) → Lawful (u32 n) (λ fuel. read_u32) n
 u32_lawful n = number_lawful 128 4 9 (2 ^ 32) n (omega arith) (omega arith) (omega arith)
 
@@ -161,17 +146,11 @@ size_lawful n = refused_lawful (size_cause n) (u32_lawful n) (size_free n) (λ c
 pub u32_sound : Sound u32 read_u32
 u32_sound = record { tells = λ bytes. groups_sound 128 (2 ^ 32) 4 bytes (omega arith) }
 
-abbrev pub read_u64 : Reader ℕ
-read_u64 = read_groups 128 (2 ^ 64) 9
-
 pub u64_lawful : (n : ℕ) → Lawful (u64 n) (λ fuel. read_u64) n
 u64_lawful n = number_lawful 128 9 9 (2 ^ 64) n (omega arith) (omega arith) (omega arith)
 
 pub u64_sound : Sound u64 read_u64
 u64_sound = record { tells = λ bytes. groups_sound 128 (2 ^ 64) 9 bytes (omega arith) }
-
-abbrev pub read_index : Reader ℕ
-read_index = read_groups 64 (2 ^ 32) 4
 
 pub index_lawful : (n : ℕ) → Lawful (index n) (λ fuel. read_index) n
 index_lawful n = number_lawful 64 4 9 (2 ^ 32) n (omega arith) (omega arith) (omega arith)
@@ -188,19 +167,6 @@ index_starts P low high n = record { starts = λ mode bytes rest r. first_byte m
     first_byte mode _ n _ rest (more {b = b} {bytes = bytes} from byte on sum r) = (b, bytes, refl, high b from)
 
 -- ---- signed numbers
-
-abbrev lower : ℕ → ℤ → ℤ
-lower b (pos high) = pos (b - 128 + 128 * high)
-lower b (negsuc high) = negsuc (255 - b + 128 * high)
-
-lowered : ℕ → Result (ℤ × List ℕ) Flaw → Result (ℤ × List ℕ) Flaw
-lowered b (Ok x) = Ok (lower b x.0, x.1)
-lowered b (Err flaw) = Err flaw
-
--- reads groups up to the last, whose bit 6 says whether the number is negative
-pub read_signed : Reader ℤ
-read_signed [] = Err Bad
-read_signed (b ∷ bytes) = cond (ltb b 64) (Ok (pos b, bytes)) (cond (ltb b 128) (Ok (negsuc (127 - b), bytes)) (lowered b (read_signed bytes)))
 
 -- it finds a number from 0 on
 pos_is_read : (room n : ℕ) (bytes rest : List ℕ) → ReadsGroups Strict 64 room n bytes rest → read_signed bytes ≡ Ok (pos n, rest)

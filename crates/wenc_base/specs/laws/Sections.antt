@@ -1,20 +1,15 @@
 -- The laws of custom sections.
-use Rattle.std.proofs.Common.{ℕ, List, Result, refl}
+use Rattle.std.proofs.Common.{ℕ, List, refl}
 use Rattle.wenc_base.specs.Piece.{Wide, raw, ◌⨾⨾◌}
 use Rattle.wenc_base.specs.Forms.{name, AreBytes}
-use Rattle.wenc_base.specs.Readers.{Flaw, Lawful, Reader, ◌>>=◌, give, go_on, done}
+use Rattle.wenc_base.specs.Readers.{Lawful, Reader, ◌>>=◌, give, go_on, done}
 use Rattle.wenc_base.specs.laws.Lawful.{LawfulWhole, then, last, then_whole, whole_lawful}
-use Rattle.wenc_base.specs.laws.Forms.{read_name, name_lawful, name_sound, read_list, list_lawful, read_sized, sized_lawful, read_bytes, bytes_lawful, bytes_sound}
+use Rattle.wenc_base.specs.laws.Forms.{name_lawful, name_sound, list_lawful, sized_lawful, bytes_lawful, bytes_sound}
+use Rattle.wenc_base.specs.reading.Forms.{read_name, read_list, read_sized, read_bytes}
 use Rattle.wenc_base.specs.laws.Sound.{SoundWhole, then_whole_sound}
 use Rattle.wenc_base.specs.Custom.{Custom, custom}
 use Rattle.wenc_base.specs.Producers.{Producer, producer, Producers, producers_field, producers_label, producers_section}
-
-abbrev pub labelled_section : List ℕ → List ℕ → Custom
-labelled_section label bytes = record { label = label; bytes = bytes }
-
--- a name, and the data that belong to it
-abbrev pub read_custom_content : List ℕ → Result Custom Flaw
-read_custom_content content = go_on (read_name content) (λ label. read_bytes (labelled_section label))
+use Rattle.wenc_base.specs.reading.Sections.{labelled_section, read_custom_content}
 
 pub custom_content_lawful : (c : Custom) → LawfulWhole (name c.label ⨾⨾ raw AreBytes c.bytes) (λ fuel. read_custom_content) c
 custom_content_lawful c = then_whole _ (name_lawful c.label) (bytes_lawful (labelled_section c.label) c.bytes)

@@ -2,9 +2,9 @@
 use Rattle.std.proofs.Common.{ℕ, Bool, true, false, List, [], ◌∷◌, ◌++◌, refl, arith, inl, inr}
 use Rattle.wenc_base.specs.Piece.{Form, Wide, ◌▸◌}
 use Rattle.wenc_base.specs.laws.Sound.{Sound, RowsAreSound, both_tables, given_rows, give_tells, last_tells, nowhere_tells, choose_tells}
-use Rattle.wenc_base.specs.Readers.{Lawful, Reader, ◌>>=◌, give, nowhere, choose}
+use Rattle.wenc_base.specs.Readers.{Lawful, Reader, choose}
 use Rattle.wenc_base.specs.laws.Lawful.{row_lawful, row_byte, or_widely_lawful, past, last}
-use Rattle.wenc_base.specs.laws.Numbers.{read_index, index_lawful, index_sound, index_starts}
+use Rattle.wenc_base.specs.laws.Numbers.{index_lawful, index_sound, index_starts}
 use Rattle.wenc_base.specs.declared.types.ValType.{ValType}
 use Rattle.wenc_base.specs.declared.types.ValType.TheVariants.{I32, I64, F32, F64, V128, Ref}
 use Rattle.wenc_base.specs.declared.types.RefType.{RefType}
@@ -13,21 +13,7 @@ use Rattle.wenc_base.specs.declared.types.HeapType.TheVariants.{Abstract, Concre
 use Rattle.wenc_base.specs.declared.types.AbstractHeapType.{AbstractHeapType}
 use Rattle.wenc_base.specs.declared.types.AbstractHeapType.TheVariants.{Func, Extern, Any, None, NoExtern, NoFunc, Eq, Struct, Array, I31, Exn, NoExn}
 use Rattle.wenc_base.specs.Types.{abstract_byte, abstract_type, heap_type, nullable, reference_to, reference, val_type}
-
-abbrev pub abstract_rows : {A : Type 0} → (AbstractHeapType → A) → List (ℕ × Reader A)
-abstract_rows make =
-    (0x74, give (make NoExn)) ∷
-    (0x73, give (make NoFunc)) ∷
-    (0x72, give (make NoExtern)) ∷
-    (0x71, give (make None)) ∷
-    (0x70, give (make Func)) ∷
-    (0x6f, give (make Extern)) ∷
-    (0x6e, give (make Any)) ∷
-    (0x6d, give (make Eq)) ∷
-    (0x6c, give (make I31)) ∷
-    (0x6b, give (make Struct)) ∷
-    (0x6a, give (make Array)) ∷
-    (0x69, give (make Exn)) ∷ []
+use Rattle.wenc_base.specs.reading.Types.{abstract_rows, long_rows, number_rows, read_abstract, read_heap_type, read_reference, read_val_type, reference_rows, to, val_type_rows}
 
 -- an abstract type, where other rows may follow in the table
 abstract_row : {A : Type 0} (make : AbstractHeapType → A) (rows : ℕ → List (ℕ × Reader A)) (other : ℕ → Reader A) (t : AbstractHeapType)
@@ -52,17 +38,11 @@ abstract_types = NoExn ∷ NoFunc ∷ NoExtern ∷ None ∷ Func ∷ Extern ∷ 
 abstract_rows_sound : {A : Type 0} (form : Form A) (make : AbstractHeapType → A) → ((t : AbstractHeapType) (rest : List ℕ) → (form (make t)).Reads Wide (abstract_byte t ∷ rest) rest) → RowsAreSound form (abstract_rows make)
 abstract_rows_sound form make k = given_rows form abstract_byte make k abstract_types
 
-abbrev pub read_abstract : Reader AbstractHeapType
-read_abstract = choose (abstract_rows (λ t. t)) nowhere
-
 pub abstract_type_lawful : (t : AbstractHeapType) → Lawful (abstract_type t) (λ fuel. read_abstract) t
 abstract_type_lawful t = abstract_row (λ u. u) (λ fuel. []) _ t
 
 pub abstract_type_sound : Sound abstract_type read_abstract
 abstract_type_sound = choose_tells _ _ (abstract_rows_sound abstract_type (λ t. t) (λ t rest. refl)) nowhere_tells
-
-abbrev pub read_heap_type : Reader HeapType
-read_heap_type = choose (abstract_rows Abstract) (read_index >>= λ n. give (Concrete n))
 
 pub heap_type_lawful : (h : HeapType) → Lawful (heap_type h) (λ fuel. read_heap_type) h
 heap_type_lawful (Abstract t) = abstract_row Abstract (λ fuel. []) _ t
@@ -70,15 +50,6 @@ heap_type_lawful (Concrete n) = past _ _ (λ fuel. index_starts _ (λ b lt. omeg
 
 pub heap_type_sound : Sound heap_type read_heap_type
 heap_type_sound = choose_tells _ _ (abstract_rows_sound heap_type Abstract (λ t rest. refl)) (last_tells Concrete index_sound (λ n bytes rest r. r))
-
-abbrev pub to : Bool → HeapType → RefType
-to nullable heap_type = record { nullable = nullable; heap_type = heap_type }
-
-abbrev pub long_rows : {A : Type 0} → (RefType → A) → List (ℕ × Reader A)
-long_rows make = (0x63, read_heap_type >>= λ h. give (make (to true h))) ∷ (0x64, read_heap_type >>= λ h. give (make (to false h))) ∷ []
-
-abbrev pub reference_rows : {A : Type 0} → (RefType → A) → List (ℕ × Reader A)
-reference_rows make = abstract_rows (λ t. make (to true (Abstract t))) ++ long_rows make
 
 -- a reference, where other rows may follow in the table
 module _ {A : Type 0} (make : RefType → A) (rows : ℕ → List (ℕ × Reader A)) (other : ℕ → Reader A) where
@@ -117,25 +88,11 @@ reference_rows_sound form make k = both_tables form (abstract_rows (λ t. make (
   (last_tells (λ h. make (to false h)) heap_type_sound (λ h bytes rest r. k (to false h) _ rest (bytes, refl, r)), tt),
 )
 
-abbrev pub read_reference : Reader RefType
-read_reference = choose (reference_rows (λ r. r)) nowhere
-
 pub reference_lawful : (r : RefType) → Lawful (reference r) (λ fuel. read_reference) r
 reference_lawful r = reference_row (λ s. s) (λ fuel. []) _ r.nullable r.heap_type
 
 pub reference_sound : Sound reference read_reference
 reference_sound = choose_tells _ _ (reference_rows_sound reference (λ r. r) (λ r bytes rest h. h)) nowhere_tells
-
-abbrev pub number_rows : {A : Type 0} → (ValType → A) → List (ℕ × Reader A)
-number_rows make =
-    (0x7f, give (make I32)) ∷
-    (0x7e, give (make I64)) ∷
-    (0x7d, give (make F32)) ∷
-    (0x7c, give (make F64)) ∷
-    (0x7b, give (make V128)) ∷ []
-
-abbrev pub val_type_rows : {A : Type 0} → (ValType → A) → List (ℕ × Reader A)
-val_type_rows make = reference_rows (λ r. make (Ref r)) ++ number_rows make
 
 -- a value type, where other rows may follow in the table
 pub val_type_row : {A : Type 0} (make : ValType → A) (rows : ℕ → List (ℕ × Reader A)) (other : ℕ → Reader A) (t : ValType)
@@ -146,9 +103,6 @@ val_type_row make rows other F32 = row_byte _ _ 0x7d (λ fuel rest. refl)
 val_type_row make rows other F64 = row_byte _ _ 0x7c (λ fuel rest. refl)
 val_type_row make rows other V128 = row_byte _ _ 0x7b (λ fuel rest. refl)
 val_type_row make rows other (Ref r) = reference_row (λ s. make (Ref s)) (λ fuel. number_rows make ++ rows fuel) other r.nullable r.heap_type
-
-abbrev pub read_val_type : Reader ValType
-read_val_type = choose (val_type_rows (λ t. t)) nowhere
 
 pub val_type_lawful : (t : ValType) → Lawful (val_type t) (λ fuel. read_val_type) t
 val_type_lawful t = val_type_row (λ u. u) (λ fuel. []) _ t

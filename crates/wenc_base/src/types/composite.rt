@@ -80,7 +80,8 @@ impl<A: Allocator> Encode for FuncType<A> {
 
 impl<A: Allocator> Delimited for FuncType<A> {
     ghost use Rattle.wenc_base.specs.Composites.{Composite, composite_type, func_type_view};
-    ghost use Rattle.wenc_base.specs.laws.Composites.{read_composite, composite_type_lawful};
+    ghost use Rattle.wenc_base.specs.laws.Composites.{composite_type_lawful};
+    ghost use Rattle.wenc_base.specs.reading.Composites.{read_composite};
 
     ghost Seen = { Composite };
 
@@ -116,7 +117,8 @@ impl Encode for ArrayType {
 
 impl Delimited for ArrayType {
     ghost use Rattle.wenc_base.specs.Composites.{Composite, composite_type, array_view};
-    ghost use Rattle.wenc_base.specs.laws.Composites.{read_composite, composite_type_lawful};
+    ghost use Rattle.wenc_base.specs.laws.Composites.{composite_type_lawful};
+    ghost use Rattle.wenc_base.specs.reading.Composites.{read_composite};
 
     ghost Seen = { Composite };
 
@@ -156,7 +158,8 @@ impl<A: Allocator> Encode for StructType<A> {
 
 impl<A: Allocator> Delimited for StructType<A> {
     ghost use Rattle.wenc_base.specs.Composites.{Composite, composite_type, structure_view};
-    ghost use Rattle.wenc_base.specs.laws.Composites.{read_composite, composite_type_lawful};
+    ghost use Rattle.wenc_base.specs.laws.Composites.{composite_type_lawful};
+    ghost use Rattle.wenc_base.specs.reading.Composites.{read_composite};
 
     ghost Seen = { Composite };
 
@@ -203,7 +206,8 @@ impl<A: Allocator> Encode for CompositeType<A> {
 
 impl<A: Allocator> Delimited for CompositeType<A> {
     ghost use Rattle.wenc_base.specs.Composites.{Composite, composite_type, composite_view};
-    ghost use Rattle.wenc_base.specs.laws.Composites.{read_composite, composite_type_lawful};
+    ghost use Rattle.wenc_base.specs.laws.Composites.{composite_type_lawful};
+    ghost use Rattle.wenc_base.specs.reading.Composites.{read_composite};
 
     ghost Seen = { Composite };
 

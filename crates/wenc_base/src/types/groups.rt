@@ -32,7 +32,8 @@ impl<A: Allocator> Encode for GroupTree<A> {
 
 impl<A: Allocator> Delimited for GroupTree<A> {
     ghost use Rattle.wenc_base.specs.Composites.{RecType, rec_type, rec_type_view};
-    ghost use Rattle.wenc_base.specs.laws.Composites.{read_group, group_lawful};
+    ghost use Rattle.wenc_base.specs.laws.Composites.{group_lawful};
+    ghost use Rattle.wenc_base.specs.reading.Composites.{read_group};
 
     ghost Seen = { RecType };
 

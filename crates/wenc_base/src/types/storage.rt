@@ -37,7 +37,8 @@ impl Encode for StorageType {
 
 impl Delimited for StorageType {
     ghost use Rattle.wenc_base.specs.Composites.{storage_type};
-    ghost use Rattle.wenc_base.specs.laws.Composites.{read_storage_type, storage_type_lawful};
+    ghost use Rattle.wenc_base.specs.laws.Composites.{storage_type_lawful};
+    ghost use Rattle.wenc_base.specs.reading.Composites.{read_storage_type};
     ghost use Rattle.wenc_base.specs.declared.types.storage.StorageType.{StorageType as Seen'};
 
     ghost Seen = { Seen' };
@@ -77,7 +78,8 @@ impl Encode for FieldType {
 
 impl Delimited for FieldType {
     ghost use Rattle.wenc_base.specs.Composites.{field_type};
-    ghost use Rattle.wenc_base.specs.laws.Composites.{read_field_type, field_type_lawful};
+    ghost use Rattle.wenc_base.specs.laws.Composites.{field_type_lawful};
+    ghost use Rattle.wenc_base.specs.reading.Composites.{read_field_type};
     ghost use Rattle.wenc_base.specs.declared.types.storage.FieldType.{FieldType as Seen'};
 
     ghost Seen = { Seen' };

@@ -42,7 +42,8 @@ impl<A: Allocator> Encode for SubType<A> {
 
 impl<A: Allocator> Delimited for SubType<A> {
     ghost use Rattle.wenc_base.specs.Composites.{Sub, sub_type, sub_view};
-    ghost use Rattle.wenc_base.specs.laws.Composites.{read_sub_type, sub_type_lawful};
+    ghost use Rattle.wenc_base.specs.laws.Composites.{sub_type_lawful};
+    ghost use Rattle.wenc_base.specs.reading.Composites.{read_sub_type};
 
     ghost Seen = { Sub };
 

@@ -5,7 +5,8 @@ use Rattle.std.proofs.lemmas.Option.{same_Some}
 use Rattle.std.specs.List.{flat_map}
 use Rattle.std.specs.Prelude.{IsTrue}
 use Rattle.wenc_base.specs.Piece.{Piece, Spelling, Strict, only_where, ReadsEach}
-use Rattle.wenc_base.specs.laws.Forms.{read_byte_list, byte_list_lawful, read_counted, counted_lawful}
+use Rattle.wenc_base.specs.laws.Forms.{byte_list_lawful, read_counted, counted_lawful}
+use Rattle.wenc_base.specs.reading.Forms.{read_byte_list}
 use Rattle.wenc_base.specs.Readers.{Flaw, Bad, Lawful, Reader, go_on, ◌>>=◌, give, nowhere, pick, choose, made}
 use Rattle.wenc_base.specs.laws.Lawful.{LawfulWhole, row_lawful, row_byte, IsPast, Starts, past, last, only_where_lawful, then_whole, last_whole, to_end, at_end, before_end, deeper_whole, whole_once}
 use Rattle.wenc_base.specs.laws.Sections.{read_custom, custom_lawful}
@@ -13,11 +14,16 @@ use Rattle.wenc_builder.specs.Item.{Item, ModuleItem, CoreInstanceItem, CoreType
 use Rattle.wenc_base.specs.declared.fault.Fault.TheVariants.{Unfinished}
 use Rattle.wenc_builder.specs.laws.Never.{never_unfinished}
 use Rattle.wenc_builder.specs.Sections.{Section, Run, Alone, members, joined, runs, collects, item_of, section_piece, sections, component, preamble, Reading, whole}
-use Rattle.wenc_canon.specs.laws.Canonicals.{read_canonical, canonical_lawful}
-use Rattle.wenc_parts.specs.laws.Aliases.{read_alias, alias_lawful}
-use Rattle.wenc_sections.specs.laws.Items.{read_import, import_lawful, read_inline_export, inline_export_lawful, read_core_instance, core_instance_lawful, read_instance, instance_lawful, read_start, start_lawful}
-use Rattle.wenc_types.specs.laws.ComponentTypes.{read_type, type_lawful}
-use Rattle.wenc_types.specs.laws.CoreTypes.{read_core_type, core_type_lawful}
+use Rattle.wenc_canon.specs.laws.Canonicals.{canonical_lawful}
+use Rattle.wenc_canon.specs.reading.Canonicals.{read_canonical}
+use Rattle.wenc_parts.specs.laws.Aliases.{alias_lawful}
+use Rattle.wenc_parts.specs.reading.Aliases.{read_alias}
+use Rattle.wenc_sections.specs.laws.Items.{import_lawful, inline_export_lawful, core_instance_lawful, instance_lawful, start_lawful}
+use Rattle.wenc_sections.specs.reading.Items.{read_import, read_inline_export, read_core_instance, read_instance, read_start}
+use Rattle.wenc_types.specs.laws.ComponentTypes.{type_lawful}
+use Rattle.wenc_types.specs.reading.ComponentTypes.{read_type}
+use Rattle.wenc_types.specs.laws.CoreTypes.{core_type_lawful}
+use Rattle.wenc_types.specs.reading.CoreTypes.{read_core_type}
 use Rattle.wenc_builder.specs.Raw.{IsNoRaw, HasNoRaw, SectionsHaveNoRaw, AreEncodable, IsEncodable}
 
 -- what is never allowed is lawful

@@ -1,31 +1,19 @@
 -- The laws of canonical functions.
-use Rattle.std.proofs.Common.{◌≡◌, ℕ, ◌+◌, List, [], ◌∷◌, map, Option, Ok, refl, ap, arith}
+use Rattle.std.proofs.Common.{◌≡◌, ◌+◌, List, [], ◌∷◌, map, Option, Ok, refl, ap, arith}
 use Rattle.wenc_base.specs.Holder.{HolderState}
-use Rattle.wenc_base.specs.Readers.{Lawful, Reader, ◌>>=◌, give, nowhere, choose, pick}
+use Rattle.wenc_base.specs.Readers.{Lawful, nowhere, pick}
 use Rattle.wenc_base.specs.laws.Lawful.{row_lawful as in_row, row_byte, nothing_lawful, then, last}
 use Rattle.wenc_base.specs.laws.Sound.{Sound, RowsAreSound, give_tells, last_tells, then_tells, nowhere_tells, choose_tells}
-use Rattle.wenc_base.specs.laws.Numbers.{read_u32, u32_lawful, u32_sound}
-use Rattle.wenc_base.specs.laws.Forms.{read_flag, flag_lawful, flag_sound, read_list, list_lawful, list_sound}
-use Rattle.wenc_base.specs.laws.Types.{read_val_type, val_type_lawful, val_type_sound}
-use Rattle.wenc_parts.specs.laws.Types.{read_result_list, result_list_lawful, result_list_sound}
+use Rattle.wenc_base.specs.laws.Numbers.{u32_lawful, u32_sound}
+use Rattle.wenc_base.specs.laws.Forms.{flag_lawful, flag_sound, list_lawful, list_sound}
+use Rattle.wenc_base.specs.laws.Types.{val_type_lawful, val_type_sound}
+use Rattle.wenc_parts.specs.laws.Types.{result_list_lawful, result_list_sound}
 use Rattle.wenc_canon.specs.declared.canonicals.CanonicalOption.{CanonicalOption}
 use Rattle.wenc_canon.specs.declared.canonicals.CanonicalOption.TheVariants.{UTF8, UTF16, CompactUTF16, Memory, Realloc, PostReturn, Async, Callback, CoreType as CoreTypeOption, Gc}
 use Rattle.wenc_canon.specs.Canonicals.{canonical_option, Field, Index, Options, Flag, Zero, CoreType, Results, Slot, Value, field, Values, fields, Builtin, ResourceNew, row, builtins, Canonical, Lift, Lower, OfBuiltin, canonical, Adds, AddsWithOptions}
+use Rattle.wenc_canon.specs.reading.Canonicals.{read_builtin, read_canonical, read_canonical_option, read_field, read_fields, rows}
 
 -- ---- options
-
-abbrev pub read_canonical_option : Reader CanonicalOption
-read_canonical_option = choose (
-    (0x00, give UTF8) ∷
-    (0x01, give UTF16) ∷
-    (0x02, give CompactUTF16) ∷
-    (0x03, read_u32 >>= λ n. give (Memory n)) ∷
-    (0x04, read_u32 >>= λ n. give (Realloc n)) ∷
-    (0x05, read_u32 >>= λ n. give (PostReturn n)) ∷
-    (0x06, give Async) ∷
-    (0x07, read_u32 >>= λ n. give (Callback n)) ∷
-    (0x08, read_u32 >>= λ n. give (CoreTypeOption n)) ∷
-    (0x09, give Gc) ∷ []) nowhere
 
 pub canonical_option_lawful : (o : CanonicalOption) → Lawful (canonical_option o) (λ fuel. read_canonical_option) o
 canonical_option_lawful UTF8 = row_byte _ _ 0x00 (λ fuel rest. refl)
@@ -65,15 +53,6 @@ canonical_option_sound = choose_tells _ _ (
 
 -- ---- fields
 
-abbrev pub read_field : (f : Field) → Reader (Value f)
-read_field Index = read_u32
-read_field Options = read_list read_canonical_option
-read_field Flag = read_flag
-read_field Zero = choose ((0x00, give tt) ∷ []) nowhere
-read_field CoreType = read_val_type
-read_field Results = read_result_list
-read_field Slot = read_u32
-
 pub field_lawful : (f : Field) (v : Value f) → Lawful (field f v) (λ fuel. read_field f) v
 field_lawful Index n = u32_lawful n
 field_lawful Options options = list_lawful canonical_option_lawful options
@@ -92,11 +71,6 @@ field_sound CoreType = val_type_sound
 field_sound Results = result_list_sound
 field_sound Slot = u32_sound
 
-abbrev pub read_fields : (fs : List Field) → Reader (Values fs)
-read_fields [] = give tt
-read_fields (f ∷ []) = read_field f
-read_fields (f ∷ g ∷ fs) = read_field f >>= λ v. read_fields (g ∷ fs) >>= λ vs. give (v, vs)
-
 pub fields_lawful : (fs : List Field) (vs : Values fs) → Lawful (fields fs vs) (λ fuel. read_fields fs) vs
 fields_lawful [] vs = nothing_lawful tt
 fields_lawful (f ∷ []) v = field_lawful f v
@@ -108,18 +82,6 @@ fields_sound (f ∷ []) = field_sound f
 fields_sound (f ∷ g ∷ fs) = then_tells _ (field_sound f) (λ v. last_tells (λ vs. (v, vs)) (fields_sound (g ∷ fs)) (λ vs middle rest r bytes p. (middle, p, r)))
 
 -- ---- canonical functions
-
-abbrev pub read_builtin : Builtin → ℕ × Reader Canonical
-read_builtin i = ((row i).opcode, read_fields (row i).fields >>= λ vs. give (OfBuiltin i vs))
-
-abbrev pub rows : List (ℕ × Reader Canonical)
-rows =
-    (0x00, choose ((0x00, read_u32 >>= λ f. read_list read_canonical_option >>= λ os. read_u32 >>= λ t. give (Lift f os t)) ∷ []) nowhere) ∷
-    (0x01, choose ((0x00, read_u32 >>= λ f. read_list read_canonical_option >>= λ os. give (Lower f os)) ∷ []) nowhere) ∷
-    map read_builtin builtins
-
-abbrev pub read_canonical : Reader Canonical
-read_canonical = choose rows nowhere
 
 -- An opcode picks its builtin's own row. One clause is for the first builtin, the other for each of the others.
 own_row : (i : Builtin) → pick rows nowhere (row i).opcode ≡ (read_builtin i).1

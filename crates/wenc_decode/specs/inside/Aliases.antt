@@ -6,7 +6,7 @@ use Rattle.wenc_parts.specs.Aliases.{AliasOf}
 use Rattle.wenc_parts.specs.declared.aliases.ComponentOuterAliasKind.TheVariants as outers
 use Rattle.wenc_parts.specs.declared.exports.ComponentExportKind.{ComponentExportKind}
 use Rattle.wenc_parts.specs.declared.exports.ComponentExportKind.TheVariants as kinds
-use Rattle.wenc_parts.specs.laws.Aliases.{read_export, read_core_export, read_outer, read_either}
+use Rattle.wenc_parts.specs.reading.Aliases.{read_export, read_core_export, read_outer, read_either}
 
 -- an export of an instance, of a kind that is no outer item's
 abbrev pub read_exported_alias : ComponentExportKind → Reader AliasOf

@@ -1,11 +1,11 @@
 -- What stands behind the opcodes that lift and lower, a byte that has one value, and the table of
 -- opcodes in parts.
 use Rattle.std.specs.Prelude.{ℕ, List, [], ◌∷◌, drop}
-use Rattle.wenc_base.specs.laws.Forms.{read_list}
+use Rattle.wenc_base.specs.reading.Forms.{read_list}
 use Rattle.wenc_base.specs.Readers.{Reader, ◌>>=◌, give, nowhere, choose}
-use Rattle.wenc_base.specs.laws.Numbers.{read_u32}
+use Rattle.wenc_base.specs.reading.Numbers.{read_u32}
 use Rattle.wenc_canon.specs.Canonicals.{Canonical, Lift, Lower, Zero}
-use Rattle.wenc_canon.specs.laws.Canonicals.{read_canonical_option, read_field, rows}
+use Rattle.wenc_canon.specs.reading.Canonicals.{read_canonical_option, read_field, rows}
 
 abbrev pub read_zero : Reader (Unit {0})
 read_zero = read_field Zero

@@ -3,10 +3,10 @@ use Rattle.std.specs.Prelude.{Bool, [], ◌∷◌}
 use Rattle.wenc_base.specs.declared.types.RefType.{RefType}
 use Rattle.wenc_base.specs.Composites.{Single}
 use Rattle.wenc_base.specs.Readers.{Reader, ◌>>=◌, give, nowhere, choose}
-use Rattle.wenc_base.specs.laws.Numbers.{read_u32}
-use Rattle.wenc_base.specs.laws.Types.{read_heap_type, to}
+use Rattle.wenc_base.specs.reading.Numbers.{read_u32}
+use Rattle.wenc_base.specs.reading.Types.{read_heap_type, to}
 use Rattle.wenc_types.specs.CoreTypes.{ModuleDeclaration, ModuleOuter, CoreType, Grouped}
-use Rattle.wenc_types.specs.laws.CoreTypes.{read_open}
+use Rattle.wenc_types.specs.reading.CoreTypes.{read_open}
 
 -- a reference to the heap type that follows
 abbrev pub read_referred : Bool → Reader RefType

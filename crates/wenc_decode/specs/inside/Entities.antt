@@ -4,7 +4,7 @@ use Rattle.wenc_base.specs.declared.types.RefType.{RefType}
 use Rattle.wenc_base.specs.declared.memories.MemoryType.{MemoryType}
 use Rattle.wenc_base.specs.declared.tables.TableType.{TableType}
 use Rattle.wenc_base.specs.Readers.{Reader, ◌>>=◌, give}
-use Rattle.wenc_base.specs.laws.Numbers.{read_u64}
+use Rattle.wenc_base.specs.reading.Numbers.{read_u64}
 
 -- the maximum, where there is one
 abbrev pub read_maximum : Bool → Reader (Option ℕ)

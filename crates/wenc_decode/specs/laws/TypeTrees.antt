@@ -8,21 +8,26 @@ use Rattle.wenc_base.specs.laws.Forms.{list_lawful, list_sound, option_lawful, o
 use Rattle.wenc_base.specs.declared.types.ValType.{ValType}
 use Rattle.wenc_base.specs.Readers.{Flaw, Bad, Reader, ◌>>=◌, give, too_deep, times, choose}
 use Rattle.wenc_base.specs.laws.Lawful.{then, last}
-use Rattle.wenc_base.specs.laws.Numbers.{read_u32, u32_lawful, count_lawful, u32_sound}
+use Rattle.wenc_base.specs.laws.Numbers.{u32_lawful, count_lawful, u32_sound}
+use Rattle.wenc_base.specs.reading.Numbers.{read_u32}
 use Rattle.wenc_base.specs.laws.Sound.{Told, Tells, Sound, deep_where, sound_tells, told_on, then_tells, last_tells, nowhere_tells, too_deep_tells, sound_behind, RowsTell, both_tables, choose_tells, Fewer, Several, times_told, each_plain, Finds, agreed, or_deeper, nothing_finds, then_finds, last_finds, lawful_finds, too_deep_finds, row_finds, ReadsApart, other_finds}
 use Rattle.wenc_base.specs.laws.Types.{val_type_lawful, val_type_sound}
 use Rattle.wenc_parts.specs.declared.types.ComponentValType.{ComponentValType}
-use Rattle.wenc_parts.specs.laws.Aliases.{read_alias, alias_lawful, alias_sound}
+use Rattle.wenc_parts.specs.laws.Aliases.{alias_lawful, alias_sound}
+use Rattle.wenc_parts.specs.reading.Aliases.{read_alias}
 use Rattle.wenc_parts.specs.laws.Imports.{extern_name_lawful, extern_name_sound, type_reference_lawful, type_reference_sound}
-use Rattle.wenc_parts.specs.laws.Types.{result_list_lawful, result_list_sound, primitive_rows, primitive_rows_sound}
+use Rattle.wenc_parts.specs.laws.Types.{result_list_lawful, result_list_sound, primitive_rows_sound}
+use Rattle.wenc_parts.specs.reading.Types.{primitive_rows}
 use Rattle.wenc_types.specs.ComponentTypes.{DefType, DefinedType, FunctionType, ComponentType, InstanceType, ResourceType, InstanceDeclaration, CoreTyped, Typed, Aliased, Exported, ComponentDeclaration, Imported, Declared, InstanceDeclarations, no_instance, and_instance, ComponentDeclarations, no_component, and_component, instances_of, components_of, instance_count, component_count, def_type, instance_declaration, component_declaration, each_instance, each_component, depth, instance_depth, component_depth, declared_depth}
 use Rattle.wenc_types.specs.DefinedTypes.{LabelledType, DefValType, Primitive, def_val_type, function_type_of}
 use Rattle.wenc_types.specs.laws.ComponentTypes.{instances_counted, components_counted}
-use Rattle.wenc_types.specs.laws.CoreTypes.{read_core_type, core_type_lawful, core_type_sound}
-use Rattle.wenc_types.specs.laws.DefinedTypes.{labelled_type_lawful, named_sound, defined_type_lawful, defined_rows, defined_rows_sound, read_defined, to_function}
+use Rattle.wenc_types.specs.laws.CoreTypes.{core_type_lawful, core_type_sound}
+use Rattle.wenc_types.specs.reading.CoreTypes.{read_core_type}
+use Rattle.wenc_types.specs.laws.DefinedTypes.{labelled_type_lawful, named_sound, defined_type_lawful, defined_rows_sound}
+use Rattle.wenc_types.specs.reading.DefinedTypes.{defined_rows, read_defined, to_function}
 use Rattle.wenc_decode.specs.Depth.{Front, ByteThen, OpensTypes}
-use Rattle.wenc_decode.specs.inside.TypeTrees.{read_exported_type, read_imported, read_deep_instance_declaration, read_deep_component_declaration, read_components, read_instances, read_shallow, deep_type_rows, read_deep_type, read_component_type, read_instance_type}
-use Rattle.wenc_decode.specs.inside.Types.{read_function_type, read_resource_type}
+use Rattle.wenc_decode.specs.reading.TypeTrees.{read_exported_type, read_imported, read_deep_instance_declaration, read_deep_component_declaration, read_components, read_instances, read_shallow, deep_type_rows, read_deep_type, read_component_type, read_instance_type}
+use Rattle.wenc_decode.specs.reading.TypeTrees.{read_function_type, read_resource_type}
 use Rattle.wenc_decode.specs.laws.Levels.{one_level}
 
 -- ---- what doesn't nest

@@ -1,21 +1,23 @@
 -- Readers of sections and of what is in them.
 use Rattle.std.specs.Prelude.{ℕ, List, [], ◌∷◌, length, take, drop, Result, Ok}
 use Rattle.std.specs.Prelude.{Err, nat_eq, nat_lt, if◌then◌else◌}
-use Rattle.wenc_base.specs.laws.Forms.{read_raw}
-use Rattle.wenc_base.specs.laws.Sections.{read_custom_content}
+use Rattle.wenc_base.specs.reading.Forms.{read_raw}
+use Rattle.wenc_base.specs.reading.Sections.{read_custom_content}
 use Rattle.wenc_base.specs.Readers.{Flaw, Bad, Reader, go_on, ◌>>=◌, give, nowhere, times, done, made}
-use Rattle.wenc_base.specs.laws.Numbers.{read_u32}
+use Rattle.wenc_base.specs.reading.Numbers.{read_u32}
 use Rattle.wenc_builder.specs.Item.{Item, ModuleItem, CoreInstanceItem, CoreTypeItem, ComponentItem}
 use Rattle.wenc_builder.specs.Item.{InstanceItem, AliasItem, TypeItem, CanonItem, StartItem}
 use Rattle.wenc_builder.specs.Item.{ImportItem, ExportItem, CustomItem}
-use Rattle.wenc_canon.specs.laws.Canonicals.{read_canonical}
-use Rattle.wenc_decode.specs.inside.TypeTrees.{read_deep_type}
-use Rattle.wenc_parts.specs.laws.Aliases.{read_alias}
+use Rattle.wenc_canon.specs.reading.Canonicals.{read_canonical}
+use Rattle.wenc_decode.specs.reading.TypeTrees.{read_deep_type}
+use Rattle.wenc_parts.specs.reading.Aliases.{read_alias}
+use Rattle.wenc_read.specs.declared.refusal.NestedRefusal.{NestedRefusal}
+use Rattle.wenc_read.specs.declared.refusal.NestedRefusal.TheVariants.{Flat, TooDeep}
 use Rattle.wenc_read.specs.declared.refusal.Refusal.{Refusal}
 use Rattle.wenc_read.specs.declared.refusal.Refusal.TheVariants as refusals
-use Rattle.wenc_sections.specs.laws.Items.{read_import, read_inline_export, read_core_instance}
-use Rattle.wenc_sections.specs.laws.Items.{read_instance, read_start_content}
-use Rattle.wenc_types.specs.laws.CoreTypes.{read_core_type}
+use Rattle.wenc_sections.specs.reading.Items.{read_import, read_inline_export, read_core_instance}
+use Rattle.wenc_sections.specs.reading.Items.{read_instance, read_start_content}
+use Rattle.wenc_types.specs.reading.CoreTypes.{read_core_type}
 use Rattle.wenc_list.specs.declared.fault.ListFault.{ListFault}
 use Rattle.wenc_list.specs.declared.fault.ListFault.TheVariants as faults
 
@@ -100,11 +102,10 @@ read_frame (id ∷ bytes) =
 abbrev pub fault_of_frame : Refusal → ℕ → ListFault
 fault_of_frame refusals.Memory place = faults.Memory
 fault_of_frame refusals.Malformed place = faults.BadSection place
-fault_of_frame refusals.TooDeep place = faults.BadSection place
 
 -- why the content of a section with this id isn't read
-abbrev pub fault_of_content : Refusal → ℕ → ℕ → ListFault
-fault_of_content refusals.Memory id place = faults.Memory
-fault_of_content refusals.Malformed id place =
+abbrev pub fault_of_content : NestedRefusal → ℕ → ℕ → ListFault
+fault_of_content (Flat refusals.Memory) id place = faults.Memory
+fault_of_content (Flat refusals.Malformed) id place =
     if nat_eq id 0 then faults.BadSection place else faults.BadItem place
-fault_of_content refusals.TooDeep id place = faults.TooDeep place
+fault_of_content TooDeep id place = faults.TooDeep place

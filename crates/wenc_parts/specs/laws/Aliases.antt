@@ -4,10 +4,10 @@ use Rattle.wenc_base.specs.Piece.{Piece, Form, Wide, byte, ◌▸◌, ◌⨾◌}
 use Rattle.wenc_base.specs.laws.Sound.{Sound, sound_behind, give_tells, last_tells, then_tells, nowhere_tells, choose_tells}
 use Rattle.wenc_base.specs.Number.{u32}
 use Rattle.wenc_base.specs.Forms.{name as name_form}
-use Rattle.wenc_base.specs.Readers.{Lawful, Reader, ◌>>=◌, give, nowhere, choose}
+use Rattle.wenc_base.specs.Readers.{Lawful, nowhere, choose}
 use Rattle.wenc_base.specs.laws.Lawful.{row_lawful, row_byte, first_byte, first_of_two, then, last}
-use Rattle.wenc_base.specs.laws.Numbers.{read_u32, u32_lawful, u32_sound}
-use Rattle.wenc_base.specs.laws.Forms.{read_name, name_lawful, name_sound}
+use Rattle.wenc_base.specs.laws.Numbers.{u32_lawful, u32_sound}
+use Rattle.wenc_base.specs.laws.Forms.{name_lawful, name_sound}
 use Rattle.wenc_base.specs.declared.exports.ExportKind.{ExportKind}
 use Rattle.wenc_base.specs.declared.exports.ExportKind.TheVariants as cores
 use Rattle.wenc_parts.specs.declared.exports.ComponentExportKind.{ComponentExportKind}
@@ -17,14 +17,9 @@ use Rattle.wenc_parts.specs.declared.aliases.ComponentOuterAliasKind.TheVariants
 use Rattle.wenc_base.specs.Exports.{export_kind_byte}
 use Rattle.wenc_parts.specs.Exports.{component_export_kind}
 use Rattle.wenc_parts.specs.Aliases.{AliasOf, InstanceExport, CoreInstanceExport, Outer, outer_kind, alias}
+use Rattle.wenc_parts.specs.reading.Aliases.{read_alias, read_core_export, read_either, read_export, read_outer, read_outer_kind}
 
 -- ---- kinds
-
-abbrev pub read_outer_kind : Reader ComponentOuterAliasKind
-read_outer_kind = choose (
-    (0x00, choose ((0x11, give outers.CoreModule) ∷ (0x10, give outers.CoreType) ∷ []) nowhere) ∷
-    (0x03, give outers.«Type») ∷
-    (0x04, give outers.Component) ∷ []) nowhere
 
 pub outer_kind_lawful : (kind : ComponentOuterAliasKind) → Lawful (outer_kind kind) (λ fuel. read_outer_kind) kind
 outer_kind_lawful outers.CoreModule = row_lawful _ _ 0x00 (row_byte _ _ 0x11 (λ fuel rest. refl))
@@ -39,38 +34,6 @@ outer_kind_sound = choose_tells _ _ (
 ) nowhere_tells
 
 -- ---- aliases
-
--- what stands behind the byte that says which form it is
-abbrev pub read_export : ComponentExportKind → Reader AliasOf
-read_export kind = read_u32 >>= λ instance. read_name >>= λ name. give (InstanceExport instance kind name)
-
-abbrev pub read_core_export : ExportKind → Reader AliasOf
-read_core_export kind = choose ((0x01, read_u32 >>= λ instance. read_name >>= λ name. give (CoreInstanceExport instance kind name)) ∷ []) nowhere
-
-abbrev pub read_outer : ComponentOuterAliasKind → Reader AliasOf
-read_outer kind = read_u32 >>= λ count. read_u32 >>= λ number. give (Outer kind count number)
-
--- where a sort is both
-abbrev pub read_either : ComponentExportKind → ComponentOuterAliasKind → Reader AliasOf
-read_either kind outer = choose ((0x00, read_export kind) ∷ (0x02, read_outer outer) ∷ []) nowhere
-
-abbrev pub read_alias : Reader AliasOf
-read_alias = choose ((
-  0x00,
-  choose (
-      (0x00, read_core_export cores.Func) ∷
-      (0x01, read_core_export cores.Table) ∷
-      (0x02, read_core_export cores.Memory) ∷
-      (0x03, read_core_export cores.Global) ∷
-      (0x04, read_core_export cores.Tag) ∷
-      (0x10, choose ((0x02, read_outer outers.CoreType) ∷ []) nowhere) ∷
-      (0x11, read_either kinds.Module outers.CoreModule) ∷ []) nowhere,
-) ∷
-    (0x01, choose ((0x00, read_export kinds.Func) ∷ []) nowhere) ∷
-    (0x02, choose ((0x00, read_export kinds.Value) ∷ []) nowhere) ∷
-    (0x03, read_either kinds.«Type» outers.«Type») ∷
-    (0x04, read_either kinds.Component outers.Component) ∷
-    (0x05, choose ((0x00, read_export kinds.Instance) ∷ []) nowhere) ∷ []) nowhere
 
 export_lawful : (kind : ComponentExportKind) (instance : ℕ) (name : List ℕ) → Lawful (u32 instance ⨾ name_form name) (λ fuel. read_export kind) (InstanceExport instance kind name)
 export_lawful kind instance name = then _ (u32_lawful instance) (last (InstanceExport instance kind) (name_lawful name))

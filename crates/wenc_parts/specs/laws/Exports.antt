@@ -1,20 +1,12 @@
 -- The laws of the kinds of exports.
-use Rattle.std.proofs.Common.{[], ◌∷◌, refl}
-use Rattle.wenc_base.specs.Readers.{Lawful, Reader, give, nowhere, choose}
+use Rattle.std.proofs.Common.{refl}
+use Rattle.wenc_base.specs.Readers.{Lawful}
 use Rattle.wenc_base.specs.laws.Lawful.{row_lawful, row_byte}
 use Rattle.wenc_base.specs.laws.Sound.{Sound, give_tells, nowhere_tells, choose_tells}
 use Rattle.wenc_parts.specs.declared.exports.ComponentExportKind.{ComponentExportKind}
 use Rattle.wenc_parts.specs.declared.exports.ComponentExportKind.TheVariants.{Module, Func, Value, «Type» as TypeKind, Instance, Component}
 use Rattle.wenc_parts.specs.Exports.{component_export_kind}
-
-abbrev pub read_component_export_kind : Reader ComponentExportKind
-read_component_export_kind = choose (
-    (0x00, choose ((0x11, give Module) ∷ []) nowhere) ∷
-    (0x01, give Func) ∷
-    (0x02, give Value) ∷
-    (0x03, give TypeKind) ∷
-    (0x05, give Instance) ∷
-    (0x04, give Component) ∷ []) nowhere
+use Rattle.wenc_parts.specs.reading.Exports.{read_component_export_kind}
 
 pub component_export_kind_lawful : (kind : ComponentExportKind) → Lawful (component_export_kind kind) (λ fuel. read_component_export_kind) kind
 component_export_kind_lawful Module = row_lawful _ _ 0x00 (row_byte _ _ 0x11 (λ fuel rest. refl))

@@ -1,25 +1,23 @@
 -- The laws of type references and of names.
-use Rattle.std.specs.Prelude.{nat_lt}
-use Rattle.std.proofs.Common.{◌≡◌, ℕ, suc, Bool, true, false, true≢false, cond, ◌++◌, List, [], ◌∷◌, Option, Some, None, Ok, Err, refl, sym, ap, subst, inl, inr}
+use Rattle.std.proofs.Common.{◌≡◌, ℕ, true, false, true≢false, cond, ◌++◌, List, [], ◌∷◌, Option, Some, None, Ok, Err, refl, sym, ap, subst, inl, inr}
 use Rattle.wenc_base.specs.Forms.{name, list}
 use Rattle.wenc_parts.specs.Exports.{component_export_kind}
-use Rattle.wenc_base.specs.Readers.{Bad, Lawful, Reader, ◌>>=◌, give, nowhere, choose}
+use Rattle.wenc_base.specs.Readers.{Bad, Lawful, ◌>>=◌}
 use Rattle.wenc_base.specs.laws.Lawful.{row_lawful, row_also, row_byte, then, last}
 use Rattle.wenc_base.specs.laws.Sound.{Told, Sound, give_tells, last_tells, then_tells, nowhere_tells, choose_tells}
 use Rattle.wenc_base.specs.Piece.{Wide}
-use Rattle.wenc_base.specs.laws.Numbers.{read_u32, u32_lawful, u32_sound}
-use Rattle.wenc_base.specs.laws.Forms.{read_name, name_lawful, name_sound, read_list, list_lawful, list_sound}
+use Rattle.wenc_base.specs.laws.Numbers.{u32_lawful, u32_sound}
+use Rattle.wenc_base.specs.laws.Forms.{name_lawful, name_sound, list_lawful, list_sound}
+use Rattle.wenc_base.specs.reading.Forms.{read_list}
 use Rattle.wenc_parts.specs.declared.imports.TypeBounds.{TypeBounds}
 use Rattle.wenc_parts.specs.declared.imports.TypeBounds.TheVariants.{Eq, SubResource}
 use Rattle.wenc_parts.specs.declared.imports.ComponentTypeRef.{ComponentTypeRef}
 use Rattle.wenc_parts.specs.declared.imports.ComponentTypeRef.TheVariants.{Module, Func, Value, «Type» as TypeRef, Instance, Component}
 use Rattle.wenc_parts.specs.Imports.{type_bounds, type_reference, ExternName, plain_name, NameOption, Implements, VersionSuffix, ExternalId, name_option, present, name_options, name_with, extern_name, kind_of}
-use Rattle.wenc_parts.specs.laws.Types.{read_value_type, value_type_lawful, value_type_sound}
+use Rattle.wenc_parts.specs.laws.Types.{value_type_lawful, value_type_sound}
+use Rattle.wenc_parts.specs.reading.Imports.{are_options, ascend_from, given_options, read_extern_name, read_name_option, read_type_bounds, read_type_reference, with_options}
 
 -- ---- type references
-
-abbrev pub read_type_bounds : Reader TypeBounds
-read_type_bounds = choose ((0x00, read_u32 >>= λ n. give (Eq n)) ∷ (0x01, give SubResource) ∷ []) nowhere
 
 pub type_bounds_lawful : (b : TypeBounds) → Lawful (type_bounds b) (λ fuel. read_type_bounds) b
 type_bounds_lawful (Eq n) = row_lawful _ _ 0x00 (last Eq (u32_lawful n))
@@ -27,15 +25,6 @@ type_bounds_lawful SubResource = row_byte _ _ 0x01 (λ fuel rest. refl)
 
 pub type_bounds_sound : Sound type_bounds read_type_bounds
 type_bounds_sound = choose_tells _ _ (last_tells Eq u32_sound (λ n bytes rest r. (bytes, refl, r)), (give_tells SubResource (λ bytes. refl), tt)) nowhere_tells
-
-abbrev pub read_type_reference : Reader ComponentTypeRef
-read_type_reference = choose (
-    (0x00, choose ((0x11, read_u32 >>= λ n. give (Module n)) ∷ []) nowhere) ∷
-    (0x01, read_u32 >>= λ n. give (Func n)) ∷
-    (0x02, read_value_type >>= λ t. give (Value t)) ∷
-    (0x03, read_type_bounds >>= λ b. give (TypeRef b)) ∷
-    (0x05, read_u32 >>= λ n. give (Instance n)) ∷
-    (0x04, read_u32 >>= λ n. give (Component n)) ∷ []) nowhere
 
 pub type_reference_lawful : (r : ComponentTypeRef) → Lawful (type_reference r) (λ fuel. read_type_reference) r
 type_reference_lawful (Module n) = row_lawful _ _ 0x00 (row_lawful _ _ 0x11 (last Module (u32_lawful n)))
@@ -62,12 +51,6 @@ type_reference_sound = choose_tells _ _ (
 
 -- ---- names
 
-abbrev pub read_name_option : Reader NameOption
-read_name_option = choose (
-    (0x00, read_name >>= λ text. give (Implements text)) ∷
-    (0x01, read_name >>= λ text. give (VersionSuffix text)) ∷
-    (0x02, read_name >>= λ text. give (ExternalId text)) ∷ []) nowhere
-
 pub name_option_lawful : (o : NameOption) → Lawful (name_option o) (λ fuel. read_name_option) o
 name_option_lawful (Implements text) = row_lawful _ _ 0x00 (last Implements (name_lawful text))
 name_option_lawful (VersionSuffix text) = row_lawful _ _ 0x01 (last VersionSuffix (name_lawful text))
@@ -79,16 +62,6 @@ name_option_sound = choose_tells _ _ (
   (last_tells VersionSuffix name_sound (λ text bytes rest r. (bytes, refl, r)), (last_tells ExternalId name_sound (λ text bytes rest r. (bytes, refl, r)), tt)),
 ) nowhere_tells
 
-abbrev pub with_option : NameOption → ExternName → ExternName
-with_option (Implements text) n = record { name = n.name; implements = Some text; version_suffix = n.version_suffix; external_id = n.external_id }
-with_option (VersionSuffix text) n = record { name = n.name; implements = n.implements; version_suffix = Some text; external_id = n.external_id }
-with_option (ExternalId text) n = record { name = n.name; implements = n.implements; version_suffix = n.version_suffix; external_id = Some text }
-
--- the name with these options
-abbrev pub with_options : List ℕ → List NameOption → ExternName
-with_options text [] = plain_name text
-with_options text (o ∷ os) = with_option o (with_options text os)
-
 same_name : (text : List ℕ) (a b c : Option (List ℕ))
     → let n : ExternName = record { name = text; implements = a; version_suffix = b; external_id = c } in with_options text (name_options n) ≡ n
 same_name text None None None = refl
@@ -99,31 +72,6 @@ same_name text (Some i) None None = refl
 same_name text (Some i) None (Some e) = refl
 same_name text (Some i) (Some v) None = refl
 same_name text (Some i) (Some v) (Some e) = refl
-
--- what an option begins with
-abbrev pub option_number : NameOption → ℕ
-option_number (Implements text) = 0
-option_number (VersionSuffix text) = 1
-option_number (ExternalId text) = 2
-
--- options in ascending order of these numbers, from this one on
-abbrev pub ascend_from : ℕ → List NameOption → Bool
-ascend_from least [] = true
-ascend_from least (o ∷ os) = cond (nat_lt (option_number o) least) false (ascend_from (suc (option_number o)) os)
-
--- some options, in ascending order
-abbrev pub are_options : List NameOption → Bool
-are_options [] = false
-are_options (o ∷ os) = ascend_from 0 (o ∷ os)
-
-abbrev pub given_options : List ℕ → List NameOption → Reader ExternName
-given_options text options bytes = cond (are_options options) (Ok (with_options text options, bytes)) (Err Bad)
-
-abbrev pub read_extern_name : Reader ExternName
-read_extern_name = choose (
-    (0x00, read_name >>= λ text. give (plain_name text)) ∷
-    (0x01, read_name >>= λ text. give (plain_name text)) ∷
-    (0x02, read_name >>= λ text. read_list read_name_option >>= given_options text) ∷ []) nowhere
 
 -- the options of a name ascend
 they_ascend : (a b c : Option (List ℕ)) → ascend_from 0 (present Implements a ++ (present VersionSuffix b ++ present ExternalId c)) ≡ true

@@ -1,25 +1,11 @@
 -- The law of the ids of sections.
-use Rattle.std.proofs.Common.{[], ◌∷◌, refl}
-use Rattle.wenc_base.specs.Readers.{Lawful, Reader, give, nowhere, choose}
+use Rattle.std.proofs.Common.{refl}
+use Rattle.wenc_base.specs.Readers.{Lawful}
 use Rattle.wenc_base.specs.laws.Lawful.{row_byte}
 use Rattle.wenc_parts.specs.declared.component.ComponentSectionId.{ComponentSectionId}
 use Rattle.wenc_parts.specs.declared.component.ComponentSectionId.TheVariants.{CoreCustom, CoreModule, CoreInstance, CoreType, Component, Instance, Alias, «Type» as TypeSection, CanonicalFunction, Start, Import, Export}
 use Rattle.wenc_parts.specs.SectionIds.{section_id}
-
-abbrev pub read_section : Reader ComponentSectionId
-read_section = choose (
-    (0, give CoreCustom) ∷
-    (1, give CoreModule) ∷
-    (2, give CoreInstance) ∷
-    (3, give CoreType) ∷
-    (4, give Component) ∷
-    (5, give Instance) ∷
-    (6, give Alias) ∷
-    (7, give TypeSection) ∷
-    (8, give CanonicalFunction) ∷
-    (9, give Start) ∷
-    (10, give Import) ∷
-    (11, give Export) ∷ []) nowhere
+use Rattle.wenc_parts.specs.reading.SectionIds.{read_section}
 
 pub section_lawful : (id : ComponentSectionId) → Lawful (section_id id) (λ fuel. read_section) id
 section_lawful CoreCustom = row_byte _ _ 0 (λ fuel rest. refl)

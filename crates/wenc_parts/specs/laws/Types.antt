@@ -1,8 +1,8 @@
 -- The laws of value types.
 use Rattle.std.proofs.Common.{◌≡◌, ap, ℕ, List, [], ◌∷◌, ◌++◌, Option, Some, None, refl, arith}
-use Rattle.wenc_base.specs.Readers.{Lawful, Reader, ◌>>=◌, give, nowhere, choose}
+use Rattle.wenc_base.specs.Readers.{Lawful, Reader, choose}
 use Rattle.wenc_base.specs.laws.Lawful.{row_lawful, row_byte, past, last}
-use Rattle.wenc_base.specs.laws.Numbers.{read_index, index_lawful, index_sound, index_starts}
+use Rattle.wenc_base.specs.laws.Numbers.{index_lawful, index_sound, index_starts}
 use Rattle.wenc_parts.specs.declared.types.PrimitiveValType.{PrimitiveValType}
 use Rattle.wenc_parts.specs.declared.types.PrimitiveValType.TheVariants.{Bool, S8, U8, S16, U16, S32, U32, S64, U64, F32, F64, Char, String, ErrorContext}
 use Rattle.wenc_parts.specs.declared.types.ComponentValType.{ComponentValType}
@@ -11,23 +11,7 @@ use Rattle.wenc_parts.specs.declared.types.ResultList.{ResultList}
 use Rattle.wenc_base.specs.Piece.{Form, Wide}
 use Rattle.wenc_base.specs.laws.Sound.{Sound, RowsAreSound, given_rows, give_tells, last_tells, nowhere_tells, choose_tells}
 use Rattle.wenc_parts.specs.Types.{primitive_byte, primitive, value_type, result_list}
-
-abbrev pub primitive_rows : {A : Type 0} → (PrimitiveValType → A) → List (ℕ × Reader A)
-primitive_rows make =
-    (0x7f, give (make Bool)) ∷
-    (0x7e, give (make S8)) ∷
-    (0x7d, give (make U8)) ∷
-    (0x7c, give (make S16)) ∷
-    (0x7b, give (make U16)) ∷
-    (0x7a, give (make S32)) ∷
-    (0x79, give (make U32)) ∷
-    (0x78, give (make S64)) ∷
-    (0x77, give (make U64)) ∷
-    (0x76, give (make F32)) ∷
-    (0x75, give (make F64)) ∷
-    (0x74, give (make Char)) ∷
-    (0x73, give (make String)) ∷
-    (0x64, give (make ErrorContext)) ∷ []
+use Rattle.wenc_parts.specs.reading.Types.{primitive_rows, read_primitive, read_result_list, read_value_type}
 
 -- a primitive type, where others may follow in the table
 pub primitive_row : {A : Type 0} (make : PrimitiveValType → A) (rows : ℕ → List (ℕ × Reader A)) (other : ℕ → Reader A) (p : PrimitiveValType)
@@ -54,17 +38,11 @@ primitives = Bool ∷ S8 ∷ U8 ∷ S16 ∷ U16 ∷ S32 ∷ U32 ∷ S64 ∷ U64 
 pub primitive_rows_sound : {A : Type 0} (form : Form A) (make : PrimitiveValType → A) → ((p : PrimitiveValType) (rest : List ℕ) → (form (make p)).Reads Wide (primitive_byte p ∷ rest) rest) → RowsAreSound form (primitive_rows make)
 primitive_rows_sound form make k = given_rows form primitive_byte make k primitives
 
-abbrev pub read_primitive : Reader PrimitiveValType
-read_primitive = choose (primitive_rows (λ p. p)) nowhere
-
 pub primitive_lawful : (p : PrimitiveValType) → Lawful (primitive p) (λ fuel. read_primitive) p
 primitive_lawful p = primitive_row (λ q. q) (λ fuel. []) _ p
 
 pub primitive_sound : Sound primitive read_primitive
 primitive_sound = choose_tells _ _ (primitive_rows_sound primitive (λ p. p) (λ p rest. refl)) nowhere_tells
-
-abbrev pub read_value_type : Reader ComponentValType
-read_value_type = choose (primitive_rows Primitive) (read_index >>= λ n. give (TypeIndex n))
 
 pub value_type_lawful : (t : ComponentValType) → Lawful (value_type t) (λ fuel. read_value_type) t
 value_type_lawful (Primitive p) = primitive_row Primitive (λ fuel. []) _ p
@@ -72,9 +50,6 @@ value_type_lawful (TypeIndex n) = past _ _ (λ fuel. index_starts _ (λ b lt. om
 
 pub value_type_sound : Sound value_type read_value_type
 value_type_sound = choose_tells _ _ (primitive_rows_sound value_type Primitive (λ p rest. refl)) (last_tells TypeIndex index_sound (λ n bytes rest r. r))
-
-abbrev pub read_result_list : Reader (Option ComponentValType)
-read_result_list = choose ((0x00, read_value_type >>= λ t. give (Some t)) ∷ (0x01, choose ((0x00, give None) ∷ []) nowhere) ∷ []) nowhere
 
 pub result_list_lawful : (r : Option ComponentValType) → Lawful (result_list r) (λ fuel. read_result_list) r
 result_list_lawful (Some t) = row_lawful _ _ 0x00 (last Some (value_type_lawful t))

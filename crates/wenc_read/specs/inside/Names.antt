@@ -4,7 +4,7 @@ use Rattle.std.specs.String.{string_bytes}
 use Rattle.wenc_base.specs.Readers.{Bad, Reader, ◌>>=◌, times}
 use Rattle.wenc_parts.specs.Imports.{options_view, ExternName, NameOption, Implements}
 use Rattle.wenc_parts.specs.Imports.{VersionSuffix, ExternalId}
-use Rattle.wenc_parts.specs.laws.Imports.{read_name_option, with_options, ascend_from}
+use Rattle.wenc_parts.specs.reading.Imports.{read_name_option, with_options, ascend_from}
 use Rattle.wenc_read.specs.declared.names.Named.{Named}
 use Rattle.wenc_read.specs.declared.names.OptionTree.{OptionTree}
 use Rattle.wenc_read.specs.declared.names.OptionTree.TheVariants as options

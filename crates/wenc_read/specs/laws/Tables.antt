@@ -2,9 +2,11 @@
 use Rattle.std.proofs.Common.{◌≡◌, ℕ, List, [], ◌∷◌, Result, Ok, refl}
 use Rattle.wenc_base.specs.laws.Lawful.{same_Ok_pair, IsPast, pick_past}
 use Rattle.wenc_base.specs.Readers.{Flaw, Reader, go_on, read_byte, pick, choose}
+use Rattle.wenc_read.specs.declared.refusal.NestedRefusal.{NestedRefusal}
+use Rattle.wenc_read.specs.declared.refusal.NestedRefusal.TheVariants.{Flat, TooDeep}
 use Rattle.wenc_read.specs.declared.refusal.Refusal.{Refusal}
-use Rattle.wenc_read.specs.declared.refusal.Refusal.TheVariants as refusals
-use Rattle.wenc_read.specs.Gives.{Fails}
+use Rattle.wenc_read.specs.declared.refusal.Refusal.TheVariants.{Memory, Malformed}
+use Rattle.wenc_read.specs.Gives.{Fails, FailsNested}
 
 -- what stands behind a first byte, by the row of that byte
 pub at_first : {A : Type 0} (table : List (ℕ × Reader A)) (other : Reader A) (b first : ℕ) (bytes rest : List ℕ) → read_byte bytes ≡ Ok (first, rest) → first ≡ b → choose table other bytes ≡ pick table other b rest
@@ -23,6 +25,9 @@ past_rows table other b bytes rest e h = rw (first_there bytes rest b e) (pick_p
 
 -- what fails fails whatever is made of it
 pub fails_on : {A B : Type 0} (e : Refusal) (found : Result (A × List ℕ) Flaw) (next : A → List ℕ → Result B Flaw) → Fails e found → Fails e (go_on found next)
-fails_on refusals.Memory found next h = tt
-fails_on refusals.Malformed found next h = rw h refl
-fails_on refusals.TooDeep found next h = rw h refl
+fails_on Memory found next h = tt
+fails_on Malformed found next h = rw h refl
+
+pub fails_nested_on : {A B : Type 0} (e : NestedRefusal) (found : Result (A × List ℕ) Flaw) (next : A → List ℕ → Result B Flaw) → FailsNested e found → FailsNested e (go_on found next)
+fails_nested_on (Flat e) found next h = fails_on e found next h
+fails_nested_on TooDeep found next h = rw h refl

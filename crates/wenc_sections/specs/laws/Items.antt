@@ -1,43 +1,27 @@
 -- The laws of the items of flat sections.
-use Rattle.std.proofs.Common.{ℕ, List, [], ◌∷◌, Option, refl}
-use Rattle.wenc_base.specs.Readers.{Lawful, Reader, ◌>>=◌, give, nowhere, choose, done}
+use Rattle.std.proofs.Common.{refl}
+use Rattle.wenc_base.specs.Readers.{Lawful}
 use Rattle.wenc_base.specs.laws.Lawful.{row_lawful, then, last, whole_lawful}
 use Rattle.wenc_base.specs.laws.Sound.{Sound, last_tells, then_tells, nowhere_tells, choose_tells}
-use Rattle.wenc_base.specs.laws.Numbers.{read_u32, u32_lawful, u32_sound}
-use Rattle.wenc_base.specs.laws.Forms.{read_name, name_lawful, name_sound, read_list, list_lawful, list_sound, read_option, option_lawful, option_sound, read_sized, sized_lawful}
-use Rattle.wenc_base.specs.laws.Exports.{read_core_export_kind as read_core_kind, core_export_kind_lawful as core_kind_lawful, core_export_kind_sound as core_kind_sound}
-use Rattle.wenc_base.specs.declared.exports.ExportKind.{ExportKind}
-use Rattle.wenc_parts.specs.declared.exports.ComponentExportKind.{ComponentExportKind}
-use Rattle.wenc_parts.specs.declared.imports.ComponentTypeRef.{ComponentTypeRef}
-use Rattle.wenc_parts.specs.declared.instances.ModuleArg.{ModuleArg}
-use Rattle.wenc_parts.specs.Imports.{ExternName}
-use Rattle.wenc_parts.specs.laws.Exports.{read_component_export_kind, component_export_kind_lawful, component_export_kind_sound}
-use Rattle.wenc_parts.specs.laws.Imports.{read_type_reference, type_reference_lawful, type_reference_sound, read_extern_name, extern_name_lawful, extern_name_sound}
-use Rattle.wenc_parts.specs.laws.Instances.{read_module_argument, module_argument_lawful, module_argument_sound}
+use Rattle.wenc_base.specs.laws.Numbers.{u32_lawful, u32_sound}
+use Rattle.wenc_base.specs.laws.Forms.{name_lawful, name_sound, list_lawful, list_sound, option_lawful, option_sound, sized_lawful}
+use Rattle.wenc_base.specs.laws.Exports.{core_export_kind_lawful as core_kind_lawful, core_export_kind_sound as core_kind_sound}
+use Rattle.wenc_parts.specs.laws.Exports.{component_export_kind_lawful, component_export_kind_sound}
+use Rattle.wenc_parts.specs.laws.Imports.{type_reference_lawful, type_reference_sound, extern_name_lawful, extern_name_sound}
+use Rattle.wenc_parts.specs.laws.Instances.{module_argument_lawful, module_argument_sound}
 use Rattle.wenc_sections.specs.Imports.{Import, import_item}
 use Rattle.wenc_sections.specs.Exports.{Export, export_item}
 use Rattle.wenc_sections.specs.Instances.{Argument, argument, CoreExport, core_export, CoreInstance, CoreInstantiate, CoreExports, core_instance, InstantiateArg, instantiate_arg, InlineExport, inline_export, Instance, Instantiate, Exports, instance}
 use Rattle.wenc_sections.specs.Start.{Start, started, start_content, start}
+use Rattle.wenc_sections.specs.reading.Items.{ascribed, core_exported, imported, item_named, out, passed, read_argument, read_core_instance, read_given, read_import, read_inline_core_export, read_inline_export, read_inline_exported, read_instance, read_start, read_start_content}
 
 -- ---- imports and exports
-
-abbrev pub imported : ExternName → ComponentTypeRef → Import
-imported name what = record { name = name; what = what }
-
-abbrev pub read_import : Reader Import
-read_import = read_extern_name >>= λ name. read_type_reference >>= λ what. give (imported name what)
 
 pub import_lawful : (i : Import) → Lawful (import_item i) (λ fuel. read_import) i
 import_lawful i = then _ (extern_name_lawful i.name) (last (imported i.name) (type_reference_lawful i.what))
 
 pub import_sound : Sound import_item read_import
 import_sound = then_tells _ extern_name_sound (λ name. last_tells (imported name) type_reference_sound (λ what middle rest r bytes p. (middle, p, r)))
-
-abbrev pub ascribed : ExternName → ComponentExportKind → ℕ → Option ComponentTypeRef → Export
-ascribed name kind index what = record { name = name; kind = kind; index = index; what = what }
-
-abbrev pub read_inline_export : Reader Export
-read_inline_export = read_extern_name >>= λ name. read_component_export_kind >>= λ kind. read_u32 >>= λ index. read_option read_type_reference >>= λ what. give (ascribed name kind index what)
 
 pub inline_export_lawful : (e : Export) → Lawful (export_item e) (λ fuel. read_inline_export) e
 inline_export_lawful e = then _ (extern_name_lawful e.name) (then _ (component_export_kind_lawful e.kind) (then _ (u32_lawful e.index) (last (ascribed e.name e.kind e.index) (option_lawful type_reference_lawful e.what))))
@@ -49,34 +33,17 @@ inline_export_sound =
 
 -- ---- instances of core modules
 
-abbrev passed : List ℕ → ModuleArg → Argument
-passed name value = record { name = name; value = value }
-
-abbrev pub read_argument : Reader Argument
-read_argument = read_name >>= λ name. read_module_argument >>= λ value. give (passed name value)
-
 pub argument_lawful : (a : Argument) → Lawful (argument a) (λ fuel. read_argument) a
 argument_lawful a = then _ (name_lawful a.name) (last (passed a.name) (module_argument_lawful a.value))
 
 pub argument_sound : Sound argument read_argument
 argument_sound = then_tells _ name_sound (λ name. last_tells (passed name) module_argument_sound (λ value middle rest r bytes p. (middle, p, r)))
 
-abbrev core_exported : List ℕ → ExportKind → ℕ → CoreExport
-core_exported name kind index = record { name = name; kind = kind; index = index }
-
-abbrev pub read_inline_core_export : Reader CoreExport
-read_inline_core_export = read_name >>= λ name. read_core_kind >>= λ kind. read_u32 >>= λ index. give (core_exported name kind index)
-
 pub inline_core_export_lawful : (e : CoreExport) → Lawful (core_export e) (λ fuel. read_inline_core_export) e
 inline_core_export_lawful e = then _ (name_lawful e.name) (then _ (core_kind_lawful e.kind) (last (core_exported e.name e.kind) (u32_lawful e.index)))
 
 pub core_export_sound : Sound core_export read_inline_core_export
 core_export_sound = then_tells _ name_sound (λ name. then_tells _ core_kind_sound (λ kind. last_tells (core_exported name kind) u32_sound (λ index b rest r a q bytes p. (a, p, (b, q, r)))))
-
-abbrev pub read_core_instance : Reader CoreInstance
-read_core_instance = choose (
-    (0x00, read_u32 >>= λ module_index. read_list read_argument >>= λ arguments. give (CoreInstantiate module_index arguments)) ∷
-    (0x01, read_list read_inline_core_export >>= λ exports. give (CoreExports exports)) ∷ []) nowhere
 
 pub core_instance_lawful : (i : CoreInstance) → Lawful (core_instance i) (λ fuel. read_core_instance) i
 core_instance_lawful (CoreInstantiate module_index arguments) = row_lawful _ _ 0x00 (then _ (u32_lawful module_index) (last (CoreInstantiate module_index) (list_lawful argument_lawful arguments)))
@@ -90,34 +57,17 @@ core_instance_sound = choose_tells _ _ (
 
 -- ---- instances of components
 
-abbrev item_named : List ℕ → ComponentExportKind → ℕ → InstantiateArg
-item_named name kind index = record { name = name; kind = kind; index = index }
-
-abbrev pub read_given : Reader InstantiateArg
-read_given = read_name >>= λ name. read_component_export_kind >>= λ kind. read_u32 >>= λ index. give (item_named name kind index)
-
 pub given_lawful : (g : InstantiateArg) → Lawful (instantiate_arg g) (λ fuel. read_given) g
 given_lawful g = then _ (name_lawful g.name) (then _ (component_export_kind_lawful g.kind) (last (item_named g.name g.kind) (u32_lawful g.index)))
 
 pub given_sound : Sound instantiate_arg read_given
 given_sound = then_tells _ name_sound (λ name. then_tells _ component_export_kind_sound (λ kind. last_tells (item_named name kind) u32_sound (λ index b rest r a q bytes p. (a, p, (b, q, r)))))
 
-abbrev out : ExternName → ComponentExportKind → ℕ → InlineExport
-out name kind index = record { name = name; kind = kind; index = index }
-
-abbrev pub read_inline_exported : Reader InlineExport
-read_inline_exported = read_extern_name >>= λ name. read_component_export_kind >>= λ kind. read_u32 >>= λ index. give (out name kind index)
-
 pub exported_lawful : (e : InlineExport) → Lawful (inline_export e) (λ fuel. read_inline_exported) e
 exported_lawful e = then _ (extern_name_lawful e.name) (then _ (component_export_kind_lawful e.kind) (last (out e.name e.kind) (u32_lawful e.index)))
 
 pub exported_sound : Sound inline_export read_inline_exported
 exported_sound = then_tells _ extern_name_sound (λ name. then_tells _ component_export_kind_sound (λ kind. last_tells (out name kind) u32_sound (λ index b rest r a q bytes p. (a, p, (b, q, r)))))
-
-abbrev pub read_instance : Reader Instance
-read_instance = choose (
-    (0x00, read_u32 >>= λ component_index. read_list read_given >>= λ arguments. give (Instantiate component_index arguments)) ∷
-    (0x01, read_list read_inline_exported >>= λ exports. give (Exports exports)) ∷ []) nowhere
 
 pub instance_lawful : (i : Instance) → Lawful (instance i) (λ fuel. read_instance) i
 instance_lawful (Instantiate component_index arguments) = row_lawful _ _ 0x00 (then _ (u32_lawful component_index) (last (Instantiate component_index) (list_lawful given_lawful arguments)))
@@ -131,18 +81,12 @@ instance_sound = choose_tells _ _ (
 
 -- ---- sections
 
-abbrev pub read_start_content : Reader Start
-read_start_content = read_u32 >>= λ function. read_list read_u32 >>= λ arguments. read_u32 >>= λ results. give (started function arguments results)
-
 pub start_content_lawful : (s : Start) → Lawful (start_content s) (λ fuel. read_start_content) s
 start_content_lawful s = then _ (u32_lawful s.function) (then _ (list_lawful u32_lawful s.arguments) (last (started s.function s.arguments) (u32_lawful s.results)))
 
 pub start_content_sound : Sound start_content read_start_content
 start_content_sound = then_tells _ u32_sound (λ function. then_tells _ (list_sound u32_sound) (λ arguments. last_tells (started function arguments) u32_sound
     (λ results b rest r a q bytes p. (a, p, (b, q, r)))))
-
-abbrev pub read_start : Reader Start
-read_start = read_sized (done read_start_content)
 
 pub start_lawful : (s : Start) → Lawful (start s) (λ fuel. read_start) s
 start_lawful s = sized_lawful (whole_lawful (start_content_lawful s))

@@ -2,13 +2,15 @@
 use Rattle.std.proofs.Common.{◌≡◌, ℕ, List, [], ◌∷◌, refl}
 use Rattle.wenc_base.specs.Holder.{HolderState, Contains}
 use Rattle.wenc_base.specs.Names.{NameAssociation, name_association}
-use Rattle.wenc_base.specs.laws.Forms.{read_name, name_lawful, read_sized, sized_lawful, read_bytes, bytes_lawful}
-use Rattle.wenc_base.specs.Readers.{Lawful, Reader, ◌>>=◌, give, nowhere, choose, go_on, done}
+use Rattle.wenc_base.specs.laws.Forms.{name_lawful, sized_lawful, bytes_lawful}
+use Rattle.wenc_base.specs.reading.Forms.{read_name, read_sized}
+use Rattle.wenc_base.specs.Readers.{Lawful, Reader, ◌>>=◌, give, nowhere, choose, done}
 use Rattle.wenc_base.specs.laws.Lawful.{row_lawful, row_byte, then, last, then_whole, whole_lawful, refused_lawful}
 use Rattle.wenc_base.specs.laws.Names.{read_name_map, name_map_lawful, held_names}
 use Rattle.wenc_sections.specs.declared.names.Sort.{Sort}
 use Rattle.wenc_sections.specs.declared.names.Sort.TheVariants.{CoreFunc, CoreTable, CoreMemory, CoreGlobal, CoreTag, CoreType, CoreModule, CoreInstance, Func, Value, «Type» as TypeSort, Component, Instance}
 use Rattle.wenc_sections.specs.Names.{item_sort, Subsection, ComponentName, ItemNames, subsection, held_subsection, names_label, names_section}
+use Rattle.wenc_sections.specs.reading.Names.{read_names_section}
 
 -- ---- sorts
 
@@ -70,9 +72,6 @@ pub held_subsection_is : (sort : Sort) (held : HolderState) (names : List NameAs
 held_subsection_is sort held names holds = rw (held_names held names holds) refl
 
 -- ---- the section
-
-abbrev pub read_names_section : Reader (List ℕ)
-read_names_section = read_sized (λ content. go_on (read_name content) (λ label. read_bytes (λ bytes. bytes)))
 
 pub names_section_lawful : (bytes : List ℕ) → Lawful (names_section bytes) (λ fuel. read_names_section) bytes
 names_section_lawful bytes = refused_lawful (λ fault. ⊥) (sized_lawful (then_whole _ (name_lawful names_label) (bytes_lawful (λ bytes. bytes) bytes))) (λ h fault c. c) (λ c. c)

@@ -1,61 +1,24 @@
 -- The laws of types that components define.
-use Rattle.std.proofs.Common.{ℕ, zero, suc, Bool, true, false, List, [], ◌∷◌, ◌++◌, Option, ◌≡◌, length, refl, ap}
+use Rattle.std.proofs.Common.{suc, Bool, true, false, List, [], ◌∷◌, Option, ◌≡◌, length, refl, ap}
 use Rattle.wenc_base.specs.Encode.{Serves}
 use Rattle.wenc_base.specs.Forms.{list}
 use Rattle.wenc_base.specs.Piece.{each, ◌▸◌}
-use Rattle.wenc_base.specs.laws.Forms.{list_lawful, read_option, option_lawful}
-use Rattle.wenc_base.specs.Readers.{Lawful, Reader, ◌>>=◌, give, nowhere, choose}
+use Rattle.wenc_base.specs.laws.Forms.{list_lawful, option_lawful}
+use Rattle.wenc_base.specs.Readers.{Lawful, nowhere}
 use Rattle.wenc_base.specs.laws.Lawful.{row_lawful, then, last, deeper, nothing_lawful}
-use Rattle.wenc_base.specs.laws.Numbers.{read_u32, u32_lawful, count_lawful}
+use Rattle.wenc_base.specs.laws.Numbers.{u32_lawful, count_lawful}
 use Rattle.wenc_base.specs.laws.Serves.{serves_itself, tagged_serves, both_serve}
-use Rattle.wenc_base.specs.laws.Types.{read_val_type, val_type_lawful}
-use Rattle.wenc_parts.specs.laws.Aliases.{read_alias, alias_lawful}
-use Rattle.wenc_parts.specs.laws.Imports.{read_extern_name, extern_name_lawful, read_type_reference, type_reference_lawful}
+use Rattle.wenc_base.specs.laws.Types.{val_type_lawful}
+use Rattle.wenc_parts.specs.laws.Aliases.{alias_lawful}
+use Rattle.wenc_parts.specs.laws.Imports.{extern_name_lawful, type_reference_lawful}
 use Rattle.wenc_parts.specs.declared.types.ComponentValType.{ComponentValType}
-use Rattle.wenc_parts.specs.laws.Types.{primitive_rows, result_list_lawful}
-use Rattle.wenc_types.specs.DefinedTypes.{LabelledType, Primitive, function_type_of}
-use Rattle.wenc_types.specs.laws.CoreTypes.{read_core_type, core_type_lawful}
-use Rattle.wenc_types.specs.laws.DefinedTypes.{labelled_type_lawful, defined_rows, defined_row, to_function, function_rows}
+use Rattle.wenc_parts.specs.laws.Types.{result_list_lawful}
+use Rattle.wenc_types.specs.DefinedTypes.{LabelledType, function_type_of}
+use Rattle.wenc_types.specs.laws.CoreTypes.{core_type_lawful}
+use Rattle.wenc_types.specs.laws.DefinedTypes.{labelled_type_lawful, defined_row}
+use Rattle.wenc_types.specs.reading.DefinedTypes.{to_function}
 use Rattle.wenc_types.specs.ComponentTypes.{DefType, DefinedType, FunctionType, ComponentType, InstanceType, ResourceType, InstanceDeclaration, CoreTyped, Typed, Aliased, Exported, ComponentDeclaration, Imported, Declared, InstanceDeclarations, no_instance, and_instance, ComponentDeclarations, no_component, and_component, instance_count, component_count, instances_of, components_of, def_type, instance_declaration, component_declaration, each_instance, each_component}
-
--- ---- readers, each by the reader of a type
-
-abbrev pub instance_rows : {A : Type 0} → Reader DefType → (InstanceDeclaration → A) → List (ℕ × Reader A)
-instance_rows read make =
-    (0x00, read_core_type >>= λ ty. give (make (CoreTyped ty))) ∷
-    (0x01, read >>= λ ty. give (make (Typed ty))) ∷
-    (0x02, read_alias >>= λ to. give (make (Aliased to))) ∷
-    (0x04, read_extern_name >>= λ name. read_type_reference >>= λ ty. give (make (Exported name ty))) ∷ []
-
-abbrev pub read_instance_declaration : Reader DefType → Reader InstanceDeclaration
-read_instance_declaration read = choose (instance_rows read (λ d. d)) nowhere
-
-abbrev pub component_rows : Reader DefType → List (ℕ × Reader ComponentDeclaration)
-component_rows read = (0x03, read_extern_name >>= λ name. read_type_reference >>= λ ty. give (Imported name ty)) ∷ instance_rows read Declared
-
-abbrev pub read_component_declaration : Reader DefType → Reader ComponentDeclaration
-read_component_declaration read = choose (component_rows read) nowhere
-
-abbrev pub instance_times : Reader DefType → ℕ → Reader InstanceDeclarations
-instance_times read zero = give no_instance
-instance_times read (suc n) = read_instance_declaration read >>= λ d. instance_times read n >>= λ ds. give (and_instance d ds)
-
-abbrev pub component_times : Reader DefType → ℕ → Reader ComponentDeclarations
-component_times read zero = give no_component
-component_times read (suc n) = read_component_declaration read >>= λ d. component_times read n >>= λ ds. give (and_component d ds)
-
-abbrev pub type_rows : Reader DefType → List (ℕ × Reader DefType)
-type_rows read =
-    (0x41, read_u32 >>= λ n. component_times read n >>= λ ds. give (ComponentType ds)) ∷
-    (0x42, read_u32 >>= λ n. instance_times read n >>= λ ds. give (InstanceType ds)) ∷
-    (0x3f, read_val_type >>= λ rep. read_option read_u32 >>= λ dtor. give (ResourceType rep dtor)) ∷ []
-
-abbrev pub later_rows : Reader DefType → List (ℕ × Reader DefType)
-later_rows read = function_rows FunctionType ++ type_rows read
-
-abbrev pub read_type : ℕ → Reader DefType
-read_type zero = nowhere
-read_type (suc fuel) = choose (primitive_rows (λ p. DefinedType (Primitive p)) ++ (defined_rows DefinedType ++ later_rows (read_type fuel))) nowhere
+use Rattle.wenc_types.specs.reading.ComponentTypes.{component_times, instance_times, later_rows, read_component_declaration, read_instance_declaration, read_type}
 
 -- ---- laws
 

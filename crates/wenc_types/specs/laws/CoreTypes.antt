@@ -15,29 +15,24 @@ use Rattle.wenc_base.specs.Composites.{params_of, results_of, composite_view, su
 use Rattle.wenc_base.specs.Delimited.{AlikeIsEqual}
 use Rattle.wenc_base.specs.Forms.{list}
 use Rattle.wenc_base.specs.declared.imports.EntityType.{EntityType}
-use Rattle.wenc_base.specs.laws.Composites.{read_extension, extension_lawful, extension_sound, sub_of, final_rows, final_row, final_rows_sound, read_types, types_lawful, types_sound, read_group, group_lawful, group_sound, same_params, same_results, same_element, same_fields}
-use Rattle.wenc_base.specs.laws.Entities.{read_entity_type, entity_type_lawful, entity_type_sound}
-use Rattle.wenc_base.specs.laws.Forms.{read_list, list_lawful, list_sound, read_name, name_lawful, name_sound}
-use Rattle.wenc_base.specs.Readers.{Lawful, Reader, ◌>>=◌, give, nowhere, choose}
+use Rattle.wenc_base.specs.laws.Composites.{extension_lawful, extension_sound, final_row, final_rows_sound, types_lawful, types_sound, group_lawful, group_sound, same_params, same_results, same_element, same_fields}
+use Rattle.wenc_base.specs.reading.Composites.{sub_of, final_rows, read_types}
+use Rattle.wenc_base.specs.laws.Entities.{entity_type_lawful, entity_type_sound}
+use Rattle.wenc_base.specs.laws.Forms.{list_lawful, list_sound, name_lawful, name_sound}
+use Rattle.wenc_base.specs.Readers.{Lawful, Reader, nowhere, choose}
 use Rattle.wenc_base.specs.laws.Lawful.{row_lawful, then, last}
 use Rattle.wenc_base.specs.laws.Sound.{Sound, sound_behind, RowsAreSound, both_tables, last_tells, then_tells, nowhere_tells, choose_tells}
 use Rattle.wenc_base.specs.Piece.{Form, Wide}
-use Rattle.wenc_base.specs.laws.Numbers.{read_u32, u32_lawful, u32_sound}
+use Rattle.wenc_base.specs.laws.Numbers.{u32_lawful, u32_sound}
 use Rattle.wenc_types.specs.CoreTypes.{ModuleDeclaration, ModuleImport, ModuleRecType, ModuleOuter, ModuleExport, module_declaration, module_type, CoreType, Grouped, Module, core_type}
 use Rattle.wenc_types.specs.CoreTypeTrees.{module_declaration_view, core_type_view}
 use Rattle.wenc_types.specs.declared.core_type_tree.ModuleDecl.{ModuleDecl}
 use Rattle.wenc_types.specs.declared.core_type_tree.ModuleDecl.TheVariants as decls
 use Rattle.wenc_types.specs.declared.core_type_tree.CoreTypeTree.{CoreTypeTree}
 use Rattle.wenc_types.specs.declared.core_type_tree.CoreTypeTree.TheVariants as trees
+use Rattle.wenc_types.specs.reading.CoreTypes.{core_type_rows, declaration_rows, read_core_type, read_declarations, read_module_declaration, read_open, standing_rows}
 
 -- ---- module types
-
-abbrev pub declaration_rows : {A : Type 0} → (ModuleDeclaration → A) → List (ℕ × Reader A)
-declaration_rows make =
-    (0x00, read_name >>= λ from. read_name >>= λ name. read_entity_type >>= λ ty. give (make (ModuleImport from name ty))) ∷
-    (0x01, read_group >>= λ g. give (make (ModuleRecType g))) ∷
-    (0x02, choose ((0x10, choose ((0x01, read_u32 >>= λ count. read_u32 >>= λ number. give (make (ModuleOuter count number))) ∷ []) nowhere) ∷ []) nowhere) ∷
-    (0x03, read_name >>= λ name. read_entity_type >>= λ ty. give (make (ModuleExport name ty))) ∷ []
 
 -- a declaration, where other rows may follow in the table
 pub declaration_row : {A : Type 0} (make : ModuleDeclaration → A) (rows : ℕ → List (ℕ × Reader A)) (other : ℕ → Reader A) (d : ModuleDeclaration)
@@ -64,17 +59,11 @@ module_declaration_rows_sound = (
   ),
 )
 
-abbrev pub read_module_declaration : Reader ModuleDeclaration
-read_module_declaration = choose (declaration_rows (λ d. d)) nowhere
-
 pub module_declaration_lawful : (d : ModuleDeclaration) → Lawful (module_declaration d) (λ fuel. read_module_declaration) d
 module_declaration_lawful d = declaration_row (λ e. e) (λ fuel. []) _ d
 
 pub module_declaration_sound : Sound module_declaration read_module_declaration
 module_declaration_sound = choose_tells _ _ module_declaration_rows_sound nowhere_tells
-
-abbrev pub read_declarations : {A : Type 0} → (List ModuleDeclaration → A) → Reader A
-read_declarations make = read_list read_module_declaration >>= λ ds. give (make ds)
 
 pub declarations_lawful : {A : Type 0} (make : List ModuleDeclaration → A) (ds : List ModuleDeclaration)
     → Lawful (list module_declaration ds) (λ fuel. read_declarations make) (make ds)
@@ -88,13 +77,6 @@ module_type_lawful ds = row_lawful _ _ 0x50 (declarations_lawful (λ es. es) ds)
 
 -- ---- core types
 
--- what is read where a type has a guard
-abbrev pub read_open : {A : Type 0} → (Sub → A) → Reader A
-read_open make = choose ((0x50, read_extension (λ supertype c. make (sub_of false supertype c))) ∷ []) nowhere
-
-abbrev pub standing_rows : {A : Type 0} → (RecType → A) → List (ℕ × Reader A)
-standing_rows make = final_rows (λ s. make (Single s)) ++ ((0x4e, read_types make) ∷ (0x00, read_open (λ s. make (Single s))) ∷ [])
-
 -- a group with guards, where other rows may follow in the table
 pub standing_row : {A : Type 0} (make : RecType → A) (rows : ℕ → List (ℕ × Reader A)) (other : ℕ → Reader A) (g : RecType)
     → Lawful (standing true g) (λ fuel. choose (standing_rows make ++ rows fuel) (other fuel)) (make g)
@@ -106,17 +88,11 @@ standing_row {A} make rows other (Single s) = of s.is_final s.supertype s.compos
     of false supertype c = row_lawful _ _ 0x00 (row_lawful _ _ 0x50 (extension_lawful (λ t d. make (Single (sub_of false t d))) supertype c))
 standing_row make rows other (Rec types) = row_lawful _ _ 0x4e (types_lawful make types)
 
-abbrev pub core_type_rows : {A : Type 0} → (CoreType → A) → List (ℕ × Reader A)
-core_type_rows make = standing_rows (λ g. make (Grouped g)) ++ ((0x50, read_declarations (λ ds. make (Module ds))) ∷ [])
-
 -- a core type, where other rows may follow in the table
 pub core_type_row : {A : Type 0} (make : CoreType → A) (rows : ℕ → List (ℕ × Reader A)) (other : ℕ → Reader A) (t : CoreType)
     → Lawful (core_type t) (λ fuel. choose (core_type_rows make ++ rows fuel) (other fuel)) (make t)
 core_type_row make rows other (Grouped g) = standing_row (λ h. make (Grouped h)) (λ fuel. (0x50, read_declarations (λ ds. make (Module ds))) ∷ rows fuel) other g
 core_type_row make rows other (Module ds) = row_lawful _ _ 0x50 (declarations_lawful (λ es. make (Module es)) ds)
-
-abbrev pub read_core_type : Reader CoreType
-read_core_type = choose (core_type_rows (λ t. t)) nowhere
 
 pub core_type_lawful : (t : CoreType) → Lawful (core_type t) (λ fuel. read_core_type) t
 core_type_lawful t = core_type_row (λ u. u) (λ fuel. []) _ t

@@ -1,38 +1,24 @@
 -- The laws of types of values that components define, and of types of functions.
-use Rattle.std.proofs.Common.{ℕ, Bool, true, false, List, [], ◌∷◌, ◌++◌, Option, refl}
-use Rattle.wenc_base.specs.laws.Forms.{read_list, list_lawful, list_sound, read_name, name_lawful, name_sound, read_option, option_lawful, option_sound}
-use Rattle.wenc_base.specs.Readers.{Lawful, Reader, ◌>>=◌, give, nowhere, choose}
+use Rattle.std.proofs.Common.{ℕ, Bool, true, false, List, [], ◌++◌, Option, refl}
+use Rattle.wenc_base.specs.laws.Forms.{list_lawful, list_sound, name_lawful, name_sound, option_lawful, option_sound}
+use Rattle.wenc_base.specs.Readers.{Lawful, Reader, nowhere, choose}
 use Rattle.wenc_base.specs.laws.Lawful.{row_lawful, row_byte, then, last}
 use Rattle.wenc_base.specs.laws.Sound.{Sound, RowsAreSound, give_tells, last_tells, then_tells, nowhere_tells, choose_tells}
 use Rattle.wenc_base.specs.Piece.{Form, Wide}
-use Rattle.wenc_base.specs.laws.Numbers.{read_u32, u32_lawful, u32_sound}
+use Rattle.wenc_base.specs.laws.Numbers.{u32_lawful, u32_sound}
 use Rattle.wenc_parts.specs.declared.types.ComponentValType.{ComponentValType}
-use Rattle.wenc_parts.specs.laws.Types.{primitive_rows, primitive_row, read_value_type, value_type_lawful, value_type_sound, read_result_list, result_list_lawful}
+use Rattle.wenc_parts.specs.laws.Types.{primitive_row, value_type_lawful, value_type_sound, result_list_lawful}
+use Rattle.wenc_parts.specs.reading.Types.{primitive_rows}
 use Rattle.wenc_types.specs.DefinedTypes.{LabelledType, labelled_type, Case, case, DefValType, Primitive, Record, Variant, ListOf, MapOf, FixedLengthList, Tuple, Flags, Enumeration, OptionOf, ResultOf, Own, Borrow, Future, Stream, def_val_type, Function, function_type_of, function_type}
+use Rattle.wenc_types.specs.reading.DefinedTypes.{defined_rows, function_rows, read_case, read_defined, read_labelled_type, to_case, to_function, to_named}
 
 -- ---- parts
-
-abbrev to_named : List ℕ → ComponentValType → LabelledType
-to_named name ty = record { name = name; ty = ty }
-
-abbrev pub read_labelled_type : Reader LabelledType
-read_labelled_type = read_name >>= λ name. read_value_type >>= λ ty. give (to_named name ty)
 
 pub labelled_type_lawful : (f : LabelledType) → Lawful (labelled_type f) (λ fuel. read_labelled_type) f
 labelled_type_lawful f = then _ (name_lawful f.name) (last (to_named f.name) (value_type_lawful f.ty))
 
 pub named_sound : Sound labelled_type read_labelled_type
 named_sound = then_tells _ name_sound (λ name. last_tells (to_named name) value_type_sound (λ ty middle rest r bytes p. (middle, p, r)))
-
-abbrev to_case : List ℕ → Option ComponentValType → Case
-to_case name ty = record { name = name; ty = ty }
-
--- the byte behind a case
-abbrev read_end : {A : Type 0} → A → Reader A
-read_end v = choose ((0x00, give v) ∷ []) nowhere
-
-abbrev pub read_case : Reader Case
-read_case = read_name >>= λ name. read_option read_value_type >>= λ ty. read_end (to_case name ty)
 
 pub case_lawful : (c : Case) → Lawful (case c) (λ fuel. read_case) c
 case_lawful c = then _ (name_lawful c.name) (then _ (option_lawful value_type_lawful c.ty) (row_byte _ _ 0x00 (λ fuel rest. refl)))
@@ -41,23 +27,6 @@ pub case_sound : Sound case read_case
 case_sound = then_tells _ name_sound (λ name. then_tells _ (option_sound value_type_sound) (λ ty. choose_tells _ _ (give_tells (to_case name ty) (λ rest b q bytes p. (b, p, (_, q, refl))), tt) nowhere_tells))
 
 -- ---- defined types
-
-abbrev pub defined_rows : {A : Type 0} → (DefValType → A) → List (ℕ × Reader A)
-defined_rows make =
-    (0x72, read_list read_labelled_type >>= λ fields. give (make (Record fields))) ∷
-    (0x71, read_list read_case >>= λ cases. give (make (Variant cases))) ∷
-    (0x70, read_value_type >>= λ element. give (make (ListOf element))) ∷
-    (0x6f, read_list read_value_type >>= λ elements. give (make (Tuple elements))) ∷
-    (0x6e, read_list read_name >>= λ names. give (make (Flags names))) ∷
-    (0x6d, read_list read_name >>= λ names. give (make (Enumeration names))) ∷
-    (0x6b, read_value_type >>= λ ty. give (make (OptionOf ty))) ∷
-    (0x6a, read_option read_value_type >>= λ ok. read_option read_value_type >>= λ error. give (make (ResultOf ok error))) ∷
-    (0x69, read_u32 >>= λ number. give (make (Own number))) ∷
-    (0x68, read_u32 >>= λ number. give (make (Borrow number))) ∷
-    (0x67, read_value_type >>= λ element. read_u32 >>= λ length. give (make (FixedLengthList element length))) ∷
-    (0x66, read_option read_value_type >>= λ ty. give (make (Stream ty))) ∷
-    (0x65, read_option read_value_type >>= λ ty. give (make (Future ty))) ∷
-    (0x63, read_value_type >>= λ key. read_value_type >>= λ value. give (make (MapOf key value))) ∷ []
 
 -- a defined type, where other rows may follow in the table
 pub defined_row : {A : Type 0} (make : DefValType → A) (rows : ℕ → List (ℕ × Reader A)) (other : ℕ → Reader A) (t : DefValType)
@@ -123,22 +92,10 @@ defined_rows_sound form make k = (
   ),
 )
 
-abbrev pub read_defined : Reader DefValType
-read_defined = choose (primitive_rows Primitive ++ defined_rows (λ t. t)) nowhere
-
 pub defined_type_lawful : (t : DefValType) → Lawful (def_val_type t) (λ fuel. read_defined) t
 defined_type_lawful t = defined_row (λ u. u) (λ fuel. []) _ t
 
 -- ---- types of functions
-
-abbrev pub to_function : Bool → List LabelledType → Option ComponentValType → Function
-to_function is_async params answer = record { is_async = is_async; params = params; answer = answer }
-
-abbrev read_signature : {A : Type 0} → Bool → (Function → A) → Reader A
-read_signature is_async make = read_list read_labelled_type >>= λ params. read_result_list >>= λ answer. give (make (to_function is_async params answer))
-
-abbrev pub function_rows : {A : Type 0} → (Function → A) → List (ℕ × Reader A)
-function_rows make = (0x40, read_signature false make) ∷ (0x43, read_signature true make) ∷ []
 
 -- the type of a function, where other rows may follow in the table
 pub function_row : {A : Type 0} (make : Function → A) (rows : ℕ → List (ℕ × Reader A)) (other : ℕ → Reader A) (is_async : Bool) (params : List LabelledType) (answer : Option ComponentValType)

@@ -1,7 +1,8 @@
 use Rattle.std.specs.Prelude.{Result, Ok, Err, IfOk, List, ℕ}
 use Rattle.wenc_base.specs.Piece.{Wide}
 use Rattle.wenc_parts.specs.Aliases.{AliasOf, alias, alias_tree_view}
-use Rattle.wenc_parts.specs.laws.Aliases.{read_alias, alias_sound}
+use Rattle.wenc_parts.specs.laws.Aliases.{alias_sound}
+use Rattle.wenc_parts.specs.reading.Aliases.{read_alias}
 use Rattle.wenc_read.specs.Gives.{Gives}
 use Rattle.wenc_read.specs.declared.refusal.Refusal.{Refusal}
 use Rattle.facts.proofs.read.alias_of.Goals as goal

@@ -1,9 +1,9 @@
 use Rattle.std.proofs.Common.{rules, ◌∙◌}
 use Rattle.std.proofs.lemmas.List.{map-id}
-use Rattle.wenc_base.specs.laws.Forms.{read_list}
-use Rattle.wenc_base.specs.laws.Numbers.{read_u32}
+use Rattle.wenc_base.specs.reading.Forms.{read_list}
+use Rattle.wenc_base.specs.reading.Numbers.{read_u32}
 use Rattle.wenc_canon.specs.Canonicals.{Lift}
-use Rattle.wenc_canon.specs.laws.Canonicals.{read_canonical_option}
+use Rattle.wenc_canon.specs.reading.Canonicals.{read_canonical_option}
 use Rattle.wenc_read.specs.laws.Tables.{at_first}
 use Rattle.wenc_decode.proofs.Tables.{made_of_three}
 use Rattle.wenc_decode.proofs.canonicals.lifted.Goals as goal

@@ -1,7 +1,7 @@
 use Rattle.std.proofs.Common.{rules, ◌∙◌, [], ◌∷◌, false, refl}
 use Rattle.std.proofs.lemmas.Result.{err_from_is_err_and}
 use Rattle.wenc_base.specs.Composites.{Single}
-use Rattle.wenc_base.specs.laws.Composites.{read_extension, sub_of}
+use Rattle.wenc_base.specs.reading.Composites.{read_extension, sub_of}
 use Rattle.wenc_base.specs.Readers.{give, nowhere}
 use Rattle.wenc_read.specs.laws.Tables.{at_first, fails_on}
 use Rattle.wenc_types.specs.CoreTypes.{Grouped}

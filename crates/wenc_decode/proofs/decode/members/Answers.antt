@@ -2,13 +2,14 @@ use Rattle.std.proofs.Common.{◌≡◌, ◌++◌, ◌∷◌, [], map}
 use Rattle.std.proofs.lemmas.Result.{err_from_is_err_and}
 use Rattle.std.proofs.lemmas.List.{map_push}
 use Rattle.wenc_base.specs.Readers.{times}
+use Rattle.wenc_read.specs.declared.refusal.NestedRefusal.TheVariants.{Flat}
 use Rattle.wenc_decode.specs.laws.Repeats.{times_go_on, stops, is_done}
 use Rattle.wenc_decode.proofs.decode.members.Goals as goal
 
 pub returns-in_err-value : goal.returns-in_err-value
 returns-in_err-value g c =
     let p = err_from_is_err_and c.from_residual-in_err-value.result c.from_residual-in_err-value.ensures.1 in
-    rw (p.1, p.2) (stops c.in_err-value.field-0.0 g.T.Decode.read (map g.T.Decode.view c.loop.values.items) c.args.count c.loop.counter c.loop.rest.now (times g.T.Decode.read c.args.count c.args.bytes.now) c.loop-test.true c.in_err-value.ensures c.loop.invariant)
+    rw (p.1, p.2) (stops (Flat c.in_err-value.field-0.0) g.T.Decode.read (map g.T.Decode.view c.loop.values.items) c.args.count c.loop.counter c.loop.rest.now (times g.T.Decode.read c.args.count c.args.bytes.now) c.loop-test.true c.in_err-value.ensures c.loop.invariant)
 
 pub loop-preserved : goal.loop-preserved
 loop-preserved g c =

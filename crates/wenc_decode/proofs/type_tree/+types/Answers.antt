@@ -6,8 +6,8 @@ use Rattle.wenc_types.specs.TypeTrees.{instance_declaration_view, component_decl
 use Rattle.wenc_base.specs.Readers.{give, times}
 use Rattle.wenc_read.specs.laws.Tables.{past_rows, fails_on}
 use Rattle.wenc_types.specs.ComponentTypes.{DefinedType}
-use Rattle.wenc_types.specs.laws.DefinedTypes.{read_defined}
-use Rattle.wenc_decode.specs.inside.TypeTrees.{read_deep_type, read_deep_instance_declaration, read_deep_component_declaration, deep_type_rows, read_component_type, read_instance_type, read_shallow}
+use Rattle.wenc_types.specs.reading.DefinedTypes.{read_defined}
+use Rattle.wenc_decode.specs.reading.TypeTrees.{read_deep_type, read_deep_instance_declaration, read_deep_component_declaration, deep_type_rows, read_component_type, read_instance_type, read_shallow}
 use Rattle.wenc_decode.specs.laws.Repeats.{at_start, times_go_on, stops, is_done}
 use Rattle.wenc_decode.specs.laws.Levels.{one_level, component_found, component_fails, instance_found, instance_fails}
 use Rattle.wenc_decode.specs.laws.TypeTrees.{shallow_found}

@@ -1,7 +1,7 @@
 use Rattle.std.proofs.Common.{◌≡◌, ◌-◌, ◌+◌, ◌*◌, map}
 use Rattle.wenc_types.specs.TypeTrees.{instance_declaration_view, component_declaration_view}
 use Rattle.wenc_base.specs.Readers.{times}
-use Rattle.wenc_decode.specs.inside.TypeTrees.{read_deep_type, read_deep_instance_declaration, read_deep_component_declaration}
+use Rattle.wenc_decode.specs.reading.TypeTrees.{read_deep_type, read_deep_instance_declaration, read_deep_component_declaration}
 use Rattle.wenc_decode.specs.laws.Repeats.{with_front}
 use Rattle.wenc_decode.proofs.type_tree.+types.Given as goal
 

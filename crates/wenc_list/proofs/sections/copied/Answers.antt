@@ -1,5 +1,6 @@
 use Rattle.std.proofs.Common.{◌≡◌, true, rules}
-use Rattle.wenc_base.specs.laws.Forms.{are_bytes, bytes_pass}
+use Rattle.wenc_base.specs.laws.Forms.{bytes_pass}
+use Rattle.wenc_base.specs.reading.Forms.{are_bytes}
 use Rattle.wenc_list.proofs.sections.copied.Goals as goal
 
 pub returns : goal.returns

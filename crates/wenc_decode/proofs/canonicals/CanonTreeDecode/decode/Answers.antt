@@ -1,6 +1,6 @@
 use Rattle.std.proofs.Common.{refl}
 use Rattle.wenc_base.specs.Readers.{nowhere}
-use Rattle.wenc_canon.specs.laws.Canonicals.{rows}
+use Rattle.wenc_canon.specs.reading.Canonicals.{rows}
 use Rattle.wenc_read.specs.laws.Tables.{at_first}
 use Rattle.wenc_decode.proofs.canonicals.CanonTreeDecode.decode.Goals as goal
 

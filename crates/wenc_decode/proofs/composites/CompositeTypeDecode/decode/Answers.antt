@@ -1,6 +1,6 @@
 use Rattle.std.proofs.Common.{rules, ◌∙◌}
 use Rattle.wenc_base.specs.Composites.{Array}
-use Rattle.wenc_base.specs.laws.Composites.{read_field_type}
+use Rattle.wenc_base.specs.reading.Composites.{read_field_type}
 use Rattle.wenc_read.specs.laws.Tables.{at_first}
 use Rattle.wenc_decode.proofs.Tables.{made_of}
 use Rattle.wenc_decode.proofs.composites.CompositeTypeDecode.decode.Goals as goal

@@ -1,12 +1,12 @@
 use Rattle.std.proofs.Common.{◌∙◌, [], ◌∷◌, refl, rules}
 use Rattle.wenc_base.specs.Composites.{RecType, Single}
-use Rattle.wenc_base.specs.laws.Composites.{sub_rows, read_types}
+use Rattle.wenc_base.specs.reading.Composites.{sub_rows, read_types}
 use Rattle.wenc_decode.proofs.Rows.{wraps}
 use Rattle.wenc_decode.proofs.SubTypes.{subs_follow}
 use Rattle.std.proofs.lemmas.Result.{err_from_is_err_and}
 use Rattle.wenc_base.specs.Readers.{give}
 use Rattle.wenc_read.specs.laws.Tables.{fails_on}
-use Rattle.wenc_base.specs.laws.Composites.{read_sub_type}
+use Rattle.wenc_base.specs.reading.Composites.{read_sub_type}
 use Rattle.wenc_decode.proofs.composites.GroupTreeDecode.decode.Goals as goal
 
 pub returns-in_ok-ty-in_default : goal.returns-in_ok-ty-in_default

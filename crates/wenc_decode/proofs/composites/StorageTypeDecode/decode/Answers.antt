@@ -1,7 +1,7 @@
 use Rattle.std.proofs.Common.{rules, ◌∙◌, refl}
 use Rattle.wenc_base.specs.declared.types.storage.StorageType.TheVariants.{Val}
-use Rattle.wenc_base.specs.laws.Composites.{small_rows}
-use Rattle.wenc_base.specs.laws.Types.{val_type_rows}
+use Rattle.wenc_base.specs.reading.Composites.{small_rows}
+use Rattle.wenc_base.specs.reading.Types.{val_type_rows}
 use Rattle.wenc_decode.proofs.Rows.{wraps}
 use Rattle.wenc_decode.proofs.ValTypes.{val_types_follow}
 use Rattle.wenc_decode.proofs.composites.StorageTypeDecode.decode.Goals as goal

@@ -1,6 +1,6 @@
 use Rattle.std.proofs.Common.{rules, ◌∙◌, false, true, Some, [], ◌∷◌, refl}
 use Rattle.wenc_base.specs.Composites.{final}
-use Rattle.wenc_base.specs.laws.Composites.{composite_rows, read_closed, read_extension, sub_of, sub_rows}
+use Rattle.wenc_base.specs.reading.Composites.{composite_rows, read_closed, read_extension, sub_of, sub_rows}
 use Rattle.wenc_base.specs.Readers.{nowhere}
 use Rattle.wenc_read.specs.laws.Tables.{at_first}
 use Rattle.wenc_decode.proofs.Rows.{wraps}
@@ -8,7 +8,7 @@ use Rattle.wenc_decode.proofs.SubTypes.{composites_follow}
 use Rattle.std.proofs.lemmas.Result.{err_from_is_err_and}
 use Rattle.wenc_base.specs.Readers.{give}
 use Rattle.wenc_read.specs.laws.Tables.{fails_on}
-use Rattle.wenc_base.specs.laws.Composites.{read_composite}
+use Rattle.wenc_base.specs.reading.Composites.{read_composite}
 use Rattle.wenc_decode.proofs.composites.SubTypeDecode.decode.Goals as goal
 
 pub returns-in_ok-composite_type-in_default : goal.returns-in_ok-composite_type-in_default

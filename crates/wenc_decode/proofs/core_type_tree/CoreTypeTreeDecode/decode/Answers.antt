@@ -1,13 +1,13 @@
 use Rattle.std.proofs.Common.{rules, ◌∙◌, sym, subst, [], ◌∷◌, false, refl, Result, List, ℕ}
 use Rattle.std.proofs.lemmas.Result.{err_from_is_err_and}
 use Rattle.wenc_base.specs.Composites.{Sub, Single}
-use Rattle.wenc_base.specs.laws.Composites.{final_rows, read_extension, read_types, sub_of}
-use Rattle.wenc_base.specs.laws.Forms.{read_list}
+use Rattle.wenc_base.specs.reading.Composites.{final_rows, read_extension, read_types, sub_of}
+use Rattle.wenc_base.specs.reading.Forms.{read_list}
 use Rattle.wenc_base.specs.Readers.{Flaw, give, choose, nowhere}
 use Rattle.wenc_read.specs.Gives.{Fails}
 use Rattle.wenc_read.specs.laws.Tables.{at_first, fails_on}
 use Rattle.wenc_types.specs.CoreTypes.{Grouped, Module}
-use Rattle.wenc_types.specs.laws.CoreTypes.{read_declarations, read_module_declaration, read_open}
+use Rattle.wenc_types.specs.reading.CoreTypes.{read_declarations, read_module_declaration, read_open}
 use Rattle.wenc_decode.proofs.Rows.{found_alone, wraps}
 use Rattle.wenc_decode.proofs.SubTypes.{finals_follow}
 use Rattle.wenc_decode.proofs.Tables.{made_of}

@@ -1,5 +1,5 @@
 use Rattle.std.proofs.Common.{rules, ◌∙◌}
-use Rattle.wenc_base.specs.laws.Composites.{read_group}
+use Rattle.wenc_base.specs.reading.Composites.{read_group}
 use Rattle.wenc_read.specs.laws.Tables.{at_first}
 use Rattle.wenc_types.specs.CoreTypes.{ModuleRecType}
 use Rattle.wenc_decode.proofs.Tables.{made_of}

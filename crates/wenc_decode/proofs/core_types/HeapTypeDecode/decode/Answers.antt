@@ -3,8 +3,9 @@ use Rattle.std.proofs.lemmas.Result.{err_from_is_err_and}
 use Rattle.wenc_base.specs.Types.{abstract_byte}
 use Rattle.wenc_base.specs.declared.types.HeapType.TheVariants.{Abstract, Concrete}
 use Rattle.wenc_base.specs.Readers.{◌>>=◌, give}
-use Rattle.wenc_base.specs.laws.Numbers.{read_index}
-use Rattle.wenc_base.specs.laws.Types.{abstract_types, abstract_rows}
+use Rattle.wenc_base.specs.reading.Numbers.{read_index}
+use Rattle.wenc_base.specs.laws.Types.{abstract_types}
+use Rattle.wenc_base.specs.reading.Types.{abstract_rows}
 use Rattle.wenc_read.specs.laws.Tables.{fails_on}
 use Rattle.wenc_decode.proofs.Tables.{begins, falls_through, fails_first}
 use Rattle.wenc_decode.proofs.core_types.HeapTypeDecode.decode.Goals as goal

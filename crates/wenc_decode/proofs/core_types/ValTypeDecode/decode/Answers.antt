@@ -1,6 +1,6 @@
 use Rattle.std.proofs.Common.{rules, ◌∙◌, refl}
 use Rattle.wenc_base.specs.declared.types.ValType.TheVariants.{Ref}
-use Rattle.wenc_base.specs.laws.Types.{reference_rows, number_rows}
+use Rattle.wenc_base.specs.reading.Types.{reference_rows, number_rows}
 use Rattle.wenc_decode.proofs.Rows.{wraps}
 use Rattle.wenc_decode.proofs.ValTypes.{references_follow}
 use Rattle.wenc_decode.proofs.core_types.ValTypeDecode.decode.Goals as goal

@@ -2,9 +2,9 @@ use Rattle.std.proofs.Common.{sym, ◌∙◌, ◌++◌}
 use Rattle.std.proofs.lemmas.Result.{err_from_is_err_and}
 use Rattle.wenc_base.specs.Readers.{nowhere}
 use Rattle.wenc_parts.specs.Types.{primitive_byte}
-use Rattle.wenc_parts.specs.laws.Types.{primitive_rows}
+use Rattle.wenc_parts.specs.reading.Types.{primitive_rows}
 use Rattle.wenc_types.specs.DefinedTypes.{Primitive}
-use Rattle.wenc_types.specs.laws.DefinedTypes.{defined_rows}
+use Rattle.wenc_types.specs.reading.DefinedTypes.{defined_rows}
 use Rattle.wenc_decode.specs.inside.Types.{primitive_types}
 use Rattle.wenc_decode.proofs.Tables.{begins, goes_past, fails_first}
 use Rattle.wenc_decode.proofs.defined_types.DefinedTreeDecode.decode.Goals as goal

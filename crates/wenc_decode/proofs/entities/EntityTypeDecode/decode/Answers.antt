@@ -1,6 +1,6 @@
 use Rattle.std.proofs.Common.{rules, ◌∙◌}
 use Rattle.wenc_base.specs.declared.imports.EntityType.TheVariants.{Table, Global}
-use Rattle.wenc_base.specs.laws.Entities.{read_table_type, read_global_type}
+use Rattle.wenc_base.specs.reading.Entities.{read_table_type, read_global_type}
 use Rattle.wenc_read.specs.laws.Tables.{at_first}
 use Rattle.wenc_decode.proofs.Tables.{made_of}
 use Rattle.wenc_decode.proofs.entities.EntityTypeDecode.decode.Goals as goal

@@ -1,8 +1,8 @@
 use Rattle.std.proofs.Common.{rules, ◌∙◌}
-use Rattle.wenc_base.specs.laws.Forms.{read_list}
+use Rattle.wenc_base.specs.reading.Forms.{read_list}
 use Rattle.wenc_read.specs.laws.Tables.{at_first}
 use Rattle.wenc_sections.specs.Instances.{Exports}
-use Rattle.wenc_sections.specs.laws.Items.{read_inline_exported}
+use Rattle.wenc_sections.specs.reading.Items.{read_inline_exported}
 use Rattle.wenc_decode.proofs.Tables.{made_of}
 use Rattle.wenc_decode.proofs.instances.InstanceTreeDecode.decode.Goals as goal
 

@@ -1,16 +1,20 @@
 -- Readers of types that nest, by how deep they may.
-use Rattle.std.specs.Prelude.{ℕ, zero, suc, false, true, List, [], ◌∷◌}
+use Rattle.std.specs.Prelude.{ℕ, zero, suc, Bool, false, true, List, [], ◌∷◌}
 use Rattle.wenc_base.specs.Readers.{Reader, ◌>>=◌, give, nowhere, too_deep, times, choose}
-use Rattle.wenc_base.specs.laws.Numbers.{read_u32}
-use Rattle.wenc_parts.specs.laws.Aliases.{read_alias}
-use Rattle.wenc_parts.specs.laws.Imports.{read_extern_name, read_type_reference}
+use Rattle.wenc_base.specs.reading.Forms.{read_list, read_option}
+use Rattle.wenc_base.specs.reading.Numbers.{read_u32}
+use Rattle.wenc_base.specs.reading.Types.{read_val_type}
+use Rattle.wenc_parts.specs.reading.Types.{read_result_list}
+use Rattle.wenc_parts.specs.reading.Aliases.{read_alias}
+use Rattle.wenc_parts.specs.reading.Imports.{read_extern_name, read_type_reference}
 use Rattle.wenc_types.specs.ComponentTypes.{DefType, DefinedType, ComponentType, InstanceType}
+use Rattle.wenc_types.specs.ComponentTypes.{FunctionType, ResourceType}
 use Rattle.wenc_types.specs.ComponentTypes.{InstanceDeclaration, CoreTyped, Typed, Aliased}
 use Rattle.wenc_types.specs.ComponentTypes.{Exported, ComponentDeclaration, Imported, Declared}
 use Rattle.wenc_types.specs.ComponentTypes.{instances_of, components_of}
-use Rattle.wenc_types.specs.laws.CoreTypes.{read_core_type}
-use Rattle.wenc_types.specs.laws.DefinedTypes.{read_defined}
-use Rattle.wenc_decode.specs.inside.Types.{read_function_type, read_resource_type}
+use Rattle.wenc_types.specs.reading.CoreTypes.{read_core_type}
+use Rattle.wenc_types.specs.reading.DefinedTypes.{read_defined}
+use Rattle.wenc_types.specs.reading.DefinedTypes.{read_labelled_type, to_function}
 
 -- ---- declarations, by the reader of a type
 
@@ -37,6 +41,17 @@ read_deep_component_declaration read =
     (read_deep_instance_declaration read >>= λ d. give (Declared d))
 
 -- ---- types
+
+-- the parameters of a function, and what it answers
+abbrev pub read_function_type : Bool → Reader DefType
+read_function_type is_async =
+    read_list read_labelled_type >>= λ params. read_result_list >>= λ answer. give
+    (FunctionType (to_function is_async params answer))
+
+-- how a resource is represented, and what ends it
+abbrev pub read_resource_type : Reader DefType
+read_resource_type =
+    read_val_type >>= λ rep. read_option read_u32 >>= λ dtor. give (ResourceType rep dtor)
 
 -- declarations, behind the first byte of the type that has them
 abbrev pub read_components : Reader DefType → Reader DefType

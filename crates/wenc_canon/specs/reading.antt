@@ -1,0 +1,2 @@
+-- What finds a value at the front of bytes: a reader for each form. What reads is told by them.
+pub mod Canonicals

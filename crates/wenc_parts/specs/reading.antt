@@ -1,0 +1,7 @@
+-- What finds a value at the front of bytes: a reader for each form. What reads is told by them.
+pub mod SectionIds
+pub mod Types
+pub mod Exports
+pub mod Imports
+pub mod Instances
+pub mod Aliases
