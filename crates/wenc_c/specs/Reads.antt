@@ -15,7 +15,7 @@ use Rattle.wenc_builder.specs.Item.{Item, ModuleItem, CoreInstanceItem, CoreType
 use Rattle.wenc_builder.specs.Item.{InstanceItem, AliasItem, TypeItem, CanonItem, StartItem}
 use Rattle.wenc_builder.specs.Item.{ImportItem, ExportItem, CustomItem}
 use Rattle.wenc_canon.specs.reading.Canonicals.{read_canonical}
-use Rattle.wenc_decode.specs.reading.TypeTrees.{read_deep_type}
+use Rattle.wenc_types.specs.reading.ComponentTypes.{read_type}
 use Rattle.wenc_parts.specs.reading.Aliases.{read_alias}
 use Rattle.wenc_read.specs.declared.refusal.Refusal.{Refusal}
 use Rattle.wenc_read.specs.declared.refusal.Refusal.TheVariants as refusals
@@ -49,7 +49,7 @@ read_one id text =
     else (if nat_eq id 4 then Ok (ComponentItem text)
     else (if nat_eq id 5 then made InstanceItem (done read_instance text)
     else (if nat_eq id 6 then made AliasItem (done read_alias text)
-    else (if nat_eq id 7 then made TypeItem (done (read_deep_type 100) text)
+    else (if nat_eq id 7 then made TypeItem (done (read_type 100) text)
     else (if nat_eq id 8 then made CanonItem (done read_canonical text)
     else (if nat_eq id 9 then made StartItem (done read_start text)
     else (if nat_eq id 10 then made ImportItem (done read_import text)

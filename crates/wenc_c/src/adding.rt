@@ -10,7 +10,7 @@ ghost use Rattle.wenc_builder.specs.Item.{CoreInstanceItem, CoreTypeItem, Instan
 ghost use Rattle.wenc_builder.specs.Item.{ImportItem, ExportItem};
 ghost use Rattle.wenc_c.specs.Reads.{AddsRead, of_refusal, read_custom, read_one, read_start};
 ghost use Rattle.wenc_canon.specs.reading.Canonicals.{read_canonical};
-ghost use Rattle.wenc_decode.specs.reading.TypeTrees.{read_deep_type};
+ghost use Rattle.wenc_types.specs.reading.ComponentTypes.{read_type};
 ghost use Rattle.wenc_parts.specs.reading.Aliases.{read_alias};
 ghost use Rattle.wenc_sections.specs.reading.Items.{read_core_instance, read_import, read_inline_export, read_instance};
 ghost use Rattle.wenc_types.specs.reading.CoreTypes.{read_core_type};
@@ -118,7 +118,7 @@ fn defined_type(
     requires settled { builder_is_finished builder.old ≡ true }
     requires some { ∥ ((es : List Entry) × Holds builder.old es) ∥₁ }
     ensures { AddsRead Enters builder.old builder.new result (option_copied debug_name.entry)
-        (made TypeItem (done (read_deep_type 100) text.now)) }
+        (made TypeItem (done (read_type 100) text.now)) }
 {
     match whole_type(alloc, text) {
         Ok(ty) => by_builder(write_type(builder, debug_name, &ty)),

@@ -1,7 +1,7 @@
 //! Items by their texts: the bytes that stand for one in its section, in the component model's binary format.
 ghost use Rattle.wenc_base.specs.Readers.{done};
 ghost use Rattle.wenc_c.specs.Reads.{read_start};
-ghost use Rattle.wenc_decode.specs.reading.TypeTrees.{read_deep_type};
+ghost use Rattle.wenc_types.specs.reading.ComponentTypes.{read_type};
 ghost use Rattle.wenc_parts.specs.Imports.{name_tree_view};
 ghost use Rattle.wenc_read.specs.Gives.{Gives};
 ghost use Rattle.wenc_sections.specs.Start.{started};
@@ -31,7 +31,7 @@ pub(crate) fn all<T: Decode<Global>>(alloc: Global, bytes: &[u8]) -> Result<T, R
 
 /// The type whose text all of the bytes are.
 pub(crate) fn whole_type(alloc: Global, bytes: &[u8]) -> Result<TypeTree, Refusal>
-    ensures { Gives type_view result (done (read_deep_type 100) bytes.now) }
+    ensures { Gives type_view result (done (read_type 100) bytes.now) }
 {
     let (ty, rest) = type_of(alloc, DEPTH, bytes)?;
     if rest.is_empty() {

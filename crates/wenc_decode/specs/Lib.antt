@@ -1,4 +1,3 @@
 pub mod Depth
-pub mod reading
 pub mod inside
 pub mod laws

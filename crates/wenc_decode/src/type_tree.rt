@@ -1,9 +1,11 @@
 //! Types that components define. Those of components and instances nest, down to a depth.
 ghost use Rattle.std.specs.Prelude.{map};
 ghost use Rattle.wenc_base.specs.Readers.{times};
-ghost use Rattle.wenc_decode.specs.reading.TypeTrees.{read_imported, read_exported_type, read_deep_component_declaration, read_deep_instance_declaration};
-ghost use Rattle.wenc_decode.specs.reading.TypeTrees.{read_deep_type, read_component_type, read_instance_type};
-ghost use Rattle.wenc_decode.specs.reading.TypeTrees.{read_function_type, read_resource_type};
+ghost use Rattle.wenc_types.specs.reading.ComponentTypes.{read_imported, read_exported, read_component_declaration, read_instance_declaration};
+ghost use Rattle.wenc_types.specs.reading.ComponentTypes.{read_type, read_component_type, read_instance_type};
+ghost use Rattle.wenc_types.specs.reading.ComponentTypes.{read_resource_type};
+ghost use Rattle.wenc_types.specs.reading.DefinedTypes.{read_signature};
+ghost use Rattle.wenc_types.specs.ComponentTypes.{FunctionType};
 ghost use Rattle.wenc_read.specs.Gives.{Gives, GivesNested};
 ghost use Rattle.wenc_types.specs.TypeTrees.{type_view, instance_declaration_view, component_declaration_view};
 
@@ -20,7 +22,8 @@ fn function_type<A: Allocator + Copy>(
     is_async: bool,
     bytes: &[u8],
 ) -> Result<(TypeTree<A>, &[u8]), Refusal>
-    ensures { Gives (λ x. (type_view x.0, x.1.now)) result (read_function_type is_async bytes.now) }
+    ensures { Gives (λ x. (type_view x.0, x.1.now)) result
+        (read_signature is_async FunctionType bytes.now) }
 {
     let (params, rest) = Vec::decode(alloc, bytes)?;
     let (answer, rest) = ResultList::decode(alloc, rest)?;
@@ -48,13 +51,13 @@ fn resource_type<A: Allocator + Copy>(
 /// `depth_left` times inside one another, and what is behind it. It is refused where none is spelled, as too deep where more
 /// of them open, and for want of memory.
 #[cycle(types)]
-#[tactic(auto, using(crate::specs::laws::Levels::one_level), unfolding(wenc_base::specs::Readers::choose))]
+#[tactic(auto, using(wenc_types::specs::laws::ComponentTypes::one_level), unfolding(wenc_base::specs::Readers::choose))]
 pub fn type_of<A: Allocator + Copy>(
     alloc: A,
     depth_left: u32,
     bytes: &[u8],
 ) -> Result<(TypeTree<A>, &[u8]), NestedRefusal>
-    ensures { GivesNested (λ x. (type_view x.0, x.1.now)) result (read_deep_type depth_left bytes.now) }
+    ensures { GivesNested (λ x. (type_view x.0, x.1.now)) result (read_type depth_left bytes.now) }
 {
     match byte(bytes)? {
         (0x41, rest) => component_type(alloc, depth_left, rest),
@@ -114,7 +117,7 @@ fn component_decls<A: Allocator + Copy>(
     bytes: &[u8],
 ) -> Result<(Vec<ComponentDecl<A>, A>, &[u8]), NestedRefusal>
     ensures { GivesNested (λ x. (map component_declaration_view x.0.items, x.1.now)) result
-        (times (read_deep_component_declaration (read_deep_type depth_left)) count bytes.now) }
+        (times (read_component_declaration (read_type depth_left)) count bytes.now) }
 {
     let mut decls = Vec::new(alloc);
     let mut rest = bytes;
@@ -135,7 +138,7 @@ fn instance_decls<A: Allocator + Copy>(
     bytes: &[u8],
 ) -> Result<(Vec<InstanceDecl<A>, A>, &[u8]), NestedRefusal>
     ensures { GivesNested (λ x. (map instance_declaration_view x.0.items, x.1.now)) result
-        (times (read_deep_instance_declaration (read_deep_type depth_left)) count bytes.now) }
+        (times (read_instance_declaration (read_type depth_left)) count bytes.now) }
 {
     let mut decls = Vec::new(alloc);
     let mut rest = bytes;
@@ -156,7 +159,7 @@ fn component_decl<A: Allocator + Copy>(
     bytes: &[u8],
 ) -> Result<(ComponentDecl<A>, &[u8]), NestedRefusal>
     ensures { GivesNested (λ x. (component_declaration_view x.0, x.1.now)) result
-        (read_deep_component_declaration (read_deep_type depth_left) bytes.now) }
+        (read_component_declaration (read_type depth_left) bytes.now) }
 {
     match byte(bytes)? {
         (0x03, rest) => Ok(imported(alloc, rest)?),
@@ -176,7 +179,7 @@ fn instance_decl<A: Allocator + Copy>(
     bytes: &[u8],
 ) -> Result<(InstanceDecl<A>, &[u8]), NestedRefusal>
     ensures { GivesNested (λ x. (instance_declaration_view x.0, x.1.now)) result
-        (read_deep_instance_declaration (read_deep_type depth_left) bytes.now) }
+        (read_instance_declaration (read_type depth_left) bytes.now) }
 {
     match byte(bytes)? {
         (0x00, rest) => {
@@ -215,7 +218,7 @@ fn exported<A: Allocator + Copy>(
     bytes: &[u8],
 ) -> Result<(InstanceDecl<A>, &[u8]), Refusal>
     ensures { Gives (λ x. (instance_declaration_view x.0, x.1.now)) result
-        (read_exported_type bytes.now) }
+        (read_exported bytes.now) }
 {
     let (name, rest) = NameTree::decode(alloc, bytes)?;
     let (ty, rest) = ComponentTypeRef::decode(alloc, rest)?;

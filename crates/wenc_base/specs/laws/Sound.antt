@@ -243,11 +243,23 @@ past_of {A} D x (row ∷ table) other h b rest a =
       | inr e ↦ rw (e, pick) (past_of D x table other h.1 b rest a)
     ]
 
+other_agrees : {A : Type 0} (D : Type 0) (x : A × List ℕ) (table : List (ℕ × Reader A)) (other : Reader A) → ReadsApart other table → (other [] ≡ Err Bad) → (bytes : List ℕ) → Agrees D x (other bytes) → Agrees D x (choose table other bytes)
+unfolding choose
+other_agrees D x table other apart empty [] a = absurd (rw empty at a)
+other_agrees D x table other apart empty (b ∷ bytes) a = past_of D x table other apart b bytes a
+
 -- so what it finds is found
 pub other_finds : {A : Type 0} {p : Piece} {v : A} {D : Type 0} (table : List (ℕ × Reader A)) (other : Reader A) → ReadsApart other table → (other [] ≡ Err Bad) → Finds p other v D → Finds p (choose table other) v D
-unfolding choose
-other_finds {p = p} {v = v} {D = D} table other apart empty f = record { finds = λ bytes rest r. agrees bytes rest (f.finds bytes rest r) }
-  where
-    agrees : (bytes rest : List ℕ) → Agrees D (v, rest) (other bytes) → Agrees D (v, rest) (choose table other bytes)
-    agrees [] rest a = absurd (rw empty at a)
-    agrees (b ∷ bytes) rest a = past_of D (v, rest) table other apart b bytes a
+other_finds {v = v} {D = D} table other apart empty f = record { finds = λ bytes rest r. other_agrees D (v, rest) table other apart empty bytes (f.finds bytes rest r) }
+
+pub other_lawful : {A : Type 0} {p : Piece} {read : ℕ → Reader A} {v : A} (table : ℕ → List (ℕ × Reader A)) → ((fuel : ℕ) → ReadsApart (read fuel) (table fuel)) → ((fuel : ℕ) → read fuel [] ≡ Err Bad) → Lawful p read v → Lawful p (λ fuel. choose (table fuel) (read fuel)) v
+other_lawful {read = read} {v = v} table apart empty l = record {
+  text_is_read = l.text_is_read;
+  strict_is_text = l.strict_is_text;
+  fits = l.fits;
+  free = l.free;
+  never = l.never;
+  depth = l.depth;
+  finds = λ fuel le mode bytes rest r.
+      agreed ⊥ (v, rest) (choose (table fuel) (read fuel) bytes) (other_agrees ⊥ (v, rest) (table fuel) (read fuel) (apart fuel) (empty fuel) bytes (rw (l.finds fuel le mode bytes rest r) refl)) (λ e. e);
+}

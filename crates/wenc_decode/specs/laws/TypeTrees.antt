@@ -20,15 +20,14 @@ use Rattle.wenc_parts.specs.laws.Types.{result_list_lawful, result_list_sound, p
 use Rattle.wenc_parts.specs.reading.Types.{primitive_rows}
 use Rattle.wenc_types.specs.ComponentTypes.{DefType, DefinedType, FunctionType, ComponentType, InstanceType, ResourceType, InstanceDeclaration, CoreTyped, Typed, Aliased, Exported, ComponentDeclaration, Imported, Declared, InstanceDeclarations, no_instance, and_instance, ComponentDeclarations, no_component, and_component, instances_of, components_of, instance_count, component_count, def_type, instance_declaration, component_declaration, each_instance, each_component, depth, instance_depth, component_depth, declared_depth}
 use Rattle.wenc_types.specs.DefinedTypes.{LabelledType, DefValType, Primitive, def_val_type, function_type_of}
-use Rattle.wenc_types.specs.laws.ComponentTypes.{instances_counted, components_counted}
+use Rattle.wenc_types.specs.laws.ComponentTypes.{instances_counted, components_counted, one_level, instance_list, component_list, instances_relisted, components_relisted, no_row_is_shallow, nothing_is_shallow, no_import_is_declared, nothing_is_declared}
 use Rattle.wenc_types.specs.laws.CoreTypes.{core_type_lawful, core_type_sound}
 use Rattle.wenc_types.specs.reading.CoreTypes.{read_core_type}
 use Rattle.wenc_types.specs.laws.DefinedTypes.{labelled_type_lawful, named_sound, defined_type_lawful, defined_rows_sound}
-use Rattle.wenc_types.specs.reading.DefinedTypes.{defined_rows, read_defined, to_function}
+use Rattle.wenc_types.specs.reading.DefinedTypes.{defined_rows, read_defined, read_signature, to_function}
 use Rattle.wenc_decode.specs.Depth.{Front, ByteThen, OpensTypes}
-use Rattle.wenc_decode.specs.reading.TypeTrees.{read_exported_type, read_imported, read_deep_instance_declaration, read_deep_component_declaration, read_components, read_instances, read_shallow, deep_type_rows, read_deep_type, read_component_type, read_instance_type}
-use Rattle.wenc_decode.specs.reading.TypeTrees.{read_function_type, read_resource_type}
-use Rattle.wenc_decode.specs.laws.Levels.{one_level}
+use Rattle.wenc_types.specs.reading.ComponentTypes.{read_exported, read_imported, read_instance_declaration, read_component_declaration, read_components, read_instances, read_shallow, type_rows, read_type, read_component_type, read_instance_type}
+use Rattle.wenc_types.specs.reading.ComponentTypes.{read_resource_type, read_declared}
 
 -- ---- what doesn't nest
 
@@ -41,10 +40,10 @@ Shallow d t = only_where (depth t ≤ d) (def_type t)
 shallow_sound : (d : ℕ) → Sound (Shallow d) (read_defined >>= λ ty. give (DefinedType ty))
 shallow_sound d = last_tells DefinedType defined_sound (λ ty bytes rest r. (omega arith, r))
 
-sync_sound : (d : ℕ) → Sound (sound_behind 0x40 (Shallow d)) (read_function_type false)
+sync_sound : (d : ℕ) → Sound (sound_behind 0x40 (Shallow d)) (read_signature false FunctionType)
 sync_sound d = then_tells _ (list_sound named_sound) (λ params. last_tells (λ answer. FunctionType (to_function false params answer)) result_list_sound (λ answer middle rest r bytes p. (omega arith, (bytes, refl, (middle, p, r)))))
 
-async_sound : (d : ℕ) → Sound (sound_behind 0x43 (Shallow d)) (read_function_type true)
+async_sound : (d : ℕ) → Sound (sound_behind 0x43 (Shallow d)) (read_signature true FunctionType)
 async_sound d = then_tells _ (list_sound named_sound) (λ params. last_tells (λ answer. FunctionType (to_function true params answer)) result_list_sound (λ answer middle rest r bytes p. (omega arith, (bytes, refl, (middle, p, r)))))
 
 resource_sound : (d : ℕ) → Sound (sound_behind 0x3f (Shallow d)) read_resource_type
@@ -63,7 +62,7 @@ opened (Declared d) = declared_depth d
 abbrev ComponentWithin : ℕ → Form ComponentDeclaration
 ComponentWithin d x = only_where (opened x ≤ d) (component_declaration x)
 
-instance_tells : (d : ℕ) {read : Reader DefType} → Tells (Shallow d) (OpensTypes d) read → Tells (DeclaredWithin d) (ByteThen 0x01 (OpensTypes d)) (read_deep_instance_declaration read)
+instance_tells : (d : ℕ) {read : Reader DefType} → Tells (Shallow d) (OpensTypes d) read → Tells (DeclaredWithin d) (ByteThen 0x01 (OpensTypes d)) (read_instance_declaration read)
 instance_tells d t = choose_tells _ _ (
   sound_tells _ (last_tells CoreTyped core_type_sound (λ ty bytes rest r. (omega arith, (bytes, refl, r)))),
   (
@@ -75,7 +74,7 @@ instance_tells d t = choose_tells _ _ (
   ),
 ) nowhere_tells
 
-component_tells : (d : ℕ) {read : Reader DefType} → Tells (Shallow d) (OpensTypes d) read → Tells (ComponentWithin d) (ByteThen 0x01 (OpensTypes d)) (read_deep_component_declaration read)
+component_tells : (d : ℕ) {read : Reader DefType} → Tells (Shallow d) (OpensTypes d) read → Tells (ComponentWithin d) (ByteThen 0x01 (OpensTypes d)) (read_component_declaration read)
 component_tells d t = choose_tells _ _ (
   sound_tells _ (then_tells _ extern_name_sound (λ name. last_tells (Imported name) type_reference_sound (λ ty middle rest r bytes p. (omega arith, (bytes, refl, (middle, p, r)))))),
   tt,
@@ -148,103 +147,65 @@ components_tell d {read = read} t = record {
       (λ front. inl (bytes, refl, front)) (λ n middle rest ds c s. component_made d n bytes middle rest ds c s);
 }
 
-shallow_rows : (d : ℕ) → RowsTell (Shallow d) (OpensTypes d) ((0x40, read_function_type false) ∷ (0x43, read_function_type true) ∷ (0x3f, read_resource_type) ∷ [])
-shallow_rows d = (sound_tells _ (sync_sound d), (sound_tells _ (async_sound d), (sound_tells _ (resource_sound d), tt)))
+-- the rows of what doesn't nest, and then those of what does
+rows_tell : (d : ℕ) {components instances : Reader DefType} → Tells (sound_behind 0x41 (Shallow d)) (λ bytes. OpensTypes d (0x41 ∷ bytes)) components → Tells (sound_behind 0x42 (Shallow d)) (λ bytes. OpensTypes d (0x42 ∷ bytes)) instances
+    → RowsTell (Shallow d) (OpensTypes d) (type_rows components instances)
+rows_tell d c i = (sound_tells _ (sync_sound d), (sound_tells _ (async_sound d), (sound_tells _ (resource_sound d), (c, (i, tt)))))
 
-pub type_tells : (d : ℕ) → Tells (Shallow d) (OpensTypes d) (read_deep_type d)
-unfolding read_deep_type
-type_tells zero = choose_tells _ _ (
-  too_deep_tells (λ bytes. inl (bytes, refl, tt)),
-  (too_deep_tells (λ bytes. inr (bytes, refl, tt)), shallow_rows zero),
-) (sound_tells _ (shallow_sound zero))
-type_tells (suc d) = choose_tells _ _ (
-  components_tell d (type_tells d),
-  (instances_tell d (type_tells d), shallow_rows (suc d)),
-) (sound_tells _ (shallow_sound (suc d)))
+pub type_tells : (d : ℕ) → Tells (Shallow d) (OpensTypes d) (read_type d)
+unfolding read_type
+type_tells zero = choose_tells _ _ (rows_tell zero (too_deep_tells (λ bytes. inl (bytes, refl, tt))) (too_deep_tells (λ bytes. inr (bytes, refl, tt)))) (sound_tells _ (shallow_sound zero))
+type_tells (suc d) = choose_tells _ _ (rows_tell (suc d) (components_tell d (type_tells d)) (instances_tell d (type_tells d))) (sound_tells _ (shallow_sound (suc d)))
 
 -- ---- what is read is found
 
-abbrev instance_list : InstanceDeclarations → List InstanceDeclaration
-instance_list no_instance = []
-instance_list (and_instance d ds) = d ∷ instance_list ds
-
-abbrev component_list : ComponentDeclarations → List ComponentDeclaration
-component_list no_component = []
-component_list (and_component d ds) = d ∷ component_list ds
-
-instances_relisted : (ds : InstanceDeclarations) → instances_of (instance_list ds) ≡ ds
-instances_relisted no_instance = refl
-instances_relisted (and_instance d ds) = ap (and_instance d) (instances_relisted ds)
-
-components_relisted : (ds : ComponentDeclarations) → components_of (component_list ds) ≡ ds
-components_relisted no_component = refl
-components_relisted (and_component d ds) = ap (and_component d) (components_relisted ds)
-
--- no type of values begins as a row does
-apart : (d : ℕ) → ReadsApart read_shallow (deep_type_rows (read_component_type d) (read_instance_type d))
-unfolding choose
-apart d = (λ rest. refl, (λ rest. refl, (λ rest. refl, (λ rest. refl, (λ rest. refl, tt)))))
-
-nothing_shallow : read_shallow [] ≡ Err Bad
-unfolding choose
-nothing_shallow = refl
-
-defined_finds : (d : ℕ) (ty : DefValType) (D : Type 0) → Finds (def_val_type ty) (choose (deep_type_rows (read_component_type d) (read_instance_type d)) read_shallow) (DefinedType ty) D
-defined_finds d ty D = other_finds _ read_shallow (apart d) nothing_shallow (lawful_finds D (last DefinedType (defined_type_lawful ty)))
+defined_finds : (d : ℕ) (ty : DefValType) (D : Type 0) → Finds (def_val_type ty) (choose (type_rows (read_component_type d) (read_instance_type d)) read_shallow) (DefinedType ty) D
+defined_finds d ty D = other_finds _ read_shallow (no_row_is_shallow d) nothing_is_shallow (lawful_finds D (last DefinedType (defined_type_lawful ty)))
 
 function_finds : (d : ℕ) (is_async : Bool) (params : List LabelledType) (answer : Option ComponentValType) (D : Type 0)
-    → Finds (function_type_of is_async params answer) (choose (deep_type_rows (read_component_type d) (read_instance_type d)) read_shallow) (FunctionType (to_function is_async params answer)) D
-function_finds d false params answer D = row_finds _ _ 0x40 ((read_function_type false)) (λ rest. refl) (lawful_finds D (then _ (list_lawful labelled_type_lawful params) (last (λ a. FunctionType (to_function false params a)) (result_list_lawful answer))))
-function_finds d true params answer D = row_finds _ _ 0x43 ((read_function_type true)) (λ rest. refl) (lawful_finds D (then _ (list_lawful labelled_type_lawful params) (last (λ a. FunctionType (to_function true params a)) (result_list_lawful answer))))
+    → Finds (function_type_of is_async params answer) (choose (type_rows (read_component_type d) (read_instance_type d)) read_shallow) (FunctionType (to_function is_async params answer)) D
+function_finds d false params answer D = row_finds _ _ 0x40 (read_signature false FunctionType) (λ rest. refl) (lawful_finds D (then _ (list_lawful labelled_type_lawful params) (last (λ a. FunctionType (to_function false params a)) (result_list_lawful answer))))
+function_finds d true params answer D = row_finds _ _ 0x43 (read_signature true FunctionType) (λ rest. refl) (lawful_finds D (then _ (list_lawful labelled_type_lawful params) (last (λ a. FunctionType (to_function true params a)) (result_list_lawful answer))))
 
-resource_finds : (d : ℕ) (rep : ValType) (dtor : Option ℕ) (D : Type 0) → Finds (def_type (ResourceType rep dtor)) (choose (deep_type_rows (read_component_type d) (read_instance_type d)) read_shallow) (ResourceType rep dtor) D
+resource_finds : (d : ℕ) (rep : ValType) (dtor : Option ℕ) (D : Type 0) → Finds (def_type (ResourceType rep dtor)) (choose (type_rows (read_component_type d) (read_instance_type d)) read_shallow) (ResourceType rep dtor) D
 resource_finds d rep dtor D = row_finds _ _ 0x3f read_resource_type (λ rest. refl) (lawful_finds D (then _ (val_type_lawful rep) (last (ResourceType rep) (option_lawful u32_lawful dtor))))
 
--- a declaration of an instance type is no import
-unmixed : (read : Reader DefType) → ReadsApart (read_deep_instance_declaration read >>= λ d. give (Declared d)) ((0x03, read_imported) ∷ [])
-unfolding choose
-unmixed read = (λ rest. refl, tt)
-
-nothing_declared : (read : Reader DefType) → (read_deep_instance_declaration read >>= λ d. give (Declared d)) [] ≡ Err Bad
-unfolding choose
-nothing_declared read = refl
-
 mutual
-  pub type_finds : (d : ℕ) (t : DefType) → Finds (def_type t) (read_deep_type d) t (d < depth t)
+  pub type_finds : (d : ℕ) (t : DefType) → Finds (def_type t) (read_type d) t (d < depth t)
   type_finds d (DefinedType ty) = rw (one_level d) (defined_finds d ty (d < 0))
   type_finds d (FunctionType f) = rw (one_level d) (function_finds d f.is_async f.params f.answer (d < 0))
   type_finds d (ResourceType rep dtor) = rw (one_level d) (resource_finds d rep dtor (d < 0))
   type_finds zero (ComponentType ds) = rw (one_level zero) (row_finds _ _ 0x41 too_deep (λ rest. refl) (too_deep_finds _ (omega arith)))
   type_finds zero (InstanceType ds) = rw (one_level zero) (row_finds _ _ 0x42 too_deep (λ rest. refl) (too_deep_finds _ (omega arith)))
   type_finds (suc d) (ComponentType ds) =
-      rw (one_level (suc d)) (row_finds _ _ 0x41 (read_components (read_deep_type d)) (λ rest. refl)
+      rw (one_level (suc d)) (row_finds _ _ 0x41 (read_components (read_type d)) (λ rest. refl)
       (then_finds _ (lawful_finds _ (count_lawful (component_count ds))) (rw (components_relisted ds) at (last_finds (λ l. ComponentType (components_of l)) (or_deeper (suc d < suc (component_depth ds)) (λ lt. omega arith) (components_find d ds))))))
   type_finds (suc d) (InstanceType ds) =
-      rw (one_level (suc d)) (row_finds _ _ 0x42 (read_instances (read_deep_type d)) (λ rest. refl)
+      rw (one_level (suc d)) (row_finds _ _ 0x42 (read_instances (read_type d)) (λ rest. refl)
       (then_finds _ (lawful_finds _ (count_lawful (instance_count ds))) (rw (instances_relisted ds) at (last_finds (λ l. InstanceType (instances_of l)) (or_deeper (suc d < suc (instance_depth ds)) (λ lt. omega arith) (instances_find d ds))))))
 
-  instance_finds : (d : ℕ) (x : InstanceDeclaration) → Finds (instance_declaration x) (read_deep_instance_declaration (read_deep_type d)) x (d < declared_depth x)
+  instance_finds : (d : ℕ) (x : InstanceDeclaration) → Finds (instance_declaration x) (read_instance_declaration (read_type d)) x (d < declared_depth x)
   instance_finds d (CoreTyped ty) = row_finds _ _ 0x00 (read_core_type >>= λ t. give (CoreTyped t)) (λ rest. refl) (lawful_finds _ (last CoreTyped (core_type_lawful ty)))
-  instance_finds d (Typed ty) = row_finds _ _ 0x01 (read_deep_type d >>= λ t. give (Typed t)) (λ rest. refl) (last_finds Typed (type_finds d ty))
+  instance_finds d (Typed ty) = row_finds _ _ 0x01 (read_type d >>= λ t. give (Typed t)) (λ rest. refl) (last_finds Typed (type_finds d ty))
   instance_finds d (Aliased to) = row_finds _ _ 0x02 (read_alias >>= λ t. give (Aliased t)) (λ rest. refl) (lawful_finds _ (last Aliased (alias_lawful to)))
-  instance_finds d (Exported name ty) = row_finds _ _ 0x04 read_exported_type (λ rest. refl) (lawful_finds _ (then _ (extern_name_lawful name) (last (Exported name) (type_reference_lawful ty))))
+  instance_finds d (Exported name ty) = row_finds _ _ 0x04 read_exported (λ rest. refl) (lawful_finds _ (then _ (extern_name_lawful name) (last (Exported name) (type_reference_lawful ty))))
 
-  component_finds : (d : ℕ) (x : ComponentDeclaration) → Finds (component_declaration x) (read_deep_component_declaration (read_deep_type d)) x (d < opened x)
+  component_finds : (d : ℕ) (x : ComponentDeclaration) → Finds (component_declaration x) (read_component_declaration (read_type d)) x (d < opened x)
   component_finds d (Imported name ty) = row_finds _ _ 0x03 read_imported (λ rest. refl) (lawful_finds _ (then _ (extern_name_lawful name) (last (Imported name) (type_reference_lawful ty))))
-  component_finds d (Declared x) = other_finds _ _ (unmixed (read_deep_type d)) (nothing_declared (read_deep_type d)) (last_finds Declared (instance_finds d x))
+  component_finds d (Declared x) = other_finds _ _ (no_import_is_declared (read_type d)) (nothing_is_declared (read_type d)) (last_finds Declared (instance_finds d x))
 
-  instances_find : (d : ℕ) (ds : InstanceDeclarations) → Finds (each_instance ds) (times (read_deep_instance_declaration (read_deep_type d)) (instance_count ds)) (instance_list ds) (d < instance_depth ds)
+  instances_find : (d : ℕ) (ds : InstanceDeclarations) → Finds (each_instance ds) (times (read_instance_declaration (read_type d)) (instance_count ds)) (instance_list ds) (d < instance_depth ds)
   instances_find d no_instance = nothing_finds [] (d < 0)
   instances_find d (and_instance x ds) = then_finds _ (or_deeper _ (λ lt. omega arith) (instance_finds d x)) (last_finds _ (or_deeper _ (λ lt. omega arith) (instances_find d ds)))
 
-  components_find : (d : ℕ) (ds : ComponentDeclarations) → Finds (each_component ds) (times (read_deep_component_declaration (read_deep_type d)) (component_count ds)) (component_list ds) (d < component_depth ds)
+  components_find : (d : ℕ) (ds : ComponentDeclarations) → Finds (each_component ds) (times (read_component_declaration (read_type d)) (component_count ds)) (component_list ds) (d < component_depth ds)
   components_find d no_component = nothing_finds [] (d < 0)
   components_find d (and_component (Imported name ty) ds) = then_finds _ (or_deeper _ (λ lt. omega arith) (component_finds d (Imported name ty))) (last_finds _ (components_find d ds))
   components_find d (and_component (Declared x) ds) = then_finds _ (or_deeper _ (λ lt. omega arith) (component_finds d (Declared x))) (last_finds _ (or_deeper _ (λ lt. omega arith) (components_find d ds)))
 
 -- a type of values that is found is found as a type
-pub shallow_found : (d : ℕ) (ty : DefValType) (bytes rest : List ℕ) → read_defined bytes ≡ Ok (ty, rest) → read_deep_type d bytes ≡ Ok (DefinedType ty, rest)
-shallow_found d ty bytes rest e = agreed (d < 0) (DefinedType ty, rest) (read_deep_type d bytes) ((type_finds d (DefinedType ty)).finds bytes rest (read_so (read_defined bytes) e (defined_sound.tells bytes))) (λ lt. omega arith)
+pub shallow_found : (d : ℕ) (ty : DefValType) (bytes rest : List ℕ) → read_defined bytes ≡ Ok (ty, rest) → read_type d bytes ≡ Ok (DefinedType ty, rest)
+shallow_found d ty bytes rest e = agreed (d < 0) (DefinedType ty, rest) (read_type d bytes) ((type_finds d (DefinedType ty)).finds bytes rest (read_so (read_defined bytes) e (defined_sound.tells bytes))) (λ lt. omega arith)
   where
     read_so : (some : Result (DefValType × List ℕ) Flaw) → some ≡ Ok (ty, rest) → Told (λ x. (def_val_type x.0).Reads Wide bytes x.1) ⊥ some → (def_val_type ty).Reads Wide bytes rest
     read_so some e h = rw e at h

@@ -9,7 +9,7 @@ use Rattle.wenc_builder.specs.Item.{Item, ModuleItem, CoreInstanceItem, CoreType
 use Rattle.wenc_builder.specs.Item.{InstanceItem, AliasItem, TypeItem, CanonItem, StartItem}
 use Rattle.wenc_builder.specs.Item.{ImportItem, ExportItem, CustomItem}
 use Rattle.wenc_canon.specs.reading.Canonicals.{read_canonical}
-use Rattle.wenc_decode.specs.reading.TypeTrees.{read_deep_type}
+use Rattle.wenc_types.specs.reading.ComponentTypes.{read_type}
 use Rattle.wenc_parts.specs.reading.Aliases.{read_alias}
 use Rattle.wenc_read.specs.declared.refusal.NestedRefusal.{NestedRefusal}
 use Rattle.wenc_read.specs.declared.refusal.NestedRefusal.TheVariants.{Flat, TooDeep}
@@ -36,7 +36,7 @@ abbrev pub read_alias_item : Reader Item
 read_alias_item = read_alias >>= λ to. give (AliasItem to)
 
 abbrev pub read_type_item : ℕ → Reader Item
-read_type_item depth = read_deep_type depth >>= λ t. give (TypeItem t)
+read_type_item depth = read_type depth >>= λ t. give (TypeItem t)
 
 abbrev pub read_canonical_item : Reader Item
 read_canonical_item = read_canonical >>= λ f. give (CanonItem f)

@@ -1,41 +1,87 @@
 -- The laws of types that components define.
-use Rattle.std.proofs.Common.{suc, Bool, true, false, List, [], ◌∷◌, Option, ◌≡◌, length, refl, ap}
+use Rattle.std.proofs.Common.{ℕ, zero, suc, List, [], ◌∷◌, Err, ◌≡◌, length, refl, ap}
 use Rattle.wenc_base.specs.Encode.{Serves}
 use Rattle.wenc_base.specs.Forms.{list}
-use Rattle.wenc_base.specs.Piece.{each, ◌▸◌}
-use Rattle.wenc_base.specs.laws.Forms.{list_lawful, option_lawful}
-use Rattle.wenc_base.specs.Readers.{Lawful, nowhere}
+use Rattle.wenc_base.specs.Piece.{Piece, each, ◌▸◌}
+use Rattle.wenc_base.specs.laws.Forms.{option_lawful}
+use Rattle.wenc_base.specs.Readers.{Bad, Reader, times, choose, Lawful}
 use Rattle.wenc_base.specs.laws.Lawful.{row_lawful, then, last, deeper, nothing_lawful}
 use Rattle.wenc_base.specs.laws.Numbers.{u32_lawful, count_lawful}
+use Rattle.wenc_base.specs.laws.Sound.{ReadsApart, other_lawful}
 use Rattle.wenc_base.specs.laws.Serves.{serves_itself, tagged_serves, both_serve}
 use Rattle.wenc_base.specs.laws.Types.{val_type_lawful}
 use Rattle.wenc_parts.specs.laws.Aliases.{alias_lawful}
 use Rattle.wenc_parts.specs.laws.Imports.{extern_name_lawful, type_reference_lawful}
-use Rattle.wenc_parts.specs.declared.types.ComponentValType.{ComponentValType}
-use Rattle.wenc_parts.specs.laws.Types.{result_list_lawful}
-use Rattle.wenc_types.specs.DefinedTypes.{LabelledType, function_type_of}
 use Rattle.wenc_types.specs.laws.CoreTypes.{core_type_lawful}
-use Rattle.wenc_types.specs.laws.DefinedTypes.{labelled_type_lawful, defined_row}
-use Rattle.wenc_types.specs.reading.DefinedTypes.{to_function}
+use Rattle.wenc_types.specs.laws.DefinedTypes.{defined_type_lawful, function_row}
 use Rattle.wenc_types.specs.ComponentTypes.{DefType, DefinedType, FunctionType, ComponentType, InstanceType, ResourceType, InstanceDeclaration, CoreTyped, Typed, Aliased, Exported, ComponentDeclaration, Imported, Declared, InstanceDeclarations, no_instance, and_instance, ComponentDeclarations, no_component, and_component, instance_count, component_count, instances_of, components_of, def_type, instance_declaration, component_declaration, each_instance, each_component}
-use Rattle.wenc_types.specs.reading.ComponentTypes.{component_times, instance_times, later_rows, read_component_declaration, read_instance_declaration, read_type}
+use Rattle.wenc_types.specs.reading.ComponentTypes.{read_component_declaration, read_component_type, read_declared, read_imported, read_instance_declaration, read_instance_type, read_shallow, read_type, type_rows}
+
+-- ---- one level of types
+
+pub one_level : (depth : ℕ) → read_type depth ≡ choose (type_rows (read_component_type depth) (read_instance_type depth)) read_shallow
+unfolding read_type
+one_level zero = refl
+one_level (suc depth) = refl
+
+-- no type of values begins as a row does
+pub no_row_is_shallow : (d : ℕ) → ReadsApart read_shallow (type_rows (read_component_type d) (read_instance_type d))
+unfolding choose
+no_row_is_shallow d = (λ rest. refl, (λ rest. refl, (λ rest. refl, (λ rest. refl, (λ rest. refl, tt)))))
+
+pub nothing_is_shallow : read_shallow [] ≡ Err Bad
+unfolding choose
+nothing_is_shallow = refl
+
+-- a declaration of an instance type is no import
+pub no_import_is_declared : (read : Reader DefType) → ReadsApart (read_declared read) ((0x03, read_imported) ∷ [])
+unfolding choose
+no_import_is_declared read = (λ rest. refl, tt)
+
+pub nothing_is_declared : (read : Reader DefType) → read_declared read [] ≡ Err Bad
+unfolding choose
+nothing_is_declared read = refl
+
+-- ---- declarations as a list
+
+abbrev pub instance_list : InstanceDeclarations → List InstanceDeclaration
+instance_list no_instance = []
+instance_list (and_instance d ds) = d ∷ instance_list ds
+
+abbrev pub component_list : ComponentDeclarations → List ComponentDeclaration
+component_list no_component = []
+component_list (and_component d ds) = d ∷ component_list ds
+
+pub instances_relisted : (ds : InstanceDeclarations) → instances_of (instance_list ds) ≡ ds
+instances_relisted no_instance = refl
+instances_relisted (and_instance d ds) = ap (and_instance d) (instances_relisted ds)
+
+pub components_relisted : (ds : ComponentDeclarations) → components_of (component_list ds) ≡ ds
+components_relisted no_component = refl
+components_relisted (and_component d ds) = ap (and_component d) (components_relisted ds)
 
 -- ---- laws
 
-function_lawful : (is_async : Bool) (params : List LabelledType) (answer : Option ComponentValType)
-    → Lawful (function_type_of is_async params answer) (λ fuel. read_type (suc fuel)) (FunctionType (to_function is_async params answer))
-function_lawful false params answer =
-    row_lawful _ _ 0x40 (then _ (list_lawful labelled_type_lawful params) (last (λ a. FunctionType (to_function false params a)) (result_list_lawful answer)))
-function_lawful true params answer =
-    row_lawful _ _ 0x43 (then _ (list_lawful labelled_type_lawful params) (last (λ a. FunctionType (to_function true params a)) (result_list_lawful answer)))
+by_level : {p : Piece} {t : DefType} → Lawful p (λ depth. choose (type_rows (read_component_type depth) (read_instance_type depth)) read_shallow) t → Lawful p read_type t
+by_level l = record {
+  text_is_read = l.text_is_read;
+  strict_is_text = l.strict_is_text;
+  fits = l.fits;
+  free = l.free;
+  never = l.never;
+  depth = l.depth;
+  finds = λ fuel le mode bytes rest r. rw (one_level fuel) (l.finds fuel le mode bytes rest r);
+}
 
 mutual
   pub type_lawful : (t : DefType) → Lawful (def_type t) read_type t
-  type_lawful (DefinedType ty) = deeper (defined_row DefinedType (λ fuel. later_rows (read_type fuel)) (λ fuel. nowhere) ty)
-  type_lawful (FunctionType f) = deeper (function_lawful f.is_async f.params f.answer)
-  type_lawful (ComponentType ds) = deeper (row_lawful _ _ 0x41 (then _ (count_lawful (component_count ds)) (last ComponentType (components_lawful ds))))
-  type_lawful (InstanceType ds) = deeper (row_lawful _ _ 0x42 (then _ (count_lawful (instance_count ds)) (last InstanceType (instances_lawful ds))))
-  type_lawful (ResourceType rep dtor) = deeper (row_lawful _ _ 0x3f (then _ (val_type_lawful rep) (last (ResourceType rep) (option_lawful u32_lawful dtor))))
+  type_lawful (DefinedType ty) = by_level (other_lawful _ no_row_is_shallow (λ d. nothing_is_shallow) (last DefinedType (defined_type_lawful ty)))
+  type_lawful (FunctionType f) = by_level (function_row FunctionType _ _ f.is_async f.params f.answer)
+  type_lawful (ComponentType ds) =
+      by_level (row_lawful _ _ 0x41 (deeper {read = read_component_type} (then _ (count_lawful (component_count ds)) (rw (components_relisted ds) at (last (λ l. ComponentType (components_of l)) (components_lawful ds))))))
+  type_lawful (InstanceType ds) =
+      by_level (row_lawful _ _ 0x42 (deeper {read = read_instance_type} (then _ (count_lawful (instance_count ds)) (rw (instances_relisted ds) at (last (λ l. InstanceType (instances_of l)) (instances_lawful ds))))))
+  type_lawful (ResourceType rep dtor) = by_level (row_lawful _ _ 0x3f (then _ (val_type_lawful rep) (last (ResourceType rep) (option_lawful u32_lawful dtor))))
 
   pub instance_declaration_lawful : (d : InstanceDeclaration) → Lawful (instance_declaration d) (λ fuel. read_instance_declaration (read_type fuel)) d
   instance_declaration_lawful (CoreTyped ty) = row_lawful _ _ 0x00 (last CoreTyped (core_type_lawful ty))
@@ -45,17 +91,14 @@ mutual
 
   pub component_declaration_lawful : (d : ComponentDeclaration) → Lawful (component_declaration d) (λ fuel. read_component_declaration (read_type fuel)) d
   component_declaration_lawful (Imported name ty) = row_lawful _ _ 0x03 (then _ (extern_name_lawful name) (last (Imported name) (type_reference_lawful ty)))
-  component_declaration_lawful (Declared (CoreTyped ty)) = row_lawful _ _ 0x00 (last (λ t. Declared (CoreTyped t)) (core_type_lawful ty))
-  component_declaration_lawful (Declared (Typed ty)) = row_lawful _ _ 0x01 (last (λ t. Declared (Typed t)) (type_lawful ty))
-  component_declaration_lawful (Declared (Aliased to)) = row_lawful _ _ 0x02 (last (λ a. Declared (Aliased a)) (alias_lawful to))
-  component_declaration_lawful (Declared (Exported name ty)) = row_lawful _ _ 0x04 (then _ (extern_name_lawful name) (last (λ t. Declared (Exported name t)) (type_reference_lawful ty)))
+  component_declaration_lawful (Declared d) = other_lawful _ (λ fuel. no_import_is_declared (read_type fuel)) (λ fuel. nothing_is_declared (read_type fuel)) (last Declared (instance_declaration_lawful d))
 
-  pub instances_lawful : (ds : InstanceDeclarations) → Lawful (each_instance ds) (λ fuel. instance_times (read_type fuel) (instance_count ds)) ds
-  instances_lawful no_instance = nothing_lawful no_instance
+  pub instances_lawful : (ds : InstanceDeclarations) → Lawful (each_instance ds) (λ fuel. times (read_instance_declaration (read_type fuel)) (instance_count ds)) (instance_list ds)
+  instances_lawful no_instance = nothing_lawful []
   instances_lawful (and_instance d ds) = then _ (instance_declaration_lawful d) (last _ (instances_lawful ds))
 
-  pub components_lawful : (ds : ComponentDeclarations) → Lawful (each_component ds) (λ fuel. component_times (read_type fuel) (component_count ds)) ds
-  components_lawful no_component = nothing_lawful no_component
+  pub components_lawful : (ds : ComponentDeclarations) → Lawful (each_component ds) (λ fuel. times (read_component_declaration (read_type fuel)) (component_count ds)) (component_list ds)
+  components_lawful no_component = nothing_lawful []
   components_lawful (and_component d ds) = then _ (component_declaration_lawful d) (last _ (components_lawful ds))
 
 -- ---- several declarations

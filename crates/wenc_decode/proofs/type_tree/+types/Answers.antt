@@ -7,53 +7,54 @@ use Rattle.wenc_base.specs.Readers.{give, times}
 use Rattle.wenc_read.specs.laws.Tables.{past_rows, fails_on}
 use Rattle.wenc_types.specs.ComponentTypes.{DefinedType}
 use Rattle.wenc_types.specs.reading.DefinedTypes.{read_defined}
-use Rattle.wenc_decode.specs.reading.TypeTrees.{read_deep_type, read_deep_instance_declaration, read_deep_component_declaration, deep_type_rows, read_component_type, read_instance_type, read_shallow}
+use Rattle.wenc_types.specs.reading.ComponentTypes.{read_type, read_instance_declaration, read_component_declaration, type_rows, read_component_type, read_instance_type, read_shallow}
 use Rattle.wenc_decode.specs.laws.Repeats.{at_start, times_go_on, stops, is_done}
-use Rattle.wenc_decode.specs.laws.Levels.{one_level, component_found, component_fails, instance_found, instance_fails}
+use Rattle.wenc_types.specs.laws.ComponentTypes.{one_level}
+use Rattle.wenc_decode.specs.laws.Levels.{component_found, component_fails, instance_found, instance_fails}
 use Rattle.wenc_decode.specs.laws.TypeTrees.{shallow_found}
 use Rattle.wenc_decode.proofs.type_tree.+types.Goals as goal
 
 pub instance_decls-returns-in_err-decl : goal.instance_decls-returns-in_err-decl
 instance_decls-returns-in_err-decl g t c =
-    let read = read_deep_instance_declaration (read_deep_type c.args.depth_left) in
+    let read = read_instance_declaration (read_type c.args.depth_left) in
     let p = err_from_is_err_and c.from_residual.result c.from_residual.ensures.1 in
     rw (p.1, p.2) (stops c.in_err-decl.field-0.0 read (map instance_declaration_view c.loop.decls.items) c.args.count c.loop.counter c.loop.rest.now (times read c.args.count c.args.bytes.now) c.loop-test.true c.in_err-decl.ensures c.loop.invariant)
 
 pub instance_decls-loop-preserved : goal.instance_decls-loop-preserved
 instance_decls-loop-preserved g t c =
-    let read = read_deep_instance_declaration (read_deep_type c.args.depth_left) in
+    let read = read_instance_declaration (read_type c.args.depth_left) in
     let v = c.in_ok-decl.decl in
     let e : map instance_declaration_view c.push.new.self.items ≡ map instance_declaration_view c.loop.decls.items ++ instance_declaration_view v ∷ [] = rw c.in_ok-push.ensures.items (map_push instance_declaration_view c.loop.decls.items v) in
     rw e (times_go_on read (map instance_declaration_view c.loop.decls.items) c.args.count c.loop.counter c.loop.rest.now (instance_declaration_view v) c.in_ok-decl.after.now (times read c.args.count c.args.bytes.now) c.loop-test.true c.in_ok-decl.ensures c.loop.invariant)
 
 pub instance_decls-returns : goal.instance_decls-returns
 instance_decls-returns g t c =
-    let read = read_deep_instance_declaration (read_deep_type c.args.depth_left) in
+    let read = read_instance_declaration (read_type c.args.depth_left) in
     is_done read (map instance_declaration_view c.loop.decls.items) c.args.count c.loop.counter c.loop.rest.now (times read c.args.count c.args.bytes.now) c.loop-test.false c.loop.invariant
 
 pub component_decls-returns-in_err-decl : goal.component_decls-returns-in_err-decl
 component_decls-returns-in_err-decl g t c =
-    let read = read_deep_component_declaration (read_deep_type c.args.depth_left) in
+    let read = read_component_declaration (read_type c.args.depth_left) in
     let p = err_from_is_err_and c.from_residual.result c.from_residual.ensures.1 in
     rw (p.1, p.2) (stops c.in_err-decl.field-0.0 read (map component_declaration_view c.loop.decls.items) c.args.count c.loop.counter c.loop.rest.now (times read c.args.count c.args.bytes.now) c.loop-test.true c.in_err-decl.ensures c.loop.invariant)
 
 pub component_decls-loop-preserved : goal.component_decls-loop-preserved
 component_decls-loop-preserved g t c =
-    let read = read_deep_component_declaration (read_deep_type c.args.depth_left) in
+    let read = read_component_declaration (read_type c.args.depth_left) in
     let v = c.in_ok-decl.decl in
     let e : map component_declaration_view c.push.new.self.items ≡ map component_declaration_view c.loop.decls.items ++ component_declaration_view v ∷ [] = rw c.in_ok-push.ensures.items (map_push component_declaration_view c.loop.decls.items v) in
     rw e (times_go_on read (map component_declaration_view c.loop.decls.items) c.args.count c.loop.counter c.loop.rest.now (component_declaration_view v) c.in_ok-decl.after.now (times read c.args.count c.args.bytes.now) c.loop-test.true c.in_ok-decl.ensures c.loop.invariant)
 
 pub component_decls-returns : goal.component_decls-returns
 component_decls-returns g t c =
-    let read = read_deep_component_declaration (read_deep_type c.args.depth_left) in
+    let read = read_component_declaration (read_type c.args.depth_left) in
     is_done read (map component_declaration_view c.loop.decls.items) c.args.count c.loop.counter c.loop.rest.now (times read c.args.count c.args.bytes.now) c.loop-test.false c.loop.invariant
 
 pub instance_decls-loop-init : goal.instance_decls-loop-init
-instance_decls-loop-init g t c = rw c.new-decls.ensures.items (at_start (read_deep_instance_declaration (read_deep_type c.args.depth_left)) c.args.count c.args.bytes.now)
+instance_decls-loop-init g t c = rw c.new-decls.ensures.items (at_start (read_instance_declaration (read_type c.args.depth_left)) c.args.count c.args.bytes.now)
 
 pub component_decls-loop-init : goal.component_decls-loop-init
-component_decls-loop-init g t c = rw c.new-decls.ensures.items (at_start (read_deep_component_declaration (read_deep_type c.args.depth_left)) c.args.count c.args.bytes.now)
+component_decls-loop-init g t c = rw c.new-decls.ensures.items (at_start (read_component_declaration (read_type c.args.depth_left)) c.args.count c.args.bytes.now)
 
 pub component_type-returns-in_err-decls : goal.component_type-returns-in_err-decls
 component_type-returns-in_err-decls g t c =
@@ -77,5 +78,5 @@ type_of-returns-in_ok-ty-in_default g t c = rw (view_defined c.in_ok-ty-in_defau
 pub type_of-returns-in_err-ty-in_default : goal.type_of-returns-in_err-ty-in_default
 type_of-returns-in_err-ty-in_default g t c =
     let p = err_from_is_err_and c.from_residual-in_err-ty-in_default.result c.from_residual-in_err-ty-in_default.ensures.1 in
-    rw (p.1, p.2, one_level c.args.depth_left, past_rows (deep_type_rows (read_component_type c.args.depth_left) (read_instance_type c.args.depth_left)) read_shallow _ _ _ c.in_ok-rest.ensures (search rules, (search rules, (search rules, (search rules, (search rules, tt))))))
+    rw (p.1, p.2, one_level c.args.depth_left, past_rows (type_rows (read_component_type c.args.depth_left) (read_instance_type c.args.depth_left)) read_shallow _ _ _ c.in_ok-rest.ensures (search rules, (search rules, (search rules, (search rules, (search rules, tt))))))
     (fails_on c.in_err-ty-in_default.field-0.0 (read_defined c.args.bytes.now) (λ ty. give (DefinedType ty)) c.in_err-ty-in_default.ensures)

@@ -1,7 +1,7 @@
 use Rattle.std.proofs.Common.{◌≡◌, ◌-◌, ◌+◌, ◌*◌, map}
 use Rattle.wenc_types.specs.TypeTrees.{instance_declaration_view, component_declaration_view}
 use Rattle.wenc_base.specs.Readers.{times}
-use Rattle.wenc_decode.specs.reading.TypeTrees.{read_deep_type, read_deep_instance_declaration, read_deep_component_declaration}
+use Rattle.wenc_types.specs.reading.ComponentTypes.{read_type, read_instance_declaration, read_component_declaration}
 use Rattle.wenc_decode.specs.laws.Repeats.{with_front}
 use Rattle.wenc_decode.proofs.type_tree.+types.Given as goal
 
@@ -28,10 +28,10 @@ decreases-component_decls g l = 5 * l.depth_left + 4
 
 abbrev pub invariant-instance_decls-loop : goal.invariant-instance_decls-loop
 invariant-instance_decls-loop g l =
-    let read = read_deep_instance_declaration (read_deep_type l.depth_left) in
+    let read = read_instance_declaration (read_type l.depth_left) in
     with_front (map instance_declaration_view l.decls.items) (times read (l.count - l.counter) l.rest) ≡ times read l.count l.bytes
 
 abbrev pub invariant-component_decls-loop : goal.invariant-component_decls-loop
 invariant-component_decls-loop g l =
-    let read = read_deep_component_declaration (read_deep_type l.depth_left) in
+    let read = read_component_declaration (read_type l.depth_left) in
     with_front (map component_declaration_view l.decls.items) (times read (l.count - l.counter) l.rest) ≡ times read l.count l.bytes
