@@ -66,17 +66,6 @@ entered old new r c x adds caused e = due old new (indexed r) c (λ es h. (x ∷
     is_due (Ok i) es a = a
     is_due (Err fault) es a = (a.0, refusal es x fault a.1)
 
--- a call that adds an entry which has no index
-pub entered_without_index : (old new : State) (r : Result (Unit {0}) Fault) (c : CommandTree) (x : Entry) → ((es : List Entry) → added es c ≡ x ∷ []) → ((es : List Entry) → IsAmong (EntryCause es x) (cause es c))
-    → ((es : List Entry) → index_of (items es) x.item ≡ None) → EntersWithoutIndex old new r x → Answers old new (without_index r) c
-entered_without_index old new r c x adds caused nowhere e = due old new (without_index r) c (λ es h. (x ∷ [], EntryCause es x, adds es, caused es, is_due r es (answered_with old new r x (λ _ _. Unit {0}) (λ _ _. Unit {0}) es e h)))
-  where
-    is_due : (r : Result (Unit {0}) Fault) (es : List Entry)
-        → MatchResult r (λ u. Holds new (es ++ x ∷ []) × Unit {0} × NoCause (EntryCause es x)) (λ fault. Holds new es × IsWarranted (EntryCause es x) fault)
-        → IsDueTo es (x ∷ []) (EntryCause es x) new (without_index r)
-    is_due (Ok u) es a = (a.0, sym (nowhere es), a.2)
-    is_due (Err fault) es a = (a.0, refusal es x fault a.1)
-
 -- the section of names has no index
 names_nowhere : (xs : List Item) (names : List Subsection) (x : Entry) → named_entry names ≡ Some x → index_of xs x.item ≡ None
 names_nowhere xs [] x e = absurd cc

@@ -43,9 +43,6 @@ pub record InnerSo (all left : Commands) (s : State) : Type 0 where
   pub causes : (fault : Fault) → first_cause so_far left fault → first_cause [] all fault
   pub clears : NoCause (first_cause so_far left) → NoCause (first_cause [] all)
 
-pub inner_none : (all : Commands) (s : State) → Holds s [] → InnerSo all all s
-inner_none all s h = record { so_far = []; held = h; leads = refl; causes = λ fault c. c; clears = λ none. none }
-
 pub inner_more : (all left : Commands) (c : CommandTree) (i : Option ℕ) (old new : State) → InnerSo all (then c left) old → Answers old new (Ok i) c → InnerSo all left new
 inner_more all left c i old new r a =
     let s = a.held r.so_far r.held in

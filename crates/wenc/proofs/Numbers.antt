@@ -1,9 +1,9 @@
 -- Numbers read from their first digit on.
-use Rattle.std.proofs.Common.{◌≡◌, ℕ, ◌++◌, Option, ap, append_assoc, append-nil, ◌+◌, ◌-◌, ◌*◌, ◌^◌, ◌<◌, ◌≤◌, Bool, true, false, cond, List, [], ◌∷◌, Some, None, refl, ◌∙◌, arith, length, drop, get_or, add-one, eqb}
+use Rattle.std.proofs.Common.{◌≡◌, ℕ, ◌++◌, Option, ◌+◌, ◌-◌, ◌*◌, ◌^◌, ◌<◌, ◌≤◌, Bool, true, false, cond, List, [], ◌∷◌, Some, None, refl, ◌∙◌, arith, length, drop, get_or, add-one, eqb}
 use Rattle.std.proofs.lemmas.Bool.{le-ltb, lt-ltb}
 use Rattle.std.proofs.lemmas.List.{drop_all}
 use Rattle.std.proofs.Math.Seq.{drop-cons}
-use Rattle.wenc.specs.Fields.{value_behind, at_most_32_bits, is_digit, number_word, number_before}
+use Rattle.wenc.specs.Fields.{value_behind, at_most_32_bits, is_digit, number_word}
 
 -- a digit more, or the end at another byte
 value_chosen : (is : Bool) (n m : ℕ) (bytes : List ℕ) → at_most_32_bits (value_behind m bytes) ≡ None → at_most_32_bits (cond is (value_behind m bytes) None) ≡ None
@@ -37,12 +37,3 @@ number_ends (b ∷ word) i n some ended same small = same ∙ rw (drop_all i (b 
 abbrev pub put_front : List ℕ → Option (List ℕ) → Option (List ℕ)
 put_front ns None = None
 put_front ns (Some behind) = Some (ns ++ behind)
-
--- one more was read
-pub number_read : (ns : List ℕ) (n : ℕ) (behind : Option (List ℕ)) → put_front (ns ++ n ∷ []) behind ≡ put_front ns (number_before (Some n) behind)
-number_read ns n None = refl
-number_read ns n (Some behind) = ap (λ (all : List ℕ). Some all) (append_assoc ns (n ∷ []) behind)
-
--- none is left
-pub numbers_read : (ns : List ℕ) → put_front ns (Some []) ≡ Some ns
-numbers_read ns = ap (λ (all : List ℕ). Some all) (append-nil ns)

@@ -41,10 +41,6 @@ cause_of_member cause (w ∷ vs) (suc i) v fault free lt e h =
 pub warranted_member : {A : Type 0} (cause : A → Fault → Type 0) (vs : List A) (i : ℕ) (v : A) (fault : Fault) → NoCause (member_cause cause (take i vs)) → i < length vs → v ≡ get_or vs i v → IsWarranted (cause v) fault → IsWarranted (member_cause cause vs) fault
 warranted_member cause vs i v fault free lt e = still_warranted (cause v) (member_cause cause vs) (λ f. cause_of_member cause vs i v f free lt e) fault
 
--- nothing is written yet
-pub written_none : {A : Type 0} (form : Form A) (start : List ℕ) → Written form start [] start
-written_none form start = record { items = sym (append-nil start); fit = tt; no_cause = λ fault h. h }
-
 -- one value more
 pub written_next : {A : Type 0} (form : Form A) (start : List ℕ) (vs : List A) (v : A) (now next : List ℕ)
     → Written form start vs now → next ≡ now ++ (form v).text → (form v).Fits → NoCause (form v).Cause → Written form start (vs ++ v ∷ []) next

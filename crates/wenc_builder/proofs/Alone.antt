@@ -39,43 +39,6 @@ alone_without_indices b s old new fault d name p a view w same all within refuse
     refuses : (f : Fault) → SpaceCause (space_after old d name) f → CallCause old p.Cause (with_alone old.settled (Some d) name p.text) (Some d) f
     refuses f c = inl (inr (inl (subst (λ (n : Namespace). SpaceCause n f) (sym (there old d name p.text all within)) c)))
 
-pub alone_refused : (b : Buffered) (s : Spaced) (old new : State) (fault : Fault) (d : Indices) (name : Option (List ℕ)) (p : Piece) → Agree b.writing s.taking → builder_view b s ≡ old
-    → is_none b.writing ≡ true → new ≡ old → IsWarranted p.Cause fault
-    → TakesAlone old new (Err fault) d name p
-alone_refused b s old new fault d name p a view w same refused = record {
-  told = tt;
-  ok = tt;
-  fits = tt;
-  free = tt;
-  err = same;
-  warranted = still_warranted _ _ refuses fault refused;
-  unfinished_first = λ e. let none = settled_before b s old a view w in cc;
-}
-  where
-    refuses : (f : Fault) → p.Cause f → CallCause old p.Cause (with_alone old.settled (Some d) name p.text) (Some d) f
-    refuses f c = inl (inl c)
-
-pub alone_taken : (b : Buffered) (s : Spaced) (old new : State) (index : ℕ) (d : Indices) (name : Option (List ℕ)) (p : Piece) → Agree b.writing s.taking → builder_view b s ≡ old
-    → is_none b.writing ≡ true → new ≡ record { settled = with_alone old.settled (Some d) name p.text; begun = None }
-    → index ≡ (namespace_at old.settled.spaces d.space).count → length old.settled.spaces ≡ 13 → d.space < 13
-    → p.Fits → NoCause (SpaceCause (space_after old d name)) → NoCause p.Cause
-    → TakesAlone old new (Ok index) d name p
-alone_taken b s old new index d name p a view w is counted all within fits space own = record {
-  told = counted;
-  ok = is;
-  fits = fits;
-  free = free;
-  err = tt;
-  warranted = tt;
-  unfinished_first = λ e. let none = settled_before b s old a view w in cc;
-}
-  where
-    free : (fault : Fault) → CallCause old p.Cause (with_alone old.settled (Some d) name p.text) (Some d) fault → ⊥
-    free fault (inl (inl c)) = own fault c
-    free fault (inl (inr (inl c))) = space fault (subst (λ (n : Namespace). SpaceCause n fault) (there old d name p.text all within) c)
-    free fault (inl (inr (inr c))) = c
-    free fault (inr c) = let none = settled_before b s old a view w in let unfinished = c.1 in cc
-
 -- ---- without an index
 
 pub stood_nowhere : (b : Buffered) (s : Spaced) (old new : State) (result : Result (Unit {0}) Fault) (p : Piece) → Agree b.writing s.taking → builder_view b s ≡ old

@@ -1,5 +1,5 @@
 -- What is taken for a piece that serves as an entry's item enters every list that was held.
-use Rattle.std.proofs.Common.{◌≡◌, ℕ, true, false, inl, inr, List, [], ◌∷◌, ◌++◌, Option, None, Some, Result, Ok, Err, refl, sym, ◌∙◌, ap, subst}
+use Rattle.std.proofs.Common.{◌≡◌, ℕ, false, inl, inr, List, [], ◌∷◌, ◌++◌, Option, None, Some, Result, Ok, Err, refl, sym, ◌∙◌, ap, subst}
 use Rattle.std.specs.Result.{IfOk, IfErr, OnOk}
 use Rattle.wenc_base.specs.Encode.{Serves}
 use Rattle.wenc_base.specs.Fault.{IsWarranted, NoCause}
@@ -186,28 +186,3 @@ draft_as {p} {q} old new result id space name e fits among lawful t =
     (takes_as old new (item_ended (item_begun old d)) result (content_of (item_begun old d)) (Some (draft_indices d)) _ fits among lawful t)
 
 -- ---- refused before anything else
-
-pub unfinished_enters : {R : Type 0} {Tells : List Entry → R → Type 0} {Counts : Option Indices → R → Type 0} (old : State) (x : Entry) → builder_is_finished old ≡ false
-    → EntersWith old old (Err Unfinished) x Tells Counts
-unfinished_enters old x e = record {
-  held = λ es h. tt;
-  state = tt;
-  counted = tt;
-  fits = tt;
-  free = tt;
-  err = refl;
-  warranted = inr (refl, e);
-  unfinished = (λ f. refl, λ r. e);
-}
-
-pub memory_enters : (old : State) (x : Entry) (a : _) → builder_is_finished old ≡ true → Enters old old (Err (Memory a)) x
-memory_enters old x a e = record {
-  held = λ es h. tt;
-  state = tt;
-  counted = tt;
-  fits = tt;
-  free = tt;
-  err = refl;
-  warranted = tt;
-  unfinished = (λ f. cc, λ r. cc);
-}

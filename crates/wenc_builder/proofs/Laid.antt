@@ -17,7 +17,7 @@ use Rattle.wenc_base.proofs.Groups.{size_1}
 use Rattle.wenc_builder.specs.Builder.{OpenSection, SectionsState, sections_text, entered, entered_at}
 use Rattle.wenc_builder.specs.Cause.{SectionCause, NoRoom}
 use Rattle.wenc_builder.specs.laws.Caused.{cause_is}
-use Rattle.wenc_builder.specs.inside.Layout.{kind_id, open_head, OpensAnother, Buffered, buffered_content, buffer_appended, section_appended, buffer_with, SectionFits, open_view, earlier_view, buffer_view, kept_before, kept_with, SectionIsIn, MembersAreIn, BegunIsIn, EarlierIsIn, IsApart, IsLaidOut}
+use Rattle.wenc_builder.specs.inside.Layout.{kind_id, OpensAnother, Buffered, buffered_content, buffer_appended, section_appended, buffer_with, SectionFits, open_view, earlier_view, buffer_view, kept_before, kept_with, SectionIsIn, MembersAreIn, BegunIsIn, EarlierIsIn, IsApart, IsLaidOut}
 use Rattle.wenc_builder.specs.declared.builder.earlier.Earlier.{Earlier}
 use Rattle.wenc_builder.specs.declared.builder.kind.Kind.{Kind}
 
@@ -279,23 +279,6 @@ closed_is h text closed_len kind m =
       take-append-le closed_len h.kept h.body within,
     ) refl
 
-section_at : (h : HolderState) (closed_len : ℕ) (kind : Option Kind) → MembersAreIn kind closed_len h → SectionIsIn kind closed_len (length (all_bytes h))
-section_at h closed_len None m = rw m.1 (omega (arith, m.0, length-append h.kept []))
-section_at h closed_len (Some k) m = omega (arith, m, length-append h.kept h.body)
-
-fits_at : (h : HolderState) (kind : Option Kind) → content_size h.count (length h.body) < 2 ^ 32 → SectionFits (open_view kind h.count h.body)
-fits_at h None f = tt
-fits_at h (Some k) f = f
-
--- the section before it can be closed
-pub can_close : (h kept : HolderState) (text : List ℕ) (closed_len : ℕ) (kind : Option Kind) (earlier : Option Earlier) (count items_end : ℕ) (now : Buffered) → IsLaidOut h closed_len kind earlier
-    → buffer_view h closed_len kind earlier ≡ now → now.writing ≡ None → count ≡ h.count → content_size h.count (length h.body) < 2 ^ 32 → items_end ≡ length (all_bytes h) → kept ≡ holding (all_bytes h ++ text) 0 []
-    → (items_end ≤ length kept.kept) × SectionIsIn kind closed_len items_end × SectionFits (earlier_view kept.kept (record { kind = kind; count = count; closed_len = closed_len; items_end = items_end }))
-can_close h kept text closed_len kind earlier count items_end now l view none c f e k =
-    let idle = none_is_written h closed_len kind earlier (ap (λ (b : Buffered). b.writing) view ∙ none) in
-    let members : MembersAreIn kind closed_len h × BegunIsIn h.opening h.count (length h.body) = (rw idle.0 at l).indices in
-    rw (k, c, e) (omega (arith, length-append (all_bytes h) text), section_at h closed_len kind members.0, rw (earlier_is h text closed_len kind members.0) (fits_at h kind f))
-
 -- and then all bytes are closed
 pub stood : (h kept new : HolderState) (text : List ℕ) (closed_len new_len : ℕ) (kind : Option Kind) (earlier : Option Earlier) (count items_end : ℕ) (now : Buffered) → IsLaidOut h closed_len kind earlier
     → buffer_view h closed_len kind earlier ≡ now → now.writing ≡ None → count ≡ h.count → items_end ≡ length (all_bytes h) → kept ≡ holding (all_bytes h ++ text) 0 []
@@ -310,16 +293,3 @@ stood h kept new text closed_len new_len kind earlier count items_end now l view
     rw (n, all, idle.0) (record { indices = ((refl, refl, refl), tt) }, rw (← view, idle.0, idle.1, take_all (length closed) closed (omega arith)) refl)
 
 -- ---- all bytes
-
-all_at : (h : HolderState) (closed_len : ℕ) (kind : Option Kind) → MembersAreIn kind closed_len h
-    → sections_text (record { closed = take closed_len h.kept; current = open_view kind h.count h.body }) ≡ take closed_len h.kept ++ (open_head kind h.count (length h.body) ++ h.body)
-all_at h closed_len None m = rw m.1 refl
-all_at h closed_len (Some k) m = simp append_assoc
-
--- the closed bytes, then the open section
-pub all_is : (h : HolderState) (closed_len : ℕ) (kind : Option Kind) (earlier : Option Earlier) (now : Buffered) → IsLaidOut h closed_len kind earlier → buffer_view h closed_len kind earlier ≡ now → now.writing ≡ None
-    → sections_text now.settled ≡ take closed_len h.kept ++ (open_head kind h.count (length h.body) ++ h.body)
-all_is h closed_len kind earlier now l view none =
-    let idle = none_is_written h closed_len kind earlier (ap (λ (b : Buffered). b.writing) view ∙ none) in
-    let members : MembersAreIn kind closed_len h × BegunIsIn h.opening h.count (length h.body) = (rw idle.0 at l).indices in
-    rw (← view, idle.0, idle.1) (all_at h closed_len kind members.0)

@@ -1,5 +1,5 @@
 -- The names so far, and their section.
-use Rattle.std.proofs.Common.{◌≡◌, ◌⊎◌, ℕ, zero, suc, ◌+◌, ◌<◌, ◌≤◌, ◌^◌, inl, inr, List, [], ◌∷◌, ◌++◌, length, length-append, map, take, get_or, nat_eq, true, false, is_none, Option, None, Some, Result, Ok, Err, refl, sym, ap, ◌∙◌, subst, arith}
+use Rattle.std.proofs.Common.{◌≡◌, ◌⊎◌, ℕ, zero, suc, ◌+◌, ◌<◌, ◌≤◌, ◌^◌, inl, inr, List, [], ◌∷◌, ◌++◌, length, length-append, map, take, get_or, nat_eq, true, false, is_none, None, Result, Ok, Err, refl, sym, ap, ◌∙◌, subst, arith}
 use Rattle.std.proofs.Math.Numerals.{add-one}
 use Rattle.std.proofs.Math.Seq.{take-suc}
 use Rattle.std.proofs.lemmas.Bool.Decides.{eqb_tells}
@@ -35,7 +35,7 @@ use Rattle.wenc_builder.specs.inside.Spaces.{Spaced}
 use Rattle.wenc_builder.specs.inside.View.{Agree, builder_view}
 use Rattle.wenc_base.proofs.Bytes.{last_below}
 use Rattle.wenc_builder.proofs.Alone.{stood_nowhere}
-use Rattle.wenc_builder.proofs.Entered.{without_index_enters, unfinished_enters}
+use Rattle.wenc_builder.proofs.Entered.{without_index_enters}
 use Rattle.wenc_builder.proofs.Viewed.{finished_is}
 
 -- the subsections, one behind the other
@@ -205,19 +205,6 @@ nothing_named old ps is none finished = record {
   err = tt;
   unfinished = (λ f. cc, λ e. cc);
 }
-
-pub names_unfinished : (old : State) → builder_is_finished old ≡ false → AddsNames old old (Err Unfinished)
-names_unfinished old f = record {
-  held = λ es h. let none = h.finished in absurd (never old.begun none f);
-  none = λ n e. cc;
-  some = λ n. unfinished_enters old (custom_entry names_label (all_names (kept_names old))) f;
-  err = refl;
-  unfinished = (λ u. refl, λ e. f);
-}
-  where
-    never : {A : Type 0} (o : Option A) → o ≡ None → is_none o ≡ false → ⊥
-    never None e f = cc
-    never (Some x) e f = cc
 
 -- ---- by the parts of a builder
 

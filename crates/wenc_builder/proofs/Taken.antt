@@ -1,20 +1,18 @@
 -- An item that is begun, written and ended, or given up.
-use Rattle.std.proofs.Common.{◌≡◌, ℕ, ◌<◌, true, false, is_none, List, [], length, Option, Some, None, Result, Ok, Err, refl, sym, ap, ◌∙◌, inr}
+use Rattle.std.proofs.Common.{◌≡◌, ℕ, ◌<◌, true, false, is_none, List, [], length, Option, Some, None, Ok, Err, refl, sym, ◌∙◌}
 use Rattle.wenc_base.specs.Fault.{IsWarranted, NoCause, either}
 use Rattle.wenc_base.specs.Piece.{Piece, nothing}
 use Rattle.wenc_base.specs.declared.fault.Fault.{Fault}
 use Rattle.wenc_base.specs.declared.fault.Fault.TheVariants.{Unfinished}
 use Rattle.wenc_base.specs.laws.Serves.{still_warranted}
-use Rattle.wenc_builder.specs.Builder.{entered, Content, State, namespace_at, Draft, draft, space_with, item_begun, item_appended, item_ended, item_given_up}
+use Rattle.wenc_builder.specs.Builder.{entered, State, namespace_at, Draft, draft, space_with, item_begun, item_appended, item_ended, item_given_up}
 use Rattle.wenc_builder.specs.Cause.{SectionCause, SpaceCause}
-use Rattle.wenc_builder.specs.Enters.{TakesWith, Takes, TakesDraft, BeginsItem}
+use Rattle.wenc_builder.specs.Enters.{Takes, TakesDraft}
 use Rattle.wenc_builder.specs.inside.Layout.{Buffered}
 use Rattle.wenc_builder.specs.LenderState.{no_room_in_section}
-use Rattle.wenc_builder.specs.Space.{Indices}
 use Rattle.wenc_builder.specs.inside.Spaces.{Spaced}
 use Rattle.wenc_builder.specs.inside.View.{Agree, builder_view}
-use Rattle.wenc_builder.specs.laws.Caused.{space_refuses, section_refuses, begun_free, beginning_refuses, text_refuses, whole_free}
-use Rattle.wenc_builder.specs.laws.Step.{holds_index}
+use Rattle.wenc_builder.specs.laws.Caused.{space_refuses, begun_free, beginning_refuses, text_refuses, whole_free}
 use Rattle.wenc_builder.proofs.Viewed.{finished_is}
 
 none_of : {A : Type 0} (o : Option A) → (is_none o ≡ false → ⊥) → o ≡ None
@@ -26,19 +24,6 @@ none_is None e = refl
 none_is (Some x) e = cc
 
 -- ---- an item is begun
-
--- nothing is taken while another item is being written
-pub unfinished_before : {R : Type 0} (b : Buffered) (s : Spaced) (old new next : State) (after : Content) (indices : Option Indices) (p : Piece) (Told : R → Type 0) → Agree b.writing s.taking → builder_view b s ≡ old
-    → is_none b.writing ≡ false → new ≡ old → TakesWith old new next (Err Unfinished) after indices p Told
-unfinished_before b s old new next after indices p Told a view w same = record {
-  told = tt;
-  ok = tt;
-  fits = tt;
-  free = tt;
-  err = same;
-  warranted = inr (refl, sym (finished_is b s old a view) ∙ w);
-  unfinished_first = λ e. refl;
-}
 
 -- a builder without an item that is being written
 pub settled_before : (b : Buffered) (s : Spaced) (old : State) → Agree b.writing s.taking → builder_view b s ≡ old → is_none b.writing ≡ true → old.begun ≡ None
@@ -54,19 +39,6 @@ space_refused b s old new next fault d a view w same all within refused = record
   free = tt;
   err = same;
   warranted = still_warranted _ _ (space_refuses old d (λ _. ⊥) all within) fault refused;
-  unfinished_first = λ e. let none = settled_before b s old a view w in cc;
-}
-
-pub section_refused : (b : Buffered) (s : Spaced) (old new next : State) (fault : Fault) (d : Draft) → Agree b.writing s.taking → builder_view b s ≡ old → is_none b.writing ≡ true → new ≡ old
-    → IsWarranted (SectionCause (entered old.settled.sections d.id d.text).current) fault
-    → Takes old new next (Err fault) d nothing
-section_refused b s old new next fault d a view w same refused = record {
-  told = tt;
-  ok = tt;
-  fits = tt;
-  free = tt;
-  err = same;
-  warranted = still_warranted _ _ (section_refuses old d (λ _. ⊥)) fault refused;
   unfinished_first = λ e. let none = settled_before b s old a view w in cc;
 }
 
@@ -135,29 +107,4 @@ partly_written old begun written new whole fault index id space name p t refused
     back : (s : State) → s.begun ≡ None → record { settled = s.settled; begun = None } ≡ s
     back s none = rw (← none) refl
 
-pub not_written : (old begun written new whole : State) (fault : Fault) (index id space : ℕ) (name : Option (List ℕ)) (p : Piece)
-    → Takes old begun (item_begun old (draft id space name [])) (Ok index) (draft id space name []) nothing
-    → IsWarranted (either p.Cause (no_room_in_section begun p.text)) fault → written ≡ begun → new ≡ item_given_up written
-    → Takes old new whole (Err fault) (draft id space name p.text) p
-not_written old begun written new whole fault index id space name p t refused w e =
-    partly_written old begun written new whole fault index id space name p t refused (ap (λ (s : State). s.settled) w) e
-
 -- ---- an item that is begun for an encoder
-
-pub begins_lent : {E : Type 0} (index : E → ℕ) (lent : E → State) (old new : State) (i : ℕ) (e : E) (d : Draft) → d.space < 13 → Takes old new (item_begun old d) (Ok i) d nothing → index e ≡ i → lent e ≡ new → BeginsItem index lent old (Ok e) d
-begins_lent index lent old new i e d within t is same = record {
-  begun = same ∙ t.ok;
-  indexed = λ es h. holds_index old es d.space (index e) h within (is ∙ t.told);
-  free = t.free;
-  warranted = tt;
-  unfinished_first = λ u. absurd (never i (t.unfinished_first u));
-}
-  where
-    never : (j : ℕ) → Ok j ≡ Err Unfinished → ⊥
-    never j q = cc
-
-pub begins_refused : {E : Type 0} (index : E → ℕ) (lent : E → State) (old new next : State) (fault : Fault) (d : Draft) → Takes old new next (Err fault) d nothing → BeginsItem index lent old (Err fault) d
-begins_refused index lent old new next fault d t = record { begun = tt; indexed = tt; free = tt; warranted = t.warranted; unfinished_first = λ u. rw (erred fault (Err fault) refl (t.unfinished_first u)) refl }
-  where
-    erred : (f : Fault) (r : Result ℕ Fault) → r ≡ Err f → r ≡ Err Unfinished → f ≡ Unfinished
-    erred f r e u = cc

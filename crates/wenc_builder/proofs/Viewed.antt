@@ -1,5 +1,5 @@
 -- A builder's state, by those of its buffer and its spaces.
-use Rattle.std.proofs.Common.{◌≡◌, List, ℕ, false, is_none, Option, Some, None, Result, Ok, Err, refl, ap, sym, subst, ◌∙◌}
+use Rattle.std.proofs.Common.{◌≡◌, List, ℕ, is_none, Option, Some, None, Result, Ok, Err, refl, ap, sym, subst, ◌∙◌}
 use Rattle.wenc_base.specs.Lender.{Extends, ExtendsListed}
 use Rattle.wenc_base.specs.Fault.{either}
 use Rattle.wenc_base.specs.Piece.{Piece}
@@ -21,17 +21,6 @@ finished_at (Some w) (Some t) a = refl
 
 pub finished_is : (b : Buffered) (s : Spaced) (now : State) → Agree b.writing s.taking → builder_view b s ≡ now → is_none b.writing ≡ builder_is_finished now
 finished_is b s now a view = rw (← view) (rw (finished_at b.writing s.taking a) refl)
-
-taking_at : (w : Option Writing) (t : Option Taking) → Agree w t → is_none (begun_of w t) ≡ false → is_none t ≡ false
-taking_at None t a e = cc
-taking_at (Some w) None a e = absurd a
-taking_at (Some w) (Some t) a e = refl
-
-pub taking_is : (b : Buffered) (s : Spaced) (now : State) → Agree b.writing s.taking → builder_view b s ≡ now → builder_is_finished now ≡ false → is_none s.taking ≡ false
-taking_is b s now a view e = taking_at b.writing s.taking a (rw (← view) at e)
-
-pub writing_is : (b : Buffered) (s : Spaced) (now : State) → Agree b.writing s.taking → builder_view b s ≡ now → builder_is_finished now ≡ false → is_none b.writing ≡ false
-writing_is b s now a view e = finished_is b s now a view ∙ e
 
 -- nothing is taken where nothing is written
 pub not_taking : (w : Option Writing) (t : Option Taking) → Agree w t → w ≡ None → t ≡ None
@@ -110,9 +99,3 @@ module _ (b : Buffered) (s : Spaced) (now : State) (agree : Agree b.writing s.ta
   appended_list steps values new (Err f) piece a =
       let p : Piece = piece a.warranted.0.items in
       record { ok = tt; err = rw a.err view; warranted = (a.warranted.0, a.warranted.1, still_warranted _ _ (there p.Cause p.text) f a.warranted.2) }
-
-  -- an item is written in both still
-  pub list_agrees : {S B : Type 0} (steps : S → Option B → S → Type 0) (values : S) (new : Buffered) (outcome : Result (Unit {0}) Fault) (piece : List B → Piece)
-      → ExtendsListed steps values b new outcome (buffer_appended b) (λ bytes. NoRoom (section_appended b bytes)) piece → Agree new.writing s.taking
-  list_agrees steps values new (Ok u) piece a = rw a.ok.3.state (still_agree b s (piece a.ok.0.items).text agree)
-  list_agrees steps values new (Err f) piece a = rw a.err agree

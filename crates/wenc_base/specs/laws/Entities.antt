@@ -2,7 +2,6 @@
 use Rattle.std.proofs.Common.{ℕ, Bool, true, false, List, [], ◌++◌, Option, Some, None, refl}
 use Rattle.wenc_base.specs.Piece.{Form, Wide, ◌▸◌, ◌⨾◌}
 use Rattle.wenc_base.specs.Number.{u64}
-use Rattle.wenc_base.specs.Forms.{option}
 use Rattle.wenc_base.specs.Readers.{Lawful, Reader, nowhere, choose}
 use Rattle.wenc_base.specs.laws.Lawful.{row_lawful, then, last}
 use Rattle.wenc_base.specs.laws.Numbers.{u32_lawful, u32_sound, u64_lawful, u64_sound}
@@ -62,11 +61,6 @@ shared_rows_sound form make k = (
     (least_sound form 0x06 (make true) (λ n. k true n None), (between_sound form 0x07 (make true) (λ n m. k true n (Some m)), tt)),
   ),
 )
-
--- limits whose numbers fit
-pub limits_fit : (is_shared is_long : Bool) (minimum : ℕ) (maximum : Option ℕ) → (u64 minimum).Fits → (option u64 maximum).Fits → (limits is_shared is_long minimum maximum).Fits
-limits_fit is_shared is_long n None h k = h
-limits_fit is_shared is_long n (Some m) h k = (h, k)
 
 -- ---- what has limits
 

@@ -5,13 +5,13 @@ use Rattle.std.proofs.lemmas.Bool.{cases_lt, lt-ltb, le-ltb}
 use Rattle.std.proofs.lemmas.List.{take_at, drop_at, take-append-drop, length-take-le, length-append}
 use Rattle.wenc_base.specs.Number.{u32}
 use Rattle.wenc_base.specs.Piece.{Payload, Form, Wide, raw}
-use Rattle.wenc_base.specs.laws.Sound.{Told, Sound, SoundWhole, weaken, made_told, behind_value, then_tells, last_tells, give_tells, nowhere_tells, choose_tells, Fewer, Several, times_told, whole_sound}
+use Rattle.wenc_base.specs.laws.Sound.{Told, Sound, SoundWhole, weaken, behind_value, then_tells, last_tells, give_tells, nowhere_tells, choose_tells, Fewer, Several, times_told}
 use Rattle.wenc_base.specs.Forms.{flag, list, option, utf8, name, AreBytes, sized, byte_list, counted}
 use Rattle.wenc_base.specs.Readers.{Flaw, Bad, Lawful, Reader, times, done}
 use Rattle.wenc_base.specs.laws.Lawful.{LawfulWhole, row_lawful, row_byte, then, last, each_lawful, whole_lawful, raw_lawful}
 use Rattle.wenc_base.specs.laws.Numbers.{u32_lawful, count_lawful, size_lawful, size_free, u32_sound, groups_are_read}
 use Rattle.std.proofs.lemmas.Str.{IsUtf8-from_is_utf8, is_utf8-from_IsUtf8}
-use Rattle.wenc_base.specs.reading.Forms.{are_bytes, read_byte_list, read_bytes, read_filling, read_flag, read_list, read_name, read_option, read_raw, read_sized, read_text, text_at}
+use Rattle.wenc_base.specs.reading.Forms.{are_bytes, read_byte_list, read_bytes, read_flag, read_list, read_name, read_option, read_raw, read_sized, read_text, text_at}
 
 -- ---- flags
 
@@ -92,17 +92,6 @@ sized_lawful {w = w} a = record {
       rw (groups_are_read mode 128 (2 ^ 32) 4 (length r.0) bytes (r.0 ++ rest) (omega arith) r.1.0 r.1.1, le-ltb (length (r.0 ++ rest)) (length r.0) (omega (arith, length-append r.0 rest)), take_at r.0 rest (length r.0) refl, drop_at r.0 rest (length r.0) refl, a.finds fuel le mode r.0 r.2) refl;
 }
 
-pub sized_sound : {A : Type 0} {form : A → Payload} {read : List ℕ → Result A Flaw} → SoundWhole form read → Sound (λ v. sized (form v)) (read_sized read)
-sized_sound {A} {form = form} {read = read} s = then_tells _ u32_sound (λ n. record { tells = λ middle. inside n middle })
-  where
-    inside : (n : ℕ) (middle : List ℕ) → Told (λ x. (bytes : List ℕ) → (u32 n).Reads Wide bytes middle → (sized (form x.0)).Reads Wide bytes x.1) ⊥ (read_filling read n middle)
-    inside n middle =
-        elim (cases_lt (length middle) n) [
-          | inl lt ↦ rw (lt-ltb (length middle) n lt, cond) tt
-          | inr ge ↦ rw (le-ltb (length middle) n ge, cond) (made_told (λ v. (form v).ReadsAll Wide (take n middle)) (λ x. (bytes : List ℕ) → (u32 n).Reads Wide bytes middle → (sized (form x.0)).Reads Wide bytes x.1) ⊥
-              (λ v. (v, drop n middle)) (read (take n middle)) (s.tells (take n middle)) (λ v h. (λ bytes r. (take n middle, rw (length-take-le n middle ge, take-append-drop n middle) r, h))))
-        ]
-
 -- ---- lists of bytes
 
 pub bytes_pass : (bytes : List ℕ) → AreBytes bytes → are_bytes bytes ≡ true
@@ -133,9 +122,6 @@ raw_sound = record { tells = λ bytes. bytes_sound (λ bs. (raw AreBytes bs).Rea
 pub byte_list_lawful : (bs : List ℕ) → Lawful (byte_list bs) (λ fuel. read_byte_list) bs
 byte_list_lawful bs = sized_lawful (bytes_lawful (λ bytes. bytes) bs)
 
-pub byte_list_sound : Sound byte_list read_byte_list
-byte_list_sound = sized_sound raw_sound
-
 -- ---- counted sections
 
 abbrev pub read_counted : {A : Type 0} → Reader A → Reader (List A)
@@ -143,6 +129,3 @@ read_counted read = read_sized (done (read_list read))
 
 pub counted_lawful : {A : Type 0} {form : Form A} {read : ℕ → Reader A} → ((v : A) → Lawful (form v) read v) → (vs : List A) → Lawful (counted form vs) (λ fuel. read_counted (read fuel)) vs
 counted_lawful laws vs = sized_lawful (whole_lawful (list_lawful laws vs))
-
-pub counted_sound : {A : Type 0} {form : Form A} {read : Reader A} → Sound form read → Sound (counted form) (read_counted read)
-counted_sound s = sized_sound (whole_sound (list_sound s))

@@ -56,11 +56,6 @@ pub wide_reads_strict : {A : Type 0} {p : Piece} {read : ℕ → Reader A} {v : 
     → (bytes rest : List ℕ) → p.Reads Strict bytes rest → p.Reads Wide bytes rest
 wide_reads_strict one bytes rest r = rw (one.strict_is_text bytes rest r) (one.text_is_read Wide rest (one.fits bytes rest r))
 
--- the same of all of the bytes
-pub whole_wide_reads_strict : {A : Type 0} {w : Payload} {read : ℕ → List ℕ → Result A Flaw} {v : A} → LawfulWhole w read v
-    → (bytes : List ℕ) → w.ReadsAll Strict bytes → w.ReadsAll Wide bytes
-whole_wide_reads_strict one bytes r = rw (one.strict_is_text bytes r) (one.text_is_read Wide (one.fits bytes r))
-
 -- ---- the laws of a form
 
 -- they follow from the laws of each value

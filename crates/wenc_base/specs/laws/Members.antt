@@ -1,13 +1,12 @@
 -- What a holder whose members are texts of one kind stays through all calls.
-use Rattle.std.proofs.Common.{◌≡◌, ℕ, ◌+◌, ◌-◌, Bool, true, false, is_none, Option, Some, None, Result, Ok, Err, ◌⊎◌, inl, inr, ◌↔◌, append_assoc, List, [], ◌∷◌, ◌++◌, length, refl, sym, ◌∙◌, arith, subst, length-append}
+use Rattle.std.proofs.Common.{◌≡◌, ℕ, ◌+◌, ◌-◌, Bool, true, false, is_none, Option, Some, None, Result, Ok, Err, append_assoc, List, [], ◌∷◌, ◌++◌, length, refl, sym, ◌∙◌, arith, subst, length-append}
 use Rattle.std.proofs.Math.Logic.{∥∥₁_map₂, ∥∥₁_elim, ∥∥₁_prop}
-use Rattle.std.proofs.lemmas.List.{take_at, take-append-drop, take-append-le}
+use Rattle.std.proofs.lemmas.List.{take_at, take-append-drop}
 use Rattle.std.specs.List.{flat_map, AllByRecursion}
-use Rattle.std.specs.Prelude.{IsTrue}
 use Rattle.wenc_base.specs.Encode.{Serves}
 use Rattle.wenc_base.specs.Piece.{Piece, Form, HasForm, verbatim}
 use Rattle.wenc_base.specs.Holder.{HolderState, is_finished, with_member, holding, Contains, ContainsSome, AddsMember, AddsListed}
-use Rattle.wenc_base.specs.Lender.{Extends, ExtendsListed, MakesWhole}
+use Rattle.wenc_base.specs.Lender.{MakesWhole}
 use Rattle.wenc_base.specs.Openings.{member_begun, member_appended, member_ended, member_given_up, member_text, OpeningStands, HasMembers}
 use Rattle.wenc_base.specs.laws.Holders.{contains_next, all_more}
 use Rattle.wenc_base.specs.declared.fault.Fault.{Fault}
@@ -31,13 +30,6 @@ finished_back h finished = at h.opening finished
     at None e = refl
     at (Some o) e = cc
 
-pub back_twice : (h : HolderState) → member_given_up (member_given_up h) ≡ member_given_up h
-back_twice h = at h.opening
-  where
-    at : (o : Option Opening) → member_given_up (member_given_up (held_as h.kept h.count h.body o)) ≡ member_given_up (held_as h.kept h.count h.body o)
-    at None = refl
-    at (Some o) = refl
-
 pub closed_as_it_is : (h : HolderState) → is_finished h ≡ true → member_ended h ≡ h
 closed_as_it_is h finished = at h.opening finished
   where
@@ -49,13 +41,6 @@ pub opened_back : (h : HolderState) (lead : List ℕ) → is_finished h ≡ true
 opened_back h lead finished =
     let counts : h.count + 1 - 1 ≡ h.count = omega arith in
     rw (counts, take_at h.body lead (length h.body) refl) (closed_as_it_is h finished)
-
-pub appended_back : (h : HolderState) (text : List ℕ) → is_finished h ≡ false → IsWithin h → member_given_up (member_appended h text) ≡ member_given_up h
-appended_back h text unfinished within = at h.opening unfinished within
-  where
-    at : (o : Option Opening) → is_none o ≡ false → OpeningStands o h.count (length h.body) → member_given_up (held_as h.kept h.count (h.body ++ text) o) ≡ member_given_up (held_as h.kept h.count h.body o)
-    at None e w = cc
-    at (Some o) e w = let starts = w.0 in rw (take-append-le o.member_start h.body text starts) refl
 
 -- what is ended is one member more
 pub closed_as_more : (h : HolderState) → is_finished h ≡ false → IsWithin h → with_member (member_given_up h) (member_text h) ≡ member_ended h
@@ -80,27 +65,6 @@ was_finished h x refused = at (is_finished h) refused
     at true r = refl
     at false r = let e = r refl in cc
 
--- what is added to a member makes it longer, or is refused
-abbrev pub IsLonger : HolderState → HolderState → Type 0
-IsLonger old new = (new ≡ old) ⊎ ((text : List ℕ) × (new ≡ member_appended old text))
-
-pub members_extended : (p : Piece) (old new : HolderState) (outcome : Result (Unit {0}) Fault) (refuses : Fault → Type 0) → Extends old new (member_appended old p.text) outcome p refuses → IsLonger old new
-members_extended p old new (Ok u) refuses e = inr (p.text, e.ok)
-members_extended p old new (Err f) refuses e = inl e.err
-
-pub extended_list : {S B : Type 0} (steps : S → Option B → S → Type 0) (values : S) (old new : HolderState) (outcome : Result (Unit {0}) Fault) (refuses : List ℕ → Fault → Type 0)
-    (piece : List B → Piece) → ExtendsListed steps values old new outcome (member_appended old) refuses piece → IsLonger old new
-extended_list steps values old new (Ok u) refuses piece e = inr ((piece e.ok.0.items).text, e.ok.3.state)
-extended_list steps values old new (Err f) refuses piece e = inl e.err
-
--- a holder that gave up nothing was finished
-pub told_finished : (h : HolderState) (was : Bool) → (IsTrue was ↔ (is_finished h ≡ false)) → was ≡ false → is_finished h ≡ true
-told_finished h was told nothing = at (is_finished h) told.1
-  where
-    at : (b : Bool) → (b ≡ false → IsTrue was) → b ≡ true
-    at true t = refl
-    at false t = let yes : IsTrue was = t refl in let e : was ≡ true = yes in cc
-
 -- ---- where a member that is being written stands
 
 pub within_finished : (h : HolderState) → is_finished h ≡ true → IsWithin h
@@ -112,20 +76,6 @@ within_finished h finished = at h.opening finished
 
 pub within_opened : (h : HolderState) (lead : List ℕ) → IsWithin (member_begun h lead)
 within_opened h lead = (omega (arith, length-append h.body lead), omega arith)
-
-pub within_appended : (h : HolderState) (text : List ℕ) → IsWithin h → IsWithin (member_appended h text)
-within_appended h text within = at h.opening within
-  where
-    at : (o : Option Opening) → OpeningStands o h.count (length h.body) → OpeningStands o h.count (length (h.body ++ text))
-    at None w = tt
-    at (Some o) w = (omega (arith, w.0, length-append h.body text), w.1)
-
-pub within_back : (h : HolderState) → IsWithin (member_given_up h)
-within_back h = at h.opening
-  where
-    at : (o : Option Opening) → IsWithin (member_given_up (held_as h.kept h.count h.body o))
-    at None = tt
-    at (Some o) = tt
 
 -- ---- members of one kind
 
@@ -173,18 +123,6 @@ module _ (P : List ℕ → Type 0) where
     opening = within_opened h lead;
   }
 
-  -- more is written of it
-  pub keeps_appended : (h : HolderState) (text : List ℕ) → is_finished h ≡ false → HasMembers P h → HasMembers P (member_appended h text)
-  keeps_appended h text unfinished k = record {
-    settled = subst (λ (s : HolderState). ∥ ContainsSome P s ∥₁) (sym (appended_back h text unfinished k.opening)) k.settled;
-    opening = within_appended h text k.opening;
-  }
-
-  -- or the same of a call that may be refused
-  pub keeps_longer : (old new : HolderState) → is_finished old ≡ false → IsLonger old new → HasMembers P old → HasMembers P new
-  keeps_longer old new unfinished (inl same) k = rw same k
-  keeps_longer old new unfinished (inr more) k = rw more.1 (keeps_appended old more.0 unfinished k)
-
   -- it is ended, as such a text
   pub keeps_closed : (h : HolderState) → ∥ P (member_text h) ∥₁ → HasMembers P h → HasMembers P (member_ended h)
   keeps_closed h whole k = at (is_finished h) refl
@@ -194,13 +132,6 @@ module _ (P : List ℕ → Type 0) where
       at false unfinished =
           let more : ∥ ContainsSome P (with_member (member_given_up h) (member_text h)) ∥₁ = ∥∥₁_map₂ k.settled whole (λ s p. some_more (member_given_up h) (member_text h) s p) in
           keeps_some (member_ended h) refl (subst (λ (s : HolderState). ∥ ContainsSome P s ∥₁) (closed_as_more h unfinished k.opening) more)
-
-  -- or it is given up
-  pub keeps_given_up : (h : HolderState) → HasMembers P h → HasMembers P (member_given_up h)
-  keeps_given_up h k = record {
-    settled = subst (λ (s : HolderState). ∥ ContainsSome P s ∥₁) (sym (back_twice h)) k.settled;
-    opening = within_back h;
-  }
 
 -- ---- members that are texts of a form
 

@@ -131,12 +131,6 @@ size_free n h TooMany c = c
 size_free n h TooLarge c = absurd (omega (arith, h, c))
 size_free n h Unfinished c = c
 
-pub free_count : (n : ℕ) → NoCause (count_cause n) → n < 2 ^ 32
-free_count n none = elim (cases_lt n (2 ^ 32)) [ inl lt ↦ lt | inr ge ↦ absurd (none TooMany ge) ]
-
-pub free_size : (n : ℕ) → NoCause (size_cause n) → n < 2 ^ 32
-free_size n none = elim (cases_lt n (2 ^ 32)) [ inl lt ↦ lt | inr ge ↦ absurd (none TooLarge ge) ]
-
 pub count_lawful : (n : ℕ) → Lawful (count n) (λ fuel. read_u32) n
 count_lawful n = refused_lawful (count_cause n) (u32_lawful n) (count_free n) (λ c. c)
 

@@ -5,7 +5,7 @@ use Rattle.wenc_base.specs.Encode.{Appends, Serves, in_order, list_in_order, dra
 use Rattle.wenc_base.specs.Fault.{IsWarranted, NoCause, either, first_of, count_cause, size_cause, member_cause}
 use Rattle.wenc_base.specs.Forms.{list, option, sized}
 use Rattle.wenc_base.specs.Holder.{listed}
-use Rattle.wenc_base.specs.Piece.{Piece, Form, AnyCause, ◌▸◌, ◌⨾◌, nothing, verbatim, refused_for, behind_bytes, all_of}
+use Rattle.wenc_base.specs.Piece.{Piece, Form, AnyCause, ◌▸◌, ◌⨾◌, nothing, verbatim, behind_bytes, all_of}
 use Rattle.wenc_base.specs.declared.fault.Fault.{Fault}
 use Rattle.wenc_base.specs.declared.fault.Fault.TheVariants.{Memory, TooMany, TooLarge, Unfinished}
 use Rattle.wenc_base.specs.Delimited.{option_seen}
@@ -105,11 +105,6 @@ pub behind_serves : {p q : Piece} (lead : List ℕ) → Serves p q → Serves (b
 behind_serves [] s = s
 behind_serves (b ∷ lead) s = tagged_serves b (behind_serves lead s)
 
--- the text of a piece behind bytes, and what else it has
-pub behind_text : (lead : List ℕ) (p : Piece) → (behind_bytes lead p).text ≡ lead ++ p.text
-behind_text [] p = refl
-behind_text (b ∷ lead) p = ap (λ (t : List ℕ). b ∷ t) (behind_text lead p)
-
 pub behind_is : (lead : List ℕ) (p : Piece) → Serves (verbatim lead ⨾ p) (behind_bytes lead p)
 behind_is [] p = record { text = refl; fits = λ h. h.1; among = λ fault c. elim c [ inl none ↦ absurd none | inr k ↦ k ]; free = λ none. right_free none }
 behind_is (b ∷ lead) p =
@@ -127,10 +122,6 @@ listed_behind lead form vs = serves_then (both_serve {p = verbatim lead} {p' = v
 pub option_serves : {A S : Type 0} (one : Form A) (seen : A → S) (form : Form S) → ((v : A) → Serves (one v) (form (seen v))) → (o : Option A) → Serves (option one o) (option form (option_seen seen o))
 option_serves one seen form serves None = serves_itself
 option_serves one seen form serves (Some v) = tagged_serves 0x01 (serves v)
-
--- for fewer causes, or for more that follow
-pub refused_serves : (p : Piece) (one other : Fault → Type 0) → IsAmong one other → Serves (refused_for one p) (refused_for other p)
-refused_serves p one other c = record { text = refl; fits = λ h. h; among = c.0; free = c.1 }
 
 pub order_serves : {p q p' q' : Piece} → Serves p p' → Serves q q' → Serves (in_order p q) (p' ⨾ q')
 order_serves {p} {q} {p'} {q'} a b =

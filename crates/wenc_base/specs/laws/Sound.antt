@@ -32,11 +32,6 @@ deep_where {form = form} {read = read} Goes Went t go = record {
   tells = λ bytes. weaken (λ x. (form x.0).Reads Wide bytes x.1) (λ x. (form x.0).Reads Wide bytes x.1) (Goes bytes) (Went bytes) (read bytes) (λ x r. r) (go bytes) (t.tells bytes);
 }
 
-pub made_told : {A B : Type 0} (P : A → Type 0) (Q : B → Type 0) (D : Type 0) (make : A → B) (found : Result A Flaw) → Told P D found → ((v : A) → P v → Q (make v)) → Told Q D (made make found)
-made_told P Q D make (Ok v) h k = k v h
-made_told P Q D make (Err Bad) h k = tt
-made_told P Q D make (Err Deep) h k = h
-
 -- what doesn't nest
 pub sound_tells : {A : Type 0} {form : Form A} {read : Reader A} (Goes : List ℕ → Type 0) → Sound form read → Tells form Goes read
 sound_tells Goes s = deep_where (λ bytes. ⊥) Goes s (λ bytes e. absurd e)

@@ -41,9 +41,6 @@ abstract_rows_sound form make k = given_rows form abstract_byte make k abstract_
 pub abstract_type_lawful : (t : AbstractHeapType) → Lawful (abstract_type t) (λ fuel. read_abstract) t
 abstract_type_lawful t = abstract_row (λ u. u) (λ fuel. []) _ t
 
-pub abstract_type_sound : Sound abstract_type read_abstract
-abstract_type_sound = choose_tells _ _ (abstract_rows_sound abstract_type (λ t. t) (λ t rest. refl)) nowhere_tells
-
 pub heap_type_lawful : (h : HeapType) → Lawful (heap_type h) (λ fuel. read_heap_type) h
 heap_type_lawful (Abstract t) = abstract_row Abstract (λ fuel. []) _ t
 heap_type_lawful (Concrete n) = past _ _ (λ fuel. index_starts _ (λ b lt. omega arith) (λ b le. omega arith) n) (last Concrete (index_lawful n))

@@ -1,5 +1,5 @@
 -- What refuses a part of a call refuses the call.
-use Rattle.std.proofs.Common.{◌≡◌, ℕ, ◌+◌, ◌<◌, ◌≤◌, ◌^◌, ◌⊎◌, inl, inr, List, [], ◌++◌, length, Option, Some, None, sym, refl, arith, length-append, subst}
+use Rattle.std.proofs.Common.{◌≡◌, ℕ, ◌+◌, ◌<◌, ◌^◌, ◌⊎◌, inl, inr, List, [], ◌++◌, length, Option, Some, None, sym, refl, arith, length-append, subst}
 use Rattle.std.proofs.lemmas.List.{get_or-set_same}
 use Rattle.std.proofs.lemmas.Bool.Decides.{eqb_tells}
 use Rattle.wenc_base.specs.Number.{number_size}
@@ -47,9 +47,6 @@ pub space_refuses : (old : State) (d : Draft) (cause : Fault → Type 0) → len
     → (fault : Fault) → SpaceCause (space_with old d) fault → CallCause old cause (content_of (item_begun old d)) (Some (draft_indices d)) fault
 space_refuses old d cause h l fault c = inl (inr (inl (subst (λ (s : Namespace). SpaceCause s fault) (sym (there old d h l)) c)))
 
-pub section_refuses : (old : State) (d : Draft) (cause : Fault → Type 0) (fault : Fault) → SectionCause (entered old.settled.sections d.id d.text).current fault → CallCause old cause (content_of (item_begun old d)) (Some (draft_indices d)) fault
-section_refuses old d cause fault c = inl (inr (inr c))
-
 -- where nothing is against its space nor its section, nothing is against it
 pub begun_free : (old : State) (d : Draft) → length old.settled.spaces ≡ 13 → d.space < 13 → old.begun ≡ None
     → ((fault : Fault) → SpaceCause (space_with old d) fault → ⊥) → ((fault : Fault) → SectionCause (entered old.settled.sections d.id d.text).current fault → ⊥)
@@ -74,15 +71,6 @@ section_grows closed (Some o) id text more fault c =
     elim (eqb_tells o.id id) [
       | inl t ↦ let d = rw t.0 at c in rw t.0 (grows_at o.id (o.count + 1) o.body text more fault d)
       | inr t ↦ let d = rw t.0 at c in rw t.0 (grows_at id 1 [] text more fault d)
-    ]
-
--- a text that is too long alone makes too large a section
-pub long_is_large : (closed : List ℕ) (o : Option OpenSection) (id : ℕ) (text : List ℕ) → 2 ^ 32 ≤ length text → SectionCause (entered_at closed o id text).current TooLarge
-long_is_large closed None id text h = omega (arith, h)
-long_is_large closed (Some o) id text h =
-    elim (eqb_tells o.id id) [
-      | inl t ↦ rw t.0 (omega (arith, h, length-append o.body text))
-      | inr t ↦ rw t.0 (omega (arith, h))
     ]
 
 many_shrinks : (closed : List ℕ) (o : Option OpenSection) (id : ℕ) (text : List ℕ) → SectionCause (entered_at closed o id text).current TooMany → SectionCause (entered_at closed o id []).current TooMany

@@ -1,5 +1,5 @@
 -- The laws of canonical functions.
-use Rattle.std.proofs.Common.{◌≡◌, ◌+◌, List, [], ◌∷◌, map, Option, Ok, refl, ap, arith}
+use Rattle.std.proofs.Common.{◌≡◌, ◌+◌, List, [], ◌∷◌, map, Ok, refl, ap, arith}
 use Rattle.wenc_base.specs.Holder.{HolderState}
 use Rattle.wenc_base.specs.Readers.{Lawful, nowhere, pick}
 use Rattle.wenc_base.specs.laws.Lawful.{row_lawful as in_row, row_byte, nothing_lawful, then, last}
@@ -10,7 +10,7 @@ use Rattle.wenc_base.specs.laws.Types.{val_type_lawful, val_type_sound}
 use Rattle.wenc_parts.specs.laws.Types.{result_list_lawful, result_list_sound}
 use Rattle.wenc_canon.specs.declared.canonicals.CanonicalOption.{CanonicalOption}
 use Rattle.wenc_canon.specs.declared.canonicals.CanonicalOption.TheVariants.{UTF8, UTF16, CompactUTF16, Memory, Realloc, PostReturn, Async, Callback, CoreType as CoreTypeOption, Gc}
-use Rattle.wenc_canon.specs.Canonicals.{canonical_option, Field, Index, Options, Flag, Zero, CoreType, Results, Slot, Value, field, Values, fields, Builtin, ResourceNew, row, builtins, Canonical, Lift, Lower, OfBuiltin, canonical, Adds, AddsWithOptions}
+use Rattle.wenc_canon.specs.Canonicals.{canonical_option, Field, Index, Options, Flag, Zero, CoreType, Results, Slot, Value, field, Values, fields, Builtin, ResourceNew, row, builtins, Canonical, Lift, Lower, OfBuiltin, canonical, Adds}
 use Rattle.wenc_canon.specs.reading.Canonicals.{read_builtin, read_canonical, read_canonical_option, read_field, read_fields, rows}
 
 -- ---- options
@@ -119,8 +119,3 @@ an_added_function_is_one_more old new i values adds = ap (λ (h : HolderState). 
 pub an_added_function_is_seen : (section : HolderState) (i : Builtin) (values : Values (row i).fields) → Adds section section (Ok tt) i values → ⊥
 an_added_function_is_seen section i values adds =
     let grown : section.count ≡ section.count + 1 = an_added_function_is_one_more section section i values adds in omega (arith, grown)
-
--- there is one function more, also where it has options
-pub an_added_function_with_options_is_one_more : {S : Type 0} (steps : S → Option CanonicalOption → S → Type 0) (options : S) (old new : HolderState) (function : List CanonicalOption → Canonical)
-    → AddsWithOptions steps options old new (Ok tt) function → new.count ≡ old.count + 1
-an_added_function_with_options_is_one_more steps options old new function adds = ap (λ (h : HolderState). h.count) adds.ok.3.state

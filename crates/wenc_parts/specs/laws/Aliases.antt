@@ -1,7 +1,7 @@
 -- The laws of aliases.
 use Rattle.std.proofs.Common.{ℕ, List, [], ◌∷◌, refl}
 use Rattle.wenc_base.specs.Piece.{Piece, Form, Wide, byte, ◌▸◌, ◌⨾◌}
-use Rattle.wenc_base.specs.laws.Sound.{Sound, sound_behind, give_tells, last_tells, then_tells, nowhere_tells, choose_tells}
+use Rattle.wenc_base.specs.laws.Sound.{Sound, sound_behind, last_tells, then_tells, nowhere_tells, choose_tells}
 use Rattle.wenc_base.specs.Number.{u32}
 use Rattle.wenc_base.specs.Forms.{name as name_form}
 use Rattle.wenc_base.specs.Readers.{Lawful, nowhere, choose}
@@ -26,12 +26,6 @@ outer_kind_lawful outers.CoreModule = row_lawful _ _ 0x00 (row_byte _ _ 0x11 (λ
 outer_kind_lawful outers.CoreType = row_lawful _ _ 0x00 (row_byte _ _ 0x10 (λ fuel rest. refl))
 outer_kind_lawful outers.«Type» = row_byte _ _ 0x03 (λ fuel rest. refl)
 outer_kind_lawful outers.Component = row_byte _ _ 0x04 (λ fuel rest. refl)
-
-pub outer_kind_sound : Sound outer_kind read_outer_kind
-outer_kind_sound = choose_tells _ _ (
-  choose_tells _ _ (give_tells outers.CoreModule (λ bytes. (_, refl, refl)), (give_tells outers.CoreType (λ bytes. (_, refl, refl)), tt)) nowhere_tells,
-  (give_tells outers.«Type» (λ bytes. refl), (give_tells outers.Component (λ bytes. refl), tt)),
-) nowhere_tells
 
 -- ---- aliases
 

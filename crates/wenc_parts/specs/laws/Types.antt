@@ -41,9 +41,6 @@ primitive_rows_sound form make k = given_rows form primitive_byte make k primiti
 pub primitive_lawful : (p : PrimitiveValType) → Lawful (primitive p) (λ fuel. read_primitive) p
 primitive_lawful p = primitive_row (λ q. q) (λ fuel. []) _ p
 
-pub primitive_sound : Sound primitive read_primitive
-primitive_sound = choose_tells _ _ (primitive_rows_sound primitive (λ p. p) (λ p rest. refl)) nowhere_tells
-
 pub value_type_lawful : (t : ComponentValType) → Lawful (value_type t) (λ fuel. read_value_type) t
 value_type_lawful (Primitive p) = primitive_row Primitive (λ fuel. []) _ p
 value_type_lawful (TypeIndex n) = past _ _ (λ fuel. index_starts _ (λ b lt. omega arith) (λ b le. omega arith) n) (last TypeIndex (index_lawful n))

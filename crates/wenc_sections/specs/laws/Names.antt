@@ -3,13 +3,12 @@ use Rattle.std.proofs.Common.{◌≡◌, ℕ, List, [], ◌∷◌, refl}
 use Rattle.wenc_base.specs.Holder.{HolderState, Contains}
 use Rattle.wenc_base.specs.Names.{NameAssociation, name_association}
 use Rattle.wenc_base.specs.laws.Forms.{name_lawful, sized_lawful, bytes_lawful}
-use Rattle.wenc_base.specs.reading.Forms.{read_name, read_sized}
-use Rattle.wenc_base.specs.Readers.{Lawful, Reader, ◌>>=◌, give, nowhere, choose, done}
-use Rattle.wenc_base.specs.laws.Lawful.{row_lawful, row_byte, then, last, then_whole, whole_lawful, refused_lawful}
-use Rattle.wenc_base.specs.laws.Names.{read_name_map, name_map_lawful, held_names}
+use Rattle.wenc_base.specs.Readers.{Lawful, Reader, give, nowhere, choose}
+use Rattle.wenc_base.specs.laws.Lawful.{row_lawful, row_byte, then_whole, refused_lawful}
+use Rattle.wenc_base.specs.laws.Names.{held_names}
 use Rattle.wenc_sections.specs.declared.names.Sort.{Sort}
 use Rattle.wenc_sections.specs.declared.names.Sort.TheVariants.{CoreFunc, CoreTable, CoreMemory, CoreGlobal, CoreTag, CoreType, CoreModule, CoreInstance, Func, Value, «Type» as TypeSort, Component, Instance}
-use Rattle.wenc_sections.specs.Names.{item_sort, Subsection, ComponentName, ItemNames, subsection, held_subsection, names_label, names_section}
+use Rattle.wenc_sections.specs.Names.{item_sort, ItemNames, subsection, held_subsection, names_label, names_section}
 use Rattle.wenc_sections.specs.reading.Names.{read_names_section}
 
 -- ---- sorts
@@ -50,22 +49,6 @@ sort_lawful Component = row_byte _ _ 0x04 (λ fuel rest. refl)
 sort_lawful Instance = row_byte _ _ 0x05 (λ fuel rest. refl)
 
 -- ---- subsections
-
-abbrev read_component_name : Reader Subsection
-read_component_name = read_sized (done (read_name >>= λ text. give (ComponentName text)))
-
-abbrev read_item_names : Reader Subsection
-read_item_names = read_sized (done (read_sort >>= λ sort. read_name_map >>= λ names. give (ItemNames sort names)))
-
--- all but raw ones
-abbrev pub read_subsection : Reader Subsection
-read_subsection = choose ((0x00, read_component_name) ∷ (0x01, read_item_names) ∷ []) nowhere
-
-pub component_name_lawful : (text : List ℕ) → Lawful (subsection (ComponentName text)) (λ fuel. read_subsection) (ComponentName text)
-component_name_lawful text = row_lawful _ _ 0x00 (sized_lawful (whole_lawful (last ComponentName (name_lawful text))))
-
-pub item_names_lawful : (sort : Sort) (names : List NameAssociation) → Lawful (subsection (ItemNames sort names)) (λ fuel. read_subsection) (ItemNames sort names)
-item_names_lawful sort names = row_lawful _ _ 0x01 (sized_lawful (whole_lawful (then _ (sort_lawful sort) (last (ItemNames sort) (name_map_lawful names)))))
 
 -- the names that are held are a subsection
 pub held_subsection_is : (sort : Sort) (held : HolderState) (names : List NameAssociation) → Contains name_association held names → (held_subsection sort held).text ≡ (subsection (ItemNames sort names)).text

@@ -2,16 +2,16 @@
 use Rattle.std.proofs.Common.{◌≡◌, ℕ, ◌+◌, ◌-◌, ◌≤◌, Bool, true, false, is_none, List, [], ◌∷◌, ◌++◌, Option, Some, None, refl, ap, sym, subst, arith}
 use Rattle.std.proofs.Math.Logic.{∥∥₁_map, ∥∥₁_map₂}
 use Rattle.wenc_base.specs.Encode.{Serves}
-use Rattle.wenc_base.specs.Holder.{HolderState, is_finished, with_member, held_text, held_members, EncodeCause}
+use Rattle.wenc_base.specs.Holder.{is_finished, with_member, held_text, held_members, EncodeCause}
 use Rattle.wenc_base.specs.Piece.{Form, HasForm, ◌▸◌, refused_for}
-use Rattle.wenc_base.specs.Openings.{member_given_up, member_text}
-use Rattle.wenc_base.specs.laws.Members.{finished_back, back_twice, opened_back, appended_back, closed_as_it_is, closed_as_more, within_finished, within_opened, within_appended, within_back}
+use Rattle.wenc_base.specs.Openings.{member_text}
+use Rattle.wenc_base.specs.laws.Members.{finished_back, closed_as_it_is, closed_as_more, within_finished}
 use Rattle.wenc_base.specs.declared.holder.openings.Opening.{Opening}
 use Rattle.wenc_types.specs.ComponentTypes.{ComponentType, InstanceType, components_of, instances_of, def_type, component_declaration, instance_declaration}
 use Rattle.wenc_types.specs.CoreTypes.{module_declaration, Module, core_type}
-use Rattle.wenc_types.specs.Declarations.{module_sort, component_sort, instance_sort, TypeState, no_declarations, NoneBegun, Declares, IsDeclaration, DeclaresSome, one_more, one_less, lead_of, type_begun, type_appended, type_ended, type_given_up}
+use Rattle.wenc_types.specs.Declarations.{module_sort, component_sort, instance_sort, TypeState, NoneBegun, Declares, IsDeclaration, DeclaresSome, one_more, one_less, type_ended, type_given_up}
 use Rattle.wenc_types.specs.inside.TypeState.{IsTypeState, HasOne, OpenedIsIn, total}
-use Rattle.wenc_types.specs.laws.Declarations.{declares_next, back_again, module_serves, component_serves, instance_serves}
+use Rattle.wenc_types.specs.laws.Declarations.{declares_next, module_serves, component_serves, instance_serves}
 use Rattle.wenc_types.specs.declared.counts.Counts.{Counts}
 use Rattle.wenc_types.specs.declared.counts.Sort.{Sort}
 use Rattle.wenc_types.specs.declared.counts.Sort.TheVariants.{CoreType, «Type» as TypeSort, Instance}
@@ -24,17 +24,6 @@ total_counted None n = omega arith
 total_counted (Some CoreType) n = omega arith
 total_counted (Some TypeSort) n = omega arith
 total_counted (Some Instance) n = omega arith
-
-total_uncounted : (sort : Option Sort) (n : Counts) → HasOne sort n → total (one_less sort n) + 1 ≤ total n
-total_uncounted None n one = absurd one
-total_uncounted (Some CoreType) n one = omega arith
-total_uncounted (Some TypeSort) n one = omega arith
-total_uncounted (Some Instance) n one = omega arith
-
-has_one : (sort : Sort) (n : Counts) → HasOne (Some sort) (one_more (Some sort) n)
-has_one CoreType n = omega arith
-has_one TypeSort n = omega arith
-has_one Instance n = omega arith
 
 counted_uncounted : (sort : Option Sort) (n : Counts) → HasOne sort n → one_more sort (one_less sort n) ≡ n
 counted_uncounted None n one = absurd one
@@ -54,15 +43,6 @@ none_at (Some o) sort n e c = cc
 still_none : (o : Option Opening) (sort : Option Sort) (n m : Counts) → is_none o ≡ true → sort ≡ None → OpenedIsIn o sort m
 still_none None sort n m e s = s
 still_none (Some o) sort n m e s = cc
-
-counted_back : (o : Option Opening) (h : HolderState) (m : Counts) → OpenedIsIn (member_given_up (record { kept = h.kept; count = h.count; body = h.body; opening = o })).opening None m
-counted_back None h m = refl
-counted_back (Some o) h m = refl
-
-enough_back : (o : Option Opening) (h : HolderState) (sort : Option Sort) (n : Counts) → OpenedIsIn o sort n → total n ≤ h.count
-    → total (one_less sort n) ≤ (member_given_up (record { kept = h.kept; count = h.count; body = h.body; opening = o })).count
-enough_back None h sort n c e = rw c e
-enough_back (Some o) h sort n c e = omega (arith, total_uncounted sort n c)
 
 -- ---- declarations
 
@@ -87,14 +67,6 @@ module _ {D : Type 0} (form : Form D) (sort : D → Option Sort) where
   pub declares_some : (t : TypeState) → is_finished t.held ≡ true → IsTypeState form sort t → ∥ DeclaresSome form sort t ∥₁
   declares_some t finished d = subst HasSome (settled_back t (settled t finished d)) d.settled
 
-  pub declaring_none : IsTypeState form sort no_declarations
-  declaring_none = record {
-    enough = omega arith;
-    counted = refl;
-    opening = tt;
-    settled = ∣ record { declarations = []; declared = record { contained = record { finished = refl; count = refl; body = refl; fit = tt }; counts = refl } } ∣₁;
-  }
-
   -- a declaration is added
   pub declaring_added : (t : TypeState) (text : List ℕ) (s : Option Sort) → is_finished t.held ≡ true → IsDeclaration form sort text s → IsTypeState form sort t
       → IsTypeState form sort (record { held = with_member t.held text; counts = one_more s t.counts; begun = t.begun })
@@ -108,29 +80,6 @@ module _ {D : Type 0} (form : Form D) (sort : D → Option Sort) where
         opening = within_finished (with_member t.held text) finished;
         settled = subst HasSome (sym (settled_back next (record { finished = finished; none_begun = none.none_begun }))) some;
       }
-
-  -- a type is begun
-  pub declaring_begun : (t : TypeState) (s : Sort) → is_finished t.held ≡ true → IsTypeState form sort t → IsTypeState form sort (type_begun s t)
-  declaring_begun t s finished d =
-      let none = settled t finished d in
-      let back : type_given_up (type_begun s t) ≡ t = rw (opened_back t.held (lead_of s) finished, back_again s t.counts, ← none.none_begun) refl in
-      record {
-        enough = omega (arith, d.enough, total_counted (Some s) t.counts);
-        counted = has_one s t.counts;
-        opening = within_opened t.held (lead_of s);
-        settled = subst HasSome (sym back) (declares_some t finished d);
-      }
-
-  -- more of it is written
-  pub declaring_written : (t : TypeState) (text : List ℕ) → is_finished t.held ≡ false → IsTypeState form sort t → IsTypeState form sort (type_appended t text)
-  declaring_written t text unfinished d = record {
-    enough = d.enough;
-    counted = d.counted;
-    opening = within_appended t.held text d.opening;
-    settled =
-        let back : type_given_up (type_appended t text) ≡ type_given_up t = rw (appended_back t.held text unfinished d.opening) refl in
-        subst HasSome (sym back) d.settled;
-  }
 
   -- it is ended, as a declaration
   pub declaring_ended : (t : TypeState) → ∥ IsDeclaration form sort (member_text t.held) t.begun ∥₁ → IsTypeState form sort t → IsTypeState form sort (type_ended t)
@@ -152,17 +101,6 @@ module _ {D : Type 0} (form : Form D) (sort : D → Option Sort) where
             opening = tt;
             settled = rw (closed_as_more t.held unfinished d.opening, counted_uncounted t.begun t.counts one) at more;
           }
-
-  -- or it is given up
-  pub declaring_given_up : (t : TypeState) → IsTypeState form sort t → IsTypeState form sort (type_given_up t)
-  declaring_given_up t d = record {
-    enough = enough_back t.held.opening t.held t.begun t.counts d.counted d.enough;
-    counted = counted_back t.held.opening t.held (one_less t.begun t.counts);
-    opening = within_back t.held;
-    settled =
-        let again : type_given_up (type_given_up t) ≡ type_given_up t = rw (back_twice t.held) refl in
-        subst HasSome (sym again) d.settled;
-  }
 
 -- ---- the texts of what is finished
 
