@@ -27,13 +27,17 @@ use wenc_types::{
 /// its name, and the builder is unfinished until the encoder's last call. Refused as the type says.
 ///
 /// ```
+/// let mut builder = ComponentBuilder::new(alloc)?;
+/// let string = ComponentValType::Primitive(PrimitiveValType::String);
 /// let (index, ty) = builder.type_defined(None)?;
-/// ty.record([("name", ComponentValType::Primitive(PrimitiveValType::String))].into_iter())?;
+/// ty.option(string)?;
+/// builder.export("name".into(), ComponentExportKind::Type, index, None)?;
+/// let bytes = builder.finish()?;
 /// ```
 impl<A: Allocator> ComponentBuilder<A> {
     ghost use Rattle.wenc_builder.specs.contracts.builder.ComponentBuilder.{the_row};
 
-    /// BeginsItem a core type, which is written by the encoder that is answered.
+    /// Begins a core type, which is written by the encoder that is answered.
     pub fn core_type(
         &mut self,
         debug_name: Option<&str>,
@@ -48,7 +52,7 @@ impl<A: Allocator> ComponentBuilder<A> {
         Ok((index, ComponentCoreTypeEncoder::new(self)))
     }
 
-    /// BeginsItem a type, which is written by the encoder that is answered.
+    /// Begins a type, which is written by the encoder that is answered.
     pub fn ty(
         &mut self,
         debug_name: Option<&str>,
@@ -105,7 +109,7 @@ impl<A: Allocator> ComponentBuilder<A> {
         self.add(Kind::Type, Space::Types, debug_name, ty)
     }
 
-    /// BeginsItem a type of values, which is written by the encoder that is answered.
+    /// Begins a type of values, which is written by the encoder that is answered.
     pub fn type_defined(
         &mut self,
         debug_name: Option<&str>,
@@ -120,7 +124,7 @@ impl<A: Allocator> ComponentBuilder<A> {
         Ok((index, ComponentDefinedTypeEncoder::new(self)))
     }
 
-    /// BeginsItem a type of functions, which is written by the encoder that is answered.
+    /// Begins a type of functions, which is written by the encoder that is answered.
     pub fn type_function(
         &mut self,
         debug_name: Option<&str>,
