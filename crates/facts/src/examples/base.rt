@@ -1,4 +1,5 @@
 //! Of `wenc_base`.
+ghost use Rattle.std.specs.Prelude.{◌≡◌, ◌∷◌, [], IfOk};
 
 use std::alloc::Allocator;
 use wasm_encoder::{
@@ -7,7 +8,10 @@ use wasm_encoder::{
 };
 
 /// `Encode`: a text, and a list of numbers.
-pub fn encode<A: Allocator>(alloc: A) -> Result<Vec<u8, A>, Fault> {
+#[tactic(auto, unfolding(wenc_base::specs::Number::groups))]
+pub fn encode<A: Allocator>(alloc: A) -> Result<Vec<u8, A>, Fault>
+    ensures { IfOk result (λ sink. sink.items ≡ 0x01 ∷ 0x66 ∷ 0x02 ∷ 0x01 ∷ 0x02 ∷ []) }
+{
     let mut sink = Vec::new(alloc);
     "f".encode(&mut sink)?;
     [1u32, 2].as_slice().encode(&mut sink)?;

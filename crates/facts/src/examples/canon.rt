@@ -1,4 +1,6 @@
 //! Of `wenc_canon`.
+ghost use Rattle.std.specs.Prelude.{◌≡◌, ◌++◌, IfOk};
+ghost use Rattle.wenc_canon.specs.Canonicals.{canonical, OfBuiltin, ResourceDrop};
 
 use std::alloc::Allocator;
 use wasm_encoder::{CanonicalFunctionSection, CanonicalOption, Component, Fault, Holder};
@@ -17,7 +19,11 @@ pub fn functions<A: Allocator + Copy>(alloc: A) -> Result<Vec<u8, A>, Fault> {
 }
 
 /// `CanonicalFunctionSection::from_holder`.
-pub fn behind<A: Allocator>(bytes: Vec<u8, A>) -> Result<(Vec<u8, A>, u32), Fault> {
+#[tactic(auto, using(crate::proofs::Kept::kept_whole))]
+pub fn behind<A: Allocator>(bytes: Vec<u8, A>) -> Result<(Vec<u8, A>, u32), Fault>
+    ensures { IfOk result (λ x. x.0.items
+        ≡ bytes.items ++ (canonical (OfBuiltin ResourceDrop 2)).text) }
+{
     let kept = bytes.len();
     let mut functions = CanonicalFunctionSection::from_holder(Holder::over(bytes, kept, 0));
     functions.resource_drop(2)?;

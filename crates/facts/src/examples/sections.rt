@@ -1,4 +1,6 @@
 //! Of `wenc_sections`: components by hand.
+ghost use Rattle.std.specs.Prelude.{◌≡◌, ◌++◌, IfOk};
+ghost use Rattle.wenc_parts.specs.Aliases.{alias as alias_form, alias_view};
 
 use std::alloc::Allocator;
 use wasm_encoder::{
@@ -30,10 +32,11 @@ pub fn counted<A: Allocator + Copy>(alloc: A) -> Result<(u32, ComponentExportSec
 }
 
 /// `Counted::from_holder`.
-pub fn behind<A: Allocator>(
-    bytes: Vec<u8, A>,
-    alias: Alias<'_>,
-) -> Result<(Vec<u8, A>, u32), Fault> {
+#[tactic(auto, using(crate::proofs::Kept::kept_whole))]
+pub fn behind<A: Allocator>(bytes: Vec<u8, A>, alias: Alias<'_>) -> Result<(Vec<u8, A>, u32), Fault>
+    ensures { IfOk result
+        (λ x. x.0.items ≡ bytes.items ++ (alias_form (alias_view alias.entry)).text) }
+{
     let kept = bytes.len();
     let mut aliases = ComponentAliasSection::from_holder(Holder::over(bytes, kept, 0));
     aliases.alias(alias)?;

@@ -1,6 +1,6 @@
 //! Of trees, which own all that they are made of.
 
-use std::alloc::Allocator;
+use std::alloc::{Allocator, Global};
 use wasm_encoder::{
     CanonTree, ComponentExportKind, ComponentTypeRef, CompositeType, CoreInstanceTree,
     CoreTypeTree, DefinedTree, Encode, EntityType, Fault, FuncType, GroupTree, InstanceDecl,
@@ -16,7 +16,7 @@ pub fn canon<A: Allocator>(alloc: A) -> Result<Vec<u8, A>, Fault> {
 }
 
 /// `CoreTypeTree`: the type of a module that exports a function.
-pub fn core_type<A: Allocator + Copy>(alloc: A) -> Result<CoreTypeTree<A>, Fault> {
+pub fn core_type(alloc: Global) -> Result<CoreTypeTree, Fault> {
     let answer = ModuleDecl::Export {
         name: String::from_str(alloc, "answer")?,
         ty: EntityType::Function(0),
@@ -32,7 +32,7 @@ pub fn core_type<A: Allocator + Copy>(alloc: A) -> Result<CoreTypeTree<A>, Fault
 }
 
 /// `DefinedTree`.
-pub fn defined<A: Allocator + Copy>(alloc: A) -> Result<DefinedTree<A>, Fault> {
+pub fn defined(alloc: Global) -> Result<DefinedTree, Fault> {
     let read = String::from_str(alloc, "read")?;
     let write = String::from_str(alloc, "write")?;
     let tree = DefinedTree::Flags(vec![in alloc; read, write]?);
@@ -40,7 +40,7 @@ pub fn defined<A: Allocator + Copy>(alloc: A) -> Result<DefinedTree<A>, Fault> {
 }
 
 /// `TypeTree`: the type of an instance that exports a function.
-pub fn ty<A: Allocator + Copy>(alloc: A) -> Result<TypeTree<A>, Fault> {
+pub fn ty(alloc: Global) -> Result<TypeTree, Fault> {
     let function = TypeTree::Func {
         is_async: false,
         params: Vec::new(alloc),
@@ -57,7 +57,7 @@ pub fn ty<A: Allocator + Copy>(alloc: A) -> Result<TypeTree<A>, Fault> {
 }
 
 /// `CoreInstanceTree`.
-pub fn core_instance<A: Allocator + Copy>(alloc: A) -> Result<CoreInstanceTree<A>, Fault> {
+pub fn core_instance(alloc: Global) -> Result<CoreInstanceTree, Fault> {
     let name = String::from_str(alloc, "env")?;
     let args = vec![in alloc; (name, ModuleArg::Instance(0))]?;
     let tree = CoreInstanceTree::Instantiate { module: 1, args };
@@ -65,7 +65,7 @@ pub fn core_instance<A: Allocator + Copy>(alloc: A) -> Result<CoreInstanceTree<A
 }
 
 /// `InstanceTree`.
-pub fn instance<A: Allocator + Copy>(alloc: A) -> Result<InstanceTree<A>, Fault> {
+pub fn instance(alloc: Global) -> Result<InstanceTree, Fault> {
     let name = NameTree::from(String::from_str(alloc, "now")?);
     let exports = vec![in alloc; (name, ComponentExportKind::Func, 0)]?;
     let tree = InstanceTree::Exports(exports);

@@ -1,4 +1,9 @@
 //! Of `wenc_types`: types by calls and encoders.
+ghost use Rattle.std.specs.Prelude.{◌∷◌, [], None, IfOk};
+ghost use Rattle.wenc_base.specs.Holder.{Contains};
+ghost use Rattle.wenc_base.specs.declared.types.ValType.{ValType};
+ghost use Rattle.wenc_types.specs.ComponentTypes.{ResourceType, DefinedType, def_type};
+ghost use Rattle.wenc_types.specs.DefinedTypes.{Own};
 
 use std::alloc::Allocator;
 use wasm_encoder::{
@@ -64,7 +69,11 @@ pub fn core_types<A: Allocator + Copy>(alloc: A) -> Result<CoreTypeSection<A>, F
 }
 
 /// `ComponentTypeEncoder`: a resource, and a handle that owns one.
-pub fn types<A: Allocator>(alloc: A) -> Result<ComponentTypeSection<A>, Fault> {
+#[tactic(auto, using(wenc_base::specs::laws::Holders::contains_opened))]
+pub fn types<A: Allocator>(alloc: A) -> Result<ComponentTypeSection<A>, Fault>
+    ensures { IfOk result (λ types. Contains def_type types
+        (ResourceType ValType.I32 None ∷ DefinedType (Own 0) ∷ [])) }
+{
     let mut types = ComponentTypeSection::new(alloc);
     types.ty()?.resource(ValType::I32, None)?;
     types.ty()?.defined_type().own(0)?;
