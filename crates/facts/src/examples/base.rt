@@ -1,5 +1,8 @@
 //! Of `wenc_base`.
-ghost use Rattle.std.specs.Prelude.{◌≡◌, ◌∷◌, [], IfOk};
+ghost use Rattle.std.specs.Prelude.{◌≡◌, ◌++◌, ◌∷◌, [], IfOk, codes};
+ghost use Rattle.wenc_base.specs.Custom.{custom as custom_form};
+ghost use Rattle.wenc_base.specs.Modules.{module_preamble};
+ghost use Rattle.wenc_sections.specs.Component.{preamble};
 
 use std::alloc::Allocator;
 use wasm_encoder::{
@@ -28,7 +31,11 @@ pub fn holder<A: Allocator + Copy>(alloc: A) -> Result<Vec<u8, A>, Fault> {
 }
 
 /// `CustomSection`.
-pub fn custom<A: Allocator>(alloc: A) -> Result<Vec<u8, A>, Fault> {
+pub fn custom<A: Allocator>(alloc: A) -> Result<Vec<u8, A>, Fault>
+    ensures { IfOk result (λ bytes. bytes.items
+        ≡ preamble.text ++ 0x00 ∷ (custom_form
+        (record { label = codes "notes"; bytes = 0x2a ∷ [] })).text) }
+{
     let mut component = Component::new(alloc)?;
     component.section(&CustomSection {
         name: "notes",
@@ -39,7 +46,11 @@ pub fn custom<A: Allocator>(alloc: A) -> Result<Vec<u8, A>, Fault> {
 }
 
 /// `Module`.
-pub fn module<A: Allocator>(alloc: A) -> Result<Vec<u8, A>, Fault> {
+pub fn module<A: Allocator>(alloc: A) -> Result<Vec<u8, A>, Fault>
+    ensures { IfOk result (λ bytes. bytes.items
+        ≡ module_preamble.text ++ 0x00 ∷ (custom_form
+        (record { label = codes "x"; bytes = [] })).text) }
+{
     let mut module = Module::new(alloc)?;
     module.section(&CustomSection {
         name: "x",

@@ -1,8 +1,20 @@
 //! Of `wenc_sections`: components by hand.
-ghost use Rattle.std.specs.Prelude.{◌≡◌, ◌++◌, IfOk};
-ghost use Rattle.wenc_parts.specs.Aliases.{alias as alias_form, alias_view};
+ghost use Rattle.std.specs.Prelude.{◌≡◌, ◌++◌, ◌∷◌, [], IfOk, None, codes};
+ghost use Rattle.wenc_base.specs.Custom.{custom};
+ghost use Rattle.wenc_base.specs.Forms.{byte_list, counted};
+ghost use Rattle.wenc_base.specs.Modules.{module_preamble};
+ghost use Rattle.wenc_base.specs.declared.exports.ExportKind.{ExportKind};
+ghost use Rattle.wenc_parts.specs.Aliases.{alias as alias_form, alias_view, CoreInstanceExport};
+ghost use Rattle.wenc_parts.specs.Imports.{plain_name};
+ghost use Rattle.wenc_parts.specs.declared.exports.ComponentExportKind.{ComponentExportKind};
+ghost use Rattle.wenc_parts.specs.declared.imports.ComponentTypeRef.{ComponentTypeRef};
+ghost use Rattle.wenc_sections.specs.Component.{preamble};
+ghost use Rattle.wenc_sections.specs.Exports.{export_item};
+ghost use Rattle.wenc_sections.specs.Imports.{import_item};
+ghost use Rattle.wenc_sections.specs.Start.{started, start as start_form};
 
 use std::alloc::Allocator;
+use wasm_encoder::laws::sections_are_their_items;
 use wasm_encoder::{
     Alias, Component, ComponentAliasSection, ComponentExportKind, ComponentExportSection,
     ComponentExternName, ComponentImportSection, ComponentInstanceSection, ComponentNameSection,
@@ -12,13 +24,18 @@ use wasm_encoder::{
 };
 
 /// `Component`.
-pub fn component<A: Allocator + Copy>(alloc: A) -> Result<Vec<u8, A>, Fault> {
+pub fn component<A: Allocator + Copy>(alloc: A) -> Result<Vec<u8, A>, Fault>
+    ensures { IfOk result (λ bytes. bytes.items
+        ≡ preamble.text ++ 0x0a ∷ (counted import_item
+        (record { name = plain_name (codes "f"); what = ComponentTypeRef.Func 0 } ∷ [])).text) }
+{
     let mut imports = ComponentImportSection::new(alloc);
     imports.import("f".into(), ComponentTypeRef::Func(0))?;
 
     let mut component = Component::new(alloc)?;
     component.section(&imports)?;
     let bytes = component.finish();
+    sections_are_their_items();
     Ok(bytes)
 }
 
@@ -45,7 +62,11 @@ pub fn behind<A: Allocator>(bytes: Vec<u8, A>, alias: Alias<'_>) -> Result<(Vec<
 }
 
 /// `ComponentAliasSection`.
-pub fn aliases<A: Allocator + Copy>(alloc: A) -> Result<Vec<u8, A>, Fault> {
+pub fn aliases<A: Allocator + Copy>(alloc: A) -> Result<Vec<u8, A>, Fault>
+    ensures { IfOk result (λ bytes. bytes.items
+        ≡ preamble.text ++ 0x06 ∷ (counted alias_form
+        (CoreInstanceExport 2 ExportKind.Memory (codes "heap") ∷ [])).text) }
+{
     let mut aliases = ComponentAliasSection::new(alloc);
     aliases.alias(Alias::CoreInstanceExport {
         instance: 2,
@@ -56,22 +77,38 @@ pub fn aliases<A: Allocator + Copy>(alloc: A) -> Result<Vec<u8, A>, Fault> {
     let mut component = Component::new(alloc)?;
     component.section(&aliases)?;
     let bytes = component.finish();
+    sections_are_their_items();
     Ok(bytes)
 }
 
 /// `ComponentExportSection`.
-pub fn exports<A: Allocator + Copy>(alloc: A) -> Result<Vec<u8, A>, Fault> {
+pub fn exports<A: Allocator + Copy>(alloc: A) -> Result<Vec<u8, A>, Fault>
+    ensures { IfOk result (λ bytes. bytes.items
+        ≡ preamble.text ++ 0x0b ∷ (counted export_item (record {
+          name = plain_name (codes "clock");
+          kind = ComponentExportKind.Instance;
+          index = 3;
+          what = None;
+        } ∷ [])).text) }
+{
     let mut exports = ComponentExportSection::new(alloc);
     exports.export("clock".into(), ComponentExportKind::Instance, 3, None)?;
 
     let mut component = Component::new(alloc)?;
     component.section(&exports)?;
     let bytes = component.finish();
+    sections_are_their_items();
     Ok(bytes)
 }
 
 /// `ComponentImportSection`.
-pub fn imports<A: Allocator + Copy>(alloc: A) -> Result<Vec<u8, A>, Fault> {
+pub fn imports<A: Allocator + Copy>(alloc: A) -> Result<Vec<u8, A>, Fault>
+    ensures { IfOk result (λ bytes. bytes.items
+        ≡ preamble.text ++ 0x0a ∷ (counted import_item
+        (record { name = plain_name (codes "log"); what = ComponentTypeRef.Func 0 }
+        ∷ record { name = plain_name (codes "clock"); what = ComponentTypeRef.Instance 1 }
+        ∷ [])).text) }
+{
     let mut imports = ComponentImportSection::new(alloc);
     imports.import("log".into(), ComponentTypeRef::Func(0))?;
     imports.import("clock".into(), ComponentTypeRef::Instance(1))?;
@@ -79,6 +116,7 @@ pub fn imports<A: Allocator + Copy>(alloc: A) -> Result<Vec<u8, A>, Fault> {
     let mut component = Component::new(alloc)?;
     component.section(&imports)?;
     let bytes = component.finish();
+    sections_are_their_items();
     Ok(bytes)
 }
 
@@ -109,7 +147,11 @@ pub fn instances<A: Allocator + Copy>(alloc: A) -> Result<Vec<u8, A>, Fault> {
 }
 
 /// `ModuleSection`.
-pub fn module<A: Allocator + Copy>(alloc: A) -> Result<Vec<u8, A>, Fault> {
+pub fn module<A: Allocator + Copy>(alloc: A) -> Result<Vec<u8, A>, Fault>
+    ensures { IfOk result (λ bytes. bytes.items
+        ≡ preamble.text ++ 0x01 ∷ (byte_list (module_preamble.text
+        ++ 0x00 ∷ (custom (record { label = codes "x"; bytes = [] })).text)).text) }
+{
     let mut module = Module::new(alloc)?;
     module.section(&CustomSection {
         name: "x",
@@ -123,7 +165,11 @@ pub fn module<A: Allocator + Copy>(alloc: A) -> Result<Vec<u8, A>, Fault> {
 }
 
 /// `NestedComponentSection`.
-pub fn nested<A: Allocator + Copy>(alloc: A) -> Result<Vec<u8, A>, Fault> {
+pub fn nested<A: Allocator + Copy>(alloc: A) -> Result<Vec<u8, A>, Fault>
+    ensures { IfOk result (λ bytes. bytes.items
+        ≡ preamble.text ++ 0x04 ∷ (byte_list (preamble.text
+        ++ 0x00 ∷ (custom (record { label = codes "x"; bytes = [] })).text)).text) }
+{
     let mut inner = Component::new(alloc)?;
     inner.section(&CustomSection {
         name: "x",
@@ -137,7 +183,10 @@ pub fn nested<A: Allocator + Copy>(alloc: A) -> Result<Vec<u8, A>, Fault> {
 }
 
 /// `ComponentStartSection`.
-pub fn start<A: Allocator>(alloc: A) -> Result<Vec<u8, A>, Fault> {
+pub fn start<A: Allocator>(alloc: A) -> Result<Vec<u8, A>, Fault>
+    ensures { IfOk result (λ bytes. bytes.items
+        ≡ preamble.text ++ 0x09 ∷ (start_form (started 2 (3 ∷ []) 0)).text) }
+{
     // function 2 is called with value 3, and answers nothing
     let start = ComponentStartSection {
         function_index: 2,
