@@ -5,3 +5,5 @@ pub mod ListedRuns
 pub mod NeverUnfinished
 pub mod Options
 pub mod IndexedRuns
+pub mod Kept
+pub mod PassedOn

@@ -8,6 +8,7 @@ pub mod canonicals;
 pub mod components;
 pub mod encoders;
 pub mod equality;
+pub mod examples;
 pub mod hashes;
 pub mod importing;
 pub mod lights;

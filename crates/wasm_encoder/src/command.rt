@@ -29,7 +29,7 @@ use wenc_types::{CoreTypeTree, TypeTree};
 ///
 /// ```
 /// let import = Command::Import {
-///     name: NameTree::from(name),
+///     name: NameTree::from(String::from_str(alloc, "log")?),
 ///     ty: ComponentTypeRef::Func(0),
 /// };
 /// ```
@@ -274,11 +274,17 @@ pub struct Built<A: Allocator = Global> {
 /// or for the answers, and where a type is refused while it is written: with that fault, and no further command runs.
 ///
 /// ```
-/// let built = build(alloc, &commands)?;
+/// let import = Command::Import {
+///     name: NameTree::from(String::from_str(alloc, "log")?),
+///     ty: ComponentTypeRef::Func(0),
+/// };
+/// let built = build(alloc, &[import])?;
+/// let mut refused = false;
 /// for answer in &built.answers {
 ///     // Ok(Some(index)), Ok(None), or why the command was refused
+///     refused = refused || answer.is_err();
 /// }
-/// let component = built.bytes;
+/// let bytes = built.bytes;
 /// ```
 pub fn build<A: Allocator + Copy, B: Allocator>(
     alloc: A,

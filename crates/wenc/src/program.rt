@@ -141,6 +141,13 @@ fn run_script<A: Allocator + Copy, R: Read, O: Write, E: Write>(
 
 /// Runs the program: with these arguments, without the program's name, on this input. The answer is
 /// the exit status.
+///
+/// ```
+/// let mut input: &[u8] = b"import f func 0\n";
+/// let mut out = Vec::new(alloc);
+/// let mut err = Vec::new(alloc);
+/// let status = run(alloc, &[], &mut input, &mut out, &mut err);
+/// ```
 pub fn run<R: Read, O: Write, E: Write>(
     alloc: Global,
     args: &[String],

@@ -8,8 +8,13 @@ use std::alloc::Allocator;
 /// A section that the standard gives no meaning (WebAssembly 3.0, binary format, "Custom Section"). It is
 /// refused where it would have too many bytes behind its size (`TooLarge`).
 ///
-/// ```rust
-/// component.section(&CustomSection { name: "notes", data: &[0x2a] })?;
+/// ```
+/// let mut component = Component::new(alloc)?;
+/// component.section(&CustomSection {
+///     name: "notes",
+///     data: &[0x2a],
+/// })?;
+/// let bytes = component.finish();
 /// ```
 #[derive(Clone, Copy, Debug)]
 pub struct CustomSection<'a> {
@@ -51,8 +56,9 @@ impl<'a> Section for CustomSection<'a> {
     }
 }
 
-/// The bytes of a custom section behind its id, with its size, as they are. Nothing checks that they are
-/// such a section.
+/// The bytes of a custom section behind its id, with its size, as they are (WebAssembly 3.0, binary
+/// format, "Custom Section"). Nothing checks that they are such a section. It is refused for want of
+/// memory alone.
 #[derive(Clone, Copy, Debug)]
 pub struct RawCustomSection<'a>(pub &'a [u8]);
 

@@ -16,9 +16,10 @@ pub use lists::encode_list;
 pub use sized::WithSize;
 use std::alloc::Allocator;
 
-/// A value with a binary text. A type of your own may implement it too.
+/// A value with a binary text (WebAssembly 3.0, binary format, "Values"). A type of your own may implement
+/// it too.
 ///
-/// ```rust
+/// ```
 /// let mut sink = Vec::new(alloc);
 /// "f".encode(&mut sink)?;
 /// [1u32, 2].as_slice().encode(&mut sink)?;

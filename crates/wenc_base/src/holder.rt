@@ -39,9 +39,10 @@ pub fn section_size(count: u32, body: u64) -> Result<u32, Fault>
 /// What every counted section and type keeps: the number of its members, and their texts, one behind the
 /// other. A refused call leaves it as it was.
 ///
-/// ```rust
+/// ```
 /// let mut holder = Holder::new(alloc);
 /// holder.add_encoded(&("f", 0u32))?;
+/// let mut sink = Vec::new(alloc);
 /// holder.encode_section(&mut sink)?;
 /// ```
 #[derive(Drop)]

@@ -12,9 +12,12 @@ use std::marker::Model;
 /// The bytes of a core module: its header, and the sections that were appended (WebAssembly 3.0, binary
 /// format, "Modules"). Nothing checks their order.
 ///
-/// ```rust
+/// ```
 /// let mut module = Module::new(alloc)?;
-/// module.section(&CustomSection { name: "x", data: &[] })?;
+/// module.section(&CustomSection {
+///     name: "x",
+///     data: &[],
+/// })?;
 /// let bytes = module.finish();
 /// ```
 #[derive(Drop)]

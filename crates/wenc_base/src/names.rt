@@ -13,9 +13,10 @@ use std::marker::Model;
 /// Names of items, each with the item's index, in the order in which they were appended (WebAssembly 3.0, binary
 /// format, "Name Maps"). A call that is refused leaves it as it was.
 ///
-/// ```rust
+/// ```
 /// let mut names = NameMap::new(alloc);
-/// names.append(0, "f")?;
+/// names.append(0, "now")?;
+/// let mut sink = Vec::new(alloc);
 /// names.encode(&mut sink)?;
 /// ```
 #[derive(Drop)]

@@ -76,11 +76,15 @@ impl<A: Allocator> Encode for ProducersField<A> {
 /// What the tools did that made a module or a component, and which they were: a custom section (tool
 /// conventions, "Producers Section").
 ///
-/// ```rust
-/// let mut tools = ProducersField::new(alloc);
-/// tools.value("rustc", "1.95.0")?;
+/// ```
+/// let mut languages = ProducersField::new(alloc);
+/// languages.value("Rust", "2024")?;
 /// let mut producers = ProducersSection::new(alloc);
-/// producers.field("processed-by", &tools)?;
+/// producers.field("language", &languages)?;
+///
+/// let mut component = Component::new(alloc)?;
+/// component.section(&producers)?;
+/// let bytes = component.finish();
 /// ```
 #[derive(Drop)]
 pub struct ProducersSection<A: Allocator = Global> {

@@ -3,8 +3,8 @@ use crate::fault::Fault;
 use crate::section::Section;
 use std::alloc::Allocator;
 
-/// A section with any id, whose bytes are written behind their size. It is refused where there are too many
-/// (`TooLarge`).
+/// A section with any id, from 0 to 255, whose bytes are written behind their size (WebAssembly 3.0,
+/// binary format, "Sections"). It is refused where there are more than 4294967295 (`TooLarge`).
 #[derive(Clone, Copy, Debug)]
 pub struct RawSection<'a> {
     /// The id.

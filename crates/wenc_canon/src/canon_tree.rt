@@ -12,11 +12,12 @@ use wenc_base::{Delimited, Encode, Fault, Tagged, ValType};
 use wenc_parts::{ComponentValType, ResultList};
 
 /// A canonical function, with all that it is made of (component model, binary format, "Canonical
-/// Definitions"). Each
-/// index is from 0 to 4294967295. More than 4294967295 options can't be encoded (`TooMany`).
+/// Definitions"). Each index is from 0 to 4294967295. More than 4294967295 options can't be encoded
+/// (`TooMany`).
 ///
 /// ```
-/// let drop: CanonTree = CanonTree::ResourceDrop(0);
+/// let mut sink = Vec::new(alloc);
+/// let drop: CanonTree = CanonTree::ResourceDrop(3);
 /// drop.encode(&mut sink)?;
 /// ```
 #[derive(Drop)]

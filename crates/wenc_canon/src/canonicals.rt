@@ -91,10 +91,13 @@ impl DelimitedEq for CanonicalOption {
 ///
 /// ```
 /// let mut functions = CanonicalFunctionSection::new(alloc);
-/// let options = [CanonicalOption::UTF8, CanonicalOption::Memory(0)];
-/// functions.lift(0, 1, options.into_iter())?;
+/// let options = [CanonicalOption::UTF16, CanonicalOption::Memory(0)];
+/// functions.lift(3, 1, options.into_iter())?;
 /// functions.resource_drop(2)?;
+///
+/// let mut component = Component::new(alloc)?;
 /// component.section(&functions)?;
+/// let bytes = component.finish();
 /// ```
 ///
 /// A call that adds a function is refused where there is no memory for it, where there would be too
@@ -136,9 +139,10 @@ impl<A: Allocator> CanonicalFunctionSection<A> {
     /// section is unfinished: a call that adds, and `encode`, answer `Unfinished`.
     ///
     /// ```
+    /// let kept = bytes.len();
     /// let mut functions = CanonicalFunctionSection::from_holder(Holder::over(bytes, kept, 0));
     /// functions.resource_drop(2)?;
-    /// let (bytes, kept, count, _) = functions.into_holder().into_parts();
+    /// let (bytes, _, count, _) = functions.into_holder().into_parts();
     /// ```
     pub fn from_holder(functions: Holder<A>) -> Self
         requires { HasMembers (HasForm canonical) functions }

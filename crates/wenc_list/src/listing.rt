@@ -130,10 +130,13 @@ fn sections<A: Allocator + Copy>(
 ///
 /// It is refused for want of memory, or as `ListFault` says. A count that the bytes can't fill reserves nothing.
 ///
+/// Whether the component with these bytes has imports:
+///
 /// ```
-/// let listing = list(alloc, &component)?;
+/// let listing = list(alloc, component)?;
+/// let mut imports = false;
 /// for section in &listing.sections {
-///     println!(rt; "{} {}", section.id, section.items.len())?;
+///     imports = imports || section.id == 10;
 /// }
 /// ```
 pub fn list<A: Allocator + Copy>(alloc: A, bytes: &[u8]) -> Result<Listing<A>, ListFault>

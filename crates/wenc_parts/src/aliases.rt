@@ -61,8 +61,12 @@ impl DelimitedEq for ComponentOuterAliasKind {
 
 /// What an alias stands for (component model, binary format, `alias`).
 ///
-/// ```rust
-/// let alias = Alias::InstanceExport { instance: 0, kind: ComponentExportKind::Func, name: "f" };
+/// ```
+/// let alias = Alias::Outer {
+///     kind: ComponentOuterAliasKind::Type,
+///     count: 1,
+///     index: 2,
+/// };
 /// ```
 #[derive(Clone, Copy)]
 pub enum Alias<'a> {

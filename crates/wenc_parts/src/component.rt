@@ -13,23 +13,31 @@ use wenc_base::{
 };
 
 // The bytes of sorts (component model, binary format, `sort` and `core:sort`).
-/// What begins the sort of an item of a core module.
+/// What begins the sort of a core item. A byte of its own follows.
 pub const CORE_SORT: u8 = 0x00;
 
+/// Core types, behind `CORE_SORT`.
 pub const CORE_TYPE_SORT: u8 = 0x10;
 
+/// Core modules, behind `CORE_SORT`.
 pub const CORE_MODULE_SORT: u8 = 0x11;
 
+/// Core instances, behind `CORE_SORT`.
 pub const CORE_INSTANCE_SORT: u8 = 0x12;
 
+/// Functions.
 pub const FUNCTION_SORT: u8 = 0x01;
 
+/// Values.
 pub const VALUE_SORT: u8 = 0x02;
 
+/// Types.
 pub const TYPE_SORT: u8 = 0x03;
 
+/// Components.
 pub const COMPONENT_SORT: u8 = 0x04;
 
+/// Instances.
 pub const INSTANCE_SORT: u8 = 0x05;
 
 /// A section of a component (component model, binary format, "Component Definitions"). A type of your own

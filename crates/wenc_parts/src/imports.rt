@@ -138,9 +138,9 @@ impl DelimitedEq for ComponentTypeRef {
 /// The name of an import or an export, with the options that a name may have (component model, binary
 /// format, `importname'` and `exportname'`).
 ///
-/// ```rust
-/// let mut name = ComponentExternName::from("a:b/c");
-/// name.version_suffix = Some(CowStr::Borrowed("1"));
+/// ```
+/// let mut name = ComponentExternName::from("wall:clock/now@1");
+/// name.version_suffix = Some(CowStr::Borrowed(".2.3"));
 /// ```
 #[derive(Drop)]
 pub struct ComponentExternName<'a, A: Allocator = Global> {

@@ -25,12 +25,15 @@ impl CountedKind for Aliases {
 ///
 /// ```
 /// let mut aliases = ComponentAliasSection::new(alloc);
-/// aliases.alias(Alias::InstanceExport {
-///     instance: 0,
-///     kind: ComponentExportKind::Func,
-///     name: "f",
+/// aliases.alias(Alias::CoreInstanceExport {
+///     instance: 2,
+///     kind: ExportKind::Memory,
+///     name: "heap",
 /// })?;
+///
+/// let mut component = Component::new(alloc)?;
 /// component.section(&aliases)?;
+/// let bytes = component.finish();
 /// ```
 pub type ComponentAliasSection<A = Global> = Counted<Aliases, A>;
 

@@ -9,9 +9,15 @@ use wenc_parts::{ComponentSection, ComponentSectionId};
 /// refused where that has too many bytes (`TooLarge`).
 ///
 /// ```
-/// let inner = Component::new(alloc)?;
+/// let mut inner = Component::new(alloc)?;
+/// inner.section(&CustomSection {
+///     name: "x",
+///     data: &[],
+/// })?;
+///
 /// let mut outer = Component::new(alloc)?;
 /// outer.section(&NestedComponentSection(&inner))?;
+/// let bytes = outer.finish();
 /// ```
 #[derive(Clone, Copy)]
 pub struct NestedComponentSection<'a, A: Allocator = Global>(pub &'a Component<A>);

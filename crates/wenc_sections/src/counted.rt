@@ -30,10 +30,10 @@ pub trait CountedKind {
 /// Each kind has a name of its own for it, as `ComponentAliasSection`.
 ///
 /// ```
-/// let mut aliases = ComponentAliasSection::new(alloc);
-/// aliases.alias(alias)?;
-/// let copy = aliases.clone()?;
-/// component.section(&aliases)?;
+/// let mut exports = ComponentExportSection::new(alloc);
+/// exports.export("log".into(), ComponentExportKind::Func, 0, None)?;
+/// let count = exports.len();
+/// let copy = exports.clone()?;
 /// ```
 #[derive(Drop)]
 pub struct Counted<K: CountedKind, A: Allocator = Global> {
@@ -71,9 +71,10 @@ impl<K: CountedKind, A: Allocator> Counted<K, A> {
     /// all of them back. Where the holder has a member that is being written, the section is unfinished.
     ///
     /// ```
+    /// let kept = bytes.len();
     /// let mut aliases = ComponentAliasSection::from_holder(Holder::over(bytes, kept, 0));
     /// aliases.alias(alias)?;
-    /// let (bytes, kept, count, _) = aliases.into_holder().into_parts();
+    /// let (bytes, _, count, _) = aliases.into_holder().into_parts();
     /// ```
     pub fn from_holder(items: Holder<A>) -> Self
         requires { HasMembers K.is_item items }

@@ -25,8 +25,11 @@ impl CountedKind for Exports {
 ///
 /// ```
 /// let mut exports = ComponentExportSection::new(alloc);
-/// exports.export("g".into(), ComponentExportKind::Func, 0, None)?;
+/// exports.export("clock".into(), ComponentExportKind::Instance, 3, None)?;
+///
+/// let mut component = Component::new(alloc)?;
 /// component.section(&exports)?;
+/// let bytes = component.finish();
 /// ```
 pub type ComponentExportSection<A = Global> = Counted<Exports, A>;
 

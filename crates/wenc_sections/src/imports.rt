@@ -25,8 +25,12 @@ impl CountedKind for Imports {
 ///
 /// ```
 /// let mut imports = ComponentImportSection::new(alloc);
-/// imports.import("f".into(), ComponentTypeRef::Func(0))?;
+/// imports.import("log".into(), ComponentTypeRef::Func(0))?;
+/// imports.import("clock".into(), ComponentTypeRef::Instance(1))?;
+///
+/// let mut component = Component::new(alloc)?;
 /// component.section(&imports)?;
+/// let bytes = component.finish();
 /// ```
 pub type ComponentImportSection<A = Global> = Counted<Imports, A>;
 

@@ -16,7 +16,7 @@ use wenc_parts::{ComponentExportKind, ModuleArg, NameTree};
 /// ```
 /// let name = String::from_str(alloc, "env")?;
 /// let args = vec![in alloc; (name, ModuleArg::Instance(0))]?;
-/// CoreInstanceTree::Instantiate { module: 1, args }.encode(&mut sink)?;
+/// let tree = CoreInstanceTree::Instantiate { module: 1, args };
 /// ```
 #[derive(Drop)]
 pub enum CoreInstanceTree<A: Allocator = Global> {
@@ -71,9 +71,9 @@ impl<A: Allocator> Delimited for CoreInstanceTree<A> {
 /// More than 4294967295 arguments or exports can't be encoded, nor can a text of more than 4294967295 bytes.
 ///
 /// ```
-/// let name = NameTree::from(String::from_str(alloc, "f")?);
+/// let name = NameTree::from(String::from_str(alloc, "now")?);
 /// let exports = vec![in alloc; (name, ComponentExportKind::Func, 0)]?;
-/// InstanceTree::Exports(exports).encode(&mut sink)?;
+/// let tree = InstanceTree::Exports(exports);
 /// ```
 #[derive(Drop)]
 pub enum InstanceTree<A: Allocator = Global> {

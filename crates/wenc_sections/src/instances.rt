@@ -40,9 +40,12 @@ impl CountedKind for CoreInstances {
 ///
 /// ```
 /// let mut instances = InstanceSection::new(alloc);
-/// instances.export_items([("f", ExportKind::Func, 0)].into_iter())?;
-/// instances.instantiate(1, [("env", ModuleArg::Instance(0))].into_iter())?;
+/// instances.export_items([("heap", ExportKind::Memory, 0)].into_iter())?;
+/// instances.instantiate(2, [("env", ModuleArg::Instance(0))].into_iter())?;
+///
+/// let mut component = Component::new(alloc)?;
 /// component.section(&instances)?;
+/// let bytes = component.finish();
 /// ```
 pub type InstanceSection<A = Global> = Counted<CoreInstances, A>;
 
@@ -98,10 +101,14 @@ impl CountedKind for Instances {
 ///
 /// ```
 /// let mut instances = ComponentInstanceSection::new(alloc);
-/// let name: ComponentExternName = "f".into();
-/// instances.export_items([(name, ComponentExportKind::Func, 0)].into_iter())?;
-/// instances.instantiate(1, [("env", ComponentExportKind::Instance, 0)].into_iter())?;
+/// let name: ComponentExternName = "now".into();
+/// instances.export_items([(name, ComponentExportKind::Func, 4)].into_iter())?;
+/// let clock = ("clock", ComponentExportKind::Instance, 0);
+/// instances.instantiate(2, [clock].into_iter())?;
+///
+/// let mut component = Component::new(alloc)?;
 /// component.section(&instances)?;
+/// let bytes = component.finish();
 /// ```
 pub type ComponentInstanceSection<A = Global> = Counted<Instances, A>;
 

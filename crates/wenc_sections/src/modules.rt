@@ -8,8 +8,15 @@ use wenc_parts::{ComponentSection, ComponentSectionId};
 /// that has too many bytes (`TooLarge`).
 ///
 /// ```
-/// let module = Module::new(alloc)?;
+/// let mut module = Module::new(alloc)?;
+/// module.section(&CustomSection {
+///     name: "x",
+///     data: &[],
+/// })?;
+///
+/// let mut component = Component::new(alloc)?;
 /// component.section(&ModuleSection(&module))?;
+/// let bytes = component.finish();
 /// ```
 #[derive(Clone, Copy)]
 pub struct ModuleSection<'a, A: Allocator = Global>(pub &'a Module<A>);

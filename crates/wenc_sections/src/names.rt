@@ -104,11 +104,14 @@ impl<'a, A: Allocator> Encode for NamesOf<'a, A> {
 ///
 /// ```
 /// let mut funcs = NameMap::new(alloc);
-/// funcs.append(0, "f")?;
+/// funcs.append(0, "now")?;
 /// let mut names = ComponentNameSection::new(alloc);
-/// names.component("c")?;
+/// names.component("clock")?;
 /// names.funcs(&funcs)?;
+///
+/// let mut component = Component::new(alloc)?;
 /// component.section(&names)?;
+/// let bytes = component.finish();
 /// ```
 #[derive(Drop)]
 pub struct ComponentNameSection<A: Allocator = Global> {

@@ -10,12 +10,16 @@ use wenc_parts::{ComponentSection, ComponentSectionId};
 /// its size (`TooLarge`).
 ///
 /// ```
-/// // function 0 is called with value 1, and answers one value
-/// component.section(&ComponentStartSection {
-///     function_index: 0,
-///     args: [1],
-///     results: 1,
-/// })?;
+/// // function 2 is called with value 3, and answers nothing
+/// let start = ComponentStartSection {
+///     function_index: 2,
+///     args: [3],
+///     results: 0,
+/// };
+///
+/// let mut component = Component::new(alloc)?;
+/// component.section(&start)?;
+/// let bytes = component.finish();
 /// ```
 #[derive(Clone, Copy, Debug)]
 pub struct ComponentStartSection<A> {

@@ -39,9 +39,12 @@ impl EncoderKind for CoreTypes {}
 ///
 /// ```
 /// let mut types = CoreTypeSection::new(alloc);
-/// types.ty()?.core().function([ValType::I32].into_iter(), [].into_iter())?;
-/// types.ty()?.module(&module_type)?;
+/// let encoder = types.ty()?.core();
+/// encoder.function([ValType::I64].into_iter(), [].into_iter())?;
+///
+/// let mut component = Component::new(alloc)?;
 /// component.section(&types)?;
+/// let bytes = component.finish();
 /// ```
 pub type CoreTypeSection<A = Global> = Counted<CoreTypes, A>;
 
@@ -87,9 +90,14 @@ impl EncoderKind for ComponentTypes {}
 /// ```
 /// let string = ComponentValType::Primitive(PrimitiveValType::String);
 /// let mut types = ComponentTypeSection::new(alloc);
-/// types.defined_type()?.record([("name", string)].into_iter())?;
-/// types.component(&component_type)?;
+/// types
+///     .defined_type()?
+///     .record([("name", string)].into_iter())?;
+/// types.resource(ValType::I32, None)?;
+///
+/// let mut component = Component::new(alloc)?;
 /// component.section(&types)?;
+/// let bytes = component.finish();
 /// ```
 pub type ComponentTypeSection<A = Global> = Counted<ComponentTypes, A>;
 

@@ -6,6 +6,8 @@ mod accepted;
 #[cfg(test)]
 mod callers;
 #[cfg(test)]
+mod examples;
+#[cfg(test)]
 mod lines;
 #[cfg(test)]
 mod lister;

@@ -42,9 +42,12 @@ impl DeclaringKind for ComponentTypes {
 /// "Type Definitions").
 ///
 /// ```
+/// let byte = ComponentValType::Primitive(PrimitiveValType::U8);
 /// let mut ty = ComponentType::new(alloc);
-/// ty.ty()?.defined_type().option(ComponentValType::Primitive(PrimitiveValType::String))?;
-/// ty.import("f".into(), ComponentTypeRef::Func(0))?;
+/// ty.ty()?.defined_type().list(byte)?;
+/// ty.import("bytes".into(), ComponentTypeRef::Type(TypeBounds::Eq(0)))?;
+///
+/// let mut types = ComponentTypeSection::new(alloc);
 /// types.component(&ty)?;
 /// ```
 pub type ComponentType<A = Global> = Declarations<ComponentTypes, A>;

@@ -17,9 +17,15 @@ use wenc_base::{CoreTypeEncoder, Fault, Lender};
 /// lent is left unfinished, until that gives the type up.
 ///
 /// ```
-/// let mut section = CoreTypeSection::new(alloc);
-/// section.ty()?.module(&module_type)?;
-/// section.ty()?.core().function([].into_iter(), [].into_iter())?;
+/// let mut module_type = ModuleType::new(alloc);
+/// module_type.alias_outer_core_type(1, 0)?;
+///
+/// let mut types = CoreTypeSection::new(alloc);
+/// types.ty()?.module(&module_type)?;
+/// types
+///     .ty()?
+///     .core()
+///     .function([].into_iter(), [ValType::F64].into_iter())?;
 /// ```
 #[derive(Drop)]
 pub struct ComponentCoreTypeEncoder<'a, L: Lender> {

@@ -21,7 +21,6 @@ use wenc_base::{
 ///     composite_type: CompositeType::Func(function),
 /// };
 /// let tree = CoreTypeTree::Module(vec![in alloc; ModuleDecl::Type(GroupTree::Sub(ty)), answer]?);
-/// tree.encode(&mut sink)?;
 /// ```
 #[derive(Drop)]
 #[derive_where(PartialEq, Eq, Debug)]

@@ -53,8 +53,9 @@ pub trait DeclaringKind: DeclaredKind {
 ///
 /// ```
 /// let mut ty = InstanceType::new(alloc);
-/// ty.ty()?.defined_type().option(ComponentValType::Primitive(PrimitiveValType::String))?;
-/// ty.core_type()?.core().function([].into_iter(), [].into_iter())?;
+/// ty.core_type()?
+///     .core()
+///     .function([].into_iter(), [].into_iter())?;
 /// let copy = ty.clone()?;
 /// ```
 #[derive(Drop)]

@@ -12,7 +12,7 @@ use wenc_parts::{ComponentValType, PrimitiveValType};
 /// ```
 /// let read = String::from_str(alloc, "read")?;
 /// let write = String::from_str(alloc, "write")?;
-/// DefinedTree::Flags(vec![in alloc; read, write]?).encode(&mut sink)?;
+/// let tree = DefinedTree::Flags(vec![in alloc; read, write]?);
 /// ```
 #[derive(Drop)]
 #[derive_where(PartialEq, Eq, Debug)]

@@ -18,7 +18,9 @@ use wenc_parts::{ComponentValType, PrimitiveValType};
 ///
 /// ```
 /// let string = ComponentValType::Primitive(PrimitiveValType::String);
-/// types.defined_type()?.record([("name", string), ("street", string)].into_iter())?;
+/// let mut types = ComponentTypeSection::new(alloc);
+/// let fields = [("name", string), ("street", string)];
+/// types.defined_type()?.record(fields.into_iter())?;
 /// types.defined_type()?.option(string)?;
 /// ```
 #[derive(Drop)]

@@ -45,8 +45,10 @@ impl FuncStage {
 /// in a name or in what was lent (`TooLarge`).
 ///
 /// ```
+/// let string = ComponentValType::Primitive(PrimitiveValType::String);
+/// let mut types = ComponentTypeSection::new(alloc);
 /// let mut function = types.function()?;
-/// function.params([("name", ComponentValType::Primitive(PrimitiveValType::String))].into_iter())?;
+/// function.params([("line", string)].into_iter())?;
 /// function.result(None)?;
 /// ```
 #[derive(Drop)]

@@ -42,9 +42,12 @@ impl DeclaringKind for InstanceTypes {
 /// Definitions").
 ///
 /// ```
+/// let string = ComponentValType::Primitive(PrimitiveValType::String);
 /// let mut ty = InstanceType::new(alloc);
-/// ty.ty()?.defined_type().option(ComponentValType::Primitive(PrimitiveValType::String))?;
-/// ty.export("t".into(), ComponentTypeRef::Type(TypeBounds::Eq(0)))?;
+/// ty.ty()?.defined_type().option(string)?;
+/// ty.export("name".into(), ComponentTypeRef::Type(TypeBounds::Eq(0)))?;
+///
+/// let mut types = ComponentTypeSection::new(alloc);
 /// types.instance(&ty)?;
 /// ```
 pub type InstanceType<A = Global> = Declarations<InstanceTypes, A>;

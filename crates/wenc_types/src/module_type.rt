@@ -34,7 +34,8 @@ impl DeclaredKind for ModuleTypes {
 ///
 /// ```
 /// let mut ty = ModuleType::new(alloc);
-/// ty.ty()?.function([].into_iter(), [ValType::I32].into_iter())?;
+/// ty.ty()?
+///     .function([].into_iter(), [ValType::I32].into_iter())?;
 /// ty.export("answer", EntityType::Function(0))?;
 /// ```
 pub type ModuleType<A = Global> = Declarations<ModuleTypes, A>;

@@ -21,9 +21,9 @@ use wenc_base::{Fault, Lender, Tagged, ValType};
 /// unfinished, until that gives the type up.
 ///
 /// ```
-/// let mut section = ComponentTypeSection::new(alloc);
-/// section.ty()?.instance(&instance_type)?;
-/// section.ty()?.resource(ValType::I32, None)?;
+/// let mut types = ComponentTypeSection::new(alloc);
+/// types.ty()?.resource(ValType::I32, None)?;
+/// types.ty()?.defined_type().own(0)?;
 /// ```
 #[derive(Drop)]
 pub struct ComponentTypeEncoder<'a, L: Lender> {

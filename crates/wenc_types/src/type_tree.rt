@@ -16,11 +16,18 @@ use wenc_parts::{AliasTree, ComponentTypeRef, ComponentValType, NameTree, Result
 /// Definitions").
 ///
 /// ```
-/// let name = NameTree::from(String::from_str(alloc, "f")?);
+/// let function = TypeTree::Func {
+///     is_async: false,
+///     params: Vec::new(alloc),
+///     result: None,
+/// };
+/// let name = NameTree::from(String::from_str(alloc, "stop")?);
 /// let ty = ComponentTypeRef::Func(0);
-/// let function = TypeTree::Func { is_async: false, params: Vec::new(alloc), result: None };
-/// let decls = vec![in alloc; InstanceDecl::Type(function), InstanceDecl::Export { name, ty }]?;
-/// TypeTree::Instance(decls).encode(&mut sink)?;
+/// let decls = vec![in alloc;
+///     InstanceDecl::Type(function),
+///     InstanceDecl::Export { name, ty },
+/// ]?;
+/// let tree = TypeTree::Instance(decls);
 /// ```
 #[cycle(types)]
 #[derive(Drop)]

@@ -27,8 +27,12 @@ use wenc_types::{
 /// its name, and the builder is unfinished until the encoder's last call. Refused as the type says.
 ///
 /// ```
+/// let mut builder = ComponentBuilder::new(alloc)?;
+/// let string = ComponentValType::Primitive(PrimitiveValType::String);
 /// let (index, ty) = builder.type_defined(None)?;
-/// ty.record([("name", ComponentValType::Primitive(PrimitiveValType::String))].into_iter())?;
+/// ty.option(string)?;
+/// builder.export("name".into(), ComponentExportKind::Type, index, None)?;
+/// let bytes = builder.finish()?;
 /// ```
 impl<A: Allocator> ComponentBuilder<A> {
     ghost use Rattle.wenc_builder.specs.contracts.builder.ComponentBuilder.{the_row};

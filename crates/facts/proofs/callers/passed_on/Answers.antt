@@ -1,18 +1,10 @@
-use Rattle.std.proofs.Common.{◌≡◌, ℕ, List, [], ◌∷◌, None, subst, refl, codes}
+use Rattle.std.proofs.Common.{◌≡◌, List, [], subst, codes}
 use Rattle.std.specs.Result.{IfOk}
-use Rattle.wenc_parts.specs.declared.exports.ComponentExportKind.TheVariants as kinds
-use Rattle.wenc_parts.specs.declared.imports.ComponentTypeRef.TheVariants as refs
-use Rattle.wenc_parts.specs.Imports.{ExternName, plain_name}
+use Rattle.wenc_parts.specs.Imports.{plain_name}
 use Rattle.wenc_builder.specs.Item.{Item}
-use Rattle.wenc_builder.specs.Entry.{import_entry, export_entry, items}
 use Rattle.wenc_builder.specs.Sections.{whole}
+use Rattle.facts.proofs.PassedOn.{same}
 use Rattle.facts.proofs.callers.passed_on.Goals as goal
-
-abbrev both : ExternName → ExternName → ℕ → List Item
-both f h i = items (import_entry f (refs.Func 0) ∷ export_entry h kinds.Func i None ∷ [])
-
-same : (f f' h h' : ExternName) (i j : ℕ) → f ≡ f' → h ≡ h' → i ≡ j → both f h i ≡ both f' h' j
-same f f' h h' i j e d k = rw (e, d, k) refl
 
 pub returns : goal.returns
 returns g c =

@@ -1,0 +1,32 @@
+//! Of `wenc_canon`.
+ghost use Rattle.std.specs.Prelude.{◌≡◌, ◌++◌, IfOk};
+ghost use Rattle.wenc_canon.specs.Canonicals.{canonical, OfBuiltin, ResourceDrop};
+
+use std::alloc::Allocator;
+use wasm_encoder::{CanonicalFunctionSection, CanonicalOption, Component, Fault, Holder};
+
+/// `CanonicalFunctionSection`.
+pub fn functions<A: Allocator + Copy>(alloc: A) -> Result<Vec<u8, A>, Fault> {
+    let mut functions = CanonicalFunctionSection::new(alloc);
+    let options = [CanonicalOption::UTF16, CanonicalOption::Memory(0)];
+    functions.lift(3, 1, options.into_iter())?;
+    functions.resource_drop(2)?;
+
+    let mut component = Component::new(alloc)?;
+    component.section(&functions)?;
+    let bytes = component.finish();
+    Ok(bytes)
+}
+
+/// `CanonicalFunctionSection::from_holder`.
+#[tactic(auto, using(crate::proofs::Kept::kept_whole))]
+pub fn behind<A: Allocator>(bytes: Vec<u8, A>) -> Result<(Vec<u8, A>, u32), Fault>
+    ensures { IfOk result (λ x. x.0.items
+        ≡ bytes.items ++ (canonical (OfBuiltin ResourceDrop 2)).text) }
+{
+    let kept = bytes.len();
+    let mut functions = CanonicalFunctionSection::from_holder(Holder::over(bytes, kept, 0));
+    functions.resource_drop(2)?;
+    let (bytes, _, count, _) = functions.into_holder().into_parts();
+    Ok((bytes, count))
+}

@@ -1,0 +1,13 @@
+//! Of `wenc`.
+
+use std::alloc::Global;
+use wenc::run;
+
+/// `run`.
+pub fn script(alloc: Global) -> (u8, Vec<u8>) {
+    let mut input: &[u8] = b"import f func 0\n";
+    let mut out = Vec::new(alloc);
+    let mut err = Vec::new(alloc);
+    let status = run(alloc, &[], &mut input, &mut out, &mut err);
+    (status, out)
+}

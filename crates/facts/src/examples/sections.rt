@@ -1,0 +1,242 @@
+//! Of `wenc_sections`: components by hand.
+ghost use Rattle.std.specs.Prelude.{◌≡◌, ◌++◌, ◌∷◌, [], IfOk, None, codes};
+ghost use Rattle.wenc_base.specs.Custom.{custom};
+ghost use Rattle.wenc_base.specs.Forms.{byte_list, counted};
+ghost use Rattle.wenc_base.specs.Modules.{module_preamble};
+ghost use Rattle.wenc_base.specs.declared.exports.ExportKind.{ExportKind};
+ghost use Rattle.wenc_parts.specs.Aliases.{alias as alias_form, alias_view, CoreInstanceExport};
+ghost use Rattle.wenc_parts.specs.Imports.{plain_name};
+ghost use Rattle.wenc_parts.specs.declared.exports.ComponentExportKind.{ComponentExportKind};
+ghost use Rattle.wenc_parts.specs.declared.imports.ComponentTypeRef.{ComponentTypeRef};
+ghost use Rattle.wenc_sections.specs.Component.{preamble};
+ghost use Rattle.wenc_sections.specs.Exports.{export_item};
+ghost use Rattle.wenc_sections.specs.Imports.{import_item};
+ghost use Rattle.wenc_sections.specs.Start.{started, start as start_form};
+
+use std::alloc::Allocator;
+use wasm_encoder::laws::sections_are_their_items;
+use wasm_encoder::{
+    Alias, Component, ComponentAliasSection, ComponentExportKind, ComponentExportSection,
+    ComponentExternName, ComponentImportSection, ComponentInstanceSection, ComponentNameSection,
+    ComponentStartSection, ComponentTypeRef, ComponentTypeSection, ComponentValType,
+    CoreTypeSection, CustomSection, ExportKind, Fault, Holder, InstanceSection, Module, ModuleArg,
+    ModuleSection, NameMap, NestedComponentSection, PrimitiveValType, ValType,
+};
+
+/// `Component`.
+pub fn component<A: Allocator + Copy>(alloc: A) -> Result<Vec<u8, A>, Fault>
+    ensures { IfOk result (λ bytes. bytes.items
+        ≡ preamble.text ++ 0x0a ∷ (counted import_item
+        (record { name = plain_name (codes "f"); what = ComponentTypeRef.Func 0 } ∷ [])).text) }
+{
+    let mut imports = ComponentImportSection::new(alloc);
+    imports.import("f".into(), ComponentTypeRef::Func(0))?;
+
+    let mut component = Component::new(alloc)?;
+    component.section(&imports)?;
+    let bytes = component.finish();
+    sections_are_their_items();
+    Ok(bytes)
+}
+
+/// `Counted`: how many items there are, and a copy.
+pub fn counted<A: Allocator + Copy>(alloc: A) -> Result<(u32, ComponentExportSection<A>), Fault> {
+    let mut exports = ComponentExportSection::new(alloc);
+    exports.export("log".into(), ComponentExportKind::Func, 0, None)?;
+    let count = exports.len();
+    let copy = exports.clone()?;
+    Ok((count, copy))
+}
+
+/// `Counted::from_holder`.
+#[tactic(auto, using(crate::proofs::Kept::kept_whole))]
+pub fn behind<A: Allocator>(bytes: Vec<u8, A>, alias: Alias<'_>) -> Result<(Vec<u8, A>, u32), Fault>
+    ensures { IfOk result
+        (λ x. x.0.items ≡ bytes.items ++ (alias_form (alias_view alias.entry)).text) }
+{
+    let kept = bytes.len();
+    let mut aliases = ComponentAliasSection::from_holder(Holder::over(bytes, kept, 0));
+    aliases.alias(alias)?;
+    let (bytes, _, count, _) = aliases.into_holder().into_parts();
+    Ok((bytes, count))
+}
+
+/// `ComponentAliasSection`.
+pub fn aliases<A: Allocator + Copy>(alloc: A) -> Result<Vec<u8, A>, Fault>
+    ensures { IfOk result (λ bytes. bytes.items
+        ≡ preamble.text ++ 0x06 ∷ (counted alias_form
+        (CoreInstanceExport 2 ExportKind.Memory (codes "heap") ∷ [])).text) }
+{
+    let mut aliases = ComponentAliasSection::new(alloc);
+    aliases.alias(Alias::CoreInstanceExport {
+        instance: 2,
+        kind: ExportKind::Memory,
+        name: "heap",
+    })?;
+
+    let mut component = Component::new(alloc)?;
+    component.section(&aliases)?;
+    let bytes = component.finish();
+    sections_are_their_items();
+    Ok(bytes)
+}
+
+/// `ComponentExportSection`.
+pub fn exports<A: Allocator + Copy>(alloc: A) -> Result<Vec<u8, A>, Fault>
+    ensures { IfOk result (λ bytes. bytes.items
+        ≡ preamble.text ++ 0x0b ∷ (counted export_item (record {
+          name = plain_name (codes "clock");
+          kind = ComponentExportKind.Instance;
+          index = 3;
+          what = None;
+        } ∷ [])).text) }
+{
+    let mut exports = ComponentExportSection::new(alloc);
+    exports.export("clock".into(), ComponentExportKind::Instance, 3, None)?;
+
+    let mut component = Component::new(alloc)?;
+    component.section(&exports)?;
+    let bytes = component.finish();
+    sections_are_their_items();
+    Ok(bytes)
+}
+
+/// `ComponentImportSection`.
+pub fn imports<A: Allocator + Copy>(alloc: A) -> Result<Vec<u8, A>, Fault>
+    ensures { IfOk result (λ bytes. bytes.items
+        ≡ preamble.text ++ 0x0a ∷ (counted import_item
+        (record { name = plain_name (codes "log"); what = ComponentTypeRef.Func 0 }
+        ∷ record { name = plain_name (codes "clock"); what = ComponentTypeRef.Instance 1 }
+        ∷ [])).text) }
+{
+    let mut imports = ComponentImportSection::new(alloc);
+    imports.import("log".into(), ComponentTypeRef::Func(0))?;
+    imports.import("clock".into(), ComponentTypeRef::Instance(1))?;
+
+    let mut component = Component::new(alloc)?;
+    component.section(&imports)?;
+    let bytes = component.finish();
+    sections_are_their_items();
+    Ok(bytes)
+}
+
+/// `InstanceSection`.
+pub fn core_instances<A: Allocator + Copy>(alloc: A) -> Result<Vec<u8, A>, Fault> {
+    let mut instances = InstanceSection::new(alloc);
+    instances.export_items([("heap", ExportKind::Memory, 0)].into_iter())?;
+    instances.instantiate(2, [("env", ModuleArg::Instance(0))].into_iter())?;
+
+    let mut component = Component::new(alloc)?;
+    component.section(&instances)?;
+    let bytes = component.finish();
+    Ok(bytes)
+}
+
+/// `ComponentInstanceSection`.
+pub fn instances<A: Allocator + Copy>(alloc: A) -> Result<Vec<u8, A>, Fault> {
+    let mut instances = ComponentInstanceSection::new(alloc);
+    let name: ComponentExternName = "now".into();
+    instances.export_items([(name, ComponentExportKind::Func, 4)].into_iter())?;
+    let clock = ("clock", ComponentExportKind::Instance, 0);
+    instances.instantiate(2, [clock].into_iter())?;
+
+    let mut component = Component::new(alloc)?;
+    component.section(&instances)?;
+    let bytes = component.finish();
+    Ok(bytes)
+}
+
+/// `ModuleSection`.
+pub fn module<A: Allocator + Copy>(alloc: A) -> Result<Vec<u8, A>, Fault>
+    ensures { IfOk result (λ bytes. bytes.items
+        ≡ preamble.text ++ 0x01 ∷ (byte_list (module_preamble.text
+        ++ 0x00 ∷ (custom (record { label = codes "x"; bytes = [] })).text)).text) }
+{
+    let mut module = Module::new(alloc)?;
+    module.section(&CustomSection {
+        name: "x",
+        data: &[],
+    })?;
+
+    let mut component = Component::new(alloc)?;
+    component.section(&ModuleSection(&module))?;
+    let bytes = component.finish();
+    Ok(bytes)
+}
+
+/// `NestedComponentSection`.
+pub fn nested<A: Allocator + Copy>(alloc: A) -> Result<Vec<u8, A>, Fault>
+    ensures { IfOk result (λ bytes. bytes.items
+        ≡ preamble.text ++ 0x04 ∷ (byte_list (preamble.text
+        ++ 0x00 ∷ (custom (record { label = codes "x"; bytes = [] })).text)).text) }
+{
+    let mut inner = Component::new(alloc)?;
+    inner.section(&CustomSection {
+        name: "x",
+        data: &[],
+    })?;
+
+    let mut outer = Component::new(alloc)?;
+    outer.section(&NestedComponentSection(&inner))?;
+    let bytes = outer.finish();
+    Ok(bytes)
+}
+
+/// `ComponentStartSection`.
+pub fn start<A: Allocator>(alloc: A) -> Result<Vec<u8, A>, Fault>
+    ensures { IfOk result (λ bytes. bytes.items
+        ≡ preamble.text ++ 0x09 ∷ (start_form (started 2 (3 ∷ []) 0)).text) }
+{
+    // function 2 is called with value 3, and answers nothing
+    let start = ComponentStartSection {
+        function_index: 2,
+        args: [3],
+        results: 0,
+    };
+
+    let mut component = Component::new(alloc)?;
+    component.section(&start)?;
+    let bytes = component.finish();
+    Ok(bytes)
+}
+
+/// `CoreTypeSection`.
+pub fn core_types<A: Allocator + Copy>(alloc: A) -> Result<Vec<u8, A>, Fault> {
+    let mut types = CoreTypeSection::new(alloc);
+    let encoder = types.ty()?.core();
+    encoder.function([ValType::I64].into_iter(), [].into_iter())?;
+
+    let mut component = Component::new(alloc)?;
+    component.section(&types)?;
+    let bytes = component.finish();
+    Ok(bytes)
+}
+
+/// `ComponentTypeSection`.
+pub fn types<A: Allocator + Copy>(alloc: A) -> Result<Vec<u8, A>, Fault> {
+    let string = ComponentValType::Primitive(PrimitiveValType::String);
+    let mut types = ComponentTypeSection::new(alloc);
+    types
+        .defined_type()?
+        .record([("name", string)].into_iter())?;
+    types.resource(ValType::I32, None)?;
+
+    let mut component = Component::new(alloc)?;
+    component.section(&types)?;
+    let bytes = component.finish();
+    Ok(bytes)
+}
+
+/// `ComponentNameSection`.
+pub fn names<A: Allocator + Copy>(alloc: A) -> Result<Vec<u8, A>, Fault> {
+    let mut funcs = NameMap::new(alloc);
+    funcs.append(0, "now")?;
+    let mut names = ComponentNameSection::new(alloc);
+    names.component("clock")?;
+    names.funcs(&funcs)?;
+
+    let mut component = Component::new(alloc)?;
+    component.section(&names)?;
+    let bytes = component.finish();
+    Ok(bytes)
+}

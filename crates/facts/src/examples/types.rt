@@ -1,0 +1,101 @@
+//! Of `wenc_types`: types by calls and encoders.
+ghost use Rattle.std.specs.Prelude.{◌∷◌, [], None, IfOk};
+ghost use Rattle.wenc_base.specs.Holder.{Contains};
+ghost use Rattle.wenc_base.specs.declared.types.ValType.{ValType};
+ghost use Rattle.wenc_types.specs.ComponentTypes.{ResourceType, DefinedType, def_type};
+ghost use Rattle.wenc_types.specs.DefinedTypes.{Own};
+
+use std::alloc::Allocator;
+use wasm_encoder::{
+    ComponentType, ComponentTypeRef, ComponentTypeSection, ComponentValType, CoreTypeSection,
+    EntityType, Fault, InstanceType, ModuleType, PrimitiveValType, TypeBounds, ValType,
+};
+
+/// `Declarations`: a type of instances, and a copy.
+pub fn declarations<A: Allocator + Copy>(alloc: A) -> Result<InstanceType<A>, Fault> {
+    let mut ty = InstanceType::new(alloc);
+    ty.core_type()?
+        .core()
+        .function([].into_iter(), [].into_iter())?;
+    let copy = ty.clone()?;
+    Ok(copy)
+}
+
+/// `ModuleType`.
+pub fn module_type<A: Allocator>(alloc: A) -> Result<ModuleType<A>, Fault> {
+    let mut ty = ModuleType::new(alloc);
+    ty.ty()?
+        .function([].into_iter(), [ValType::I32].into_iter())?;
+    ty.export("answer", EntityType::Function(0))?;
+    Ok(ty)
+}
+
+/// `ComponentType`: what imports a list of bytes.
+pub fn component_type<A: Allocator + Copy>(alloc: A) -> Result<ComponentTypeSection<A>, Fault> {
+    let byte = ComponentValType::Primitive(PrimitiveValType::U8);
+    let mut ty = ComponentType::new(alloc);
+    ty.ty()?.defined_type().list(byte)?;
+    ty.import("bytes".into(), ComponentTypeRef::Type(TypeBounds::Eq(0)))?;
+
+    let mut types = ComponentTypeSection::new(alloc);
+    types.component(&ty)?;
+    Ok(types)
+}
+
+/// `InstanceType`: what exports an option.
+pub fn instance_type<A: Allocator + Copy>(alloc: A) -> Result<ComponentTypeSection<A>, Fault> {
+    let string = ComponentValType::Primitive(PrimitiveValType::String);
+    let mut ty = InstanceType::new(alloc);
+    ty.ty()?.defined_type().option(string)?;
+    ty.export("name".into(), ComponentTypeRef::Type(TypeBounds::Eq(0)))?;
+
+    let mut types = ComponentTypeSection::new(alloc);
+    types.instance(&ty)?;
+    Ok(types)
+}
+
+/// `ComponentCoreTypeEncoder`.
+pub fn core_types<A: Allocator + Copy>(alloc: A) -> Result<CoreTypeSection<A>, Fault> {
+    let mut module_type = ModuleType::new(alloc);
+    module_type.alias_outer_core_type(1, 0)?;
+
+    let mut types = CoreTypeSection::new(alloc);
+    types.ty()?.module(&module_type)?;
+    types
+        .ty()?
+        .core()
+        .function([].into_iter(), [ValType::F64].into_iter())?;
+    Ok(types)
+}
+
+/// `ComponentTypeEncoder`: a resource, and a handle that owns one.
+#[tactic(auto, using(wenc_base::specs::laws::Holders::contains_opened))]
+pub fn types<A: Allocator>(alloc: A) -> Result<ComponentTypeSection<A>, Fault>
+    ensures { IfOk result (λ types. Contains def_type types
+        (ResourceType ValType.I32 None ∷ DefinedType (Own 0) ∷ [])) }
+{
+    let mut types = ComponentTypeSection::new(alloc);
+    types.ty()?.resource(ValType::I32, None)?;
+    types.ty()?.defined_type().own(0)?;
+    Ok(types)
+}
+
+/// `ComponentDefinedTypeEncoder`.
+pub fn defined_types<A: Allocator>(alloc: A) -> Result<ComponentTypeSection<A>, Fault> {
+    let string = ComponentValType::Primitive(PrimitiveValType::String);
+    let mut types = ComponentTypeSection::new(alloc);
+    let fields = [("name", string), ("street", string)];
+    types.defined_type()?.record(fields.into_iter())?;
+    types.defined_type()?.option(string)?;
+    Ok(types)
+}
+
+/// `ComponentFuncTypeEncoder`: what takes a string and answers nothing.
+pub fn func_type<A: Allocator>(alloc: A) -> Result<ComponentTypeSection<A>, Fault> {
+    let string = ComponentValType::Primitive(PrimitiveValType::String);
+    let mut types = ComponentTypeSection::new(alloc);
+    let mut function = types.function()?;
+    function.params([("line", string)].into_iter())?;
+    function.result(None)?;
+    Ok(types)
+}
