@@ -82,6 +82,7 @@ impl Session {
     }
 
     /// Adds an import.
+    #[inline(always)]
     pub fn import(
         &mut self,
         name: ComponentExternName<'_>,
@@ -96,6 +97,7 @@ impl Session {
     }
 
     /// Adds an export.
+    #[inline(always)]
     pub fn export(
         &mut self,
         name: ComponentExternName<'_>,
@@ -113,6 +115,7 @@ impl Session {
     }
 
     /// Adds an alias.
+    #[inline(always)]
     pub fn alias(&mut self, debug_name: Option<&str>, alias: Alias<'_>) -> Result<u32, Refused>
         ensures { AddsTo self.old self.new result
             (alias_entry (option_copied debug_name.entry) (alias_view alias.entry)) }
