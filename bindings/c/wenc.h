@@ -139,6 +139,15 @@ enum wenc_outer_kind {
   WENC_OUTER_COMPONENT = 3
 };
 
+/* A part of a list of named things: how many bytes its name has, and what has the name, by two
+ * numbers. The names are handed in as one text, one behind the other; each is whole characters of
+ * it, and together they are all of it. */
+typedef struct {
+  size_t name_len;
+  uint32_t sort;
+  uint32_t number;
+} wenc_part;
+
 /* Sections, by their ids in the binary format. */
 enum wenc_section {
   WENC_SECTION_CUSTOM = 0,
@@ -269,6 +278,33 @@ uint32_t wenc_component_ref(wenc_builder *builder, bool named, const uint8_t *de
  * of them. */
 uint32_t wenc_start(wenc_builder *builder, uint32_t function, const uint32_t *args,
                     size_t args_len, uint32_t results, uint32_t *index);
+
+/* Adds a function that the component model provides, by its opcode in the binary format: one that
+ * takes indices, or an index and a flag (0 or 1), or nothing, in that order `first` and `second`.
+ * Of what it doesn't take nothing is looked at. It has its own name as its debug name.
+ * WENC_BAD_ARGUMENT where it takes options, types or slots too (those go by wenc_item), where there
+ * is no such function, and where a flag is another number. */
+uint32_t wenc_builtin(wenc_builder *builder, uint32_t opcode, uint32_t first, uint32_t second,
+                      uint32_t *index);
+
+/* Adds a core instance that exports core items under their names: the sort of each part is one of
+ * wenc_core_kind, its number the index. */
+uint32_t wenc_core_exports(wenc_builder *builder, bool named, const uint8_t *debug_name,
+                           size_t debug_name_len, const uint8_t *names, size_t names_len,
+                           const wenc_part *exports, size_t exports_len, uint32_t *index);
+
+/* Adds the type of a record, by its fields: the sort of each part is WENC_REF_VALUE, and its number
+ * the index of a type, or WENC_REF_PRIMITIVE, with one of wenc_primitive. */
+uint32_t wenc_record(wenc_builder *builder, bool named, const uint8_t *debug_name,
+                     size_t debug_name_len, const uint8_t *names, size_t names_len,
+                     const wenc_part *fields, size_t fields_len, uint32_t *index);
+
+/* Adds the type of a function: whether it is asynchronous; its parameters, as the fields of a
+ * record; and what it answers, as a field (`ref` and `of`), or nothing (WENC_REF_NONE). */
+uint32_t wenc_function(wenc_builder *builder, bool named, const uint8_t *debug_name,
+                       size_t debug_name_len, bool is_async, const uint8_t *names,
+                       size_t names_len, const wenc_part *params, size_t params_len, uint32_t ref,
+                       uint32_t of, uint32_t *index);
 
 /* Adds the item that has this text in the binary format: the bytes that stand for it in a section
  * with this id (wenc_section). Of a section that is one item (a custom section, a core module, a

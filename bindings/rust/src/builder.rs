@@ -1,16 +1,17 @@
 //! The builder.
 
+mod builtins;
 mod definitions;
 mod functions;
 mod instances;
-mod builtins;
 mod types;
 
 use crate::error::told;
+use crate::packed::Packed;
 use crate::sys::Handle;
 use crate::text::Text;
 use crate::twins::twins;
-use crate::{ComponentSectionId, CustomSection, Error};
+use crate::{ComponentSectionId, ComponentValType, CustomSection, Error};
 use std::fmt;
 
 /// Index spaces, by the library's numbers.
@@ -72,6 +73,8 @@ pub struct ComponentBuilder {
     handle: Handle,
     /// The text of an item that is handed over; of an open type its debug name first, then what was written of it.
     text: Text,
+    /// The named parts of an item that is handed over, or of an open type.
+    packed: Packed,
     open: Option<Open>,
     /// How many types there are, where the last answer that told it is known. It saves a question.
     types: Option<u32>,
@@ -104,6 +107,7 @@ impl ComponentBuilder {
         Ok(Self {
             handle: Handle::new()?,
             text: Text::default(),
+            packed: Packed::default(),
             open: None,
             types: None,
         })
@@ -353,23 +357,58 @@ impl ComponentBuilder {
     pub(crate) fn end(&mut self, write: impl FnOnce(&mut Text)) -> Result<(), Error> {
         let len = self.text.len();
         self.append(write)?;
+        let ended = self.end_by(|handle, open, text, _| {
+            let (debug_name, text) = open.parts(text);
+            handle.item(open.section.into(), debug_name, text)
+        });
+        if ended.is_err() {
+            self.text.cut_back(len);
+        }
+        ended
+    }
+
+    /// Packs the fields or parameters of the open type.
+    #[inline]
+    pub(crate) fn pack<'n, T: Into<ComponentValType>>(
+        &mut self,
+        items: impl Iterator<Item = (&'n str, T)>,
+    ) -> Result<(), Error> {
+        self.packed.fill(items.map(|(name, ty)| (name, ty.into())))
+    }
+
+    /// Adds the open type as the record of what is packed; or leaves it as it is.
+    #[inline]
+    pub(crate) fn end_record(&mut self) -> Result<(), Error> {
+        self.end_by(|handle, open, text, fields| handle.record(open.parts(text).0, fields))
+    }
+
+    /// Adds the open type as a type of functions with what is packed as their parameters; or leaves it as it is.
+    #[inline]
+    pub(crate) fn end_function(
+        &mut self,
+        is_async: bool,
+        answer: Option<ComponentValType>,
+    ) -> Result<(), Error> {
+        self.end_by(|handle, open, text, params| {
+            handle.function(open.parts(text).0, is_async, params, answer)
+        })
+    }
+
+    /// Adds the open type by this call, or leaves it as it is.
+    #[inline]
+    fn end_by(
+        &mut self,
+        call: impl FnOnce(&Handle, &Open, &Text, &Packed) -> Result<u32, Error>,
+    ) -> Result<(), Error> {
         // An encoder stands for an open type.
         let open = self.open.as_ref().ok_or(Error::OutOfTurn)?;
-        let (debug_name, text) = open.parts(&self.text);
-        match self.handle.item(open.section.into(), debug_name, text) {
-            Ok(index) => {
-                // It was handed out before, by an answer of the library too.
-                assert_eq!(index, open.index, "the index of an open type");
-                let section = open.section;
-                self.open = None;
-                self.added(section, index);
-                Ok(())
-            }
-            Err(error) => {
-                self.text.cut_back(len);
-                Err(error)
-            }
-        }
+        let index = call(&self.handle, open, &self.text, &self.packed)?;
+        // It was handed out before, by an answer of the library too.
+        assert_eq!(index, open.index, "the index of an open type");
+        let section = open.section;
+        self.open = None;
+        self.added(section, index);
+        Ok(())
     }
 }
 

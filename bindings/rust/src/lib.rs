@@ -75,6 +75,7 @@ mod core;
 mod encode;
 mod error;
 mod list;
+mod packed;
 mod parts;
 mod sys;
 mod text;

@@ -2,7 +2,8 @@
 //!
 //! Nothing compares the declarations below with the header or with the library.
 
-use crate::{ComponentTypeRef, Error, ListFault, ListedSection, TypeBounds};
+use crate::packed::{Packed, ToNumbers};
+use crate::{ComponentTypeRef, ComponentValType, Error, ListFault, ListedSection, TypeBounds};
 use std::cell::UnsafeCell;
 use std::ffi::c_void;
 use std::ptr::null_mut;
@@ -20,6 +21,15 @@ struct Listed {
     place: usize,
     items: usize,
     id: u32,
+}
+
+/// `wenc_part`: how many bytes a name has, and what has it, by two numbers.
+#[repr(C)]
+#[derive(Clone, Copy, Debug)]
+pub(crate) struct Part {
+    pub(crate) name_len: usize,
+    pub(crate) sort: u32,
+    pub(crate) number: u32,
 }
 
 /// A flag, a pointer and a length.
@@ -158,6 +168,49 @@ extern "C" {
         results: u32,
         index: *mut u32,
     ) -> u32;
+    fn wenc_builtin(
+        builder: *mut Raw,
+        opcode: u32,
+        first: u32,
+        second: u32,
+        index: *mut u32,
+    ) -> u32;
+    fn wenc_core_exports(
+        builder: *mut Raw,
+        named: bool,
+        debug_name: *const u8,
+        debug_name_len: usize,
+        names: *const u8,
+        names_len: usize,
+        exports: *const Part,
+        exports_len: usize,
+        index: *mut u32,
+    ) -> u32;
+    fn wenc_record(
+        builder: *mut Raw,
+        named: bool,
+        debug_name: *const u8,
+        debug_name_len: usize,
+        names: *const u8,
+        names_len: usize,
+        fields: *const Part,
+        fields_len: usize,
+        index: *mut u32,
+    ) -> u32;
+    fn wenc_function(
+        builder: *mut Raw,
+        named: bool,
+        debug_name: *const u8,
+        debug_name_len: usize,
+        is_async: bool,
+        names: *const u8,
+        names_len: usize,
+        params: *const Part,
+        params_len: usize,
+        reference: u32,
+        of: u32,
+        index: *mut u32,
+    ) -> u32;
     fn wenc_item(
         builder: *mut Raw,
         section: u32,
@@ -229,16 +282,14 @@ fn flagged(text: Option<&str>) -> Flagged {
 /// A reference by its numbers: which it is, and what it goes with.
 #[inline]
 fn numbers(reference: ComponentTypeRef) -> (u32, u32) {
-    use crate::ComponentValType::{Primitive, Type};
     match reference {
         ComponentTypeRef::Module(index) => (0, index),
         ComponentTypeRef::Func(index) => (1, index),
-        ComponentTypeRef::Value(Type(index)) => (2, index),
+        ComponentTypeRef::Value(ty) => ty.numbers(),
         ComponentTypeRef::Type(TypeBounds::Eq(index)) => (3, index),
         ComponentTypeRef::Component(index) => (4, index),
         ComponentTypeRef::Instance(index) => (5, index),
         ComponentTypeRef::Type(TypeBounds::SubResource) => (6, 0),
-        ComponentTypeRef::Value(Primitive(ty)) => (7, ty.number().into()),
     }
 }
 
@@ -500,6 +551,87 @@ impl Handle {
         let (at, len) = (args.as_ptr(), args.len());
         // SAFETY: as above.
         index(|index| unsafe { wenc_start(self.0.get(), function, at, len, results, index) })
+    }
+
+    /// Adds the function that the component model provides with this opcode, by up to two numbers.
+    #[inline]
+    pub(crate) fn builtin(&self, opcode: u8, first: u32, second: u32) -> Result<u32, Error> {
+        // SAFETY: as above.
+        index(|index| unsafe { wenc_builtin(self.0.get(), opcode.into(), first, second, index) })
+    }
+
+    #[inline]
+    pub(crate) fn core_exports(
+        &self,
+        debug_name: Option<&str>,
+        exports: &Packed,
+    ) -> Result<u32, Error> {
+        let (named, debug, debug_len) = flagged(debug_name);
+        let (names, parts) = exports.as_slices();
+        // SAFETY: as above.
+        index(|index| unsafe {
+            wenc_core_exports(
+                self.0.get(),
+                named,
+                debug,
+                debug_len,
+                names.as_ptr(),
+                names.len(),
+                parts.as_ptr(),
+                parts.len(),
+                index,
+            )
+        })
+    }
+
+    #[inline]
+    pub(crate) fn record(&self, debug_name: Option<&str>, fields: &Packed) -> Result<u32, Error> {
+        let (named, debug, debug_len) = flagged(debug_name);
+        let (names, parts) = fields.as_slices();
+        // SAFETY: as above.
+        index(|index| unsafe {
+            wenc_record(
+                self.0.get(),
+                named,
+                debug,
+                debug_len,
+                names.as_ptr(),
+                names.len(),
+                parts.as_ptr(),
+                parts.len(),
+                index,
+            )
+        })
+    }
+
+    #[inline]
+    pub(crate) fn function(
+        &self,
+        debug_name: Option<&str>,
+        is_async: bool,
+        params: &Packed,
+        answer: Option<ComponentValType>,
+    ) -> Result<u32, Error> {
+        let (named, debug, debug_len) = flagged(debug_name);
+        let (names, parts) = params.as_slices();
+        let (reference, of) = numbers_or_none(answer.map(ComponentTypeRef::Value));
+        // SAFETY: as above.
+        index(|index| unsafe {
+            wenc_function(
+                self.0.get(),
+                named,
+                debug,
+                debug_len,
+                is_async,
+                names.as_ptr(),
+                names.len(),
+                parts.as_ptr(),
+                parts.len(),
+                reference,
+                of,
+                index,
+            )
+        })
     }
 
     /// Adds the item with this text to the section with this id.

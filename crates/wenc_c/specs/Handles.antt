@@ -4,8 +4,8 @@ use Rattle.std.specs.Str.{IsUtf8}
 use Rattle.wenc_builder.specs.Entry.{Entry}
 use Rattle.wenc_builder.specs.Names.{AddsNames}
 use Rattle.wenc_builder.specs.declared.builder.space.Space.{Space}
-use Rattle.wenc_c.specs.Sessions.{Does, AddsTo, AddsWithoutIndexTo, Nests, Counts, Finishes, Copies}
-use Rattle.wenc_c.specs.Sessions.{IsEmpty}
+use Rattle.wenc_c.specs.Sessions.{Does, AddsTo, AddsIfTo, AddsWithoutIndexTo, Nests, Counts}
+use Rattle.wenc_c.specs.Sessions.{Finishes, Copies, IsEmpty}
 use Rattle.wenc_c.specs.declared.refused.Refused.{Refused as Refusals}
 use Rattle.wenc_c.specs.declared.refused.Refused.TheVariants.{NoBuilder}
 use Rattle.wenc_c.specs.declared.session.Session.{Session}
@@ -19,6 +19,9 @@ At did None new answer = (answer ≡ Err NoBuilder) × (new ≡ None)
 
 abbrev pub Adds : Option Session → Option Session → Result ℕ Refusals → Entry → Type 0
 Adds old new answer x = At (λ s s' a. AddsTo s s' a x) old new answer
+
+abbrev pub AddsIfAt : Option Session → Option Session → Result ℕ Refusals → Option Entry → Type 0
+AddsIfAt old new answer x = At (λ s s' a. AddsIfTo s s' a x) old new answer
 
 abbrev pub AddsWithoutIndex : Option Session → Option Session → Result (Unit {0}) Refusals → Entry
     → Type 0

@@ -1,7 +1,9 @@
+pub mod Builtins
 pub mod Handles
 pub mod Lists
 pub mod Names
 pub mod Numbers
 pub mod Owned
+pub mod Packed
 pub mod Reads
 pub mod Sessions

@@ -1,5 +1,6 @@
 -- What the numbers of C stand for.
-use Rattle.std.specs.Prelude.{ℕ, Option, Some, None, option_map, nat_eq, if◌then◌else◌}
+use Rattle.std.specs.Prelude.{ℕ, Option, Some, None, option_map, nat_eq, if◌then◌else◌, Bool, true}
+use Rattle.std.specs.Prelude.{false}
 use Rattle.wenc_base.specs.declared.exports.ExportKind.{ExportKind}
 use Rattle.wenc_base.specs.declared.exports.ExportKind.TheVariants as core_kinds
 use Rattle.wenc_builder.specs.declared.builder.space.Space.{Space}
@@ -11,6 +12,7 @@ use Rattle.wenc_parts.specs.declared.exports.ComponentExportKind.TheVariants as 
 use Rattle.wenc_parts.specs.declared.imports.ComponentTypeRef.{ComponentTypeRef}
 use Rattle.wenc_parts.specs.declared.imports.ComponentTypeRef.TheVariants as refs
 use Rattle.wenc_parts.specs.declared.imports.TypeBounds.TheVariants as bounds
+use Rattle.wenc_parts.specs.declared.types.ComponentValType.{ComponentValType}
 use Rattle.wenc_parts.specs.declared.types.ComponentValType.TheVariants as values
 use Rattle.wenc_parts.specs.declared.types.PrimitiveValType.{PrimitiveValType}
 use Rattle.wenc_parts.specs.declared.types.PrimitiveValType.TheVariants as primitives
@@ -51,6 +53,20 @@ type_ref_of sort n =
 abbrev pub given_type_of : ℕ → ℕ → Option (Option ComponentTypeRef)
 given_type_of sort n = if nat_eq sort 8 then Some None else option_map Some (type_ref_of sort n)
 
+-- a type of values, by the numbers of a reference to a value
+abbrev pub value_of : ℕ → ℕ → Option ComponentValType
+value_of sort n =
+    if nat_eq sort 2 then Some (values.«Type» n)
+    else (if nat_eq sort 7 then option_map values.Primitive (primitive_of n) else None)
+
+-- what a function answers, or nothing
+abbrev pub answer_type_of : ℕ → ℕ → Option (Option ComponentValType)
+answer_type_of sort n = if nat_eq sort 8 then Some None else option_map Some (value_of sort n)
+
+-- whether it holds
+abbrev pub flag_of : ℕ → Option Bool
+flag_of n = if nat_eq n 0 then Some false else (if nat_eq n 1 then Some true else None)
+
 abbrev pub kind_of : ℕ → Option ComponentExportKind
 kind_of n =
     if nat_eq n 0 then Some kinds.Module
@@ -67,6 +83,10 @@ core_kind_of n =
     else (if nat_eq n 2 then Some core_kinds.Memory
     else (if nat_eq n 3 then Some core_kinds.Global
     else (if nat_eq n 4 then Some core_kinds.Tag else None))))
+
+-- a core item, by its kind and its index
+abbrev pub core_item_of : ℕ → ℕ → Option (ExportKind × ℕ)
+core_item_of kind index = option_map (λ k. (k, index)) (core_kind_of kind)
 
 abbrev pub outer_kind_of : ℕ → Option ComponentOuterAliasKind
 outer_kind_of n =

@@ -1,6 +1,6 @@
 -- What a call does to what a handle owns, and what C is told.
-use Rattle.std.specs.Prelude.{◌≡◌, ◌↔◌, ℕ, List, [], Option, Result, Ok, Err, OnErr, nat_eq}
-use Rattle.std.specs.Prelude.{if◌then◌else◌, alloc_error, length, true, false}
+use Rattle.std.specs.Prelude.{◌≡◌, ◌↔◌, ℕ, List, [], Option, Some, None, Result, Ok, Err, OnErr}
+use Rattle.std.specs.Prelude.{nat_eq, if◌then◌else◌, alloc_error, length, true, false}
 use Rattle.wenc_base.specs.Piece.{Spelling}
 use Rattle.wenc_base.specs.declared.fault.Fault.{Fault as Faults}
 use Rattle.wenc_base.specs.declared.fault.Fault.TheVariants.{Memory, TooMany, TooLarge, Unfinished}
@@ -72,6 +72,18 @@ AddsTo old new answer x = Does (λ b b' result. Enters b b' result x) old new an
 abbrev pub AddsWithoutIndexTo : Session → Session → Result (Unit {0}) Refusals → Entry → Type 0
 AddsWithoutIndexTo old new answer x =
     Does (λ b b' result. EntersWithoutIndex b b' result x) old new answer
+
+-- The same where there is an entry; else that is answered, and nothing is changed.
+abbrev pub AddsIf : State → State → Result ℕ Refusals → Option Entry → Type 0
+AddsIf old new answer (Some x) = Answered (λ result. Enters old new result x) answer
+AddsIf old new answer None = (answer ≡ Err BadArgument) × (new ≡ old)
+
+-- The same of a component; a finished one is refused.
+abbrev pub AddsIfTo : Session → Session → Result ℕ Refusals → Option Entry → Type 0
+AddsIfTo (sessions.Building b) (sessions.Building b') answer x = AddsIf b b' answer x
+AddsIfTo (sessions.Building b) (sessions.Finished bytes) answer x = ⊥
+AddsIfTo (sessions.Finished bytes) new answer x =
+    (answer ≡ Err Finished) × (new ≡ sessions.Finished bytes)
 
 -- What a call of a builder does with another one as a nested component: the clauses of the
 -- builder's own call.

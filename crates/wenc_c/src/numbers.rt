@@ -1,6 +1,7 @@
 //! What the numbers of C stand for (`bindings/c/wenc.h` names them).
 ghost use Rattle.std.specs.Prelude.{◌≡◌};
-ghost use Rattle.wenc_c.specs.Numbers.{core_kind_of, given_type_of, kind_of, outer_kind_of, primitive_of, space_of, type_ref_of};
+ghost use Rattle.wenc_c.specs.Numbers.{answer_type_of, core_item_of, core_kind_of, flag_of, given_type_of, kind_of};
+ghost use Rattle.wenc_c.specs.Numbers.{outer_kind_of, primitive_of, space_of, type_ref_of, value_of};
 
 use wenc_base::ExportKind;
 use wenc_builder::Space;
@@ -67,6 +68,45 @@ pub(crate) fn given_type(sort: u32, of: u32) -> Option<Option<ComponentTypeRef>>
     }
 }
 
+/// A type of values, by the sort of a reference to a value and the number that goes with it.
+#[inline]
+pub(crate) fn value(sort: u32, of: u32) -> Option<ComponentValType>
+    ensures { result ≡ value_of sort of }
+{
+    match sort {
+        2 => Some(ComponentValType::Type(of)),
+        7 => match primitive(of) {
+            Some(primitive) => Some(ComponentValType::Primitive(primitive)),
+            None => None,
+        },
+        _ => None,
+    }
+}
+
+/// What a function answers, or nothing.
+pub(crate) fn answer_type(sort: u32, of: u32) -> Option<Option<ComponentValType>>
+    ensures { result ≡ answer_type_of sort of }
+{
+    match sort {
+        8 => Some(None),
+        _ => match value(sort, of) {
+            Some(ty) => Some(Some(ty)),
+            None => None,
+        },
+    }
+}
+
+/// Whether it holds.
+pub(crate) fn flag(number: u32) -> Option<bool>
+    ensures { result ≡ flag_of number }
+{
+    match number {
+        0 => Some(false),
+        1 => Some(true),
+        _ => None,
+    }
+}
+
 /// A kind of items.
 pub(crate) fn kind(number: u32) -> Option<ComponentExportKind>
     ensures { result ≡ kind_of number }
@@ -93,6 +133,17 @@ pub(crate) fn core_kind(number: u32) -> Option<ExportKind>
         3 => Some(ExportKind::Global),
         4 => Some(ExportKind::Tag),
         _ => None,
+    }
+}
+
+/// A core item, by its kind and its index.
+#[inline]
+pub(crate) fn core_item(kind: u32, index: u32) -> Option<(ExportKind, u32)>
+    ensures { result ≡ core_item_of kind index }
+{
+    match core_kind(kind) {
+        Some(kind) => Some((kind, index)),
+        None => None,
     }
 }
 

@@ -5,21 +5,28 @@ ghost use Rattle.wenc_base.specs.Fault.{IsMemory};
 ghost use Rattle.wenc_builder.specs.Builder.{count_in};
 ghost use Rattle.wenc_builder.specs.Enters.{Enters, EntersWithoutIndex};
 ghost use Rattle.wenc_builder.specs.Entry.{import_entry, export_entry, alias_entry, module_entry, component_entry};
-ghost use Rattle.wenc_builder.specs.Entry.{start_entry, custom_entry, raw_entry};
+ghost use Rattle.wenc_builder.specs.Entry.{start_entry, custom_entry, raw_entry, core_instance_entry, type_entry};
 ghost use Rattle.wenc_builder.specs.Names.{AddsNames};
+ghost use Rattle.wenc_c.specs.Builtins.{builtin_of};
+ghost use Rattle.wenc_c.specs.Packed.{exporting, function_of, record_of};
 ghost use Rattle.wenc_c.specs.Reads.{AddsReadTo, read_custom, read_one};
-ghost use Rattle.wenc_c.specs.Sessions.{AddsTo, AddsWithoutIndexTo, Copies, Counts, Does, Finishes, IsEmpty};
+ghost use Rattle.wenc_c.specs.Sessions.{AddsIfTo, AddsTo, AddsWithoutIndexTo, Copies, Counts, Does, Finishes, IsEmpty};
 ghost use Rattle.wenc_c.specs.Sessions.{IsFaultThat, Nests, of_builder};
 ghost use Rattle.wenc_parts.specs.Aliases.{alias_view};
 ghost use Rattle.wenc_parts.specs.Imports.{extern_name_view};
 
 use crate::adding::{add, add_custom};
+use crate::builtins::add_builtin;
+use crate::packed::Packed;
 use crate::refused::Refused;
+use crate::written::{write_exports, write_function, write_record};
 use std::alloc::Global;
 use std::mem::replace;
-use wenc_base::{CustomSection, Fault};
+use wenc_base::{CustomSection, ExportKind, Fault};
 use wenc_builder::{ComponentBuilder, Space};
-use wenc_parts::{Alias, ComponentExportKind, ComponentExternName, ComponentTypeRef};
+use wenc_parts::{
+    Alias, ComponentExportKind, ComponentExternName, ComponentTypeRef, ComponentValType,
+};
 
 /// A component, while it is built and when it is finished. Each call is the builder's; a finished component refuses
 /// it, and a refused call changes nothing.
@@ -75,6 +82,7 @@ impl Session {
     }
 
     /// Adds an import.
+    #[inline(always)]
     pub fn import(
         &mut self,
         name: ComponentExternName<'_>,
@@ -89,6 +97,7 @@ impl Session {
     }
 
     /// Adds an export.
+    #[inline(always)]
     pub fn export(
         &mut self,
         name: ComponentExternName<'_>,
@@ -106,12 +115,81 @@ impl Session {
     }
 
     /// Adds an alias.
+    #[inline(always)]
     pub fn alias(&mut self, debug_name: Option<&str>, alias: Alias<'_>) -> Result<u32, Refused>
         ensures { AddsTo self.old self.new result
             (alias_entry (option_copied debug_name.entry) (alias_view alias.entry)) }
     {
         match self {
             Session::Building(builder) => by_builder(builder.alias(debug_name, alias)),
+            Session::Finished(_) => Err(Refused::Finished),
+        }
+    }
+
+    /// Adds the function that the component model provides with this opcode, by up to two numbers.
+    pub fn builtin(&mut self, opcode: u32, first: u32, second: u32) -> Result<u32, Refused>
+        ensures { AddsIfTo self.old self.new result (builtin_of opcode first second) }
+    {
+        match self {
+            Session::Building(builder) => add_builtin(builder, opcode, first, second),
+            Session::Finished(_) => Err(Refused::Finished),
+        }
+    }
+
+    /// Adds a core instance of these exports.
+    pub fn core_exports(
+        &mut self,
+        debug_name: Option<&str>,
+        exports: Packed<'_, (ExportKind, u32)>,
+    ) -> Result<u32, Refused>
+        ensures { AddsTo self.old self.new result
+            (core_instance_entry (option_copied debug_name.entry) (exporting exports.entry)) }
+    {
+        match self {
+            Session::Building(builder) => by_builder(write_exports(builder, debug_name, exports)),
+            Session::Finished(_) => Err(Refused::Finished),
+        }
+    }
+
+    /// Adds a record of these fields.
+    pub fn record(
+        &mut self,
+        debug_name: Option<&str>,
+        fields: Packed<'_, ComponentValType>,
+    ) -> Result<u32, Refused>
+        ensures { AddsTo self.old self.new result
+            (type_entry (option_copied debug_name.entry) (record_of fields.entry)) }
+    {
+        match self {
+            Session::Building(builder) => {
+                if !builder.is_finished() {
+                    return Err(Refused::Fault(Fault::Unfinished));
+                }
+                by_builder(write_record(builder, debug_name, fields))
+            }
+            Session::Finished(_) => Err(Refused::Finished),
+        }
+    }
+
+    /// Adds a type of functions.
+    pub fn function(
+        &mut self,
+        debug_name: Option<&str>,
+        is_async: bool,
+        params: Packed<'_, ComponentValType>,
+        answer: Option<ComponentValType>,
+    ) -> Result<u32, Refused>
+        ensures { AddsTo self.old self.new result
+            (type_entry (option_copied debug_name.entry)
+            (function_of is_async params.entry answer)) }
+    {
+        match self {
+            Session::Building(builder) => {
+                if !builder.is_finished() {
+                    return Err(Refused::Fault(Fault::Unfinished));
+                }
+                by_builder(write_function(builder, debug_name, is_async, params, answer))
+            }
             Session::Finished(_) => Err(Refused::Finished),
         }
     }

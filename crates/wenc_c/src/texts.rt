@@ -1,6 +1,6 @@
 //! Texts that C hands in.
 ghost use Rattle.std.specs.Option.{option_copied};
-ghost use Rattle.std.specs.Prelude.{◌≡◌, MatchResult};
+ghost use Rattle.std.specs.Prelude.{◌≡◌, MatchOption, MatchResult};
 ghost use Rattle.std.specs.Str.{IsUtf8};
 ghost use Rattle.wenc_c.specs.Handles.{IsText, text_if};
 ghost use Rattle.wenc_c.specs.Names.{AreTexts, given, name_with};
@@ -12,18 +12,35 @@ use std::borrow::CowStr;
 use std::str;
 use wenc_parts::ComponentExternName;
 
+/// The bytes as text, if they are any. Of ASCII that is told soonest.
+#[inline]
+fn checked(bytes: &[u8]) -> Option<&str>
+    ensures { MatchOption result (¬ (IsUtf8 bytes.now))
+        (λ s. (s.now ≡ bytes.now) × IsUtf8 bytes.now) }
+{
+    if bytes.is_ascii() {
+        return Some(unsafe { str::from_utf8_unchecked(bytes) });
+    }
+    match str::from_utf8(bytes) {
+        Ok(text) => Some(text),
+        Err(_) => None,
+    }
+}
+
 /// The bytes as text.
+#[inline]
 pub(crate) fn text(bytes: &[u8]) -> Result<&str, Refused>
     ensures { MatchResult result (λ s. (s.now ≡ bytes.now) × IsUtf8 bytes.now)
         (λ r. (r ≡ Malformed) × ¬ (IsUtf8 bytes.now)) }
 {
-    match str::from_utf8(bytes) {
-        Ok(text) => Ok(text),
-        Err(_) => Err(Refused::Malformed),
+    match checked(bytes) {
+        Some(text) => Ok(text),
+        None => Err(Refused::Malformed),
     }
 }
 
 /// The bytes as text, where there is to be any.
+#[inline]
 pub(crate) fn text_where(there: bool, bytes: &[u8]) -> Result<Option<&str>, Refused>
     ensures { MatchResult result
         (λ s. (option_copied s ≡ text_if there bytes.now) × IsText there bytes.now)
@@ -32,9 +49,9 @@ pub(crate) fn text_where(there: bool, bytes: &[u8]) -> Result<Option<&str>, Refu
     if !there {
         return Ok(None);
     }
-    match str::from_utf8(bytes) {
-        Ok(text) => Ok(Some(text)),
-        Err(_) => Err(Refused::Malformed),
+    match checked(bytes) {
+        Some(text) => Ok(Some(text)),
+        None => Err(Refused::Malformed),
     }
 }
 

@@ -1,15 +1,21 @@
-//! Types as trees, which an encoder writes.
+//! Types, which an encoder writes: of trees, and of packed lists. And instances of such lists.
 ghost use Rattle.std.specs.Option.{option_copied};
-ghost use Rattle.std.specs.Prelude.{◌≡◌, Err, List, true};
-ghost use Rattle.wenc_builder.specs.Builder.{builder_is_finished, item_given_up};
-ghost use Rattle.wenc_builder.specs.Enters.{Enters};
-ghost use Rattle.wenc_builder.specs.Entry.{Entry, core_type_entry, type_entry};
+ghost use Rattle.std.specs.Prelude.{◌≡◌, [], Err, List, OnErr, true};
+ghost use Rattle.wenc_builder.specs.Builder.{builder_is_finished, draft_in, item_given_up};
+ghost use Rattle.wenc_builder.specs.Enters.{BeginsItem, Enters};
+ghost use Rattle.wenc_builder.specs.Entry.{Entry, core_instance_entry, core_type_entry, type_entry};
 ghost use Rattle.wenc_builder.specs.Holds.{Holds};
+ghost use Rattle.wenc_builder.specs.declared.builder.space.Space.{Space};
+ghost use Rattle.wenc_c.specs.Packed.{exporting, function_of, record_of};
+ghost use Rattle.wenc_parts.specs.declared.component.ComponentSectionId.TheVariants as ids;
 ghost use Rattle.wenc_types.specs.CoreTypeTrees.{core_type_view};
+ghost use Rattle.wenc_types.specs.FuncStages.{async_byte};
 ghost use Rattle.wenc_types.specs.TypeTrees.{type_view};
 
-use wenc_base::Fault;
+use crate::packed::{Exports, Packed};
+use wenc_base::{ExportKind, Fault, Lender};
 use wenc_builder::ComponentBuilder;
+use wenc_parts::{ComponentValType, ResultList};
 use wenc_types::{CoreTypeTree, TypeTree};
 
 /// Gives up the item that was being written when this fault was met.
@@ -54,6 +60,82 @@ pub(crate) fn write_core_type(
     match builder.core_type(debug_name) {
         Ok((index, encoder)) => match encoder.tree(ty) {
             Ok(()) => Ok(index),
+            Err(fault) => give_up(builder, fault),
+        },
+        Err(fault) => Err(fault),
+    }
+}
+
+/// Adds a core instance of these exports, with a debug name or none, and answers its index.
+pub(crate) fn write_exports(
+    builder: &mut ComponentBuilder,
+    debug_name: Option<&str>,
+    exports: Packed<'_, (ExportKind, u32)>,
+) -> Result<u32, Fault>
+    ensures { Enters builder.old builder.new result
+        (core_instance_entry (option_copied debug_name.entry) (exporting exports.entry)) }
+{
+    builder.core_instantiate_exports(debug_name, Exports(exports))
+}
+
+/// Adds a record of these fields, with a debug name or none, and answers its index. What is refused is given up.
+pub(crate) fn write_record(
+    builder: &mut ComponentBuilder,
+    debug_name: Option<&str>,
+    fields: Packed<'_, ComponentValType>,
+) -> Result<u32, Fault>
+    requires settled { builder_is_finished builder.old ≡ true }
+    requires some { ∥ ((es : List Entry) × Holds builder.old es) ∥₁ }
+    ensures { Enters builder.old builder.new result
+        (type_entry (option_copied debug_name.entry) (record_of fields.entry)) }
+{
+    match builder.type_defined(debug_name) {
+        Ok((index, encoder)) => match encoder.record(fields) {
+            Ok(()) => Ok(index),
+            Err(fault) => give_up(builder, fault),
+        },
+        Err(fault) => Err(fault),
+    }
+}
+
+/// Begins a type, with a debug name or none, and answers its index. The builder itself is to be told what it is.
+fn begin_type(builder: &mut ComponentBuilder, debug_name: Option<&str>) -> Result<u32, Fault>
+    ensures begun { BeginsItem (λ i. i) (λ _. builder.new) builder.old result
+        (draft_in ids.«Type» Space.Types (option_copied debug_name.entry) []) }
+    ensures err { OnErr result (builder.new ≡ builder.old) }
+{
+    match builder.ty(debug_name) {
+        Ok((index, _encoder)) => Ok(index),
+        Err(fault) => Err(fault),
+    }
+}
+
+/// The byte in front of the type of a function.
+fn tag(is_async: bool) -> u8
+    ensures { result ≡ async_byte is_async }
+{
+    if is_async { 0x43 } else { 0x40 }
+}
+
+/// Adds a type of functions, with a debug name or none, and answers its index. What is refused is given up.
+pub(crate) fn write_function(
+    builder: &mut ComponentBuilder,
+    debug_name: Option<&str>,
+    is_async: bool,
+    params: Packed<'_, ComponentValType>,
+    answer: Option<ComponentValType>,
+) -> Result<u32, Fault>
+    requires settled { builder_is_finished builder.old ≡ true }
+    requires some { ∥ ((es : List Entry) × Holds builder.old es) ∥₁ }
+    ensures { Enters builder.old builder.new result
+        (type_entry (option_copied debug_name.entry) (function_of is_async params.entry answer)) }
+{
+    match begin_type(builder, debug_name) {
+        Ok(index) => match builder.append_list(&[tag(is_async)], params) {
+            Ok(()) => match builder.end_with(&ResultList(answer)) {
+                Ok(()) => Ok(index),
+                Err(fault) => give_up(builder, fault),
+            },
             Err(fault) => give_up(builder, fault),
         },
         Err(fault) => Err(fault),

@@ -39,11 +39,10 @@ impl ComponentBuilder {
             E::IntoIter: ExactSizeIterator,
         }
         {
-            self.item(ComponentSectionId::CoreInstance, debug_name, |text| {
-                text.list_behind(0x01, exports, |text, (name, kind, index)| {
-                    text.named(name, kind.brief().then(index.brief()));
-                });
-            })
+            self.whole()?;
+            let exports = exports.into_iter();
+            self.packed.fill(exports.map(|(name, kind, index)| (name, (kind, index))))?;
+            self.handle.core_exports(debug_name, &self.packed)
         }
 
         /// Instantiates a component, with items under the names of what it imports.

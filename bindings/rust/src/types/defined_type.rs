@@ -46,11 +46,17 @@ impl<'t> ComponentDefinedTypeEncoder<'t> {
             T: Into<ComponentValType>,
         }
         {
-            self.end(|text| {
-                text.list_behind(0x72, fields, |text, (name, ty)| {
-                    text.named(name, ty.into().brief());
-                });
-            })
+            match self.0 {
+                Target::Builder(builder) => {
+                    builder.pack(fields.into_iter())?;
+                    builder.end_record()
+                }
+                Target::Declarations(_) => self.end(|text| {
+                    text.list_behind(0x72, fields, |text, (name, ty)| {
+                        text.named(name, ty.into().brief());
+                    });
+                }),
+            }
         }
 
         /// A variant, by the names of its cases, each with the type of what it holds, or none.

@@ -23,6 +23,7 @@ enum Stage {
 pub struct ComponentFuncTypeEncoder<'a> {
     target: Target<'a>,
     stage: Stage,
+    is_async: bool,
 }
 
 /// The byte in front.
@@ -40,6 +41,7 @@ impl<'a> ComponentFuncTypeEncoder<'a> {
         Self {
             target,
             stage: Stage::Start,
+            is_async: false,
         }
     }
 
@@ -51,9 +53,7 @@ impl<'a> ComponentFuncTypeEncoder<'a> {
             if self.stage != Stage::Start {
                 return Err(Error::OutOfTurn);
             }
-            self.target.append(|text| {
-                text.byte(tag(is_async));
-            })?;
+            self.is_async = is_async;
             self.stage = Stage::Tagged;
             Ok(self)
         }
@@ -73,12 +73,15 @@ impl<'a> ComponentFuncTypeEncoder<'a> {
                 return Err(Error::OutOfTurn);
             }
             self.stage = Stage::Broken;
-            let written = self.target.append(|text| {
-                let front = (stage == Stage::Start).then(|| tag(false));
-                text.list_behind(front, params, |text, (name, ty)| {
-                    text.named(name, ty.into().brief());
-                });
-            });
+            let tag = tag(self.is_async);
+            let written = match &mut self.target {
+                Target::Builder(builder) => builder.pack(params.into_iter()),
+                Target::Declarations(declarations) => declarations.append(|text| {
+                    text.list_behind(tag, params, |text, (name, ty)| {
+                        text.named(name, ty.into().brief());
+                    });
+                }),
+            };
             self.stage = if written.is_ok() { Stage::Params } else { stage };
             written?;
             Ok(self)
@@ -91,9 +94,12 @@ impl<'a> ComponentFuncTypeEncoder<'a> {
             if self.stage != Stage::Params {
                 return Err(Error::OutOfTurn);
             }
-            self.target.end(|text| {
-                text.put(ResultList(ty));
-            })?;
+            match &mut self.target {
+                Target::Builder(builder) => builder.end_function(self.is_async, ty)?,
+                declarations => declarations.end(|text| {
+                    text.put(ResultList(ty));
+                })?,
+            }
             self.stage = Stage::Done;
             Ok(self)
         }

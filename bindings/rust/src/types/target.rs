@@ -11,15 +11,6 @@ pub(crate) enum Target<'a> {
 }
 
 impl Target<'_> {
-    /// Appends to the open type, or leaves it as it is.
-    #[inline]
-    pub(crate) fn append(&mut self, write: impl FnOnce(&mut Text)) -> Result<(), Error> {
-        match self {
-            Self::Builder(builder) => builder.append(write),
-            Self::Declarations(declarations) => declarations.append(write),
-        }
-    }
-
     /// Appends to the open type, which is whole then; or leaves it as it is.
     #[inline]
     pub(crate) fn end(&mut self, write: impl FnOnce(&mut Text)) -> Result<(), Error> {

@@ -1,0 +1,107 @@
+-- What refuses the beginning of a list refuses the list.
+use Rattle.std.proofs.Common.{refl, ◌≡◌, ℕ, ◌+◌, ◌≤◌, inl, inr, List, [], ◌∷◌, ◌++◌, Option, Some, None, length, length-append, arith}
+use Rattle.std.proofs.lemmas.Bool.Decides.{eqb_tells}
+use Rattle.std.proofs.lemmas.Grind.{flat_map-append}
+use Rattle.std.specs.List.{flat_map}
+use Rattle.wenc_base.proofs.Groups.{size_monotone}
+use Rattle.wenc_base.specs.Fault.{count_cause, either}
+use Rattle.wenc_base.specs.Forms.{list}
+use Rattle.wenc_base.specs.Number.{unsigned_text}
+use Rattle.wenc_base.specs.Piece.{AnyCause, Form, ◌▸◌}
+use Rattle.wenc_base.specs.declared.fault.Fault.{Fault}
+use Rattle.wenc_base.specs.declared.fault.Fault.TheVariants.{Memory, TooMany, TooLarge, Unfinished}
+use Rattle.wenc_builder.specs.Builder.{BegunItem, OpenSection, State, content_of, entered_at, item_appended}
+use Rattle.wenc_builder.specs.Cause.{EnterCause, SectionCause}
+use Rattle.wenc_builder.specs.Entry.{core_instance_entry}
+use Rattle.wenc_builder.specs.LenderState.{no_room_in_section}
+use Rattle.wenc_sections.specs.Instances.{CoreExport, CoreExports, core_export}
+use Rattle.wenc_types.specs.DefinedTypes.{LabelledType, labelled_type}
+
+-- ---- a list
+
+count_grows : (m n : ℕ) → m ≤ n → (fault : Fault) → count_cause m fault → count_cause n fault
+count_grows m n h (Memory e) c = c
+count_grows m n h TooMany c = omega (arith, h, c)
+count_grows m n h TooLarge c = c
+count_grows m n h Unfinished c = c
+
+module _ {A : Type 0} (form : Form A) where
+  any_grows : (xs more : List A) (fault : Fault) → AnyCause (λ v. (form v).Cause) xs fault → AnyCause (λ v. (form v).Cause) (xs ++ more) fault
+  any_grows [] more fault c = absurd c
+  any_grows (x ∷ xs) more fault (inl c) = inl c
+  any_grows (x ∷ xs) more fault (inr c) = inr (any_grows xs more fault c)
+
+  longer : (xs more : List A) → length xs ≤ length (xs ++ more)
+  longer xs more = omega (arith, length-append xs more)
+
+  pub cause_grows : (xs more : List A) (fault : Fault) → (list form xs).Cause fault → (list form (xs ++ more)).Cause fault
+  cause_grows xs more fault (inl c) = inl (count_grows (length xs) (length (xs ++ more)) (longer xs more) fault c)
+  cause_grows xs more fault (inr c) = inr (any_grows xs more fault c)
+
+  abbrev texts : List A → List ℕ
+  texts = flat_map (λ v. (form v).text)
+
+  each_grows : (xs more : List A) → length (texts xs) ≤ length (texts (xs ++ more))
+  each_grows xs more = rw (flat_map-append (λ v. (form v).text) xs more) (omega (arith, length-append (texts xs) (texts more)))
+
+  -- its text is no longer
+  pub text_grows : (xs more : List A) → length (list form xs).text ≤ length (list form (xs ++ more)).text
+  text_grows xs more =
+      omega (
+        arith,
+        length-append (unsigned_text (length xs)) (texts xs),
+        length-append (unsigned_text (length (xs ++ more))) (texts (xs ++ more)),
+        each_grows xs more,
+        size_monotone (length xs) (length (xs ++ more)) (longer xs more),
+      )
+
+-- ---- a section
+
+bytes_grow : (id count : ℕ) (body text longer : List ℕ) → length text ≤ length longer → (fault : Fault) → SectionCause (Some (record { id = id; count = count; body = body ++ text })) fault
+    → SectionCause (Some (record { id = id; count = count; body = body ++ longer })) fault
+bytes_grow id count body text longer h (Memory e) c = c
+bytes_grow id count body text longer h TooMany c = c
+bytes_grow id count body text longer h TooLarge c = omega (arith, c, h, length-append body text, length-append body longer)
+bytes_grow id count body text longer h Unfinished c = c
+
+-- with an item that is no shorter it has the same causes
+pub section_grows : (closed : List ℕ) (o : Option OpenSection) (id : ℕ) (text longer : List ℕ) → length text ≤ length longer → (fault : Fault) → SectionCause (entered_at closed o id text).current fault
+    → SectionCause (entered_at closed o id longer).current fault
+section_grows closed None id text longer h fault c = bytes_grow id 1 [] text longer h fault c
+section_grows closed (Some o) id text longer h fault c =
+    elim (eqb_tells o.id id) [
+      | inl t ↦ let d = rw t.0 at c in rw t.0 (bytes_grow o.id (o.count + 1) o.body text longer h fault d)
+      | inr t ↦ let d = rw t.0 at c in rw t.0 (bytes_grow id 1 [] text longer h fault d)
+    ]
+
+-- ---- a core instance of exports
+
+pub exports_grow : (old : State) (name : Option (List ℕ)) (xs more : List CoreExport) (fault : Fault) → EnterCause old (core_instance_entry name (CoreExports xs)) fault
+    → EnterCause old (core_instance_entry name (CoreExports (xs ++ more))) fault
+exports_grow old name xs more fault (inl (inl c)) = inl (inl (cause_grows core_export xs more fault c))
+exports_grow old name xs more fault (inl (inr (inl c))) = inl (inr (inl c))
+exports_grow old name xs more fault (inl (inr (inr c))) =
+    inl (inr (inr (section_grows old.settled.sections.closed old.settled.sections.current 2 (0x01 ∷ (list core_export xs).text) (0x01 ∷ (list core_export (xs ++ more)).text)
+    (omega (arith, text_grows core_export xs more)) fault c)))
+exports_grow old name xs more fault (inr c) = inr c
+
+-- ---- types
+
+-- where a text has no room, one that is no shorter has none
+room_grows_at : (s : State) (b : Option BegunItem) (text longer : List ℕ) → s.begun ≡ b → length text ≤ length longer → SectionCause (content_of (item_appended s text)).sections.current TooLarge
+    → SectionCause (content_of (item_appended s longer)).sections.current TooLarge
+room_grows_at s None text longer e h c = rw e (rw e at c)
+room_grows_at s (Some b) text longer e h c =
+    let d = rw e at c in
+    rw e (section_grows s.settled.sections.closed s.settled.sections.current b.id (b.text ++ text) (b.text ++ longer) (omega (arith, h, length-append b.text text, length-append b.text longer)) TooLarge d)
+
+pub room_grows : (s : State) (text longer : List ℕ) → length text ≤ length longer → (fault : Fault) → no_room_in_section s text fault → no_room_in_section s longer fault
+room_grows s text longer h fault p = (p.0, room_grows_at s s.begun text longer refl h p.1)
+
+module _ (lent : State) (tag : ℕ) (xs more : List LabelledType) where
+  -- a list of labelled types behind a byte: the fields of a record, the parameters of a function
+  pub labelled_grow : (fault : Fault) → either (tag ▸ list labelled_type xs).Cause (no_room_in_section lent (tag ▸ list labelled_type xs).text) fault
+      → either (tag ▸ list labelled_type (xs ++ more)).Cause (no_room_in_section lent (tag ▸ list labelled_type (xs ++ more)).text) fault
+  labelled_grow fault (inl c) = inl (cause_grows labelled_type xs more fault c)
+  labelled_grow fault (inr p) =
+      inr (room_grows lent (tag ∷ (list labelled_type xs).text) (tag ∷ (list labelled_type (xs ++ more)).text) (omega (arith, text_grows labelled_type xs more)) fault p)

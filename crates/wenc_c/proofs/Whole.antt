@@ -1,0 +1,66 @@
+-- What is made of all that an iterator shows: what was done with its values was done with that list, or refused for a
+-- cause of that list.
+use Rattle.std.proofs.Common.{◌≡◌, ℕ, List, ◌++◌, map, Option, Result, Ok, Err, sym, ap, subst, ◌∙◌}
+use Rattle.std.specs.Iterator.{YieldsFirstBy}
+use Rattle.wenc_base.specs.Fault.{either}
+use Rattle.wenc_base.specs.Lender.{Extended, Extends, ExtendsListed}
+use Rattle.wenc_base.specs.Piece.{Piece}
+use Rattle.wenc_base.specs.declared.fault.Fault.{Fault}
+use Rattle.wenc_base.specs.laws.Serves.{still_warranted}
+use Rattle.wenc_builder.specs.Builder.{State}
+use Rattle.wenc_builder.specs.Cause.{EnterCause}
+use Rattle.wenc_builder.specs.Enters.{Enters, EntersListed}
+use Rattle.wenc_builder.specs.Entry.{Entry}
+use Rattle.wenc_c.proofs.Runs.{gave_all, gave_front}
+
+module _ {S A B C : Type 0} (view : A → B) (rest : S → List B) (make : B → C) (values : S) where
+  abbrev all : List C
+  all = map make (rest values)
+
+  abbrev made : List A → List C
+  made vs = map (λ x. make (view x)) vs
+
+  module _ {T : Type 0} (next : List ℕ → T) (refuses : List ℕ → Fault → Type 0) (piece : List C → Piece) where
+    abbrev Refused : List C → Fault → Type 0
+    Refused xs = either (piece xs).Cause (refuses (piece xs).text)
+
+    pub whole_extends : ((xs more : List C) (fault : Fault) → Refused xs fault → Refused (xs ++ more) fault) → (old new : T) (outcome : Result (Unit {0}) Fault)
+        → ExtendsListed (YieldsFirstBy view rest) values old new outcome next refuses (λ vs. piece (made vs)) → Extends old new (next (piece all).text) outcome (piece all) (refuses (piece all).text)
+    whole_extends grows old new (Ok u) a =
+        let run = a.ok.0 in
+        let e : made run.items ≡ all = sym (gave_all view rest make run a.ok.2) ∙ ap (λ s. map make (rest s)) a.ok.1 in
+        let x = subst (λ xs. Extended new next refuses (piece xs)) e a.ok.3 in
+        record { ok = x.state; fits = x.fits; free = x.free; err = tt; warranted = tt }
+    whole_extends grows old new (Err f) a =
+        let run = a.warranted.0 in
+        let front = gave_front view rest make run in
+        let e : all ≡ made run.items ++ front.0 = ap (λ s. map make (rest s)) (sym a.warranted.1) ∙ front.1 in
+        record {
+          ok = tt;
+          fits = tt;
+          free = tt;
+          err = a.err;
+          warranted = still_warranted (Refused (made run.items)) (Refused all) (λ g c. subst (λ xs. Refused xs g) (sym e) (grows (made run.items) front.0 g c)) f a.warranted.2;
+        }
+
+  pub whole_enters : (old new : State) (result : Result ℕ Fault) (x : List C → Entry) → ((xs more : List C) (fault : Fault) → EnterCause old (x xs) fault → EnterCause old (x (xs ++ more)) fault)
+      → EntersListed (YieldsFirstBy view rest) values old new result (λ vs. x (made vs)) → Enters old new result (x all)
+  whole_enters old new (Ok i) x grows a =
+      let run = a.ok.0 in
+      let e : made run.items ≡ all = sym (gave_all view rest make run a.ok.2) ∙ ap (λ s. map make (rest s)) a.ok.1 in
+      subst (λ xs. Enters old new (Ok i) (x xs)) e a.ok.3
+  whole_enters old new (Err f) x grows a =
+      let run = a.refused.0 in
+      let front = gave_front view rest make run in
+      let e : all ≡ made run.items ++ front.0 = ap (λ s. map make (rest s)) (sym a.refused.1) ∙ front.1 in
+      let w = a.refused.2 in
+      record {
+        held = λ es h. tt;
+        state = tt;
+        counted = tt;
+        fits = tt;
+        free = tt;
+        err = w.err;
+        warranted = still_warranted (EnterCause old (x (made run.items))) (EnterCause old (x all)) (λ g c. subst (λ xs. EnterCause old (x xs) g) (sym e) (grows (made run.items) front.0 g c)) f w.warranted;
+        unfinished = w.unfinished;
+      }

@@ -1,0 +1,48 @@
+-- Lists of named things that C hands in: their names in one text, and a part for each.
+use Rattle.std.specs.Option.{IsSome}
+use Rattle.std.specs.Prelude.{◌≡◌, ℕ, List, [], ◌∷◌, Option, Some, None, map, take, drop, Bool}
+use Rattle.std.specs.Str.{IsCharBoundary}
+use Rattle.wenc_base.specs.declared.exports.ExportKind.{ExportKind}
+use Rattle.wenc_parts.specs.declared.types.ComponentValType.{ComponentValType}
+use Rattle.wenc_sections.specs.Instances.{CoreExport, CoreInstance, CoreExports}
+use Rattle.wenc_types.specs.ComponentTypes.{DefType, DefinedType, FunctionType}
+use Rattle.wenc_types.specs.DefinedTypes.{LabelledType, Record}
+use Rattle.wenc_c.specs.declared.packed.Part.{Part}
+
+-- The names of these parts are the text, one behind the other, each so many bytes of it and whole
+-- characters; and the two numbers of each part stand for something.
+abbrev pub ArePacked : {T : Type 0} → (ℕ → ℕ → Option T) → List ℕ → List Part → Type 0
+ArePacked of text [] = text ≡ []
+ArePacked of text (p ∷ ps) =
+    IsCharBoundary text p.name_len × IsSome (of p.sort p.number)
+    × ArePacked of (drop p.name_len text) ps
+
+-- a name with what it is of, if that is something, in front of others
+abbrev pub and_then : {T : Type 0} → List ℕ → Option T → List (List ℕ × T) → List (List ℕ × T)
+and_then name None others = others
+and_then name (Some x) others = (name, x) ∷ others
+
+-- the names of these parts, each with what it is of
+abbrev pub packed : {T : Type 0} → (ℕ → ℕ → Option T) → List ℕ → List Part → List (List ℕ × T)
+packed of text [] = []
+packed of text (p ∷ ps) =
+    and_then (take p.name_len text) (of p.sort p.number) (packed of (drop p.name_len text) ps)
+
+-- ---- what is made of such a list
+
+abbrev pub core_export_of : List ℕ × (ExportKind × ℕ) → CoreExport
+core_export_of e = record { name = e.0; kind = e.1.0; index = e.1.1 }
+
+abbrev pub exporting : List (List ℕ × (ExportKind × ℕ)) → CoreInstance
+exporting es = CoreExports (map core_export_of es)
+
+abbrev pub labelled : List ℕ × ComponentValType → LabelledType
+labelled f = record { name = f.0; ty = f.1 }
+
+abbrev pub record_of : List (List ℕ × ComponentValType) → DefType
+record_of fs = DefinedType (Record (map labelled fs))
+
+abbrev pub function_of : Bool → List (List ℕ × ComponentValType) → Option ComponentValType
+    → DefType
+function_of is_async ps answer =
+    FunctionType (record { is_async = is_async; params = map labelled ps; answer = answer })

@@ -1,0 +1,115 @@
+//! The calls that add types.
+ghost use Rattle.std.specs.Prelude.{◌≡◌, None, Option, Some};
+ghost use Rattle.std.specs.Str.{IsUtf8};
+ghost use Rattle.wenc_builder.specs.Entry.{type_entry};
+ghost use Rattle.wenc_c.specs.Handles.{Adds, IsText, Refuses, text_if};
+ghost use Rattle.wenc_c.specs.Numbers.{answer_type_of, value_of};
+ghost use Rattle.wenc_c.specs.Packed.{ArePacked, function_of, packed, record_of};
+ghost use Rattle.wenc_c.specs.Sessions.{answer_of};
+ghost use Rattle.wenc_parts.specs.declared.types.ComponentValType.{ComponentValType as Values};
+
+use crate::handle::Handle;
+use crate::numbers::answer_type;
+use crate::packed::{Packed, Part};
+use crate::refused::{Refused, told};
+use crate::texts::{text, text_where};
+use std::alloc::Global;
+
+/// Adds a record, by its fields: each by its name, the sort of a reference to a value, and the number that goes with it.
+#[unsafe(no_mangle)]
+pub extern "C" fn wenc_record(
+    alloc: Global,
+    builder: &mut Handle,
+    named: bool,
+    debug_name: &[u8],
+    names: &[u8],
+    fields: &[Part],
+    index: &mut u32,
+) -> u32
+    ensures added { IsText named debug_name.now → IsUtf8 names.now
+        → ArePacked value_of names.now fields.now
+        → Adds builder.old.session builder.new.session (answer_of result index.new)
+        (type_entry (text_if named debug_name.now)
+        (record_of (packed value_of names.now fields.now))) }
+    ensures malformed { ¬ (IsText named debug_name.now)
+        → Refuses 5 result builder.old.session builder.new.session }
+    ensures malformed_names { ¬ (IsUtf8 names.now)
+        → Refuses 5 result builder.old.session builder.new.session }
+    ensures numbers { IsText named debug_name.now → IsUtf8 names.now
+        → ¬ (ArePacked value_of names.now fields.now)
+        → Refuses 7 result builder.old.session builder.new.session }
+    ensures kept { ¬ (result ≡ 0) → index.new ≡ index.old }
+{
+    let debug_name = match text_where(named, debug_name) {
+        Ok(name) => name,
+        Err(refused) => return refused.number(),
+    };
+    let names = match text(names) {
+        Ok(names) => names,
+        Err(refused) => return refused.number(),
+    };
+    let Some(fields) = Packed::new(names, fields) else {
+        return Refused::BadArgument.number();
+    };
+    let Some(mut session) = builder.take(alloc) else {
+        return Refused::NoBuilder.number();
+    };
+    let answer = session.record(debug_name, fields);
+    builder.put(session);
+    told(answer, index)
+}
+
+/// Adds a type of functions: whether they are asynchronous, their parameters, as the fields of a record, and what they
+/// answer, or nothing.
+#[unsafe(no_mangle)]
+pub extern "C" fn wenc_function(
+    alloc: Global,
+    builder: &mut Handle,
+    named: bool,
+    debug_name: &[u8],
+    is_async: bool,
+    names: &[u8],
+    params: &[Part],
+    reference: u32,
+    of: u32,
+    index: &mut u32,
+) -> u32
+    ensures added { IsText named debug_name.now → IsUtf8 names.now
+        → ArePacked value_of names.now params.now
+        → (answer : Option Values) → answer_type_of reference of ≡ Some answer
+        → Adds builder.old.session builder.new.session (answer_of result index.new)
+        (type_entry (text_if named debug_name.now)
+        (function_of is_async (packed value_of names.now params.now) answer)) }
+    ensures malformed { ¬ (IsText named debug_name.now)
+        → Refuses 5 result builder.old.session builder.new.session }
+    ensures malformed_names { ¬ (IsUtf8 names.now)
+        → Refuses 5 result builder.old.session builder.new.session }
+    ensures numbers { IsText named debug_name.now → IsUtf8 names.now
+        → ¬ (ArePacked value_of names.now params.now)
+        → Refuses 7 result builder.old.session builder.new.session }
+    ensures reference { IsText named debug_name.now → IsUtf8 names.now
+        → answer_type_of reference of ≡ None
+        → Refuses 7 result builder.old.session builder.new.session }
+    ensures kept { ¬ (result ≡ 0) → index.new ≡ index.old }
+{
+    let debug_name = match text_where(named, debug_name) {
+        Ok(name) => name,
+        Err(refused) => return refused.number(),
+    };
+    let names = match text(names) {
+        Ok(names) => names,
+        Err(refused) => return refused.number(),
+    };
+    let Some(params) = Packed::new(names, params) else {
+        return Refused::BadArgument.number();
+    };
+    let Some(answer_type) = answer_type(reference, of) else {
+        return Refused::BadArgument.number();
+    };
+    let Some(mut session) = builder.take(alloc) else {
+        return Refused::NoBuilder.number();
+    };
+    let answer = session.function(debug_name, is_async, params, answer_type);
+    builder.put(session);
+    told(answer, index)
+}
