@@ -6,9 +6,8 @@ use Rattle.std.specs.Prelude.{alloc_error, Bool, false}
 use Rattle.wenc_base.specs.Fault.{IsWarranted}
 use Rattle.wenc_base.specs.declared.fault.Fault.{Fault as Faults}
 use Rattle.wenc_base.specs.declared.fault.Fault.TheVariants.{Memory, Unfinished}
-use Rattle.wenc_base.specs.reading.Forms.{read_list, read_name}
-use Rattle.wenc_base.specs.Readers.{Flaw, Bad, Deep, Reader, ◌>>=◌, done, give, made}
-use Rattle.wenc_base.specs.reading.Numbers.{read_u32}
+use Rattle.wenc_base.specs.reading.Forms.{read_name}
+use Rattle.wenc_base.specs.Readers.{Flaw, Bad, Deep, done, made}
 use Rattle.wenc_builder.specs.Builder.{State, builder_is_finished}
 use Rattle.wenc_builder.specs.Entry.{Entry, entry, canonical_name}
 use Rattle.wenc_builder.specs.Item.{Item, ModuleItem, CoreInstanceItem, CoreTypeItem, ComponentItem}
@@ -17,11 +16,12 @@ use Rattle.wenc_builder.specs.Item.{ImportItem, ExportItem, CustomItem}
 use Rattle.wenc_canon.specs.reading.Canonicals.{read_canonical}
 use Rattle.wenc_types.specs.reading.ComponentTypes.{read_type}
 use Rattle.wenc_parts.specs.reading.Aliases.{read_alias}
+use Rattle.wenc_read.specs.declared.refusal.NestedRefusal.{NestedRefusal}
+use Rattle.wenc_read.specs.declared.refusal.NestedRefusal.TheVariants as nested
 use Rattle.wenc_read.specs.declared.refusal.Refusal.{Refusal}
 use Rattle.wenc_read.specs.declared.refusal.Refusal.TheVariants as refusals
-use Rattle.wenc_sections.specs.Start.{Start, started}
 use Rattle.wenc_sections.specs.reading.Items.{read_import, read_inline_export, read_core_instance}
-use Rattle.wenc_sections.specs.reading.Items.{read_instance}
+use Rattle.wenc_sections.specs.reading.Items.{read_instance, read_start_content}
 use Rattle.wenc_types.specs.reading.CoreTypes.{read_core_type}
 use Rattle.wenc_c.specs.Handles.{At}
 use Rattle.wenc_c.specs.Sessions.{Answered}
@@ -32,12 +32,6 @@ use Rattle.wenc_c.specs.declared.session.Session.{Session}
 use Rattle.wenc_c.specs.declared.session.Session.TheVariants as sessions
 
 -- ---- what a text is
-
--- the content of a start's section
-abbrev pub read_start : Reader Start
-read_start =
-    read_u32 >>= λ function. read_list read_u32 >>= λ arguments. read_u32 >>= λ results. give
-    (started function arguments results)
 
 -- the item that has this text, all of it, in the section with this id: by the form's own reader,
 -- types at most 100 deep
@@ -51,7 +45,7 @@ read_one id text =
     else (if nat_eq id 6 then made AliasItem (done read_alias text)
     else (if nat_eq id 7 then made TypeItem (done (read_type 100) text)
     else (if nat_eq id 8 then made CanonItem (done read_canonical text)
-    else (if nat_eq id 9 then made StartItem (done read_start text)
+    else (if nat_eq id 9 then made StartItem (done read_start_content text)
     else (if nat_eq id 10 then made ImportItem (done read_import text)
     else (if nat_eq id 11 then made ExportItem (done read_inline_export text)
     else Err Bad))))))))))
@@ -98,7 +92,10 @@ AddsRead enters old new answer name (Err flaw) =
 abbrev pub of_refusal : Refusal → Refusals
 of_refusal refusals.Memory = Fault (Memory alloc_error)
 of_refusal refusals.Malformed = Malformed
-of_refusal refusals.TooDeep = TooDeep
+
+abbrev pub of_nested_refusal : NestedRefusal → Refusals
+of_nested_refusal (nested.Flat refusal) = of_refusal refusal
+of_nested_refusal nested.TooDeep = TooDeep
 
 -- The same of a component; a finished one is refused.
 abbrev pub AddsReadTo : {R : Type 0} → (State → State → Result R Faults → Entry → Type 0) → Session

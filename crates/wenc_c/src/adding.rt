@@ -8,11 +8,11 @@ ghost use Rattle.wenc_builder.specs.Entry.{Entry};
 ghost use Rattle.wenc_builder.specs.Holds.{Holds};
 ghost use Rattle.wenc_builder.specs.Item.{CoreInstanceItem, CoreTypeItem, InstanceItem, AliasItem, TypeItem, CanonItem, StartItem};
 ghost use Rattle.wenc_builder.specs.Item.{ImportItem, ExportItem};
-ghost use Rattle.wenc_c.specs.Reads.{AddsRead, of_refusal, read_custom, read_one, read_start};
+ghost use Rattle.wenc_c.specs.Reads.{AddsRead, of_nested_refusal, of_refusal, read_custom, read_one};
 ghost use Rattle.wenc_canon.specs.reading.Canonicals.{read_canonical};
 ghost use Rattle.wenc_types.specs.reading.ComponentTypes.{read_type};
 ghost use Rattle.wenc_parts.specs.reading.Aliases.{read_alias};
-ghost use Rattle.wenc_sections.specs.reading.Items.{read_core_instance, read_import, read_inline_export, read_instance};
+ghost use Rattle.wenc_sections.specs.reading.Items.{read_core_instance, read_import, read_inline_export, read_instance, read_start_content};
 ghost use Rattle.wenc_types.specs.reading.CoreTypes.{read_core_type};
 
 use crate::items::{all, whole_export, whole_import, whole_start, whole_type};
@@ -24,7 +24,7 @@ use wenc_base::{CustomSection, Fault};
 use wenc_builder::ComponentBuilder;
 use wenc_canon::CanonTree;
 use wenc_parts::AliasTree;
-use wenc_read::{Refusal, name_of};
+use wenc_read::{NestedRefusal, Refusal, name_of};
 use wenc_sections::{CoreInstanceTree, InstanceTree};
 use wenc_types::CoreTypeTree;
 
@@ -35,7 +35,16 @@ fn refused(refusal: Refusal) -> Refused
     match refusal {
         Refusal::Memory => Refused::Fault(Fault::Memory(AllocError)),
         Refusal::Malformed => Refused::Malformed,
-        Refusal::TooDeep => Refused::TooDeep,
+    }
+}
+
+/// The same of a type.
+fn type_refused(refusal: NestedRefusal) -> Refused
+    ensures { result ≡ of_nested_refusal refusal }
+{
+    match refusal {
+        NestedRefusal::Flat(refusal) => refused(refusal),
+        NestedRefusal::TooDeep => Refused::TooDeep,
     }
 }
 
@@ -122,7 +131,7 @@ fn defined_type(
 {
     match whole_type(alloc, text) {
         Ok(ty) => by_builder(write_type(builder, debug_name, &ty)),
-        Err(refusal) => Err(refused(refusal)),
+        Err(refusal) => Err(type_refused(refusal)),
     }
 }
 
@@ -147,7 +156,7 @@ fn canonical(
 fn start(builder: &mut ComponentBuilder, alloc: Global, text: &[u8]) -> Result<u32, Refused>
     requires settled { builder_is_finished builder.old ≡ true }
     ensures { AddsRead Enters builder.old builder.new result None
-        (made StartItem (done read_start text.now)) }
+        (made StartItem (done read_start_content text.now)) }
 {
     match whole_start(alloc, text) {
         Ok((function, args, results)) => by_builder(builder.start(function, args, results)),

@@ -1,17 +1,16 @@
 //! Items by their texts: the bytes that stand for one in its section, in the component model's binary format.
 ghost use Rattle.wenc_base.specs.Readers.{done};
-ghost use Rattle.wenc_c.specs.Reads.{read_start};
 ghost use Rattle.wenc_types.specs.reading.ComponentTypes.{read_type};
 ghost use Rattle.wenc_parts.specs.Imports.{name_tree_view};
-ghost use Rattle.wenc_read.specs.Gives.{Gives};
+ghost use Rattle.wenc_read.specs.Gives.{Gives, GivesNested};
 ghost use Rattle.wenc_sections.specs.Start.{started};
-ghost use Rattle.wenc_sections.specs.reading.Items.{ascribed, imported, read_import, read_inline_export};
+ghost use Rattle.wenc_sections.specs.reading.Items.{ascribed, imported, read_import, read_inline_export, read_start_content};
 ghost use Rattle.wenc_types.specs.TypeTrees.{type_view};
 
 use std::alloc::Global;
 use wenc_decode::{Decode, type_of};
 use wenc_parts::{ComponentExportKind, ComponentTypeRef, NameTree};
-use wenc_read::{Refusal, u32_of};
+use wenc_read::{NestedRefusal, Refusal, u32_of};
 use wenc_types::TypeTree;
 
 /// How deep types of components and instances may stand in one another.
@@ -30,14 +29,14 @@ pub(crate) fn all<T: Decode<Global>>(alloc: Global, bytes: &[u8]) -> Result<T, R
 }
 
 /// The type whose text all of the bytes are.
-pub(crate) fn whole_type(alloc: Global, bytes: &[u8]) -> Result<TypeTree, Refusal>
-    ensures { Gives type_view result (done (read_type 100) bytes.now) }
+pub(crate) fn whole_type(alloc: Global, bytes: &[u8]) -> Result<TypeTree, NestedRefusal>
+    ensures { GivesNested type_view result (done (read_type 100) bytes.now) }
 {
     let (ty, rest) = type_of(alloc, DEPTH, bytes)?;
     if rest.is_empty() {
         Ok(ty)
     } else {
-        Err(Refusal::Malformed)
+        Err(NestedRefusal::Flat(Refusal::Malformed))
     }
 }
 
@@ -87,7 +86,7 @@ pub(crate) fn whole_export(alloc: Global, bytes: &[u8]) -> Result<Exported, Refu
 
 /// The start whose text all of the bytes are: the function, the values that it gets, and how many it answers.
 pub(crate) fn whole_start(alloc: Global, bytes: &[u8]) -> Result<(u32, Vec<u32>, u32), Refusal>
-    ensures { Gives (λ x. started x.0 x.1.items x.2) result (done read_start bytes.now) }
+    ensures { Gives (λ x. started x.0 x.1.items x.2) result (done read_start_content bytes.now) }
 {
     let (function, rest) = u32_of(bytes)?;
     let (args, rest) = Vec::decode(alloc, rest)?;

@@ -1,3 +1,4 @@
--- What finds a value at the front of bytes: a reader for each form. What reads is told by them.
+-- What finds a value at the front of bytes: a reader for each form. Contracts of functions that read cite
+-- them.
 pub mod Items
 pub mod Names
