@@ -1,4 +1,4 @@
--- What finds a value at the front of bytes: a reader for each form. Contracts of functions that read cite
+-- What finds a value at the front of bytes, a reader for each form. Contracts of what reads cite
 -- them.
 pub mod CoreTypes
 pub mod DefinedTypes
