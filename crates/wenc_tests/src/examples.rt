@@ -1,5 +1,5 @@
-//! The examples of the doc comments, run. What they write are outside answers, made with the Rust crate
-//! `wasm-encoder` 0.263.0, but for the holder's section, which is by hand.
+//! The examples of the doc comments, run. Expected bytes are outside answers: those of components from Rust's
+//! `wasm-encoder` 0.263.0; those of values, core types, modules and custom sections from the format's rows.
 
 use crate::accepted::ok;
 use facts::examples::{base, builder, canon, list, parts, program, sections, trees, types};
