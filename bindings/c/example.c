@@ -1,4 +1,4 @@
-/* A component that imports a function, has a nested component and a core module, and exports what it lifts from that module:
+/* A component that imports an instance, has a nested component and a core module, and exports what it lifts from that module:
  * its bytes in hexadecimal, and its sections.
  *
  *     ./bindings/archive
@@ -12,6 +12,8 @@
 #define TEXT(text) (const uint8_t *)(text), sizeof(text) - 1
 /* No debug name. */
 #define UNNAMED false, (const uint8_t *)"", 0
+/* An array, and how many there are in it. */
+#define ALL(array) array, sizeof(array) / sizeof(array)[0]
 
 /* The core module that exports the function "run", which takes and gives nothing. */
 static const uint8_t module[] = {0x00, 0x61, 0x73, 0x6d, 0x01, 0x00, 0x00, 0x00, 0x01, 0x04, 0x01, 0x60, 0x00,
@@ -32,25 +34,40 @@ static uint32_t item(wenc_builder *builder, uint32_t section, const uint8_t *tex
   return index;
 }
 
+/* A component that imports a function, which takes a point and gives a text. */
+static void build_nested(wenc_builder *builder) {
+  static const wenc_part fields[] = {{1, WENC_REF_PRIMITIVE, WENC_S32}, {1, WENC_REF_PRIMITIVE, WENC_S32}};
+  wenc_part params[] = {{2, WENC_REF_VALUE, 0}};
+  uint32_t index, ty;
+  check(wenc_record(builder, true, TEXT("point"), TEXT("xy"), ALL(fields), &params[0].number));
+  check(wenc_function(builder, UNNAMED, false, TEXT("at"), ALL(params), WENC_REF_PRIMITIVE, WENC_STRING, &ty));
+  check(wenc_import(builder, TEXT("f"), WENC_REF_FUNC, ty, &index));
+}
+
 static void build(wenc_builder *builder) {
   uint32_t index, ty, run;
+  wenc_part exports[] = {{3, WENC_CORE_FUNC, 0}, {3, WENC_CORE_FUNC, 0}};
   wenc_builder nested = {NULL};
 
-  /* A nested component, which imports a function: type 0 takes and gives nothing. */
   check(wenc_new(&nested));
-  ty = item(&nested, WENC_SECTION_TYPE, TEXT("\x40\x00\x01\x00"));
-  check(wenc_import(&nested, TEXT("f"), WENC_REF_FUNC, ty, &index));
+  build_nested(&nested);
   check(wenc_component(builder, UNNAMED, &nested, &index));
 
   /* An instance that exports nothing is imported. */
   ty = item(builder, WENC_SECTION_TYPE, TEXT("\x42\x00"));
   check(wenc_import(builder, TEXT("log"), WENC_REF_INSTANCE, ty, &index));
 
-  /* Core module 0 is instantiated, and its function lifted: core function 0, no options, type 1. */
+  /* Core module 0 is instantiated. */
   check(wenc_core_module(builder, UNNAMED, module, sizeof module, &index));
   item(builder, WENC_SECTION_CORE_INSTANCE, TEXT("\x00\x00\x00"));
-  check(wenc_alias_core_export(builder, UNNAMED, 0, WENC_CORE_FUNC, TEXT("run"), &index));
-  item(builder, WENC_SECTION_TYPE, TEXT("\x40\x00\x01\x00"));
+
+  /* Its function and `backpressure.inc` are exported by another core instance. */
+  check(wenc_alias_core_export(builder, UNNAMED, 0, WENC_CORE_FUNC, TEXT("run"), &exports[0].number));
+  check(wenc_builtin(builder, 0x24, 0, 0, &exports[1].number));
+  check(wenc_core_exports(builder, UNNAMED, TEXT("runinc"), ALL(exports), &index));
+
+  /* Its function is lifted: no options, the type that takes and gives nothing. */
+  check(wenc_function(builder, UNNAMED, false, TEXT(""), exports, 0, WENC_REF_NONE, 0, &ty));
   run = item(builder, WENC_SECTION_CANON, TEXT("\x00\x00\x00\x00\x01"));
   check(wenc_export(builder, TEXT("run"), WENC_FUNC, run, WENC_REF_NONE, 0, &index));
   check(wenc_append_names(builder));

@@ -90,14 +90,13 @@ struct Open {
 }
 
 impl Open {
-    /// The debug name at the front of the text, and what is behind it.
+    /// The debug name, which is at the front of the text.
     #[inline]
-    fn parts<'t>(&self, text: &'t Text) -> (Option<&'t str>, &'t [u8]) {
-        let (name, text) = text.as_slice().split_at(self.name_len);
+    fn name<'t>(&self, text: &'t Text) -> Option<&'t str> {
         if !self.is_named {
-            return (None, text);
+            return None;
         }
-        (std::str::from_utf8(name).ok(), text)
+        std::str::from_utf8(&text.as_slice()[..self.name_len]).ok()
     }
 }
 
@@ -327,15 +326,16 @@ impl ComponentBuilder {
         if index == u32::MAX {
             return Err(Error::TooMany);
         }
-        let name = debug_name.unwrap_or("");
         self.text.cut_back(0);
-        self.text.raw(name.as_bytes());
-        self.text.written()?;
+        if let Some(name) = debug_name {
+            self.text.raw(name.as_bytes());
+            self.text.written()?;
+        }
         self.open = Some(Open {
             section,
             index,
             is_named: debug_name.is_some(),
-            name_len: name.len(),
+            name_len: self.text.len(),
         });
         Ok(index)
     }
@@ -358,8 +358,8 @@ impl ComponentBuilder {
         let len = self.text.len();
         self.append(write)?;
         let ended = self.end_by(|handle, open, text, _| {
-            let (debug_name, text) = open.parts(text);
-            handle.item(open.section.into(), debug_name, text)
+            let written = &text.as_slice()[open.name_len..];
+            handle.item(open.section.into(), open.name(text), written)
         });
         if ended.is_err() {
             self.text.cut_back(len);
@@ -379,7 +379,7 @@ impl ComponentBuilder {
     /// Adds the open type as the record of what is packed; or leaves it as it is.
     #[inline]
     pub(crate) fn end_record(&mut self) -> Result<(), Error> {
-        self.end_by(|handle, open, text, fields| handle.record(open.parts(text).0, fields))
+        self.end_by(|handle, open, text, fields| handle.record(open.name(text), fields))
     }
 
     /// Adds the open type as a type of functions with what is packed as their parameters; or leaves it as it is.
@@ -390,7 +390,7 @@ impl ComponentBuilder {
         answer: Option<ComponentValType>,
     ) -> Result<(), Error> {
         self.end_by(|handle, open, text, params| {
-            handle.function(open.parts(text).0, is_async, params, answer)
+            handle.function(open.name(text), is_async, params, answer)
         })
     }
 

@@ -25,7 +25,7 @@ struct Listed {
 
 /// `wenc_part`: how many bytes a name has, and what has it, by two numbers.
 #[repr(C)]
-#[derive(Clone, Copy, Debug)]
+#[derive(Clone, Copy, Debug, Default)]
 pub(crate) struct Part {
     pub(crate) name_len: usize,
     pub(crate) sort: u32,

@@ -18,6 +18,14 @@ struct Listed {
     id: u32,
 }
 
+#[repr(C)]
+#[derive(Clone, Copy)]
+struct Part {
+    name_len: usize,
+    sort: u32,
+    number: u32,
+}
+
 extern "C" {
     fn wenc_new(builder: *mut Builder) -> u32;
     fn wenc_free(builder: *mut Builder);
@@ -45,6 +53,49 @@ extern "C" {
         args: *const u32,
         args_len: usize,
         results: u32,
+        index: *mut u32,
+    ) -> u32;
+    fn wenc_builtin(
+        builder: *mut Builder,
+        opcode: u32,
+        first: u32,
+        second: u32,
+        index: *mut u32,
+    ) -> u32;
+    fn wenc_core_exports(
+        builder: *mut Builder,
+        named: bool,
+        debug_name: *const u8,
+        debug_name_len: usize,
+        names: *const u8,
+        names_len: usize,
+        exports: *const Part,
+        exports_len: usize,
+        index: *mut u32,
+    ) -> u32;
+    fn wenc_record(
+        builder: *mut Builder,
+        named: bool,
+        debug_name: *const u8,
+        debug_name_len: usize,
+        names: *const u8,
+        names_len: usize,
+        fields: *const Part,
+        fields_len: usize,
+        index: *mut u32,
+    ) -> u32;
+    fn wenc_function(
+        builder: *mut Builder,
+        named: bool,
+        debug_name: *const u8,
+        debug_name_len: usize,
+        is_async: bool,
+        names: *const u8,
+        names_len: usize,
+        params: *const Part,
+        params_len: usize,
+        reference: u32,
+        of: u32,
         index: *mut u32,
     ) -> u32;
     fn wenc_item(
@@ -235,6 +286,178 @@ fn what_is_nested_is_given_up_once() {
         b"\0asm\x0d\0\x01\0\x04\x08\0asm\x0d\0\x01\0"
     );
     free(outer);
+}
+
+fn builtin(b: &mut Builder, opcode: u32, first: u32, second: u32) -> (u32, u32) {
+    indexed(|index| unsafe { wenc_builtin(b, opcode, first, second, index) })
+}
+
+/// Parts, by the lengths of their names and their numbers.
+fn parts(parts: &[(usize, u32, u32)]) -> Vec<Part> {
+    let part = |&(name_len, sort, number)| Part {
+        name_len,
+        sort,
+        number,
+    };
+    parts.iter().map(part).collect()
+}
+
+/// A debug name, the names, and the parts.
+type Listing<'a> = (&'a [u8], &'a [u8], &'a [(usize, u32, u32)]);
+
+fn core_exports(b: &mut Builder, (debug, names, exports): Listing<'_>) -> (u32, u32) {
+    let exports = parts(exports);
+    indexed(|index| unsafe {
+        wenc_core_exports(
+            b,
+            !debug.is_empty(),
+            debug.as_ptr(),
+            debug.len(),
+            names.as_ptr(),
+            names.len(),
+            exports.as_ptr(),
+            exports.len(),
+            index,
+        )
+    })
+}
+
+fn record(b: &mut Builder, (debug, names, fields): Listing<'_>) -> (u32, u32) {
+    let fields = parts(fields);
+    indexed(|index| unsafe {
+        wenc_record(
+            b,
+            !debug.is_empty(),
+            debug.as_ptr(),
+            debug.len(),
+            names.as_ptr(),
+            names.len(),
+            fields.as_ptr(),
+            fields.len(),
+            index,
+        )
+    })
+}
+
+/// A type of functions that are not asynchronous and answer a reference with this number.
+fn function(b: &mut Builder, listing: Listing<'_>, reference: u32, of: u32) -> (u32, u32) {
+    let (debug, names, params) = (listing.0, listing.1, parts(listing.2));
+    indexed(|index| unsafe {
+        wenc_function(
+            b,
+            !debug.is_empty(),
+            debug.as_ptr(),
+            debug.len(),
+            false,
+            names.as_ptr(),
+            names.len(),
+            params.as_ptr(),
+            params.len(),
+            reference,
+            of,
+            index,
+        )
+    })
+}
+
+#[test]
+fn builtins_are_told_by_their_opcodes() {
+    let mut b = new();
+    assert_eq!(builtin(&mut b, 0x03, 200, 9), (DONE, 0));
+    assert_eq!(builtin(&mut b, 0x11, 7, 1), (DONE, 1));
+    assert_eq!(builtin(&mut b, 0x41, 1, 2), (DONE, 2));
+    assert_eq!(builtin(&mut b, 0x20, 3, 9), (DONE, 3));
+    assert_eq!(builtin(&mut b, 0x0c, 9, 9), (DONE, 4));
+    assert_eq!(builtin(&mut b, 0x06, 1, 9), (DONE, 5));
+    // A lifted function, one with options, a slot's, none, a flag that is none.
+    for opcode in [0x00, 0x09, 0x0a, 0x0f, 0x1c, 0x30, 0x43, 0x103] {
+        assert_eq!(builtin(&mut b, opcode, 0, 0), (BAD_ARGUMENT, 77));
+    }
+    assert_eq!(builtin(&mut b, 0x11, 7, 2), (BAD_ARGUMENT, 77));
+    assert_eq!(builtin(&mut b, 0x06, 2, 0), (BAD_ARGUMENT, 77));
+    assert_eq!(
+        finished(&mut b)[8..],
+        *b"\x08\x11\x06\x03\xc8\x01\x11\x07\x01\x41\x01\x02\x20\0\x03\x0c\0\x06\x01"
+    );
+    assert_eq!(builtin(&mut b, 0x03, 0, 0), (FINISHED, 77));
+    free(b);
+    assert_eq!(builtin(&mut none(), 0x03, 0, 0), (NO_BUILDER, 77));
+}
+
+/// A call that takes a list whose parts this number stands for, with this sort.
+fn lists_are_refused(call: impl Fn(&mut Builder, Listing<'_>) -> (u32, u32), sort: u32) {
+    let mut b = new();
+    assert_eq!(call(&mut b, (b"", b"", &[])), (DONE, 0));
+    assert_eq!(
+        call(
+            &mut b,
+            (b"d", b"ab", &[(1, sort, 1), (0, sort, 2), (1, sort, 3)])
+        ),
+        (DONE, 1)
+    );
+    assert_eq!(
+        call(&mut b, (b"\xff", b"a", &[(1, sort, 0)])),
+        (MALFORMED, 77)
+    );
+    assert_eq!(
+        call(&mut b, (b"", b"\xff", &[(1, sort, 0)])),
+        (MALFORMED, 77)
+    );
+    // Names left over, wanting, and cut amid a character; a sort that stands for nothing.
+    let amid = &[(1, sort, 0), (1, sort, 0)][..];
+    for (names, parts) in [
+        (&b"ab"[..], &[(1, sort, 0)][..]),
+        (b"a", &[(2, sort, 0)]),
+        (b"a", &[(usize::MAX, sort, 0), (2, sort, 0)]),
+        (b"\xc3\xa9", amid),
+        (b"a", &[(1, 9, 0)]),
+    ] {
+        assert_eq!(call(&mut b, (b"", names, parts)), (BAD_ARGUMENT, 77));
+    }
+    // Pages of zeros take no memory.
+    let large = vec![0; 1 << 32];
+    assert_eq!(
+        call(&mut b, (b"", &large, &[(1 << 32, sort, 0)])),
+        (TOO_LARGE, 77)
+    );
+    assert_eq!(call(&mut b, (b"", b"", &[])), (DONE, 2));
+    finished(&mut b);
+    assert_eq!(call(&mut b, (b"", b"", &[])), (FINISHED, 77));
+    free(b);
+    assert_eq!(call(&mut none(), (b"", b"", &[])), (NO_BUILDER, 77));
+}
+
+#[test]
+fn exports_of_core_instances_are_a_list() {
+    lists_are_refused(core_exports, 2);
+    let mut b = new();
+    let exports = (&b""[..], &b"f\xc3\xa9"[..], &[(1, 0, 200), (2, 4, 0)][..]);
+    assert_eq!(core_exports(&mut b, exports), (DONE, 0));
+    assert_eq!(
+        finished(&mut b)[8..],
+        *b"\x02\x0d\x01\x01\x02\x01f\0\xc8\x01\x02\xc3\xa9\x04\0"
+    );
+    free(b);
+}
+
+#[test]
+fn fields_and_parameters_are_lists() {
+    lists_are_refused(record, 2);
+    lists_are_refused(|b, params| function(b, params, 8, 0), 2);
+    let mut b = new();
+    let list = (&b""[..], &b"xyz"[..], &[(1, 7, 0x73), (2, 2, 64)][..]);
+    assert_eq!(record(&mut b, list), (DONE, 0));
+    assert_eq!(function(&mut b, list, 7, 0x64), (DONE, 1));
+    // No primitive type, a reference that is to no value.
+    let none = (&b""[..], &b"x"[..], &[(1, 7, 0x72)][..]);
+    assert_eq!(record(&mut b, none), (BAD_ARGUMENT, 77));
+    assert_eq!(function(&mut b, list, 1, 0), (BAD_ARGUMENT, 77));
+    assert_eq!(function(&mut b, list, 7, 0x65), (BAD_ARGUMENT, 77));
+    assert_eq!(
+        finished(&mut b)[8..],
+        *b"\x07\x17\x02\x72\x02\x01x\x73\x02yz\xc0\0\x40\x02\x01x\x73\x02yz\xc0\0\0\x64"
+    );
+    free(b);
 }
 
 /// The status, the number, and the first section.

@@ -1,11 +1,15 @@
--- The type of a function that is written in two parts: a byte with the parameters, and what the function answers.
-use Rattle.std.proofs.Common.{◌≡◌, ℕ, ◌≤◌, inl, inr, List, [], ◌∷◌, ◌++◌, Option, Bool, true, false, Result, Ok, Err, length, length-append, refl, sym, ap, subst, ◌∙◌, arith}
+-- The type of a function that is written in two parts: a byte with the parameters, and what the
+-- function answers.
+use Rattle.std.proofs.Common.{◌≡◌, ℕ, inl, inr, List, [], ◌∷◌, Option, Bool, true, false, Result, Ok, Err, length-append, map, refl, sym, ap, subst, ◌∙◌, arith}
+use Rattle.std.specs.Borrow.{Bor}
+use Rattle.std.specs.Iterator.{YieldsFirstBy}
 use Rattle.wenc_base.specs.Fault.{IsWarranted, NoCause, either}
 use Rattle.wenc_base.specs.Forms.{list}
-use Rattle.wenc_base.specs.Lender.{Ends, Extends, MakesWhole}
-use Rattle.wenc_base.specs.Piece.{Piece, ◌▸◌, ◌⨾◌}
+use Rattle.wenc_base.specs.Lender.{Ends, Extends, ExtendsListed, MakesWhole}
+use Rattle.wenc_base.specs.Piece.{Piece, ◌▸◌, ◌⨾◌, behind_bytes}
 use Rattle.wenc_base.specs.declared.fault.Fault.{Fault}
 use Rattle.wenc_base.specs.declared.fault.Fault.TheVariants.{TooLarge}
+use Rattle.wenc_base.specs.laws.Lenders.{extends_as}
 use Rattle.wenc_base.specs.laws.Serves.{still_warranted}
 use Rattle.wenc_builder.specs.Builder.{State, builder_is_finished, content_of, draft_in, item_appended, item_begun, item_ended, item_given_up}
 use Rattle.wenc_builder.specs.Cause.{BeginCause, SectionCause}
@@ -22,10 +26,28 @@ use Rattle.wenc_parts.specs.Types.{result_list}
 use Rattle.wenc_parts.specs.declared.component.ComponentSectionId.TheVariants as ids
 use Rattle.wenc_parts.specs.declared.types.ComponentValType.{ComponentValType}
 use Rattle.wenc_types.specs.ComponentTypes.{DefType, FunctionType}
-use Rattle.wenc_types.specs.DefinedTypes.{LabelledType, function_type_of, labelled_type}
+use Rattle.wenc_types.specs.DefinedTypes.{LabelledType, function_type_of, labelled_type, lent_named}
 use Rattle.wenc_types.specs.FuncStages.{async_byte}
-use Rattle.wenc_c.proofs.Grown.{room_grows}
-use Rattle.wenc_c.proofs.Typed.{EndingCause, writing_refused, written}
+use Rattle.wenc_types.proofs.Serving.{fields_serve, lent_field}
+use Rattle.wenc_c.specs.Packed.{labelled}
+use Rattle.wenc_c.proofs.Grown.{labelled_grow, room_grows}
+use Rattle.wenc_c.proofs.Typed.{writing_refused, written}
+use Rattle.wenc_c.proofs.Whole.{whole_extends}
+
+-- the steps of a packed list of types
+abbrev pub Steps : List (List ℕ × ComponentValType) → Option (Bor (List ℕ) × ComponentValType) → List (List ℕ × ComponentValType) → Type 0
+Steps = YieldsFirstBy (λ x. (x.0.now, x.1)) (λ rest. rest)
+
+-- the byte and the parameters of such a list, as one piece
+pub params_extend : (is_async : Bool) (tag : ℕ) → tag ≡ async_byte is_async → (params : List (List ℕ × ComponentValType)) (lent mid : State) (outcome : Result (Unit {0}) Fault)
+    → ExtendsListed Steps params lent mid outcome (item_appended lent) (no_room_in_section lent) (λ vs. behind_bytes (tag ∷ []) (list lent_field vs))
+    → Extends lent mid (item_appended lent (async_byte is_async ▸ list labelled_type (map labelled params)).text) outcome (async_byte is_async ▸ list labelled_type (map labelled params))
+    (no_room_in_section lent (async_byte is_async ▸ list labelled_type (map labelled params)).text)
+params_extend is_async tag is params lent mid outcome a =
+    let lead = async_byte is_async ∷ [] in
+    let tagged = subst (λ t. ExtendsListed Steps params lent mid outcome (item_appended lent) (no_room_in_section lent) (λ vs. behind_bytes (t ∷ []) (list lent_field vs))) is a in
+    whole_extends (λ x. (x.0.now, x.1)) (λ rest. rest) labelled params (item_appended lent) (no_room_in_section lent) (λ ps. async_byte is_async ▸ list labelled_type ps) (labelled_grow lent (async_byte is_async)) lent mid outcome
+    (extends_as Steps params lent mid outcome (item_appended lent) (no_room_in_section lent) (λ vs. behind_bytes lead (list lent_field vs)) (λ vs. behind_bytes lead (list labelled_type (map lent_named vs))) (fields_serve lead) tagged)
 
 module _ (is_async : Bool) (params : List LabelledType) (answer : Option ComponentValType) where
   abbrev function : DefType

@@ -1,5 +1,5 @@
 -- What a run gave of an iterator that shows the list of what is left.
-use Rattle.std.proofs.Common.{◌≡◌, List, [], ◌∷◌, ◌++◌, map, Option, true, append-nil, ap, ◌∙◌}
+use Rattle.std.proofs.Common.{◌≡◌, List, [], ◌∷◌, ◌++◌, map, true, append-nil, ap, ◌∙◌}
 use Rattle.std.proofs.iter.runs.Made.{took}
 use Rattle.std.specs.Iterator.{Yields, YieldsFirstBy}
 use Rattle.std.specs.Iterator.Runs.{Run}

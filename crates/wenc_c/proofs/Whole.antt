@@ -1,6 +1,6 @@
 -- What is made of all that an iterator shows: what was done with its values was done with that list, or refused for a
 -- cause of that list.
-use Rattle.std.proofs.Common.{◌≡◌, ℕ, List, ◌++◌, map, Option, Result, Ok, Err, sym, ap, subst, ◌∙◌}
+use Rattle.std.proofs.Common.{◌≡◌, ℕ, List, ◌++◌, map, Result, Ok, Err, sym, ap, subst, ◌∙◌}
 use Rattle.std.specs.Iterator.{YieldsFirstBy}
 use Rattle.wenc_base.specs.Fault.{either}
 use Rattle.wenc_base.specs.Lender.{Extended, Extends, ExtendsListed}

@@ -1,4 +1,5 @@
-//! The call that adds a function which the component model provides, of those whose operands are numbers.
+//! The call that adds a function which the component model provides, of those whose operands are
+//! numbers.
 ghost use Rattle.std.specs.Prelude.{◌≡◌};
 ghost use Rattle.wenc_c.specs.Builtins.{builtin_of};
 ghost use Rattle.wenc_c.specs.Handles.{AddsIfAt};
@@ -11,7 +12,8 @@ use crate::session::by_builder;
 use std::alloc::Global;
 use wenc_builder::ComponentBuilder;
 
-/// Adds the function with this opcode, by its indices, or an index and a flag, and answers its index.
+/// Adds the function with this opcode, by its indices, or an index and a flag, and answers its
+/// index.
 pub(crate) fn add_builtin(
     builder: &mut ComponentBuilder,
     opcode: u32,
@@ -78,8 +80,8 @@ pub(crate) fn add_builtin(
     }
 }
 
-/// Adds the function that the component model provides with this opcode, by its indices, or an index and a flag. Its
-/// debug name is its own.
+/// Adds the function that the component model provides with this opcode, by its indices, or an
+/// index and a flag. Its debug name is its own.
 #[unsafe(no_mangle)]
 pub extern "C" fn wenc_builtin(
     alloc: Global,

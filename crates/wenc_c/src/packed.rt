@@ -1,4 +1,5 @@
-//! Lists of named things that C hands in: their names in one text, one behind the other, and a part for each.
+//! Lists of named things that C hands in: their names in one text, one behind the other, and a
+//! part for each.
 ghost use Rattle.std.specs.Iterator.{YieldsFirstBy, item_count};
 ghost use Rattle.std.specs.Prelude.{◌≡◌, ℕ, MatchOption, Option as Options};
 ghost use Rattle.wenc_c.specs.Numbers.{core_item_of, value_of};
@@ -9,7 +10,8 @@ use std::marker::{Model, PhantomData};
 use wenc_base::ExportKind;
 use wenc_parts::ComponentValType;
 
-/// A part of a list: how many bytes its name has, and what has the name, by two numbers. C sees it as `wenc_part`.
+/// A part of a list: how many bytes its name has, and what has the name, by two numbers. C sees it
+/// as `wenc_part`.
 #[repr(C)]
 #[derive(Clone, Copy)]
 pub struct Part {

@@ -13,7 +13,7 @@ use std::str;
 use wenc_parts::ComponentExternName;
 
 /// The bytes as text, if they are any. Of ASCII that is told soonest.
-#[inline]
+#[inline(always)]
 fn checked(bytes: &[u8]) -> Option<&str>
     ensures { MatchOption result (¬ (IsUtf8 bytes.now))
         (λ s. (s.now ≡ bytes.now) × IsUtf8 bytes.now) }

@@ -15,7 +15,8 @@ use crate::refused::{Refused, told};
 use crate::texts::{text, text_where};
 use std::alloc::Global;
 
-/// Adds a record, by its fields: each by its name, the sort of a reference to a value, and the number that goes with it.
+/// Adds a record, by its fields: each by its name, the sort of a reference to a value, and the
+/// number that goes with it.
 #[unsafe(no_mangle)]
 pub extern "C" fn wenc_record(
     alloc: Global,
@@ -59,8 +60,8 @@ pub extern "C" fn wenc_record(
     told(answer, index)
 }
 
-/// Adds a type of functions: whether they are asynchronous, their parameters, as the fields of a record, and what they
-/// answer, or nothing.
+/// Adds a type of functions: whether they are asynchronous, their parameters, as the fields of a
+/// record, and what they answer, or nothing.
 #[unsafe(no_mangle)]
 pub extern "C" fn wenc_function(
     alloc: Global,

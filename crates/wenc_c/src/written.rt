@@ -1,4 +1,4 @@
-//! Types, which an encoder writes: of trees, and of packed lists. And instances of such lists.
+//! Types, of trees and of packed lists, and core instances of such lists, written into a builder.
 ghost use Rattle.std.specs.Option.{option_copied};
 ghost use Rattle.std.specs.Prelude.{◌≡◌, [], Err, List, OnErr, true};
 ghost use Rattle.wenc_builder.specs.Builder.{builder_is_finished, draft_in, item_given_up};
@@ -78,7 +78,8 @@ pub(crate) fn write_exports(
     builder.core_instantiate_exports(debug_name, Exports(exports))
 }
 
-/// Adds a record of these fields, with a debug name or none, and answers its index. What is refused is given up.
+/// Adds a record of these fields, with a debug name or none, and answers its index. What is
+/// refused is given up.
 pub(crate) fn write_record(
     builder: &mut ComponentBuilder,
     debug_name: Option<&str>,
@@ -98,7 +99,8 @@ pub(crate) fn write_record(
     }
 }
 
-/// Begins a type, with a debug name or none, and answers its index. The builder itself is to be told what it is.
+/// Begins a type, with a debug name or none, and answers its index. The builder itself is to be
+/// told what it is.
 fn begin_type(builder: &mut ComponentBuilder, debug_name: Option<&str>) -> Result<u32, Fault>
     ensures begun { BeginsItem (λ i. i) (λ _. builder.new) builder.old result
         (draft_in ids.«Type» Space.Types (option_copied debug_name.entry) []) }
@@ -117,7 +119,8 @@ fn tag(is_async: bool) -> u8
     if is_async { 0x43 } else { 0x40 }
 }
 
-/// Adds a type of functions, with a debug name or none, and answers its index. What is refused is given up.
+/// Adds a type of functions, with a debug name or none, and answers its index. What is refused is
+/// given up.
 pub(crate) fn write_function(
     builder: &mut ComponentBuilder,
     debug_name: Option<&str>,

@@ -1,4 +1,3 @@
-use Rattle.std.proofs.Common.{map}
 use Rattle.std.specs.Option.{option_copied}
 use Rattle.wenc_builder.specs.Entry.{core_instance_entry}
 use Rattle.wenc_sections.specs.Instances.{CoreExports}

@@ -1,4 +1,4 @@
-use Rattle.std.proofs.Common.{rules, [], ◌∙◌, map}
+use Rattle.std.proofs.Common.{rules, [], ◌∙◌}
 use Rattle.std.specs.Option.{option_copied}
 use Rattle.wenc_builder.specs.Builder.{draft_in, item_appended, item_ended}
 use Rattle.wenc_builder.specs.Entry.{type_entry}
@@ -9,7 +9,7 @@ use Rattle.wenc_parts.specs.declared.component.ComponentSectionId.TheVariants as
 use Rattle.wenc_types.specs.DefinedTypes.{Record, def_val_type}
 use Rattle.wenc_c.specs.Packed.{labelled, record_of}
 use Rattle.wenc_c.proofs.Grown.{labelled_grow}
-use Rattle.wenc_c.proofs.Typed.{written, writing_refused, opening_refused}
+use Rattle.wenc_c.proofs.Typed.{written, writing_refused}
 use Rattle.wenc_c.proofs.Whole.{whole_extends}
 use Rattle.wenc_c.proofs.written.write_record.Goals as goal
 
