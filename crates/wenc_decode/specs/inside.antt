@@ -1,5 +1,4 @@
 -- What private functions and proofs need alone: no contract of a public call reaches it.
-pub mod Aliases
 pub mod Canonicals
 pub mod CoreTypes
 pub mod Entities

@@ -1,8 +1,8 @@
 //! Canonical functions, each by its opcode.
 ghost use Rattle.wenc_base.specs.Readers.{pick, nowhere};
 ghost use Rattle.wenc_canon.specs.CanonTrees.{canon_view};
-ghost use Rattle.wenc_canon.specs.reading.Canonicals.{rows};
-ghost use Rattle.wenc_decode.specs.inside.Canonicals.{read_zero, read_lifted, read_lowered, stream_rows, future_rows, error_context_rows, thread_rows};
+ghost use Rattle.wenc_canon.specs.reading.Canonicals.{read_lifted, read_lowered, rows};
+ghost use Rattle.wenc_decode.specs.inside.Canonicals.{read_zero, stream_rows, future_rows, error_context_rows, thread_rows};
 ghost use Rattle.wenc_read.specs.Gives.{Gives};
 
 use crate::decode::Decode;

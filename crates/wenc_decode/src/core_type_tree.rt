@@ -1,5 +1,6 @@
 //! Core types in a component: groups with guards, and module types.
-ghost use Rattle.wenc_decode.specs.inside.CoreTypes.{read_outer_type, read_guarded};
+ghost use Rattle.wenc_decode.specs.inside.CoreTypes.{read_guarded};
+ghost use Rattle.wenc_types.specs.reading.CoreTypes.{read_outer_type};
 ghost use Rattle.wenc_read.specs.Gives.{Gives};
 ghost use Rattle.wenc_types.specs.CoreTypeTrees.{module_declaration_view, core_type_view};
 
@@ -17,7 +18,7 @@ fn outer_type<A: Allocator + Copy>(
     bytes: &[u8],
 ) -> Result<(ModuleDecl<A>, &[u8]), Refusal>
     ensures { Gives (λ x. (module_declaration_view x.0, x.1.now)) result
-        (read_outer_type bytes.now) }
+        (read_outer_type (λ d. d) bytes.now) }
 {
     match byte(bytes)? {
         (0x10, rest) => match byte(rest)? {

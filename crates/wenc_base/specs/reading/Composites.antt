@@ -25,10 +25,14 @@ read_field_type = read_storage_type >>= λ t. read_flag >>= λ mutable. give (fi
 
 -- ---- composite types
 
+abbrev pub read_func : {A : Type 0} → (Composite → A) → Reader A
+read_func make =
+    read_list read_val_type >>= λ params. read_list read_val_type >>= λ results.
+    give (make (Func params results))
+
 abbrev pub composite_rows : {A : Type 0} → (Composite → A) → List (ℕ × Reader A)
 composite_rows make =
-    (0x60, read_list read_val_type >>= λ params. read_list read_val_type >>= λ results.
-      give (make (Func params results))) ∷
+    (0x60, read_func make) ∷
     (0x5e, read_field_type >>= λ f. give (make (Array f))) ∷
     (0x5f, read_list read_field_type >>= λ fields. give (make (Struct fields))) ∷ []
 

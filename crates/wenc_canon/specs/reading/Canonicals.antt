@@ -45,13 +45,23 @@ read_fields (f ∷ g ∷ fs) = read_field f >>= λ v. read_fields (g ∷ fs) >>=
 abbrev pub read_builtin : Builtin → ℕ × Reader Canonical
 read_builtin i = ((row i).opcode, read_fields (row i).fields >>= λ vs. give (OfBuiltin i vs))
 
+abbrev pub read_lift : Reader Canonical
+read_lift =
+    read_u32 >>= λ f. read_list read_canonical_option >>= λ os. read_u32 >>= λ t.
+    give (Lift f os t)
+
+abbrev pub read_lower : Reader Canonical
+read_lower = read_u32 >>= λ f. read_list read_canonical_option >>= λ os. give (Lower f os)
+
+-- the same behind the opcode: a byte 00 comes first
+abbrev pub read_lifted : Reader Canonical
+read_lifted = choose ((0x00, read_lift) ∷ []) nowhere
+
+abbrev pub read_lowered : Reader Canonical
+read_lowered = choose ((0x00, read_lower) ∷ []) nowhere
+
 abbrev pub rows : List (ℕ × Reader Canonical)
-rows =
-    (0x00, choose ((0x00, read_u32 >>= λ f. read_list read_canonical_option >>= λ os.
-      read_u32 >>= λ t. give (Lift f os t)) ∷ []) nowhere) ∷
-    (0x01, choose ((0x00, read_u32 >>= λ f. read_list read_canonical_option >>= λ os.
-      give (Lower f os)) ∷ []) nowhere) ∷
-    map read_builtin builtins
+rows = (0x00, read_lifted) ∷ (0x01, read_lowered) ∷ map read_builtin builtins
 
 abbrev pub read_canonical : Reader Canonical
 read_canonical = choose rows nowhere

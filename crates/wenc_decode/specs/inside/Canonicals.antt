@@ -1,31 +1,11 @@
--- What stands behind the opcodes that lift and lower, a byte that has one value, and the table of
--- opcodes in parts.
-use Rattle.std.specs.Prelude.{ℕ, List, [], ◌∷◌, drop}
-use Rattle.wenc_base.specs.reading.Forms.{read_list}
-use Rattle.wenc_base.specs.Readers.{Reader, ◌>>=◌, give, nowhere, choose}
-use Rattle.wenc_base.specs.reading.Numbers.{read_u32}
-use Rattle.wenc_canon.specs.Canonicals.{Canonical, Lift, Lower, Zero}
-use Rattle.wenc_canon.specs.reading.Canonicals.{read_canonical_option, read_field, rows}
+-- A byte that has one value, and the table of opcodes in parts.
+use Rattle.std.specs.Prelude.{ℕ, List, drop}
+use Rattle.wenc_base.specs.Readers.{Reader}
+use Rattle.wenc_canon.specs.Canonicals.{Canonical, Zero}
+use Rattle.wenc_canon.specs.reading.Canonicals.{read_field, rows}
 
 abbrev pub read_zero : Reader (Unit {0})
 read_zero = read_field Zero
-
-abbrev pub read_lifted : Reader Canonical
-read_lifted =
-    choose ((
-      0x00,
-      read_u32 >>= λ f. read_list read_canonical_option >>= λ os. read_u32 >>= λ t.
-          give (Lift f os t),
-    ) ∷ [])
-    nowhere
-
-abbrev pub read_lowered : Reader Canonical
-read_lowered =
-    choose ((
-      0x00,
-      read_u32 >>= λ f. read_list read_canonical_option >>= λ os. give (Lower f os),
-    ) ∷ [])
-    nowhere
 
 -- the table behind the rows of functions, resources and tasks
 abbrev pub stream_rows : List (ℕ × Reader Canonical)

@@ -26,10 +26,12 @@ abbrev pub read_export : ComponentExportKind → Reader AliasOf
 read_export kind =
     read_u32 >>= λ instance. read_name >>= λ name. give (InstanceExport instance kind name)
 
+abbrev pub read_core_exported : ExportKind → Reader AliasOf
+read_core_exported kind =
+    read_u32 >>= λ instance. read_name >>= λ name. give (CoreInstanceExport instance kind name)
+
 abbrev pub read_core_export : ExportKind → Reader AliasOf
-read_core_export kind =
-    choose ((0x01, read_u32 >>= λ instance. read_name >>= λ name.
-    give (CoreInstanceExport instance kind name)) ∷ []) nowhere
+read_core_export kind = choose ((0x01, read_core_exported kind) ∷ []) nowhere
 
 abbrev pub read_outer : ComponentOuterAliasKind → Reader AliasOf
 read_outer kind = read_u32 >>= λ count. read_u32 >>= λ number. give (Outer kind count number)
@@ -38,20 +40,26 @@ read_outer kind = read_u32 >>= λ count. read_u32 >>= λ number. give (Outer kin
 abbrev pub read_either : ComponentExportKind → ComponentOuterAliasKind → Reader AliasOf
 read_either kind outer = choose ((0x00, read_export kind) ∷ (0x02, read_outer outer) ∷ []) nowhere
 
+-- where a sort is no outer item's
+abbrev pub read_exported_alias : ComponentExportKind → Reader AliasOf
+read_exported_alias kind = choose ((0x00, read_export kind) ∷ []) nowhere
+
+-- what is of a core sort
+abbrev pub read_core_alias : Reader AliasOf
+read_core_alias = choose (
+    (0x00, read_core_export cores.Func) ∷
+    (0x01, read_core_export cores.Table) ∷
+    (0x02, read_core_export cores.Memory) ∷
+    (0x03, read_core_export cores.Global) ∷
+    (0x04, read_core_export cores.Tag) ∷
+    (0x10, choose ((0x02, read_outer outers.CoreType) ∷ []) nowhere) ∷
+    (0x11, read_either kinds.Module outers.CoreModule) ∷ []) nowhere
+
 abbrev pub read_alias : Reader AliasOf
-read_alias = choose ((
-  0x00,
-  choose (
-      (0x00, read_core_export cores.Func) ∷
-      (0x01, read_core_export cores.Table) ∷
-      (0x02, read_core_export cores.Memory) ∷
-      (0x03, read_core_export cores.Global) ∷
-      (0x04, read_core_export cores.Tag) ∷
-      (0x10, choose ((0x02, read_outer outers.CoreType) ∷ []) nowhere) ∷
-      (0x11, read_either kinds.Module outers.CoreModule) ∷ []) nowhere,
-) ∷
-    (0x01, choose ((0x00, read_export kinds.Func) ∷ []) nowhere) ∷
-    (0x02, choose ((0x00, read_export kinds.Value) ∷ []) nowhere) ∷
+read_alias = choose (
+    (0x00, read_core_alias) ∷
+    (0x01, read_exported_alias kinds.Func) ∷
+    (0x02, read_exported_alias kinds.Value) ∷
     (0x03, read_either kinds.«Type» outers.«Type») ∷
     (0x04, read_either kinds.Component outers.Component) ∷
-    (0x05, choose ((0x00, read_export kinds.Instance) ∷ []) nowhere) ∷ []) nowhere
+    (0x05, read_exported_alias kinds.Instance) ∷ []) nowhere

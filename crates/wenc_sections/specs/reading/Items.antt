@@ -51,8 +51,7 @@ read_inline_core_export =
 
 abbrev pub read_core_instance : Reader CoreInstance
 read_core_instance = choose (
-    (0x00, read_u32 >>= λ module_index. read_list read_argument >>= λ arguments.
-      give (CoreInstantiate module_index arguments)) ∷
+    (0x00, read_u32 >>= λ n. read_list read_argument >>= λ args. give (CoreInstantiate n args)) ∷
     (0x01, read_list read_inline_core_export >>= λ exports. give (CoreExports exports)) ∷ []
     ) nowhere
 
@@ -76,8 +75,7 @@ read_inline_exported =
 
 abbrev pub read_instance : Reader Instance
 read_instance = choose (
-    (0x00, read_u32 >>= λ component_index. read_list read_given >>= λ arguments.
-      give (Instantiate component_index arguments)) ∷
+    (0x00, read_u32 >>= λ n. read_list read_given >>= λ args. give (Instantiate n args)) ∷
     (0x01, read_list read_inline_exported >>= λ exports. give (Exports exports)) ∷ []
     ) nowhere
 

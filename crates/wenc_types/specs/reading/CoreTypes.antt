@@ -10,13 +10,25 @@ use Rattle.wenc_types.specs.CoreTypes.{ModuleDeclaration, ModuleImport, ModuleRe
 
 -- ---- module types
 
+abbrev pub read_module_import : {A : Type 0} → (ModuleDeclaration → A) → Reader A
+read_module_import make =
+    read_name >>= λ from. read_name >>= λ name. read_entity_type >>= λ ty.
+    give (make (ModuleImport from name ty))
+
+abbrev pub read_outer_number : {A : Type 0} → (ModuleDeclaration → A) → Reader A
+read_outer_number make =
+    read_u32 >>= λ count. read_u32 >>= λ number. give (make (ModuleOuter count number))
+
+-- a type of a component around
+abbrev pub read_outer_type : {A : Type 0} → (ModuleDeclaration → A) → Reader A
+read_outer_type make =
+    choose ((0x10, choose ((0x01, read_outer_number make) ∷ []) nowhere) ∷ []) nowhere
+
 abbrev pub declaration_rows : {A : Type 0} → (ModuleDeclaration → A) → List (ℕ × Reader A)
 declaration_rows make =
-    (0x00, read_name >>= λ from. read_name >>= λ name. read_entity_type >>= λ ty.
-      give (make (ModuleImport from name ty))) ∷
+    (0x00, read_module_import make) ∷
     (0x01, read_group >>= λ g. give (make (ModuleRecType g))) ∷
-    (0x02, choose ((0x10, choose ((0x01, read_u32 >>= λ count. read_u32 >>= λ number.
-      give (make (ModuleOuter count number))) ∷ []) nowhere) ∷ []) nowhere) ∷
+    (0x02, read_outer_type make) ∷
     (0x03, read_name >>= λ name. read_entity_type >>= λ ty. give (make (ModuleExport name ty))) ∷ []
 
 abbrev pub read_module_declaration : Reader ModuleDeclaration

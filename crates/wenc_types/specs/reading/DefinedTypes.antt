@@ -18,12 +18,15 @@ read_labelled_type = read_name >>= λ name. read_value_type >>= λ ty. give (to_
 abbrev pub to_case : List ℕ → Option ComponentValType → Case
 to_case name ty = record { name = name; ty = ty }
 
+abbrev pub read_type_or_none : Reader (Option ComponentValType)
+read_type_or_none = read_option read_value_type
+
 -- the byte behind a case
 abbrev pub read_end : {A : Type 0} → A → Reader A
 read_end v = choose ((0x00, give v) ∷ []) nowhere
 
 abbrev pub read_case : Reader Case
-read_case = read_name >>= λ name. read_option read_value_type >>= λ ty. read_end (to_case name ty)
+read_case = read_name >>= λ name. read_type_or_none >>= λ ty. read_end (to_case name ty)
 
 -- ---- defined types
 
@@ -36,16 +39,13 @@ defined_rows make =
     (0x6e, read_list read_name >>= λ names. give (make (Flags names))) ∷
     (0x6d, read_list read_name >>= λ names. give (make (Enumeration names))) ∷
     (0x6b, read_value_type >>= λ ty. give (make (OptionOf ty))) ∷
-    (0x6a, read_option read_value_type >>= λ ok. read_option read_value_type >>= λ error.
-      give (make (ResultOf ok error))) ∷
+    (0x6a, read_type_or_none >>= λ ok. read_type_or_none >>= λ e. give (make (ResultOf ok e))) ∷
     (0x69, read_u32 >>= λ number. give (make (Own number))) ∷
     (0x68, read_u32 >>= λ number. give (make (Borrow number))) ∷
-    (0x67, read_value_type >>= λ element. read_u32 >>= λ length.
-      give (make (FixedLengthList element length))) ∷
-    (0x66, read_option read_value_type >>= λ ty. give (make (Stream ty))) ∷
-    (0x65, read_option read_value_type >>= λ ty. give (make (Future ty))) ∷
-    (0x63, read_value_type >>= λ key. read_value_type >>= λ value.
-      give (make (MapOf key value))) ∷ []
+    (0x67, read_value_type >>= λ t. read_u32 >>= λ n. give (make (FixedLengthList t n))) ∷
+    (0x66, read_type_or_none >>= λ ty. give (make (Stream ty))) ∷
+    (0x65, read_type_or_none >>= λ ty. give (make (Future ty))) ∷
+    (0x63, read_value_type >>= λ k. read_value_type >>= λ v. give (make (MapOf k v))) ∷ []
 
 abbrev pub read_defined : Reader DefValType
 read_defined = choose (primitive_rows Primitive ++ defined_rows (λ t. t)) nowhere
