@@ -12,7 +12,7 @@ ghost use Rattle.wenc_parts.specs.declared.exports.ComponentExportKind.{Componen
 
 use crate::handle::Handle;
 use crate::numbers::{core_kind, kind, outer_kind};
-use crate::refused::{Refused, told};
+use crate::refused::{given, told};
 use crate::texts::{text, text_where};
 use std::alloc::Global;
 use wenc_parts::Alias;
@@ -41,20 +41,10 @@ pub extern "C" fn wenc_alias_export(
         → Refuses 7 result builder.old.session builder.new.session }
     ensures kept { ¬ (result ≡ 0) → index.new ≡ index.old }
 {
-    let debug_name = match text_where(named, debug_name) {
-        Ok(name) => name,
-        Err(refused) => return refused.number(),
-    };
-    let name = match text(name) {
-        Ok(name) => name,
-        Err(refused) => return refused.number(),
-    };
-    let Some(kind) = kind(kind_number) else {
-        return Refused::BadArgument.number();
-    };
-    let Some(mut session) = builder.take(alloc) else {
-        return Refused::NoBuilder.number();
-    };
+    let debug_name = given!(text_where(named, debug_name));
+    let name = given!(text(name));
+    let kind = given!(kind(kind_number), or BadArgument);
+    let mut session = given!(builder.take(alloc), or NoBuilder);
     let alias = Alias::InstanceExport {
         instance,
         kind,
@@ -89,20 +79,10 @@ pub extern "C" fn wenc_alias_core_export(
         → Refuses 7 result builder.old.session builder.new.session }
     ensures kept { ¬ (result ≡ 0) → index.new ≡ index.old }
 {
-    let debug_name = match text_where(named, debug_name) {
-        Ok(name) => name,
-        Err(refused) => return refused.number(),
-    };
-    let name = match text(name) {
-        Ok(name) => name,
-        Err(refused) => return refused.number(),
-    };
-    let Some(kind) = core_kind(kind_number) else {
-        return Refused::BadArgument.number();
-    };
-    let Some(mut session) = builder.take(alloc) else {
-        return Refused::NoBuilder.number();
-    };
+    let debug_name = given!(text_where(named, debug_name));
+    let name = given!(text(name));
+    let kind = given!(core_kind(kind_number), or BadArgument);
+    let mut session = given!(builder.take(alloc), or NoBuilder);
     let alias = Alias::CoreInstanceExport {
         instance,
         kind,
@@ -135,16 +115,9 @@ pub extern "C" fn wenc_alias_outer(
         → Refuses 7 result builder.old.session builder.new.session }
     ensures kept { ¬ (result ≡ 0) → index.new ≡ index.old }
 {
-    let debug_name = match text_where(named, debug_name) {
-        Ok(name) => name,
-        Err(refused) => return refused.number(),
-    };
-    let Some(kind) = outer_kind(kind_number) else {
-        return Refused::BadArgument.number();
-    };
-    let Some(mut session) = builder.take(alloc) else {
-        return Refused::NoBuilder.number();
-    };
+    let debug_name = given!(text_where(named, debug_name));
+    let kind = given!(outer_kind(kind_number), or BadArgument);
+    let mut session = given!(builder.take(alloc), or NoBuilder);
     let alias = Alias::Outer {
         kind,
         count,

@@ -7,7 +7,7 @@ ghost use Rattle.wenc_c.specs.Sessions.{answer_of, outcome_of};
 
 use crate::handle::Handle;
 use crate::life::wenc_free;
-use crate::refused::{Refused, outcome, told};
+use crate::refused::{Refused, given, outcome, told};
 use crate::texts::{text, text_where};
 use std::alloc::Global;
 
@@ -28,13 +28,8 @@ pub extern "C" fn wenc_core_module(
         → Refuses 5 result builder.old.session builder.new.session }
     ensures kept { ¬ (result ≡ 0) → index.new ≡ index.old }
 {
-    let debug_name = match text_where(named, debug_name) {
-        Ok(name) => name,
-        Err(refused) => return refused.number(),
-    };
-    let Some(mut session) = builder.take(alloc) else {
-        return Refused::NoBuilder.number();
-    };
+    let debug_name = given!(text_where(named, debug_name));
+    let mut session = given!(builder.take(alloc), or NoBuilder);
     let answer = session.core_module(debug_name, bytes);
     builder.put(session);
     told(answer, index)
@@ -57,13 +52,8 @@ pub extern "C" fn wenc_component_bytes(
         → Refuses 5 result builder.old.session builder.new.session }
     ensures kept { ¬ (result ≡ 0) → index.new ≡ index.old }
 {
-    let debug_name = match text_where(named, debug_name) {
-        Ok(name) => name,
-        Err(refused) => return refused.number(),
-    };
-    let Some(mut session) = builder.take(alloc) else {
-        return Refused::NoBuilder.number();
-    };
+    let debug_name = given!(text_where(named, debug_name));
+    let mut session = given!(builder.take(alloc), or NoBuilder);
     let answer = session.component_bytes(debug_name, bytes);
     builder.put(session);
     told(answer, index)
@@ -86,13 +76,8 @@ pub extern "C" fn wenc_component_ref(
     ensures kept { ¬ (result ≡ 0) → index.new ≡ index.old }
     ensures left { nested.new.session ≡ nested.old.session }
 {
-    let debug_name = match text_where(named, debug_name) {
-        Ok(name) => name,
-        Err(refused) => return refused.number(),
-    };
-    let Some(inner) = nested.take(alloc) else {
-        return Refused::NoBuilder.number();
-    };
+    let debug_name = given!(text_where(named, debug_name));
+    let inner = given!(nested.take(alloc), or NoBuilder);
     let Some(mut session) = builder.take(alloc) else {
         nested.put(inner);
         return Refused::NoBuilder.number();
@@ -142,9 +127,7 @@ pub extern "C" fn wenc_start(
         (start_entry function args.now results) }
     ensures kept { ¬ (result ≡ 0) → index.new ≡ index.old }
 {
-    let Some(mut session) = builder.take(alloc) else {
-        return Refused::NoBuilder.number();
-    };
+    let mut session = given!(builder.take(alloc), or NoBuilder);
     let answer = session.start(function, args, results);
     builder.put(session);
     told(answer, index)
@@ -156,21 +139,16 @@ pub extern "C" fn wenc_custom_section(
     alloc: Global,
     builder: &mut Handle,
     name: &[u8],
-    data: &[u8],
+    contents: &[u8],
 ) -> u32
     ensures added { IsUtf8 name.now → AddsWithoutIndex builder.old.session builder.new.session
-        (outcome_of result) (custom_entry name.now data.now) }
+        (outcome_of result) (custom_entry name.now contents.now) }
     ensures malformed { ¬ (IsUtf8 name.now)
         → Refuses 5 result builder.old.session builder.new.session }
 {
-    let name = match text(name) {
-        Ok(name) => name,
-        Err(refused) => return refused.number(),
-    };
-    let Some(mut session) = builder.take(alloc) else {
-        return Refused::NoBuilder.number();
-    };
-    let answer = session.custom_section(name, data);
+    let name = given!(text(name));
+    let mut session = given!(builder.take(alloc), or NoBuilder);
+    let answer = session.custom_section(name, contents);
     builder.put(session);
     outcome(answer)
 }
@@ -181,9 +159,7 @@ pub extern "C" fn wenc_raw_custom_section(alloc: Global, builder: &mut Handle, b
     ensures { AddsWithoutIndex builder.old.session builder.new.session (outcome_of result)
         (raw_entry bytes.now) }
 {
-    let Some(mut session) = builder.take(alloc) else {
-        return Refused::NoBuilder.number();
-    };
+    let mut session = given!(builder.take(alloc), or NoBuilder);
     let answer = session.raw_custom_section(bytes);
     builder.put(session);
     outcome(answer)
@@ -194,9 +170,7 @@ pub extern "C" fn wenc_raw_custom_section(alloc: Global, builder: &mut Handle, b
 pub extern "C" fn wenc_append_names(alloc: Global, builder: &mut Handle) -> u32
     ensures { AddsNamesAt builder.old.session builder.new.session (outcome_of result) }
 {
-    let Some(mut session) = builder.take(alloc) else {
-        return Refused::NoBuilder.number();
-    };
+    let mut session = given!(builder.take(alloc), or NoBuilder);
     let answer = session.append_names();
     builder.put(session);
     outcome(answer)

@@ -7,7 +7,7 @@ ghost use Rattle.wenc_c.specs.Sessions.{AddsIf, answer_of};
 
 use crate::handle::Handle;
 use crate::numbers::flag;
-use crate::refused::{Refused, told};
+use crate::refused::{Refused, given, told};
 use crate::session::by_builder;
 use std::alloc::Global;
 use wenc_builder::ComponentBuilder;
@@ -95,9 +95,7 @@ pub extern "C" fn wenc_builtin(
         (builtin_of opcode first second) }
     ensures kept { ¬ (result ≡ 0) → index.new ≡ index.old }
 {
-    let Some(mut session) = builder.take(alloc) else {
-        return Refused::NoBuilder.number();
-    };
+    let mut session = given!(builder.take(alloc), or NoBuilder);
     let answer = session.builtin(opcode, first, second);
     builder.put(session);
     told(answer, index)

@@ -9,7 +9,7 @@ ghost use Rattle.wenc_c.specs.Sessions.{answer_of};
 
 use crate::handle::Handle;
 use crate::packed::{Packed, Part};
-use crate::refused::{Refused, told};
+use crate::refused::{given, told};
 use crate::texts::{text, text_where};
 use std::alloc::Global;
 
@@ -38,20 +38,10 @@ pub extern "C" fn wenc_core_exports(
         → Refuses 7 result builder.old.session builder.new.session }
     ensures kept { ¬ (result ≡ 0) → index.new ≡ index.old }
 {
-    let debug_name = match text_where(named, debug_name) {
-        Ok(name) => name,
-        Err(refused) => return refused.number(),
-    };
-    let names = match text(names) {
-        Ok(names) => names,
-        Err(refused) => return refused.number(),
-    };
-    let Some(exports) = Packed::new(names, exports) else {
-        return Refused::BadArgument.number();
-    };
-    let Some(mut session) = builder.take(alloc) else {
-        return Refused::NoBuilder.number();
-    };
+    let debug_name = given!(text_where(named, debug_name));
+    let names = given!(text(names));
+    let exports = given!(Packed::new(names, exports), or BadArgument);
+    let mut session = given!(builder.take(alloc), or NoBuilder);
     let answer = session.core_exports(debug_name, exports);
     builder.put(session);
     told(answer, index)

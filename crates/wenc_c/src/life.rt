@@ -7,7 +7,7 @@ ghost use Rattle.wenc_builder.specs.declared.builder.space.Space.{Space as Space
 
 use crate::handle::Handle;
 use crate::numbers::space;
-use crate::refused::{Refused, outcome, told};
+use crate::refused::{Refused, given, outcome, told};
 use crate::session::Session;
 use std::alloc::{AllocError, Global};
 use wenc_base::Fault;
@@ -25,10 +25,7 @@ pub extern "C" fn wenc_new(alloc: Global, builder: &mut Handle) -> u32
         builder.put(session);
         return Refused::BadArgument.number();
     }
-    let session = match Session::new(alloc) {
-        Ok(session) => session,
-        Err(refused) => return refused.number(),
-    };
+    let session = given!(Session::new(alloc));
     match Box::new(alloc, session) {
         Ok(session) => {
             builder.put(session);
@@ -54,9 +51,7 @@ pub extern "C" fn wenc_finish(alloc: Global, builder: &mut Handle, len: &mut usi
         (answer_of result len.new) }
     ensures kept { ¬ (result ≡ 0) → len.new ≡ len.old }
 {
-    let Some(mut session) = builder.take(alloc) else {
-        return Refused::NoBuilder.number();
-    };
+    let mut session = given!(builder.take(alloc), or NoBuilder);
     let answer = session.finish(alloc);
     builder.put(session);
     match answer {
@@ -75,9 +70,7 @@ pub extern "C" fn wenc_bytes(alloc: Global, builder: &mut Handle, bytes: &mut [u
     ensures same { builder.new.session ≡ builder.old.session }
     ensures few { result < 10 }
 {
-    let Some(session) = builder.take(alloc) else {
-        return Refused::NoBuilder.number();
-    };
+    let session = given!(builder.take(alloc), or NoBuilder);
     let answer = session.copy(bytes);
     builder.put(session);
     outcome(answer)
@@ -97,12 +90,8 @@ pub extern "C" fn wenc_count(
     ensures kept { ¬ (result ≡ 0) → count.new ≡ count.old }
     ensures same { builder.new.session ≡ builder.old.session }
 {
-    let Some(space) = space(space_number) else {
-        return Refused::BadArgument.number();
-    };
-    let Some(session) = builder.take(alloc) else {
-        return Refused::NoBuilder.number();
-    };
+    let space = given!(space(space_number), or BadArgument);
+    let session = given!(builder.take(alloc), or NoBuilder);
     let answer = session.count(space);
     builder.put(session);
     told(answer, count)

@@ -12,7 +12,7 @@ ghost use Rattle.wenc_parts.specs.declared.imports.ComponentTypeRef.{ComponentTy
 
 use crate::handle::Handle;
 use crate::numbers::{given_type, kind, type_ref};
-use crate::refused::{Refused, told};
+use crate::refused::{given, told};
 use crate::texts::{name_of, text};
 use std::alloc::Global;
 
@@ -35,16 +35,9 @@ pub extern "C" fn wenc_import(
         → Refuses 7 result builder.old.session builder.new.session }
     ensures kept { ¬ (result ≡ 0) → index.new ≡ index.old }
 {
-    let name = match text(name) {
-        Ok(name) => name,
-        Err(refused) => return refused.number(),
-    };
-    let Some(ty) = type_ref(reference, of) else {
-        return Refused::BadArgument.number();
-    };
-    let Some(mut session) = builder.take(alloc) else {
-        return Refused::NoBuilder.number();
-    };
+    let name = given!(text(name));
+    let ty = given!(type_ref(reference, of), or BadArgument);
+    let mut session = given!(builder.take(alloc), or NoBuilder);
     let answer = session.import(name.into(), ty);
     builder.put(session);
     told(answer, index)
@@ -82,7 +75,7 @@ pub extern "C" fn wenc_import_named(
         → Refuses 7 result builder.old.session builder.new.session }
     ensures kept { ¬ (result ≡ 0) → index.new ≡ index.old }
 {
-    let name = match name_of(
+    let name = given!(name_of(
         name,
         has_implements,
         implements,
@@ -90,16 +83,9 @@ pub extern "C" fn wenc_import_named(
         version_suffix,
         has_external_id,
         external_id,
-    ) {
-        Ok(name) => name,
-        Err(refused) => return refused.number(),
-    };
-    let Some(ty) = type_ref(reference, of) else {
-        return Refused::BadArgument.number();
-    };
-    let Some(mut session) = builder.take(alloc) else {
-        return Refused::NoBuilder.number();
-    };
+    ));
+    let ty = given!(type_ref(reference, of), or BadArgument);
+    let mut session = given!(builder.take(alloc), or NoBuilder);
     let answer = session.import(name, ty);
     builder.put(session);
     told(answer, index)
@@ -129,19 +115,10 @@ pub extern "C" fn wenc_export(
         → Refuses 7 result builder.old.session builder.new.session }
     ensures kept { ¬ (result ≡ 0) → index.new ≡ index.old }
 {
-    let name = match text(name) {
-        Ok(name) => name,
-        Err(refused) => return refused.number(),
-    };
-    let Some(kind) = kind(kind_number) else {
-        return Refused::BadArgument.number();
-    };
-    let Some(ty) = given_type(reference, of) else {
-        return Refused::BadArgument.number();
-    };
-    let Some(mut session) = builder.take(alloc) else {
-        return Refused::NoBuilder.number();
-    };
+    let name = given!(text(name));
+    let kind = given!(kind(kind_number), or BadArgument);
+    let ty = given!(given_type(reference, of), or BadArgument);
+    let mut session = given!(builder.take(alloc), or NoBuilder);
     let answer = session.export(name.into(), kind, item, ty);
     builder.put(session);
     told(answer, index)
@@ -186,7 +163,7 @@ pub extern "C" fn wenc_export_named(
         → Refuses 7 result builder.old.session builder.new.session }
     ensures kept { ¬ (result ≡ 0) → index.new ≡ index.old }
 {
-    let name = match name_of(
+    let name = given!(name_of(
         name,
         has_implements,
         implements,
@@ -194,19 +171,10 @@ pub extern "C" fn wenc_export_named(
         version_suffix,
         has_external_id,
         external_id,
-    ) {
-        Ok(name) => name,
-        Err(refused) => return refused.number(),
-    };
-    let Some(kind) = kind(kind_number) else {
-        return Refused::BadArgument.number();
-    };
-    let Some(ty) = given_type(reference, of) else {
-        return Refused::BadArgument.number();
-    };
-    let Some(mut session) = builder.take(alloc) else {
-        return Refused::NoBuilder.number();
-    };
+    ));
+    let kind = given!(kind(kind_number), or BadArgument);
+    let ty = given!(given_type(reference, of), or BadArgument);
+    let mut session = given!(builder.take(alloc), or NoBuilder);
     let answer = session.export(name, kind, item, ty);
     builder.put(session);
     told(answer, index)

@@ -40,6 +40,24 @@ impl Refused {
     }
 }
 
+/// What a call was given, where it is of use. Where it isn't, the call is refused before anything
+/// has changed.
+macro_rules! given {
+    ($found:expr) => {
+        match $found {
+            Ok(value) => value,
+            Err(refused) => return refused.number(),
+        }
+    };
+    ($found:expr, or $refused:ident) => {
+        match $found {
+            Some(value) => value,
+            None => return $crate::refused::Refused::$refused.number(),
+        }
+    };
+}
+pub(crate) use given;
+
 /// Tells C an answer: a status, and where it is 0 what is put out.
 pub(crate) fn told(answer: Result<u32, Refused>, out: &mut u32) -> u32
     ensures told { answer_of result out.new ≡ answer }

@@ -246,12 +246,13 @@ impl Session {
     }
 
     /// Adds a custom section.
-    pub fn custom_section(&mut self, name: &str, data: &[u8]) -> Result<(), Refused>
-        ensures { AddsWithoutIndexTo self.old self.new result (custom_entry name.now data.now) }
+    pub fn custom_section(&mut self, name: &str, contents: &[u8]) -> Result<(), Refused>
+        ensures { AddsWithoutIndexTo self.old self.new result (custom_entry name.now contents.now) }
     {
         match self {
             Session::Building(builder) => {
-                by_builder(builder.custom_section(&CustomSection { name, data }))
+                let section = CustomSection { name, data: contents };
+                by_builder(builder.custom_section(&section))
             }
             Session::Finished(_) => Err(Refused::Finished),
         }

@@ -6,7 +6,7 @@ ghost use Rattle.wenc_c.specs.Reads.{AddsReadAt, read_custom, read_one};
 ghost use Rattle.wenc_c.specs.Sessions.{answer_of, outcome_of};
 
 use crate::handle::Handle;
-use crate::refused::{Refused, outcome, told};
+use crate::refused::{Refused, given, outcome, told};
 use crate::texts::text_where;
 use std::alloc::Global;
 
@@ -36,16 +36,11 @@ pub extern "C" fn wenc_item(
     ensures kept { ¬ (result ≡ 0) → index.new ≡ index.old }
     ensures none { section ≡ 0 → index.new ≡ index.old }
 {
-    let debug_name = match text_where(named, debug_name) {
-        Ok(name) => name,
-        Err(refused) => return refused.number(),
-    };
+    let debug_name = given!(text_where(named, debug_name));
     if section > 11 {
         return Refused::BadArgument.number();
     }
-    let Some(mut session) = builder.take(alloc) else {
-        return Refused::NoBuilder.number();
-    };
+    let mut session = given!(builder.take(alloc), or NoBuilder);
     if section == 0 {
         let answer = session.custom_item(alloc, text);
         builder.put(session);

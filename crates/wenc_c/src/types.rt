@@ -11,7 +11,7 @@ ghost use Rattle.wenc_parts.specs.declared.types.ComponentValType.{ComponentValT
 use crate::handle::Handle;
 use crate::numbers::answer_type;
 use crate::packed::{Packed, Part};
-use crate::refused::{Refused, told};
+use crate::refused::{given, told};
 use crate::texts::{text, text_where};
 use std::alloc::Global;
 
@@ -41,20 +41,10 @@ pub extern "C" fn wenc_record(
         → Refuses 7 result builder.old.session builder.new.session }
     ensures kept { ¬ (result ≡ 0) → index.new ≡ index.old }
 {
-    let debug_name = match text_where(named, debug_name) {
-        Ok(name) => name,
-        Err(refused) => return refused.number(),
-    };
-    let names = match text(names) {
-        Ok(names) => names,
-        Err(refused) => return refused.number(),
-    };
-    let Some(fields) = Packed::new(names, fields) else {
-        return Refused::BadArgument.number();
-    };
-    let Some(mut session) = builder.take(alloc) else {
-        return Refused::NoBuilder.number();
-    };
+    let debug_name = given!(text_where(named, debug_name));
+    let names = given!(text(names));
+    let fields = given!(Packed::new(names, fields), or BadArgument);
+    let mut session = given!(builder.take(alloc), or NoBuilder);
     let answer = session.record(debug_name, fields);
     builder.put(session);
     told(answer, index)
@@ -93,23 +83,11 @@ pub extern "C" fn wenc_function(
         → Refuses 7 result builder.old.session builder.new.session }
     ensures kept { ¬ (result ≡ 0) → index.new ≡ index.old }
 {
-    let debug_name = match text_where(named, debug_name) {
-        Ok(name) => name,
-        Err(refused) => return refused.number(),
-    };
-    let names = match text(names) {
-        Ok(names) => names,
-        Err(refused) => return refused.number(),
-    };
-    let Some(params) = Packed::new(names, params) else {
-        return Refused::BadArgument.number();
-    };
-    let Some(answer_type) = answer_type(reference, of) else {
-        return Refused::BadArgument.number();
-    };
-    let Some(mut session) = builder.take(alloc) else {
-        return Refused::NoBuilder.number();
-    };
+    let debug_name = given!(text_where(named, debug_name));
+    let names = given!(text(names));
+    let params = given!(Packed::new(names, params), or BadArgument);
+    let answer_type = given!(answer_type(reference, of), or BadArgument);
+    let mut session = given!(builder.take(alloc), or NoBuilder);
     let answer = session.function(debug_name, is_async, params, answer_type);
     builder.put(session);
     told(answer, index)
