@@ -56,6 +56,7 @@ macro_rules! given {
         }
     };
 }
+
 pub(crate) use given;
 
 /// Tells C an answer: a status, and where it is 0 what is put out.

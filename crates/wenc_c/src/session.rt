@@ -251,7 +251,10 @@ impl Session {
     {
         match self {
             Session::Building(builder) => {
-                let section = CustomSection { name, data: contents };
+                let section = CustomSection {
+                    name,
+                    data: contents,
+                };
                 by_builder(builder.custom_section(&section))
             }
             Session::Finished(_) => Err(Refused::Finished),
