@@ -8,7 +8,7 @@ ghost use Rattle.wenc_builder.specs.Entry.{Entry};
 ghost use Rattle.wenc_builder.specs.Holds.{Holds};
 ghost use Rattle.wenc_builder.specs.Item.{CoreInstanceItem, CoreTypeItem, InstanceItem, AliasItem, TypeItem, CanonItem, StartItem};
 ghost use Rattle.wenc_builder.specs.Item.{ImportItem, ExportItem};
-ghost use Rattle.wenc_c.specs.Reads.{AddsRead, of_nested_refusal, of_refusal, read_custom, read_one};
+ghost use Rattle.wenc_c.specs.Reads.{AddsRead, read_custom, read_one};
 ghost use Rattle.wenc_canon.specs.reading.Canonicals.{read_canonical};
 ghost use Rattle.wenc_types.specs.reading.ComponentTypes.{read_type};
 ghost use Rattle.wenc_parts.specs.reading.Aliases.{read_alias};
@@ -19,34 +19,14 @@ use crate::items::{all, whole_export, whole_import, whole_start, whole_type};
 use crate::refused::Refused;
 use crate::session::by_builder;
 use crate::written::{write_core_type, write_type};
-use std::alloc::{AllocError, Global};
-use wenc_base::{CustomSection, Fault};
+use std::alloc::Global;
+use wenc_base::CustomSection;
 use wenc_builder::ComponentBuilder;
 use wenc_canon::CanonTree;
 use wenc_parts::AliasTree;
-use wenc_read::{NestedRefusal, Refusal, name_of};
+use wenc_read::name_of;
 use wenc_sections::{CoreInstanceTree, InstanceTree};
 use wenc_types::CoreTypeTree;
-
-/// Why nothing was read, as a call is refused.
-fn refused(refusal: Refusal) -> Refused
-    ensures { result ≡ of_refusal refusal }
-{
-    match refusal {
-        Refusal::Memory => Refused::Fault(Fault::Memory(AllocError)),
-        Refusal::Malformed => Refused::Malformed,
-    }
-}
-
-/// The same of a type.
-fn type_refused(refusal: NestedRefusal) -> Refused
-    ensures { result ≡ of_nested_refusal refusal }
-{
-    match refusal {
-        NestedRefusal::Flat(refusal) => refused(refusal),
-        NestedRefusal::TooDeep => Refused::TooDeep,
-    }
-}
 
 /// Adds an instance of a core module.
 fn core_instance(
@@ -59,10 +39,8 @@ fn core_instance(
     ensures { AddsRead Enters builder.old builder.new result (option_copied debug_name.entry)
         (made CoreInstanceItem (done read_core_instance text.now)) }
 {
-    match all::<CoreInstanceTree>(alloc, text) {
-        Ok(instance) => by_builder(builder.core_instance_tree(debug_name, &instance)),
-        Err(refusal) => Err(refused(refusal)),
-    }
+    let instance = all::<CoreInstanceTree>(alloc, text)?;
+    by_builder(builder.core_instance_tree(debug_name, &instance))
 }
 
 /// Adds a core type.
@@ -77,10 +55,8 @@ fn core_type(
     ensures { AddsRead Enters builder.old builder.new result (option_copied debug_name.entry)
         (made CoreTypeItem (done read_core_type text.now)) }
 {
-    match all::<CoreTypeTree>(alloc, text) {
-        Ok(ty) => by_builder(write_core_type(builder, debug_name, &ty)),
-        Err(refusal) => Err(refused(refusal)),
-    }
+    let ty = all::<CoreTypeTree>(alloc, text)?;
+    by_builder(write_core_type(builder, debug_name, &ty))
 }
 
 /// Adds an instance of a component.
@@ -94,10 +70,8 @@ fn instance(
     ensures { AddsRead Enters builder.old builder.new result (option_copied debug_name.entry)
         (made InstanceItem (done read_instance text.now)) }
 {
-    match all::<InstanceTree>(alloc, text) {
-        Ok(instance) => by_builder(builder.instance_tree(debug_name, &instance)),
-        Err(refusal) => Err(refused(refusal)),
-    }
+    let instance = all::<InstanceTree>(alloc, text)?;
+    by_builder(builder.instance_tree(debug_name, &instance))
 }
 
 /// Adds an alias.
@@ -111,10 +85,8 @@ fn alias(
     ensures { AddsRead Enters builder.old builder.new result (option_copied debug_name.entry)
         (made AliasItem (done read_alias text.now)) }
 {
-    match all::<AliasTree>(alloc, text) {
-        Ok(alias) => by_builder(builder.alias(debug_name, alias.as_alias())),
-        Err(refusal) => Err(refused(refusal)),
-    }
+    let alias = all::<AliasTree>(alloc, text)?;
+    by_builder(builder.alias(debug_name, alias.as_alias()))
 }
 
 /// Adds a type.
@@ -129,10 +101,8 @@ fn defined_type(
     ensures { AddsRead Enters builder.old builder.new result (option_copied debug_name.entry)
         (made TypeItem (done (read_type 100) text.now)) }
 {
-    match whole_type(alloc, text) {
-        Ok(ty) => by_builder(write_type(builder, debug_name, &ty)),
-        Err(refusal) => Err(type_refused(refusal)),
-    }
+    let ty = whole_type(alloc, text)?;
+    by_builder(write_type(builder, debug_name, &ty))
 }
 
 /// Adds a canonical function.
@@ -146,10 +116,8 @@ fn canonical(
     ensures { AddsRead Enters builder.old builder.new result (option_copied debug_name.entry)
         (made CanonItem (done read_canonical text.now)) }
 {
-    match all::<CanonTree>(alloc, text) {
-        Ok(function) => by_builder(builder.canonical_tree(debug_name, &function)),
-        Err(refusal) => Err(refused(refusal)),
-    }
+    let function = all::<CanonTree>(alloc, text)?;
+    by_builder(builder.canonical_tree(debug_name, &function))
 }
 
 /// Adds a start.
@@ -158,10 +126,8 @@ fn start(builder: &mut ComponentBuilder, alloc: Global, text: &[u8]) -> Result<u
     ensures { AddsRead Enters builder.old builder.new result None
         (made StartItem (done read_start_content text.now)) }
 {
-    match whole_start(alloc, text) {
-        Ok((function, args, results)) => by_builder(builder.start(function, args, results)),
-        Err(refusal) => Err(refused(refusal)),
-    }
+    let (function, args, results) = whole_start(alloc, text)?;
+    by_builder(builder.start(function, args, results))
 }
 
 /// Adds an import.
@@ -170,10 +136,8 @@ fn import(builder: &mut ComponentBuilder, alloc: Global, text: &[u8]) -> Result<
     ensures { AddsRead Enters builder.old builder.new result None
         (made ImportItem (done read_import text.now)) }
 {
-    match whole_import(alloc, text) {
-        Ok((name, ty)) => by_builder(builder.import(name.as_name(), ty)),
-        Err(refusal) => Err(refused(refusal)),
-    }
+    let (name, ty) = whole_import(alloc, text)?;
+    by_builder(builder.import(name.as_name(), ty))
 }
 
 /// Adds an export.
@@ -182,10 +146,8 @@ fn export(builder: &mut ComponentBuilder, alloc: Global, text: &[u8]) -> Result<
     ensures { AddsRead Enters builder.old builder.new result None
         (made ExportItem (done read_inline_export text.now)) }
 {
-    match whole_export(alloc, text) {
-        Ok((name, kind, index, ty)) => by_builder(builder.export(name.as_name(), kind, index, ty)),
-        Err(refusal) => Err(refused(refusal)),
-    }
+    let (name, kind, index, ty) = whole_export(alloc, text)?;
+    by_builder(builder.export(name.as_name(), kind, index, ty))
 }
 
 /// Adds the custom section with this content.
@@ -198,13 +160,11 @@ pub(crate) fn add_custom(
     ensures { AddsRead EntersWithoutIndex builder.old builder.new result None
         (read_custom text.now) }
 {
-    match name_of(alloc, text) {
-        Ok((name, data)) => by_builder(builder.custom_section(&CustomSection {
-            name: name.as_str(),
-            data,
-        })),
-        Err(refusal) => Err(refused(refusal)),
-    }
+    let (name, data) = name_of(alloc, text)?;
+    by_builder(builder.custom_section(&CustomSection {
+        name: name.as_str(),
+        data,
+    }))
 }
 
 /// Adds the item with this text, which stands in the section with this id, from 1 to 11, with a debug name or none.

@@ -2,7 +2,9 @@
 ghost use Rattle.std.specs.Prelude.{◌≡◌, ◌<◌, Err, ℕ};
 ghost use Rattle.wenc_c.specs.Sessions.{answer_of, outcome_of};
 
+use std::alloc::AllocError;
 use wenc_base::Fault;
+use wenc_read::{NestedRefusal, Refusal};
 
 /// Why a call from outside was refused.
 #[derive(Clone, Copy)]
@@ -36,6 +38,32 @@ impl Refused {
             Refused::BadArgument => 7,
             Refused::Finished => 8,
             Refused::NoBuilder => 9,
+        }
+    }
+}
+
+impl From<Refusal> for Refused {
+    ghost use Rattle.wenc_c.specs.Reads.{of_refusal};
+
+    ghost from_gives = { λ refusal refused. refused ≡ of_refusal refusal };
+
+    fn from(refusal: Refusal) -> Refused {
+        match refusal {
+            Refusal::Memory => Refused::Fault(Fault::Memory(AllocError)),
+            Refusal::Malformed => Refused::Malformed,
+        }
+    }
+}
+
+impl From<NestedRefusal> for Refused {
+    ghost use Rattle.wenc_c.specs.Reads.{of_nested_refusal};
+
+    ghost from_gives = { λ refusal refused. refused ≡ of_nested_refusal refusal };
+
+    fn from(refusal: NestedRefusal) -> Refused {
+        match refusal {
+            NestedRefusal::Flat(refusal) => refusal.into(),
+            NestedRefusal::TooDeep => Refused::TooDeep,
         }
     }
 }
