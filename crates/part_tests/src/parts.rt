@@ -1,7 +1,6 @@
 //! Tests of `wenc_parts` and of values of `wenc_base`: worked parts, and a stranger's type.
 
 mod aliases;
-pub mod equality;
 mod kinds;
 pub mod names;
 pub mod own_sections;

@@ -2,7 +2,6 @@
 
 use crate::accepted::ok;
 use crate::base::values::{check, check_all};
-use crate::parts::equality::tells_apart;
 use crate::swept;
 use crate::swept::check_each;
 use refusing::Refusing;
@@ -263,55 +262,6 @@ fn types_and_groups(rt: HostRuntime) {
     for (rows, wanted) in GROUPS {
         check_group(&rt, rt.alloc(), rows, *wanted);
     }
-}
-
-// A function of a number, one that gives a number, and an array.
-const COMPARED: &[Shape<'static>] = &[
-    Shape::Function(NUMBER, &[]),
-    Shape::Function(&[], NUMBER),
-    Shape::Array(I8),
-];
-
-fn each_composite(rt: &impl Abort, alloc: Global) -> Vec<CompositeType> {
-    let mut types = Vec::new(alloc);
-    for shape in COMPARED {
-        add(rt, &mut types, composite(rt, alloc, *shape));
-    }
-    types
-}
-
-const COMPARED_SUB_TYPES: &[Sub<'static>] = &[
-    (true, None, Shape::Function(NUMBER, &[])),
-    (true, None, Shape::Function(&[], NUMBER)),
-];
-
-fn group_of_one(rt: &impl Abort, alloc: Global, row: &Sub<'_>) -> GroupTree {
-    GroupTree::Sub(sub_type(rt, alloc, row))
-}
-
-fn each_group(rt: &impl Abort, alloc: Global) -> Vec<GroupTree> {
-    let mut groups = Vec::new(alloc);
-    for row in COMPARED_SUB_TYPES {
-        add(rt, &mut groups, group_of_one(rt, alloc, row));
-    }
-    groups
-}
-
-/// Each of these values equals the one of the others that stands at its place, and no other.
-fn tell_apart<T: Eq + Drop>(rt: &impl Abort, values: Vec<T>, others: Vec<T>) {
-    tells_apart(rt, values.as_slice(), others.as_slice());
-}
-
-#[test]
-fn types_are_compared(rt: HostRuntime) {
-    let alloc = rt.alloc();
-    tell_apart(&rt, each_composite(&rt, alloc), each_composite(&rt, alloc));
-    tell_apart(
-        &rt,
-        each_sub_type(&rt, alloc, COMPARED_SUB_TYPES),
-        each_sub_type(&rt, alloc, COMPARED_SUB_TYPES),
-    );
-    tell_apart(&rt, each_group(&rt, alloc), each_group(&rt, alloc));
 }
 
 /// Whether a function that is made has its types.
