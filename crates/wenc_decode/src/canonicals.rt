@@ -2,7 +2,7 @@
 ghost use Rattle.wenc_base.specs.Readers.{pick, nowhere};
 ghost use Rattle.wenc_canon.specs.CanonTrees.{canon_view};
 ghost use Rattle.wenc_canon.specs.reading.Canonicals.{read_lifted, read_lowered, rows};
-ghost use Rattle.wenc_decode.specs.inside.Canonicals.{read_zero, stream_rows, future_rows, error_context_rows, thread_rows, forward_rows};
+ghost use Rattle.wenc_decode.specs.inside.Canonicals.{read_zero, stream_rows, future_rows, error_context_rows, thread_rows};
 ghost use Rattle.wenc_read.specs.Gives.{Gives};
 
 use crate::decode::Decode;
@@ -278,7 +278,7 @@ fn of_error_context<A: Allocator + Copy>(
     }
 }
 
-/// The same from the rows of threads on.
+/// The same of the last rows: those of threads, and those that forward.
 fn of_thread<A: Allocator + Copy>(
     alloc: A,
     opcode: u8,
@@ -296,20 +296,6 @@ fn of_thread<A: Allocator + Copy>(
         0x2b => cancellable!(bytes, ThreadYieldThenResume),
         0x2c => cancellable!(bytes, ThreadSuspendThenPromote),
         0x2d => cancellable!(bytes, ThreadYieldThenPromote),
-        _ => of_forward(alloc, opcode, bytes),
-    }
-}
-
-/// The same of the last rows: those that forward, and those of shared threads.
-fn of_forward<A: Allocator + Copy>(
-    alloc: A,
-    opcode: u8,
-    bytes: &[u8],
-) -> Result<(CanonTree<A>, &[u8]), Refusal>
-    ensures { Gives (λ x. (canon_view x.0, x.1.now)) result
-        (pick forward_rows nowhere opcode bytes.now) }
-{
-    match opcode {
         0x2e => indexed!(alloc, bytes, StreamForward),
         0x2f => indexed!(alloc, bytes, FutureForward),
         0x40 => indexed!(alloc, bytes, ThreadSpawnRef),

@@ -22,7 +22,3 @@ error_context_rows = drop 26 rows
 -- behind those of error contexts, sets of waitables and backpressure
 abbrev pub thread_rows : List (ℕ × Reader Canonical)
 thread_rows = drop 36 rows
-
--- behind those of threads that are not shared
-abbrev pub forward_rows : List (ℕ × Reader Canonical)
-forward_rows = drop 44 rows
