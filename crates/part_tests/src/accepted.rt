@@ -1,26 +1,13 @@
-//! What a test takes of an answer that is to be accepted. Each crate of tests has its own, since no library ends the
-//! process.
+//! What a test takes of an answer that is to be accepted. Each crate of tests has its own, since no
+//! library ends the process.
 
 use std::process::Abort;
-use wenc_base::Fault;
 
-/// What a call gives that is to be accepted. It stands in place of `?`, since each early end drops all that is alive,
-/// which is dear to a test's proof.
+/// What a call gives that is to be accepted. It stands in place of `?`, since each early end drops
+/// all that is alive, which is dear to a test's proof.
 pub fn ok<T, E>(rt: &impl Abort, outcome: Result<T, E>) -> T {
     match outcome {
         Ok(value) => value,
         Err(_) => panic!(rt; "it is refused"),
-    }
-}
-
-/// A sweep found all as it should be.
-pub fn is_well(rt: &impl Abort, swept: Result<bool, Fault>) {
-    assert!(rt; ok(rt, swept));
-}
-
-/// No step of these was found to be wrong.
-pub fn all_are_well(rt: &impl Abort, steps: &str, first_wrong: Option<usize>) {
-    if let Some(i) = first_wrong {
-        panic!(rt; "{steps}: step {i}");
     }
 }

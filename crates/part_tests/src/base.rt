@@ -1,11 +1,10 @@
 //! Tests of `wenc_base` by its public calls.
 
-pub mod calls;
 mod composites;
 mod entities;
 mod holder;
 mod kept;
+mod names;
 mod refusals;
-pub mod steps;
 mod types;
-pub mod values;
+mod values;

@@ -1,9 +1,5 @@
-//! Tests of `wenc_canon`: each call, the row that it adds, and whole sections; and each request for
-//! memory of these calls is refused in turn.
+//! Tests of `wenc_canon`: options, each call, whole sections, and trees.
 
 mod calls;
-mod fields;
-mod functions;
-mod rows;
 mod sections;
 mod trees;

@@ -8,6 +8,8 @@ mod base;
 #[cfg(test)]
 mod canon;
 #[cfg(test)]
+mod checks;
+#[cfg(test)]
 mod parts;
 #[cfg(test)]
-mod swept;
+mod refused;

@@ -1,10 +1,7 @@
-//! Tests of `wenc_parts` and of values of `wenc_base`: worked parts, and a stranger's type.
+//! Tests of `wenc_parts`, sections, and a stranger's types.
 
 mod aliases;
 mod kinds;
-pub mod names;
-pub mod own_sections;
-mod own_values;
+mod names;
 mod section_ids;
-mod types;
-mod values;
+mod sections;

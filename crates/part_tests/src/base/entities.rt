@@ -1,6 +1,6 @@
-use crate::base::values::{check, check_all};
-use crate::swept::check_each;
-use sweeping::LARGE;
+//! Types of entities, and their parts by themselves.
+
+use crate::checks::{check, check_all};
 use wenc_base::{
     AbstractHeapType, EntityType, GlobalType, HeapType, MemoryType, RefType, TableType, TagType,
     ValType,
@@ -118,97 +118,7 @@ const ENTITIES: &[(EntityType, &[u8])] = &[
     (EntityType::Tag(TAG), &[0x04, 0x00, 0x00]),
 ];
 
-// A size whose text has ten bytes.
-const HUGE: u64 = 18446744073709551615;
-
-const LARGE_TABLE: TableType = TableType {
-    element_type: RefType {
-        nullable: false,
-        heap_type: HeapType::Concrete(LARGE),
-    },
-    table64: true,
-    minimum: HUGE,
-    maximum: None,
-};
-
-const BOUNDED_TABLE: TableType = TableType {
-    element_type: RefType {
-        nullable: false,
-        heap_type: HeapType::Concrete(LARGE),
-    },
-    table64: true,
-    minimum: HUGE,
-    maximum: Some(HUGE),
-};
-
-const LARGE_MEMORY: MemoryType = MemoryType {
-    minimum: HUGE,
-    maximum: None,
-    memory64: true,
-    shared: true,
-};
-
-const BOUNDED_MEMORY: MemoryType = MemoryType {
-    minimum: HUGE,
-    maximum: Some(HUGE),
-    memory64: true,
-    shared: true,
-};
-
-const LARGE_GLOBAL: GlobalType = GlobalType {
-    val_type: ValType::Ref(RefType {
-        nullable: true,
-        heap_type: HeapType::Concrete(LARGE),
-    }),
-    mutable: true,
-};
-
-const LARGE_TAG: TagType = TagType {
-    func_type_idx: LARGE,
-};
-
-const LARGE_ENTITIES: &[EntityType] = &[
-    EntityType::Function(LARGE),
-    EntityType::Table(LARGE_TABLE),
-    EntityType::Table(BOUNDED_TABLE),
-    EntityType::Memory(LARGE_MEMORY),
-    EntityType::Memory(BOUNDED_MEMORY),
-    EntityType::Global(LARGE_GLOBAL),
-    EntityType::Tag(LARGE_TAG),
-];
-
 // Memories with every flag.
-#[test]
-fn tables_and_memories(rt: HostRuntime) {
-    for (element_type, minimum, maximum, table64, bytes) in TABLES {
-        let table = TableType {
-            element_type: *element_type,
-            table64: *table64,
-            minimum: *minimum,
-            maximum: *maximum,
-        };
-        check(&rt, rt.alloc(), &EntityType::Table(table), bytes);
-    }
-    for (minimum, maximum, memory64, shared, bytes) in MEMORIES {
-        let memory = MemoryType {
-            minimum: *minimum,
-            maximum: *maximum,
-            memory64: *memory64,
-            shared: *shared,
-        };
-        check(&rt, rt.alloc(), &EntityType::Memory(memory), bytes);
-    }
-}
-
-const LARGE_TABLES: &[TableType] = &[LARGE_TABLE, BOUNDED_TABLE];
-
-const UNBOUNDED_AND_BOUNDED: &[MemoryType] = &[LARGE_MEMORY, BOUNDED_MEMORY];
-
-const LARGE_GLOBALS: &[GlobalType] = &[LARGE_GLOBAL];
-
-const LARGE_TAGS: &[TagType] = &[LARGE_TAG];
-
-// Entities, and their parts by themselves.
 #[test]
 fn entities(rt: HostRuntime) {
     let alloc = rt.alloc();
@@ -218,14 +128,22 @@ fn entities(rt: HostRuntime) {
     check_all(&rt, alloc, LARGE_MEMORIES);
     check_all(&rt, alloc, GLOBALS);
     check_all(&rt, alloc, TAGS);
-}
-
-#[test]
-fn large_entities(rt: HostRuntime) {
-    let alloc = rt.alloc();
-    check_each(&rt, alloc, LARGE_ENTITIES);
-    check_each(&rt, alloc, LARGE_TABLES);
-    check_each(&rt, alloc, UNBOUNDED_AND_BOUNDED);
-    check_each(&rt, alloc, LARGE_GLOBALS);
-    check_each(&rt, alloc, LARGE_TAGS);
+    for (element_type, minimum, maximum, table64, wanted) in TABLES {
+        let table = TableType {
+            element_type: *element_type,
+            table64: *table64,
+            minimum: *minimum,
+            maximum: *maximum,
+        };
+        check(&rt, alloc, &EntityType::Table(table), wanted);
+    }
+    for (minimum, maximum, memory64, shared, wanted) in MEMORIES {
+        let memory = MemoryType {
+            minimum: *minimum,
+            maximum: *maximum,
+            memory64: *memory64,
+            shared: *shared,
+        };
+        check(&rt, alloc, &EntityType::Memory(memory), wanted);
+    }
 }

@@ -1,370 +1,255 @@
 //! Members of a holder.
 
-use crate::accepted::{all_are_well, ok};
-use crate::base::calls::{EncoderCall, Held, Listed, Member, Piece};
-use crate::base::refusals::LARGE;
-use crate::base::steps::{DONE, MANY, Step, UNFINISHED, first_wrong};
-use refusing::Refusing;
+use crate::accepted::ok;
+use crate::base::refusals::{LARGE, OPEN};
+use crate::checks::{are, check, encode};
 use std::alloc::Global;
 use std::process::Abort;
-use wenc_base::{Fault, Holder, section_size};
+use wenc_base::{Encode, Fault, Holder, Lender, Verbatim};
 
-type Size = (u32, u64, Result<u32, Fault>);
+pub type Answer = Result<(), Fault>;
 
-// The bytes of the count and those of the members. The text of 128 has two bytes.
-const SIZES: &[Size] = &[
-    (0, 0, Ok(1)),
-    (1, 5, Ok(6)),
-    (128, 5, Ok(7)),
-    (0, 4294967294, Ok(4294967295)),
-    (0, 4294967295, Err(Fault::TooLarge)),
-    (128, 4294967293, Ok(4294967295)),
-    (128, 4294967294, Err(Fault::TooLarge)),
-    (4294967295, 4294967290, Ok(4294967295)),
-    (4294967295, 4294967291, Err(Fault::TooLarge)),
-    (0, 18446744073709551615, Err(Fault::TooLarge)),
-];
+const MANY: Answer = Err(Fault::TooMany);
 
-#[test]
-fn section_sizes(rt: HostRuntime) {
-    for (count, body, wanted) in SIZES {
-        assert!(rt;
-            section_size(*count, *body) == *wanted,
-            "of {count} with {body}"
-        );
-    }
+pub const UNFINISHED: Answer = Err(Fault::Unfinished);
+
+/// A holder that is finished has no member to write at. No test wants this answer.
+const WHOLE: Answer = Err(Fault::TooLarge);
+
+// The calls by themselves: what a test does with the answers then rests on nothing that they
+// promise.
+
+pub fn add<T: Encode>(to: &mut Holder, value: &T) -> Answer {
+    to.add_encoded(value)
 }
 
-const MEMBERS: &[Step<'static>] = &[
-    Step::Whole(0, &[], &[0x01, 0x00]),
-    Step::List(&[0x00]),
-    Step::Member(Member::Add(&[0xaa, 0xbb]), DONE),
-    Step::Whole(1, &[0xaa, 0xbb], &[0x03, 0x01, 0xaa, 0xbb]),
-    Step::Member(Member::Named("f", 128), DONE),
-    Step::Whole(
-        2,
-        &[0xaa, 0xbb, 0x01, 0x66, 0x80, 0x01],
-        &[0x07, 0x02, 0xaa, 0xbb, 0x01, 0x66, 0x80, 0x01],
-    ),
-    Step::List(&[0x02, 0xaa, 0xbb, 0x01, 0x66, 0x80, 0x01]),
-    Step::Member(
-        Member::Listed(Listed::TruthAndText(true, &[1, 128], "g")),
-        DONE,
-    ),
-    Step::Whole(
-        3,
-        &[
-            0xaa, 0xbb, 0x01, 0x66, 0x80, 0x01, 0x01, 0x02, 0x01, 0x80, 0x01, 0x01, 0x67,
-        ],
-        &[
-            0x0e, 0x03, 0xaa, 0xbb, 0x01, 0x66, 0x80, 0x01, 0x01, 0x02, 0x01, 0x80, 0x01, 0x01,
-            0x67,
-        ],
-    ),
-];
+fn add_list<L: Encode, F: Encode>(to: &mut Holder, lead: &L, list: &[usize], tail: &F) -> Answer {
+    to.add_listed(lead, list.iter().copied(), tail)
+}
+
+pub fn open(to: &mut Holder, lead: &[u8]) -> Answer {
+    to.open(lead)
+}
+
+fn append<T: Encode>(to: &mut Holder, value: &T) -> Answer {
+    if to.is_finished() {
+        return WHOLE;
+    }
+    to.append_encoded(value)
+}
+
+fn append_list(to: &mut Holder, lead: &[u8], list: &[usize]) -> Answer {
+    if to.is_finished() {
+        return WHOLE;
+    }
+    to.append_list(lead, list.iter().copied())
+}
+
+fn end_with<T: Encode>(to: &mut Holder, value: &T) -> Answer {
+    if to.is_finished() {
+        return WHOLE;
+    }
+    to.end_with(value)
+}
+
+fn end_with_list<T: Encode + Copy>(to: &mut Holder, lead: &[u8], list: &[T]) -> Answer {
+    if to.is_finished() {
+        return WHOLE;
+    }
+    to.end_with_list(lead, list.iter().copied())
+}
+
+fn encode_section(holder: &Holder, sink: &mut Vec<u8>) -> Answer {
+    holder.encode_section(sink)
+}
+
+/// It is finished, with so many members. Its section, which has less than 128 bytes behind its size
+/// and less than 128 members, is this; its list is what stands behind the size, and its bytes are
+/// what stands behind the count.
+pub fn is_whole(rt: &impl Abort, alloc: Global, holder: &Holder, count: u32, section: &[u8]) {
+    assert!(rt; holder.is_finished() && !holder.is_opened() && holder.len() == count);
+    let mut sink = Vec::new(alloc);
+    ok(rt, encode_section(holder, &mut sink));
+    are(rt, sink.as_slice(), section);
+    check(rt, alloc, holder, section.get(1..).unwrap_or(&[]));
+    are(rt, holder.as_slice(), section.get(2..).unwrap_or(&[]));
+}
+
+/// A member is being written, of which there is the lead alone or more. Neither a section nor a
+/// list of members comes of it.
+pub fn is_begun(
+    rt: &impl Abort,
+    alloc: Global,
+    holder: &Holder,
+    count: u32,
+    body: &[u8],
+    is_opened: bool,
+) {
+    assert!(rt; !holder.is_finished() && holder.is_opened() == is_opened);
+    assert!(rt; holder.len() == count);
+    are(rt, holder.as_slice(), body);
+    let mut sink = ok(rt, [0x99].to_vec(alloc));
+    assert!(rt; encode_section(holder, &mut sink) == UNFINISHED);
+    assert!(rt; encode(holder, &mut sink) == UNFINISHED);
+    are(rt, sink.as_slice(), &[0x99]);
+}
+
+const LIST: &[usize] = &[1, 128];
+
+const NONE: &[usize] = &[];
 
 // A member without bytes is counted too.
-const EMPTY_MEMBERS: &[Step<'static>] = &[
-    Step::Member(Member::Add(&[]), DONE),
-    Step::Member(Member::Nothing, DONE),
-    Step::Whole(2, &[], &[0x01, 0x02]),
-    Step::Member(Member::Listed(Listed::Alone(&[])), DONE),
-    Step::Whole(3, &[0x00], &[0x02, 0x03, 0x00]),
-];
+fn add_members(to: &mut Holder) -> Answer {
+    to.add(&[0xaa, 0xbb])?;
+    add(to, &("f", 128u32))?;
+    add_list(to, &true, LIST, &"g")?;
+    to.add(&[])?;
+    add(to, &())?;
+    add_list(to, &(), NONE, &())
+}
 
-const ONE: Step<'static> = Step::Whole(1, &[0xaa], &[0x02, 0x01, 0xaa]);
-
-// Each of these has a part that is refused, some behind parts that were written. The first refusal
-// that is met is answered.
-const REFUSED_MEMBERS: &[Step<'static>] = &[
-    Step::Member(Member::Add(&[0xaa]), DONE),
-    Step::Member(Member::Size(LARGE), MANY),
-    Step::Member(Member::Pair(1, LARGE), MANY),
-    Step::Member(Member::Unfinished, UNFINISHED),
-    Step::Member(Member::Listed(Listed::Size(LARGE, &[1])), MANY),
-    Step::Member(Member::Listed(Listed::Number(1, &[1, LARGE])), MANY),
-    Step::Member(Member::Listed(Listed::NumberAndSize(1, &[1], LARGE)), MANY),
-    Step::Member(
-        Member::Listed(Listed::UnfinishedAndSize(&[LARGE], LARGE)),
-        UNFINISHED,
-    ),
-    Step::Member(
-        Member::Listed(Listed::NumberAndUnfinished(1, &[LARGE])),
-        MANY,
-    ),
-    ONE,
-    Step::Member(Member::Add(&[0xbb]), DONE),
-    Step::Whole(2, &[0xaa, 0xbb], &[0x03, 0x02, 0xaa, 0xbb]),
-];
-
-const PIECE_BY_PIECE: &[Step<'static>] = &[
-    Step::Member(Member::Add(&[0xaa]), DONE),
-    Step::Member(Member::Open(&[1, 2]), DONE),
-    Step::Begun(2, &[0xaa, 1, 2], true),
-    Step::Piece(Piece::Append(&[3]), DONE),
-    Step::Begun(2, &[0xaa, 1, 2, 3], false),
-    Step::Piece(Piece::Text("f"), DONE),
-    Step::Begun(2, &[0xaa, 1, 2, 3, 1, 0x66], false),
-];
-
-const CLOSED: &[Step<'static>] = &[
-    Step::Member(Member::Add(&[0xaa]), DONE),
-    Step::Member(Member::Open(&[1, 2]), DONE),
-    Step::Piece(Piece::Text("f"), DONE),
-    Step::Piece(Piece::Close(&[4]), DONE),
-    Step::IsOpened(false),
-    Step::Whole(
-        2,
-        &[0xaa, 1, 2, 1, 0x66, 4],
-        &[0x07, 0x02, 0xaa, 1, 2, 1, 0x66, 4],
-    ),
-    Step::Member(Member::Add(&[5]), DONE),
-    Step::Whole(
-        3,
-        &[0xaa, 1, 2, 1, 0x66, 4, 5],
-        &[0x08, 0x03, 0xaa, 1, 2, 1, 0x66, 4, 5],
-    ),
-];
-
-const EMPTY_PIECES: &[Step<'static>] = &[
-    Step::Member(Member::Open(&[]), DONE),
-    Step::Begun(1, &[], true),
-    Step::Piece(Piece::Append(&[]), DONE),
-    Step::Begun(1, &[], true),
-    Step::Piece(Piece::Close(&[]), DONE),
-    Step::Whole(1, &[], &[0x01, 0x01]),
-];
-
-// What the holder with a member has, once three bytes are its two members.
-const TWO: Step<'static> = Step::Whole(2, &[0xaa, 1, 2], &[0x04, 0x02, 0xaa, 1, 2]);
-
-const THE_LEAD_ALONE: &[Step<'static>] = &[
-    Step::Member(Member::Add(&[0xaa]), DONE),
-    Step::Member(Member::Open(&[1, 2]), DONE),
-    Step::FinishMember,
-    Step::IsOpened(false),
-    TWO,
-];
-
-const REFUSED_WHILE_UNFINISHED: &[Step<'static>] = &[
-    Step::Member(Member::Add(&[0xaa]), DONE),
-    Step::Member(Member::Open(&[1]), DONE),
-    Step::Member(Member::Add(&[9]), UNFINISHED),
-    Step::Member(Member::Number(9), UNFINISHED),
-    Step::Member(Member::Size(LARGE), UNFINISHED),
-    Step::Member(Member::Listed(Listed::Number(1, &[2])), UNFINISHED),
-    Step::Begun(2, &[0xaa, 1], true),
-];
-
-const OPENED_ONCE: &[Step<'static>] = &[
-    Step::Member(Member::Add(&[0xaa]), DONE),
-    Step::Member(Member::Open(&[1]), DONE),
-    Step::Piece(Piece::Append(&[2]), DONE),
-    Step::Member(Member::Open(&[9]), UNFINISHED),
-    Step::Member(Member::Open(&[]), UNFINISHED),
-    Step::Begun(2, &[0xaa, 1, 2], false),
-    Step::FinishMember,
-    TWO,
-];
-
-const DISCARDED: &[Step<'static>] = &[
-    Step::Member(Member::Add(&[0xaa]), DONE),
-    Step::Member(Member::Open(&[1, 2]), DONE),
-    Step::Discard(true),
-    ONE,
-    Step::Discard(false),
-    ONE,
-    Step::Member(Member::Add(&[0xbb]), DONE),
-    Step::Whole(2, &[0xaa, 0xbb], &[0x03, 0x02, 0xaa, 0xbb]),
-];
-
-// The second of these has a part that was written when the other was refused.
-const REFUSED_PIECES: &[Step<'static>] = &[
-    Step::Member(Member::Add(&[0xaa]), DONE),
-    Step::Member(Member::Open(&[1]), DONE),
-    Step::Piece(Piece::Size(LARGE), MANY),
-    Step::Begun(2, &[0xaa, 1], true),
-    Step::Piece(Piece::Named("f", LARGE), MANY),
-    Step::Begun(2, &[0xaa, 1], true),
-];
-
-const UNFINISHED_PIECES: &[Step<'static>] = &[
-    Step::Member(Member::Add(&[0xaa]), DONE),
-    Step::Member(Member::Open(&[1]), DONE),
-    Step::Piece(Piece::Unfinished, UNFINISHED),
-    Step::Begun(2, &[0xaa, 1], true),
-    Step::Piece(Piece::Close(&[2]), DONE),
-    TWO,
-];
-
-const VALUES_AND_LISTS: &[Step<'static>] = &[
-    Step::Member(Member::Open(&[]), DONE),
-    Step::Piece(Piece::EncoderCall(EncoderCall::Text("f")), DONE),
-    Step::Piece(
-        Piece::EncoderCall(EncoderCall::List(&[0x60], &[1, 128])),
-        DONE,
-    ),
-    Step::Piece(Piece::Texts(&[2, 3], &["g"]), DONE),
-    Step::Piece(Piece::EncoderCall(EncoderCall::EndWithTruth(true)), DONE),
-    Step::Whole(
-        1,
-        &[1, 0x66, 0x60, 2, 1, 0x80, 1, 2, 3, 1, 1, 0x67, 1],
-        &[14, 1, 1, 0x66, 0x60, 2, 1, 0x80, 1, 2, 3, 1, 1, 0x67, 1],
-    ),
-];
-
-const ENDED_WITH_A_LIST: &[Step<'static>] = &[
-    Step::Member(Member::Open(&[9]), DONE),
-    Step::Piece(
-        Piece::EncoderCall(EncoderCall::EndWithTexts(&[8], &["f"])),
-        DONE,
-    ),
-    Step::Member(Member::Open(&[]), DONE),
-    Step::Piece(Piece::EncoderCall(EncoderCall::Number(7)), DONE),
-    Step::Piece(Piece::EncoderCall(EncoderCall::List(&[], &[])), DONE),
-    Step::EndMember,
-    Step::Whole(
-        2,
-        &[9, 8, 1, 1, 0x66, 7, 0],
-        &[8, 2, 9, 8, 1, 1, 0x66, 7, 0],
-    ),
-];
-
-// The second value of the list can't be encoded.
-const REFUSED_VALUES: &[Step<'static>] = &[
-    Step::Member(Member::Open(&[1]), DONE),
-    Step::Piece(Piece::EncoderCall(EncoderCall::Size(LARGE)), MANY),
-    Step::Piece(
-        Piece::EncoderCall(EncoderCall::List(&[2], &[3, LARGE])),
-        MANY,
-    ),
-    Step::Begun(1, &[1], true),
-];
-
-const REFUSED_ENDS: &[Step<'static>] = &[
-    Step::Member(Member::Open(&[1]), DONE),
-    Step::Piece(Piece::EncoderCall(EncoderCall::EndWithSize(LARGE)), MANY),
-    Step::Begun(1, &[1], true),
-    Step::Piece(
-        Piece::EncoderCall(EncoderCall::EndWithSizes(&[2], &[3, LARGE])),
-        MANY,
-    ),
-    Step::Begun(1, &[1], true),
-    Step::Piece(Piece::EncoderCall(EncoderCall::EndWithNumber(2)), DONE),
-    Step::Whole(1, &[1, 2], &[3, 1, 1, 2]),
+const SIX: &[u8] = &[
+    0x0f, 0x06, 0xaa, 0xbb, 0x01, 0x66, 0x80, 0x01, 0x01, 0x02, 0x01, 0x80, 0x01, 0x01, 0x67, 0x00,
 ];
 
 // With 128 members the count has two bytes, and with 126 bytes behind it so has the size.
-const LONG: &[Step<'static>] = &[
-    Step::Filled(128),
-    Step::Long(132, &[0x82, 0x01, 0x80, 0x01, 0x2a]),
-];
-
-const RUNS: &[(&str, &[Step<'static>])] = &[
-    ("long", LONG),
-    ("members", MEMBERS),
-    ("empty members", EMPTY_MEMBERS),
-    ("refused members", REFUSED_MEMBERS),
-    ("piece by piece", PIECE_BY_PIECE),
-    ("closed", CLOSED),
-    ("empty pieces", EMPTY_PIECES),
-    ("the lead alone", THE_LEAD_ALONE),
-    ("refused while unfinished", REFUSED_WHILE_UNFINISHED),
-    ("opened once", OPENED_ONCE),
-    ("discarded", DISCARDED),
-    ("refused pieces", REFUSED_PIECES),
-    ("unfinished pieces", UNFINISHED_PIECES),
-    ("values and lists", VALUES_AND_LISTS),
-    ("ended with a list", ENDED_WITH_A_LIST),
-    ("refused values", REFUSED_VALUES),
-    ("refused ends", REFUSED_ENDS),
-];
-
 #[test]
-fn steps_from_no_members(rt: HostRuntime) {
-    let heap = Refusing::new(rt.alloc());
-    for (name, steps) in RUNS {
-        let mut holder = Holder::new(&heap);
-        all_are_well(&rt, name, first_wrong(rt.alloc(), &mut holder, steps));
-    }
-}
-
-/// Steps with a holder or with its copy.
-enum Of<'a> {
-    Source(&'a [Step<'a>]),
-    Copy(&'a [Step<'a>]),
-}
-
-const COPIED: &[Of<'static>] = &[
-    Of::Copy(&[ONE]),
-    Of::Source(&[Step::Member(Member::Add(&[0xbb]), DONE)]),
-    Of::Copy(&[
-        ONE,
-        Step::Member(Member::Add(&[0xcc]), DONE),
-        Step::Member(Member::Add(&[0xdd]), DONE),
-    ]),
-    Of::Source(&[Step::Whole(2, &[0xaa, 0xbb], &[0x03, 0x02, 0xaa, 0xbb])]),
-    Of::Copy(&[Step::Whole(3, &[0xaa, 0xcc, 0xdd], &[0x04, 0x03, 0xaa, 0xcc, 0xdd])]),
-];
-
-const COPIED_WHEN_OPENED: &[Of<'static>] = &[
-    Of::Source(&[Step::Piece(Piece::Append(&[2]), DONE)]),
-    Of::Copy(&[Step::Begun(2, &[0xaa, 1], true)]),
-];
-
-const COPIED_WHEN_BEGUN: &[Of<'static>] = &[
-    Of::Copy(&[
-        Step::Begun(2, &[0xaa, 1, 2], false),
-        Step::Discard(true),
-        ONE,
-    ]),
-    Of::Source(&[Step::Begun(2, &[0xaa, 1, 2], false)]),
-];
-
-/// What is done before the copy is made, and then.
-const COPIES: &[(&[Step<'static>], &[Of<'static>])] = &[
-    (&[Step::Member(Member::Add(&[0xaa]), DONE)], COPIED),
-    (
-        &[
-            Step::Member(Member::Add(&[0xaa]), DONE),
-            Step::Member(Member::Open(&[1]), DONE),
-        ],
-        COPIED_WHEN_OPENED,
-    ),
-    (
-        &[
-            Step::Member(Member::Add(&[0xaa]), DONE),
-            Step::Member(Member::Open(&[1]), DONE),
-            Step::Piece(Piece::Append(&[2]), DONE),
-        ],
-        COPIED_WHEN_BEGUN,
-    ),
-];
-
-fn check_both(
-    rt: &impl Abort,
-    alloc: Global,
-    source: &mut Held<'_>,
-    copy: &mut Held<'_>,
-    steps: &[Of<'_>],
-) {
-    for of in steps {
-        let wrong = match of {
-            Of::Source(steps) => first_wrong(alloc, source, steps),
-            Of::Copy(steps) => first_wrong(alloc, copy, steps),
-        };
-        all_are_well(rt, "copied", wrong);
-    }
-}
-
-#[test]
-fn steps_with_copies(rt: HostRuntime) {
+fn members(rt: HostRuntime) {
     let alloc = rt.alloc();
-    let heap = Refusing::new(alloc);
-    for (before, then) in COPIES {
-        let mut source = Holder::new(&heap);
-        all_are_well(&rt, "before", first_wrong(alloc, &mut source, before));
-        let mut copy = ok(&rt, source.clone());
-        check_both(&rt, alloc, &mut source, &mut copy, then);
+    let mut holder = Holder::new(alloc);
+    is_whole(&rt, alloc, &holder, 0, &[0x01, 0x00]);
+    ok(&rt, add_members(&mut holder));
+    is_whole(&rt, alloc, &holder, 6, SIX);
+    holder = Holder::new(alloc);
+    for _ in 0..128u32 {
+        ok(&rt, add(&mut holder, &42u32));
     }
+    let mut sink = Vec::new(alloc);
+    ok(&rt, encode_section(&holder, &mut sink));
+    assert!(rt; sink.len() == 132 && sink.starts_with(&[0x82, 0x01, 0x80, 0x01, 0x2a]));
+}
+
+const ONE: &[u8] = &[0x02, 0x01, 0xaa];
+
+// Each of these has a part that is refused, some behind parts that were written. The first refusal
+// that is met is answered, and the holder is as it was. With a member that is being written nothing
+// can be added, nor opened.
+#[test]
+fn refused_members(rt: HostRuntime) {
+    let mut holder = Holder::new(rt.alloc());
+    let to = &mut holder;
+    ok(&rt, add(to, &Verbatim(&[0xaa])));
+    assert!(rt; add(to, &LARGE) == MANY);
+    assert!(rt; add(to, &(1u32, LARGE)) == MANY);
+    assert!(rt; add(to, &OPEN) == UNFINISHED);
+    assert!(rt; add_list(to, &LARGE, &[1], &()) == MANY);
+    assert!(rt; add_list(to, &1u32, &[1, LARGE], &()) == MANY);
+    assert!(rt; add_list(to, &1u32, &[1], &LARGE) == MANY);
+    assert!(rt; add_list(to, &OPEN, &[LARGE], &LARGE) == UNFINISHED);
+    assert!(rt; add_list(to, &1u32, &[LARGE], &OPEN) == MANY);
+    is_whole(&rt, rt.alloc(), to, 1, ONE);
+    ok(&rt, open(to, &[1]));
+    assert!(rt; add(to, &Verbatim(&[9])) == UNFINISHED);
+    assert!(rt; add(to, &9u32) == UNFINISHED);
+    assert!(rt; add(to, &LARGE) == UNFINISHED);
+    assert!(rt; add_list(to, &1u32, &[2], &()) == UNFINISHED);
+    assert!(rt; open(to, &[9]) == UNFINISHED);
+    assert!(rt; open(to, &[]) == UNFINISHED);
+    is_begun(&rt, rt.alloc(), to, 2, &[0xaa, 1], true);
+}
+
+// A piece that is refused, in part or as a whole, leaves the member as it was.
+#[test]
+fn refused_pieces(rt: HostRuntime) {
+    let mut holder = Holder::new(rt.alloc());
+    let to = &mut holder;
+    ok(&rt, open(to, &[1]));
+    assert!(rt; append(to, &LARGE) == MANY);
+    assert!(rt; append(to, &("f", LARGE)) == MANY);
+    assert!(rt; append(to, &OPEN) == UNFINISHED);
+    assert!(rt; append_list(to, &[2], &[3, LARGE]) == MANY);
+    assert!(rt; end_with(to, &LARGE) == MANY);
+    assert!(rt; end_with_list(to, &[2], &[3, LARGE]) == MANY);
+    is_begun(&rt, rt.alloc(), to, 1, &[1], true);
+    ok(&rt, append(to, &Verbatim(&[])));
+    is_begun(&rt, rt.alloc(), to, 1, &[1], true);
+    ok(&rt, end_with(to, &2u32));
+    is_whole(&rt, rt.alloc(), to, 1, &[3, 1, 1, 2]);
+}
+
+/// Writes at a member and ends it.
+fn close(to: &mut Holder) -> Answer {
+    if to.is_finished() {
+        return WHOLE;
+    }
+    to.append(&[3])?;
+    append(to, &"f")?;
+    if to.is_finished() {
+        return WHOLE;
+    }
+    to.append_listed(&[2, 3], ["g"].iter().copied())?;
+    if to.is_finished() {
+        return WHOLE;
+    }
+    to.append_value(&7u32)?;
+    append_list(to, &[0x60], LIST)?;
+    if to.is_finished() {
+        return WHOLE;
+    }
+    to.close(&[4])
+}
+
+const CLOSED: &[u8] = &[
+    19, 2, 0xaa, 1, 2, 3, 1, 0x66, 2, 3, 1, 1, 0x67, 7, 0x60, 2, 1, 0x80, 1, 4,
+];
+
+#[test]
+fn piece_by_piece(rt: HostRuntime) {
+    let alloc = rt.alloc();
+    let mut holder = Holder::new(alloc);
+    ok(&rt, add(&mut holder, &Verbatim(&[0xaa])));
+    ok(&rt, open(&mut holder, &[1, 2]));
+    is_begun(&rt, alloc, &holder, 2, &[0xaa, 1, 2], true);
+    ok(&rt, close(&mut holder));
+    is_whole(&rt, alloc, &holder, 2, CLOSED);
+    holder = Holder::new(alloc);
+    ok(&rt, open(&mut holder, &[9]));
+    ok(&rt, end_with_list(&mut holder, &[8], &["f"]));
+    ok(&rt, open(&mut holder, &[]));
+    ok(&rt, append(&mut holder, &7u32));
+    ok(&rt, append_list(&mut holder, &[], &[]));
+    holder.end_member();
+    is_whole(&rt, alloc, &holder, 2, &[8, 2, 9, 8, 1, 1, 0x66, 7, 0]);
+    holder = Holder::new(alloc);
+    ok(&rt, open(&mut holder, &[]));
+    is_begun(&rt, alloc, &holder, 1, &[], true);
+    holder.finish_member();
+    is_whole(&rt, alloc, &holder, 1, &[0x01, 0x01]);
+}
+
+fn copy(holder: &Holder) -> Result<Holder, Fault> {
+    holder.clone()
+}
+
+// A copy and what it was copied from go their own ways; and a member is given up.
+#[test]
+fn copies_and_discards(rt: HostRuntime) {
+    let alloc = rt.alloc();
+    let mut holder = Holder::new(alloc);
+    ok(&rt, add(&mut holder, &Verbatim(&[0xaa])));
+    let mut one = ok(&rt, copy(&holder));
+    ok(&rt, open(&mut holder, &[1]));
+    let opened = ok(&rt, copy(&holder));
+    ok(&rt, append(&mut holder, &Verbatim(&[2])));
+    is_begun(&rt, alloc, &opened, 2, &[0xaa, 1], true);
+    let begun = ok(&rt, copy(&holder));
+    assert!(rt; holder.discard_unfinished());
+    is_whole(&rt, alloc, &holder, 1, ONE);
+    assert!(rt; !holder.discard_unfinished());
+    is_whole(&rt, alloc, &holder, 1, ONE);
+    is_begun(&rt, alloc, &begun, 2, &[0xaa, 1, 2], false);
+    ok(&rt, add(&mut holder, &Verbatim(&[0xbb])));
+    is_whole(&rt, alloc, &one, 1, ONE);
+    ok(&rt, add(&mut one, &Verbatim(&[0xcc])));
+    is_whole(&rt, alloc, &holder, 2, &[0x03, 0x02, 0xaa, 0xbb]);
 }

@@ -1,6 +1,6 @@
-use crate::base::values::{check, check_all};
-use crate::swept::check_each;
-use sweeping::LARGE;
+//! Types of values, of references, and of heaps.
+
+use crate::checks::{check, check_all};
 use wenc_base::{AbstractHeapType, HeapType, RefType, ValType};
 
 const NUMBERS: &[(ValType, &[u8])] = &[
@@ -65,36 +65,13 @@ const REFERENCES: &[(bool, HeapType, &[u8])] = &[
     (false, HeapType::Concrete(64), &[0x64, 0xc0, 0x00]),
 ];
 
-// Those with an index of five bytes.
-const LARGE_REFERENCES: &[RefType] = &[
-    RefType {
-        nullable: true,
-        heap_type: HeapType::Concrete(LARGE),
-    },
-    RefType {
-        nullable: false,
-        heap_type: HeapType::Concrete(LARGE),
-    },
-];
-
-const LARGE_TYPES: &[ValType] = &[ValType::Ref(RefType {
-    nullable: false,
-    heap_type: HeapType::Concrete(LARGE),
-})];
-
+// A kind by itself, and behind the byte of a reference that isn't null; and references by
+// themselves and as types of values.
 #[test]
 fn types(rt: HostRuntime) {
     let alloc = rt.alloc();
     check_all(&rt, alloc, NUMBERS);
     check_all(&rt, alloc, INDICES);
-    check_each(&rt, alloc, LARGE_REFERENCES);
-    check_each(&rt, alloc, LARGE_TYPES);
-}
-
-// A kind by itself, and behind the byte of a reference that isn't null.
-#[test]
-fn abstract_heap_types(rt: HostRuntime) {
-    let alloc = rt.alloc();
     for (kind, byte) in KINDS {
         let heap_type = HeapType::Abstract(*kind);
         let reference = RefType {
@@ -105,17 +82,12 @@ fn abstract_heap_types(rt: HostRuntime) {
         check(&rt, alloc, &heap_type, &[*byte]);
         check(&rt, alloc, &reference, &[0x64, *byte]);
     }
-}
-
-// By itself, and as a type of values.
-#[test]
-fn references(rt: HostRuntime) {
-    for (nullable, heap_type, bytes) in REFERENCES {
+    for (nullable, heap_type, wanted) in REFERENCES {
         let reference = RefType {
             nullable: *nullable,
             heap_type: *heap_type,
         };
-        check(&rt, rt.alloc(), &reference, bytes);
-        check(&rt, rt.alloc(), &ValType::Ref(reference), bytes);
+        check(&rt, alloc, &reference, wanted);
+        check(&rt, alloc, &ValType::Ref(reference), wanted);
     }
 }

@@ -1,82 +1,13 @@
-//! Values: what they are written as.
-ghost use Rattle.std.specs.Prelude.{◌≡◌, ◌++◌, IfOk, OnOk};
-ghost use Rattle.wenc_base.specs.Forms.{list};
-ghost use Rattle.wenc_base.specs.Number.{u32 as number};
+//! Numbers, texts, lists, and values that are made of others.
 
-use crate::accepted::{is_well, ok};
-use std::alloc::{AllocError, Allocator, Global};
-use std::process::Abort;
-use sweeping::{sweep_encode, takes_no_memory};
+use crate::accepted::ok;
+use crate::checks::{appended, are, check_all, check_made};
+use std::alloc::{AllocError, Global};
+use sweeping::own::{Light, write_all};
 use wenc_base::{
-    CustomSection, Encode, ExportKind, Fault, Section, Short, Tagged, Verbatim, encode_list,
-    encoding_size, extend_in_room,
+    ByRef, ExportKind, Fault, Short, Tagged, Verbatim, WithSize, encode_list, encoding_size,
+    extend_in_room, section_size,
 };
-
-// What `encode` answers.
-pub fn encode<T: Encode, A: Allocator>(value: &T, sink: &mut Vec<u8, A>) -> Result<(), Fault> {
-    value.encode(sink)
-}
-
-// A sink that has a byte.
-pub fn begun(alloc: Global) -> Result<Vec<u8>, Fault> {
-    Ok([0x99].to_vec(alloc)?)
-}
-
-// What a sink has behind that byte.
-pub fn added(sink: &[u8]) -> Option<&[u8]> {
-    sink.strip_prefix([0x99].as_slice())
-}
-
-// What a value appends behind that byte.
-fn appended<T: Encode>(alloc: Global, value: &T) -> Result<Vec<u8>, Fault> {
-    let mut sink = begun(alloc)?;
-    encode(value, &mut sink)?;
-    Ok(sink)
-}
-
-pub fn are(rt: &impl Abort, given: &[u8], wanted: &[u8]) {
-    assert_eq!(rt; given, wanted);
-}
-
-fn are_added(rt: &impl Abort, sink: &[u8], wanted: &[u8]) {
-    assert_eq!(rt; added(sink), Some(wanted));
-}
-
-fn sweep<T: Encode>(alloc: Global, value: &T, is_empty: bool) -> Result<bool, Fault> {
-    if is_empty {
-        takes_no_memory(alloc, value)
-    } else {
-        sweep_encode(alloc, value)
-    }
-}
-
-// Each value is written behind a byte that the sink has, and its requests are refused in turn.
-pub fn check<T: Encode>(rt: &impl Abort, alloc: Global, value: &T, bytes: &[u8]) {
-    let sink = ok(rt, appended(alloc, value));
-    are_added(rt, sink.as_slice(), bytes);
-    is_well(rt, sweep(alloc, value, bytes.is_empty()));
-}
-
-// The same of a value that the caller has no more use for.
-pub fn check_made<T: Encode + Drop>(rt: &impl Abort, alloc: Global, value: T, bytes: &[u8]) {
-    check(rt, alloc, &value, bytes);
-}
-
-// Each of these is written as what stands beside it.
-pub fn check_all<T: Encode>(rt: &impl Abort, alloc: Global, rows: &[(T, &[u8])]) {
-    for (value, bytes) in rows {
-        check(rt, alloc, value, bytes);
-    }
-}
-
-// The bytes of a value, in a vector of their own.
-fn encoded<T: Encode, A: Allocator>(alloc: A, value: &T) -> Result<Vec<u8, A>, Fault>
-    ensures { IfOk result (λ bytes. bytes.items ≡ (T.piece value.now).text) }
-{
-    let mut bytes = Vec::new(alloc);
-    value.encode(&mut bytes)?;
-    Ok(bytes)
-}
 
 const UNSIGNED: &[(u32, &[u8])] = &[
     (624485, &[0xe5, 0x8e, 0x26]),
@@ -120,15 +51,6 @@ const KINDS: &[(ExportKind, &[u8])] = &[
     (ExportKind::Tag, &[0x04]),
 ];
 
-// The values of a vector are the members.
-fn encode_vector<A: Allocator>(values: Vec<u32>, sink: &mut Vec<u8, A>) -> Result<(), Fault>
-    ensures { OnOk result
-        (sink.new.items ≡ sink.old.items ++ (list number values.items).text) }
-{
-    encode_list(values.into_iter(), sink)?;
-    Ok(())
-}
-
 const LISTS: &[(&[u32], &[u8])] = &[
     (&[1, 128, 3], &[0x03, 0x01, 0x80, 0x01, 0x03]),
     (&[], &[0x00]),
@@ -142,19 +64,6 @@ const LISTS_OF_PAIRS: &[(&[(&str, u32)], &[u8])] = &[(
 const OPTIONS: &[(Option<u32>, &[u8])] = &[(None, &[0x00]), (Some(5), &[0x01, 0x05])];
 
 const SIZE: &[(usize, &[u8])] = &[(128, &[0x80, 0x01])];
-
-#[test]
-fn values(rt: HostRuntime) {
-    let alloc = rt.alloc();
-    check_all(&rt, alloc, UNSIGNED);
-    check_all(&rt, alloc, SIGNED);
-    check_all(&rt, alloc, LONG);
-    check_all(&rt, alloc, SIZE);
-    check_all(&rt, alloc, TRUTHS);
-    check_all(&rt, alloc, TEXTS);
-    check_all(&rt, alloc, KINDS);
-    check_all(&rt, alloc, OPTIONS);
-}
 
 const PAIRS: &[((u32, &str), &[u8])] = &[((1, "a"), &[0x01, 0x01, 0x61])];
 
@@ -172,9 +81,49 @@ const TOGETHER: &[((Verbatim<'static>, ((), u32)), &[u8])] = &[(
     &[0x01, 0x02],
 )];
 
+const CONTENT: (u32, &str, bool) = (128, "a", false);
+
+const TRIPLES: &[((u32, &str, bool), &[u8])] = &[(CONTENT, &[0x80, 0x01, 0x01, 0x61, 0x00])];
+
+const NESTED: &[((&str, u32, Option<bool>), &[u8])] = &[(
+    ("b", 1, Some(true)),
+    &[0x01, 0x62, 0x01, 0x01, 0x01],
+)];
+
+const LENT: &[(ByRef<'static, u32>, &[u8])] = &[(ByRef(&128), &[0x80, 0x01])];
+
+const NO_SIZE: &[(WithSize<'static, ()>, &[u8])] = &[(WithSize(&()), &[0x00])];
+
+const SIZED: &[(WithSize<'static, &str>, &[u8])] = &[(WithSize(&"ab"), &[0x03, 0x02, 0x61, 0x62])];
+
+const SIZED_TRIPLES: &[(WithSize<'static, (u32, &str, bool)>, &[u8])] = &[(
+    WithSize(&CONTENT),
+    &[0x05, 0x80, 0x01, 0x01, 0x61, 0x00],
+)];
+
+const LIGHTS: &[(Light, &[u8])] = &[(Light::Red, &[0x72]), (Light::Green, &[0x67])];
+
+const LIGHTS_IN_OPTIONS: &[(Option<Light>, &[u8])] = &[
+    (Some(Light::Green), &[0x01, 0x67]),
+    (None, &[0x00]),
+];
+
+const LIGHTS_IN_LISTS: &[(&[Light], &[u8])] = &[(
+    &[Light::Red, Light::Green, Light::Red],
+    &[0x03, 0x72, 0x67, 0x72],
+)];
+
 #[test]
-fn lists_and_pairs(rt: HostRuntime) {
+fn values(rt: HostRuntime) {
     let alloc = rt.alloc();
+    check_all(&rt, alloc, UNSIGNED);
+    check_all(&rt, alloc, SIGNED);
+    check_all(&rt, alloc, LONG);
+    check_all(&rt, alloc, SIZE);
+    check_all(&rt, alloc, TRUTHS);
+    check_all(&rt, alloc, TEXTS);
+    check_all(&rt, alloc, KINDS);
+    check_all(&rt, alloc, OPTIONS);
     check_all(&rt, alloc, BYTE_LISTS);
     check_all(&rt, alloc, LISTS);
     check_all(&rt, alloc, LISTS_OF_PAIRS);
@@ -183,34 +132,48 @@ fn lists_and_pairs(rt: HostRuntime) {
     check_all(&rt, alloc, NOTHING);
     check_all(&rt, alloc, AS_IT_IS);
     check_all(&rt, alloc, TOGETHER);
+    check_all(&rt, alloc, TRIPLES);
+    check_all(&rt, alloc, NESTED);
+    check_all(&rt, alloc, LENT);
+    check_all(&rt, alloc, NO_SIZE);
+    check_all(&rt, alloc, SIZED);
+    check_all(&rt, alloc, SIZED_TRIPLES);
+    check_all(&rt, alloc, LIGHTS);
+    check_all(&rt, alloc, LIGHTS_IN_OPTIONS);
+    check_all(&rt, alloc, LIGHTS_IN_LISTS);
+    let text = ok(&rt, String::from_str(alloc, "f"));
+    check_made(&rt, alloc, text, &[0x01, 0x66]);
 }
 
-pub fn encode_copied(values: &[usize], sink: &mut Vec<u8>) -> Result<(), Fault> {
-    encode_list(values.iter().copied(), sink)?;
-    Ok(())
-}
-
-fn append_texts(sink: &mut Vec<u8>) -> Result<(), Fault> {
-    encode(&"", sink)?;
-    encode(&[0xaau8].as_slice(), sink)
-}
+const NONE: &[usize] = &[];
 
 fn append_lists(alloc: Global, sink: &mut Vec<u8>) -> Result<(), Fault> {
-    encode_vector([1, 128, 3].to_vec(alloc)?, sink)?;
-    encode_copied(&[], sink)
+    let values: Vec<u32> = [1, 128, 3].to_vec(alloc)?;
+    encode_list(values.into_iter(), sink)?;
+    encode_list(NONE.iter().copied(), sink)?;
+    write_all(&[Light::Red, Light::Green], Some(Light::Red), sink)?;
+    write_all(&[], None::<Light>, sink)
 }
 
-const TWO_LISTS: &[u8] = &[0x99, 0x03, 0x01, 0x80, 0x01, 0x03, 0x00];
+const IN_ONE_SINK: &[u8] = &[
+    0x99, 0x03, 0x01, 0x80, 0x01, 0x03, 0x00, 0x02, 0x72, 0x67, 0x01, 0x72, 0x00, 0x00,
+];
 
+// Of the values of a vector, of those of a slice, and of a type that the crates below don't know.
 #[test]
-fn in_one_sink(rt: HostRuntime) {
-    let mut texts = ok(&rt, encoded(rt.alloc(), &"f"));
-    ok(&rt, append_texts(&mut texts));
-    are(&rt, texts.as_slice(), &[0x01, 0x66, 0x00, 0x01, 0xaa]);
-    let mut lists = ok(&rt, begun(rt.alloc()));
-    ok(&rt, append_lists(rt.alloc(), &mut lists));
-    are(&rt, lists.as_slice(), TWO_LISTS);
+fn lists_in_one_sink(rt: HostRuntime) {
+    let mut sink = ok(&rt, [0x99].to_vec(rt.alloc()));
+    ok(&rt, append_lists(rt.alloc(), &mut sink));
+    are(&rt, sink.as_slice(), IN_ONE_SINK);
 }
+
+// Behind 126 bytes and their number the size has one byte, and behind 127 it has two.
+const LONG_SIZES: &[(usize, usize, &[u8])] = &[
+    (126, 129, &[0x99, 0x7f, 0x7e, 0x00, 0x00]),
+    (127, 131, &[0x99, 0x80, 0x01, 0x7f, 0x00]),
+];
+
+const ZEROS: [u8; 127] = [0; 127];
 
 const SIZES: &[(u32, usize)] = &[
     (127, 1),
@@ -225,10 +188,34 @@ const SIZES: &[(u32, usize)] = &[
     (4294967295, 5),
 ];
 
+type SectionSize = (u32, u64, Result<u32, Fault>);
+
+// The bytes of the count and those of the members. The text of 128 has two bytes.
+const SECTION_SIZES: &[SectionSize] = &[
+    (0, 0, Ok(1)),
+    (1, 5, Ok(6)),
+    (128, 5, Ok(7)),
+    (0, 4294967294, Ok(4294967295)),
+    (0, 4294967295, Err(Fault::TooLarge)),
+    (128, 4294967293, Ok(4294967295)),
+    (128, 4294967294, Err(Fault::TooLarge)),
+    (4294967295, 4294967290, Ok(4294967295)),
+    (4294967295, 4294967291, Err(Fault::TooLarge)),
+    (0, 18446744073709551615, Err(Fault::TooLarge)),
+];
+
 #[test]
 fn sizes(rt: HostRuntime) {
     for (n, size) in SIZES {
-        assert!(rt; encoding_size(*n) == *size, "of {n}");
+        assert!(rt; encoding_size(*n) == *size);
+    }
+    for (count, body, wanted) in SECTION_SIZES {
+        assert!(rt; section_size(*count, *body) == *wanted);
+    }
+    for (count, len, start) in LONG_SIZES {
+        let content = ZEROS.as_slice().get(..*count).unwrap_or(&[]);
+        let sink = ok(&rt, appended(rt.alloc(), &WithSize(&content)));
+        assert!(rt; sink.len() == *len && sink.starts_with(start));
     }
 }
 
@@ -248,11 +235,8 @@ fn printed(alloc: Global, fault: Fault) -> Result<String, Fault> {
 fn faults(rt: HostRuntime) {
     assert!(rt; Fault::from(AllocError) == Fault::Memory(AllocError));
     for (fault, number, text) in FAULTS {
-        assert!(rt; fault.number() == *number, "{text}");
-        assert!(rt;
-            ok(&rt, printed(rt.alloc(), *fault)).as_str() == *text,
-            "{text}"
-        );
+        assert!(rt; fault.number() == *number);
+        assert!(rt; ok(&rt, printed(rt.alloc(), *fault)).as_str() == *text);
     }
 }
 
@@ -279,20 +263,4 @@ fn without_memory(rt: HostRuntime) {
     are(&rt, short().as_slice(), THREE_VALUES);
     let sink = ok(&rt, extended(rt.alloc()));
     are(&rt, sink.as_slice(), THREE_VALUES);
-}
-
-fn append_section(section: &CustomSection, sink: &mut Vec<u8>) -> Result<(), Fault> {
-    section.append_to(sink)
-}
-
-// A section of a core module: its id, its size, its name, no data.
-#[test]
-fn core_section(rt: HostRuntime) {
-    let mut sink = ok(&rt, begun(rt.alloc()));
-    let section = CustomSection {
-        name: "x",
-        data: &[],
-    };
-    ok(&rt, append_section(&section, &mut sink));
-    are(&rt, sink.as_slice(), &[0x99, 0x00, 0x02, 0x01, 0x78]);
 }

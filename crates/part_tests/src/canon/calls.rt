@@ -1,209 +1,196 @@
-//! The calls that add a canonical function, as values.
+//! Each call of a section of canonical functions, and options.
 
-use crate::canon::functions::Functions;
-use refusing::Refusing;
-use sweeping::members::Adds;
-use wenc_base::{Fault, ValType};
-use wenc_canon::{CanonicalFunctionSection, CanonicalOption};
-use wenc_parts::ComponentValType;
+use crate::accepted::ok;
+use crate::checks::{are, check, check_all, check_made};
+use wenc_base::{Fault, HeapType, RefType, ValType};
+use wenc_canon::{CanonicalFunctionSection, CanonicalOption, NotCancellable};
+use wenc_parts::{ComponentSection, ComponentValType, PrimitiveValType};
 
-type Section<'a> = CanonicalFunctionSection<&'a Refusing>;
+type Section = CanonicalFunctionSection;
 
-/// Functions that have options, without them.
-#[derive(Clone, Copy)]
-pub enum WithOptions {
-    Lift(u32, u32),
-    Lower(u32),
-    TaskReturn(Option<ComponentValType>),
-    StreamRead(u32),
-    StreamWrite(u32),
-    FutureRead(u32),
-    FutureWrite(u32),
-    ErrorContextNew,
-    ErrorContextDebugMessage,
+const OPTIONS: &[(CanonicalOption, &[u8])] = &[
+    (CanonicalOption::UTF8, &[0x00]),
+    (CanonicalOption::UTF16, &[0x01]),
+    (CanonicalOption::CompactUTF16, &[0x02]),
+    (CanonicalOption::Memory(128), &[0x03, 0x80, 0x01]),
+    (CanonicalOption::Realloc(128), &[0x04, 0x80, 0x01]),
+    (CanonicalOption::PostReturn(128), &[0x05, 0x80, 0x01]),
+    (CanonicalOption::Async, &[0x06]),
+    (CanonicalOption::Callback(128), &[0x07, 0x80, 0x01]),
+    (CanonicalOption::CoreType(128), &[0x08, 0x80, 0x01]),
+    (CanonicalOption::Gc, &[0x09]),
+];
+
+const STRING: Option<ComponentValType> = Some(ComponentValType::Primitive(
+    PrimitiveValType::String,
+));
+
+const BOTH: &[CanonicalOption] = &[CanonicalOption::UTF8, CanonicalOption::Memory(0)];
+
+const WAITS: &[CanonicalOption] = &[CanonicalOption::UTF8, CanonicalOption::Async];
+
+const NONE: &[CanonicalOption] = &[];
+
+const GC: &[CanonicalOption] = &[CanonicalOption::Gc];
+
+const SLOT: ValType = ValType::Ref(RefType {
+    nullable: true,
+    heap_type: HeapType::Concrete(64),
+});
+
+/// Those of functions, of resources, of tasks, and of subtasks.
+fn add_functions(to: &mut Section) -> Result<(), Fault> {
+    to.lift(128, 10, BOTH.iter().copied())?;
+    to.lower(128, WAITS.iter().copied())?;
+    to.resource_new(128)?;
+    to.resource_drop(128)?;
+    to.resource_rep(128)?;
+    to.backpressure_inc()?;
+    to.backpressure_dec()?;
+    to.task_return(STRING, BOTH.iter().copied())?;
+    to.task_return(None, NONE.iter().copied())?;
+    to.task_cancel()?;
+    to.context_get(ValType::I32, 0)?;
+    to.context_set(ValType::I32, 0)?;
+    to.context_get(SLOT, 128)?;
+    to.context_set(SLOT, 128)?;
+    to.subtask_drop()?;
+    to.subtask_cancel(true)
 }
 
-fn add_with_options(
-    to: &mut Section<'_>,
-    call: WithOptions,
-    options: &[CanonicalOption],
-) -> Result<(), Fault> {
-    let options = options.iter().copied();
-    match call {
-        WithOptions::Lift(function, ty) => to.lift(function, ty, options),
-        WithOptions::Lower(function) => to.lower(function, options),
-        WithOptions::TaskReturn(ty) => to.task_return(ty, options),
-        WithOptions::StreamRead(ty) => to.stream_read(ty, options),
-        WithOptions::StreamWrite(ty) => to.stream_write(ty, options),
-        WithOptions::FutureRead(ty) => to.future_read(ty, options),
-        WithOptions::FutureWrite(ty) => to.future_write(ty, options),
-        WithOptions::ErrorContextNew => to.error_context_new(options),
-        WithOptions::ErrorContextDebugMessage => to.error_context_debug_message(options),
-    }
+const FUNCTIONS: &[u8] = &[
+    0x3d, 0x10, // The size and the count.
+    0x00, 0x00, 0x80, 0x01, 0x02, 0x00, 0x03, 0x00, 0x0a, // lift
+    0x01, 0x00, 0x80, 0x01, 0x02, 0x00, 0x06, // lower
+    0x02, 0x80, 0x01, 0x03, 0x80, 0x01, 0x04, 0x80, 0x01, // resources
+    0x24, 0x25, // backpressure
+    0x09, 0x00, 0x73, 0x02, 0x00, 0x03, 0x00, // a string is returned
+    0x09, 0x01, 0x00, 0x00, // nothing is
+    0x05, // task.cancel
+    0x0a, 0x7f, 0x00, 0x0b, 0x7f, 0x00, // slots of i32
+    0x0a, 0x63, 0xc0, 0x00, 0x80, 0x01, 0x0b, 0x63, 0xc0, 0x00, 0x80, 0x01, // of type 64, or none
+    0x0d, 0x06, 0x01, // subtasks
+];
+
+fn add_streams(to: &mut Section) -> Result<(), Fault> {
+    to.stream_new(128)?;
+    to.stream_read(7, WAITS.iter().copied())?;
+    to.stream_write(7, WAITS.iter().copied())?;
+    to.stream_forward(128)?;
+    to.stream_cancel_read(3, true)?;
+    to.stream_cancel_write(3, true)?;
+    to.stream_drop_readable(128)?;
+    to.stream_drop_writable(128)
 }
 
-/// Those of resources.
-#[derive(Clone, Copy)]
-pub enum Resource {
-    New(u32),
-    Drop(u32),
-    Rep(u32),
+const STREAMS: &[u8] = &[
+    0x1d, 0x08, // The size and the count.
+    0x0e, 0x80, 0x01, // new
+    0x0f, 0x07, 0x02, 0x00, 0x06, 0x10, 0x07, 0x02, 0x00, 0x06, // read and write
+    0x2e, 0x80, 0x01, // forward
+    0x11, 0x03, 0x01, 0x12, 0x03, 0x01, // cancel
+    0x13, 0x80, 0x01, 0x14, 0x80, 0x01, // drop
+];
+
+fn add_futures(to: &mut Section) -> Result<(), Fault> {
+    to.future_new(128)?;
+    to.future_read(7, WAITS.iter().copied())?;
+    to.future_write(7, WAITS.iter().copied())?;
+    to.future_forward(128)?;
+    to.future_cancel_read(3, true)?;
+    to.future_cancel_write(3, true)?;
+    to.future_drop_readable(128)?;
+    to.future_drop_writable(128)
 }
 
-fn add_resource(to: &mut Section<'_>, call: Resource) -> Result<(), Fault> {
-    match call {
-        Resource::New(ty) => to.resource_new(ty),
-        Resource::Drop(ty) => to.resource_drop(ty),
-        Resource::Rep(ty) => to.resource_rep(ty),
-    }
-}
-
-/// Those of tasks and subtasks.
-#[derive(Clone, Copy)]
-pub enum Task {
-    BackpressureInc,
-    BackpressureDec,
-    Cancel,
-    ContextGet(ValType, u32),
-    ContextSet(ValType, u32),
-    SubtaskDrop,
-    SubtaskCancel(bool),
-}
-
-fn add_task(to: &mut Section<'_>, call: Task) -> Result<(), Fault> {
-    match call {
-        Task::BackpressureInc => to.backpressure_inc(),
-        Task::BackpressureDec => to.backpressure_dec(),
-        Task::Cancel => to.task_cancel(),
-        Task::ContextGet(ty, slot) => to.context_get(ty, slot),
-        Task::ContextSet(ty, slot) => to.context_set(ty, slot),
-        Task::SubtaskDrop => to.subtask_drop(),
-        Task::SubtaskCancel(waits) => to.subtask_cancel(waits),
-    }
-}
-
-/// Those of streams.
-#[derive(Clone, Copy)]
-pub enum Stream {
-    New(u32),
-    Forward(u32),
-    CancelRead(u32, bool),
-    CancelWrite(u32, bool),
-    DropReadable(u32),
-    DropWritable(u32),
-}
-
-fn add_stream(to: &mut Section<'_>, call: Stream) -> Result<(), Fault> {
-    match call {
-        Stream::New(ty) => to.stream_new(ty),
-        Stream::Forward(ty) => to.stream_forward(ty),
-        Stream::CancelRead(ty, waits) => to.stream_cancel_read(ty, waits),
-        Stream::CancelWrite(ty, waits) => to.stream_cancel_write(ty, waits),
-        Stream::DropReadable(ty) => to.stream_drop_readable(ty),
-        Stream::DropWritable(ty) => to.stream_drop_writable(ty),
-    }
-}
-
-/// Those of futures.
-#[derive(Clone, Copy)]
-pub enum Future {
-    New(u32),
-    Forward(u32),
-    CancelRead(u32, bool),
-    CancelWrite(u32, bool),
-    DropReadable(u32),
-    DropWritable(u32),
-}
-
-fn add_future(to: &mut Section<'_>, call: Future) -> Result<(), Fault> {
-    match call {
-        Future::New(ty) => to.future_new(ty),
-        Future::Forward(ty) => to.future_forward(ty),
-        Future::CancelRead(ty, waits) => to.future_cancel_read(ty, waits),
-        Future::CancelWrite(ty, waits) => to.future_cancel_write(ty, waits),
-        Future::DropReadable(ty) => to.future_drop_readable(ty),
-        Future::DropWritable(ty) => to.future_drop_writable(ty),
-    }
-}
+const FUTURES: &[u8] = &[
+    0x1d, 0x08, // The size and the count.
+    0x15, 0x80, 0x01, // new
+    0x16, 0x07, 0x02, 0x00, 0x06, 0x17, 0x07, 0x02, 0x00, 0x06, // read and write
+    0x2f, 0x80, 0x01, // forward
+    0x18, 0x03, 0x01, 0x19, 0x03, 0x01, // cancel
+    0x1a, 0x80, 0x01, 0x1b, 0x80, 0x01, // drop
+];
 
 /// Those of error contexts and of waitables.
-#[derive(Clone, Copy)]
-pub enum Waitable {
-    ErrorContextDrop,
-    SetNew,
-    SetWait(u32),
-    SetPoll(u32),
-    SetDrop,
-    Join,
+fn add_waitables(to: &mut Section) -> Result<(), Fault> {
+    to.error_context_new(GC.iter().copied())?;
+    to.error_context_debug_message(GC.iter().copied())?;
+    to.error_context_drop()?;
+    to.waitable_set_new()?;
+    to.waitable_set_wait(5)?;
+    to.waitable_set_poll(5)?;
+    to.waitable_set_poll(0)?;
+    to.waitable_set_drop()?;
+    to.waitable_join()
 }
 
-fn add_waitable(to: &mut Section<'_>, call: Waitable) -> Result<(), Fault> {
-    match call {
-        Waitable::ErrorContextDrop => to.error_context_drop(),
-        Waitable::SetNew => to.waitable_set_new(),
-        Waitable::SetWait(memory) => to.waitable_set_wait(memory),
-        Waitable::SetPoll(memory) => to.waitable_set_poll(memory),
-        Waitable::SetDrop => to.waitable_set_drop(),
-        Waitable::Join => to.waitable_join(),
-    }
+const WAITABLES: &[u8] = &[
+    0x14, 0x09, // The size and the count.
+    0x1c, 0x01, 0x09, 0x1d, 0x01, 0x09, 0x1e, // error contexts
+    0x1f, 0x20, 0x00, 0x05, 0x21, 0x00, 0x05, 0x21, 0x00, 0x00, 0x22, 0x23, // waitables
+];
+
+fn add_threads(to: &mut Section) -> Result<(), Fault> {
+    to.thread_spawn_ref(128)?;
+    to.thread_spawn_indirect(1, 2)?;
+    to.thread_available_parallelism()?;
+    to.thread_index()?;
+    to.thread_new_indirect(1, 2)?;
+    to.thread_resume_later()?;
+    to.thread_suspend()?;
+    to.thread_yield()?;
+    to.thread_suspend_then_resume()?;
+    to.thread_yield_then_resume()?;
+    to.thread_suspend_then_promote()?;
+    to.thread_yield_then_promote()
 }
 
-/// Those of threads.
-#[derive(Clone, Copy)]
-pub enum Thread {
-    SpawnRef(u32),
-    SpawnIndirect(u32, u32),
-    AvailableParallelism,
-    Index,
-    NewIndirect(u32, u32),
-    ResumeLater,
-    Suspend,
-    Yield,
-    SuspendThenResume,
-    YieldThenResume,
-    SuspendThenPromote,
-    YieldThenPromote,
+const THREADS: &[u8] = &[
+    0x19, 0x0c, // The size and the count.
+    0x40, 0x80, 0x01, 0x41, 0x01, 0x02, 0x42, // spawned ones, and how many may run
+    0x26, 0x27, 0x01, 0x02, 0x28, // index, new_indirect, resume_later
+    0x29, 0x00, 0x0c, 0x00, // suspend and yield
+    0x2a, 0x00, 0x2b, 0x00, 0x2c, 0x00, 0x2d, 0x00, // and then
+];
+
+#[test]
+fn each_call_adds_its_row(rt: HostRuntime) {
+    let alloc = rt.alloc();
+    let mut section = Section::new(alloc);
+    assert!(rt; section.is_empty());
+    check(&rt, alloc, &section, &[0x01, 0x00]);
+    ok(&rt, add_functions(&mut section));
+    check(&rt, alloc, &section, FUNCTIONS);
+    assert!(rt; !section.is_empty() && section.len() == 16);
+    section = Section::new(alloc);
+    ok(&rt, add_futures(&mut section));
+    check(&rt, alloc, &section, FUTURES);
+    section = Section::new(alloc);
+    ok(&rt, add_waitables(&mut section));
+    check(&rt, alloc, &section, WAITABLES);
+    section = Section::new(alloc);
+    ok(&rt, add_threads(&mut section));
+    check(&rt, alloc, &section, THREADS);
+    section = Section::new(alloc);
+    let none = ok(&rt, section.clone());
+    ok(&rt, add_streams(&mut section));
+    let copy = ok(&rt, section.clone());
+    check_made(&rt, alloc, section, STREAMS);
+    check_made(&rt, alloc, copy, STREAMS);
+    check_made(&rt, alloc, none, &[0x01, 0x00]);
 }
 
-fn add_thread(to: &mut Section<'_>, call: Thread) -> Result<(), Fault> {
-    match call {
-        Thread::SpawnRef(ty) => to.thread_spawn_ref(ty),
-        Thread::SpawnIndirect(ty, table) => to.thread_spawn_indirect(ty, table),
-        Thread::AvailableParallelism => to.thread_available_parallelism(),
-        Thread::Index => to.thread_index(),
-        Thread::NewIndirect(ty, table) => to.thread_new_indirect(ty, table),
-        Thread::ResumeLater => to.thread_resume_later(),
-        Thread::Suspend => to.thread_suspend(),
-        Thread::Yield => to.thread_yield(),
-        Thread::SuspendThenResume => to.thread_suspend_then_resume(),
-        Thread::YieldThenResume => to.thread_yield_then_resume(),
-        Thread::SuspendThenPromote => to.thread_suspend_then_promote(),
-        Thread::YieldThenPromote => to.thread_yield_then_promote(),
-    }
+fn append(section: &Section, sink: &mut Vec<u8>) -> Result<(), Fault> {
+    section.append_to_component(sink)
 }
 
-/// Any of these calls.
-#[derive(Clone, Copy)]
-pub enum Call<'a> {
-    WithOptions(WithOptions, &'a [CanonicalOption]),
-    Resource(Resource),
-    Task(Task),
-    Stream(Stream),
-    Future(Future),
-    Waitable(Waitable),
-    Thread(Thread),
-}
-
-impl<'a, 'b> Adds<Functions<'a>> for Call<'b> {
-    fn add(&self, to: &mut Functions<'a>) -> Result<(), Fault> {
-        match *self {
-            Call::WithOptions(call, options) => add_with_options(&mut to.0, call, options),
-            Call::Resource(call) => add_resource(&mut to.0, call),
-            Call::Task(call) => add_task(&mut to.0, call),
-            Call::Stream(call) => add_stream(&mut to.0, call),
-            Call::Future(call) => add_future(&mut to.0, call),
-            Call::Waitable(call) => add_waitable(&mut to.0, call),
-            Call::Thread(call) => add_thread(&mut to.0, call),
-        }
-    }
+#[test]
+fn options_and_ids(rt: HostRuntime) {
+    let alloc = rt.alloc();
+    check_all(&rt, alloc, OPTIONS);
+    check(&rt, alloc, &NotCancellable, &[0x00]);
+    let mut sink = Vec::new(alloc);
+    ok(&rt, append(&Section::new(alloc), &mut sink));
+    are(&rt, sink.as_slice(), &[0x08, 0x01, 0x00]);
 }

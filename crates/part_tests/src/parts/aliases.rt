@@ -1,9 +1,9 @@
+//! Aliases.
+
 use crate::accepted::ok;
-use crate::base::values::{check, check_all};
-use crate::swept::check_each;
-use std::alloc::{Allocator, Global};
+use crate::checks::{check, check_all};
+use std::alloc::Global;
 use std::process::Abort;
-use sweeping::{LARGE, NAME};
 use wenc_base::ExportKind;
 use wenc_parts::{Alias, AliasTree, ComponentExportKind, ComponentOuterAliasKind};
 
@@ -90,62 +90,31 @@ const ALIASES: &[(Alias, &[u8])] = &[
     ),
 ];
 
-const LONG_ALIASES: &[Alias] = &[
-    Alias::InstanceExport {
-        instance: 128,
-        kind: ComponentExportKind::Module,
-        name: NAME,
-    },
-    Alias::CoreInstanceExport {
-        instance: 128,
-        kind: ExportKind::Tag,
-        name: NAME,
-    },
-    Alias::Outer {
-        kind: ComponentOuterAliasKind::CoreType,
-        count: LARGE,
-        index: LARGE,
-    },
-];
-
-/// The alias as a tree.
-fn tree<A: Allocator>(rt: &impl Abort, alloc: A, alias: &Alias<'_>) -> AliasTree<A> {
-    match *alias {
-        Alias::InstanceExport {
-            instance,
-            kind,
-            name,
-        } => AliasTree::InstanceExport {
-            instance,
-            kind,
-            name: ok(rt, String::from_str(alloc, name)),
-        },
-        Alias::CoreInstanceExport {
-            instance,
-            kind,
-            name,
-        } => AliasTree::CoreInstanceExport {
-            instance,
-            kind,
-            name: ok(rt, String::from_str(alloc, name)),
-        },
-        Alias::Outer { kind, count, index } => AliasTree::Outer { kind, count, index },
-    }
-}
-
 /// The tree's alias appends this.
-fn tree_is<A: Allocator>(rt: &impl Abort, alloc: Global, tree: AliasTree<A>, wanted: &[u8]) {
+fn tree_is(rt: &impl Abort, alloc: Global, tree: AliasTree, wanted: &[u8]) {
     check(rt, alloc, &tree.as_alias(), wanted);
 }
 
-// By themselves, and of trees in the sink's allocator and in one that isn't the sink's.
 #[test]
 fn aliases(rt: HostRuntime) {
     let alloc = rt.alloc();
-    check_each(&rt, alloc, LONG_ALIASES);
     check_all(&rt, alloc, ALIASES);
-    for (alias, wanted) in ALIASES {
-        tree_is(&rt, alloc, tree(&rt, alloc, alias), wanted);
-        tree_is(&rt, alloc, tree(&rt, &alloc, alias), wanted);
-    }
+    let export = AliasTree::InstanceExport {
+        instance: 5,
+        kind: ComponentExportKind::Module,
+        name: ok(&rt, String::from_str(alloc, "m")),
+    };
+    tree_is(&rt, alloc, export, &[0x00, 0x11, 0x00, 0x05, 0x01, 0x6d]);
+    let core = AliasTree::CoreInstanceExport {
+        instance: 0,
+        kind: ExportKind::Tag,
+        name: ok(&rt, String::from_str(alloc, "t")),
+    };
+    tree_is(&rt, alloc, core, &[0x00, 0x04, 0x01, 0x00, 0x01, 0x74]);
+    let outer = AliasTree::Outer {
+        kind: ComponentOuterAliasKind::Component,
+        count: 2,
+        index: 128,
+    };
+    tree_is(&rt, alloc, outer, &[0x04, 0x02, 0x02, 0x80, 0x01]);
 }

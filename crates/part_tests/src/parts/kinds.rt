@@ -1,10 +1,9 @@
-//! Kinds of items, and references to types.
+//! Kinds of items, references to types, and types of values.
 
-use crate::base::values::check_all;
-use crate::swept::check_each;
+use crate::checks::{check, check_all};
 use wenc_parts::{
     ComponentExportKind, ComponentOuterAliasKind, ComponentTypeRef, ComponentValType, ModuleArg,
-    TypeBounds,
+    PrimitiveValType, ResultList, TypeBounds,
 };
 
 const INDEXED: ComponentValType = ComponentValType::Type(64);
@@ -18,47 +17,44 @@ const KINDS: &[(ComponentExportKind, &[u8])] = &[
     (ComponentExportKind::Component, &[0x04]),
 ];
 
-const REFERENCES: &[(ComponentTypeRef, &[u8])] = &[
-    (ComponentTypeRef::Module(5), &[0x00, 0x11, 0x05]),
-    (ComponentTypeRef::Func(128), &[0x01, 0x80, 0x01]),
-    (ComponentTypeRef::Value(INDEXED), &[0x02, 0xc0, 0x00]),
+/// References, their kinds, and their bytes.
+const REFERENCES: &[(ComponentTypeRef, ComponentExportKind, &[u8])] = &[
+    (
+        ComponentTypeRef::Module(5),
+        ComponentExportKind::Module,
+        &[0x00, 0x11, 0x05],
+    ),
+    (
+        ComponentTypeRef::Func(128),
+        ComponentExportKind::Func,
+        &[0x01, 0x80, 0x01],
+    ),
+    (
+        ComponentTypeRef::Value(INDEXED),
+        ComponentExportKind::Value,
+        &[0x02, 0xc0, 0x00],
+    ),
     (
         ComponentTypeRef::Type(TypeBounds::Eq(3)),
+        ComponentExportKind::Type,
         &[0x03, 0x00, 0x03],
     ),
     (
         ComponentTypeRef::Type(TypeBounds::SubResource),
+        ComponentExportKind::Type,
         &[0x03, 0x01],
     ),
-    (ComponentTypeRef::Instance(1), &[0x05, 0x01]),
-    (ComponentTypeRef::Component(2), &[0x04, 0x02]),
-];
-
-const KINDS_OF_REFERENCES: &[(ComponentTypeRef, ComponentExportKind)] = &[
-    (ComponentTypeRef::Module(5), ComponentExportKind::Module),
-    (ComponentTypeRef::Func(128), ComponentExportKind::Func),
-    (ComponentTypeRef::Value(INDEXED), ComponentExportKind::Value),
     (
-        ComponentTypeRef::Type(TypeBounds::Eq(3)),
-        ComponentExportKind::Type,
+        ComponentTypeRef::Instance(1),
+        ComponentExportKind::Instance,
+        &[0x05, 0x01],
     ),
-    (
-        ComponentTypeRef::Type(TypeBounds::SubResource),
-        ComponentExportKind::Type,
-    ),
-    (ComponentTypeRef::Instance(1), ComponentExportKind::Instance),
     (
         ComponentTypeRef::Component(2),
         ComponentExportKind::Component,
+        &[0x04, 0x02],
     ),
 ];
-
-const LONG_REFERENCES: &[ComponentTypeRef] = &[
-    ComponentTypeRef::Module(128),
-    ComponentTypeRef::Type(TypeBounds::Eq(1)),
-];
-
-const LONG_BOUNDS: &[TypeBounds] = &[TypeBounds::Eq(128)];
 
 const BOUNDS: &[(TypeBounds, &[u8])] = &[
     (TypeBounds::Eq(3), &[0x00, 0x03]),
@@ -77,17 +73,60 @@ const OUTER_KINDS: &[(ComponentOuterAliasKind, &[u8])] = &[
     (ComponentOuterAliasKind::Component, &[0x04]),
 ];
 
+const PRIMITIVES: &[(PrimitiveValType, &[u8])] = &[
+    (PrimitiveValType::Bool, &[0x7f]),
+    (PrimitiveValType::S8, &[0x7e]),
+    (PrimitiveValType::U8, &[0x7d]),
+    (PrimitiveValType::S16, &[0x7c]),
+    (PrimitiveValType::U16, &[0x7b]),
+    (PrimitiveValType::S32, &[0x7a]),
+    (PrimitiveValType::U32, &[0x79]),
+    (PrimitiveValType::S64, &[0x78]),
+    (PrimitiveValType::U64, &[0x77]),
+    (PrimitiveValType::F32, &[0x76]),
+    (PrimitiveValType::F64, &[0x75]),
+    (PrimitiveValType::Char, &[0x74]),
+    (PrimitiveValType::String, &[0x73]),
+    (PrimitiveValType::ErrorContext, &[0x64]),
+];
+
+// Indices of types are signed numbers.
+const INDICES: &[(ComponentValType, &[u8])] = &[
+    (ComponentValType::Type(0), &[0x00]),
+    (ComponentValType::Type(63), &[0x3f]),
+    (ComponentValType::Type(64), &[0xc0, 0x00]),
+    (
+        ComponentValType::Type(4294967295),
+        &[0xff, 0xff, 0xff, 0xff, 0x0f],
+    ),
+];
+
+const STRING: ComponentValType = ComponentValType::Primitive(PrimitiveValType::String);
+
+const RESULTS: &[(ResultList, &[u8])] = &[
+    (ResultList(None), &[0x01, 0x00]),
+    (ResultList(Some(STRING)), &[0x00, 0x73]),
+    (
+        ResultList(Some(ComponentValType::Type(64))),
+        &[0x00, 0xc0, 0x00],
+    ),
+];
+
 #[test]
-fn kinds_and_references(rt: HostRuntime) {
+fn kinds_references_and_types(rt: HostRuntime) {
     let alloc = rt.alloc();
     check_all(&rt, alloc, KINDS);
     check_all(&rt, alloc, OUTER_KINDS);
     check_all(&rt, alloc, MODULE_ARGUMENTS);
     check_all(&rt, alloc, BOUNDS);
-    check_all(&rt, alloc, REFERENCES);
-    check_each(&rt, alloc, LONG_BOUNDS);
-    check_each(&rt, alloc, LONG_REFERENCES);
-    for (reference, kind) in KINDS_OF_REFERENCES {
-        assert!(rt; reference.kind() == *kind, "{kind:?}");
+    check_all(&rt, alloc, PRIMITIVES);
+    check_all(&rt, alloc, INDICES);
+    check_all(&rt, alloc, RESULTS);
+    for (ty, wanted) in PRIMITIVES {
+        check(&rt, alloc, &ComponentValType::from(*ty), wanted);
+    }
+    for (reference, kind, wanted) in REFERENCES {
+        assert!(rt; reference.kind() == *kind);
+        check(&rt, alloc, reference, wanted);
     }
 }

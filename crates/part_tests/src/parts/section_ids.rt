@@ -1,6 +1,6 @@
 //! The ids of sections.
 
-use crate::base::values::check_all;
+use crate::checks::check_all;
 use wenc_parts::ComponentSectionId;
 
 /// Each id stands at its number.
@@ -19,15 +19,11 @@ const IDS: &[(ComponentSectionId, &[u8])] = &[
     (ComponentSectionId::Export, &[0x0b]),
 ];
 
-/// All comparisons go by these places.
-fn are_ordered(one: ComponentSectionId, i: usize, other: ComponentSectionId, j: usize) -> bool {
-    one.cmp(&other) == i.cmp(&j) && (one < other) == (i < j) && (one == other) == (i == j)
-}
-
-/// It has this number, and is compared with each of the others by it.
+/// It has this number, and is compared with each of the others by it, in all ways.
 fn stands_at(id: ComponentSectionId, place: usize) -> bool {
     for (i, (other, _)) in IDS.iter().enumerate() {
-        if !are_ordered(id, place, *other, i) {
+        let is_before = (id < *other) == (place < i);
+        if id.cmp(other) != place.cmp(&i) || !is_before || (id == *other) != (place == i) {
             return false;
         }
     }
@@ -38,6 +34,6 @@ fn stands_at(id: ComponentSectionId, place: usize) -> bool {
 fn ids(rt: HostRuntime) {
     check_all(&rt, rt.alloc(), IDS);
     for (i, (id, _)) in IDS.iter().enumerate() {
-        assert!(rt; stands_at(*id, i), "{i}");
+        assert!(rt; stands_at(*id, i));
     }
 }

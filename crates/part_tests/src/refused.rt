@@ -1,7 +1,10 @@
-//! The allocator that refuses, by itself.
+//! The allocator that refuses, by itself; and calls that ask it for memory.
 
+use crate::accepted::ok;
 use refusing::Refusing;
 use std::alloc::{AllocError, Global};
+use sweeping::{REFUSED, TEXT};
+use wenc_base::{Fault, Holder, NameMap};
 
 type Bytes<'a> = Vec<u8, &'a Refusing>;
 
@@ -18,7 +21,8 @@ fn fill(v: &mut Bytes<'_>, n: u8) -> Result<(), AllocError> {
 /// The growth with this number is refused, once, where so many bytes are there.
 const LENGTHS: &[(u64, usize)] = &[(1, 0), (2, 8), (3, 16), (4, 32)];
 
-/// Whether so many bytes are there when the growth with this number is refused, and the next ones succeed.
+/// Whether so many bytes are there when the growth with this number is refused, and the next ones
+/// succeed.
 fn is_refused_once(alloc: Global, n: u64, len: usize) -> bool {
     let heap = Refusing::new(alloc);
     let mut v = Vec::new(&heap);
@@ -32,7 +36,8 @@ fn is_refused_once(alloc: Global, n: u64, len: usize) -> bool {
         && v.len() == len + 100
 }
 
-/// Whether each growth is refused for so long as all are, and what was given can be given back meanwhile.
+/// Whether each growth is refused for so long as all are, and what was given can be given back
+/// meanwhile.
 fn is_refused_for_long(alloc: Global) -> bool {
     let heap = Refusing::new(alloc);
     let mut v = Vec::new(&heap);
@@ -52,4 +57,23 @@ fn refuses_by_its_plan(rt: HostRuntime) {
         assert!(rt; is_refused_once(rt.alloc(), *n, *len));
     }
     assert!(rt; is_refused_for_long(rt.alloc()));
+}
+
+fn add(holder: &mut Holder<&Refusing>, text: &[u8]) -> Result<(), Fault> {
+    holder.add(text)
+}
+
+// Each is answered with want of memory, and leaves all as it was.
+#[test]
+fn calls_are_refused(rt: HostRuntime) {
+    let heap = Refusing::new(rt.alloc());
+    let mut holder = Holder::new(&heap);
+    let mut names = NameMap::new(&heap);
+    ok(&rt, add(&mut holder, &[7]));
+    heap.refuse_all();
+    assert!(rt; add(&mut holder, TEXT) == Err(REFUSED));
+    assert!(rt; holder.clone().err() == Some(REFUSED));
+    assert!(rt; holder.len() == 1 && holder.as_slice() == [7].as_slice());
+    assert!(rt; names.append(0, "a") == Err(REFUSED));
+    assert!(rt; names.is_empty() && names.names_len() == 0);
 }
