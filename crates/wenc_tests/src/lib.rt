@@ -4,8 +4,6 @@
 #[cfg(test)]
 mod accepted;
 #[cfg(test)]
-mod callers;
-#[cfg(test)]
 mod examples;
 #[cfg(test)]
 mod lines;

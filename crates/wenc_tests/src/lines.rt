@@ -12,6 +12,7 @@ const LINES: &[(&str, &[&str])] = &[
             "import f func 9 9",
             "import f func",
             "import f func 4294967296",
+            "import f func 00000000009999999999",
         ],
     ),
     (

@@ -6,7 +6,6 @@ mod changed;
 mod checks;
 mod depth;
 mod faults;
-pub mod items;
 mod rows;
 mod unfilled;
 mod widened;

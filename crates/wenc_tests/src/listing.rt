@@ -108,16 +108,6 @@ fn texts_are_listed(rt: HostRuntime) {
         let upper = ok(&rt, text.to_ascii_uppercase(rt.alloc()));
         check(&rt, rt.alloc(), upper.as_str(), end);
     }
-    for text in BAD {
-        expect(
-            &rt,
-            rt.alloc(),
-            "a bad text",
-            &["list"],
-            text,
-            &(1, b"", b"line 1\n"),
-        );
-    }
 }
 
 /// Arguments that are no use of the program.
@@ -132,10 +122,18 @@ const OTHERS: &[&[&str]] = &[
     &["x", "list"],
 ];
 
+/// Texts of the two uses.
+const OF_USES: &[&[u8]] = &[b"0061736d0d000100", b"import f func 0\n"];
+
+const BAD_TEXT: End = (1, b"", b"line 1\n");
+
 #[test]
-fn other_arguments(rt: HostRuntime) {
+fn bad_texts_and_other_arguments(rt: HostRuntime) {
+    for text in BAD {
+        expect(&rt, rt.alloc(), "a bad text", &["list"], text, &BAD_TEXT);
+    }
     for args in OTHERS {
-        for text in [b"0061736d0d000100".as_slice(), b"import f func 0\n"] {
+        for text in OF_USES {
             expect(&rt, rt.alloc(), "other arguments", args, text, &USAGE);
         }
     }

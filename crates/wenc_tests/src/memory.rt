@@ -1,45 +1,21 @@
 //! Runs that want memory.
 
 use crate::outcome::{End, run_program};
-use crate::streams::Sink;
 use refusing::Refusing;
-use std::alloc::{AllocError, Global};
+use std::alloc::Global;
 use std::process::Abort;
-use wasm_encoder::Fault;
-use wenc::failure::Failure;
-use wenc::program::report;
 
 const FAULT: End = (2, b"", b"fault 1\n");
 
 const UNLISTED: End = (3, b"", b"Memory\n");
 
 /// Runs, by their arguments and texts, and how they end with no memory at all. Only one request is
-/// made.
+/// made, so the report of the fault takes none.
 const WITHOUT: &[(&[&str], &[u8], End)] = &[
     (&[], b"", FAULT),
     (&[], b"import f func 0\nexport g func 0\n", FAULT),
     (&["list"], b"0061736d0d000100", UNLISTED),
 ];
-
-#[test]
-fn nothing_is_printed_without_memory(rt: HostRuntime) {
-    let heap = Refusing::new(rt.alloc());
-    for (args, text, end) in WITHOUT {
-        heap.refuse_all();
-        let ran = run_program(&rt, rt.alloc(), Some(&heap), args, text, usize::MAX, [0; 3]);
-        assert!(rt; ran.is(end) && heap.was_refused() && heap.requests() == 1);
-    }
-}
-
-#[test]
-fn a_report_of_a_fault_takes_no_memory(rt: HostRuntime) {
-    let heap = Refusing::new(rt.alloc());
-    heap.refuse_all();
-    let mut err = Sink::new(rt.alloc(), usize::MAX, 0);
-    let fault = Failure::Fault(Fault::Memory(AllocError));
-    assert!(rt; report(&heap, &mut err, fault) == 2 && err.has(b"fault 1\n"));
-    assert!(rt; !heap.was_refused());
-}
 
 /// A run that has each of its requests refused in turn.
 struct Sweep {
@@ -133,7 +109,7 @@ fn refuse_each(rt: &impl Abort, alloc: Global, heap: &Refusing, row: &Sweep) {
         if ran.is(&row.refused) {
             refused = refused.saturating_add(1);
         } else {
-            assert!(rt; ran.is(&row.other), "request {n}");
+            assert!(rt; ran.is(&row.other));
             other = other.saturating_add(1);
         }
     }
@@ -141,8 +117,13 @@ fn refuse_each(rt: &impl Abort, alloc: Global, heap: &Refusing, row: &Sweep) {
 }
 
 #[test]
-fn each_request_of_a_run_is_refused(rt: HostRuntime) {
+fn runs_want_memory(rt: HostRuntime) {
     let heap = Refusing::new(rt.alloc());
+    for (args, text, end) in WITHOUT {
+        heap.refuse_all();
+        let ran = run_program(&rt, rt.alloc(), Some(&heap), args, text, usize::MAX, [0; 3]);
+        assert!(rt; ran.is(end) && heap.was_refused() && heap.requests() == 1);
+    }
     for row in SWEEPS {
         refuse_each(&rt, rt.alloc(), &heap, row);
     }

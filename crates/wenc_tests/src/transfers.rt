@@ -2,11 +2,8 @@
 
 use crate::accepted::ok;
 use crate::outcome::run_program;
-use crate::streams::{Sink, Source};
 use std::alloc::Global;
 use std::process::Abort;
-use wenc::input::read_all;
-use wenc::output::send;
 
 /// A stream of a run.
 enum Stream {
@@ -30,21 +27,25 @@ const FAILING: &[(&[&str], &[u8], Stream, usize)] = &[
     (&["list"], b"x", Stream::Report, 8),
 ];
 
-/// The run fails. The calls with these numbers fail, and so many come, of the input, the output and
-/// the standard error; 0 reads are any number.
+/// The run fails. Each call moves at most so many bytes. The calls with these numbers fail, and so
+/// many come, of the input, the output and the standard error; 0 reads are any number.
 fn fails(
     rt: &impl Abort,
     alloc: Global,
     args: &[&str],
     text: &[u8],
+    step: usize,
     failing: [usize; 3],
     calls: [usize; 3],
 ) {
-    let ran = run_program(rt, alloc, None, args, text, 1, failing);
+    let ran = run_program(rt, alloc, None, args, text, step, failing);
     let [reads, writes, reports] = calls;
     assert!(rt; ran.status == 4 && (reads == 0 || ran.input.calls == reads));
     assert!(rt; ran.out.calls == writes && ran.err.calls == reports);
 }
+
+/// Runs of an empty text whose writes take nothing, by their arguments, and the calls that come.
+const TAKING_NOTHING: &[(&[&str], [usize; 3])] = &[(&[], [1, 1, 0]), (&["list"], [1, 0, 1])];
 
 #[test]
 fn each_call_fails(rt: HostRuntime) {
@@ -55,62 +56,24 @@ fn each_call_fails(rt: HostRuntime) {
                 Stream::Output => [0, n, 0],
                 Stream::Report => [0, 0, n],
             };
-            fails(&rt, rt.alloc(), args, text, failing, failing);
+            fails(&rt, rt.alloc(), args, text, 1, failing, failing);
         }
     }
+    for (args, calls) in TAKING_NOTHING {
+        fails(&rt, rt.alloc(), args, b"", 0, [0; 3], *calls);
+    }
 }
+
+/// The two uses of the program.
+const USES: &[&[&str]] = &[&[], &["list"]];
 
 /// There are as many bytes as there may be reads: the read that finds the end would be one too
 /// many.
-fn ends_too_late(rt: &impl Abort, alloc: Global, args: &[&str]) {
-    let text = ok(rt, "\n".repeat(alloc, 16777216));
-    fails(rt, alloc, args, text.as_bytes(), [0; 3], [16777216, 0, 0]);
-}
-
 #[test]
-fn the_end_of_a_script_comes_too_late(rt: HostRuntime) {
-    ends_too_late(&rt, rt.alloc(), &[]);
-}
-
-#[test]
-fn the_end_of_a_listing_comes_too_late(rt: HostRuntime) {
-    ends_too_late(&rt, rt.alloc(), &["list"]);
-}
-
-/// The step of the writes of five bytes, which call fails, and which is the last.
-const WRITES: &[(usize, usize, usize)] = &[
-    (1, 1, 1),
-    (1, 2, 2),
-    (1, 3, 3),
-    (1, 4, 4),
-    (1, 5, 5),
-    // The flush.
-    (1, 6, 6),
-    (0, 0, 1),
-];
-
-#[test]
-fn texts_are_not_sent(rt: HostRuntime) {
-    for (step, failing, calls) in WRITES {
-        let mut sink = Sink::new(rt.alloc(), *step, *failing);
-        assert!(rt; send(&mut sink, b"abcde").is_err() && sink.calls == *calls);
+fn the_end_comes_too_late(rt: HostRuntime) {
+    let text = ok(&rt, "\n".repeat(rt.alloc(), 16777216));
+    for args in USES {
+        let calls = [16777216, 0, 0];
+        fails(&rt, rt.alloc(), args, text.as_bytes(), 1, [0; 3], calls);
     }
-}
-
-/// Gives a byte a read.
-fn slow(text: &[u8]) -> Source<'_> {
-    Source {
-        rest: text,
-        step: 1,
-        calls: 0,
-        failing: 0,
-    }
-}
-
-#[test]
-fn four_reads_are_enough_for_three_bytes(rt: HostRuntime) {
-    let text = ok(&rt, read_all(rt.alloc(), &mut slow(b"abc"), 4));
-    assert!(rt; text.as_slice() == b"abc".as_slice());
-    let mut input = slow(b"abcd");
-    assert!(rt; read_all(rt.alloc(), &mut input, 4).is_err() && input.calls == 4);
 }

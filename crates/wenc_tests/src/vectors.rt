@@ -36,7 +36,7 @@ fn scripts(rt: HostRuntime) {
             let end = (vector.status, vector.out, vector.err);
             expect(&rt, rt.alloc(), vector.name, &[], vector.script, &end);
             if vector.status != 1 {
-                is_listed(&rt, rt.alloc(), vector.script);
+                is_listed(&rt, rt.alloc(), vector.out);
             }
         }
     }

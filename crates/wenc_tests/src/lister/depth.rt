@@ -2,8 +2,6 @@
 
 use super::checks::{component, is_read_as};
 use crate::accepted::ok;
-use std::alloc::Global;
-use std::process::Abort;
 use wenc_list::ListFault;
 
 /// The front of a section with one type, what stands around another type, how often, the innermost
@@ -30,18 +28,13 @@ const NESTED: &[Nested] = &[
     ("07e3a71201", "420101", 100000, "4200", TOO_DEEP),
 ];
 
-fn nested(rt: &impl Abort, alloc: Global, types: &Nested) -> Vec<u8> {
-    let (front, around, times, inner, _) = *types;
-    let around = ok(rt, around.repeat(alloc, times));
-    let section = ok(rt, format!(in alloc; "{front}{around}{inner}"));
-    component(rt, alloc, section.as_str())
-}
-
 #[test]
 fn deep_types(rt: HostRuntime) {
-    for types in NESTED {
-        let bytes = nested(&rt, rt.alloc(), types);
-        let wanted = match &types.4 {
+    for (front, around, times, inner, fault) in NESTED {
+        let around = ok(&rt, around.repeat(rt.alloc(), *times));
+        let section = ok(&rt, format!(in rt.alloc(); "{front}{around}{inner}"));
+        let bytes = component(&rt, rt.alloc(), section.as_str());
+        let wanted = match fault {
             None => Ok(bytes.as_slice()),
             Some(fault) => Err(fault),
         };

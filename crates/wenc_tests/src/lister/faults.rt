@@ -2,8 +2,6 @@
 
 use super::checks::{component, is_read_as};
 use crate::accepted::ok;
-use std::alloc::Global;
-use std::process::Abort;
 use wenc_list::ListFault;
 
 /// Sections whose content is not what their id and size say.
@@ -159,17 +157,19 @@ const BAD_SECTIONS: &[&str] = &[
     "000781808080800061",
 ];
 
-/// The first section that is not read decides.
-const FIRST: &[(&str, ListFault)] = &[
+/// Sections with each fault. The first section that is not read decides.
+const FAULTS: &[(ListFault, &[&str])] = &[
+    (ListFault::BadItem { place: 8 }, BAD_ITEMS),
+    (ListFault::BadSection { place: 8 }, BAD_SECTIONS),
     (
-        "0a060100016601000b07010001670100",
         ListFault::BadSection { place: 16 },
+        &["0a060100016601000b07010001670100"],
     ),
-    ("0601000c00", ListFault::BadSection { place: 11 }),
-    ("06010006020109", ListFault::BadItem { place: 11 }),
-    ("060201090c00", ListFault::BadItem { place: 8 }),
-    ("000006020109", ListFault::BadSection { place: 8 }),
-    ("010001000109", ListFault::BadSection { place: 12 }),
+    (ListFault::BadSection { place: 11 }, &["0601000c00"]),
+    (ListFault::BadItem { place: 11 }, &["06010006020109"]),
+    (ListFault::BadItem { place: 8 }, &["060201090c00"]),
+    (ListFault::BadSection { place: 8 }, &["000006020109"]),
+    (ListFault::BadSection { place: 12 }, &["010001000109"]),
 ];
 
 /// Bytes that do not begin as a component does. The third ones begin a core module.
@@ -192,39 +192,18 @@ const TEXTS: &[(ListFault, &str)] = &[
     ),
 ];
 
-fn is_refused(rt: &impl Abort, alloc: Global, sections: &str, fault: &ListFault) {
-    let bytes = component(rt, alloc, sections);
-    is_read_as(rt, alloc, bytes.as_slice(), Err(fault));
-}
-
 #[test]
 fn what_is_not_read(rt: HostRuntime) {
-    for sections in BAD_ITEMS {
-        is_refused(&rt, rt.alloc(), sections, &ListFault::BadItem { place: 8 });
-    }
-    for sections in BAD_SECTIONS {
-        is_refused(
-            &rt,
-            rt.alloc(),
-            sections,
-            &ListFault::BadSection { place: 8 },
-        );
-    }
-    for (sections, fault) in FIRST {
-        is_refused(&rt, rt.alloc(), sections, fault);
+    for (fault, rows) in FAULTS {
+        for sections in *rows {
+            let bytes = component(&rt, rt.alloc(), sections);
+            is_read_as(&rt, rt.alloc(), bytes.as_slice(), Err(fault));
+        }
     }
     for bytes in NO_COMPONENTS {
-        is_read_as(
-            &rt,
-            rt.alloc(),
-            bytes,
-            Err(&ListFault::NotAComponent { place: 0 }),
-        );
+        let fault = ListFault::NotAComponent { place: 0 };
+        is_read_as(&rt, rt.alloc(), bytes, Err(&fault));
     }
-}
-
-#[test]
-fn texts_of_faults(rt: HostRuntime) {
     for (fault, wanted) in TEXTS {
         let text = ok(&rt, format!(in rt.alloc(); "{fault}"));
         assert!(rt; text.as_str() == *wanted);

@@ -1,10 +1,8 @@
 //! Counts of 4294967295 in front of nothing: no memory is asked for.
 
-use super::checks::component;
+use super::checks::{component, written_again};
 use refusing::Refusing;
-use std::alloc::Global;
-use std::process::Abort;
-use wenc_list::{ListFault, list};
+use wenc_list::ListFault;
 
 /// How many items a section has.
 const OF_ITEMS: &[&str] = &[
@@ -59,23 +57,25 @@ const IN_A_MEMBER: &[&str] = &["0708016d01ffffffff0f", "030901500100ffffffff0f"]
 /// The arguments of a start.
 const OF_ARGUMENTS: &[&str] = &["090600ffffffff0f"];
 
-/// Nothing fits the count, and no memory is asked for from this request on.
-fn ask_for_nothing(rt: &impl Abort, alloc: Global, heap: &Refusing, rows: &[&str], request: u64) {
-    for sections in rows {
-        let bytes = component(rt, alloc, sections);
-        heap.refuse_nth(request);
-        let fault = list(heap, bytes.as_slice()).err();
-        let is_bad = fault == Some(ListFault::BadItem { place: 8 });
-        assert!(rt; is_bad && !heap.was_refused(), "{sections}");
-    }
-}
+/// From which request on no memory is asked for. The first request is for the section's one item,
+/// the second for the item's one member.
+const UNFILLED: &[(u64, &[&str])] = &[
+    (1, OF_ITEMS),
+    (1, OF_ARGUMENTS),
+    (2, IN_AN_ITEM),
+    (3, IN_A_MEMBER),
+];
 
 #[test]
 fn great_counts(rt: HostRuntime) {
     let heap = Refusing::new(rt.alloc());
-    ask_for_nothing(&rt, rt.alloc(), &heap, OF_ITEMS, 1);
-    ask_for_nothing(&rt, rt.alloc(), &heap, OF_ARGUMENTS, 1);
-    // The first request is for the section's one item, the second for the item's one member.
-    ask_for_nothing(&rt, rt.alloc(), &heap, IN_AN_ITEM, 2);
-    ask_for_nothing(&rt, rt.alloc(), &heap, IN_A_MEMBER, 3);
+    for (request, rows) in UNFILLED {
+        for sections in *rows {
+            let bytes = component(&rt, rt.alloc(), sections);
+            heap.refuse_nth(*request);
+            let again = written_again(&rt, rt.alloc(), &heap, bytes.as_slice());
+            let is_bad = again.as_deref() == Err(&ListFault::BadItem { place: 8 });
+            assert!(rt; is_bad && !heap.was_refused(), "{sections}");
+        }
+    }
 }
