@@ -1,7 +1,10 @@
-//! Custom and raw sections.
+//! Custom and raw sections, and sections of producers.
 
-use crate::checks::{alone, is_text};
-use wenc_base::{CustomSection, RawCustomSection, RawSection};
+use crate::accepted::ok;
+use crate::checks::{alone, are, is_text};
+use wenc_base::{
+    CustomSection, Module, ProducersField, ProducersSection, RawCustomSection, RawSection,
+};
 
 const CUSTOM: CustomSection<'static> = CustomSection {
     name: "test",
@@ -23,4 +26,23 @@ fn custom_and_raw_sections(rt: HostRuntime) {
     alone(&rt, alloc, &RawCustomSection(&[0xaa]), "00aa");
     alone(&rt, alloc, &EMPTY, "0c00");
     alone(&rt, alloc, &LAST, "ff01aa");
+}
+
+/// A copy says more, and what it was copied from doesn't.
+#[test]
+fn producers(rt: HostRuntime) {
+    let alloc = rt.alloc();
+    let mut field = ProducersField::new(alloc);
+    ok(&rt, field.value("a", "1"));
+    let mut section = ProducersSection::new(alloc);
+    alone(&rt, alloc, &section, "000b0970726f64756365727300");
+    ok(&rt, section.field("sdk", &field));
+    let mut copy = ok(&rt, section.clone());
+    ok(&rt, copy.field("l", &field));
+    let wanted = "001b0970726f647563657273020373646b0101610131016c0101610131";
+    alone(&rt, alloc, &copy, wanted);
+    let mut module = ok(&rt, Module::new(alloc));
+    ok(&rt, module.section(&section));
+    let wanted = "00140970726f647563657273010373646b0101610131";
+    are(&rt, alloc, module.as_slice(), "0061736d01000000", wanted);
 }

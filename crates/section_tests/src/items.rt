@@ -1,23 +1,13 @@
 //! Sections of aliases, of imports and of exports.
 
-use crate::counted::{Items, Short, check};
-use crate::named::Name;
-use refusing::Refusing;
-use sweeping::members::Adds;
-use sweeping::{LARGE, NAME};
-use wenc_base::{ExportKind, Fault};
+use crate::accepted::ok;
+use crate::checks::{alone, yes};
+use std::borrow::CowStr;
 use wenc_parts::{
-    Alias, ComponentExportKind, ComponentOuterAliasKind, ComponentTypeRef, TypeBounds,
+    Alias, ComponentExportKind, ComponentExternName, ComponentOuterAliasKind, ComponentTypeRef,
+    TypeBounds,
 };
-use wenc_sections::aliases::Aliases;
-use wenc_sections::exports::Exports;
-use wenc_sections::imports::Imports;
-
-impl<'a, 'b> Adds<Items<'a, Aliases>> for Alias<'b> {
-    fn add(&self, to: &mut Items<'a, Aliases>) -> Result<(), Fault> {
-        to.0.alias(*self)
-    }
-}
+use wenc_sections::{ComponentAliasSection, ComponentExportSection, ComponentImportSection};
 
 const FUNCTION_OF_AN_INSTANCE: Alias<'static> = Alias::InstanceExport {
     instance: 0,
@@ -31,154 +21,61 @@ const OUTER_TYPE: Alias<'static> = Alias::Outer {
     index: 1,
 };
 
-impl Short for Aliases {
-    fn add_short(to: &mut Items<'_, Aliases>) -> Result<(), Fault> {
-        FUNCTION_OF_AN_INSTANCE.add(to)
-    }
+/// A copy goes its own way.
+#[test]
+fn aliases(rt: HostRuntime) {
+    let alloc = rt.alloc();
+    let mut section: ComponentAliasSection = ComponentAliasSection::new(alloc);
+    yes(&rt, section.is_empty() && section.len() == 0);
+    alone(&rt, alloc, &section, "060100");
+    ok(&rt, section.alias(FUNCTION_OF_AN_INSTANCE));
+    let mut copy = ok(&rt, section.clone());
+    ok(&rt, copy.alias(OUTER_TYPE));
+    alone(&rt, alloc, &section, "0606010100000166");
+    yes(
+        &rt,
+        !section.is_empty() && section.len() == 1 && copy.len() == 2,
+    );
+    alone(&rt, alloc, &copy, "060a02010000016603020001");
+    ok(&rt, section.alias(FUNCTION_OF_AN_INSTANCE));
+    alone(&rt, alloc, &section, "060b0201000001660100000166");
 }
 
-const NO_ALIAS_AND_SHORT_ONES: &[&str; 3] = &[
-    "0001060100",
-    "01000606010100000166",
-    "0200060b0201000001660100000166",
-];
-
-const ALIASES: &[(&[Alias<'static>], &str)] = &[(
-    &[FUNCTION_OF_AN_INSTANCE, OUTER_TYPE],
-    "0200060a02010000016603020001",
-)];
-
-const LONG_ALIASES: &[Alias<'static>] = &[
-    Alias::InstanceExport {
-        instance: LARGE,
-        kind: ComponentExportKind::Module,
-        name: NAME,
-    },
-    Alias::CoreInstanceExport {
-        instance: LARGE,
-        kind: ExportKind::Tag,
-        name: NAME,
-    },
-    Alias::Outer {
-        kind: ComponentOuterAliasKind::CoreType,
-        count: LARGE,
-        index: LARGE,
-    },
-];
-
-/// What is imported under a name.
-#[derive(Clone, Copy)]
-struct Import<'a>(Name<'a>, ComponentTypeRef);
-
-impl<'a, 'b> Adds<Items<'a, Imports>> for Import<'b> {
-    fn add(&self, to: &mut Items<'a, Imports>) -> Result<(), Fault> {
-        to.0.import(self.0.borrowed(), self.1)
+/// The name "a", of what implements the interface "i".
+pub fn implements() -> ComponentExternName<'static> {
+    ComponentExternName {
+        name: CowStr::Borrowed("a"),
+        implements: Some(CowStr::Borrowed("i")),
+        version_suffix: None,
+        external_id: None,
     }
 }
-
-impl Short for Imports {
-    fn add_short(to: &mut Items<'_, Imports>) -> Result<(), Fault> {
-        Import(Name::Plain("f"), ComponentTypeRef::Func(0)).add(to)
-    }
-}
-
-const NO_IMPORT_AND_SHORT_ONES: &[&str; 3] = &[
-    "00010a0100",
-    "01000a06010001660100",
-    "02000a0b0200016601000001660100",
-];
-
-const IMPORTS: &[(&[Import<'static>], &str)] = &[(
-    &[Import(
-        Name::Implements("a", "i"),
-        ComponentTypeRef::Type(TypeBounds::SubResource),
-    )],
-    "01000a0a01020161010001690301",
-)];
-
-const LONG_IMPORTS: &[Import<'static>] = &[
-    Import(Name::Each(NAME), ComponentTypeRef::Module(LARGE)),
-    Import(Name::Each(NAME), ComponentTypeRef::Func(LARGE)),
-    Import(
-        Name::Each(NAME),
-        ComponentTypeRef::Type(TypeBounds::SubResource),
-    ),
-];
-
-/// What is exported under a name, with a type or with none.
-#[derive(Clone, Copy)]
-struct Export<'a>(Name<'a>, ComponentExportKind, u32, Option<ComponentTypeRef>);
-
-impl<'a, 'b> Adds<Items<'a, Exports>> for Export<'b> {
-    fn add(&self, to: &mut Items<'a, Exports>) -> Result<(), Fault> {
-        to.0.export(self.0.borrowed(), self.1, self.2, self.3)
-    }
-}
-
-impl Short for Exports {
-    fn add_short(to: &mut Items<'_, Exports>) -> Result<(), Fault> {
-        Export(Name::Plain("g"), ComponentExportKind::Func, 0, None).add(to)
-    }
-}
-
-const NO_EXPORT_AND_SHORT_ONES: &[&str; 3] = &[
-    "00010b0100",
-    "01000b0701000167010000",
-    "02000b0d02000167010000000167010000",
-];
-
-const EXPORTS: &[(&[Export<'static>], &str)] = &[
-    (
-        &[Export(Name::Plain("foo"), ComponentExportKind::Func, 0, None)],
-        "01000b09010003666f6f010000",
-    ),
-    (
-        &[Export(
-            Name::Plain("a"),
-            ComponentExportKind::Func,
-            1,
-            Some(ComponentTypeRef::Func(2)),
-        )],
-        "01000b09010001610101010102",
-    ),
-];
-
-const LONG_EXPORTS: &[Export<'static>] = &[
-    Export(Name::Each(NAME), ComponentExportKind::Module, LARGE, None),
-    Export(
-        Name::Each(NAME),
-        ComponentExportKind::Module,
-        LARGE,
-        Some(ComponentTypeRef::Module(LARGE)),
-    ),
-];
 
 #[test]
-fn items(rt: HostRuntime) {
+fn imports_and_exports(rt: HostRuntime) {
     let alloc = rt.alloc();
-    let heap = Refusing::new(alloc);
-    check::<Items<Aliases>, Alias>(
+    let mut section: ComponentImportSection = ComponentImportSection::new(alloc);
+    alone(&rt, alloc, &section, "0a0100");
+    let function = ComponentTypeRef::Func(0);
+    ok(&rt, section.import("f".into(), function));
+    ok(&rt, section.import("f".into(), function));
+    let resource = ComponentTypeRef::Type(TypeBounds::SubResource);
+    ok(&rt, section.import(implements(), resource));
+    alone(
         &rt,
         alloc,
-        &heap,
-        NO_ALIAS_AND_SHORT_ONES,
-        ALIASES,
-        LONG_ALIASES,
+        &section,
+        "0a140300016601000001660100020161010001690301",
     );
-    check::<Items<Imports>, Import>(
+    let mut section: ComponentExportSection = ComponentExportSection::new(alloc);
+    alone(&rt, alloc, &section, "0b0100");
+    let kind = ComponentExportKind::Func;
+    ok(&rt, section.export("g".into(), kind, 0, None));
+    ok(&rt, section.export("foo".into(), kind, 0, None));
+    ok(
         &rt,
-        alloc,
-        &heap,
-        NO_IMPORT_AND_SHORT_ONES,
-        IMPORTS,
-        LONG_IMPORTS,
+        section.export("a".into(), kind, 1, Some(ComponentTypeRef::Func(2))),
     );
-    check::<Items<Exports>, Export>(
-        &rt,
-        alloc,
-        &heap,
-        NO_EXPORT_AND_SHORT_ONES,
-        EXPORTS,
-        LONG_EXPORTS,
-    );
+    let wanted = "0b17030001670100000003666f6f0100000001610101010102";
+    alone(&rt, alloc, &section, wanted);
 }

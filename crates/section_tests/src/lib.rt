@@ -1,5 +1,5 @@
-//! Tests of `wenc_types` and `wenc_sections`: worked types, sections and components, each request
-//! for memory refused in turn, and a proved caller.
+//! Tests of `wenc_types` and `wenc_sections`: worked types, sections and components, types with
+//! declarations with each request for memory refused in turn, and a proved caller.
 #![tactic(auto)]
 
 #[cfg(test)]
@@ -15,8 +15,6 @@ mod components;
 #[cfg(test)]
 mod core_types;
 #[cfg(test)]
-mod counted;
-#[cfg(test)]
 mod custom;
 #[cfg(test)]
 mod holders;
@@ -27,18 +25,14 @@ mod items;
 #[cfg(test)]
 mod lending;
 #[cfg(test)]
-mod named;
-#[cfg(test)]
 mod names;
 #[cfg(test)]
 mod nested;
 #[cfg(test)]
 mod own;
 #[cfg(test)]
-mod producers;
-#[cfg(test)]
 mod sweeps;
 #[cfg(test)]
-mod swept_lending;
+mod swept;
 #[cfg(test)]
 mod unfinished;

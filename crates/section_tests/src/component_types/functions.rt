@@ -1,91 +1,91 @@
 //! Types of functions: how far each is written.
 
 use crate::accepted::ok;
-use crate::checks::{alone, yes};
-use crate::component_types::checks::STRING;
-use crate::lending::has;
-use std::alloc::Global;
-use std::process::Abort;
+use crate::checks::{alone, bytes, yes};
+use crate::component_types::calls::{LAST, STRING};
+use refusing::Refusing;
+use sweeping::{NAME, REFUSED};
 use wenc_base::Fault;
 use wenc_parts::ComponentValType;
 use wenc_sections::ComponentTypeSection;
-use wenc_types::FuncStage;
+use wenc_types::{FuncStage, InstanceType};
 
-/// A function, which may be said to be asynchronous, the stages in which it is written, and a
-/// section of it alone.
-#[derive(Clone, Copy)]
-struct Row<'a> {
+/// Writes a function, which may be said to be asynchronous, and answers its stages.
+fn stages(
+    section: &mut ComponentTypeSection,
     is_async: bool,
-    params: &'a [(&'a str, ComponentValType)],
+    params: &[(&str, ComponentValType)],
     answer: Option<ComponentValType>,
-    stages: &'a [FuncStage],
-    bytes: &'a str,
-}
-
-/// Writes the function, and answers its stages.
-fn stages(section: &mut ComponentTypeSection, row: &Row<'_>) -> Result<[FuncStage; 4], Fault> {
+) -> Result<[FuncStage; 4], Fault> {
     let mut function = section.function()?;
     let begun = function.stage();
-    if row.is_async {
+    if is_async {
         function.async_(true)?;
     }
     let tagged = function.stage();
-    function.params(row.params.iter().copied())?;
+    function.params(params.iter().copied())?;
     let listed = function.stage();
-    function.result(row.answer)?;
+    function.result(answer)?;
     Ok([begun, tagged, listed, function.stage()])
 }
 
-const PLAIN: &[FuncStage] = &[
+const PLAIN: [FuncStage; 4] = [
     FuncStage::Start,
     FuncStage::Start,
     FuncStage::Params,
     FuncStage::Done,
 ];
 
-const ASYNCHRONOUS: &[FuncStage] = &[
+const ASYNCHRONOUS: [FuncStage; 4] = [
     FuncStage::Start,
     FuncStage::Tagged,
     FuncStage::Params,
     FuncStage::Done,
 ];
 
-const ROWS: &[Row<'static>] = &[
-    Row {
-        is_async: true,
-        params: &[],
-        answer: None,
-        stages: ASYNCHRONOUS,
-        bytes: "07050143000100",
-    },
-    Row {
-        is_async: false,
-        params: &[],
-        answer: None,
-        stages: PLAIN,
-        bytes: "07050140000100",
-    },
-    Row {
-        is_async: false,
-        params: &[("a", STRING)],
-        answer: Some(STRING),
-        stages: PLAIN,
-        bytes: "07080140010161730073",
-    },
-];
-
-/// A section of the function alone.
-fn check(rt: &impl Abort, alloc: Global, section: &mut ComponentTypeSection, row: &Row<'_>) {
-    let stages = ok(rt, stages(section, row));
-    yes(rt, stages.as_slice() == row.stages);
-    has(rt, section, [1, 0, 0, 0]);
-    alone(rt, alloc, section, row.bytes);
-}
-
 #[test]
 fn functions(rt: HostRuntime) {
     let alloc = rt.alloc();
-    for row in ROWS {
-        check(&rt, alloc, &mut ComponentTypeSection::new(alloc), row);
+    let mut section = ComponentTypeSection::new(alloc);
+    let written = ok(&rt, stages(&mut section, true, &[], None));
+    yes(&rt, written == ASYNCHRONOUS);
+    let written = ok(&rt, stages(&mut section, false, &[], None));
+    yes(&rt, written == PLAIN);
+    let params = &[("a", STRING)];
+    let written = ok(&rt, stages(&mut section, false, params, Some(STRING)));
+    yes(&rt, written == PLAIN);
+    alone(&rt, alloc, &section, "071003430001004000010040010161730073");
+}
+
+/// The second has a long name.
+const PARAMS: &[(&str, ComponentValType)] = &[("a", STRING), (NAME, LAST)];
+
+/// The parameters are refused, and given again.
+#[test]
+fn refused_params(rt: HostRuntime) {
+    let alloc = rt.alloc();
+    let heap = Refusing::new(alloc);
+    let mut ty = InstanceType::new(&heap);
+    match ty.ty() {
+        Ok(encoder) => {
+            let mut function = encoder.function();
+            heap.refuse_all();
+            match function.params(PARAMS.iter().copied()) {
+                Ok(()) => panic!(rt; "it is not refused"),
+                Err(fault) => {
+                    heap.refuse_none();
+                    assert!(rt; fault == REFUSED && function.stage() == FuncStage::Start);
+                    match function.params(PARAMS.iter().copied()) {
+                        Ok(()) => ok(&rt, function.result(Some(LAST))),
+                        Err(_) => panic!(rt; "it is refused"),
+                    }
+                }
+            }
+        }
+        Err(_) => panic!(rt; "it is refused"),
     }
+    let given = ok(&rt, bytes(alloc, &ty));
+    let wanted = b"\x42\x01\x01\x40\x02\x01a\x73\
+            \x49a name that is longer than a first growth, by far: aaaaaaaaaaaaaaaaaaaaaa\xff\xff\xff\xff\x0f\x00\xff\xff\xff\xff\x0f";
+    yes(&rt, given.as_slice() == wanted.as_slice());
 }

@@ -1,55 +1,20 @@
-//! Each call that writes a type of values, a resource or a function, with each thing that can be
-//! borrowed.
+//! Each call that writes a type of values, a resource or a function: in sections, and in component
+//! types and instance types, in which it is swept.
 
-use crate::component_types::calls::Call;
-use crate::component_types::checks::{A_TYPE, INDEXED, LAST, STRING};
-use crate::component_types::declaring::Kind;
-use crate::component_types::lending::Item;
-use crate::swept_lending::{Made, last_is_refused, sweep_item, sweep_made, sweep_texts};
+use crate::accepted::ok;
+use crate::component_types::calls::{BOOL, Call, INDEXED, LAST, STRING, U8, U32, Whole};
+use crate::component_types::kinds::{Declaration, Item, Plain};
+use crate::lending::Makes;
+use crate::swept::sweep;
+use crate::unfinished::is_item;
 use refusing::Refusing;
 use std::alloc::Global;
 use std::process::Abort;
-use sweeping::{LARGE, NAME};
+use sweeping::NAME;
 use wenc_base::ValType;
-use wenc_parts::{ComponentValType, PrimitiveValType};
+use wenc_parts::PrimitiveValType;
 use wenc_sections::ComponentTypeSection;
-use wenc_types::Declarations;
-use wenc_types::component_type::ComponentTypes;
-use wenc_types::instance_type::InstanceTypes;
-
-const BOOL: ComponentValType = ComponentValType::Primitive(PrimitiveValType::Bool);
-
-const U8: ComponentValType = ComponentValType::Primitive(PrimitiveValType::U8);
-
-const U32: ComponentValType = ComponentValType::Primitive(PrimitiveValType::U32);
-
-/// The call declares a type of this text, in one of this kind.
-fn in_a_type<K: Kind>(
-    rt: &impl Abort,
-    alloc: Global,
-    heap: &Refusing,
-    call: &Made<Call<'_>>,
-    text: &[u8],
-) {
-    let lead = &[K::LEAD, 1, 1];
-    sweep_made::<Declarations<K, &Refusing>, Call<'_>>(rt, alloc, heap, call, A_TYPE, lead, text);
-    last_is_refused::<Declarations<K, &Refusing>, Call<'_>>(rt, heap, 5, &call.call);
-}
-
-/// The calls make types of these texts, as items and in types of both kinds.
-fn check(rt: &impl Abort, alloc: Global, heap: &Refusing, rows: &[(Call<'_>, &[u8])]) {
-    for (call, text) in rows {
-        let made = Made {
-            call: *call,
-            is_lent: true,
-        };
-        sweep_item::<ComponentTypeSection<&Refusing>, Call<'_>>(rt, alloc, heap, &made, text);
-        last_is_refused::<ComponentTypeSection<&Refusing>, Call<'_>>(rt, heap, 8, call);
-        in_a_type::<ComponentTypes>(rt, alloc, heap, &made, text);
-        in_a_type::<InstanceTypes>(rt, alloc, heap, &made, text);
-    }
-    sweep_texts(rt, alloc, &mut ComponentTypeSection::new(alloc), rows);
-}
+use wenc_types::{ComponentType, DefinedTree, InstanceType, TypeTree};
 
 const LISTS: &[(Call<'static>, &[u8])] = &[
     (Call::Record(&[]), b"\x72\x00"),
@@ -66,34 +31,17 @@ const LISTS: &[(Call<'static>, &[u8])] = &[
         Call::Variant(&[("a", None), ("b", Some(STRING))]),
         b"\x71\x02\x01\x61\x00\x00\x01\x62\x01\x73\x00",
     ),
-    (
-        Call::Variant(&[("a", None), (NAME, Some(LAST))]),
-        b"\x71\x02\x01a\x00\x00\
-            \x49a name that is longer than a first growth, by far: aaaaaaaaaaaaaaaaaaaaaa\x01\xff\xff\xff\xff\x0f\x00",
-    ),
     (Call::Tuple(&[]), b"\x6f\x00"),
     (
         Call::Tuple(&[STRING, INDEXED, BOOL]),
         b"\x6f\x03\x73\xc0\x00\x7f",
     ),
-    (
-        Call::Tuple(&[STRING, LAST]),
-        b"\x6f\x02\x73\xff\xff\xff\xff\x0f",
-    ),
     (Call::Flags(&[]), b"\x6e\x00"),
     (Call::Flags(&["a", "bc"]), b"\x6e\x02\x01\x61\x02\x62\x63"),
-    (
-        Call::Flags(&["a", NAME]),
-        b"\x6e\x02\x01a\x49a name that is longer than a first growth, by far: aaaaaaaaaaaaaaaaaaaaaa",
-    ),
     (Call::EnumType(&[]), b"\x6d\x00"),
     (
         Call::EnumType(&["a", "bc"]),
         b"\x6d\x02\x01\x61\x02\x62\x63",
-    ),
-    (
-        Call::EnumType(&["a", NAME]),
-        b"\x6d\x02\x01a\x49a name that is longer than a first growth, by far: aaaaaaaaaaaaaaaaaaaaaa",
     ),
 ];
 
@@ -112,30 +60,15 @@ const OTHERS: &[(Call<'static>, &[u8])] = &[
     (Call::Future(Some(STRING)), b"\x65\x01\x73"),
     (Call::Stream(None), b"\x66\x00"),
     (Call::Stream(Some(INDEXED)), b"\x66\x01\xc0\x00"),
-    (Call::List(LAST), b"\x70\xff\xff\xff\xff\x0f"),
-    (Call::Map(STRING, LAST), b"\x63\x73\xff\xff\xff\xff\x0f"),
-    (
-        Call::FixedLengthList(LAST, LARGE),
-        b"\x67\xff\xff\xff\xff\x0f\xff\xff\xff\xff\x0f",
-    ),
-    (Call::Option(LAST), b"\x6b\xff\xff\xff\xff\x0f"),
     (
         Call::Result(Some(STRING), Some(LAST)),
         b"\x6a\x01\x73\x01\xff\xff\xff\xff\x0f",
     ),
-    (Call::Own(LARGE), b"\x69\xff\xff\xff\xff\x0f"),
-    (Call::Borrow(LARGE), b"\x68\xff\xff\xff\xff\x0f"),
-    (Call::Future(Some(LAST)), b"\x65\x01\xff\xff\xff\xff\x0f"),
-    (Call::Stream(Some(LAST)), b"\x66\x01\xff\xff\xff\xff\x0f"),
 ];
 
 const RESOURCES_AND_FUNCTIONS: &[(Call<'static>, &[u8])] = &[
     (Call::Resource(ValType::I32, None), b"\x3f\x7f\x00"),
     (Call::Resource(ValType::I32, Some(3)), b"\x3f\x7f\x01\x03"),
-    (
-        Call::Resource(ValType::I32, Some(LARGE)),
-        b"\x3f\x7f\x01\xff\xff\xff\xff\x0f",
-    ),
     (
         Call::Function(None, &[("a", STRING), ("b", STRING)], Some(STRING)),
         b"\x40\x02\x01\x61\x73\x01\x62\x73\x00\x73",
@@ -150,33 +83,79 @@ const RESOURCES_AND_FUNCTIONS: &[(Call<'static>, &[u8])] = &[
         b"\x40\x02\x01a\x73\
             \x49a name that is longer than a first growth, by far: aaaaaaaaaaaaaaaaaaaaaa\xff\xff\xff\xff\x0f\x00\xff\xff\xff\xff\x0f",
     ),
-    (
-        Call::Function(Some(true), &[("a", STRING), (NAME, LAST)], None),
-        b"\x43\x02\x01a\x73\
-            \x49a name that is longer than a first growth, by far: aaaaaaaaaaaaaaaaaaaaaa\xff\xff\xff\xff\x0f\x01\x00",
-    ),
 ];
 
-/// Resources that one call adds, by their destructors.
-const RESOURCES: &[(Option<u32>, &[u8])] = &[
-    (None, b"\x3f\x7f\x00"),
-    (Some(3), b"\x3f\x7f\x01\x03"),
-    (Some(LARGE), b"\x3f\x7f\x01\xff\xff\xff\xff\x0f"),
-];
+/// What is asked of one with a declaration that counts as a type: it isn't empty, and is finished.
+pub const A_TYPE: &[u8] = &[1, 0, 1, 0, 0, 1];
+
+/// Where a type is added, it has this text.
+fn check(
+    rt: &impl Abort,
+    alloc: Global,
+    heap: &Refusing,
+    item: Item<'_>,
+    call: Declaration<'_>,
+    text: &[u8],
+) {
+    let mut section = ComponentTypeSection::new(alloc);
+    ok(rt, item.make(&mut section));
+    is_item(rt, alloc, &section, text);
+    let lead = &[0x41, 1, 1];
+    sweep::<ComponentType<&Refusing>, Declaration<'_>>(
+        rt, alloc, heap, &call, true, A_TYPE, lead, text,
+    );
+    let lead = &[0x42, 1, 1];
+    sweep::<InstanceType<&Refusing>, Declaration<'_>>(
+        rt, alloc, heap, &call, true, A_TYPE, lead, text,
+    );
+}
 
 /// Upstream gives these texts.
 #[test]
 fn types(rt: HostRuntime) {
     let alloc = rt.alloc();
     let heap = Refusing::new(alloc);
-    check(&rt, alloc, &heap, LISTS);
-    check(&rt, alloc, &heap, OTHERS);
-    check(&rt, alloc, &heap, RESOURCES_AND_FUNCTIONS);
-    for (dtor, text) in RESOURCES {
-        let item = Made {
-            call: Item::Resource(*dtor),
-            is_lent: false,
-        };
-        sweep_item::<ComponentTypeSection<&Refusing>, Item<'_>>(&rt, alloc, &heap, &item, text);
+    for rows in [LISTS, OTHERS, RESOURCES_AND_FUNCTIONS] {
+        for (call, text) in rows {
+            let declaration = Declaration::Plain(Plain::Type(*call));
+            check(&rt, alloc, &heap, Item::Type(*call), declaration, text);
+        }
+    }
+}
+
+/// Types that are made already.
+#[test]
+fn whole_types(rt: HostRuntime) {
+    let alloc = rt.alloc();
+    let heap = Refusing::new(alloc);
+    let component = ComponentType::new(alloc);
+    let inner = InstanceType::new(alloc);
+    let mut outer = InstanceType::new(alloc);
+    ok(
+        &rt,
+        Declaration::Whole(Whole::Instance(&inner)).make(&mut outer),
+    );
+    let function = TypeTree::Func {
+        is_async: true,
+        params: Vec::new(alloc),
+        result: None,
+    };
+    let list = DefinedTree::List(LAST);
+    let rows: [(Whole<'_>, &[u8]); 5] = [
+        (Whole::Component(&component), b"\x41\x00"),
+        (Whole::Instance(&inner), b"\x42\x00"),
+        (Whole::Instance(&outer), b"\x42\x01\x01\x42\x00"),
+        (Whole::Tree(&function), b"\x43\x00\x01\x00"),
+        (Whole::Values(&list), b"\x70\xff\xff\xff\xff\x0f"),
+    ];
+    for (ty, text) in &rows {
+        check(
+            &rt,
+            alloc,
+            &heap,
+            Item::Whole(*ty),
+            Declaration::Whole(*ty),
+            text,
+        );
     }
 }

@@ -2,30 +2,17 @@
 //! given up and done again.
 
 use crate::accepted::ok;
-use crate::component_types::calls::Call;
-use crate::component_types::declaring::{Declaration, Import, Kind};
-use crate::component_types::lending::{Beginning, Opening, Start, items};
-use crate::lending::{Counts, Makes, is};
-use crate::unfinished::{NO_ITEMS, take_back_each};
+use crate::checks::{is_refused, yes};
+use crate::component_types::calls::{Call, Opening, Whole};
+use crate::component_types::kinds::{Declaration, Item, Plain};
+use crate::core_types::calls::CoreType;
+use crate::lending::{Counts, Lending, Makes, state};
+use crate::unfinished::{NO_ITEMS, is_item, take_back_each};
 use std::alloc::Global;
 use std::process::Abort;
-use wenc_base::Fault;
 use wenc_parts::{Alias, ComponentOuterAliasKind, ComponentTypeRef};
 use wenc_sections::ComponentTypeSection;
-use wenc_types::component_type::ComponentTypes;
-use wenc_types::instance_type::InstanceTypes;
-use wenc_types::{ComponentType, Declarations, InstanceType};
-
-/// What is counted when a type is begun in each way.
-const STARTS: &[(Start, Counts)] = &[
-    (Start::Type(Opening::Type), [1, 0, 1, 0]),
-    (Start::Type(Opening::Values), [1, 0, 1, 0]),
-    (Start::Type(Opening::Function), [1, 0, 1, 0]),
-    (Start::Type(Opening::Tagged), [1, 0, 1, 0]),
-    (Start::Type(Opening::Listed), [1, 0, 1, 0]),
-    (Start::CoreType, [1, 1, 0, 0]),
-    (Start::Core, [1, 1, 0, 0]),
-];
+use wenc_types::{ComponentType, InstanceType};
 
 const OUTER: Alias<'static> = Alias::Outer {
     kind: ComponentOuterAliasKind::Type,
@@ -33,66 +20,138 @@ const OUTER: Alias<'static> = Alias::Outer {
     index: 0,
 };
 
-const FUNC: ComponentTypeRef = ComponentTypeRef::Func(0);
+const TYPE: Plain<'static> = Plain::Type(Call::Begun(Opening::Type));
+
+const VALUES: Plain<'static> = Plain::Type(Call::Begun(Opening::Values));
+
+const FUNCTION: Plain<'static> = Plain::Type(Call::Begun(Opening::Function));
+
+const TAGGED: Plain<'static> = Plain::Type(Call::Begun(Opening::Tagged));
+
+const LISTED: Plain<'static> = Plain::Type(Call::Begun(Opening::Listed));
+
+/// How a type is begun, and what is counted then.
+fn starts<'t>() -> [(Declaration<'t>, Counts); 7] {
+    [
+        (Declaration::Plain(TYPE), [1, 0, 1, 0]),
+        (Declaration::Plain(VALUES), [1, 0, 1, 0]),
+        (Declaration::Plain(FUNCTION), [1, 0, 1, 0]),
+        (Declaration::Plain(TAGGED), [1, 0, 1, 0]),
+        (Declaration::Plain(LISTED), [1, 0, 1, 0]),
+        (Declaration::CoreType(CoreType::Begun), [1, 1, 0, 0]),
+        (Declaration::CoreType(CoreType::Core), [1, 1, 0, 0]),
+    ]
+}
 
 /// What nothing is declared by meanwhile.
-const DECLARATIONS: &[Declaration<'static>] = &[
-    Declaration::Alias(OUTER),
-    Declaration::Export("f", FUNC),
-    Declaration::Array,
-];
-
-const IMPORTS: &[Import<'static>] = &[Import("f", FUNC)];
-
-/// Afterwards the type is as it was, and takes a declaration.
-fn goes_on<K: Kind>(rt: &impl Abort, alloc: Global, none: &[u8], one: &[u8]) {
-    let mut ty: Declarations<K> = Declarations::new(alloc);
-    take_back_each(rt, alloc, &mut ty, STARTS, DECLARATIONS, none);
-    ok(rt, Call::Own(64).make(&mut ty));
-    is(rt, alloc, &ty, one);
+fn refused<'t>() -> [Declaration<'t>; 4] {
+    [
+        Declaration::Plain(TYPE),
+        Declaration::CoreType(CoreType::Begun),
+        Declaration::Plain(Plain::Alias(OUTER)),
+        Declaration::Plain(Plain::Export("f", ComponentTypeRef::Func(0))),
+    ]
 }
 
-const BEGINNINGS: &[(Beginning, Counts)] = &[
-    (Beginning::Encoder(Opening::Type), [1, 0, 0, 0]),
-    (Beginning::Encoder(Opening::Values), [1, 0, 0, 0]),
-    (Beginning::DefinedType, [1, 0, 0, 0]),
-    (Beginning::Function, [1, 0, 0, 0]),
-    (Beginning::Tagged, [1, 0, 0, 0]),
-    (Beginning::Listed, [1, 0, 0, 0]),
-];
+const OWN: Plain<'static> = Plain::Type(Call::Own(64));
 
-/// Adds a handle by the call for types of values.
-fn add_own(section: &mut ComponentTypeSection) -> Result<(), Fault> {
-    section.defined_type()?.own(64)
-}
-
-/// Each item that was begun is given up. Meanwhile the section takes neither types nor anything
-/// else.
-fn check_section(rt: &impl Abort, alloc: Global, section: &mut ComponentTypeSection) {
-    take_back_each(
-        rt,
-        alloc,
-        section,
-        BEGINNINGS,
-        items(&ComponentType::new(alloc), &InstanceType::new(alloc)).as_slice(),
-        NO_ITEMS,
-    );
-    ok(rt, add_own(section));
-    let wanted = b"\x01\x00\x00\x00\x00\x01\x03\x01\x69\x40";
-    is(rt, alloc, section, wanted);
-}
-
-/// Nor do component types declare imports meanwhile.
+/// Afterwards a component type is as it was, and takes a declaration.
 #[test]
-fn given_up(rt: HostRuntime) {
+fn component_types(rt: HostRuntime) {
     let alloc = rt.alloc();
+    let mut ty = ComponentType::new(alloc);
     let none = b"\x00\x00\x00\x00\x01\x01\x41\x00";
-    let one = b"\x01\x00\x01\x00\x00\x01\x41\x01\x01\x69\x40";
-    goes_on::<ComponentTypes>(&rt, alloc, none, one);
-    let ty = &mut ComponentType::new(alloc);
-    take_back_each(&rt, alloc, ty, STARTS, IMPORTS, none);
+    take_back_each(&rt, alloc, &mut ty, &starts(), &refused(), none);
+    let import = Plain::Import("f", ComponentTypeRef::Func(0));
+    let imports = [Declaration::Plain(import)];
+    take_back_each(&rt, alloc, &mut ty, &starts(), &imports, none);
+    ok(&rt, Declaration::Plain(OWN).make(&mut ty));
+    let given = ok(&rt, state(alloc, &ty));
+    let wanted = b"\x01\x00\x01\x00\x00\x01\x41\x01\x01\x69\x40";
+    yes(&rt, given.as_slice() == wanted.as_slice());
+}
+
+#[test]
+fn instance_types(rt: HostRuntime) {
+    let alloc = rt.alloc();
+    let mut ty = InstanceType::new(alloc);
     let none = b"\x00\x00\x00\x00\x01\x01\x42\x00";
-    let one = b"\x01\x00\x01\x00\x00\x01\x42\x01\x01\x69\x40";
-    goes_on::<InstanceTypes>(&rt, alloc, none, one);
-    check_section(&rt, alloc, &mut ComponentTypeSection::new(alloc));
+    take_back_each(&rt, alloc, &mut ty, &starts(), &refused(), none);
+    ok(&rt, Declaration::Plain(OWN).make(&mut ty));
+    let given = ok(&rt, state(alloc, &ty));
+    let wanted = b"\x01\x00\x01\x00\x00\x01\x42\x01\x01\x69\x40";
+    yes(&rt, given.as_slice() == wanted.as_slice());
+}
+
+/// What a section with an unfinished item refuses, these types among it.
+fn items<'t>(component: &'t ComponentType, instance: &'t InstanceType) -> [Item<'t>; 6] {
+    [
+        Item::Component(component),
+        Item::Instance(instance),
+        Item::Resource(None),
+        Item::Type(Call::Begun(Opening::Type)),
+        Item::DefinedType,
+        Item::Function,
+    ]
+}
+
+/// Meanwhile a section takes neither types nor anything else.
+#[test]
+fn sections(rt: HostRuntime) {
+    let alloc = rt.alloc();
+    let mut section = ComponentTypeSection::new(alloc);
+    let component = ComponentType::new(alloc);
+    let instance = InstanceType::new(alloc);
+    let starts = [
+        (Item::Type(Call::Begun(Opening::Type)), [1, 0, 0, 0]),
+        (Item::Type(Call::Begun(Opening::Values)), [1, 0, 0, 0]),
+        (Item::Type(Call::Begun(Opening::Function)), [1, 0, 0, 0]),
+        (Item::Type(Call::Begun(Opening::Tagged)), [1, 0, 0, 0]),
+        (Item::Type(Call::Begun(Opening::Listed)), [1, 0, 0, 0]),
+        (Item::DefinedType, [1, 0, 0, 0]),
+        (Item::Function, [1, 0, 0, 0]),
+    ];
+    let refused = items(&component, &instance);
+    take_back_each(&rt, alloc, &mut section, &starts, &refused, NO_ITEMS);
+    match section.defined_type() {
+        Ok(values) => ok(&rt, values.own(64)),
+        Err(_) => panic!(rt; "it is refused"),
+    }
+    is_item(&rt, alloc, &section, b"\x69\x40");
+}
+
+/// This item is refused, of a type that is unfinished. One call leaves the section as it was, and
+/// an encoder leaves its item unfinished.
+fn is_not_item(rt: &impl Abort, alloc: Global, one: Item<'_>, lent: Item<'_>) {
+    let mut section = ComponentTypeSection::new(alloc);
+    is_refused(rt, one.make(&mut section));
+    let given = ok(rt, state(alloc, &section));
+    yes(rt, given.as_slice() == NO_ITEMS);
+    is_refused(rt, lent.make(&mut section));
+    yes(rt, section.len() == 1 && !section.is_finished());
+    is_refused(rt, one.make(&mut section));
+    yes(rt, section.give_up());
+    let given = ok(rt, state(alloc, &section));
+    yes(rt, given.as_slice() == NO_ITEMS);
+}
+
+#[test]
+fn unfinished_types(rt: HostRuntime) {
+    let alloc = rt.alloc();
+    let mut ty = ComponentType::new(alloc);
+    ok(&rt, Declaration::CoreType(CoreType::Begun).make(&mut ty));
+    is_not_item(
+        &rt,
+        alloc,
+        Item::Component(&ty),
+        Item::Whole(Whole::Component(&ty)),
+    );
+    let mut ty = InstanceType::new(alloc);
+    ok(&rt, Declaration::CoreType(CoreType::Begun).make(&mut ty));
+    is_not_item(
+        &rt,
+        alloc,
+        Item::Instance(&ty),
+        Item::Whole(Whole::Instance(&ty)),
+    );
 }

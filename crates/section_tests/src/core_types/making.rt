@@ -28,14 +28,9 @@ const REFERENCE: ValType = ValType::Ref(RefType {
 
 pub const ELEMENT: StorageType = StorageType::Val(REFERENCE);
 
-pub const FIELD: FieldType = FieldType {
-    element_type: ELEMENT,
-    mutable: true,
-};
+const LONG_PARAMS: &[ValType] = &[REFERENCE, ValType::I32, REFERENCE, ValType::I64];
 
-pub const LONG_PARAMS: &[ValType] = &[REFERENCE, ValType::I32, REFERENCE, ValType::I64];
-
-pub const LONG_RESULTS: &[ValType] = &[ValType::F64, REFERENCE, ValType::V128, REFERENCE];
+const LONG_RESULTS: &[ValType] = &[ValType::F64, REFERENCE, ValType::V128, REFERENCE];
 
 /// A subtype, in a table: whether it is final, and its supertype.
 #[derive(Clone, Copy)]
