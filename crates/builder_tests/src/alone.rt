@@ -1,7 +1,7 @@
 //! Modules, components, starts and custom sections: each is a section of its own, and parts its
 //! neighbours.
 
-use crate::calls::{BEGIN_TYPE, FUNCTION, GIVE_UP, Item, OUTER_TYPE};
+use crate::calls::{BEGIN_TYPE, CANCELS, FUNCTION, Item, OUTER_TYPE};
 use crate::canonicals::Indexed;
 use crate::checks::Row;
 use wasm_encoder::{
@@ -12,9 +12,6 @@ const NO_DATA: CustomSection<'static> = CustomSection {
     name: "x",
     data: &[],
 };
-
-/// A component with one function, `task.cancel`.
-const CANCELS: &[u8] = b"\x00asm\x0d\x00\x01\x00\x08\x02\x01\x05";
 
 /// An import of a byte.
 const VALUE: Item<'static> = Item::Import(
@@ -92,7 +89,7 @@ pub const ROWS: &[Row<'static>] = &[
             (Item::Start(0, &[], 1), Err(Fault::TooMany)),
             (BEGIN_TYPE, Ok(0)),
             (Item::Start(0, &[], 1), Err(Fault::Unfinished)),
-            (GIVE_UP, Ok(1)),
+            (Item::GiveUp, Ok(1)),
         ],
         b"\x09\x07\x00\x00\xff\xff\xff\xff\x0f",
     ),

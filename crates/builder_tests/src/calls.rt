@@ -1,9 +1,8 @@
 //! Calls of the builder, as values: tables of them say how a component is made.
 
 use crate::accepted::ok;
-use crate::canonicals::{Indexed, Other, Plain, WithOptions};
-use crate::trees::Tree;
-use crate::written::{Defined, Typed, Written};
+use crate::canonicals::{Indexed, Other, Plain};
+use crate::written::{Defined, Handed, Written};
 use refusing::Refusing;
 use std::alloc::Global;
 use std::borrow::CowStr;
@@ -24,24 +23,26 @@ pub const FUNCTION: Item<'static> = Item::Alias(Alias::InstanceExport {
 });
 
 /// A type of the component that this one stands in.
-pub const OUTER_TYPE: Item<'static> = Item::Alias(Alias::Outer {
+pub const OUTER_TYPE: Item<'static> = Item::Alias(OUTER);
+
+pub const OUTER: Alias<'static> = Alias::Outer {
     kind: ComponentOuterAliasKind::Type,
     count: 0,
     index: 1,
-});
+};
 
 pub const TASK_CANCEL: Item<'static> = Item::Plain(Plain::TaskCancel);
 
 /// Begins a type of which nothing is written.
 pub const BEGIN_TYPE: Item<'static> = Item::Written(Written::Defined(Defined::Begun));
 
-pub const GIVE_UP: Item<'static> = Item::Asked(Asked::GiveUp);
+/// A component with one function, `task.cancel`.
+pub const CANCELS: &[u8] = b"\x00asm\x0d\x00\x01\x00\x08\x02\x01\x05";
 
 /// A builder whose requests for memory may be refused.
 pub type Builder<'h> = ComponentBuilder<&'h Refusing>;
 
 /// A call that adds an item or a section, or that stands between such calls.
-#[derive(Clone, Copy)]
 pub enum Item<'a> {
     Import(&'a str, ComponentTypeRef),
     ImportWithOptions,
@@ -55,14 +56,9 @@ pub enum Item<'a> {
     Plain(Plain),
     Indexed(Indexed, u32),
     Other(Other),
-    WithOptions(WithOptions),
     Listed(Listed<'a>),
-    Typed(Typed),
+    Handed(Handed<'a>),
     Written(Written<'a>),
-    /// A type that is begun, always under this debug name.
-    Begun(&'a str, Written<'a>),
-    /// What is no type, by its tree.
-    Tree(Tree<'a>),
     RawModule(&'a [u8]),
     /// A module with this section alone.
     Module(CustomSection<'a>),
@@ -76,35 +72,35 @@ pub enum Item<'a> {
     Custom(CustomSection<'a>),
     RawCustom(&'a [u8]),
     AppendNames,
-    Asked(Asked),
+    /// Gives up what is unfinished: 1 where something was, or 0.
+    GiveUp,
 }
 
 impl<'a> Item<'a> {
     /// Makes the call, under this debug name where it takes one. What else it is given is made with
     /// `alloc`, which refuses nothing.
     pub fn make(
-        self,
+        &self,
         rt: &impl Abort,
         alloc: Global,
         debug_name: Option<&str>,
         builder: &mut Builder<'_>,
     ) -> Result<u32, Fault> {
         match self {
-            Item::Import(name, ty) => builder.import(name.into(), ty),
+            Item::Import(name, ty) => builder.import((*name).into(), *ty),
             Item::ImportWithOptions => import_with_options(builder),
-            Item::Export(name, ty) => builder.export(name.into(), ComponentExportKind::Func, 0, ty),
-            Item::AliasExport(instance, name, kind) => builder.alias_export(instance, name, kind),
-            Item::Alias(alias) => builder.alias(debug_name, alias),
-            Item::CoreAlias(name, kind) => builder.core_alias_export(debug_name, 0, name, kind),
+            Item::Export(name, ty) => {
+                builder.export((*name).into(), ComponentExportKind::Func, 0, *ty)
+            }
+            Item::AliasExport(instance, name, kind) => builder.alias_export(*instance, name, *kind),
+            Item::Alias(alias) => builder.alias(debug_name, *alias),
+            Item::CoreAlias(name, kind) => builder.core_alias_export(debug_name, 0, name, *kind),
             Item::Plain(function) => function.make(builder),
-            Item::Indexed(function, index) => function.make(index, builder),
+            Item::Indexed(function, index) => function.make(*index, builder),
             Item::Other(function) => function.make(builder),
-            Item::WithOptions(function) => function.make(builder),
             Item::Listed(listed) => listed.make(debug_name, builder),
-            Item::Typed(ty) => ty.make(rt, alloc, debug_name, builder),
+            Item::Handed(item) => item.make(rt, alloc, debug_name, builder),
             Item::Written(ty) => ty.make(rt, alloc, debug_name, builder),
-            Item::Begun(name, ty) => ty.make(rt, alloc, Some(name), builder),
-            Item::Tree(tree) => tree.make(rt, alloc, debug_name, builder),
             Item::RawModule(bytes) => builder.core_module_raw(debug_name, bytes),
             Item::Module(section) => builder.core_module(debug_name, &module(rt, alloc, section)),
             Item::Component(inner) => builder.component(debug_name, inner.builder(rt, alloc)),
@@ -113,20 +109,20 @@ impl<'a> Item<'a> {
             }
             Item::RawComponent(bytes) => builder.component_raw(debug_name, bytes),
             Item::Start(function, args, results) => {
-                builder.start(function, ok(rt, args.to_vec(alloc)), results)
+                builder.start(*function, ok(rt, args.to_vec(alloc)), *results)
             }
-            Item::Custom(section) => placeless(builder.custom_section(&section)),
+            Item::Custom(section) => placeless(builder.custom_section(section)),
             Item::RawCustom(bytes) => placeless(builder.raw_custom_section(bytes)),
             Item::AppendNames => placeless(builder.append_names()),
-            Item::Asked(asked) => Ok(asked.answer(builder)),
+            Item::GiveUp => Ok(u32::from(builder.discard_unfinished())),
         }
     }
 }
 
 /// A module with this section alone.
-fn module(rt: &impl Abort, alloc: Global, section: CustomSection<'_>) -> Module {
+fn module(rt: &impl Abort, alloc: Global, section: &CustomSection<'_>) -> Module {
     let mut module = ok(rt, Module::new(alloc));
-    ok(rt, module.section(&section));
+    ok(rt, module.section(section));
     module
 }
 
@@ -148,30 +144,7 @@ fn import_with_options(builder: &mut Builder<'_>) -> Result<u32, Fault> {
     builder.import(name, ComponentTypeRef::Func(0))
 }
 
-/// What is asked of the builder, with a number for an answer.
-#[derive(Clone, Copy)]
-pub enum Asked {
-    CoreTypeCount,
-    TypeCount,
-    /// 1 where nothing is unfinished, or 0.
-    IsFinished,
-    /// Gives up what is unfinished: 1 where something was, or 0.
-    GiveUp,
-}
-
-impl Asked {
-    fn answer(self, builder: &mut Builder<'_>) -> u32 {
-        match self {
-            Asked::CoreTypeCount => builder.core_type_count(),
-            Asked::TypeCount => builder.type_count(),
-            Asked::IsFinished => u32::from(builder.is_finished()),
-            Asked::GiveUp => u32::from(builder.discard_unfinished()),
-        }
-    }
-}
-
 /// What the builder of a component has that is nested in another.
-#[derive(Clone, Copy)]
 pub enum Inner {
     Nothing,
     /// An import of a function.
@@ -186,13 +159,13 @@ pub enum Inner {
 
 impl Inner {
     /// A builder that has it.
-    pub fn builder(self, rt: &impl Abort, alloc: Global) -> ComponentBuilder {
+    pub fn builder(&self, rt: &impl Abort, alloc: Global) -> ComponentBuilder {
         let mut builder = ok(rt, ComponentBuilder::new(alloc));
         let outcome = match self {
             Inner::Nothing => Ok(0),
             Inner::Importing => builder.import(NAME.into(), ComponentTypeRef::Func(0)),
             Inner::Cancels => builder.task_cancel(),
-            Inner::CancelsInside => builder.component(None, cancels(rt, alloc)),
+            Inner::CancelsInside => builder.component_raw(None, CANCELS),
             Inner::Unfinished => match builder.type_defined(None) {
                 Ok((index, _)) => Ok(index),
                 Err(fault) => Err(fault),
@@ -203,22 +176,13 @@ impl Inner {
     }
 }
 
-/// A component with the function `task.cancel`.
-fn cancels(rt: &impl Abort, alloc: Global) -> ComponentBuilder {
-    let mut builder = ok(rt, ComponentBuilder::new(alloc));
-    ok(rt, builder.task_cancel());
-    builder
-}
-
 /// A call that takes lists.
-#[derive(Clone, Copy)]
 pub enum Listed<'a> {
-    /// A module, and its only argument.
-    CoreInstantiate(u32, &'a str, u32),
-    /// The function with this index.
-    CoreExports(&'a str, u32),
-    /// A component, and its only argument.
-    Instantiate(u32, &'a str, ComponentExportKind, u32),
+    /// A module, and its arguments.
+    CoreInstantiate(u32, &'a [(&'a str, ModuleArg)]),
+    CoreExports(&'a [(&'a str, ExportKind, u32)]),
+    /// A component, and its arguments.
+    Instantiate(u32, &'a [(&'a str, ComponentExportKind, u32)]),
     /// The function with this index.
     Exports(&'a str, u32),
     Lower(u32, &'a [CanonicalOption]),
@@ -227,25 +191,23 @@ pub enum Listed<'a> {
 }
 
 impl<'a> Listed<'a> {
-    fn make(self, debug_name: Option<&str>, builder: &mut Builder<'_>) -> Result<u32, Fault> {
+    fn make(&self, debug_name: Option<&str>, builder: &mut Builder<'_>) -> Result<u32, Fault> {
         match self {
-            Listed::CoreInstantiate(module, arg, index) => {
-                let args = [(arg, ModuleArg::Instance(index))].into_iter();
-                builder.core_instantiate(debug_name, module, args)
+            Listed::CoreInstantiate(module, args) => {
+                builder.core_instantiate(debug_name, *module, args.iter().copied())
             }
-            Listed::CoreExports(export, index) => {
-                let exports = [(export, ExportKind::Func, index)].into_iter();
-                builder.core_instantiate_exports(debug_name, exports)
+            Listed::CoreExports(exports) => {
+                builder.core_instantiate_exports(debug_name, exports.iter().copied())
             }
-            Listed::Instantiate(component, arg, kind, index) => {
-                builder.instantiate(debug_name, component, [(arg, kind, index)].into_iter())
+            Listed::Instantiate(component, args) => {
+                builder.instantiate(debug_name, *component, args.iter().copied())
             }
-            Listed::Exports(export, index) => exports(builder, debug_name, export, index),
+            Listed::Exports(export, index) => exports(builder, debug_name, export, *index),
             Listed::Lower(function, options) => {
-                builder.lower_func(debug_name, function, options.iter().copied())
+                builder.lower_func(debug_name, *function, options.iter().copied())
             }
             Listed::Lift(function, ty, options) => {
-                builder.lift_func(debug_name, function, ty, options.iter().copied())
+                builder.lift_func(debug_name, *function, *ty, options.iter().copied())
             }
         }
     }

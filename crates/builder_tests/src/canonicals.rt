@@ -5,7 +5,6 @@ use crate::swept::between::{CORE_FUNC, Swept};
 use wasm_encoder::{CanonicalOption, ComponentValType, Fault, PrimitiveValType, ValType};
 
 /// A function without fields.
-#[derive(Clone, Copy)]
 pub enum Plain {
     ThreadAvailableParallelism,
     BackpressureInc,
@@ -27,7 +26,7 @@ pub enum Plain {
 }
 
 impl Plain {
-    pub fn make(self, builder: &mut Builder<'_>) -> Result<u32, Fault> {
+    pub fn make(&self, builder: &mut Builder<'_>) -> Result<u32, Fault> {
         match self {
             Plain::ThreadAvailableParallelism => builder.thread_available_parallelism(),
             Plain::BackpressureInc => builder.backpressure_inc(),
@@ -51,7 +50,6 @@ impl Plain {
 }
 
 /// A function with an index.
-#[derive(Clone, Copy)]
 pub enum Indexed {
     ResourceNew,
     ResourceDrop,
@@ -70,7 +68,7 @@ pub enum Indexed {
 }
 
 impl Indexed {
-    pub fn make(self, index: u32, builder: &mut Builder<'_>) -> Result<u32, Fault> {
+    pub fn make(&self, index: u32, builder: &mut Builder<'_>) -> Result<u32, Fault> {
         match self {
             Indexed::ResourceNew => builder.resource_new(index),
             Indexed::ResourceDrop => builder.resource_drop(index),
@@ -90,59 +88,49 @@ impl Indexed {
     }
 }
 
-/// A function with a flag, or with two fields.
-#[derive(Clone, Copy)]
+const OPTIONS: &[CanonicalOption] = &[CanonicalOption::UTF8, CanonicalOption::Memory(0)];
+
+/// A function with other fields: a flag, two fields, or options.
 pub enum Other {
-    ThreadSpawnIndirect(u32, u32),
-    SubtaskCancel(bool),
-    StreamCancelRead(u32, bool),
-    StreamCancelWrite(u32, bool),
-    FutureCancelRead(u32, bool),
-    FutureCancelWrite(u32, bool),
-    ThreadNewIndirect(u32, u32),
-    ContextGet(ValType, u32),
-    ContextSet(ValType, u32),
-}
-
-impl Other {
-    pub fn make(self, builder: &mut Builder<'_>) -> Result<u32, Fault> {
-        match self {
-            Other::ThreadSpawnIndirect(ty, table) => builder.thread_spawn_indirect(ty, table),
-            Other::SubtaskCancel(async_) => builder.subtask_cancel(async_),
-            Other::StreamCancelRead(ty, async_) => builder.stream_cancel_read(ty, async_),
-            Other::StreamCancelWrite(ty, async_) => builder.stream_cancel_write(ty, async_),
-            Other::FutureCancelRead(ty, async_) => builder.future_cancel_read(ty, async_),
-            Other::FutureCancelWrite(ty, async_) => builder.future_cancel_write(ty, async_),
-            Other::ThreadNewIndirect(ty, table) => builder.thread_new_indirect(ty, table),
-            Other::ContextGet(ty, slot) => builder.context_get(ty, slot),
-            Other::ContextSet(ty, slot) => builder.context_set(ty, slot),
-        }
-    }
-}
-
-/// A function with options.
-#[derive(Clone, Copy)]
-pub enum WithOptions {
+    ThreadSpawnIndirect,
+    SubtaskCancel,
+    StreamCancelRead,
+    StreamCancelWrite,
+    FutureCancelRead,
+    FutureCancelWrite,
+    ThreadNewIndirect,
+    /// With this slot.
+    ContextGet(u32),
+    ContextSet,
     TaskReturn(Option<ComponentValType>),
-    StreamRead(u32),
-    StreamWrite(u32),
-    FutureRead(u32),
-    FutureWrite(u32),
+    StreamRead,
+    StreamWrite,
+    FutureRead,
+    FutureWrite,
     ErrorContextNew,
     ErrorContextDebugMessage,
 }
 
-impl WithOptions {
-    pub fn make(self, builder: &mut Builder<'_>) -> Result<u32, Fault> {
-        let options = [CanonicalOption::UTF8, CanonicalOption::Memory(0)].into_iter();
+impl Other {
+    pub fn make(&self, builder: &mut Builder<'_>) -> Result<u32, Fault> {
+        let options = OPTIONS.iter().copied();
         match self {
-            WithOptions::TaskReturn(ty) => builder.task_return(ty, options),
-            WithOptions::StreamRead(ty) => builder.stream_read(ty, options),
-            WithOptions::StreamWrite(ty) => builder.stream_write(ty, options),
-            WithOptions::FutureRead(ty) => builder.future_read(ty, options),
-            WithOptions::FutureWrite(ty) => builder.future_write(ty, options),
-            WithOptions::ErrorContextNew => builder.error_context_new(options),
-            WithOptions::ErrorContextDebugMessage => builder.error_context_debug_message(options),
+            Other::ThreadSpawnIndirect => builder.thread_spawn_indirect(128, 5),
+            Other::SubtaskCancel => builder.subtask_cancel(true),
+            Other::StreamCancelRead => builder.stream_cancel_read(128, true),
+            Other::StreamCancelWrite => builder.stream_cancel_write(128, true),
+            Other::FutureCancelRead => builder.future_cancel_read(128, true),
+            Other::FutureCancelWrite => builder.future_cancel_write(128, true),
+            Other::ThreadNewIndirect => builder.thread_new_indirect(128, 5),
+            Other::ContextGet(slot) => builder.context_get(ValType::I32, *slot),
+            Other::ContextSet => builder.context_set(ValType::I64, 128),
+            Other::TaskReturn(ty) => builder.task_return(*ty, options),
+            Other::StreamRead => builder.stream_read(128, options),
+            Other::StreamWrite => builder.stream_write(128, options),
+            Other::FutureRead => builder.future_read(128, options),
+            Other::FutureWrite => builder.future_write(128, options),
+            Other::ErrorContextNew => builder.error_context_new(options),
+            Other::ErrorContextDebugMessage => builder.error_context_debug_message(options),
         }
     }
 }
@@ -346,112 +334,109 @@ pub const INDEXED: &[Swept<'static>] = &[
 
 pub const OTHER: &[Swept<'static>] = &[
     (
-        Item::Other(Other::ThreadSpawnIndirect(128, 5)),
+        Item::Other(Other::ThreadSpawnIndirect),
         CORE_FUNC,
         "thread.spawn-indirect",
         b"\x08\x05\x01\x41\x80\x01\x05",
     ),
     (
-        Item::Other(Other::SubtaskCancel(true)),
+        Item::Other(Other::SubtaskCancel),
         CORE_FUNC,
         "subtask.cancel",
         b"\x08\x03\x01\x06\x01",
     ),
     (
-        Item::Other(Other::StreamCancelRead(128, true)),
+        Item::Other(Other::StreamCancelRead),
         CORE_FUNC,
         "stream.cancel-read",
         b"\x08\x05\x01\x11\x80\x01\x01",
     ),
     (
-        Item::Other(Other::StreamCancelWrite(128, true)),
+        Item::Other(Other::StreamCancelWrite),
         CORE_FUNC,
         "stream.cancel-write",
         b"\x08\x05\x01\x12\x80\x01\x01",
     ),
     (
-        Item::Other(Other::FutureCancelRead(128, true)),
+        Item::Other(Other::FutureCancelRead),
         CORE_FUNC,
         "future.cancel-read",
         b"\x08\x05\x01\x18\x80\x01\x01",
     ),
     (
-        Item::Other(Other::FutureCancelWrite(128, true)),
+        Item::Other(Other::FutureCancelWrite),
         CORE_FUNC,
         "future.cancel-write",
         b"\x08\x05\x01\x19\x80\x01\x01",
     ),
     (
-        Item::Other(Other::ThreadNewIndirect(128, 5)),
+        Item::Other(Other::ThreadNewIndirect),
         CORE_FUNC,
         "thread.new-indirect",
         b"\x08\x05\x01\x27\x80\x01\x05",
     ),
     (
-        Item::Other(Other::ContextGet(ValType::I32, 0)),
+        Item::Other(Other::ContextGet(0)),
         CORE_FUNC,
         "context.get 0",
         b"\x08\x04\x01\x0a\x7f\x00",
     ),
     (
-        Item::Other(Other::ContextGet(ValType::I32, 4294967295)),
+        Item::Other(Other::ContextGet(4294967295)),
         CORE_FUNC,
         "context.get 4294967295",
         b"\x08\x08\x01\x0a\x7f\xff\xff\xff\xff\x0f",
     ),
     (
-        Item::Other(Other::ContextSet(ValType::I64, 128)),
+        Item::Other(Other::ContextSet),
         CORE_FUNC,
         "context.set 128",
         b"\x08\x05\x01\x0b\x7e\x80\x01",
     ),
-];
-
-pub const WITH_OPTIONS: &[Swept<'static>] = &[
     (
-        Item::WithOptions(WithOptions::TaskReturn(STRING)),
+        Item::Other(Other::TaskReturn(STRING)),
         CORE_FUNC,
         "task.return",
         b"\x08\x08\x01\x09\x00\x73\x02\x00\x03\x00",
     ),
     (
-        Item::WithOptions(WithOptions::TaskReturn(None)),
+        Item::Other(Other::TaskReturn(None)),
         CORE_FUNC,
         "task.return",
         b"\x08\x08\x01\x09\x01\x00\x02\x00\x03\x00",
     ),
     (
-        Item::WithOptions(WithOptions::StreamRead(128)),
+        Item::Other(Other::StreamRead),
         CORE_FUNC,
         "stream.read",
         b"\x08\x08\x01\x0f\x80\x01\x02\x00\x03\x00",
     ),
     (
-        Item::WithOptions(WithOptions::StreamWrite(128)),
+        Item::Other(Other::StreamWrite),
         CORE_FUNC,
         "stream.write",
         b"\x08\x08\x01\x10\x80\x01\x02\x00\x03\x00",
     ),
     (
-        Item::WithOptions(WithOptions::FutureRead(128)),
+        Item::Other(Other::FutureRead),
         CORE_FUNC,
         "future.read",
         b"\x08\x08\x01\x16\x80\x01\x02\x00\x03\x00",
     ),
     (
-        Item::WithOptions(WithOptions::FutureWrite(128)),
+        Item::Other(Other::FutureWrite),
         CORE_FUNC,
         "future.write",
         b"\x08\x08\x01\x17\x80\x01\x02\x00\x03\x00",
     ),
     (
-        Item::WithOptions(WithOptions::ErrorContextNew),
+        Item::Other(Other::ErrorContextNew),
         CORE_FUNC,
         "error-context.new",
         b"\x08\x06\x01\x1c\x02\x00\x03\x00",
     ),
     (
-        Item::WithOptions(WithOptions::ErrorContextDebugMessage),
+        Item::Other(Other::ErrorContextDebugMessage),
         CORE_FUNC,
         "error-context.debug-message",
         b"\x08\x06\x01\x1d\x02\x00\x03\x00",

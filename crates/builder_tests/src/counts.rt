@@ -1,11 +1,12 @@
 //! Every kind of item has its own space, and its own count.
 
-use crate::calls::{Item, Listed};
+use crate::calls::{BEGIN_TYPE, Item, Listed};
 use crate::checks::{Answer, made};
+use crate::written::{Any, Handed, Written};
 use refusing::Refusing;
 use wasm_encoder::{
     Alias, ComponentBuilder, ComponentOuterAliasKind, ComponentTypeRef, ComponentValType,
-    ExportKind, TypeBounds,
+    ExportKind, Fault, TypeBounds,
 };
 
 /// How many items there are of each kind.
@@ -39,9 +40,11 @@ const INSTANCE: Item<'static> = Item::Import("a", ComponentTypeRef::Instance(0))
 
 const COMPONENT: Item<'static> = Item::Import("a", ComponentTypeRef::Component(0));
 
-/// Calls with their answers, and the counts that they raise: outer aliases, aliases of a core
+const UNFINISHED_TYPE: Item<'static> = Item::Handed(Handed::ComponentType(false));
+
+/// Calls with their answers, the counts that they raise, and why there is no component: outer aliases, aliases of a core
 /// instance's exports, instances, and imports. The spaces that no import defines in stay empty.
-const ROWS: &[(&[Answer<'static>], [u32; 13])] = &[
+const ROWS: &[(&[Answer<'static>], [u32; 13], Option<Fault>)] = &[
     (
         &[(
             Item::Alias(Alias::Outer {
@@ -52,6 +55,7 @@ const ROWS: &[(&[Answer<'static>], [u32; 13])] = &[
             Ok(0),
         )],
         [1, 0, 0, 0, 0, 0, 0, 0, 0, 0, 0, 0, 0],
+        None,
     ),
     (
         &[(
@@ -63,6 +67,7 @@ const ROWS: &[(&[Answer<'static>], [u32; 13])] = &[
             Ok(0),
         )],
         [0, 0, 1, 0, 0, 0, 0, 0, 0, 0, 0, 0, 0],
+        None,
     ),
     (
         &[(
@@ -74,6 +79,7 @@ const ROWS: &[(&[Answer<'static>], [u32; 13])] = &[
             Ok(0),
         )],
         [0, 0, 0, 0, 0, 0, 0, 0, 0, 0, 0, 1, 0],
+        None,
     ),
     (
         &[(
@@ -85,34 +91,45 @@ const ROWS: &[(&[Answer<'static>], [u32; 13])] = &[
             Ok(0),
         )],
         [0, 0, 0, 0, 0, 0, 0, 0, 0, 0, 0, 0, 1],
+        None,
     ),
     (
         &[(Item::CoreAlias("x", ExportKind::Func), Ok(0))],
         [0, 1, 0, 0, 0, 0, 0, 0, 0, 0, 0, 0, 0],
+        None,
     ),
     (
         &[(Item::CoreAlias("x", ExportKind::Memory), Ok(0))],
         [0, 0, 0, 1, 0, 0, 0, 0, 0, 0, 0, 0, 0],
+        None,
     ),
     (
         &[(Item::CoreAlias("x", ExportKind::Table), Ok(0))],
         [0, 0, 0, 0, 1, 0, 0, 0, 0, 0, 0, 0, 0],
+        None,
     ),
     (
         &[(Item::CoreAlias("x", ExportKind::Tag), Ok(0))],
         [0, 0, 0, 0, 0, 0, 1, 0, 0, 0, 0, 0, 0],
+        None,
     ),
     (
         &[(Item::CoreAlias("x", ExportKind::Global), Ok(0))],
         [0, 0, 0, 0, 0, 0, 0, 1, 0, 0, 0, 0, 0],
+        None,
     ),
     (
-        &[(Item::Listed(Listed::CoreExports("foo", 0)), Ok(0))],
+        &[(
+            Item::Listed(Listed::CoreExports(&[("foo", ExportKind::Func, 0)])),
+            Ok(0),
+        )],
         [0, 0, 0, 0, 0, 1, 0, 0, 0, 0, 0, 0, 0],
+        None,
     ),
     (
         &[(Item::Listed(Listed::Exports("foo", 0)), Ok(0))],
         [0, 0, 0, 0, 0, 0, 0, 0, 0, 1, 0, 0, 0],
+        None,
     ),
     (
         &[
@@ -139,6 +156,38 @@ const ROWS: &[(&[Answer<'static>], [u32; 13])] = &[
             (COMPONENT, Ok(5)),
         ],
         [1, 0, 0, 0, 0, 0, 0, 0, 2, 5, 3, 6, 4],
+        None,
+    ),
+    // Neither call takes a component type in which one is unfinished; by the one with an encoder the
+    // type is left so too. What follows a dropped encoder is refused before anything else.
+    (
+        &[(UNFINISHED_TYPE, Err(Fault::Unfinished))],
+        [0, 0, 0, 0, 0, 0, 0, 0, 0, 0, 0, 0, 0],
+        None,
+    ),
+    (
+        &[
+            (UNFINISHED_TYPE, Err(Fault::Unfinished)),
+            (
+                Item::Written(Written::Any(Any::Component(false))),
+                Err(Fault::Unfinished),
+            ),
+        ],
+        [0, 0, 0, 0, 0, 0, 0, 0, 0, 0, 0, 0, 1],
+        Some(Fault::Unfinished),
+    ),
+    (
+        &[(BEGIN_TYPE, Ok(0))],
+        [0, 0, 0, 0, 0, 0, 0, 0, 0, 0, 0, 0, 1],
+        Some(Fault::Unfinished),
+    ),
+    (
+        &[
+            (BEGIN_TYPE, Ok(0)),
+            (Item::Export("g", None), Err(Fault::Unfinished)),
+        ],
+        [0, 0, 0, 0, 0, 0, 0, 0, 0, 0, 0, 0, 1],
+        Some(Fault::Unfinished),
     ),
 ];
 
@@ -146,8 +195,9 @@ const ROWS: &[(&[Answer<'static>], [u32; 13])] = &[
 fn counts_of_calls(rt: HostRuntime) {
     let alloc = rt.alloc();
     let heap = Refusing::new(alloc);
-    for (calls, wanted) in ROWS {
+    for (calls, wanted, fault) in ROWS {
         let builder = made(&rt, alloc, &heap, None, calls);
-        assert!(rt; counts(&builder) == *wanted);
+        assert!(rt; counts(&builder) == *wanted && builder.is_finished() == fault.is_none());
+        assert!(rt; builder.finish().err() == *fault);
     }
 }

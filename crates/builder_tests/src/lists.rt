@@ -3,7 +3,7 @@
 use crate::calls::{Item, Listed, TASK_CANCEL};
 use crate::canonicals::Indexed;
 use crate::checks::Row;
-use wasm_encoder::{CanonicalOption, ComponentExportKind};
+use wasm_encoder::{CanonicalOption, ComponentExportKind, ExportKind, ModuleArg};
 
 const OPTIONS: &[CanonicalOption] = &[CanonicalOption::Memory(0), CanonicalOption::Async];
 
@@ -11,8 +11,14 @@ const OPTIONS: &[CanonicalOption] = &[CanonicalOption::Memory(0), CanonicalOptio
 pub const ROWS: &[Row<'static>] = &[
     (
         &[
-            (Item::Listed(Listed::CoreExports("foo", 0)), Ok(0)),
-            (Item::Listed(Listed::CoreInstantiate(1, "foo", 0)), Ok(1)),
+            (
+                Item::Listed(Listed::CoreExports(&[("foo", ExportKind::Func, 0)])),
+                Ok(0),
+            ),
+            (
+                Item::Listed(Listed::CoreInstantiate(1, &[("foo", ModuleArg::Instance(0))])),
+                Ok(1),
+            ),
         ],
         b"\x02\x12\x02\x01\x01\x03foo\x00\x00\x00\x01\x01\x03foo\x12\x00",
     ),
@@ -20,7 +26,7 @@ pub const ROWS: &[Row<'static>] = &[
         &[
             (Item::Listed(Listed::Exports("foo", 0)), Ok(0)),
             (
-                Item::Listed(Listed::Instantiate(1, "foo", ComponentExportKind::Instance, 0)),
+                Item::Listed(Listed::Instantiate(1, &[("foo", ComponentExportKind::Instance, 0)])),
                 Ok(1),
             ),
         ],

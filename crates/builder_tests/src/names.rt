@@ -1,7 +1,7 @@
 //! Debug names, and the section that they make.
 
 use crate::calls::{FUNCTION, Item, OUTER_TYPE};
-use crate::canonicals::{Indexed, Other, Plain};
+use crate::canonicals::{Indexed, Plain};
 use crate::checks::Row;
 use wasm_encoder::{
     ComponentExportKind, ComponentTypeRef, ComponentValType, Fault, PrimitiveValType,
@@ -31,13 +31,6 @@ pub const ROWS: &[Row<'static>] = &[
             (Item::AppendNames, Ok(0)),
         ],
         b"\x08\x03\x01\x2d\x00\x00\x2f\x0ecomponent-name\x01\x1e\x00\x00\x01\x00\x19thread.yield-then-promote",
-    ),
-    (
-        &[
-            (Item::Other(Other::ThreadSpawnIndirect(1, 2)), Ok(0)),
-            (Item::AppendNames, Ok(0)),
-        ],
-        b"\x08\x04\x01\x41\x01\x02\x00\x2b\x0ecomponent-name\x01\x1a\x00\x00\x01\x00\x15thread.spawn-indirect",
     ),
     // Instances come in front of functions, though their export was aliased first.
     (

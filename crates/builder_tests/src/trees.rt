@@ -1,191 +1,105 @@
-//! Commands, as values, and the trees that they have.
+//! Commands, as values: their items are read from the texts that stand for them in their sections.
 
 use crate::accepted::ok;
-use crate::calls::{Builder, Listed};
-use crate::written::{STRING, answered, function_type};
 use std::alloc::Global;
 use std::process::Abort;
-use wasm_encoder::{
-    Alias, AliasTree, CanonTree, CaseTree, Command, ComponentExportKind, ComponentTypeRef,
-    ComponentValType, CoreInstanceTree, CoreTypeTree, DefinedTree, ExportKind, Fault, GroupTree,
-    InstanceDecl, InstanceTree, ModuleArg, ModuleDecl, NameTree, PrimitiveValType, TypeBounds,
-    TypeTree, ValType,
-};
+use wasm_encoder::{Command, ComponentExportKind, ComponentTypeRef, TypeTree};
+use wenc_decode::{Decode, type_of};
 
-/// A command.
-#[derive(Clone, Copy)]
+/// A command. What is no number is given by its text, a debug name as an option.
 pub enum Tree<'a> {
-    Whole(Whole<'a>),
-    Import(&'a str, ComponentTypeRef),
+    CoreInstance(&'a [u8]),
+    CoreType(&'a [u8]),
+    Instance(&'a [u8]),
+    /// Its debug name, and the alias.
+    Alias(&'a [u8], &'a [u8]),
+    Type(&'a [u8]),
+    /// Its debug name, and the function.
+    Canon(&'a [u8], &'a [u8]),
+    Import(&'a [u8], ComponentTypeRef),
     /// The first module, under this name.
-    Export(&'a str),
-    /// Under this debug name, or none.
-    Alias(Option<&'a str>, Alias<'a>),
-    AppendNames,
-    Listed(Listed<'a>),
-    /// Under this debug name, or none.
-    Canon(Option<&'a str>, Canon),
-    Core(CoreShape),
-    Type(Shape<'a>),
+    Export(&'a [u8]),
+    Whole(Whole<'a>),
 }
 
 /// What is a section of its own.
-#[derive(Clone, Copy)]
 pub enum Whole<'a> {
-    /// Under this debug name, or none.
-    Module(Option<&'a str>, &'a [u8]),
-    /// A component with the function `task.cancel`.
-    Component,
-    /// A component whose values are too many, by a start and an import.
-    TooMany,
+    /// Its debug name, and its bytes.
+    Module(&'a [u8], &'a [u8]),
     RawComponent(&'a [u8]),
     /// Of function 7: its arguments, and how many results it has.
-    Start(&'a [u32], u32),
-    /// Without data.
-    Custom(&'a str),
+    Start(&'a [u8], u32),
+    AppendNames,
+    /// A name, without data.
+    Custom(&'a [u8]),
     RawCustom(&'a [u8]),
 }
 
-pub const BYTE: ComponentTypeRef = ComponentTypeRef::Value(ComponentValType::Primitive(
-    PrimitiveValType::U8,
-));
+/// The text of no debug name.
+pub const NONE: &[u8] = b"\x00";
 
-/// A canonical function without a list.
-#[derive(Clone, Copy)]
-pub enum Canon {
-    ResourceNew(u32),
-    ResourceDrop(u32),
-    ResourceRep(u32),
-    SubtaskCancel(bool),
-    ThreadYieldThenPromote,
-    ContextGet(u32),
+/// What this text stands for.
+pub fn read<T: Decode<Global>>(rt: &impl Abort, alloc: Global, text: &[u8]) -> T {
+    let (value, rest) = ok(rt, T::decode(alloc, text));
+    assert!(rt; rest.is_empty());
+    value
 }
 
-/// A core type.
-#[derive(Clone, Copy)]
-pub enum CoreShape {
-    /// A function type that may have subtypes.
-    Open,
-    /// Two function types in one group.
-    Pair,
-    /// A module type with the one that may have subtypes.
-    ModuleOfOpen,
-    /// A module type with an alias.
-    ModuleOfAlias(u32, u32),
-}
-
-/// A type.
-#[derive(Clone, Copy)]
-pub enum Shape<'a> {
-    /// A variant of two cases.
-    Variant,
-    /// The type of asynchronous functions without parameters and a result.
-    AsyncFunction,
-    EmptyComponent,
-    /// An instance type with an option, and an export of that.
-    Instance,
-    /// A record of fields of this type.
-    Record(&'a [&'a str], ComponentValType),
+/// The type that this text stands for.
+pub fn read_type(rt: &impl Abort, alloc: Global, text: &[u8]) -> TypeTree {
+    let (ty, rest) = ok(rt, type_of(alloc, 200, text));
+    assert!(rt; rest.is_empty());
+    ty
 }
 
 impl<'a> Tree<'a> {
-    /// Hands in the tree. What has no tree is not taken.
-    pub fn make(
-        self,
-        rt: &impl Abort,
-        alloc: Global,
-        debug_name: Option<&str>,
-        builder: &mut Builder<'_>,
-    ) -> Result<u32, Fault> {
-        match &self.command(rt, alloc) {
-            Command::CoreInstance { n: _, instance } => {
-                builder.core_instance_tree(debug_name, instance)
-            }
-            Command::Instance { n: _, instance } => builder.instance_tree(debug_name, instance),
-            Command::Canon { n: _, canon } => builder.canonical_tree(debug_name, canon),
-            Command::CoreType { n: _, ty } => match builder.core_type(debug_name) {
-                Ok((index, encoder)) => answered(index, encoder.tree(ty)),
-                Err(fault) => Err(fault),
-            },
-            Command::Type { n: _, ty } => match builder.ty(debug_name) {
-                Ok((index, encoder)) => answered(index, encoder.tree(ty)),
-                Err(fault) => Err(fault),
-            },
-            _ => Err(Fault::TooMany),
-        }
-    }
-
-    /// The command.
-    pub fn command(self, rt: &impl Abort, alloc: Global) -> Command {
+    fn command(&self, rt: &impl Abort, alloc: Global) -> Command {
         match self {
-            Tree::Whole(section) => section.command(rt, alloc),
-            Tree::Import(text, ty) => Command::Import {
-                name: name(rt, alloc, text),
-                ty,
+            Tree::CoreInstance(text) => Command::CoreInstance {
+                n: None,
+                instance: read(rt, alloc, text),
             },
-            Tree::Export(text) => Command::Export {
-                name: name(rt, alloc, text),
+            Tree::CoreType(text) => Command::CoreType {
+                n: None,
+                ty: read(rt, alloc, text),
+            },
+            Tree::Instance(text) => Command::Instance {
+                n: None,
+                instance: read(rt, alloc, text),
+            },
+            Tree::Alias(name, text) => Command::Alias {
+                n: read(rt, alloc, name),
+                alias: read(rt, alloc, text),
+            },
+            Tree::Type(text) => Command::Type {
+                n: None,
+                ty: read_type(rt, alloc, text),
+            },
+            Tree::Canon(name, text) => Command::Canon {
+                n: read(rt, alloc, name),
+                canon: read(rt, alloc, text),
+            },
+            Tree::Import(name, ty) => Command::Import {
+                name: read(rt, alloc, name),
+                ty: *ty,
+            },
+            Tree::Export(name) => Command::Export {
+                name: read(rt, alloc, name),
                 kind: ComponentExportKind::Module,
                 index: 0,
                 ty: None,
             },
-            Tree::Alias(name, alias) => Command::Alias {
-                n: named(rt, alloc, name),
-                alias: alias_tree(rt, alloc, alias),
-            },
-            Tree::AppendNames => Command::AppendNames,
-            Tree::Listed(listed) => listed_command(rt, alloc, listed),
-            Tree::Canon(name, canon) => Command::Canon {
-                n: named(rt, alloc, name),
-                canon: canon.tree(),
-            },
-            Tree::Core(shape) => Command::CoreType {
-                n: None,
-                ty: shape.tree(rt, alloc),
-            },
-            Tree::Type(shape) => Command::Type {
-                n: None,
-                ty: shape.tree(rt, alloc),
-            },
+            Tree::Whole(section) => section.command(rt, alloc),
         }
     }
 }
 
-fn text(rt: &impl Abort, alloc: Global, text: &str) -> String {
-    ok(rt, String::from_str(alloc, text))
-}
-
-fn name(rt: &impl Abort, alloc: Global, name: &str) -> NameTree {
-    NameTree::from(text(rt, alloc, name))
-}
-
-fn named(rt: &impl Abort, alloc: Global, debug_name: Option<&str>) -> Option<String> {
-    match debug_name {
-        Some(name) => Some(text(rt, alloc, name)),
-        None => None,
-    }
-}
-
 impl<'a> Whole<'a> {
-    fn command(self, rt: &impl Abort, alloc: Global) -> Command {
+    fn command(&self, rt: &impl Abort, alloc: Global) -> Command {
         match self {
             Whole::Module(name, bytes) => Command::CoreModule {
-                n: named(rt, alloc, name),
+                n: read(rt, alloc, name),
                 bytes: ok(rt, bytes.to_vec(alloc)),
-            },
-            Whole::Component => {
-                let cancel = Command::Canon {
-                    n: None,
-                    canon: CanonTree::TaskCancel,
-                };
-                Command::Component {
-                    n: None,
-                    commands: ok(rt, vec![in alloc; cancel]),
-                }
-            }
-            Whole::TooMany => Command::Component {
-                n: None,
-                commands: too_many(rt, alloc),
             },
             Whole::RawComponent(bytes) => Command::ComponentRaw {
                 n: None,
@@ -193,11 +107,12 @@ impl<'a> Whole<'a> {
             },
             Whole::Start(args, results) => Command::Start {
                 function: 7,
-                args: ok(rt, args.to_vec(alloc)),
-                results,
+                args: read(rt, alloc, args),
+                results: *results,
             },
+            Whole::AppendNames => Command::AppendNames,
             Whole::Custom(name) => Command::Custom {
-                name: text(rt, alloc, name),
+                name: read(rt, alloc, name),
                 data: Vec::new(alloc),
             },
             Whole::RawCustom(bytes) => Command::RawCustom {
@@ -207,168 +122,11 @@ impl<'a> Whole<'a> {
     }
 }
 
-/// A start of so many values, and an import of one more.
-fn too_many(rt: &impl Abort, alloc: Global) -> Vec<Command> {
-    let start = Command::Start {
-        function: 7,
-        args: Vec::new(alloc),
-        results: 4294967295,
-    };
-    let import = Command::Import {
-        name: name(rt, alloc, "v"),
-        ty: BYTE,
-    };
-    ok(rt, vec![in alloc; start, import])
-}
-
-fn alias_tree(rt: &impl Abort, alloc: Global, alias: Alias<'_>) -> AliasTree {
-    match alias {
-        Alias::InstanceExport {
-            instance,
-            kind,
-            name,
-        } => AliasTree::InstanceExport {
-            instance,
-            kind,
-            name: text(rt, alloc, name),
-        },
-        Alias::CoreInstanceExport {
-            instance,
-            kind,
-            name,
-        } => AliasTree::CoreInstanceExport {
-            instance,
-            kind,
-            name: text(rt, alloc, name),
-        },
-        Alias::Outer { kind, count, index } => AliasTree::Outer { kind, count, index },
+/// What these commands are.
+pub fn commands(rt: &impl Abort, alloc: Global, trees: &[Tree<'_>]) -> Vec<Command> {
+    let mut commands = Vec::new(alloc);
+    for tree in trees {
+        ok(rt, commands.push(tree.command(rt, alloc)));
     }
-}
-
-impl Canon {
-    fn tree(self) -> CanonTree {
-        match self {
-            Canon::ResourceNew(ty) => CanonTree::ResourceNew(ty),
-            Canon::ResourceDrop(ty) => CanonTree::ResourceDrop(ty),
-            Canon::ResourceRep(ty) => CanonTree::ResourceRep(ty),
-            Canon::SubtaskCancel(is_async) => CanonTree::SubtaskCancel(is_async),
-            Canon::ThreadYieldThenPromote => CanonTree::ThreadYieldThenPromote,
-            Canon::ContextGet(slot) => CanonTree::ContextGet {
-                ty: ValType::I32,
-                slot,
-            },
-        }
-    }
-}
-
-/// The command that adds an instance, or a function that is lifted or lowered.
-fn listed_command(rt: &impl Abort, alloc: Global, listed: Listed<'_>) -> Command {
-    match listed {
-        Listed::CoreInstantiate(module, arg, index) => {
-            let args = vec![in alloc; (text(rt, alloc, arg), ModuleArg::Instance(index))];
-            let args = ok(rt, args);
-            let instance = CoreInstanceTree::Instantiate { module, args };
-            Command::CoreInstance { n: None, instance }
-        }
-        Listed::CoreExports(export, index) => {
-            let exports = vec![in alloc; (text(rt, alloc, export), ExportKind::Func, index)];
-            let instance = CoreInstanceTree::Exports(ok(rt, exports));
-            Command::CoreInstance { n: None, instance }
-        }
-        Listed::Instantiate(component, arg, kind, index) => {
-            let args = ok(rt, vec![in alloc; (text(rt, alloc, arg), kind, index)]);
-            let instance = InstanceTree::Instantiate { component, args };
-            Command::Instance { n: None, instance }
-        }
-        Listed::Exports(export, index) => {
-            let func = ComponentExportKind::Func;
-            let exports = vec![in alloc; (name(rt, alloc, export), func, index)];
-            let instance = InstanceTree::Exports(ok(rt, exports));
-            Command::Instance { n: None, instance }
-        }
-        Listed::Lower(func, options) => {
-            let options = ok(rt, options.to_vec(alloc));
-            let canon = CanonTree::Lower { func, options };
-            Command::Canon { n: None, canon }
-        }
-        Listed::Lift(core_func, ty, options) => {
-            let options = ok(rt, options.to_vec(alloc));
-            let canon = CanonTree::Lift {
-                core_func,
-                ty,
-                options,
-            };
-            Command::Canon { n: None, canon }
-        }
-    }
-}
-
-impl CoreShape {
-    fn tree(self, rt: &impl Abort, alloc: Global) -> CoreTypeTree {
-        match self {
-            CoreShape::Open => {
-                let open = function_type(rt, alloc, false, &[]);
-                CoreTypeTree::Group(GroupTree::Sub(open))
-            }
-            CoreShape::Pair => {
-                let none = function_type(rt, alloc, true, &[]);
-                let one = function_type(rt, alloc, true, &[ValType::I32]);
-                let types = ok(rt, vec![in alloc; none, one]);
-                CoreTypeTree::Group(GroupTree::Rec(types))
-            }
-            CoreShape::ModuleOfOpen => {
-                let open = GroupTree::Sub(function_type(rt, alloc, false, &[]));
-                let declarations = vec![in alloc; ModuleDecl::Type(open)];
-                CoreTypeTree::Module(ok(rt, declarations))
-            }
-            CoreShape::ModuleOfAlias(count, index) => {
-                let declarations = vec![in alloc; ModuleDecl::Alias { count, index }];
-                CoreTypeTree::Module(ok(rt, declarations))
-            }
-        }
-    }
-}
-
-impl<'a> Shape<'a> {
-    fn tree(self, rt: &impl Abort, alloc: Global) -> TypeTree {
-        match self {
-            Shape::Variant => {
-                let none = case(rt, alloc, "a", None);
-                let string = case(rt, alloc, "b", Some(STRING));
-                let cases = ok(rt, vec![in alloc; none, string]);
-                TypeTree::Defined(DefinedTree::Variant(cases))
-            }
-            Shape::AsyncFunction => TypeTree::Func {
-                is_async: true,
-                params: Vec::new(alloc),
-                result: None,
-            },
-            Shape::EmptyComponent => TypeTree::Component(Vec::new(alloc)),
-            Shape::Instance => TypeTree::Instance(option(rt, alloc)),
-            Shape::Record(names, ty) => {
-                let mut fields = Vec::new(alloc);
-                for name in names {
-                    ok(rt, fields.push((text(rt, alloc, name), ty)));
-                }
-                TypeTree::Defined(DefinedTree::Record(fields))
-            }
-        }
-    }
-}
-
-fn case(rt: &impl Abort, alloc: Global, name: &str, ty: Option<ComponentValType>) -> CaseTree {
-    CaseTree {
-        name: text(rt, alloc, name),
-        ty,
-    }
-}
-
-/// An option, and an export of that.
-fn option(rt: &impl Abort, alloc: Global) -> Vec<InstanceDecl> {
-    let option = InstanceDecl::Type(TypeTree::Defined(DefinedTree::Option(STRING)));
-    let export = InstanceDecl::Export {
-        name: name(rt, alloc, "t"),
-        ty: ComponentTypeRef::Type(TypeBounds::Eq(0)),
-    };
-    ok(rt, vec![in alloc; option, export])
+    commands
 }

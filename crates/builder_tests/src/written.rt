@@ -1,31 +1,28 @@
-//! Types, as values: those that an encoder writes, and those that are handed in.
+//! Types that an encoder writes, as values, and items that are handed in whole.
 
 use crate::accepted::ok;
 use crate::calls::{Builder, NAME};
-use crate::trees::Tree;
+use crate::trees::{read, read_type};
 use std::alloc::Global;
 use std::process::Abort;
 use wasm_encoder::{
-    ComponentType, ComponentTypeRef, ComponentValType, CompositeType, Fault, FuncType,
-    InstanceType, ModuleType, PrimitiveValType, SubType, TypeBounds, ValType,
+    CanonTree, ComponentType, ComponentValType, CoreInstanceTree, CoreTypeTree, Fault,
+    InstanceTree, InstanceType, ModuleType, PrimitiveValType, SubType, ValType,
 };
 
 pub const STRING: ComponentValType = ComponentValType::Primitive(PrimitiveValType::String);
 
 /// A type that an encoder writes. Of what is begun the type is left unfinished.
-#[derive(Clone, Copy)]
 pub enum Written<'a> {
-    Core(Core),
-    Any(Any),
+    Core(Core<'a>),
+    Any(Any<'a>),
     Defined(Defined),
     Function(Function<'a>),
-    /// A core type or a type, by its tree.
-    Tree(Tree<'a>),
 }
 
 impl<'a> Written<'a> {
     pub fn make(
-        self,
+        &self,
         rt: &impl Abort,
         alloc: Global,
         debug_name: Option<&str>,
@@ -36,40 +33,40 @@ impl<'a> Written<'a> {
             Written::Any(ty) => ty.make(rt, alloc, debug_name, builder),
             Written::Defined(ty) => ty.make(debug_name, builder),
             Written::Function(ty) => ty.make(debug_name, builder),
-            Written::Tree(tree) => tree.make(rt, alloc, debug_name, builder),
         }
     }
 }
 
 /// The index of a type, where what was to be written is taken.
-pub fn answered(index: u32, outcome: Result<(), Fault>) -> Result<u32, Fault> {
+fn answered(index: u32, outcome: Result<(), Fault>) -> Result<u32, Fault> {
     match outcome {
         Ok(()) => Ok(index),
         Err(fault) => Err(fault),
     }
 }
 
+/// What a function takes, and what it answers.
+const ONE: &[ValType] = &[ValType::I32];
+
 /// What the encoder of a core type writes.
-#[derive(Clone, Copy)]
-pub enum Core {
+pub enum Core<'a> {
     Begun,
     /// With the encoder that it gives for all but modules.
     BegunCore,
     Function,
-    /// A function type that may have subtypes.
-    Open,
-    /// That one, in a group of its own.
-    OpenGroup,
-    /// Two types that may refer to each other.
-    Pair,
-    EmptyModule,
-    /// A module type with the one that may have subtypes.
-    Module,
+    /// By its text.
+    SubType(&'a [u8]),
+    /// By the text of its types.
+    Group(&'a [u8]),
+    /// A module type with this type alone.
+    Module(&'a [u8]),
+    /// By the text of its tree.
+    Tree(&'a [u8]),
 }
 
-impl Core {
+impl<'a> Core<'a> {
     fn make(
-        self,
+        &self,
         rt: &impl Abort,
         alloc: Global,
         debug_name: Option<&str>,
@@ -77,19 +74,25 @@ impl Core {
     ) -> Result<u32, Fault> {
         match builder.core_type(debug_name) {
             Ok((index, encoder)) => {
-                let one = [ValType::I32];
                 let outcome = match self {
                     Core::Begun => Ok(()),
                     Core::BegunCore => {
                         encoder.core();
                         Ok(())
                     }
-                    Core::Function => encoder.core().function(one.into_iter(), one.into_iter()),
-                    Core::Open => encoder.core().subtype(&open_type(rt, alloc)),
-                    Core::OpenGroup => encoder.core().rec([open_type(rt, alloc)].iter()),
-                    Core::Pair => encoder.core().rec(pair(rt, alloc).iter()),
-                    Core::EmptyModule => encoder.module(&ModuleType::new(alloc)),
-                    Core::Module => encoder.module(&module_type(rt, alloc)),
+                    Core::Function => encoder
+                        .core()
+                        .function(ONE.iter().copied(), ONE.iter().copied()),
+                    Core::SubType(text) => {
+                        encoder.core().subtype(&read::<SubType>(rt, alloc, text))
+                    }
+                    Core::Group(text) => {
+                        encoder
+                            .core()
+                            .rec(read::<Vec<SubType>>(rt, alloc, text).iter())
+                    }
+                    Core::Module(text) => encoder.module(&module_type(rt, alloc, text)),
+                    Core::Tree(text) => encoder.tree(&read::<CoreTypeTree>(rt, alloc, text)),
                 };
                 answered(index, outcome)
             }
@@ -98,52 +101,28 @@ impl Core {
     }
 }
 
-/// A function type with these parameters and no results, which is final or may have subtypes.
-pub fn function_type(
-    rt: &impl Abort,
-    alloc: Global,
-    is_final: bool,
-    params: &[ValType],
-) -> SubType {
-    let ty = FuncType::new(alloc, params.iter().copied(), [].into_iter());
-    SubType {
-        is_final,
-        supertype_idx: None,
-        composite_type: CompositeType::Func(ok(rt, ty)),
-    }
-}
-
-fn open_type(rt: &impl Abort, alloc: Global) -> SubType {
-    function_type(rt, alloc, false, &[])
-}
-
-fn pair(rt: &impl Abort, alloc: Global) -> [SubType; 2] {
-    [
-        function_type(rt, alloc, true, &[]),
-        function_type(rt, alloc, true, &[ValType::I32]),
-    ]
-}
-
-/// A module type with a function type that may have subtypes alone.
-fn module_type(rt: &impl Abort, alloc: Global) -> ModuleType {
-    let ty = open_type(rt, alloc);
+fn module_type(rt: &impl Abort, alloc: Global, text: &[u8]) -> ModuleType {
     let mut module = ModuleType::new(alloc);
-    ok(rt, ok(rt, module.ty()).subtype(&ty));
+    ok(
+        rt,
+        ok(rt, module.ty()).subtype(&read::<SubType>(rt, alloc, text)),
+    );
     module
 }
 
 /// What the encoder of a type writes.
-#[derive(Clone, Copy)]
-pub enum Any {
+pub enum Any<'a> {
     Begun,
     Resource(u32),
-    EmptyComponent,
-    UnfinishedComponent,
+    /// One without declarations, or one in which a type is left unfinished.
+    Component(bool),
+    /// By the text of its tree.
+    Tree(&'a [u8]),
 }
 
-impl Any {
+impl<'a> Any<'a> {
     fn make(
-        self,
+        &self,
         rt: &impl Abort,
         alloc: Global,
         debug_name: Option<&str>,
@@ -153,9 +132,11 @@ impl Any {
             Ok((index, encoder)) => {
                 let outcome = match self {
                     Any::Begun => Ok(()),
-                    Any::Resource(drop) => encoder.resource(ValType::I32, Some(drop)),
-                    Any::EmptyComponent => encoder.component(&ComponentType::new(alloc)),
-                    Any::UnfinishedComponent => encoder.component(&unfinished(rt, alloc)),
+                    Any::Resource(drop) => encoder.resource(ValType::I32, Some(*drop)),
+                    Any::Component(is_finished) => {
+                        encoder.component(&component_type(rt, alloc, *is_finished))
+                    }
+                    Any::Tree(text) => encoder.tree(&read_type(rt, alloc, text)),
                 };
                 answered(index, outcome)
             }
@@ -164,15 +145,20 @@ impl Any {
     }
 }
 
-/// A component type in which a type is left unfinished.
-fn unfinished(rt: &impl Abort, alloc: Global) -> ComponentType {
+/// A component type without declarations, or one in which a type is left unfinished.
+fn component_type(rt: &impl Abort, alloc: Global, is_finished: bool) -> ComponentType {
     let mut ty = ComponentType::new(alloc);
-    ok(rt, ty.ty());
+    if !is_finished {
+        ok(rt, ty.ty());
+    }
     ty
 }
 
+const FIELDS: &[(&str, ComponentValType)] = &[(NAME, STRING)];
+
+const CASES: &[(&str, Option<ComponentValType>)] = &[("a", None), ("b", Some(STRING))];
+
 /// What the encoder of a type of values writes.
-#[derive(Clone, Copy)]
 pub enum Defined {
     Begun,
     Record,
@@ -180,14 +166,13 @@ pub enum Defined {
 }
 
 impl Defined {
-    fn make(self, debug_name: Option<&str>, builder: &mut Builder<'_>) -> Result<u32, Fault> {
+    fn make(&self, debug_name: Option<&str>, builder: &mut Builder<'_>) -> Result<u32, Fault> {
         match builder.type_defined(debug_name) {
             Ok((index, encoder)) => {
-                let cases = [("a", None), ("b", Some(STRING))];
                 let outcome = match self {
                     Defined::Begun => Ok(()),
-                    Defined::Record => encoder.record([(NAME, STRING)].into_iter()),
-                    Defined::Variant => encoder.variant(cases.into_iter()),
+                    Defined::Record => encoder.record(FIELDS.iter().copied()),
+                    Defined::Variant => encoder.variant(CASES.iter().copied()),
                 };
                 answered(index, outcome)
             }
@@ -197,40 +182,34 @@ impl Defined {
 }
 
 /// What the encoder of a function's type writes.
-#[derive(Clone, Copy)]
 pub enum Function<'a> {
     Begun,
     /// It is begun, and said whether it is asynchronous.
     BegunTag,
-    /// An asynchronous one is begun, up to its parameters, of which there are none.
-    BegunParams,
-    /// An asynchronous one without parameters and a result.
-    Async,
+    /// An asynchronous one without parameters: it is begun up to these, or is whole without a
+    /// result.
+    Async(bool),
     Plain(&'a [(&'a str, ComponentValType)], Option<ComponentValType>),
 }
 
 impl<'a> Function<'a> {
-    fn make(self, debug_name: Option<&str>, builder: &mut Builder<'_>) -> Result<u32, Fault> {
+    fn make(&self, debug_name: Option<&str>, builder: &mut Builder<'_>) -> Result<u32, Fault> {
         match builder.type_function(debug_name) {
             Ok((index, mut encoder)) => {
                 let outcome = match self {
                     Function::Begun => Ok(()),
                     Function::BegunTag => encoder.async_(false),
-                    Function::BegunParams => match encoder.async_(true) {
-                        Ok(()) => encoder.params([].into_iter()),
-                        Err(fault) => Err(fault),
-                    },
-                    Function::Async => match encoder.async_(true) {
+                    Function::Async(is_whole) => match encoder.async_(true) {
                         Ok(()) => match encoder.params([].into_iter()) {
-                            Ok(()) => encoder.result(None),
-                            Err(fault) => Err(fault),
+                            Ok(()) if *is_whole => encoder.result(None),
+                            outcome => outcome,
                         },
-                        Err(fault) => Err(fault),
+                        refused => refused,
                     },
                     Function::Plain(params, answer) => {
                         match encoder.params(params.iter().copied()) {
-                            Ok(()) => encoder.result(answer),
-                            Err(fault) => Err(fault),
+                            Ok(()) => encoder.result(*answer),
+                            refused => refused,
                         }
                     }
                 };
@@ -241,41 +220,41 @@ impl<'a> Function<'a> {
     }
 }
 
-/// A type that is handed in, without an encoder.
-#[derive(Clone, Copy)]
-pub enum Typed {
-    EmptyInstance,
-    /// An instance type with an option, and an export of that.
-    Instance,
-    EmptyComponent,
-    UnfinishedComponent,
+/// What is handed in, without an encoder: trees by their texts, and types.
+pub enum Handed<'a> {
+    CoreInstance(&'a [u8]),
+    Instance(&'a [u8]),
+    Canon(&'a [u8]),
+    /// Without declarations.
+    InstanceType,
+    /// One without declarations, or one in which a type is left unfinished.
+    ComponentType(bool),
     Resource(u32),
 }
 
-impl Typed {
+impl<'a> Handed<'a> {
     pub fn make(
-        self,
+        &self,
         rt: &impl Abort,
         alloc: Global,
         debug_name: Option<&str>,
         builder: &mut Builder<'_>,
     ) -> Result<u32, Fault> {
         match self {
-            Typed::EmptyInstance => builder.type_instance(debug_name, &InstanceType::new(alloc)),
-            Typed::Instance => builder.type_instance(debug_name, &instance_type(rt, alloc)),
-            Typed::EmptyComponent => builder.type_component(debug_name, &ComponentType::new(alloc)),
-            Typed::UnfinishedComponent => {
-                builder.type_component(debug_name, &unfinished(rt, alloc))
+            Handed::CoreInstance(text) => {
+                builder.core_instance_tree(debug_name, &read::<CoreInstanceTree>(rt, alloc, text))
             }
-            Typed::Resource(drop) => builder.type_resource(debug_name, ValType::I32, Some(drop)),
+            Handed::Instance(text) => {
+                builder.instance_tree(debug_name, &read::<InstanceTree>(rt, alloc, text))
+            }
+            Handed::Canon(text) => {
+                builder.canonical_tree(debug_name, &read::<CanonTree>(rt, alloc, text))
+            }
+            Handed::InstanceType => builder.type_instance(debug_name, &InstanceType::new(alloc)),
+            Handed::ComponentType(is_finished) => {
+                builder.type_component(debug_name, &component_type(rt, alloc, *is_finished))
+            }
+            Handed::Resource(drop) => builder.type_resource(debug_name, ValType::I32, Some(*drop)),
         }
     }
-}
-
-fn instance_type(rt: &impl Abort, alloc: Global) -> InstanceType {
-    let mut ty = InstanceType::new(alloc);
-    ok(rt, ok(rt, ty.ty()).defined_type().option(STRING));
-    let option = ComponentTypeRef::Type(TypeBounds::Eq(0));
-    ok(rt, ty.export("t".into(), option));
-    ty
 }

@@ -1,6 +1,6 @@
 //! Modules, components, starts and custom sections: each is a section of its own.
 
-use super::between::{CORE_MODULE, ONE, Swept};
+use super::between::{CORE_MODULE, FRONT, Swept};
 use crate::calls::{Inner, Item, NAME};
 use crate::checks::{finishes, made};
 use refusing::Refusing;
@@ -70,7 +70,8 @@ pub const CALLS: &[Swept<'static>] = &[
     ),
 ];
 
-/// It is lent, with the growth number `n` refused. Whether there is such a growth.
+/// Without memory it isn't nested. Then it is lent with a name, with the growth number `n` refused.
+/// Whether there is such a growth.
 fn is_refused(
     rt: &impl Abort,
     alloc: Global,
@@ -78,21 +79,15 @@ fn is_refused(
     component: &ComponentBuilder,
     n: u64,
 ) -> bool {
-    let mut builder = made(rt, alloc, heap, None, ONE.front);
+    let mut builder = made(rt, alloc, heap, None, FRONT);
+    heap.refuse_all();
+    assert!(rt; builder.component_ref(None, component) == Err(REFUSED));
     heap.refuse_nth(n);
     let outcome = builder.component_ref(Some(NAME), component);
     let was_refused = heap.was_refused();
     let wanted = if was_refused { Err(REFUSED) } else { Ok(0) };
     assert!(rt; outcome == wanted);
     was_refused
-}
-
-/// Without memory it isn't nested.
-fn is_not_nested(rt: &impl Abort, alloc: Global, component: &ComponentBuilder) {
-    let heap = Refusing::new(alloc);
-    let mut builder = made(rt, alloc, &heap, None, ONE.front);
-    heap.refuse_all();
-    assert!(rt; builder.component_ref(None, component) == Err(REFUSED));
 }
 
 // What is lent stays as it was, whichever growth is refused, and can be added to.
@@ -107,7 +102,6 @@ fn lent_components(rt: HostRuntime) {
         }
     }
     assert!(rt; growths > 0 && growths < 19);
-    is_not_nested(&rt, rt.alloc(), &component);
     assert!(rt; component.import(NAME.into(), ComponentTypeRef::Func(0)) == Ok(1));
     finishes(
         &rt,

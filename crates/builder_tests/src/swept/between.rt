@@ -3,7 +3,7 @@
 
 use super::{alone, items, types};
 use crate::accepted::ok;
-use crate::calls::{Builder, FUNCTION, GIVE_UP, Item, NAME, OUTER_TYPE, TASK_CANCEL};
+use crate::calls::{Builder, FUNCTION, Item, NAME, OUTER, TASK_CANCEL};
 use crate::canonicals;
 use crate::checks::{Answer, answers, made};
 use crate::counts::counts;
@@ -15,7 +15,6 @@ use sweeping::{LARGE, REFUSED};
 use wasm_encoder::{ComponentBuilder, Fault};
 
 /// What stands in front of a call: an alias, once or more; and behind it.
-#[derive(Clone, Copy)]
 pub struct Start {
     /// How often.
     pub aliases: u32,
@@ -35,9 +34,12 @@ const BEHIND: &[u8] = b"\x06\x05\x01\x03\x02\x00\x01";
 /// The component that has an alias in front and the alias behind.
 pub const BOTH: &[u8] = b"\x00asm\x0d\x00\x01\x00\x06\x0a\x02\x01\x00\x00\x01\x66\x03\x02\x00\x01";
 
-pub const ONE: Start = Start {
+/// An alias.
+pub const FRONT: &[Answer<'static>] = &[(FUNCTION, Ok(0))];
+
+const ONE: Start = Start {
     aliases: 1,
-    front: &[(FUNCTION, Ok(0))],
+    front: FRONT,
     name: None,
     bytes: b"\x00asm\x0d\x00\x01\x00\x06\x06\x01\x01\x00\x00\x01\x66",
     behind: BEHIND,
@@ -47,7 +49,7 @@ pub const ONE: Start = Start {
 /// In front of a call that joins its section.
 const JOINED: Start = Start {
     aliases: 1,
-    front: &[(FUNCTION, Ok(0))],
+    front: FRONT,
     name: None,
     bytes: b"",
     behind: b"",
@@ -55,7 +57,7 @@ const JOINED: Start = Start {
 };
 
 /// A section behind these has to grow before its first item.
-pub const TWO: Start = Start {
+const TWO: Start = Start {
     aliases: 2,
     front: &[(FUNCTION, Ok(0)), (FUNCTION, Ok(1))],
     name: None,
@@ -67,7 +69,7 @@ pub const TWO: Start = Start {
 /// An alias with a name, in front of a call whose row has all sections.
 const NAMED: Start = Start {
     aliases: 1,
-    front: &[(FUNCTION, Ok(0))],
+    front: FRONT,
     name: Some("f"),
     bytes: b"",
     behind: b"",
@@ -95,12 +97,12 @@ const LEFT: &[Answer<'static>] = &[
         Item::Written(Written::Any(Any::Resource(LARGE))),
         Err(Fault::Unfinished),
     ),
-    (GIVE_UP, Ok(1)),
+    (Item::GiveUp, Ok(1)),
 ];
 
 /// A refused call has left nothing unfinished. Where it was the last of an encoder, it has until it
 /// is given up.
-fn is_given_up(rt: &impl Abort, alloc: Global, call: Item<'_>, builder: &mut Builder<'_>) {
+fn is_given_up(rt: &impl Abort, alloc: Global, call: &Item<'_>, builder: &mut Builder<'_>) {
     if !builder.is_finished() {
         assert!(rt; matches!(call, Item::Written(_)));
         answers(rt, alloc, None, builder, LEFT);
@@ -132,7 +134,7 @@ fn is_named(section: &[u8], sort: &[u8], index: u32, name: &str) -> bool {
 
 /// Whether this is the component in which the call is accepted, with this answer.
 fn is_with(bytes: &[u8], start: &Start, row: &Swept<'_>, answer: u32) -> bool {
-    let (_, sort, name, added) = *row;
+    let (_, sort, name, added) = row;
     let call = after(Some(bytes), start.bytes);
     match after(after(call, added), start.behind) {
         Some(names) if sort.is_empty() => names.is_empty(),
@@ -153,7 +155,7 @@ fn is_refused(
     n: u64,
     again: bool,
 ) -> bool {
-    let (call, sort, _, _) = *row;
+    let (call, sort, _, _) = row;
     let mut builder = made(rt, alloc, heap, start.name, start.front);
     heap.refuse_nth(n);
     let mut outcome = call.make(rt, alloc, Some(NAME), &mut builder);
@@ -166,9 +168,9 @@ fn is_refused(
     if was_refused && again {
         outcome = call.make(rt, alloc, Some(NAME), &mut builder);
     }
-    let behind = OUTER_TYPE.make(rt, alloc, None, &mut builder);
+    let behind = builder.alias(None, OUTER);
     let counted = counts(&builder);
-    ok(rt, Item::AppendNames.make(rt, alloc, None, &mut builder));
+    ok(rt, builder.append_names());
     let bytes = ok(rt, builder.finish());
     if was_refused && !again {
         assert!(rt; behind == Ok(0));
@@ -176,7 +178,7 @@ fn is_refused(
         assert!(rt; bytes.as_slice() == start.without);
     } else {
         // The aliases in front are of functions.
-        let answer = if sort == FUNC { start.aliases } else { 0 };
+        let answer = if *sort == FUNC { start.aliases } else { 0 };
         assert!(rt; outcome == Ok(answer) && behind.is_ok());
         assert!(rt; is_with(bytes.as_slice(), start, row, answer));
     }
@@ -195,17 +197,7 @@ fn has_growths(rt: &impl Abort, alloc: Global, start: &Start, row: &Swept<'_>) -
     false
 }
 
-/// Sweeps each row of the tables.
-fn sweep_each(rt: &impl Abort, alloc: Global, tables: &[Table<'_>]) {
-    for (starts, rows) in tables {
-        for row in *rows {
-            for start in *starts {
-                assert!(rt; has_growths(rt, alloc, start, row));
-            }
-        }
-    }
-}
-
+/// The calls of the builder, and what stands in front of each.
 const CALLS: &[Table<'static>] = &[
     (&[ONE], items::APART),
     (&[JOINED], items::JOINED),
@@ -215,23 +207,20 @@ const CALLS: &[Table<'static>] = &[
     (&[ONE, TWO], types::WRITTEN),
     (&[ONE, TWO], types::TYPED),
     (&[ONE, TWO], types::TREES),
-];
-
-const FUNCTIONS: &[Table<'static>] = &[
     (&[ONE, TWO], canonicals::PLAIN),
     (&[ONE, TWO], canonicals::INDEXED),
     (&[ONE, TWO], canonicals::OTHER),
-    (&[ONE, TWO], canonicals::WITH_OPTIONS),
 ];
 
 #[test]
 fn calls_are_swept(rt: HostRuntime) {
-    sweep_each(&rt, rt.alloc(), CALLS);
-}
-
-#[test]
-fn functions_are_swept(rt: HostRuntime) {
-    sweep_each(&rt, rt.alloc(), FUNCTIONS);
+    for (starts, rows) in CALLS {
+        for row in *rows {
+            for start in *starts {
+                assert!(rt; has_growths(&rt, rt.alloc(), start, row));
+            }
+        }
+    }
 }
 
 // Where a growth of a new builder is refused, there is none.

@@ -4,14 +4,12 @@
 use super::between::{CORE_FUNC, FUNC, Swept};
 use crate::accepted::ok;
 use crate::calls::{Builder, FUNCTION, Item, Listed, NAME};
-use crate::checks::{Answer, made, repeat};
-use crate::trees::{Canon, CoreShape, Shape, Tree};
-use crate::written::{Any, Core, Defined, Function, STRING, Typed, Written};
+use crate::checks::{Answer, finishes, made};
+use crate::written::{Any, Core, Defined, Function, Handed, STRING, Written};
 use refusing::Refusing;
-use std::alloc::Global;
 use std::process::Abort;
 use sweeping::{LARGE, REFUSED};
-use wasm_encoder::{CanonicalOption, ComponentExportKind, Fault, FuncStage};
+use wasm_encoder::{CanonicalOption, ComponentExportKind, ExportKind, Fault, FuncStage, ModuleArg};
 
 const TYPE: &[u8] = &[0x03];
 
@@ -26,19 +24,19 @@ const OPTIONS: &[CanonicalOption] = &[CanonicalOption::Memory(LARGE)];
 /// Each with its section.
 pub const LISTED: &[Swept<'static>] = &[
     (
-        Item::Listed(Listed::CoreInstantiate(LARGE, NAME, LARGE)),
+        Item::Listed(Listed::CoreInstantiate(LARGE, &[(NAME, ModuleArg::Instance(LARGE))])),
         CORE_INSTANCE,
         NAME,
         b"\x02\x2c\x01\x00\xff\xff\xff\xff\x0f\x01\x1dan-interface-with-a-long-name\x12\xff\xff\xff\xff\x0f",
     ),
     (
-        Item::Listed(Listed::CoreExports(NAME, LARGE)),
+        Item::Listed(Listed::CoreExports(&[(NAME, ExportKind::Func, LARGE)])),
         CORE_INSTANCE,
         NAME,
         b"\x02\x27\x01\x01\x01\x1dan-interface-with-a-long-name\x00\xff\xff\xff\xff\x0f",
     ),
     (
-        Item::Listed(Listed::Instantiate(LARGE, NAME, ComponentExportKind::Func, LARGE)),
+        Item::Listed(Listed::Instantiate(LARGE, &[(NAME, ComponentExportKind::Func, LARGE)])),
         INSTANCE,
         NAME,
         b"\x05\x2c\x01\x00\xff\xff\xff\xff\x0f\x01\x1dan-interface-with-a-long-name\x01\xff\xff\xff\xff\x0f",
@@ -90,7 +88,7 @@ pub const WRITTEN: &[Swept<'static>] = &[
         b"\x07\x0c\x01\x71\x02\x01\x61\x00\x00\x01\x62\x01\x73\x00",
     ),
     (
-        Item::Written(Written::Function(Function::Async)),
+        Item::Written(Written::Function(Function::Async(true))),
         TYPE,
         NAME,
         b"\x07\x05\x01\x43\x00\x01\x00",
@@ -106,43 +104,43 @@ pub const WRITTEN: &[Swept<'static>] = &[
 /// Types that are made first, each with its section.
 pub const TYPED: &[Swept<'static>] = &[
     (
-        Item::Written(Written::Core(Core::Open)),
+        Item::Written(Written::Core(Core::SubType(b"\x50\x00\x60\x00\x00"))),
         CORE_TYPE,
         NAME,
         b"\x03\x07\x01\x00\x50\x00\x60\x00\x00",
     ),
     (
-        Item::Written(Written::Core(Core::OpenGroup)),
+        Item::Written(Written::Core(Core::Group(b"\x01\x50\x00\x60\x00\x00"))),
         CORE_TYPE,
         NAME,
         b"\x03\x08\x01\x4e\x01\x50\x00\x60\x00\x00",
     ),
     (
-        Item::Written(Written::Core(Core::EmptyModule)),
+        Item::Written(Written::Core(Core::Module(b"\x50\x00\x60\x00\x00"))),
         CORE_TYPE,
         NAME,
-        b"\x03\x03\x01\x50\x00",
+        b"\x03\x09\x01\x50\x01\x01\x50\x00\x60\x00\x00",
     ),
     (
-        Item::Typed(Typed::EmptyInstance),
+        Item::Handed(Handed::InstanceType),
         TYPE,
         NAME,
         b"\x07\x03\x01\x42\x00",
     ),
     (
-        Item::Typed(Typed::EmptyComponent),
+        Item::Handed(Handed::ComponentType(true)),
         TYPE,
         NAME,
         b"\x07\x03\x01\x41\x00",
     ),
     (
-        Item::Written(Written::Any(Any::EmptyComponent)),
+        Item::Written(Written::Any(Any::Component(true))),
         TYPE,
         NAME,
         b"\x07\x03\x01\x41\x00",
     ),
     (
-        Item::Typed(Typed::Resource(LARGE)),
+        Item::Handed(Handed::Resource(LARGE)),
         TYPE,
         NAME,
         b"\x07\x09\x01\x3f\x7f\x01\xff\xff\xff\xff\x0f",
@@ -152,49 +150,57 @@ pub const TYPED: &[Swept<'static>] = &[
 /// Items that are handed in as trees.
 pub const TREES: &[Swept<'static>] = &[
     (
-        Item::Tree(Tree::Listed(Listed::CoreExports(NAME, LARGE))),
+        Item::Handed(Handed::CoreInstance(
+            b"\x01\x01\x1dan-interface-with-a-long-name\x00\xff\xff\xff\xff\x0f",
+        )),
         CORE_INSTANCE,
         NAME,
         b"\x02\x27\x01\x01\x01\x1dan-interface-with-a-long-name\x00\xff\xff\xff\xff\x0f",
     ),
     (
-        Item::Tree(Tree::Listed(Listed::Exports(NAME, LARGE))),
+        Item::Handed(Handed::Instance(
+            b"\x01\x01\x00\x1dan-interface-with-a-long-name\x01\xff\xff\xff\xff\x0f",
+        )),
         INSTANCE,
         NAME,
         b"\x05\x28\x01\x01\x01\x00\x1dan-interface-with-a-long-name\x01\xff\xff\xff\xff\x0f",
     ),
     (
-        Item::Tree(Tree::Listed(Listed::Lift(LARGE, LARGE, OPTIONS))),
+        Item::Handed(Handed::Canon(
+            b"\x00\x00\xff\xff\xff\xff\x0f\x01\x03\xff\xff\xff\xff\x0f\xff\xff\xff\xff\x0f",
+        )),
         FUNC,
         NAME,
         b"\x08\x14\x01\x00\x00\xff\xff\xff\xff\x0f\x01\x03\xff\xff\xff\xff\x0f\xff\xff\xff\xff\x0f",
     ),
     (
-        Item::Tree(Tree::Listed(Listed::Lower(LARGE, OPTIONS))),
+        Item::Handed(Handed::Canon(b"\x01\x00\xff\xff\xff\xff\x0f\x01\x03\xff\xff\xff\xff\x0f")),
         CORE_FUNC,
         NAME,
         b"\x08\x0f\x01\x01\x00\xff\xff\xff\xff\x0f\x01\x03\xff\xff\xff\xff\x0f",
     ),
     (
-        Item::Tree(Tree::Canon(None, Canon::ResourceDrop(LARGE))),
+        Item::Handed(Handed::Canon(b"\x03\xff\xff\xff\xff\x0f")),
         CORE_FUNC,
         "resource.drop",
         b"\x08\x07\x01\x03\xff\xff\xff\xff\x0f",
     ),
     (
-        Item::Tree(Tree::Canon(None, Canon::ContextGet(LARGE))),
+        Item::Handed(Handed::Canon(b"\x0a\x7f\xff\xff\xff\xff\x0f")),
         CORE_FUNC,
         "context.get 4294967295",
         b"\x08\x08\x01\x0a\x7f\xff\xff\xff\xff\x0f",
     ),
     (
-        Item::Written(Written::Tree(Tree::Core(CoreShape::ModuleOfAlias(LARGE, LARGE)))),
+        Item::Written(Written::Core(Core::Tree(
+            b"\x50\x01\x02\x10\x01\xff\xff\xff\xff\x0f\xff\xff\xff\xff\x0f",
+        ))),
         CORE_TYPE,
         NAME,
         b"\x03\x10\x01\x50\x01\x02\x10\x01\xff\xff\xff\xff\x0f\xff\xff\xff\xff\x0f",
     ),
     (
-        Item::Written(Written::Tree(Tree::Type(Shape::Record(&[NAME], STRING)))),
+        Item::Written(Written::Any(Any::Tree(b"r\x01\x1dan-interface-with-a-long-names"))),
         TYPE,
         NAME,
         b"\x07\x22\x01r\x01\x1dan-interface-with-a-long-names",
@@ -218,23 +224,6 @@ const ALIASES: &[Answer<'static>] = &[
     (FUNCTION, Ok(12)),
 ];
 
-/// Where growth number `n` is refused behind the opening, the component isn't finished. So it is
-/// left.
-fn is_left_unfinished(
-    rt: &impl Abort,
-    alloc: Global,
-    heap: &Refusing,
-    front: &[Answer<'_>],
-    call: Item<'_>,
-    n: u64,
-) -> bool {
-    let mut builder = made(rt, alloc, heap, None, front);
-    heap.refuse_nth(n);
-    let outcome = call.make(rt, alloc, Some(NAME), &mut builder);
-    assert!(rt; outcome.is_err() == heap.was_refused());
-    builder.finish().err() == Some(Fault::Unfinished)
-}
-
 // A type whose last call is refused leaves no component. With up to 13 aliases in front the room
 // ends at each place, and somewhere behind the opening.
 #[test]
@@ -245,25 +234,24 @@ fn unfinished_builders(rt: HostRuntime) {
         for aliases in 0..14 {
             let front = ALIASES.get(..aliases).unwrap_or(ALIASES);
             for n in 1..8u64 {
-                is_left |= is_left_unfinished(&rt, rt.alloc(), &heap, front, *call, n);
+                let mut builder = made(&rt, rt.alloc(), &heap, None, front);
+                heap.refuse_nth(n);
+                let outcome = call.make(&rt, rt.alloc(), Some(NAME), &mut builder);
+                assert!(rt; outcome.is_err() == heap.was_refused());
+                is_left |= builder.finish().err() == Some(Fault::Unfinished);
             }
         }
         assert!(rt; is_left);
     }
 }
 
-/// The type of a function whose parameters are refused where there is no room, and given again.
-/// Whether they were.
-fn params_again(rt: &impl Abort, heap: &Refusing, builder: &mut Builder<'_>) -> bool {
+/// The type of a function whose parameters are refused, since there is no room, and given again.
+fn params_again(rt: &impl Abort, heap: &Refusing, builder: &mut Builder<'_>) {
     match builder.type_function(None) {
         Ok((_, mut function)) => {
             heap.refuse_all();
             match function.params([].into_iter()) {
-                Ok(()) => {
-                    heap.refuse_none();
-                    ok(rt, function.result(None));
-                    false
-                }
+                Ok(()) => panic!(rt; "it isn't refused"),
                 Err(fault) => {
                     heap.refuse_none();
                     assert!(rt; fault == REFUSED && function.stage() == FuncStage::Start);
@@ -271,7 +259,6 @@ fn params_again(rt: &impl Abort, heap: &Refusing, builder: &mut Builder<'_>) -> 
                         Ok(()) => ok(rt, function.result(None)),
                         Err(_) => panic!(rt; "it is refused"),
                     }
-                    true
                 }
             }
         }
@@ -279,24 +266,11 @@ fn params_again(rt: &impl Abort, heap: &Refusing, builder: &mut Builder<'_>) -> 
     }
 }
 
-/// How many of these types, and the component up to the first.
-const FUNCTIONS: &[(usize, &[u8])] = &[
-    (1, b"\x00asm\x0d\x00\x01\x00\x07\x05\x01"),
-    (30, b"\x00asm\x0d\x00\x01\x00\x07\x79\x1e"),
-];
-
-// Of each component the parameters of some type are refused.
 #[test]
 fn refused_params(rt: HostRuntime) {
     let heap = Refusing::new(rt.alloc());
-    for (count, front) in FUNCTIONS {
-        let mut builder = made(&rt, rt.alloc(), &heap, None, &[]);
-        let mut was_refused = false;
-        for _ in 0..*count {
-            was_refused |= params_again(&rt, &heap, &mut builder);
-        }
-        let bytes = ok(&rt, builder.finish());
-        assert!(rt; repeat(bytes.as_slice(), front, *count, b"\x40\x00\x01\x00", b""));
-        assert!(rt; was_refused);
-    }
+    let mut builder = made(&rt, rt.alloc(), &heap, None, &[]);
+    params_again(&rt, &heap, &mut builder);
+    let wanted = b"\x00asm\x0d\x00\x01\x00\x07\x05\x01\x40\x00\x01\x00";
+    finishes(&rt, builder, wanted);
 }
