@@ -4,7 +4,6 @@
 //! afterwards. Each function here says whether all this was so.
 #![tactic(auto)]
 
-pub mod hexed;
 pub mod members;
 pub mod own;
 
@@ -74,16 +73,6 @@ pub fn sweep_encode<E: Encode>(alloc: Global, value: &E) -> Result<bool, Fault> 
     sweep(alloc, &Encoded(value))
 }
 
-/// The same of each of these values.
-pub fn sweep_each<E: Encode>(alloc: Global, values: &[E]) -> Result<bool, Fault> {
-    for value in values {
-        if !sweep_encode(alloc, value)? {
-            return Ok(false);
-        }
-    }
-    Ok(true)
-}
-
 /// Whether a value without a text is encoded without memory.
 pub fn takes_no_memory<E: Encode>(alloc: Global, value: &E) -> Result<bool, Fault> {
     let heap = Refusing::new(alloc);
@@ -104,7 +93,7 @@ impl<'a, S: ComponentSection> Appends for BehindItsId<'a, S> {
 }
 
 /// Has the requests of a section behind its id refused in turn.
-pub fn sweep_behind_id<S: ComponentSection>(alloc: Global, section: &S) -> Result<bool, Fault> {
+fn sweep_behind_id<S: ComponentSection>(alloc: Global, section: &S) -> Result<bool, Fault> {
     sweep(alloc, &BehindItsId(section))
 }
 

@@ -46,7 +46,7 @@ pub fn started<'a, M: Members<'a>>(heap: &'a Refusing, count: u32) -> Result<M, 
 }
 
 /// Whether this is all that can be asked of it.
-pub fn is_as<'a, M: Members<'a>>(alloc: Global, members: &M, wanted: &[u8]) -> Result<bool, Fault> {
+fn is_as<'a, M: Members<'a>>(alloc: Global, members: &M, wanted: &[u8]) -> Result<bool, Fault> {
     let state = members.state(alloc)?;
     Ok(state.as_slice() == wanted)
 }
@@ -142,35 +142,6 @@ pub fn sweep_add<'a, M: Members<'a>, C: Adds<M>>(
     Ok(asks)
 }
 
-/// Whether one with this member alone is this.
-fn makes<'a, M: Members<'a>, C: Adds<M>>(
-    alloc: Global,
-    heap: &'a Refusing,
-    call: &C,
-    wanted: &[u8],
-) -> Result<bool, Fault> {
-    heap.refuse_none();
-    let mut members = M::empty(heap)?;
-    call.add(&mut members)?;
-    is_as(alloc, &members, wanted)
-}
-
-/// The same of each of these calls, beside which stands what one with this member alone is.
-pub fn sweep_rows<'a, M: Members<'a>, C: Adds<M>>(
-    alloc: Global,
-    heap: &'a Refusing,
-    rows: &[(C, &[u8])],
-) -> Result<bool, Fault> {
-    for (call, wanted) in rows {
-        let is_well = makes::<M, C>(alloc, heap, call, wanted)?
-            && sweep_add::<M, C>(alloc, heap, call)?;
-        if !is_well {
-            return Ok(false);
-        }
-    }
-    Ok(true)
-}
-
 /// The same of each of these calls.
 pub fn sweep_calls<'a, M: Members<'a>, C: Adds<M>>(
     alloc: Global,
@@ -231,7 +202,7 @@ fn goes_its_own_way<'a, M: Members<'a>>(
 }
 
 /// Has the requests of a copy of so many members refused in turn. `asks` says whether it makes any.
-pub fn sweep_clone<'a, M: Members<'a>>(
+fn sweep_clone<'a, M: Members<'a>>(
     alloc: Global,
     heap: &'a Refusing,
     count: u32,

@@ -1,6 +1,6 @@
-//! The examples of the doc comments and the proved callers, run. Expected bytes are outside answers:
-//! those of components from Rust's `wasm-encoder` 0.263.0; those of values, core types, modules and
-//! custom sections from the format's rows.
+//! The examples of the doc comments and the proved callers, run. Expected bytes are outside
+//! answers: those of components from Rust's `wasm-encoder` 0.263.0; those of values, core types,
+//! modules and custom sections from the format's rows.
 
 use crate::accepted::{makes, ok};
 use facts::callers::passed_on;
