@@ -42,8 +42,9 @@ const COMPONENT: Item<'static> = Item::Import("a", ComponentTypeRef::Component(0
 
 const UNFINISHED_TYPE: Item<'static> = Item::Handed(Handed::ComponentType(false));
 
-/// Calls with their answers, the counts that they raise, and why there is no component: outer aliases, aliases of a core
-/// instance's exports, instances, and imports. The spaces that no import defines in stay empty.
+/// Calls with their answers, the counts that they raise, and why there is no component: outer
+/// aliases, aliases of a core instance's exports, instances, and imports. The spaces that no import
+/// defines in stay empty.
 const ROWS: &[(&[Answer<'static>], [u32; 13], Option<Fault>)] = &[
     (
         &[(
@@ -158,8 +159,8 @@ const ROWS: &[(&[Answer<'static>], [u32; 13], Option<Fault>)] = &[
         [1, 0, 0, 0, 0, 0, 0, 0, 2, 5, 3, 6, 4],
         None,
     ),
-    // Neither call takes a component type in which one is unfinished; by the one with an encoder the
-    // type is left so too. What follows a dropped encoder is refused before anything else.
+    // Neither call takes a component type in which one is unfinished; by the one with an encoder
+    // the type is left so too. What follows a dropped encoder is refused before anything else.
     (
         &[(UNFINISHED_TYPE, Err(Fault::Unfinished))],
         [0, 0, 0, 0, 0, 0, 0, 0, 0, 0, 0, 0, 0],

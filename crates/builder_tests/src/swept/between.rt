@@ -197,7 +197,17 @@ fn has_growths(rt: &impl Abort, alloc: Global, start: &Start, row: &Swept<'_>) -
     false
 }
 
-/// The calls of the builder, and what stands in front of each.
+/// Sweeps each row of the tables.
+fn sweep_each(rt: &impl Abort, alloc: Global, tables: &[Table<'_>]) {
+    for (starts, rows) in tables {
+        for row in *rows {
+            for start in *starts {
+                assert!(rt; has_growths(rt, alloc, start, row));
+            }
+        }
+    }
+}
+
 const CALLS: &[Table<'static>] = &[
     (&[ONE], items::APART),
     (&[JOINED], items::JOINED),
@@ -207,6 +217,9 @@ const CALLS: &[Table<'static>] = &[
     (&[ONE, TWO], types::WRITTEN),
     (&[ONE, TWO], types::TYPED),
     (&[ONE, TWO], types::TREES),
+];
+
+const FUNCTIONS: &[Table<'static>] = &[
     (&[ONE, TWO], canonicals::PLAIN),
     (&[ONE, TWO], canonicals::INDEXED),
     (&[ONE, TWO], canonicals::OTHER),
@@ -214,13 +227,12 @@ const CALLS: &[Table<'static>] = &[
 
 #[test]
 fn calls_are_swept(rt: HostRuntime) {
-    for (starts, rows) in CALLS {
-        for row in *rows {
-            for start in *starts {
-                assert!(rt; has_growths(&rt, rt.alloc(), start, row));
-            }
-        }
-    }
+    sweep_each(&rt, rt.alloc(), CALLS);
+}
+
+#[test]
+fn functions_are_swept(rt: HostRuntime) {
+    sweep_each(&rt, rt.alloc(), FUNCTIONS);
 }
 
 // Where a growth of a new builder is refused, there is none.
