@@ -111,9 +111,9 @@ impl<'a> Item<'a> {
             Item::Start(function, args, results) => {
                 builder.start(*function, ok(rt, args.to_vec(alloc)), *results)
             }
-            Item::Custom(section) => placeless(builder.custom_section(section)),
-            Item::RawCustom(bytes) => placeless(builder.raw_custom_section(bytes)),
-            Item::AppendNames => placeless(builder.append_names()),
+            Item::Custom(section) => without_index(builder.custom_section(section)),
+            Item::RawCustom(bytes) => without_index(builder.raw_custom_section(bytes)),
+            Item::AppendNames => without_index(builder.append_names()),
             Item::GiveUp => Ok(u32::from(builder.discard_unfinished())),
         }
     }
@@ -127,7 +127,7 @@ fn module(rt: &impl Abort, alloc: Global, section: &CustomSection<'_>) -> Module
 }
 
 /// Such a call answers no index.
-fn placeless(outcome: Result<(), Fault>) -> Result<u32, Fault> {
+fn without_index(outcome: Result<(), Fault>) -> Result<u32, Fault> {
     match outcome {
         Ok(()) => Ok(0),
         Err(fault) => Err(fault),

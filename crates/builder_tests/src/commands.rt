@@ -238,7 +238,7 @@ fn rows(rt: HostRuntime) {
 fn nested_rows(rt: HostRuntime) {
     for (trees, answers, wanted) in NESTED {
         let nested = Command::Component {
-            n: None,
+            debug_name: None,
             commands: commands(&rt, rt.alloc(), trees),
         };
         builds(&rt, rt.alloc(), &[nested], answers, wanted);

@@ -83,7 +83,7 @@ fn nested_types(rt: HostRuntime) {
         assert!(rt; repeat(bytes, front, *around, b"\x42\x01\x01", b"\x42\x00"));
         let text = bytes.strip_prefix(*front).unwrap_or(bytes);
         let command = Command::Type {
-            n: None,
+            debug_name: None,
             ty: read_type(&rt, alloc, text),
         };
         let wanted = bytes.strip_prefix(HEADER).unwrap_or(bytes);

@@ -56,27 +56,27 @@ impl<'a> Tree<'a> {
     fn command(&self, rt: &impl Abort, alloc: Global) -> Command {
         match self {
             Tree::CoreInstance(text) => Command::CoreInstance {
-                n: None,
+                debug_name: None,
                 instance: read(rt, alloc, text),
             },
             Tree::CoreType(text) => Command::CoreType {
-                n: None,
+                debug_name: None,
                 ty: read(rt, alloc, text),
             },
             Tree::Instance(text) => Command::Instance {
-                n: None,
+                debug_name: None,
                 instance: read(rt, alloc, text),
             },
             Tree::Alias(name, text) => Command::Alias {
-                n: read(rt, alloc, name),
+                debug_name: read(rt, alloc, name),
                 alias: read(rt, alloc, text),
             },
             Tree::Type(text) => Command::Type {
-                n: None,
+                debug_name: None,
                 ty: read_type(rt, alloc, text),
             },
             Tree::Canon(name, text) => Command::Canon {
-                n: read(rt, alloc, name),
+                debug_name: read(rt, alloc, name),
                 canon: read(rt, alloc, text),
             },
             Tree::Import(name, ty) => Command::Import {
@@ -98,11 +98,11 @@ impl<'a> Whole<'a> {
     fn command(&self, rt: &impl Abort, alloc: Global) -> Command {
         match self {
             Whole::Module(name, bytes) => Command::CoreModule {
-                n: read(rt, alloc, name),
+                debug_name: read(rt, alloc, name),
                 bytes: ok(rt, bytes.to_vec(alloc)),
             },
             Whole::RawComponent(bytes) => Command::ComponentRaw {
-                n: None,
+                debug_name: None,
                 bytes: ok(rt, bytes.to_vec(alloc)),
             },
             Whole::Start(args, results) => Command::Start {

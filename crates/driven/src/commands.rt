@@ -25,19 +25,22 @@ fn command(choices: &mut Choices, depth: u8) -> Command {
     if which >= 9 {
         return nameless(which, choices);
     }
-    let n = Option::choose(choices);
+    let debug_name = Option::choose(choices);
     match which {
         0 => {
             let bytes = bytes(choices);
-            Command::CoreModule { n, bytes }
+            Command::CoreModule { debug_name, bytes }
         }
         1 => {
             let instance = CoreInstanceTree::choose(choices);
-            Command::CoreInstance { n, instance }
+            Command::CoreInstance {
+                debug_name,
+                instance,
+            }
         }
         2 => {
             let ty = CoreTypeTree::choose(choices);
-            Command::CoreType { n, ty }
+            Command::CoreType { debug_name, ty }
         }
         3 => {
             let commands = if depth == 0 {
@@ -45,27 +48,33 @@ fn command(choices: &mut Choices, depth: u8) -> Command {
             } else {
                 commands(choices, depth - 1)
             };
-            Command::Component { n, commands }
+            Command::Component {
+                debug_name,
+                commands,
+            }
         }
         4 => {
             let bytes = bytes(choices);
-            Command::ComponentRaw { n, bytes }
+            Command::ComponentRaw { debug_name, bytes }
         }
         5 => {
             let instance = InstanceTree::choose(choices);
-            Command::Instance { n, instance }
+            Command::Instance {
+                debug_name,
+                instance,
+            }
         }
         6 => {
             let alias = AliasTree::choose(choices);
-            Command::Alias { n, alias }
+            Command::Alias { debug_name, alias }
         }
         7 => {
             let ty = ty(choices, DEPTH);
-            Command::Type { n, ty }
+            Command::Type { debug_name, ty }
         }
         _ => {
             let canon = CanonTree::choose(choices);
-            Command::Canon { n, canon }
+            Command::Canon { debug_name, canon }
         }
     }
 }

@@ -12,7 +12,8 @@ use wasm_encoder::{Component, ComponentImportSection, ComponentTypeRef, Fault};
 /// A component that imports a function. What it is follows from the contracts of these calls and a law alone.
 pub fn importing<A: Allocator + Copy>(alloc: A) -> Result<Vec<u8, A>, Fault>
     ensures { IfOk result (λ bytes. bytes.items ≡ preamble.text
-        ++ 0x0a ∷ (counted import_item (record { name = plain_name (codes "f"); what = ComponentTypeRef.Func 0 } ∷ [])).text) }
+        ++ 0x0a ∷ (counted import_item
+        (record { name = plain_name (codes "f"); what = ComponentTypeRef.Func 0 } ∷ [])).text) }
 {
     let mut imports = ComponentImportSection::new(alloc);
     imports.import("f".into(), ComponentTypeRef::Func(0))?;

@@ -1,4 +1,4 @@
-//! Tests of `wenc_base`, `wenc_parts` and `wenc_canon`, and a stranger's type for the tests above.
+//! Tests of `wenc_base`, `wenc_parts` and `wenc_canon`.
 #![tactic(auto)]
 
 #[cfg(test)]

@@ -66,7 +66,8 @@ fn joined<A: Allocator>(
     exports: &ComponentExportSection<A>,
 ) -> Result<Vec<u8, A>, Fault>
     ensures { IfOk result (λ bytes. bytes.items ≡ preamble.text
-        ++ (10 ∷ section_text imports.now) ++ (6 ∷ section_text aliases.now) ++ (11 ∷ section_text exports.now)) }
+        ++ (10 ∷ section_text imports.now) ++ (6 ∷ section_text aliases.now)
+        ++ (11 ∷ section_text exports.now)) }
 {
     let mut component = Component::new(alloc)?;
     component.section(imports)?;
@@ -79,9 +80,17 @@ fn joined<A: Allocator>(
 /// from the contracts of these calls alone.
 pub fn by_hand<A: Allocator + Copy>(alloc: A) -> Result<Vec<u8, A>, Fault>
     ensures { IfOk result (λ bytes. bytes.items ≡ preamble.text
-        ++ (10 ∷ section_text (with_member no_members (import_item (record { name = plain_name (codes "i"); what = ComponentTypeRef.Instance 0 })).text))
-        ++ (6 ∷ section_text (with_member no_members (alias (InstanceExport 0 ComponentExportKind.Func (codes "f"))).text))
-        ++ (11 ∷ section_text (with_member no_members (export_item (record { name = plain_name (codes "g"); kind = ComponentExportKind.Func; index = 0; what = None })).text))) }
+        ++ (10 ∷ section_text (with_member no_members (import_item
+        (record { name = plain_name (codes "i"); what = ComponentTypeRef.Instance 0 })).text))
+        ++ (6 ∷ section_text (with_member no_members (alias
+        (InstanceExport 0 ComponentExportKind.Func (codes "f"))).text))
+        ++ (11 ∷ section_text (with_member no_members (export_item
+        (record {
+          name = plain_name (codes "g");
+          kind = ComponentExportKind.Func;
+          index = 0;
+          what = None;
+        })).text))) }
 {
     let imports = imported(alloc)?;
     let aliases = aliased(alloc)?;

@@ -24,8 +24,8 @@ use wenc_parts::{AliasTree, ComponentExportKind, ComponentTypeRef, NameTree};
 use wenc_sections::{CoreInstanceTree, InstanceTree};
 use wenc_types::{CoreTypeTree, TypeTree};
 
-/// One call of a builder, as data. `n` is the debug name of what it adds, or none. Here the import of a function under
-/// the name that `name` holds:
+/// One call of a builder, as data (component model, binary format, "Component Definitions"). Each index is from 0 to
+/// 4294967295. Here the import of a function under the name that `name` holds:
 ///
 /// ```
 /// let import = Command::Import {
@@ -35,80 +35,109 @@ use wenc_types::{CoreTypeTree, TypeTree};
 /// ```
 #[derive(Drop)]
 pub enum Command<A: Allocator = Global> {
-    /// A core module, by its bytes, which nothing checks.
+    /// A core module.
     CoreModule {
-        n: Option<String<A>>,
+        /// The debug name of what is added, or none.
+        debug_name: Option<String<A>>,
+        /// The module, which nothing checks.
         bytes: Vec<u8, A>,
     },
     /// An instance of a core module, or one of core items.
     CoreInstance {
-        n: Option<String<A>>,
+        /// The debug name of what is added, or none.
+        debug_name: Option<String<A>>,
+        /// What it is made of.
         instance: CoreInstanceTree<A>,
     },
     /// A core type.
     CoreType {
-        n: Option<String<A>>,
+        /// The debug name of what is added, or none.
+        debug_name: Option<String<A>>,
+        /// The type.
         ty: CoreTypeTree<A>,
     },
-    /// A nested component, made by these commands. It is accepted only with all of them accepted, and else refused with
-    /// the first fault among them.
+    /// A nested component, made by commands. It is accepted only with all of them accepted, and else refused with the
+    /// first fault among them.
     Component {
-        n: Option<String<A>>,
+        /// The debug name of what is added, or none.
+        debug_name: Option<String<A>>,
+        /// The commands that make it.
         commands: Vec<Command<A>, A>,
     },
-    /// A nested component, by its bytes, which nothing checks.
+    /// A nested component, by its bytes.
     ComponentRaw {
-        n: Option<String<A>>,
+        /// The debug name of what is added, or none.
+        debug_name: Option<String<A>>,
+        /// The component, which nothing checks.
         bytes: Vec<u8, A>,
     },
     /// An instance of a component, or one of items.
     Instance {
-        n: Option<String<A>>,
+        /// The debug name of what is added, or none.
+        debug_name: Option<String<A>>,
+        /// What it is made of.
         instance: InstanceTree<A>,
     },
     /// An alias.
     Alias {
-        n: Option<String<A>>,
+        /// The debug name of what is added, or none.
+        debug_name: Option<String<A>>,
+        /// What it stands for.
         alias: AliasTree<A>,
     },
     /// A type.
     Type {
-        n: Option<String<A>>,
+        /// The debug name of what is added, or none.
+        debug_name: Option<String<A>>,
+        /// The type.
         ty: TypeTree<A>,
     },
-    /// A canonical function. Where it is neither lifted nor lowered it has its own debug name, whatever `n` is.
+    /// A canonical function.
     Canon {
-        n: Option<String<A>>,
+        /// The debug name of a function that is lifted or lowered, or none. Any other has its own.
+        debug_name: Option<String<A>>,
+        /// The function.
         canon: CanonTree<A>,
     },
-    /// A call, at instantiation, of the function with this index, with the values of these indices, that answers so
-    /// many values.
+    /// A call of a function at instantiation.
     Start {
+        /// The index of the function.
         function: u32,
+        /// The indices of the values that it is called with.
         args: Vec<u32, A>,
+        /// The number of values that it answers.
         results: u32,
     },
     /// An import.
     Import {
+        /// The name, with its options.
         name: NameTree<A>,
+        /// What is imported.
         ty: ComponentTypeRef,
     },
-    /// An export of the item of this kind with this index, with a type or none.
+    /// An export.
     Export {
+        /// The name, with its options.
         name: NameTree<A>,
+        /// The kind of the item.
         kind: ComponentExportKind,
+        /// The index of the item.
         index: u32,
+        /// The type that it is exported with, or none.
         ty: Option<ComponentTypeRef>,
     },
     /// A section of the debug names so far, where there are any.
     AppendNames,
     /// A custom section.
     Custom {
+        /// The name of the section.
         name: String<A>,
+        /// What stands behind the name.
         data: Vec<u8, A>,
     },
-    /// A custom section, by the bytes behind its id, which nothing checks.
+    /// A custom section, by what stands behind its id.
     RawCustom {
+        /// The bytes, which nothing checks.
         bytes: Vec<u8, A>,
     },
 }
@@ -123,23 +152,39 @@ fn run<A: Allocator, B: Allocator + Copy>(
     ensures { StepsRun builder.old builder.new result (command_view command.now) }
 {
     match command {
-        Command::CoreModule { n, bytes } => indexed(builder.core_module_raw(debug_name(n), bytes)),
-        Command::CoreInstance { n, instance } => {
-            indexed(builder.core_instance_tree(debug_name(n), instance))
-        }
-        Command::CoreType { n, ty } => core_type_of(builder, debug_name(n), ty),
-        Command::Component { n, commands } => match run_all(commands, alloc) {
-            Ok(inner) => indexed(builder.component(debug_name(n), inner)),
+        Command::CoreModule { debug_name, bytes } => indexed(builder.core_module_raw(
+            as_deref(debug_name),
+            bytes,
+        )),
+        Command::CoreInstance {
+            debug_name,
+            instance,
+        } => { indexed(builder.core_instance_tree(as_deref(debug_name), instance)) }
+        Command::CoreType { debug_name, ty } => core_type_of(builder, as_deref(debug_name), ty),
+        Command::Component {
+            debug_name,
+            commands,
+        } => match run_all(commands, alloc) {
+            Ok(inner) => indexed(builder.component(as_deref(debug_name), inner)),
             Err(fault) => Ok(Err(fault)),
         },
-        Command::ComponentRaw { n, bytes } => indexed(builder.component_raw(debug_name(n), bytes)),
-        Command::Instance { n, instance } => indexed(builder.instance_tree(
-            debug_name(n),
-            instance,
+        Command::ComponentRaw { debug_name, bytes } => indexed(builder.component_raw(
+            as_deref(debug_name),
+            bytes,
         )),
-        Command::Alias { n, alias } => indexed(builder.alias(debug_name(n), alias.as_alias())),
-        Command::Type { n, ty } => type_of(builder, debug_name(n), ty),
-        Command::Canon { n, canon } => indexed(builder.canonical_tree(debug_name(n), canon)),
+        Command::Instance {
+            debug_name,
+            instance,
+        } => indexed(builder.instance_tree(as_deref(debug_name), instance)),
+        Command::Alias { debug_name, alias } => indexed(builder.alias(
+            as_deref(debug_name),
+            alias.as_alias(),
+        )),
+        Command::Type { debug_name, ty } => type_of(builder, as_deref(debug_name), ty),
+        Command::Canon { debug_name, canon } => indexed(builder.canonical_tree(
+            as_deref(debug_name),
+            canon,
+        )),
         Command::Start {
             function,
             args,
@@ -250,7 +295,7 @@ fn without_index(answer: Result<(), Fault>) -> Result<Result<Option<u32>, Fault>
     }
 }
 
-fn debug_name<A: Allocator>(name: &Option<String<A>>) -> Option<&str>
+fn as_deref<A: Allocator>(name: &Option<String<A>>) -> Option<&str>
     ensures { option_copied result ≡ debug_name_view name.now }
 {
     match name {

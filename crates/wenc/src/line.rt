@@ -60,7 +60,7 @@ fn alias_export(alloc: Global, words: Words) -> Result<Option<Command>, AllocErr
     let debug_name = String::from_str(alloc, name)?;
     let name = String::from_str(alloc, name)?;
     Ok(Some(Command::Alias {
-        n: Some(debug_name),
+        debug_name: Some(debug_name),
         alias: AliasTree::InstanceExport {
             instance,
             kind,
@@ -79,7 +79,10 @@ fn core_module(alloc: Global, words: Words) -> Result<Option<Command>, AllocErro
         return Ok(None);
     };
     match bytes(alloc, word)? {
-        Some(bytes) => Ok(Some(Command::CoreModule { n: None, bytes })),
+        Some(bytes) => Ok(Some(Command::CoreModule {
+            debug_name: None,
+            bytes,
+        })),
         None => Ok(None),
     }
 }
@@ -137,7 +140,10 @@ fn command_of(alloc: Global, words: Words) -> Result<Option<Command>, AllocError
         "start" => start(alloc, words),
         "append-names" => Ok(append_names(words)),
         _ => match builtin(verb, words) {
-            Some(canon) => Ok(Some(Command::Canon { n: None, canon })),
+            Some(canon) => Ok(Some(Command::Canon {
+                debug_name: None,
+                canon,
+            })),
             None => Ok(None),
         },
     }

@@ -43,7 +43,7 @@ fn status_of(answers: &[Result<Option<u32>, Fault>]) -> u8
     if has_refusal(answers) { REFUSED } else { DONE }
 }
 
-/// Runs the commands of a script, whose names are allocated by `names`. The text is freed once it is
+/// Runs the commands of a script, which allocate by `names` what they own. The text is freed once it is
 /// parsed, and the commands once they ran.
 pub fn translate<A: Allocator + Copy>(
     alloc: A,
@@ -176,8 +176,8 @@ pub fn run<R: Read, O: Write, E: Write>(
     run_with_allocators(alloc, alloc, args, input, out, err)
 }
 
-/// `run` with two allocators: the names of the commands are allocated by `names`, and all else by
-/// `alloc`.
+/// `run` with two allocators: what the commands own (names, a module's bytes, a start's arguments) is
+/// allocated by `names`, and all else by `alloc`.
 #[tactic(auto, using(crate::proofs::ListArgs::list_is_one))]
 pub fn run_with_allocators<A: Allocator + Copy, R: Read, O: Write, E: Write>(
     alloc: A,

@@ -18,11 +18,13 @@ use Rattle.wenc_base.specs.declared.types.sub.SubType.{SubType}
 use Rattle.wenc_base.specs.declared.types.groups.GroupTree.{GroupTree}
 use Rattle.wenc_base.specs.declared.types.groups.GroupTree.TheVariants as groups
 
+-- what a field holds: a small number, or a value of a value type
 abbrev pub storage_type : Form StorageType
 storage_type I8 = byte 0x78
 storage_type I16 = byte 0x77
 storage_type (Val t) = val_type t
 
+-- what it holds, and whether that can be changed
 abbrev pub field_type : Form FieldType
 field_type f = storage_type f.element_type ⨾ flag f.mutable
 
@@ -72,6 +74,7 @@ abbrev pub guard_before : Bool → Piece → Piece
 guard_before true p = p
 guard_before false p = 0x00 ▸ p
 
+-- a type with that byte, where others may extend it
 abbrev pub guarded : Form Sub
 guarded s = guard_before s.is_final (sub_type s)
 

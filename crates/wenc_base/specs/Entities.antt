@@ -13,6 +13,7 @@ use Rattle.wenc_base.specs.declared.imports.EntityType.{EntityType}
 use Rattle.wenc_base.specs.declared.imports.EntityType.TheVariants.{Function, Table, Memory, Global}
 use Rattle.wenc_base.specs.declared.imports.EntityType.TheVariants.{Tag}
 
+-- n where the flag is set, else 0
 abbrev pub bit : ℕ → Bool → ℕ
 bit n false = 0
 bit n true = n
@@ -37,9 +38,11 @@ memory_type m = limits m.shared m.memory64 m.minimum m.maximum
 abbrev pub global_type : Form GlobalType
 global_type g = val_type g.val_type ⨾ flag g.mutable
 
+-- the byte 00, and the index of a function type
 abbrev pub tag_type : Form TagType
 tag_type t = 0x00 ▸ u32 t.func_type_idx
 
+-- a byte that says which of these it is, then its type
 abbrev pub entity_type : Form EntityType
 entity_type (Function n) = 0x00 ▸ u32 n
 entity_type (Table t) = 0x01 ▸ table_type t

@@ -3,6 +3,7 @@ use Rattle.std.specs.Prelude.{ℕ, ◌≤◌, ◌^◌, ◌⊎◌, List, [], ◌�
 use Rattle.wenc_base.specs.declared.fault.Fault.{Fault}
 use Rattle.wenc_base.specs.declared.fault.Fault.TheVariants.{Memory, TooMany, TooLarge, Unfinished}
 
+-- the number by which a fault is told
 abbrev pub fault_number : Fault → ℕ
 fault_number (Memory e) = 1
 fault_number TooMany = 2
@@ -56,5 +57,6 @@ list_cause cause vs = first_of (count_cause (length vs)) (member_cause cause vs)
 abbrev pub drawn_cause : {A : Type 0} → (A → Fault → Type 0) → List A → Fault → Type 0
 drawn_cause cause vs = first_of (member_cause cause vs) (count_cause (length vs))
 
+-- The fault is want of memory.
 abbrev pub IsMemory : Fault → Type 0
 IsMemory = IsWarranted (λ fault. ⊥)

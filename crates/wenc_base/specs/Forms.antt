@@ -37,6 +37,7 @@ utf8 bs = record {
 abbrev pub name : Form (List ℕ)
 name bs = size (length bs) ⨾ utf8 bs
 
+-- Each of them is below 256.
 abbrev pub AreBytes : List ℕ → Type 0
 AreBytes = AllByRecursion (λ b. b < 256)
 

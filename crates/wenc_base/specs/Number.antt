@@ -40,6 +40,8 @@ abbrev pub MayGoOn : Spelling → ℕ → ℕ → Type 0
 MayGoOn Strict top n = top ≤ n
 MayGoOn Wide top n = Unit {0}
 
+-- The bytes are n in groups of seven bits, the lowest ones first, and then the rest. The last group
+-- is below top, and at most room others stand before it.
 pub data ReadsGroups (mode : Spelling) (top : ℕ) : ℕ → ℕ → List ℕ → List ℕ → Type 0 where
   last : {room b : ℕ} {rest : List ℕ} → b < top → ReadsGroups mode top room b (b ∷ rest) rest
   more : {room n b high : ℕ} {bytes rest : List ℕ} → 128 ≤ b → b < 256 → MayGoOn mode top n
@@ -116,6 +118,7 @@ pub record AreGroups (bytes : List ℕ) : Type 0 where
       → (128 ≤ slice_index bytes k) × (slice_index bytes k < 256)
   pub end : (k : ℕ) → k + 1 ≡ length bytes → slice_index bytes k < 128
 
+-- the last byte
 abbrev pub last_of : List ℕ → ℕ
 last_of bytes = slice_index bytes (length bytes - 1)
 

@@ -8,6 +8,7 @@ pub data Spelling : Type 0 where
   Strict : Spelling
   Wide : Spelling
 
+-- The other spellings are read too.
 abbrev pub IsWide : Spelling → Type 0
 IsWide Strict = ⊥
 IsWide Wide = Unit {0}

@@ -14,6 +14,7 @@ use Rattle.wenc_base.specs.declared.types.AbstractHeapType.TheVariants.{NoExtern
 use Rattle.wenc_base.specs.declared.types.AbstractHeapType.TheVariants.{Struct, Array, I31, Exn}
 use Rattle.wenc_base.specs.declared.types.AbstractHeapType.TheVariants.{NoExn}
 
+-- the byte of each abstract heap type
 abbrev pub abstract_byte : AbstractHeapType → ℕ
 abstract_byte NoExn = 0x74
 abstract_byte NoFunc = 0x73
@@ -44,6 +45,7 @@ nullable (Abstract Extern) = or_widely (abstract_type Extern) (0x63 ▸ abstract
 nullable (Abstract t) = or_widely (0x63 ▸ abstract_type t) (abstract_type t)
 nullable (Concrete n) = 0x63 ▸ index n
 
+-- a reference to this heap type, which may be null or not
 abbrev pub reference_to : Bool → Form HeapType
 reference_to true h = nullable h
 reference_to false h = 0x64 ▸ heap_type h
@@ -51,6 +53,7 @@ reference_to false h = 0x64 ▸ heap_type h
 abbrev pub reference : Form RefType
 reference r = reference_to r.nullable r.heap_type
 
+-- a number, a vector or a reference
 abbrev pub val_type : Form ValType
 val_type I32 = byte 0x7f
 val_type I64 = byte 0x7e

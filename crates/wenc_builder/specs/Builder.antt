@@ -18,6 +18,7 @@ pub record OpenSection : Type 0 where
   pub count : ℕ
   pub body : List ℕ
 
+-- its bytes: its id and its size, and its items with their number
 abbrev pub open_text_of : OpenSection → List ℕ
 open_text_of o = o.id ∷ section_text (holding [] o.count o.body)
 
@@ -26,10 +27,12 @@ pub record SectionsState : Type 0 where
   pub closed : List ℕ
   pub current : Option OpenSection
 
+-- those of the open section, if there is one
 abbrev pub open_text : Option OpenSection → List ℕ
 open_text None = []
 open_text (Some o) = open_text_of o
 
+-- all bytes
 abbrev pub sections_text : SectionsState → List ℕ
 sections_text s = s.closed ++ open_text s.current
 
@@ -55,10 +58,12 @@ entered s id text = entered_at s.closed s.current id text
 abbrev pub stood_alone : SectionsState → List ℕ → SectionsState
 stood_alone s text = record { closed = sections_text s ++ text; current = None }
 
+-- one more item: in a section of this id, or one that stands alone
 abbrev pub with_item_at : Option ℕ → SectionsState → List ℕ → SectionsState
 with_item_at None s text = stood_alone s text
 with_item_at (Some id) s text = entered s id text
 
+-- the same by the item itself
 abbrev pub with_item : SectionsState → Item → SectionsState
 with_item s x = with_item_at (collected x) s (item x).text
 
@@ -85,11 +90,13 @@ namespace_with s number (Some name) = record {
   names = s.names ++ (name_association (record { index = s.count; name = name })).text;
 }
 
+-- the space with this number
 abbrev pub namespace_at : List Namespace → ℕ → Namespace
 namespace_at spaces k = slice_index_or spaces k no_names
 
 -- ---- a builder
 
+-- what a builder has: its sections, and its index spaces by their numbers
 pub record Content : Type 0 where
   pub sections : SectionsState
   pub spaces : List Namespace
@@ -116,6 +123,7 @@ pub record BegunItem : Type 0 where
   pub space : ℕ
   pub after : Namespace
 
+-- a builder: settled content, and the item that is being written, if there is one
 pub record State : Type 0 where
   pub settled : Content
   pub begun : Option BegunItem
@@ -124,6 +132,7 @@ pub record State : Type 0 where
 abbrev pub builder_is_finished : State → Bool
 builder_is_finished s = is_none s.begun
 
+-- a builder with this content, which writes no item
 abbrev pub settled_in : Content → State
 settled_in c = record { settled = c; begun = None }
 
@@ -133,6 +142,7 @@ step s e = settled_in (with_entry s.settled e)
 
 -- ---- an item that is being written
 
+-- this content, with an item or none
 abbrev pub content_with : Content → Option BegunItem → Content
 content_with c None = c
 content_with c (Some b) = record {
@@ -170,22 +180,27 @@ draft_indices d = record { space = d.space; number = 1 }
 abbrev pub space_with : State → Draft → Namespace
 space_with s d = namespace_with (namespace_at s.settled.spaces d.space) 1 d.name
 
+-- this draft is begun: what is settled stays, and the item has the text of the draft
 abbrev pub item_begun : State → Draft → State
 item_begun s d = record {
   settled = s.settled;
   begun = Some (record { id = d.id; text = d.text; space = d.space; after = space_with s d });
 }
 
+-- an item with these bytes behind its text; where there is none, it stays so
 abbrev pub begun_appended : Option BegunItem → List ℕ → Option BegunItem
 begun_appended None text = None
 begun_appended (Some b) text =
     Some (record { id = b.id; text = b.text ++ text; space = b.space; after = b.after })
 
+-- the same of the item that is being written
 abbrev pub item_appended : State → List ℕ → State
 item_appended s text = record { settled = s.settled; begun = begun_appended s.begun text }
 
+-- that item is ended: it is settled
 abbrev pub item_ended : State → State
 item_ended s = settled_in (content_of s)
 
+-- that item is given up: what was settled before it stays
 abbrev pub item_given_up : State → State
 item_given_up s = settled_in s.settled

@@ -18,6 +18,7 @@ use Rattle.wenc_builder.specs.Item.{InstanceItem, AliasItem, TypeItem, CanonItem
 use Rattle.wenc_builder.specs.Item.{ImportItem, ExportItem, CustomItem, RawItem}
 use Rattle.wenc_builder.specs.Space.{Indices, defines, defined_in}
 
+-- an item, with a debug name or none
 pub record Entry : Type 0 where
   pub item : Item
   pub name : Option (List ℕ)
@@ -95,9 +96,11 @@ raw_entry bytes = entry (RawItem bytes) None
 
 -- ---- lists of entries
 
+-- what was added, without its debug names
 abbrev pub items : List Entry → List Item
 items es = map (λ e. e.item) es
 
+-- index n with this name, or nothing where there is no name
 abbrev pub named_as : ℕ → Option (List ℕ) → List NameAssociation
 named_as n None = []
 named_as n (Some name) = record { index = n; name = name } ∷ []
@@ -113,5 +116,6 @@ names_from k n [] = []
 names_from k n (e ∷ es) =
     named_in k (defines e.item) n e.name ++ names_from k (n + defined_in k e.item) es
 
+-- the same of all entries
 abbrev pub names : List Entry → ℕ → List NameAssociation
 names es k = names_from k 0 es

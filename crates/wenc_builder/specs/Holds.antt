@@ -18,6 +18,7 @@ open_of (Run id xs ∷ []) =
 open_of (Alone x ∷ []) = None
 open_of (s ∷ t ∷ ss) = open_of (t ∷ ss)
 
+-- The bytes are those of these items, and the open section is the last of theirs.
 pub record SectionsHold (s : SectionsState) (xs : List Item) : Type 0 where
   pub bytes : sections_text s ≡ whole xs
   pub last : s.current ≡ open_of (runs xs)
@@ -31,6 +32,7 @@ namespace_of es k =
       names = names_text (names es k);
     }
 
+-- There are thirteen spaces, and each is what these entries make of it.
 pub record SpacesHold (spaces : List Namespace) (es : List Entry) : Type 0 where
   pub all : length spaces ≡ 13
   pub each : (k : ℕ) → k < 13 → namespace_at spaces k ≡ namespace_of es k

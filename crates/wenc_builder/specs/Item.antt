@@ -14,6 +14,7 @@ use Rattle.wenc_sections.specs.Imports.{Import, import_item}
 use Rattle.wenc_sections.specs.Exports.{Export, export_item}
 use Rattle.wenc_sections.specs.Start.{Start, start}
 
+-- an item of each kind, with all that it is made of
 pub data Item : Type 0 where
   ModuleItem : (bytes : List ℕ) → Item
   CoreInstanceItem : (instance : CoreInstance) → Item

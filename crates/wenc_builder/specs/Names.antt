@@ -69,6 +69,7 @@ abbrev pub none_named : List (Sort × HolderState) → Bool
 none_named [] = true
 none_named (p ∷ ps) = if nat_eq p.1.count 0 then none_named ps else false
 
+-- the names that are kept of each space, by its sort
 abbrev pub kept_names : State → List (Sort × HolderState)
 kept_names s = by_sort (λ k. names_held (namespace_at s.settled.spaces k))
 

@@ -52,14 +52,17 @@ collects id =
 abbrev pub item_of : ℕ → Form Item
 item_of id x = only_where (collected x ≡ Some id) (item x)
 
+-- a section: its id, then its size, the number of its items and these; or the item that is one
 abbrev pub section_piece : Form Section
 section_piece (Run id xs) = only_where (IsTrue (collects id)) (id ▸ counted (item_of id) xs)
 section_piece (Alone x) = only_where (collected x ≡ None) (item x)
 
+-- sections one behind the other, and then the end
 abbrev pub sections : List Section → Payload
 sections [] = end
 sections (s ∷ ss) = section_piece s ⨾⨾ sections ss
 
+-- the preamble and the sections
 abbrev pub component : List Section → Payload
 component ss = preamble ⨾⨾ sections ss
 

@@ -39,6 +39,7 @@ space_number Values = 10
 space_number Components = 11
 space_number Types = 12
 
+-- the space in which an item of this kind has its index
 abbrev pub kind_space : ComponentExportKind → Space
 kind_space Module = CoreModules
 kind_space Func = Funcs
@@ -47,6 +48,7 @@ kind_space TypeKind = Types
 kind_space Instance = Instances
 kind_space Component = Components
 
+-- the same of what a core instance exports
 abbrev pub core_kind_space : ExportKind → Space
 core_kind_space core_kinds.Func = CoreFuncs
 core_kind_space core_kinds.Table = CoreTables
@@ -54,12 +56,14 @@ core_kind_space core_kinds.Memory = CoreMemories
 core_kind_space core_kinds.Global = CoreGlobals
 core_kind_space core_kinds.Tag = CoreTags
 
+-- the same of what an outer alias stands for
 abbrev pub outer_kind_space : ComponentOuterAliasKind → Space
 outer_kind_space outer_kinds.CoreModule = CoreModules
 outer_kind_space outer_kinds.CoreType = CoreTypes
 outer_kind_space outer_kinds.«Type» = Types
 outer_kind_space outer_kinds.Component = Components
 
+-- an alias has its index in the space of what it stands for
 abbrev pub alias_space : AliasOf → Space
 alias_space (InstanceExport instance kind name) = kind_space kind
 alias_space (CoreInstanceExport instance kind name) = core_kind_space kind
@@ -117,6 +121,7 @@ abbrev pub IsIndexAt : List Item → Option Indices → ℕ → Type 0
 IsIndexAt xs None i = ⊥
 IsIndexAt xs (Some d) i = i ≡ next_index xs d.space
 
+-- This is the first index of this item, if it comes next.
 abbrev pub IsIndexOf : List Item → Item → ℕ → Type 0
 IsIndexOf xs x i = IsIndexAt xs (defines x) i
 
@@ -125,5 +130,6 @@ abbrev pub index_at : List Item → Option Indices → Option ℕ
 index_at xs None = None
 index_at xs (Some d) = Some (next_index xs d.space)
 
+-- the first index of an item that comes next, if it takes any
 abbrev pub index_of : List Item → Item → Option ℕ
 index_of xs x = index_at xs (defines x)

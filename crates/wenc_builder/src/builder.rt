@@ -458,7 +458,8 @@ impl<A: Allocator> ComponentBuilder<A> {
         self.buffer.stand_alone(&section)
     }
 
-    /// Adds a core module, with a debug name or none, and answers its index. Refused as the type says.
+    /// Adds a core module, with a debug name or none, and answers its index (component model,
+    /// binary format, "Component Definitions"). Refused as the type says.
     pub fn core_module<B: Allocator>(
         &mut self,
         debug_name: Option<&str>,
@@ -470,8 +471,9 @@ impl<A: Allocator> ComponentBuilder<A> {
         self.core_module_raw(debug_name, module.as_slice())
     }
 
-    /// Adds the core module with these bytes, with a debug name or none, and answers its index. Nothing checks that
-    /// they are a module's. Refused as the type says.
+    /// Adds the core module with these bytes, with a debug name or none, and answers its index
+    /// (component model, binary format, "Component Definitions"). Nothing checks that they are a
+    /// module's. Refused as the type says.
     pub fn core_module_raw(&mut self, debug_name: Option<&str>, bytes: &[u8]) -> Result<u32, Fault>
         ensures { Enters self.old self.new result
             (module_entry (option_copied debug_name.entry) bytes.now) }
@@ -480,8 +482,8 @@ impl<A: Allocator> ComponentBuilder<A> {
         self.stand_alone(Space::CoreModules, 1, debug_name, &section)
     }
 
-    /// Adds an alias of an export of a core instance, with a debug name or none, and answers its index
-    /// (component model, binary format, "Alias Definitions").
+    /// Adds an alias of an export of a core instance, with a debug name or none, and answers its
+    /// index (component model, binary format, "Alias Definitions"). Refused as the type says.
     pub fn core_alias_export(
         &mut self,
         debug_name: Option<&str>,
@@ -500,8 +502,9 @@ impl<A: Allocator> ComponentBuilder<A> {
         self.alias(debug_name, alias)
     }
 
-    /// Adds an alias, with a debug name or none, and answers its index. It takes an index in the space of
-    /// what it stands for (component model, binary format, "Alias Definitions").
+    /// Adds an alias, with a debug name or none, and answers its index. It takes an index in the
+    /// space of what it stands for (component model, binary format, "Alias Definitions"). Refused
+    /// as the type says.
     pub fn alias(&mut self, debug_name: Option<&str>, alias: Alias<'_>) -> Result<u32, Fault>
         ensures { Enters self.old self.new result
             (alias_entry (option_copied debug_name.entry) (alias_view alias.entry)) }
@@ -509,8 +512,9 @@ impl<A: Allocator> ComponentBuilder<A> {
         self.add(Kind::Alias, Space::of_alias(&alias), debug_name, &alias)
     }
 
-    /// Adds an alias of an export of a component instance, with the export's name as its debug name, and
-    /// answers its index (component model, binary format, "Alias Definitions").
+    /// Adds an alias of an export of a component instance, with the export's name as its debug
+    /// name, and answers its index (component model, binary format, "Alias Definitions"). Refused
+    /// as the type says.
     pub fn alias_export(
         &mut self,
         instance: u32,
@@ -527,8 +531,8 @@ impl<A: Allocator> ComponentBuilder<A> {
         self.alias(Some(name), alias)
     }
 
-    /// Imports an item under this name, and answers its index (component model, binary format, "Import and
-    /// Export Definitions").
+    /// Imports an item under this name, and answers its index (component model, binary format,
+    /// "Import and Export Definitions"). Refused as the type says.
     pub fn import<B: Allocator>(
         &mut self,
         name: ComponentExternName<'_, B>,
@@ -541,8 +545,9 @@ impl<A: Allocator> ComponentBuilder<A> {
         self.add(Kind::Import, Space::from(ty.kind()), Some(name), &import)
     }
 
-    /// Exports the item of this kind with this index under this name, with a type or none, and answers the
-    /// index of the export (component model, binary format, "Import and Export Definitions").
+    /// Exports the item of this kind with this index under this name, with a type or none, and
+    /// answers the index of the export (component model, binary format, "Import and Export
+    /// Definitions"). Refused as the type says.
     pub fn export<B: Allocator>(
         &mut self,
         name: ComponentExternName<'_, B>,
@@ -558,8 +563,9 @@ impl<A: Allocator> ComponentBuilder<A> {
         self.add(Kind::Export, Space::from(kind), Some(name), &export)
     }
 
-    /// Adds what another builder holds as a nested component, with a debug name or none, and answers its index. That
-    /// builder is given up, also where the call is refused: as the type says, and where either is unfinished
+    /// Adds what another builder holds as a nested component, with a debug name or none, and
+    /// answers its index (component model, binary format, "Component Definitions"). That builder is
+    /// given up, also where the call is refused: as the type says, and where either is unfinished
     /// (`Unfinished`).
     pub fn component<B: Allocator>(
         &mut self,
@@ -577,9 +583,10 @@ impl<A: Allocator> ComponentBuilder<A> {
         self.component_ref(debug_name, &component)
     }
 
-    /// Adds what another builder holds as a nested component, with a debug name or none, and answers its index. The
-    /// other builder stays as it is, and may be used again. Refused as the type says, and where either is unfinished
-    /// (`Unfinished`).
+    /// Adds what another builder holds as a nested component, with a debug name or none, and
+    /// answers its index (component model, binary format, "Component Definitions"). The other
+    /// builder stays as it is, and may be used again. Refused as the type says, and where either is
+    /// unfinished (`Unfinished`).
     pub fn component_ref<B: Allocator>(
         &mut self,
         debug_name: Option<&str>,
@@ -604,8 +611,9 @@ impl<A: Allocator> ComponentBuilder<A> {
         self.stand_alone(Space::Components, 1, debug_name, &section)
     }
 
-    /// Adds the component with these bytes, with a debug name or none, and answers its index. Nothing checks that they
-    /// are a component's. Refused as the type says.
+    /// Adds the component with these bytes, with a debug name or none, and answers its index
+    /// (component model, binary format, "Component Definitions"). Nothing checks that they are a
+    /// component's. Refused as the type says.
     pub fn component_raw(
         &mut self,
         debug_name: Option<&str>,
@@ -639,7 +647,8 @@ impl<A: Allocator> ComponentBuilder<A> {
         self.stand_alone(Space::Values, results, None, &section)
     }
 
-    /// Adds a custom section. Refused as the type says.
+    /// Adds a custom section (component model, binary format, "Component Definitions"). Refused as
+    /// the type says.
     pub fn custom_section(&mut self, section: &CustomSection<'_>) -> Result<(), Fault>
         ensures { EntersWithoutIndex self.old self.new result
             (custom_entry section.now.name.now section.now.data.now) }
@@ -647,8 +656,9 @@ impl<A: Allocator> ComponentBuilder<A> {
         self.add_alone(&Tagged(ComponentSectionId::CoreCustom.into(), section))
     }
 
-    /// Adds a custom section with these bytes behind its id. Nothing checks that they are such a section's. Refused as
-    /// the type says.
+    /// Adds a custom section with these bytes behind its id (component model, binary format,
+    /// "Component Definitions"). Nothing checks that they are such a section's. Refused as the type
+    /// says.
     pub fn raw_custom_section(&mut self, section: &[u8]) -> Result<(), Fault>
         ensures { EntersWithoutIndex self.old self.new result (raw_entry section.now) }
     {

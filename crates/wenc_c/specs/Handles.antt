@@ -17,35 +17,47 @@ At did (Some s) (Some s') answer = did s s' answer
 At did (Some s) None answer = ⊥
 At did None new answer = (answer ≡ Err NoBuilder) × (new ≡ None)
 
+-- This entry was added to what the handle owns (`AddsTo`).
 abbrev pub Adds : Option Session → Option Session → Result ℕ Refusals → Entry → Type 0
 Adds old new answer x = At (λ s s' a. AddsTo s s' a x) old new answer
 
+-- The same where there is an entry (`AddsIfTo`).
 abbrev pub AddsIfAt : Option Session → Option Session → Result ℕ Refusals → Option Entry → Type 0
 AddsIfAt old new answer x = At (λ s s' a. AddsIfTo s s' a x) old new answer
 
+-- The same of an entry that has no index (`AddsWithoutIndexTo`).
 abbrev pub AddsWithoutIndex : Option Session → Option Session → Result (Unit {0}) Refusals → Entry
     → Type 0
 AddsWithoutIndex old new answer x = At (λ s s' a. AddsWithoutIndexTo s s' a x) old new answer
 
+-- The debug names of what the handle owns were added to it (`AddsNames`).
 abbrev pub AddsNamesAt : Option Session → Option Session → Result (Unit {0}) Refusals → Type 0
 AddsNamesAt old new answer = At (Does AddsNames) old new answer
 
+-- What one handle owned was added to what another owns (`Nests`). Where the one owned nothing, that
+-- is answered, and nothing is changed.
 abbrev pub NestsAt : Option (List ℕ) → Option Session → Option Session → Option Session
     → Result ℕ Refusals → Type 0
 NestsAt name (Some inner) old new answer = At (Nests name inner) old new answer
 NestsAt name None old new answer = (answer ≡ Err NoBuilder) × (new ≡ old)
 
+-- The answer is how many items this space has in what the handle owns (`Counts`), or that it owns
+-- nothing.
 abbrev pub CountsAt : Space → Option Session → Result ℕ Refusals → Type 0
 CountsAt space (Some s) answer = Counts space s answer
 CountsAt space None answer = answer ≡ Err NoBuilder
 
+-- What the handle owns was finished (`Finishes`).
 abbrev pub FinishesAt : Option Session → Option Session → Result ℕ Refusals → Type 0
 FinishesAt old new answer = At Finishes old new answer
 
+-- The bytes of what the handle owns were copied (`Copies`); or it owns nothing, and the room is as
+-- it was.
 abbrev pub CopiesAt : Option Session → List ℕ → List ℕ → Result (Unit {0}) Refusals → Type 0
 CopiesAt (Some s) old new answer = Copies s old new answer
 CopiesAt None old new answer = (answer ≡ Err NoBuilder) × (new ≡ old)
 
+-- The handle owns a builder that holds nothing.
 abbrev pub OwnsEmpty : Option Session → Type 0
 OwnsEmpty (Some s) = IsEmpty s
 OwnsEmpty None = ⊥
@@ -56,10 +68,12 @@ Refuses status result old new = (result ≡ status) × (new ≡ old)
 
 -- ---- texts that are there or not
 
+-- A text that is there is UTF-8.
 abbrev pub IsText : Bool → List ℕ → Type 0
 IsText true text = IsUtf8 text
 IsText false text = Unit {0}
 
+-- the text, if it is there
 abbrev pub text_if : Bool → List ℕ → Option (List ℕ)
 text_if true text = Some text
 text_if false text = None

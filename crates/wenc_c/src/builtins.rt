@@ -12,8 +12,8 @@ use crate::session::by_builder;
 use std::alloc::Global;
 use wenc_builder::ComponentBuilder;
 
-/// Adds the function with this opcode, by its indices, or an index and a flag, and answers its
-/// index.
+/// Adds the function with this opcode, by its indices, an index and a flag, or a flag, and answers
+/// its index.
 pub(crate) fn add_builtin(
     builder: &mut ComponentBuilder,
     opcode: u32,
@@ -80,8 +80,8 @@ pub(crate) fn add_builtin(
     }
 }
 
-/// Adds the function that the component model provides with this opcode, by its indices, or an
-/// index and a flag. Its debug name is its own.
+/// Adds the function that the component model provides with this opcode, by its indices, an index
+/// and a flag, or a flag. Its debug name is its own.
 #[unsafe(no_mangle)]
 pub extern "C" fn wenc_builtin(
     alloc: Global,

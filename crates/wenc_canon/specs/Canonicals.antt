@@ -44,6 +44,7 @@ pub data Field : Type 0 where
   Results : Field
   Slot : Field
 
+-- what a field of this kind holds
 abbrev pub Value : Field → Type 0
 Value Index = ℕ
 Value Options = List CanonicalOption
@@ -53,6 +54,7 @@ Value CoreType = ValType
 Value Results = Option ComponentValType
 Value Slot = ℕ
 
+-- how that is written
 abbrev pub field : (f : Field) → Form (Value f)
 field Index n = u32 n
 field Options options = list canonical_option options
@@ -132,10 +134,12 @@ pub record Row : Type 0 where
   pub opcode : ℕ
   pub fields : List Field
 
+-- such a row
 infixr 10 ◌is◌takes◌
 abbrev pub ◌is◌takes◌ : List ℕ → ℕ → List Field → Row
 name is opcode takes fs = record { name = name; opcode = opcode; fields = fs }
 
+-- the row of each builtin
 abbrev pub row : Builtin → Row
 row ResourceNew = codes "resource.new" is 0x02 takes Index ∷ []
 row ResourceDrop = codes "resource.drop" is 0x03 takes Index ∷ []
@@ -206,6 +210,7 @@ abbrev pub slot_text : (f : Field) → Value f → List ℕ
 slot_text Slot n = codes " " ++ decimal n
 slot_text f v = []
 
+-- the same of all fields
 abbrev pub slots_text : (fs : List Field) → Values fs → List ℕ
 slots_text [] vs = []
 slots_text (f ∷ []) v = slot_text f v

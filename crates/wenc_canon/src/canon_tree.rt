@@ -47,7 +47,7 @@ pub enum CanonTree<A: Allocator = Global> {
     ResourceRep(u32),
     /// `task.cancel`: says that the current task was cancelled.
     TaskCancel,
-    /// `subtask.cancel`: cancels a subtask.
+    /// `subtask.cancel`: cancels a subtask. The flag says whether that may be answered later.
     SubtaskCancel(bool),
     /// `task.return`: gives the caller of a lifted function its result, or none, while the callee goes on.
     TaskReturn {
@@ -198,7 +198,7 @@ pub enum CanonTree<A: Allocator = Global> {
         /// The index of the table.
         table: u32,
     },
-    /// `thread.available-parallelism`: gives the number of threads that can be expected to run at once.
+    /// `thread.available-parallelism`: gives how many threads can run at once.
     ThreadAvailableParallelism,
 }
 

@@ -22,6 +22,7 @@ abbrev pub HasDepth : ℕ → Item → Type 0
 HasDepth limit (TypeItem ty) = depth ty ≤ limit
 HasDepth limit other = Unit {0}
 
+-- the same of all items of these sections
 abbrev pub AreWithin : ℕ → List Section → Type 0
 AreWithin limit = AllByRecursion (λ s. AllByRecursion (HasDepth limit) (members s))
 
@@ -111,6 +112,7 @@ IsFaultBehind all bytes (faults.BadSection place) = StopsAt all bytes place IsBa
 IsFaultBehind all bytes (faults.BadItem place) = StopsAt all bytes place IsBadItem
 IsFaultBehind all bytes (faults.TooDeep place) = StopsAt all bytes place IsTooDeep
 
+-- The bytes begin with no header of a component.
 abbrev pub HasNoHeader : List ℕ → Type 0
 HasNoHeader bytes = (rest : List ℕ) → preamble.Reads Wide bytes rest → ⊥
 

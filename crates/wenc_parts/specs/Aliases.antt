@@ -18,6 +18,7 @@ use Rattle.wenc_parts.specs.declared.aliases.Alias.TheVariants as alias_variants
 use Rattle.wenc_parts.specs.declared.aliases.AliasTree.{AliasTree}
 use Rattle.wenc_parts.specs.declared.aliases.AliasTree.TheVariants as tree_variants
 
+-- the kinds of items that an alias can have from an enclosing component
 abbrev pub outer_kind : Form ComponentOuterAliasKind
 outer_kind CoreModule = 0x00 ▸ byte 0x11
 outer_kind CoreType = 0x00 ▸ byte 0x10
@@ -33,6 +34,7 @@ pub data AliasOf : Type 0 where
   -- an item of an enclosing component, so many components out
   Outer : (kind : ComponentOuterAliasKind) (count : ℕ) (number : ℕ) → AliasOf
 
+-- its kind, then a byte that says where the item is, then what finds it there
 abbrev pub alias : Form AliasOf
 alias (InstanceExport instance kind name) =
     component_export_kind kind ⨾ 0x00 ▸ u32 instance ⨾ name_form name

@@ -20,10 +20,12 @@ use Rattle.wenc_parts.specs.declared.imports.ComponentTypeRef.TheVariants.{Modul
 use Rattle.wenc_parts.specs.declared.imports.ComponentTypeRef.TheVariants.{«Type» as TypeRef}
 use Rattle.wenc_parts.specs.declared.imports.ComponentTypeRef.TheVariants.{Instance, Component}
 
+-- the type with this index, or a resource type of its own
 abbrev pub type_bounds : Form TypeBounds
 type_bounds (Eq n) = 0x00 ▸ u32 n
 type_bounds SubResource = byte 0x01
 
+-- the type of what is imported or exported
 abbrev pub type_reference : Form ComponentTypeRef
 type_reference (Module n) = 0x00 ▸ 0x11 ▸ u32 n
 type_reference (Func n) = 0x01 ▸ u32 n
@@ -32,6 +34,7 @@ type_reference (TypeRef b) = 0x03 ▸ type_bounds b
 type_reference (Instance n) = 0x05 ▸ u32 n
 type_reference (Component n) = 0x04 ▸ u32 n
 
+-- the kind of what has such a type
 abbrev pub kind_of : ComponentTypeRef → ComponentExportKind
 kind_of (Module n) = kinds.Module
 kind_of (Func n) = kinds.Func
@@ -52,6 +55,7 @@ abbrev pub plain_name : List ℕ → ExternName
 plain_name name =
     record { name = name; implements = None; version_suffix = None; external_id = None }
 
+-- an option of a name, with its text
 pub data NameOption : Type 0 where
   Implements : (text : List ℕ) → NameOption
   VersionSuffix : (text : List ℕ) → NameOption
@@ -62,6 +66,7 @@ name_option (Implements text) = 0x00 ▸ name text
 name_option (VersionSuffix text) = 0x01 ▸ name text
 name_option (ExternalId text) = 0x02 ▸ name text
 
+-- this option, if its text is there
 abbrev pub present : (List ℕ → NameOption) → Option (List ℕ) → List NameOption
 present make None = []
 present make (Some text) = make text ∷ []

@@ -11,6 +11,7 @@ use Rattle.wenc_parts.specs.declared.types.ComponentValType.{ComponentValType}
 use Rattle.wenc_parts.specs.declared.types.ComponentValType.TheVariants.{Primitive}
 use Rattle.wenc_parts.specs.declared.types.ComponentValType.TheVariants.{«Type» as TypeIndex}
 
+-- the byte of each primitive type
 abbrev pub primitive_byte : PrimitiveValType → ℕ
 primitive_byte Bool = 0x7f
 primitive_byte S8 = 0x7e

@@ -1,4 +1,4 @@
-//! Tests of the crates `wenc` and `wenc_list`, by their public calls.
+//! Tests of the crates `wenc`, `wenc_list`, `wenc_read` and `wenc_decode`, by their public calls, and of the examples.
 #![tactic(auto)]
 
 #[cfg(test)]

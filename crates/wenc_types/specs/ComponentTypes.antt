@@ -12,6 +12,7 @@ use Rattle.wenc_types.specs.CoreTypes.{CoreType, core_type}
 use Rattle.wenc_types.specs.DefinedTypes.{DefValType, def_val_type, Function, function_type}
 
 mutual
+  -- a type that a component defines
   pub data DefType : Type 0 where
     DefinedType : (ty : DefValType) → DefType
     FunctionType : (ty : Function) → DefType
@@ -32,11 +33,13 @@ mutual
     Imported : (name : ExternName) (ty : ComponentTypeRef) → ComponentDeclaration
     Declared : (declaration : InstanceDeclaration) → ComponentDeclaration
 
+  -- several of what an instance type declares
   pub data InstanceDeclarations : Type 0 where
     no_instance : InstanceDeclarations
     and_instance : (first : InstanceDeclaration) (others : InstanceDeclarations)
         → InstanceDeclarations
 
+  -- several of what a component type declares
   pub data ComponentDeclarations : Type 0 where
     no_component : ComponentDeclarations
     and_component : (first : ComponentDeclaration) (others : ComponentDeclarations)

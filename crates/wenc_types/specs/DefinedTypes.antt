@@ -26,6 +26,7 @@ pub record Case : Type 0 where
 abbrev pub case : Form Case
 case c = name_form c.name ⨾ option value_type c.ty ⨾ byte 0x00
 
+-- a type of values, with all that it is made of
 pub data DefValType : Type 0 where
   Primitive : (ty : PrimitiveValType) → DefValType
   Record : (fields : List LabelledType) → DefValType

@@ -71,6 +71,7 @@ abbrev component_step : {A : Type 0}
 component_step (ComponentDecl-F.Import name ty) = Imported (name_tree_view name) ty
 component_step (ComponentDecl-F.Decl d) = Declared d
 
+-- all levels of a tree
 abbrev pub type_view : {A : Type 0} → TypeTree A → DefType
 type_view {A} =
     fold-TypeTree A ComponentDeclaration InstanceDeclaration DefType component_step instance_step

@@ -6,7 +6,8 @@ ghost use Rattle.wenc_types.specs.inside.TypeState.{total};
 
 use wenc_parts::{Alias, ComponentExportKind, ComponentOuterAliasKind};
 
-/// What a declaration counts as.
+/// What a declaration counts as, by the space in which it takes an index (component model,
+/// explainer, "Index Spaces").
 #[derive(Clone, Copy)]
 pub enum Sort {
     /// A core type.
@@ -46,7 +47,8 @@ pub fn sort_of_alias(alias: &Alias<'_>) -> Option<Sort>
     }
 }
 
-/// How many declarations there are of each sort.
+/// How many declarations there are of each sort: how many indices they have in each space
+/// (component model, explainer, "Index Spaces").
 #[derive(Clone, Copy)]
 pub struct Counts {
     /// Core types.
@@ -69,7 +71,8 @@ impl Counts {
         }
     }
 
-    /// One more of this sort, where there are so many declarations.
+    /// One more of this sort, where there are so many declarations. They must be more than were
+    /// counted before, of all sorts together.
     pub fn counted(self, sort: Option<Sort>, declarations: u32) -> Counts
         requires { total self < declarations }
         ensures { result ≡ one_more sort self }

@@ -18,8 +18,9 @@ use std::alloc::{Allocator, Global};
 use std::marker::{Model, PhantomData};
 use wenc_base::{Encode, Fault, Holder, Lender, Tagged};
 
-/// Which types have declarations: those of modules, components or instances. The calls that declare what not all of
-/// them do stand beside the kind.
+/// Which types have declarations: those of modules, components or instances (component model,
+/// binary format, "Core Definitions" and "Type Definitions"). The calls that declare what not all
+/// of them do stand beside the kind.
 pub trait DeclaredKind {
     /// The byte with which such a type begins.
     ghost LEAD: { ℕ };
@@ -37,15 +38,18 @@ pub trait DeclaredKind {
     ghost sort: { Declaration → Optional SortSpec };
 }
 
-/// The types that declare all that instances do: those of components and of instances.
+/// The types that declare all that instances do: those of components and of instances (component
+/// model, binary format, "Type Definitions").
 pub trait DeclaringKind: DeclaredKind {
     /// The text of what an instance declares is that of a declaration of such a type, which counts as the same.
     ghost declares: { (d : InstanceDeclaration) → (instance_declaration d).Fits
         → IsDeclaration Self.form Self.sort (instance_declaration d).text (instance_sort d) };
 }
 
-/// The type of a module, of a component or of an instance, by its declarations. Each kind has a name of its own for
-/// it: `ModuleType`, `ComponentType` and `InstanceType`. A call that is refused leaves it as it was.
+/// The type of a module, of a component or of an instance, by its declarations (component model,
+/// binary format, "Core Definitions" and "Type Definitions"). Each kind has a name of its own for
+/// it: `ModuleType`, `ComponentType` and `InstanceType`. A call that is refused leaves it as it
+/// was.
 ///
 /// Types are written by the encoders that `ty` answers, and `core_type` of component types and instance types. Until
 /// such an encoder has ended its type, this one is unfinished, and what grows or encodes it is refused with

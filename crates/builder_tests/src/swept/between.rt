@@ -128,8 +128,8 @@ fn is_named(section: &[u8], sort: &[u8], index: u32, name: &str) -> bool {
     let size = byte(sort.len()).saturating_add(len).saturating_add(3);
     let label = after(Some(section), &[0x00, size.saturating_add(17), 0x0e]);
     let names = after(after(label, b"component-name"), &[0x01, size]);
-    let place = after(names, sort);
-    after(place, &[0x01, byte(index as usize), len]) == Some(name.as_bytes())
+    let map = after(names, sort);
+    after(map, &[0x01, byte(index as usize), len]) == Some(name.as_bytes())
 }
 
 /// Whether this is the component in which the call is accepted, with this answer.
@@ -179,7 +179,7 @@ fn is_refused(
     } else {
         // The aliases in front are of functions.
         let answer = if *sort == FUNC { start.aliases } else { 0 };
-        assert!(rt; outcome == Ok(answer) && behind.is_ok());
+        assert!(rt; outcome == Ok(answer) && behind == Ok(counted[12].saturating_sub(1)));
         assert!(rt; is_with(bytes.as_slice(), start, row, answer));
     }
     was_refused

@@ -317,7 +317,8 @@ last_whole make a = record {
 
 -- ---- up to the end
 
--- What is made where no byte is left, or else of what is read next. It stays shut, as `choose` does.
+-- What is made where no byte is left, or else of what is read next. It stays shut, as `choose`
+-- does.
 unfoldable pub to_end : {A B : Type 0} → B → Reader A → (A → List ℕ → Result B Flaw) → List ℕ → Result B Flaw
 to_end none read next [] = Ok none
 to_end none read next (b ∷ bytes) = go_on (read (b ∷ bytes)) next

@@ -1,4 +1,5 @@
--- One piece for another: what is so of a call that writes the one is so of one that writes the other.
+-- One piece for another: what is so of a call that writes the one is so of one that writes the
+-- other.
 use Rattle.std.proofs.Common.{◌≡◌, List, [], ◌∷◌, ◌++◌, map, ℕ, length, Option, Some, None, Result, Ok, Err, OnOk, IfErr, inl, inr, refl, ap, ◌∙◌}
 use Rattle.std.specs.List.{flat_map, AllByRecursion}
 use Rattle.wenc_base.specs.Encode.{Appends, Serves, in_order, list_in_order, drawn_in_order, sized_in_order}

@@ -1,4 +1,5 @@
--- What a reader finds is read, and where it says that it is too deep, the bytes go so deep: the other way round of `finds`.
+-- What a reader finds is read, and where it says that it is too deep, the bytes go so deep: the
+-- other way round of `finds`.
 use Rattle.std.proofs.Common.{◌≡◌, ℕ, zero, suc, ◌<◌, true, false, eqb, List, [], ◌∷◌, ◌++◌, length, map, Result, Ok, Err, refl, sym, ap, subst, inl, inr, ◌⊎◌, arith}
 use Rattle.std.proofs.lemmas.Bool.{eqb-true}
 use Rattle.std.specs.List.{AllByRecursion}

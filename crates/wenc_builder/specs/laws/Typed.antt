@@ -22,7 +22,8 @@ use Rattle.wenc_builder.specs.laws.Caused.{beginning_refuses, text_refuses, whol
 pub drafted : (old : State) (x : Entry) (d : Draft) → collected x.item ≡ Some d.id → defines x.item ≡ Some (draft_indices d) → x.name ≡ d.name → (item x.item).text ≡ d.text → content_of (item_begun old d) ≡ with_entry old.settled x
 drafted old x d section defined named bytes = rw (section, defined, named, bytes) refl
 
--- an item that is begun as this draft, with nothing of it written yet, and then written whole, is this entry
+-- an item that is begun as this draft, with nothing of it written yet, and then written whole, is
+-- this entry
 pub record IsWrittenType (x : Entry) (d : Draft) : Type 0 where
   pub bare : d.text ≡ []
   pub section : collected x.item ≡ Some d.id

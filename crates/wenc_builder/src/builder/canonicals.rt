@@ -49,7 +49,7 @@ impl<A: Allocator> ComponentBuilder<A> {
         self.add_builtin(rows::THREAD_SPAWN_INDIRECT, &(ty, table))
     }
 
-    /// `thread.available-parallelism`: gives the number of threads that can be expected to run at once.
+    /// `thread.available-parallelism`: gives how many threads can run at once.
     pub fn thread_available_parallelism(&mut self) -> Result<u32, Fault>
         ensures { Enters self.old self.new result
             (builtin_entry canon.ThreadAvailableParallelism tt) }
@@ -119,7 +119,7 @@ impl<A: Allocator> ComponentBuilder<A> {
         self.add_builtin(rows::SUBTASK_DROP, &())
     }
 
-    /// `subtask.cancel`: cancels a subtask.
+    /// `subtask.cancel`: cancels a subtask. `async_` says whether that may be answered later.
     pub fn subtask_cancel(&mut self, async_: bool) -> Result<u32, Fault>
         ensures { Enters self.old self.new result (builtin_entry canon.SubtaskCancel async_) }
     {
@@ -168,7 +168,8 @@ impl<A: Allocator> ComponentBuilder<A> {
         self.add_builtin(rows::STREAM_FORWARD, &ty)
     }
 
-    /// `stream.cancel-read`: cancels a read from a stream of this type.
+    /// `stream.cancel-read`: cancels a read from a stream of this type. `async_` says whether that
+    /// may be answered later.
     pub fn stream_cancel_read(&mut self, ty: u32, async_: bool) -> Result<u32, Fault>
         ensures { Enters self.old self.new result
             (builtin_entry canon.StreamCancelRead (ty, async_)) }
@@ -176,7 +177,8 @@ impl<A: Allocator> ComponentBuilder<A> {
         self.add_builtin(rows::STREAM_CANCEL_READ, &(ty, async_))
     }
 
-    /// `stream.cancel-write`: cancels a write to a stream of this type.
+    /// `stream.cancel-write`: cancels a write to a stream of this type. `async_` says whether that
+    /// may be answered later.
     pub fn stream_cancel_write(&mut self, ty: u32, async_: bool) -> Result<u32, Fault>
         ensures { Enters self.old self.new result
             (builtin_entry canon.StreamCancelWrite (ty, async_)) }
@@ -240,7 +242,8 @@ impl<A: Allocator> ComponentBuilder<A> {
         self.add_builtin(rows::FUTURE_FORWARD, &ty)
     }
 
-    /// `future.cancel-read`: cancels a read from a future of this type.
+    /// `future.cancel-read`: cancels a read from a future of this type. `async_` says whether that
+    /// may be answered later.
     pub fn future_cancel_read(&mut self, ty: u32, async_: bool) -> Result<u32, Fault>
         ensures { Enters self.old self.new result
             (builtin_entry canon.FutureCancelRead (ty, async_)) }
@@ -248,7 +251,8 @@ impl<A: Allocator> ComponentBuilder<A> {
         self.add_builtin(rows::FUTURE_CANCEL_READ, &(ty, async_))
     }
 
-    /// `future.cancel-write`: cancels a write to a future of this type.
+    /// `future.cancel-write`: cancels a write to a future of this type. `async_` says whether that
+    /// may be answered later.
     pub fn future_cancel_write(&mut self, ty: u32, async_: bool) -> Result<u32, Fault>
         ensures { Enters self.old self.new result
             (builtin_entry canon.FutureCancelWrite (ty, async_)) }

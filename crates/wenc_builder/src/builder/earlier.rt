@@ -5,9 +5,13 @@ use super::kind::Kind;
 /// bytes are closed before it, and where its items end.
 #[derive(Clone, Copy)]
 pub struct Earlier {
+    /// The kind of its items, or none where no section was open.
     pub kind: Option<Kind>,
+    /// How many items it has.
     pub count: u32,
+    /// How many bytes are closed before it.
     pub closed_len: usize,
+    /// Where its items end.
     pub items_end: usize,
 }
 

@@ -22,9 +22,13 @@ pub const SPACES: usize = 13;
 /// What a space was before an item took an index in it.
 #[derive(Clone, Copy)]
 pub struct Undo {
+    /// The number of the space.
     pub space: usize,
+    /// How many items it had.
     pub count: u32,
+    /// How many of them had a name.
     pub named: u32,
+    /// How many bytes those names had.
     pub len: usize,
 }
 

@@ -83,7 +83,8 @@ fields_sound (f ∷ g ∷ fs) = then_tells _ (field_sound f) (λ v. last_tells (
 
 -- ---- canonical functions
 
--- An opcode picks its builtin's own row. One clause is for the first builtin, the other for each of the others.
+-- An opcode picks its builtin's own row. One clause is for the first builtin, the other for each of
+-- the others.
 own_row : (i : Builtin) → pick rows nowhere (row i).opcode ≡ (read_builtin i).1
 own_row ResourceNew = refl
 own_row other = refl

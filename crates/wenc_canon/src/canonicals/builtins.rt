@@ -9,7 +9,8 @@ use std::alloc::Allocator;
 use wenc_base::{Fault, ValType};
 use wenc_parts::{ComponentValType, ResultList};
 
-/// The functions that the component model provides: each call adds one. Refused as the type says.
+/// The functions that the component model provides: each call adds one (component model, binary
+/// format, "Canonical Definitions"). Refused as the type says.
 impl<A: Allocator> CanonicalFunctionSection<A> {
     /// `resource.new`: makes a handle that owns a resource of this type.
     pub fn resource_new(&mut self, ty: u32) -> Result<(), Fault>
@@ -47,7 +48,7 @@ impl<A: Allocator> CanonicalFunctionSection<A> {
         self.add_row(rows::THREAD_SPAWN_INDIRECT, &(ty, table))
     }
 
-    /// `thread.available-parallelism`: gives the number of threads that can be expected to run at once.
+    /// `thread.available-parallelism`: gives how many threads can run at once.
     pub fn thread_available_parallelism(&mut self) -> Result<(), Fault>
         ensures { Adds self.old self.new result canon.ThreadAvailableParallelism tt }
     {
@@ -111,7 +112,7 @@ impl<A: Allocator> CanonicalFunctionSection<A> {
         self.add_row(rows::SUBTASK_DROP, &())
     }
 
-    /// `subtask.cancel`: cancels a subtask.
+    /// `subtask.cancel`: cancels a subtask. `async_` says whether that may be answered later.
     pub fn subtask_cancel(&mut self, async_: bool) -> Result<(), Fault>
         ensures { Adds self.old self.new result canon.SubtaskCancel async_ }
     {
@@ -160,14 +161,16 @@ impl<A: Allocator> CanonicalFunctionSection<A> {
         self.add_row(rows::STREAM_FORWARD, &ty)
     }
 
-    /// `stream.cancel-read`: cancels a read from a stream of this type.
+    /// `stream.cancel-read`: cancels a read from a stream of this type. `async_` says whether that
+    /// may be answered later.
     pub fn stream_cancel_read(&mut self, ty: u32, async_: bool) -> Result<(), Fault>
         ensures { Adds self.old self.new result canon.StreamCancelRead (ty, async_) }
     {
         self.add_row(rows::STREAM_CANCEL_READ, &(ty, async_))
     }
 
-    /// `stream.cancel-write`: cancels a write to a stream of this type.
+    /// `stream.cancel-write`: cancels a write to a stream of this type. `async_` says whether that
+    /// may be answered later.
     pub fn stream_cancel_write(&mut self, ty: u32, async_: bool) -> Result<(), Fault>
         ensures { Adds self.old self.new result canon.StreamCancelWrite (ty, async_) }
     {
@@ -230,14 +233,16 @@ impl<A: Allocator> CanonicalFunctionSection<A> {
         self.add_row(rows::FUTURE_FORWARD, &ty)
     }
 
-    /// `future.cancel-read`: cancels a read from a future of this type.
+    /// `future.cancel-read`: cancels a read from a future of this type. `async_` says whether that
+    /// may be answered later.
     pub fn future_cancel_read(&mut self, ty: u32, async_: bool) -> Result<(), Fault>
         ensures { Adds self.old self.new result canon.FutureCancelRead (ty, async_) }
     {
         self.add_row(rows::FUTURE_CANCEL_READ, &(ty, async_))
     }
 
-    /// `future.cancel-write`: cancels a write to a future of this type.
+    /// `future.cancel-write`: cancels a write to a future of this type. `async_` says whether that
+    /// may be answered later.
     pub fn future_cancel_write(&mut self, ty: u32, async_: bool) -> Result<(), Fault>
         ensures { Adds self.old self.new result canon.FutureCancelWrite (ty, async_) }
     {

@@ -1,5 +1,5 @@
--- The reader of types that nest is exact: what it finds is read and no deeper, what is read is found, and where it says
--- that a type is too deep, the bytes go so deep.
+-- The reader of types that nest is exact: what it finds is read and no deeper, what is read is
+-- found, and where it says that a type is too deep, the bytes go so deep.
 use Rattle.std.proofs.Common.{◌≡◌, ℕ, zero, suc, ◌<◌, ◌≤◌, Bool, true, false, List, [], ◌∷◌, Option, Result, Ok, Err, refl, ap, ◌∙◌, inl, inr, arith}
 use Rattle.std.specs.List.{AllByRecursion}
 use Rattle.wenc_base.specs.Number.{u32}

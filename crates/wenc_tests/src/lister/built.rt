@@ -6,20 +6,20 @@ use std::alloc::Global;
 use std::process::Abort;
 use wenc_list::{Listing, list};
 
-/// The items take, one after the other, the places that these answers tell, and no others: the next
-/// one in its space each. A custom section takes none.
+/// The items have, one after the other, the indices that these answers tell, and no others: the next
+/// one in its space each. A custom section has none.
 fn are_answered(rt: &impl Abort, listing: &Listing, answers: &[u128]) {
     let mut counts = [0u128; 13];
     let mut rest = answers;
     for section in &listing.sections {
         for item in &section.items {
             if let Some((space, number)) = item.indices() {
-                let [place, behind @ ..] = rest else {
+                let [index, behind @ ..] = rest else {
                     panic!(rt; "an item has no answer")
                 };
                 let count = &mut counts[space.number()];
-                assert!(rt; *count == *place);
-                *count = place.saturating_add(u128::from(number));
+                assert!(rt; *count == *index);
+                *count = index.saturating_add(u128::from(number));
                 rest = behind;
             }
         }
@@ -35,8 +35,8 @@ pub fn is_listed(rt: &impl Abort, alloc: Global, printed: &[u8]) {
     let (lines, component) = text.rsplit_once('\n').unwrap_or(("", text));
     let mut answers = Vec::new(alloc);
     for line in lines.split('\n') {
-        if let Ok(place) = line.parse::<u128>() {
-            ok(rt, answers.push(place));
+        if let Ok(index) = line.parse::<u128>() {
+            ok(rt, answers.push(index));
         }
     }
     let bytes = ok(rt, hex::decode(alloc, component));

@@ -13,7 +13,7 @@ pub struct Row<'a> {
     pub sections: &'a str,
     /// The id of each, its place, and how many items it has.
     pub listed: &'a [(u8, usize, usize)],
-    /// How many places are taken in each index space.
+    /// How many indices each space has.
     pub counts: [u128; 13],
 }
 
@@ -99,6 +99,11 @@ pub const ROWS: &[Row<'static>] = &[
         sections: "09070700ffffffff0f09070700ffffffff0f",
         listed: &[(9, 8, 1), (9, 17, 1)],
         counts: [0, 0, 0, 0, 0, 0, 0, 0, 0, 0, 8589934590, 0, 0],
+    },
+    Row {
+        sections: "07070170ffffffff0f",
+        listed: &[(7, 8, 1)],
+        counts: [0, 0, 0, 0, 0, 0, 0, 0, 0, 0, 0, 0, 1],
     },
     // Custom sections, with names and without.
     Row {

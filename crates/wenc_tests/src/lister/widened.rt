@@ -26,7 +26,6 @@ const ROWS: &[(&str, &str)] = &[
     // Indices among the types of values.
     ("0a0a0100017602c080808000", "0a070100017602c000"),
     ("0a0701000176028000", "0a06010001760200"),
-    ("07070170ffffffff0f", "07070170ffffffff0f"),
     // Heap types that are indices.
     ("030e01600263808080800064c0800000", "0309016002630064c00000"),
     // Abstract references that may be null, as one byte.
