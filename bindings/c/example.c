@@ -16,9 +16,10 @@
 #define ALL(array) array, sizeof(array) / sizeof(array)[0]
 
 /* The core module that exports the function "run", which takes and gives nothing. */
-static const uint8_t module[] = {0x00, 0x61, 0x73, 0x6d, 0x01, 0x00, 0x00, 0x00, 0x01, 0x04, 0x01, 0x60, 0x00,
-                                 0x00, 0x03, 0x02, 0x01, 0x00, 0x07, 0x07, 0x01, 0x03, 0x72, 0x75, 0x6e, 0x00,
-                                 0x00, 0x0a, 0x04, 0x01, 0x02, 0x00, 0x0b};
+static const uint8_t module[] = {
+    0x00, 0x61, 0x73, 0x6d, 0x01, 0x00, 0x00, 0x00, 0x01, 0x04, 0x01, 0x60, 0x00, 0x00, 0x03,
+    0x02, 0x01, 0x00, 0x07, 0x07, 0x01, 0x03, 0x72, 0x75, 0x6e, 0x00, 0x00, 0x0a, 0x04, 0x01,
+    0x02, 0x00, 0x0b};
 
 static void check(uint32_t status) {
   if (status != WENC_DONE) {
@@ -36,11 +37,13 @@ static uint32_t item(wenc_builder *builder, uint32_t section, const uint8_t *tex
 
 /* A component that imports a function, which takes a point and gives a text. */
 static void build_nested(wenc_builder *builder) {
-  static const wenc_part fields[] = {{1, WENC_REF_PRIMITIVE, WENC_S32}, {1, WENC_REF_PRIMITIVE, WENC_S32}};
+  static const wenc_part fields[] = {{1, WENC_REF_PRIMITIVE, WENC_S32},
+                                     {1, WENC_REF_PRIMITIVE, WENC_S32}};
   wenc_part params[] = {{2, WENC_REF_VALUE, 0}};
   uint32_t index, ty;
   check(wenc_record(builder, true, TEXT("point"), TEXT("xy"), ALL(fields), &params[0].number));
-  check(wenc_function(builder, UNNAMED, false, TEXT("at"), ALL(params), WENC_REF_PRIMITIVE, WENC_STRING, &ty));
+  check(wenc_function(builder, UNNAMED, false, TEXT("at"), ALL(params), WENC_REF_PRIMITIVE,
+                      WENC_STRING, &ty));
   check(wenc_import(builder, TEXT("f"), WENC_REF_FUNC, ty, &index));
 }
 
@@ -62,7 +65,8 @@ static void build(wenc_builder *builder) {
   item(builder, WENC_SECTION_CORE_INSTANCE, TEXT("\x00\x00\x00"));
 
   /* Its function and `backpressure.inc` are exported by another core instance. */
-  check(wenc_alias_core_export(builder, UNNAMED, 0, WENC_CORE_FUNC, TEXT("run"), &exports[0].number));
+  check(wenc_alias_core_export(builder, UNNAMED, 0, WENC_CORE_FUNC, TEXT("run"),
+                               &exports[0].number));
   check(wenc_builtin(builder, 0x24, 0, 0, &exports[1].number));
   check(wenc_core_exports(builder, UNNAMED, TEXT("runinc"), ALL(exports), &index));
 

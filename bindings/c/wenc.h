@@ -1,7 +1,7 @@
 /* wenc: WebAssembly components, written and listed by proved code, for C.
  *
- * Link `libwenc.a`, which `bindings/archive` writes. It needs the C library's malloc, realloc and
- * free, and nothing else.
+ * Link `libwenc.a`, which `bindings/archive` writes. Of the C library it needs malloc, realloc and
+ * free, and memcpy, memmove and memset, and nothing else.
  *
  * A builder makes one component, call by call, and hands out the index of each item. The calls are
  * those of the crate `wenc_c`, whose contracts say what each does; in short:
@@ -19,13 +19,18 @@
  *
  * What a caller owes, since nothing tests it:
  *
- *  - A handle is one that wenc_new filled, or {NULL}. Each call takes either: on {NULL}, all but
- *    wenc_new answer WENC_NO_BUILDER, and wenc_free does nothing. A copy of a handle is the same
+ *  - A handle is one that wenc_new filled, or {NULL}. Each call of a handle takes either. On {NULL}
+ *    wenc_free does nothing, and all others but wenc_new answer WENC_NO_BUILDER, or WENC_MALFORMED
+ *    or WENC_BAD_ARGUMENT where they refuse another argument first. A copy of a handle is the same
  *    builder, and once one of them was freed or given up the others are no handles.
  *  - The two handles of wenc_component and wenc_component_ref are of two builders.
  *  - A builder is used by one thread at a time. It may be handed to another thread.
  *  - No pointer is NULL, not that of an empty text or list either ("" serves). Each points to as
  *    much as its number says, and what a call writes to overlaps nothing else that it is given.
+ *  - malloc, realloc and free belong to one allocator. Where a power of two up to 16 divides the
+ *    size of a block, the block is aligned to it.
+ *  - No call is made from a signal handler, nor in the child of a fork where the process had more
+ *    than one thread.
  */
 #ifndef WENC_H
 #define WENC_H
@@ -60,8 +65,9 @@ enum wenc_status {
   WENC_MALFORMED = 5,
   /* Types of components and instances stand more than 100 deep in one another. */
   WENC_TOO_DEEP = 6,
-  /* A number that stands for nothing; room for another number of bytes or counts than there are;
-   * or wenc_new on a handle that has a builder. */
+  /* A number that stands for nothing; names that don't fit the parts that they are for; room for
+   * another number of bytes or counts than there are; or wenc_new on a handle that has a
+   * builder. */
   WENC_BAD_ARGUMENT = 7,
   /* The component is finished, and takes no more calls but wenc_finish, wenc_bytes, wenc_free. */
   WENC_FINISHED = 8,
@@ -141,7 +147,8 @@ enum wenc_outer_kind {
 
 /* A part of a list of named things: how many bytes its name has, and what has the name, by two
  * numbers. The names are handed in as one text, one behind the other; each is whole characters of
- * it, and together they are all of it. */
+ * it, and together they are all of it. Where some of the text is left over, or it is too short, or
+ * a name ends within a character, the call is refused: WENC_BAD_ARGUMENT. */
 typedef struct {
   size_t name_len;
   uint32_t sort;
@@ -207,7 +214,8 @@ uint32_t wenc_bytes(wenc_builder *builder, uint8_t *bytes, size_t len);
  *
  * Each of these calls adds an item and puts its index into `*index`, or is refused:
  * WENC_NO_MEMORY, WENC_TOO_MANY, WENC_TOO_LARGE, WENC_MALFORMED where a text isn't UTF-8,
- * WENC_BAD_ARGUMENT where a number stands for nothing, WENC_FINISHED, WENC_NO_BUILDER. */
+ * WENC_BAD_ARGUMENT where a number stands for nothing or names don't fit their parts,
+ * WENC_FINISHED, WENC_NO_BUILDER. */
 
 /* Imports an item under a plain name: `ref` is one of wenc_ref, with its number. The item has the
  * name as its debug name. */
@@ -280,8 +288,9 @@ uint32_t wenc_start(wenc_builder *builder, uint32_t function, const uint32_t *ar
                     size_t args_len, uint32_t results, uint32_t *index);
 
 /* Adds a function that the component model provides, by its opcode in the binary format: one that
- * takes indices, or an index and a flag (0 or 1), or nothing, in that order `first` and `second`.
- * Of what it doesn't take nothing is looked at. It has its own name as its debug name.
+ * takes indices, or an index and a flag (0 or 1), or a flag alone, or nothing, in that order
+ * `first` and `second`. Of what it doesn't take nothing is looked at. It has its own name as its
+ * debug name.
  * WENC_BAD_ARGUMENT where it takes options, types or slots too (those go by wenc_item), where there
  * is no such function, and where a flag is another number. */
 uint32_t wenc_builtin(wenc_builder *builder, uint32_t opcode, uint32_t first, uint32_t second,
@@ -326,7 +335,8 @@ uint32_t wenc_item(wenc_builder *builder, uint32_t section, bool named, const ui
 uint32_t wenc_custom_section(wenc_builder *builder, const uint8_t *name, size_t name_len,
                              const uint8_t *data, size_t data_len);
 
-/* Adds a custom section with these bytes behind its id. Nothing checks that they are a section's. */
+/* Adds a custom section with these bytes behind its id. Nothing checks that they are a
+ * section's. */
 uint32_t wenc_raw_custom_section(wenc_builder *builder, const uint8_t *bytes, size_t len);
 
 /* Adds a section of the debug names so far. Without names it adds nothing. */
@@ -351,8 +361,8 @@ typedef struct {
  * items there are in each index space, in the order of wenc_space. `counts_len` is WENC_SPACES:
  * else WENC_BAD_ARGUMENT. Modules and nested components are not read.
  * WENC_NOT_A_COMPONENT, WENC_BAD_SECTION, WENC_BAD_ITEM and WENC_TOO_DEEP say why the bytes are
- * not listed: then `*number` is the place of the first section that is not read. Also
- * WENC_NO_MEMORY, WENC_TOO_LARGE. */
+ * not listed: then `*number` is the place of the first section that is not read, or 0 where not
+ * even the header is. Also WENC_NO_MEMORY, WENC_TOO_LARGE. */
 uint32_t wenc_list(const uint8_t *bytes, size_t len, wenc_listed *sections, size_t room,
                    uint64_t *counts, size_t counts_len, size_t *number);
 

@@ -26,7 +26,7 @@ pub trait Encode {
     ///
     /// # Panics
     ///
-    /// Where a length is past 4294967295, or a type isn't whole.
+    /// Where a length is past 4294967295, or a type isn't whole. Where an allocation is refused it panics, or aborts as `Vec` does.
     fn encode(&self, sink: &mut Vec<u8>);
 }
 
@@ -97,6 +97,36 @@ impl Encode for u64 {
     }
 }
 
+impl Encode for i32 {
+    fn encode(&self, sink: &mut Vec<u8>) {
+        i64::from(*self).encode(sink);
+    }
+}
+
+impl Encode for i64 {
+    fn encode(&self, sink: &mut Vec<u8>) {
+        append(sink, |text| {
+            text.signed(*self);
+        });
+    }
+}
+
+impl Encode for f32 {
+    fn encode(&self, sink: &mut Vec<u8>) {
+        append(sink, |text| {
+            text.raw(&self.to_le_bytes());
+        });
+    }
+}
+
+impl Encode for f64 {
+    fn encode(&self, sink: &mut Vec<u8>) {
+        append(sink, |text| {
+            text.raw(&self.to_le_bytes());
+        });
+    }
+}
+
 impl Encode for usize {
     fn encode(&self, sink: &mut Vec<u8>) {
         told(u32::try_from(*self).map_err(|_| Error::TooMany)).encode(sink);
@@ -132,7 +162,7 @@ macro_rules! written {
 written! {
     AbstractHeapType, Alias<'_>, ArrayType, CanonicalOption, ComponentExportKind,
     ComponentExternName<'_>, ComponentOuterAliasKind, ComponentSectionId, ComponentType,
-    ComponentTypeRef, ComponentValType, EntityType, ExportKind, FieldType, GlobalType, HeapType, InstanceType,
-    MemoryType, ModuleArg, ModuleType, PrimitiveValType, RefType, StorageType, TableType, TagType,
-    TypeBounds, ValType,
+    ComponentTypeRef, ComponentValType, EntityType, ExportKind, FieldType, GlobalType, HeapType,
+    InstanceType, MemoryType, ModuleArg, ModuleType, PrimitiveValType, RefType, StorageType,
+    TableType, TagType, TypeBounds, ValType,
 }

@@ -24,13 +24,14 @@
 //! # What is proved
 //!
 //! The library, which is linked from `libwenc.a`, is proved: each accepted call adds exactly the item that was handed over,
-//! answers that item's index in its space, and the finished bytes have one reading, the accepted items in their order. A
-//! refused call changes nothing. [`list`] answers what that reading is.
+//! and answers that item's index in its space. Where none is a raw custom section, the finished bytes have one reading, the
+//! accepted items in their order. A refused call changes nothing. [`list`] answers what that reading is.
 //!
-//! This crate isn't proved. It hands items over: imports, exports, aliases and what is bytes already by calls of their own, the
-//! rest as the bytes that stand for one item in its section. These the library reads back, and adds what it read; what is no
-//! text of exactly one item it refuses. So a mistake here could name another item than was meant, but not break a component.
-//! What isn't read back either is that the declarations of `src/sys.rs` fit the library's.
+//! This crate isn't proved. It hands items over. Imports, exports, aliases, starts, provided functions that take numbers
+//! alone, core instances of exports, records, types of functions and what is bytes already cross by calls of their own, whose
+//! numbers the library tests. The rest cross as the bytes that stand for one item in its section. These the library reads
+//! back, and adds what it read; what is no text of exactly one item it refuses. So a mistake here could name another item than
+//! was meant, but not break a component. Nothing compares the arguments that `src/sys.rs` declares with the library's.
 //!
 //! # Refusals
 //!
@@ -49,8 +50,9 @@
 //!
 //! # Building
 //!
-//! `bindings/archive` proves the library, builds it, and writes `bindings/out/libwenc.a`: one file, which asks the C library for
-//! memory and nothing else. The build script of this crate links it from there, or from the folder that `WENC_LIB` names.
+//! `bindings/archive` proves the library, builds it, and writes `bindings/out/libwenc.a`: one file, which needs the C library's
+//! memory functions and `memcpy`, `memmove` and `memset`, and nothing else. The build script of this crate links it from there,
+//! or from the folder that `WENC_LIB` names.
 //!
 //! # What differs from upstream
 //!

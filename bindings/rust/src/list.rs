@@ -19,7 +19,7 @@ pub struct ListedSection {
 pub struct Listing {
     /// Its sections, in their order.
     pub sections: Vec<ListedSection>,
-    /// How many places its items take in each index space, in the order in which a builder tells its counts: core modules,
+    /// How many indices its items take in each index space, in the order in which a builder tells its counts: core modules,
     /// core functions, core types, core memories, core tables, core instances, core tags, core globals, functions,
     /// instances, values, components, types.
     pub counts: [u64; 13],
@@ -73,8 +73,8 @@ impl std::error::Error for ListFault {}
 /// Lists a finished component: its sections, each with its place and the number of its items, and how many items there are in
 /// each index space. What is in core modules and nested components isn't read.
 ///
-/// It reads every spelling that the format allows, and refuses all that isn't read so: the fault tells the first section that
-/// isn't.
+/// It reads the spellings that `docs/FORMAT.md` names, and refuses all that isn't read so: the fault tells the first section
+/// that isn't. Among what isn't are a final sub type that is written `4f 00`, and functions that can be cancelled.
 ///
 /// ```
 /// use wenc::{list, ComponentBuilder, ComponentTypeRef, ListFault, ListedSection};

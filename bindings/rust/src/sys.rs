@@ -1,6 +1,7 @@
 //! The library's C functions, `bindings/c/wenc.h`, each behind a call that can't be misused. All of the crate's `unsafe` is here.
 //!
-//! Nothing compares the declarations below with the header or with the library.
+//! `bindings/check` compares the names of the declarations below with the header's and the library's. Nothing compares their
+//! arguments.
 
 use crate::packed::{Packed, ToNumbers};
 use crate::{ComponentTypeRef, ComponentValType, Error, ListFault, ListedSection, TypeBounds};

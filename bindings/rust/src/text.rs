@@ -168,6 +168,19 @@ impl Text {
         self.raw(&groups[..len])
     }
 
+    /// A signed number of 64 bits: bit 6 of its last byte is the sign.
+    pub(crate) fn signed(&mut self, mut number: i64) -> &mut Self {
+        let mut groups = [0; 10];
+        let mut last = 0;
+        while !(-0x40..0x40).contains(&number) {
+            groups[last] = number as u8 | 0x80;
+            number >>= 7;
+            last += 1;
+        }
+        groups[last] = number as u8 & 0x7f;
+        self.raw(&groups[..=last])
+    }
+
     /// Bytes behind their number, and a text of at most eight bytes behind them.
     #[inline]
     fn between(&mut self, bytes: &[u8], behind: Option<Brief>) -> &mut Self {

@@ -27,7 +27,9 @@ macro_rules! twins {
     ) => {
         $(#[$meta])*
         ///
-        #[doc = concat!("Panics where [`", stringify!($tried), "`](Self::", stringify!($tried), ") is refused.")]
+        #[doc = concat!(
+            "Panics where [`", stringify!($tried), "`](Self::", stringify!($tried), ") is refused."
+        )]
         #[inline]
         #[track_caller]
         pub fn $name $($generics)* ($($receiver)*, $($params)*) -> $answer
@@ -36,7 +38,9 @@ macro_rules! twins {
             $crate::error::told($self.$tried($($args)*))
         }
 
-        #[doc = concat!("[`", stringify!($name), "`](Self::", stringify!($name), "), but a refusal is answered.")]
+        #[doc = concat!(
+            "[`", stringify!($name), "`](Self::", stringify!($name), "), but a refusal is answered."
+        )]
         #[inline]
         pub fn $tried $($generics)* ($($receiver)*, $($params)*) -> Result<$answer, $crate::Error>
         where $($bounds)*

@@ -105,15 +105,16 @@ fn core_exports_are_of_five_kinds() {
     let mut b = builder();
     b.core_alias_export(None, 0, "a", ExportKind::Func);
     b.core_alias_export(None, 0, "b", ExportKind::Table);
+    b.core_alias_export(None, 0, "c", ExportKind::Memory);
     b.alias(
         Some("g"),
         Alias::CoreInstanceExport {
             instance: 0,
             kind: ExportKind::Global,
-            name: "c",
+            name: "d",
         },
     );
-    b.core_alias_export(None, 0, "d", ExportKind::Tag);
+    b.core_alias_export(None, 0, "e", ExportKind::Tag);
     let counts = [
         b.core_func_count(),
         b.core_table_count(),
@@ -121,10 +122,11 @@ fn core_exports_are_of_five_kinds() {
         b.core_global_count(),
         b.core_tag_count(),
     ];
-    assert_eq!(counts, [1, 1, 0, 1, 1]);
+    assert_eq!(counts, [1, 1, 1, 1, 1]);
     assert_eq!(
         behind_header(b),
-        "06 19 04 00 00 01 00 01 61 00 01 01 00 01 62 00 03 01 00 01 63 00 04 01 00 01 64"
+        "06 1f 05 00 00 01 00 01 61 00 01 01 00 01 62 00 02 01 00 01 63 \
+         00 03 01 00 01 64 00 04 01 00 01 65"
     );
 }
 
@@ -218,6 +220,32 @@ fn an_index_as_a_type_of_values_is_signed() {
     assert_eq!(text(63), "3f");
     assert_eq!(text(64), "c0 00");
     assert_eq!(text(u32::MAX), "ff ff ff ff 0f");
+}
+
+#[test]
+fn numbers_are_encoded_signed_and_as_bits() {
+    fn text(number: impl Encode) -> String {
+        let mut text = Vec::new();
+        number.encode(&mut text);
+        hex(&text)
+    }
+    for (number, expected) in [
+        (0, "00"),
+        (63, "3f"),
+        (64, "c0 00"),
+        (-1, "7f"),
+        (-64, "40"),
+        (-65, "bf 7f"),
+    ] {
+        assert_eq!(text(number), expected);
+        assert_eq!(text(i64::from(number)), expected);
+    }
+    assert_eq!(text(i32::MIN), "80 80 80 80 78");
+    assert_eq!(text(i32::MAX), "ff ff ff ff 07");
+    assert_eq!(text(i64::MIN), "80 80 80 80 80 80 80 80 80 7f");
+    assert_eq!(text(i64::MAX), "ff ff ff ff ff ff ff ff ff 00");
+    assert_eq!(text(1.0_f32), "00 00 80 3f");
+    assert_eq!(text(-2.0_f64), "00 00 00 00 00 00 00 c0");
 }
 
 #[test]
@@ -328,9 +356,15 @@ fn core_types_are_written_by_each_call() {
         supertype_idx: Some(1),
         composite_type: CompositeType::Array(ArrayType(field)),
     });
+    let fields = Box::new([field]);
+    b.core_type(None)
+        .1
+        .core()
+        .subtype(&subtype(true, CompositeType::Struct(StructType { fields })));
     assert_eq!(
         behind_header(b),
-        "03 19 05 60 01 7e 01 70 60 00 01 7b 5e 78 00 5f 02 77 01 77 01 4f 01 01 5e 77 01"
+        "03 1d 06 60 01 7e 01 70 60 00 01 7b 5e 78 00 5f 02 77 01 77 01 4f 01 01 5e 77 01 \
+         5f 01 77 01"
     );
 }
 

@@ -237,6 +237,9 @@ const CALLS: &[(&str, Call)] = &[
     }),
 ];
 
+/// Calls that open a type: one that is refused later may leave it open.
+const OPENING: &[&str] = &["core_type", "type_defined", "type_function"];
+
 /// The bytes where the call was made.
 fn made(call: Call, given: &Given) -> Vec<u8> {
     let mut b = builder();
@@ -257,7 +260,10 @@ fn requests(name: &str, call: Call, given: &Given) -> u32 {
             return number;
         }
         assert_eq!(answer, Err(Error::NoMemory), "{name}, request {number}");
-        b.discard_unfinished();
+        if OPENING.contains(&name) {
+            b.discard_unfinished();
+        }
+        assert!(b.is_finished(), "{name}, request {number}");
         assert_eq!(counts(&b), before, "{name}, request {number}");
         if number % 2 == 0 {
             assert!(finished(b) == without, "{name}, request {number}");
@@ -275,6 +281,7 @@ fn others() {
         let (made, was_refused) = with_refused(number, ComponentBuilder::try_new);
         assert_eq!(made.is_err(), was_refused);
         if !was_refused {
+            assert!(number > 0, "a new builder asks for no memory");
             break;
         }
         assert_eq!(made.err(), Some(Error::NoMemory));
@@ -287,6 +294,7 @@ fn others() {
         assert_eq!(appended.is_err(), was_refused);
         if !was_refused {
             assert!(b.finish() == named);
+            assert!(number > 0, "append_names asks for no memory");
             break;
         }
         assert_eq!(appended, Err(Error::NoMemory));
@@ -299,6 +307,7 @@ fn others() {
         assert_eq!(bytes.is_err(), was_refused);
         if !was_refused {
             assert_eq!(bytes.unwrap(), builder().finish());
+            assert!(number > 0, "finish asks for no memory");
             break;
         }
         assert_eq!(bytes, Err(Error::NoMemory));
@@ -309,6 +318,7 @@ fn others() {
         assert_eq!(listed.is_err(), was_refused);
         if !was_refused {
             assert_eq!(listed.unwrap().sections.len(), 3);
+            assert!(number > 0, "list asks for no memory");
             break;
         }
         assert_eq!(listed, Err(ListFault::Memory));

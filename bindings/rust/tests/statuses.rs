@@ -1,4 +1,5 @@
-//! The library's own calls: each status, once. The crate hands in nothing that some of them are for.
+//! The library's own calls: each status but want of memory, which `refused.rs` has. The crate hands in nothing that some of
+//! them are for.
 
 use std::ffi::c_void;
 use std::ptr::null_mut;
@@ -222,6 +223,12 @@ fn a_refused_call_changes_nothing() {
     // Pages of zeros that nobody looks at take no memory.
     let large = vec![0; 1 << 32];
     assert_eq!(item(&mut b, 1, &large), (TOO_LARGE, 77));
+    let bytes = [
+        &b"\x0a\x06\x01\0\x01f\x01\0\x07\xac\x02\x01"[..],
+        &b"\x41\x01\x01".repeat(99),
+        b"\x41\0\x09\x07\0\0\xff\xff\xff\xff\x0f",
+    ];
+    assert_eq!(finished(&mut b)[8..], bytes.concat());
     free(b);
 }
 
@@ -384,8 +391,12 @@ fn builtins_are_told_by_their_opcodes() {
     assert_eq!(builtin(&mut none(), 0x03, 0, 0), (NO_BUILDER, 77));
 }
 
-/// A call that takes a list whose parts this number stands for, with this sort.
-fn lists_are_refused(call: impl Fn(&mut Builder, Listing<'_>) -> (u32, u32), sort: u32) {
+/// A call that takes a list, of whose parts this is a sort; and the bytes where all but three calls were refused.
+fn lists_are_refused(
+    call: impl Fn(&mut Builder, Listing<'_>) -> (u32, u32),
+    sort: u32,
+    bytes: &[u8],
+) {
     let mut b = new();
     assert_eq!(call(&mut b, (b"", b"", &[])), (DONE, 0));
     assert_eq!(
@@ -421,7 +432,7 @@ fn lists_are_refused(call: impl Fn(&mut Builder, Listing<'_>) -> (u32, u32), sor
         (TOO_LARGE, 77)
     );
     assert_eq!(call(&mut b, (b"", b"", &[])), (DONE, 2));
-    finished(&mut b);
+    assert_eq!(finished(&mut b)[8..], *bytes);
     assert_eq!(call(&mut b, (b"", b"", &[])), (FINISHED, 77));
     free(b);
     assert_eq!(call(&mut none(), (b"", b"", &[])), (NO_BUILDER, 77));
@@ -429,7 +440,8 @@ fn lists_are_refused(call: impl Fn(&mut Builder, Listing<'_>) -> (u32, u32), sor
 
 #[test]
 fn exports_of_core_instances_are_a_list() {
-    lists_are_refused(core_exports, 2);
+    let bytes = b"\x02\x12\x03\x01\0\x01\x03\x01a\x02\x01\0\x02\x02\x01b\x02\x03\x01\0";
+    lists_are_refused(core_exports, 2, bytes);
     let mut b = new();
     let exports = (&b""[..], &b"f\xc3\xa9"[..], &[(1, 0, 200), (2, 4, 0)][..]);
     assert_eq!(core_exports(&mut b, exports), (DONE, 0));
@@ -442,8 +454,10 @@ fn exports_of_core_instances_are_a_list() {
 
 #[test]
 fn fields_and_parameters_are_lists() {
-    lists_are_refused(record, 2);
-    lists_are_refused(|b, params| function(b, params, 8, 0), 2);
+    let records = b"\x07\x0f\x03\x72\0\x72\x03\x01a\x01\0\x02\x01b\x03\x72\0";
+    lists_are_refused(record, 2, records);
+    let functions = b"\x07\x15\x03\x40\0\x01\0\x40\x03\x01a\x01\0\x02\x01b\x03\x01\0\x40\0\x01\0";
+    lists_are_refused(|b, params| function(b, params, 8, 0), 2, functions);
     let mut b = new();
     let list = (&b""[..], &b"xyz"[..], &[(1, 7, 0x73), (2, 2, 64)][..]);
     assert_eq!(record(&mut b, list), (DONE, 0));

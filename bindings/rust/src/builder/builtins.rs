@@ -157,7 +157,11 @@ impl ComponentBuilder {
         }
 
         /// `thread.new-indirect`: makes a thread that calls a function of this core type, out of this table.
-        fn thread_new_indirect | try_thread_new_indirect(&mut self, func_ty_idx: u32, table_index: u32) -> u32 {
+        fn thread_new_indirect | try_thread_new_indirect(
+            &mut self,
+            func_ty_idx: u32,
+            table_index: u32,
+        ) -> u32 {
             self.builtin(0x27, func_ty_idx, table_index)
         }
 
@@ -207,7 +211,11 @@ impl ComponentBuilder {
         }
 
         /// `thread.spawn-indirect`: makes a thread that calls a function of this core type, out of this table. Upstream has this call on a section alone.
-        fn thread_spawn_indirect | try_thread_spawn_indirect(&mut self, ty: u32, table: u32) -> u32 {
+        fn thread_spawn_indirect | try_thread_spawn_indirect(
+            &mut self,
+            ty: u32,
+            table: u32,
+        ) -> u32 {
             self.builtin(0x41, ty, table)
         }
 

@@ -19,7 +19,11 @@ impl ComponentBuilder {
         /// assert_eq!(builder.import(name, ComponentTypeRef::Value(PrimitiveValType::U8.into())), 0);
         /// assert_eq!(builder.finish()[8..], *b"\x0a\x0a\x01\x02\x01v\x01\x02\x01x\x02\x7d");
         /// ```
-        fn import | try_import<'a>(&mut self, name: impl Into<ComponentExternName<'a>>, ty: ComponentTypeRef) -> u32 {
+        fn import | try_import<'a>(
+            &mut self,
+            name: impl Into<ComponentExternName<'a>>,
+            ty: ComponentTypeRef,
+        ) -> u32 {
             self.begin(ty.kind() == ComponentExportKind::Type)?;
             let name = name.into();
             if name.is_plain() {
@@ -60,7 +64,12 @@ impl ComponentBuilder {
         }
 
         /// Adds an alias of what an instance exports under this name, which is its debug name too.
-        fn alias_export | try_alias_export(&mut self, instance: u32, name: &str, kind: ComponentExportKind) -> u32 {
+        fn alias_export | try_alias_export(
+            &mut self,
+            instance: u32,
+            name: &str,
+            kind: ComponentExportKind,
+        ) -> u32 {
             self.begin(kind == ComponentExportKind::Type)?;
             self.handle.alias_export(Some(name), instance, kind.number(), name)
         }
@@ -82,12 +91,20 @@ impl ComponentBuilder {
         }
 
         /// Adds a core module.
-        fn core_module | try_core_module(&mut self, debug_name: Option<&str>, module: &Module) -> u32 {
+        fn core_module | try_core_module(
+            &mut self,
+            debug_name: Option<&str>,
+            module: &Module,
+        ) -> u32 {
             self.try_core_module_raw(debug_name, module.as_slice())
         }
 
         /// Adds the core module with these bytes. Nothing checks that they are a module's.
-        fn core_module_raw | try_core_module_raw(&mut self, debug_name: Option<&str>, module: &[u8]) -> u32 {
+        fn core_module_raw | try_core_module_raw(
+            &mut self,
+            debug_name: Option<&str>,
+            module: &[u8],
+        ) -> u32 {
             self.whole()?;
             self.handle.core_module(debug_name, module)
         }
@@ -104,7 +121,11 @@ impl ComponentBuilder {
         /// assert_eq!(builder.component(Some("inner"), nested), 0);
         /// assert_eq!(builder.finish()[8..], *b"\x04\x0c\0asm\x0d\0\x01\0\x08\x02\x01\x05");
         /// ```
-        fn component | try_component(&mut self, debug_name: Option<&str>, builder: ComponentBuilder) -> u32 {
+        fn component | try_component(
+            &mut self,
+            debug_name: Option<&str>,
+            builder: ComponentBuilder,
+        ) -> u32 {
             self.whole()?;
             builder.whole()?;
             self.handle.component(debug_name, builder.handle)
@@ -112,14 +133,22 @@ impl ComponentBuilder {
 
         /// Adds what another builder holds as a nested component, and leaves that builder as it is: so it can be nested
         /// twice, or after a refusal. Upstream has no such call.
-        fn component_ref | try_component_ref(&mut self, debug_name: Option<&str>, builder: &ComponentBuilder) -> u32 {
+        fn component_ref | try_component_ref(
+            &mut self,
+            debug_name: Option<&str>,
+            builder: &ComponentBuilder,
+        ) -> u32 {
             self.whole()?;
             builder.whole()?;
             self.handle.component_ref(debug_name, &builder.handle)
         }
 
         /// Adds the component with these bytes. Nothing checks that they are a component's.
-        fn component_raw | try_component_raw(&mut self, debug_name: Option<&str>, data: &[u8]) -> u32 {
+        fn component_raw | try_component_raw(
+            &mut self,
+            debug_name: Option<&str>,
+            data: &[u8],
+        ) -> u32 {
             self.whole()?;
             self.handle.component_bytes(debug_name, data)
         }

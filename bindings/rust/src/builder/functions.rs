@@ -26,7 +26,12 @@ impl ComponentBuilder {
 
     twins! {
         /// Makes a core function of a function.
-        fn lower_func | try_lower_func<O>(&mut self, debug_name: Option<&str>, func_index: u32, options: O) -> u32
+        fn lower_func | try_lower_func<O>(
+            &mut self,
+            debug_name: Option<&str>,
+            func_index: u32,
+            options: O,
+        ) -> u32
         where {
             O: IntoIterator<Item = CanonicalOption>,
             O::IntoIter: ExactSizeIterator,
@@ -59,7 +64,11 @@ impl ComponentBuilder {
         }
 
         /// `task.return`: gives the caller the result, of this type or none.
-        fn task_return | try_task_return<O>(&mut self, ty: Option<ComponentValType>, options: O) -> u32
+        fn task_return | try_task_return<O>(
+            &mut self,
+            ty: Option<ComponentValType>,
+            options: O,
+        ) -> u32
         where {
             O: IntoIterator<Item = CanonicalOption>,
             O::IntoIter: ExactSizeIterator,
@@ -137,7 +146,10 @@ impl ComponentBuilder {
         }
 
         /// `error-context.debug-message`: gives the message of an error's context.
-        fn error_context_debug_message | try_error_context_debug_message<O>(&mut self, options: O) -> u32
+        fn error_context_debug_message | try_error_context_debug_message<O>(
+            &mut self,
+            options: O,
+        ) -> u32
         where {
             O: IntoIterator<Item = CanonicalOption>,
             O::IntoIter: ExactSizeIterator,

@@ -16,7 +16,10 @@ impl ComponentBuilder {
         /// The type isn't whole until the encoder has written it. Where the encoder is dropped before, or its last call was
         /// refused, the builder is unfinished: what adds to it or takes it is refused, until
         /// [`discard_unfinished`](Self::discard_unfinished) gives the type up.
-        fn core_type | try_core_type(&mut self, debug_name: Option<&str>) -> (u32, ComponentCoreTypeEncoder<'_>) {
+        fn core_type | try_core_type(
+            &mut self,
+            debug_name: Option<&str>,
+        ) -> (u32, ComponentCoreTypeEncoder<'_>) {
             let index = self.open(ComponentSectionId::CoreType, space::CORE_TYPES, debug_name)?;
             Ok((index, ComponentCoreTypeEncoder::new(Target::Builder(self))))
         }
@@ -28,14 +31,22 @@ impl ComponentBuilder {
         }
 
         /// Adds a type of instances. It is refused where the type isn't whole, and where types in it stand more than 100 deep.
-        fn type_instance | try_type_instance(&mut self, debug_name: Option<&str>, ty: &InstanceType) -> u32 {
+        fn type_instance | try_type_instance(
+            &mut self,
+            debug_name: Option<&str>,
+            ty: &InstanceType,
+        ) -> u32 {
             self.item(ComponentSectionId::Type, debug_name, |text| {
                 text.put(ty);
             })
         }
 
         /// Adds a type of components. It is refused where the type isn't whole, and where types in it stand more than 100 deep.
-        fn type_component | try_type_component(&mut self, debug_name: Option<&str>, ty: &ComponentType) -> u32 {
+        fn type_component | try_type_component(
+            &mut self,
+            debug_name: Option<&str>,
+            ty: &ComponentType,
+        ) -> u32 {
             self.item(ComponentSectionId::Type, debug_name, |text| {
                 text.put(ty);
             })
@@ -52,7 +63,10 @@ impl ComponentBuilder {
         /// assert_eq!((point, builder.type_count()), (0, 1));
         /// assert_eq!(builder.finish()[8..], *b"\x07\x09\x01\x72\x02\x01x\x79\x01y\x79");
         /// ```
-        fn type_defined | try_type_defined(&mut self, debug_name: Option<&str>) -> (u32, ComponentDefinedTypeEncoder<'_>) {
+        fn type_defined | try_type_defined(
+            &mut self,
+            debug_name: Option<&str>,
+        ) -> (u32, ComponentDefinedTypeEncoder<'_>) {
             let index = self.open_type(debug_name)?;
             Ok((index, ComponentDefinedTypeEncoder::new(Target::Builder(self))))
         }
@@ -68,13 +82,21 @@ impl ComponentBuilder {
         /// assert_eq!(ty, 0);
         /// assert_eq!(builder.finish()[8..], *b"\x07\x0b\x01\x40\x01\x04name\x73\0\x79");
         /// ```
-        fn type_function | try_type_function(&mut self, debug_name: Option<&str>) -> (u32, ComponentFuncTypeEncoder<'_>) {
+        fn type_function | try_type_function(
+            &mut self,
+            debug_name: Option<&str>,
+        ) -> (u32, ComponentFuncTypeEncoder<'_>) {
             let index = self.open_type(debug_name)?;
             Ok((index, ComponentFuncTypeEncoder::new(Target::Builder(self))))
         }
 
         /// Adds a type of resources: what represents one, and the core function that is called when it is dropped.
-        fn type_resource | try_type_resource(&mut self, debug_name: Option<&str>, rep: ValType, dtor: Option<u32>) -> u32 {
+        fn type_resource | try_type_resource(
+            &mut self,
+            debug_name: Option<&str>,
+            rep: ValType,
+            dtor: Option<u32>,
+        ) -> u32 {
             self.item(ComponentSectionId::Type, debug_name, |text| {
                 text.byte(0x3f).put(rep).option(dtor);
             })

@@ -3,7 +3,7 @@
 use super::ValType;
 use crate::text::{Text, Write};
 
-/// What a field of a struct or an element of an array holds.
+/// What a field of a struct or an element of an array holds (WebAssembly 3.0, binary format, "Composite Types").
 #[derive(Clone, Copy, Debug, PartialEq, Eq, Hash)]
 pub enum StorageType {
     /// 8 bits.
@@ -24,7 +24,7 @@ impl Write for StorageType {
     }
 }
 
-/// A field of a struct, or the elements of an array.
+/// A field of a struct, or the elements of an array (WebAssembly 3.0, binary format, "Composite Types").
 #[derive(Clone, Copy, Debug, PartialEq, Eq, Hash)]
 pub struct FieldType {
     /// What it holds.
@@ -39,7 +39,7 @@ impl Write for FieldType {
     }
 }
 
-/// The type of a core function.
+/// The type of a core function (WebAssembly 3.0, binary format, "Composite Types").
 #[derive(Clone, Debug, PartialEq, Eq, Hash)]
 pub struct FuncType {
     values: Box<[ValType]>,
@@ -98,7 +98,7 @@ where
         });
 }
 
-/// A type of arrays.
+/// A type of arrays (WebAssembly 3.0, binary format, "Composite Types").
 #[derive(Clone, Copy, Debug, PartialEq, Eq, Hash)]
 pub struct ArrayType(
     /// What each element is.
@@ -111,11 +111,11 @@ impl Write for ArrayType {
     }
 }
 
-/// A type of structs.
+/// A type of structs (WebAssembly 3.0, binary format, "Composite Types").
 #[derive(Clone, Debug, PartialEq, Eq, Hash)]
 pub struct StructType {
     /// The fields, in their order.
-    pub fields: Vec<FieldType>,
+    pub fields: Box<[FieldType]>,
 }
 
 impl Write for StructType {
@@ -134,7 +134,7 @@ where
     });
 }
 
-/// A type of functions, arrays or structs.
+/// A type of functions, arrays or structs (WebAssembly 3.0, binary format, "Composite Types").
 #[derive(Clone, Debug, PartialEq, Eq, Hash)]
 pub enum CompositeType {
     /// Of functions.
@@ -155,7 +155,7 @@ impl Write for CompositeType {
     }
 }
 
-/// A composite type with its place among the others.
+/// A composite type with its place among the others (WebAssembly 3.0, binary format, "Recursive Types").
 #[derive(Clone, Debug, PartialEq, Eq, Hash)]
 pub struct SubType {
     /// Whether no type may be declared below it.

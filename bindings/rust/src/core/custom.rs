@@ -4,7 +4,7 @@ use crate::encode::append;
 use crate::Encode;
 use std::borrow::Cow;
 
-/// A section of a core module.
+/// A section of a core module (WebAssembly 3.0, binary format, "Sections").
 pub trait Section: Encode {
     /// The section's id.
     fn id(&self) -> u8;
@@ -16,7 +16,7 @@ pub trait Section: Encode {
     }
 }
 
-/// Ids of sections of core modules, as far as there are such sections here.
+/// Ids of sections of core modules, as far as there are such sections here (WebAssembly 3.0, binary format, "Sections").
 #[derive(Clone, Copy, Debug, PartialEq, Eq)]
 #[repr(u8)]
 pub enum SectionId {
@@ -36,7 +36,7 @@ impl Encode for SectionId {
     }
 }
 
-/// A custom section, of a core module or a component.
+/// A custom section, of a core module or a component (WebAssembly 3.0, binary format, "Custom Section").
 #[derive(Clone, Debug)]
 pub struct CustomSection<'a> {
     /// Its name.
@@ -61,7 +61,7 @@ impl Section for CustomSection<'_> {
     }
 }
 
-/// A custom section whose bytes, its size among them, stand as they are.
+/// A custom section whose bytes, its size among them, stand as they are (WebAssembly 3.0, binary format, "Custom Section").
 #[derive(Clone, Debug)]
 pub struct RawCustomSection<'a>(
     /// What stands behind the section's id.
@@ -80,7 +80,7 @@ impl Section for RawCustomSection<'_> {
     }
 }
 
-/// A section by its id and what it contains, whose size is written before it.
+/// A section by its id and what it contains, whose size is written before it (WebAssembly 3.0, binary format, "Sections").
 #[derive(Clone, Copy, Debug)]
 pub struct RawSection<'a> {
     /// The section's id.

@@ -7,7 +7,7 @@ use crate::twins::twins;
 use crate::types::Target;
 use crate::Error;
 
-/// Writes one core type. Each of its calls is the last.
+/// Writes one core type (WebAssembly 3.0, binary format, "Recursive Types"). Each of its calls is the last.
 #[derive(Debug)]
 pub struct CoreTypeEncoder<'a> {
     target: Target<'a>,

@@ -4,7 +4,7 @@ use super::{RefType, ValType};
 use crate::text::{Text, Write};
 use crate::ExportKind;
 
-/// The type of a table.
+/// The type of a table (WebAssembly 3.0, binary format, "Table Types").
 #[derive(Clone, Copy, Debug, PartialEq, Eq)]
 pub struct TableType {
     /// What its elements are.
@@ -24,7 +24,7 @@ impl Write for TableType {
     }
 }
 
-/// The type of a memory.
+/// The type of a memory (WebAssembly 3.0, binary format, "Memory Types").
 #[derive(Clone, Copy, Debug, PartialEq, Eq)]
 pub struct MemoryType {
     /// How many pages it has at first.
@@ -51,7 +51,7 @@ fn write_limits(text: &mut Text, minimum: u64, maximum: Option<u64>, shared: boo
     }
 }
 
-/// The type of a global.
+/// The type of a global (WebAssembly 3.0, binary format, "Global Types").
 #[derive(Clone, Copy, Debug, PartialEq, Eq)]
 pub struct GlobalType {
     /// What it holds.
@@ -66,7 +66,7 @@ impl Write for GlobalType {
     }
 }
 
-/// The type of a tag of exceptions.
+/// The type of a tag of exceptions (WebAssembly 3.0, binary format, "Tag Types").
 #[derive(Clone, Copy, Debug, PartialEq, Eq)]
 pub struct TagType {
     /// The core type of functions that take what such an exception has.
@@ -79,7 +79,7 @@ impl Write for TagType {
     }
 }
 
-/// What a core module imports or exports.
+/// What a core module imports or exports (WebAssembly 3.0, binary format, "External Types").
 #[derive(Clone, Copy, Debug, PartialEq, Eq)]
 pub enum EntityType {
     /// A function of the core type with this index.

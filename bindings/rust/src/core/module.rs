@@ -2,7 +2,8 @@
 
 use super::Section;
 
-/// A core module: its header, and what sections were appended. The sections that WebAssembly has are another crate's.
+/// A core module: its header, and what sections were appended (WebAssembly 3.0, binary format, "Modules"). The sections that
+/// WebAssembly has are another crate's.
 ///
 /// ```
 /// use wenc::{Module, RawSection};

@@ -3,7 +3,7 @@
 use crate::brief::Brief;
 use crate::text::{Text, Write};
 
-/// A core type of values.
+/// A core type of values (WebAssembly 3.0, binary format, "Value Types").
 #[derive(Clone, Copy, Debug, PartialEq, Eq, Hash)]
 pub enum ValType {
     /// A number of 32 bits.
@@ -48,7 +48,7 @@ impl Write for ValType {
     }
 }
 
-/// A type of references.
+/// A type of references (WebAssembly 3.0, binary format, "Reference Types").
 #[derive(Clone, Copy, Debug, PartialEq, Eq, Hash)]
 pub struct RefType {
     /// Whether null is among them.
@@ -92,7 +92,7 @@ impl Write for RefType {
     }
 }
 
-/// What a reference refers to.
+/// What a reference refers to (WebAssembly 3.0, binary format, "Heap Types").
 #[derive(Clone, Copy, Debug, PartialEq, Eq, Hash)]
 pub enum HeapType {
     /// One of the types that WebAssembly names.
@@ -137,7 +137,7 @@ impl Write for HeapType {
     }
 }
 
-/// The heap types that WebAssembly names.
+/// The heap types that WebAssembly names (WebAssembly 3.0, binary format, "Heap Types").
 #[derive(Clone, Copy, Debug, PartialEq, Eq, Hash)]
 pub enum AbstractHeapType {
     /// Functions.

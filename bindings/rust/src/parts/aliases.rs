@@ -4,7 +4,7 @@ use crate::brief::{Brief, ToBrief};
 use crate::text::{Text, Write};
 use crate::{ComponentExportKind, ExportKind};
 
-/// The kind of an item of an enclosing component.
+/// The kind of an item of an enclosing component (component model, binary format, `sort`).
 #[derive(Clone, Copy, Debug, PartialEq, Eq)]
 pub enum ComponentOuterAliasKind {
     /// A core module.
@@ -41,7 +41,8 @@ impl ToBrief for ComponentOuterAliasKind {
     }
 }
 
-/// Another name of an item: of an instance's export, or of what an enclosing component has.
+/// Another name of an item: of an instance's export, or of what an enclosing component has (component model, binary format,
+/// `alias`).
 #[derive(Clone, Copy, Debug)]
 pub enum Alias<'a> {
     /// What a component instance exports.

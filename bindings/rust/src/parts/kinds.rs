@@ -2,7 +2,7 @@
 
 use crate::brief::{Brief, ToBrief};
 
-/// The kind of an item that a component exports, or that is aliased.
+/// The kind of an item that a component exports, or that is aliased (component model, binary format, `sort`).
 #[derive(Clone, Copy, Debug, PartialEq, Eq)]
 pub enum ComponentExportKind {
     /// A core module.
@@ -67,7 +67,7 @@ impl ToBrief for ExportKind {
     }
 }
 
-/// What a core module is instantiated with.
+/// What a core module is instantiated with (component model, binary format, `core:instantiatearg`).
 #[derive(Clone, Copy, Debug, PartialEq, Eq)]
 pub enum ModuleArg {
     /// The core instance with this index.

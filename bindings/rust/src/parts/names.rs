@@ -3,7 +3,8 @@
 use crate::text::{Text, Write};
 use std::borrow::Cow;
 
-/// The name of an import or an export, with what else is said of it. A text makes one without options.
+/// The name of an import or an export, with what else is said of it (component model, binary format, `importname'` and
+/// `exportname'`). A text makes one without options.
 #[derive(Clone, Debug)]
 pub struct ComponentExternName<'a> {
     /// The name itself.

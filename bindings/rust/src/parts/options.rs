@@ -2,7 +2,7 @@
 
 use crate::brief::{Brief, ToBrief};
 
-/// How a function's values cross between the component and its core modules.
+/// How a function's values cross between the component and its core modules (component model, binary format, `canonopt`).
 #[derive(Clone, Copy, Debug, PartialEq, Eq)]
 pub enum CanonicalOption {
     /// Texts are in UTF-8.

@@ -3,7 +3,7 @@
 use crate::brief::{Brief, ToBrief};
 use crate::{ComponentExportKind, ComponentValType};
 
-/// What is known of a type that is imported or exported.
+/// What is known of a type that is imported or exported (component model, binary format, `typebound`).
 #[derive(Clone, Copy, Debug, PartialEq, Eq, Hash)]
 pub enum TypeBounds {
     /// It equals the type with this index.
@@ -22,7 +22,7 @@ impl ToBrief for TypeBounds {
     }
 }
 
-/// What an import is, or an export is said to be.
+/// What an import is, or an export is said to be (component model, binary format, `externdesc`).
 #[derive(Clone, Copy, Debug, PartialEq, Eq, Hash)]
 pub enum ComponentTypeRef {
     /// A core module, by the index of its core type.

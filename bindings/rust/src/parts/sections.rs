@@ -2,7 +2,7 @@
 
 use crate::brief::{Brief, ToBrief};
 
-/// The sections that a component has, by their ids in the binary format.
+/// The sections that a component has, by their ids (component model, binary format, "Component Definitions").
 #[derive(Clone, Copy, Debug, PartialEq, Eq, PartialOrd, Ord)]
 #[repr(u8)]
 pub enum ComponentSectionId {

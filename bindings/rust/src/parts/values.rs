@@ -2,7 +2,7 @@
 
 use crate::brief::{Brief, ToBrief};
 
-/// A primitive type of values.
+/// A primitive type of values (component model, binary format, `primvaltype`).
 #[derive(Clone, Copy, Debug, PartialEq, Eq, Hash)]
 pub enum PrimitiveValType {
     /// A truth value.
@@ -65,7 +65,7 @@ impl ToBrief for PrimitiveValType {
     }
 }
 
-/// A type of values: a primitive one, or one that the component defines.
+/// A type of values: a primitive one, or one that the component defines (component model, binary format, `valtype`).
 #[derive(Clone, Copy, Debug, PartialEq, Eq, Hash)]
 pub enum ComponentValType {
     /// A primitive type.

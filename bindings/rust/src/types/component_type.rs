@@ -6,7 +6,8 @@ use crate::text::{Text, Write};
 use crate::twins::twins;
 use crate::{Alias, ComponentExternName, ComponentTypeRef};
 
-/// The type of a component: what it imports and exports, and the types that these need.
+/// The type of a component: what it imports and exports, and the types that these need (component model, binary format, "Type
+/// Definitions").
 ///
 /// ```
 /// use wenc::{ComponentBuilder, ComponentType, ComponentTypeRef, PrimitiveValType};
@@ -53,7 +54,11 @@ impl ComponentType {
         }
 
         /// Declares an import.
-        fn import | try_import<'a>(&mut self, name: impl Into<ComponentExternName<'a>>, ty: ComponentTypeRef) -> &mut Self {
+        fn import | try_import<'a>(
+            &mut self,
+            name: impl Into<ComponentExternName<'a>>,
+            ty: ComponentTypeRef,
+        ) -> &mut Self {
             self.0.add(Declared::of(ty), |text| {
                 text.byte(0x03).put(name.into()).put(ty);
             })?;
@@ -61,7 +66,11 @@ impl ComponentType {
         }
 
         /// Declares an export.
-        fn export | try_export<'a>(&mut self, name: impl Into<ComponentExternName<'a>>, ty: ComponentTypeRef) -> &mut Self {
+        fn export | try_export<'a>(
+            &mut self,
+            name: impl Into<ComponentExternName<'a>>,
+            ty: ComponentTypeRef,
+        ) -> &mut Self {
             self.0.add(Declared::of(ty), |text| {
                 text.byte(0x04).put(name.into()).put(ty);
             })?;
@@ -69,7 +78,7 @@ impl ComponentType {
         }
     }
 
-    /// How many core types were declared.
+    /// How many core types were declared or aliased.
     pub fn core_type_count(&self) -> u32 {
         self.0.counts().core_types
     }

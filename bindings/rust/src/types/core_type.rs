@@ -5,7 +5,7 @@ use crate::text::Text;
 use crate::twins::twins;
 use crate::{CoreTypeEncoder, Error};
 
-/// Writes one core type of a component. Each of its calls is the last.
+/// Writes one core type of a component (component model, binary format, "Core Definitions"). Each of its calls is the last.
 #[derive(Debug)]
 pub struct ComponentCoreTypeEncoder<'a>(Target<'a>);
 

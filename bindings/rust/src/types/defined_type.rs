@@ -6,7 +6,7 @@ use crate::text::Text;
 use crate::twins::twins;
 use crate::{ComponentValType, Error, PrimitiveValType};
 
-/// Writes one type of values. Each of its calls is the last.
+/// Writes one type of values (component model, binary format, "Type Definitions"). Each of its calls is the last.
 #[derive(Debug)]
 pub struct ComponentDefinedTypeEncoder<'a>(Target<'a>);
 
@@ -81,14 +81,22 @@ impl<'t> ComponentDefinedTypeEncoder<'t> {
         }
 
         /// A map.
-        fn map | try_map(self, key: impl Into<ComponentValType>, value: impl Into<ComponentValType>) -> () {
+        fn map | try_map(
+            self,
+            key: impl Into<ComponentValType>,
+            value: impl Into<ComponentValType>,
+        ) -> () {
             self.end(|text| {
                 text.brief(Brief::byte(0x63).then(key.into().brief())).put(value.into());
             })
         }
 
         /// A list of so many elements.
-        fn fixed_length_list | try_fixed_length_list(self, ty: impl Into<ComponentValType>, elements: u32) -> () {
+        fn fixed_length_list | try_fixed_length_list(
+            self,
+            ty: impl Into<ComponentValType>,
+            elements: u32,
+        ) -> () {
             self.end(|text| {
                 text.brief(Brief::byte(0x67).then(ty.into().brief())).index(elements);
             })
@@ -141,7 +149,11 @@ impl<'t> ComponentDefinedTypeEncoder<'t> {
         }
 
         /// What went well or what went wrong, each with a value or none.
-        fn result | try_result(self, ok: Option<ComponentValType>, err: Option<ComponentValType>) -> () {
+        fn result | try_result(
+            self,
+            ok: Option<ComponentValType>,
+            err: Option<ComponentValType>,
+        ) -> () {
             self.end(|text| {
                 text.brief(Brief::byte(0x6a).then(maybe(ok))).brief(maybe(err));
             })

@@ -17,8 +17,8 @@ enum Stage {
     Broken,
 }
 
-/// Writes the type of a function: perhaps whether it is asynchronous, then what it takes, then what it answers. The call of
-/// [`result`](Self::result) is the last.
+/// Writes the type of a function: perhaps whether it is asynchronous, then what it takes, then what it answers (component
+/// model, binary format, "Type Definitions"). The call of [`result`](Self::result) is the last.
 #[derive(Debug)]
 pub struct ComponentFuncTypeEncoder<'a> {
     target: Target<'a>,

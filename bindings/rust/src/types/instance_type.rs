@@ -5,7 +5,8 @@ use crate::text::{Text, Write};
 use crate::twins::twins;
 use crate::{Alias, ComponentExternName, ComponentTypeRef};
 
-/// The type of an instance: what it exports, and the types that this needs.
+/// The type of an instance: what it exports, and the types that this needs (component model, binary format, "Type
+/// Definitions").
 ///
 /// ```
 /// use wenc::{ComponentBuilder, ComponentTypeRef, InstanceType, PrimitiveValType, TypeBounds};
@@ -50,13 +51,17 @@ impl InstanceType {
         }
 
         /// Declares an export.
-        fn export | try_export<'a>(&mut self, name: impl Into<ComponentExternName<'a>>, ty: ComponentTypeRef) -> &mut Self {
+        fn export | try_export<'a>(
+            &mut self,
+            name: impl Into<ComponentExternName<'a>>,
+            ty: ComponentTypeRef,
+        ) -> &mut Self {
             self.0.try_export(name, ty)?;
             Ok(self)
         }
     }
 
-    /// How many core types were declared.
+    /// How many core types were declared or aliased.
     pub fn core_type_count(&self) -> u32 {
         self.0.core_type_count()
     }

@@ -6,7 +6,8 @@ use crate::text::{Text, Write};
 use crate::twins::twins;
 use crate::{CoreTypeEncoder, EntityType};
 
-/// The type of a core module: what it imports and exports, and the core types that these need.
+/// The type of a core module: what it imports and exports, and the core types that these need (component model, binary format,
+/// "Core Definitions").
 ///
 /// ```
 /// use wenc::{ComponentBuilder, EntityType, ModuleType, ValType};
@@ -49,7 +50,11 @@ impl ModuleType {
         }
 
         /// Declares a core type that an enclosing component has, so many components further out, under this index there.
-        fn alias_outer_core_type | try_alias_outer_core_type(&mut self, count: u32, index: u32) -> &mut Self {
+        fn alias_outer_core_type | try_alias_outer_core_type(
+            &mut self,
+            count: u32,
+            index: u32,
+        ) -> &mut Self {
             self.0.add(Declared::CoreType, |text| {
                 text.raw(&[0x02, 0x10, 0x01]).index(count).index(index);
             })?;

@@ -7,7 +7,8 @@ use crate::text::Text;
 use crate::twins::twins;
 use crate::{Error, ValType};
 
-/// Writes one type of a component. Each of its calls is the last, or hands out the encoder whose call is.
+/// Writes one type of a component (component model, binary format, "Type Definitions"). Each of its calls is the last, or hands
+/// out the encoder whose call is.
 #[derive(Debug)]
 pub struct ComponentTypeEncoder<'a>(Target<'a>);
 
