@@ -1,9 +1,9 @@
-ghost use Rattle.std.specs.Prelude.{◌≡◌, ◌+◌, ◌<◌, ◌≤◌, ◌^◌, ◌++◌, ◌∷◌, [], length, vec_len, vec_capacity, OnOk};
+ghost use Rattle.std.specs.Prelude.{◌≡◌, ◌+◌, ◌<◌, ◌≤◌, ◌^◌, ◌++◌, ◌∷◌, [], length, vec_len, vec_capacity, OnOk, true};
 ghost use Rattle.wenc_base.specs.Encode.{Appends};
 ghost use Rattle.wenc_base.specs.Fault.{size_cause};
 ghost use Rattle.wenc_base.specs.Forms.{AreBytes};
 ghost use Rattle.wenc_base.specs.Number.{number_size, unsigned_text, signed_text};
-ghost use Rattle.wenc_base.specs.Piece.{Piece};
+ghost use Rattle.wenc_base.specs.Piece.{Piece, ◌▸◌};
 
 mod front;
 mod lists;
@@ -102,27 +102,25 @@ impl Encode for i64 {
 
     #[tactic(auto, using(crate::proofs::Groups::signed_below, crate::proofs::Groups::signed_2, crate::proofs::Groups::signed_3))]
     fn encode<A: Allocator>(&self, sink: &mut Vec<u8, A>) -> Result<(), Fault> {
-        if *self < 0 {
+        if *self < 0 || *self >= 1 << 20 || !has_room(sink, 3) {
             return encode_long_signed(*self, sink);
         }
         let n = *self as u64;
         if n < 1 << 6 {
-            sink.push(n as u8)?;
-            return Ok(());
+            extend_in_room(sink, &[n as u8]);
+        } else if n < 1 << 13 {
+            extend_in_room(sink, &[(n % 128) as u8 + 128, (n / 128) as u8]);
+        } else {
+            extend_in_room(
+                sink,
+                &[
+                    (n % 128) as u8 + 128,
+                    (n / 128 % 128) as u8 + 128,
+                    (n / 128 / 128) as u8,
+                ],
+            );
         }
-        if n < 1 << 13 {
-            sink.extend_from_slice(&[(n % 128) as u8 + 128, (n / 128) as u8])?;
-            return Ok(());
-        }
-        if n < 1 << 20 {
-            sink.extend_from_slice(&[
-                (n % 128) as u8 + 128,
-                (n / 128 % 128) as u8 + 128,
-                (n / 128 / 128) as u8,
-            ])?;
-            return Ok(());
-        }
-        encode_long_signed(*self, sink)
+        Ok(())
     }
 }
 
@@ -178,19 +176,31 @@ fn encode_bytes<A: Allocator>(bytes: &[u8], sink: &mut Vec<u8, A>) -> Result<(),
     ensures fits { OnOk result ((length bytes.now < 2 ^ 32) × AreBytes bytes.now) }
 {
     if let [byte] = bytes {
-        sink.extend_from_slice(&[1, *byte])?;
-        return Ok(());
+        if has_room(sink, 2) {
+            extend_in_room(sink, &[1, *byte]);
+            return Ok(());
+        }
     }
-    if bytes.len() < 1 << 7 {
-        sink.try_reserve(1 + bytes.len())?;
-        short_number_in_room(bytes.len() as u8, sink);
-        extend_in_room(sink, bytes);
-        return Ok(());
-    }
-    encode_long_bytes(bytes, sink)
+    encode_short_bytes(bytes, sink)
 }
 
-/// The same of so many bytes that their number has more than one.
+/// The same of any bytes, most of which are few and have room.
+#[tactic(auto, using(crate::proofs::Groups::groups_below))]
+#[inline(never)]
+fn encode_short_bytes<A: Allocator>(bytes: &[u8], sink: &mut Vec<u8, A>) -> Result<(), Fault>
+    ensures appended { Appends (unsigned_text (length bytes.now) ++ bytes.now)
+        (size_cause (length bytes.now)) ⊥ sink.old.items sink.new.items result }
+    ensures fits { OnOk result ((length bytes.now < 2 ^ 32) × AreBytes bytes.now) }
+{
+    if bytes.len() >= 1 << 7 || !has_room(sink, 1 + bytes.len()) {
+        return encode_long_bytes(bytes, sink);
+    }
+    short_number_in_room(bytes.len() as u8, sink);
+    extend_in_room(sink, bytes);
+    Ok(())
+}
+
+/// The same of any bytes, by what room there is.
 #[cold]
 #[inline(never)]
 fn encode_long_bytes<A: Allocator>(bytes: &[u8], sink: &mut Vec<u8, A>) -> Result<(), Fault>
@@ -207,31 +217,32 @@ fn encode_long_bytes<A: Allocator>(bytes: &[u8], sink: &mut Vec<u8, A>) -> Resul
     Ok(())
 }
 
-/// Appends the text of a number. Most have one byte, which needs no room of its own.
+/// Appends the text of a number. Most have few bytes, and room.
 #[tactic(auto, using(crate::proofs::Groups::groups_below, crate::proofs::Groups::text_2, crate::proofs::Groups::text_3))]
 fn encode_number<A: Allocator>(n: u64, sink: &mut Vec<u8, A>) -> Result<(), Fault>
     ensures { Appends (unsigned_text n) (λ _. ⊥) ⊥ sink.old.items sink.new.items result }
 {
+    if n >= 1 << 21 || !has_room(sink, 3) {
+        return encode_long(n, sink);
+    }
     if n < 1 << 7 {
-        sink.push(n as u8)?;
-        return Ok(());
+        extend_in_room(sink, &[n as u8]);
+    } else if n < 1 << 14 {
+        extend_in_room(sink, &[(n % 128) as u8 + 128, (n / 128) as u8]);
+    } else {
+        extend_in_room(
+            sink,
+            &[
+                (n % 128) as u8 + 128,
+                (n / 128 % 128) as u8 + 128,
+                (n / 128 / 128) as u8,
+            ],
+        );
     }
-    if n < 1 << 14 {
-        sink.extend_from_slice(&[(n % 128) as u8 + 128, (n / 128) as u8])?;
-        return Ok(());
-    }
-    if n < 1 << 21 {
-        sink.extend_from_slice(&[
-            (n % 128) as u8 + 128,
-            (n / 128 % 128) as u8 + 128,
-            (n / 128 / 128) as u8,
-        ])?;
-        return Ok(());
-    }
-    encode_long(n, sink)
+    Ok(())
 }
 
-/// The same of a number that has more bytes.
+/// The same of any number, by what room there is.
 #[tactic(auto, using(crate::proofs::Groups::groups_length))]
 #[cold]
 #[inline(never)]
@@ -245,37 +256,8 @@ fn encode_long<A: Allocator>(n: u64, sink: &mut Vec<u8, A>) -> Result<(), Fault>
 }
 
 /// The same where there is room, which takes no memory.
-#[tactic(auto, using(crate::proofs::Groups::groups_below, crate::proofs::Groups::text_2, crate::proofs::Groups::text_3))]
-#[inline]
-pub(crate) fn number_in_room<A: Allocator>(n: u32, sink: &mut Vec<u8, A>)
-    requires { vec_len sink.old + number_size n ≤ vec_capacity sink.old }
-    ensures items { sink.new.items ≡ sink.old.items ++ unsigned_text n }
-    ensures len { vec_len sink.new ≡ vec_len sink.old + number_size n }
-    ensures capacity { vec_capacity sink.old ≤ vec_capacity sink.new }
-{
-    if n < 1 << 7 {
-        push_in_room(sink, n as u8);
-    } else if n < 1 << 14 {
-        extend_in_room(sink, &[(n % 128) as u8 + 128, (n / 128) as u8]);
-    } else if n < 1 << 21 {
-        extend_in_room(
-            sink,
-            &[
-                (n % 128) as u8 + 128,
-                (n / 128 % 128) as u8 + 128,
-                (n / 128 / 128) as u8,
-            ],
-        );
-    } else {
-        long_in_room(n, sink);
-    }
-}
-
-/// The same of a number that has more bytes.
 #[tactic(auto, using(crate::proofs::Groups::size_of_u32))]
-#[cold]
-#[inline(never)]
-fn long_in_room<A: Allocator>(n: u32, sink: &mut Vec<u8, A>)
+pub(crate) fn number_in_room<A: Allocator>(n: u32, sink: &mut Vec<u8, A>)
     requires { vec_len sink.old + number_size n ≤ vec_capacity sink.old }
     ensures items { sink.new.items ≡ sink.old.items ++ unsigned_text n }
     ensures len { vec_len sink.new ≡ vec_len sink.old + number_size n }
@@ -289,14 +271,73 @@ fn long_in_room<A: Allocator>(n: u32, sink: &mut Vec<u8, A>)
 /// The same of a number that has one byte.
 #[tactic(auto, using(crate::proofs::Groups::groups_below))]
 #[inline]
-pub(crate) fn short_number_in_room<A: Allocator>(n: u8, sink: &mut Vec<u8, A>)
+fn short_number_in_room<A: Allocator>(n: u8, sink: &mut Vec<u8, A>)
     requires short { n < 128 }
     requires room { vec_len sink.old < vec_capacity sink.old }
     ensures items { sink.new.items ≡ sink.old.items ++ unsigned_text n }
     ensures len { vec_len sink.new ≡ vec_len sink.old + 1 }
     ensures capacity { vec_capacity sink.old ≤ vec_capacity sink.new }
 {
-    push_in_room(sink, n);
+    extend_in_room(sink, &[n]);
+}
+
+/// Whether there is room for so many more bytes.
+#[inline]
+pub(crate) fn has_room<A: Allocator>(sink: &Vec<u8, A>, more: usize) -> bool
+    ensures { result ≡ true → vec_len sink.now + more ≤ vec_capacity sink.now }
+{
+    more <= sink.capacity() - sink.len()
+}
+
+/// Appends a byte.
+#[inline]
+pub fn encode_byte<A: Allocator>(byte: u8, sink: &mut Vec<u8, A>) -> Result<(), Fault>
+    ensures { Appends (byte ∷ []) (λ _. ⊥) ⊥ sink.old.items sink.new.items result }
+{
+    if !has_room(sink, 1) {
+        return encode_byte_apart(byte, sink);
+    }
+    push_in_room(sink, byte);
+    Ok(())
+}
+
+/// The same where memory is needed.
+#[cold]
+#[inline(never)]
+fn encode_byte_apart<A: Allocator>(byte: u8, sink: &mut Vec<u8, A>) -> Result<(), Fault>
+    ensures { Appends (byte ∷ []) (λ _. ⊥) ⊥ sink.old.items sink.new.items result }
+{
+    sink.push(byte)?;
+    Ok(())
+}
+
+/// Appends the texts of two numbers, of which the first has at most three bytes and the other one, where there is room.
+#[tactic(auto, using(crate::proofs::Groups::groups_below, crate::proofs::Groups::text_2, crate::proofs::Groups::text_3))]
+#[inline]
+pub(crate) fn short_numbers_in_room<A: Allocator>(n: u32, last: u8, sink: &mut Vec<u8, A>)
+    requires first { n < 2097152 }
+    requires last { last < 128 }
+    requires room { vec_len sink.old + 4 ≤ vec_capacity sink.old }
+    ensures items { sink.new.items ≡ sink.old.items ++ (unsigned_text n ++ unsigned_text last) }
+    ensures len { vec_len sink.new ≡ vec_len sink.old + (number_size n + 1) }
+    ensures short { number_size n ≤ 3 }
+    ensures capacity { vec_capacity sink.old ≤ vec_capacity sink.new }
+{
+    if n < 1 << 7 {
+        extend_in_room(sink, &[n as u8, last]);
+    } else if n < 1 << 14 {
+        extend_in_room(sink, &[(n % 128) as u8 + 128, (n / 128) as u8, last]);
+    } else {
+        extend_in_room(
+            sink,
+            &[
+                (n % 128) as u8 + 128,
+                (n / 128 % 128) as u8 + 128,
+                (n / 128 / 128) as u8,
+                last,
+            ],
+        );
+    }
 }
 
 /// Appends a byte where there is room, which takes no memory.
@@ -335,20 +376,40 @@ impl<'a, T: Encode> Encode for Tagged<'a, T> {
     ghost unfinished = { λ t. T.unfinished t.1.now };
 
     fn encode<A: Allocator>(&self, sink: &mut Vec<u8, A>) -> Result<(), Fault> {
+        if !has_room(sink, 1) {
+            return encode_value_first(self.0, self.1, sink);
+        }
         let start = sink.len();
-        let is_full = start == sink.capacity();
-        if !is_full {
-            push_in_room(sink, self.0);
+        push_in_room(sink, self.0);
+        match self.1.encode(sink) {
+            Ok(()) => Ok(()),
+            Err(fault) => {
+                sink.truncate(start);
+                Err(fault)
+            }
         }
-        let mut outcome = self.1.encode(sink);
-        if is_full && outcome.is_ok() {
-            outcome = sink.insert(start, self.0).map_err(Fault::from);
-        }
-        if outcome.is_err() {
-            sink.truncate(start);
-        }
-        outcome
     }
+}
+
+/// The same where the byte needs memory.
+#[cold]
+#[inline(never)]
+fn encode_value_first<T: Encode, A: Allocator>(
+    byte: u8,
+    value: &T,
+    sink: &mut Vec<u8, A>,
+) -> Result<(), Fault>
+    ensures appended { Appends (byte ▸ T.piece value.now).text (byte ▸ T.piece value.now).Cause
+        (T.unfinished value.now) sink.old.items sink.new.items result }
+    ensures fits { OnOk result (byte ▸ T.piece value.now).Fits }
+{
+    let start = sink.len();
+    value.encode(sink)?;
+    if let Err(failed) = sink.insert(start, byte) {
+        sink.truncate(start);
+        return Err(Fault::from(failed));
+    }
+    Ok(())
 }
 
 /// A byte `00`, or a byte `01` and a value.

@@ -311,6 +311,7 @@ fn end_member<A: Allocator>(
 }
 
 /// The number of members with one more, with which their texts have `body` bytes.
+#[inline]
 pub(crate) fn next_count(count: u32, body: usize) -> Result<u32, Fault>
     ensures ok { IfOk result (λ next. (next ≡ count + 1) × (content_size next body < 2 ^ 32)) }
     ensures free { (fault : FaultSpec) → OneMoreCause count body fault → OnOk result ⊥ }
@@ -325,6 +326,7 @@ pub(crate) fn next_count(count: u32, body: usize) -> Result<u32, Fault>
 
 /// Refuses what is too large for a section, with `TooLarge` alone. Most have far less.
 #[tactic(auto, using(crate::proofs::Groups::size_of_u32))]
+#[inline]
 pub(crate) fn size_fits(count: u32, body: u64) -> Result<(), Fault>
     ensures ok { OnOk result (content_size count body < 2 ^ 32) }
     ensures refused { IfErr result (λ fault.

@@ -30,7 +30,9 @@ pub mod types;
 
 pub use custom::{CustomSection, RawCustomSection};
 pub use delimited::{Delimited, DelimitedEq};
-pub use encode::{ByRef, Encode, Tagged, Verbatim, WithSize, encode_list, extend_in_room};
+pub use encode::{
+    ByRef, Encode, Tagged, Verbatim, WithSize, encode_byte, encode_list, extend_in_room,
+};
 pub use exports::ExportKind;
 pub use fault::Fault;
 pub use globals::GlobalType;

@@ -3,7 +3,9 @@ ghost use Rattle.wenc_base.specs.Fault.{IsMemory};
 ghost use Rattle.wenc_base.specs.Holder.{no_members, holding, held_text, cut_to, AddsMember};
 ghost use Rattle.wenc_base.specs.Names.{NameAssociation, name_association};
 
-use crate::encode::{Encode, Verbatim, extend_in_room, number_in_room, short_number_in_room};
+use crate::encode::{
+    Encode, Verbatim, extend_in_room, has_room, number_in_room, short_numbers_in_room,
+};
 use crate::fault::Fault;
 use crate::holder::next_count;
 use crate::number::encoding_size;
@@ -59,10 +61,13 @@ impl<A: Allocator> NameMap<A> {
         ensures { let entry : NameAssociation = record { index = idx; name = name.now } in
             AddsMember (name_association entry) self.old self.new result }
     {
-        if name.len() < 1 << 7 && self.names.len() < NEARLY_FULL && self.count < u32::MAX {
-            self.names.try_reserve(6 + name.len())?;
-            number_in_room(idx, &mut self.names);
-            short_number_in_room(name.len() as u8, &mut self.names);
+        if idx < 1 << 21
+            && name.len() < 1 << 7
+            && self.names.len() < NEARLY_FULL
+            && self.count < u32::MAX
+            && has_room(&self.names, 4 + name.len())
+        {
+            short_numbers_in_room(idx, name.len() as u8, &mut self.names);
             extend_in_room(&mut self.names, name.as_bytes());
             self.count += 1;
             return Ok(());
@@ -70,7 +75,7 @@ impl<A: Allocator> NameMap<A> {
         self.append_long(idx, name)
     }
 
-    /// The same of any name.
+    /// The same of any name, by what room there is.
     #[tactic(auto, using(crate::proofs::Groups::size_of_u32))]
     #[cold]
     #[inline(never)]

@@ -57,6 +57,10 @@ module _ (b : Buffered) (s : Spaced) (i : IsBuilder b s) where
     not_taken : s.taking ≡ None
     not_taken = not_taking b.writing s.taking i.agree (writing_none b finished)
 
+    -- an item that was given up at once
+    pub begun_back : (id : ℕ) → buffer_given_up (buffer_begun b id) ≡ b
+    begun_back id = rw (← writing_none b finished) refl
+
     -- an index that was given up at once
     pub indexed_back : (space number : ℕ) (name : Option (List ℕ)) → IsBuilder b (spaces_given_up (spaces_begun s space number name))
     indexed_back space number name =

@@ -203,14 +203,12 @@ impl<A: Allocator> ComponentBuilder<A> {
         if !self.buffer.is_finished() {
             return Err(Fault::Unfinished);
         }
+        self.buffer.begin(kind)?;
         match self.spaces.begin(space, 1, name) {
-            Err(fault) => Err(fault),
-            Ok(index) => {
-                if let Err(fault) = self.buffer.begin(kind) {
-                    self.spaces.give_up();
-                    return Err(fault);
-                }
-                Ok(index)
+            Ok(index) => Ok(index),
+            Err(fault) => {
+                self.buffer.give_up();
+                Err(fault)
             }
         }
     }

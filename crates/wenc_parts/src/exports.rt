@@ -31,15 +31,18 @@ impl Encode for ComponentExportKind {
     ghost piece = { λ k. component_export_kind k };
 
     fn encode<A: Allocator>(&self, sink: &mut Vec<u8, A>) -> Result<(), Fault> {
-        let sort: &[u8] = match self {
-            ComponentExportKind::Module => &[CORE_SORT, CORE_MODULE_SORT],
-            ComponentExportKind::Func => &[FUNCTION_SORT],
-            ComponentExportKind::Value => &[VALUE_SORT],
-            ComponentExportKind::Type => &[TYPE_SORT],
-            ComponentExportKind::Instance => &[INSTANCE_SORT],
-            ComponentExportKind::Component => &[COMPONENT_SORT],
+        let sort = match self {
+            ComponentExportKind::Module => {
+                sink.extend_from_slice(&[CORE_SORT, CORE_MODULE_SORT])?;
+                return Ok(());
+            }
+            ComponentExportKind::Func => FUNCTION_SORT,
+            ComponentExportKind::Value => VALUE_SORT,
+            ComponentExportKind::Type => TYPE_SORT,
+            ComponentExportKind::Instance => INSTANCE_SORT,
+            ComponentExportKind::Component => COMPONENT_SORT,
         };
-        sink.extend_from_slice(sort)?;
+        sink.push(sort)?;
         Ok(())
     }
 }

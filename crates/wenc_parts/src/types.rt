@@ -3,7 +3,7 @@ ghost use Rattle.wenc_base.specs.laws.Delimited.{itself};
 ghost use Rattle.wenc_base.specs.laws.Serves.{serves_itself};
 
 use std::alloc::Allocator;
-use wenc_base::{Delimited, DelimitedEq, Encode, Fault, Tagged};
+use wenc_base::{Delimited, DelimitedEq, Encode, Fault, Tagged, encode_byte};
 
 /// A primitive value type of a component (component model, binary format, `primvaltype`).
 #[derive(Clone, Copy, Debug, PartialEq, Eq, Hash)]
@@ -69,8 +69,7 @@ impl Encode for PrimitiveValType {
     ghost piece = { λ p. primitive p };
 
     fn encode<A: Allocator>(&self, sink: &mut Vec<u8, A>) -> Result<(), Fault> {
-        sink.push(self.byte())?;
-        Ok(())
+        encode_byte(self.byte(), sink)
     }
 }
 

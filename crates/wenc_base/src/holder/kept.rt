@@ -66,6 +66,7 @@ impl<A: Allocator> Holder<A> {
 
     /// Puts these bytes in the place of the kept ones from `start` to `end`, of which there are as many or more.
     /// It takes no memory.
+    #[inline]
     pub fn fill_kept(&mut self, start: usize, end: usize, bytes: &[u8])
         requires within { (start ≤ end) × (end ≤ length self.old.kept) }
         requires short { length bytes.now ≤ end - start }
@@ -88,6 +89,7 @@ fn append<E: Encode, A: Allocator>(value: &E, sink: &mut Vec<u8, A>) -> Result<(
 }
 
 /// Puts a head in the place of the bytes from `start` to `end`; what stands behind them moves up to it.
+#[inline]
 fn fill<A: Allocator>(bytes: &mut Vec<u8, A>, start: usize, end: usize, head: &[u8])
     requires within { (start ≤ end) × (end ≤ length bytes.old.items) }
     requires short { length head.now ≤ end - start }
@@ -101,6 +103,7 @@ fn fill<A: Allocator>(bytes: &mut Vec<u8, A>, start: usize, end: usize, head: &[
 
 /// The same in a slice, of which the last bytes are spare then.
 #[tactic(auto, using(crate::proofs::Kept::filled))]
+#[inline]
 fn move_up(bytes: &mut [u8], start: usize, end: usize, head: &[u8])
     requires within { (start ≤ end) × (end ≤ length bytes.old) }
     requires short { length head.now ≤ end - start }

@@ -79,7 +79,7 @@ impl<A: Allocator> Buffer<A> {
     {
         match self.kind {
             Some(open) => {
-                if open.id() != kind.id() {
+                if open != kind {
                     return self.begin_apart(kind);
                 }
                 self.holder.open(&[])

@@ -1,4 +1,4 @@
-ghost use Rattle.std.specs.Prelude.{◌≡◌, ◌+◌, ◌<◌, ◌≤◌, ◌^◌, length};
+ghost use Rattle.std.specs.Prelude.{◌≡◌, ◌+◌, ◌<◌, ◌≤◌, ◌^◌, length, Some};
 ghost use Rattle.wenc_base.specs.Number.{number_size};
 ghost use Rattle.wenc_base.specs.Holder.{with_kept};
 ghost use Rattle.wenc_builder.specs.inside.Layout.{kind_id, section_head as head_text, open_head as open_head_text, SectionIsIn, SectionFits, earlier_view, closed_with, kept_with};
@@ -66,10 +66,26 @@ pub fn close_earlier<A: Allocator>(holder: &mut Holder<A>, earlier: Earlier) -> 
                 holder.fill_kept(earlier.closed_len, start, &head);
                 return earlier.items_end - (GAP - 3);
             }
-            let head = section_head(kind, earlier.count, earlier.items_end - start);
-            let head = head.as_slice();
-            holder.fill_kept(earlier.closed_len, start, head);
-            earlier.items_end - (GAP - head.len())
+            close_long(holder, kind, earlier)
         }
     }
+}
+
+/// The same of a section with more items or bytes.
+#[tactic(auto, using(wenc_base::proofs::Groups::size_at_most_5))]
+#[cold]
+#[inline(never)]
+fn close_long<A: Allocator>(holder: &mut Holder<A>, kind: Kind, earlier: Earlier) -> usize
+    requires kind { earlier.kind ≡ Some kind }
+    requires within { earlier.items_end ≤ length holder.old.kept }
+    requires section { SectionIsIn earlier.kind earlier.closed_len earlier.items_end }
+    requires fits { SectionFits (earlier_view holder.old.kept earlier) }
+    ensures holder { holder.new ≡ with_kept holder.old (kept_with holder.old.kept earlier) }
+    ensures len { result ≡ length (closed_with holder.old.kept earlier) }
+{
+    let start = earlier.closed_len + GAP;
+    let head = section_head(kind, earlier.count, earlier.items_end - start);
+    let head = head.as_slice();
+    holder.fill_kept(earlier.closed_len, start, head);
+    earlier.items_end - (GAP - head.len())
 }

@@ -129,14 +129,16 @@ impl<A: Allocator> Spaces<A> {
         let space = space.number();
         let one = &mut self.spaces[space];
         let index = one.count();
-        let undo = Undo {
+        self.undo = Some(Undo {
             space,
             count: index,
             named: one.names().len(),
             len: one.names_len(),
-        };
-        one.add(number, name)?;
-        self.undo = Some(undo);
+        });
+        if let Err(fault) = one.add(number, name) {
+            self.undo = None;
+            return Err(fault);
+        }
         Ok(index)
     }
 

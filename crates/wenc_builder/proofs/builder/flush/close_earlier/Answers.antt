@@ -9,9 +9,3 @@ returns-then-body-lt127-clause-holder g c =
     let e = c.args.earlier in
     let same = closed_items c.args.holder.now.kept e.closed_len e.items_end (kind_id c.in-Some.kind) e.count (rw c.in-Some.is at c.requires.section) c.requires.within in
     c.fill_kept.ensures ∙ rw (c.short_head-head.ensures, c.in-Some.is) (ap (λ (kept : List ℕ). with_kept c.args.holder.now kept) same)
-
-pub returns-else-earlier-clause-holder : goal.returns-else-earlier-clause-holder
-returns-else-earlier-clause-holder g c =
-    let e = c.args.earlier in
-    let same = closed_items c.args.holder.now.kept e.closed_len e.items_end (kind_id c.in-Some.kind) e.count (rw c.in-Some.is at c.requires.section) c.requires.within in
-    c.fill_kept-in-Some.ensures ∙ rw (c.as_slice-head.ensures.same, c.section_head-head.ensures, c.in-Some.is) (ap (λ (kept : List ℕ). with_kept c.args.holder.now kept) same)
