@@ -1,0 +1,91 @@
+//! Makes Rust of the proved sources in `crates/`: one file for each of theirs, and `crates.rs`, which declares a module for
+//! each of their crates.
+
+mod erase;
+
+use std::fs;
+use std::path::{Path, PathBuf};
+
+/// The crates of the library, lowest first.
+const LIBRARY: [&str; 10] = [
+    "wenc_base",
+    "wenc_parts",
+    "wenc_types",
+    "wenc_canon",
+    "wenc_sections",
+    "wenc_builder",
+    "wenc_read",
+    "wenc_decode",
+    "wenc_list",
+    "wasm_encoder",
+];
+
+/// The crates behind the programs.
+const PROGRAMS: [&str; 2] = ["wenc", "driven"];
+
+/// The crates that test the others.
+const TESTS: [&str; 6] = [
+    "facts",
+    "sweeping",
+    "part_tests",
+    "section_tests",
+    "builder_tests",
+    "wenc_tests",
+];
+
+/// What `src/proved` has in the place of a crate.
+const BY_HAND: [&str; 2] = ["hex", "refusing"];
+
+fn main() {
+    println!("cargo::rerun-if-changed=rust/build");
+    let known: Vec<&str> = [&LIBRARY[..], &PROGRAMS, &TESTS, &BY_HAND].concat();
+    let out = PathBuf::from(variable("OUT_DIR")).join("proved");
+    let sources = PathBuf::from(variable("CARGO_MANIFEST_DIR")).join("crates");
+    let _ = fs::remove_dir_all(&out);
+    let mut declared = String::new();
+    let parts = [
+        (&LIBRARY[..], ""),
+        (&PROGRAMS, "#[cfg(feature = \"std\")]\n"),
+        (&TESTS, "#[cfg(all(test, feature = \"std\"))]\n"),
+    ];
+    for (names, condition) in parts {
+        for name in names {
+            let source = sources.join(name).join("src");
+            println!("cargo::rerun-if-changed={}", source.display());
+            erase_folder(name, &known, &source, &out.join(name));
+            let root = if source.join("lib.rt").exists() { "lib.rs" } else { "main.rs" };
+            let path = out.join(name).join(root);
+            declared += &format!("{condition}#[path = {path:?}]\npub mod {name};\n");
+        }
+    }
+    write(&out.join("crates.rs"), &declared);
+}
+
+fn variable(name: &str) -> String {
+    std::env::var(name).unwrap_or_else(|_| panic!("cargo sets {name}"))
+}
+
+/// Erases each file of a folder, and of the folders in it.
+fn erase_folder(name: &str, known: &[&str], from: &Path, to: &Path) {
+    let made = fs::create_dir_all(to);
+    made.unwrap_or_else(|error| panic!("{}: {error}", to.display()));
+    let entries = fs::read_dir(from);
+    for entry in entries.unwrap_or_else(|error| panic!("{}: {error}", from.display())) {
+        let path = entry.expect("the folder can be read").path();
+        let target = to.join(path.file_name().expect("it has a name"));
+        if path.is_dir() {
+            erase_folder(name, known, &path, &target);
+        } else if path.extension().is_some_and(|extension| extension == "rt") {
+            let text = fs::read_to_string(&path);
+            let text = text.unwrap_or_else(|error| panic!("{}: {error}", path.display()));
+            match erase::erase(name, known, &text) {
+                Ok(erased) => write(&target.with_extension("rs"), &erased),
+                Err((line, why)) => panic!("{}:{line}: {why}", path.display()),
+            }
+        }
+    }
+}
+
+fn write(path: &Path, text: &str) {
+    fs::write(path, text).unwrap_or_else(|error| panic!("{}: {error}", path.display()));
+}

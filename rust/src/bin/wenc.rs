@@ -1,0 +1,3 @@
+//! The program `wenc`.
+
+fn main() {}

@@ -1,0 +1,160 @@
+//! Components, their sections, and what these are made of.
+
+mod imports;
+mod types;
+
+pub use imports::*;
+pub use types::*;
+
+use crate::encode::{Encode, Foreign, append};
+use crate::error::granted;
+use crate::proved::wasm_encoder as proved;
+use alloc::vec::Vec;
+
+pub use proved::ComponentSectionId;
+
+/// A section of a component (component model, binary format, "Component Definitions"). A type of your own may implement it
+/// too.
+///
+/// ```
+/// use wenc::{Component, ComponentSection, ComponentSectionId, Encode};
+///
+/// /// A custom section with the name `x`.
+/// struct Marked(Vec<u8>);
+///
+/// impl Encode for Marked {
+///     fn encode(&self, sink: &mut Vec<u8>) {
+///         (2 + self.0.len()).encode(sink);
+///         "x".encode(sink);
+///         sink.extend_from_slice(&self.0);
+///     }
+/// }
+///
+/// impl ComponentSection for Marked {
+///     fn id(&self) -> u8 {
+///         ComponentSectionId::CoreCustom.into()
+///     }
+/// }
+///
+/// let mut component = Component::new();
+/// component.section(&Marked(vec![7]));
+/// assert_eq!(component.as_slice()[8..], [0, 3, 1, b'x', 7]);
+/// ```
+pub trait ComponentSection: Encode {
+    /// The section's id.
+    fn id(&self) -> u8;
+
+    /// Appends the section, its id in front.
+    ///
+    /// # Panics
+    ///
+    /// As [`Encode::encode`], and then `dst` is as it was.
+    fn append_to_component(&self, dst: &mut Vec<u8>) {
+        append_section(self, dst);
+    }
+}
+
+/// Appends a section, its id in front, or leaves the bytes as they were.
+fn append_section<S: ComponentSection + ?Sized>(section: &S, dst: &mut Vec<u8>) {
+    granted(append(dst, |sink| proved::ComponentSection::append_to_component(&Foreign(section), sink)));
+}
+
+impl<S: ComponentSection + ?Sized> proved::ComponentSection for Foreign<'_, S> {
+    fn id(&self) -> u8 {
+        self.0.id()
+    }
+}
+
+/// A component by its sections, which stand in it in the order in which they are appended (component model, binary format,
+/// "Component Definitions").
+///
+/// ```
+/// use wenc::{Component, ComponentImportSection, ComponentTypeRef, ComponentTypeSection};
+///
+/// let mut types = ComponentTypeSection::new();
+/// types.function().params([] as [(&str, wenc::ComponentValType); 0]).result(None);
+/// let mut imports = ComponentImportSection::new();
+/// imports.import("f", ComponentTypeRef::Func(0));
+///
+/// let mut component = Component::new();
+/// component.section(&types).section(&imports);
+/// assert_eq!(
+///     component.finish(),
+///     b"\0asm\x0d\0\x01\0\x07\x05\x01\x40\0\x01\0\x0a\x06\x01\0\x01f\x01\0",
+/// );
+/// ```
+#[derive(Clone, Debug)]
+pub struct Component {
+    bytes: Vec<u8>,
+}
+
+impl Component {
+    /// What each component begins with.
+    pub const HEADER: [u8; 8] = <proved::Component>::HEADER;
+
+    /// A component without sections.
+    pub fn new() -> Self {
+        Self { bytes: Self::HEADER.into() }
+    }
+
+    /// The bytes.
+    pub fn finish(self) -> Vec<u8> {
+        self.bytes
+    }
+
+    /// Appends a section.
+    ///
+    /// # Panics
+    ///
+    /// As [`Encode::encode`], and then the component is as it was.
+    pub fn section(&mut self, section: &impl ComponentSection) -> &mut Self {
+        append_section(section, &mut self.bytes);
+        self
+    }
+
+    /// The bytes so far.
+    pub fn as_slice(&self) -> &[u8] {
+        &self.bytes
+    }
+}
+
+impl Default for Component {
+    fn default() -> Self {
+        Self::new()
+    }
+}
+
+/// The sections that have a number of items: a section's id, how many items it has, and how it prints itself.
+macro_rules! sections {
+    ($($name:ident)*) => {
+        $(impl $name {
+            /// How many items the section has.
+            pub fn len(&self) -> u32 {
+                self.0.len()
+            }
+
+            /// Whether it has none.
+            pub fn is_empty(&self) -> bool {
+                self.0.is_empty()
+            }
+        }
+
+        impl $crate::ComponentSection for $name {
+            fn id(&self) -> u8 {
+                $crate::proved::wasm_encoder::ComponentSection::id(&self.0)
+            }
+        }
+
+        impl core::fmt::Debug for $name {
+            fn fmt(&self, f: &mut core::fmt::Formatter<'_>) -> core::fmt::Result {
+                f.debug_struct(stringify!($name)).field("len", &self.len()).finish_non_exhaustive()
+            }
+        })*
+    };
+}
+
+pub(crate) use sections;
+
+crate::encode::encode! {
+    ComponentSectionId, value => *value;
+}

@@ -1,0 +1,123 @@
+//! Imports: their names, what is imported, and their section.
+
+use crate::proved::rt_std::borrow::CowStr;
+use crate::proved::wasm_encoder as proved;
+use crate::component::sections;
+use crate::encode::encode;
+use crate::shared::collections;
+use crate::twins::twins;
+use alloc::borrow::Cow;
+use alloc::string::String;
+
+pub use proved::{ComponentTypeRef, TypeBounds};
+
+/// The name of an import or an export, with the options that a name may have (component model, binary format,
+/// `importname'` and `exportname'`).
+///
+/// ```
+/// use wenc::ComponentExternName;
+///
+/// let mut name = ComponentExternName::from("wall:clock/now@1");
+/// name.version_suffix = Some(".2.3".into());
+/// ```
+#[derive(Clone, Debug)]
+pub struct ComponentExternName<'a> {
+    /// The name.
+    pub name: Cow<'a, str>,
+    /// The name of the interface that is implemented (`implements`).
+    pub implements: Option<Cow<'a, str>>,
+    /// What follows the version that the name bears (`versionsuffix`).
+    pub version_suffix: Option<Cow<'a, str>>,
+    /// A name that this one has elsewhere (`external-id`).
+    pub external_id: Option<Cow<'a, str>>,
+}
+
+impl<'a> ComponentExternName<'a> {
+    /// A name without options.
+    #[inline]
+    fn plain(name: Cow<'a, str>) -> Self {
+        Self { name, implements: None, version_suffix: None, external_id: None }
+    }
+
+    /// The name as the proved code takes it. It takes no memory.
+    #[inline]
+    pub(crate) fn into_proved(self) -> proved::ComponentExternName<'a> {
+        proved::ComponentExternName {
+            name: self.name.into(),
+            implements: self.implements.map(CowStr::from),
+            version_suffix: self.version_suffix.map(CowStr::from),
+            external_id: self.external_id.map(CowStr::from),
+        }
+    }
+
+    /// The same of a name that is kept.
+    fn lent(&self) -> proved::ComponentExternName<'_> {
+        fn option<'t>(text: &'t Option<Cow<'_, str>>) -> Option<CowStr<'t>> {
+            text.as_deref().map(CowStr::Borrowed)
+        }
+        proved::ComponentExternName {
+            name: CowStr::Borrowed(&self.name),
+            implements: option(&self.implements),
+            version_suffix: option(&self.version_suffix),
+            external_id: option(&self.external_id),
+        }
+    }
+}
+
+impl<'a> From<&'a str> for ComponentExternName<'a> {
+    #[inline]
+    fn from(name: &'a str) -> Self {
+        Self::plain(Cow::Borrowed(name))
+    }
+}
+
+impl<'a> From<&'a String> for ComponentExternName<'a> {
+    #[inline]
+    fn from(name: &'a String) -> Self {
+        Self::plain(Cow::Borrowed(name))
+    }
+}
+
+impl From<String> for ComponentExternName<'_> {
+    #[inline]
+    fn from(name: String) -> Self {
+        Self::plain(Cow::Owned(name))
+    }
+}
+
+encode! {
+    ComponentExternName<'_>, name => name.lent();
+    ComponentTypeRef, ty => *ty;
+    TypeBounds, bounds => *bounds;
+}
+
+collections! {
+    /// The section of imports (component model, binary format, "Import and Export Definitions").
+    ///
+    /// ```
+    /// use wenc::{Component, ComponentImportSection, ComponentTypeRef, TypeBounds};
+    ///
+    /// let mut imports = ComponentImportSection::new();
+    /// imports.import("file", ComponentTypeRef::Type(TypeBounds::SubResource));
+    ///
+    /// let mut component = Component::new();
+    /// component.section(&imports);
+    /// ```
+    ComponentImportSection;
+}
+
+sections! { ComponentImportSection }
+
+impl ComponentImportSection {
+    twins! {
+        /// Adds an import under this name.
+        fn import | try_import<'a>(
+            &mut self,
+            name: impl Into<ComponentExternName<'a>>,
+            ty: ComponentTypeRef,
+        ) -> &mut Self {
+            self.0.import(name.into().into_proved(), ty)?;
+            Ok(self)
+        }
+    }
+}

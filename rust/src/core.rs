@@ -1,0 +1,5 @@
+//! Core modules, as far as components have to do with them.
+
+mod types;
+
+pub use types::*;

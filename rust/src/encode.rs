@@ -1,0 +1,152 @@
+//! Values with a text in the binary format.
+
+use crate::Error;
+use crate::error::granted;
+use crate::proved::rt_std::alloc::Allocator;
+use crate::proved::rt_std::vec::Vec as ProvedVec;
+use crate::proved::wenc_base::{self as proved, Fault};
+use alloc::vec::Vec;
+use core::mem::take;
+
+/// A value with a text in the binary format. A type of your own may implement it too, for a section of your own.
+///
+/// ```
+/// use wenc::{ComponentValType, Encode};
+///
+/// let mut sink = Vec::new();
+/// ComponentValType::Type(64).encode(&mut sink);
+/// "f".encode(&mut sink);
+/// assert_eq!(sink, [0xc0, 0x00, 0x01, b'f']);
+/// ```
+pub trait Encode {
+    /// Appends the value's text.
+    ///
+    /// # Panics
+    ///
+    /// Where the value is refused, and then the sink is as it was: a length is past 4294967295, a type or a section isn't
+    /// whole, a core type isn't of WebAssembly 3.0, or an allocation is refused.
+    fn encode(&self, sink: &mut Vec<u8>);
+}
+
+/// A sink that was taken from its owner, and goes back to it, whatever happens: shortened to what it had before, if
+/// somebody's `Encode` panics.
+struct Taken<'a> {
+    owner: &'a mut Vec<u8>,
+    bytes: ProvedVec<u8>,
+    start: usize,
+    is_written: bool,
+}
+
+impl Drop for Taken<'_> {
+    #[inline]
+    fn drop(&mut self) {
+        if !self.is_written {
+            self.bytes.truncate(self.start);
+        }
+        *self.owner = take(&mut self.bytes.inner);
+    }
+}
+
+/// Lends a vector of Rust's to the proved code, which appends to it or leaves it as it was.
+#[inline]
+pub(crate) fn append<E>(
+    sink: &mut Vec<u8>,
+    write: impl FnOnce(&mut ProvedVec<u8>) -> Result<(), E>,
+) -> Result<(), E> {
+    let (bytes, start) = (take(sink).into(), sink.len());
+    let mut taken = Taken { owner: sink, bytes, start, is_written: false };
+    write(&mut taken.bytes)?;
+    taken.is_written = true;
+    Ok(())
+}
+
+/// Appends the text of a value that the proved code writes.
+#[inline]
+#[track_caller]
+pub(crate) fn append_proved<T: proved::Encode>(sink: &mut Vec<u8>, value: &T) {
+    granted(append(sink, |sink| value.encode(sink)));
+}
+
+/// A value whose text a user's `Encode` gives, as the proved code takes it.
+#[derive(Clone, Copy)]
+pub(crate) struct Foreign<'a, T: ?Sized>(pub &'a T);
+
+impl<T: Encode + ?Sized> proved::Encode for Foreign<'_, T> {
+    #[inline]
+    fn encode<A: Allocator>(&self, sink: &mut ProvedVec<u8, A>) -> Result<(), Fault> {
+        self.0.encode(&mut sink.inner);
+        Ok(())
+    }
+}
+
+/// How many bytes this number has in the binary format.
+///
+/// ```
+/// assert_eq!(wenc::encoding_size(127), 1);
+/// assert_eq!(wenc::encoding_size(u32::MAX), 5);
+/// ```
+pub fn encoding_size(n: u32) -> usize {
+    proved::encoding_size(n)
+}
+
+impl<T: Encode + ?Sized> Encode for &T {
+    fn encode(&self, sink: &mut Vec<u8>) {
+        T::encode(self, sink);
+    }
+}
+
+/// A list: the number of its values, and each.
+impl<T: Encode> Encode for [T] {
+    fn encode(&self, sink: &mut Vec<u8>) {
+        granted(append(sink, |sink| proved::encode_list(self.iter().map(Foreign), sink)));
+    }
+}
+
+impl<T: Encode> Encode for Option<T> {
+    fn encode(&self, sink: &mut Vec<u8>) {
+        append_proved(sink, &self.as_ref().map(Foreign));
+    }
+}
+
+/// A list of bytes.
+impl Encode for [u8] {
+    fn encode(&self, sink: &mut Vec<u8>) {
+        append_proved(sink, &self);
+    }
+}
+
+impl Encode for str {
+    fn encode(&self, sink: &mut Vec<u8>) {
+        append_proved(sink, &self);
+    }
+}
+
+impl Encode for usize {
+    fn encode(&self, sink: &mut Vec<u8>) {
+        granted(u32::try_from(*self).map_err(|_| Error::TooMany)).encode(sink);
+    }
+}
+
+/// Writes values as the proved code writes what stands behind the arrow.
+macro_rules! encode {
+    ($($type:ty, $value:ident => $proved:expr;)*) => {
+        $(impl $crate::Encode for $type {
+            fn encode(&self, sink: &mut alloc::vec::Vec<u8>) {
+                let $value = self;
+                $crate::encode::append_proved(sink, &$proved);
+            }
+        })*
+    };
+}
+
+pub(crate) use encode;
+
+encode! {
+    bool, value => *value;
+    u32, value => *value;
+    i32, value => i64::from(*value);
+    u64, value => *value;
+    i64, value => *value;
+    f32, value => proved::Verbatim(&value.to_le_bytes());
+    f64, value => proved::Verbatim(&value.to_le_bytes());
+}

@@ -1,0 +1,22 @@
+//! Writes and lists WebAssembly components.
+#![no_std]
+#![forbid(unsafe_code)]
+#![deny(missing_docs)]
+
+extern crate alloc;
+#[cfg(feature = "std")]
+extern crate std;
+
+mod component;
+mod core;
+mod encode;
+mod error;
+#[allow(dead_code, missing_docs, unused_imports, unused_variables)]
+mod proved;
+mod shared;
+mod twins;
+
+pub use component::*;
+pub use self::core::*;
+pub use encode::{Encode, encoding_size};
+pub use error::Error;

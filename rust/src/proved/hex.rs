@@ -1,0 +1,39 @@
+//! What the sources use of the kit's crate `hex`.
+
+use super::rt_std::alloc::{AllocError, Allocator};
+use super::rt_std::vec::Vec;
+
+#[cfg(all(test, feature = "std"))]
+pub use super::for_tests::encode;
+
+/// Why digits say no bytes.
+#[derive(Clone, Copy, Debug, PartialEq, Eq)]
+pub enum FromHexError {
+    /// One is no digit.
+    InvalidHexCharacter,
+    /// One has no neighbour.
+    OddLength,
+    /// Memory was refused.
+    OutOfMemory,
+}
+
+impl From<AllocError> for FromHexError {
+    fn from(_error: AllocError) -> FromHexError {
+        FromHexError::OutOfMemory
+    }
+}
+
+/// The bytes that hexadecimal digits say.
+pub fn decode<A: Allocator>(alloc: A, digits: impl AsRef<[u8]>) -> Result<Vec<u8, A>, FromHexError> {
+    let digits = digits.as_ref();
+    let value = |digit: u8| char::from(digit).to_digit(16).ok_or(FromHexError::InvalidHexCharacter);
+    if digits.len() % 2 != 0 {
+        return Err(FromHexError::OddLength);
+    }
+    let mut bytes = Vec::with_capacity(alloc, digits.len() / 2)?;
+    for pair in digits.chunks_exact(2) {
+        let byte = value(pair[0])? * 16 + value(pair[1])?;
+        let _ = bytes.push(byte as u8);
+    }
+    Ok(bytes)
+}

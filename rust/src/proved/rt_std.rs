@@ -1,0 +1,59 @@
+//! What the proved sources use of Rattle's standard library, over Rust's. Memory is asked for by `try_reserve`, so that a
+//! refusal is an answer, as it is there. Only names that stand here compile: a call of the sources that this lacks is an
+//! error of the build.
+
+pub mod alloc;
+pub mod borrow;
+pub mod boxed;
+pub mod convert;
+pub mod iter;
+mod macros;
+pub mod string;
+pub mod vec;
+
+/// What stands in scope without being named.
+pub mod prelude {
+    #[cfg(all(test, feature = "std"))]
+    pub use crate::proved::for_tests::TextUsing;
+
+    pub use super::alloc::TryClone;
+    pub use super::boxed::Box;
+    pub use super::iter::CollectUsing;
+    #[cfg(feature = "std")]
+    pub use super::process::HostRuntime;
+    pub use super::string::String;
+    pub use super::vec::{ToVecUsing, Vec};
+}
+
+pub mod marker {
+    //! Markers.
+
+    pub use core::marker::PhantomData;
+
+    /// What contracts see of a type. Nothing is left of it here.
+    pub trait Model {}
+}
+
+pub mod str {
+    //! Texts that are lent.
+
+    pub use core::str::from_utf8;
+}
+
+#[cfg(feature = "std")]
+pub mod io {
+    //! Streams.
+
+    pub use std::io::{Error, ErrorKind, Read, Result, Write};
+}
+
+#[cfg(feature = "std")]
+pub mod process;
+
+#[cfg(all(test, feature = "std"))]
+pub use core::{cmp, hash};
+
+#[cfg(feature = "std")]
+pub(crate) use macros::format;
+#[cfg(all(test, feature = "std"))]
+pub(crate) use macros::vec;

@@ -1,0 +1,44 @@
+//! Texts that are lent or owned.
+
+use super::alloc::{AllocError, Allocator, Global, TryClone};
+use super::string::String;
+use alloc::borrow::Cow;
+
+/// A text that is lent or owned.
+#[derive(Debug, PartialEq, Eq)]
+pub enum CowStr<'a, A: Allocator = Global> {
+    /// It is lent.
+    Borrowed(&'a str),
+    /// It is owned.
+    Owned(String<A>),
+}
+
+impl<A: Allocator> CowStr<'_, A> {
+    /// The text.
+    #[inline]
+    pub fn as_str(&self) -> &str {
+        match self {
+            CowStr::Borrowed(text) => text,
+            CowStr::Owned(text) => text.as_str(),
+        }
+    }
+}
+
+impl<A: Allocator> TryClone for CowStr<'_, A> {
+    fn try_clone(&self) -> Result<Self, AllocError> {
+        match self {
+            CowStr::Borrowed(text) => Ok(CowStr::Borrowed(text)),
+            CowStr::Owned(text) => Ok(CowStr::Owned(text.try_clone()?)),
+        }
+    }
+}
+
+impl<'a> From<Cow<'a, str>> for CowStr<'a> {
+    #[inline]
+    fn from(text: Cow<'a, str>) -> Self {
+        match text {
+            Cow::Borrowed(text) => CowStr::Borrowed(text),
+            Cow::Owned(text) => CowStr::Owned(text.into()),
+        }
+    }
+}

@@ -1,0 +1,59 @@
+//! Values in memory of their own.
+
+use super::alloc::{AllocFailed, Allocator, Global};
+use alloc::boxed::Box as Inner;
+use alloc::vec::Vec;
+use core::fmt;
+use core::marker::PhantomData;
+use core::ops::{Deref, DerefMut};
+
+/// Rust's `Box`, made by a call that answers where memory is refused.
+#[derive(Clone, PartialEq, Eq)]
+pub struct Box<T, A = Global> {
+    /// An array of one, since that is made by way of a vector, which can answer a refusal.
+    inner: Inner<[T; 1]>,
+    alloc: PhantomData<A>,
+}
+
+impl<T, A: Allocator> Box<T, A> {
+    /// A value in memory of its own.
+    pub fn new(alloc: A, value: T) -> Result<Self, AllocFailed<T>> {
+        let mut one = Vec::new();
+        if !alloc.allows() || one.try_reserve_exact(1).is_err() {
+            return Err(AllocFailed { value });
+        }
+        one.push(value);
+        match one.into_boxed_slice().try_into() {
+            Ok(inner) => Ok(Box { inner, alloc: PhantomData }),
+            Err(_) => unreachable!("it has one element"),
+        }
+    }
+
+    /// The value. It takes no memory.
+    pub fn into_inner(self) -> T {
+        let [value] = *self.inner;
+        value
+    }
+}
+
+impl<T, A> Deref for Box<T, A> {
+    type Target = T;
+
+    #[inline]
+    fn deref(&self) -> &T {
+        &self.inner[0]
+    }
+}
+
+impl<T, A> DerefMut for Box<T, A> {
+    #[inline]
+    fn deref_mut(&mut self) -> &mut T {
+        &mut self.inner[0]
+    }
+}
+
+impl<T: fmt::Debug, A> fmt::Debug for Box<T, A> {
+    fn fmt(&self, f: &mut fmt::Formatter<'_>) -> fmt::Result {
+        self.inner[0].fmt(f)
+    }
+}

@@ -1,0 +1,27 @@
+//! Macros that are handed an allocator.
+
+#[cfg(feature = "std")]
+macro_rules! format_in {
+    (in $alloc:expr; $($arguments:tt)*) => {{
+        let mut text = crate::proved::rt_std::string::String::new($alloc);
+        text.write_fmt(::core::format_args!($($arguments)*)).map(|()| text)
+    }};
+}
+
+#[cfg(all(test, feature = "std"))]
+macro_rules! vec_in {
+    (in $alloc:expr; $($value:expr),* $(,)?) => {{
+        let values = [$($value),*];
+        crate::proved::rt_std::vec::Vec::with_capacity($alloc, values.len()).map(|mut all| {
+            for value in values {
+                let _ = all.push(value);
+            }
+            all
+        })
+    }};
+}
+
+#[cfg(feature = "std")]
+pub(crate) use format_in as format;
+#[cfg(all(test, feature = "std"))]
+pub(crate) use vec_in as vec;

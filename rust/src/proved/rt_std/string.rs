@@ -1,0 +1,125 @@
+//! Texts that are owned.
+
+use super::alloc::{AllocError, Allocator, Global, TryClone};
+use super::vec::Vec;
+use alloc::string::String as Inner;
+use core::fmt;
+use core::ops::Deref;
+
+/// Rust's `String`, with calls that answer where memory is refused. It is lent as a `str`, and made of Rust's and into it
+/// by `From` without a copy.
+#[derive(Clone, PartialEq, Eq)]
+pub struct String<A = Global> {
+    inner: Inner,
+    alloc: A,
+}
+
+impl<A: Allocator> String<A> {
+    /// No text. It takes no memory.
+    #[inline]
+    pub fn new(alloc: A) -> Self {
+        String { inner: Inner::new(), alloc }
+    }
+
+    /// This text once more.
+    #[inline]
+    #[expect(clippy::should_implement_trait, reason = "Rattle's name")]
+    pub fn from_str(alloc: A, text: &str) -> Result<Self, AllocError> {
+        let mut made = String::new(alloc);
+        made.push_str(text)?;
+        Ok(made)
+    }
+
+    /// The text.
+    #[inline]
+    pub fn as_str(&self) -> &str {
+        &self.inner
+    }
+
+    #[inline]
+    fn try_reserve(&mut self, more: usize) -> Result<(), AllocError> {
+        if self.inner.capacity() - self.inner.len() < more {
+            if !self.alloc.allows() {
+                return Err(AllocError);
+            }
+            self.inner.try_reserve(more)?;
+        }
+        Ok(())
+    }
+
+    /// Appends a character.
+    #[inline]
+    pub fn push(&mut self, letter: char) -> Result<(), AllocError> {
+        self.try_reserve(letter.len_utf8())?;
+        self.inner.push(letter);
+        Ok(())
+    }
+
+    /// Appends a text.
+    #[inline]
+    pub fn push_str(&mut self, text: &str) -> Result<(), AllocError> {
+        self.try_reserve(text.len())?;
+        self.inner.push_str(text);
+        Ok(())
+    }
+
+    /// The bytes of the text. It takes no memory.
+    #[inline]
+    pub fn into_bytes(self) -> Vec<u8, A> {
+        Vec { inner: self.inner.into_bytes(), alloc: self.alloc }
+    }
+
+    /// What `write!` calls.
+    pub fn write_fmt(&mut self, arguments: fmt::Arguments<'_>) -> Result<(), AllocError> {
+        struct Writer<'a, A>(&'a mut String<A>);
+
+        impl<A: Allocator> fmt::Write for Writer<'_, A> {
+            fn write_str(&mut self, text: &str) -> fmt::Result {
+                self.0.push_str(text).map_err(|_| fmt::Error)
+            }
+        }
+
+        fmt::write(&mut Writer(self), arguments).map_err(|_| AllocError)
+    }
+}
+
+impl<A> Deref for String<A> {
+    type Target = str;
+
+    #[inline]
+    fn deref(&self) -> &str {
+        &self.inner
+    }
+}
+
+impl<A> fmt::Debug for String<A> {
+    fn fmt(&self, f: &mut fmt::Formatter<'_>) -> fmt::Result {
+        self.inner.fmt(f)
+    }
+}
+
+impl<A> fmt::Display for String<A> {
+    fn fmt(&self, f: &mut fmt::Formatter<'_>) -> fmt::Result {
+        f.pad(&self.inner)
+    }
+}
+
+impl<A: Allocator> TryClone for String<A> {
+    fn try_clone(&self) -> Result<Self, AllocError> {
+        String::from_str(self.alloc, &self.inner)
+    }
+}
+
+impl From<Inner> for String {
+    #[inline]
+    fn from(inner: Inner) -> Self {
+        String { inner, alloc: Global }
+    }
+}
+
+impl From<String> for Inner {
+    #[inline]
+    fn from(text: String) -> Self {
+        text.inner
+    }
+}

@@ -1,0 +1,198 @@
+//! Vectors.
+
+use super::alloc::{AllocError, AllocFailed, Allocator, Global};
+use alloc::vec::{IntoIter, Vec as Inner};
+use core::ops::{Deref, DerefMut};
+use core::{fmt, slice};
+
+/// Rust's `Vec`, with calls that answer where memory is refused. It is lent as a slice, and made of Rust's and into it by
+/// `From` without a copy.
+#[derive(Clone, PartialEq, Eq)]
+pub struct Vec<T, A = Global> {
+    pub(crate) inner: Inner<T>,
+    pub(crate) alloc: A,
+}
+
+impl<T, A: Allocator> Vec<T, A> {
+    /// No elements. It takes no memory.
+    #[inline]
+    pub fn new(alloc: A) -> Self {
+        Vec { inner: Inner::new(), alloc }
+    }
+
+    /// No elements, and room for so many.
+    #[inline]
+    pub fn with_capacity(alloc: A, capacity: usize) -> Result<Self, AllocError> {
+        let mut made = Vec::new(alloc);
+        if capacity > 0 {
+            made.ask()?;
+            made.inner.try_reserve_exact(capacity)?;
+        }
+        Ok(made)
+    }
+
+    #[inline]
+    fn ask(&self) -> Result<(), AllocError> {
+        if self.alloc.allows() { Ok(()) } else { Err(AllocError) }
+    }
+
+    /// Where its elements lie.
+    #[inline]
+    pub fn allocator(&self) -> &A {
+        &self.alloc
+    }
+
+    /// How many elements it has room for.
+    #[inline]
+    pub fn capacity(&self) -> usize {
+        self.inner.capacity()
+    }
+
+    /// Its elements.
+    #[inline]
+    pub fn as_slice(&self) -> &[T] {
+        &self.inner
+    }
+
+    /// Its elements, to be changed.
+    #[inline]
+    pub fn as_mut_slice(&mut self) -> &mut [T] {
+        &mut self.inner
+    }
+
+    /// Asks for room for so many more.
+    #[inline]
+    pub fn try_reserve(&mut self, more: usize) -> Result<(), AllocError> {
+        if self.inner.capacity() - self.inner.len() < more { self.grow(more) } else { Ok(()) }
+    }
+
+    #[cold]
+    #[inline(never)]
+    fn grow(&mut self, more: usize) -> Result<(), AllocError> {
+        self.ask()?;
+        Ok(self.inner.try_reserve(more)?)
+    }
+
+    /// Appends an element.
+    #[inline]
+    pub fn push(&mut self, value: T) -> Result<(), AllocFailed<T>> {
+        if self.try_reserve(1).is_err() {
+            return Err(AllocFailed { value });
+        }
+        self.inner.push(value);
+        Ok(())
+    }
+
+    /// Puts an element in front of the one with this index.
+    #[inline]
+    pub fn insert(&mut self, at: usize, value: T) -> Result<(), AllocFailed<T>> {
+        if self.try_reserve(1).is_err() {
+            return Err(AllocFailed { value });
+        }
+        self.inner.insert(at, value);
+        Ok(())
+    }
+
+    /// Takes out the element with this index.
+    #[inline]
+    pub fn remove(&mut self, at: usize) -> T {
+        self.inner.remove(at)
+    }
+
+    /// Cuts off all behind the first `len` elements.
+    #[inline]
+    pub fn truncate(&mut self, len: usize) {
+        self.inner.truncate(len);
+    }
+
+    /// Gives back room that isn't used.
+    pub fn shrink_to_fit(&mut self) {
+        self.inner.shrink_to_fit();
+    }
+}
+
+impl<T: Copy, A: Allocator> Vec<T, A> {
+    /// These elements once more.
+    #[inline]
+    pub fn from_slice(alloc: A, values: &[T]) -> Result<Self, AllocError> {
+        let mut made = Vec::with_capacity(alloc, values.len())?;
+        made.extend_from_slice(values)?;
+        Ok(made)
+    }
+
+    /// Appends these elements.
+    #[inline]
+    pub fn extend_from_slice(&mut self, values: &[T]) -> Result<(), AllocError> {
+        self.try_reserve(values.len())?;
+        self.inner.extend_from_slice(values);
+        Ok(())
+    }
+}
+
+/// Rattle's `to_vec`, by another name, since Rust's slices have a `to_vec` already.
+pub trait ToVecUsing<T> {
+    /// These elements once more.
+    fn to_vec_using<A: Allocator>(&self, alloc: A) -> Result<Vec<T, A>, AllocError>;
+}
+
+impl<T: Copy> ToVecUsing<T> for [T] {
+    fn to_vec_using<A: Allocator>(&self, alloc: A) -> Result<Vec<T, A>, AllocError> {
+        Vec::from_slice(alloc, self)
+    }
+}
+
+impl<T, A> Deref for Vec<T, A> {
+    type Target = [T];
+
+    #[inline]
+    fn deref(&self) -> &[T] {
+        &self.inner
+    }
+}
+
+impl<T, A> DerefMut for Vec<T, A> {
+    #[inline]
+    fn deref_mut(&mut self) -> &mut [T] {
+        &mut self.inner
+    }
+}
+
+impl<T: fmt::Debug, A> fmt::Debug for Vec<T, A> {
+    fn fmt(&self, f: &mut fmt::Formatter<'_>) -> fmt::Result {
+        self.inner.fmt(f)
+    }
+}
+
+impl<T> From<Inner<T>> for Vec<T> {
+    #[inline]
+    fn from(inner: Inner<T>) -> Self {
+        Vec { inner, alloc: Global }
+    }
+}
+
+impl<T> From<Vec<T>> for Inner<T> {
+    #[inline]
+    fn from(vec: Vec<T>) -> Self {
+        vec.inner
+    }
+}
+
+impl<'a, T, A> IntoIterator for &'a Vec<T, A> {
+    type Item = &'a T;
+    type IntoIter = slice::Iter<'a, T>;
+
+    #[inline]
+    fn into_iter(self) -> Self::IntoIter {
+        self.inner.iter()
+    }
+}
+
+impl<T, A> IntoIterator for Vec<T, A> {
+    type Item = T;
+    type IntoIter = IntoIter<T>;
+
+    #[inline]
+    fn into_iter(self) -> Self::IntoIter {
+        self.inner.into_iter()
+    }
+}
