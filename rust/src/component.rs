@@ -1,9 +1,13 @@
 //! Components, their sections, and what these are made of.
 
+mod components;
 mod imports;
+mod modules;
 mod types;
 
+pub use components::*;
 pub use imports::*;
+pub use modules::*;
 pub use types::*;
 
 use crate::encode::{Encode, Foreign, append};

@@ -13,6 +13,7 @@ mod encode;
 mod error;
 #[allow(dead_code, missing_docs, unused_imports, unused_variables)]
 mod proved;
+mod raw;
 mod shared;
 mod twins;
 
@@ -20,3 +21,4 @@ pub use component::*;
 pub use self::core::*;
 pub use encode::{Encode, encoding_size};
 pub use error::Error;
+pub use raw::RawSection;
