@@ -1,10 +1,14 @@
 //! Components, their sections, and what these are made of.
 
+mod builder;
+mod canonicals;
 mod components;
 mod imports;
 mod modules;
 mod types;
 
+pub use builder::*;
+pub use canonicals::{CanonicalFunctionSection, CanonicalOption};
 pub use components::*;
 pub use imports::*;
 pub use modules::*;
@@ -16,6 +20,7 @@ use crate::proved::wasm_encoder as proved;
 use alloc::vec::Vec;
 
 pub use proved::ComponentSectionId;
+pub use proved::{Alias, ComponentExportKind, ComponentOuterAliasKind, ModuleArg}; // STANDIN
 
 /// A section of a component (component model, binary format, "Component Definitions"). A type of your own may implement it
 /// too.
