@@ -20,7 +20,6 @@ use crate::proved::wasm_encoder as proved;
 use alloc::vec::Vec;
 
 pub use proved::ComponentSectionId;
-pub use proved::{Alias, ComponentExportKind, ComponentOuterAliasKind, ModuleArg}; // STANDIN
 
 /// A section of a component (component model, binary format, "Component Definitions"). A type of your own may implement it
 /// too.
