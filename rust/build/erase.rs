@@ -167,6 +167,9 @@ const TREES: [&str; 23] = [
     "TypeTree",
 ];
 
+/// Types that a user of Rust prints, whose sources don't say so.
+const PRINTED: [&str; 1] = ["Alias"];
+
 struct Eraser<'a> {
     name: &'a str,
     crates: &'a [&'a str],
@@ -337,7 +340,8 @@ impl<'a> Eraser<'a> {
         Ok(())
     }
 
-    /// Leaves out of a derive what Rust has not. `Error` becomes an impl behind the enum. Answers where it ends.
+    /// Leaves out of a derive what Rust has not, and adds what is printed. `Error` becomes an impl behind the enum. Answers
+    /// where it ends.
     fn derive(&mut self, i: usize) -> Result<usize, Refused> {
         let end = self.close(i + 1)?;
         let names: Vec<&str> = (i + 4..end - 2).step_by(2).map(|j| self.at(j)).collect();
@@ -347,6 +351,9 @@ impl<'a> Eraser<'a> {
                 Some(derived) => self.put(i + 4, derived),
             }
             return Ok(end);
+        }
+        if self.at(end) == "pub" && PRINTED.contains(&self.at(end + 2)) {
+            self.put(end - 3, format!("{}, Debug", self.at(end - 3)));
         }
         for (j, name) in (i + 4..end - 2).step_by(2).zip(names) {
             if name == "Drop" || name == "Error" {

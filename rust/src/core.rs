@@ -1,10 +1,14 @@
 //! Core modules, as far as components have to do with them.
 
 mod custom;
+mod names;
+mod producers;
 mod types;
 
 pub(crate) use custom::in_either;
 pub use custom::{CustomSection, RawCustomSection};
+pub use names::NameMap;
+pub use producers::{ProducersField, ProducersSection};
 pub use proved::ExportKind;
 pub use types::*;
 

@@ -1,6 +1,7 @@
 //! Sections by their ids and bytes.
 
 use crate::core::in_either;
+use crate::encode::encode;
 use crate::proved::wasm_encoder as proved;
 
 /// A section with any id, from 0 to 255, whose bytes are written behind their size (WebAssembly 3.0, binary format,
@@ -33,6 +34,10 @@ impl RawSection<'_> {
     fn lent(&self) -> proved::RawSection<'_> {
         proved::RawSection { id: self.id, data: self.data }
     }
+}
+
+encode! {
+    RawSection<'_>, section => section.lent();
 }
 
 in_either! {

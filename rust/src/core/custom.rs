@@ -1,5 +1,6 @@
 //! Custom sections.
 
+use crate::encode::encode;
 use crate::proved::wasm_encoder as proved;
 use alloc::borrow::Cow;
 
@@ -70,15 +71,16 @@ macro_rules! in_either {
                 let $section = self;
                 $crate::proved::wasm_encoder::ComponentSection::id(&$proved)
             }
-        }
-
-        $crate::encode::encode! {
-            $name, $section => $proved;
         })*
     };
 }
 
 pub(crate) use in_either;
+
+encode! {
+    CustomSection<'_>, section => section.lent();
+    RawCustomSection<'_>, section => section.lent();
+}
 
 in_either! {
     CustomSection<'_>, section => section.lent();

@@ -1,11 +1,9 @@
 //! The builder's calls for instances, of core modules and of components.
 
-use crate::Error;
 use crate::component::{ComponentBuilder, ComponentExportKind, ComponentExternName, ModuleArg};
 use crate::core::ExportKind;
-use crate::proved::wasm_encoder as proved;
+use crate::shared::kept;
 use crate::twins::twins;
-use alloc::vec::Vec;
 
 /// Instances: each call adds one, with a debug name or none, and answers its index (component model, binary format,
 /// "Instance Definitions"). What comes out of an iterator is written in its order.
@@ -53,7 +51,9 @@ impl ComponentBuilder {
             S: AsRef<str>,
         }
         {
-            instantiate(&mut self.0, debug_name, component_index, args.into_iter())
+            let args = kept(args)?;
+            let lent = args.iter().map(|(name, kind, index)| (name.as_ref(), *kind, *index));
+            Ok(self.0.instantiate(debug_name, component_index, lent)?)
         }
 
         /// Adds an instance of these items, under these names: the kind of each, and its index.
@@ -84,20 +84,4 @@ impl ComponentBuilder {
             Ok(self.0.instantiate_exports(debug_name, exports)?)
         }
     }
-}
-
-/// Instantiates a component with what may own its names. They are kept until they are written, since the proved call takes
-/// what is lent; so an iterator that panics leaves the builder as it was.
-#[inline]
-fn instantiate<S: AsRef<str>>(
-    builder: &mut proved::ComponentBuilder,
-    debug_name: Option<&str>,
-    component_index: u32,
-    args: impl ExactSizeIterator<Item = (S, ComponentExportKind, u32)>,
-) -> Result<u32, Error> {
-    let mut kept = Vec::new();
-    kept.try_reserve(args.len()).map_err(|_| Error::NoMemory)?;
-    kept.extend(args);
-    let lent = kept.iter().map(|(name, kind, index)| (name.as_ref(), *kind, *index));
-    Ok(builder.instantiate(debug_name, component_index, lent)?)
 }
