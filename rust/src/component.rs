@@ -1,8 +1,10 @@
 //! Components, their sections, and what these are made of.
 
+mod aliases;
 mod imports;
 mod types;
 
+pub use aliases::*;
 pub use imports::*;
 pub use types::*;
 

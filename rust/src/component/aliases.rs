@@ -1,0 +1,3 @@
+//! Aliases.
+
+pub use crate::proved::wasm_encoder::{Alias, ComponentExportKind, ComponentOuterAliasKind};
