@@ -36,7 +36,9 @@ fn functions_are_lifted_and_lowered_with_options() {
     assert_eq!(functions.len(), 4);
     assert_eq!(
         section(&functions),
-        format!("08 34 04 00 00 01 0a {texts} 02 01 00 c8 01 0a {texts} 00 00 00 00 00 01 00 00 00")
+        format!(
+            "08 34 04 00 00 01 0a {texts} 02 01 00 c8 01 0a {texts} 00 00 00 00 00 01 00 00 00"
+        )
     );
 }
 
@@ -71,4 +73,13 @@ fn calls_that_may_be_refused_chain_too() {
     let mut functions = CanonicalFunctionSection::new();
     assert_eq!(written(&mut functions), Ok(3));
     assert_eq!(section(&functions), "08 0a 03 01 00 00 01 06 0f 01 00 23");
+}
+
+#[test]
+fn a_component_has_a_function_lifted_with_one_option() {
+    let mut functions = CanonicalFunctionSection::new();
+    functions.lift(0, 0, [CanonicalOption::UTF8]);
+    let mut component = Component::new();
+    component.section(&functions);
+    assert_eq!(hex(&component.finish()), "00 61 73 6d 0d 00 01 00 08 07 01 00 00 00 01 00 00");
 }

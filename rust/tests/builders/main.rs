@@ -3,7 +3,6 @@
 
 mod canonicals;
 mod components;
-mod examples;
 mod hex;
 #[cfg(panic = "unwind")]
 mod panics;
