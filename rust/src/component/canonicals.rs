@@ -44,7 +44,12 @@ sections! { CanonicalFunctionSection }
 impl CanonicalFunctionSection {
     twins! {
         /// Makes a function, of the type with this index, of a core function.
-        fn lift | try_lift<O>(&mut self, core_func_index: u32, type_index: u32, options: O) -> &mut Self
+        fn lift | try_lift<O>(
+            &mut self,
+            core_func_index: u32,
+            type_index: u32,
+            options: O,
+        ) -> &mut Self
         where {
             O: IntoIterator<Item = CanonicalOption>,
             O::IntoIter: ExactSizeIterator,
@@ -71,13 +76,22 @@ impl CanonicalFunctionSection {
 macro_rules! calls {
     (
         plain {
-            $($(#[$doc:meta])* $name:ident | $tried:ident $args:tt $(or $own:tt)?;)*
+            $(
+                $(#[$doc:meta])*
+                $name:ident | $tried:ident $args:tt $(or $own:tt)?;
+            )*
         }
         with_options {
-            $($(#[$list_doc:meta])* $list:ident | $list_tried:ident ($($arg:ident: $ty:ty),*);)*
+            $(
+                $(#[$list_doc:meta])*
+                $list:ident | $list_tried:ident ($($arg:ident: $ty:ty),*);
+            )*
         }
         of_slot {
-            $($(#[$slot_doc:meta])* $slot:ident | $slot_tried:ident;)*
+            $(
+                $(#[$slot_doc:meta])*
+                $slot:ident | $slot_tried:ident;
+            )*
         }
     ) => {
         /// Core functions that the component model provides (component model, binary format, "Canonical Definitions").

@@ -9,13 +9,22 @@ use crate::twins::twins;
 macro_rules! calls {
     (
         plain {
-            $($(#[$doc:meta])* $name:ident | $tried:ident ($($arg:ident: $ty:ty),*) $(or $other:tt)?;)*
+            $(
+                $(#[$doc:meta])*
+                $name:ident | $tried:ident ($($arg:ident: $ty:ty),*) $(or $others:tt)?;
+            )*
         }
         with_options {
-            $($(#[$list_doc:meta])* $list:ident | $list_tried:ident ($($lead:ident: $lead_ty:ty),*);)*
+            $(
+                $(#[$list_doc:meta])*
+                $list:ident | $list_tried:ident ($($lead:ident: $lead_ty:ty),*);
+            )*
         }
         of_slot {
-            $($(#[$slot_doc:meta])* $slot:ident | $slot_tried:ident;)*
+            $(
+                $(#[$slot_doc:meta])*
+                $slot:ident | $slot_tried:ident;
+            )*
         }
     ) => {
         /// Core functions that the component model provides: each call adds one, and answers its index (component model,

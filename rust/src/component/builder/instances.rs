@@ -79,9 +79,8 @@ impl ComponentBuilder {
             N: Into<ComponentExternName<'a>>,
         }
         {
-            let exports = exports.into_iter();
-            let exports = exports.map(|(name, kind, index)| (name.into().into_proved(), kind, index));
-            Ok(self.0.instantiate_exports(debug_name, exports)?)
+            let named = |(name, kind, index): (N, _, _)| (name.into().into_proved(), kind, index);
+            Ok(self.0.instantiate_exports(debug_name, exports.into_iter().map(named))?)
         }
     }
 }
