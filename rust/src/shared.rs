@@ -107,17 +107,14 @@ macro_rules! encoders {
     (
         @one $name:ident $by:ident [$($field:ident = $start:expr)?] $case:ident $lender:ident
     ) => {
-        impl<'a> From<
-            $crate::proved::wasm_encoder::$name<'a, $crate::proved::wasm_encoder::$lender>,
-        > for $name<'a> {
+        // Not `From`, which would show the proved encoder among what the public one implements.
+        #[allow(clippy::from_over_into)]
+        impl<'a> Into<$name<'a>>
+            for $crate::proved::wasm_encoder::$name<'a, $crate::proved::wasm_encoder::$lender>
+        {
             #[inline]
-            fn from(
-                encoder: $crate::proved::wasm_encoder::$name<
-                    'a,
-                    $crate::proved::wasm_encoder::$lender,
-                >,
-            ) -> Self {
-                Self { by: $by::$case(encoder), $($field: $start,)? }
+            fn into(self) -> $name<'a> {
+                $name { by: $by::$case(self), $($field: $start,)? }
             }
         }
     };
