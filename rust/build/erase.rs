@@ -170,6 +170,10 @@ const TREES: [&str; 23] = [
 /// Types that a user of Rust prints, whose sources don't say so.
 const PRINTED: [&str; 1] = ["Alias"];
 
+/// Methods of trees that stay in this crate: their contracts ask for what nothing tests, or they answer what the facade has
+/// in another shape.
+const NARROWED: [(&str, &str); 2] = [("FuncType", "new"), ("NameTree", "as_name")];
+
 struct Eraser<'a> {
     name: &'a str,
     crates: &'a [&'a str],
@@ -243,9 +247,11 @@ impl<'a> Eraser<'a> {
             }
         }
         self.examples();
-        let mut derived = 0;
+        let (mut derived, mut owner) = (0, "");
         for i in 0..self.code.len() {
             match self.at(i) {
+                "impl" if matches!(self.before(i, 1), "" | ";" | "]" | "}") => owner = self.owner(i),
+                "pub" if NARROWED.contains(&(owner, self.at(i + 2))) => self.put(i, "pub(crate)"),
                 "#" if self.at(i + 2) == "derive" => {
                     derived = self.derive(i)?;
                 }
@@ -271,6 +277,20 @@ impl<'a> Eraser<'a> {
         }
         self.bring_prelude();
         Ok(())
+    }
+
+    /// The type whose methods an `impl` has, or the trait.
+    fn owner(&self, i: usize) -> &'a str {
+        let mut depth = 0;
+        for j in i + 1..self.code.len() {
+            match self.at(j) {
+                "<" => depth += 1,
+                ">" if self.before(j, 1) != "-" => depth -= 1,
+                word if depth == 0 => return word,
+                _ => {}
+            }
+        }
+        ""
     }
 
     /// Leaves out the examples of documentation, which are Rattle.

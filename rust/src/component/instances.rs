@@ -46,7 +46,7 @@ collections! {
     /// component.section(&instances);
     /// assert_eq!(
     ///     component.as_slice()[8..],
-    ///     *b"\x05\x16\x02\x01\x01\x00\x03now\x01\x04\x00\x02\x01\x05clock\x05\x00",
+    ///     *b"\x05\x15\x02\x01\x01\x00\x03now\x01\x04\x00\x02\x01\x05clock\x05\x00",
     /// );
     /// ```
     ComponentInstanceSection;
