@@ -4,6 +4,7 @@
 mod canonicals;
 mod components;
 mod hex;
+mod listed;
 #[cfg(panic = "unwind")]
 mod panics;
 mod provided;
