@@ -80,7 +80,10 @@ fn primitive_types() {
         section.defined_type().primitive(ty);
     }
     assert_eq!(section.len(), 14);
-    assert_eq!(text(&section), *b"\x0f\x0e\x7f\x7e\x7d\x7c\x7b\x7a\x79\x78\x77\x76\x75\x74\x73\x64");
+    assert_eq!(
+        text(&section),
+        *b"\x0f\x0e\x7f\x7e\x7d\x7c\x7b\x7a\x79\x78\x77\x76\x75\x74\x73\x64"
+    );
     defined(|encoder| encoder.primitive(PrimitiveValType::Char), &[0x74]);
 }
 
