@@ -4,8 +4,8 @@
 use crate::shapes::{field, function, sub, text};
 use std::panic::{AssertUnwindSafe, catch_unwind};
 use wenc::{
-    ComponentType, CoreTypeEncoder, CoreTypeSection, Error, InstanceType, ModuleType, StorageType,
-    ValType,
+    ComponentBuilder, ComponentType, CoreTypeEncoder, CoreTypeSection, Error, InstanceType,
+    ModuleType, StorageType, ValType,
 };
 
 /// A value, and then none comes back.
@@ -44,6 +44,12 @@ fn leaves_unfinished(write: fn(CoreTypeEncoder<'_>)) {
     assert!(!instance.is_finished());
     assert!(instance.discard_unfinished());
     assert_eq!(text(&instance), [0x42, 0x00]);
+
+    let mut builder = ComponentBuilder::default();
+    assert!(panics(|| write(builder.core_type(None).1.core())));
+    assert!(!builder.is_finished());
+    assert!(builder.discard_unfinished());
+    assert_eq!(builder.finish()[8..], []);
 }
 
 #[test]

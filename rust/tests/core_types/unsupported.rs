@@ -3,10 +3,10 @@
 use crate::shapes::{composite, field, function, global, memory, structure, sub, table, tag, text};
 use std::panic::{AssertUnwindSafe, catch_unwind};
 use wenc::{
-    AbstractHeapType, ArrayType, ComponentType, ComponentTypeSection, CompositeInnerType,
-    CompositeType, ContType, CoreTypeEncoder, CoreTypeSection, Encode, EntityType, Error,
-    FieldType, FuncType, GlobalType, HeapType, InstanceType, MemoryType, ModuleType, RefType,
-    StorageType, StructType, SubType, TableType, ValType,
+    AbstractHeapType, ArrayType, ComponentBuilder, ComponentType, ComponentTypeSection,
+    CompositeInnerType, CompositeType, ContType, CoreTypeEncoder, CoreTypeSection, Encode,
+    EntityType, Error, FieldType, FuncType, GlobalType, HeapType, InstanceType, MemoryType,
+    ModuleType, RefType, StorageType, StructType, SubType, TableType, ValType,
 };
 
 const SHARED: HeapType = HeapType::Abstract { shared: true, ty: AbstractHeapType::Func };
@@ -129,6 +129,11 @@ fn refuses(write: fn(CoreTypeEncoder<'_>) -> Result<(), Error>) {
     assert_eq!(write(module.ty()), Err(Error::Unsupported));
     assert!(module.discard_unfinished());
     assert_eq!(text(&module), [0x50, 0x00]);
+    let mut builder = ComponentBuilder::default();
+    assert_eq!(write(builder.core_type(None).1.core()), Err(Error::Unsupported));
+    assert!(builder.discard_unfinished());
+    builder.core_type(None).1.core().struct_([]);
+    assert_eq!(builder.finish()[8..], [0x03, 0x03, 0x01, 0x5f, 0x00]);
 }
 
 #[test]

@@ -2,8 +2,8 @@
 
 use crate::shapes::{EXTERNREF, FUNCREF, Inner, field, function, structure, sub, text};
 use wenc::{
-    ArrayType, ComponentType, CoreTypeEncoder, CoreTypeSection, FuncType, HeapType, InstanceType,
-    ModuleType, RefType, StorageType, ValType,
+    ArrayType, ComponentBuilder, ComponentType, CoreTypeEncoder, CoreTypeSection, FuncType,
+    HeapType, InstanceType, ModuleType, RefType, StorageType, ValType,
 };
 
 const NODE: RefType = RefType { nullable: true, heap_type: HeapType::Concrete(200) };
@@ -25,6 +25,10 @@ fn guarded(guard: &[u8], write: fn(CoreTypeEncoder<'_>), bytes: &[u8]) {
     let mut module = ModuleType::new();
     write(module.ty());
     assert_eq!(text(&module), [&[0x50, 1, 1], bytes].concat());
+    let mut builder = ComponentBuilder::default();
+    write(builder.core_type(None).1.core());
+    write(builder.core_type(None).1.core());
+    assert_eq!(builder.finish()[8..], [&[0x03, size, 2], &item[..], &item].concat());
 }
 
 fn each(write: fn(CoreTypeEncoder<'_>), bytes: &[u8]) {

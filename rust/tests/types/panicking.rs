@@ -2,8 +2,9 @@
 
 use std::panic::{AssertUnwindSafe, catch_unwind};
 use wenc::{
-    ComponentDefinedTypeEncoder, ComponentExternName, ComponentType, ComponentTypeRef,
-    ComponentTypeSection, ComponentValType, Encode, Error, InstanceType, PrimitiveValType,
+    ComponentBuilder, ComponentDefinedTypeEncoder, ComponentExternName, ComponentType,
+    ComponentTypeRef, ComponentTypeSection, ComponentValType, Encode, Error, InstanceType,
+    PrimitiveValType,
 };
 
 fn text(value: &impl Encode) -> Vec<u8> {
@@ -61,6 +62,12 @@ fn leaves_unfinished(write: fn(ComponentDefinedTypeEncoder<'_>)) {
     assert!(!component.is_finished());
     assert!(component.discard_unfinished());
     assert_eq!(text(&component), [0x41, 0x00]);
+
+    let mut builder = ComponentBuilder::default();
+    assert!(panics(|| write(builder.type_defined(None).1)));
+    assert!(!builder.is_finished());
+    assert!(builder.discard_unfinished());
+    assert_eq!(builder.finish()[8..], []);
 }
 
 #[test]

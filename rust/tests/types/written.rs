@@ -1,10 +1,10 @@
 //! Each type, by each that lends itself to its encoder.
 
 use wenc::{
-    Alias, ComponentDefinedTypeEncoder, ComponentExportKind, ComponentOuterAliasKind,
-    ComponentSection, ComponentType, ComponentTypeEncoder, ComponentTypeRef, ComponentTypeSection,
-    ComponentValType, CoreTypeSection, Encode, EntityType, ExportKind, InstanceType, ModuleType,
-    PrimitiveValType, TypeBounds, ValType,
+    Alias, ComponentBuilder, ComponentDefinedTypeEncoder, ComponentExportKind,
+    ComponentOuterAliasKind, ComponentSection, ComponentType, ComponentTypeEncoder,
+    ComponentTypeRef, ComponentTypeSection, ComponentValType, CoreTypeSection, Encode, EntityType,
+    ExportKind, InstanceType, ModuleType, PrimitiveValType, TypeBounds, ValType,
 };
 
 const NONE: [(&str, ComponentValType); 0] = [];
@@ -37,6 +37,9 @@ fn each(write: fn(ComponentTypeEncoder<'_>), bytes: &[u8]) {
     let mut instance = InstanceType::new();
     write(instance.ty());
     assert_eq!(text(&instance), declared(0x42, 0x01, bytes));
+    let mut builder = ComponentBuilder::default();
+    write(builder.ty(None).1);
+    assert_eq!(builder.finish()[8..], [&[0x07], &alone(bytes)[..]].concat());
 }
 
 /// The same of a type of values.
@@ -52,6 +55,10 @@ fn defined(write: fn(ComponentDefinedTypeEncoder<'_>), bytes: &[u8]) {
     let mut instance = InstanceType::new();
     write(instance.ty().defined_type());
     assert_eq!(text(&instance), declared(0x42, 0x01, bytes));
+    let mut builder = ComponentBuilder::default();
+    write(builder.type_defined(None).1);
+    write(builder.ty(None).1.defined_type());
+    assert_eq!(builder.finish()[8..], [&[0x07, size, 2], bytes, bytes].concat());
 }
 
 #[test]
