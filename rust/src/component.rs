@@ -1,6 +1,8 @@
 //! Components, their sections, and what these are made of.
 
 mod aliases;
+mod builder;
+mod canonicals;
 mod components;
 mod exports;
 mod imports;
@@ -11,6 +13,8 @@ mod start;
 mod types;
 
 pub use aliases::*;
+pub use builder::*;
+pub use canonicals::{CanonicalFunctionSection, CanonicalOption};
 pub use components::*;
 pub use exports::*;
 pub use imports::*;

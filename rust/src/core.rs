@@ -1,15 +1,26 @@
 //! Core modules, as far as components have to do with them.
 
 mod custom;
+mod exports;
+mod globals;
+mod imports;
+mod memories;
 mod names;
 mod producers;
+mod tables;
+mod tags;
 mod types;
 
 pub(crate) use custom::in_either;
 pub use custom::{CustomSection, RawCustomSection};
+pub use exports::ExportKind;
+pub use globals::GlobalType;
+pub use imports::EntityType;
+pub use memories::MemoryType;
 pub use names::NameMap;
 pub use producers::{ProducersField, ProducersSection};
-pub use proved::ExportKind;
+pub use tables::TableType;
+pub use tags::{TagKind, TagType};
 pub use types::*;
 
 use crate::encode::{Encode, Foreign, append, encode};
@@ -172,5 +183,4 @@ impl Default for Module {
 
 encode! {
     SectionId, id => Verbatim(&[u8::from(*id)]);
-    ExportKind, kind => *kind;
 }
