@@ -28,12 +28,7 @@ fn sources() -> Vec<(String, PathBuf, String, String)> {
     found
 }
 
-fn gather(
-    name: &str,
-    from: &Path,
-    to: &Path,
-    found: &mut Vec<(String, PathBuf, String, String)>,
-) {
+fn gather(name: &str, from: &Path, to: &Path, found: &mut Vec<(String, PathBuf, String, String)>) {
     let names = |folder: &Path| {
         let entries = fs::read_dir(folder).expect("the folder can be read");
         let mut names: Vec<PathBuf> =
@@ -72,9 +67,6 @@ fn erased_sources_are_the_sources() {
 
 /// A source with most of the ways in which the two may part.
 const SOURCE: &str = "\
-#![tactic(auto)]
-ghost use a.{length};
-use std::fmt;
 use crate::b;
 #[derive(Clone, Copy)]
 pub struct Pair<T: Drop>(u8, T);
@@ -87,20 +79,17 @@ pub enum TypeTree {
 #[inline]
 fn f(x: u8) -> Result<u8, E>
     requires { x < 3 }
-    ensures big { 300 < x }
 {
     let y = x.clone()?;
     g(x + 12, \"text\");
+    h(1, 2);
     Ok(y)
 }
 ";
 
 /// What it has to be erased to.
 const RUST: &str = "\
-use crate::proved::rt_std::prelude::*;
-
-use crate::proved::rt_std::fmt;
-use crate::proved::named::b;
+use crate::proved::rt_std::prelude::*; use crate::proved::named::b;
 #[derive(Clone, Copy)]
 pub struct Pair<T>(u8, T);
 #[derive(Clone, Debug, PartialEq, Eq)]
@@ -112,22 +101,68 @@ pub enum TypeTree {
 #[inline]
 fn f(x: u8) -> Result<u8, E>
 
-
 {
     let y = x.try_clone()?;
     g(x + 12, \"text\");
+    h(1, 2);
     Ok(y)
 }
 ";
 
-fn is_found(rust: &str) -> bool {
-    read("named", SOURCE, rust, &mut BTreeMap::new()).is_err()
-}
+/// Changes of that Rust, by the words that are replaced: each is to be found.
+const CHANGES: [(&str, &str, &str); 20] = [
+    ("a number", "12", "13"),
+    ("a statement that is dropped", "h(1, 2);", ""),
+    ("a statement twice", "h(1, 2);", "h(1, 2); h(1, 2);"),
+    ("arguments in another order", "h(1, 2)", "h(2, 1)"),
+    ("another word", "g(x", "h(x"),
+    ("another operator", "x + 12", "x - 12"),
+    ("a letter of a text", "text", "test"),
+    ("a blank in a text", "\"text\"", "\"text \""),
+    ("a token more", "Ok(y)", "Ok(!y)"),
+    ("a mark less", "clone()?", "clone()"),
+    ("a name that stays", "try_clone", "clone"),
+    ("a path's root", "proved::named", "proved::other"),
+    ("an attribute that is dropped", "#[inline]", ""),
+    ("an attribute that came in", "#[inline]", "#[inline] #[cold]"),
+    ("a derive that is dropped", "Clone, Copy", "Clone"),
+    ("a tree's derive", "Clone, Debug, PartialEq, Eq", "Clone"),
+    ("a clause that became code", "E>\n\n{", "E>\n{ x < 3 }\n{"),
+    ("a ghost field that stays", "A,\n\n", "A,\n    whole: u8,\n"),
+    ("a line that moved", "h(1, 2);\n", "h(1, 2);\n\n"),
+    ("the prelude", "use crate::proved::rt_std::prelude::*;", ""),
+];
 
 #[test]
-fn the_right_rust_is_right() {
-    // The prelude stands in the line of the first token that stays, which is behind what is left out.
-    let rust = RUST.replacen("use crate::proved::rt_std::prelude::*;\n\n", "\n\n", 1);
-    let rust = rust.replacen("use ", "use crate::proved::rt_std::prelude::*; use ", 1);
-    assert_eq!(read("named", SOURCE, &rust, &mut BTreeMap::new()), Ok(()));
+fn each_change_is_found() {
+    let read = |rust: &str| read("named", SOURCE, rust, &mut BTreeMap::new());
+    assert_eq!(read(RUST), Ok(()));
+    for (what, from, to) in CHANGES {
+        assert!(RUST.contains(from), "{what}");
+        assert!(read(&RUST.replacen(from, to, 1)).is_err(), "{what} is not found");
+    }
+    assert!(read(&RUST[..RUST.len() - 2]).is_err(), "an end that is missing");
+    assert!(read(&format!("{RUST}fn g() {{}}")).is_err(), "an item that came in");
+}
+
+/// In one file in forty, each token left out, written twice, and replaced.
+#[test]
+fn each_token_counts() {
+    let mut sources = sources();
+    sources.sort();
+    let (mut planted, mut counts) = (0, BTreeMap::new());
+    for (name, path, old, new) in sources.into_iter().step_by(40) {
+        let chars: Vec<char> = new.chars().collect();
+        let text = |range: std::ops::Range<usize>| chars[range].iter().collect::<String>();
+        for token in lex(&new) {
+            let (before, behind) = (text(0..token.begin), text(token.end..chars.len()));
+            for other in ["", "changed", &format!("{0} {0}", token.text)] {
+                let changed = format!("{before} {other} {behind}");
+                let is_found = read(&name, &old, &changed, &mut counts).is_err();
+                assert!(is_found, "{}:{}: {other:?}", path.display(), token.line);
+                planted += 1;
+            }
+        }
+    }
+    assert!(planted > 3000, "only {planted} changes");
 }
