@@ -9,9 +9,9 @@
 //! - *renames*: the roots of paths, so that `crate::` and `wenc_base::` are modules of `crate::proved`, and `std::` is
 //!   `crate::proved::rt_std`, which has what the sources use of Rattle's library; `Clone` and `clone`, which may be refused
 //!   there, to `TryClone` and `try_clone`; the methods of [`ALLOCATING`], to those with `_using` behind their names;
-//!   `derive_where` to `derive`;
+//!   `derive_where` to `derive`; `pub` of the methods that are not for a user ([`NARROWED`]) to `pub(crate)`;
 //! - *adds*: the names that stand in scope without being named, in front of a file's first item; what a user of Rust
-//!   expects of a tree ([`TREES`]); `Display` and `Error` behind an enum that derives `Error`; `pub` to `main`;
+//!   expects of a tree ([`known::TREES`], [`known::PRINTED`]); `Display` and `Error` behind an enum that derives `Error`; `pub` to `main`;
 //! - *refuses*: everything else that it doesn't know. Better no crate than one that does something else than was proved.
 //!
 //! `rust/tests/honest.rs` reads each source beside its Rust, by a lexer of its own, and knows the same list.
@@ -23,7 +23,7 @@ mod known;
 #[path = "erase/lexer.rs"]
 mod lexer;
 
-use known::{ALLOCATING, HANDED, KEYWORDS, MACROS};
+use known::{ALLOCATING, HANDED, KEYWORDS, MACROS, NARROWED};
 use lexer::{Kind, Token, tokens};
 use std::borrow::Cow;
 
@@ -51,9 +51,8 @@ struct Eraser<'a> {
 
 impl<'a> Eraser<'a> {
     fn new(name: &'a str, crates: &'a [&'a str], tokens: &'a [Token<'a>]) -> Self {
-        let is_code = |t: &usize| {
-            !matches!(tokens[*t].kind, Kind::Space | Kind::Comment | Kind::Ghost)
-        };
+        let is_code =
+            |t: &usize| !matches!(tokens[*t].kind, Kind::Space | Kind::Comment | Kind::Ghost);
         Eraser {
             name,
             crates,
@@ -146,6 +145,7 @@ impl<'a> Eraser<'a> {
             "mod" if self.is_taken(self.at(i + 1)) => {
                 return Err((self.line(i), "a module with the name of a crate"));
             }
+            "pub" if self.is_narrowed(i) => self.put(i, "pub(crate)"),
             "Clone" => self.put(i, "TryClone"),
             "clone" => self.put(i, "try_clone"),
             method if self.before(i, 1) == "." && ALLOCATING.contains(&method) => {
@@ -165,9 +165,35 @@ impl<'a> Eraser<'a> {
         Ok(())
     }
 
+    /// Whether a method begins here that stays in this crate.
+    fn is_narrowed(&self, i: usize) -> bool {
+        let is_item = |j: &usize| matches!(self.before(*j, 1), "" | ";" | "]" | "}");
+        let mut impls = (0..i).rev().filter(|j| self.at(*j) == "impl").filter(is_item);
+        NARROWED.iter().any(|(owner, method)| {
+            self.stands(i + 1, "fn")
+                && self.at(i + 2) == *method
+                && impls.next().is_some_and(|j| self.owner(j) == *owner)
+        })
+    }
+
+    /// The type whose methods an `impl` has, or the trait.
+    fn owner(&self, i: usize) -> &'a str {
+        let mut depth = 0;
+        for j in i + 1..self.code.len() {
+            match self.at(j) {
+                "<" => depth += 1,
+                ">" if self.before(j, 1) != "-" => depth -= 1,
+                word if depth == 0 => return word,
+                _ => {}
+            }
+        }
+        ""
+    }
+
     /// Whether a path may begin with this name.
     fn is_taken(&self, word: &str) -> bool {
-        ["crate", "std", "core", "alloc", "thiserror"].contains(&word) || self.crates.contains(&word)
+        ["crate", "std", "core", "alloc", "thiserror"].contains(&word)
+            || self.crates.contains(&word)
     }
 
     /// Leaves out the examples of documentation.

@@ -1,9 +1,27 @@
 //! Components, their sections, and what these are made of.
 
+mod aliases;
+mod builder;
+mod canonicals;
+mod components;
+mod exports;
 mod imports;
+mod instances;
+mod modules;
+mod names;
+mod start;
 mod types;
 
+pub use aliases::*;
+pub use builder::*;
+pub use canonicals::{CanonicalFunctionSection, CanonicalOption};
+pub use components::*;
+pub use exports::*;
 pub use imports::*;
+pub use instances::*;
+pub use modules::*;
+pub use names::*;
+pub use start::*;
 pub use types::*;
 
 use crate::encode::{Encode, Foreign, append};
@@ -56,7 +74,9 @@ pub trait ComponentSection: Encode {
 
 /// Appends a section, its id in front, or leaves the bytes as they were.
 fn append_section<S: ComponentSection + ?Sized>(section: &S, dst: &mut Vec<u8>) {
-    granted(append(dst, |sink| proved::ComponentSection::append_to_component(&Foreign(section), sink)));
+    granted(append(dst, |sink| {
+        proved::ComponentSection::append_to_component(&Foreign(section), sink)
+    }));
 }
 
 impl<S: ComponentSection + ?Sized> proved::ComponentSection for Foreign<'_, S> {

@@ -41,7 +41,9 @@ fn refuses(source: &str, line: usize, why: &str) {
 fn code_stays() {
     stays("pub fn f<'a>(x: &'a [u8; 2]) -> u32 { x[0] as u32 + 0x1_f * 2 }\n");
     stays("const T: &str = \"a \\\" requires { ghost \\\\\"; // ensures { nothing }\n");
-    stays("const C: [char; 4] = ['\"', '\\'', '{', 'é']; const B: &[u8] = b\"\\\"}\"; const N: u8 = b'\\n';\n");
+    stays(
+        "const C: [char; 4] = ['\"', '\\'', '{', 'é']; const B: &[u8] = b\"\\\"}\"; const N: u8 = b'\\n';\n",
+    );
     stays("fn g() { if !matches!(1, 0..=9) && 1 != 2 { return !0; } }\n");
     stays("#[inline(always)]\n#[cold]\n#[inline]\n#[inline(never)]\nfn f() {}\n");
     stays("#[repr(u8)]\nenum E { A = 1 }\n#[cfg(test)]\nmod checks;\n");
@@ -103,6 +105,19 @@ fn derives() {
 }
 
 #[test]
+fn what_a_user_prints_or_does_not_call() {
+    becomes(
+        "#[derive(Clone, Copy)]\npub enum Alias {}\n",
+        "#[derive(Clone, Copy, Debug)]\npub enum Alias {}\n",
+    );
+    becomes(
+        "impl<A: Copy> FuncType<A> {\n    pub fn new() {}\n    pub fn other() {}\n}\n",
+        "impl<A: Copy> FuncType<A> {\n    pub(crate) fn new() {}\n    pub fn other() {}\n}\n",
+    );
+    stays("impl<A> Other<A> { pub fn new() {} } impl FuncType { fn new(x: impl B) {} }\n");
+}
+
+#[test]
 fn bounds() {
     becomes("fn f<T: Drop, U: Copy + Drop>() {}\n", "fn f<T , U: Copy  >() {}\n");
     becomes("trait T: Drop {}\n", "trait T: Sized {}\n");
@@ -112,9 +127,18 @@ fn bounds() {
 
 #[test]
 fn what_may_be_refused_has_other_names() {
-    becomes("impl<A: Clone> S<A> { fn clone(&self) {} }\n", "impl<A: TryClone> S<A> { fn try_clone(&self) {} }\n");
-    becomes("x.collect(a)?; y.to_vec(a); z.repeat(a, 2)\n", "x.collect_using(a)?; y.to_vec_using(a); z.repeat_using(a, 2)\n");
-    becomes("x.to_ascii_uppercase(a); repeat(a); collect\n", "x.to_ascii_uppercase_using(a); repeat(a); collect\n");
+    becomes(
+        "impl<A: Clone> S<A> { fn clone(&self) {} }\n",
+        "impl<A: TryClone> S<A> { fn try_clone(&self) {} }\n",
+    );
+    becomes(
+        "x.collect(a)?; y.to_vec(a); z.repeat(a, 2)\n",
+        "x.collect_using(a)?; y.to_vec_using(a); z.repeat_using(a, 2)\n",
+    );
+    becomes(
+        "x.to_ascii_uppercase(a); repeat(a); collect\n",
+        "x.to_ascii_uppercase_using(a); repeat(a); collect\n",
+    );
     becomes("format!(in a; \"{x}\")?\n", "crate::proved::rt_std::format!(in a; \"{x}\")?\n");
     becomes("vec![in a; 1]?\n", "crate::proved::rt_std::vec![in a; 1]?\n");
 }
@@ -132,8 +156,15 @@ fn roots_of_paths() {
 
 #[test]
 fn the_prelude_stands_in_front_of_the_first_item() {
-    let erased = erase::erase("hex", &CRATES, "//! A page.\n#![tactic(auto)]\nghost use a.b;\n/// One.\nfn f() {}\n");
-    assert_eq!(erased, Ok("//! A page.\n\n\nuse crate::proved::rt_std::prelude::*; /// One.\nfn f() {}\n".into()));
+    let erased = erase::erase(
+        "hex",
+        &CRATES,
+        "//! A page.\n#![tactic(auto)]\nghost use a.b;\n/// One.\nfn f() {}\n",
+    );
+    assert_eq!(
+        erased,
+        Ok("//! A page.\n\n\nuse crate::proved::rt_std::prelude::*; /// One.\nfn f() {}\n".into())
+    );
 }
 
 #[test]
@@ -210,7 +241,11 @@ fn derives_that_are_not_known() {
     refuses("#[derive(a::Clone)]\nstruct S;\n", 1, why);
     refuses("#[derive_where(Eq; T)]\nstruct S;\n", 1, why);
     refuses("#[derive(Clone, Error)]\npub struct E;\n", 2, "an error that is no enum");
-    refuses("#[derive(Clone, Error)]\npub enum E {\n    A,\n}\n", 3, "a variant of an error without its text");
+    refuses(
+        "#[derive(Clone, Error)]\npub enum E {\n    A,\n}\n",
+        3,
+        "a variant of an error without its text",
+    );
 }
 
 #[test]

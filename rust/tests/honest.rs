@@ -7,7 +7,7 @@ mod lexer;
 mod reader;
 
 use lexer::lex;
-use reader::{WAYS, read};
+use reader::{NARROWED, PRINTED, TREES, WAYS, read};
 use std::collections::BTreeMap;
 use std::fs;
 use std::path::{Path, PathBuf};
@@ -63,6 +63,9 @@ fn erased_sources_are_the_sources() {
     println!("{counts:#?}");
     let unused: Vec<&&str> = WAYS.iter().filter(|way| !counts.contains_key(**way)).collect();
     assert!(unused.is_empty(), "nothing differs in these ways any more: {unused:?}");
+    assert_eq!(counts["derive of a tree"], TREES.len());
+    assert_eq!(counts["derive of what is printed"], PRINTED.len());
+    assert_eq!(counts["method that stays in this crate"], NARROWED.len());
 }
 
 /// A source with most of the ways in which the two may part.

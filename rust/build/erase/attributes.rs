@@ -1,6 +1,6 @@
 //! Attributes, and what the eraser writes in their place.
 
-use super::known::{ATTRIBUTES, DERIVED, OF_COMPARED_TREES, OF_TREES, TREES};
+use super::known::{ATTRIBUTES, DERIVED, OF_COMPARED_TREES, OF_TREES, PRINTED, TREES};
 use super::{Eraser, Refused};
 
 impl Eraser<'_> {
@@ -9,9 +9,9 @@ impl Eraser<'_> {
         let is_inner = self.at(i + 1) == "!";
         let open = if is_inner { i + 2 } else { i + 1 };
         let end = self.close(open)?;
-        let is_known = ATTRIBUTES.iter().any(|known| {
-            end - i == known.split(' ').count() && self.stands(i, known)
-        });
+        let is_known = ATTRIBUTES
+            .iter()
+            .any(|known| end - i == known.split(' ').count() && self.stands(i, known));
         match (self.at(open + 1), self.at(open + 2)) {
             ("tactic", "(") => self.leave_out(i..end),
             ("cycle", "(") if !is_inner => self.leave_out(i..end),
@@ -44,7 +44,7 @@ impl Eraser<'_> {
         }
     }
 
-    /// Leaves out of a derive what Rust has not. `Error` becomes an impl behind the enum.
+    /// Leaves out of a derive what Rust has not, and adds what is printed. `Error` becomes an impl behind the enum.
     fn derive(&mut self, i: usize, end: usize) -> Result<(), Refused> {
         let names = self.derived(i, end)?;
         if names.len() == 1 && self.at(i + 4) == "Drop" {
@@ -53,6 +53,9 @@ impl Eraser<'_> {
                 Some(derived) => self.put(i + 4, derived),
             }
             return Ok(());
+        }
+        if self.at(end) == "pub" && PRINTED.contains(&self.at(end + 2)) {
+            self.put(end - 3, format!("{}, Debug", self.at(end - 3)));
         }
         for j in names {
             match self.at(j) {

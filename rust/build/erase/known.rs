@@ -64,3 +64,10 @@ pub const TREES: [&str; 23] = [
     "SubType",
     "TypeTree",
 ];
+
+/// Types that a user of Rust prints, whose sources don't say so.
+pub const PRINTED: [&str; 1] = ["Alias"];
+
+/// Methods of trees that stay in this crate: their contracts ask for what nothing tests, or they answer what the facade has
+/// in another shape.
+pub const NARROWED: [(&str, &str); 2] = [("FuncType", "new"), ("NameTree", "as_name")];

@@ -105,7 +105,11 @@ fn room_that_is_given_back() {
     assert_eq!(heap.requests(), 0, "there is nothing to give back");
     vec.truncate(0);
     vec.shrink_to_fit();
-    assert_eq!((vec.capacity(), heap.requests()), (0, 0), "an empty one frees, and asks for nothing");
+    assert_eq!(
+        (vec.capacity(), heap.requests()),
+        (0, 0),
+        "an empty one frees, and asks for nothing"
+    );
 }
 
 #[test]
@@ -183,7 +187,10 @@ fn what_lends_a_slice() {
 
 #[test]
 fn digits() {
-    assert_eq!(hex::decode(Global, "00fFA9").map(|bytes| bytes == Vec::from(vec![0, 255, 0xa9])), Ok(true));
+    assert_eq!(
+        hex::decode(Global, "00fFA9").map(|bytes| bytes == Vec::from(vec![0, 255, 0xa9])),
+        Ok(true)
+    );
     assert_eq!(hex::decode(Global, "0").err(), Some(FromHexError::OddLength));
     assert_eq!(hex::decode(Global, "0g").err(), Some(FromHexError::InvalidHexCharacter));
     let heap = Refusing::new(Global);

@@ -5,7 +5,7 @@ use super::lexer::{Token, lex};
 use std::collections::BTreeMap;
 
 /// The ways, each of which some source takes.
-pub const WAYS: [&str; 26] = [
+pub const WAYS: [&str; 28] = [
     "kept",
     "prelude",
     "ghost use left out",
@@ -15,6 +15,8 @@ pub const WAYS: [&str; 26] = [
     "derive of Drop left out",
     "derive of a tree",
     "derive kept",
+    "derive of what is printed",
+    "method that stays in this crate",
     "derive of an error",
     "derive_where is derive",
     "text of an error left out",
@@ -57,7 +59,8 @@ const CRATES: [&str; 20] = [
     "refusing",
 ];
 
-const TREES: [&str; 23] = [
+/// Trees, which a user compares, prints and copies.
+pub const TREES: [&str; 23] = [
     "AliasTree",
     "Built",
     "CanonTree",
@@ -82,6 +85,10 @@ const TREES: [&str; 23] = [
     "SubType",
     "TypeTree",
 ];
+
+/// Types that are printed, and methods of trees that only this crate calls.
+pub const PRINTED: [&str; 1] = ["Alias"];
+pub const NARROWED: [(&str, &str); 2] = [("FuncType", "new"), ("NameTree", "as_name")];
 
 /// What both have next: the way, how many tokens of the source, and the tokens of the Rust.
 struct Step {
@@ -292,6 +299,9 @@ impl<'a> Source<'a> {
             };
         }
         let shown = self.shown(len);
+        if self.text(len) == "pub" && PRINTED.contains(&self.text(len + 2)) {
+            return step("derive of what is printed", len, shown.replace(" ) ]", ", Debug ) ]"));
+        }
         if !shown.ends_with(", Error ) ]") {
             return step("derive kept", len, shown);
         }
@@ -337,6 +347,9 @@ impl<'a> Source<'a> {
             "(" if self.stands("( crate )") => {
                 Some(step("pub(crate)", 3, format!("(in crate::proved::{})", self.crate_name)))
             }
+            "pub" if NARROWED.contains(&(self.owner(), self.text(2))) => {
+                Some(step("method that stays in this crate", 1, "pub(crate)"))
+            }
             "fn" if next == "main" => Some(step("main is pub", 2, "pub fn main")),
             "Clone" => Some(step("refusable clone", 1, "TryClone")),
             "clone" => Some(step("refusable clone", 1, "try_clone")),
@@ -352,6 +365,26 @@ impl<'a> Source<'a> {
             }
             _ => self.root(),
         }
+    }
+
+    /// The type of the `impl` that this stands in, which has no trait.
+    fn owner(&self) -> &'a str {
+        let is_impl = |at: &usize| {
+            let (before, _) = self.tokens.split_at(*at);
+            let is_first = before.last().is_none_or(|b| [";", "}", "]"].contains(&&*b.text));
+            self.tokens[*at].text == "impl" && is_first
+        };
+        let Some(at) = (0..self.at).rev().find(is_impl) else { return "" };
+        let mut depth = 0;
+        for token in &self.tokens[at + 1..] {
+            match &*token.text {
+                "<" => depth += 1,
+                ">" => depth -= 1,
+                word if depth == 0 => return word,
+                _ => {}
+            }
+        }
+        ""
     }
 
     /// The root of a path.
