@@ -41,13 +41,8 @@ fn aliases() {
 #[test]
 fn aliases_of_the_core_and_of_others() {
     let mut section = ComponentAliasSection::new();
-    let kinds = [
-        ExportKind::Func,
-        ExportKind::Table,
-        ExportKind::Memory,
-        ExportKind::Global,
-        ExportKind::Tag,
-    ];
+    let kinds =
+        [ExportKind::Func, ExportKind::Table, ExportKind::Memory, ExportKind::Global, ExportKind::Tag];
     for kind in kinds {
         section.alias(Alias::CoreInstanceExport { instance: 1, kind, name: "" });
     }
@@ -60,10 +55,8 @@ fn aliases_of_the_core_and_of_others() {
         \x00\x04\x01\x01\x00\
         \x00\x11\x02\x02\x03\x00\x10\x02\x02\x03\x03\x02\x02\x03\x04\x02\x02\x03";
     assert_eq!(text(&section), expected);
-    assert_eq!(
-        format!("{:?}", Alias::Outer { kind: Outer::Type, count: 0, index: 1 }),
-        "Outer { kind: Type, count: 0, index: 1 }"
-    );
+    assert_eq!(format!("{:?}", Alias::Outer { kind: Outer::Type, count: 0, index: 1 }),
+        "Outer { kind: Type, count: 0, index: 1 }");
 }
 
 #[test]
@@ -102,12 +95,9 @@ fn names_with_options() {
 #[test]
 fn exports() {
     let mut section = ComponentExportSection::new();
-    section.export("a", ComponentExportKind::Module, 1, None).export(
-        "",
-        ComponentExportKind::Func,
-        200,
-        Some(ComponentTypeRef::Func(3)),
-    );
+    section
+        .export("a", ComponentExportKind::Module, 1, None)
+        .export("", ComponentExportKind::Func, 200, Some(ComponentTypeRef::Func(3)));
     let expected = b"\x0b\x10\x02\x00\x01a\x00\x11\x01\x00\x00\x00\x01\xc8\x01\x01\x01\x03";
     assert_eq!(text(&section), expected);
     assert_eq!(section.len(), 2);
@@ -131,8 +121,10 @@ fn core_instances() {
 #[test]
 fn instances() {
     let mut section = ComponentInstanceSection::new();
-    let named =
-        ComponentExternName { external_id: Some("e".into()), ..ComponentExternName::from("n") };
+    let named = ComponentExternName {
+        external_id: Some("e".into()),
+        ..ComponentExternName::from("n")
+    };
     section
         .instantiate(3, [(String::from("a"), ComponentExportKind::Value, 1)])
         .export_items([(named, ComponentExportKind::Component, 2)])
