@@ -1,4 +1,4 @@
-//! What the numbers of C stand for (`bindings/c/wenc.h` names them).
+//! What the numbers of C stand for (`c/wenc.h` names them).
 ghost use Rattle.std.specs.Prelude.{◌≡◌};
 ghost use Rattle.wenc_c.specs.Numbers.{answer_type_of, core_item_of, core_kind_of, flag_of, given_type_of, kind_of};
 ghost use Rattle.wenc_c.specs.Numbers.{outer_kind_of, primitive_of, space_of, type_ref_of, value_of};

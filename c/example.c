@@ -1,8 +1,8 @@
 /* A component that imports an instance, has a nested component and a core module, and exports what it lifts from that module:
  * its bytes in hexadecimal, and its sections.
  *
- *     ./bindings/archive
- *     gcc -Wall -Wextra -Werror -o example bindings/c/example.c bindings/out/libwenc.a && ./example */
+ *     ./c/archive
+ *     gcc -Wall -Wextra -Werror -o example c/example.c c/out/libwenc.a && ./example */
 #include "wenc.h"
 
 #include <stdio.h>

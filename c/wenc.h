@@ -1,6 +1,6 @@
 /* wenc: WebAssembly components, written and listed by proved code, for C.
  *
- * Link `libwenc.a`, which `bindings/archive` writes. Of the C library it needs malloc, realloc and
+ * Link `libwenc.a`, which `c/archive` writes. Of the C library it needs malloc, realloc and
  * free, and memcpy, memmove and memset, and nothing else.
  *
  * A builder makes one component, call by call, and hands out the index of each item. The calls are

@@ -1,0 +1,234 @@
+//! Compares two compilations of the proved programs: `driven` and `wenc` as the kit compiled them, and as rustc did. Both get
+//! the same inputs, which a seed makes, and are to write the same bytes to both outputs and end with the same status.
+//!
+//!     both DRIVEN WENC [SEED [NUMBER]]
+//!
+//! DRIVEN and WENC are the kit's programs; those that rustc made stand beside this one. `rust/both` makes all of them, and
+//! calls it. There are NUMBER inputs for `driven`, so many scripts for `wenc`, and so many components for `wenc list`. An
+//! input that is answered in two ways is kept.
+
+mod commands;
+mod listings;
+mod random;
+mod scripts;
+
+use random::Random;
+use std::io::{self, ErrorKind, Write};
+use std::path::{Path, PathBuf};
+use std::process::{Command, ExitCode, Output, Stdio};
+use std::sync::Mutex;
+use std::sync::atomic::{AtomicUsize, Ordering};
+use std::{env, fs, thread};
+
+/// How many differences are told of a kind.
+const TOLD: usize = 5;
+
+/// What a program is handed.
+struct Input {
+    words: &'static [&'static str],
+    bytes: Vec<u8>,
+}
+
+/// A program in both compilations.
+struct Program {
+    by_kit: PathBuf,
+    by_rustc: PathBuf,
+}
+
+/// Inputs of one kind.
+struct Kind<'a> {
+    name: &'static str,
+    program: &'a Program,
+    /// What `count` counts.
+    counted: &'static [&'static str],
+    input: &'a (dyn Fn(usize) -> Input + Sync),
+    /// How many were accepted, and how many refused, by what was written; none where a program never ends so.
+    count: fn(&Output) -> Option<Vec<usize>>,
+}
+
+/// How a program ended on an input.
+fn ended(program: &Path, input: &Input) -> io::Result<Output> {
+    let mut child = Command::new(program)
+        .args(input.words)
+        .stdin(Stdio::piped())
+        .stdout(Stdio::piped())
+        .stderr(Stdio::piped())
+        .spawn()?;
+    if let Some(mut stdin) = child.stdin.take() {
+        match stdin.write_all(&input.bytes) {
+            // It may end before it has read all.
+            Err(error) if error.kind() != ErrorKind::BrokenPipe => return Err(error),
+            _ => {}
+        }
+    }
+    child.wait_with_output()
+}
+
+impl Kind<'_> {
+    /// What the programs answer to an input, and what is counted of that; or in what they differ.
+    fn compare(&self, input: &Input) -> Result<(Output, Vec<usize>), String> {
+        let [kit, rustc] = [&self.program.by_kit, &self.program.by_rustc].map(|program| {
+            ended(program, input).map_err(|error| format!("{}: {error}", program.display()))
+        });
+        let (kit, rustc) = (kit?, rustc?);
+        if kit.status != rustc.status {
+            return Err(format!("the kit's {}, rustc's {}", kit.status, rustc.status));
+        }
+        for (stream, of_kit, of_rustc) in [
+            ("output", &kit.stdout, &rustc.stdout),
+            ("error", &kit.stderr, &rustc.stderr),
+        ] {
+            if of_kit != of_rustc {
+                let same = of_kit.iter().zip(of_rustc).take_while(|(a, b)| a == b).count();
+                return Err(format!("standard {stream}, from byte {same} on"));
+            }
+        }
+        match (self.count)(&kit) {
+            Some(counted) => Ok((kit, counted)),
+            None => Err(format!("none: both end with {}, which isn't known", kit.status)),
+        }
+    }
+
+    /// The answers to the inputs, in their order, or none where they failed. Tells how they were compared.
+    fn run(&self, number: usize) -> Option<Vec<Output>> {
+        let mut answers = Vec::new();
+        let mut sums = vec![0; self.counted.len()];
+        let mut differences = 0;
+        for (at, answer) in side_by_side(number, |at| self.compare(&(self.input)(at))).into_iter().enumerate() {
+            match answer {
+                Ok((output, counted)) => {
+                    answers.push(output);
+                    sums.iter_mut().zip(counted).for_each(|(sum, more)| *sum += more);
+                }
+                Err(difference) => {
+                    differences += 1;
+                    if differences <= TOLD {
+                        self.tell(at, &difference);
+                    }
+                }
+            }
+        }
+        let counts: Vec<String> =
+            sums.iter().zip(self.counted).map(|(sum, what)| format!("{sum} {what}")).collect();
+        println!("{}: {number} inputs, {differences} differences; {}", self.name, counts.join(", "));
+        let is_idle = sums.contains(&0);
+        if is_idle {
+            println!("{}: where one of these is 0 little is compared", self.name);
+        }
+        (differences == 0 && !is_idle).then_some(answers)
+    }
+
+    /// Tells a difference, and keeps the input.
+    fn tell(&self, at: usize, difference: &str) {
+        let input = (self.input)(at);
+        let kept = self.program.by_rustc.with_file_name(format!("differs-{}-{at}", self.name));
+        println!("{}: input {at} differs: {difference}", self.name);
+        match fs::write(&kept, input.bytes) {
+            Ok(()) => println!("    it is in {}; words {:?}", kept.display(), input.words),
+            Err(error) => println!("    {}: {error}", kept.display()),
+        }
+    }
+}
+
+/// Does so much work on all processors, and answers what came in its order.
+fn side_by_side<T: Send>(number: usize, work: impl Fn(usize) -> T + Sync) -> Vec<T> {
+    let next = AtomicUsize::new(0);
+    let done = Mutex::new(Vec::new());
+    let take = || loop {
+        let at = next.fetch_add(1, Ordering::Relaxed);
+        if at >= number {
+            break;
+        }
+        let answer = work(at);
+        done.lock().expect("no thread panics with it").push((at, answer));
+    };
+    thread::scope(|scope| {
+        for _ in 0..thread::available_parallelism().map_or(1, |processors| processors.get()) {
+            scope.spawn(&take);
+        }
+    });
+    let mut done = done.into_inner().expect("no thread panics with it");
+    done.sort_by_key(|(at, _)| *at);
+    done.into_iter().map(|(_, answer)| answer).collect()
+}
+
+/// The last line of an output: a component in hexadecimal, where there is one.
+fn component(output: &Output) -> &[u8] {
+    output.stdout.trim_ascii_end().rsplit(|byte| *byte == b'\n').next().unwrap_or_default()
+}
+
+/// Of `driven`: how many of the outermost commands were accepted and refused.
+fn commands_of(output: &Output) -> Option<Vec<usize>> {
+    let lines: Vec<&[u8]> = output.stdout.split(|byte| *byte == b'\n').collect();
+    let refused = lines.iter().filter(|line| line.starts_with(b"refused ")).count();
+    // The component is one line, and nothing stands behind the last line's end.
+    let commands = lines.len().checked_sub(2)?;
+    (output.status.code() == Some(0)).then(|| vec![commands - refused, refused])
+}
+
+/// One input by its status, where that is one of these.
+fn by_status(output: &Output, known: [i32; 3]) -> Option<Vec<usize>> {
+    let status = output.status.code()?;
+    known.contains(&status).then(|| known.map(|one| usize::from(one == status)).into())
+}
+
+/// Compares all, and answers how many kinds passed and failed.
+fn compare_all(driven: &Program, wenc: &Program, seed: u64, number: usize) -> (usize, usize) {
+    let of_driven = Kind {
+        name: "driven",
+        program: driven,
+        counted: &["commands accepted", "commands refused"],
+        input: &|at| {
+            Input { words: &[], bytes: commands::choices(&mut Random::new(seed, 1, at as u64)) }
+        },
+        count: commands_of,
+    };
+    let of_scripts = Kind {
+        name: "scripts",
+        program: wenc,
+        counted: &["accepted", "with a bad line", "with a refused command"],
+        input: &|at| {
+            Input { words: &[], bytes: scripts::script(&mut Random::new(seed, 2, at as u64)) }
+        },
+        count: |output| by_status(output, [0, 1, 2]),
+    };
+    let made = [of_driven.run(number), of_scripts.run(number)];
+    let passed = made.iter().flatten().count();
+    let components: Vec<Output> = made.into_iter().flatten().flatten().collect();
+    if components.is_empty() {
+        return (passed, 3 - passed);
+    }
+    let of_listings = Kind {
+        name: "listings",
+        program: wenc,
+        counted: &["listed", "refused as no component", "refused as no digits or for other words"],
+        input: &|at| {
+            let mut random = Random::new(seed, 3, at as u64);
+            let digits = component(&components[random.below(components.len())]);
+            let words = listings::words(&mut random);
+            Input { words, bytes: listings::listing(&mut random, digits) }
+        },
+        count: |output| by_status(output, [0, 3, 1]),
+    };
+    let passed = passed + usize::from(of_listings.run(number).is_some());
+    (passed, 3 - passed)
+}
+
+fn main() -> ExitCode {
+    let words: Vec<String> = env::args().skip(1).collect();
+    let number_at = |at: usize, default: u64| words.get(at).map_or(Some(default), |it| it.parse().ok());
+    let (Some(driven), Some(wenc), Some(seed), Some(number), Ok(own)) =
+        (words.first(), words.get(1), number_at(2, 1), number_at(3, 1_000), env::current_exe())
+    else {
+        eprintln!("both DRIVEN WENC [SEED [NUMBER]]");
+        return ExitCode::FAILURE;
+    };
+    // Programs stand above examples.
+    let wenc_by_rustc = own.with_file_name("..").join("wenc");
+    let driven = Program { by_kit: driven.into(), by_rustc: own.with_file_name("driven") };
+    let wenc = Program { by_kit: wenc.into(), by_rustc: wenc_by_rustc };
+    println!("seed {seed}");
+    let (passed, failed) = compare_all(&driven, &wenc, seed, number as usize);
+    println!("{passed} passed, {failed} failed");
+    ExitCode::from(u8::from(failed > 0))
+}
