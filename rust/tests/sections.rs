@@ -298,13 +298,13 @@ fn panics(call: impl FnOnce()) -> bool {
 fn a_section_that_panics_leaves_what_it_was_appended_to() {
     let mut component = Component::new();
     component.section(&Own(1));
-    assert!(panics(|| drop(component.section(&Panicking))));
+    assert!(panics(|| _ = component.section(&Panicking)));
     assert_eq!(component.as_slice()[8..], [99, 1, 1]);
     component.section(&Own(2));
     assert_eq!(component.finish()[8..], [99, 1, 1, 99, 1, 2]);
 
     let mut module = Module::new();
-    assert!(panics(|| drop(module.section(&Panicking))));
+    assert!(panics(|| _ = module.section(&Panicking)));
     assert_eq!(module.finish(), Module::HEADER);
 
     let mut sink = vec![4];
@@ -336,14 +336,14 @@ fn iterators_that_panic_leave_no_half_member() {
     section.instantiate(0, [("a", ModuleArg::Instance(0))]);
     let before = text(&section);
     let args = || broken(|| ("b", ModuleArg::Instance(1)));
-    assert!(panics(|| drop(section.instantiate(0, args()))));
+    assert!(panics(|| _ = section.instantiate(0, args())));
     assert!(is_sound(&section, &before));
 
     let mut section = InstanceSection::new();
     section.export_items([("a", ExportKind::Func, 0)]);
     let before = text(&section);
     let items = || broken(|| ("b", ExportKind::Func, 1));
-    assert!(panics(|| drop(section.export_items(items()))));
+    assert!(panics(|| _ = section.export_items(items())));
     assert!(is_sound(&section, &before));
 }
 
@@ -353,8 +353,8 @@ fn iterators_and_names_that_panic_leave_no_half_member() {
     section.instantiate(0, [("a", ComponentExportKind::Func, 0)]);
     let before = text(&section);
     let args = || broken(|| ("b", ComponentExportKind::Func, 1));
-    assert!(panics(|| drop(section.clone().instantiate(0, args()))));
-    assert!(panics(|| drop(section.instantiate(0, args()))));
+    assert!(panics(|| _ = section.clone().instantiate(0, args())));
+    assert!(panics(|| _ = section.instantiate(0, args())));
     assert!(is_sound(&section, &before));
 
     /// A name that can't be told.
@@ -367,10 +367,10 @@ fn iterators_and_names_that_panic_leave_no_half_member() {
     let mut section = ComponentInstanceSection::new();
     section.export_items([("a", ComponentExportKind::Func, 0)]);
     let before = text(&section);
-    assert!(panics(|| drop(section.export_items([(NoName, ComponentExportKind::Func, 0)]))));
+    assert!(panics(|| _ = section.export_items([(NoName, ComponentExportKind::Func, 0)])));
     assert!(is_sound(&section, &before));
     let mut exports = ComponentExportSection::new();
-    assert!(panics(|| drop(exports.export(NoName, ComponentExportKind::Func, 0, None))));
+    assert!(panics(|| _ = exports.export(NoName, ComponentExportKind::Func, 0, None)));
     assert_eq!(text(&exports), b"\x0b\x01\x00");
 }
 
