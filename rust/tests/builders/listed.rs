@@ -154,6 +154,7 @@ fn faults_tell_what_they_are() {
         (ListFault::TooDeep { place }, "TooDeep at 8"),
     ];
     for (fault, text) in faults {
+        let fault: Box<dyn std::error::Error> = fault.into();
         assert_eq!(fault.to_string(), text);
     }
 }
