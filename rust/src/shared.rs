@@ -1,7 +1,8 @@
 //! What sections and types by hand have in common.
 
-use crate::Error;
-use alloc::vec::Vec;
+use crate::proved::rt_std::alloc::Allocator;
+use crate::proved::rt_std::vec::Vec as ProvedVec;
+use crate::proved::wenc_base::{self as proved, Fault};
 
 /// Items or declarations that the proved code holds: what upstream derives (`Clone`, `Debug`, `Default`), over calls that
 /// are handed an allocator and may be refused.
@@ -150,16 +151,30 @@ macro_rules! opaque {
 
 pub(crate) use opaque;
 
-/// A user's values, kept until they are written: the proved code takes texts that are lent. All have come before anything
-/// is written.
-pub(crate) fn kept<T>(values: impl IntoIterator<Item = T>) -> Result<Vec<T>, Error> {
-    let values = values.into_iter();
-    let mut kept = Vec::new();
-    for value in values {
-        if kept.len() == kept.capacity() {
-            kept.try_reserve(1).map_err(|_| Error::NoMemory)?;
-        }
-        kept.push(value);
+/// A user's name, as the proved code takes it.
+pub(crate) struct Name<S>(S);
+
+impl<S: AsRef<str>> proved::Encode for Name<S> {
+    #[inline]
+    fn encode<A: Allocator>(&self, sink: &mut ProvedVec<u8, A>) -> Result<(), Fault> {
+        proved::Encode::encode(&self.0.as_ref(), sink)
     }
-    Ok(kept)
+}
+
+impl<S: AsRef<str>> proved::Named for Name<S> {}
+
+/// Pairs of a user's name and something else, as the proved code takes them.
+#[inline]
+pub(crate) fn named<S: AsRef<str>, T>(
+    values: impl IntoIterator<Item = (S, T)>,
+) -> impl Iterator<Item = (Name<S>, T)> {
+    values.into_iter().map(|(name, value)| (Name(name), value))
+}
+
+/// The same of two other things.
+#[inline]
+pub(crate) fn named_items<S: AsRef<str>, T, U>(
+    values: impl IntoIterator<Item = (S, T, U)>,
+) -> impl Iterator<Item = (Name<S>, T, U)> {
+    values.into_iter().map(|(name, kind, index)| (Name(name), kind, index))
 }

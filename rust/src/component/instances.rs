@@ -3,7 +3,7 @@
 use crate::component::sections;
 use crate::encode::encode;
 use crate::proved::wasm_encoder as proved;
-use crate::shared::{collections, kept};
+use crate::shared::{collections, named, named_items};
 use crate::twins::twins;
 use crate::{ComponentExportKind, ComponentExternName, ExportKind};
 
@@ -63,8 +63,7 @@ impl InstanceSection {
             A::IntoIter: ExactSizeIterator,
             S: AsRef<str>,
         } {
-            let args = kept(args)?;
-            self.0.instantiate(module_index, args.iter().map(|(name, arg)| (name.as_ref(), *arg)))?;
+            self.0.instantiate(module_index, named(args))?;
             Ok(self)
         }
 
@@ -75,9 +74,7 @@ impl InstanceSection {
             E::IntoIter: ExactSizeIterator,
             S: AsRef<str>,
         } {
-            let exports = kept(exports)?;
-            let lent = exports.iter().map(|(name, kind, index)| (name.as_ref(), *kind, *index));
-            self.0.export_items(lent)?;
+            self.0.export_items(named_items(exports))?;
             Ok(self)
         }
     }
@@ -93,9 +90,7 @@ impl ComponentInstanceSection {
             A::IntoIter: ExactSizeIterator,
             S: AsRef<str>,
         } {
-            let args = kept(args)?;
-            let lent = args.iter().map(|(name, kind, index)| (name.as_ref(), *kind, *index));
-            self.0.instantiate(component_index, lent)?;
+            self.0.instantiate(component_index, named_items(args))?;
             Ok(self)
         }
 

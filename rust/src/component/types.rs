@@ -27,8 +27,8 @@ macro_rules! declarations {
 
         $(impl core::fmt::Debug for $name {
             fn fmt(&self, f: &mut core::fmt::Formatter<'_>) -> core::fmt::Result {
-                let count = self.type_count();
-                f.debug_struct(stringify!($name)).field("type_count", &count).finish_non_exhaustive()
+                let mut shown = f.debug_struct(stringify!($name));
+                shown.field("type_count", &self.type_count()).finish_non_exhaustive()
             }
         })*
     };

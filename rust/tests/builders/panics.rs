@@ -131,13 +131,6 @@ fn leaves_as_it_was(call: impl FnOnce(&mut ComponentBuilder)) {
     goes_on(b);
 }
 
-/// The call may keep what comes before it writes.
-fn leaves_no_half(call: impl FnOnce(&mut ComponentBuilder)) {
-    let mut b = builder();
-    caught(&mut b, call);
-    if b.is_finished() { goes_on(b) } else { is_given_up(b) }
-}
-
 const FINE: (&str, Given) = ("a", Given::Fine);
 
 const PANICS: (&str, Given) = ("b", Given::Panics);
@@ -225,10 +218,10 @@ fn instances() {
     leaves_unfinished(|b| {
         b.instantiate_exports(Some("i"), then_panics(&[(Given::Fine, func, 0)]));
     });
-    leaves_no_half(|b| {
+    leaves_unfinished(|b| {
         b.instantiate(Some("i"), 0, then_panics(&[("a", func, 0)]));
     });
-    leaves_no_half(|b| {
+    leaves_unfinished(|b| {
         b.instantiate(Some("i"), 0, [(Given::Fine, func, 0), (Given::Panics, func, 1)]);
     });
 }
@@ -303,7 +296,6 @@ fn a_type_by_hand_is_unfinished_and_so_refused() {
 }
 
 /// The section is as it was, or nothing writes it any more.
-#[ignore = "the proved section doesn't open a member before it writes it yet"]
 #[test]
 fn a_section_by_hand_has_no_half_of_a_function() {
     type Call = fn(&mut CanonicalFunctionSection) -> &mut CanonicalFunctionSection;

@@ -2,7 +2,7 @@
 
 use crate::component::{ComponentBuilder, ComponentExportKind, ComponentExternName, ModuleArg};
 use crate::core::ExportKind;
-use crate::shared::kept;
+use crate::shared::named_items;
 use crate::twins::twins;
 
 /// Instances: each call adds one, with a debug name or none, and answers its index (component model, binary format,
@@ -51,9 +51,7 @@ impl ComponentBuilder {
             S: AsRef<str>,
         }
         {
-            let args = kept(args)?;
-            let lent = args.iter().map(|(name, kind, index)| (name.as_ref(), *kind, *index));
-            Ok(self.0.instantiate(debug_name, component_index, lent)?)
+            Ok(self.0.instantiate(debug_name, component_index, named_items(args))?)
         }
 
         /// Adds an instance of these items, under these names: the kind of each, and its index.

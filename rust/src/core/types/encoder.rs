@@ -64,7 +64,7 @@ impl CoreTypeEncoder<'_> {
         }
 
         /// A type of structs, by their fields.
-        fn struct_ | try_struct_<F>(self, fields: F) -> ()
+        fn struct_ | try_struct<F>(self, fields: F) -> ()
         where {
             F: IntoIterator<Item = FieldType>,
             F::IntoIter: ExactSizeIterator,
