@@ -250,7 +250,9 @@ impl<'a> Eraser<'a> {
         let (mut derived, mut owner) = (0, "");
         for i in 0..self.code.len() {
             match self.at(i) {
-                "impl" if matches!(self.before(i, 1), "" | ";" | "]" | "}") => owner = self.owner(i),
+                "impl" if matches!(self.before(i, 1), "" | ";" | "]" | "}") => {
+                    owner = self.owner(i);
+                }
                 "pub" if NARROWED.contains(&(owner, self.at(i + 2))) => self.put(i, "pub(crate)"),
                 "#" if self.at(i + 2) == "derive" => {
                     derived = self.derive(i)?;
