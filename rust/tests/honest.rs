@@ -6,8 +6,8 @@ mod lexer;
 #[path = "honest/reader.rs"]
 mod reader;
 
-use lexer::lex;
-use reader::{NARROWED, PRINTED, TREES, WAYS, read};
+use lexer::{Token, lex};
+use reader::{NARROWED, PRINTED, TREES, WAYS, compare, read};
 use std::collections::BTreeMap;
 use std::fs;
 use std::path::{Path, PathBuf};
@@ -148,24 +148,25 @@ fn each_change_is_found() {
     assert!(read(&format!("{RUST}fn g() {{}}")).is_err(), "an item that came in");
 }
 
-/// In one short file in twenty, each token left out, written twice, and replaced.
+/// In one file in twelve, each token left out, written twice, and changed.
 #[test]
 fn each_token_counts() {
     let mut sources = sources();
-    sources.retain(|(_, _, _, new)| new.len() < 5000);
     sources.sort();
     let (mut planted, mut counts) = (0, BTreeMap::new());
-    for (name, path, old, new) in sources.into_iter().step_by(20) {
-        let chars: Vec<char> = new.chars().collect();
-        let text = |range: std::ops::Range<usize>| chars[range].iter().collect::<String>();
-        for token in lex(&new) {
-            let (before, behind) = (text(0..token.begin), text(token.end..chars.len()));
-            for other in ["", "changed", &format!("{0} {0}", token.text)] {
-                let changed = format!("{before} {other} {behind}");
-                let is_found = read(&name, &old, &changed, &mut counts).is_err();
-                assert!(is_found, "{}:{}: {other:?}", path.display(), token.line);
+    for (name, path, old, new) in sources.into_iter().step_by(12) {
+        let (old, new) = (lex(&old), lex(&new));
+        for at in 0..new.len() {
+            let place = format!("{}:{}", path.display(), new[at].line);
+            let mut is_found = |change: fn(&mut Vec<Token>, usize)| {
+                let mut changed = new.clone();
+                change(&mut changed, at);
                 planted += 1;
-            }
+                compare(&name, &old, &changed, &mut counts).is_err()
+            };
+            assert!(is_found(|all, at| drop(all.remove(at))), "{place}: left out");
+            assert!(is_found(|all, at| all.insert(at, all[at].clone())), "{place}: twice");
+            assert!(is_found(|all, at| all[at].text += "x"), "{place}: changed");
         }
     }
     assert!(planted > 3000, "only {planted} changes");
