@@ -142,10 +142,15 @@ pub fn compare(
 
 /// Takes these tokens, of which the first stands in this line, from the rest of the Rust.
 fn take(way: &str, line: usize, wanted: &str, rest: &mut &[Token]) -> Result<(), String> {
-    for (n, token) in lex(wanted).iter().enumerate() {
-        let Some((found, behind)) = rest.split_first().filter(|(f, _)| f.text == token.text) else {
+    let wanted = if way == "kept" {
+        vec![wanted.to_owned()]
+    } else {
+        lex(wanted).into_iter().map(|token| token.text).collect()
+    };
+    for (n, text) in wanted.iter().enumerate() {
+        let Some((found, behind)) = rest.split_first().filter(|(f, _)| f.text == *text) else {
             let found = rest.first().map_or("", |found| &found.text);
-            return Err(format!("{line}: {:?} became {found:?} ({way})", token.text));
+            return Err(format!("{line}: {text:?} became {found:?} ({way})"));
         };
         if n == 0 && found.line != line || found.line < line {
             return Err(format!("{line}: it became line {} ({way})", found.line));
