@@ -1,133 +1,34 @@
-//! Makes Rust of Rattle: leaves out what is ghost, and renames the roots of paths. Each token stays in its line.
+//! Makes Rust of Rattle: one file in, one file out, each token in its line.
+//!
+//! Rattle is Rust with contracts. What a contract says is for the prover alone, so a file without them is Rust, but for a
+//! few names that mean something else there. What the eraser
+//!
+//! - *leaves out*: clauses (`requires`, `ensures`), `ghost` items and fields with their comments, the examples of
+//!   documentation (they are Rattle), the attributes `tactic`, `cycle` and `error`, `Drop` among derives and bounds, the
+//!   runtime that a test or an `assert!` is handed, and `use thiserror::Error`;
+//! - *renames*: the roots of paths, so that `crate::` and `wenc_base::` are modules of `crate::proved`, and `std::` is
+//!   `crate::proved::rt_std`, which has what the sources use of Rattle's library; `Clone` and `clone`, which may be refused
+//!   there, to `TryClone` and `try_clone`; the methods of [`ALLOCATING`], to those with `_using` behind their names;
+//!   `derive_where` to `derive`; `pub` of the methods that are not for a user ([`NARROWED`]) to `pub(crate)`;
+//! - *adds*: the names that stand in scope without being named, in front of a file's first item; what a user of Rust
+//!   expects of a tree ([`known::TREES`], [`known::PRINTED`]); `Display` and `Error` behind an enum that derives `Error`; `pub` to `main`;
+//! - *refuses*: everything else that it doesn't know. Better no crate than one that does something else than was proved.
+//!
+//! `rust/tests/honest.rs` reads each source beside its Rust, by a lexer of its own, and knows the same list.
 
+#[path = "erase/attributes.rs"]
+mod attributes;
+#[path = "erase/known.rs"]
+mod known;
+#[path = "erase/lexer.rs"]
+mod lexer;
+
+use known::{ALLOCATING, HANDED, KEYWORDS, MACROS, NARROWED};
+use lexer::{Kind, Token, tokens};
 use std::borrow::Cow;
 
 /// A line, and what is wrong there.
 pub type Refused = (usize, &'static str);
-
-#[derive(Clone, Copy, Debug, PartialEq, Eq)]
-pub enum Kind {
-    /// Blanks and line ends.
-    Space,
-    Comment,
-    /// A name or a keyword.
-    Word,
-    /// A text, a character, a number or a lifetime.
-    Literal,
-    /// One character of punctuation.
-    Mark,
-    /// A clause or a ghost item, whole.
-    Ghost,
-}
-
-pub struct Token<'a> {
-    pub kind: Kind,
-    pub line: usize,
-    pub text: &'a str,
-}
-
-/// Takes a Rattle file apart. Each byte of it is in one token.
-pub fn tokens(source: &str) -> Result<Vec<Token<'_>>, Refused> {
-    let mut found = Vec::new();
-    let (mut at, mut line) = (0, 1);
-    while at < source.len() {
-        let rest = &source[at..];
-        let (kind, len) = first_token(rest).map_err(|why| (line, why))?;
-        let text = &rest[..len];
-        found.push(Token { kind, line, text });
-        line += text.matches('\n').count();
-        at += len;
-    }
-    Ok(found)
-}
-
-/// The kind of the first token, and how many bytes it has.
-fn first_token(rest: &str) -> Result<(Kind, usize), &'static str> {
-    let first = rest.chars().next().unwrap_or(' ');
-    let run = |is: fn(char) -> bool| rest.find(|c| !is(c)).unwrap_or(rest.len());
-    if first.is_whitespace() {
-        return Ok((Kind::Space, run(char::is_whitespace)));
-    }
-    if rest.starts_with("//") {
-        return Ok((Kind::Comment, rest.find('\n').unwrap_or(rest.len())));
-    }
-    if rest.starts_with("/*") {
-        return Err("a block comment");
-    }
-    if let Some(quoted) = rest.strip_prefix("b\"").or(rest.strip_prefix('"')) {
-        let lead = rest.len() - quoted.len();
-        return Ok((Kind::Literal, lead + quoted_len(quoted, '"').ok_or("a text without an end")?));
-    }
-    if let Some(quoted) = rest.strip_prefix("b'").or(rest.strip_prefix('\'')) {
-        let lead = rest.len() - quoted.len();
-        let is_char = quoted.starts_with('\\') || quoted.chars().nth(1) == Some('\'');
-        let len = if is_char { quoted_len(quoted, '\'') } else { quoted.find(|c| !is_word(c)) };
-        return Ok((Kind::Literal, lead + len.ok_or("a character without an end")?));
-    }
-    if rest.starts_with("r\"") || rest.starts_with("r#") {
-        return Err("a raw text or name");
-    }
-    if first.is_ascii_digit() {
-        return Ok((Kind::Literal, run(is_word)));
-    }
-    if !is_word(first) {
-        return Ok((Kind::Mark, first.len_utf8()));
-    }
-    let len = run(is_word);
-    match &rest[..len] {
-        "ghost" => Ok((Kind::Ghost, ghost_len(rest)?)),
-        "requires" | "ensures" => Ok((Kind::Ghost, block_end(rest)?)),
-        _ => Ok((Kind::Word, len)),
-    }
-}
-
-fn is_word(c: char) -> bool {
-    c == '_' || c.is_alphanumeric()
-}
-
-/// How many bytes a text or a character has behind its first quote.
-fn quoted_len(quoted: &str, quote: char) -> Option<usize> {
-    let mut is_escaped = false;
-    for (at, c) in quoted.char_indices() {
-        match c {
-            _ if is_escaped => is_escaped = false,
-            '\\' => is_escaped = true,
-            _ if c == quote => return Some(at + 1),
-            _ => {}
-        }
-    }
-    None
-}
-
-/// How many bytes a ghost item has: up to its semicolon, or a ghost field's comma, outside of braces.
-fn ghost_len(rest: &str) -> Result<usize, &'static str> {
-    let mut at = 0;
-    loop {
-        match rest[at..].find(['{', ';', ',']).map(|found| at + found) {
-            None => return Err("a ghost item without an end"),
-            Some(found) if rest[found..].starts_with('{') => at = found + block_end(&rest[found..])?,
-            Some(found) => return Ok(found + 1),
-        }
-    }
-}
-
-/// Where the first block in braces ends. It is antt, in which `--` begins a comment.
-fn block_end(rest: &str) -> Result<usize, &'static str> {
-    let (mut depth, mut at) = (0, 0);
-    while let Some(found) = rest[at..].find(['{', '}', ';', '"', '-']).map(|found| at + found) {
-        at = found + 1;
-        match rest.as_bytes()[found] {
-            b'{' => depth += 1,
-            b'}' if depth == 1 => return Ok(at),
-            b'}' => depth -= 1,
-            b';' if depth == 0 => return Err("a clause without a block"),
-            b'"' => at += quoted_len(&rest[at..], '"').ok_or("a text without an end")?,
-            b'-' if rest[at..].starts_with('-') => return Err("a comment in a clause"),
-            _ => {}
-        }
-    }
-    Err("a block without an end")
-}
 
 /// Makes Rust of a file of the crate `name`. `crates` are all that stand beside it.
 pub fn erase(name: &str, crates: &[&str], source: &str) -> Result<String, Refused> {
@@ -137,41 +38,12 @@ pub fn erase(name: &str, crates: &[&str], source: &str) -> Result<String, Refuse
     Ok(eraser.finish())
 }
 
-/// Methods that are handed an allocator there, and not by Rust's standard library, which has them on the same types.
-const ALLOCATING: [&str; 4] = ["collect", "repeat", "to_ascii_uppercase", "to_vec"];
-
-/// Trees of items and of commands, whose values a user of Rust compares, prints and copies.
-const TREES: [&str; 23] = [
-    "AliasTree",
-    "Built",
-    "CanonTree",
-    "CaseTree",
-    "Command",
-    "ComponentDecl",
-    "CompositeType",
-    "CoreInstanceTree",
-    "CoreTypeTree",
-    "DefinedTree",
-    "FuncType",
-    "GroupTree",
-    "InstanceDecl",
-    "InstanceTree",
-    "ItemTree",
-    "ListedSection",
-    "Listing",
-    "ModuleDecl",
-    "NameOptions",
-    "NameTree",
-    "StructType",
-    "SubType",
-    "TypeTree",
-];
-
+/// A file that is being erased.
 struct Eraser<'a> {
     name: &'a str,
     crates: &'a [&'a str],
     tokens: &'a [Token<'a>],
-    /// The tokens that are neither blank, comment nor ghost.
+    /// The tokens that are neither blank, comment nor ghost. Each `i` below is an index in this.
     code: Vec<usize>,
     /// What each token becomes.
     becomes: Vec<Cow<'a, str>>,
@@ -179,12 +51,13 @@ struct Eraser<'a> {
 
 impl<'a> Eraser<'a> {
     fn new(name: &'a str, crates: &'a [&'a str], tokens: &'a [Token<'a>]) -> Self {
-        let is_code = |token: &Token| !matches!(token.kind, Kind::Space | Kind::Comment | Kind::Ghost);
+        let is_code =
+            |t: &usize| !matches!(tokens[*t].kind, Kind::Space | Kind::Comment | Kind::Ghost);
         Eraser {
             name,
             crates,
             tokens,
-            code: (0..tokens.len()).filter(|&t| is_code(&tokens[t])).collect(),
+            code: (0..tokens.len()).filter(is_code).collect(),
             becomes: tokens.iter().map(|token| Cow::Borrowed(token.text)).collect(),
         }
     }
@@ -194,24 +67,32 @@ impl<'a> Eraser<'a> {
         self.code.get(i).map_or("", |&t| self.tokens[t].text)
     }
 
-    fn line(&self, i: usize) -> usize {
-        self.code.get(i).map_or(0, |&t| self.tokens[t].line)
-    }
-
+    /// The text of the token so many before this.
     fn before(&self, i: usize, back: usize) -> &'a str {
         i.checked_sub(back).map_or("", |i| self.at(i))
     }
 
-    fn is_path(&self, i: usize) -> bool {
-        self.at(i) == ":" && self.at(i + 1) == ":"
+    /// Whether these tokens stand here, with blanks between them.
+    fn stands(&self, i: usize, words: &str) -> bool {
+        words.split(' ').enumerate().all(|(n, word)| self.at(i + n) == word)
     }
 
+    fn line(&self, i: usize) -> usize {
+        self.code.get(i).map_or(0, |&t| self.tokens[t].line)
+    }
+
+    /// Whether a word stands here.
+    fn is_word(&self, i: usize) -> bool {
+        self.code.get(i).is_some_and(|&t| self.tokens[t].kind == Kind::Word)
+    }
+
+    /// What a token becomes.
     fn put(&mut self, i: usize, text: impl Into<Cow<'a, str>>) {
         self.becomes[self.code[i]] = text.into();
     }
 
     /// Leaves these tokens out.
-    fn drop(&mut self, range: std::ops::Range<usize>) {
+    fn leave_out(&mut self, range: std::ops::Range<usize>) {
         for i in range {
             self.put(i, "");
         }
@@ -236,56 +117,108 @@ impl<'a> Eraser<'a> {
     fn run(&mut self) -> Result<(), Refused> {
         for t in 0..self.tokens.len() {
             if self.tokens[t].kind == Kind::Ghost {
-                self.ghost(t);
+                self.ghost(t)?;
             }
         }
-        self.examples();
-        let mut derived = 0;
-        for i in 0..self.code.len() {
-            match self.at(i) {
-                "#" if self.at(i + 2) == "derive" => {
-                    derived = self.derive(i)?;
-                }
-                _ if i < derived => {}
-                _ if self.becomes[self.code[i]].is_empty() => {}
+        self.examples()?;
+        let mut i = 0;
+        while i < self.code.len() {
+            let is_left_out = self.becomes[self.code[i]].is_empty();
+            i = match self.at(i) {
+                _ if is_left_out => i + 1,
                 "#" => self.attribute(i)?,
-                "Drop" => self.bound(i)?,
-                "fn" if self.at(i + 1) == "main" => self.put(i, "pub fn"),
-                "Clone" => self.put(i, "TryClone"),
-                "clone" => self.put(i, "try_clone"),
-                method if self.before(i, 1) == "." && ALLOCATING.contains(&method) => {
-                    self.put(i, format!("{method}_using"));
+                _ => {
+                    self.token(i)?;
+                    i + 1
                 }
-                "!" if self.at(i + 2) == "rt" && self.at(i + 3) == ";" => self.drop(i + 2..i + 4),
-                "format" | "vec" if self.at(i + 1) == "!" && self.at(i + 3) == "in" => {
-                    self.put(i, format!("crate::proved::rt_std::{}", self.at(i)));
-                }
-                "use" if self.at(i + 1) == "thiserror" => self.drop(i..i + 6),
-                "crate" | "std" | "thiserror" => self.root(i),
-                word if self.crates.contains(&word) => self.root(i),
-                _ => {}
-            }
+            };
         }
         self.bring_prelude();
         Ok(())
     }
 
-    /// Leaves out the examples of documentation, which are Rattle.
-    fn examples(&mut self) {
-        let mut is_example = false;
+    /// A token that is in no attribute.
+    fn token(&mut self, i: usize) -> Result<(), Refused> {
+        match self.at(i) {
+            "Drop" => self.bound(i)?,
+            "fn" if self.at(i + 1) == "main" => self.put(i, "pub fn"),
+            "mod" if self.is_taken(self.at(i + 1)) => {
+                return Err((self.line(i), "a module with the name of a crate"));
+            }
+            "pub" if self.is_narrowed(i) => self.put(i, "pub(crate)"),
+            "Clone" => self.put(i, "TryClone"),
+            "clone" => self.put(i, "try_clone"),
+            method if self.before(i, 1) == "." && ALLOCATING.contains(&method) => {
+                self.put(i, format!("{method}_using"));
+            }
+            "!" if self.is_word(i.wrapping_sub(1)) => self.macro_call(i)?,
+            "use" if self.at(i + 1) == "thiserror" => {
+                if !self.stands(i, "use thiserror : : Error ;") {
+                    return Err((self.line(i), "a use of `thiserror` that is not known"));
+                }
+                self.leave_out(i..i + 6);
+            }
+            ":" if self.at(i + 1) == ":" => self.path(i)?,
+            word if self.is_taken(word) => self.root(i)?,
+            _ => {}
+        }
+        Ok(())
+    }
+
+    /// Whether a method begins here that stays in this crate.
+    fn is_narrowed(&self, i: usize) -> bool {
+        let is_item = |j: &usize| matches!(self.before(*j, 1), "" | ";" | "]" | "}");
+        let mut impls = (0..i).rev().filter(|j| self.at(*j) == "impl").filter(is_item);
+        NARROWED.iter().any(|(owner, method)| {
+            self.stands(i + 1, "fn")
+                && self.at(i + 2) == *method
+                && impls.next().is_some_and(|j| self.owner(j) == *owner)
+        })
+    }
+
+    /// The type whose methods an `impl` has, or the trait.
+    fn owner(&self, i: usize) -> &'a str {
+        let mut depth = 0;
+        for j in i + 1..self.code.len() {
+            match self.at(j) {
+                "<" => depth += 1,
+                ">" if self.before(j, 1) != "-" => depth -= 1,
+                word if depth == 0 => return word,
+                _ => {}
+            }
+        }
+        ""
+    }
+
+    /// Whether a path may begin with this name.
+    fn is_taken(&self, word: &str) -> bool {
+        ["crate", "std", "core", "alloc", "thiserror"].contains(&word)
+            || self.crates.contains(&word)
+    }
+
+    /// Leaves out the examples of documentation.
+    fn examples(&mut self) -> Result<(), Refused> {
+        let mut begun = None;
         for (token, becomes) in self.tokens.iter().zip(&mut self.becomes) {
             if token.kind == Kind::Comment {
                 let is_fence = token.text.contains("```");
-                if is_example || is_fence {
+                let is_doc = token.text.starts_with("///") || token.text.starts_with("//!");
+                if (is_fence || begun.is_some()) && !is_doc {
+                    return Err((token.line, "an example outside of documentation"));
+                }
+                if is_fence || begun.is_some() {
                     *becomes = Cow::Borrowed("");
                 }
-                is_example ^= is_fence;
+                if is_fence {
+                    begun = if begun.is_none() { Some(token.line) } else { None };
+                }
             }
         }
+        begun.map_or(Ok(()), |line| Err((line, "an example without an end")))
     }
 
     /// Leaves out a clause, or a ghost item with what documents it.
-    fn ghost(&mut self, t: usize) {
+    fn ghost(&mut self, t: usize) -> Result<(), Refused> {
         self.becomes[t] = Cow::Borrowed("");
         let is_item = self.tokens[t].text.starts_with("ghost");
         for before in (0..t).rev().take_while(|_| is_item) {
@@ -294,127 +227,67 @@ impl<'a> Eraser<'a> {
                 Kind::Comment if self.tokens[before].text.starts_with("///") => {
                     self.becomes[before] = Cow::Borrowed("");
                 }
-                _ => break,
+                Kind::Comment | Kind::Ghost => break,
+                _ if ["{", "}", ",", ";", "]"].contains(&self.tokens[before].text) => break,
+                _ => return Err((self.tokens[t].line, "a word in front of a ghost item")),
             }
         }
+        Ok(())
+    }
+
+    /// A path that begins with `::` would be of Rust's crates.
+    fn path(&self, i: usize) -> Result<(), Refused> {
+        let last = self.before(i, 1);
+        let is_inside = last == ">" || self.is_word(i.wrapping_sub(1)) && !KEYWORDS.contains(&last);
+        if is_inside { Ok(()) } else { Err((self.line(i), "a path that begins with `::`")) }
     }
 
     /// A word that may be the root of a path.
-    fn root(&mut self, i: usize) {
+    fn root(&mut self, i: usize) -> Result<(), Refused> {
         let word = self.at(i);
-        if word == "crate" && self.before(i, 1) == "(" && self.at(i + 1) == ")" {
+        if self.stands(i.wrapping_sub(1), "( crate )") {
             self.put(i, format!("in crate::proved::{}", self.name));
-        } else if self.is_path(i + 1) && self.before(i, 1) != ":" {
+        } else if self.stands(i + 1, ": :") && self.before(i, 1) != ":" {
             let becomes = match word {
                 "crate" => format!("crate::proved::{}", self.name),
                 "std" => "crate::proved::rt_std".into(),
-                _ => format!("crate::proved::{word}"),
+                _ if self.crates.contains(&word) => format!("crate::proved::{word}"),
+                _ => return Err((self.line(i), "a path that begins with a crate of the kit")),
             };
             self.put(i, becomes);
+        } else if word == "crate" || self.before(i, 1) == "use" || self.before(i, 1) == "extern" {
+            return Err((self.line(i), "a crate that is no path's root"));
         }
+        Ok(())
     }
 
     /// A bound `Drop`, which every type of Rust has. A trait with that alone has types with a size.
     fn bound(&mut self, i: usize) -> Result<(), Refused> {
         match (self.before(i, 1), self.at(i + 1)) {
-            ("+", _) | (":", "," | ">") => self.drop(i - 1..i + 1),
-            (":", "{") => self.put(i, "Sized"),
+            ("+", "," | ">" | "{" | "+" | ")") => self.leave_out(i - 1..i + 1),
+            (":", "," | ">") if self.before(i, 2) != ":" => self.leave_out(i - 1..i + 1),
+            (":", "{") if self.before(i, 2) != ":" => self.put(i, "Sized"),
             _ => return Err((self.line(i), "a use of `Drop` that is no bound")),
         }
         Ok(())
     }
 
-    fn attribute(&mut self, i: usize) -> Result<(), Refused> {
-        let open = if self.at(i + 1) == "!" { i + 2 } else { i + 1 };
-        let end = self.close(open)?;
-        match self.at(open + 1) {
-            "tactic" | "cycle" | "error" => self.drop(i..end),
-            "derive_where" => self.put(open + 1, "derive"),
-            "test" => self.test(end)?,
-            "inline" | "cold" | "repr" | "cfg" => {}
-            _ => return Err((self.line(i), "an attribute that is not known")),
+    /// A macro that is called or defined, whose `!` is here.
+    fn macro_call(&mut self, i: usize) -> Result<(), Refused> {
+        let (name, open) = (self.before(i, 1), self.at(i + 1));
+        if !["(", "[", "{"].contains(&open) {
+            let is_operator = open == "=" || KEYWORDS.contains(&name);
+            let is_known = is_operator || name == "macro_rules";
+            return if is_known { Ok(()) } else { Err((self.line(i), "a `!` that is not known")) };
         }
-        Ok(())
-    }
-
-    /// Leaves out of a derive what Rust has not. `Error` becomes an impl behind the enum. Answers where it ends.
-    fn derive(&mut self, i: usize) -> Result<usize, Refused> {
-        let end = self.close(i + 1)?;
-        let names: Vec<&str> = (i + 4..end - 2).step_by(2).map(|j| self.at(j)).collect();
-        if names == ["Drop"] {
-            match self.derived_by_trees(end)? {
-                None => self.drop(i..end),
-                Some(derived) => self.put(i + 4, derived),
-            }
-            return Ok(end);
+        let is_own = (0..i).any(|j| self.stands(j, "macro_rules !") && self.at(j + 2) == name);
+        if self.at(i + 2) == "in" && HANDED.contains(&name) {
+            self.put(i - 1, format!("crate::proved::rt_std::{name}"));
+        } else if self.at(i + 3) == ";" && self.at(i + 2) == "rt" && MACROS.contains(&name) {
+            self.leave_out(i + 2..i + 4);
+        } else if !is_own && !KEYWORDS.contains(&name) && !known::PLAIN.contains(&name) {
+            return Err((self.line(i), "a macro that is not known"));
         }
-        for (j, name) in (i + 4..end - 2).step_by(2).zip(names) {
-            if name == "Drop" || name == "Error" {
-                self.drop(j - 1..j + 1);
-            }
-            if name == "Error" {
-                self.error(end)?;
-            }
-        }
-        Ok(end)
-    }
-
-    /// What a type derives in place of `Drop`, which begins here behind that: a tree what it doesn't derive already.
-    fn derived_by_trees(&self, i: usize) -> Result<Option<&'static str>, Refused> {
-        let mut item = i;
-        let mut derived = "Clone, Debug, PartialEq, Eq";
-        while self.at(item) == "#" {
-            if self.at(item + 2) == "derive_where" {
-                derived = "Clone";
-            }
-            item = self.close(item + 1)?;
-        }
-        let is_tree = self.at(item) == "pub" && TREES.contains(&self.at(item + 2));
-        Ok(is_tree.then_some(derived))
-    }
-
-    /// A test, which is handed the runtime there and makes it here.
-    fn test(&mut self, i: usize) -> Result<(), Refused> {
-        let open = i + 2;
-        let end = self.close(open)?;
-        if self.at(open + 3) == "HostRuntime" {
-            self.drop(open + 1..end - 1);
-            let Some(body) = (end..self.code.len()).find(|&j| self.at(j) == "{") else {
-                return Err((self.line(i), "a test without a body"));
-            };
-            self.put(body, "{ let rt = crate::proved::rt_std::process::HostRuntime;");
-        }
-        Ok(())
-    }
-
-    /// Writes `Display` behind the enum of errors that begins here.
-    fn error(&mut self, i: usize) -> Result<(), Refused> {
-        let Some(word) = (i..i + 8).find(|&j| self.at(j) == "enum") else {
-            return Err((self.line(i), "an error that is no enum"));
-        };
-        let (name, open) = (self.at(word + 1), word + 2);
-        let end = self.close(open)?;
-        let mut arms = String::new();
-        for j in open..end {
-            if self.at(j) == "#" && self.at(j + 2) == "error" {
-                let (text, variant) = (self.at(j + 4), self.at(j + 7));
-                let fields: String = text
-                    .split('{')
-                    .skip(1)
-                    .filter_map(|hole| hole.split_once('}'))
-                    .map(|(field, _)| format!("{field}, "))
-                    .collect();
-                arms += &format!(" {name}::{variant} {{ {fields}.. }} => write!(f, {text}),");
-            }
-        }
-        let formatter = "f: &mut ::core::fmt::Formatter<'_>) -> ::core::fmt::Result";
-        self.put(
-            end - 1,
-            format!(
-                "}} impl ::core::fmt::Display for {name} {{ fn fmt(&self, {formatter} {{ match self {{{arms} }} }} }} \
-             impl ::core::error::Error for {name} {{}}"
-            ),
-        );
         Ok(())
     }
 
@@ -426,7 +299,8 @@ impl<'a> Eraser<'a> {
             _ => self.becomes[*t].is_empty(),
         };
         if let Some(t) = (0..self.tokens.len()).find(|t| !is_front(t)) {
-            self.becomes[t] = format!("use crate::proved::rt_std::prelude::*; {}", self.becomes[t]).into();
+            let first = &self.becomes[t];
+            self.becomes[t] = format!("use crate::proved::rt_std::prelude::*; {first}").into();
         }
     }
 

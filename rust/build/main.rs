@@ -24,14 +24,8 @@ const LIBRARY: [&str; 10] = [
 const PROGRAMS: [&str; 2] = ["wenc", "driven"];
 
 /// The crates that test the others.
-const TESTS: [&str; 6] = [
-    "facts",
-    "sweeping",
-    "part_tests",
-    "section_tests",
-    "builder_tests",
-    "wenc_tests",
-];
+const TESTS: [&str; 6] =
+    ["facts", "sweeping", "part_tests", "section_tests", "builder_tests", "wenc_tests"];
 
 /// What `src/proved` has in the place of a crate.
 const BY_HAND: [&str; 2] = ["hex", "refusing"];

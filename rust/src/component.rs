@@ -1,9 +1,27 @@
 //! Components, their sections, and what these are made of.
 
+mod aliases;
+mod builder;
+mod canonicals;
+mod components;
+mod exports;
 mod imports;
+mod instances;
+mod modules;
+mod names;
+mod start;
 mod types;
 
+pub use aliases::*;
+pub use builder::*;
+pub use canonicals::{CanonicalFunctionSection, CanonicalOption};
+pub use components::*;
+pub use exports::*;
 pub use imports::*;
+pub use instances::*;
+pub use modules::*;
+pub use names::*;
+pub use start::*;
 pub use types::*;
 
 use crate::encode::{Encode, Foreign, append};

@@ -53,7 +53,8 @@ pub(crate) fn append<E>(
     sink: &mut Vec<u8>,
     write: impl FnOnce(&mut ProvedVec<u8>) -> Result<(), E>,
 ) -> Result<(), E> {
-    let (bytes, start) = (take(sink).into(), sink.len());
+    let start = sink.len();
+    let bytes = take(sink).into();
     let mut taken = Taken { owner: sink, bytes, start, is_written: false };
     write(&mut taken.bytes)?;
     taken.is_written = true;

@@ -11,12 +11,20 @@ mod component;
 mod core;
 mod encode;
 mod error;
+mod list;
+#[cfg(feature = "std")]
+#[doc(hidden)]
+pub mod program;
 #[allow(dead_code, missing_docs, unused_imports, unused_variables)]
 mod proved;
+mod raw;
 mod shared;
+pub mod tree;
 mod twins;
 
 pub use component::*;
 pub use self::core::*;
 pub use encode::{Encode, encoding_size};
 pub use error::Error;
+pub use list::{ListFault, ListedSection, Listing, list};
+pub use raw::RawSection;

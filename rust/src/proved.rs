@@ -7,5 +7,7 @@ pub mod hex;
 #[cfg(all(test, feature = "std"))]
 pub mod refusing;
 pub mod rt_std;
+#[cfg(all(test, feature = "std"))]
+mod tests;
 
 include!(concat!(env!("OUT_DIR"), "/proved/crates.rs"));

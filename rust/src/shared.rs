@@ -1,5 +1,9 @@
 //! What sections and types by hand have in common.
 
+use crate::proved::rt_std::alloc::Allocator;
+use crate::proved::rt_std::vec::Vec as ProvedVec;
+use crate::proved::wenc_base::{self as proved, Fault};
+
 /// Items or declarations that the proved code holds: what upstream derives (`Clone`, `Debug`, `Default`), over calls that
 /// are handed an allocator and may be refused.
 macro_rules! collections {
@@ -36,3 +40,141 @@ macro_rules! collections {
 }
 
 pub(crate) use collections;
+
+/// What lends itself to encoders: whether one of them is to end an item yet, and how that item is given up.
+macro_rules! lenders {
+    ($($name:ident)*) => {
+        $(impl $name {
+            /// Whether no encoder is to end an item yet. Until then what grows, encodes or takes this is refused as
+            /// [`Unfinished`](crate::Error::Unfinished).
+            #[inline]
+            pub fn is_finished(&self) -> bool {
+                self.0.is_finished()
+            }
+
+            /// Gives up the item that an encoder was to end, and answers whether there was one. All is as before that item
+            /// then. It takes no memory.
+            pub fn discard_unfinished(&mut self) -> bool {
+                self.0.discard_unfinished()
+            }
+        })*
+    };
+}
+
+pub(crate) use lenders;
+
+/// An encoder with one name, whatever lent itself to it: a case for each lender.
+macro_rules! encoders {
+    ($(
+        $(#[$meta:meta])*
+        $name:ident by $by:ident over $section:ident $(and $case:ident $lender:ident)*
+        $(, $field:ident: $ty:ty = $start:expr)?;
+    )*) => {
+        $($crate::shared::encoders! {
+            @with [$(#[$meta])*] $name $by [$($field: $ty = $start)?]
+            Builder ComponentBuilder, Section $section, Component ComponentType,
+            Instance InstanceType $(, $case $lender)*
+        })*
+    };
+    (
+        @with [$(#[$meta:meta])*] $name:ident $by:ident [$($field:ident: $ty:ty = $start:expr)?]
+        $($case:ident $lender:ident),*
+    ) => {
+        enum $by<'a> {
+            $($case(
+                $crate::proved::wasm_encoder::$name<'a, $crate::proved::wasm_encoder::$lender>,
+            ),)*
+        }
+
+        $(#[$meta])*
+        pub struct $name<'a> {
+            by: $by<'a>,
+            $($field: $ty,)?
+        }
+
+        impl core::fmt::Debug for $name<'_> {
+            fn fmt(&self, f: &mut core::fmt::Formatter<'_>) -> core::fmt::Result {
+                f.debug_struct(stringify!($name)).finish_non_exhaustive()
+            }
+        }
+
+        $crate::shared::encoders! {
+            @from $name $by [$($field = $start)?] $($case $lender),*
+        }
+    };
+    (@from $name:ident $by:ident $starting:tt $($case:ident $lender:ident),*) => {
+        $($crate::shared::encoders! { @one $name $by $starting $case $lender })*
+    };
+    (
+        @one $name:ident $by:ident [$($field:ident = $start:expr)?] $case:ident $lender:ident
+    ) => {
+        // Not `From`, which would show the proved encoder among what the public one implements.
+        #[allow(clippy::from_over_into)]
+        impl<'a> Into<$name<'a>>
+            for $crate::proved::wasm_encoder::$name<'a, $crate::proved::wasm_encoder::$lender>
+        {
+            #[inline]
+            fn into(self) -> $name<'a> {
+                $name { by: $by::$case(self), $($field: $start,)? }
+            }
+        }
+    };
+}
+
+pub(crate) use encoders;
+
+/// One call of an encoder, the same whoever lent itself.
+macro_rules! on {
+    ($encoder:expr, $by:ident $(+ $case:ident)*, $name:ident => $call:expr) => {
+        match $encoder {
+            $by::Builder($name) => $call,
+            $by::Section($name) => $call,
+            $by::Component($name) => $call,
+            $by::Instance($name) => $call,
+            $($by::$case($name) => $call,)*
+        }
+    };
+}
+
+pub(crate) use on;
+
+/// Prints the name of a type whose bytes say nothing to who reads them.
+macro_rules! opaque {
+    ($($name:ident)*) => {
+        $(impl core::fmt::Debug for $name {
+            fn fmt(&self, f: &mut core::fmt::Formatter<'_>) -> core::fmt::Result {
+                f.debug_struct(stringify!($name)).finish_non_exhaustive()
+            }
+        })*
+    };
+}
+
+pub(crate) use opaque;
+
+/// A user's name, as the proved code takes it.
+pub(crate) struct Name<S>(S);
+
+impl<S: AsRef<str>> proved::Encode for Name<S> {
+    #[inline]
+    fn encode<A: Allocator>(&self, sink: &mut ProvedVec<u8, A>) -> Result<(), Fault> {
+        proved::Encode::encode(&self.0.as_ref(), sink)
+    }
+}
+
+impl<S: AsRef<str>> proved::Named for Name<S> {}
+
+/// Pairs of a user's name and something else, as the proved code takes them.
+#[inline]
+pub(crate) fn named<S: AsRef<str>, T>(
+    values: impl IntoIterator<Item = (S, T)>,
+) -> impl Iterator<Item = (Name<S>, T)> {
+    values.into_iter().map(|(name, value)| (Name(name), value))
+}
+
+/// The same of two other things.
+#[inline]
+pub(crate) fn named_items<S: AsRef<str>, T, U>(
+    values: impl IntoIterator<Item = (S, T, U)>,
+) -> impl Iterator<Item = (Name<S>, T, U)> {
+    values.into_iter().map(|(name, kind, index)| (Name(name), kind, index))
+}

@@ -1,15 +1,17 @@
 -- A member that is made of values which an iterator gives, and how a holder takes it.
-use Rattle.std.proofs.Common.{◌≡◌, ℕ, ◌+◌, ◌-◌, ◌≤◌, true, false, List, ◌++◌, length, take, drop, Option, Some, None, Result, Ok, Err, IsErrAnd, refl, ◌∙◌, inl, inr, arith, ◌^◌, ◌<◌, min}
-use Rattle.std.proofs.lemmas.List.{take-append-le, drop-append-le, drop-take, length-take, take-take}
+use Rattle.std.proofs.Common.{◌≡◌, ℕ, ◌+◌, ◌-◌, ◌≤◌, true, false, List, [], ◌++◌, length, take, drop, Option, Some, None, Result, Ok, Err, IsErrAnd, refl, ap, ◌∙◌, ◌⊎◌, inl, inr, arith, ◌^◌, ◌<◌, min, length-append}
+use Rattle.std.proofs.lemmas.List.{append-nil, take-append-le, drop-append-le, drop-take, length-take, take-take}
 use Rattle.std.specs.Iterator.Runs.{SomeRun, WholeRun}
 use Rattle.wenc_base.specs.Encode.{Appended}
-use Rattle.wenc_base.specs.Fault.{IsWarranted, NoCause}
+use Rattle.wenc_base.specs.Fault.{IsWarranted, NoCause, either}
 use Rattle.wenc_base.specs.Piece.{Piece}
-use Rattle.wenc_base.specs.Holder.{HolderState, is_finished, holding, content_size, OneMoreCause, AddCause, AddsListed}
-use Rattle.wenc_base.specs.Openings.{member_given_up}
+use Rattle.wenc_base.specs.Holder.{HolderState, is_finished, holding, content_size, with_member, OneMoreCause, AddCause, AddsListed}
+use Rattle.wenc_base.specs.Lender.{ExtendsListed}
+use Rattle.wenc_base.specs.Openings.{member_begun, member_appended, member_ended, member_given_up, no_room_in_holder}
 use Rattle.wenc_base.specs.declared.fault.Fault.{Fault}
 use Rattle.wenc_base.specs.declared.fault.Fault.TheVariants.{Memory, TooMany, TooLarge, Unfinished}
 use Rattle.wenc_base.specs.declared.holder.openings.Opening.{Opening}
+use Rattle.wenc_base.specs.laws.Members.{closed_as_it_is, opened_back}
 use Rattle.wenc_base.proofs.Groups.{size_monotone}
 use Rattle.wenc_base.proofs.Members.{still_warranted}
 use Rattle.wenc_base.proofs.Runs.{no_run}
@@ -18,11 +20,25 @@ use Rattle.wenc_base.proofs.Runs.{no_run}
 own_cause : (old : HolderState) (text : List ℕ) (cause : Fault → Type 0) (fault : Fault) → IsWarranted cause fault → IsWarranted (AddCause old text cause) fault
 own_cause old text cause = still_warranted cause (AddCause old text cause) (λ f h. inl h)
 
-count_cause : (old : HolderState) (text : List ℕ) (cause : Fault → Type 0) (fault : Fault) → OneMoreCause old.count (length (old.body ++ text)) fault → IsWarranted (AddCause old text cause) fault
-count_cause old text cause (Memory e) h = tt
-count_cause old text cause TooMany h = inr (inl h)
-count_cause old text cause TooLarge h = inr (inl h)
-count_cause old text cause Unfinished h = inr (inl h)
+-- what has no room with fewer bytes has none with more
+still_one_more : (count size more : ℕ) → size ≤ more → (fault : Fault) → OneMoreCause count size fault → OneMoreCause count more fault
+still_one_more count size more le (Memory e) h = h
+still_one_more count size more le TooMany h = h
+still_one_more count size more le TooLarge h = omega arith
+still_one_more count size more le Unfinished h = h
+
+no_room_for_more : (old : HolderState) (text : List ℕ) (cause : Fault → Type 0) (fault : Fault) → AddCause old [] (λ _. ⊥) fault → AddCause old text cause fault
+no_room_for_more old text cause fault h = elim h [
+  | inl own ↦ absurd own
+  | inr more ↦ elim more [
+    | inl count ↦ inr (inl (still_one_more old.count (length (old.body ++ [])) (length (old.body ++ text)) (omega (arith, length-append old.body text, length-append old.body [])) fault count))
+    | inr stopped ↦ inr (inr stopped)
+  ]
+]
+
+-- a member that is opened, written and ended is one more
+ended_is_more : (h : HolderState) (text : List ℕ) → is_finished h ≡ true → member_ended (member_appended (member_begun h []) text) ≡ with_member h text
+ended_is_more h text finished = rw (append-nil h.body) (closed_as_it_is (with_member h text) finished)
 
 module _ {S B : Type 0} (steps : S → Option B → S → Type 0) (s : S) (piece : List B → Piece) (old new : HolderState) where
   abbrev Adds : Result (Unit {0}) Fault → Type 0
@@ -42,30 +58,62 @@ module _ {S B : Type 0} (steps : S → Option B → S → Type 0) (s : S) (piece
   unfinished_listed f same =
       refused (Err Unfinished) Unfinished refl same (no_run steps s (λ vs. AddCause old (piece vs).text (piece vs).Cause Unfinished) (inr (inr (refl, f)))) (λ g. refl)
 
-  -- for a cause of its own
-  pub refused_listed : (outcome : Result (Unit {0}) Fault) (fault : Fault) → IsErrAnd outcome (λ e. e ≡ fault) → new ≡ old → is_finished old ≡ true
-      → SomeRun steps s (λ p. IsWarranted (piece p.items).Cause fault) → Adds outcome
-  refused_listed outcome fault e same f h =
-      refused outcome fault e same (h.0, h.1, own_cause old (piece h.0.items).text (piece h.0.items).Cause fault h.2) (λ g. absurd cc)
-
-  -- for the number of members, or their size
-  pub uncounted_listed : (outcome : Result (Unit {0}) Fault) (fault : Fault) (body : List ℕ) → IsErrAnd outcome (λ e. e ≡ fault) → new ≡ old → is_finished old ≡ true
-      → Came body → OneMoreCause old.count (length body) fault → Adds outcome
-  uncounted_listed outcome fault body e same f came h =
-      refused outcome fault e same (came.0, came.1, count_cause old (piece came.0.items).text (piece came.0.items).Cause fault (rw came.3.items at h)) (λ g. absurd cc)
-
-  -- a call that is accepted
-  pub counted_listed : (body : List ℕ) → new ≡ record { kept = old.kept; count = old.count + 1; body = body; opening = old.opening } → is_finished old ≡ true → Came body
-      → ((fault : Fault) → OneMoreCause old.count (length body) fault → ⊥) → Adds (Ok tt)
-  counted_listed body e f came free = record {
-    ok = (came.0, came.1, came.2, record { state = e ∙ rw came.3.items refl; fits = came.3.fits; free = none });
-    err = tt;
-    warranted = tt;
-    unfinished_first = λ g. absurd cc;
-  }
+  -- before a member is opened
+  pub not_opened : (fault told : Fault) (lead : Piece) → new ≡ old → is_finished old ≡ true
+      → IsWarranted (AddCause old [] (λ _. ⊥)) fault → (told ≡ fault) ⊎ IsWarranted lead.Cause told
+      → ((f : Fault) → lead.Cause f → (piece []).Cause f) → Adds (Err told)
+  not_opened fault told lead same f h t of_lead =
+      refused (Err told) told refl same (no_run steps s (λ vs. IsWarranted (AddCause old (piece vs).text (piece vs).Cause) told) (warranted t)) (λ g. absurd cc)
     where
-      none : NoCause (AddCause old (piece came.0.items).text (piece came.0.items).Cause)
-      none fault h = elim h [ inl own ↦ came.3.no_cause fault own | inr more ↦ elim more [ inl count ↦ free fault (rw came.3.items count) | inr stopped ↦ absurd cc ] ]
+      warranted : (told ≡ fault) ⊎ IsWarranted lead.Cause told → IsWarranted (AddCause old (piece []).text (piece []).Cause) told
+      warranted (inl e) = rw e (still_warranted (AddCause old [] (λ _. ⊥)) (AddCause old (piece []).text (piece []).Cause) (no_room_for_more old (piece []).text (piece []).Cause) fault h)
+      warranted (inr own) = own_cause old (piece []).text (piece []).Cause told (still_warranted lead.Cause (piece []).Cause of_lead told own)
+
+  module _ (mid : HolderState) (f : is_finished old ≡ true) where
+    abbrev Grown : Result (Unit {0}) Fault → Type 0
+    Grown outcome = ExtendsListed steps s (member_begun old []) mid outcome (member_appended (member_begun old [])) (no_room_in_holder (member_begun old [])) piece
+
+    -- the opened member was written, and ended
+    pub opened_and_ended : NoCause (AddCause old [] (λ _. ⊥)) → Grown (Ok tt) → new ≡ member_ended mid → Adds (Ok tt)
+    opened_and_ended free a e = record {
+      ok = (a.ok.0, a.ok.1, a.ok.2, record { state = e ∙ ap member_ended a.ok.3.state ∙ ended_is_more old p.text f; fits = a.ok.3.fits; free = none });
+      err = tt;
+      warranted = tt;
+      unfinished_first = λ g. absurd cc;
+    }
+      where
+        p : Piece
+        p = piece a.ok.0.items
+
+        none : NoCause (AddCause old p.text p.Cause)
+        none fault h = elim h [
+          | inl own ↦ a.ok.3.free fault (inl own)
+          | inr more ↦ elim more [
+            | inl count ↦ counted fault count
+            | inr stopped ↦ absurd cc
+          ]
+        ]
+          where
+            counted : (fault : Fault) → OneMoreCause old.count (length (old.body ++ p.text)) fault → ⊥
+            counted (Memory e) h = h
+            counted TooMany h = free TooMany (inr (inl h))
+            counted TooLarge h = a.ok.3.free TooLarge (inr (refl, rw (append-nil old.body) h))
+            counted Unfinished h = h
+
+    -- it was refused, and given up
+    pub opened_and_given_up : (fault : Fault) → Grown (Err fault) → new ≡ member_given_up mid → Adds (Err fault)
+    opened_and_given_up fault a e =
+        refused (Err fault) fault refl (e ∙ ap member_given_up a.err ∙ opened_back old [] f) (a.warranted.0, a.warranted.1, still_warranted (either p.Cause (no_room_in_holder (member_begun old []) p.text)) (AddCause old p.text p.Cause) among fault a.warranted.2)
+        (λ g. absurd cc)
+      where
+        p : Piece
+        p = piece a.warranted.0.items
+
+        among : (f : Fault) → either p.Cause (no_room_in_holder (member_begun old []) p.text) f → AddCause old p.text p.Cause f
+        among f h = elim h [
+          | inl own ↦ inl own
+          | inr large ↦ inr (inl (rw large.0 (rw (append-nil old.body) at large.1)))
+        ]
 
 -- what stands before the written bytes
 pub came_after : {S B : Type 0} (steps : S → Option B → S → Type 0) (s : S) (piece : List B → Piece) (kept : ℕ) (before after : List ℕ) → kept ≤ length before

@@ -7,5 +7,5 @@ pub mod Grown
 pub mod Kept
 pub mod Produced
 mod Composites
-pub mod Named
+pub mod ShortNames
 pub mod Bytes

@@ -7,12 +7,14 @@ ghost use Rattle.wenc_base.specs.Piece.{Piece, ◌▸◌};
 
 mod front;
 mod lists;
+mod named;
 mod sized;
 
 use crate::fault::Fault;
 use crate::number::encoding_size;
 use crate::short::Short;
 pub use lists::encode_list;
+pub use named::Named;
 pub use sized::WithSize;
 use std::alloc::Allocator;
 

@@ -8,13 +8,18 @@ use crate::encode::Encode;
 use crate::fault::Fault;
 use std::alloc::Allocator;
 
-/// The kind of what a core module exports or imports.
+/// The kind of what a core module exports or imports (WebAssembly 3.0, binary format, "Export Section").
 #[derive(Clone, Copy, Debug, PartialEq, Eq)]
 pub enum ExportKind {
+    /// A function.
     Func,
+    /// A table.
     Table,
+    /// A memory.
     Memory,
+    /// A global variable.
     Global,
+    /// A tag of exceptions.
     Tag,
 }
 

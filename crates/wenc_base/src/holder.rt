@@ -1,9 +1,11 @@
-ghost use Rattle.std.specs.Prelude.{◌≡◌, ◌+◌, ◌-◌, ◌<◌, ◌≤◌, ◌^◌, length, OnOk, OnErr, IfOk, IfErr, true, false, take, drop};
+ghost use Rattle.std.specs.Prelude.{◌≡◌, ◌+◌, ◌-◌, ◌<◌, ◌≤◌, ◌^◌, ◌⊎◌, length, OnOk, OnErr, IfOk, IfErr, true, false, take, drop};
 ghost use Rattle.std.specs.Iterator.{IsFinite};
 ghost use Rattle.std.specs.Iterator.Runs.{SomeRun, WholeRun};
 ghost use Rattle.wenc_base.specs.Encode.{Appends, Appended};
 ghost use Rattle.wenc_base.specs.Fault.{IsWarranted, IsMemory};
 ghost use Rattle.wenc_base.specs.Holder.{no_members, all_bytes, holding, is_finished, content_size, section_text, cut_to, OneMoreCause, AddsMember, AddsListed, listed, held_members, EncodeCause};
+ghost use Rattle.wenc_base.specs.Lender.{ExtendsListed};
+ghost use Rattle.wenc_base.specs.Openings.{member_appended, no_room_in_holder};
 ghost use Rattle.wenc_base.specs.Piece.{verbatim};
 ghost use Rattle.wenc_base.specs.declared.fault.Fault.{Fault as FaultSpec};
 ghost use Rattle.wenc_base.specs.declared.fault.Fault.TheVariants.{TooLarge, Unfinished};
@@ -15,7 +17,7 @@ use crate::encode::{Encode, Verbatim, encode_list, extend_in_room};
 use crate::fault::Fault;
 use crate::number::encoding_size;
 use crate::short::Short;
-use openings::Opening;
+use openings::{Opening, keep_in_room};
 use std::alloc::{Allocator, Global};
 use std::marker::Model;
 
@@ -182,7 +184,7 @@ impl<A: Allocator> Holder<A> {
     }
 
     /// Adds one member: the text of `lead`, the values as a list, the text of `tail`. It is refused as `add`
-    /// is, or as these are.
+    /// is, or as these are. Until it returns the member is one that is being written.
     pub fn add_listed<E: Encode, T: Encode + Drop, I: Iterator<Item = T> + Drop, F: Encode>(
         &mut self,
         lead: &E,
@@ -198,10 +200,58 @@ impl<A: Allocator> Holder<A> {
         if !self.is_finished() {
             return Err(Fault::Unfinished);
         }
+        if let Err(fault) = self.open(&[]) {
+            return Err(self.refusal_of_lead(lead, fault));
+        }
+        match self.append_between(lead, values, tail) {
+            Ok(()) => {
+                self.finish_member();
+                Ok(())
+            }
+            Err(fault) => {
+                self.discard_unfinished();
+                Err(fault)
+            }
+        }
+    }
+
+    /// Adds the text of `lead`, the values as a list, and the text of `tail` to the member that is being written. It
+    /// is refused as `append` is, or as these are.
+    fn append_between<E: Encode, T: Encode + Drop, I: Iterator<Item = T> + Drop, F: Encode>(
+        &mut self,
+        lead: &E,
+        values: I,
+        tail: &F,
+    ) -> Result<(), Fault>
+        requires unfinished { is_finished self.old ≡ false }
+        requires can { I.can_next values }
+        requires ends { IsFinite (I.remaining values) }
+        ensures appended { ExtendsListed I.next_gives values self.old self.new result
+            (member_appended self.old) (no_room_in_holder self.old)
+            (listed (E.piece lead.now) T.piece (F.piece tail.now)) }
+        ensures unfinished_lead { E.unfinished lead.now → result ≡ Err Unfinished }
+    {
         let start = self.bytes.len();
         encode_listed(lead, values, tail, &mut self.bytes)?;
-        self.count = end_member(&mut self.bytes, self.kept, start, self.count)?;
-        Ok(())
+        keep_in_room(&mut self.bytes, self.kept, start, self.count)
+    }
+
+    /// What is told of a member that has no room: what its lead is refused for, or else this fault.
+    #[cold]
+    #[inline(never)]
+    fn refusal_of_lead<E: Encode>(&mut self, lead: &E, fault: Fault) -> Fault
+        ensures same { self.new ≡ self.old }
+        ensures told { (result ≡ fault) ⊎ IsWarranted (E.piece lead.now).Cause result }
+        ensures unfinished_lead { E.unfinished lead.now → result ≡ Unfinished }
+    {
+        let start = self.bytes.len();
+        match lead.encode(&mut self.bytes) {
+            Ok(()) => {
+                self.bytes.truncate(start);
+                fault
+            }
+            Err(first) => first,
+        }
     }
 
     /// Takes back the last members, so that there are `len` in the first `bytes` bytes of their texts. It takes

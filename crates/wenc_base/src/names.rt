@@ -40,7 +40,7 @@ impl<A: Allocator> Model for NameMap<A> {
 }
 
 /// From so many bytes on, one short name more could be too many.
-const NEARLY_FULL: usize = (1 << 32) - 256;
+const NEARLY_FULL: u64 = (1 << 32) - 256;
 
 impl<A: Allocator> NameMap<A> {
     /// No names. It takes no memory.
@@ -63,7 +63,7 @@ impl<A: Allocator> NameMap<A> {
     {
         if idx < 1 << 21
             && name.len() < 1 << 7
-            && self.names.len() < NEARLY_FULL
+            && (self.names.len() as u64) < NEARLY_FULL
             && self.count < u32::MAX
             && has_room(&self.names, 4 + name.len())
         {

@@ -73,16 +73,24 @@ instance (Instantiate component_index arguments) =
     0x00 ▸ u32 component_index ⨾ list instantiate_arg arguments
 instance (Exports exports) = 0x01 ▸ list inline_export exports
 
--- ---- what an iterator gives, as pure values
+-- ---- what an iterator gives, as pure values, by what its names are
 
+abbrev pub argument_of : {N : Type 0} → (N → List ℕ) → N × ModuleArg → Argument
+argument_of named a = record { name = named a.0; value = a.1 }
+
+abbrev pub core_export_of : {N : Type 0} → (N → List ℕ) → N × ExportKind × ℕ → CoreExport
+core_export_of named e = record { name = named e.0; kind = e.1; index = e.2 }
+
+abbrev pub instantiate_arg_of : {N : Type 0} → (N → List ℕ) → N × ComponentExportKind × ℕ
+    → InstantiateArg
+instantiate_arg_of named g = record { name = named g.0; kind = g.1; index = g.2 }
+
+-- the same where the names are borrowed
 abbrev pub argument_view : Bor (List ℕ) × ModuleArg → Argument
-argument_view a = record { name = a.0.now; value = a.1 }
+argument_view a = argument_of (λ s. s.now) a
 
 abbrev pub core_export_view : Bor (List ℕ) × ExportKind × ℕ → CoreExport
-core_export_view e = record { name = e.0.now; kind = e.1; index = e.2 }
-
-abbrev pub instantiate_arg_view : Bor (List ℕ) × ComponentExportKind × ℕ → InstantiateArg
-instantiate_arg_view g = record { name = g.0.now; kind = g.1; index = g.2 }
+core_export_view e = core_export_of (λ s. s.now) e
 
 abbrev pub inline_export_view : {A : Type 0} → ComponentExternName A × ComponentExportKind × ℕ
     → InlineExport

@@ -2,12 +2,12 @@ ghost use Rattle.std.specs.Prelude.{map};
 ghost use Rattle.std.specs.Iterator.{IsFinite};
 ghost use Rattle.wenc_base.specs.Holder.{AddsListed};
 ghost use Rattle.wenc_sections.specs.Instances.{CoreInstantiate, CoreExports, core_instance};
-ghost use Rattle.wenc_sections.specs.Instances.{argument_view, core_export_view};
-ghost use Rattle.wenc_sections.specs.Instances.{Instantiate, Exports, instance, instantiate_arg_view, inline_export_view};
+ghost use Rattle.wenc_sections.specs.Instances.{argument_of, core_export_of};
+ghost use Rattle.wenc_sections.specs.Instances.{Instantiate, Exports, instance, instantiate_arg_of, inline_export_view};
 
 use crate::counted::{Counted, CountedKind};
 use std::alloc::{Allocator, Global};
-use wenc_base::{ExportKind, Fault, Tagged};
+use wenc_base::{ExportKind, Fault, Named, Tagged};
 use wenc_parts::{ComponentExportKind, ComponentExternName, ComponentSectionId, ModuleArg};
 
 /// What begins an instance of a core module (component model, binary format, `core:instanceexpr`).
@@ -53,7 +53,7 @@ impl<A: Allocator> Counted<CoreInstances, A> {
     /// Adds an instance of the core module with this index, which is given these arguments under their names. It is
     /// refused where there would be too many instances or arguments (`TooMany`), or too many bytes in the section or
     /// in a name (`TooLarge`).
-    pub fn instantiate<'a, I: Iterator<Item = (&'a str, ModuleArg)> + Drop>(
+    pub fn instantiate<S: Named + Drop, I: Iterator<Item = (S, ModuleArg)> + Drop>(
         &mut self,
         module_index: u32,
         args: I,
@@ -61,7 +61,7 @@ impl<A: Allocator> Counted<CoreInstances, A> {
         requires can { I.can_next args }
         requires ends { IsFinite (I.remaining args) }
         ensures { AddsListed I.next_gives args
-            (λ vs. core_instance (CoreInstantiate module_index (map argument_view vs)))
+            (λ vs. core_instance (CoreInstantiate module_index (map (argument_of S.named) vs)))
             self.old self.new result }
     {
         let lead = Tagged(CORE_INSTANTIATE, &module_index);
@@ -69,14 +69,14 @@ impl<A: Allocator> Counted<CoreInstances, A> {
     }
 
     /// Adds an instance that exports these core items under their names. It is refused as `instantiate` is.
-    pub fn export_items<'a, I: Iterator<Item = (&'a str, ExportKind, u32)> + Drop>(
+    pub fn export_items<S: Named + Drop, I: Iterator<Item = (S, ExportKind, u32)> + Drop>(
         &mut self,
         exports: I,
     ) -> Result<(), Fault>
         requires can { I.can_next exports }
         requires ends { IsFinite (I.remaining exports) }
         ensures { AddsListed I.next_gives exports
-            (λ vs. core_instance (CoreExports (map core_export_view vs))) self.old self.new result }
+            (λ vs. core_instance (CoreExports (map (core_export_of S.named) vs))) self.old self.new result }
     {
         let lead = Tagged(CORE_EXPORTS, &());
         self.items.add_listed(&lead, exports, &())
@@ -116,7 +116,7 @@ impl<A: Allocator> Counted<Instances, A> {
     /// Adds an instance of the component with this index, which is given the items of these kinds and indices under
     /// their names. It is refused where there would be too many instances or arguments (`TooMany`), or too many bytes
     /// in the section or in a name (`TooLarge`).
-    pub fn instantiate<'a, I: Iterator<Item = (&'a str, ComponentExportKind, u32)> + Drop>(
+    pub fn instantiate<S: Named + Drop, I: Iterator<Item = (S, ComponentExportKind, u32)> + Drop>(
         &mut self,
         component_index: u32,
         args: I,
@@ -124,7 +124,7 @@ impl<A: Allocator> Counted<Instances, A> {
         requires can { I.can_next args }
         requires ends { IsFinite (I.remaining args) }
         ensures { AddsListed I.next_gives args
-            (λ vs. instance (Instantiate component_index (map instantiate_arg_view vs)))
+            (λ vs. instance (Instantiate component_index (map (instantiate_arg_of S.named) vs)))
             self.old self.new result }
     {
         let lead = Tagged(INSTANTIATE, &component_index);

@@ -114,12 +114,18 @@ impl<'a, L: Lender> ComponentFuncTypeEncoder<'a, L> {
         ensures next { OnOk result (self.new.stage ≡ stages.Params) }
         ensures back { OnErr result (self.new.stage ≡ self.old.stage) }
     {
-        match append_named(self.lender, self.stage.lead(), params) {
+        let stage = self.stage;
+        // No call fits here, should the iterator not come back.
+        self.stage = FuncStage::Done;
+        match append_named(self.lender, stage.lead(), params) {
             Ok(()) => {
                 self.stage = FuncStage::Params;
                 Ok(())
             }
-            Err(fault) => Err(fault),
+            Err(fault) => {
+                self.stage = stage;
+                Err(fault)
+            }
         }
     }
 

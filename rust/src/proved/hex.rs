@@ -24,7 +24,10 @@ impl From<AllocError> for FromHexError {
 }
 
 /// The bytes that hexadecimal digits say.
-pub fn decode<A: Allocator>(alloc: A, digits: impl AsRef<[u8]>) -> Result<Vec<u8, A>, FromHexError> {
+pub fn decode<A: Allocator>(
+    alloc: A,
+    digits: impl AsRef<[u8]>,
+) -> Result<Vec<u8, A>, FromHexError> {
     let digits = digits.as_ref();
     let value = |digit: u8| char::from(digit).to_digit(16).ok_or(FromHexError::InvalidHexCharacter);
     if digits.len() % 2 != 0 {

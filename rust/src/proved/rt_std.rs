@@ -53,7 +53,6 @@ pub mod process;
 #[cfg(all(test, feature = "std"))]
 pub use core::{cmp, hash};
 
-#[cfg(feature = "std")]
 pub(crate) use macros::format;
 #[cfg(all(test, feature = "std"))]
 pub(crate) use macros::vec;

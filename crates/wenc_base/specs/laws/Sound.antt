@@ -4,7 +4,7 @@ use Rattle.std.proofs.Common.{◌≡◌, ℕ, zero, suc, ◌<◌, true, false, e
 use Rattle.std.proofs.lemmas.Bool.{eqb-true}
 use Rattle.std.specs.List.{AllByRecursion}
 use Rattle.wenc_base.specs.Piece.{Piece, Form, Payload, Wide, nothing, ◌▸◌, ◌⨾◌, only_where, each, all_of}
-use Rattle.wenc_base.specs.Readers.{Flaw, Bad, Deep, Reader, go_on, ◌>>=◌, give, nowhere, too_deep, times, pick, choose, all_read, done, made, Lawful}
+use Rattle.wenc_base.specs.Readers.{Flaw, Bad, Deep, Reader, go_on, ◌>>=◌, give, nowhere, too_deep, times, pick, choose, all_read, done, Lawful}
 
 -- P of what was found, Goes where that is too deep
 abbrev pub Told : {A : Type 0} → (A → Type 0) → Type 0 → Result A Flaw → Type 0

@@ -7,7 +7,7 @@ ghost use Rattle.wenc_base.specs.Holder.{is_finished, content_size, AddCause};
 ghost use Rattle.wenc_base.specs.Lender.{ExtendsListed, GivesUp};
 ghost use Rattle.wenc_base.specs.Openings.{member_appended, member_ended, member_given_up, no_room_in_holder, is_opened, BeginsMember, AppendsToMember};
 
-use super::{Holder, encode_listed, next_count, size_fits};
+use super::{Holder, next_count, size_fits};
 use crate::encode::{Encode, Verbatim};
 use crate::fault::Fault;
 use std::alloc::Allocator;
@@ -93,9 +93,7 @@ impl<A: Allocator> Holder<A> {
             (member_appended self.old) (no_room_in_holder self.old)
             (λ vs. behind_bytes lead.now (list T.piece vs)) }
     {
-        let start = self.bytes.len();
-        encode_listed(&Verbatim(lead), values, &(), &mut self.bytes)?;
-        keep_in_room(&mut self.bytes, self.kept, start, self.count)
+        self.append_between(&Verbatim(lead), values, &())
     }
 
     /// Adds the last bytes of the member that is being written. It is refused as `append` is, and then the
@@ -136,7 +134,7 @@ impl<A: Allocator> Holder<A> {
 }
 
 /// Cuts off what was written from `start` on, where there is no room for it.
-fn keep_in_room<A: Allocator>(
+pub(super) fn keep_in_room<A: Allocator>(
     bytes: &mut Vec<u8, A>,
     kept: usize,
     start: usize,

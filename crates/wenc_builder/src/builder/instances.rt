@@ -4,13 +4,13 @@ ghost use Rattle.std.specs.Prelude.{map};
 ghost use Rattle.wenc_builder.specs.Enters.{EntersListed};
 ghost use Rattle.wenc_builder.specs.Entry.{core_instance_entry, instance_entry};
 ghost use Rattle.wenc_sections.specs.Instances.{CoreInstantiate, CoreExports, argument_view, core_export_view};
-ghost use Rattle.wenc_sections.specs.Instances.{Instantiate, Exports, instantiate_arg_view, inline_export_view};
+ghost use Rattle.wenc_sections.specs.Instances.{Instantiate, Exports, instantiate_arg_of, inline_export_view};
 
 use super::ComponentBuilder;
 use super::kind::Kind;
 use super::space::Space;
 use std::alloc::Allocator;
-use wenc_base::{ExportKind, Fault, Tagged};
+use wenc_base::{ExportKind, Fault, Named, Tagged};
 use wenc_parts::{ComponentExportKind, ComponentExternName, ModuleArg};
 use wenc_sections::instances::{CORE_EXPORTS, CORE_INSTANTIATE, EXPORTS, INSTANTIATE};
 
@@ -67,7 +67,7 @@ impl<A: Allocator> ComponentBuilder<A> {
 
     /// Adds an instance of the component with this index, which is given the items of these kinds and indices under
     /// their names.
-    pub fn instantiate<'a, I: Iterator<Item = (&'a str, ComponentExportKind, u32)> + Drop>(
+    pub fn instantiate<S: Named + Drop, I: Iterator<Item = (S, ComponentExportKind, u32)> + Drop>(
         &mut self,
         debug_name: Option<&str>,
         component_index: u32,
@@ -77,7 +77,7 @@ impl<A: Allocator> ComponentBuilder<A> {
         requires ends { IsFinite (I.remaining args) }
         ensures { EntersListed I.next_gives args self.old self.new result
             (λ items. instance_entry (option_copied debug_name.entry)
-            (Instantiate component_index (map instantiate_arg_view items))) }
+            (Instantiate component_index (map (instantiate_arg_of S.named) items))) }
     {
         let lead = Tagged(INSTANTIATE, &component_index);
         self.add_listed(

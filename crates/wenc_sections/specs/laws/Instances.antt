@@ -7,10 +7,13 @@ use Rattle.wenc_base.specs.Holder.{listed}
 use Rattle.wenc_base.specs.Number.{u32}
 use Rattle.wenc_base.specs.Piece.{Piece, Form, nothing, ◌▸◌, ◌⨾◌}
 use Rattle.wenc_base.specs.laws.Serves.{serves_itself, serves_then, tagged_serves, both_serve, order_serves, two_serve, three_serve, with_nothing, right_free, list_serves, lists_serve}
+use Rattle.wenc_base.specs.declared.exports.ExportKind.{ExportKind}
 use Rattle.wenc_parts.specs.Exports.{component_export_kind}
 use Rattle.wenc_parts.specs.Imports.{extern_name}
 use Rattle.wenc_parts.specs.Instances.{module_argument}
-use Rattle.wenc_sections.specs.Instances.{Argument, argument, CoreExport, core_export, CoreInstantiate, CoreExports, core_instance, InstantiateArg, instantiate_arg, InlineExport, inline_export, Instantiate, Exports, instance}
+use Rattle.wenc_parts.specs.declared.exports.ComponentExportKind.{ComponentExportKind}
+use Rattle.wenc_parts.specs.declared.instances.ModuleArg.{ModuleArg}
+use Rattle.wenc_sections.specs.Instances.{argument_of, core_export_of, instantiate_arg_of, Argument, argument, CoreExport, core_export, CoreInstantiate, CoreExports, core_instance, InstantiateArg, instantiate_arg, InlineExport, inline_export, Instantiate, Exports, instance}
 
 tag_first : (b : ℕ) (p q : Piece) → Serves ((b ▸ p) ⨾ q) (b ▸ (p ⨾ q))
 tag_first b p q = record { text = refl; fits = λ h. h; among = λ fault c. c; free = λ none. none }
@@ -89,3 +92,26 @@ module _ {A : Type 0} (seen : A → InlineExport) where
   -- by the form itself
   pub exports_serve : (vs : List A) → Serves (0x01 ▸ list_in_order (λ e. inline_export (seen e)) vs) (instance (Exports (map seen vs)))
   exports_serve = tagged_list_serves (λ e. inline_export (seen e)) seen inline_export (λ e. serves_itself {p = inline_export (seen e)}) 0x01
+
+-- ---- instances, by how their names are written
+
+module _ {N : Type 0} (written : Form N) (named : N → List ℕ) (as_name : (n : N) → Serves (written n) (name (named n))) where
+  abbrev pub argument_named : Form (N × ModuleArg)
+  argument_named a = in_order (written a.0) (module_argument a.1)
+
+  abbrev pub core_export_named : Form (N × ExportKind × ℕ)
+  core_export_named e = in_order (written e.0) (in_order (core_kind e.1) (u32 e.2))
+
+  abbrev pub given_named : Form (N × ComponentExportKind × ℕ)
+  given_named g = in_order (written g.0) (in_order (component_export_kind g.1) (u32 g.2))
+
+  pub core_instantiate_named : (index : ℕ) (vs : List (N × ModuleArg))
+      → Serves (listed (0x00 ▸ u32 index) argument_named nothing vs) (core_instance (CoreInstantiate index (map (argument_of named) vs)))
+  core_instantiate_named index = led_serves argument_named (argument_of named) argument (λ a. order_serves (as_name a.0) (serves_itself {p = module_argument a.1})) 0x00 (u32 index)
+
+  pub core_exports_named : (vs : List (N × ExportKind × ℕ)) → Serves (listed (0x01 ▸ nothing) core_export_named nothing vs) (core_instance (CoreExports (map (core_export_of named) vs)))
+  core_exports_named = alone_serves core_export_named (core_export_of named) core_export (λ e. order_serves (as_name e.0) (two_serve (core_kind e.1) (u32 e.2))) 0x01
+
+  pub instantiate_named : (index : ℕ) (vs : List (N × ComponentExportKind × ℕ))
+      → Serves (listed (0x00 ▸ u32 index) given_named nothing vs) (instance (Instantiate index (map (instantiate_arg_of named) vs)))
+  instantiate_named index = led_serves given_named (instantiate_arg_of named) instantiate_arg (λ g. order_serves (as_name g.0) (two_serve (component_export_kind g.1) (u32 g.2))) 0x00 (u32 index)

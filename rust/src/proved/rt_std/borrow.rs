@@ -5,7 +5,7 @@ use super::string::String;
 use alloc::borrow::Cow;
 
 /// A text that is lent or owned.
-#[derive(Debug, PartialEq, Eq)]
+#[derive(Debug)]
 pub enum CowStr<'a, A: Allocator = Global> {
     /// It is lent.
     Borrowed(&'a str),
@@ -23,6 +23,16 @@ impl<A: Allocator> CowStr<'_, A> {
         }
     }
 }
+
+/// Equal letters make equal texts, lent or owned.
+impl<A: Allocator> PartialEq for CowStr<'_, A> {
+    #[inline]
+    fn eq(&self, other: &Self) -> bool {
+        self.as_str() == other.as_str()
+    }
+}
+
+impl<A: Allocator> Eq for CowStr<'_, A> {}
 
 impl<A: Allocator> TryClone for CowStr<'_, A> {
     fn try_clone(&self) -> Result<Self, AllocError> {

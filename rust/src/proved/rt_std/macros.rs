@@ -1,6 +1,5 @@
 //! Macros that are handed an allocator.
 
-#[cfg(feature = "std")]
 macro_rules! format_in {
     (in $alloc:expr; $($arguments:tt)*) => {{
         let mut text = crate::proved::rt_std::string::String::new($alloc);
@@ -21,7 +20,6 @@ macro_rules! vec_in {
     }};
 }
 
-#[cfg(feature = "std")]
 pub(crate) use format_in as format;
 #[cfg(all(test, feature = "std"))]
 pub(crate) use vec_in as vec;

@@ -8,7 +8,10 @@ use core::ops::Deref;
 
 /// Rust's `String`, with calls that answer where memory is refused. It is lent as a `str`, and made of Rust's and into it
 /// by `From` without a copy.
-#[derive(Clone, PartialEq, Eq)]
+///
+/// `Clone` is for the trees that a user holds: as with Rust's texts, a refusal ends the program there. The proved code calls
+/// `try_clone`.
+#[derive(Clone)]
 pub struct String<A = Global> {
     inner: Inner,
     alloc: A,
@@ -26,7 +29,11 @@ impl<A: Allocator> String<A> {
     #[expect(clippy::should_implement_trait, reason = "Rattle's name")]
     pub fn from_str(alloc: A, text: &str) -> Result<Self, AllocError> {
         let mut made = String::new(alloc);
-        made.push_str(text)?;
+        if !text.is_empty() {
+            made.ask()?;
+            made.inner.try_reserve_exact(text.len())?;
+            made.inner.push_str(text);
+        }
         Ok(made)
     }
 
@@ -37,11 +44,14 @@ impl<A: Allocator> String<A> {
     }
 
     #[inline]
+    fn ask(&self) -> Result<(), AllocError> {
+        if self.alloc.allows() { Ok(()) } else { Err(AllocError) }
+    }
+
+    #[inline]
     fn try_reserve(&mut self, more: usize) -> Result<(), AllocError> {
         if self.inner.capacity() - self.inner.len() < more {
-            if !self.alloc.allows() {
-                return Err(AllocError);
-            }
+            self.ask()?;
             self.inner.try_reserve(more)?;
         }
         Ok(())
@@ -91,6 +101,16 @@ impl<A> Deref for String<A> {
         &self.inner
     }
 }
+
+/// Equal letters make equal texts, wherever they lie.
+impl<A> PartialEq for String<A> {
+    #[inline]
+    fn eq(&self, other: &Self) -> bool {
+        self.inner == other.inner
+    }
+}
+
+impl<A> Eq for String<A> {}
 
 impl<A> fmt::Debug for String<A> {
     fn fmt(&self, f: &mut fmt::Formatter<'_>) -> fmt::Result {

@@ -7,7 +7,10 @@ use core::{fmt, slice};
 
 /// Rust's `Vec`, with calls that answer where memory is refused. It is lent as a slice, and made of Rust's and into it by
 /// `From` without a copy.
-#[derive(Clone, PartialEq, Eq)]
+///
+/// `Clone` is for the trees that a user holds: as with Rust's vectors, a refusal ends the program there. The proved code
+/// calls `try_clone`.
+#[derive(Clone)]
 pub struct Vec<T, A = Global> {
     pub(crate) inner: Inner<T>,
     pub(crate) alloc: A,
@@ -105,9 +108,18 @@ impl<T, A: Allocator> Vec<T, A> {
         self.inner.truncate(len);
     }
 
-    /// Gives back room that isn't used.
+    /// Gives back room that isn't used, or keeps it where the smaller room is refused. Rust's `shrink_to_fit` would end the
+    /// program then.
     pub fn shrink_to_fit(&mut self) {
-        self.inner.shrink_to_fit();
+        let len = self.inner.len();
+        if len == self.inner.capacity() {
+            return;
+        }
+        let mut exact = Inner::new();
+        if len == 0 || self.ask().is_ok() && exact.try_reserve_exact(len).is_ok() {
+            exact.append(&mut self.inner);
+            self.inner = exact;
+        }
     }
 }
 
@@ -156,6 +168,16 @@ impl<T, A> DerefMut for Vec<T, A> {
         &mut self.inner
     }
 }
+
+/// Equal elements make equal vectors, wherever they lie.
+impl<T: PartialEq, A> PartialEq for Vec<T, A> {
+    #[inline]
+    fn eq(&self, other: &Self) -> bool {
+        self.inner == other.inner
+    }
+}
+
+impl<T: Eq, A> Eq for Vec<T, A> {}
 
 impl<T: fmt::Debug, A> fmt::Debug for Vec<T, A> {
     fn fmt(&self, f: &mut fmt::Formatter<'_>) -> fmt::Result {

@@ -1,0 +1,73 @@
+//! The closed lists of the eraser: what it knows by name.
+
+/// Methods that are handed an allocator there, and not by Rust's library, which has them on the same types.
+pub const ALLOCATING: [&str; 4] = ["collect", "repeat", "to_ascii_uppercase", "to_vec"];
+
+/// Macros that are handed an allocator behind `in`, and that the shim has.
+pub const HANDED: [&str; 2] = ["format", "vec"];
+
+/// Macros that are handed the runtime, `rt`, which Rust's are not.
+pub const MACROS: [&str; 3] = ["assert", "assert_eq", "panic"];
+
+/// Macros that mean the same there and here.
+pub const PLAIN: [&str; 4] = ["concat", "matches", "write", "writeln"];
+
+/// Words that a `!` or a path may follow, and that are no names.
+pub const KEYWORDS: [&str; 15] = [
+    "as", "break", "dyn", "else", "extern", "for", "if", "impl", "in", "match", "mut", "ref",
+    "return", "use", "while",
+];
+
+/// What is derived by the same name there and here.
+pub const DERIVED: [&str; 8] =
+    ["Clone", "Copy", "Debug", "Eq", "Hash", "Ord", "PartialEq", "PartialOrd"];
+
+/// Attributes that mean the same there and here, as they are written.
+pub const ATTRIBUTES: [&str; 6] = [
+    "# [ cfg ( test ) ]",
+    "# [ cold ]",
+    "# [ inline ( always ) ]",
+    "# [ inline ( never ) ]",
+    "# [ inline ]",
+    "# [ repr ( u8 ) ]",
+];
+
+/// What a tree derives in place of `Drop`.
+pub const OF_TREES: &str = "Clone, Debug, PartialEq, Eq";
+
+/// What it derives where it has `derive_where` for the others.
+pub const OF_COMPARED_TREES: &str = "Clone";
+
+/// Trees of items and of commands, whose values a user of Rust compares, prints and copies.
+pub const TREES: [&str; 23] = [
+    "AliasTree",
+    "Built",
+    "CanonTree",
+    "CaseTree",
+    "Command",
+    "ComponentDecl",
+    "CompositeType",
+    "CoreInstanceTree",
+    "CoreTypeTree",
+    "DefinedTree",
+    "FuncType",
+    "GroupTree",
+    "InstanceDecl",
+    "InstanceTree",
+    "ItemTree",
+    "ListedSection",
+    "Listing",
+    "ModuleDecl",
+    "NameOptions",
+    "NameTree",
+    "StructType",
+    "SubType",
+    "TypeTree",
+];
+
+/// Types that a user of Rust prints, whose sources don't say so.
+pub const PRINTED: [&str; 1] = ["Alias"];
+
+/// Methods of trees that stay in this crate: their contracts ask for what nothing tests, or they answer what the facade has
+/// in another shape.
+pub const NARROWED: [(&str, &str); 2] = [("FuncType", "new"), ("NameTree", "as_name")];

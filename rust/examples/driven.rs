@@ -1,0 +1,7 @@
+//! Runs the commands that the bytes on standard input choose, as docs/DRIVEN.md says.
+
+use std::process::ExitCode;
+
+fn main() -> ExitCode {
+    wenc::program::driven()
+}

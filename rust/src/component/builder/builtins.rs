@@ -1,0 +1,66 @@
+//! The builder's calls for the functions that the component model provides.
+
+use crate::component::canonicals::builtins;
+use crate::component::{CanonicalOption, ComponentBuilder, ComponentValType};
+use crate::core::ValType;
+use crate::twins::twins;
+
+/// The builder's call for each row of the table.
+macro_rules! calls {
+    (
+        plain {
+            $(
+                $(#[$doc:meta])*
+                $name:ident | $tried:ident ($($arg:ident: $ty:ty),*) $(or $others:tt)?;
+            )*
+        }
+        with_options {
+            $(
+                $(#[$list_doc:meta])*
+                $list:ident | $list_tried:ident ($($lead:ident: $lead_ty:ty),*);
+            )*
+        }
+        of_slot {
+            $(
+                $(#[$slot_doc:meta])*
+                $slot:ident | $slot_tried:ident;
+            )*
+        }
+    ) => {
+        /// Core functions that the component model provides: each call adds one, and answers its index (component model,
+        /// binary format, "Canonical Definitions").
+        ///
+        /// `ty` and `func_ty_idx` are the index of a type, that of a core type where a thread is made; `memory` is that of
+        /// a core memory, `table` and `table_index` that of a core table. `async_` says whether the call may be answered
+        /// later. Options are written in the order in which they come.
+        ///
+        /// Each has its own name as its debug name, `context.get` and `context.set` with the slot's number behind it.
+        /// Upstream gives `thread.yield-then-promote` the name of `thread.yield-then-resume`, and has
+        /// `thread.spawn-indirect` on a section alone.
+        impl ComponentBuilder {
+            twins! {
+                $($(#[$doc])*
+                fn $name | $tried(&mut self, $($arg: $ty),*) -> u32 {
+                    Ok(self.0.$name($($arg),*)?)
+                })*
+
+                $($(#[$list_doc])*
+                fn $list | $list_tried<O>(&mut self, $($lead: $lead_ty,)* options: O) -> u32
+                where {
+                    O: IntoIterator<Item = CanonicalOption>,
+                    O::IntoIter: ExactSizeIterator,
+                }
+                {
+                    Ok(self.0.$list($($lead,)* options.into_iter())?)
+                })*
+
+                $($(#[$slot_doc])*
+                fn $slot | $slot_tried(&mut self, ty: ValType, i: u32) -> u32 {
+                    Ok(self.0.$slot(ty.to_proved()?, i)?)
+                })*
+            }
+        }
+    };
+}
+
+builtins! { calls }

@@ -1,0 +1,60 @@
+//! The builder's calls for functions between a component and its core modules.
+
+use crate::component::{CanonicalOption, ComponentBuilder};
+use crate::twins::twins;
+
+/// Functions that are lifted and lowered: each call adds one, with a debug name or none, and answers its index (component
+/// model, binary format, "Canonical Definitions"). Options are written in the order in which they come.
+impl ComponentBuilder {
+    twins! {
+        /// Makes a core function of a function.
+        fn lower_func | try_lower_func<O>(
+            &mut self,
+            debug_name: Option<&str>,
+            func_index: u32,
+            options: O,
+        ) -> u32
+        where {
+            O: IntoIterator<Item = CanonicalOption>,
+            O::IntoIter: ExactSizeIterator,
+        }
+        {
+            Ok(self.0.lower_func(debug_name, func_index, options.into_iter())?)
+        }
+
+        /// Makes a function, of the type with this index, of a core function.
+        ///
+        /// ```
+        /// use wenc::{ComponentBuilder, ModuleArg, PrimitiveValType};
+        ///
+        /// let mut builder = ComponentBuilder::default();
+        /// // A module that exports `f`, which does nothing.
+        /// let module = builder.core_module_raw(
+        ///     None,
+        ///     b"\0asm\x01\0\0\0\x01\x04\x01\x60\0\0\x03\x02\x01\0\x07\x05\x01\x01f\0\0\x0a\x04\x01\x02\0\x0b",
+        /// );
+        /// let instance = builder.core_instantiate(None, module, [] as [(&str, ModuleArg); 0]);
+        /// let core = builder.core_alias_export(None, instance, "f", wenc::ExportKind::Func);
+        /// let (ty, mut encoder) = builder.type_function(None);
+        /// encoder.params([] as [(&str, PrimitiveValType); 0]).result(None);
+        ///
+        /// let function = builder.lift_func(Some("f"), core, ty, []);
+        /// assert_eq!((function, builder.func_count()), (0, 1));
+        /// assert!(builder.finish().ends_with(b"\x08\x06\x01\0\0\0\0\0"));
+        /// ```
+        fn lift_func | try_lift_func<O>(
+            &mut self,
+            debug_name: Option<&str>,
+            core_func_index: u32,
+            type_index: u32,
+            options: O,
+        ) -> u32
+        where {
+            O: IntoIterator<Item = CanonicalOption>,
+            O::IntoIter: ExactSizeIterator,
+        }
+        {
+            Ok(self.0.lift_func(debug_name, core_func_index, type_index, options.into_iter())?)
+        }
+    }
+}

@@ -1,0 +1,84 @@
+//! The builder's calls for instances, of core modules and of components.
+
+use crate::component::{ComponentBuilder, ComponentExportKind, ComponentExternName, ModuleArg};
+use crate::core::ExportKind;
+use crate::shared::named_items;
+use crate::twins::twins;
+
+/// Instances: each call adds one, with a debug name or none, and answers its index (component model, binary format,
+/// "Instance Definitions"). What comes out of an iterator is written in its order.
+impl ComponentBuilder {
+    twins! {
+        /// Instantiates a core module, with core instances under the names of the modules from which it imports.
+        fn core_instantiate | try_core_instantiate<'a, A>(
+            &mut self,
+            debug_name: Option<&str>,
+            module_index: u32,
+            args: A,
+        ) -> u32
+        where {
+            A: IntoIterator<Item = (&'a str, ModuleArg)>,
+            A::IntoIter: ExactSizeIterator,
+        }
+        {
+            Ok(self.0.core_instantiate(debug_name, module_index, args.into_iter())?)
+        }
+
+        /// Adds a core instance of these core items, under these names: the kind of each, and its index.
+        fn core_instantiate_exports | try_core_instantiate_exports<'a, E>(
+            &mut self,
+            debug_name: Option<&str>,
+            exports: E,
+        ) -> u32
+        where {
+            E: IntoIterator<Item = (&'a str, ExportKind, u32)>,
+            E::IntoIter: ExactSizeIterator,
+        }
+        {
+            Ok(self.0.core_instantiate_exports(debug_name, exports.into_iter())?)
+        }
+
+        /// Instantiates a component, with items under the names of what it imports: the kind of each, and its index.
+        fn instantiate | try_instantiate<A, S>(
+            &mut self,
+            debug_name: Option<&str>,
+            component_index: u32,
+            args: A,
+        ) -> u32
+        where {
+            A: IntoIterator<Item = (S, ComponentExportKind, u32)>,
+            A::IntoIter: ExactSizeIterator,
+            S: AsRef<str>,
+        }
+        {
+            Ok(self.0.instantiate(debug_name, component_index, named_items(args))?)
+        }
+
+        /// Adds an instance of these items, under these names: the kind of each, and its index.
+        ///
+        /// ```
+        /// use wenc::{ComponentBuilder, ComponentExportKind, PrimitiveValType};
+        ///
+        /// let mut builder = ComponentBuilder::default();
+        /// let (string, encoder) = builder.type_defined(None);
+        /// encoder.primitive(PrimitiveValType::String);
+        /// let exports = [("t", ComponentExportKind::Type, string)];
+        /// assert_eq!(builder.instantiate_exports(None, exports), 0);
+        /// assert_eq!(builder.finish()[8..], *b"\x07\x02\x01\x73\x05\x08\x01\x01\x01\0\x01t\x03\0");
+        /// ```
+        fn instantiate_exports | try_instantiate_exports<'a, E, N>(
+            &mut self,
+            debug_name: Option<&str>,
+            exports: E,
+        ) -> u32
+        where {
+            E: IntoIterator<Item = (N, ComponentExportKind, u32)>,
+            E::IntoIter: ExactSizeIterator,
+            N: Into<ComponentExternName<'a>>,
+        }
+        {
+            let named = |(name, kind, index): (N, _, _)| (name.into().into_proved(), kind, index);
+            Ok(self.0.instantiate_exports(debug_name, exports.into_iter().map(named))?)
+        }
+    }
+}

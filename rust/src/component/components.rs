@@ -1,0 +1,32 @@
+//! Components in components.
+
+use crate::encode::encode;
+use crate::{Component, ComponentSection, ComponentSectionId};
+
+/// A section that is a component of its own (component model, binary format, "Component Definitions").
+///
+/// It is refused, when it is encoded, where that has more than 4294967295 bytes.
+///
+/// ```
+/// use wenc::{Component, NestedComponentSection};
+///
+/// let inner = Component::new();
+/// let mut outer = Component::new();
+/// outer.section(&NestedComponentSection(&inner));
+/// assert_eq!(outer.finish(), b"\0asm\x0d\0\x01\0\x04\x08\0asm\x0d\0\x01\0");
+/// ```
+#[derive(Clone, Debug)]
+pub struct NestedComponentSection<'a>(
+    /// The component.
+    pub &'a Component,
+);
+
+encode! {
+    NestedComponentSection<'_>, section => section.0.as_slice();
+}
+
+impl ComponentSection for NestedComponentSection<'_> {
+    fn id(&self) -> u8 {
+        ComponentSectionId::Component.into()
+    }
+}

@@ -1,0 +1,110 @@
+//! Instances of core modules and of components, and their sections.
+
+use crate::component::sections;
+use crate::encode::encode;
+use crate::proved::wasm_encoder as proved;
+use crate::shared::{collections, named, named_items};
+use crate::twins::twins;
+use crate::{ComponentExportKind, ComponentExternName, ExportKind};
+
+pub use proved::ModuleArg;
+
+encode! {
+    ModuleArg, arg => *arg;
+}
+
+collections! {
+    /// The section of core instances (component model, binary format, "Core Instance Definitions").
+    ///
+    /// ```
+    /// use wenc::{Component, ExportKind, InstanceSection, ModuleArg};
+    ///
+    /// let mut instances = InstanceSection::new();
+    /// instances
+    ///     .export_items([("heap", ExportKind::Memory, 0)])
+    ///     .instantiate(2, [("env", ModuleArg::Instance(0))]);
+    ///
+    /// let mut component = Component::new();
+    /// component.section(&instances);
+    /// assert_eq!(
+    ///     component.as_slice()[8..],
+    ///     *b"\x02\x13\x02\x01\x01\x04heap\x02\x00\x00\x02\x01\x03env\x12\x00",
+    /// );
+    /// ```
+    InstanceSection;
+    /// The section of component instances (component model, binary format, "Instance Definitions").
+    ///
+    /// ```
+    /// use wenc::{Component, ComponentExportKind, ComponentInstanceSection};
+    ///
+    /// let mut instances = ComponentInstanceSection::new();
+    /// instances
+    ///     .export_items([("now", ComponentExportKind::Func, 4)])
+    ///     .instantiate(2, [("clock", ComponentExportKind::Instance, 0)]);
+    ///
+    /// let mut component = Component::new();
+    /// component.section(&instances);
+    /// assert_eq!(
+    ///     component.as_slice()[8..],
+    ///     *b"\x05\x15\x02\x01\x01\x00\x03now\x01\x04\x00\x02\x01\x05clock\x05\x00",
+    /// );
+    /// ```
+    ComponentInstanceSection;
+}
+
+sections! { InstanceSection ComponentInstanceSection }
+
+impl InstanceSection {
+    twins! {
+        /// Adds an instance of the core module with this index, which is given these arguments under their names.
+        fn instantiate | try_instantiate<A, S>(&mut self, module_index: u32, args: A) -> &mut Self
+        where {
+            A: IntoIterator<Item = (S, ModuleArg)>,
+            A::IntoIter: ExactSizeIterator,
+            S: AsRef<str>,
+        } {
+            self.0.instantiate(module_index, named(args))?;
+            Ok(self)
+        }
+
+        /// Adds an instance that exports these core items, of these kinds and with these indices, under their names.
+        fn export_items | try_export_items<E, S>(&mut self, exports: E) -> &mut Self
+        where {
+            E: IntoIterator<Item = (S, ExportKind, u32)>,
+            E::IntoIter: ExactSizeIterator,
+            S: AsRef<str>,
+        } {
+            self.0.export_items(named_items(exports))?;
+            Ok(self)
+        }
+    }
+}
+
+impl ComponentInstanceSection {
+    twins! {
+        /// Adds an instance of the component with this index, which is given the items of these kinds and with these
+        /// indices under their names.
+        fn instantiate | try_instantiate<A, S>(&mut self, component_index: u32, args: A) -> &mut Self
+        where {
+            A: IntoIterator<Item = (S, ComponentExportKind, u32)>,
+            A::IntoIter: ExactSizeIterator,
+            S: AsRef<str>,
+        } {
+            self.0.instantiate(component_index, named_items(args))?;
+            Ok(self)
+        }
+
+        /// Adds an instance that exports the items of these kinds and with these indices under their names.
+        fn export_items | try_export_items<'a, N, E>(&mut self, exports: E) -> &mut Self
+        where {
+            E: IntoIterator<Item = (N, ComponentExportKind, u32)>,
+            E::IntoIter: ExactSizeIterator,
+            N: Into<ComponentExternName<'a>>,
+        } {
+            let exports = exports.into_iter();
+            let named = |(name, kind, index): (N, _, _)| (name.into().into_proved(), kind, index);
+            self.0.export_items(exports.map(named))?;
+            Ok(self)
+        }
+    }
+}

@@ -1,0 +1,8 @@
+//! Types of values, as they stand in other types.
+
+pub use crate::proved::wasm_encoder::{ComponentValType, PrimitiveValType};
+
+crate::encode::encode! {
+    PrimitiveValType, ty => *ty;
+    ComponentValType, ty => *ty;
+}

@@ -1,0 +1,88 @@
+//! Custom sections.
+
+use crate::encode::encode;
+use crate::proved::wasm_encoder as proved;
+use alloc::borrow::Cow;
+
+/// A section that the standard gives no meaning (WebAssembly 3.0, binary format, "Custom Section"). It stands in a component
+/// or in a core module.
+///
+/// It is refused, when it is encoded, where it would have more than 4294967295 bytes behind its size.
+///
+/// ```
+/// use wenc::{Component, CustomSection};
+///
+/// let mut component = Component::new();
+/// component.section(&CustomSection { name: "notes".into(), data: [0x2a].as_slice().into() });
+/// assert_eq!(component.finish(), b"\0asm\x0d\0\x01\0\0\x07\x05notes\x2a");
+/// ```
+#[derive(Clone, Debug)]
+pub struct CustomSection<'a> {
+    /// The name.
+    pub name: Cow<'a, str>,
+    /// The bytes behind the name.
+    pub data: Cow<'a, [u8]>,
+}
+
+impl CustomSection<'_> {
+    /// The section as the proved code takes it. It takes no memory.
+    #[inline]
+    pub(crate) fn lent(&self) -> proved::CustomSection<'_> {
+        proved::CustomSection { name: &self.name, data: &self.data }
+    }
+}
+
+/// The bytes of a custom section behind its id, its size among them, as they are (WebAssembly 3.0, binary format, "Custom
+/// Section"). Nothing checks that they are such a section.
+///
+/// ```
+/// use wenc::{Component, RawCustomSection};
+///
+/// let mut component = Component::new();
+/// component.section(&RawCustomSection(b"\x02\x01x"));
+/// assert_eq!(component.finish(), b"\0asm\x0d\0\x01\0\0\x02\x01x");
+/// ```
+#[derive(Clone, Debug)]
+pub struct RawCustomSection<'a>(
+    /// The bytes.
+    pub &'a [u8],
+);
+
+impl RawCustomSection<'_> {
+    /// The section as the proved code takes it.
+    #[inline]
+    fn lent(&self) -> proved::RawCustomSection<'_> {
+        proved::RawCustomSection(self.0)
+    }
+}
+
+/// Sections that stand in a core module as well as in a component, with the ids that the proved code gives them there.
+macro_rules! in_either {
+    ($($name:ty, $section:ident => $proved:expr;)*) => {
+        $(impl $crate::Section for $name {
+            fn id(&self) -> u8 {
+                let $section = self;
+                $crate::proved::wasm_encoder::Section::id(&$proved)
+            }
+        }
+
+        impl $crate::ComponentSection for $name {
+            fn id(&self) -> u8 {
+                let $section = self;
+                $crate::proved::wasm_encoder::ComponentSection::id(&$proved)
+            }
+        })*
+    };
+}
+
+pub(crate) use in_either;
+
+encode! {
+    CustomSection<'_>, section => section.lent();
+    RawCustomSection<'_>, section => section.lent();
+}
+
+in_either! {
+    CustomSection<'_>, section => section.lent();
+    RawCustomSection<'_>, section => section.lent();
+}

@@ -1,0 +1,7 @@
+//! What core modules export.
+
+pub use crate::proved::wasm_encoder::ExportKind;
+
+crate::encode::encode! {
+    ExportKind, kind => *kind;
+}

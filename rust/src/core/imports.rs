@@ -1,0 +1,81 @@
+//! What core modules import.
+
+use super::{GlobalType, MemoryType, TableType, TagType};
+use crate::Error;
+use crate::encode::encode;
+use crate::error::granted;
+use crate::proved::wasm_encoder as proved;
+
+/// The type of what a core module imports or exports (WebAssembly 3.0, binary format, "External Types").
+///
+/// ```
+/// use wenc::{Encode, EntityType, MemoryType};
+///
+/// let ty = MemoryType {
+///     minimum: 1,
+///     maximum: Some(2),
+///     memory64: false,
+///     shared: false,
+///     page_size_log2: None,
+/// };
+/// let mut sink = Vec::new();
+/// EntityType::from(ty).encode(&mut sink);
+/// assert_eq!(sink, [0x02, 0x01, 0x01, 0x02]);
+/// ```
+#[derive(Clone, Copy, Debug, PartialEq, Eq, Hash)]
+pub enum EntityType {
+    /// A function of the core type with this index.
+    Function(u32),
+    /// A table.
+    Table(TableType),
+    /// A memory.
+    Memory(MemoryType),
+    /// A global.
+    Global(GlobalType),
+    /// A tag.
+    Tag(TagType),
+    /// A function of the core type with this index and of none below it, which is not supported.
+    FunctionExact(u32),
+}
+
+impl EntityType {
+    /// The type as the proved code takes it.
+    pub(crate) fn to_proved(self) -> Result<proved::EntityType, Error> {
+        Ok(match self {
+            Self::Function(index) => proved::EntityType::Function(index),
+            Self::Table(ty) => proved::EntityType::Table(ty.to_proved()?),
+            Self::Memory(ty) => proved::EntityType::Memory(ty.to_proved()?),
+            Self::Global(ty) => proved::EntityType::Global(ty.to_proved()?),
+            Self::Tag(ty) => proved::EntityType::Tag(ty.to_proved()?),
+            Self::FunctionExact(_) => return Err(Error::Unsupported),
+        })
+    }
+}
+
+impl From<TableType> for EntityType {
+    fn from(ty: TableType) -> Self {
+        Self::Table(ty)
+    }
+}
+
+impl From<MemoryType> for EntityType {
+    fn from(ty: MemoryType) -> Self {
+        Self::Memory(ty)
+    }
+}
+
+impl From<GlobalType> for EntityType {
+    fn from(ty: GlobalType) -> Self {
+        Self::Global(ty)
+    }
+}
+
+impl From<TagType> for EntityType {
+    fn from(ty: TagType) -> Self {
+        Self::Tag(ty)
+    }
+}
+
+encode! {
+    EntityType, ty => granted(ty.to_proved());
+}

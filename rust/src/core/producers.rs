@@ -1,0 +1,57 @@
+//! The section that says what made a module or a component.
+
+use crate::core::in_either;
+use crate::shared::{collections, opaque};
+use crate::twins::twins;
+
+collections! {
+    /// The tools that did one thing, such as `processed-by`, each with its version (tool conventions, "Producers
+    /// Section").
+    ProducersField;
+    /// What the tools did that made a module or a component, and which they were: a custom section (tool conventions,
+    /// "Producers Section").
+    ///
+    /// ```
+    /// use wenc::{Component, ProducersField, ProducersSection};
+    ///
+    /// let mut languages = ProducersField::new();
+    /// languages.value("Rust", "2024");
+    /// let mut producers = ProducersSection::new();
+    /// producers.field("language", &languages);
+    ///
+    /// let mut component = Component::new();
+    /// component.section(&producers);
+    /// assert_eq!(
+    ///     component.as_slice()[8..],
+    ///     *b"\x00\x1f\x09producers\x01\x08language\x01\x04Rust\x042024",
+    /// );
+    /// ```
+    ProducersSection;
+}
+
+opaque! { ProducersField ProducersSection }
+
+in_either! {
+    ProducersSection, section => section.0;
+}
+
+impl ProducersField {
+    twins! {
+        /// Adds a tool and its version, which may be empty.
+        fn value | try_value(&mut self, name: &str, version: &str) -> &mut Self {
+            self.0.value(name, version)?;
+            Ok(self)
+        }
+    }
+}
+
+impl ProducersSection {
+    twins! {
+        /// Adds a field of this name, with its tools. The tool conventions name `language`, `processed-by` and `sdk`, each
+        /// once at most.
+        fn field | try_field(&mut self, name: &str, values: &ProducersField) -> &mut Self {
+            self.0.field(name, &values.0)?;
+            Ok(self)
+        }
+    }
+}

@@ -1,0 +1,45 @@
+//! Sections by their ids and bytes.
+
+use crate::core::in_either;
+use crate::encode::encode;
+use crate::proved::wasm_encoder as proved;
+
+/// A section with any id, from 0 to 255, whose bytes are written behind their size (WebAssembly 3.0, binary format,
+/// "Sections"; component model, binary format, "Component Definitions"). Nothing checks that they are such a section.
+///
+/// It is refused, when it is encoded, where there are more than 4294967295 bytes.
+///
+/// ```
+/// use wenc::{Component, ComponentSectionId, RawSection};
+///
+/// // an import of function 0 under the name `f`
+/// let mut component = Component::new();
+/// component.section(&RawSection {
+///     id: ComponentSectionId::Import.into(),
+///     data: &[1, 0, 1, b'f', 1, 0],
+/// });
+/// assert_eq!(component.as_slice()[8..], [10, 6, 1, 0, 1, b'f', 1, 0]);
+/// ```
+#[derive(Clone, Copy, Debug)]
+pub struct RawSection<'a> {
+    /// The id.
+    pub id: u8,
+    /// The bytes behind the size.
+    pub data: &'a [u8],
+}
+
+impl RawSection<'_> {
+    /// The section as the proved code takes it.
+    #[inline]
+    fn lent(&self) -> proved::RawSection<'_> {
+        proved::RawSection { id: self.id, data: self.data }
+    }
+}
+
+encode! {
+    RawSection<'_>, section => section.lent();
+}
+
+in_either! {
+    RawSection<'_>, section => section.lent();
+}

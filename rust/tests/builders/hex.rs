@@ -1,0 +1,31 @@
+//! Bytes as the tests spell them.
+
+use wenc::{Component, ComponentBuilder, ComponentSection};
+
+/// What all components begin with.
+pub const HEADER: &str = "00 61 73 6d 0d 00 01 00";
+
+/// The text "component-name", with its length.
+pub const COMPONENT_NAME: &str = "0e 63 6f 6d 70 6f 6e 65 6e 74 2d 6e 61 6d 65";
+
+/// The bytes in hexadecimal, two digits each, with a space between.
+pub fn hex(bytes: &[u8]) -> String {
+    let bytes: Vec<String> = bytes.iter().map(|byte| format!("{byte:02x}")).collect();
+    bytes.join(" ")
+}
+
+/// What stands behind the header.
+fn behind(bytes: &[u8]) -> String {
+    assert_eq!(hex(&bytes[..8]), HEADER);
+    hex(&bytes[8..])
+}
+
+/// Finishes the builder: what stands behind the header.
+pub fn behind_header(builder: ComponentBuilder) -> String {
+    behind(&builder.finish())
+}
+
+/// A component of this section alone: what stands behind the header.
+pub fn section(section: &impl ComponentSection) -> String {
+    behind(Component::new().section(section).as_slice())
+}

@@ -1,0 +1,11 @@
+//! The builder and the section of canonical functions, over what is public. Each expected byte is worked out from the format
+//! or comes from upstream.
+
+mod canonicals;
+mod components;
+mod hex;
+mod listed;
+#[cfg(panic = "unwind")]
+mod panics;
+mod provided;
+mod values;

@@ -1,0 +1,139 @@
+//! Each core type, by each that lends itself to its encoder.
+
+use crate::shapes::{EXTERNREF, FUNCREF, Inner, field, function, structure, sub, text};
+use wenc::{
+    ArrayType, ComponentBuilder, ComponentType, CoreTypeEncoder, CoreTypeSection, FuncType,
+    HeapType, InstanceType, ModuleType, RefType, StorageType, ValType,
+};
+
+const NODE: RefType = RefType { nullable: true, heap_type: HeapType::Concrete(200) };
+
+/// Writes a type by each that lends itself: in a component these bytes stand before it.
+fn guarded(guard: &[u8], write: fn(CoreTypeEncoder<'_>), bytes: &[u8]) {
+    let mut section = CoreTypeSection::new();
+    write(section.ty().core());
+    write(section.ty().core());
+    let item = [guard, bytes].concat();
+    let size = u8::try_from(1 + 2 * item.len()).unwrap();
+    assert_eq!(text(&section), [&[size, 2], &item[..], &item].concat());
+    let mut component = ComponentType::new();
+    write(component.core_type().core());
+    assert_eq!(text(&component), [&[0x41, 1, 0], &item[..]].concat());
+    let mut instance = InstanceType::new();
+    write(instance.core_type().core());
+    assert_eq!(text(&instance), [&[0x42, 1, 0], &item[..]].concat());
+    let mut module = ModuleType::new();
+    write(module.ty());
+    assert_eq!(text(&module), [&[0x50, 1, 1], bytes].concat());
+    let mut builder = ComponentBuilder::default();
+    write(builder.core_type(None).1.core());
+    write(builder.core_type(None).1.core());
+    assert_eq!(builder.finish()[8..], [&[0x03, size, 2], &item[..], &item].concat());
+}
+
+fn each(write: fn(CoreTypeEncoder<'_>), bytes: &[u8]) {
+    guarded(&[], write, bytes);
+}
+
+#[test]
+fn functions() {
+    each(|encoder| encoder.function([], []), &[0x60, 0x00, 0x00]);
+    each(
+        |encoder| encoder.function([ValType::I32, ValType::I64], [ValType::F32]),
+        &[0x60, 0x02, 0x7f, 0x7e, 0x01, 0x7d],
+    );
+    each(
+        |encoder| {
+            let results = [ValType::Ref(FUNCREF), ValType::Ref(EXTERNREF)];
+            encoder.func_type(&FuncType::new([ValType::V128], results));
+        },
+        &[0x60, 0x01, 0x7b, 0x02, 0x70, 0x6f],
+    );
+}
+
+#[test]
+fn arrays() {
+    each(|encoder| encoder.array(&StorageType::I8, true), &[0x5e, 0x78, 0x01]);
+    each(
+        |encoder| encoder.array(&StorageType::Val(ValType::Ref(NODE)), false),
+        &[0x5e, 0x63, 0xc8, 0x01, 0x00],
+    );
+}
+
+#[test]
+fn structs() {
+    each(|encoder| encoder.struct_([]), &[0x5f, 0x00]);
+    each(
+        |encoder| {
+            let number = StorageType::Val(ValType::F64);
+            encoder.struct_([field(StorageType::I16, false), field(number, true)]);
+        },
+        &[0x5f, 0x02, 0x77, 0x00, 0x7c, 0x01],
+    );
+}
+
+#[test]
+fn subtypes() {
+    each(|encoder| encoder.subtype(&sub(true, None, function([], []))), &[0x60, 0x00, 0x00]);
+    each(
+        |encoder| {
+            let number = field(StorageType::Val(ValType::I32), false);
+            encoder.subtype(&sub(true, Some(3), structure([number])));
+        },
+        &[0x4f, 0x01, 0x03, 0x5f, 0x01, 0x7f, 0x00],
+    );
+    guarded(
+        &[0x00],
+        |encoder| {
+            let bytes = Inner::Array(ArrayType(field(StorageType::I8, false)));
+            encoder.subtype(&sub(false, None, bytes));
+        },
+        &[0x50, 0x00, 0x5e, 0x78, 0x00],
+    );
+    guarded(
+        &[0x00],
+        |encoder| encoder.subtype(&sub(false, Some(128), function([ValType::I32], []))),
+        &[0x50, 0x01, 0x80, 0x01, 0x60, 0x01, 0x7f, 0x00],
+    );
+}
+
+#[test]
+fn groups() {
+    each(|encoder| encoder.rec([]), &[0x4e, 0x00]);
+    each(
+        |encoder| {
+            let next = field(StorageType::Val(ValType::Ref(NODE)), true);
+            encoder.rec([
+                sub(false, None, structure([next])),
+                sub(true, Some(0), function([], [ValType::I32])),
+            ]);
+        },
+        &[
+            0x4e, 0x02, 0x50, 0x00, 0x5f, 0x01, 0x63, 0xc8, 0x01, 0x01, 0x4f, 0x01, 0x00, 0x60,
+            0x00, 0x01, 0x7f,
+        ],
+    );
+}
+
+#[test]
+fn parts_of_functions() {
+    let ty = FuncType::new([ValType::I32, ValType::F32], [ValType::I64]);
+    assert_eq!(ty.params(), [ValType::I32, ValType::F32]);
+    assert_eq!(ty.results(), [ValType::I64]);
+    let ty = FuncType::new([], []);
+    assert!(ty.params().is_empty() && ty.results().is_empty());
+}
+
+#[test]
+fn counted() {
+    let mut module = ModuleType::new();
+    module.ty().rec([sub(true, None, function([], [])), sub(true, None, function([], []))]);
+    module.ty().struct_([]);
+    assert_eq!(module.type_count(), 2);
+    let mut types = CoreTypeSection::new();
+    types.ty().core().rec([sub(true, None, function([], []))]);
+    assert_eq!(types.len(), 1);
+    let mut ty = InstanceType::new();
+    ty.core_type().core().struct_([]);
+    assert_eq!((ty.core_type_count(), ty.type_count()), (1, 0));
+}

@@ -1,0 +1,171 @@
+//! Reads each source beside the Rust that the build script made of it. Where they part, it has to be in one of the ways
+//! that `honest/reader.rs` lists; whatever else is left out, changed, added or moved to another line is found.
+
+#[path = "honest/lexer.rs"]
+mod lexer;
+#[path = "honest/reader.rs"]
+mod reader;
+
+use lexer::lex;
+use reader::{NARROWED, PRINTED, TREES, WAYS, read};
+use std::collections::BTreeMap;
+use std::fs;
+use std::path::{Path, PathBuf};
+
+/// The sources, each with what it was erased to: the crate, the path, the text and the Rust.
+fn sources() -> Vec<(String, PathBuf, String, String)> {
+    let erased = Path::new(env!("OUT_DIR")).join("proved");
+    let sources = Path::new(env!("CARGO_MANIFEST_DIR")).join("crates");
+    let mut found = Vec::new();
+    for entry in fs::read_dir(erased).expect("the build script ran") {
+        let rust = entry.expect("the folder can be read").path();
+        if rust.is_dir() {
+            let name = rust.file_name().expect("it has a name").to_string_lossy().into_owned();
+            let source = sources.join(&name).join("src");
+            gather(&name, &source, &rust, &mut found);
+        }
+    }
+    found
+}
+
+fn gather(name: &str, from: &Path, to: &Path, found: &mut Vec<(String, PathBuf, String, String)>) {
+    let names = |folder: &Path| {
+        let entries = fs::read_dir(folder).expect("the folder can be read");
+        let mut names: Vec<PathBuf> =
+            entries.map(|entry| entry.expect("an entry").path().with_extension("")).collect();
+        names.sort();
+        names.iter().map(|path| path.file_name().expect("a name").to_owned()).collect::<Vec<_>>()
+    };
+    assert_eq!(names(from), names(to), "each file has its Rust, and no other is there");
+    for entry in fs::read_dir(from).expect("the folder can be read") {
+        let path = entry.expect("an entry").path();
+        let rust = to.join(path.file_name().expect("a name"));
+        if path.is_dir() {
+            gather(name, &path, &rust, found);
+        } else {
+            let old = fs::read_to_string(&path).expect("the source");
+            let new = fs::read_to_string(rust.with_extension("rs")).expect("the Rust");
+            found.push((name.to_owned(), path, old, new));
+        }
+    }
+}
+
+#[test]
+fn erased_sources_are_the_sources() {
+    let mut counts = BTreeMap::new();
+    let sources = sources();
+    assert!(sources.len() > 200, "only {} files", sources.len());
+    for (name, path, old, new) in sources {
+        if let Err(why) = read(&name, &old, &new, &mut counts) {
+            panic!("{}:{why}", path.display());
+        }
+    }
+    println!("{counts:#?}");
+    let unused: Vec<&&str> = WAYS.iter().filter(|way| !counts.contains_key(**way)).collect();
+    assert!(unused.is_empty(), "nothing differs in these ways any more: {unused:?}");
+    assert_eq!(counts["derive of a tree"], TREES.len());
+    assert_eq!(counts["derive of what is printed"], PRINTED.len());
+    assert_eq!(counts["method that stays in this crate"], NARROWED.len());
+}
+
+/// A source with most of the ways in which the two may part.
+const SOURCE: &str = "\
+use crate::b;
+#[derive(Clone, Copy)]
+pub struct Pair<T: Drop>(u8, T);
+#[derive(Drop)]
+#[cycle(types)]
+pub enum TypeTree {
+    A,
+    ghost whole: { length a ≡ 1 },
+}
+#[inline]
+fn f(x: u8) -> Result<u8, E>
+    requires { x < 3 }
+{
+    let y = x.clone()?;
+    g(x + 12, \"text\");
+    h(1, 2);
+    Ok(y)
+}
+";
+
+/// What it has to be erased to.
+const RUST: &str = "\
+use crate::proved::rt_std::prelude::*; use crate::proved::named::b;
+#[derive(Clone, Copy)]
+pub struct Pair<T>(u8, T);
+#[derive(Clone, Debug, PartialEq, Eq)]
+
+pub enum TypeTree {
+    A,
+
+}
+#[inline]
+fn f(x: u8) -> Result<u8, E>
+
+{
+    let y = x.try_clone()?;
+    g(x + 12, \"text\");
+    h(1, 2);
+    Ok(y)
+}
+";
+
+/// Changes of that Rust, by the words that are replaced: each is to be found.
+const CHANGES: [(&str, &str, &str); 20] = [
+    ("a number", "12", "13"),
+    ("a statement that is dropped", "h(1, 2);", ""),
+    ("a statement twice", "h(1, 2);", "h(1, 2); h(1, 2);"),
+    ("arguments in another order", "h(1, 2)", "h(2, 1)"),
+    ("another word", "g(x", "h(x"),
+    ("another operator", "x + 12", "x - 12"),
+    ("a letter of a text", "text", "test"),
+    ("a blank in a text", "\"text\"", "\"text \""),
+    ("a token more", "Ok(y)", "Ok(!y)"),
+    ("a mark less", "clone()?", "clone()"),
+    ("a name that stays", "try_clone", "clone"),
+    ("a path's root", "proved::named", "proved::other"),
+    ("an attribute that is dropped", "#[inline]", ""),
+    ("an attribute that came in", "#[inline]", "#[inline] #[cold]"),
+    ("a derive that is dropped", "Clone, Copy", "Clone"),
+    ("a tree's derive", "Clone, Debug, PartialEq, Eq", "Clone"),
+    ("a clause that became code", "E>\n\n{", "E>\n{ x < 3 }\n{"),
+    ("a ghost field that stays", "A,\n\n", "A,\n    whole: u8,\n"),
+    ("a line that moved", "h(1, 2);\n", "h(1, 2);\n\n"),
+    ("the prelude", "use crate::proved::rt_std::prelude::*;", ""),
+];
+
+#[test]
+fn each_change_is_found() {
+    let read = |rust: &str| read("named", SOURCE, rust, &mut BTreeMap::new());
+    assert_eq!(read(RUST), Ok(()));
+    for (what, from, to) in CHANGES {
+        assert!(RUST.contains(from), "{what}");
+        assert!(read(&RUST.replacen(from, to, 1)).is_err(), "{what} is not found");
+    }
+    assert!(read(&RUST[..RUST.len() - 2]).is_err(), "an end that is missing");
+    assert!(read(&format!("{RUST}fn g() {{}}")).is_err(), "an item that came in");
+}
+
+/// In one file in forty, each token left out, written twice, and replaced.
+#[test]
+fn each_token_counts() {
+    let mut sources = sources();
+    sources.sort();
+    let (mut planted, mut counts) = (0, BTreeMap::new());
+    for (name, path, old, new) in sources.into_iter().step_by(40) {
+        let chars: Vec<char> = new.chars().collect();
+        let text = |range: std::ops::Range<usize>| chars[range].iter().collect::<String>();
+        for token in lex(&new) {
+            let (before, behind) = (text(0..token.begin), text(token.end..chars.len()));
+            for other in ["", "changed", &format!("{0} {0}", token.text)] {
+                let changed = format!("{before} {other} {behind}");
+                let is_found = read(&name, &old, &changed, &mut counts).is_err();
+                assert!(is_found, "{}:{}: {other:?}", path.display(), token.line);
+                planted += 1;
+            }
+        }
+    }
+    assert!(planted > 3000, "only {planted} changes");
+}

@@ -1,0 +1,64 @@
+//! A lexer of its own, that knows nothing of the eraser's.
+
+/// A token: its line, where it begins and where it ends, counted in letters, and its text.
+#[derive(Clone, Debug, PartialEq, Eq)]
+pub struct Token {
+    pub line: usize,
+    pub begin: usize,
+    pub end: usize,
+    pub text: String,
+}
+
+/// The tokens of a text without its comments.
+pub fn lex(text: &str) -> Vec<Token> {
+    let chars: Vec<char> = text.chars().collect();
+    let (mut tokens, mut at, mut line) = (Vec::new(), 0, 1);
+    while at < chars.len() {
+        let begin = at;
+        at = end(&chars, begin);
+        let text: String = chars[begin..at].iter().collect();
+        let lines = text.matches('\n').count();
+        if !text.trim().is_empty() && !text.starts_with("//") {
+            tokens.push(Token { line, begin, end: at, text });
+        }
+        line += lines;
+    }
+    tokens
+}
+
+/// Where the token ends that begins here.
+fn end(chars: &[char], begin: usize) -> usize {
+    let is_word = |at: usize| chars.get(at).is_some_and(|c| *c == '_' || c.is_alphanumeric());
+    let next = chars.get(begin + 1);
+    let mut at = begin + 1;
+    match chars[begin] {
+        '/' if next == Some(&'/') => {
+            while at < chars.len() && chars[at] != '\n' {
+                at += 1;
+            }
+        }
+        '"' => at = quoted(chars, at),
+        '\'' if next == Some(&'\\') => at = 1 + closing_quote(chars, begin + 3),
+        '\'' if chars.get(begin + 2) == Some(&'\'') => at = begin + 3,
+        _ if is_word(begin) => {
+            while is_word(at) {
+                at += 1;
+            }
+        }
+        _ => {}
+    }
+    at
+}
+
+/// Where the quote stands that ends a character with a backslash.
+fn closing_quote(chars: &[char], from: usize) -> usize {
+    (from..chars.len()).find(|at| chars[*at] == '\'').unwrap_or(from)
+}
+
+/// Where the text ends whose first letter is here.
+fn quoted(chars: &[char], mut at: usize) -> usize {
+    while chars[at] != '"' {
+        at += if chars[at] == '\\' { 2 } else { 1 };
+    }
+    at + 1
+}

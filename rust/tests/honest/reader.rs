@@ -1,0 +1,407 @@
+//! The closed list of ways in which a source and its Rust may part. What stands in the source says which of them it is, and
+//! what has to stand in the Rust then.
+
+use super::lexer::{Token, lex};
+use std::collections::BTreeMap;
+
+/// The ways, each of which some source takes.
+pub const WAYS: [&str; 28] = [
+    "kept",
+    "prelude",
+    "ghost use left out",
+    "ghost member or field left out",
+    "clause left out",
+    "attribute of the prover left out",
+    "derive of Drop left out",
+    "derive of a tree",
+    "derive kept",
+    "derive of what is printed",
+    "method that stays in this crate",
+    "derive of an error",
+    "derive_where is derive",
+    "text of an error left out",
+    "Display and Error of an error",
+    "bound Drop left out",
+    "bound Drop of a trait",
+    "use of thiserror left out",
+    "root of the crate",
+    "root of std",
+    "root of another crate",
+    "pub(crate)",
+    "refusable clone",
+    "method that is handed an allocator",
+    "macro that is handed an allocator",
+    "macro that is handed the runtime",
+    "test that is handed the runtime",
+    "main is pub",
+];
+
+const CRATES: [&str; 20] = [
+    "wenc_base",
+    "wenc_parts",
+    "wenc_types",
+    "wenc_canon",
+    "wenc_sections",
+    "wenc_builder",
+    "wenc_read",
+    "wenc_decode",
+    "wenc_list",
+    "wasm_encoder",
+    "wenc",
+    "driven",
+    "facts",
+    "sweeping",
+    "part_tests",
+    "section_tests",
+    "builder_tests",
+    "wenc_tests",
+    "hex",
+    "refusing",
+];
+
+/// Trees, which a user compares, prints and copies.
+pub const TREES: [&str; 23] = [
+    "AliasTree",
+    "Built",
+    "CanonTree",
+    "CaseTree",
+    "Command",
+    "ComponentDecl",
+    "CompositeType",
+    "CoreInstanceTree",
+    "CoreTypeTree",
+    "DefinedTree",
+    "FuncType",
+    "GroupTree",
+    "InstanceDecl",
+    "InstanceTree",
+    "ItemTree",
+    "ListedSection",
+    "Listing",
+    "ModuleDecl",
+    "NameOptions",
+    "NameTree",
+    "StructType",
+    "SubType",
+    "TypeTree",
+];
+
+/// Types that are printed, and methods of trees that only this crate calls.
+pub const PRINTED: [&str; 1] = ["Alias"];
+pub const NARROWED: [(&str, &str); 2] = [("FuncType", "new"), ("NameTree", "as_name")];
+
+/// What both have next: the way, how many tokens of the source, and the tokens of the Rust.
+struct Step {
+    way: &'static str,
+    old: usize,
+    new: String,
+}
+
+fn step(way: &'static str, old: usize, new: impl Into<String>) -> Step {
+    Step { way, old, new: new.into() }
+}
+
+/// Reads a source of this crate beside its Rust, and counts each way in which they part. Refuses what is in no way.
+pub fn read(
+    crate_name: &str,
+    old: &str,
+    new: &str,
+    counts: &mut BTreeMap<&'static str, usize>,
+) -> Result<(), String> {
+    let (old_tokens, new_tokens) = (lex(old), lex(new));
+    let mut source = Source::new(crate_name, &old_tokens);
+    let mut rest = &new_tokens[..];
+    if !rest.is_empty() {
+        // It stands in the line of what documents the first item.
+        let line = rest[0].line;
+        take("prelude", line, "use crate::proved::rt_std::prelude::*;", &mut rest)?;
+        counts.insert("prelude", 1);
+    }
+    while source.at < old_tokens.len() {
+        let line = old_tokens[source.at].line;
+        let Step { way, old, new } = source.step();
+        take(way, line, &new, &mut rest)?;
+        *counts.entry(way).or_default() += 1;
+        source.at += old;
+    }
+    if let Some(more) = rest.first() {
+        return Err(format!("{}: {:?} came in", more.line, more.text));
+    }
+    let lines = (old.lines().count(), new.lines().count());
+    if lines.0 == lines.1 { Ok(()) } else { Err(format!("{} lines became {}", lines.0, lines.1)) }
+}
+
+/// Takes these tokens, of which the first stands in this line, from the rest of the Rust.
+fn take(way: &str, line: usize, wanted: &str, rest: &mut &[Token]) -> Result<(), String> {
+    for (n, token) in lex(wanted).iter().enumerate() {
+        let Some((found, behind)) = rest.split_first().filter(|(f, _)| f.text == token.text) else {
+            let found = rest.first().map_or("", |found| &found.text);
+            return Err(format!("{line}: {:?} became {found:?} ({way})", token.text));
+        };
+        if n == 0 && found.line != line || found.line < line {
+            return Err(format!("{line}: it became line {} ({way})", found.line));
+        }
+        *rest = behind;
+    }
+    Ok(())
+}
+
+/// A source that is being read.
+struct Source<'a> {
+    crate_name: &'a str,
+    tokens: &'a [Token],
+    at: usize,
+    /// Where the body of a test begins that makes its runtime.
+    makes_runtime: Option<usize>,
+    /// Where an enum of errors ends, and what is written there.
+    error: Option<(usize, String)>,
+}
+
+impl<'a> Source<'a> {
+    fn new(crate_name: &'a str, tokens: &'a [Token]) -> Self {
+        let (makes_runtime, error) = (None, None);
+        Source { crate_name, tokens, at: 0, makes_runtime, error }
+    }
+
+    /// The token so many behind this.
+    fn text(&self, ahead: usize) -> &'a str {
+        self.tokens.get(self.at + ahead).map_or("", |token| &token.text)
+    }
+
+    /// The token so many before this.
+    fn before(&self, back: usize) -> &'a str {
+        self.at.checked_sub(back).map_or("", |at| &self.tokens[at].text)
+    }
+
+    fn stands(&self, words: &str) -> bool {
+        self.stands_at(0, words)
+    }
+
+    fn stands_at(&self, ahead: usize, words: &str) -> bool {
+        words.split(' ').enumerate().all(|(i, word)| self.text(ahead + i) == word)
+    }
+
+    /// How many tokens there are from the bracket so many behind this to the one that closes it, with both.
+    fn block(&self, ahead: usize) -> usize {
+        let mut depth = 0;
+        for len in 1.. {
+            match self.text(ahead + len - 1) {
+                "(" | "[" | "{" => depth += 1,
+                ")" | "]" | "}" => depth -= 1,
+                "" => return len,
+                _ => {}
+            }
+            if depth == 0 {
+                return len;
+            }
+        }
+        unreachable!("it ends")
+    }
+
+    /// How many tokens a block of antt has, in which only braces are brackets.
+    fn antt(&self, ahead: usize) -> usize {
+        let mut depth = 0;
+        for len in 1.. {
+            match self.text(ahead + len - 1) {
+                "{" => depth += 1,
+                "}" => depth -= 1,
+                "" => return len,
+                _ => {}
+            }
+            if depth == 0 {
+                return len;
+            }
+        }
+        unreachable!("it ends")
+    }
+
+    fn step(&mut self) -> Step {
+        if self.makes_runtime.take_if(|at| *at == self.at).is_some() {
+            let runtime = "{ let rt = crate::proved::rt_std::process::HostRuntime;";
+            return step("test that is handed the runtime", 1, runtime);
+        }
+        if let Some((_, text)) = self.error.take_if(|(at, _)| *at == self.at) {
+            return step("Display and Error of an error", 1, text);
+        }
+        let found = self.proof().or_else(|| self.attribute()).or_else(|| self.name());
+        found.unwrap_or_else(|| step("kept", 1, self.text(0)))
+    }
+
+    /// What is for the prover alone.
+    fn proof(&self) -> Option<Step> {
+        match self.text(0) {
+            "ghost" if self.text(1) == "use" => {
+                let len = (0..).find(|ahead| [";", ""].contains(&self.text(*ahead)))? + 1;
+                Some(step("ghost use left out", len, ""))
+            }
+            "ghost" => {
+                let mut len = 2;
+                while [":", "="].contains(&self.text(len)) && self.text(len + 1) == "{" {
+                    len += 1 + self.antt(len + 1);
+                }
+                let ends = [";", ","].contains(&self.text(len)) && len > 2;
+                ends.then(|| step("ghost member or field left out", len + 1, ""))
+            }
+            "requires" | "ensures" => {
+                let open = (1..4).find(|ahead| self.text(*ahead) == "{")?;
+                Some(step("clause left out", open + self.antt(open), ""))
+            }
+            _ => None,
+        }
+    }
+
+    fn attribute(&mut self) -> Option<Step> {
+        if self.text(0) != "#" {
+            return None;
+        }
+        let open = if self.text(1) == "!" { 2 } else { 1 };
+        let len = open + self.block(open);
+        match self.text(open + 1) {
+            "tactic" | "cycle" => Some(step("attribute of the prover left out", len, "")),
+            "error" => Some(step("text of an error left out", len, "")),
+            "derive_where" => {
+                Some(step("derive_where is derive", len, self.shown(len).replacen("_where", "", 1)))
+            }
+            "derive" => Some(self.derive(len)),
+            "test"
+                if self.stands_at(len, "fn") && self.stands_at(len + 2, "( rt : HostRuntime )") =>
+            {
+                let body = (len + 7..).find(|ahead| self.text(*ahead) == "{")?;
+                self.makes_runtime = Some(self.at + body);
+                let test = format!("#[test] fn {}()", self.text(len + 1));
+                Some(step("test that is handed the runtime", len + 7, test))
+            }
+            _ => None,
+        }
+    }
+
+    /// These tokens, with blanks between them.
+    fn shown(&self, len: usize) -> String {
+        (0..len).map(|ahead| self.text(ahead)).collect::<Vec<_>>().join(" ")
+    }
+
+    /// A derive of so many tokens.
+    fn derive(&mut self, len: usize) -> Step {
+        if self.stands("# [ derive ( Drop ) ]") {
+            let mut item = len;
+            let mut derived = "#[derive(Clone, Debug, PartialEq, Eq)]";
+            while self.text(item) == "#" {
+                if self.text(item + 2) == "derive_where" {
+                    derived = "#[derive(Clone)]";
+                }
+                item += 1 + self.block(item + 1);
+            }
+            let is_tree = self.text(item) == "pub" && TREES.contains(&self.text(item + 2));
+            return if is_tree {
+                step("derive of a tree", len, derived)
+            } else {
+                step("derive of Drop left out", len, "")
+            };
+        }
+        let shown = self.shown(len);
+        if self.text(len) == "pub" && PRINTED.contains(&self.text(len + 2)) {
+            return step("derive of what is printed", len, shown.replace(" ) ]", ", Debug ) ]"));
+        }
+        if !shown.ends_with(", Error ) ]") {
+            return step("derive kept", len, shown);
+        }
+        self.error = Some(self.display(len));
+        step("derive of an error", len, shown.replace(", Error )", ")"))
+    }
+
+    /// Where the enum ends that begins here, and what stands there: `Display` and `Error`.
+    fn display(&self, item: usize) -> (usize, String) {
+        let name = self.text(item + 2);
+        let end = item + 3 + self.block(item + 3) - 1;
+        let mut arms = String::new();
+        for ahead in item..end {
+            if self.stands_at(ahead, "# [ error (") {
+                let (text, variant) = (self.text(ahead + 4), self.text(ahead + 7));
+                let place = if text.contains("{place}") { "place, " } else { "" };
+                arms += &format!("{name}::{variant} {{ {place}.. }} => write!(f, {text}),");
+            }
+        }
+        let text = format!(
+            "}} impl ::core::fmt::Display for {name} {{
+                fn fmt(&self, f: &mut ::core::fmt::Formatter<'_>) -> ::core::fmt::Result {{
+                    match self {{ {arms} }}
+                }}
+            }}
+            impl ::core::error::Error for {name} {{}}"
+        );
+        (self.at + end, text)
+    }
+
+    /// A name that is another one in Rust.
+    fn name(&self) -> Option<Step> {
+        let (word, next) = (self.text(0), self.text(1));
+        match word {
+            "+" if next == "Drop" => Some(step("bound Drop left out", 2, "")),
+            ":" if self.stands(": Drop >") || self.stands(": Drop ,") => {
+                Some(step("bound Drop left out", 2, ""))
+            }
+            ":" if self.stands(": Drop {") => Some(step("bound Drop of a trait", 2, ": Sized")),
+            "use" if self.stands("use thiserror : : Error ;") => {
+                Some(step("use of thiserror left out", 6, ""))
+            }
+            "(" if self.stands("( crate )") => {
+                Some(step("pub(crate)", 3, format!("(in crate::proved::{})", self.crate_name)))
+            }
+            "pub" if NARROWED.contains(&(self.owner(), self.text(2))) => {
+                Some(step("method that stays in this crate", 1, "pub(crate)"))
+            }
+            "fn" if next == "main" => Some(step("main is pub", 2, "pub fn main")),
+            "Clone" => Some(step("refusable clone", 1, "TryClone")),
+            "clone" => Some(step("refusable clone", 1, "try_clone")),
+            "collect" | "repeat" | "to_ascii_uppercase" | "to_vec" if self.before(1) == "." => {
+                Some(step("method that is handed an allocator", 1, format!("{word}_using")))
+            }
+            "format" | "vec" if next == "!" && self.text(3) == "in" => {
+                let name = format!("crate::proved::rt_std::{word}");
+                Some(step("macro that is handed an allocator", 1, name))
+            }
+            "assert" | "assert_eq" | "panic" if self.stands_at(1, "! ( rt ;") => {
+                Some(step("macro that is handed the runtime", 5, format!("{word}!(")))
+            }
+            _ => self.root(),
+        }
+    }
+
+    /// The type of the `impl` that this stands in, which has no trait.
+    fn owner(&self) -> &'a str {
+        let is_impl = |at: &usize| {
+            let (before, _) = self.tokens.split_at(*at);
+            let is_first = before.last().is_none_or(|b| [";", "}", "]"].contains(&&*b.text));
+            self.tokens[*at].text == "impl" && is_first
+        };
+        let Some(at) = (0..self.at).rev().find(is_impl) else { return "" };
+        let mut depth = 0;
+        for token in &self.tokens[at + 1..] {
+            match &*token.text {
+                "<" => depth += 1,
+                ">" => depth -= 1,
+                word if depth == 0 => return word,
+                _ => {}
+            }
+        }
+        ""
+    }
+
+    /// The root of a path.
+    fn root(&self) -> Option<Step> {
+        if !self.stands_at(1, ": :") || self.before(1) == ":" {
+            return None;
+        }
+        match self.text(0) {
+            "crate" => {
+                let root = format!("crate::proved::{}", self.crate_name);
+                Some(step("root of the crate", 1, root))
+            }
+            "std" => Some(step("root of std", 1, "crate::proved::rt_std")),
+            word if CRATES.contains(&word) => {
+                Some(step("root of another crate", 1, format!("crate::proved::{word}")))
+            }
+            _ => None,
+        }
+    }
+}

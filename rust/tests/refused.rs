@@ -1,0 +1,185 @@
+//! Each of the system's allocations refused in turn, while components are built and listed: the call answers it and changes
+//! nothing, and succeeds when it is made once more. Nothing ends the program.
+#![allow(unsafe_code, reason = "a global allocator is unsafe")]
+
+use std::alloc::{GlobalAlloc, Layout, System};
+use std::cell::Cell;
+use wenc::*;
+
+thread_local! {
+    /// How many allocations of this thread are granted before one is refused.
+    static GRANTED: Cell<Option<u32>> = const { Cell::new(None) };
+}
+
+/// The system's allocator, which refuses one request where it is told to.
+struct Refusing;
+
+#[global_allocator]
+static ALLOCATOR: Refusing = Refusing;
+
+fn is_refused() -> bool {
+    let granted = GRANTED.get();
+    GRANTED.set(granted.and_then(|granted| granted.checked_sub(1)));
+    granted == Some(0)
+}
+
+// SAFETY: each is the system's, or answers that there is no memory.
+unsafe impl GlobalAlloc for Refusing {
+    unsafe fn alloc(&self, layout: Layout) -> *mut u8 {
+        if is_refused() { std::ptr::null_mut() } else { unsafe { System.alloc(layout) } }
+    }
+
+    unsafe fn dealloc(&self, at: *mut u8, layout: Layout) {
+        unsafe { System.dealloc(at, layout) }
+    }
+
+    unsafe fn realloc(&self, at: *mut u8, layout: Layout, size: usize) -> *mut u8 {
+        if is_refused() {
+            std::ptr::null_mut()
+        } else {
+            unsafe { System.realloc(at, layout, size) }
+        }
+    }
+}
+
+/// How many calls were refused.
+#[derive(Default)]
+struct Refusals(u32);
+
+impl Refusals {
+    /// Makes the call, and once more where memory is refused.
+    #[track_caller]
+    fn call<T>(&mut self, mut call: impl FnMut() -> Result<T, Error>) -> T {
+        match call() {
+            Ok(value) => value,
+            Err(error) => {
+                assert_eq!(error, Error::NoMemory);
+                self.0 += 1;
+                call().expect("one request is refused")
+            }
+        }
+    }
+
+    /// The same of a call that begins a type and ends it: the type is given up before it is begun once more.
+    #[track_caller]
+    fn ty(
+        &mut self,
+        builder: &mut ComponentBuilder,
+        mut call: impl FnMut(&mut ComponentBuilder) -> Result<(), Error>,
+    ) {
+        self.call(|| {
+            let answer = call(builder);
+            assert_eq!(builder.is_finished(), answer.is_ok() || !builder.discard_unfinished());
+            answer
+        });
+    }
+}
+
+/// Does the work with no request refused, then with each in turn: what comes of it is the same, and one call is refused.
+fn each_is_refused<T: PartialEq>(least: u32, work: impl Fn(&mut Refusals) -> T) {
+    let wanted = work(&mut Refusals::default());
+    for n in 0.. {
+        let mut refusals = Refusals::default();
+        GRANTED.set(Some(n));
+        let made = work(&mut refusals);
+        let is_past = GRANTED.take().is_some();
+        assert!(made == wanted, "request {n}");
+        assert_eq!(refusals.0, u32::from(!is_past), "request {n}");
+        if is_past {
+            assert!(n >= least, "only {n} requests");
+            return;
+        }
+    }
+}
+
+const STRING: ComponentValType = ComponentValType::Primitive(PrimitiveValType::String);
+const NAME: &str = "a name that is longer than what a first growth makes room for";
+
+#[test]
+fn a_component_is_built() {
+    each_is_refused(30, |refusals| {
+        let mut builder = refusals.call(ComponentBuilder::try_new);
+        for i in 0..40 {
+            refusals.call(|| builder.try_import(NAME, ComponentTypeRef::Func(i)));
+            refusals.call(|| builder.try_alias_export(i, NAME, ComponentExportKind::Func));
+            refusals.call(|| builder.try_resource_drop(i));
+            refusals.call(|| builder.try_export(NAME, ComponentExportKind::Func, i, None));
+            let exports = [("m", ExportKind::Func, i), (NAME, ExportKind::Memory, 0)];
+            refusals.call(|| builder.try_core_instantiate_exports(Some(NAME), exports));
+            refusals.ty(&mut builder, |b| b.try_type_defined(None)?.1.try_record([(NAME, STRING)]));
+            refusals.ty(&mut builder, |b| {
+                let mut function = b.try_type_function(Some(NAME))?.1;
+                function.try_params([(NAME, STRING), ("b", ComponentValType::Type(i))])?;
+                function.try_result(Some(STRING)).map(|_| ())
+            });
+        }
+        refusals.call(|| builder.try_append_names());
+        refusals.call(|| {
+            builder.try_custom_section(&CustomSection {
+                name: NAME.into(),
+                data: NAME.as_bytes().into(),
+            })
+        });
+        builder.try_finish().expect("it takes no memory")
+    });
+}
+
+#[test]
+fn sections_are_made_by_hand() {
+    each_is_refused(10, |refusals| {
+        let mut imports = ComponentImportSection::new();
+        let mut instance = InstanceType::new();
+        for i in 0..40 {
+            refusals.call(|| imports.try_import(NAME, ComponentTypeRef::Func(i)).map(|_| ()));
+            refusals.call(|| instance.try_export(NAME, ComponentTypeRef::Func(i)).map(|_| ()));
+        }
+        let mut types = ComponentTypeSection::new();
+        refusals.call(|| types.try_instance(&instance).map(|_| ()));
+        // What has no answer for a refusal is made while none is to come.
+        let granted = GRANTED.take();
+        let mut component = Component::new();
+        component.section(&imports).section(&types);
+        GRANTED.set(granted);
+        component.finish()
+    });
+}
+
+#[test]
+fn a_component_is_listed() {
+    let mut builder = ComponentBuilder::default();
+    for i in 0..3 {
+        builder.import(NAME, ComponentTypeRef::Func(i));
+        builder.type_defined(None).1.record([(NAME, STRING), ("b", STRING)]);
+        builder.core_instantiate_exports(None, [("m", ExportKind::Func, i)]);
+    }
+    let bytes = builder.finish();
+    each_is_refused(10, |refusals| match list(&bytes) {
+        Err(fault) => {
+            assert_eq!(fault, ListFault::Memory);
+            refusals.0 += 1;
+            list(&bytes).expect("one request is refused")
+        }
+        Ok(listing) => listing,
+    });
+}
+
+#[test]
+fn commands_are_run() {
+    let name = |text: &str| tree::NameTree::from(tree::String::from(text));
+    let commands: Vec<_> = (0..20)
+        .map(|i| tree::Command::Import { name: name(NAME), ty: ComponentTypeRef::Func(i) })
+        .collect();
+    let built = tree::build(&commands).expect("nothing is refused");
+    each_is_refused(5, |refusals| match tree::build(&commands) {
+        Err(error) => {
+            assert_eq!(error, Error::NoMemory);
+            refusals.0 += 1;
+        }
+        // A refused command adds nothing, and the ones after it run.
+        Ok(other) => {
+            let refused = other.answers.iter().filter(|a| **a == Err(Error::NoMemory)).count();
+            assert_eq!(refused == 0, other == built);
+            refusals.0 += refused as u32;
+        }
+    });
+}

@@ -1,0 +1,10 @@
+//! Types of components: their bytes, and what is left when one isn't ended.
+
+#[path = "types/panicking.rs"]
+mod panicking;
+#[path = "types/stages.rs"]
+mod stages;
+#[path = "types/unfinished.rs"]
+mod unfinished;
+#[path = "types/written.rs"]
+mod written;

@@ -1,0 +1,135 @@
+//! The order of calls for a type of functions: a call out of turn panics, and writes nothing.
+
+use std::panic::{AssertUnwindSafe, catch_unwind};
+use wenc::{
+    ComponentFuncTypeEncoder, ComponentTypeSection, ComponentValType, Encode, PrimitiveValType,
+};
+
+const NONE: [(&str, ComponentValType); 0] = [];
+
+fn text(value: &impl Encode) -> Vec<u8> {
+    let mut sink = Vec::new();
+    value.encode(&mut sink);
+    sink
+}
+
+/// Whether the call panics.
+fn panics<T>(call: impl FnOnce() -> T) -> bool {
+    catch_unwind(AssertUnwindSafe(|| {
+        call();
+    }))
+    .is_err()
+}
+
+fn async_panics(encoder: &mut ComponentFuncTypeEncoder<'_>) -> bool {
+    panics(|| drop(encoder.try_async(true)))
+        && panics(|| {
+            encoder.async_(false);
+        })
+}
+
+fn params_panics(encoder: &mut ComponentFuncTypeEncoder<'_>) -> bool {
+    panics(|| drop(encoder.try_params(NONE)))
+        && panics(|| {
+            encoder.params(NONE);
+        })
+}
+
+fn result_panics(encoder: &mut ComponentFuncTypeEncoder<'_>) -> bool {
+    panics(|| drop(encoder.try_result(None)))
+        && panics(|| {
+            encoder.result(None);
+        })
+}
+
+#[test]
+fn out_of_turn() {
+    let mut types = ComponentTypeSection::new();
+    let mut encoder = types.function();
+    assert!(result_panics(&mut encoder));
+    encoder.async_(true);
+    assert!(async_panics(&mut encoder));
+    assert!(result_panics(&mut encoder));
+    encoder.params([("a", PrimitiveValType::U8)]);
+    assert!(async_panics(&mut encoder));
+    assert!(params_panics(&mut encoder));
+    encoder.result(Some(PrimitiveValType::S8.into()));
+    assert!(async_panics(&mut encoder));
+    assert!(params_panics(&mut encoder));
+    assert!(result_panics(&mut encoder));
+    assert!(types.is_finished());
+    assert_eq!(text(&types), b"\x08\x01\x43\x01\x01a\x7d\0\x7e");
+}
+
+#[test]
+fn without_async() {
+    let mut types = ComponentTypeSection::new();
+    let mut encoder = types.function();
+    encoder.params(NONE);
+    assert!(async_panics(&mut encoder));
+    assert!(params_panics(&mut encoder));
+    encoder.result(None);
+    assert_eq!(text(&types), b"\x05\x01\x40\0\x01\0");
+}
+
+#[test]
+fn tried() {
+    let mut types = ComponentTypeSection::new();
+    let mut encoder = types.try_function().unwrap();
+    let encoder = encoder.try_async(false).unwrap();
+    let encoder = encoder.try_params([("a", PrimitiveValType::U8)]).unwrap();
+    encoder.try_result(None).unwrap();
+    assert_eq!(text(&types), b"\x08\x01\x40\x01\x01a\x7d\x01\0");
+}
+
+#[test]
+fn parameters_that_panic() {
+    let mut types = ComponentTypeSection::new();
+    types.defined_type().own(0);
+    let mut encoder = types.function();
+    let params = [("a", 0), ("b", 1)].map(|(name, at)| (name, Halting(at)));
+    assert!(panics(|| {
+        encoder.params(params);
+    }));
+    assert!(async_panics(&mut encoder));
+    assert!(params_panics(&mut encoder));
+    assert!(result_panics(&mut encoder));
+    assert!(!types.is_finished());
+    assert!(types.discard_unfinished());
+    types.function().params(NONE).result(None);
+    assert_eq!(text(&types), b"\x07\x02\x69\0\x40\0\x01\0");
+}
+
+#[test]
+fn parameters_that_panic_before_any_comes() {
+    struct Never;
+
+    impl IntoIterator for Never {
+        type Item = (&'static str, ComponentValType);
+        type IntoIter = std::vec::IntoIter<Self::Item>;
+
+        fn into_iter(self) -> Self::IntoIter {
+            panic!("none comes")
+        }
+    }
+
+    let mut types = ComponentTypeSection::new();
+    let mut encoder = types.function();
+    encoder.async_(true);
+    assert!(panics(|| {
+        encoder.params(Never);
+    }));
+    // Nothing was written, so that it may be tried again.
+    encoder.params(NONE).result(None);
+    assert_eq!(text(&types), b"\x05\x01\x43\0\x01\0");
+}
+
+/// A type that isn't one, from the second on.
+struct Halting(u32);
+
+impl From<Halting> for ComponentValType {
+    fn from(Halting(at): Halting) -> Self {
+        assert_eq!(at, 0, "it halts");
+        Self::Type(at)
+    }
+}
