@@ -20,10 +20,12 @@ mod tests {
 
     #[test]
     fn the_type_the_import_and_the_export_are_written() {
-        let sections = b"\x07\x08\x01\x40\x01\x01n\x79\x01\0\x0a\x06\x01\0\x01f\x01\0\x0b\x07\x01\0\x01g\x01\0\0";
+        let ty = b"\x07\x08\x01\x40\x01\x01n\x79\x01\0";
+        let import = b"\x0a\x06\x01\0\x01f\x01\0";
+        let export = b"\x0b\x07\x01\0\x01g\x01\0\0";
         let bytes = passed_on();
         assert_eq!(bytes[..8], *b"\0asm\x0d\0\x01\0");
-        assert_eq!(bytes[8..], *sections);
+        assert_eq!(bytes[8..], [&ty[..], import, export].concat());
     }
 
     #[test]

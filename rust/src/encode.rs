@@ -148,6 +148,4 @@ encode! {
     i32, value => i64::from(*value);
     u64, value => *value;
     i64, value => *value;
-    f32, value => proved::Verbatim(&value.to_le_bytes());
-    f64, value => proved::Verbatim(&value.to_le_bytes());
 }

@@ -15,7 +15,6 @@ mod list;
 #[cfg(feature = "std")]
 #[doc(hidden)]
 pub mod program;
-#[allow(dead_code, missing_docs, unused_imports, unused_variables)]
 mod proved;
 mod raw;
 mod shared;

@@ -3,6 +3,7 @@
 
 #[cfg(all(test, feature = "std"))]
 mod for_tests;
+#[cfg(feature = "std")]
 pub mod hex;
 #[cfg(all(test, feature = "std"))]
 pub mod refusing;

@@ -148,13 +148,14 @@ fn each_change_is_found() {
     assert!(read(&format!("{RUST}fn g() {{}}")).is_err(), "an item that came in");
 }
 
-/// In one file in forty, each token left out, written twice, and replaced.
+/// In one short file in twenty, each token left out, written twice, and replaced.
 #[test]
 fn each_token_counts() {
     let mut sources = sources();
+    sources.retain(|(_, _, _, new)| new.len() < 5000);
     sources.sort();
     let (mut planted, mut counts) = (0, BTreeMap::new());
-    for (name, path, old, new) in sources.into_iter().step_by(40) {
+    for (name, path, old, new) in sources.into_iter().step_by(20) {
         let chars: Vec<char> = new.chars().collect();
         let text = |range: std::ops::Range<usize>| chars[range].iter().collect::<String>();
         for token in lex(&new) {

@@ -44,12 +44,8 @@ fn sections_stand_at_their_places() {
     let told = listing.sections.iter().map(|section| (section.id, section.place));
     assert_eq!(told.collect::<Vec<_>>(), [(10, 8), (11, 16), (6, 25)]);
     let import = ItemTree::Import { name: name("f"), ty: ComponentTypeRef::Func(0) };
-    let export = ItemTree::Export {
-        name: name("g"),
-        kind: ComponentExportKind::Func,
-        index: 0,
-        ty: None,
-    };
+    let export =
+        ItemTree::Export { name: name("g"), kind: ComponentExportKind::Func, index: 0, ty: None };
     assert_eq!(listing.sections[0].items.as_slice(), [import]);
     assert_eq!(listing.sections[1].items.as_slice(), [export]);
     assert!(listing.sections[2].items.is_empty());
@@ -122,17 +118,13 @@ fn core_types_of_the_core() {
     let reference = |nullable, heap_type| ValType::Ref(tree::RefType { nullable, heap_type });
     let field = |element_type, mutable| tree::FieldType { element_type, mutable };
     let to_fifth = reference(false, tree::HeapType::Concrete(5));
-    let function = tree::FuncType::from_lists(
-        vec![ValType::I32].into(),
-        vec![ValType::I64, to_fifth].into(),
-    );
+    let function =
+        tree::FuncType::from_lists(vec![ValType::I32].into(), vec![ValType::I64, to_fifth].into());
     assert_eq!((function.params().len(), function.results()), (1, &[ValType::I64, to_fifth][..]));
     let external = reference(true, tree::HeapType::Abstract(tree::AbstractHeapType::Extern));
     let any = reference(true, tree::HeapType::Abstract(tree::AbstractHeapType::Any));
-    let fields = vec![
-        field(tree::StorageType::I8, false),
-        field(tree::StorageType::Val(external), true),
-    ];
+    let fields =
+        vec![field(tree::StorageType::I8, false), field(tree::StorageType::Val(external), true)];
     let structure = CompositeType::Struct(tree::StructType { fields: fields.into() });
     let array = CompositeType::Array(tree::ArrayType(field(tree::StorageType::Val(any), true)));
     let empty = CompositeType::Struct(tree::StructType { fields: vec![].into() });
@@ -397,8 +389,7 @@ fn commands_are_built() {
         Command::RawCustom { bytes: b"\x02\x01x".to_vec().into() },
     ];
     let built = build(&commands).unwrap();
-    let answers =
-        [Ok(Some(0)), Ok(Some(0)), Ok(Some(0)), Err(Error::TooMany), Ok(None), Ok(None)];
+    let answers = [Ok(Some(0)), Ok(Some(0)), Ok(Some(0)), Err(Error::TooMany), Ok(None), Ok(None)];
     assert_eq!(built.answers, answers);
     let expected = component(
         b"\x01\x01\x01\x04\x10\0asm\x0d\0\x01\0\x0a\x06\x01\x00\x01f\x01\x00\

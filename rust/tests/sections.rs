@@ -41,8 +41,13 @@ fn aliases() {
 #[test]
 fn aliases_of_the_core_and_of_others() {
     let mut section = ComponentAliasSection::new();
-    let kinds =
-        [ExportKind::Func, ExportKind::Table, ExportKind::Memory, ExportKind::Global, ExportKind::Tag];
+    let kinds = [
+        ExportKind::Func,
+        ExportKind::Table,
+        ExportKind::Memory,
+        ExportKind::Global,
+        ExportKind::Tag,
+    ];
     for kind in kinds {
         section.alias(Alias::CoreInstanceExport { instance: 1, kind, name: "" });
     }
@@ -55,8 +60,10 @@ fn aliases_of_the_core_and_of_others() {
         \x00\x04\x01\x01\x00\
         \x00\x11\x02\x02\x03\x00\x10\x02\x02\x03\x03\x02\x02\x03\x04\x02\x02\x03";
     assert_eq!(text(&section), expected);
-    assert_eq!(format!("{:?}", Alias::Outer { kind: Outer::Type, count: 0, index: 1 }),
-        "Outer { kind: Type, count: 0, index: 1 }");
+    assert_eq!(
+        format!("{:?}", Alias::Outer { kind: Outer::Type, count: 0, index: 1 }),
+        "Outer { kind: Type, count: 0, index: 1 }"
+    );
 }
 
 #[test]
@@ -95,9 +102,12 @@ fn names_with_options() {
 #[test]
 fn exports() {
     let mut section = ComponentExportSection::new();
-    section
-        .export("a", ComponentExportKind::Module, 1, None)
-        .export("", ComponentExportKind::Func, 200, Some(ComponentTypeRef::Func(3)));
+    section.export("a", ComponentExportKind::Module, 1, None).export(
+        "",
+        ComponentExportKind::Func,
+        200,
+        Some(ComponentTypeRef::Func(3)),
+    );
     let expected = b"\x0b\x10\x02\x00\x01a\x00\x11\x01\x00\x00\x00\x01\xc8\x01\x01\x01\x03";
     assert_eq!(text(&section), expected);
     assert_eq!(section.len(), 2);
@@ -121,10 +131,8 @@ fn core_instances() {
 #[test]
 fn instances() {
     let mut section = ComponentInstanceSection::new();
-    let named = ComponentExternName {
-        external_id: Some("e".into()),
-        ..ComponentExternName::from("n")
-    };
+    let named =
+        ComponentExternName { external_id: Some("e".into()), ..ComponentExternName::from("n") };
     section
         .instantiate(3, [(String::from("a"), ComponentExportKind::Value, 1)])
         .export_items([(named, ComponentExportKind::Component, 2)])
@@ -298,13 +306,17 @@ fn panics(call: impl FnOnce()) -> bool {
 fn a_section_that_panics_leaves_what_it_was_appended_to() {
     let mut component = Component::new();
     component.section(&Own(1));
-    assert!(panics(|| drop(component.section(&Panicking))));
+    assert!(panics(|| {
+        component.section(&Panicking);
+    }));
     assert_eq!(component.as_slice()[8..], [99, 1, 1]);
     component.section(&Own(2));
     assert_eq!(component.finish()[8..], [99, 1, 1, 99, 1, 2]);
 
     let mut module = Module::new();
-    assert!(panics(|| drop(module.section(&Panicking))));
+    assert!(panics(|| {
+        module.section(&Panicking);
+    }));
     assert_eq!(module.finish(), Module::HEADER);
 
     let mut sink = vec![4];
@@ -336,14 +348,18 @@ fn iterators_that_panic_leave_no_half_member() {
     section.instantiate(0, [("a", ModuleArg::Instance(0))]);
     let before = text(&section);
     let args = || broken(|| ("b", ModuleArg::Instance(1)));
-    assert!(panics(|| drop(section.instantiate(0, args()))));
+    assert!(panics(|| {
+        section.instantiate(0, args());
+    }));
     assert!(is_sound(&section, &before));
 
     let mut section = InstanceSection::new();
     section.export_items([("a", ExportKind::Func, 0)]);
     let before = text(&section);
     let items = || broken(|| ("b", ExportKind::Func, 1));
-    assert!(panics(|| drop(section.export_items(items()))));
+    assert!(panics(|| {
+        section.export_items(items());
+    }));
     assert!(is_sound(&section, &before));
 }
 
@@ -353,8 +369,12 @@ fn iterators_and_names_that_panic_leave_no_half_member() {
     section.instantiate(0, [("a", ComponentExportKind::Func, 0)]);
     let before = text(&section);
     let args = || broken(|| ("b", ComponentExportKind::Func, 1));
-    assert!(panics(|| drop(section.clone().instantiate(0, args()))));
-    assert!(panics(|| drop(section.instantiate(0, args()))));
+    assert!(panics(|| {
+        section.clone().instantiate(0, args());
+    }));
+    assert!(panics(|| {
+        section.instantiate(0, args());
+    }));
     assert!(is_sound(&section, &before));
 
     /// A name that can't be told.
@@ -367,10 +387,14 @@ fn iterators_and_names_that_panic_leave_no_half_member() {
     let mut section = ComponentInstanceSection::new();
     section.export_items([("a", ComponentExportKind::Func, 0)]);
     let before = text(&section);
-    assert!(panics(|| drop(section.export_items([(NoName, ComponentExportKind::Func, 0)]))));
+    assert!(panics(|| {
+        section.export_items([(NoName, ComponentExportKind::Func, 0)]);
+    }));
     assert!(is_sound(&section, &before));
     let mut exports = ComponentExportSection::new();
-    assert!(panics(|| drop(exports.export(NoName, ComponentExportKind::Func, 0, None))));
+    assert!(panics(|| {
+        exports.export(NoName, ComponentExportKind::Func, 0, None);
+    }));
     assert_eq!(text(&exports), b"\x0b\x01\x00");
 }
 

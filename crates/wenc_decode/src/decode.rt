@@ -12,7 +12,7 @@ use wenc_read::{Refusal, byte, flag_of, name_of, u32_of};
 /// ```
 /// let (alias, rest) = AliasTree::decode(alloc, bytes)?;
 /// ```
-pub trait Decode<A: Allocator + Copy>: Drop {
+pub trait Decode<A: Allocator + Copy>: Sized + Drop {
     /// What a contract sees of a value.
     ghost Value: { Type 0 };
 

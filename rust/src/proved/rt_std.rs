@@ -14,7 +14,7 @@ pub mod vec;
 /// What stands in scope without being named.
 pub mod prelude {
     #[cfg(all(test, feature = "std"))]
-    pub use crate::proved::for_tests::TextUsing;
+    pub use crate::proved::for_tests::{TextUsing, ToVecUsing};
 
     pub use super::alloc::TryClone;
     pub use super::boxed::Box;
@@ -22,7 +22,7 @@ pub mod prelude {
     #[cfg(feature = "std")]
     pub use super::process::HostRuntime;
     pub use super::string::String;
-    pub use super::vec::{ToVecUsing, Vec};
+    pub use super::vec::Vec;
 }
 
 pub mod marker {
@@ -44,7 +44,9 @@ pub mod str {
 pub mod io {
     //! Streams.
 
-    pub use std::io::{Error, ErrorKind, Read, Result, Write};
+    #[cfg(test)]
+    pub use std::io::{Error, ErrorKind, Result};
+    pub use std::io::{Read, Write};
 }
 
 #[cfg(feature = "std")]

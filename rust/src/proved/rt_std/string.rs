@@ -26,7 +26,6 @@ impl<A: Allocator> String<A> {
 
     /// This text once more.
     #[inline]
-    #[expect(clippy::should_implement_trait, reason = "Rattle's name")]
     pub fn from_str(alloc: A, text: &str) -> Result<Self, AllocError> {
         let mut made = String::new(alloc);
         if !text.is_empty() {

@@ -141,18 +141,6 @@ impl<T: Copy, A: Allocator> Vec<T, A> {
     }
 }
 
-/// Rattle's `to_vec`, by another name, since Rust's slices have a `to_vec` already.
-pub trait ToVecUsing<T> {
-    /// These elements once more.
-    fn to_vec_using<A: Allocator>(&self, alloc: A) -> Result<Vec<T, A>, AllocError>;
-}
-
-impl<T: Copy> ToVecUsing<T> for [T] {
-    fn to_vec_using<A: Allocator>(&self, alloc: A) -> Result<Vec<T, A>, AllocError> {
-        Vec::from_slice(alloc, self)
-    }
-}
-
 impl<T, A> Deref for Vec<T, A> {
     type Target = [T];
 

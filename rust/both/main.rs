@@ -3,7 +3,7 @@
 //!
 //!     both DRIVEN WENC [SEED [NUMBER]]
 //!
-//! DRIVEN and WENC are the kit's programs; those that rustc made stand beside this one. `rust/both` makes all of them, and
+//! DRIVEN and WENC are the kit's programs; those that rustc made stand beside this one. `rust/both/run` makes all of them, and
 //! calls it. There are NUMBER inputs for `driven`, so many scripts for `wenc`, and so many components for `wenc list`. An
 //! input that is answered in two ways is kept.
 
