@@ -639,7 +639,7 @@ impl<A: Allocator> ComponentBuilder<A> {
     {
         let start = ComponentStartSection {
             function_index,
-            args,
+            args: args.as_slice(),
             results,
         };
         let section = Tagged(ComponentSectionId::Start.into(), &start);
