@@ -187,8 +187,8 @@ const TEXTS: &[(ListFault, &str)] = &[
     (ListFault::BadSection { place: 16 }, "BadSection at 16"),
     (ListFault::BadItem { place: 8 }, "BadItem at 8"),
     (
-        ListFault::TooDeep { place: 4294967296 },
-        "TooDeep at 4294967296",
+        ListFault::TooDeep { place: 4294967295 },
+        "TooDeep at 4294967295",
     ),
 ];
 
