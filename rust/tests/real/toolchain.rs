@@ -91,7 +91,8 @@ impl Linker {
         let cause = told.split("Caused by:").last().expect("there is one");
         let cause: Vec<&str> = cause.split_whitespace().collect();
         let cause = cause.join(" ");
-        cause.contains("at offset").then_some(cause)
+        let cause = cause.trim_start_matches("0: ");
+        cause.contains("at offset").then(|| cause.to_owned())
     }
 
     /// The version of wit-component in it.
