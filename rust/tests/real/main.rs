@@ -10,7 +10,7 @@ mod again;
 mod by_hand;
 mod corpus;
 //mod docs;
-//mod examples;
+mod examples;
 mod features;
 mod interfaces;
 mod names;

@@ -64,6 +64,8 @@ struct Scope {
 struct Maker<'a> {
     random: Random,
     core: &'a [u8],
+    /// How many components there are, and how many calls made them.
+    components: usize,
     calls: usize,
 }
 
@@ -165,6 +167,7 @@ impl Maker<'_> {
     }
 
     fn fill(&mut self, b: &mut ComponentBuilder, scope: &mut Scope, depth: u32) {
+        self.components += 1;
         for _ in 0..self.random.below(120) {
             self.step(b, scope, depth);
         }
@@ -174,36 +177,36 @@ impl Maker<'_> {
     }
 }
 
-/// So many components in one.
-fn components(seed: u64, count: usize) -> (Vec<u8>, usize) {
+/// A component that holds random ones, and how many there are in these with them, and calls.
+fn components(seed: u64, count: usize) -> (Vec<u8>, usize, usize) {
     let core = corpus::read("features.wasm");
-    let mut maker = Maker { random: Random(seed), core: &core, calls: 0 };
+    let mut maker = Maker { random: Random(seed), core: &core, components: 0, calls: 0 };
     let mut outer = ComponentBuilder::default();
     for _ in 0..count {
         let mut inner = ComponentBuilder::default();
         maker.fill(&mut inner, &mut Scope::default(), 0);
         outer.component(None, inner);
     }
-    (outer.finish(), maker.calls)
+    (outer.finish(), maker.components, maker.calls)
 }
 
 #[test]
 fn a_thousand_random_components_are_valid() {
     let Some(linker) = linker("random components") else { return };
-    let mut calls = 0;
-    for seed in 1..=20 {
-        let (bytes, made) = components(seed, 50);
+    let (mut components, mut calls) = (0, 0);
+    for seed in 1..=8 {
+        let (bytes, more_components, more_calls) = self::components(seed, 4);
         assert_eq!(linker.refuses(&bytes), None, "seed {seed}");
-        calls += made;
+        components += more_components;
+        calls += more_calls;
     }
-    assert!(calls > 50_000, "{calls} calls");
+    assert!(components > 1000 && calls > 50_000, "{components} components, {calls} calls");
 }
 
 #[test]
 fn random_components_are_listed_and_made_again() {
-    for seed in 21..=30 {
-        let (bytes, _) = components(seed, 10);
-        check(&bytes, seed);
+    for seed in 9..=12 {
+        check(&components(seed, 2).0, seed);
     }
 }
 
