@@ -4,7 +4,7 @@
 //! answer where memory is refused. `From` makes either of the other without a copy.
 //!
 //! ```
-//! use wenc::tree::{Command, ItemTree, NameTree, String, build};
+//! use wenc::tree::{Command, ItemTree, NameTree, String, Vec, build};
 //! use wenc::{ComponentExportKind, ComponentTypeRef, list};
 //!
 //! let name = |text: &str| NameTree::from(String::from(text));
@@ -17,6 +17,11 @@
 //! let listing = list(&built.bytes).expect("it is a component");
 //! let import = ItemTree::Import { name: name("f"), ty: ComponentTypeRef::Func(0) };
 //! assert_eq!(listing.sections[0].items.as_slice(), [import]);
+//!
+//! // what was listed is built again
+//! let items = listing.sections.into_iter().flat_map(|section| section.items);
+//! let commands: Vec<Command> = items.map(Command::from).collect();
+//! assert_eq!(build(&commands)?, built);
 //! # Ok::<(), wenc::Error>(())
 //! ```
 

@@ -33,8 +33,8 @@ mod of_builders;
 mod of_holders;
 
 pub use of_builders::{
-    encoded_types_are_entries, indices_are_no_primitives, named_indices_ascend, neighbours_differ,
-    nested_runs, one_item_counts_once,
+    an_item_becomes_its_command, encoded_types_are_entries, indices_are_no_primitives,
+    named_indices_ascend, neighbours_differ, nested_runs, one_item_counts_once,
 };
 pub use of_holders::what_is_finished_has_some;
 use wenc_base::{Delimited, DelimitedEq};

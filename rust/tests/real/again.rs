@@ -4,25 +4,6 @@ use crate::{by_hand, corpus};
 use wenc::tree::{Command, ItemTree, build};
 use wenc::{ListFault, Listing, list};
 
-/// The command that adds this item.
-pub fn command(item: ItemTree) -> Command {
-    let debug_name = None;
-    match item {
-        ItemTree::Module(bytes) => Command::CoreModule { debug_name, bytes },
-        ItemTree::CoreInstance(instance) => Command::CoreInstance { debug_name, instance },
-        ItemTree::CoreType(ty) => Command::CoreType { debug_name, ty: ty.into_inner() },
-        ItemTree::Component(bytes) => Command::ComponentRaw { debug_name, bytes },
-        ItemTree::Instance(instance) => Command::Instance { debug_name, instance },
-        ItemTree::Alias(alias) => Command::Alias { debug_name, alias },
-        ItemTree::Type(ty) => Command::Type { debug_name, ty },
-        ItemTree::Canon(canon) => Command::Canon { debug_name, canon },
-        ItemTree::Start { function, args, results } => Command::Start { function, args, results },
-        ItemTree::Import { name, ty } => Command::Import { name, ty },
-        ItemTree::Export { name, kind, index, ty } => Command::Export { name, kind, index, ty },
-        ItemTree::Custom { name, data } => Command::Custom { name, data },
-    }
-}
-
 pub fn items(listing: Listing) -> impl Iterator<Item = ItemTree> {
     listing.sections.into_iter().flat_map(|section| section.items)
 }
@@ -78,7 +59,7 @@ fn all_others_are_made_again_by_commands() {
     let (mut components, mut made) = (0, 0);
     for (name, bytes) in all() {
         let Ok(listing) = list(&bytes) else { continue };
-        let commands: Vec<Command> = items(listing).map(command).collect();
+        let commands: Vec<Command> = items(listing).map(Command::from).collect();
         let again = built(&commands);
         assert!(again == bytes, "{name}: others from byte {} on", differs(&again, &bytes));
         components += 1;

@@ -1,7 +1,7 @@
 //! The debug names of the corpus: read out of their section, given to the builder once more, and written by it.
 
 use crate::again;
-use crate::again::{built, command, items};
+use crate::again::{built, items};
 use std::collections::HashMap;
 use wenc::list;
 use wenc::tree::{Command, ItemTree, Space};
@@ -117,7 +117,7 @@ fn named(bytes: &[u8], names: &Names<'_>) -> Vec<u8> {
             *next += count;
             names.get(&(sort(space), *next - count)).copied()
         });
-        commands.push(match command(item) {
+        commands.push(match Command::from(item) {
             Command::Custom { name, .. } if &*name == "component-name" => Command::AppendNames,
             command => with_name(command, name),
         });
@@ -140,7 +140,7 @@ fn said_once(bytes: &[u8]) -> Vec<u8> {
                 let data = said.concat().into();
                 Command::Custom { name, data }
             }
-            item => command(item),
+            item => Command::from(item),
         });
     }
     built(&commands)

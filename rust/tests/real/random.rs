@@ -219,6 +219,6 @@ fn check(bytes: &[u8], seed: u64) {
             check(inner, seed);
         }
     }
-    let commands: Vec<Command> = crate::again::items(listing).map(crate::again::command).collect();
+    let commands: Vec<Command> = crate::again::items(listing).map(Command::from).collect();
     assert!(crate::again::built(&commands) == bytes, "seed {seed}");
 }

@@ -21,8 +21,9 @@ ghost use Rattle.wenc_parts.specs.declared.types.ComponentValType.TheVariants as
 ghost use Rattle.wenc_parts.specs.declared.types.PrimitiveValType.{PrimitiveValType};
 ghost use Rattle.wenc_types.specs.ComponentTypes.{DefType, def_type};
 ghost use Rattle.wenc_types.specs.CoreTypes.{CoreType, core_type};
-ghost use Rattle.wasm_encoder.specs.Cause.{led, first_cause};
+ghost use Rattle.wasm_encoder.specs.Cause.{added, led, first_cause};
 ghost use Rattle.wasm_encoder.specs.Command.{CommandTree, Commands, commands_listed};
+ghost use Rattle.wasm_encoder.specs.ItemCommands.{command_of};
 ghost use Rattle.wasm_encoder.specs.Nameless.{StartIsNameless};
 ghost use Rattle.wasm_encoder.specs.Ran.{Ran};
 
@@ -44,6 +45,11 @@ pub fn one_item_counts_once()
     ensures alone { (old new : State) (i : ℕ) (x : Entry) (space other : Space) (es : List Entry)
         → Holds old es → Enters old new (Ok i) x → defines x.item ≡ some_in space 1
         → (other ≡ space → ⊥) → count_in new other ≡ count_in old other }
+{}
+
+/// The command that an item becomes adds that item alone, whatever was added before.
+pub fn an_item_becomes_its_command()
+    ensures { (es : List Entry) (x : Item) → items_of (added es (command_of x)) ≡ x ∷ [] }
 {}
 
 /// The indices in a space's list of names ascend, and each is below the space's count, where no start has a name. So it
