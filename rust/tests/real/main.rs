@@ -9,7 +9,7 @@
 mod again;
 mod by_hand;
 mod corpus;
-//mod docs;
+mod docs;
 mod examples;
 mod features;
 mod interfaces;
