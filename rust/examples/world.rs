@@ -203,8 +203,10 @@ mod tests {
 
     #[test]
     fn a_world_is_encoded() {
-        let text = "package a:b@1.0.0;
-            world w { import f: func(x: list<u8>, y: bool) -> result<_, string>; export g: func(); }";
+        let text = "package a:b@1.0.0; world w {
+            import f: func(x: list<u8>, y: bool) -> result<_, string>;
+            export g: func();
+        }";
         let expected = b"\0asm\x0d\0\x01\0\0\x19\x16wit-component-encoding\x04\0\
             \x07\x3a\x01\x41\x02\x01\x41\x06\
             \x01\x70\x7d\x01\x6a\0\x01\x73\x01\x40\x02\x01x\0\x01y\x7f\0\x01\

@@ -274,7 +274,9 @@ macro_rules! functions {
             $(CanonTree::$plain => $of.$call(),)*
             $(CanonTree::$indexed(index) => $of.$indexed_call(*index),)*
             $(CanonTree::$waiting { ty, async_ } => $of.$waiting_call(*ty, *async_),)*
-            $(CanonTree::$listed { ty, options } => $of.$listed_call(*ty, options.iter().copied()),)*
+            $(CanonTree::$listed { ty, options } => {
+                $of.$listed_call(*ty, options.iter().copied())
+            })*
             $($others)*
         }
     };

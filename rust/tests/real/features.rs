@@ -7,6 +7,7 @@ use crate::interfaces::*;
 use crate::toolchain::linker;
 use std::fmt::Write;
 use wenc::CanonicalOption::*;
+use wenc::ComponentExportKind as Kind;
 use wenc::*;
 
 pub(crate) type Builder = ComponentBuilder;
@@ -25,6 +26,7 @@ const ASYNC: u32 = 6;
 
 const MEMORY: CanonicalOption = Memory(0);
 const REALLOC: CanonicalOption = Realloc(4);
+const EQUAL: ComponentTypeRef = ComponentTypeRef::Type(TypeBounds::Eq(STREAM));
 
 /// Core functions: 0 run, 1 num, 2 text, 3 post, 4 cabi_realloc, 5 callback, 6 drop. Functions: 0 unit, 1 text, 2 wait.
 fn base(core: &[u8]) -> Builder {
@@ -118,11 +120,11 @@ calls! {
     "thread.spawn-ref": thread_spawn_ref(0);
     "thread.spawn-indirect": thread_spawn_indirect(0, 0);
     "thread.available-parallelism": thread_available_parallelism();
-    "export-ascribed": export("again", ComponentExportKind::Func, 0, Some(ComponentTypeRef::Func(UNIT)));
-    "export-type": export("it", ComponentExportKind::Type, RESOURCE, None);
-    "export-type-eq": export("it", ComponentExportKind::Type, STREAM, Some(ComponentTypeRef::Type(TypeBounds::Eq(STREAM))));
+    "export-ascribed": export("again", Kind::Func, 0, Some(ComponentTypeRef::Func(UNIT)));
+    "export-type": export("it", Kind::Type, RESOURCE, None);
+    "export-type-eq": export("it", Kind::Type, STREAM, Some(EQUAL));
     "import-type-sub": import("r", ComponentTypeRef::Type(TypeBounds::SubResource));
-    "import-type-eq": import("r", ComponentTypeRef::Type(TypeBounds::Eq(STREAM)));
+    "import-type-eq": import("r", EQUAL);
     "names-appended": append_names();
     "unknown-index": resource_drop(99);
     "bad-name": import("Not Kebab", ComponentTypeRef::Func(UNIT));
