@@ -7,3 +7,4 @@ pub mod Neighbours
 pub mod CountedOnce
 pub mod NamedIndices
 pub mod NestedRuns
+pub mod SectionsFit
