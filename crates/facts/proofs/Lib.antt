@@ -1,7 +1,6 @@
 pub mod DefinedEqualities
 pub mod Equalities
 pub mod Functions
-pub mod ListedRuns
 pub mod NeverUnfinished
 pub mod Options
 pub mod IndexedRuns

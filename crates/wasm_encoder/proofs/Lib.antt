@@ -8,3 +8,4 @@ pub mod CountedOnce
 pub mod NamedIndices
 pub mod NestedRuns
 pub mod Itself
+pub mod SectionsFit
