@@ -65,7 +65,7 @@ fn all_others_are_made_again_by_commands() {
         components += 1;
         made += commands.len();
     }
-    assert_eq!((components, made), (73, 3258));
+    assert_eq!((components, made), (68, 2555));
 }
 
 #[test]
@@ -77,5 +77,5 @@ fn all_others_are_made_again_by_sections() {
         assert!(again == bytes, "{name}: others from byte {} on", differs(&again, &bytes));
         components += 1;
     }
-    assert_eq!(components, 73);
+    assert_eq!(components, 68);
 }

@@ -172,7 +172,7 @@ fn debug_names_are_written_again() {
             but_twice += 1;
         }
     }
-    assert_eq!((equal, but_twice, renamed), (15, 27, 2));
+    assert_eq!((equal, but_twice, renamed), (15, 23, 2));
 }
 
 #[test]
