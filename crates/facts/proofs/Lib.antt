@@ -7,3 +7,4 @@ pub mod Options
 pub mod IndexedRuns
 pub mod Kept
 pub mod PassedOn
+mod Anew

@@ -16,5 +16,6 @@ pub mod listed;
 pub mod numbers;
 pub mod parts;
 pub mod read;
+pub mod rebuilt;
 pub mod runs;
 pub mod types;
