@@ -6,3 +6,4 @@ pub mod Options
 pub mod IndexedRuns
 pub mod Kept
 pub mod PassedOn
+mod Anew
