@@ -42,7 +42,7 @@ pub const ROWS: &[Row<'static>] = &[
 /// types there are then.
 const DROPPED: &[(Written<'static>, u32, u32)] = &[
     (Written::Core(Core::Begun), 1, 0),
-    (Written::Core(Core::BegunCore), 1, 0),
+    (Written::Core(Core::BegunPlain), 1, 0),
     (Written::Any(Any::Begun), 0, 1),
     (Written::Defined(Defined::Begun), 0, 1),
     (Written::Function(Function::Begun), 0, 1),

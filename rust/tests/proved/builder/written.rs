@@ -42,7 +42,7 @@ const ONE: &[ValType] = &[ValType::I32];
 pub enum Core<'a> {
     Begun,
     /// With the encoder that it gives for all but modules.
-    BegunCore,
+    BegunPlain,
     Function,
     /// By its text.
     SubType(&'a [u8]),
@@ -59,7 +59,7 @@ impl<'a> Core<'a> {
         let (index, encoder) = builder.core_type(debug_name)?;
         let outcome = match self {
             Core::Begun => Ok(()),
-            Core::BegunCore => {
+            Core::BegunPlain => {
                 encoder.core();
                 Ok(())
             }

@@ -4,6 +4,7 @@ use super::checks::encoded;
 use crate::proved::rt_std::alloc::Global;
 use crate::proved::tests::hex;
 use crate::proved::wenc_list::{Listing, list};
+use std::str::from_utf8;
 use std::vec::Vec;
 
 /// The items have, one after the other, the indices that these answers tell, and no others: the next
@@ -29,7 +30,7 @@ fn are_answered(listing: &Listing, answers: &[u128]) {
 /// commands, whose answers stand in front of it, and encoded again it is the same. A refused
 /// command's answer is no number, nor is one of names.
 pub fn is_listed(printed: &[u8]) {
-    let text = str::from_utf8(printed).unwrap().trim_end();
+    let text = from_utf8(printed).unwrap().trim_end();
     let (lines, component) = text.rsplit_once('\n').unwrap_or(("", text));
     let answers: Vec<u128> = lines.split('\n').filter_map(|line| line.parse().ok()).collect();
     let bytes = hex::bytes(component);

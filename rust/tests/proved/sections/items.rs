@@ -21,7 +21,8 @@ const OUTER_TYPE: Alias<'static> =
 #[test]
 fn aliases() {
     let mut section: ComponentAliasSection = ComponentAliasSection::new(Global);
-    assert!(section.is_empty() && section.len() == 0);
+    assert!(section.is_empty());
+    assert_eq!(section.len(), 0);
     alone(&section, "060100");
     section.alias(FUNCTION_OF_AN_INSTANCE).unwrap();
     let mut copy = section.try_clone().unwrap();

@@ -132,10 +132,7 @@ const PARAMS: &[(&str, ComponentValType)] = &[("a", STRING)];
 fn begin<L: Lends>(to: &mut L, opening: Opening) -> Result<(), Fault> {
     let encoder = to.encoder()?;
     match opening {
-        Opening::Type => {
-            drop(encoder);
-            Ok(())
-        }
+        Opening::Type => Ok(()),
         Opening::Values => {
             encoder.defined_type();
             Ok(())
@@ -174,10 +171,7 @@ fn write_short<L: Lends>(to: &mut L, call: Call<'_>) -> Result<(), Fault> {
         Call::Future(payload) => values.future(payload),
         Call::Stream(payload) => values.stream(payload),
         Call::Own(index) => values.own(index),
-        _ => {
-            drop(values);
-            Err(Fault::TooMany)
-        }
+        _ => Err(Fault::TooMany),
     }
 }
 
@@ -193,9 +187,6 @@ fn write_several<L: Lends>(to: &mut L, call: Call<'_>) -> Result<(), Fault> {
         Call::Tuple(types) => values.tuple(types.iter().copied()),
         Call::Flags(names) => values.flags(names.iter().copied()),
         Call::EnumType(cases) => values.enum_type(cases.iter().copied()),
-        _ => {
-            drop(values);
-            Err(Fault::TooMany)
-        }
+        _ => Err(Fault::TooMany),
     }
 }

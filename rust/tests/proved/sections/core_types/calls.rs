@@ -65,10 +65,7 @@ impl<A: Allocator> Lends for CoreTypeSection<A> {
 pub fn write<L: Lends>(to: &mut L, call: Call<'_>) -> Result<(), Fault> {
     let encoder = to.encoder()?;
     match call {
-        Call::Begun => {
-            drop(encoder);
-            Ok(())
-        }
+        Call::Begun => Ok(()),
         Call::Composite(Composite::Function(params, results)) => {
             encoder.function(params.iter().copied(), results.iter().copied())
         }
@@ -101,10 +98,7 @@ pub fn write_core_type<K: DeclaringKind, A: Allocator>(
 ) -> Result<(), Fault> {
     let encoder = to.core_type()?;
     match ty {
-        CoreType::Begun => {
-            drop(encoder);
-            Ok(())
-        }
+        CoreType::Begun => Ok(()),
         CoreType::Core => {
             encoder.core();
             Ok(())
@@ -119,10 +113,7 @@ impl<'t, A: Allocator> Makes<CoreTypeSection<A>> for CoreType<'t> {
     fn make(&self, to: &mut CoreTypeSection<A>) -> Result<(), Fault> {
         let encoder = to.ty()?;
         match *self {
-            CoreType::Begun => {
-                drop(encoder);
-                Ok(())
-            }
+            CoreType::Begun => Ok(()),
             CoreType::Core => {
                 encoder.core();
                 Ok(())
