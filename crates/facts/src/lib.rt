@@ -19,6 +19,7 @@ pub mod numbers;
 pub mod own;
 pub mod parts;
 pub mod read;
+pub mod rebuilt;
 pub mod runs;
 pub mod types;
 pub mod wrapping;

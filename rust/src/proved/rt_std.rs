@@ -18,6 +18,7 @@ pub mod prelude {
     pub use super::iter::CollectUsing;
     #[cfg(feature = "std")]
     pub use super::process::HostRuntime;
+    pub use super::str;
     pub use super::string::String;
     pub use super::vec::Vec;
 }

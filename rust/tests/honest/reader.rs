@@ -100,35 +100,49 @@ pub fn read(
     new: &str,
     counts: &mut BTreeMap<&'static str, usize>,
 ) -> Result<(), String> {
-    let (old_tokens, new_tokens) = (lex(old), lex(new));
-    let mut source = Source::new(crate_name, &old_tokens);
-    let mut rest = &new_tokens[..];
+    compare(crate_name, &lex(old), &lex(new), counts)?;
+    let lines = (old.lines().count(), new.lines().count());
+    if lines.0 == lines.1 { Ok(()) } else { Err(format!("{} lines became {}", lines.0, lines.1)) }
+}
+
+/// The same of their tokens.
+pub fn compare(
+    crate_name: &str,
+    old: &[Token],
+    new: &[Token],
+    counts: &mut BTreeMap<&'static str, usize>,
+) -> Result<(), String> {
+    let mut source = Source::new(crate_name, old);
+    let mut rest = new;
     if !rest.is_empty() {
         // It stands in the line of what documents the first item.
         let line = rest[0].line;
         take("prelude", line, "use crate::proved::rt_std::prelude::*;", &mut rest)?;
         counts.insert("prelude", 1);
     }
-    while source.at < old_tokens.len() {
-        let line = old_tokens[source.at].line;
+    while let Some(first) = old.get(source.at) {
         let Step { way, old, new } = source.step();
-        take(way, line, &new, &mut rest)?;
+        take(way, first.line, &new, &mut rest)?;
         *counts.entry(way).or_default() += 1;
         source.at += old;
     }
-    if let Some(more) = rest.first() {
-        return Err(format!("{}: {:?} came in", more.line, more.text));
+    match rest.first() {
+        Some(more) => Err(format!("{}: {:?} came in", more.line, more.text)),
+        None => Ok(()),
     }
-    let lines = (old.lines().count(), new.lines().count());
-    if lines.0 == lines.1 { Ok(()) } else { Err(format!("{} lines became {}", lines.0, lines.1)) }
 }
 
 /// Takes these tokens, of which the first stands in this line, from the rest of the Rust.
 fn take(way: &str, line: usize, wanted: &str, rest: &mut &[Token]) -> Result<(), String> {
-    for (n, token) in lex(wanted).iter().enumerate() {
-        let Some((found, behind)) = rest.split_first().filter(|(f, _)| f.text == token.text) else {
+    let wanted = if way == "kept" {
+        vec![wanted.to_owned()]
+    } else {
+        lex(wanted).into_iter().map(|token| token.text).collect()
+    };
+    for (n, text) in wanted.iter().enumerate() {
+        let Some((found, behind)) = rest.split_first().filter(|(f, _)| f.text == *text) else {
             let found = rest.first().map_or("", |found| &found.text);
-            return Err(format!("{line}: {:?} became {found:?} ({way})", token.text));
+            return Err(format!("{line}: {text:?} became {found:?} ({way})"));
         };
         if n == 0 && found.line != line || found.line < line {
             return Err(format!("{line}: it became line {} ({way})", found.line));

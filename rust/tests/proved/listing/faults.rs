@@ -183,7 +183,7 @@ const TEXTS: &[(ListFault, &str)] = &[
     (ListFault::NotAComponent { place: 0 }, "NotAComponent at 0"),
     (ListFault::BadSection { place: 16 }, "BadSection at 16"),
     (ListFault::BadItem { place: 8 }, "BadItem at 8"),
-    (ListFault::TooDeep { place: 4294967296 }, "TooDeep at 4294967296"),
+    (ListFault::TooDeep { place: 4294967295 }, "TooDeep at 4294967295"),
 ];
 
 #[test]
