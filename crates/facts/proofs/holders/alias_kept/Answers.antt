@@ -14,7 +14,7 @@ letter_is_text = (0x66 ∷ [], (refl, refl))
 
 pub returns : goal.returns
 unfolding groups
-returns c = rw (c.over.ensures, c.in_ok-from_array.ensures.items)
+returns g c = rw (c.over.ensures, c.in_ok-from_array.ensures.items)
     (keeps_some (HasForm alias) (holding (0xaa ∷ 0xbb ∷ []) 1 (1 ∷ 0 ∷ 0 ∷ 1 ∷ 0x66 ∷ [])) refl
     ∣ record {
       members = (1 ∷ 0 ∷ 0 ∷ 1 ∷ 0x66 ∷ []) ∷ [];

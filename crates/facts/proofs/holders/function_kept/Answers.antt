@@ -8,7 +8,7 @@ use Rattle.facts.proofs.holders.function_kept.Goals as goal
 
 pub returns : goal.returns
 unfolding groups
-returns c = rw (c.over.ensures, c.in_ok-from_array.ensures.items)
+returns g c = rw (c.over.ensures, c.in_ok-from_array.ensures.items)
     (keeps_some (HasForm canonical) (holding (0xaa ∷ 0xbb ∷ []) 1 (0x05 ∷ [])) refl
     ∣ record {
       members = (0x05 ∷ []) ∷ [];
