@@ -4,19 +4,26 @@
 //! answer where memory is refused. `From` makes either of the other without a copy.
 //!
 //! ```
-//! use wenc::tree::{Command, ItemTree, NameTree, String, Vec, build};
+//! use wenc::tree::{Command, ItemTree, NameTree, String, TypeTree, Vec, build};
 //! use wenc::{ComponentExportKind, ComponentTypeRef, list};
 //!
 //! let name = |text: &str| NameTree::from(String::from(text));
+//! let ty = TypeTree::Func { is_async: false, params: [].into(), result: None };
 //! let built = build(&[
+//!     Command::Type { debug_name: None, ty },
 //!     Command::Import { name: name("f"), ty: ComponentTypeRef::Func(0) },
 //!     Command::Export { name: name("g"), kind: ComponentExportKind::Func, index: 0, ty: None },
 //! ])?;
-//! assert_eq!(built.answers, [Ok(Some(0)), Ok(Some(1))]);
+//! assert_eq!(built.answers, [Ok(Some(0)), Ok(Some(0)), Ok(Some(1))]);
+//! assert_eq!(
+//!     built.bytes,
+//!     b"\0asm\x0d\0\x01\0\x07\x05\x01\x40\0\x01\0\
+//!       \x0a\x06\x01\0\x01f\x01\0\x0b\x07\x01\0\x01g\x01\0\0",
+//! );
 //!
 //! let listing = list(&built.bytes).expect("it is a component");
 //! let import = ItemTree::Import { name: name("f"), ty: ComponentTypeRef::Func(0) };
-//! assert_eq!(listing.sections[0].items.as_slice(), [import]);
+//! assert_eq!(listing.sections[1].items.as_slice(), [import]);
 //!
 //! // what was listed is built again
 //! let items = listing.sections.into_iter().flat_map(|section| section.items);

@@ -54,7 +54,7 @@ fn gather(name: &str, from: &Path, to: &Path, found: &mut Vec<(String, PathBuf, 
 fn erased_sources_are_the_sources() {
     let mut counts = BTreeMap::new();
     let sources = sources();
-    assert!(sources.len() > 200, "only {} files", sources.len());
+    assert!(sources.len() > 150, "only {} files", sources.len());
     for (name, path, old, new) in sources {
         if let Err(why) = read(&name, &old, &new, &mut counts) {
             panic!("{}:{why}", path.display());
