@@ -26,9 +26,6 @@ const PROGRAMS: [&str; 2] = ["wenc", "driven"];
 /// What the tests call beside those: proved callers, and the examples of the documentation.
 const TESTS: [&str; 1] = ["facts"];
 
-/// Of these, what has a number of the type `usize` past 32 bits.
-const OF_64_BITS: [&str; 1] = ["part_tests"];
-
 /// What `src/proved` has in the place of a crate.
 const BY_HAND: [&str; 1] = ["hex"];
 
@@ -56,9 +53,6 @@ fn main() {
             erase_folder(name, &known, &source, &out.join(name));
             let root = if source.join("lib.rt").exists() { "lib.rs" } else { "main.rs" };
             let path = out.join(name).join(root);
-            if OF_64_BITS.contains(name) {
-                declared += "#[cfg(target_pointer_width = \"64\")]\n";
-            }
             declared += &format!("{condition}{ALLOWED}#[path = {path:?}]\npub mod {name};\n");
         }
     }
