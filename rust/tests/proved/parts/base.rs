@@ -2,10 +2,12 @@
 
 mod composites;
 mod entities;
+// With lengths that only 64 bits hold.
+#[cfg(target_pointer_width = "64")]
 mod holder;
 mod kept;
 mod names;
-// It has lengths that only 64 bits hold.
+// With lengths that only 64 bits hold.
 #[cfg(target_pointer_width = "64")]
 mod refusals;
 mod types;
