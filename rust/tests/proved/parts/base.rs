@@ -2,13 +2,14 @@
 
 mod composites;
 mod entities;
-// With lengths that only 64 bits hold.
-#[cfg(target_pointer_width = "64")]
-mod holder;
-mod kept;
 mod names;
-// With lengths that only 64 bits hold.
-#[cfg(target_pointer_width = "64")]
-mod refusals;
 mod types;
 mod values;
+
+// Those that count with lengths that only 64 bits hold.
+#[cfg(target_pointer_width = "64")]
+mod holder;
+#[cfg(target_pointer_width = "64")]
+mod kept;
+#[cfg(target_pointer_width = "64")]
+mod refusals;
