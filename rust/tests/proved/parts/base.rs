@@ -1,13 +1,15 @@
-//! Tests of `wenc_base` by its public calls. Some have lengths past 32 bits.
+//! Tests of `wenc_base` by its public calls.
 
 mod composites;
 mod entities;
+mod names;
+mod types;
+mod values;
+
+// Those that count with lengths that only 64 bits hold.
 #[cfg(target_pointer_width = "64")]
 mod holder;
 #[cfg(target_pointer_width = "64")]
 mod kept;
-mod names;
 #[cfg(target_pointer_width = "64")]
 mod refusals;
-mod types;
-mod values;
