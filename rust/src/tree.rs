@@ -78,7 +78,8 @@ pub struct Built {
 /// ```
 pub fn build(commands: &[Command]) -> Result<Built, Error> {
     let proved::Built { answers, bytes } = proved::build(Global, commands)?;
-    // each answer stands where it stood
-    let answers = answers.into_iter().map(|answer| answer.map_err(Error::from)).collect();
-    Ok(Built { answers, bytes: bytes.into() })
+    let mut told = alloc::vec::Vec::new();
+    told.try_reserve_exact(answers.len()).map_err(|_| Error::NoMemory)?;
+    told.extend(answers.into_iter().map(|answer| answer.map_err(Error::from)));
+    Ok(Built { answers: told, bytes: bytes.into() })
 }
