@@ -1,0 +1,250 @@
+//! Module, component and instance types, each encoder of a type, and what is counted.
+
+use crate::checks::{again, are, is, ok, yes};
+use crate::core_types::{function, open};
+use std::alloc::Global;
+use wenc_base::{
+    EntityType, Fault, FieldType, FuncType, GroupTree, StorageType, SubType, TagType, ValType,
+};
+use wenc_decode::{Decode, type_of};
+use wenc_parts::{
+    Alias, ComponentExportKind, ComponentOuterAliasKind, ComponentTypeRef, ComponentValType,
+    PrimitiveValType, TypeBounds,
+};
+use wenc_sections::{ComponentTypeSection, CoreTypeSection};
+use wenc_types::counts::{Counts, sort_of_alias, sort_of_kind};
+use wenc_types::{
+    CaseTree, ComponentType, CoreTypeTree, DefinedTree, FuncStage, InstanceType, ModuleDecl,
+    ModuleType, TypeTree,
+};
+
+const TAG: EntityType = EntityType::Tag(TagType { func_type_idx: 0 });
+
+/// Each call of the encoder of core types, in a module type.
+fn declare_core_types(
+    module: &mut ModuleType,
+    ty: &FuncType,
+    sub: &SubType,
+    group: &GroupTree,
+) -> Result<(), Fault> {
+    let field = FieldType {
+        element_type: StorageType::I8,
+        mutable: true,
+    };
+    module
+        .ty()?
+        .function([ValType::I32].into_iter(), [].into_iter())?;
+    module.ty()?.func_type(ty)?;
+    module.ty()?.array(&StorageType::I16, false)?;
+    module.ty()?.struct_([field].into_iter())?;
+    module.ty()?.subtype(sub)?;
+    module.ty()?.rec([sub].into_iter())?;
+    module.ty()?.group(group)
+}
+
+fn declare_entities(module: &mut ModuleType) -> Result<(), Fault> {
+    module.import("m", "n", EntityType::Function(0))?;
+    module.alias_outer_core_type(1, 0)?;
+    module.export("t", TAG)
+}
+
+const MODULE: &str =
+    "500a0160017f000160017f017c015e7700015f01780101500060017f017c014e01500060017f017c01500060017f\
+    017c00016d016e00000210010100030174040000";
+
+/// Each call of the section of core types.
+fn add_core_types(
+    section: &mut CoreTypeSection,
+    module: &ModuleType,
+    tree: &CoreTypeTree,
+    sub: &SubType,
+) -> Result<(), Fault> {
+    section.ty()?.module(module)?;
+    section.ty()?.tree(tree)?;
+    section.ty()?.core().subtype(sub)
+}
+
+#[test]
+fn core_types(rt: HostRuntime) {
+    let alloc = rt.alloc();
+    let mut module = ModuleType::new(alloc);
+    let ty = ok(&rt, function(alloc));
+    let sub = open(&rt, alloc);
+    let group = GroupTree::Sub(open(&rt, alloc));
+    ok(&rt, declare_core_types(&mut module, &ty, &sub, &group));
+    ok(&rt, declare_entities(&mut module));
+    yes(&rt, module.is_finished() && !module.discard_unfinished());
+    yes(&rt, module.type_count() == 8);
+    let copy = ok(&rt, module.clone());
+    is(&rt, alloc, &copy, MODULE);
+    let module = ModuleType::new(alloc);
+    let tree = CoreTypeTree::Module(Vec::new(alloc));
+    let mut section = CoreTypeSection::new(alloc);
+    ok(&rt, add_core_types(&mut section, &module, &tree, &sub));
+    yes(&rt, section.is_finished() && section.len() == 3);
+    is(&rt, alloc, &section, "0d035000500000500060017f017c");
+    again::<CoreTypeTree>(&rt, alloc, "50010210010100");
+    again::<ModuleDecl>(&rt, alloc, "0210010100");
+}
+
+const STRING: ComponentValType = ComponentValType::Primitive(PrimitiveValType::String);
+
+const INDEXED: ComponentValType = ComponentValType::Type(64);
+
+/// Each type of values, by the encoder of an instance type.
+fn declare_values(ty: &mut InstanceType, tree: &DefinedTree) -> Result<(), Fault> {
+    ty.ty()?.defined_type().primitive(PrimitiveValType::Char)?;
+    ty.ty()?.defined_type().record([("a", STRING)].into_iter())?;
+    let cases = [("a", None), ("b", Some(STRING))];
+    ty.ty()?.defined_type().variant(cases.into_iter())?;
+    ty.ty()?.defined_type().list(INDEXED)?;
+    ty.ty()?.defined_type().map(STRING, INDEXED)?;
+    ty.ty()?.defined_type().fixed_length_list(STRING, 128)?;
+    ty.ty()?
+        .defined_type()
+        .tuple([STRING, INDEXED].into_iter())?;
+    ty.ty()?.defined_type().flags(["a", "bc"].into_iter())?;
+    ty.ty()?.defined_type().enum_type(["a", "bc"].into_iter())?;
+    ty.ty()?.defined_type().option(STRING)?;
+    ty.ty()?.defined_type().result(None, Some(STRING))?;
+    ty.ty()?.defined_type().own(64)?;
+    ty.ty()?.defined_type().borrow(128)?;
+    ty.ty()?.defined_type().future(Some(STRING))?;
+    ty.ty()?.defined_type().stream(Some(INDEXED))?;
+    ty.ty()?.defined_type().tree(tree)
+}
+
+const VALUES: &str =
+    "421001740172010161730171020161000001620173000170c000016373c0000167738001016f0273c000016e0201\
+    61026263016d020161026263016b73016a0001730169400168800101650173016601c000016901";
+
+#[test]
+fn types_of_values(rt: HostRuntime) {
+    let alloc = rt.alloc();
+    let mut ty = InstanceType::new(alloc);
+    ok(&rt, declare_values(&mut ty, &DefinedTree::Own(1)));
+    is(&rt, alloc, &ty, VALUES);
+    again::<DefinedTree>(&rt, alloc, "7201016173");
+    again::<CaseTree>(&rt, alloc, "0162017300");
+}
+
+const FUNCTION: Alias<'static> = Alias::InstanceExport {
+    instance: 0,
+    kind: ComponentExportKind::Func,
+    name: "f",
+};
+
+const OUTER: Alias<'static> = Alias::Outer {
+    kind: ComponentOuterAliasKind::Type,
+    count: 0,
+    index: 1,
+};
+
+/// Writes a function, and answers its stages.
+fn declare_function(ty: &mut InstanceType) -> Result<[FuncStage; 4], Fault> {
+    let mut function = ty.ty()?.function();
+    let begun = function.stage();
+    function.async_(true)?;
+    let tagged = function.stage();
+    function.params([("a", STRING)].into_iter())?;
+    let listed = function.stage();
+    function.result(None)?;
+    Ok([begun, tagged, listed, function.stage()])
+}
+
+const STAGES: [FuncStage; 4] = [
+    FuncStage::Start,
+    FuncStage::Tagged,
+    FuncStage::Params,
+    FuncStage::Done,
+];
+
+fn declare_in_instance(ty: &mut InstanceType) -> Result<(), Fault> {
+    ty.core_type()?.core().array(&StorageType::I8, true)?;
+    ty.alias(OUTER)?;
+    ty.export("t".into(), ComponentTypeRef::Type(TypeBounds::Eq(0)))
+}
+
+fn declare_in_component(
+    ty: &mut ComponentType,
+    empty: &ComponentType,
+    instance: &InstanceType,
+    tree: &TypeTree,
+) -> Result<(), Fault> {
+    ty.ty()?.component(empty)?;
+    ty.ty()?.instance(instance)?;
+    ty.ty()?.tree(tree)?;
+    ty.ty()?.resource(ValType::I32, Some(3))?;
+    ty.alias(FUNCTION)?;
+    ty.import("i".into(), ComponentTypeRef::Instance(1))?;
+    ty.export("e".into(), ComponentTypeRef::Func(0))
+}
+
+const TREE: TypeTree = TypeTree::Resource {
+    rep: ValType::I32,
+    dtor: None,
+};
+
+/// Each call of the section of types.
+fn add_types(
+    section: &mut ComponentTypeSection,
+    component: &ComponentType,
+    instance: &InstanceType,
+) -> Result<(), Fault> {
+    section.ty()?.defined_type().own(0)?;
+    let mut function = section.function()?;
+    function.params([].into_iter())?;
+    function.result(Some(STRING))?;
+    section.defined_type()?.option(STRING)?;
+    section.component(component)?;
+    section.instance(instance)?;
+    section.resource(ValType::I32, None)
+}
+
+const INSTANCE: &str = "42040143010161730100005e7801020302000104000174030000";
+
+const COMPONENT: &str =
+    "41070141000142040143010161730100005e7801020302000104000174030000013f7f00013f7f01030201000001\
+    66030001690501040001650100";
+
+#[test]
+fn types(rt: HostRuntime) {
+    let alloc = rt.alloc();
+    let mut instance = InstanceType::new(alloc);
+    yes(&rt, instance.is_empty());
+    yes(&rt, ok(&rt, declare_function(&mut instance)) == STAGES);
+    ok(&rt, declare_in_instance(&mut instance));
+    yes(&rt, instance.len() == 4 && instance.type_count() == 3);
+    yes(&rt, instance.core_type_count() == 1);
+    is(&rt, alloc, &instance, INSTANCE);
+    let empty = ComponentType::new(alloc);
+    let mut component = ComponentType::new(alloc);
+    ok(
+        &rt,
+        declare_in_component(&mut component, &empty, &instance, &TREE),
+    );
+    yes(&rt, component.instance_count() == 1);
+    is(&rt, alloc, &component, COMPONENT);
+    let mut section = ComponentTypeSection::new(alloc);
+    ok(
+        &rt,
+        add_types(&mut section, &empty, &InstanceType::new(alloc)),
+    );
+    yes(&rt, section.is_finished() && !section.discard_unfinished());
+    is(&rt, alloc, &section, "10066900400000736b73410042003f7f00");
+}
+
+/// One core type is counted where there is one declaration, and is taken back.
+fn counted() -> (Counts, Counts) {
+    let counts = Counts::none();
+    let sort = sort_of_kind(ComponentExportKind::Type);
+    let one = counts.counted(sort, 1);
+    (one, one.uncounted(sort))
+}
+
+#[test]
+fn counts(rt: HostRuntime) {
+    let (one, none) = counted();
+    yes(&rt, one.types == 1 && none.types == 0);
+    yes(&rt, sort_of_alias(&FUNCTION).is_none());
+}
