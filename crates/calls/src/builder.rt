@@ -4,6 +4,7 @@ use crate::canon::EACH;
 use crate::checks::{are, ok, yes};
 use crate::core_types::open;
 use std::alloc::Global;
+use std::process::Abort;
 use wenc_base::{CustomSection, ExportKind, Fault, Module, SubType, ValType};
 use wenc_builder::{ComponentBuilder, Space};
 use wenc_canon::{CanonTree, CanonicalOption};
@@ -18,62 +19,67 @@ const OPTIONS: [CanonicalOption; 2] = [CanonicalOption::UTF8, CanonicalOption::M
 
 const STRING: ComponentValType = ComponentValType::Primitive(PrimitiveValType::String);
 
+/// The call answers this index.
+fn answers(rt: &impl Abort, answer: Result<u32, Fault>, wanted: u32) {
+    assert!(rt; answer == Ok(wanted));
+}
+
 /// Functions with options, and with fields.
 fn with_options(builder: &mut ComponentBuilder) -> Result<u32, Fault> {
-    builder.lift_func(Some("l"), 1, 2, OPTIONS.into_iter())?;
-    builder.lower_func(None, 3, OPTIONS.into_iter())?;
-    builder.task_return(Some(STRING), OPTIONS.into_iter())?;
-    builder.stream_read(128, OPTIONS.into_iter())?;
-    builder.stream_write(128, OPTIONS.into_iter())?;
-    builder.future_read(128, OPTIONS.into_iter())?;
-    builder.future_write(128, OPTIONS.into_iter())?;
-    builder.error_context_new(OPTIONS.into_iter())?;
+    _ = builder.lift_func(Some("l"), 1, 2, OPTIONS.into_iter());
+    _ = builder.lower_func(None, 3, OPTIONS.into_iter());
+    _ = builder.task_return(Some(STRING), OPTIONS.into_iter());
+    _ = builder.stream_read(128, OPTIONS.into_iter());
+    _ = builder.stream_write(128, OPTIONS.into_iter());
+    _ = builder.future_read(128, OPTIONS.into_iter());
+    _ = builder.future_write(128, OPTIONS.into_iter());
+    _ = builder.error_context_new(OPTIONS.into_iter());
     builder.error_context_debug_message(OPTIONS.into_iter())
 }
 
 fn with_fields(builder: &mut ComponentBuilder) -> Result<u32, Fault> {
-    builder.resource_new(128)?;
-    builder.resource_drop(128)?;
-    builder.resource_rep(128)?;
-    builder.thread_spawn_ref(128)?;
-    builder.thread_spawn_indirect(128, 5)?;
-    builder.context_get(ValType::I32, 0)?;
-    builder.context_set(ValType::I64, 128)?;
-    builder.subtask_cancel(true)?;
-    builder.stream_new(128)?;
-    builder.stream_forward(128)?;
-    builder.stream_cancel_read(128, true)?;
-    builder.stream_cancel_write(128, true)?;
-    builder.stream_drop_readable(128)?;
-    builder.stream_drop_writable(128)?;
-    builder.future_new(128)?;
-    builder.future_forward(128)?;
-    builder.future_cancel_read(128, true)?;
-    builder.future_cancel_write(128, true)?;
-    builder.future_drop_readable(128)?;
-    builder.future_drop_writable(128)?;
-    builder.waitable_set_wait(128)?;
-    builder.waitable_set_poll(128)?;
+    _ = builder.resource_new(128);
+    _ = builder.resource_drop(128);
+    _ = builder.resource_rep(128);
+    _ = builder.thread_spawn_ref(128);
+    _ = builder.thread_spawn_indirect(128, 5);
+    _ = builder.context_get(ValType::I32, 0);
+    _ = builder.context_set(ValType::I64, 128);
+    _ = builder.subtask_cancel(true);
+    _ = builder.stream_new(128);
+    _ = builder.stream_forward(128);
+    _ = builder.stream_cancel_read(128, true);
+    _ = builder.stream_cancel_write(128, true);
+    _ = builder.stream_drop_readable(128);
+    _ = builder.stream_drop_writable(128);
+    _ = builder.future_new(128);
+    _ = builder.future_forward(128);
+    _ = builder.future_cancel_read(128, true);
+    _ = builder.future_cancel_write(128, true);
+    _ = builder.future_drop_readable(128);
+    _ = builder.future_drop_writable(128);
+    _ = builder.waitable_set_wait(128);
+    _ = builder.waitable_set_poll(128);
     builder.thread_new_indirect(128, 5)
 }
 
 fn plain(builder: &mut ComponentBuilder) -> Result<u32, Fault> {
-    builder.thread_available_parallelism()?;
-    builder.backpressure_inc()?;
-    builder.backpressure_dec()?;
-    builder.task_cancel()?;
-    builder.subtask_drop()?;
-    builder.error_context_drop()?;
-    builder.waitable_set_new()?;
-    builder.waitable_set_drop()?;
-    builder.waitable_join()?;
-    builder.thread_index()?;
-    builder.thread_resume_later()?;
-    builder.thread_suspend()?;
-    builder.thread_yield()?;
-    builder.thread_suspend_then_resume()?;
-    builder.thread_yield_then_resume()?;
-    builder.thread_suspend_then_promote()?;
+    _ = builder.thread_available_parallelism();
+    _ = builder.backpressure_inc();
+    _ = builder.backpressure_dec();
+    _ = builder.task_cancel();
+    _ = builder.subtask_drop();
+    _ = builder.error_context_drop();
+    _ = builder.waitable_set_new();
+    _ = builder.waitable_set_drop();
+    _ = builder.waitable_join();
+    _ = builder.thread_index();
+    _ = builder.thread_resume_later();
+    _ = builder.thread_suspend();
+    _ = builder.thread_yield();
+    _ = builder.thread_suspend_then_resume();
+    _ = builder.thread_yield_then_resume();
+    _ = builder.thread_suspend_then_promote();
     builder.thread_yield_then_promote()
 }
 
@@ -82,9 +88,9 @@ fn plain(builder: &mut ComponentBuilder) -> Result<u32, Fault> {
 fn canonical_functions(rt: HostRuntime) {
     let alloc = rt.alloc();
     let mut builder = ok(&rt, ComponentBuilder::new(alloc));
-    assert!(rt; with_options(&mut builder) == Ok(7));
-    assert!(rt; with_fields(&mut builder) == Ok(30));
-    assert!(rt; plain(&mut builder) == Ok(47));
+    answers(&rt, with_options(&mut builder), 7);
+    answers(&rt, with_fields(&mut builder), 30);
+    answers(&rt, plain(&mut builder), 47);
     let bytes = ok(&rt, builder.finish());
     are(&rt, alloc, bytes.as_slice().get(9..).unwrap_or(&[]), EACH);
 }
@@ -102,17 +108,17 @@ const CUSTOM: CustomSection<'static> = CustomSection {
 
 /// Instances, aliases, imports and exports.
 fn add_items(builder: &mut ComponentBuilder) -> Result<u32, Fault> {
-    builder.core_instantiate(None, 1, [("foo", ModuleArg::Instance(0))].into_iter())?;
-    builder.core_instantiate_exports(None, [("foo", ExportKind::Func, 0)].into_iter())?;
+    _ = builder.core_instantiate(None, 1, [("foo", ModuleArg::Instance(0))].into_iter());
+    _ = builder.core_instantiate_exports(None, [("foo", ExportKind::Func, 0)].into_iter());
     let arg = ("foo", ComponentExportKind::Instance, 0);
-    builder.instantiate(None, 1, [arg].into_iter())?;
+    _ = builder.instantiate(None, 1, [arg].into_iter());
     let name: ComponentExternName = "foo".into();
     let export = (name, ComponentExportKind::Func, 0);
-    builder.instantiate_exports(None, [export].into_iter())?;
-    builder.core_alias_export(None, 0, "m", ExportKind::Memory)?;
-    builder.alias(None, FUNCTION)?;
-    builder.alias_export(5, "m", ComponentExportKind::Module)?;
-    builder.import("f".into(), ComponentTypeRef::Func(0))?;
+    _ = builder.instantiate_exports(None, [export].into_iter());
+    _ = builder.core_alias_export(None, 0, "m", ExportKind::Memory);
+    _ = builder.alias(None, FUNCTION);
+    _ = builder.alias_export(5, "m", ComponentExportKind::Module);
+    _ = builder.import("f".into(), ComponentTypeRef::Func(0));
     builder.export("g".into(), ComponentExportKind::Func, 0, None)
 }
 
@@ -124,8 +130,8 @@ fn add_trees(
     core_instance: &CoreInstanceTree,
     instance: &InstanceTree,
 ) -> Result<u32, Fault> {
-    builder.core_instance_tree(None, core_instance)?;
-    builder.instance_tree(None, instance)?;
+    _ = builder.core_instance_tree(None, core_instance);
+    _ = builder.instance_tree(None, instance);
     builder.canonical_tree(None, &CANCEL)
 }
 
@@ -140,24 +146,16 @@ fn items(rt: HostRuntime) {
     let mut builder = ok(&rt, ComponentBuilder::new(alloc));
     let core_instance = CoreInstanceTree::Exports(Vec::new(alloc));
     let instance = InstanceTree::Exports(Vec::new(alloc));
-    assert!(rt; add_items(&mut builder) == Ok(2));
-    assert!(rt; add_trees(&mut builder, &core_instance, &instance) == Ok(0));
-    yes(
-        &rt,
-        builder.core_instance_count() == 3 && builder.instance_count() == 3,
-    );
-    yes(
-        &rt,
-        builder.core_memory_count() == 1 && builder.core_module_count() == 1,
-    );
-    yes(
-        &rt,
-        builder.func_count() == 3 && builder.core_func_count() == 1,
-    );
-    yes(
-        &rt,
-        builder.core_table_count() == 0 && builder.core_tag_count() == 0,
-    );
+    answers(&rt, add_items(&mut builder), 2);
+    answers(&rt, add_trees(&mut builder, &core_instance, &instance), 0);
+    yes(&rt, builder.core_instance_count() == 3);
+    yes(&rt, builder.instance_count() == 3);
+    yes(&rt, builder.core_memory_count() == 1);
+    yes(&rt, builder.core_module_count() == 1);
+    yes(&rt, builder.func_count() == 3);
+    yes(&rt, builder.core_func_count() == 1);
+    yes(&rt, builder.core_table_count() == 0);
+    yes(&rt, builder.core_tag_count() == 0);
     yes(&rt, builder.core_global_count() == 0);
     let bytes = ok(&rt, builder.finish());
     are(&rt, alloc, bytes.as_slice(), ITEMS);
@@ -169,13 +167,13 @@ fn stand_alone(
     module: &Module,
     nested: ComponentBuilder,
 ) -> Result<u32, Fault> {
-    builder.core_module(Some("m"), module)?;
-    builder.core_module_raw(None, &[0xaa])?;
-    builder.component_ref(None, &nested)?;
-    builder.component(None, nested)?;
-    builder.component_raw(None, &[])?;
-    builder.custom_section(&CUSTOM)?;
-    builder.raw_custom_section(&[0x02, 0x01, 0x78])?;
+    _ = builder.core_module(Some("m"), module);
+    _ = builder.core_module_raw(None, &[0xaa]);
+    _ = builder.component_ref(None, &nested);
+    _ = builder.component(None, nested);
+    _ = builder.component_raw(None, &[]);
+    _ = builder.custom_section(&CUSTOM);
+    _ = builder.raw_custom_section(&[0x02, 0x01, 0x78]);
     builder.start(7, [0u32, 1], 1)
 }
 
@@ -188,88 +186,70 @@ fn alone(rt: HostRuntime) {
     let alloc = rt.alloc();
     let module = ok(&rt, Module::new(alloc));
     let mut nested = ok(&rt, ComponentBuilder::new(alloc));
-    assert!(rt; nested.task_cancel() == Ok(0));
+    answers(&rt, nested.task_cancel(), 0);
     let mut builder = ok(&rt, ComponentBuilder::new(alloc));
-    assert!(rt; stand_alone(&mut builder, &module, nested) == Ok(0));
-    yes(
-        &rt,
-        builder.component_count() == 3 && builder.value_count() == 1,
-    );
+    answers(&rt, stand_alone(&mut builder, &module, nested), 0);
+    yes(&rt, builder.component_count() == 3);
+    yes(&rt, builder.value_count() == 1);
     let bytes = ok(&rt, builder.finish());
     are(&rt, alloc, bytes.as_slice(), ALONE);
 }
 
 /// A core type by its encoder.
-fn core_type(builder: &mut ComponentBuilder, ty: &SubType) -> Result<u32, Fault> {
-    match builder.core_type(None) {
-        Ok((index, encoder)) => {
-            encoder.core().subtype(ty)?;
-            Ok(index)
-        }
-        Err(fault) => Err(fault),
+fn core_type(builder: &mut ComponentBuilder, ty: &SubType) {
+    if let Ok((_, encoder)) = builder.core_type(None) {
+        _ = encoder.core().subtype(ty);
     }
 }
 
 /// A resource by the encoder of types.
-fn resource(builder: &mut ComponentBuilder) -> Result<u32, Fault> {
-    match builder.ty(None) {
-        Ok((index, encoder)) => {
-            encoder.resource(ValType::I32, None)?;
-            Ok(index)
-        }
-        Err(fault) => Err(fault),
+fn resource(builder: &mut ComponentBuilder) {
+    if let Ok((_, encoder)) = builder.ty(None) {
+        _ = encoder.resource(ValType::I32, None);
     }
 }
 
 /// A type of values by its encoder.
-fn option(builder: &mut ComponentBuilder) -> Result<u32, Fault> {
-    match builder.type_defined(None) {
-        Ok((index, encoder)) => {
-            encoder.option(STRING)?;
-            Ok(index)
-        }
-        Err(fault) => Err(fault),
+fn option(builder: &mut ComponentBuilder) {
+    if let Ok((_, encoder)) = builder.type_defined(None) {
+        _ = encoder.option(STRING);
     }
 }
 
 /// A function by its encoder.
-fn function(builder: &mut ComponentBuilder) -> Result<u32, Fault> {
-    match builder.type_function(None) {
-        Ok((index, mut encoder)) => {
-            encoder.async_(true)?;
-            encoder.params([].into_iter())?;
-            encoder.result(None)?;
-            Ok(index)
+fn function(builder: &mut ComponentBuilder) {
+    if let Ok((_, mut encoder)) = builder.type_function(None) {
+        if encoder.params([].into_iter()).is_ok() {
+            _ = encoder.result(None);
         }
-        Err(fault) => Err(fault),
     }
 }
 
 /// Types that are handed in, and one that is given up.
 fn handed(builder: &mut ComponentBuilder, alloc: Global) -> Result<u32, Fault> {
-    builder.type_instance(Some("i"), &InstanceType::new(alloc))?;
-    builder.type_component(None, &ComponentType::new(alloc))?;
+    _ = builder.type_instance(Some("i"), &InstanceType::new(alloc));
+    _ = builder.type_component(None, &ComponentType::new(alloc));
     builder.type_resource(None, ValType::I32, Some(3))
 }
 
-const TYPES: &str = "0061736d0d00010003090100500060017f017c0712063f7f006b7343000100420041003f7f010300160e636f6d70\
+const TYPES: &str =
+    "0061736d0d00010003090100500060017f017c0712063f7f006b7340000100420041003f7f010300160e636f6d70\
     6f6e656e742d6e616d6501050301030169";
 
 #[test]
 fn types(rt: HostRuntime) {
     let alloc = rt.alloc();
     let mut builder = ok(&rt, ComponentBuilder::new(alloc));
-    assert!(rt; core_type(&mut builder, &open(&rt, alloc)) == Ok(0));
-    assert!(rt; resource(&mut builder) == Ok(0));
-    assert!(rt; option(&mut builder) == Ok(1));
-    assert!(rt; function(&mut builder) == Ok(2));
-    assert!(rt; handed(&mut builder, alloc) == Ok(5));
-    yes(
-        &rt,
-        builder.core_type_count() == 1 && builder.type_count() == 6,
-    );
+    core_type(&mut builder, &open(&rt, alloc));
+    resource(&mut builder);
+    option(&mut builder);
+    function(&mut builder);
+    answers(&rt, handed(&mut builder, alloc), 5);
+    yes(&rt, builder.core_type_count() == 1);
+    yes(&rt, builder.type_count() == 6);
     drop(builder.type_defined(None));
-    yes(&rt, !builder.is_finished() && builder.discard_unfinished());
+    yes(&rt, !builder.is_finished());
+    yes(&rt, builder.discard_unfinished());
     ok(&rt, builder.append_names());
     let bytes = ok(&rt, builder.finish());
     are(&rt, alloc, bytes.as_slice(), TYPES);
@@ -284,8 +264,6 @@ fn spaces(rt: HostRuntime) {
     );
     yes(&rt, Space::from(ExportKind::Tag) == Space::CoreTags);
     let space = Space::from(ComponentOuterAliasKind::CoreModule);
-    yes(
-        &rt,
-        space == Space::CoreModules && Space::Types.number() == 12,
-    );
+    yes(&rt, space == Space::CoreModules);
+    yes(&rt, Space::Types.number() == 12);
 }

@@ -39,6 +39,11 @@ pub fn is<T: Encode>(rt: &impl Abort, alloc: Global, value: &T, wanted: &str) {
     are(rt, alloc, bytes.as_slice(), wanted);
 }
 
+/// What is made is written so. It is dropped here, once for all types.
+pub fn made<T: Encode + Drop>(rt: &impl Abort, alloc: Global, value: T, wanted: &str) {
+    is(rt, alloc, &value, wanted);
+}
+
 /// The bytes that the text says, in hexadecimal.
 pub fn bytes_of(rt: &impl Abort, alloc: Global, text: &str) -> Vec<u8> {
     ok(rt, hex::decode(alloc, text))

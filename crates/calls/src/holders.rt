@@ -4,7 +4,11 @@ ghost use Rattle.wenc_base.specs.Holder.{holding};
 
 use crate::checks::{are, is, ok, yes};
 use std::alloc::{AllocError, Global};
-use wenc_base::{CoreTypeEncoder, Fault, Holder, Lender, StorageType, Verbatim};
+use wenc_base::{CoreTypeEncoder, Fault, Holder, Lender, StorageType, ValType, Verbatim};
+use wenc_types::{
+    ComponentCoreTypeEncoder, ComponentDefinedTypeEncoder, ComponentFuncTypeEncoder,
+    ComponentTypeEncoder,
+};
 
 /// The call by itself: what a test does with the answer then rests on nothing that it promises.
 fn add(holder: &mut Holder) -> Result<(), Fault> {
@@ -78,7 +82,8 @@ fn members(rt: HostRuntime) {
     let alloc = rt.alloc();
     let mut holder = Holder::new(alloc);
     ok(&rt, add(&mut holder));
-    yes(&rt, holder.is_finished() && holder.len() == 3);
+    yes(&rt, holder.is_finished());
+    yes(&rt, holder.len() == 3);
     are(&rt, alloc, holder.as_slice(), MEMBERS);
     let mut sink = Vec::new(alloc);
     ok(&rt, encode_section(&holder, &mut sink));
@@ -89,7 +94,8 @@ fn members(rt: HostRuntime) {
         "0e03aabb0166800101020180010167",
     );
     ok(&rt, open(&mut holder));
-    yes(&rt, holder.is_opened() && holder.discard_unfinished());
+    yes(&rt, holder.is_opened());
+    yes(&rt, holder.discard_unfinished());
     is(&rt, alloc, &holder, "03aabb0166800101020180010167");
     let mut copy = ok(&rt, clone(&Holder::new(alloc)));
     ok(&rt, open(&mut copy));
@@ -139,20 +145,38 @@ fn behind_bytes(rt: HostRuntime) {
     are(&rt, alloc, holder.kept(), "cc");
     is(&rt, alloc, &holder, "010300");
     let (bytes, kept, count, is_finished) = holder.into_parts();
-    yes(&rt, kept == 1 && count == 1 && is_finished);
+    yes(&rt, kept == 1);
+    yes(&rt, count == 1);
+    yes(&rt, is_finished);
     are(&rt, alloc, bytes.as_slice(), "cc0300");
     is(&rt, alloc, &ok(&rt, cut_back(alloc)), "00");
 }
 
-fn array(holder: &mut Holder) -> Result<(), Fault> {
+/// Types by each encoder, over a holder.
+fn encode(holder: &mut Holder) -> Result<(), Fault> {
     holder.open(&[])?;
-    CoreTypeEncoder::new(holder, false).array(&StorageType::I16, false)
+    CoreTypeEncoder::new(holder, false).array(&StorageType::I16, false)?;
+    holder.open(&[])?;
+    let array = ComponentCoreTypeEncoder::new(holder).core();
+    array.array(&StorageType::I16, false)?;
+    holder.open(&[])?;
+    ComponentTypeEncoder::new(holder).resource(ValType::I32, None)?;
+    holder.open(&[])?;
+    ComponentDefinedTypeEncoder::new(holder).own(0)
+}
+
+fn function(holder: &mut Holder) -> Result<(), Fault> {
+    holder.open(&[])?;
+    let mut encoder = ComponentFuncTypeEncoder::new(holder);
+    encoder.params([].into_iter())?;
+    encoder.result(None)
 }
 
 #[test]
-fn under_an_encoder(rt: HostRuntime) {
+fn under_encoders(rt: HostRuntime) {
     let alloc = rt.alloc();
     let mut holder = Holder::new(alloc);
-    ok(&rt, array(&mut holder));
-    is(&rt, alloc, &holder, "015e7700");
+    ok(&rt, encode(&mut holder));
+    ok(&rt, function(&mut holder));
+    is(&rt, alloc, &holder, "055e77005e77003f7f00690040000100");
 }

@@ -1,7 +1,9 @@
 //! Kinds, references, types of values, aliases, and names of imports and exports.
 
-use crate::checks::{again, is, ok, owned, yes};
+use crate::checks::{again, is, made, ok, owned, yes};
+use std::alloc::Global;
 use std::borrow::CowStr;
+use std::process::Abort;
 use wenc_base::ExportKind;
 use wenc_parts::{
     Alias, AliasTree, ComponentExportKind, ComponentExternName, ComponentOuterAliasKind,
@@ -43,33 +45,38 @@ fn parts(rt: HostRuntime) {
 
 const ALL: &str = "02016e03000169010131020178";
 
+fn tree(rt: &impl Abort, alloc: Global) -> NameTree {
+    let options = NameOptions {
+        implements: Some(owned(rt, alloc, "i")),
+        version_suffix: Some(owned(rt, alloc, "1")),
+        external_id: Some(owned(rt, alloc, "x")),
+    };
+    NameTree {
+        name: owned(rt, alloc, "n"),
+        options: Some(ok(rt, Box::new(alloc, options))),
+    }
+}
+
+fn copy<'a>(rt: &impl Abort, name: &ComponentExternName<'a>) -> ComponentExternName<'a> {
+    ok(rt, name.clone())
+}
+
+const LENT: ComponentExternName<'static> = ComponentExternName {
+    name: CowStr::Borrowed("a"),
+    implements: Some(CowStr::Borrowed("i")),
+    version_suffix: None,
+    external_id: Some(CowStr::Borrowed("")),
+};
+
 #[test]
 fn names(rt: HostRuntime) {
     let alloc = rt.alloc();
+    made(&rt, alloc, ComponentExternName::from("f"), "000166");
     let text = owned(&rt, alloc, "f");
-    is(&rt, alloc, &ComponentExternName::from("f"), "000166");
-    is(&rt, alloc, &ComponentExternName::from(&text), "000166");
-    let options = NameOptions {
-        implements: Some(owned(&rt, alloc, "i")),
-        version_suffix: Some(owned(&rt, alloc, "1")),
-        external_id: Some(owned(&rt, alloc, "x")),
-    };
-    let tree = NameTree {
-        name: owned(&rt, alloc, "n"),
-        options: Some(ok(&rt, Box::new(alloc, options))),
-    };
-    let name = tree.as_name();
-    is(&rt, alloc, &name, ALL);
-    let copy = ok(&rt, name.clone());
-    is(&rt, alloc, &copy, ALL);
+    made(&rt, alloc, ComponentExternName::from(&text), "000166");
+    made(&rt, alloc, ComponentExternName::from(text), "000166");
+    made(&rt, alloc, copy(&rt, &LENT), "020161020001690200");
+    made(&rt, alloc, tree(&rt, alloc).as_name(), ALL);
     let plain = NameTree::from(owned(&rt, alloc, "f"));
-    is(&rt, alloc, &plain.as_name(), "000166");
-    let lent: ComponentExternName = ComponentExternName {
-        name: CowStr::Borrowed("a"),
-        implements: Some(CowStr::Borrowed("i")),
-        version_suffix: None,
-        external_id: Some(CowStr::Borrowed("")),
-    };
-    is(&rt, alloc, &lent, "020161020001690200");
-    is(&rt, alloc, &ComponentExternName::from(text), "000166");
+    made(&rt, alloc, plain.as_name(), "000166");
 }

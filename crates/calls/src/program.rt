@@ -1,7 +1,7 @@
 //! The program: whole runs, and the calls that they are made of.
 
 use crate::checks::{are, bytes_of, ok, owned, yes};
-use std::alloc::{AllocError, Global};
+use std::alloc::AllocError;
 use wasm_encoder::{ComponentExportKind, ComponentTypeRef, Fault, ListFault, list};
 use wenc::builtin::builtin;
 use wenc::digits::encode;
@@ -36,12 +36,14 @@ fn runs(rt: HostRuntime) {
     let mut err = Vec::new(alloc);
     let mut input = SCRIPT;
     yes(&rt, run(alloc, &[], &mut input, &mut out, &mut err) == 2);
-    yes(&rt, out.as_slice() == PRINTED && err.is_empty());
+    yes(&rt, out.as_slice() == PRINTED);
+    yes(&rt, err.is_empty());
     let words = [owned(&rt, alloc, "list")];
     let mut out = Vec::new(alloc);
     let mut input = COMPONENT;
     let status = run_with_allocators(alloc, alloc, &words, &mut input, &mut out, &mut err);
-    yes(&rt, status == 0 && out.as_slice() == LISTED);
+    yes(&rt, status == 0);
+    yes(&rt, out.as_slice() == LISTED);
     let mut input = b"0061736d0d000100060501".as_slice();
     yes(&rt, run_list(alloc, &mut input, &mut out, &mut err) == 3);
     yes(&rt, err.as_slice() == b"BadSection at 8\n".as_slice());
@@ -53,9 +55,10 @@ fn texts(rt: HostRuntime) {
     let mut input = SCRIPT;
     let text = ok(&rt, read_all(alloc, &mut input, 2));
     let printout = ok(&rt, translate(alloc, alloc, text));
+    yes(&rt, printout.status == 2);
     yes(
         &rt,
-        printout.status == 2 && printout.lines.as_slice() == b"0\nrefused 2\n".as_slice(),
+        printout.lines.as_slice() == b"0\nrefused 2\n".as_slice(),
     );
     are(
         &rt,
@@ -96,26 +99,19 @@ fn writes(rt: HostRuntime) {
     yes(&rt, text == *b"2af0");
 }
 
-/// What is said by a line and its words.
-fn said(alloc: Global) -> Result<bool, AllocError> {
-    let hex = bytes(alloc, "2a")?;
-    let is_line = command(alloc, b"import f func 0")?.is_some();
-    Ok(is_line && hex.as_deref() == Some(&[0x2a]))
-}
-
 #[test]
 fn words(rt: HostRuntime) {
     let alloc = rt.alloc();
-    yes(&rt, ok(&rt, said(alloc)));
+    yes(&rt, ok(&rt, command(alloc, b"import f func 0")).is_some());
+    yes(&rt, ok(&rt, bytes(alloc, "2a")).as_deref() == Some(&[0x2a]));
     yes(&rt, ok(&rt, parse(alloc, alloc, SCRIPT)).len() == 2);
     let mut words = Words::of("stream.cancel-read 9 1");
     yes(&rt, words.three() == Some(("stream.cancel-read", "9", "1")));
-    yes(
-        &rt,
-        !words.has_empty() && words.next() == Some("stream.cancel-read"),
-    );
+    yes(&rt, !words.has_empty());
+    yes(&rt, words.next() == Some("stream.cancel-read"));
     yes(&rt, builtin("stream.cancel-read", words).is_some());
-    yes(&rt, number("9") == Some(9) && flag("1") == Some(true));
+    yes(&rt, number("9") == Some(9));
+    yes(&rt, flag("1") == Some(true));
     yes(&rt, kind("func") == Some(ComponentExportKind::Func));
     yes(
         &rt,

@@ -1,12 +1,10 @@
 //! Module, component and instance types, each encoder of a type, and what is counted.
 
-use crate::checks::{again, are, is, ok, yes};
+use crate::checks::{again, is, ok, yes};
 use crate::core_types::{function, open};
-use std::alloc::Global;
 use wenc_base::{
     EntityType, Fault, FieldType, FuncType, GroupTree, StorageType, SubType, TagType, ValType,
 };
-use wenc_decode::{Decode, type_of};
 use wenc_parts::{
     Alias, ComponentExportKind, ComponentOuterAliasKind, ComponentTypeRef, ComponentValType,
     PrimitiveValType, TypeBounds,
@@ -31,21 +29,21 @@ fn declare_core_types(
         element_type: StorageType::I8,
         mutable: true,
     };
-    module
+    _ = module
         .ty()?
-        .function([ValType::I32].into_iter(), [].into_iter())?;
-    module.ty()?.func_type(ty)?;
-    module.ty()?.array(&StorageType::I16, false)?;
-    module.ty()?.struct_([field].into_iter())?;
-    module.ty()?.subtype(sub)?;
-    module.ty()?.rec([sub].into_iter())?;
+        .function([ValType::I32].into_iter(), [].into_iter());
+    _ = module.ty()?.func_type(ty);
+    _ = module.ty()?.array(&StorageType::I16, false);
+    _ = module.ty()?.struct_([field].into_iter());
+    _ = module.ty()?.subtype(sub);
+    _ = module.ty()?.rec([sub].into_iter());
     module.ty()?.group(group)
 }
 
-fn declare_entities(module: &mut ModuleType) -> Result<(), Fault> {
-    module.import("m", "n", EntityType::Function(0))?;
-    module.alias_outer_core_type(1, 0)?;
-    module.export("t", TAG)
+fn declare_entities(module: &mut ModuleType) {
+    _ = module.import("m", "n", EntityType::Function(0));
+    _ = module.alias_outer_core_type(1, 0);
+    _ = module.export("t", TAG);
 }
 
 const MODULE: &str =
@@ -59,8 +57,8 @@ fn add_core_types(
     tree: &CoreTypeTree,
     sub: &SubType,
 ) -> Result<(), Fault> {
-    section.ty()?.module(module)?;
-    section.ty()?.tree(tree)?;
+    _ = section.ty()?.module(module);
+    _ = section.ty()?.tree(tree);
     section.ty()?.core().subtype(sub)
 }
 
@@ -72,8 +70,9 @@ fn core_types(rt: HostRuntime) {
     let sub = open(&rt, alloc);
     let group = GroupTree::Sub(open(&rt, alloc));
     ok(&rt, declare_core_types(&mut module, &ty, &sub, &group));
-    ok(&rt, declare_entities(&mut module));
-    yes(&rt, module.is_finished() && !module.discard_unfinished());
+    declare_entities(&mut module);
+    yes(&rt, module.is_finished());
+    yes(&rt, !module.discard_unfinished());
     yes(&rt, module.type_count() == 8);
     let copy = ok(&rt, module.clone());
     is(&rt, alloc, &copy, MODULE);
@@ -81,7 +80,8 @@ fn core_types(rt: HostRuntime) {
     let tree = CoreTypeTree::Module(Vec::new(alloc));
     let mut section = CoreTypeSection::new(alloc);
     ok(&rt, add_core_types(&mut section, &module, &tree, &sub));
-    yes(&rt, section.is_finished() && section.len() == 3);
+    yes(&rt, section.is_finished());
+    yes(&rt, section.len() == 3);
     is(&rt, alloc, &section, "0d035000500000500060017f017c");
     again::<CoreTypeTree>(&rt, alloc, "50010210010100");
     again::<ModuleDecl>(&rt, alloc, "0210010100");
@@ -91,39 +91,37 @@ const STRING: ComponentValType = ComponentValType::Primitive(PrimitiveValType::S
 
 const INDEXED: ComponentValType = ComponentValType::Type(64);
 
-/// Each type of values, by the encoder of an instance type.
-fn declare_values(ty: &mut InstanceType, tree: &DefinedTree) -> Result<(), Fault> {
-    ty.ty()?.defined_type().primitive(PrimitiveValType::Char)?;
-    ty.ty()?.defined_type().record([("a", STRING)].into_iter())?;
+/// Each type of values.
+fn add_values(section: &mut ComponentTypeSection, tree: &DefinedTree) -> Result<(), Fault> {
+    _ = section.defined_type()?.primitive(PrimitiveValType::Char);
+    _ = section.defined_type()?.record([("a", STRING)].into_iter());
     let cases = [("a", None), ("b", Some(STRING))];
-    ty.ty()?.defined_type().variant(cases.into_iter())?;
-    ty.ty()?.defined_type().list(INDEXED)?;
-    ty.ty()?.defined_type().map(STRING, INDEXED)?;
-    ty.ty()?.defined_type().fixed_length_list(STRING, 128)?;
-    ty.ty()?
-        .defined_type()
-        .tuple([STRING, INDEXED].into_iter())?;
-    ty.ty()?.defined_type().flags(["a", "bc"].into_iter())?;
-    ty.ty()?.defined_type().enum_type(["a", "bc"].into_iter())?;
-    ty.ty()?.defined_type().option(STRING)?;
-    ty.ty()?.defined_type().result(None, Some(STRING))?;
-    ty.ty()?.defined_type().own(64)?;
-    ty.ty()?.defined_type().borrow(128)?;
-    ty.ty()?.defined_type().future(Some(STRING))?;
-    ty.ty()?.defined_type().stream(Some(INDEXED))?;
-    ty.ty()?.defined_type().tree(tree)
+    _ = section.defined_type()?.variant(cases.into_iter());
+    _ = section.defined_type()?.list(INDEXED);
+    _ = section.defined_type()?.map(STRING, INDEXED);
+    _ = section.defined_type()?.fixed_length_list(STRING, 128);
+    _ = section.defined_type()?.tuple([STRING, INDEXED].into_iter());
+    _ = section.defined_type()?.flags(["a", "bc"].into_iter());
+    _ = section.defined_type()?.enum_type(["a", "bc"].into_iter());
+    _ = section.defined_type()?.option(STRING);
+    _ = section.defined_type()?.result(None, Some(STRING));
+    _ = section.defined_type()?.own(64);
+    _ = section.defined_type()?.borrow(128);
+    _ = section.defined_type()?.future(Some(STRING));
+    _ = section.defined_type()?.stream(Some(INDEXED));
+    section.defined_type()?.tree(tree)
 }
 
 const VALUES: &str =
-    "421001740172010161730171020161000001620173000170c000016373c0000167738001016f0273c000016e0201\
-    61026263016d020161026263016b73016a0001730169400168800101650173016601c000016901";
+    "4410747201016173710201610000016201730070c0006373c000677380016f0273c0006e0201610262636d020161\
+    0262636b736a00017369406880016501736601c0006901";
 
 #[test]
 fn types_of_values(rt: HostRuntime) {
     let alloc = rt.alloc();
-    let mut ty = InstanceType::new(alloc);
-    ok(&rt, declare_values(&mut ty, &DefinedTree::Own(1)));
-    is(&rt, alloc, &ty, VALUES);
+    let mut section = ComponentTypeSection::new(alloc);
+    ok(&rt, add_values(&mut section, &DefinedTree::Own(1)));
+    is(&rt, alloc, &section, VALUES);
     again::<DefinedTree>(&rt, alloc, "7201016173");
     again::<CaseTree>(&rt, alloc, "0162017300");
 }
@@ -160,8 +158,8 @@ const STAGES: [FuncStage; 4] = [
 ];
 
 fn declare_in_instance(ty: &mut InstanceType) -> Result<(), Fault> {
-    ty.core_type()?.core().array(&StorageType::I8, true)?;
-    ty.alias(OUTER)?;
+    _ = ty.core_type()?.core().array(&StorageType::I8, true);
+    _ = ty.alias(OUTER);
     ty.export("t".into(), ComponentTypeRef::Type(TypeBounds::Eq(0)))
 }
 
@@ -171,12 +169,12 @@ fn declare_in_component(
     instance: &InstanceType,
     tree: &TypeTree,
 ) -> Result<(), Fault> {
-    ty.ty()?.component(empty)?;
-    ty.ty()?.instance(instance)?;
-    ty.ty()?.tree(tree)?;
-    ty.ty()?.resource(ValType::I32, Some(3))?;
-    ty.alias(FUNCTION)?;
-    ty.import("i".into(), ComponentTypeRef::Instance(1))?;
+    _ = ty.ty()?.component(empty);
+    _ = ty.ty()?.instance(instance);
+    _ = ty.ty()?.tree(tree);
+    _ = ty.ty()?.resource(ValType::I32, Some(3));
+    _ = ty.alias(FUNCTION);
+    _ = ty.import("i".into(), ComponentTypeRef::Instance(1));
     ty.export("e".into(), ComponentTypeRef::Func(0))
 }
 
@@ -191,14 +189,13 @@ fn add_types(
     component: &ComponentType,
     instance: &InstanceType,
 ) -> Result<(), Fault> {
-    section.ty()?.defined_type().own(0)?;
+    _ = section.ty()?.defined_type().own(0);
+    _ = section.component(component);
+    _ = section.instance(instance);
+    _ = section.resource(ValType::I32, None);
     let mut function = section.function()?;
     function.params([].into_iter())?;
-    function.result(Some(STRING))?;
-    section.defined_type()?.option(STRING)?;
-    section.component(component)?;
-    section.instance(instance)?;
-    section.resource(ValType::I32, None)
+    function.result(Some(STRING))
 }
 
 const INSTANCE: &str = "42040143010161730100005e7801020302000104000174030000";
@@ -214,7 +211,8 @@ fn types(rt: HostRuntime) {
     yes(&rt, instance.is_empty());
     yes(&rt, ok(&rt, declare_function(&mut instance)) == STAGES);
     ok(&rt, declare_in_instance(&mut instance));
-    yes(&rt, instance.len() == 4 && instance.type_count() == 3);
+    yes(&rt, instance.len() == 4);
+    yes(&rt, instance.type_count() == 3);
     yes(&rt, instance.core_type_count() == 1);
     is(&rt, alloc, &instance, INSTANCE);
     let empty = ComponentType::new(alloc);
@@ -230,8 +228,9 @@ fn types(rt: HostRuntime) {
         &rt,
         add_types(&mut section, &empty, &InstanceType::new(alloc)),
     );
-    yes(&rt, section.is_finished() && !section.discard_unfinished());
-    is(&rt, alloc, &section, "10066900400000736b73410042003f7f00");
+    yes(&rt, section.is_finished());
+    yes(&rt, !section.discard_unfinished());
+    is(&rt, alloc, &section, "0e056900410042003f7f0040000073");
 }
 
 /// One core type is counted where there is one declaration, and is taken back.
@@ -245,6 +244,7 @@ fn counted() -> (Counts, Counts) {
 #[test]
 fn counts(rt: HostRuntime) {
     let (one, none) = counted();
-    yes(&rt, one.types == 1 && none.types == 0);
+    yes(&rt, one.types == 1);
+    yes(&rt, none.types == 0);
     yes(&rt, sort_of_alias(&FUNCTION).is_none());
 }
