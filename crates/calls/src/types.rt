@@ -63,7 +63,7 @@ fn add_core_types(
 }
 
 #[test]
-fn core_types(rt: HostRuntime) {
+fn module(rt: HostRuntime) {
     let alloc = rt.alloc();
     let mut module = ModuleType::new(alloc);
     let ty = ok(&rt, function(alloc));
@@ -76,6 +76,12 @@ fn core_types(rt: HostRuntime) {
     yes(&rt, module.type_count() == 8);
     let copy = ok(&rt, module.clone());
     is(&rt, alloc, &copy, MODULE);
+}
+
+#[test]
+fn core_section(rt: HostRuntime) {
+    let alloc = rt.alloc();
+    let sub = open(&rt, alloc);
     let module = ModuleType::new(alloc);
     let tree = CoreTypeTree::Module(Vec::new(alloc));
     let mut section = CoreTypeSection::new(alloc);
@@ -91,36 +97,45 @@ const STRING: ComponentValType = ComponentValType::Primitive(PrimitiveValType::S
 
 const INDEXED: ComponentValType = ComponentValType::Type(64);
 
-/// Each type of values.
-fn add_values(section: &mut ComponentTypeSection, tree: &DefinedTree) -> Result<(), Fault> {
-    _ = section.defined_type()?.primitive(PrimitiveValType::Char);
+/// Types of values that are of lists.
+fn add_listed(section: &mut ComponentTypeSection) -> Result<(), Fault> {
     _ = section.defined_type()?.record([("a", STRING)].into_iter());
     let cases = [("a", None), ("b", Some(STRING))];
     _ = section.defined_type()?.variant(cases.into_iter());
-    _ = section.defined_type()?.list(INDEXED);
-    _ = section.defined_type()?.map(STRING, INDEXED);
-    _ = section.defined_type()?.fixed_length_list(STRING, 128);
     _ = section.defined_type()?.tuple([STRING, INDEXED].into_iter());
     _ = section.defined_type()?.flags(["a", "bc"].into_iter());
-    _ = section.defined_type()?.enum_type(["a", "bc"].into_iter());
-    _ = section.defined_type()?.option(STRING);
+    section.defined_type()?.enum_type(["a", "bc"].into_iter())
+}
+
+fn add_several(section: &mut ComponentTypeSection) -> Result<(), Fault> {
+    _ = section.defined_type()?.map(STRING, INDEXED);
+    _ = section.defined_type()?.fixed_length_list(STRING, 128);
     _ = section.defined_type()?.result(None, Some(STRING));
+    _ = section.defined_type()?.future(Some(STRING));
+    section.defined_type()?.stream(Some(INDEXED))
+}
+
+/// The others.
+fn add_short(section: &mut ComponentTypeSection, tree: &DefinedTree) -> Result<(), Fault> {
+    _ = section.defined_type()?.primitive(PrimitiveValType::Char);
+    _ = section.defined_type()?.list(INDEXED);
+    _ = section.defined_type()?.option(STRING);
     _ = section.defined_type()?.own(64);
     _ = section.defined_type()?.borrow(128);
-    _ = section.defined_type()?.future(Some(STRING));
-    _ = section.defined_type()?.stream(Some(INDEXED));
     section.defined_type()?.tree(tree)
 }
 
 const VALUES: &str =
-    "4410747201016173710201610000016201730070c0006373c000677380016f0273c0006e0201610262636d020161\
-    0262636b736a00017369406880016501736601c0006901";
+    "4410720101617371020161000001620173006f0273c0006e0201610262636d0201610262636373c000677380016a\
+    0001736501736601c0007470c0006b7369406880016901";
 
 #[test]
 fn types_of_values(rt: HostRuntime) {
     let alloc = rt.alloc();
     let mut section = ComponentTypeSection::new(alloc);
-    ok(&rt, add_values(&mut section, &DefinedTree::Own(1)));
+    ok(&rt, add_listed(&mut section));
+    ok(&rt, add_several(&mut section));
+    ok(&rt, add_short(&mut section, &DefinedTree::Own(1)));
     is(&rt, alloc, &section, VALUES);
     again::<DefinedTree>(&rt, alloc, "7201016173");
     again::<CaseTree>(&rt, alloc, "0162017300");
@@ -138,24 +153,14 @@ const OUTER: Alias<'static> = Alias::Outer {
     index: 1,
 };
 
-/// Writes a function, and answers its stages.
-fn declare_function(ty: &mut InstanceType) -> Result<[FuncStage; 4], Fault> {
+/// Writes a function, and answers its last stage.
+fn declare_function(ty: &mut InstanceType) -> Result<FuncStage, Fault> {
     let mut function = ty.ty()?.function();
-    let begun = function.stage();
     function.async_(true)?;
-    let tagged = function.stage();
     function.params([("a", STRING)].into_iter())?;
-    let listed = function.stage();
-    function.result(None)?;
-    Ok([begun, tagged, listed, function.stage()])
+    _ = function.result(None);
+    Ok(function.stage())
 }
-
-const STAGES: [FuncStage; 4] = [
-    FuncStage::Start,
-    FuncStage::Tagged,
-    FuncStage::Params,
-    FuncStage::Done,
-];
 
 fn declare_in_instance(ty: &mut InstanceType) -> Result<(), Fault> {
     _ = ty.core_type()?.core().array(&StorageType::I8, true);
@@ -209,7 +214,8 @@ fn types(rt: HostRuntime) {
     let alloc = rt.alloc();
     let mut instance = InstanceType::new(alloc);
     yes(&rt, instance.is_empty());
-    yes(&rt, ok(&rt, declare_function(&mut instance)) == STAGES);
+    let stage = ok(&rt, declare_function(&mut instance));
+    yes(&rt, stage == FuncStage::Done);
     ok(&rt, declare_in_instance(&mut instance));
     yes(&rt, instance.len() == 4);
     yes(&rt, instance.type_count() == 3);
@@ -223,11 +229,15 @@ fn types(rt: HostRuntime) {
     );
     yes(&rt, component.instance_count() == 1);
     is(&rt, alloc, &component, COMPONENT);
+}
+
+#[test]
+fn section(rt: HostRuntime) {
+    let alloc = rt.alloc();
+    let component = ComponentType::new(alloc);
+    let instance = InstanceType::new(alloc);
     let mut section = ComponentTypeSection::new(alloc);
-    ok(
-        &rt,
-        add_types(&mut section, &empty, &InstanceType::new(alloc)),
-    );
+    ok(&rt, add_types(&mut section, &component, &instance));
     yes(&rt, section.is_finished());
     yes(&rt, !section.discard_unfinished());
     is(&rt, alloc, &section, "0e056900410042003f7f0040000073");
