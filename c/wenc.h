@@ -362,7 +362,8 @@ typedef struct {
  * else WENC_BAD_ARGUMENT. Modules and nested components are not read.
  * WENC_NOT_A_COMPONENT, WENC_BAD_SECTION, WENC_BAD_ITEM and WENC_TOO_DEEP say why the bytes are
  * not listed: then `*number` is the place of the first section that is not read, or 0 where not
- * even the header is. Also WENC_NO_MEMORY, WENC_TOO_LARGE. */
+ * even the header is. Also WENC_NO_MEMORY, and WENC_TOO_LARGE where a count has more than 64
+ * bits: there `*number` stays as it is. */
 uint32_t wenc_list(const uint8_t *bytes, size_t len, wenc_listed *sections, size_t room,
                    uint64_t *counts, size_t counts_len, size_t *number);
 

@@ -60,7 +60,7 @@ fn command(random: &mut Random, bytes: &mut Vec<u8>, depth: usize) {
             number(random.index(), bytes);
         }
         3 | 4 => {
-            // A start without arguments. Its results take indices of values: two with the most are too many.
+            // A start without arguments. Two with the most results are too many values.
             bytes.push(9);
             number(random.index(), bytes);
             bytes.push(0);

@@ -41,7 +41,7 @@ struct Kind<'a> {
     program: &'a Program,
     /// What `count` counts.
     counted: &'static [&'static str],
-    input: &'a (dyn Fn(usize) -> Input + Sync),
+    input: Box<dyn Fn(usize) -> Input + Sync + 'a>,
     /// How many were accepted, and how many refused, by what was written; none where a program never ends so.
     count: fn(&Output) -> Option<Vec<usize>>,
 }
@@ -74,10 +74,9 @@ impl Kind<'_> {
         if kit.status != rustc.status {
             return Err(format!("the kit's {}, rustc's {}", kit.status, rustc.status));
         }
-        for (stream, of_kit, of_rustc) in [
-            ("output", &kit.stdout, &rustc.stdout),
-            ("error", &kit.stderr, &rustc.stderr),
-        ] {
+        for (stream, of_kit, of_rustc) in
+            [("output", &kit.stdout, &rustc.stdout), ("error", &kit.stderr, &rustc.stderr)]
+        {
             if of_kit != of_rustc {
                 let same = of_kit.iter().zip(of_rustc).take_while(|(a, b)| a == b).count();
                 return Err(format!("standard {stream}, from byte {same} on"));
@@ -85,7 +84,7 @@ impl Kind<'_> {
         }
         match (self.count)(&kit) {
             Some(counted) => Ok((kit, counted)),
-            None => Err(format!("none: both end with {}, which isn't known", kit.status)),
+            None => Err(format!("in nothing, but both end with {}", kit.status)),
         }
     }
 
@@ -94,7 +93,9 @@ impl Kind<'_> {
         let mut answers = Vec::new();
         let mut sums = vec![0; self.counted.len()];
         let mut differences = 0;
-        for (at, answer) in side_by_side(number, |at| self.compare(&(self.input)(at))).into_iter().enumerate() {
+        for (at, answer) in
+            side_by_side(number, |at| self.compare(&(self.input)(at))).into_iter().enumerate()
+        {
             match answer {
                 Ok((output, counted)) => {
                     answers.push(output);
@@ -110,7 +111,11 @@ impl Kind<'_> {
         }
         let counts: Vec<String> =
             sums.iter().zip(self.counted).map(|(sum, what)| format!("{sum} {what}")).collect();
-        println!("{}: {number} inputs, {differences} differences; {}", self.name, counts.join(", "));
+        println!(
+            "{}: {number} inputs, {differences} differences; {}",
+            self.name,
+            counts.join(", ")
+        );
         let is_idle = sums.contains(&0);
         if is_idle {
             println!("{}: where one of these is 0 little is compared", self.name);
@@ -172,61 +177,81 @@ fn by_status(output: &Output, known: [i32; 3]) -> Option<Vec<usize>> {
     known.contains(&status).then(|| known.map(|one| usize::from(one == status)).into())
 }
 
-/// Compares all, and answers how many kinds passed and failed.
-fn compare_all(driven: &Program, wenc: &Program, seed: u64, number: usize) -> (usize, usize) {
-    let of_driven = Kind {
+/// Choice bytes for `driven`.
+fn of_driven(program: &Program, seed: u64) -> Kind<'_> {
+    Kind {
         name: "driven",
-        program: driven,
+        program,
         counted: &["commands accepted", "commands refused"],
-        input: &|at| {
-            Input { words: &[], bytes: commands::choices(&mut Random::new(seed, 1, at as u64)) }
-        },
+        input: Box::new(move |at| Input {
+            words: &[],
+            bytes: commands::choices(&mut Random::new(seed, 1, at as u64)),
+        }),
         count: commands_of,
-    };
-    let of_scripts = Kind {
-        name: "scripts",
-        program: wenc,
-        counted: &["accepted", "with a bad line", "with a refused command"],
-        input: &|at| {
-            Input { words: &[], bytes: scripts::script(&mut Random::new(seed, 2, at as u64)) }
-        },
-        count: |output| by_status(output, [0, 1, 2]),
-    };
-    let made = [of_driven.run(number), of_scripts.run(number)];
-    let passed = made.iter().flatten().count();
-    let components: Vec<Output> = made.into_iter().flatten().flatten().collect();
-    if components.is_empty() {
-        return (passed, 3 - passed);
     }
-    let of_listings = Kind {
+}
+
+/// Scripts for `wenc`.
+fn of_scripts(program: &Program, seed: u64) -> Kind<'_> {
+    Kind {
+        name: "scripts",
+        program,
+        counted: &["accepted", "with a bad line", "with a refused command"],
+        input: Box::new(move |at| Input {
+            words: &[],
+            bytes: scripts::script(&mut Random::new(seed, 2, at as u64)),
+        }),
+        count: |output| by_status(output, [0, 1, 2]),
+    }
+}
+
+/// Components for `wenc list`, made of what the others wrote.
+fn of_listings<'a>(program: &'a Program, seed: u64, written: &'a [Output]) -> Kind<'a> {
+    Kind {
         name: "listings",
-        program: wenc,
+        program,
         counted: &["listed", "refused as no component", "refused as no digits or for other words"],
-        input: &|at| {
+        input: Box::new(move |at| {
             let mut random = Random::new(seed, 3, at as u64);
-            let digits = component(&components[random.below(components.len())]);
+            let digits = component(&written[random.below(written.len())]);
             let words = listings::words(&mut random);
             Input { words, bytes: listings::listing(&mut random, digits) }
-        },
+        }),
         count: |output| by_status(output, [0, 3, 1]),
-    };
-    let passed = passed + usize::from(of_listings.run(number).is_some());
+    }
+}
+
+/// Compares all, and answers how many kinds passed and failed.
+fn compare_all(driven: &Program, wenc: &Program, seed: u64, number: usize) -> (usize, usize) {
+    let answers = [of_driven(driven, seed).run(number), of_scripts(wenc, seed).run(number)];
+    let mut passed = answers.iter().flatten().count();
+    let written: Vec<Output> = answers.into_iter().flatten().flatten().collect();
+    if !written.is_empty() {
+        passed += usize::from(of_listings(wenc, seed, &written).run(number).is_some());
+    }
     (passed, 3 - passed)
 }
 
 fn main() -> ExitCode {
     let words: Vec<String> = env::args().skip(1).collect();
-    let number_at = |at: usize, default: u64| words.get(at).map_or(Some(default), |it| it.parse().ok());
-    let (Some(driven), Some(wenc), Some(seed), Some(number), Ok(own)) =
-        (words.first(), words.get(1), number_at(2, 1), number_at(3, 1_000), env::current_exe())
-    else {
+    let number_at =
+        |at: usize, default: u64| words.get(at).map_or(Some(default), |it| it.parse().ok());
+    let own = env::current_exe().ok();
+    // Examples stand in a folder below that of the programs.
+    let examples = own.as_deref().and_then(Path::parent);
+    let (Some(driven), Some(wenc), Some(seed), Some(number), Some(examples), Some(programs)) = (
+        words.first(),
+        words.get(1),
+        number_at(2, 1),
+        number_at(3, 1_000),
+        examples,
+        examples.and_then(Path::parent),
+    ) else {
         eprintln!("both DRIVEN WENC [SEED [NUMBER]]");
         return ExitCode::FAILURE;
     };
-    // Programs stand above examples.
-    let wenc_by_rustc = own.with_file_name("..").join("wenc");
-    let driven = Program { by_kit: driven.into(), by_rustc: own.with_file_name("driven") };
-    let wenc = Program { by_kit: wenc.into(), by_rustc: wenc_by_rustc };
+    let driven = Program { by_kit: driven.into(), by_rustc: examples.join("driven") };
+    let wenc = Program { by_kit: wenc.into(), by_rustc: programs.join("wenc") };
     println!("seed {seed}");
     let (passed, failed) = compare_all(&driven, &wenc, seed, number as usize);
     println!("{passed} passed, {failed} failed");

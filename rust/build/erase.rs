@@ -4,8 +4,8 @@
 //! few names that mean something else there. What the eraser
 //!
 //! - *leaves out*: clauses (`requires`, `ensures`), `ghost` items and fields with their comments, the examples of
-//!   documentation (they are Rattle), the attributes `tactic`, `cycle` and `error`, `Drop` among derives and bounds, the
-//!   runtime that a test or an `assert!` is handed, and `use thiserror::Error`;
+//!   documentation (they are Rattle), the attributes `tactic`, `cycle` and `error`, `Drop` among derives and bounds, and
+//!   `use thiserror::Error`;
 //! - *renames*: the roots of paths, so that `crate::` and `wenc_base::` are modules of `crate::proved`, and `std::` is
 //!   `crate::proved::rt_std`, which has what the sources use of Rattle's library; `Clone` and `clone`, which may be refused
 //!   there, to `TryClone` and `try_clone`; the methods of [`ALLOCATING`], to those with `_using` behind their names;
@@ -23,7 +23,7 @@ mod known;
 #[path = "erase/lexer.rs"]
 mod lexer;
 
-use known::{ALLOCATING, HANDED, KEYWORDS, MACROS, NARROWED};
+use known::{ALLOCATING, HANDED, KEYWORDS, NARROWED};
 use lexer::{Kind, Token, tokens};
 use std::borrow::Cow;
 
@@ -283,8 +283,6 @@ impl<'a> Eraser<'a> {
         let is_own = (0..i).any(|j| self.stands(j, "macro_rules !") && self.at(j + 2) == name);
         if self.at(i + 2) == "in" && HANDED.contains(&name) {
             self.put(i - 1, format!("crate::proved::rt_std::{name}"));
-        } else if self.at(i + 3) == ";" && self.at(i + 2) == "rt" && MACROS.contains(&name) {
-            self.leave_out(i + 2..i + 4);
         } else if !is_own && !KEYWORDS.contains(&name) && !known::PLAIN.contains(&name) {
             return Err((self.line(i), "a macro that is not known"));
         }

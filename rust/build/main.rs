@@ -23,12 +23,11 @@ const LIBRARY: [&str; 10] = [
 /// The crates behind the programs.
 const PROGRAMS: [&str; 2] = ["wenc", "driven"];
 
-/// The crates that test the others.
-const TESTS: [&str; 6] =
-    ["facts", "sweeping", "part_tests", "section_tests", "builder_tests", "wenc_tests"];
+/// What the tests call beside those: proved callers, and the examples of the documentation.
+const TESTS: [&str; 1] = ["facts"];
 
 /// What `src/proved` has in the place of a crate.
-const BY_HAND: [&str; 2] = ["hex", "refusing"];
+const BY_HAND: [&str; 1] = ["hex"];
 
 /// What the lints would say of the sources, whose own checks are others: not all of their calls are the facade's, some names
 /// are for contracts alone, and what is left out leaves empty lines.

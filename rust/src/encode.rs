@@ -61,11 +61,14 @@ pub(crate) fn append<E>(
     Ok(())
 }
 
-/// Appends the text of a value that the proved code writes.
+/// Appends the text of a value that the proved code writes by itself, and so never panics on its way.
 #[inline]
 #[track_caller]
 pub(crate) fn append_proved<T: proved::Encode>(sink: &mut Vec<u8>, value: &T) {
-    granted(append(sink, |sink| value.encode(sink)));
+    let mut bytes = ProvedVec::from(take(sink));
+    let answer = value.encode(&mut bytes);
+    *sink = bytes.into();
+    granted(answer);
 }
 
 /// A value whose text a user's `Encode` gives, as the proved code takes it.
@@ -105,7 +108,8 @@ impl<T: Encode> Encode for [T] {
 
 impl<T: Encode> Encode for Option<T> {
     fn encode(&self, sink: &mut Vec<u8>) {
-        append_proved(sink, &self.as_ref().map(Foreign));
+        let foreign = self.as_ref().map(Foreign);
+        granted(append(sink, |sink| proved::Encode::encode(&foreign, sink)));
     }
 }
 

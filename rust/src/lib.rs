@@ -1,4 +1,66 @@
-//! Writes and lists WebAssembly components.
+//! Writes and lists WebAssembly components, by code that is proved as Rattle and compiled as Rust.
+//!
+//! The names and signatures are those of the component layer of `wasm-encoder` 0.263.0. A program that makes components by
+//! `wasm_encoder::ComponentBuilder`, or section by section, changes its `use` line:
+//!
+//! ```
+//! use wenc::{ComponentBuilder, ComponentExportKind, ExportKind, PrimitiveValType};
+//!
+//! /// A component around a core module that exports the function "run": it exports that function.
+//! fn wrapped(module: &[u8]) -> Vec<u8> {
+//!     let mut builder = ComponentBuilder::default();
+//!     let module = builder.core_module_raw(None, module);
+//!     let instance = builder.core_instantiate(None, module, []);
+//!     let core_run = builder.core_alias_export(None, instance, "run", ExportKind::Func);
+//!     let (ty, mut function) = builder.type_function(None);
+//!     function.params([("n", PrimitiveValType::U32)]).result(None);
+//!     let run = builder.lift_func(None, core_run, ty, []);
+//!     builder.export("run", ComponentExportKind::Func, run, None);
+//!     builder.finish()
+//! }
+//!
+//! // It has a type of functions that take a number, one such function, and exports that as "run".
+//! let module = b"\0asm\x01\0\0\0\x01\x05\x01\x60\x01\x7f\0\x03\x02\x01\0\x07\x07\x01\x03run\0\0\x0a\x04\x01\x02\0\x0b";
+//! assert_eq!(
+//!     wrapped(module)[8 + 2 + module.len()..],
+//!     *b"\x02\x04\x01\0\0\0\x06\x09\x01\0\0\x01\0\x03run\
+//!        \x07\x08\x01\x40\x01\x01n\x79\x01\0\x08\x06\x01\0\0\0\0\0\x0b\x09\x01\0\x03run\x01\0\0",
+//! );
+//! ```
+//!
+//! [`list`] reads a component back, as values of [`tree`], which [`tree::build`] makes again.
+//!
+//! # What is proved
+//!
+//! The sources in `crates/`, of which this crate is made: an accepted call adds exactly the item that was handed over, and
+//! answers that item's index in its space. Where none is a raw custom section, the finished bytes have one reading, the
+//! accepted items in their order. A refused call changes nothing. [`list`] answers what that reading is.
+//!
+//! That the Rust does the same rests on what leaves the contracts out (`rust/build`, checked by `rust/tests/honest.rs`), on what
+//! stands for Rattle's standard library (`rust/src/proved/rt_std`), on equal tokens meaning equal things, and on rustc. The calls
+//! under upstream's names are a layer in plain Rust, which hands values over and holds no byte of the format.
+//!
+//! # Refusals
+//!
+//! Under upstream's names a refused call panics. Each such call has a form with `try_` in front, which answers an [`Error`]:
+//!
+//! ```
+//! use wenc::{ComponentBuilder, ComponentTypeRef, Error, PrimitiveValType};
+//!
+//! let mut builder = ComponentBuilder::default();
+//! builder.start(7, vec![], u32::MAX);
+//! let byte = ComponentTypeRef::Value(PrimitiveValType::U8.into());
+//! assert_eq!(builder.try_import("v", byte), Err(Error::TooMany));
+//! assert_eq!(builder.value_count(), u32::MAX);
+//! ```
+//!
+//! An encoder that is dropped before its last call leaves what lent itself unfinished: it refuses what adds to it or takes it,
+//! until `discard_unfinished`. So does an iterator, a name or an `Into` of the caller's that panics in the midst of a call. What
+//! is finished never holds a part of an item.
+//!
+//! # Features
+//!
+//! Without the feature `std`, which brings the program `wenc`, the crate is `no_std` and needs `alloc`.
 #![no_std]
 #![forbid(unsafe_code)]
 #![deny(missing_docs)]

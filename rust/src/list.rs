@@ -22,14 +22,14 @@ pub use proved::{ListFault, ListedSection, Listing};
 /// use wenc::tree::ItemTree;
 /// use wenc::{ComponentTypeRef, ListFault, list};
 ///
-/// let bytes = b"\0asm\x0d\0\x01\0\x0a\x06\x01\x00\x01f\x01\x00";
+/// let bytes = b"\0asm\x0d\0\x01\0\x07\x05\x01\x40\0\x01\0\x0a\x06\x01\0\x01f\x01\0";
 /// let listing = list(bytes)?;
-/// assert_eq!(listing.sections.len(), 1);
-/// let section = &listing.sections[0];
-/// assert_eq!((section.id, section.place), (10, 8));
+/// assert_eq!(listing.sections.len(), 2);
+/// let section = &listing.sections[1];
+/// assert_eq!((section.id, section.place), (10, 15));
 /// let name = wenc::tree::String::from("f").into();
 /// assert_eq!(section.items[0], ItemTree::Import { name, ty: ComponentTypeRef::Func(0) });
-/// assert_eq!(listing.counts, [0, 0, 0, 0, 0, 0, 0, 0, 1, 0, 0, 0, 0]);
+/// assert_eq!(listing.counts, [0, 0, 0, 0, 0, 0, 0, 0, 1, 0, 0, 0, 1]);
 ///
 /// assert_eq!(list(&bytes[..13]), Err(ListFault::BadSection { place: 8 }));
 /// # Ok::<(), ListFault>(())

@@ -5,10 +5,9 @@
 mod for_tests;
 #[cfg(feature = "std")]
 pub mod hex;
-#[cfg(all(test, feature = "std"))]
-pub mod refusing;
 pub mod rt_std;
 #[cfg(all(test, feature = "std"))]
+#[path = "../tests/proved/mod.rs"]
 mod tests;
 
 include!(concat!(env!("OUT_DIR"), "/proved/crates.rs"));

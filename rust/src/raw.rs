@@ -12,13 +12,13 @@ use crate::proved::wasm_encoder as proved;
 /// ```
 /// use wenc::{Component, ComponentSectionId, RawSection};
 ///
-/// // an import of function 0 under the name `f`
+/// // one type, of lists of bytes
 /// let mut component = Component::new();
 /// component.section(&RawSection {
-///     id: ComponentSectionId::Import.into(),
-///     data: &[1, 0, 1, b'f', 1, 0],
+///     id: ComponentSectionId::Type.into(),
+///     data: &[1, 0x70, 0x7d],
 /// });
-/// assert_eq!(component.as_slice()[8..], [10, 6, 1, 0, 1, b'f', 1, 0]);
+/// assert_eq!(component.as_slice()[8..], [7, 3, 1, 0x70, 0x7d]);
 /// ```
 #[derive(Clone, Copy, Debug)]
 pub struct RawSection<'a> {

@@ -4,19 +4,31 @@
 //! answer where memory is refused. `From` makes either of the other without a copy.
 //!
 //! ```
-//! use wenc::tree::{Command, ItemTree, NameTree, String, build};
+//! use wenc::tree::{Command, ItemTree, NameTree, String, TypeTree, Vec, build};
 //! use wenc::{ComponentExportKind, ComponentTypeRef, list};
 //!
 //! let name = |text: &str| NameTree::from(String::from(text));
+//! let ty = TypeTree::Func { is_async: false, params: [].into(), result: None };
 //! let built = build(&[
+//!     Command::Type { debug_name: None, ty },
 //!     Command::Import { name: name("f"), ty: ComponentTypeRef::Func(0) },
 //!     Command::Export { name: name("g"), kind: ComponentExportKind::Func, index: 0, ty: None },
 //! ])?;
-//! assert_eq!(built.answers, [Ok(Some(0)), Ok(Some(1))]);
+//! assert_eq!(built.answers, [Ok(Some(0)), Ok(Some(0)), Ok(Some(1))]);
+//! assert_eq!(
+//!     built.bytes,
+//!     b"\0asm\x0d\0\x01\0\x07\x05\x01\x40\0\x01\0\
+//!       \x0a\x06\x01\0\x01f\x01\0\x0b\x07\x01\0\x01g\x01\0\0",
+//! );
 //!
 //! let listing = list(&built.bytes).expect("it is a component");
 //! let import = ItemTree::Import { name: name("f"), ty: ComponentTypeRef::Func(0) };
-//! assert_eq!(listing.sections[0].items.as_slice(), [import]);
+//! assert_eq!(listing.sections[1].items.as_slice(), [import]);
+//!
+//! // what was listed is built again
+//! let items = listing.sections.into_iter().flat_map(|section| section.items);
+//! let commands: Vec<Command> = items.map(Command::from).collect();
+//! assert_eq!(build(&commands)?, built);
 //! # Ok::<(), wenc::Error>(())
 //! ```
 
@@ -66,7 +78,8 @@ pub struct Built {
 /// ```
 pub fn build(commands: &[Command]) -> Result<Built, Error> {
     let proved::Built { answers, bytes } = proved::build(Global, commands)?;
-    // each answer stands where it stood
-    let answers = answers.into_iter().map(|answer| answer.map_err(Error::from)).collect();
-    Ok(Built { answers, bytes: bytes.into() })
+    let mut told = alloc::vec::Vec::new();
+    told.try_reserve_exact(answers.len()).map_err(|_| Error::NoMemory)?;
+    told.extend(answers.into_iter().map(|answer| answer.map_err(Error::from)));
+    Ok(Built { answers: told, bytes: bytes.into() })
 }

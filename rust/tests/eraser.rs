@@ -46,7 +46,7 @@ fn code_stays() {
     );
     stays("fn g() { if !matches!(1, 0..=9) && 1 != 2 { return !0; } }\n");
     stays("#[inline(always)]\n#[cold]\n#[inline]\n#[inline(never)]\nfn f() {}\n");
-    stays("#[repr(u8)]\nenum E { A = 1 }\n#[cfg(test)]\nmod checks;\n");
+    stays("#[repr(u8)]\nenum E { A = 1 }\n");
     becomes("", "");
 }
 
@@ -132,12 +132,8 @@ fn what_may_be_refused_has_other_names() {
         "impl<A: TryClone> S<A> { fn try_clone(&self) {} }\n",
     );
     becomes(
-        "x.collect(a)?; y.to_vec(a); z.repeat(a, 2)\n",
-        "x.collect_using(a)?; y.to_vec_using(a); z.repeat_using(a, 2)\n",
-    );
-    becomes(
-        "x.to_ascii_uppercase(a); repeat(a); collect\n",
-        "x.to_ascii_uppercase_using(a); repeat(a); collect\n",
+        "x.collect(a)?; collect(a); y.collected(a); z.collect\n",
+        "x.collect_using(a)?; collect(a); y.collected(a); z.collect_using\n",
     );
     becomes("format!(in a; \"{x}\")?\n", "crate::proved::rt_std::format!(in a; \"{x}\")?\n");
     becomes("vec![in a; 1]?\n", "crate::proved::rt_std::vec![in a; 1]?\n");
@@ -168,12 +164,7 @@ fn the_prelude_stands_in_front_of_the_first_item() {
 }
 
 #[test]
-fn tests_and_programs_have_the_runtime() {
-    becomes(
-        "#[test]\nfn t(rt: HostRuntime) {\n    assert!(rt; x == 1);\n    assert_eq!(rt; x, 1);\n    panic!(rt; \"no\");\n}\n",
-        "#[test]\nfn t( ) { let rt = crate::proved::rt_std::process::HostRuntime;\n    assert!( x == 1);\n    assert_eq!( x, 1);\n    panic!( \"no\");\n}\n",
-    );
-    stays("#[test]\nfn t() {}\n");
+fn programs_have_the_runtime() {
     becomes("fn main(rt: HostRuntime) {}\n", "pub fn main(rt: HostRuntime) {}\n");
 }
 
@@ -225,7 +216,8 @@ fn attributes_that_are_not_known() {
     refuses("#[cfg(unix)]\nfn f() {}\n", 1, why);
     refuses("#[repr(C)]\nstruct S;\n", 1, why);
     refuses("#[must_use]\nfn f() {}\n", 1, why);
-    refuses("#[test]\n#[ignore]\nfn t() {}\n", 2, "a test that is not known");
+    refuses("#[test]\nfn t() {}\n", 1, why);
+    refuses("#[cfg(test)]\nmod checks;\n", 1, why);
     refuses("#![derive(Clone)]\n", 1, why);
     refuses("enum E {\n    #[error(\"a\")]\n    A,\n}\n", 2, why);
     refuses("#[tactic(auto]\nfn f() {}\n", 1, "a bracket without an end");
@@ -266,7 +258,7 @@ fn macros_that_are_not_known() {
     refuses("print!(in a; b)\n", 1, why);
     refuses("\nformat!(\"a\")\n", 2, why);
     refuses("vec![1]\n", 1, why);
-    refuses("assert!(a)\n", 1, why);
+    refuses("assert!(rt; a)\n", 1, why);
     refuses("panic!(self.rt; \"a\")\n", 1, why);
     refuses("include!(\"a\")\n", 1, why);
     refuses("own!(a)\nmacro_rules! own { () => {} }\n", 1, why);
@@ -283,7 +275,6 @@ fn paths_that_are_not_known() {
     refuses("extern crate std;\n", 1, "a crate that is no path's root");
     refuses("mod a;\nmod hex;\n", 2, "a module with the name of a crate");
     refuses("use thiserror::Display;\n", 1, "a use of `thiserror` that is not known");
-    refuses("#[test]\nfn t(rt: Other) {}\n", 2, "a test that is handed what is not known");
     refuses("\n/// ```\nfn f() {}\n", 2, "an example without an end");
     refuses("/// ```\n// x\n/// ```\nfn f() {}\n", 2, "an example outside of documentation");
 }

@@ -6,8 +6,8 @@ mod lexer;
 #[path = "honest/reader.rs"]
 mod reader;
 
-use lexer::lex;
-use reader::{NARROWED, PRINTED, TREES, WAYS, read};
+use lexer::{Token, lex};
+use reader::{NARROWED, PRINTED, TREES, WAYS, compare, read};
 use std::collections::BTreeMap;
 use std::fs;
 use std::path::{Path, PathBuf};
@@ -54,7 +54,7 @@ fn gather(name: &str, from: &Path, to: &Path, found: &mut Vec<(String, PathBuf, 
 fn erased_sources_are_the_sources() {
     let mut counts = BTreeMap::new();
     let sources = sources();
-    assert!(sources.len() > 200, "only {} files", sources.len());
+    assert!(sources.len() > 150, "only {} files", sources.len());
     for (name, path, old, new) in sources {
         if let Err(why) = read(&name, &old, &new, &mut counts) {
             panic!("{}:{why}", path.display());
@@ -148,24 +148,25 @@ fn each_change_is_found() {
     assert!(read(&format!("{RUST}fn g() {{}}")).is_err(), "an item that came in");
 }
 
-/// In one short file in twenty, each token left out, written twice, and replaced.
+/// In one file in five, if it is short: each token left out, changed, and another put in behind it.
 #[test]
 fn each_token_counts() {
     let mut sources = sources();
-    sources.retain(|(_, _, _, new)| new.len() < 5000);
     sources.sort();
     let (mut planted, mut counts) = (0, BTreeMap::new());
-    for (name, path, old, new) in sources.into_iter().step_by(20) {
-        let chars: Vec<char> = new.chars().collect();
-        let text = |range: std::ops::Range<usize>| chars[range].iter().collect::<String>();
-        for token in lex(&new) {
-            let (before, behind) = (text(0..token.begin), text(token.end..chars.len()));
-            for other in ["", "changed", &format!("{0} {0}", token.text)] {
-                let changed = format!("{before} {other} {behind}");
-                let is_found = read(&name, &old, &changed, &mut counts).is_err();
-                assert!(is_found, "{}:{}: {other:?}", path.display(), token.line);
-                planted += 1;
-            }
+    for (name, path, old, new) in sources.into_iter().step_by(5) {
+        let (old, mut new) = (lex(&old), lex(&new));
+        for at in 0..if new.len() < 500 { new.len() } else { 0 } {
+            let place = format!("{}:{}", path.display(), new[at].line);
+            let mut is_found = |new: &[Token]| compare(&name, &old, new, &mut counts).is_err();
+            let token = new.remove(at);
+            assert!(is_found(&new), "{place}: left out");
+            new.insert(at, Token { line: token.line, text: format!("{}x", token.text) });
+            assert!(is_found(&new), "{place}: changed");
+            new.insert(at, token);
+            assert!(is_found(&new), "{place}: something put in");
+            new.remove(at + 1);
+            planted += 3;
         }
     }
     assert!(planted > 3000, "only {planted} changes");

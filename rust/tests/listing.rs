@@ -401,6 +401,33 @@ fn commands_are_built() {
     assert_eq!(built, built.clone());
 }
 
+/// A section of each kind, whose items are those of the tests above.
+const OF_ALL_KINDS: &[u8] = b"\
+    \x01\x03abc\x04\x00\x00\x03\x01n\x09\
+    \x02\x12\x02\x00\x80\x01\x01\x01a\x12\x02\x01\x02\x01b\x03\x00\x00\x00\x01\
+    \x05\x10\x02\x00\x03\x01\x01a\x05\x02\x01\x01\x00\x01b\x00\x11\x01\
+    \x06\x10\x03\x01\x00\x05\x01f\x00\x02\x01\x06\x01m\x03\x02\x01\x07\
+    \x03\x0d\x02\x60\x01\x7f\x02\x7e\x64\x05\x00\x50\x00\x5f\x00\
+    \x07\x05\x02\x70\x7d\x42\x00\
+    \x08\x05\x01\x01\x00\x06\x00\
+    \x09\x06\x01\x02\x02\x80\x01\x03\
+    \x0a\x0e\x01\x02\x01n\x02\x00\x01x\x02\x01y\x00\x11\x01\
+    \x0b\x09\x01\x00\x01e\x02\x02\x01\x02\x7d";
+
+#[test]
+fn what_was_listed_is_built_again() {
+    let bytes = component(OF_ALL_KINDS);
+    let listing = list(&bytes).unwrap();
+    let items = listing.sections.into_iter().flat_map(|section| section.items);
+    let commands: Vec<Command> = items.map(Command::from).collect();
+    assert_eq!(commands.len(), 18);
+    let raw = Command::ComponentRaw { debug_name: None, bytes: vec![].into() };
+    assert_eq!(commands[1], raw);
+    let built = build(&commands).unwrap();
+    assert!(built.answers.iter().all(Result::is_ok));
+    assert_eq!(built.bytes, bytes);
+}
+
 #[test]
 fn core_types_are_of_trees_and_of_sections() {
     let own = ValType::Ref(RefType {

@@ -112,6 +112,15 @@ fn built(rt: HostRuntime) {
     assert!(rt; built.answers.get(7) == Some(&Ok(Some(1))));
 }
 
+/// An item becomes the command that adds it.
+#[test]
+fn of_an_item(rt: HostRuntime) {
+    let alloc = rt.alloc();
+    let command = Command::from(ItemTree::Component(Vec::new(alloc)));
+    let built = ok(&rt, build(alloc, &[command]));
+    are(&rt, alloc, built.bytes.as_slice(), "0061736d0d0001000400");
+}
+
 /// A component with a section of each kind, with few items.
 const EACH_KIND: &str = "0061736d0d000100\
     01080061736d01000000\

@@ -1,9 +1,9 @@
 pub mod DefinedEqualities
 pub mod Equalities
 pub mod Functions
-pub mod ListedRuns
 pub mod NeverUnfinished
 pub mod Options
 pub mod IndexedRuns
 pub mod Kept
 pub mod PassedOn
+mod Anew

@@ -11,14 +11,18 @@ use std::alloc::Allocator;
 use std::cmp::Ordering;
 use wenc_base::{
     AbstractHeapType, ArrayType, CompositeType, EntityType, ExportKind, Fault, FieldType, FuncType,
-    GlobalType, GroupTree, HeapType, MemoryType, RefType, StorageType, StructType, SubType,
-    TableType, TagType, ValType,
+    GlobalType, GroupTree, HeapType, MemoryType, RefType, SectionId, StorageType, StructType,
+    SubType, TableType, TagType, ValType,
 };
+use wenc_builder::Space;
 use wenc_canon::{CanonTree, CanonicalOption};
+use wenc_list::ListFault;
 use wenc_parts::{
     ComponentExportKind, ComponentOuterAliasKind, ComponentSectionId, ComponentTypeRef,
     ComponentValType, ModuleArg, PrimitiveValType, ResultList, TypeBounds,
 };
+use wenc_read::{NestedRefusal, Refusal};
+use wenc_sections::Sort;
 use wenc_types::{CaseTree, CoreTypeTree, DefinedTree, FuncStage, ModuleDecl};
 
 pub fn kinds_of_core_exports(one: ExportKind, other: ExportKind) -> bool
@@ -247,4 +251,40 @@ pub fn ordered_ids_of_sections(one: ComponentSectionId, other: ComponentSectionI
     ensures { result ≡ nat_cmp (section_number one) (section_number other) }
 {
     one.cmp(&other)
+}
+
+pub fn ids_of_core_sections(one: SectionId, other: SectionId) -> bool
+    ensures { IsTrue result ↔ (one ≡ other) }
+{
+    one == other
+}
+
+pub fn spaces(one: Space, other: Space) -> bool
+    ensures { IsTrue result ↔ (one ≡ other) }
+{
+    one == other
+}
+
+pub fn refusals(one: Refusal, other: Refusal) -> bool
+    ensures { IsTrue result ↔ (one ≡ other) }
+{
+    one == other
+}
+
+pub fn nested_refusals(one: NestedRefusal, other: NestedRefusal) -> bool
+    ensures { IsTrue result ↔ (one ≡ other) }
+{
+    one == other
+}
+
+pub fn faults_of_listing(one: ListFault, other: ListFault) -> bool
+    ensures { IsTrue result ↔ (one ≡ other) }
+{
+    one == other
+}
+
+pub fn sorts_of_named_items(one: Sort, other: Sort) -> bool
+    ensures { IsTrue result ↔ (one ≡ other) }
+{
+    one == other
 }

@@ -1,8 +1,9 @@
 //! Facts that are proved: worked texts and components on literals, that derived equality goes by value and hashes by
-//! equality, what runs of commands tell, and callers.
+//! equality, what runs of commands tell, callers, and a stranger's own types.
 #![tactic(auto)]
 
 pub mod built;
+pub mod by_hand;
 pub mod callers;
 pub mod canonicals;
 pub mod components;
@@ -10,11 +11,15 @@ pub mod encoders;
 pub mod equality;
 pub mod examples;
 pub mod hashes;
+pub mod holders;
 pub mod importing;
 pub mod lights;
 pub mod listed;
 pub mod numbers;
+pub mod own;
 pub mod parts;
 pub mod read;
+pub mod rebuilt;
 pub mod runs;
 pub mod types;
+pub mod wrapping;

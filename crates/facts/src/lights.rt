@@ -3,9 +3,9 @@ ghost use Rattle.std.specs.Prelude.{◌≡◌, ◌++◌, ℕ, List, true};
 ghost use Rattle.std.specs.Cmp.Lexicographic.{pointwise};
 ghost use Rattle.std.specs.Option.{option_eq};
 ghost use Rattle.wenc_base.specs.Forms.{list, option};
-ghost use Rattle.sweeping.specs.Own.{light};
+ghost use Rattle.facts.specs.Own.{light};
 
-use sweeping::own::Light;
+use crate::own::Light;
 use wasm_encoder::laws::texts_tell_equals;
 
 /// The text of a list of lights, and of what follows it, tells the lights, and what follows.

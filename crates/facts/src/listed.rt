@@ -7,12 +7,12 @@ ghost use Rattle.wenc_base.specs.declared.fault.Fault.{Fault};
 ghost use Rattle.wenc_builder.specs.Entry.{Entry, items as items_of};
 ghost use Rattle.wenc_builder.specs.Sections.{runs, whole};
 ghost use Rattle.wenc_list.specs.Items.{section_view};
-ghost use Rattle.wenc_list.specs.Listing.{AreWithin, IsFaultOf};
+ghost use Rattle.wenc_list.specs.Listing.{AreWithin, IsFaultOf, IsMemoryOrTooDeep};
 ghost use Rattle.wenc_list.specs.declared.fault.ListFault.TheVariants.{Memory, TooDeep};
 ghost use Rattle.wenc_list.specs.declared.fault.ListFault.{ListFault};
 
 use std::alloc::Allocator;
-use wasm_encoder::laws::listed;
+use wasm_encoder::laws::one_reading;
 use wasm_encoder::{Built, Command, build};
 use wenc_list::laws::faults_of_what_is_read;
 use wenc_list::{ListFault, Listing, list};
@@ -31,7 +31,7 @@ pub fn faults_of_what_ran()
         → (fault : ListFault) → IsFaultOf (whole (items_of es)) fault
         → (fault ≡ Memory) ⊎ ((place : ℕ) × (fault ≡ TooDeep place)) }
 {
-    listed();
+    one_reading();
     faults_of_what_is_read();
 }
 
@@ -44,10 +44,8 @@ pub fn built_and_listed<A: Allocator + Copy>(
     ensures { IfSome result (λ x. (es : List Entry)
         → Ran (map command_view commands.now) x.0.answers.items es → HasNoRaw (items_of es)
         → MatchResult x.1 (λ listing. map section_view listing.sections.items ≡ runs (items_of es))
-        (λ fault. (fault ≡ Memory) ⊎ ((place : ℕ) × (fault ≡ TooDeep place)
-        × (AreWithin 100 (runs (items_of es)) → ⊥)))) }
+        (IsMemoryOrTooDeep (runs (items_of es)))) }
 {
-    faults_of_what_is_read();
     match build(alloc, commands) {
         Ok(built) => {
             let listed = list(alloc, built.bytes.as_slice());

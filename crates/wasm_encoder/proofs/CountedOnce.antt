@@ -1,8 +1,9 @@
 -- What an accepted call does to the counts.
-use Rattle.std.proofs.Common.{◌≡◌, ◌≢◌, ℕ, ◌+◌, List, [], ◌∷◌, ◌++◌, Option, Ok, refl, sym, ap, subst, ◌∙◌, get_or, arith}
+use Rattle.std.proofs.Common.{◌≡◌, ◌≢◌, ◌≤◌, ℕ, ◌+◌, List, [], ◌∷◌, ◌++◌, Option, Result, Ok, Err, refl, sym, ap, subst, ◌∙◌, get_or, arith}
 use Rattle.std.proofs.lemmas.Bool.{eq-eqb, ne_eqb}
 use Rattle.wenc_builder.specs.Builder.{Content, State, Namespace, namespace_at, content_with, content_of, count_in, BegunItem}
-use Rattle.wenc_builder.specs.Enters.{Enters}
+use Rattle.wenc_builder.specs.Enters.{EntersWith, Enters}
+use Rattle.wenc_base.specs.declared.fault.Fault.{Fault}
 use Rattle.wenc_builder.specs.Entry.{Entry, items}
 use Rattle.wenc_builder.specs.Holds.{Holds}
 use Rattle.wenc_builder.specs.Space.{space_number, Indices, defines, some_in, number_in, defined_in, IsIndexAt, next_index}
@@ -20,6 +21,15 @@ counted : (s : State) (es : List Entry) (space : Space) → Holds s es → count
 counted s es space h =
     let settled : content_of s ≡ s.settled = ap (λ (b : Option BegunItem). content_with s.settled b) h.finished in
     ap (λ (c : Content). (namespace_at c.spaces (space_number space)).count) settled ∙ ap (λ (n : Namespace). n.count) (h.spaces.each (space_number space) (space_within space))
+
+-- no count falls
+pub never_less : {R : Type 0} {Told : List Entry → R → Type 0} {Counted : Option Indices → R → Type 0} (old new : State) (result : Result R Fault) (x : Entry) (space : Space) (es : List Entry)
+    → Holds old es → EntersWith old new result x Told Counted → count_in old space ≤ count_in new space
+never_less old new (Ok r) x space es h e =
+    let k : ℕ = space_number space in
+    let here : count_in new space ≡ next_index (items (es ++ x ∷ [])) k = counted new (es ++ x ∷ []) space (e.held es h).0 in
+    omega (arith, here, index_push k es x, counted old es space h)
+never_less old new (Err fault) x space es h e = rw e.err (omega arith)
 
 -- the spaces by their numbers
 abbrev in_order : List Space

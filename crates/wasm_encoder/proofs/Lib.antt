@@ -7,3 +7,5 @@ pub mod Neighbours
 pub mod CountedOnce
 pub mod NamedIndices
 pub mod NestedRuns
+pub mod Itself
+pub mod SectionsFit

@@ -1,4 +1,5 @@
 pub mod Command
+pub mod ItemCommands
 pub mod Cause
 pub mod Ran
 pub mod AllForms

@@ -1,20 +1,19 @@
 //! Laws over the definitions: what the numbers' texts are, in words; that every form, and a whole component, is read as
 //! it is written, and in one way only; that a section's text is that of what it contains. A call of these does nothing.
-ghost use Rattle.std.specs.Prelude.{◌≡◌, ◌↔◌, ◌+◌, ℕ, ℤ, ◌^◌, ◌<◌, ◌++◌, ◌∷◌, [], List, Option, Result, FitsSigned, true, Ok};
+ghost use Rattle.std.specs.Prelude.{◌≡◌, ◌↔◌, ◌+◌, ℕ, ℤ, ◌^◌, ◌<◌, ◌++◌, ◌∷◌, [], List, FitsSigned, true, Ok};
 ghost use Rattle.std.specs.Int.{w64};
 ghost use Rattle.wenc_base.specs.Composites.{RecType, rec_type};
 ghost use Rattle.wenc_base.specs.Fault.{NoCause};
 ghost use Rattle.wenc_base.specs.FormLaws.{FormLaws};
 ghost use Rattle.wenc_base.specs.Forms.{name, counted};
-ghost use Rattle.wenc_base.specs.Holder.{HolderState, Contains, is_finished, held_members, held_section, Accepted};
+ghost use Rattle.wenc_base.specs.Holder.{HolderState, Contains, EncodeCause, is_finished, held_members, held_section, Accepted};
 ghost use Rattle.wenc_base.specs.Number.{unsigned_text, signed_text, IsUnsignedText, IsSignedText};
 ghost use Rattle.wenc_base.specs.Number.{u32 as number};
 ghost use Rattle.wenc_base.specs.Openings.{member_begun, member_appended, member_ended, member_given_up};
-ghost use Rattle.wenc_base.specs.Piece.{Spelling, Strict, Wide, ◌▸◌, verbatim};
-ghost use Rattle.wenc_base.specs.Producers.{Producers, producers_field, producers_section, producers_held};
+ghost use Rattle.wenc_base.specs.Piece.{Spelling, Strict, Wide, ◌▸◌, refused_for, verbatim};
+ghost use Rattle.wenc_base.specs.Producers.{Producers, FieldCause, producers_field, producers_section, producers_held};
 ghost use Rattle.wenc_base.specs.declared.fault.Fault.{Fault};
 ghost use Rattle.wenc_base.specs.declared.fault.Fault.TheVariants.{Unfinished};
-ghost use Rattle.wenc_builder.specs.Entry.{Entry, items as items_of};
 ghost use Rattle.wenc_builder.specs.Item.{Item};
 ghost use Rattle.wenc_builder.specs.Sections.{Section, runs, component, Reading, whole};
 ghost use Rattle.wenc_canon.specs.Canonicals.{Builtin, row, Values, Adds};
@@ -25,18 +24,17 @@ ghost use Rattle.wenc_types.specs.Declarations.{TypeState, NoneBegun, ModuleDecl
 ghost use Rattle.wenc_types.specs.declared.counts.Sort.TheVariants as sorts;
 ghost use Rattle.wenc_types.specs.declared.counts.Sort.{Sort};
 ghost use Rattle.wasm_encoder.specs.AllForms.{FormName, value_of, form_of};
-ghost use Rattle.wasm_encoder.specs.Command.{CommandTree};
-ghost use Rattle.wasm_encoder.specs.Ran.{Ran};
 ghost use Rattle.wenc_builder.specs.Raw.{HasNoRaw, SectionsHaveNoRaw, AreEncodable, IsEncodable};
 
 mod of_builders;
 mod of_holders;
 
 pub use of_builders::{
-    encoded_types_are_entries, indices_are_no_primitives, named_indices_ascend, neighbours_differ,
-    nested_runs, one_item_counts_once,
+    an_item_becomes_its_command, counts_never_fall, encoded_types_are_entries,
+    indices_are_no_primitives, named_indices_ascend, neighbours_differ, nested_runs,
+    one_item_counts_once,
 };
-pub use of_holders::what_is_finished_has_some;
+pub use of_holders::{sections_are_read, what_is_finished_has_some};
 use wenc_base::{Delimited, DelimitedEq};
 
 /// The text of an unsigned number is the shortest list of bytes that spells it, and the only one so short.
@@ -129,15 +127,6 @@ pub fn one_list()
         → whole xs ≡ whole ys → xs ≡ ys }
 {}
 
-/// Where commands ran, and led to items that can be encoded and are not raw, the bytes of the component are read widely as
-/// the runs of these items, and as nothing else. So a lister that reads widely gives those.
-pub fn listed()
-    ensures { (commands : List CommandTree) (answers : List (Result (Option ℕ) Fault))
-        (es : List Entry) → Ran commands answers es → HasNoRaw (items_of es)
-        → IsEncodable (items_of es) → (ss : List Section)
-        → (Reading Wide (whole (items_of es)) ss ↔ (ss ≡ runs (items_of es))) }
-{}
-
 /// The text of a section that contains some items, of whatever form, is their size, their number and the items. That of
 /// a module type, a component type or an instance type with some declarations is a byte, their number and these.
 pub fn sections_are_their_items()
@@ -157,11 +146,23 @@ pub fn sections_are_their_items()
         → (producers_held section).text ≡ (producers_section fields).text }
 {}
 
-/// What contained some values of a form, and accepted one more, contains these and that one.
+/// What contained some values of a form, and accepted one more, contains these and that one. So it is of fields of a
+/// producers section, of types with declarations that a section takes whole, and of texts that a holder takes as they are.
 pub fn what_is_added_is_contained()
-    ensures { (f : FormName) (v : value_of f) (members : List (value_of f)) (old new : HolderState)
-        → Accepted (form_of f v) old new → Contains (form_of f) old members
+    ensures value { (f : FormName) (v : value_of f) (members : List (value_of f))
+        (old new : HolderState) → Accepted (form_of f v) old new → Contains (form_of f) old members
         → Contains (form_of f) new (members ++ v ∷ []) }
+    ensures field { (f : Producers) (name : List ℕ) (tools : HolderState) (fields : List Producers)
+        (old new : HolderState)
+        → Accepted (refused_for (FieldCause old name tools) (producers_field f)) old new
+        → Contains producers_field old fields → Contains producers_field new (fields ++ f ∷ []) }
+    ensures whole_type { (t : DefType) (written : HolderState) (types : List DefType)
+        (old new : HolderState)
+        → Accepted (refused_for (EncodeCause written) (def_type t)) old new
+        → Contains def_type old types → Contains def_type new (types ++ t ∷ []) }
+    ensures text { (text : List ℕ) (members : List (List ℕ)) (old new : HolderState)
+        → Accepted (verbatim text) old new → Contains verbatim old members
+        → Contains verbatim new (members ++ text ∷ []) }
 {}
 
 /// A member that is written piece by piece, a type of a section, and a type that a module type, a component type or an

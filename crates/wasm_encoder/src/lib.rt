@@ -10,6 +10,7 @@
 
 pub mod command;
 pub mod laws;
+mod of_item;
 
 pub use command::{Built, Command, build};
 pub use wenc_base::{

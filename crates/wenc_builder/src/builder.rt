@@ -452,7 +452,8 @@ impl<A: Allocator> ComponentBuilder<A> {
             return Ok(());
         }
         let content = (NAMES_LABEL, names);
-        let section = Tagged(ComponentSectionId::CoreCustom.into(), &WithSize(&content));
+        let sized = WithSize(&content);
+        let section = Tagged(ComponentSectionId::CoreCustom.into(), &sized);
         self.buffer.stand_alone(&section)
     }
 
@@ -638,7 +639,7 @@ impl<A: Allocator> ComponentBuilder<A> {
     {
         let start = ComponentStartSection {
             function_index,
-            args,
+            args: args.as_slice(),
             results,
         };
         let section = Tagged(ComponentSectionId::Start.into(), &start);

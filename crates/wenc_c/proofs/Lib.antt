@@ -2,6 +2,8 @@ pub mod Answers
 pub mod Functions
 pub mod Grown
 pub mod Heap
+pub mod OneRead
 pub mod Runs
+pub mod Settled
 pub mod Typed
 pub mod Whole

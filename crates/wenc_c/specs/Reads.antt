@@ -1,11 +1,13 @@
 -- Items by their texts: what a text is, in the section with an id, and what a call did that was
 -- given it.
-use Rattle.std.specs.Prelude.{◌≡◌, ℕ, List, Option, Some, None, Result, Ok, Err, nat_eq}
+use Rattle.std.specs.Prelude.{◌≡◌, ℕ, List, [], Option, Some, None, Result, Ok, Err, nat_eq}
 use Rattle.std.specs.Prelude.{if◌then◌else◌}
 use Rattle.std.specs.Prelude.{alloc_error, Bool, false}
 use Rattle.wenc_base.specs.Fault.{IsWarranted}
 use Rattle.wenc_base.specs.declared.fault.Fault.{Fault as Faults}
 use Rattle.wenc_base.specs.declared.fault.Fault.TheVariants.{Memory, Unfinished}
+use Rattle.wenc_base.specs.Forms.{name as name_form}
+use Rattle.wenc_base.specs.Piece.{Wide}
 use Rattle.wenc_base.specs.reading.Forms.{read_name}
 use Rattle.wenc_base.specs.Readers.{Flaw, Bad, Deep, done, made}
 use Rattle.wenc_builder.specs.Builder.{State, builder_is_finished}
@@ -13,6 +15,7 @@ use Rattle.wenc_builder.specs.Entry.{Entry, entry, canonical_name}
 use Rattle.wenc_builder.specs.Item.{Item, ModuleItem, CoreInstanceItem, CoreTypeItem, ComponentItem}
 use Rattle.wenc_builder.specs.Item.{InstanceItem, AliasItem, TypeItem, CanonItem, StartItem}
 use Rattle.wenc_builder.specs.Item.{ImportItem, ExportItem, CustomItem}
+use Rattle.wenc_builder.specs.Sections.{item_of}
 use Rattle.wenc_canon.specs.reading.Canonicals.{read_canonical}
 use Rattle.wenc_types.specs.reading.ComponentTypes.{read_type}
 use Rattle.wenc_parts.specs.reading.Aliases.{read_alias}
@@ -20,6 +23,7 @@ use Rattle.wenc_read.specs.declared.refusal.NestedRefusal.{NestedRefusal}
 use Rattle.wenc_read.specs.declared.refusal.NestedRefusal.TheVariants as nested
 use Rattle.wenc_read.specs.declared.refusal.Refusal.{Refusal}
 use Rattle.wenc_read.specs.declared.refusal.Refusal.TheVariants as refusals
+use Rattle.wenc_sections.specs.Start.{start_content}
 use Rattle.wenc_sections.specs.reading.Items.{read_import, read_inline_export, read_core_instance}
 use Rattle.wenc_sections.specs.reading.Items.{read_instance, read_start_content}
 use Rattle.wenc_types.specs.reading.CoreTypes.{read_core_type}
@@ -56,6 +60,15 @@ custom_of x = CustomItem (record { label = x.0; bytes = x.1 })
 
 abbrev pub read_custom : List ℕ → Result Item Flaw
 read_custom text = made custom_of (read_name text)
+
+-- The text is read widely as this item of the section with this id: as an item of a section that
+-- collects them, or as the content of a section that is one item.
+abbrev pub IsReadAs : ℕ → List ℕ → Item → Type 0
+IsReadAs id text (ModuleItem bytes) = (id ≡ 1) × (bytes ≡ text)
+IsReadAs id text (ComponentItem bytes) = (id ≡ 4) × (bytes ≡ text)
+IsReadAs id text (StartItem s) = (id ≡ 9) × (start_content s).Reads Wide text []
+IsReadAs id text (CustomItem c) = (id ≡ 0) × (name_form c.label).Reads Wide text c.bytes
+IsReadAs id text x = (item_of id x).Reads Wide text []
 
 -- the entry of such an item, with the debug name that it has, where this one is handed in
 abbrev pub entry_of : Option (List ℕ) → Item → Entry

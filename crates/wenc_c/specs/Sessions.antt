@@ -141,3 +141,14 @@ Copies (sessions.Finished bytes) old new (Err refused) =
 abbrev pub IsEmpty : Session → Type 0
 IsEmpty (sessions.Building b) = Holds b []
 IsEmpty (sessions.Finished bytes) = ⊥
+
+-- ---- nothing stays unfinished
+
+-- no item of what is built is unfinished
+abbrev pub IsSettled : Session → Type 0
+IsSettled (sessions.Building b) = builder_is_finished b ≡ true
+IsSettled (sessions.Finished bytes) = Unit {0}
+
+-- so it is, and the answer isn't that one was
+abbrev pub StaysSettled : {R : Type 0} → Session → Result R Refusals → Type 0
+StaysSettled new answer = IsSettled new × (answer ≡ Err (Fault Unfinished) → ⊥)

@@ -1,6 +1,6 @@
 //! The call that adds a function which the component model provides, of those whose operands are
 //! numbers.
-ghost use Rattle.std.specs.Prelude.{◌≡◌};
+ghost use Rattle.std.specs.Prelude.{◌≡◌, ◌<◌};
 ghost use Rattle.wenc_c.specs.Builtins.{builtin_of};
 ghost use Rattle.wenc_c.specs.Handles.{AddsIfAt};
 ghost use Rattle.wenc_c.specs.Sessions.{AddsIf, answer_of};
@@ -94,6 +94,7 @@ pub extern "C" fn wenc_builtin(
     ensures added { AddsIfAt builder.old.session builder.new.session (answer_of result index.new)
         (builtin_of opcode first second) }
     ensures kept { ¬ (result ≡ 0) → index.new ≡ index.old }
+    ensures few { result < 10 }
 {
     let mut session = given!(builder.take(alloc), or NoBuilder);
     let answer = session.builtin(opcode, first, second);

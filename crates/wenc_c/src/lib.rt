@@ -14,6 +14,7 @@ mod builtins;
 mod handle;
 mod instances;
 mod items;
+pub mod laws;
 mod life;
 mod lists;
 mod named;

@@ -1,9 +1,9 @@
 //! The lister.
-ghost use Rattle.std.specs.Prelude.{◌≡◌, ◌<◌, ◌⊎◌, ℕ, IfSome, List, None, Some, length, slice_index};
+ghost use Rattle.std.specs.Prelude.{◌≡◌, ◌<◌, ◌≤◌, ◌⊎◌, ◌^◌, ℕ, List, MatchOption, None, Some, length, slice_index};
 ghost use Rattle.wenc_base.specs.Piece.{Wide};
 ghost use Rattle.wenc_builder.specs.Sections.{Reading, Section};
 ghost use Rattle.wenc_c.specs.Lists.{AreRows, Lists, list_fault_of, row_of};
-ghost use Rattle.wenc_list.specs.Listing.{AreWithin, IsFaultOf};
+ghost use Rattle.wenc_list.specs.Listing.{AreWithin, HasNoHeader, IsFaultOf, count_of_sections};
 ghost use Rattle.wenc_list.specs.declared.fault.ListFault.{ListFault as Faults};
 ghost use Rattle.wenc_list.specs.declared.listing.ListedSection.{ListedSection as Sections};
 ghost use Rattle.std.specs.Global.{Global as Heap};
@@ -48,7 +48,8 @@ fn show(rows: &mut [Row], sections: &[ListedSection])
 
 /// These counts in 64 bits, where each has a place in these.
 fn narrowed(counts: &[u128; 13]) -> Option<[u64; 13]>
-    ensures { IfSome result (λ out. (length out ≡ 13) × ((k : ℕ) → k < 13
+    ensures { MatchOption result ((k : ℕ) × (k < 13) × (2 ^ 64 ≤ slice_index counts.now k))
+        (λ out. (length out ≡ 13) × ((k : ℕ) → k < 13
         → slice_index out k ≡ slice_index counts.now k)) }
 {
     let mut out = [0; 13];
@@ -65,6 +66,7 @@ fn narrowed(counts: &[u128; 13]) -> Option<[u64; 13]>
 fn told_fault(fault: ListFault, place: &mut usize) -> u32
     ensures told { list_fault_of result place.new ≡ Some fault }
     ensures some { ¬ (result ≡ 0) }
+    ensures kept { result ≡ 1 → place.new ≡ place.old }
 {
     match fault {
         ListFault::Memory => 1,
@@ -110,7 +112,15 @@ pub extern "C" fn wenc_list(
         → IsFaultOf bytes.now f }
     ensures known { ¬ (result ≡ 0) → list_fault_of result number.new ≡ None
         → (result ≡ 3) ⊎ (result ≡ 7) }
+    // Without a header it is that fault.
+    ensures no_header { HasNoHeader bytes.now → length counts.old ≡ 13
+        → (result ≡ 10) × (number.new ≡ 0) }
+    // A count has more than 64 bits.
+    ensures too_large { result ≡ 3 → (ss : List Section) × Reading Wide bytes.now ss
+        × (k : ℕ) × (k < 13) × (2 ^ 64 ≤ count_of_sections k ss) }
     ensures argument { (length counts.old ≡ 13 → ⊥) → (result ≡ 7) × (number.new ≡ number.old) }
+    ensures argument_only { result ≡ 7 → length counts.old ≡ 13 → ⊥ }
+    ensures number_kept { (result ≡ 1) ⊎ (result ≡ 3) → number.new ≡ number.old }
     ensures refused { ¬ (result ≡ 0)
         → (sections.new ≡ sections.old) × (counts.new ≡ counts.old) }
 {

@@ -91,6 +91,7 @@ pub(crate) use given;
 pub(crate) fn told(answer: Result<u32, Refused>, out: &mut u32) -> u32
     ensures told { answer_of result out.new ≡ answer }
     ensures kept { ¬ (result ≡ 0) → out.new ≡ out.old }
+    ensures few { result < 10 }
 {
     match answer {
         Ok(value) => {

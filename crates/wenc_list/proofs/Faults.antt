@@ -4,7 +4,7 @@ use Rattle.std.specs.List.{AllByRecursion}
 use Rattle.wenc_base.specs.Piece.{Wide}
 use Rattle.wenc_builder.specs.Item.{Item, ModuleItem, ComponentItem, StartItem, CustomItem}
 use Rattle.wenc_builder.specs.Sections.{Section, section_piece, sections, Reading}
-use Rattle.wenc_list.specs.Listing.{AreWithin, IsLabelled, StopsAt, IsFaultBehind, IsFaultOf}
+use Rattle.wenc_list.specs.Listing.{AreWithin, IsLabelled, IsMemoryOrTooDeep, StopsAt, IsFaultBehind, IsFaultOf}
 use Rattle.wenc_list.specs.declared.fault.ListFault.{ListFault}
 use Rattle.wenc_list.specs.declared.fault.ListFault.TheVariants as faults
 use Rattle.wenc_list.proofs.SectionLaws.{Fills, AloneIn, section_framed}
@@ -46,6 +46,10 @@ memory_or_deep all bytes (faults.BadSection place) f ss r =
     absurd (f.cause framed.id framed.content next.1 framed.framed (fills_labelled framed.id _ framed.content framed.fills))
 memory_or_deep all bytes (faults.BadItem place) f ss r = let next = next_read all bytes place _ f ss r in absurd (f.cause.never next.0 next.1 next.2)
 memory_or_deep all bytes (faults.TooDeep place) f ss r = inr (place, refl)
+
+-- the same with why it is deep
+pub only_deep : (all : ℕ) (bytes : List ℕ) (fault : ListFault) → IsFaultBehind all bytes fault → (ss : List Section) → (sections ss).ReadsAll Wide bytes → IsMemoryOrTooDeep ss fault
+only_deep all bytes fault f ss r = elim (memory_or_deep all bytes fault f ss r) [ inl e ↦ inl e | inr d ↦ inr (d.0, d.1, λ w. (let e = only_memory all bytes fault f ss r w in let g = d.1 in cc)) ]
 
 -- ---- of all bytes
 

@@ -1,7 +1,7 @@
 -- What is listed of a component, and what stands against that (component model, binary format,
 -- "Component Definitions").
 use Rattle.std.specs.List.{AllByRecursion, flat_map}
-use Rattle.std.specs.Prelude.{◌≡◌, ℕ, zero, suc, ◌+◌, ◌<◌, ◌≤◌, List, [], ◌∷◌, ◌++◌, length}
+use Rattle.std.specs.Prelude.{◌≡◌, ◌⊎◌, ℕ, zero, suc, ◌+◌, ◌<◌, ◌≤◌, List, [], ◌∷◌, ◌++◌, length}
 use Rattle.wenc_base.specs.Forms.{name}
 use Rattle.wenc_base.specs.Number.{u32}
 use Rattle.wenc_base.specs.Piece.{Wide, each}
@@ -122,3 +122,9 @@ IsFaultOf bytes faults.Memory = Unit {0}
 IsFaultOf bytes (faults.NotAComponent place) = (place ≡ 0) × HasNoHeader bytes
 IsFaultOf bytes fault =
     (behind : List ℕ) × preamble.Reads Wide bytes behind × IsFaultBehind (length bytes) behind fault
+
+-- memory is wanting, or one of the types of these sections is deeper than 100, and that is said
+abbrev pub IsMemoryOrTooDeep : List Section → ListFault → Type 0
+IsMemoryOrTooDeep ss fault =
+    (fault ≡ faults.Memory) ⊎
+    ((place : ℕ) × (fault ≡ faults.TooDeep place) × (AreWithin 100 ss → ⊥))

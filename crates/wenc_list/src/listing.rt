@@ -3,7 +3,7 @@ ghost use Rattle.std.specs.Prelude.{◌≡◌, ◌≤◌, ℕ, List, [], ◌∷�
 ghost use Rattle.wenc_base.specs.Piece.{Wide};
 ghost use Rattle.wenc_builder.specs.Sections.{Section, section_piece, preamble, Reading};
 ghost use Rattle.wenc_list.specs.Items.{section_view};
-ghost use Rattle.wenc_list.specs.Listing.{AreWithin, AreFrom, ArePlaced, count_of_sections, IsFaultOf, HasNoHeader, IsFaultBehind, BeginsWith};
+ghost use Rattle.wenc_list.specs.Listing.{AreWithin, AreFrom, ArePlaced, count_of_sections, IsFaultOf, IsMemoryOrTooDeep, HasNoHeader, IsFaultBehind, BeginsWith};
 ghost use Rattle.wenc_list.specs.inside.Faults.{IsFaultHere};
 ghost use Rattle.wenc_list.specs.inside.Contents.{fault_of_frame, fault_of_content};
 ghost use Rattle.wenc_list.specs.declared.fault.ListFault.TheVariants.{Memory, NotAComponent};
@@ -153,6 +153,10 @@ pub fn list<A: Allocator + Copy>(alloc: A, bytes: &[u8]) -> Result<Listing<A>, L
     // What is read within that depth is listed, unless memory runs out.
     ensures listed { (ss : List Section) → Reading Wide bytes.now ss → AreWithin 100 ss
         → MatchResult result (λ l. map section_view l.sections.items ≡ ss) (λ e. e ≡ Memory) }
+    // What has any reading is listed as that, unless memory runs out, or a type in it is deeper.
+    ensures or_deep { (ss : List Section) → Reading Wide bytes.now ss
+        → MatchResult result (λ l. map section_view l.sections.items ≡ ss)
+        (IsMemoryOrTooDeep ss) }
     // A fault has its cause: it names the first section that isn't read within that depth.
     ensures fault { IfErr result (IsFaultOf bytes.now) }
     // Without a header it is that fault.

@@ -20,7 +20,6 @@ impl Eraser<'_> {
                 self.derived(i, end)?;
                 self.put(i + 2, "derive");
             }
-            ("test", "]") if !is_inner => self.test(end)?,
             _ if is_known => {}
             _ => return Err((self.line(i), "an attribute that is not known")),
         }
@@ -83,25 +82,6 @@ impl Eraser<'_> {
         let is_type = ["struct", "enum"].contains(&self.at(item + 1));
         let is_tree = self.at(item) == "pub" && is_type && TREES.contains(&self.at(item + 2));
         Ok(is_tree.then_some(derived))
-    }
-
-    /// A test, which is handed the runtime there and makes it here. It begins at `i`, behind its attribute.
-    fn test(&mut self, i: usize) -> Result<(), Refused> {
-        let open = i + 2;
-        if self.at(i) != "fn" || self.at(open) != "(" {
-            return Err((self.line(i), "a test that is not known"));
-        }
-        let end = self.close(open)?;
-        if self.stands(open, "( rt : HostRuntime )") {
-            let Some(body) = (end..self.code.len()).find(|&j| self.at(j) == "{") else {
-                return Err((self.line(i), "a test without a body"));
-            };
-            self.leave_out(open + 1..end - 1);
-            self.put(body, "{ let rt = crate::proved::rt_std::process::HostRuntime;");
-        } else if end != open + 2 {
-            return Err((self.line(i), "a test that is handed what is not known"));
-        }
-        Ok(())
     }
 
     /// Writes `Display` and `Error` behind the enum of errors that begins here.

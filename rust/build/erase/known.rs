@@ -1,13 +1,10 @@
 //! The closed lists of the eraser: what it knows by name.
 
 /// Methods that are handed an allocator there, and not by Rust's library, which has them on the same types.
-pub const ALLOCATING: [&str; 4] = ["collect", "repeat", "to_ascii_uppercase", "to_vec"];
+pub const ALLOCATING: [&str; 1] = ["collect"];
 
 /// Macros that are handed an allocator behind `in`, and that the shim has.
 pub const HANDED: [&str; 2] = ["format", "vec"];
-
-/// Macros that are handed the runtime, `rt`, which Rust's are not.
-pub const MACROS: [&str; 3] = ["assert", "assert_eq", "panic"];
 
 /// Macros that mean the same there and here.
 pub const PLAIN: [&str; 4] = ["concat", "matches", "write", "writeln"];
@@ -23,8 +20,7 @@ pub const DERIVED: [&str; 8] =
     ["Clone", "Copy", "Debug", "Eq", "Hash", "Ord", "PartialEq", "PartialOrd"];
 
 /// Attributes that mean the same there and here, as they are written.
-pub const ATTRIBUTES: [&str; 6] = [
-    "# [ cfg ( test ) ]",
+pub const ATTRIBUTES: [&str; 5] = [
     "# [ cold ]",
     "# [ inline ( always ) ]",
     "# [ inline ( never ) ]",

@@ -17,16 +17,26 @@ collections! {
     /// The section of aliases (component model, binary format, "Alias Definitions").
     ///
     /// ```
-    /// use wenc::{Alias, Component, ComponentAliasSection, ComponentExportKind, ComponentOuterAliasKind};
+    /// use wenc::{Alias, Component, ComponentAliasSection, ComponentExportKind};
+    /// use wenc::{ComponentInstanceSection, ComponentOuterAliasKind, ComponentTypeSection};
     ///
+    /// let kind = ComponentExportKind::Type;
+    /// let mut types = ComponentTypeSection::new();
+    /// types.defined_type().list(wenc::PrimitiveValType::U8);
+    /// let mut instances = ComponentInstanceSection::new();
+    /// instances.export_items([("bytes", kind, 0)]);
     /// let mut aliases = ComponentAliasSection::new();
     /// aliases
-    ///     .alias(Alias::InstanceExport { instance: 0, kind: ComponentExportKind::Func, name: "f" })
-    ///     .alias(Alias::Outer { kind: ComponentOuterAliasKind::Type, count: 1, index: 2 });
+    ///     .alias(Alias::InstanceExport { instance: 0, kind, name: "bytes" })
+    ///     .alias(Alias::Outer { kind: ComponentOuterAliasKind::Type, count: 0, index: 1 });
     ///
     /// let mut component = Component::new();
-    /// component.section(&aliases);
-    /// assert_eq!(component.as_slice()[8..], [6, 10, 2, 1, 0, 0, 1, b'f', 3, 2, 1, 2]);
+    /// component.section(&types).section(&instances).section(&aliases);
+    /// assert_eq!(
+    ///     component.as_slice()[8..],
+    ///     *b"\x07\x03\x01\x70\x7d\x05\x0c\x01\x01\x01\0\x05bytes\x03\0\
+    ///       \x06\x0e\x02\x03\0\0\x05bytes\x03\x02\0\x01",
+    /// );
     /// ```
     ComponentAliasSection;
 }

@@ -32,7 +32,11 @@ collections! {
     ///
     /// let mut component = Component::new();
     /// component.section(&types).section(&imports).section(&functions);
-    /// assert_eq!(component.as_slice()[26..], *b"\x08\x07\x02\x01\0\0\x01\0\x05");
+    /// assert_eq!(
+    ///     component.as_slice()[8..],
+    ///     *b"\x07\x08\x01\x40\x01\x01n\x79\x01\0\x0a\x06\x01\0\x01f\x01\0\
+    ///       \x08\x07\x02\x01\0\0\x01\0\x05",
+    /// );
     /// ```
     CanonicalFunctionSection;
 }

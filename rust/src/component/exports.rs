@@ -17,14 +17,19 @@ collections! {
     /// The section of exports (component model, binary format, "Import and Export Definitions").
     ///
     /// ```
-    /// use wenc::{Component, ComponentExportKind, ComponentExportSection};
+    /// use wenc::{Component, ComponentExportKind, ComponentExportSection, ComponentTypeSection};
     ///
+    /// let mut types = ComponentTypeSection::new();
+    /// types.defined_type().list(wenc::PrimitiveValType::U8);
     /// let mut exports = ComponentExportSection::new();
-    /// exports.export("clock", ComponentExportKind::Instance, 3, None);
+    /// exports.export("bytes", ComponentExportKind::Type, 0, None);
     ///
     /// let mut component = Component::new();
-    /// component.section(&exports);
-    /// assert_eq!(component.as_slice()[8..], *b"\x0b\x0b\x01\x00\x05clock\x05\x03\x00");
+    /// component.section(&types).section(&exports);
+    /// assert_eq!(
+    ///     component.as_slice()[8..],
+    ///     *b"\x07\x03\x01\x70\x7d\x0b\x0b\x01\0\x05bytes\x03\0\0",
+    /// );
     /// ```
     ComponentExportSection;
 }

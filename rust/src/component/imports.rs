@@ -102,6 +102,7 @@ collections! {
     ///
     /// let mut component = Component::new();
     /// component.section(&imports);
+    /// assert_eq!(component.as_slice()[8..], *b"\x0a\x09\x01\0\x04file\x03\x01");
     /// ```
     ComponentImportSection;
 }

@@ -17,18 +17,23 @@ collections! {
     /// The section of core instances (component model, binary format, "Core Instance Definitions").
     ///
     /// ```
-    /// use wenc::{Component, ExportKind, InstanceSection, ModuleArg};
+    /// use wenc::{CanonicalFunctionSection, Component, ExportKind, InstanceSection, Module};
+    /// use wenc::{ModuleArg, ModuleSection};
     ///
+    /// let module = Module::new();
+    /// let mut functions = CanonicalFunctionSection::new();
+    /// functions.task_cancel();
     /// let mut instances = InstanceSection::new();
     /// instances
-    ///     .export_items([("heap", ExportKind::Memory, 0)])
-    ///     .instantiate(2, [("env", ModuleArg::Instance(0))]);
+    ///     .export_items([("cancel", ExportKind::Func, 0)])
+    ///     .instantiate(0, [("env", ModuleArg::Instance(0))]);
     ///
     /// let mut component = Component::new();
-    /// component.section(&instances);
+    /// component.section(&ModuleSection(&module)).section(&functions).section(&instances);
     /// assert_eq!(
     ///     component.as_slice()[8..],
-    ///     *b"\x02\x13\x02\x01\x01\x04heap\x02\x00\x00\x02\x01\x03env\x12\x00",
+    ///     *b"\x01\x08\0asm\x01\0\0\0\x08\x02\x01\x05\
+    ///       \x02\x15\x02\x01\x01\x06cancel\0\0\0\0\x01\x03env\x12\0",
     /// );
     /// ```
     InstanceSection;
@@ -36,17 +41,22 @@ collections! {
     ///
     /// ```
     /// use wenc::{Component, ComponentExportKind, ComponentInstanceSection};
+    /// use wenc::{ComponentTypeSection, NestedComponentSection};
     ///
+    /// let mut types = ComponentTypeSection::new();
+    /// types.defined_type().list(wenc::PrimitiveValType::U8);
+    /// let nested = Component::new();
     /// let mut instances = ComponentInstanceSection::new();
     /// instances
-    ///     .export_items([("now", ComponentExportKind::Func, 4)])
-    ///     .instantiate(2, [("clock", ComponentExportKind::Instance, 0)]);
+    ///     .export_items([("bytes", ComponentExportKind::Type, 0)])
+    ///     .instantiate(0, [("types", ComponentExportKind::Instance, 0)]);
     ///
     /// let mut component = Component::new();
-    /// component.section(&instances);
+    /// component.section(&types).section(&NestedComponentSection(&nested)).section(&instances);
     /// assert_eq!(
     ///     component.as_slice()[8..],
-    ///     *b"\x05\x15\x02\x01\x01\x00\x03now\x01\x04\x00\x02\x01\x05clock\x05\x00",
+    ///     *b"\x07\x03\x01\x70\x7d\x04\x08\0asm\x0d\0\x01\0\
+    ///       \x05\x17\x02\x01\x01\0\x05bytes\x03\0\0\0\x01\x05types\x05\0",
     /// );
     /// ```
     ComponentInstanceSection;

@@ -11,14 +11,25 @@ use alloc::vec::Vec;
 /// It is refused, when it is encoded, where there are more than 4294967295 arguments, or so many bytes behind its size.
 ///
 /// ```
-/// use wenc::{Component, ComponentStartSection};
+/// use wenc::{Component, ComponentImportSection, ComponentStartSection, ComponentTypeRef};
+/// use wenc::{ComponentTypeSection, PrimitiveValType};
 ///
-/// // function 2 is called with value 3, and answers nothing
-/// let start = ComponentStartSection { function_index: 2, args: [3], results: 0 };
+/// let mut types = ComponentTypeSection::new();
+/// types.function().params([("n", PrimitiveValType::U32)]).result(None);
+/// let mut imports = ComponentImportSection::new();
+/// imports
+///     .import("f", ComponentTypeRef::Func(0))
+///     .import("v", ComponentTypeRef::Value(PrimitiveValType::U32.into()));
+/// // function 0 is called with value 0, and answers nothing
+/// let start = ComponentStartSection { function_index: 0, args: [0], results: 0 };
 ///
 /// let mut component = Component::new();
-/// component.section(&start);
-/// assert_eq!(component.as_slice()[8..], [9, 4, 2, 1, 3, 0]);
+/// component.section(&types).section(&imports).section(&start);
+/// assert_eq!(
+///     component.as_slice()[8..],
+///     *b"\x07\x08\x01\x40\x01\x01n\x79\x01\0\x0a\x0b\x02\0\x01f\x01\0\0\x01v\x02\x79\
+///       \x09\x04\0\x01\0\0",
+/// );
 /// ```
 #[derive(Clone, Debug)]
 pub struct ComponentStartSection<A> {

@@ -3,9 +3,6 @@
 use super::rt_std::alloc::{AllocError, Allocator};
 use super::rt_std::vec::Vec;
 
-#[cfg(all(test, feature = "std"))]
-pub use super::for_tests::encode;
-
 /// Why digits say no bytes.
 #[derive(Clone, Copy, Debug, PartialEq, Eq)]
 pub enum FromHexError {

@@ -13,14 +13,12 @@ pub mod vec;
 
 /// What stands in scope without being named.
 pub mod prelude {
-    #[cfg(all(test, feature = "std"))]
-    pub use crate::proved::for_tests::{TextUsing, ToVecUsing};
-
     pub use super::alloc::TryClone;
     pub use super::boxed::Box;
     pub use super::iter::CollectUsing;
     #[cfg(feature = "std")]
     pub use super::process::HostRuntime;
+    pub use super::str;
     pub use super::string::String;
     pub use super::vec::Vec;
 }
@@ -44,8 +42,7 @@ pub mod str {
 pub mod io {
     //! Streams.
 
-    #[cfg(test)]
-    pub use std::io::{Error, ErrorKind, Result};
+    
     pub use std::io::{Read, Write};
 }
 

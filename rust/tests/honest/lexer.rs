@@ -1,11 +1,9 @@
 //! A lexer of its own, that knows nothing of the eraser's.
 
-/// A token: its line, where it begins and where it ends, counted in letters, and its text.
+/// A token: the line that it begins in, and its text.
 #[derive(Clone, Debug, PartialEq, Eq)]
 pub struct Token {
     pub line: usize,
-    pub begin: usize,
-    pub end: usize,
     pub text: String,
 }
 
@@ -19,7 +17,7 @@ pub fn lex(text: &str) -> Vec<Token> {
         let text: String = chars[begin..at].iter().collect();
         let lines = text.matches('\n').count();
         if !text.trim().is_empty() && !text.starts_with("//") {
-            tokens.push(Token { line, begin, end: at, text });
+            tokens.push(Token { line, text });
         }
         line += lines;
     }

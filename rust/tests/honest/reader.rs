@@ -5,7 +5,7 @@ use super::lexer::{Token, lex};
 use std::collections::BTreeMap;
 
 /// The ways, each of which some source takes.
-pub const WAYS: [&str; 28] = [
+pub const WAYS: [&str; 26] = [
     "kept",
     "prelude",
     "ghost use left out",
@@ -31,12 +31,10 @@ pub const WAYS: [&str; 28] = [
     "refusable clone",
     "method that is handed an allocator",
     "macro that is handed an allocator",
-    "macro that is handed the runtime",
-    "test that is handed the runtime",
     "main is pub",
 ];
 
-const CRATES: [&str; 20] = [
+const CRATES: [&str; 14] = [
     "wenc_base",
     "wenc_parts",
     "wenc_types",
@@ -50,13 +48,7 @@ const CRATES: [&str; 20] = [
     "wenc",
     "driven",
     "facts",
-    "sweeping",
-    "part_tests",
-    "section_tests",
-    "builder_tests",
-    "wenc_tests",
     "hex",
-    "refusing",
 ];
 
 /// Trees, which a user compares, prints and copies.
@@ -108,35 +100,49 @@ pub fn read(
     new: &str,
     counts: &mut BTreeMap<&'static str, usize>,
 ) -> Result<(), String> {
-    let (old_tokens, new_tokens) = (lex(old), lex(new));
-    let mut source = Source::new(crate_name, &old_tokens);
-    let mut rest = &new_tokens[..];
+    compare(crate_name, &lex(old), &lex(new), counts)?;
+    let lines = (old.lines().count(), new.lines().count());
+    if lines.0 == lines.1 { Ok(()) } else { Err(format!("{} lines became {}", lines.0, lines.1)) }
+}
+
+/// The same of their tokens.
+pub fn compare(
+    crate_name: &str,
+    old: &[Token],
+    new: &[Token],
+    counts: &mut BTreeMap<&'static str, usize>,
+) -> Result<(), String> {
+    let mut source = Source::new(crate_name, old);
+    let mut rest = new;
     if !rest.is_empty() {
         // It stands in the line of what documents the first item.
         let line = rest[0].line;
         take("prelude", line, "use crate::proved::rt_std::prelude::*;", &mut rest)?;
         counts.insert("prelude", 1);
     }
-    while source.at < old_tokens.len() {
-        let line = old_tokens[source.at].line;
+    while let Some(first) = old.get(source.at) {
         let Step { way, old, new } = source.step();
-        take(way, line, &new, &mut rest)?;
+        take(way, first.line, &new, &mut rest)?;
         *counts.entry(way).or_default() += 1;
         source.at += old;
     }
-    if let Some(more) = rest.first() {
-        return Err(format!("{}: {:?} came in", more.line, more.text));
+    match rest.first() {
+        Some(more) => Err(format!("{}: {:?} came in", more.line, more.text)),
+        None => Ok(()),
     }
-    let lines = (old.lines().count(), new.lines().count());
-    if lines.0 == lines.1 { Ok(()) } else { Err(format!("{} lines became {}", lines.0, lines.1)) }
 }
 
 /// Takes these tokens, of which the first stands in this line, from the rest of the Rust.
 fn take(way: &str, line: usize, wanted: &str, rest: &mut &[Token]) -> Result<(), String> {
-    for (n, token) in lex(wanted).iter().enumerate() {
-        let Some((found, behind)) = rest.split_first().filter(|(f, _)| f.text == token.text) else {
+    let wanted = if way == "kept" {
+        vec![wanted.to_owned()]
+    } else {
+        lex(wanted).into_iter().map(|token| token.text).collect()
+    };
+    for (n, text) in wanted.iter().enumerate() {
+        let Some((found, behind)) = rest.split_first().filter(|(f, _)| f.text == *text) else {
             let found = rest.first().map_or("", |found| &found.text);
-            return Err(format!("{line}: {:?} became {found:?} ({way})", token.text));
+            return Err(format!("{line}: {text:?} became {found:?} ({way})"));
         };
         if n == 0 && found.line != line || found.line < line {
             return Err(format!("{line}: it became line {} ({way})", found.line));
@@ -151,16 +157,13 @@ struct Source<'a> {
     crate_name: &'a str,
     tokens: &'a [Token],
     at: usize,
-    /// Where the body of a test begins that makes its runtime.
-    makes_runtime: Option<usize>,
     /// Where an enum of errors ends, and what is written there.
     error: Option<(usize, String)>,
 }
 
 impl<'a> Source<'a> {
     fn new(crate_name: &'a str, tokens: &'a [Token]) -> Self {
-        let (makes_runtime, error) = (None, None);
-        Source { crate_name, tokens, at: 0, makes_runtime, error }
+        Source { crate_name, tokens, at: 0, error: None }
     }
 
     /// The token so many behind this.
@@ -216,10 +219,6 @@ impl<'a> Source<'a> {
     }
 
     fn step(&mut self) -> Step {
-        if self.makes_runtime.take_if(|at| *at == self.at).is_some() {
-            let runtime = "{ let rt = crate::proved::rt_std::process::HostRuntime;";
-            return step("test that is handed the runtime", 1, runtime);
-        }
         if let Some((_, text)) = self.error.take_if(|(at, _)| *at == self.at) {
             return step("Display and Error of an error", 1, text);
         }
@@ -263,14 +262,6 @@ impl<'a> Source<'a> {
                 Some(step("derive_where is derive", len, self.shown(len).replacen("_where", "", 1)))
             }
             "derive" => Some(self.derive(len)),
-            "test"
-                if self.stands_at(len, "fn") && self.stands_at(len + 2, "( rt : HostRuntime )") =>
-            {
-                let body = (len + 7..).find(|ahead| self.text(*ahead) == "{")?;
-                self.makes_runtime = Some(self.at + body);
-                let test = format!("#[test] fn {}()", self.text(len + 1));
-                Some(step("test that is handed the runtime", len + 7, test))
-            }
             _ => None,
         }
     }
@@ -353,15 +344,12 @@ impl<'a> Source<'a> {
             "fn" if next == "main" => Some(step("main is pub", 2, "pub fn main")),
             "Clone" => Some(step("refusable clone", 1, "TryClone")),
             "clone" => Some(step("refusable clone", 1, "try_clone")),
-            "collect" | "repeat" | "to_ascii_uppercase" | "to_vec" if self.before(1) == "." => {
-                Some(step("method that is handed an allocator", 1, format!("{word}_using")))
+            "collect" if self.before(1) == "." => {
+                Some(step("method that is handed an allocator", 1, "collect_using"))
             }
             "format" | "vec" if next == "!" && self.text(3) == "in" => {
                 let name = format!("crate::proved::rt_std::{word}");
                 Some(step("macro that is handed an allocator", 1, name))
-            }
-            "assert" | "assert_eq" | "panic" if self.stands_at(1, "! ( rt ;") => {
-                Some(step("macro that is handed the runtime", 5, format!("{word}!(")))
             }
             _ => self.root(),
         }

@@ -1,11 +1,11 @@
 //! Laws over what the calls of a builder lead to.
 ghost use Rattle.std.specs.List.{AllByRecursion};
 ghost use Rattle.std.specs.List.Sorted.{IsStrictlyIncreasing};
-ghost use Rattle.std.specs.Prelude.{◌≡◌, ◌+◌, ◌<◌, ◌^◌, ◌++◌, ◌∷◌, [], ℕ, List, map, IsOk, Ok, Option, Result};
+ghost use Rattle.std.specs.Prelude.{◌≡◌, ◌+◌, ◌<◌, ◌≤◌, ◌^◌, ◌++◌, ◌∷◌, [], ℕ, List, map, IsOk, Ok, Option, Result};
 ghost use Rattle.wenc_base.specs.Fault.{NoCause, either};
 ghost use Rattle.wenc_base.specs.declared.fault.Fault.{Fault};
 ghost use Rattle.wenc_builder.specs.Builder.{State, Draft, item_begun, item_appended, item_ended, item_given_up, count_in, draft_in};
-ghost use Rattle.wenc_builder.specs.Enters.{Enters};
+ghost use Rattle.wenc_builder.specs.Enters.{Enters, EntersWithoutIndex};
 ghost use Rattle.wenc_builder.specs.Entry.{Entry, items as items_of, names, type_entry, core_type_entry};
 ghost use Rattle.wenc_builder.specs.Holds.{Holds};
 ghost use Rattle.wenc_builder.specs.Item.{Item};
@@ -21,8 +21,9 @@ ghost use Rattle.wenc_parts.specs.declared.types.ComponentValType.TheVariants as
 ghost use Rattle.wenc_parts.specs.declared.types.PrimitiveValType.{PrimitiveValType};
 ghost use Rattle.wenc_types.specs.ComponentTypes.{DefType, def_type};
 ghost use Rattle.wenc_types.specs.CoreTypes.{CoreType, core_type};
-ghost use Rattle.wasm_encoder.specs.Cause.{led, first_cause};
+ghost use Rattle.wasm_encoder.specs.Cause.{added, led, first_cause};
 ghost use Rattle.wasm_encoder.specs.Command.{CommandTree, Commands, commands_listed};
+ghost use Rattle.wasm_encoder.specs.ItemCommands.{command_of};
 ghost use Rattle.wasm_encoder.specs.Nameless.{StartIsNameless};
 ghost use Rattle.wasm_encoder.specs.Ran.{Ran};
 
@@ -44,6 +45,21 @@ pub fn one_item_counts_once()
     ensures alone { (old new : State) (i : ℕ) (x : Entry) (space other : Space) (es : List Entry)
         → Holds old es → Enters old new (Ok i) x → defines x.item ≡ some_in space 1
         → (other ≡ space → ⊥) → count_in new other ≡ count_in old other }
+{}
+
+/// The command that an item becomes adds that item alone, whatever was added before.
+pub fn an_item_becomes_its_command()
+    ensures { (es : List Entry) (x : Item) → items_of (added es (command_of x)) ≡ x ∷ [] }
+{}
+
+/// No call that adds an entry lowers the count of a space, accepted or refused.
+pub fn counts_never_fall()
+    ensures indexed { (old new : State) (result : Result ℕ Fault) (x : Entry) (space : Space)
+        (es : List Entry) → Holds old es → Enters old new result x
+        → count_in old space ≤ count_in new space }
+    ensures without_index { (old new : State) (result : Result (Unit {0}) Fault) (x : Entry)
+        (space : Space) (es : List Entry) → Holds old es → EntersWithoutIndex old new result x
+        → count_in old space ≤ count_in new space }
 {}
 
 /// The indices in a space's list of names ascend, and each is below the space's count, where no start has a name. So it

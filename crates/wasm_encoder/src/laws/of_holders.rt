@@ -1,11 +1,26 @@
-ghost use Rattle.std.specs.Prelude.{List};
+ghost use Rattle.std.specs.Prelude.{◌≡◌, ◌<◌, ◌++◌, ◌^◌, List, ℕ, length};
 ghost use Rattle.wasm_encoder.specs.AllForms.{FormName, value_of, form_of};
-ghost use Rattle.wenc_base.specs.Holder.{HolderState, Contains, ContainsSome};
-ghost use Rattle.wenc_base.specs.Piece.{HasForm};
+ghost use Rattle.wenc_base.specs.Forms.{counted};
+ghost use Rattle.wenc_base.specs.Holder.{HolderState, Contains, ContainsSome, content_size, held_section};
+ghost use Rattle.wenc_base.specs.Piece.{HasForm, Spelling};
 
 /// What is finished has some members, as the contract of a section's `encode` says it by their texts: these are the
 /// texts of a list of values that can be encoded, which it contains. So it is by whatever form they have.
 pub fn what_is_finished_has_some()
     ensures { (f : FormName) (section : HolderState) → ContainsSome (HasForm (form_of f)) section
         → (values : List (value_of f)) × Contains (form_of f) section values }
+{}
+
+/// A section of some values of a form can be encoded, and is read as these, counted, whatever follows: where its number
+/// and its size have 32 bits, as the contract of its `encode` says.
+pub fn sections_are_read()
+    ensures fits { (f : FormName) (section : HolderState) (values : List (value_of f))
+        → Contains (form_of f) section values → section.count < 2 ^ 32
+        → content_size section.count (length section.body) < 2 ^ 32
+        → (counted (form_of f) values).Fits }
+    ensures read { (f : FormName) (section : HolderState) (values : List (value_of f))
+        → Contains (form_of f) section values → section.count < 2 ^ 32
+        → content_size section.count (length section.body) < 2 ^ 32
+        → (mode : Spelling) (rest : List ℕ)
+        → (counted (form_of f) values).Reads mode ((held_section section).text ++ rest) rest }
 {}

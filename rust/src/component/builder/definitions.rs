@@ -14,12 +14,11 @@ impl ComponentBuilder {
         /// Definitions").
         ///
         /// ```
-        /// use wenc::{ComponentBuilder, ComponentExternName, ComponentTypeRef, TypeBounds};
+        /// use wenc::{ComponentBuilder, ComponentTypeRef, TypeBounds};
         ///
         /// let mut builder = ComponentBuilder::default();
-        /// let name = ComponentExternName { external_id: Some("x".into()), ..("r".into()) };
-        /// assert_eq!(builder.import(name, ComponentTypeRef::Type(TypeBounds::SubResource)), 0);
-        /// assert_eq!(builder.finish()[8..], *b"\x0a\x0a\x01\x02\x01r\x01\x02\x01x\x03\x01");
+        /// assert_eq!(builder.import("file", ComponentTypeRef::Type(TypeBounds::SubResource)), 0);
+        /// assert_eq!(builder.finish()[8..], *b"\x0a\x09\x01\0\x04file\x03\x01");
         /// ```
         fn import | try_import<'a>(
             &mut self,

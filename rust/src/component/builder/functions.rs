@@ -40,7 +40,13 @@ impl ComponentBuilder {
         ///
         /// let function = builder.lift_func(Some("f"), core, ty, []);
         /// assert_eq!((function, builder.func_count()), (0, 1));
-        /// assert!(builder.finish().ends_with(b"\x08\x06\x01\0\0\0\0\0"));
+        /// assert_eq!(
+        ///     builder.finish()[8..],
+        ///     *b"\x01\x1f\0asm\x01\0\0\0\
+        ///       \x01\x04\x01\x60\0\0\x03\x02\x01\0\x07\x05\x01\x01f\0\0\x0a\x04\x01\x02\0\x0b\
+        ///       \x02\x04\x01\0\0\0\x06\x07\x01\0\0\x01\0\x01f\x07\x05\x01\x40\0\x01\0\
+        ///       \x08\x06\x01\0\0\0\0\0",
+        /// );
         /// ```
         fn lift_func | try_lift_func<O>(
             &mut self,

@@ -3,13 +3,6 @@
 use super::alloc::Global;
 pub use std::process::ExitCode;
 
-/// The leave to end the process.
-#[cfg(test)]
-pub trait Abort {}
-
-#[cfg(test)]
-impl Abort for HostRuntime {}
-
 /// The process, for a program's `main`.
 pub struct HostRuntime;
 

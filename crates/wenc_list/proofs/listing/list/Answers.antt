@@ -1,6 +1,9 @@
 use Rattle.std.proofs.Common.{length, map}
 use Rattle.std.proofs.lemmas.Result.{err_from_is_err_and}
+use Rattle.wenc_base.specs.Piece.{Wide}
+use Rattle.wenc_builder.specs.laws.Reading.{once}
 use Rattle.wenc_list.specs.Items.{section_view}
+use Rattle.wenc_list.proofs.Faults.{only_deep}
 use Rattle.wenc_list.proofs.Listed.{from_all, only_memory, same_sections, same_behind}
 use Rattle.wenc_list.proofs.listing.list.Goals as goal
 
@@ -26,3 +29,17 @@ returns-clause-listed g c ss r w =
 
 pub returns-clause-no_header : goal.returns-clause-no_header
 returns-clause-no_header g c h = absurd (h c.in_ok-behind.behind.now c.in_ok-behind.ensures)
+
+pub returns-in_err-behind-clause-or_deep : goal.returns-in_err-behind-clause-or_deep
+returns-in_err-behind-clause-or_deep g c ss r = absurd (c.in_err-behind.ensures.1 r.0 r.1)
+
+pub returns-in_err-sections-clause-or_deep : goal.returns-in_err-sections-clause-or_deep
+returns-in_err-sections-clause-or_deep g c ss r =
+    let p = err_from_is_err_and c.from_residual-in_err-sections.result c.from_residual-in_err-sections.ensures.1 in
+    let same = same_behind c.args.bytes.now r.0 c.in_ok-behind.behind.now r.1 c.in_ok-behind.ensures in
+    rw (p.1, p.2) (only_deep (length c.args.bytes.now) c.in_ok-behind.behind.now c.in_err-sections.field-0.0 c.in_err-sections.ensures.fault ss (rw same at r.2))
+
+pub returns-clause-or_deep : goal.returns-clause-or_deep
+returns-clause-or_deep g c ss r =
+    once Wide Wide c.args.bytes.now (map section_view c.in_ok-sections.sections.items) ss
+    (c.in_ok-behind.behind.now, c.in_ok-behind.ensures, from_all (length c.args.bytes.now) c.in_ok-sections.sections.items c.in_ok-behind.behind.now c.in_ok-sections.ensures.listed) r

@@ -1,0 +1,100 @@
+//! A component that is written section by section.
+ghost use Rattle.std.specs.Prelude.{◌≡◌, ◌++◌, ◌∷◌, [], IfOk, None, codes};
+ghost use Rattle.wenc_base.specs.Holder.{no_members, with_member, section_text};
+ghost use Rattle.wenc_parts.specs.declared.exports.ComponentExportKind.{ComponentExportKind};
+ghost use Rattle.wenc_parts.specs.declared.imports.ComponentTypeRef.{ComponentTypeRef};
+ghost use Rattle.wenc_parts.specs.Aliases.{InstanceExport, alias};
+ghost use Rattle.wenc_parts.specs.Imports.{plain_name};
+ghost use Rattle.wenc_sections.specs.Component.{preamble};
+ghost use Rattle.wenc_sections.specs.Imports.{import_item};
+ghost use Rattle.wenc_sections.specs.Exports.{export_item};
+
+use std::alloc::Allocator;
+use wenc_base::Fault;
+use wenc_parts::{Alias, ComponentExportKind, ComponentTypeRef};
+use wenc_sections::{
+    Component, ComponentAliasSection, ComponentExportSection, ComponentImportSection,
+};
+
+/// An instance is imported.
+fn imported<A: Allocator>(alloc: A) -> Result<ComponentImportSection<A>, Fault>
+    ensures { IfOk result (λ imports. imports
+        ≡ with_member no_members (import_item (record {
+          name = plain_name (codes "i");
+          what = ComponentTypeRef.Instance 0;
+        })).text) }
+{
+    let mut imports = ComponentImportSection::new(alloc);
+    imports.import("i".into(), ComponentTypeRef::Instance(0))?;
+    Ok(imports)
+}
+
+/// A function of it has an index.
+fn aliased<A: Allocator>(alloc: A) -> Result<ComponentAliasSection<A>, Fault>
+    ensures { IfOk result (λ aliases. aliases
+        ≡ with_member no_members
+        (alias (InstanceExport 0 ComponentExportKind.Func (codes "f"))).text) }
+{
+    let mut aliases = ComponentAliasSection::new(alloc);
+    aliases.alias(Alias::InstanceExport {
+        instance: 0,
+        kind: ComponentExportKind::Func,
+        name: "f",
+    })?;
+    Ok(aliases)
+}
+
+/// The function is exported.
+fn exported<A: Allocator>(alloc: A) -> Result<ComponentExportSection<A>, Fault>
+    ensures { IfOk result (λ exports. exports
+        ≡ with_member no_members (export_item (record {
+          name = plain_name (codes "g");
+          kind = ComponentExportKind.Func;
+          index = 0;
+          what = None;
+        })).text) }
+{
+    let mut exports = ComponentExportSection::new(alloc);
+    exports.export("g".into(), ComponentExportKind::Func, 0, None)?;
+    Ok(exports)
+}
+
+/// A component of these sections.
+fn joined<A: Allocator>(
+    alloc: A,
+    imports: &ComponentImportSection<A>,
+    aliases: &ComponentAliasSection<A>,
+    exports: &ComponentExportSection<A>,
+) -> Result<Vec<u8, A>, Fault>
+    ensures { IfOk result (λ bytes. bytes.items ≡ preamble.text
+        ++ (10 ∷ section_text imports.now) ++ (6 ∷ section_text aliases.now)
+        ++ (11 ∷ section_text exports.now)) }
+{
+    let mut component = Component::new(alloc)?;
+    component.section(imports)?;
+    component.section(aliases)?;
+    component.section(exports)?;
+    Ok(component.finish())
+}
+
+/// A component that imports an instance and exports a function of it, section by section. What it is follows
+/// from the contracts of these calls alone.
+pub fn by_hand<A: Allocator + Copy>(alloc: A) -> Result<Vec<u8, A>, Fault>
+    ensures { IfOk result (λ bytes. bytes.items ≡ preamble.text
+        ++ (10 ∷ section_text (with_member no_members (import_item
+        (record { name = plain_name (codes "i"); what = ComponentTypeRef.Instance 0 })).text))
+        ++ (6 ∷ section_text (with_member no_members (alias
+        (InstanceExport 0 ComponentExportKind.Func (codes "f"))).text))
+        ++ (11 ∷ section_text (with_member no_members (export_item
+        (record {
+          name = plain_name (codes "g");
+          kind = ComponentExportKind.Func;
+          index = 0;
+          what = None;
+        })).text))) }
+{
+    let imports = imported(alloc)?;
+    let aliases = aliased(alloc)?;
+    let exports = exported(alloc)?;
+    joined(alloc, &imports, &aliases, &exports)
+}

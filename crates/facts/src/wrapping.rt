@@ -1,0 +1,32 @@
+//! A component around a core module.
+use std::alloc::Allocator;
+use wasm_encoder::{ComponentBuilder, ComponentExportKind, ExportKind, Fault};
+
+/// A component around a core module that exports the function "run", which takes and gives nothing:
+/// it exports that function of the component.
+pub fn wrapped<A: Allocator + Copy>(alloc: A, module: &[u8]) -> Result<Vec<u8, A>, Fault> {
+    let mut builder = ComponentBuilder::new(alloc)?;
+    wrap(&mut builder, module)?;
+    builder.finish()
+}
+
+fn wrap<A: Allocator>(builder: &mut ComponentBuilder<A>, module: &[u8]) -> Result<u32, Fault> {
+    let module = builder.core_module_raw(None, module)?;
+    let instance = builder.core_instantiate(None, module, [].into_iter())?;
+    let core_run = builder.core_alias_export(None, instance, "run", ExportKind::Func)?;
+    let ty = run_type(builder)?;
+    let run = builder.lift_func(None, core_run, ty, [].into_iter())?;
+    builder.export("run".into(), ComponentExportKind::Func, run, None)
+}
+
+/// The type of a function that takes and gives nothing.
+fn run_type<A: Allocator>(builder: &mut ComponentBuilder<A>) -> Result<u32, Fault> {
+    match builder.type_function(None) {
+        Ok((ty, mut function)) => {
+            function.params([].into_iter())?;
+            function.result(None)?;
+            Ok(ty)
+        }
+        Err(fault) => Err(fault),
+    }
+}

@@ -1,0 +1,73 @@
+//! Items that were listed, as the commands that add them.
+use crate::command::Command;
+use std::alloc::Allocator;
+use wenc_list::ItemTree;
+
+impl<A: Allocator> From<ItemTree<A>> for Command<A> {
+    ghost use Rattle.std.specs.Prelude.{◌≡◌};
+    ghost use Rattle.wenc_list.specs.Items.{item_view};
+    ghost use Rattle.wasm_encoder.specs.Command.{command_view};
+    ghost use Rattle.wasm_encoder.specs.ItemCommands.{command_of};
+
+    ghost from_gives = { λ item command. command_view command ≡ command_of (item_view item) };
+
+    /// The command that adds this item, without a debug name; a nested component by its bytes. It takes no memory.
+    fn from(item: ItemTree<A>) -> Command<A> {
+        match item {
+            ItemTree::Module(bytes) => Command::CoreModule {
+                debug_name: None,
+                bytes,
+            },
+            ItemTree::CoreInstance(instance) => Command::CoreInstance {
+                debug_name: None,
+                instance,
+            },
+            ItemTree::CoreType(ty) => Command::CoreType {
+                debug_name: None,
+                ty: Box::into_inner(ty),
+            },
+            ItemTree::Component(bytes) => Command::ComponentRaw {
+                debug_name: None,
+                bytes,
+            },
+            ItemTree::Instance(instance) => Command::Instance {
+                debug_name: None,
+                instance,
+            },
+            ItemTree::Alias(alias) => Command::Alias {
+                debug_name: None,
+                alias,
+            },
+            ItemTree::Type(ty) => Command::Type {
+                debug_name: None,
+                ty,
+            },
+            ItemTree::Canon(canon) => Command::Canon {
+                debug_name: None,
+                canon,
+            },
+            ItemTree::Start {
+                function,
+                args,
+                results,
+            } => Command::Start {
+                function,
+                args,
+                results,
+            },
+            ItemTree::Import { name, ty } => Command::Import { name, ty },
+            ItemTree::Export {
+                name,
+                kind,
+                index,
+                ty,
+            } => Command::Export {
+                name,
+                kind,
+                index,
+                ty,
+            },
+            ItemTree::Custom { name, data } => Command::Custom { name, data },
+        }
+    }
+}

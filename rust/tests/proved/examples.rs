@@ -1,0 +1,203 @@
+//! The examples of the doc comments and the proved callers, run. Expected bytes are outside
+//! answers: those of components from Rust's `wasm-encoder` 0.263.0; those of values, core types,
+//! modules and custom sections from the format's rows.
+
+use crate::proved::facts::callers::passed_on;
+use crate::proved::facts::examples::{
+    base, builder, canon, list, parts, program, sections, trees, types,
+};
+use crate::proved::facts::importing::importing;
+use crate::proved::rt_std::alloc::Global;
+use crate::proved::rt_std::vec::Vec;
+use crate::proved::wasm_encoder::{Encode, Fault};
+
+/// These bytes were written.
+fn writes(written: Result<Vec<u8>, Fault>, bytes: &[u8]) {
+    assert_eq!(written.unwrap().as_slice(), bytes);
+}
+
+/// What was made has this text.
+fn makes<T: Encode>(made: Result<T, Fault>, text: &[u8]) {
+    let mut sink = Vec::new(Global);
+    made.unwrap().encode(&mut sink).unwrap();
+    assert_eq!(sink.as_slice(), text);
+}
+
+const ENCODE: &[u8] = b"\x01f\x02\x01\x02";
+
+const HOLDER: &[u8] = b"\x04\x01\x01f\x00";
+
+const MODULE: &[u8] = b"\0asm\x01\0\0\0\x00\x02\x01x";
+
+const NAME_MAP: &[u8] = b"\x01\x00\x03now";
+
+const CANON: &[u8] = b"\x03\x03";
+
+/// Components that builders made.
+const BUILDER: &[u8] =
+    b"\0asm\x0d\0\x01\0\x0a\x06\x01\x00\x01f\x01\x00\x0b\x07\x01\x00\x01g\x01\x00\x00";
+
+const BUILDER_TYPES: &[u8] =
+    b"\0asm\x0d\0\x01\0\x07\x03\x01\x6b\x73\x0b\x0a\x01\x00\x04name\x03\x00\x00";
+
+const PASSED_ON: &[u8] =
+    b"\0asm\x0d\0\x01\0\x0a\x06\x01\x00\x01f\x01\x00\x0b\x07\x01\x00\x01g\x01\x00\x00";
+
+const IMPORTING: &[u8] = b"\0asm\x0d\0\x01\0\x0a\x06\x01\x00\x01f\x01\x00";
+
+#[test]
+fn values_and_builders() {
+    writes(base::encode(Global), ENCODE);
+    writes(base::holder(Global), HOLDER);
+    writes(base::module(Global), MODULE);
+    writes(base::names(Global), NAME_MAP);
+    writes(trees::canon(Global), CANON);
+    writes(builder::builder(Global), BUILDER);
+    writes(builder::types(Global), BUILDER_TYPES);
+    writes(passed_on(Global), PASSED_ON);
+    writes(importing(Global), IMPORTING);
+}
+
+/// Components by hand.
+const CUSTOM: &[u8] = b"\0asm\x0d\0\x01\0\x00\x07\x05notes\x2a";
+
+const PRODUCERS: &[u8] =
+    b"\0asm\x0d\0\x01\0\x00\x1f\x09producers\x01\x08language\x01\x04Rust\x042024";
+
+const COMPONENT: &[u8] = b"\0asm\x0d\0\x01\0\x0a\x06\x01\x00\x01f\x01\x00";
+
+const ALIASES: &[u8] = b"\0asm\x0d\0\x01\0\x06\x0a\x01\x00\x02\x01\x02\x04heap";
+
+const EXPORTS: &[u8] = b"\0asm\x0d\0\x01\0\x0b\x0b\x01\x00\x05clock\x05\x03\x00";
+
+const IMPORTS: &[u8] = b"\0asm\x0d\0\x01\0\x0a\x11\x02\x00\x03log\x01\x00\x00\x05clock\x05\x01";
+
+const CORE_INSTANCES: &[u8] =
+    b"\0asm\x0d\0\x01\0\x02\x13\x02\x01\x01\x04heap\x02\x00\x00\x02\x01\x03env\x12\x00";
+
+const INSTANCES: &[u8] =
+    b"\0asm\x0d\0\x01\0\x05\x15\x02\x01\x01\x00\x03now\x01\x04\x00\x02\x01\x05clock\x05\x00";
+
+const MODULES: &[u8] = b"\0asm\x0d\0\x01\0\x01\x0c\0asm\x01\0\0\0\x00\x02\x01x";
+
+const NESTED: &[u8] = b"\0asm\x0d\0\x01\0\x04\x0c\0asm\x0d\0\x01\0\x00\x02\x01x";
+
+const START: &[u8] = b"\0asm\x0d\0\x01\0\x09\x04\x02\x01\x03\x00";
+
+const CORE_TYPES: &[u8] = b"\0asm\x0d\0\x01\0\x03\x05\x01\x60\x01\x7e\x00";
+
+const TYPES: &[u8] = b"\0asm\x0d\0\x01\0\x07\x0c\x02\x72\x01\x04name\x73\x3f\x7f\x00";
+
+const NAMES: &[u8] =
+    b"\0asm\x0d\0\x01\0\x00\x20\x0ecomponent-name\x00\x06\x05clock\x01\x07\x01\x01\x00\x03now";
+
+const FUNCTIONS: &[u8] = b"\0asm\x0d\0\x01\0\x08\x0b\x02\x00\x00\x03\x02\x01\x03\x00\x01\x03\x02";
+
+#[test]
+fn sections_by_hand() {
+    writes(base::custom(Global), CUSTOM);
+    writes(base::producers(Global), PRODUCERS);
+    writes(sections::component(Global), COMPONENT);
+    writes(sections::aliases(Global), ALIASES);
+    writes(sections::exports(Global), EXPORTS);
+    writes(sections::imports(Global), IMPORTS);
+    writes(sections::core_instances(Global), CORE_INSTANCES);
+    writes(sections::instances(Global), INSTANCES);
+    writes(sections::module(Global), MODULES);
+    writes(sections::nested(Global), NESTED);
+    writes(sections::start(Global), START);
+    writes(sections::core_types(Global), CORE_TYPES);
+    writes(sections::types(Global), TYPES);
+    writes(sections::names(Global), NAMES);
+    writes(canon::functions(Global), FUNCTIONS);
+}
+
+const ALIAS: &[u8] = b"\x03\x02\x01\x02";
+
+/// Types by encoders.
+const DECLARATIONS: &[u8] = b"\x42\x01\x00\x60\x00\x00";
+
+const MODULE_TYPE: &[u8] = b"\x50\x02\x01\x60\x00\x01\x7f\x03\x06answer\x00\x00";
+
+const COMPONENT_TYPE: &[u8] = b"\x11\x01\x41\x02\x01\x70\x7d\x03\x00\x05bytes\x03\x00\x00";
+
+const INSTANCE_TYPE: &[u8] = b"\x10\x01\x42\x02\x01\x6b\x73\x04\x00\x04name\x03\x00\x00";
+
+const TWO_CORE_TYPES: &[u8] = b"\x0c\x02\x50\x01\x02\x10\x01\x01\x00\x60\x00\x01\x7c";
+
+const TWO_TYPES: &[u8] = b"\x06\x02\x3f\x7f\x00\x69\x00";
+
+const DEFINED_TYPES: &[u8] = b"\x13\x02\x72\x02\x04name\x73\x06street\x73\x6b\x73";
+
+const FUNC_TYPE: &[u8] = b"\x0b\x01\x40\x01\x04line\x73\x01\x00";
+
+#[test]
+fn types_by_encoders() {
+    makes(types::declarations(Global), DECLARATIONS);
+    makes(types::module_type(Global), MODULE_TYPE);
+    makes(types::component_type(Global), COMPONENT_TYPE);
+    makes(types::instance_type(Global), INSTANCE_TYPE);
+    makes(types::core_types(Global), TWO_CORE_TYPES);
+    makes(types::types(Global), TWO_TYPES);
+    makes(types::defined_types(Global), DEFINED_TYPES);
+    makes(types::func_type(Global), FUNC_TYPE);
+    let holder = base::core_type(Global).unwrap();
+    let mut sink = Vec::new(Global);
+    holder.encode_section(&mut sink).unwrap();
+    assert_eq!(sink.as_slice(), b"\x05\x01\x60\x01\x7f\x00");
+}
+
+/// Trees of items, and parts of items.
+const CORE_TYPE: &[u8] = b"\x50\x02\x01\x60\x00\x01\x7f\x03\x06answer\x00\x00";
+
+const FLAGS: &[u8] = b"\x6e\x02\x04read\x05write";
+
+const TYPE: &[u8] = b"\x42\x02\x01\x40\x00\x01\x00\x04\x00\x04stop\x01\x00";
+
+const CORE_INSTANCE: &[u8] = b"\x00\x01\x01\x03env\x12\x00";
+
+const INSTANCE: &[u8] = b"\x01\x01\x00\x03now\x01\x00";
+
+const EXTERN_NAME: &[u8] = b"\x02\x10wall:clock/now@1\x01\x01\x04.2.3";
+
+#[test]
+fn trees_and_parts() {
+    makes(trees::core_type(Global), CORE_TYPE);
+    makes(trees::defined(Global), FLAGS);
+    makes(trees::ty(Global), TYPE);
+    makes(trees::core_instance(Global), CORE_INSTANCE);
+    makes(trees::instance(Global), INSTANCE);
+    makes(Ok(parts::alias()), ALIAS);
+    makes(Ok(parts::extern_name()), EXTERN_NAME);
+}
+
+/// Behind what was there.
+#[test]
+fn sections_behind() {
+    let (bytes, count) = canon::behind(Vec::new(Global)).unwrap();
+    assert!(count == 1 && bytes.as_slice() == b"\x03\x02".as_slice());
+    let (bytes, count) = sections::behind(bytes, parts::alias()).unwrap();
+    assert!(count == 1 && bytes.as_slice() == b"\x03\x02\x03\x02\x01\x02".as_slice());
+    let (count, copy) = sections::counted(Global).unwrap();
+    assert_eq!(count, 1);
+    makes(Ok(copy), b"\x09\x01\x00\x03log\x01\x00\x00");
+}
+
+/// A component that imports one function.
+const RUN: &[u8] = b"\0asm\x0d\0\x01\0\x0a\x08\x01\x00\x03log\x01\x00";
+
+/// What is printed of a script.
+const SCRIPT: &[u8] = b"0\n0061736d0d0001000a06010001660100\n";
+
+#[test]
+fn runs() {
+    drop(builder::command(Global).unwrap());
+    let (bytes, refused) = builder::run(Global).unwrap();
+    assert!(!refused && bytes.as_slice() == RUN);
+    assert!(list::imports(Global, RUN).unwrap());
+    let (tree, rest) = list::decoded(Global, b"\x03\x02\x01\x02\x2a").unwrap();
+    makes(Ok(tree.as_alias()), ALIAS);
+    assert_eq!(rest, b"\x2a".as_slice());
+    let (status, out) = program::script(Global);
+    assert!(status == 0 && out.as_slice() == SCRIPT);
+}

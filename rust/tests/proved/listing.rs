@@ -1,0 +1,12 @@
+//! The lister: worked components, spellings that are read and such as are not, components of which each byte is changed,
+//! each request for memory refused in turn, and what `build` makes.
+
+pub mod built;
+mod changed;
+mod checks;
+mod depth;
+mod faults;
+mod reading;
+mod rows;
+mod unfilled;
+mod widened;

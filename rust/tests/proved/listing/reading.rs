@@ -1,0 +1,63 @@
+//! What the front of bytes is read as, and what is behind it. What is read is encoded again.
+
+use crate::proved::rt_std::alloc::Global;
+use crate::proved::rt_std::vec::Vec;
+use crate::proved::wasm_encoder::{AliasTree, Encode};
+use crate::proved::wenc_decode::{Decode, type_of};
+use crate::proved::wenc_read::{NestedRefusal, extern_name_of, name_of};
+
+/// The value has this text.
+fn is_text<T: Encode>(value: &T, text: &[u8]) {
+    let mut sink = Vec::new(Global);
+    value.encode(&mut sink).unwrap();
+    assert_eq!(sink.as_slice(), text);
+}
+
+/// A name, and four bytes.
+const NAMED: &[u8] = b"\x04test\x0b\x16\x21\x2c";
+
+/// Names of imports and exports with bytes behind them, as they are encoded again, and those bytes.
+const NAMES: &[(&[u8], &[u8], &[u8])] = &[
+    (b"\x00\x01\x66\x01\x00", b"\x00\x01\x66", &[1, 0]),
+    (b"\x01\x01\x66", b"\x00\x01\x66", b""),
+    // What it implements, and an external id.
+    (b"\x02\x01\x61\x02\x00\x01\x69\x02\x00", b"\x02\x01\x61\x02\x00\x01\x69\x02\x00", b""),
+    // The suffix of a version, and an external id.
+    (b"\x02\x01\x6e\x02\x01\x01\x31\x02\x01\x78", b"\x02\x01\x6e\x02\x01\x01\x31\x02\x01\x78", b""),
+];
+
+#[test]
+fn names_and_numbers() {
+    let (name, rest) = name_of(Global, NAMED).unwrap();
+    assert!(name.as_str() == "test" && rest == [11, 22, 33, 44].as_slice());
+    let (number, rest) = u32::decode(Global, b"\x82\x80\x80\x80\x00\x01").unwrap();
+    assert!(number == 2 && rest == [1].as_slice());
+    for (bytes, text, behind) in NAMES {
+        let (name, rest) = extern_name_of(Global, bytes).unwrap();
+        assert_eq!(rest, *behind);
+        is_text(&name.as_name(), text);
+    }
+}
+
+/// An instance type with an option of a string and an export of that, and one byte.
+const INSTANCE: &[u8] = b"\x42\x02\x01\x6b\x73\x04\x00\x01\x74\x03\x00\x00\xee";
+
+/// Two aliases: that of a function of an instance, and that of a type of this component.
+const ALIASES: &[u8] = b"\x01\x00\x00\x01\x66\x03\x02\x00\x01";
+
+#[test]
+fn types_and_aliases() {
+    let shallow = type_of(Global, 0, INSTANCE).err();
+    assert_eq!(shallow, Some(NestedRefusal::TooDeep));
+    let (ty, rest) = type_of(Global, 1, INSTANCE).unwrap();
+    assert_eq!(rest, [0xee].as_slice());
+    is_text(&ty, b"\x42\x02\x01\x6b\x73\x04\x00\x01\x74\x03\x00\x00");
+    let (ty, rest) = type_of(Global, 0, b"\x3f\x7f\x01\x03").unwrap();
+    assert!(rest.is_empty());
+    is_text(&ty, b"\x3f\x7f\x01\x03");
+    let (function, rest) = AliasTree::decode(Global, ALIASES).unwrap();
+    is_text(&function.as_alias(), b"\x01\x00\x00\x01\x66");
+    let (outer, rest) = AliasTree::decode(Global, rest).unwrap();
+    is_text(&outer.as_alias(), b"\x03\x02\x00\x01");
+    assert!(rest.is_empty());
+}

@@ -1,0 +1,16 @@
+//! Tests of the proved calls themselves, which no user of the crate sees: worked rows, and sweeps in which each request
+//! for memory is refused in turn.
+
+// Tables of rows have long types.
+#![allow(clippy::type_complexity)]
+
+mod builder;
+mod examples;
+mod hex;
+mod listing;
+mod parts;
+mod program;
+mod refusing;
+mod sections;
+mod shim;
+mod sweeping;

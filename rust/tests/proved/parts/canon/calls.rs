@@ -1,0 +1,188 @@
+//! Each call of a section of canonical functions, and options.
+
+use crate::proved::rt_std::alloc::Global;
+use crate::proved::rt_std::vec::Vec;
+use crate::proved::tests::parts::checks::{check, check_all};
+use crate::proved::wenc_base::{Fault, HeapType, RefType, ValType};
+use crate::proved::wenc_canon::{CanonicalFunctionSection, CanonicalOption, NotCancellable};
+use crate::proved::wenc_parts::{ComponentSection, ComponentValType, PrimitiveValType};
+
+type Section = CanonicalFunctionSection;
+
+const OPTIONS: &[(CanonicalOption, &[u8])] = &[
+    (CanonicalOption::UTF8, &[0x00]),
+    (CanonicalOption::UTF16, &[0x01]),
+    (CanonicalOption::CompactUTF16, &[0x02]),
+    (CanonicalOption::Memory(128), &[0x03, 0x80, 0x01]),
+    (CanonicalOption::Realloc(128), &[0x04, 0x80, 0x01]),
+    (CanonicalOption::PostReturn(128), &[0x05, 0x80, 0x01]),
+    (CanonicalOption::Async, &[0x06]),
+    (CanonicalOption::Callback(128), &[0x07, 0x80, 0x01]),
+    (CanonicalOption::CoreType(128), &[0x08, 0x80, 0x01]),
+    (CanonicalOption::Gc, &[0x09]),
+];
+
+const STRING: Option<ComponentValType> =
+    Some(ComponentValType::Primitive(PrimitiveValType::String));
+
+const BOTH: &[CanonicalOption] = &[CanonicalOption::UTF8, CanonicalOption::Memory(0)];
+
+const WAITS: &[CanonicalOption] = &[CanonicalOption::UTF8, CanonicalOption::Async];
+
+const NONE: &[CanonicalOption] = &[];
+
+const GC: &[CanonicalOption] = &[CanonicalOption::Gc];
+
+const SLOT: ValType = ValType::Ref(RefType { nullable: true, heap_type: HeapType::Concrete(64) });
+
+/// Those of functions, of resources, of tasks, and of subtasks.
+fn add_functions(to: &mut Section) -> Result<(), Fault> {
+    to.lift(128, 10, BOTH.iter().copied())?;
+    to.lower(128, WAITS.iter().copied())?;
+    to.resource_new(128)?;
+    to.resource_drop(128)?;
+    to.resource_rep(128)?;
+    to.backpressure_inc()?;
+    to.backpressure_dec()?;
+    to.task_return(STRING, BOTH.iter().copied())?;
+    to.task_return(None, NONE.iter().copied())?;
+    to.task_cancel()?;
+    to.context_get(ValType::I32, 0)?;
+    to.context_set(ValType::I32, 0)?;
+    to.context_get(SLOT, 128)?;
+    to.context_set(SLOT, 128)?;
+    to.subtask_drop()?;
+    to.subtask_cancel(true)
+}
+
+const FUNCTIONS: &[u8] = &[
+    0x3d, 0x10, // The size and the count.
+    0x00, 0x00, 0x80, 0x01, 0x02, 0x00, 0x03, 0x00, 0x0a, // lift
+    0x01, 0x00, 0x80, 0x01, 0x02, 0x00, 0x06, // lower
+    0x02, 0x80, 0x01, 0x03, 0x80, 0x01, 0x04, 0x80, 0x01, // resources
+    0x24, 0x25, // backpressure
+    0x09, 0x00, 0x73, 0x02, 0x00, 0x03, 0x00, // a string is returned
+    0x09, 0x01, 0x00, 0x00, // nothing is
+    0x05, // task.cancel
+    0x0a, 0x7f, 0x00, 0x0b, 0x7f, 0x00, // slots of i32
+    0x0a, 0x63, 0xc0, 0x00, 0x80, 0x01, 0x0b, 0x63, 0xc0, 0x00, 0x80,
+    0x01, // of type 64, or none
+    0x0d, 0x06, 0x01, // subtasks
+];
+
+fn add_streams(to: &mut Section) -> Result<(), Fault> {
+    to.stream_new(128)?;
+    to.stream_read(7, WAITS.iter().copied())?;
+    to.stream_write(7, WAITS.iter().copied())?;
+    to.stream_forward(128)?;
+    to.stream_cancel_read(3, true)?;
+    to.stream_cancel_write(3, true)?;
+    to.stream_drop_readable(128)?;
+    to.stream_drop_writable(128)
+}
+
+const STREAMS: &[u8] = &[
+    0x1d, 0x08, // The size and the count.
+    0x0e, 0x80, 0x01, // new
+    0x0f, 0x07, 0x02, 0x00, 0x06, 0x10, 0x07, 0x02, 0x00, 0x06, // read and write
+    0x2e, 0x80, 0x01, // forward
+    0x11, 0x03, 0x01, 0x12, 0x03, 0x01, // cancel
+    0x13, 0x80, 0x01, 0x14, 0x80, 0x01, // drop
+];
+
+fn add_futures(to: &mut Section) -> Result<(), Fault> {
+    to.future_new(128)?;
+    to.future_read(7, WAITS.iter().copied())?;
+    to.future_write(7, WAITS.iter().copied())?;
+    to.future_forward(128)?;
+    to.future_cancel_read(3, true)?;
+    to.future_cancel_write(3, true)?;
+    to.future_drop_readable(128)?;
+    to.future_drop_writable(128)
+}
+
+const FUTURES: &[u8] = &[
+    0x1d, 0x08, // The size and the count.
+    0x15, 0x80, 0x01, // new
+    0x16, 0x07, 0x02, 0x00, 0x06, 0x17, 0x07, 0x02, 0x00, 0x06, // read and write
+    0x2f, 0x80, 0x01, // forward
+    0x18, 0x03, 0x01, 0x19, 0x03, 0x01, // cancel
+    0x1a, 0x80, 0x01, 0x1b, 0x80, 0x01, // drop
+];
+
+/// Those of error contexts and of waitables.
+fn add_waitables(to: &mut Section) -> Result<(), Fault> {
+    to.error_context_new(GC.iter().copied())?;
+    to.error_context_debug_message(GC.iter().copied())?;
+    to.error_context_drop()?;
+    to.waitable_set_new()?;
+    to.waitable_set_wait(5)?;
+    to.waitable_set_poll(5)?;
+    to.waitable_set_poll(0)?;
+    to.waitable_set_drop()?;
+    to.waitable_join()
+}
+
+const WAITABLES: &[u8] = &[
+    0x14, 0x09, // The size and the count.
+    0x1c, 0x01, 0x09, 0x1d, 0x01, 0x09, 0x1e, // error contexts
+    0x1f, 0x20, 0x00, 0x05, 0x21, 0x00, 0x05, 0x21, 0x00, 0x00, 0x22, 0x23, // waitables
+];
+
+fn add_threads(to: &mut Section) -> Result<(), Fault> {
+    to.thread_spawn_ref(128)?;
+    to.thread_spawn_indirect(1, 2)?;
+    to.thread_available_parallelism()?;
+    to.thread_index()?;
+    to.thread_new_indirect(1, 2)?;
+    to.thread_resume_later()?;
+    to.thread_suspend()?;
+    to.thread_yield()?;
+    to.thread_suspend_then_resume()?;
+    to.thread_yield_then_resume()?;
+    to.thread_suspend_then_promote()?;
+    to.thread_yield_then_promote()
+}
+
+const THREADS: &[u8] = &[
+    0x19, 0x0c, // The size and the count.
+    0x40, 0x80, 0x01, 0x41, 0x01, 0x02, 0x42, // spawned ones, and how many may run
+    0x26, 0x27, 0x01, 0x02, 0x28, // index, new_indirect, resume_later
+    0x29, 0x00, 0x0c, 0x00, // suspend and yield
+    0x2a, 0x00, 0x2b, 0x00, 0x2c, 0x00, 0x2d, 0x00, // and then
+];
+
+#[test]
+fn each_call_adds_its_row() {
+    let mut section = Section::new(Global);
+    assert!(section.is_empty());
+    check(&section, &[0x01, 0x00]);
+    add_functions(&mut section).unwrap();
+    check(&section, FUNCTIONS);
+    assert!(!section.is_empty() && section.len() == 16);
+    section = Section::new(Global);
+    add_futures(&mut section).unwrap();
+    check(&section, FUTURES);
+    section = Section::new(Global);
+    add_waitables(&mut section).unwrap();
+    check(&section, WAITABLES);
+    section = Section::new(Global);
+    add_threads(&mut section).unwrap();
+    check(&section, THREADS);
+    section = Section::new(Global);
+    let none = section.try_clone().unwrap();
+    add_streams(&mut section).unwrap();
+    let copy = section.try_clone().unwrap();
+    check(&section, STREAMS);
+    check(&copy, STREAMS);
+    check(&none, &[0x01, 0x00]);
+}
+
+#[test]
+fn options_and_ids() {
+    check_all(OPTIONS);
+    check(&NotCancellable, &[0x00]);
+    let mut sink = Vec::new(Global);
+    Section::new(Global).append_to_component(&mut sink).unwrap();
+    assert_eq!(sink.as_slice(), [0x08, 0x01, 0x00]);
+}

@@ -1,0 +1,10 @@
+//! The program: scripts, listings, streams that fail, and runs that want memory.
+
+mod lines;
+mod lists;
+mod memory;
+mod outcome;
+mod pieces;
+mod streams;
+mod transfers;
+mod vectors;

@@ -1,0 +1,120 @@
+//! Runs that want memory.
+
+use super::outcome::{End, run_program};
+use crate::proved::tests::refusing::Refusing;
+
+const FAULT: End = (2, b"", b"fault 1\n");
+
+const UNLISTED: End = (3, b"", b"Memory\n");
+
+/// Runs, by their arguments and texts, and how they end with no memory at all. Only one request is
+/// made, so the report of the fault takes none.
+const WITHOUT: &[(&[&str], &[u8], End)] = &[
+    (&[], b"", FAULT),
+    (&[], b"import f func 0\nexport g func 0\n", FAULT),
+    (&["list"], b"0061736d0d000100", UNLISTED),
+];
+
+/// A run that has each of its requests refused in turn.
+struct Sweep {
+    args: &'static [&'static str],
+    text: &'static [u8],
+    /// How it ends where none is refused.
+    whole: End,
+    /// How it ends where one is, at least so often.
+    refused: End,
+    refusals: u8,
+    /// How else it may end then, at least so often.
+    other: End,
+    others: u8,
+}
+
+const SWEEPS: &[Sweep] = &[
+    // The command itself answers `Memory` where its item has no room, and the run goes on.
+    Sweep {
+        args: &[],
+        text: b"import an-interface-with-a-long-name func 0\n",
+        whole: (
+            0,
+            b"0\n0061736d0d0001000a2201001d616e2d696e746572666163652d776974682d612d6c6f6e672d6e616d650100\n",
+            b"",
+        ),
+        refused: FAULT,
+        refusals: 1,
+        other: (2, b"refused 1\n0061736d0d000100\n", b""),
+        others: 1,
+    },
+    // The text that is read, and the text of the report.
+    Sweep {
+        args: &[],
+        text: b"\n\nx",
+        whole: (1, b"", b"line 3\n"),
+        refused: FAULT,
+        refusals: 2,
+        other: FAULT,
+        others: 0,
+    },
+    // The text, its bytes, the sections, and for each its items and a name; and what is printed.
+    Sweep {
+        args: &["list"],
+        text: b"0061736d0d0001000a060100016601000b0701000167010000",
+        whole: (0, b"10 1\n11 1\n0 0 0 0 0 0 0 0 2 0 0 0 0\n", b""),
+        refused: UNLISTED,
+        refusals: 8,
+        other: UNLISTED,
+        others: 0,
+    },
+    // The text, its bytes and the report.
+    Sweep {
+        args: &["list"],
+        text: b"0061736d0d000100060501",
+        whole: (3, b"", b"BadSection at 8\n"),
+        refused: UNLISTED,
+        refusals: 3,
+        other: UNLISTED,
+        others: 0,
+    },
+    // The text. The report of a bad one takes no memory.
+    Sweep {
+        args: &["list"],
+        text: b"0",
+        whole: (1, b"", b"line 1\n"),
+        refused: UNLISTED,
+        refusals: 1,
+        other: UNLISTED,
+        others: 0,
+    },
+];
+
+/// Each request is refused in turn, until none is left.
+fn refuse_each(heap: &Refusing, row: &Sweep) {
+    let (mut refused, mut other) = (0u8, 0u8);
+    for n in 1..200 {
+        heap.refuse_nth(n);
+        let ran = run_program(Some(heap), row.args, row.text, usize::MAX, [0; 3]);
+        if !heap.was_refused() {
+            assert!(ran.is(&row.whole) && refused >= row.refusals && other >= row.others);
+            return;
+        }
+        if ran.is(&row.refused) {
+            refused += 1;
+        } else {
+            assert!(ran.is(&row.other));
+            other += 1;
+        }
+    }
+    panic!("each of 199 requests was refused")
+}
+
+#[test]
+fn runs_want_memory() {
+    let heap = Refusing::new();
+    for (args, text, end) in WITHOUT {
+        heap.refuse_all();
+        let ran = run_program(Some(&heap), args, text, usize::MAX, [0; 3]);
+        assert!(ran.is(end) && heap.was_refused() && heap.requests() == 1);
+    }
+    for row in SWEEPS {
+        refuse_each(&heap, row);
+    }
+}

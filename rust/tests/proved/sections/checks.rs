@@ -1,0 +1,46 @@
+//! What the tests compare.
+
+use crate::proved::rt_std::alloc::Global;
+use crate::proved::rt_std::string::String;
+use crate::proved::rt_std::vec::Vec;
+use crate::proved::tests::hex::digits;
+use crate::proved::wenc_base::{Encode, Fault};
+use crate::proved::wenc_parts::ComponentSection;
+use crate::proved::wenc_sections::Component;
+use std::vec;
+
+/// The bytes are this lead and these, in hexadecimal.
+pub fn are(bytes: &[u8], lead: &str, wanted: &str) {
+    assert_eq!(digits(bytes).strip_prefix(lead), Some(wanted));
+}
+
+/// What the value appends.
+pub fn bytes(value: &impl Encode) -> Vec<u8> {
+    let mut bytes = Vec::new(Global);
+    value.encode(&mut bytes).unwrap();
+    bytes
+}
+
+/// The value's text is this, which it appends to a sink.
+pub fn is_text(value: &impl Encode, wanted: &str) {
+    let mut sink = Vec::from(vec![0xee]);
+    value.encode(&mut sink).unwrap();
+    are(sink.as_slice(), "ee", wanted);
+}
+
+/// The call was refused since something is unfinished.
+pub fn is_refused(outcome: Result<(), Fault>) {
+    assert_eq!(outcome, Err(Fault::Unfinished));
+}
+
+/// A text of its own.
+pub fn owned(text: &str) -> String {
+    String::from_str(Global, text).unwrap()
+}
+
+/// A component with this section alone has these bytes behind its header.
+pub fn alone(section: &impl ComponentSection, wanted: &str) {
+    let mut component = Component::new(Global).unwrap();
+    component.section(section).unwrap();
+    are(component.as_slice(), "0061736d0d000100", wanted);
+}
