@@ -8,12 +8,33 @@
 //! `Component` has all that is kept appended to it, section by section.
 
 use wenc::tree::ItemTree;
-use wenc::{Component, ComponentSectionId, ListFault, RawSection, list};
+use wenc::{Component, ComponentSection, ComponentSectionId, Encode, ListFault, RawSection, list};
+
+/// A section that is kept as it stands.
+struct Kept<'a> {
+    id: u8,
+    /// What stands behind the id.
+    text: &'a [u8],
+}
+
+impl Encode for Kept<'_> {
+    fn encode(&self, sink: &mut Vec<u8>) {
+        sink.extend_from_slice(self.text);
+    }
+}
+
+impl ComponentSection for Kept<'_> {
+    fn id(&self) -> u8 {
+        self.id
+    }
+}
 
 /// The component without custom sections, or why it isn't read.
 pub fn strip(bytes: &[u8]) -> Result<Vec<u8>, ListFault> {
+    let sections = list(bytes)?.sections;
+    let ends = sections.iter().skip(1).map(|next| next.place).chain([bytes.len()]);
     let mut stripped = Component::new();
-    for section in list(bytes)?.sections {
+    for (section, end) in sections.iter().zip(ends) {
         match section.items.as_slice() {
             [ItemTree::Custom { .. }] => {}
             [ItemTree::Component(inner)] => {
@@ -21,26 +42,12 @@ pub fn strip(bytes: &[u8]) -> Result<Vec<u8>, ListFault> {
                 stripped.section(&RawSection { id, data: &strip(inner)? });
             }
             _ => {
-                let data = content(&bytes[section.place..]);
-                stripped.section(&RawSection { id: section.id, data });
+                let text = &bytes[section.place + 1..end];
+                stripped.section(&Kept { id: section.id, text });
             }
         }
     }
     Ok(stripped.finish())
-}
-
-/// What stands behind the id and the size of the section with which these bytes begin.
-fn content(bytes: &[u8]) -> &[u8] {
-    let (mut at, mut size, mut shift) = (1, 0, 0);
-    loop {
-        let byte = bytes[at];
-        size |= usize::from(byte & 0x7f) << shift;
-        at += 1;
-        shift += 7;
-        if byte < 0x80 {
-            return &bytes[at..at + size];
-        }
-    }
 }
 
 #[allow(dead_code)]
@@ -71,9 +78,12 @@ mod tests {
     }
 
     #[test]
-    fn sizes_of_any_length_are_read() {
-        let data = vec![7; 200];
-        let module = [b"\x01\xc8\x01", data.as_slice()].concat();
-        assert_eq!(content(&[&module[..], b"\0"].concat()), data);
+    fn what_is_kept_is_kept_as_it_stands() {
+        let header = b"\0asm\x0d\0\x01\0";
+        let module = [b"\x01\xc8\x01", [7; 200].as_slice()].concat();
+        // This size has a byte more than it needs.
+        let padded = b"\x0a\x86\0\x01\0\x01f\x01\0";
+        let bytes = [header, module.as_slice(), b"\0\x02\x01y", padded].concat();
+        assert_eq!(strip(&bytes), Ok([header, module.as_slice(), padded].concat()));
     }
 }
