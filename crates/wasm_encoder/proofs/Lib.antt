@@ -9,3 +9,4 @@ pub mod NamedIndices
 pub mod NestedRuns
 pub mod Itself
 pub mod SectionsFit
+pub mod OneKind

@@ -9,13 +9,13 @@ use Rattle.wenc_base.specs.laws.Holders.{section_text_of}
 use Rattle.wasm_encoder.specs.AllForms.{FormName, SectionsOf, value_of, form_of}
 use Rattle.wasm_encoder.proofs.AllLawful.{laws_of}
 
-pub section_fits : (f : FormName) (h : HolderState) (values : List (value_of f)) → Contains (form_of f) h values → h.count < 2 ^ 32 → content_size h.count (length h.body) < 2 ^ 32 → (counted (form_of f) values).Fits
-section_fits f h values c few small =
+pub section_fits : (f : FormName) (h : HolderState) (values : List (value_of f)) → Contains (form_of f) h values → (held_section h).Fits → (counted (form_of f) values).Fits
+section_fits f h values c ((few, small), _) =
     let size : length (unsigned_text (length values) ++ flat_map (λ v. (form_of f v).text) values) ≡ content_size h.count (length h.body) =
     rw (c.count, c.body) (length-append (unsigned_text h.count) (flat_map (λ v. (form_of f v).text) values)) in
     (rw size small, (rw c.count few, c.fit))
 
-pub section_read : (f : FormName) (h : HolderState) (values : List (value_of f)) → Contains (form_of f) h values → h.count < 2 ^ 32 → content_size h.count (length h.body) < 2 ^ 32
+pub section_read : (f : FormName) (h : HolderState) (values : List (value_of f)) → Contains (form_of f) h values → (held_section h).Fits
     → (mode : Spelling) (rest : List ℕ) → (counted (form_of f) values).Reads mode ((held_section h).text ++ rest) rest
-section_read f h values c few small mode rest =
-    rw (section_text_of (form_of f) h values c) ((laws_of (SectionsOf f)).text_is_read mode values rest (section_fits f h values c few small))
+section_read f h values c fits mode rest =
+    rw (section_text_of (form_of f) h values c) ((laws_of (SectionsOf f)).text_is_read mode values rest (section_fits f h values c fits))

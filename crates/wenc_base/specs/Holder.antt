@@ -7,7 +7,7 @@ use Rattle.std.specs.List.{flat_map, AllByRecursion}
 use Rattle.wenc_base.specs.Number.{unsigned_text, number_size, u32}
 use Rattle.wenc_base.specs.Fault.{IsWarranted, NoCause}
 use Rattle.wenc_base.specs.Forms.{list}
-use Rattle.wenc_base.specs.Piece.{Piece, Form, refused_for, verbatim, ◌⨾◌}
+use Rattle.wenc_base.specs.Piece.{Piece, Form, only_where, refused_for, verbatim, ◌⨾◌}
 use Rattle.wenc_base.specs.declared.fault.Fault.{Fault}
 use Rattle.wenc_base.specs.declared.fault.Fault.TheVariants.{Memory, TooMany, TooLarge, Unfinished}
 use Rattle.wenc_base.specs.declared.holder.openings.Opening.{Opening}
@@ -145,6 +145,8 @@ listed lead form tail vs = lead ⨾ list form vs ⨾ tail
 abbrev pub held_members : HolderState → Piece
 held_members h = refused_for (EncodeCause h) (u32 h.count ⨾ verbatim h.body)
 
--- the section of the members, which are taken as they are
+-- the section of the members, which are taken as they are; their number and its size have 32 bits
 abbrev pub held_section : HolderState → Piece
-held_section h = refused_for (EncodeCause h) (verbatim (section_text h))
+held_section h = refused_for (EncodeCause h) (only_where
+    ((h.count < 2 ^ 32) × (content_size h.count (length h.body) < 2 ^ 32))
+    (verbatim (section_text h)))

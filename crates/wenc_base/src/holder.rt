@@ -3,7 +3,7 @@ ghost use Rattle.std.specs.Iterator.{IsFinite};
 ghost use Rattle.std.specs.Iterator.Runs.{SomeRun, WholeRun};
 ghost use Rattle.wenc_base.specs.Encode.{Appends, Appended};
 ghost use Rattle.wenc_base.specs.Fault.{IsWarranted, IsMemory};
-ghost use Rattle.wenc_base.specs.Holder.{no_members, all_bytes, holding, is_finished, content_size, section_text, cut_to, OneMoreCause, AddsMember, AddsListed, listed, held_members, EncodeCause};
+ghost use Rattle.wenc_base.specs.Holder.{no_members, all_bytes, holding, is_finished, content_size, section_text, cut_to, OneMoreCause, AddsMember, AddsListed, listed, held_members, held_section, EncodeCause};
 ghost use Rattle.wenc_base.specs.Lender.{ExtendsListed};
 ghost use Rattle.wenc_base.specs.Openings.{member_appended, no_room_in_holder};
 ghost use Rattle.wenc_base.specs.Piece.{verbatim};
@@ -269,8 +269,9 @@ impl<A: Allocator> Holder<A> {
     /// want of memory alone.
     #[tactic(auto, using(crate::proofs::Groups::size_of_u32))]
     pub fn encode_section<B: Allocator>(&self, sink: &mut Vec<u8, B>) -> Result<(), Fault>
-        ensures { Appends (section_text self.now) (EncodeCause self.now)
+        ensures appended { Appends (section_text self.now) (EncodeCause self.now)
             (is_finished self.now ≡ false) sink.old.items sink.new.items result }
+        ensures fits { OnOk result (held_section self.now).Fits }
     {
         if !self.is_finished() {
             return Err(Fault::Unfinished);

@@ -1,5 +1,5 @@
 //! The calls that add an alias.
-ghost use Rattle.std.specs.Prelude.{◌≡◌, None, Some};
+ghost use Rattle.std.specs.Prelude.{◌≡◌, ◌<◌, None, Some};
 ghost use Rattle.std.specs.Str.{IsUtf8};
 ghost use Rattle.wenc_base.specs.declared.exports.ExportKind.{ExportKind as CoreKinds};
 ghost use Rattle.wenc_builder.specs.Entry.{alias_entry};
@@ -40,6 +40,7 @@ pub extern "C" fn wenc_alias_export(
     ensures number { IsText named debug_name.now → IsUtf8 name.now → kind_of kind_number ≡ None
         → Refuses 7 result builder.old.session builder.new.session }
     ensures kept { ¬ (result ≡ 0) → index.new ≡ index.old }
+    ensures few { result < 10 }
 {
     let debug_name = given!(text_where(named, debug_name));
     let name = given!(text(name));
@@ -78,6 +79,7 @@ pub extern "C" fn wenc_alias_core_export(
     ensures number { IsText named debug_name.now → IsUtf8 name.now → core_kind_of kind_number ≡ None
         → Refuses 7 result builder.old.session builder.new.session }
     ensures kept { ¬ (result ≡ 0) → index.new ≡ index.old }
+    ensures few { result < 10 }
 {
     let debug_name = given!(text_where(named, debug_name));
     let name = given!(text(name));
@@ -114,6 +116,7 @@ pub extern "C" fn wenc_alias_outer(
     ensures number { IsText named debug_name.now → outer_kind_of kind_number ≡ None
         → Refuses 7 result builder.old.session builder.new.session }
     ensures kept { ¬ (result ≡ 0) → index.new ≡ index.old }
+    ensures few { result < 10 }
 {
     let debug_name = given!(text_where(named, debug_name));
     let kind = given!(outer_kind(kind_number), or BadArgument);

@@ -1,5 +1,5 @@
 //! The calls that add a module, a component, a start, or what has no index.
-ghost use Rattle.std.specs.Prelude.{◌≡◌, None};
+ghost use Rattle.std.specs.Prelude.{◌≡◌, ◌<◌, None};
 ghost use Rattle.std.specs.Str.{IsUtf8};
 ghost use Rattle.wenc_builder.specs.Entry.{component_entry, custom_entry, module_entry, raw_entry, start_entry};
 ghost use Rattle.wenc_c.specs.Handles.{Adds, AddsNamesAt, AddsWithoutIndex, IsText, NestsAt, Refuses, text_if};
@@ -27,6 +27,7 @@ pub extern "C" fn wenc_core_module(
     ensures malformed { ¬ (IsText named debug_name.now)
         → Refuses 5 result builder.old.session builder.new.session }
     ensures kept { ¬ (result ≡ 0) → index.new ≡ index.old }
+    ensures few { result < 10 }
 {
     let debug_name = given!(text_where(named, debug_name));
     let mut session = given!(builder.take(alloc), or NoBuilder);
@@ -51,6 +52,7 @@ pub extern "C" fn wenc_component_bytes(
     ensures malformed { ¬ (IsText named debug_name.now)
         → Refuses 5 result builder.old.session builder.new.session }
     ensures kept { ¬ (result ≡ 0) → index.new ≡ index.old }
+    ensures few { result < 10 }
 {
     let debug_name = given!(text_where(named, debug_name));
     let mut session = given!(builder.take(alloc), or NoBuilder);
@@ -75,6 +77,7 @@ pub extern "C" fn wenc_component_ref(
         → Refuses 5 result builder.old.session builder.new.session }
     ensures kept { ¬ (result ≡ 0) → index.new ≡ index.old }
     ensures left { nested.new.session ≡ nested.old.session }
+    ensures few { result < 10 }
 {
     let debug_name = given!(text_where(named, debug_name));
     let inner = given!(nested.take(alloc), or NoBuilder);
@@ -105,6 +108,7 @@ pub extern "C" fn wenc_component(
     ensures kept { ¬ (result ≡ 0) → index.new ≡ index.old }
     ensures given_up { result ≡ 0 → nested.new.session ≡ None }
     ensures left { ¬ (result ≡ 0) → nested.new.session ≡ nested.old.session }
+    ensures few { result < 10 }
 {
     let status = wenc_component_ref(alloc, builder, named, debug_name, nested, index);
     if status == 0 {
@@ -126,6 +130,7 @@ pub extern "C" fn wenc_start(
     ensures added { Adds builder.old.session builder.new.session (answer_of result index.new)
         (start_entry function args.now results) }
     ensures kept { ¬ (result ≡ 0) → index.new ≡ index.old }
+    ensures few { result < 10 }
 {
     let mut session = given!(builder.take(alloc), or NoBuilder);
     let answer = session.start(function, args, results);
@@ -145,6 +150,7 @@ pub extern "C" fn wenc_custom_section(
         (outcome_of result) (custom_entry name.now contents.now) }
     ensures malformed { ¬ (IsUtf8 name.now)
         → Refuses 5 result builder.old.session builder.new.session }
+    ensures few { result < 10 }
 {
     let name = given!(text(name));
     let mut session = given!(builder.take(alloc), or NoBuilder);
@@ -158,6 +164,7 @@ pub extern "C" fn wenc_custom_section(
 pub extern "C" fn wenc_raw_custom_section(alloc: Global, builder: &mut Handle, bytes: &[u8]) -> u32
     ensures { AddsWithoutIndex builder.old.session builder.new.session (outcome_of result)
         (raw_entry bytes.now) }
+    ensures few { result < 10 }
 {
     let mut session = given!(builder.take(alloc), or NoBuilder);
     let answer = session.raw_custom_section(bytes);
@@ -169,6 +176,7 @@ pub extern "C" fn wenc_raw_custom_section(alloc: Global, builder: &mut Handle, b
 #[unsafe(no_mangle)]
 pub extern "C" fn wenc_append_names(alloc: Global, builder: &mut Handle) -> u32
     ensures { AddsNamesAt builder.old.session builder.new.session (outcome_of result) }
+    ensures few { result < 10 }
 {
     let mut session = given!(builder.take(alloc), or NoBuilder);
     let answer = session.append_names();

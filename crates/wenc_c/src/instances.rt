@@ -1,5 +1,5 @@
 //! The call that adds a core instance of exports.
-ghost use Rattle.std.specs.Prelude.{◌≡◌};
+ghost use Rattle.std.specs.Prelude.{◌≡◌, ◌<◌};
 ghost use Rattle.std.specs.Str.{IsUtf8};
 ghost use Rattle.wenc_builder.specs.Entry.{core_instance_entry};
 ghost use Rattle.wenc_c.specs.Handles.{Adds, IsText, Refuses, text_if};
@@ -37,6 +37,7 @@ pub extern "C" fn wenc_core_exports(
         → ¬ (ArePacked core_item_of names.now exports.now)
         → Refuses 7 result builder.old.session builder.new.session }
     ensures kept { ¬ (result ≡ 0) → index.new ≡ index.old }
+    ensures few { result < 10 }
 {
     let debug_name = given!(text_where(named, debug_name));
     let names = given!(text(names));

@@ -50,6 +50,7 @@ pub extern "C" fn wenc_finish(alloc: Global, builder: &mut Handle, len: &mut usi
     ensures finished { FinishesAt builder.old.session builder.new.session
         (answer_of result len.new) }
     ensures kept { ¬ (result ≡ 0) → len.new ≡ len.old }
+    ensures few { result < 10 }
 {
     let mut session = given!(builder.take(alloc), or NoBuilder);
     let answer = session.finish(alloc);
@@ -89,6 +90,7 @@ pub extern "C" fn wenc_count(
     ensures number { space_of space_number ≡ None → result ≡ 7 }
     ensures kept { ¬ (result ≡ 0) → count.new ≡ count.old }
     ensures same { builder.new.session ≡ builder.old.session }
+    ensures few { result < 10 }
 {
     let space = given!(space(space_number), or BadArgument);
     let session = given!(builder.take(alloc), or NoBuilder);

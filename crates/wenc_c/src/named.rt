@@ -1,5 +1,5 @@
 //! The calls that add imports and exports.
-ghost use Rattle.std.specs.Prelude.{◌≡◌, None, Option, Some};
+ghost use Rattle.std.specs.Prelude.{◌≡◌, ◌<◌, None, Option, Some};
 ghost use Rattle.std.specs.Str.{IsUtf8};
 ghost use Rattle.wenc_builder.specs.Entry.{export_entry, import_entry};
 ghost use Rattle.wenc_c.specs.Handles.{Adds, Refuses};
@@ -34,6 +34,7 @@ pub extern "C" fn wenc_import(
     ensures number { IsUtf8 name.now → type_ref_of reference of ≡ None
         → Refuses 7 result builder.old.session builder.new.session }
     ensures kept { ¬ (result ≡ 0) → index.new ≡ index.old }
+    ensures few { result < 10 }
 {
     let name = given!(text(name));
     let ty = given!(type_ref(reference, of), or BadArgument);
@@ -74,6 +75,7 @@ pub extern "C" fn wenc_import_named(
         → type_ref_of reference of ≡ None
         → Refuses 7 result builder.old.session builder.new.session }
     ensures kept { ¬ (result ≡ 0) → index.new ≡ index.old }
+    ensures few { result < 10 }
 {
     let name = given!(name_of(
         name,
@@ -114,6 +116,7 @@ pub extern "C" fn wenc_export(
     ensures reference { IsUtf8 name.now → given_type_of reference of ≡ None
         → Refuses 7 result builder.old.session builder.new.session }
     ensures kept { ¬ (result ≡ 0) → index.new ≡ index.old }
+    ensures few { result < 10 }
 {
     let name = given!(text(name));
     let kind = given!(kind(kind_number), or BadArgument);
@@ -162,6 +165,7 @@ pub extern "C" fn wenc_export_named(
         → given_type_of reference of ≡ None
         → Refuses 7 result builder.old.session builder.new.session }
     ensures kept { ¬ (result ≡ 0) → index.new ≡ index.old }
+    ensures few { result < 10 }
 {
     let name = given!(name_of(
         name,

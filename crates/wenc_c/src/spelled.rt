@@ -35,6 +35,7 @@ pub extern "C" fn wenc_item(
         → Refuses 7 result builder.old.session builder.new.session }
     ensures kept { ¬ (result ≡ 0) → index.new ≡ index.old }
     ensures none { section ≡ 0 → index.new ≡ index.old }
+    ensures few { result < 10 }
 {
     let debug_name = given!(text_where(named, debug_name));
     if section > 11 {

@@ -1,5 +1,5 @@
 //! The calls that add types.
-ghost use Rattle.std.specs.Prelude.{◌≡◌, None, Option, Some};
+ghost use Rattle.std.specs.Prelude.{◌≡◌, ◌<◌, None, Option, Some};
 ghost use Rattle.std.specs.Str.{IsUtf8};
 ghost use Rattle.wenc_builder.specs.Entry.{type_entry};
 ghost use Rattle.wenc_c.specs.Handles.{Adds, IsText, Refuses, text_if};
@@ -40,6 +40,7 @@ pub extern "C" fn wenc_record(
         → ¬ (ArePacked value_of names.now fields.now)
         → Refuses 7 result builder.old.session builder.new.session }
     ensures kept { ¬ (result ≡ 0) → index.new ≡ index.old }
+    ensures few { result < 10 }
 {
     let debug_name = given!(text_where(named, debug_name));
     let names = given!(text(names));
@@ -82,6 +83,7 @@ pub extern "C" fn wenc_function(
         → answer_type_of reference of ≡ None
         → Refuses 7 result builder.old.session builder.new.session }
     ensures kept { ¬ (result ≡ 0) → index.new ≡ index.old }
+    ensures few { result < 10 }
 {
     let debug_name = given!(text_where(named, debug_name));
     let names = given!(text(names));

@@ -1,18 +1,19 @@
 //! Laws over what the calls of a builder lead to.
 ghost use Rattle.std.specs.List.{AllByRecursion};
 ghost use Rattle.std.specs.List.Sorted.{IsStrictlyIncreasing};
-ghost use Rattle.std.specs.Prelude.{◌≡◌, ◌+◌, ◌<◌, ◌≤◌, ◌^◌, ◌++◌, ◌∷◌, [], ℕ, List, map, IsOk, Ok, Option, Result};
-ghost use Rattle.wenc_base.specs.Fault.{NoCause, either};
+ghost use Rattle.std.specs.Prelude.{◌≡◌, ◌↔◌, ◌+◌, ◌<◌, ◌≤◌, ◌^◌, ◌++◌, ◌∷◌, [], ℕ, List, length, map, IsOk, Ok, Option, Result, Some};
+ghost use Rattle.wenc_base.specs.Fault.{NoCause};
+ghost use Rattle.wenc_base.specs.Lender.{Ends};
 ghost use Rattle.wenc_base.specs.declared.fault.Fault.{Fault};
 ghost use Rattle.wenc_builder.specs.Builder.{State, Draft, item_begun, item_appended, item_ended, item_given_up, count_in, draft_in};
-ghost use Rattle.wenc_builder.specs.Enters.{Enters, EntersWithoutIndex};
+ghost use Rattle.wenc_builder.specs.Enters.{BeginsItem, Enters, EntersWithoutIndex};
 ghost use Rattle.wenc_builder.specs.Entry.{Entry, items as items_of, names, type_entry, core_type_entry};
 ghost use Rattle.wenc_builder.specs.Holds.{Holds};
-ghost use Rattle.wenc_builder.specs.Item.{Item};
+ghost use Rattle.wenc_builder.specs.Item.{Item, collected};
 ghost use Rattle.wenc_builder.specs.LenderState.{no_room_in_section};
-ghost use Rattle.wenc_builder.specs.Sections.{Section, Run, runs};
-ghost use Rattle.wenc_builder.specs.Space.{defines, some_in, next_index};
-ghost use Rattle.wenc_builder.specs.Cause.{BeginCause};
+ghost use Rattle.wenc_builder.specs.Raw.{HasNoRaw};
+ghost use Rattle.wenc_builder.specs.Sections.{Section, Run, runs, whole};
+ghost use Rattle.wenc_builder.specs.Space.{defines, some_in, next_index, space_number};
 ghost use Rattle.wenc_parts.specs.declared.component.ComponentSectionId.TheVariants as ids;
 ghost use Rattle.wenc_builder.specs.declared.builder.space.Space.{Space};
 ghost use Rattle.wenc_builder.specs.declared.builder.space.Space.TheVariants as spaces;
@@ -31,6 +32,25 @@ ghost use Rattle.wasm_encoder.specs.Ran.{Ran};
 pub fn neighbours_differ()
     ensures { (xs : List Item) (front behind : List Section) (id : ℕ) (ys zs : List Item)
         → runs xs ≡ front ++ Run id ys ∷ Run id zs ∷ behind → ⊥ }
+{}
+
+/// Items of one collected kind are one section, and none of them is raw. Where each takes one index in a space, they
+/// take as many there as they are.
+pub fn one_kind_is_one_section()
+    ensures one { (id : ℕ) (x : Item) (xs : List Item)
+        → AllByRecursion (λ y. collected y ≡ Some id) (x ∷ xs) → runs (x ∷ xs) ≡ Run id (x ∷ xs) ∷ [] }
+    ensures none_raw { (id : ℕ) (xs : List Item)
+        → AllByRecursion (λ y. collected y ≡ Some id) xs → HasNoRaw xs }
+    ensures indices { (space : Space) (xs : List Item)
+        → AllByRecursion (λ y. defines y ≡ some_in space 1) xs
+        → next_index xs (space_number space) ≡ length xs }
+{}
+
+/// The bytes of what two builders hold, no item raw, are equal exactly where the items are.
+pub fn held_items_tell_bytes()
+    ensures { (one other : State) (es fs : List Entry) → Holds one es → Holds other fs
+        → HasNoRaw (items_of es) → HasNoRaw (items_of fs)
+        → (whole (items_of es) ≡ whole (items_of fs)) ↔ (items_of es ≡ items_of fs) }
 {}
 
 /// An accepted call that defines one item answers the old count of the item's space, and raises that count alone, by
@@ -90,23 +110,22 @@ pub fn nested_runs()
         → (all ≡ led [] inner) × NoCause (first_cause [] inner) }
 {}
 
-/// A type that was begun, and that an encoder wrote whole and ended, is one entry more in every list that the builder
-/// held: `Begins` and `Ends` say of accepted calls what is asked here. Given up, written in part or not at all, it
-/// leaves every list held that was held.
+/// A type that an accepted call began on a builder, and that an encoder's accepted last call wrote and ended, is one
+/// entry more in every list that the builder held, and its index is its item's. Given up, written in part or not at all,
+/// it leaves every list held that was held.
 pub fn encoded_types_are_entries()
-    ensures type_written { (old lent new : State) (es : List Entry) (name : Option (List ℕ))
-        (t : DefType) → lent ≡ item_begun old (draft_in ids.«Type» spaces.Types name [])
-        → NoCause (BeginCause old (draft_in ids.«Type» spaces.Types name []))
-        → new ≡ item_ended (item_appended lent (def_type t).text) → (def_type t).Fits
-        → NoCause (either (def_type t).Cause (no_room_in_section lent (def_type t).text))
-        → Holds old es → Holds new (es ++ type_entry name t ∷ []) }
-    ensures core_type_written { (old lent new : State) (es : List Entry) (name : Option (List ℕ))
-        (t : CoreType)
-        → lent ≡ item_begun old (draft_in ids.CoreType spaces.CoreTypes name [])
-        → NoCause (BeginCause old (draft_in ids.CoreType spaces.CoreTypes name []))
-        → new ≡ item_ended (item_appended lent (core_type t).text) → (core_type t).Fits
-        → NoCause (either (core_type t).Cause (no_room_in_section lent (core_type t).text))
-        → Holds old es → Holds new (es ++ core_type_entry name t ∷ []) }
+    ensures type_written { {old lent new : State} {index : ℕ} {name : Option (List ℕ)}
+        {t : DefType} → BeginsItem (λ i. i) (λ i. lent) old (Ok index)
+        (draft_in ids.«Type» spaces.Types name [])
+        → Ends item_appended item_ended no_room_in_section lent new (Ok tt) (def_type t)
+        → (es : List Entry) → Holds old es → Holds new (es ++ type_entry name t ∷ [])
+        × (index ≡ next_index (items_of es) (space_number spaces.Types)) }
+    ensures core_type_written { {old lent new : State} {index : ℕ} {name : Option (List ℕ)}
+        {t : CoreType} → BeginsItem (λ i. i) (λ i. lent) old (Ok index)
+        (draft_in ids.CoreType spaces.CoreTypes name [])
+        → Ends item_appended item_ended no_room_in_section lent new (Ok tt) (core_type t)
+        → (es : List Entry) → Holds old es → Holds new (es ++ core_type_entry name t ∷ [])
+        × (index ≡ next_index (items_of es) (space_number spaces.CoreTypes)) }
     ensures begun_given_up { (old lent new : State) (es : List Entry) (d : Draft)
         → lent ≡ item_begun old d → new ≡ item_given_up lent → Holds old es → Holds new es }
     ensures written_given_up { (old lent new : State) (es : List Entry) (d : Draft) (text : List ℕ)

@@ -1,7 +1,7 @@
-ghost use Rattle.std.specs.Prelude.{◌≡◌, ◌<◌, ◌++◌, ◌^◌, List, ℕ, length};
+ghost use Rattle.std.specs.Prelude.{◌++◌, List, ℕ};
 ghost use Rattle.wasm_encoder.specs.AllForms.{FormName, value_of, form_of};
 ghost use Rattle.wenc_base.specs.Forms.{counted};
-ghost use Rattle.wenc_base.specs.Holder.{HolderState, Contains, ContainsSome, content_size, held_section};
+ghost use Rattle.wenc_base.specs.Holder.{HolderState, Contains, ContainsSome, held_section};
 ghost use Rattle.wenc_base.specs.Piece.{HasForm, Spelling};
 
 /// What is finished has some members, as the contract of a section's `encode` says it by their texts: these are the
@@ -11,16 +11,14 @@ pub fn what_is_finished_has_some()
         → (values : List (value_of f)) × Contains (form_of f) section values }
 {}
 
-/// A section of some values of a form can be encoded, and is read as these, counted, whatever follows: where its number
-/// and its size have 32 bits, as the contract of its `encode` says.
+/// A section of some values of a form whose number and size have 32 bits, as the contract of its `encode` says, can be
+/// encoded, and is read as these, counted, whatever follows.
 pub fn sections_are_read()
     ensures fits { (f : FormName) (section : HolderState) (values : List (value_of f))
-        → Contains (form_of f) section values → section.count < 2 ^ 32
-        → content_size section.count (length section.body) < 2 ^ 32
+        → Contains (form_of f) section values → (held_section section).Fits
         → (counted (form_of f) values).Fits }
     ensures read { (f : FormName) (section : HolderState) (values : List (value_of f))
-        → Contains (form_of f) section values → section.count < 2 ^ 32
-        → content_size section.count (length section.body) < 2 ^ 32
+        → Contains (form_of f) section values → (held_section section).Fits
         → (mode : Spelling) (rest : List ℕ)
         → (counted (form_of f) values).Reads mode ((held_section section).text ++ rest) rest }
 {}

@@ -9,10 +9,12 @@ use Rattle.wasm_encoder.proofs.Typed.{written_whole}
 use Rattle.wasm_encoder.proofs.laws.of_builders.encoded_types_are_entries.Goals as goal
 
 pub returns-clause-type_written : goal.returns-clause-type_written
-returns-clause-type_written c = λ old lent new es name t. written_whole old lent new es (type_entry name t) (draft_in ids.«Type» spaces.Types name []) (type_is_written name t)
+returns-clause-type_written c {old} {lent} {new} {index} {name} {t} begins ends es h =
+    (written_whole old lent new es (type_entry name t) (draft_in ids.«Type» spaces.Types name []) (type_is_written name t) begins.begun begins.free ends.ok ends.fits ends.free h, begins.indexed es h)
 
 pub returns-clause-core_type_written : goal.returns-clause-core_type_written
-returns-clause-core_type_written c = λ old lent new es name t. written_whole old lent new es (core_type_entry name t) (draft_in ids.CoreType spaces.CoreTypes name []) (core_type_is_written name t)
+returns-clause-core_type_written c {old} {lent} {new} {index} {name} {t} begins ends es h =
+    (written_whole old lent new es (core_type_entry name t) (draft_in ids.CoreType spaces.CoreTypes name []) (core_type_is_written name t) begins.begun begins.free ends.ok ends.fits ends.free h, begins.indexed es h)
 
 pub returns-clause-begun_given_up : goal.returns-clause-begun_given_up
 returns-clause-begun_given_up c = begun_given_up
