@@ -2,8 +2,9 @@
 
 use wasm_encoder::laws::{
     an_added_function_is_one_more, an_item_becomes_its_command, counts_never_fall, delimited,
-    encoded_types_are_entries, indices_are_no_primitives, named_indices_ascend, neighbours_differ,
-    nested_runs, one_item_counts_once, one_list, one_reading, openings_are_members, reads_once,
+    encoded_types_are_entries, held_items_tell_bytes, indices_are_no_primitives,
+    named_indices_ascend, neighbours_differ, nested_runs, one_item_counts_once,
+    one_kind_is_one_section, one_list, one_reading, openings_are_members, reads_once,
     sections_are_read, sections_are_their_items, signed_text_in_words, texts_tell_equals,
     texts_tell_values, unsigned_text_in_words, values_are_lawful, what_is_added_is_contained,
     what_is_finished_has_some,
@@ -34,4 +35,6 @@ fn laws(_rt: HostRuntime) {
     encoded_types_are_entries();
     what_is_finished_has_some();
     sections_are_read();
+    one_kind_is_one_section();
+    held_items_tell_bytes();
 }

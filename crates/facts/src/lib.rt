@@ -10,6 +10,7 @@ pub mod components;
 pub mod encoders;
 pub mod equality;
 pub mod examples;
+pub mod finished;
 pub mod hashes;
 pub mod holders;
 pub mod importing;

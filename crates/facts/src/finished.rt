@@ -1,0 +1,57 @@
+//! What builders finish, from the contracts that everybody sees.
+ghost use Rattle.std.specs.List.{AllByRecursion};
+ghost use Rattle.std.specs.Prelude.{◌≡◌, ◌↔◌, ◌∷◌, [], List, IfOk, Some, length};
+ghost use Rattle.wenc_base.specs.Piece.{Spelling};
+ghost use Rattle.wenc_builder.specs.Entry.{Entry, items};
+ghost use Rattle.wenc_builder.specs.Holds.{Holds};
+ghost use Rattle.wenc_builder.specs.Item.{collected};
+ghost use Rattle.wenc_builder.specs.Raw.{HasNoRaw};
+ghost use Rattle.wenc_builder.specs.Sections.{Reading, Run, Section};
+ghost use Rattle.wenc_builder.specs.Space.{defines, some_in};
+ghost use Rattle.wenc_builder.specs.declared.builder.space.Space.TheVariants as spaces;
+ghost use Rattle.wenc_parts.specs.SectionIds.{section_number};
+ghost use Rattle.wenc_parts.specs.declared.component.ComponentSectionId.TheVariants as ids;
+
+use std::alloc::Allocator;
+use wasm_encoder::laws::{held_items_tell_bytes, one_kind_is_one_section};
+use wenc_base::Fault;
+use wenc_builder::ComponentBuilder;
+
+/// Two builders: where none of the items that they hold is raw, the bytes are equal exactly where the items are.
+pub fn two_builders<A: Allocator, B: Allocator>(
+    one: ComponentBuilder<A>,
+    other: ComponentBuilder<B>,
+) -> Result<(Vec<u8, A>, Vec<u8, B>), Fault>
+    ensures { IfOk result (λ bytes. (es fs : List Entry) → Holds one es → Holds other fs
+        → HasNoRaw (items es) → HasNoRaw (items fs)
+        → (bytes.0.items ≡ bytes.1.items) ↔ (items es ≡ items fs)) }
+{
+    held_items_tell_bytes();
+    match one.finish() {
+        Ok(first) => match other.finish() {
+            Ok(second) => Ok((first, second)),
+            Err(fault) => Err(fault),
+        },
+        Err(fault) => Err(fault),
+    }
+}
+
+/// A builder of imports alone: its bytes are one section of these. Where they are functions, these are as many.
+pub fn imports_alone<A: Allocator>(
+    builder: ComponentBuilder<A>,
+) -> Result<(u32, Vec<u8, A>), Fault>
+    ensures one_section { IfOk result (λ r. (x : Entry) (es : List Entry) → Holds builder (x ∷ es)
+        → AllByRecursion (λ y. collected y ≡ Some (section_number ids.Import)) (items (x ∷ es))
+        → (mode : Spelling) (ss : List Section) → Reading mode r.1.items ss
+        ↔ (ss ≡ Run (section_number ids.Import) (items (x ∷ es)) ∷ [])) }
+    ensures counted { IfOk result (λ r. (es : List Entry) → Holds builder es
+        → AllByRecursion (λ y. defines y ≡ some_in spaces.Funcs 1) (items es)
+        → r.0 ≡ length (items es)) }
+{
+    one_kind_is_one_section();
+    let count = builder.func_count();
+    match builder.finish() {
+        Ok(bytes) => Ok((count, bytes)),
+        Err(fault) => Err(fault),
+    }
+}
