@@ -7,7 +7,7 @@ use wenc::{
     Alias, CanonicalFunctionSection, Component, ComponentAliasSection, ComponentBuilder,
     ComponentExportKind, ComponentOuterAliasKind, ComponentStartSection, ComponentTypeRef,
     CustomSection, Error, Module, ModuleSection, NestedComponentSection, PrimitiveValType,
-    RawCustomSection, RawSection,
+    ProducersField, ProducersSection, RawCustomSection, RawSection,
 };
 
 const BYTE: PrimitiveValType = PrimitiveValType::U8;
@@ -20,6 +20,11 @@ fn raw_module(data: &[u8]) -> RawSection<'_> {
 #[test]
 fn a_module_parts_two_sections_of_functions() {
     let wanted = "08 03 01 02 01 01 00 08 03 01 04 01";
+    let mut b = ComponentBuilder::default();
+    assert_eq!(b.resource_new(1), 0);
+    assert_eq!(b.core_module_raw(None, &[]), 0);
+    assert_eq!(b.resource_rep(1), 1);
+    assert_eq!(behind_header(b), wanted);
     let mut first_functions = CanonicalFunctionSection::new();
     first_functions.resource_new(1);
     let mut last_functions = CanonicalFunctionSection::new();
@@ -40,12 +45,19 @@ fn a_module_parts_two_sections_of_functions() {
 #[test]
 fn a_module_parts_two_sections_of_aliases() {
     let wanted = "06 06 01 01 00 00 01 66 01 01 aa 06 05 01 03 02 00 01";
-    let mut first_aliases = ComponentAliasSection::new();
     let kind = ComponentExportKind::Func;
-    first_aliases.alias(Alias::InstanceExport { instance: 0, kind, name: "f" });
-    let mut last_aliases = ComponentAliasSection::new();
+    let first_alias = Alias::InstanceExport { instance: 0, kind, name: "f" };
     let kind = ComponentOuterAliasKind::Type;
-    last_aliases.alias(Alias::Outer { kind, count: 0, index: 1 });
+    let last_alias = Alias::Outer { kind, count: 0, index: 1 };
+    let mut b = ComponentBuilder::default();
+    assert_eq!(b.alias(None, first_alias), 0);
+    assert_eq!(b.core_module_raw(None, &[0xaa]), 0);
+    assert_eq!(b.alias(None, last_alias), 0);
+    assert_eq!(behind_header(b), wanted);
+    let mut first_aliases = ComponentAliasSection::new();
+    first_aliases.alias(first_alias);
+    let mut last_aliases = ComponentAliasSection::new();
+    last_aliases.alias(last_alias);
     let mut component = Component::new();
     component.section(&first_aliases).section(&raw_module(&[0xaa])).section(&last_aliases);
     assert_eq!(behind(component.as_slice()), wanted);
@@ -98,9 +110,17 @@ fn nested<const N: usize>(commands: [Command; N]) -> Command {
 #[test]
 fn components_are_nested() {
     let nothing = "04 08 00 61 73 6d 0d 00 01 00";
+    let mut b = ComponentBuilder::default();
+    assert_eq!(b.component(None, ComponentBuilder::default()), 0);
+    assert_eq!(behind_header(b), nothing);
     assert_eq!(section(&NestedComponentSection(&Component::new())), nothing);
     builds([first(nested([]))], nothing);
     let cancels = "04 0c 00 61 73 6d 0d 00 01 00 08 02 01 05";
+    let mut inner = ComponentBuilder::default();
+    inner.task_cancel();
+    let mut b = ComponentBuilder::default();
+    assert_eq!(b.component(None, inner), 0);
+    assert_eq!(behind_header(b), cancels);
     let mut functions = CanonicalFunctionSection::new();
     functions.task_cancel();
     let mut inner = Component::new();
@@ -153,24 +173,32 @@ fn started<const N: usize>(
 
 #[test]
 fn a_start_has_two_arguments() {
-    let wanted = "09 05 00 02 00 01 01";
-    assert_eq!(section(&started(0, [0, 1], 1)), wanted);
-    builds([first(start(0, [0, 1], 1))], wanted);
-    let wanted = "09 05 07 02 00 01 01";
-    assert_eq!(section(&started(7, [0, 1], 1)), wanted);
-    builds([first(start(7, [0, 1], 1))], wanted);
+    for (function, wanted) in [(0, "09 05 00 02 00 01 01"), (7, "09 05 07 02 00 01 01")] {
+        let mut b = ComponentBuilder::default();
+        assert_eq!(b.start(function, vec![0, 1], 1), 0);
+        assert_eq!(b.value_count(), 1);
+        assert_eq!(behind_header(b), wanted);
+        assert_eq!(section(&started(function, [0, 1], 1)), wanted);
+        builds([first(start(function, [0, 1], 1))], wanted);
+    }
 }
 
 #[test]
 fn values_have_an_end() {
     let wanted = "09 07 07 00 ff ff ff ff 0f 09 03 07 00 00";
+    let byte = ComponentTypeRef::Value(BYTE.into());
+    let mut b = ComponentBuilder::default();
+    assert_eq!(b.start(7, vec![], 4294967295), 0);
+    assert_eq!(b.try_import("v", byte), Err(Error::TooMany));
+    assert_eq!(b.start(7, vec![], 0), 4294967295);
+    assert_eq!(behind_header(b), wanted);
     let mut component = Component::new();
     component.section(&started(7, [], 4294967295)).section(&started(7, [], 0));
     assert_eq!(behind(component.as_slice()), wanted);
     builds(
         [
             first(start(7, [], 4294967295)),
-            (import("v", ComponentTypeRef::Value(BYTE.into())), Err(Error::TooMany)),
+            (import("v", byte), Err(Error::TooMany)),
             (start(7, [], 0), Ok(Some(4294967295))),
         ],
         wanted,
@@ -187,6 +215,22 @@ fn a_custom_section_has_a_name_and_data() {
     assert_eq!(behind_header(b), wanted);
     assert_eq!(section(&custom), wanted);
     builds([(Command::Custom { name: "test".into(), data: data.into() }, Ok(None))], wanted);
+}
+
+#[test]
+fn a_section_of_producers_has_a_field() {
+    let mut field = ProducersField::new();
+    field.value("a", "1");
+    let mut producers = ProducersSection::new();
+    producers.field("sdk", &field);
+    let wanted = "00 14 09 70 72 6f 64 75 63 65 72 73 01 03 73 64 6b 01 01 61 01 31";
+    assert_eq!(section(&producers), wanted);
+}
+
+#[test]
+fn sections_are_empty() {
+    assert_eq!(section(&RawSection { id: 12, data: &[] }), "0c 00");
+    assert_eq!(section(&ComponentAliasSection::new()), "06 01 00");
 }
 
 #[test]

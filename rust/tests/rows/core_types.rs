@@ -5,8 +5,8 @@ use crate::hex::{behind_header, section};
 use wenc::tree::{self, CoreTypeTree, GroupTree, ModuleDecl};
 use wenc::{
     ArrayType, ComponentBuilder, CompositeInnerType, CompositeType, CoreTypeEncoder,
-    CoreTypeSection, EntityType, FieldType, FuncType, GlobalType, HeapType, MemoryType, ModuleType,
-    RefType, StorageType, SubType, TableType, TagKind, TagType, ValType,
+    CoreTypeSection, EntityType, Error, FieldType, FuncType, GlobalType, HeapType, MemoryType,
+    ModuleType, RefType, StorageType, SubType, TableType, TagKind, TagType, ValType,
 };
 
 /// A subtype that is final or not.
@@ -138,6 +138,14 @@ fn functions_take_references() {
         GroupTree::Sub(subtype_tree(true, None, function_tree(param_trees))),
         "03 0c 01 60 04 70 64 70 63 6e 63 c0 00 00",
     );
+}
+
+#[test]
+fn a_type_that_is_dropped_refuses_the_rest() {
+    let mut types = CoreTypeSection::new();
+    let _ = types.ty();
+    assert_eq!((types.len(), types.is_finished()), (1, false));
+    assert_eq!(types.try_ty().err(), Some(Error::Unfinished));
 }
 
 #[test]

@@ -27,6 +27,9 @@ fn a_function_is_lifted_with_an_encoding() {
 fn a_function_is_lifted_with_options() {
     let wanted = "08 09 01 00 00 01 02 03 00 06 02";
     let options = [CanonicalOption::Memory(0), CanonicalOption::Async];
+    let mut b = ComponentBuilder::default();
+    assert_eq!(b.lift_func(None, 1, 2, options), 0);
+    assert_eq!(behind_header(b), wanted);
     let mut functions = CanonicalFunctionSection::new();
     functions.lift(1, 2, options);
     assert_eq!(section(&functions), wanted);
@@ -37,6 +40,10 @@ fn a_function_is_lifted_with_options() {
 #[test]
 fn two_functions_share_a_section() {
     let wanted = "08 04 02 03 00 05";
+    let mut b = ComponentBuilder::default();
+    assert_eq!(b.resource_drop(0), 0);
+    assert_eq!(b.task_cancel(), 1);
+    assert_eq!(behind_header(b), wanted);
     let mut functions = CanonicalFunctionSection::new();
     functions.resource_drop(0).task_cancel();
     assert_eq!(section(&functions), wanted);

@@ -19,12 +19,17 @@ const OUTER_TYPE: Alias<'static> =
 #[test]
 fn nothing_is_a_header() {
     assert_eq!(Component::new().finish(), *b"\x00\x61\x73\x6d\x0d\x00\x01\x00");
+    assert_eq!(behind_header(ComponentBuilder::default()), "");
     builds([], "");
 }
 
 #[test]
 fn an_import_is_exported_again() {
     let wanted = "0a 06 01 00 01 66 01 00 0b 07 01 00 01 67 01 00 00";
+    let mut b = ComponentBuilder::default();
+    assert_eq!(b.import("f", Func(0)), 0);
+    assert_eq!(b.export("g", ComponentExportKind::Func, 0, None), 1);
+    assert_eq!(behind_header(b), wanted);
     let mut imports = ComponentImportSection::new();
     imports.import("f", Func(0));
     let mut exports = ComponentExportSection::new();
@@ -53,6 +58,11 @@ fn an_export_has_a_name_of_three_letters() {
 #[test]
 fn neighbours_of_one_kind_share_a_section() {
     let wanted = "06 0a 02 01 00 00 01 66 03 02 00 01";
+    let mut b = ComponentBuilder::default();
+    assert_eq!(b.alias(None, FUNCTION), 0);
+    b.append_names();
+    assert_eq!(b.alias(None, OUTER_TYPE), 0);
+    assert_eq!(behind_header(b), wanted);
     let mut aliases = ComponentAliasSection::new();
     aliases.alias(FUNCTION).alias(OUTER_TYPE);
     assert_eq!(section(&aliases), wanted);
@@ -66,6 +76,10 @@ fn neighbours_of_one_kind_share_a_section() {
 #[test]
 fn a_core_instance_has_its_memory_aliased() {
     let wanted = "06 07 01 00 02 01 00 01 6d";
+    let mut b = ComponentBuilder::default();
+    assert_eq!(b.core_alias_export(None, 0, "m", ExportKind::Memory), 0);
+    assert_eq!(b.core_memory_count(), 1);
+    assert_eq!(behind_header(b), wanted);
     let mut aliases = ComponentAliasSection::new();
     aliases.alias(Alias::CoreInstanceExport { instance: 0, kind: ExportKind::Memory, name: "m" });
     assert_eq!(section(&aliases), wanted);
@@ -132,43 +146,39 @@ fn names_have_options() {
     }
 }
 
-/// The item is imported so, under the name "a".
-fn imports_as(ty: ComponentTypeRef, wanted: &str) {
+/// The item is imported so under this name.
+fn imports_as(name: &str, ty: ComponentTypeRef, wanted: &str) {
     let mut b = ComponentBuilder::default();
-    assert_eq!(b.import("a", ty), 0);
+    assert_eq!(b.import(name, ty), 0);
     assert_eq!(behind_header(b), wanted);
     let mut imports = ComponentImportSection::new();
-    imports.import("a", ty);
+    imports.import(name, ty);
     assert_eq!(section(&imports), wanted);
-    builds([first(import("a", ty))], wanted);
+    builds([first(import(name, ty))], wanted);
 }
 
 #[test]
 fn indices_of_value_types_are_signed_numbers() {
-    imports_as(Value(ComponentValType::Type(63)), "0a 06 01 00 01 61 02 3f");
-    imports_as(Value(ComponentValType::Type(64)), "0a 07 01 00 01 61 02 c0 00");
-    imports_as(Value(ComponentValType::Type(4294967295)), "0a 0a 01 00 01 61 02 ff ff ff ff 0f");
+    imports_as("a", Value(ComponentValType::Type(63)), "0a 06 01 00 01 61 02 3f");
+    imports_as("a", Value(ComponentValType::Type(64)), "0a 07 01 00 01 61 02 c0 00");
+    imports_as(
+        "a",
+        Value(ComponentValType::Type(4294967295)),
+        "0a 0a 01 00 01 61 02 ff ff ff ff 0f",
+    );
 }
 
 #[test]
 fn a_resource_and_a_module_are_imported() {
-    imports_as(Type(TypeBounds::SubResource), "0a 06 01 00 01 61 03 01");
-    imports_as(Module(5), "0a 07 01 00 01 61 00 11 05");
+    imports_as("a", Type(TypeBounds::SubResource), "0a 06 01 00 01 61 03 01");
+    imports_as("a", Module(5), "0a 07 01 00 01 61 00 11 05");
 }
 
 #[test]
 fn names_are_empty_or_long() {
-    let mut imports = ComponentImportSection::new();
-    imports.import("", Func(0));
-    let wanted = "0a 05 01 00 00 01 00";
-    assert_eq!(section(&imports), wanted);
-    builds([first(import("", Func(0)))], wanted);
-    let name = "a".repeat(128);
+    imports_as("", Func(0), "0a 05 01 00 00 01 00");
     let wanted = format!("0a 86 01 01 00 80 01 {}01 00", "61 ".repeat(128));
-    let mut imports = ComponentImportSection::new();
-    imports.import(&*name, Func(0));
-    assert_eq!(section(&imports), wanted);
-    builds([first(import(&name, Func(0)))], &wanted);
+    imports_as(&"a".repeat(128), Func(0), &wanted);
 }
 
 #[test]

@@ -112,6 +112,11 @@ fn names_are_appended_again() {
          72 65 73 6f 75 72 63 65 2e 64 72 6f 70 00 23 {COMPONENT_NAME} 01 12 00 00 01 00 0d \
          72 65 73 6f 75 72 63 65 2e 64 72 6f 70"
     );
+    let mut b = ComponentBuilder::default();
+    assert_eq!(b.resource_drop(0), 0);
+    b.append_names();
+    b.append_names();
+    assert_eq!(behind_header(b), wanted);
     let mut functions = CanonicalFunctionSection::new();
     functions.resource_drop(0);
     let mut names = ComponentNameSection::new();
@@ -171,6 +176,12 @@ fn the_last_value_has_a_name() {
          00 1a {COMPONENT_NAME} 01 09 02 01 fe ff ff ff 0f 01 76"
     );
     let kind = ComponentExportKind::Value;
+    let mut b = ComponentBuilder::default();
+    assert_eq!(b.start(0, vec![], 4294967294), 0);
+    assert_eq!(b.alias_export(0, "v", kind), 4294967294);
+    assert_eq!(b.try_import("w", byte()), Err(Error::TooMany));
+    b.append_names();
+    assert_eq!(behind_header(b), wanted);
     let start_section = ComponentStartSection { function_index: 0, args: [], results: 4294967294 };
     let mut aliases = ComponentAliasSection::new();
     aliases.alias(Alias::InstanceExport { instance: 0, kind, name: "v" });

@@ -124,7 +124,7 @@ fn an_instance_type_exports_a_type() {
     let mut instance = InstanceType::new();
     instance.ty().defined_type().option(STRING);
     instance.export("t", ComponentTypeRef::Type(TypeBounds::Eq(0)));
-    assert_eq!(instance.type_count(), 2);
+    assert_eq!((instance.type_count(), instance.len(), instance.is_empty()), (2, 2, false));
     let export = InstanceDecl::Export {
         name: text("t").into(),
         ty: ComponentTypeRef::Type(TypeBounds::Eq(0)),
@@ -296,6 +296,16 @@ fn a_component_type_that_is_not_whole_is_no_type() {
     assert_eq!((types.is_finished(), types.len()), (true, 0));
     assert_eq!(types.ty().try_component(&component), Err(Error::Unfinished));
     assert_eq!((types.is_finished(), types.len()), (false, 1));
+}
+
+#[test]
+fn a_declaration_that_is_given_up_leaves_no_trace() {
+    let mut instance = InstanceType::new();
+    let _ = instance.ty();
+    assert_eq!((instance.len(), instance.is_finished()), (1, false));
+    assert!(instance.discard_unfinished());
+    assert_eq!((instance.len(), instance.type_count()), (0, 0));
+    is_instance(&instance, [].into(), "07 03 01 42 00");
 }
 
 #[test]
