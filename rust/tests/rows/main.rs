@@ -1,5 +1,5 @@
-//! Worked rows: the same bytes by the builder, section by section, and by commands. Each expected byte is worked out from the
-//! format.
+//! Worked rows: the same bytes by the builder, section by section, and by commands. Each expected
+//! byte is worked out from the format.
 
 mod alone;
 mod commands;
