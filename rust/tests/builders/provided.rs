@@ -1,4 +1,4 @@
-//! The functions that the component model provides: the section of each, and that of its debug name.
+//! The functions that the component model provides: the section of each, and that of its name.
 
 use crate::hex::{behind_header, hex, section};
 use wenc::*;
@@ -259,11 +259,12 @@ const PROVIDED: [(&str, &[u8], OnBuilder, OnSection); 47] = [
 ];
 
 /// A section with all of them, in the order of the rows.
-const ALL: &str = "08 87 01 2f 02 c8 01 03 c8 01 04 c8 01 05 06 01 09 00 73 02 00 03 02 0a 7f 07 0b 7e 80 \
-    01 0c 00 0d 0e c8 01 0f c8 01 02 00 03 02 10 c8 01 00 11 c8 01 00 12 c8 01 01 13 c8 01 \
-    14 c8 01 15 c8 01 16 c8 01 00 17 c8 01 02 00 03 02 18 c8 01 01 19 c8 01 00 1a c8 01 1b \
-    c8 01 1c 02 00 03 02 1d 00 1e 1f 20 00 03 21 00 04 22 23 24 25 26 27 c8 01 05 28 29 00 \
-    2a 00 2b 00 2c 00 2d 00 2e c8 01 2f c8 01 40 c8 01 41 c8 01 06 42";
+const ALL: &str = "08 87 01 2f \
+     02 c8 01 03 c8 01 04 c8 01 05 06 01 09 00 73 02 00 03 02 0a 7f 07 0b 7e 80 01 0c 00 0d 0e \
+     c8 01 0f c8 01 02 00 03 02 10 c8 01 00 11 c8 01 00 12 c8 01 01 13 c8 01 14 c8 01 15 c8 01 \
+     16 c8 01 00 17 c8 01 02 00 03 02 18 c8 01 01 19 c8 01 00 1a c8 01 1b c8 01 1c 02 00 03 02 \
+     1d 00 1e 1f 20 00 03 21 00 04 22 23 24 25 26 27 c8 01 05 28 29 00 2a 00 2b 00 2c 00 2d 00 \
+     2e c8 01 2f c8 01 40 c8 01 41 c8 01 06 42";
 
 #[test]
 fn each_has_its_section_and_its_name() {
