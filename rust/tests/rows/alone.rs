@@ -207,14 +207,19 @@ fn values_have_an_end() {
 
 #[test]
 fn a_custom_section_has_a_name_and_data() {
-    let wanted = "00 09 04 74 65 73 74 0b 16 21 2c";
-    let data = [11, 22, 33, 44];
-    let custom = CustomSection { name: "test".into(), data: data.as_slice().into() };
-    let mut b = ComponentBuilder::default();
-    b.custom_section(&custom);
-    assert_eq!(behind_header(b), wanted);
-    assert_eq!(section(&custom), wanted);
-    builds([(Command::Custom { name: "test".into(), data: data.into() }, Ok(None))], wanted);
+    let rows = [
+        ("test", &[11, 22, 33, 44][..], "00 09 04 74 65 73 74 0b 16 21 2c"),
+        ("x", &[], "00 02 01 78"),
+    ];
+    for (name, data, wanted) in rows {
+        let custom = CustomSection { name: name.into(), data: data.into() };
+        let mut b = ComponentBuilder::default();
+        b.custom_section(&custom);
+        assert_eq!(behind_header(b), wanted);
+        assert_eq!(section(&custom), wanted);
+        let data = data.to_vec().into();
+        builds([(Command::Custom { name: name.into(), data }, Ok(None))], wanted);
+    }
 }
 
 #[test]

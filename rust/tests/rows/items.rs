@@ -214,23 +214,24 @@ fn three_sections_take_turns() {
     );
 }
 
-/// Many aliases of the function, and then some of the type.
-fn many(functions: usize, types: usize) -> ComponentBuilder {
+/// So many aliases of the function, and then of the type, make this section.
+fn are_many(functions: usize, types: usize, wanted: &str) {
+    let aliases = [FUNCTION].repeat(functions).into_iter().chain([OUTER_TYPE].repeat(types));
     let mut b = ComponentBuilder::default();
-    for _ in 0..functions {
-        b.alias(None, FUNCTION);
+    let mut by_hand = ComponentAliasSection::new();
+    for alias in aliases {
+        b.alias(None, alias);
+        by_hand.alias(alias);
     }
-    for _ in 0..types {
-        b.alias(None, OUTER_TYPE);
-    }
-    b
+    assert_eq!(behind_header(b), wanted);
+    assert_eq!(section(&by_hand), wanted);
 }
 
 #[test]
 fn a_size_grows_to_two_bytes() {
-    let items = |functions, types| {
-        ["01 00 00 01 66"].repeat(functions).join(" ") + &" 03 02 00 01".repeat(types)
-    };
-    assert_eq!(behind_header(many(22, 4)), format!("06 7f 1a {}", items(22, 4)));
-    assert_eq!(behind_header(many(23, 3)), format!("06 80 01 1a {}", items(23, 3)));
+    let (function, outer_type) = (" 01 00 00 01 66", " 03 02 00 01");
+    let wanted = format!("06 7f 1a{}{}", function.repeat(22), outer_type.repeat(4));
+    are_many(22, 4, &wanted);
+    let wanted = format!("06 80 01 1a{}{}", function.repeat(23), outer_type.repeat(3));
+    are_many(23, 3, &wanted);
 }
