@@ -56,6 +56,21 @@ fn an_export_has_a_name_of_three_letters() {
 }
 
 #[test]
+fn an_export_of_an_instance_is_aliased() {
+    let wanted = "06 06 01 01 00 00 01 66";
+    let mut b = ComponentBuilder::default();
+    assert_eq!(b.alias(None, FUNCTION), 0);
+    assert_eq!(behind_header(b), wanted);
+    let mut b = ComponentBuilder::default();
+    assert_eq!(b.alias_export(0, "f", ComponentExportKind::Func), 0);
+    assert_eq!(behind_header(b), wanted);
+    let mut aliases = ComponentAliasSection::new();
+    aliases.alias(FUNCTION);
+    assert_eq!(section(&aliases), wanted);
+    builds([first(exported(0, ComponentExportKind::Func, "f"))], wanted);
+}
+
+#[test]
 fn neighbours_of_one_kind_share_a_section() {
     let wanted = "06 0a 02 01 00 00 01 66 03 02 00 01";
     let mut b = ComponentBuilder::default();

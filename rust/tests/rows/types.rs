@@ -162,6 +162,9 @@ fn instance_types_are_nested_deep() {
     for (around, size) in [(99, "ac 02"), (100, "af 02")] {
         let wanted = format!("07 {size} 01 {}42 00", "42 01 01 ".repeat(around));
         let (instance, tree) = deep(around);
+        let mut b = ComponentBuilder::default();
+        assert_eq!(b.type_instance(None, &instance), 0);
+        assert_eq!(behind_header(b), wanted);
         let mut types = ComponentTypeSection::new();
         types.instance(&instance);
         assert_eq!(section(&types), wanted);
