@@ -36,7 +36,8 @@ fn an_instance_of_items_is_an_argument() {
     let wanted = "05 13 02 01 01 00 03 66 6f 6f 01 00 00 01 01 03 66 6f 6f 05 00";
     let mut b = ComponentBuilder::default();
     assert_eq!(b.instantiate_exports(None, [("foo", ComponentExportKind::Func, 0)]), 0);
-    assert_eq!(b.instantiate(None, 1, [("foo", ComponentExportKind::Instance, 0)]), 1);
+    let args = [("foo".to_string(), ComponentExportKind::Instance, 0)];
+    assert_eq!(b.instantiate(None, 1, args), 1);
     assert_eq!(behind_header(b), wanted);
     let mut instances = ComponentInstanceSection::new();
     instances.export_items([("foo", ComponentExportKind::Func, 0)]);

@@ -238,7 +238,9 @@ fn functions_are_asynchronous_or_not() {
     let no_params = || Vec::<(&str, ComponentValType)>::new();
     for (is_async, wanted) in [(true, "07 05 01 43 00 01 00"), (false, "07 05 01 40 00 01 00")] {
         let mut b = ComponentBuilder::default();
-        b.type_function(None).1.async_(is_async).params(no_params()).result(None);
+        let (index, mut function) = b.type_function(None);
+        function.async_(is_async).params(no_params()).result(None);
+        assert_eq!(index, 0);
         assert_eq!(behind_header(b), wanted);
         let mut types = ComponentTypeSection::new();
         types.function().async_(is_async).params(no_params()).result(None);
