@@ -16,35 +16,9 @@ fn builder() -> ComponentBuilder {
     ComponentBuilder::default()
 }
 
-/// A type of core functions that take and answer nothing.
-fn nullary() -> CompositeInnerType {
-    CompositeInnerType::Func(FuncType::new([], []))
-}
-
 fn subtype(is_final: bool, inner: CompositeInnerType) -> SubType {
     let composite_type = CompositeType { inner, shared: false, descriptor: None, describes: None };
     SubType { is_final, supertype_idx: None, composite_type }
-}
-
-#[test]
-fn nothing_is_a_header() {
-    assert_eq!(behind_header(builder()), "");
-}
-
-#[test]
-fn an_import_is_exported_again() {
-    let mut b = builder();
-    assert_eq!(b.import("f", ComponentTypeRef::Func(0)), 0);
-    assert_eq!(b.export("g", ComponentExportKind::Func, 0, None), 1);
-    assert_eq!(behind_header(b), "0a 06 01 00 01 66 01 00 0b 07 01 00 01 67 01 00 00");
-}
-
-#[test]
-fn neighbours_of_one_kind_share_a_section() {
-    let mut b = builder();
-    assert_eq!(b.alias(None, FUNCTION), 0);
-    assert_eq!(b.alias(None, OUTER_TYPE), 0);
-    assert_eq!(behind_header(b), "06 0a 02 01 00 00 01 66 03 02 00 01");
 }
 
 #[test]
@@ -65,14 +39,6 @@ fn outer_aliases_are_of_four_kinds() {
         assert_eq!(counts.iter().sum::<u32>(), 1);
         assert_eq!(behind_header(b), bytes);
     }
-}
-
-#[test]
-fn a_core_instance_has_its_memory_aliased() {
-    let mut b = builder();
-    assert_eq!(b.core_alias_export(None, 0, "m", ExportKind::Memory), 0);
-    assert_eq!(b.core_memory_count(), 1);
-    assert_eq!(behind_header(b), "06 07 01 00 02 01 00 01 6d");
 }
 
 #[test]
@@ -179,14 +145,6 @@ fn references_are_of_eight_kinds() {
 }
 
 #[test]
-fn a_function_is_lifted_with_options() {
-    let mut b = builder();
-    let options = [CanonicalOption::Memory(0), CanonicalOption::Async];
-    assert_eq!(b.lift_func(None, 1, 2, options), 0);
-    assert_eq!(behind_header(b), "08 09 01 00 00 01 02 03 00 06 02");
-}
-
-#[test]
 fn a_function_is_lowered_with_all_options() {
     let mut b = builder();
     let options = [
@@ -206,58 +164,6 @@ fn a_function_is_lowered_with_all_options() {
         behind_header(b),
         "08 15 01 01 00 80 01 0a 00 01 02 03 01 04 02 05 03 06 07 04 08 05 09"
     );
-}
-
-#[test]
-fn a_module_parts_two_sections_of_functions() {
-    let mut b = builder();
-    assert_eq!(b.resource_new(1), 0);
-    assert_eq!(b.core_module_raw(None, &[]), 0);
-    assert_eq!(b.resource_rep(1), 1);
-    assert_eq!(behind_header(b), "08 03 01 02 01 01 00 08 03 01 04 01");
-}
-
-#[test]
-fn a_start_answers_values() {
-    let mut b = builder();
-    assert_eq!(b.start(0, vec![0, 1], 1), 0);
-    assert_eq!(b.value_count(), 1);
-    assert_eq!(behind_header(b), "09 05 00 02 00 01 01");
-}
-
-#[test]
-fn values_have_an_end() {
-    let mut b = builder();
-    assert_eq!(b.start(7, vec![], u32::MAX), 0);
-    assert_eq!(b.try_import("v", BYTE), Err(Error::TooMany));
-    assert_eq!(b.start(7, vec![], 0), u32::MAX);
-    assert_eq!(behind_header(b), "09 07 07 00 ff ff ff ff 0f 09 03 07 00 00");
-}
-
-#[test]
-fn a_core_type_that_begins_as_a_module_type_is_guarded_outside_one() {
-    let open = subtype(false, nullary());
-    let mut b = builder();
-    let (index, ty) = b.core_type(None);
-    ty.core().subtype(&open);
-    assert_eq!(index, 0);
-    assert_eq!(behind_header(b), "03 07 01 00 50 00 60 00 00");
-
-    let mut module = ModuleType::new();
-    module.ty().subtype(&open);
-    let mut b = builder();
-    b.core_type(None).1.module(&module);
-    assert_eq!(behind_header(b), "03 09 01 50 01 01 50 00 60 00 00");
-}
-
-#[test]
-fn types_that_refer_to_each_other_are_one_core_type() {
-    let takes = CompositeInnerType::Func(FuncType::new([ValType::I32], []));
-    let mut b = builder();
-    let (index, ty) = b.core_type(None);
-    ty.core().rec([subtype(true, nullary()), subtype(true, takes)]);
-    assert_eq!((index, b.core_type_count()), (0, 1));
-    assert_eq!(behind_header(b), "03 0a 01 4e 02 60 00 00 60 01 7f 00");
 }
 
 #[test]
@@ -320,21 +226,6 @@ fn a_module_type_has_all_that_modules_have() {
 }
 
 #[test]
-fn an_empty_module_type() {
-    let mut b = builder();
-    b.core_type(None).1.module(&ModuleType::new());
-    assert_eq!(behind_header(b), "03 03 01 50 00");
-}
-
-#[test]
-fn a_variant_has_cases_with_and_without_a_value() {
-    let mut b = builder();
-    let (_, ty) = b.type_defined(None);
-    ty.variant([("a", None), ("b", Some(PrimitiveValType::String.into()))]);
-    assert_eq!(behind_header(b), "07 0c 01 71 02 01 61 00 00 01 62 01 73 00");
-}
-
-#[test]
 fn each_type_of_values_is_written_by_its_call() {
     let byte = || PrimitiveValType::U8;
     let mut b = builder();
@@ -358,17 +249,6 @@ fn each_type_of_values_is_written_by_its_call() {
         "07 30 0e 7f 72 02 01 61 7d 01 62 7d 70 7d 63 7d 00 67 7d 80 01 6f 02 7d 7d 6e 02 01 61 01 \
          62 6d 01 01 63 6b 7d 6a 01 7d 00 69 01 68 02 65 00 66 01 7d"
     );
-}
-
-#[test]
-fn an_instance_type_counts_what_it_declares() {
-    let mut ty = InstanceType::new();
-    ty.ty().defined_type().option(PrimitiveValType::String);
-    ty.export("t", ComponentTypeRef::Type(TypeBounds::Eq(0)));
-    assert_eq!((ty.type_count(), ty.len(), ty.is_empty()), (2, 2, false));
-    let mut b = builder();
-    assert_eq!(b.type_instance(None, &ty), 0);
-    assert_eq!(behind_header(b), "07 0d 01 42 02 01 6b 73 04 00 01 74 03 00 00");
 }
 
 #[test]
@@ -398,15 +278,6 @@ fn a_component_type_counts_what_it_declares() {
 }
 
 #[test]
-fn an_asynchronous_function_answers_nothing() {
-    let mut b = builder();
-    let (index, mut ty) = b.type_function(None);
-    ty.async_(true).params::<_, ComponentValType>([]).result(None);
-    assert_eq!(index, 0);
-    assert_eq!(behind_header(b), "07 05 01 43 00 01 00");
-}
-
-#[test]
 fn a_function_is_as_one_that_says_it_is_not_asynchronous() {
     let string = PrimitiveValType::String;
     let mut b = builder();
@@ -429,15 +300,6 @@ fn a_resource_has_a_destructor_or_none() {
     assert_eq!(b.type_resource(None, ValType::I32, None), 0);
     assert_eq!(b.type_resource(None, ValType::I64, Some(5)), 1);
     assert_eq!(behind_header(b), "07 08 02 3f 7f 00 3f 7e 01 05");
-}
-
-#[test]
-fn a_builder_is_nested() {
-    let mut nested = builder();
-    nested.task_cancel();
-    let mut b = builder();
-    assert_eq!(b.component(None, nested), 0);
-    assert_eq!(behind_header(b), "04 0c 00 61 73 6d 0d 00 01 00 08 02 01 05");
 }
 
 #[test]
@@ -473,33 +335,6 @@ fn a_component_and_a_module_are_added_as_bytes() {
 }
 
 #[test]
-fn a_long_module_has_a_long_size() {
-    let mut b = builder();
-    b.core_module_raw(None, &[0; 128]);
-    assert_eq!(behind_header(b), format!("01 80 01{}", " 00".repeat(128)));
-}
-
-#[test]
-fn core_instances_are_made_of_items_and_of_modules() {
-    let mut b = builder();
-    let exports = [("foo", ExportKind::Func, 0)];
-    assert_eq!(b.core_instantiate_exports(None, exports), 0);
-    let args = [("foo", ModuleArg::Instance(0))];
-    assert_eq!(b.core_instantiate(None, 1, args), 1);
-    assert_eq!(behind_header(b), "02 12 02 01 01 03 66 6f 6f 00 00 00 01 01 03 66 6f 6f 12 00");
-}
-
-#[test]
-fn instances_are_made_of_items_and_of_components() {
-    let mut b = builder();
-    let exports = [("foo", ComponentExportKind::Func, 0)];
-    assert_eq!(b.instantiate_exports(None, exports), 0);
-    let args = [("foo".to_string(), ComponentExportKind::Instance, 0)];
-    assert_eq!(b.instantiate(None, 1, args), 1);
-    assert_eq!(behind_header(b), "05 13 02 01 01 00 03 66 6f 6f 01 00 00 01 01 03 66 6f 6f 05 00");
-}
-
-#[test]
 fn custom_sections_stand_where_they_were_added() {
     let mut b = builder();
     b.resource_drop(0);
@@ -510,48 +345,6 @@ fn custom_sections_stand_where_they_were_added() {
         behind_header(b),
         "08 03 01 03 00 00 09 04 74 65 73 74 0b 16 21 2c 00 02 01 61 08 02 01 05"
     );
-}
-
-#[test]
-fn a_value_is_named() {
-    let mut b = builder();
-    b.import("v", BYTE);
-    b.append_names();
-    assert_eq!(
-        behind_header(b),
-        format!("0a 06 01 00 01 76 02 7d 00 16 {COMPONENT_NAME} 01 05 02 01 00 01 76")
-    );
-}
-
-#[test]
-fn names_are_written_again_where_they_are_asked_for_again() {
-    let mut b = builder();
-    b.resource_drop(0);
-    b.append_names();
-    b.append_names();
-    let names = format!(
-        "00 23 {COMPONENT_NAME} 01 12 00 00 01 00 0d 72 65 73 6f 75 72 63 65 2e 64 72 6f 70"
-    );
-    assert_eq!(behind_header(b), format!("08 03 01 03 00 {names} {names}"));
-}
-
-#[test]
-fn what_is_yielded_then_promoted_has_its_own_name() {
-    let mut b = builder();
-    assert_eq!(b.thread_yield_then_promote(), 0);
-    b.append_names();
-    let name = hex(b"thread.yield-then-promote");
-    assert_eq!(
-        behind_header(b),
-        format!("08 03 01 2d 00 00 2f {COMPONENT_NAME} 01 1e 00 00 01 00 19 {name}")
-    );
-}
-
-#[test]
-fn without_names_nothing_is_appended() {
-    let mut b = builder();
-    b.append_names();
-    assert_eq!(behind_header(b), "");
 }
 
 #[test]

@@ -15,7 +15,7 @@ pub fn hex(bytes: &[u8]) -> String {
 }
 
 /// What stands behind the header.
-fn behind(bytes: &[u8]) -> String {
+pub fn behind(bytes: &[u8]) -> String {
     assert_eq!(hex(&bytes[..8]), HEADER);
     hex(&bytes[8..])
 }

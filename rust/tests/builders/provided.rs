@@ -1,6 +1,6 @@
-//! The functions that the component model provides: the text and the debug name of each.
+//! The functions that the component model provides: the section of each, and that of its name.
 
-use crate::hex::{self, hex};
+use crate::hex::{behind_header, hex, section};
 use wenc::*;
 
 type OnBuilder = fn(&mut ComponentBuilder) -> u32;
@@ -13,105 +13,289 @@ const TYPE: u32 = 200;
 
 const STRING: ComponentValType = ComponentValType::Primitive(PrimitiveValType::String);
 
-/// A row by its debug name, its text, and its call, which is the builder's and the section's.
+/// A row by its section, that of its name, and its call, which is the builder's and the section's.
 macro_rules! row {
-    ($name:literal, $text:literal, $call:ident $args:tt) => {
-        ($name, $text, |b| b.$call $args, |s| s.$call $args)
+    ($section:literal, $name:literal, $call:ident $args:tt) => {
+        ($section, $name, |b| b.$call $args, |s| s.$call $args)
     };
 }
 
-const PROVIDED: [(&str, &str, OnBuilder, OnSection); 47] = [
-    row!("resource.new", "02 c8 01", resource_new(TYPE)),
-    row!("resource.drop", "03 c8 01", resource_drop(TYPE)),
-    row!("resource.rep", "04 c8 01", resource_rep(TYPE)),
-    row!("task.cancel", "05", task_cancel()),
-    row!("subtask.cancel", "06 01", subtask_cancel(true)),
-    row!("task.return", "09 00 73 02 00 03 02", task_return(Some(STRING), OPTIONS)),
-    row!("context.get 7", "0a 7f 07", context_get(ValType::I32, 7)),
-    row!("context.set 128", "0b 7e 80 01", context_set(ValType::I64, 128)),
-    row!("thread.yield", "0c 00", thread_yield()),
-    row!("subtask.drop", "0d", subtask_drop()),
-    row!("stream.new", "0e c8 01", stream_new(TYPE)),
-    row!("stream.read", "0f c8 01 02 00 03 02", stream_read(TYPE, OPTIONS)),
-    row!("stream.write", "10 c8 01 00", stream_write(TYPE, [])),
-    row!("stream.cancel-read", "11 c8 01 00", stream_cancel_read(TYPE, false)),
-    row!("stream.cancel-write", "12 c8 01 01", stream_cancel_write(TYPE, true)),
-    row!("stream.drop-readable", "13 c8 01", stream_drop_readable(TYPE)),
-    row!("stream.drop-writable", "14 c8 01", stream_drop_writable(TYPE)),
-    row!("future.new", "15 c8 01", future_new(TYPE)),
-    row!("future.read", "16 c8 01 00", future_read(TYPE, [])),
-    row!("future.write", "17 c8 01 02 00 03 02", future_write(TYPE, OPTIONS)),
-    row!("future.cancel-read", "18 c8 01 01", future_cancel_read(TYPE, true)),
-    row!("future.cancel-write", "19 c8 01 00", future_cancel_write(TYPE, false)),
-    row!("future.drop-readable", "1a c8 01", future_drop_readable(TYPE)),
-    row!("future.drop-writable", "1b c8 01", future_drop_writable(TYPE)),
-    row!("error-context.new", "1c 02 00 03 02", error_context_new(OPTIONS)),
-    row!("error-context.debug-message", "1d 00", error_context_debug_message([])),
-    row!("error-context.drop", "1e", error_context_drop()),
-    row!("waitable-set.new", "1f", waitable_set_new()),
-    row!("waitable-set.wait", "20 00 03", waitable_set_wait(3)),
-    row!("waitable-set.poll", "21 00 04", waitable_set_poll(4)),
-    row!("waitable-set.drop", "22", waitable_set_drop()),
-    row!("waitable.join", "23", waitable_join()),
-    row!("backpressure.inc", "24", backpressure_inc()),
-    row!("backpressure.dec", "25", backpressure_dec()),
-    row!("thread.index", "26", thread_index()),
-    row!("thread.new-indirect", "27 c8 01 05", thread_new_indirect(TYPE, 5)),
-    row!("thread.resume-later", "28", thread_resume_later()),
-    row!("thread.suspend", "29 00", thread_suspend()),
-    row!("thread.suspend-then-resume", "2a 00", thread_suspend_then_resume()),
-    row!("thread.yield-then-resume", "2b 00", thread_yield_then_resume()),
-    row!("thread.suspend-then-promote", "2c 00", thread_suspend_then_promote()),
-    row!("thread.yield-then-promote", "2d 00", thread_yield_then_promote()),
-    row!("stream.forward", "2e c8 01", stream_forward(TYPE)),
-    row!("future.forward", "2f c8 01", future_forward(TYPE)),
-    row!("thread.spawn-ref", "40 c8 01", thread_spawn_ref(TYPE)),
-    row!("thread.spawn-indirect", "41 c8 01 06", thread_spawn_indirect(TYPE, 6)),
-    row!("thread.available-parallelism", "42", thread_available_parallelism()),
+const PROVIDED: [(&str, &[u8], OnBuilder, OnSection); 47] = [
+    row!(
+        "08 04 01 02 c8 01",
+        b"\x00\x22\x0ecomponent-name\x01\x11\x00\x00\x01\x00\x0cresource.new",
+        resource_new(TYPE)
+    ),
+    row!(
+        "08 04 01 03 c8 01",
+        b"\x00\x23\x0ecomponent-name\x01\x12\x00\x00\x01\x00\x0dresource.drop",
+        resource_drop(TYPE)
+    ),
+    row!(
+        "08 04 01 04 c8 01",
+        b"\x00\x22\x0ecomponent-name\x01\x11\x00\x00\x01\x00\x0cresource.rep",
+        resource_rep(TYPE)
+    ),
+    row!(
+        "08 02 01 05",
+        b"\x00\x21\x0ecomponent-name\x01\x10\x00\x00\x01\x00\x0btask.cancel",
+        task_cancel()
+    ),
+    row!(
+        "08 03 01 06 01",
+        b"\x00\x24\x0ecomponent-name\x01\x13\x00\x00\x01\x00\x0esubtask.cancel",
+        subtask_cancel(true)
+    ),
+    row!(
+        "08 08 01 09 00 73 02 00 03 02",
+        b"\x00\x21\x0ecomponent-name\x01\x10\x00\x00\x01\x00\x0btask.return",
+        task_return(Some(STRING), OPTIONS)
+    ),
+    row!(
+        "08 04 01 0a 7f 07",
+        b"\x00\x23\x0ecomponent-name\x01\x12\x00\x00\x01\x00\x0dcontext.get 7",
+        context_get(ValType::I32, 7)
+    ),
+    row!(
+        "08 05 01 0b 7e 80 01",
+        b"\x00\x25\x0ecomponent-name\x01\x14\x00\x00\x01\x00\x0fcontext.set 128",
+        context_set(ValType::I64, 128)
+    ),
+    row!(
+        "08 03 01 0c 00",
+        b"\x00\x22\x0ecomponent-name\x01\x11\x00\x00\x01\x00\x0cthread.yield",
+        thread_yield()
+    ),
+    row!(
+        "08 02 01 0d",
+        b"\x00\x22\x0ecomponent-name\x01\x11\x00\x00\x01\x00\x0csubtask.drop",
+        subtask_drop()
+    ),
+    row!(
+        "08 04 01 0e c8 01",
+        b"\x00\x20\x0ecomponent-name\x01\x0f\x00\x00\x01\x00\x0astream.new",
+        stream_new(TYPE)
+    ),
+    row!(
+        "08 08 01 0f c8 01 02 00 03 02",
+        b"\x00\x21\x0ecomponent-name\x01\x10\x00\x00\x01\x00\x0bstream.read",
+        stream_read(TYPE, OPTIONS)
+    ),
+    row!(
+        "08 05 01 10 c8 01 00",
+        b"\x00\x22\x0ecomponent-name\x01\x11\x00\x00\x01\x00\x0cstream.write",
+        stream_write(TYPE, [])
+    ),
+    row!(
+        "08 05 01 11 c8 01 00",
+        b"\x00\x28\x0ecomponent-name\x01\x17\x00\x00\x01\x00\x12stream.cancel-read",
+        stream_cancel_read(TYPE, false)
+    ),
+    row!(
+        "08 05 01 12 c8 01 01",
+        b"\x00\x29\x0ecomponent-name\x01\x18\x00\x00\x01\x00\x13stream.cancel-write",
+        stream_cancel_write(TYPE, true)
+    ),
+    row!(
+        "08 04 01 13 c8 01",
+        b"\x00\x2a\x0ecomponent-name\x01\x19\x00\x00\x01\x00\x14stream.drop-readable",
+        stream_drop_readable(TYPE)
+    ),
+    row!(
+        "08 04 01 14 c8 01",
+        b"\x00\x2a\x0ecomponent-name\x01\x19\x00\x00\x01\x00\x14stream.drop-writable",
+        stream_drop_writable(TYPE)
+    ),
+    row!(
+        "08 04 01 15 c8 01",
+        b"\x00\x20\x0ecomponent-name\x01\x0f\x00\x00\x01\x00\x0afuture.new",
+        future_new(TYPE)
+    ),
+    row!(
+        "08 05 01 16 c8 01 00",
+        b"\x00\x21\x0ecomponent-name\x01\x10\x00\x00\x01\x00\x0bfuture.read",
+        future_read(TYPE, [])
+    ),
+    row!(
+        "08 08 01 17 c8 01 02 00 03 02",
+        b"\x00\x22\x0ecomponent-name\x01\x11\x00\x00\x01\x00\x0cfuture.write",
+        future_write(TYPE, OPTIONS)
+    ),
+    row!(
+        "08 05 01 18 c8 01 01",
+        b"\x00\x28\x0ecomponent-name\x01\x17\x00\x00\x01\x00\x12future.cancel-read",
+        future_cancel_read(TYPE, true)
+    ),
+    row!(
+        "08 05 01 19 c8 01 00",
+        b"\x00\x29\x0ecomponent-name\x01\x18\x00\x00\x01\x00\x13future.cancel-write",
+        future_cancel_write(TYPE, false)
+    ),
+    row!(
+        "08 04 01 1a c8 01",
+        b"\x00\x2a\x0ecomponent-name\x01\x19\x00\x00\x01\x00\x14future.drop-readable",
+        future_drop_readable(TYPE)
+    ),
+    row!(
+        "08 04 01 1b c8 01",
+        b"\x00\x2a\x0ecomponent-name\x01\x19\x00\x00\x01\x00\x14future.drop-writable",
+        future_drop_writable(TYPE)
+    ),
+    row!(
+        "08 06 01 1c 02 00 03 02",
+        b"\x00\x27\x0ecomponent-name\x01\x16\x00\x00\x01\x00\x11error-context.new",
+        error_context_new(OPTIONS)
+    ),
+    row!(
+        "08 03 01 1d 00",
+        b"\x00\x31\x0ecomponent-name\x01\x20\x00\x00\x01\x00\x1berror-context.debug-message",
+        error_context_debug_message([])
+    ),
+    row!(
+        "08 02 01 1e",
+        b"\x00\x28\x0ecomponent-name\x01\x17\x00\x00\x01\x00\x12error-context.drop",
+        error_context_drop()
+    ),
+    row!(
+        "08 02 01 1f",
+        b"\x00\x26\x0ecomponent-name\x01\x15\x00\x00\x01\x00\x10waitable-set.new",
+        waitable_set_new()
+    ),
+    row!(
+        "08 04 01 20 00 03",
+        b"\x00\x27\x0ecomponent-name\x01\x16\x00\x00\x01\x00\x11waitable-set.wait",
+        waitable_set_wait(3)
+    ),
+    row!(
+        "08 04 01 21 00 04",
+        b"\x00\x27\x0ecomponent-name\x01\x16\x00\x00\x01\x00\x11waitable-set.poll",
+        waitable_set_poll(4)
+    ),
+    row!(
+        "08 02 01 22",
+        b"\x00\x27\x0ecomponent-name\x01\x16\x00\x00\x01\x00\x11waitable-set.drop",
+        waitable_set_drop()
+    ),
+    row!(
+        "08 02 01 23",
+        b"\x00\x23\x0ecomponent-name\x01\x12\x00\x00\x01\x00\x0dwaitable.join",
+        waitable_join()
+    ),
+    row!(
+        "08 02 01 24",
+        b"\x00\x26\x0ecomponent-name\x01\x15\x00\x00\x01\x00\x10backpressure.inc",
+        backpressure_inc()
+    ),
+    row!(
+        "08 02 01 25",
+        b"\x00\x26\x0ecomponent-name\x01\x15\x00\x00\x01\x00\x10backpressure.dec",
+        backpressure_dec()
+    ),
+    row!(
+        "08 02 01 26",
+        b"\x00\x22\x0ecomponent-name\x01\x11\x00\x00\x01\x00\x0cthread.index",
+        thread_index()
+    ),
+    row!(
+        "08 05 01 27 c8 01 05",
+        b"\x00\x29\x0ecomponent-name\x01\x18\x00\x00\x01\x00\x13thread.new-indirect",
+        thread_new_indirect(TYPE, 5)
+    ),
+    row!(
+        "08 02 01 28",
+        b"\x00\x29\x0ecomponent-name\x01\x18\x00\x00\x01\x00\x13thread.resume-later",
+        thread_resume_later()
+    ),
+    row!(
+        "08 03 01 29 00",
+        b"\x00\x24\x0ecomponent-name\x01\x13\x00\x00\x01\x00\x0ethread.suspend",
+        thread_suspend()
+    ),
+    row!(
+        "08 03 01 2a 00",
+        b"\x00\x30\x0ecomponent-name\x01\x1f\x00\x00\x01\x00\x1athread.suspend-then-resume",
+        thread_suspend_then_resume()
+    ),
+    row!(
+        "08 03 01 2b 00",
+        b"\x00\x2e\x0ecomponent-name\x01\x1d\x00\x00\x01\x00\x18thread.yield-then-resume",
+        thread_yield_then_resume()
+    ),
+    row!(
+        "08 03 01 2c 00",
+        b"\x00\x31\x0ecomponent-name\x01\x20\x00\x00\x01\x00\x1bthread.suspend-then-promote",
+        thread_suspend_then_promote()
+    ),
+    row!(
+        "08 03 01 2d 00",
+        b"\x00\x2f\x0ecomponent-name\x01\x1e\x00\x00\x01\x00\x19thread.yield-then-promote",
+        thread_yield_then_promote()
+    ),
+    row!(
+        "08 04 01 2e c8 01",
+        b"\x00\x24\x0ecomponent-name\x01\x13\x00\x00\x01\x00\x0estream.forward",
+        stream_forward(TYPE)
+    ),
+    row!(
+        "08 04 01 2f c8 01",
+        b"\x00\x24\x0ecomponent-name\x01\x13\x00\x00\x01\x00\x0efuture.forward",
+        future_forward(TYPE)
+    ),
+    row!(
+        "08 04 01 40 c8 01",
+        b"\x00\x26\x0ecomponent-name\x01\x15\x00\x00\x01\x00\x10thread.spawn-ref",
+        thread_spawn_ref(TYPE)
+    ),
+    row!(
+        "08 05 01 41 c8 01 06",
+        b"\x00\x2b\x0ecomponent-name\x01\x1a\x00\x00\x01\x00\x15thread.spawn-indirect",
+        thread_spawn_indirect(TYPE, 6)
+    ),
+    row!(
+        "08 02 01 42",
+        b"\x00\x32\x0ecomponent-name\x01\x21\x00\x00\x01\x00\x1cthread.available-parallelism",
+        thread_available_parallelism()
+    ),
 ];
 
-/// How many bytes a text in hexadecimal has.
-fn len(text: &str) -> usize {
-    text.split(' ').count()
-}
-
 /// A section with all of them, in the order of the rows.
-fn all() -> String {
-    let texts = PROVIDED.map(|(_, text, ..)| text).join(" ");
-    format!("08 {:02x} 01 2f {texts}", 1 + len(&texts))
-}
+const ALL: &str = "08 87 01 2f \
+     02 c8 01 03 c8 01 04 c8 01 05 06 01 09 00 73 02 00 03 02 0a 7f 07 0b 7e 80 01 0c 00 0d 0e \
+     c8 01 0f c8 01 02 00 03 02 10 c8 01 00 11 c8 01 00 12 c8 01 01 13 c8 01 14 c8 01 15 c8 01 \
+     16 c8 01 00 17 c8 01 02 00 03 02 18 c8 01 01 19 c8 01 00 1a c8 01 1b c8 01 1c 02 00 03 02 \
+     1d 00 1e 1f 20 00 03 21 00 04 22 23 24 25 26 27 c8 01 05 28 29 00 2a 00 2b 00 2c 00 2d 00 \
+     2e c8 01 2f c8 01 40 c8 01 41 c8 01 06 42";
 
 #[test]
-fn each_has_its_text_and_its_name() {
-    for (name, text, call, _) in PROVIDED {
+fn each_has_its_section_and_its_name() {
+    for (functions, names, on_builder, on_section) in PROVIDED {
         let mut b = ComponentBuilder::default();
-        assert_eq!(call(&mut b), 0, "{name}");
-        assert_eq!(b.core_func_count(), 1, "{name}");
+        assert_eq!(on_builder(&mut b), 0, "{functions}");
+        assert_eq!(b.core_func_count(), 1, "{functions}");
         b.append_names();
-        let functions = format!("08 {:02x} 01 {text}", 1 + len(text));
-        let map = format!("00 00 01 00 {:02x} {}", name.len(), hex(name.as_bytes()));
-        let (length, size) = (len(&map), 17 + len(&map));
-        let names = format!("00 {size:02x} {} 01 {length:02x} {map}", hex::COMPONENT_NAME);
-        assert_eq!(hex::behind_header(b), format!("{functions} {names}"), "{name}");
+        assert_eq!(behind_header(b), format!("{functions} {}", hex(names)));
+        let mut by_hand = CanonicalFunctionSection::new();
+        on_section(&mut by_hand);
+        assert_eq!(section(&by_hand), functions);
     }
 }
 
 #[test]
 fn neighbours_share_a_section() {
     let mut b = ComponentBuilder::default();
-    for (index, (name, _, call, _)) in (0..).zip(PROVIDED) {
-        assert_eq!(call(&mut b), index, "{name}");
+    for (index, (functions, _, call, _)) in (0..).zip(PROVIDED) {
+        assert_eq!(call(&mut b), index, "{functions}");
     }
-    assert_eq!(hex::behind_header(b), all());
+    assert_eq!(behind_header(b), ALL);
 }
 
 #[test]
 fn a_section_has_them_too() {
-    let mut functions = CanonicalFunctionSection::new();
-    for (number, (name, _, _, call)) in (1..).zip(PROVIDED) {
-        assert_eq!(call(&mut functions).len(), number, "{name}");
+    let mut all = CanonicalFunctionSection::new();
+    for (number, (functions, _, _, call)) in (1..).zip(PROVIDED) {
+        assert_eq!(call(&mut all).len(), number, "{functions}");
     }
-    assert_eq!(hex::section(&functions), all());
+    assert_eq!(section(&all), ALL);
 }
 
 #[test]
@@ -123,10 +307,10 @@ fn a_slot_of_a_type_that_is_not_supported_is_refused() {
     assert_eq!(b.try_context_set(ty, 0), Err(Error::Unsupported));
     assert_eq!(b.try_type_resource(None, ty, None), Err(Error::Unsupported));
     assert_eq!((b.core_func_count(), b.type_count()), (0, 0));
-    assert_eq!(hex::behind_header(b), "");
+    assert_eq!(behind_header(b), "");
 
     let mut functions = CanonicalFunctionSection::new();
     assert_eq!(functions.try_context_get(ty, 0).err(), Some(Error::Unsupported));
     assert_eq!(functions.try_context_set(ty, 0).err(), Some(Error::Unsupported));
-    assert_eq!(hex::section(&functions), "08 01 00");
+    assert_eq!(section(&functions), "08 01 00");
 }

@@ -2,88 +2,98 @@
 
 use crate::shapes::{EXTERNREF, FUNCREF, Inner, field, function, structure, sub, text};
 use wenc::{
-    ArrayType, ComponentBuilder, ComponentType, CoreTypeEncoder, CoreTypeSection, FuncType,
-    HeapType, InstanceType, ModuleType, RefType, StorageType, ValType,
+    ArrayType, Component, ComponentBuilder, ComponentType, CoreTypeEncoder, CoreTypeSection,
+    FuncType, HeapType, InstanceType, ModuleType, RefType, StorageType, ValType,
 };
 
 const NODE: RefType = RefType { nullable: true, heap_type: HeapType::Concrete(200) };
 
-/// Writes a type by each that lends itself: in a component these bytes stand before it.
-fn guarded(guard: &[u8], write: fn(CoreTypeEncoder<'_>), bytes: &[u8]) {
-    let mut section = CoreTypeSection::new();
-    write(section.ty().core());
-    write(section.ty().core());
-    let item = [guard, bytes].concat();
-    let size = u8::try_from(1 + 2 * item.len()).unwrap();
-    assert_eq!(text(&section), [&[size, 2], &item[..], &item].concat());
-    let mut component = ComponentType::new();
-    write(component.core_type().core());
-    assert_eq!(text(&component), [&[0x41, 1, 0], &item[..]].concat());
-    let mut instance = InstanceType::new();
-    write(instance.core_type().core());
-    assert_eq!(text(&instance), [&[0x42, 1, 0], &item[..]].concat());
-    let mut module = ModuleType::new();
-    write(module.ty());
-    assert_eq!(text(&module), [&[0x50, 1, 1], bytes].concat());
+/// Writes a type by each that lends itself: alone it makes this section, with its guard in front if
+/// it has one, and has these bytes in a module type.
+fn guarded(section: &[u8], write: fn(CoreTypeEncoder<'_>), bytes: &[u8]) {
+    let mut types = CoreTypeSection::new();
+    write(types.ty().core());
+    assert_eq!(Component::new().section(&types).as_slice()[8..], *section);
+    let mut builder = ComponentBuilder::default();
+    write(builder.core_type(None).1.core());
+    assert_eq!(builder.finish()[8..], *section);
+    let item = &section[3..];
+    // Twice it makes a section of two.
+    let two = [&[2], item, item].concat();
+    write(types.ty().core());
+    assert_eq!(text(&types)[1..], two);
     let mut builder = ComponentBuilder::default();
     write(builder.core_type(None).1.core());
     write(builder.core_type(None).1.core());
-    assert_eq!(builder.finish()[8..], [&[0x03, size, 2], &item[..], &item].concat());
+    assert_eq!(builder.finish()[10..], two);
+    let mut component = ComponentType::new();
+    write(component.core_type().core());
+    assert_eq!(text(&component), [&[0x41, 1, 0], item].concat());
+    let mut instance = InstanceType::new();
+    write(instance.core_type().core());
+    assert_eq!(text(&instance), [&[0x42, 1, 0], item].concat());
+    let mut module = ModuleType::new();
+    write(module.ty());
+    assert_eq!(text(&module), [&[0x50, 1, 1], bytes].concat());
 }
 
-fn each(write: fn(CoreTypeEncoder<'_>), bytes: &[u8]) {
-    guarded(&[], write, bytes);
+/// The same of a type without a guard.
+fn each(write: fn(CoreTypeEncoder<'_>), section: &[u8]) {
+    guarded(section, write, &section[3..]);
 }
 
 #[test]
 fn functions() {
-    each(|encoder| encoder.function([], []), &[0x60, 0x00, 0x00]);
+    each(|encoder| encoder.function([], []), &[0x03, 0x04, 0x01, 0x60, 0x00, 0x00]);
     each(
         |encoder| encoder.function([ValType::I32, ValType::I64], [ValType::F32]),
-        &[0x60, 0x02, 0x7f, 0x7e, 0x01, 0x7d],
+        &[0x03, 0x07, 0x01, 0x60, 0x02, 0x7f, 0x7e, 0x01, 0x7d],
     );
     each(
         |encoder| {
             let results = [ValType::Ref(FUNCREF), ValType::Ref(EXTERNREF)];
             encoder.func_type(&FuncType::new([ValType::V128], results));
         },
-        &[0x60, 0x01, 0x7b, 0x02, 0x70, 0x6f],
+        &[0x03, 0x07, 0x01, 0x60, 0x01, 0x7b, 0x02, 0x70, 0x6f],
     );
 }
 
 #[test]
 fn arrays() {
-    each(|encoder| encoder.array(&StorageType::I8, true), &[0x5e, 0x78, 0x01]);
+    each(|encoder| encoder.array(&StorageType::I8, true), &[0x03, 0x04, 0x01, 0x5e, 0x78, 0x01]);
     each(
         |encoder| encoder.array(&StorageType::Val(ValType::Ref(NODE)), false),
-        &[0x5e, 0x63, 0xc8, 0x01, 0x00],
+        &[0x03, 0x06, 0x01, 0x5e, 0x63, 0xc8, 0x01, 0x00],
     );
 }
 
 #[test]
 fn structs() {
-    each(|encoder| encoder.struct_([]), &[0x5f, 0x00]);
+    each(|encoder| encoder.struct_([]), &[0x03, 0x03, 0x01, 0x5f, 0x00]);
     each(
         |encoder| {
             let number = StorageType::Val(ValType::F64);
             encoder.struct_([field(StorageType::I16, false), field(number, true)]);
         },
-        &[0x5f, 0x02, 0x77, 0x00, 0x7c, 0x01],
+        &[0x03, 0x07, 0x01, 0x5f, 0x02, 0x77, 0x00, 0x7c, 0x01],
     );
 }
 
 #[test]
 fn subtypes() {
-    each(|encoder| encoder.subtype(&sub(true, None, function([], []))), &[0x60, 0x00, 0x00]);
+    each(
+        |encoder| encoder.subtype(&sub(true, None, function([], []))),
+        &[0x03, 0x04, 0x01, 0x60, 0x00, 0x00],
+    );
     each(
         |encoder| {
             let number = field(StorageType::Val(ValType::I32), false);
             encoder.subtype(&sub(true, Some(3), structure([number])));
         },
-        &[0x4f, 0x01, 0x03, 0x5f, 0x01, 0x7f, 0x00],
+        &[0x03, 0x08, 0x01, 0x4f, 0x01, 0x03, 0x5f, 0x01, 0x7f, 0x00],
     );
     guarded(
-        &[0x00],
+        &[0x03, 0x07, 0x01, 0x00, 0x50, 0x00, 0x5e, 0x78, 0x00],
         |encoder| {
             let bytes = Inner::Array(ArrayType(field(StorageType::I8, false)));
             encoder.subtype(&sub(false, None, bytes));
@@ -91,7 +101,7 @@ fn subtypes() {
         &[0x50, 0x00, 0x5e, 0x78, 0x00],
     );
     guarded(
-        &[0x00],
+        &[0x03, 0x0a, 0x01, 0x00, 0x50, 0x01, 0x80, 0x01, 0x60, 0x01, 0x7f, 0x00],
         |encoder| encoder.subtype(&sub(false, Some(128), function([ValType::I32], []))),
         &[0x50, 0x01, 0x80, 0x01, 0x60, 0x01, 0x7f, 0x00],
     );
@@ -99,7 +109,7 @@ fn subtypes() {
 
 #[test]
 fn groups() {
-    each(|encoder| encoder.rec([]), &[0x4e, 0x00]);
+    each(|encoder| encoder.rec([]), &[0x03, 0x03, 0x01, 0x4e, 0x00]);
     each(
         |encoder| {
             let next = field(StorageType::Val(ValType::Ref(NODE)), true);
@@ -109,8 +119,8 @@ fn groups() {
             ]);
         },
         &[
-            0x4e, 0x02, 0x50, 0x00, 0x5f, 0x01, 0x63, 0xc8, 0x01, 0x01, 0x4f, 0x01, 0x00, 0x60,
-            0x00, 0x01, 0x7f,
+            0x03, 0x12, 0x01, 0x4e, 0x02, 0x50, 0x00, 0x5f, 0x01, 0x63, 0xc8, 0x01, 0x01, 0x4f,
+            0x01, 0x00, 0x60, 0x00, 0x01, 0x7f,
         ],
     );
 }

@@ -2,9 +2,11 @@
 
 use crate::proved::rt_std::alloc::Global;
 use crate::proved::rt_std::vec::Vec;
-use crate::proved::wasm_encoder::{AliasTree, Encode};
+use crate::proved::wasm_encoder::{
+    AbstractHeapType, AliasTree, ComponentValType, Encode, HeapType, RefType, ValType,
+};
 use crate::proved::wenc_decode::{Decode, type_of};
-use crate::proved::wenc_read::{NestedRefusal, extern_name_of, name_of};
+use crate::proved::wenc_read::{NestedRefusal, Refusal, extern_name_of, name_of};
 
 /// The value has this text.
 fn is_text<T: Encode>(value: &T, text: &[u8]) {
@@ -36,6 +38,28 @@ fn names_and_numbers() {
         let (name, rest) = extern_name_of(Global, bytes).unwrap();
         assert_eq!(rest, *behind);
         is_text(&name.as_name(), text);
+    }
+}
+
+/// Numbers that are longer than one of 32 bits can be, or greater.
+const NO_NUMBERS: &[&[u8]] = &[b"\x82\x80\x80\x80\x80\x00", b"\xff\xff\xff\xff\x1f"];
+
+/// Types of the core, each in a spelling that no encoder writes: references that may be null.
+const WIDE_REFERENCES: &[(&[u8], AbstractHeapType)] =
+    &[(b"\x6e", AbstractHeapType::Any), (b"\x63\x70", AbstractHeapType::Func)];
+
+#[test]
+fn other_spellings() {
+    for bytes in NO_NUMBERS {
+        assert_eq!(u32::decode(Global, bytes).err(), Some(Refusal::Malformed));
+    }
+    let (ty, rest) = ComponentValType::decode(Global, b"\xc0\x80\x80\x80\x00").unwrap();
+    assert!(ty == ComponentValType::Type(64) && rest.is_empty());
+    for (bytes, heap_type) in WIDE_REFERENCES {
+        let (ty, rest) = ValType::decode(Global, bytes).unwrap();
+        let heap_type = HeapType::Abstract(*heap_type);
+        assert_eq!(ty, ValType::Ref(RefType { nullable: true, heap_type }));
+        assert!(rest.is_empty());
     }
 }
 

@@ -2,7 +2,10 @@
 
 use super::checks::is_refused;
 use super::lending::{Counts, Lending, Makes, state};
+use crate::proved::rt_std::alloc::Global;
 use crate::proved::rt_std::vec::Vec;
+use crate::proved::wenc_parts::ComponentSection;
+use crate::proved::wenc_sections::Component;
 use std::vec;
 
 /// A type is being written, and this is counted. Nothing is made of what it is in, and each of
@@ -42,10 +45,10 @@ pub fn take_back_each<L: Lending, B: Makes<L>, C: Makes<L>>(
 /// What can be asked of a section without items.
 pub const NO_ITEMS: &[u8] = &[0, 0, 0, 0, 1, 1, 1, 0];
 
-/// A section has this item alone, whose size takes one byte.
-pub fn is_item<L: Lending>(section: &L, text: &[u8]) {
-    let size = u8::try_from(text.len() + 1).unwrap();
-    let state = state(section);
-    let lead = &[1, 0, 0, 0, 0, 1, size, 1];
-    assert_eq!(state.strip_prefix(lead), Some(text));
+/// A section has one item, and is this in a component.
+pub fn is_item<S: Lending + ComponentSection>(section: &S, wanted: &[u8]) {
+    assert_eq!(section.asked(), ([1, 0, 0, 0], false, true));
+    let mut component = Component::new(Global).unwrap();
+    component.section(section).unwrap();
+    assert_eq!(component.as_slice().strip_prefix(b"\x00asm\x0d\x00\x01\x00"), Some(wanted));
 }

@@ -4,6 +4,8 @@ use crate::proved::rt_std::alloc::Global;
 use crate::proved::tests::parts::checks::check;
 use crate::proved::wenc_base::NameMap;
 
+const TWO: &[u8] = &[0x02, 0x05, 0x01, 0x61, 0x01, 0x01, 0x62];
+
 const THREE: &[u8] = &[0x03, 0x05, 0x01, 0x61, 0x01, 0x01, 0x62, 0x00, 0x00];
 
 // In an order that isn't that of the indices. A copy goes its own way. Of 128 names the count has
@@ -15,6 +17,8 @@ fn names() {
     check(&names, &[0x00]);
     names.append(5, "a").unwrap();
     names.append(1, "b").unwrap();
+    check(&names, TWO);
+    assert_eq!(names.size(), 7);
     names.append(0, "").unwrap();
     check(&names, THREE);
     assert!(!names.is_empty() && names.len() == 3 && names.size() == 9);
@@ -23,7 +27,7 @@ fn names() {
     check(&names, THREE);
     check(&other, &[0x01, 0x05, 0x01, 0x61]);
     other.append(1, "b").unwrap();
-    check(&other, &[0x02, 0x05, 0x01, 0x61, 0x01, 0x01, 0x62]);
+    check(&other, TWO);
     names = NameMap::new(Global);
     names.append(4294967295, "").unwrap();
     check(&names, &[0x01, 0xff, 0xff, 0xff, 0xff, 0x0f, 0x00]);

@@ -106,7 +106,7 @@ fn sections() {
     let refused = items(&component, &instance);
     take_back_each(&mut section, &starts, &refused, NO_ITEMS);
     section.defined_type().unwrap().own(64).unwrap();
-    is_item(&section, b"\x69\x40");
+    is_item(&section, b"\x07\x03\x01\x69\x40");
 }
 
 /// This item is refused, of a type that is unfinished. One call leaves the section as it was, and

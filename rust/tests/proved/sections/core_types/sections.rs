@@ -55,7 +55,7 @@ fn given_up() {
     assert!(section.give_up() && module.give_up());
     module.alias_outer_core_type(1, 0).unwrap();
     CoreType::Module(&module).make(&mut section).unwrap();
-    is_item(&section, b"\x50\x01\x02\x10\x01\x01\x00");
+    is_item(&section, b"\x03\x08\x01\x50\x01\x02\x10\x01\x01\x00");
     let wanted = b"\x01\x00\x00\x00\x00\x01\x08\x01\x50\x01\x02\x10\x01\x01\x00";
     let starts = [(start, [2, 0, 0, 0]), (core, [2, 0, 0, 0])];
     take_back_each(&mut section, &starts, &refused, wanted);

@@ -15,22 +15,22 @@ use crate::proved::wenc_base::{GroupTree, StorageType, ValType};
 use crate::proved::wenc_sections::CoreTypeSection;
 use crate::proved::wenc_types::ModuleType;
 
-/// The call adds this text to what has no guards, and the guarded one to what has.
-fn check(heap: &Refusing, call: Call<'_>, text: &[u8], guarded: &[u8]) {
+/// The call alone makes this section, which has guards, and adds this text to what has none.
+fn check(heap: &Refusing, call: Call<'_>, text: &[u8], wanted: &[u8]) {
     let mut section = CoreTypeSection::new(Global);
     write(&mut section, call).unwrap();
-    is_item(&section, guarded);
+    is_item(&section, wanted);
     let call = Declaration::Type(call);
     let lead = &[0x50, 1, 1];
     sweep::<ModuleType<&Refusing>, Declaration<'_>>(heap, &call, true, A_TYPE, lead, text);
 }
 
-/// A type of functions with long lists that is not final, behind its guard.
+/// The section of a type of functions with long lists that is not final.
 const LONG_SUBTYPE: &[u8] =
-    b"\x00\x50\x01\xff\xff\xff\xff\x0f\x60\x04\x64\xff\xff\xff\xff\x0f\x7f\x64\xff\xff\xff\xff\x0f\x7e\
+    b"\x03\x28\x01\x00\x50\x01\xff\xff\xff\xff\x0f\x60\x04\x64\xff\xff\xff\xff\x0f\x7f\x64\xff\xff\xff\xff\x0f\x7e\
     \x04\x7c\x64\xff\xff\xff\xff\x0f\x7b\x64\xff\xff\xff\xff\x0f";
 
-/// The same without its guard.
+/// The type alone, without its guard.
 const UNGUARDED_LONG_SUBTYPE: &[u8] =
     b"\x50\x01\xff\xff\xff\xff\x0f\x60\x04\x64\xff\xff\xff\xff\x0f\x7f\x64\xff\xff\xff\xff\x0f\x7e\
     \x04\x7c\x64\xff\xff\xff\xff\x0f\x7b\x64\xff\xff\xff\xff\x0f";
@@ -38,34 +38,34 @@ const UNGUARDED_LONG_SUBTYPE: &[u8] =
 const PARAMS: &[ValType] = &[ValType::I32, ValType::I64];
 
 const COMPOSITES: &[(Composite<'static>, &[u8])] = &[
-    (Composite::Function(&[], &[]), b"\x60\x00\x00"),
-    (Composite::Function(PARAMS, &[ValType::F32]), b"\x60\x02\x7f\x7e\x01\x7d"),
-    (Composite::Array(StorageType::I16, false), b"\x5e\x77\x00"),
-    (Composite::Array(StorageType::Val(ValType::I32), true), b"\x5e\x7f\x01"),
-    (Composite::Struct(&[]), b"\x5f\x00"),
-    (Composite::Struct(&[I8, I32]), b"\x5f\x02\x78\x01\x7f\x00"),
+    (Composite::Function(&[], &[]), b"\x03\x04\x01\x60\x00\x00"),
+    (Composite::Function(PARAMS, &[ValType::F32]), b"\x03\x07\x01\x60\x02\x7f\x7e\x01\x7d"),
+    (Composite::Array(StorageType::I16, false), b"\x03\x04\x01\x5e\x77\x00"),
+    (Composite::Array(StorageType::Val(ValType::I32), true), b"\x03\x04\x01\x5e\x7f\x01"),
+    (Composite::Struct(&[]), b"\x03\x03\x01\x5f\x00"),
+    (Composite::Struct(&[I8, I32]), b"\x03\x07\x01\x5f\x02\x78\x01\x7f\x00"),
 ];
 
-/// Subtypes, each without its guard and with it.
+/// Subtypes, each without its guard, and its section.
 const SUBTYPES: &[(Sub<'static>, &[u8], &[u8])] = &[
-    (FINAL, b"\x60\x00\x00", b"\x60\x00\x00"),
-    (OPEN, b"\x50\x00\x60\x00\x00", b"\x00\x50\x00\x60\x00\x00"),
+    (FINAL, b"\x60\x00\x00", b"\x03\x04\x01\x60\x00\x00"),
+    (OPEN, b"\x50\x00\x60\x00\x00", b"\x03\x07\x01\x00\x50\x00\x60\x00\x00"),
     (LONG, UNGUARDED_LONG_SUBTYPE, LONG_SUBTYPE),
     (
         Sub(true, Some(4), Composite::Array(StorageType::I16, false)),
         b"\x4f\x01\x04\x5e\x77\x00",
-        b"\x4f\x01\x04\x5e\x77\x00",
+        b"\x03\x07\x01\x4f\x01\x04\x5e\x77\x00",
     ),
-    (OPEN_ARRAY, b"\x50\x01\x80\x01\x5e\x77\x00", b"\x00\x50\x01\x80\x01\x5e\x77\x00"),
+    (OPEN_ARRAY, b"\x50\x01\x80\x01\x5e\x77\x00", b"\x03\x09\x01\x00\x50\x01\x80\x01\x5e\x77\x00"),
     (
         LONG_ARRAY,
         b"\x4f\x01\xff\xff\xff\xff\x0f\x5e\x64\xff\xff\xff\xff\x0f\x01",
-        b"\x4f\x01\xff\xff\xff\xff\x0f\x5e\x64\xff\xff\xff\xff\x0f\x01",
+        b"\x03\x10\x01\x4f\x01\xff\xff\xff\xff\x0f\x5e\x64\xff\xff\xff\xff\x0f\x01",
     ),
     (
         Sub(false, Some(0), Composite::Struct(&[I8])),
         b"\x50\x01\x00\x5f\x01\x78\x01",
-        b"\x00\x50\x01\x00\x5f\x01\x78\x01",
+        b"\x03\x09\x01\x00\x50\x01\x00\x5f\x01\x78\x01",
     ),
 ];
 
@@ -75,33 +75,33 @@ const LONG_ARRAY: Sub<'static> = Sub(true, Some(LARGE), Composite::Array(ELEMENT
 
 /// Types that refer to each other.
 const GROUPS: &[(&[Sub<'static>], &[u8])] = &[
-    (&[], b"\x4e\x00"),
-    (&[FINAL, FINAL_OF_ONE], b"\x4e\x02\x60\x00\x00\x60\x01\x7f\x00"),
-    (&[OPEN, OPEN_ARRAY], b"\x4e\x02\x50\x00\x60\x00\x00\x50\x01\x80\x01\x5e\x77\x00"),
+    (&[], b"\x03\x03\x01\x4e\x00"),
+    (&[FINAL, FINAL_OF_ONE], b"\x03\x0a\x01\x4e\x02\x60\x00\x00\x60\x01\x7f\x00"),
+    (&[OPEN, OPEN_ARRAY], b"\x03\x0f\x01\x4e\x02\x50\x00\x60\x00\x00\x50\x01\x80\x01\x5e\x77\x00"),
 ];
 
 #[test]
 fn types() {
     let heap = Refusing::new();
-    for (ty, text) in COMPOSITES {
-        check(&heap, Call::Composite(*ty), text, text);
+    for (ty, section) in COMPOSITES {
+        check(&heap, Call::Composite(*ty), &section[3..], section);
     }
     let ty = func_type(PARAMS, &[ValType::F32]);
-    let text = b"\x60\x02\x7f\x7e\x01\x7d";
-    check(&heap, Call::FuncType(&ty), text, text);
-    for (sub, text, guarded) in SUBTYPES {
+    let section = b"\x03\x07\x01\x60\x02\x7f\x7e\x01\x7d";
+    check(&heap, Call::FuncType(&ty), &section[3..], section);
+    for (sub, text, section) in SUBTYPES {
         let ty = subtype(sub);
-        check(&heap, Call::Subtype(&ty), text, guarded);
+        check(&heap, Call::Subtype(&ty), text, section);
     }
     let tree = GroupTree::Sub(subtype(&OPEN));
     let text = b"\x50\x00\x60\x00\x00";
-    let guarded = b"\x00\x50\x00\x60\x00\x00";
-    check(&heap, Call::Group(&tree), text, guarded);
-    for (subs, text) in GROUPS {
+    let section = b"\x03\x07\x01\x00\x50\x00\x60\x00\x00";
+    check(&heap, Call::Group(&tree), text, section);
+    for (subs, section) in GROUPS {
         let types = subtypes(subs);
-        check(&heap, Call::Rec(types.as_slice()), text, text);
+        check(&heap, Call::Rec(types.as_slice()), &section[3..], section);
     }
     let tree = GroupTree::Rec(subtypes(&[FINAL, FINAL_OF_ONE]));
-    let text = b"\x4e\x02\x60\x00\x00\x60\x01\x7f\x00";
-    check(&heap, Call::Group(&tree), text, text);
+    let section = b"\x03\x0a\x01\x4e\x02\x60\x00\x00\x60\x01\x7f\x00";
+    check(&heap, Call::Group(&tree), &section[3..], section);
 }

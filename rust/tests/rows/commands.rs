@@ -1,0 +1,75 @@
+//! Commands by their parts, and what they build.
+
+use crate::hex::behind;
+use wenc::tree::{AliasTree, CanonTree, Command, CoreTypeTree, DefinedTree, TypeTree, build};
+use wenc::{ComponentExportKind, ComponentOuterAliasKind, ComponentTypeRef, Error, ExportKind};
+
+/// A command, and its answer.
+pub type Call = (Command, Result<Option<u32>, Error>);
+
+/// The commands are answered so, and make the component with these bytes behind its header.
+pub fn builds<const N: usize>(calls: [Call; N], wanted: &str) {
+    let (commands, answers): (Vec<_>, Vec<_>) = calls.into_iter().unzip();
+    let built = build(&commands).unwrap();
+    assert_eq!(built.answers, answers);
+    assert_eq!(behind(&built.bytes), wanted);
+}
+
+/// The command adds an item, which is the first of its space.
+pub fn first(command: Command) -> Call {
+    (command, Ok(Some(0)))
+}
+
+pub fn import(name: &str, ty: ComponentTypeRef) -> Command {
+    Command::Import { name: text(name).into(), ty }
+}
+
+pub fn export(name: &str, kind: ComponentExportKind, index: u32) -> Command {
+    Command::Export { name: text(name).into(), kind, index, ty: None }
+}
+
+pub fn alias(alias: AliasTree) -> Command {
+    Command::Alias { debug_name: None, alias }
+}
+
+/// What the instance with this index exports.
+pub fn exported(instance: u32, kind: ComponentExportKind, name: &str) -> Command {
+    alias(AliasTree::InstanceExport { instance, kind, name: name.into() })
+}
+
+/// The same of a core instance.
+pub fn core_exported(instance: u32, kind: ExportKind, name: &str) -> Command {
+    alias(AliasTree::CoreInstanceExport { instance, kind, name: name.into() })
+}
+
+pub fn outer(kind: ComponentOuterAliasKind, count: u32, index: u32) -> Command {
+    alias(AliasTree::Outer { kind, count, index })
+}
+
+pub fn module(bytes: &[u8]) -> Command {
+    Command::CoreModule { debug_name: None, bytes: bytes.to_vec().into() }
+}
+
+pub fn start<const N: usize>(function: u32, args: [u32; N], results: u32) -> Command {
+    Command::Start { function, args: args.into(), results }
+}
+
+pub fn function(canon: CanonTree) -> Command {
+    Command::Canon { debug_name: None, canon }
+}
+
+pub fn core_type(ty: CoreTypeTree) -> Command {
+    Command::CoreType { debug_name: None, ty }
+}
+
+pub fn ty(ty: TypeTree) -> Command {
+    Command::Type { debug_name: None, ty }
+}
+
+pub fn defined(defined: DefinedTree) -> Command {
+    ty(TypeTree::Defined(defined))
+}
+
+pub fn text(text: &str) -> wenc::tree::String {
+    text.into()
+}

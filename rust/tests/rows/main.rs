@@ -1,0 +1,13 @@
+//! Worked rows: the same bytes by the builder, section by section, and by commands. Each expected
+//! byte is worked out from the format.
+
+mod alone;
+mod commands;
+mod core_types;
+mod functions;
+#[path = "../builders/hex.rs"]
+mod hex;
+mod instances;
+mod items;
+mod names;
+mod types;
