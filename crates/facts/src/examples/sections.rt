@@ -216,7 +216,7 @@ pub fn start<A: Allocator>(component: &mut Component<A>) -> Result<(), Fault>
     ensures { OnOk result (component.new
         ≡ component.old ++ 0x09 ∷ (start_form (started 0 (0 ∷ []) 0)).text) }
 {
-    // function 0 is called with value 0, and answers nothing
+    // the component has function 0 and value 0, with which it is called; it answers nothing
     let start = ComponentStartSection {
         function_index: 0,
         args: [0],
