@@ -1,4 +1,5 @@
-//! The components of the pages, of C and of the proved examples: each is valid to upstream's validator.
+//! The components of the pages, of C and of the proved examples: each is valid to upstream's
+//! validator.
 //!
 //! Other tests compare what an example makes with the literal that is read here.
 
@@ -68,16 +69,8 @@ const TYPES: &[(&str, u8)] =
     &[("DECLARATIONS", 7), ("MODULE_TYPE", 3), ("CORE_TYPE", 3), ("FLAGS", 7), ("TYPE", 7)];
 
 /// Numbers, names, items and maps of names, which are parts of a component.
-const PARTS: &[&str] = &[
-    "ENCODE",
-    "HOLDER",
-    "NAME_MAP",
-    "CANON",
-    "ALIAS",
-    "CORE_INSTANCE",
-    "INSTANCE",
-    "EXTERN_NAME",
-];
+const PARTS: &[&str] =
+    &["ENCODE", "HOLDER", "NAME_MAP", "CANON", "ALIAS", "CORE_INSTANCE", "INSTANCE", "EXTERN_NAME"];
 
 /// The component that a constant is, or that has it; none of a part.
 fn component(name: &str, bytes: &[u8]) -> Option<Vec<u8>> {
