@@ -131,7 +131,8 @@ const THREADS: Lines = &[
     ("thread.available-parallelism", Said::Canon(CanonTree::ThreadAvailableParallelism)),
 ];
 
-/// Lines that say nothing: empty words, other words, those of functions with options, and what is no text.
+/// Lines that say nothing: empty words, other words, those of functions with options, and what is
+/// no text.
 const NOTHING: &[&[u8]] = &[
     b"",
     b" ",

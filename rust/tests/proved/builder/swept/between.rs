@@ -150,7 +150,8 @@ fn is_with(bytes: &[u8], start: &Start, row: &Swept<'_>, answer: u32) -> bool {
     }
 }
 
-/// The counts behind a call that is accepted: what is in front are functions, what is behind is a type.
+/// The counts behind a call that is accepted: what is in front are functions, what is behind is a
+/// type.
 fn counted_with(start: &Start, row: &Swept<'_>) -> [u32; 13] {
     let (call, sort, _, _) = row;
     let mut counted = [0, 0, 0, 0, 0, 0, 0, 0, start.aliases, 0, 0, 0, 1];

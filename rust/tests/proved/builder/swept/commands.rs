@@ -125,9 +125,10 @@ const LONG_IMPORT: Tree<'static> = Tree::Import(
 
 const FIELDS: Tree<'static> = Tree::Type(b"\x72\x02\x01\x61\x7f\x01\x62\x7f");
 
-/// Commands, what they come to, and whether some growth is that of the one in the middle. What is refused adds nothing, and
-/// those after it run all the same. The short module has room without a growth, and its name hasn't. Where the opening of a
-/// record is refused, so is the command; where the rest of the type is, so is the whole.
+/// Commands, what they come to, and whether some growth is that of the one in the middle. What is
+/// refused adds nothing, and those after it run all the same. The short module has room without a
+/// growth, and its name hasn't. Where the opening of a record is refused, so is the command; where
+/// the rest of the type is, so is the whole.
 const ROWS: &[(&[Tree<'static>], &Case<'static>, bool)] = &[
     (&[FUNCTION, SHORT, OUTER_TYPE], MODULE, false),
     (&[FUNCTION, NAMED, OUTER_TYPE], MODULE, true),

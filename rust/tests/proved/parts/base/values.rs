@@ -6,7 +6,7 @@ use crate::proved::rt_std::string::String;
 use crate::proved::rt_std::vec::Vec;
 use crate::proved::tests::parts::checks::{check, check_all};
 use crate::proved::wenc_base::{
-    ByRef, Encode, ExportKind, Fault, Short, Tagged, Verbatim, WithSize, encode_list,
+    ByRef, Encode, ExportKind, Fault, Short, Tagged, Verbatim, WithSize, encode_byte, encode_list,
     encoding_size, extend_in_room, section_size,
 };
 use std::string::ToString;
@@ -223,4 +223,6 @@ fn without_memory() {
     let mut sink = Vec::with_capacity(Global, 8).unwrap();
     extend_in_room(&mut sink, &[0x2a, 0x80, 0x01, 0xbf, 0x7f]);
     assert_eq!(sink.as_slice(), THREE_VALUES);
+    encode_byte(0xff, &mut sink).unwrap();
+    assert_eq!(sink.as_slice(), [0x2a, 0x80, 0x01, 0xbf, 0x7f, 0xff]);
 }

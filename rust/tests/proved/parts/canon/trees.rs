@@ -1,5 +1,5 @@
-//! Each of the 49 canonical functions as a tree, with its name and its bytes: written, read, and made a component by
-//! `build`.
+//! Each of the 49 canonical functions as a tree, with its name and its bytes: written, read, and
+//! made a component by `build`.
 
 use crate::proved::rt_std::alloc::Global;
 use crate::proved::rt_std::vec::Vec;
