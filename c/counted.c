@@ -84,38 +84,23 @@ static uint32_t call(wenc_builder *to, int number) {
   static const char type[] = "\x42\x02\x00\x60\x00\x00\x01\x6b\x73";
   uint32_t index;
   switch (number) {
-    case 0:
-      return wenc_record(to, NAMED, TEXT("xyyyy"), parts, 2, &index);
+    case 0: return wenc_record(to, NAMED, TEXT("xyyyy"), parts, 2, &index);
     case 1:
       return wenc_function(to, NAMED, true, TEXT("xyyyy"), parts, 2, WENC_REF_NONE, 0, &index);
-    case 2:
-      return wenc_import(to, TEXT("an import"), WENC_REF_FUNC, 1, &index);
-    case 3:
-      return wenc_export(to, TEXT("an export"), WENC_FUNC, 0, WENC_REF_NONE, 0, &index);
-    case 4:
-      return wenc_alias_export(to, NAMED, 0, WENC_INSTANCE, TEXT("an alias"), &index);
-    case 5:
-      return wenc_alias_core_export(to, NAMED, 0, WENC_CORE_FUNC, TEXT("run"), &index);
-    case 6:
-      return wenc_alias_outer(to, NAMED, WENC_OUTER_TYPE, 1, 0, &index);
-    case 7:
-      return wenc_core_module(to, NAMED, bytes, sizeof bytes, &index);
-    case 8:
-      return wenc_component_bytes(to, NAMED, bytes, sizeof bytes, &index);
-    case 9:
-      return wenc_start(to, 0, args, 8, 1, &index);
-    case 10:
-      return wenc_builtin(to, 0x02, 0, 0, &index);
-    case 11:
-      return wenc_core_exports(to, NAMED, TEXT("a run"), exports, 1, &index);
-    case 12:
-      return wenc_item(to, WENC_SECTION_TYPE, NAMED, TEXT(type), &index);
-    case 13:
-      return wenc_item(to, WENC_SECTION_IMPORT, NAMED, TEXT("\x00\x01\x66\x01\x00"), &index);
-    case 14:
-      return wenc_custom_section(to, TEXT("custom"), bytes, sizeof bytes);
-    default:
-      return wenc_append_names(to);
+    case 2: return wenc_import(to, TEXT("an import"), WENC_REF_FUNC, 1, &index);
+    case 3: return wenc_export(to, TEXT("an export"), WENC_FUNC, 0, WENC_REF_NONE, 0, &index);
+    case 4: return wenc_alias_export(to, NAMED, 0, WENC_INSTANCE, TEXT("an alias"), &index);
+    case 5: return wenc_alias_core_export(to, NAMED, 0, WENC_CORE_FUNC, TEXT("run"), &index);
+    case 6: return wenc_alias_outer(to, NAMED, WENC_OUTER_TYPE, 1, 0, &index);
+    case 7: return wenc_core_module(to, NAMED, bytes, sizeof bytes, &index);
+    case 8: return wenc_component_bytes(to, NAMED, bytes, sizeof bytes, &index);
+    case 9: return wenc_start(to, 0, args, 8, 1, &index);
+    case 10: return wenc_builtin(to, 0x02, 0, 0, &index);
+    case 11: return wenc_core_exports(to, NAMED, TEXT("a run"), exports, 1, &index);
+    case 12: return wenc_item(to, WENC_SECTION_TYPE, NAMED, TEXT(type), &index);
+    case 13: return wenc_item(to, WENC_SECTION_IMPORT, NAMED, TEXT("\x00\x01\x66\x01\x00"), &index);
+    case 14: return wenc_custom_section(to, TEXT("custom"), bytes, sizeof bytes);
+    default: return wenc_append_names(to);
   }
 }
 
