@@ -122,7 +122,9 @@ fn copied<'h>(heap: &'h Refusing, holder: &Heaped<'h>) -> Heaped<'h> {
     assert_eq!(holder.try_clone().err(), Some(REFUSED));
     assert!(heap.was_refused());
     heap.refuse_none();
-    holder.try_clone().unwrap()
+    let copy = holder.try_clone().unwrap();
+    assert_eq!(heap.requests(), 1);
+    copy
 }
 
 #[test]
