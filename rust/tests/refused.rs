@@ -97,6 +97,10 @@ const NAME: &str = "a name that is longer than what a first growth makes room fo
 
 #[test]
 fn a_component_is_built() {
+    let mut kits = ProducersField::new();
+    kits.value(NAME, "1");
+    let mut producers = ProducersSection::new();
+    producers.field("sdk", &kits);
     each_is_refused(30, |refusals| {
         let mut builder = refusals.call(ComponentBuilder::try_new);
         for i in 0..40 {
@@ -120,6 +124,7 @@ fn a_component_is_built() {
                 data: NAME.as_bytes().into(),
             })
         });
+        refusals.call(|| builder.try_producers_section(&producers));
         builder.try_finish().expect("it takes no memory")
     });
 }
