@@ -197,7 +197,11 @@ fn alone(rt: HostRuntime) {
     let mut nested = ok(&rt, ComponentBuilder::new(alloc));
     answers(&rt, nested.task_cancel(), 0);
     let mut builder = ok(&rt, ComponentBuilder::new(alloc));
-    answers(&rt, stand_alone(&mut builder, &module, nested, &producers), 0);
+    answers(
+        &rt,
+        stand_alone(&mut builder, &module, nested, &producers),
+        0,
+    );
     yes(&rt, builder.component_count() == 3);
     yes(&rt, builder.value_count() == 1);
     let bytes = ok(&rt, builder.finish());
