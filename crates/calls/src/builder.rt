@@ -5,7 +5,9 @@ use crate::checks::{are, ok, yes};
 use crate::core_types::open;
 use std::alloc::Global;
 use std::process::Abort;
-use wenc_base::{CustomSection, ExportKind, Fault, Module, SubType, ValType};
+use wenc_base::{
+    CustomSection, ExportKind, Fault, Module, ProducersField, ProducersSection, SubType, ValType,
+};
 use wenc_builder::{ComponentBuilder, Space};
 use wenc_canon::{CanonTree, CanonicalOption};
 use wenc_parts::{
@@ -166,6 +168,7 @@ fn stand_alone(
     builder: &mut ComponentBuilder,
     module: &Module,
     nested: ComponentBuilder,
+    producers: &ProducersSection,
 ) -> Result<u32, Fault> {
     _ = builder.core_module(Some("m"), module);
     _ = builder.core_module_raw(None, &[0xaa]);
@@ -174,21 +177,31 @@ fn stand_alone(
     _ = builder.component_raw(None, &[]);
     _ = builder.custom_section(&CUSTOM);
     _ = builder.raw_custom_section(&[0x02, 0x01, 0x78]);
+    _ = builder.producers_section(producers);
     builder.start(7, [0u32, 1], 1)
 }
 
 const ALONE: &str =
     "0061736d0d00010001080061736d010000000101aa040c0061736d0d00010008020105040c0061736d0d00010008\
-    0201050400000201780002017809050702000101";
+    0201050400000201780002017800140970726f64756365727301\
+    0373646b010161013109050702000101";
 
 #[test]
 fn alone(rt: HostRuntime) {
     let alloc = rt.alloc();
+    let mut kits = ProducersField::new(alloc);
+    ok(&rt, kits.value("a", "1"));
+    let mut producers = ProducersSection::new(alloc);
+    ok(&rt, producers.field("sdk", &kits));
     let module = ok(&rt, Module::new(alloc));
     let mut nested = ok(&rt, ComponentBuilder::new(alloc));
     answers(&rt, nested.task_cancel(), 0);
     let mut builder = ok(&rt, ComponentBuilder::new(alloc));
-    answers(&rt, stand_alone(&mut builder, &module, nested), 0);
+    answers(
+        &rt,
+        stand_alone(&mut builder, &module, nested, &producers),
+        0,
+    );
     yes(&rt, builder.component_count() == 3);
     yes(&rt, builder.value_count() == 1);
     let bytes = ok(&rt, builder.finish());

@@ -11,3 +11,4 @@ pub mod Alone
 pub mod Entered
 pub mod Listed
 pub mod Named
+pub mod Producing

@@ -9,5 +9,6 @@ pub mod Cause
 pub mod Enters
 pub mod LenderState
 pub mod Names
+pub mod Producers
 pub mod inside
 pub mod laws

@@ -34,6 +34,7 @@ mod kind;
 mod names;
 mod namespace;
 mod nested;
+mod producers;
 mod space;
 mod spaces;
 mod trees;

@@ -348,6 +348,23 @@ fn custom_sections_stand_where_they_were_added() {
 }
 
 #[test]
+fn a_producers_section_stands_where_it_was_added() {
+    let mut kits = ProducersField::new();
+    kits.value("a", "1");
+    let mut producers = ProducersSection::new();
+    producers.field("sdk", &kits);
+    let mut b = builder();
+    b.resource_drop(0);
+    b.producers_section(&producers);
+    b.task_cancel();
+    assert_eq!(
+        behind_header(b),
+        "08 03 01 03 00 \
+         00 14 09 70 72 6f 64 75 63 65 72 73 01 03 73 64 6b 01 01 61 01 31 08 02 01 05"
+    );
+}
+
+#[test]
 fn debug_names_are_those_that_were_given() {
     let mut b = builder();
     b.type_defined(Some("t")).1.list(PrimitiveValType::U8);

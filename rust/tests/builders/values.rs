@@ -66,6 +66,7 @@ fn a_type_that_is_not_whole_refuses_all_that_adds() {
     assert_eq!(b.try_raw_custom_section(&[]), Err(Error::Unfinished));
     let custom = CustomSection { name: "c".into(), data: [].as_slice().into() };
     assert_eq!(b.try_custom_section(&custom), Err(Error::Unfinished));
+    assert_eq!(b.try_producers_section(&ProducersSection::new()), Err(Error::Unfinished));
     assert_eq!(b.try_append_names(), Err(Error::Unfinished));
     assert_eq!(b.try_core_type(None).err(), Some(Error::Unfinished));
     assert_eq!(b.try_ty(None).err(), Some(Error::Unfinished));

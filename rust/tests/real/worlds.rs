@@ -51,9 +51,7 @@ fn encoded(id: &str, world: &ComponentType, texts: Texts, tool: (&str, &str)) ->
     field.value(tool.0, tool.1);
     let mut producers = ProducersSection::new();
     producers.field("processed-by", &field);
-    let mut section = Vec::new();
-    producers.encode(&mut section);
-    builder.raw_custom_section(&section);
+    builder.producers_section(&producers);
     builder.finish()
 }
 

@@ -3,7 +3,7 @@
 use crate::component::{
     Alias, ComponentBuilder, ComponentExportKind, ComponentExternName, ComponentTypeRef,
 };
-use crate::core::{CustomSection, ExportKind, Module};
+use crate::core::{CustomSection, ExportKind, Module, ProducersSection};
 use crate::twins::twins;
 use alloc::vec::Vec;
 
@@ -147,6 +147,25 @@ impl ComponentBuilder {
         /// section's (component model, binary format, "Component Definitions").
         fn raw_custom_section | try_raw_custom_section(&mut self, section: &[u8]) -> () {
             Ok(self.0.raw_custom_section(section)?)
+        }
+
+        /// Adds a producers section, the custom section with the name `producers`: its bytes are written straight behind the
+        /// component's (tool conventions, "Producers Section").
+        ///
+        /// ```
+        /// use wenc::{ComponentBuilder, ProducersField, ProducersSection};
+        ///
+        /// let mut kits = ProducersField::new();
+        /// kits.value("a", "1");
+        /// let mut producers = ProducersSection::new();
+        /// producers.field("sdk", &kits);
+        ///
+        /// let mut builder = ComponentBuilder::default();
+        /// builder.producers_section(&producers);
+        /// assert_eq!(builder.finish()[8..], *b"\x00\x14\x09producers\x01\x03sdk\x01\x01a\x011");
+        /// ```
+        fn producers_section | try_producers_section(&mut self, section: &ProducersSection) -> () {
+            Ok(self.0.producers_section(&section.0)?)
         }
     }
 }

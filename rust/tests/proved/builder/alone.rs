@@ -77,6 +77,23 @@ pub const ROWS: &[Row<'static>] = &[
         ],
         b"\x08\x03\x01\x02\x01\x00\x02\x01\x78\x00\x02\x01\x78\x08\x03\x01\x04\x01",
     ),
+    (
+        &[
+            (Item::Indexed(Indexed::ResourceNew, 1), Ok(0)),
+            (Item::Producers("sdk", "a", "1"), Ok(0)),
+            (Item::Indexed(Indexed::ResourceRep, 1), Ok(1)),
+        ],
+        b"\x08\x03\x01\x02\x01\x00\x14\x09producers\x01\x03sdk\x01\x01a\x011\x08\x03\x01\x04\x01",
+    ),
+    (
+        &[
+            (BEGIN_TYPE, Ok(0)),
+            (Item::Producers("sdk", "a", "1"), Err(Fault::Unfinished)),
+            (Item::GiveUp, Ok(1)),
+            (Item::Producers("language", "Rust", ""), Ok(0)),
+        ],
+        b"\x00\x1b\x09producers\x01\x08language\x01\x04Rust\x00",
+    ),
     // What is unfinished is said before anything else is.
     (
         &[

@@ -9,6 +9,7 @@ use crate::proved::tests::refusing::Refusing;
 use crate::proved::wasm_encoder::{
     Alias, CanonicalOption, ComponentBuilder, ComponentExportKind, ComponentExternName,
     ComponentOuterAliasKind, ComponentTypeRef, CustomSection, ExportKind, Fault, Module, ModuleArg,
+    ProducersField, ProducersSection,
 };
 
 /// It has more bytes than there is room for without a growth.
@@ -64,6 +65,8 @@ pub enum Item<'a> {
     Start(u32, &'a [u32], u32),
     Custom(CustomSection<'a>),
     RawCustom(&'a [u8]),
+    /// A field that has one tool: its name, the tool, and the version.
+    Producers(&'a str, &'a str, &'a str),
     AppendNames,
     /// Gives up what is unfinished: 1 where something was, or 0.
     GiveUp,
@@ -98,6 +101,9 @@ impl<'a> Item<'a> {
             }
             Item::Custom(section) => without_index(builder.custom_section(section)),
             Item::RawCustom(bytes) => without_index(builder.raw_custom_section(bytes)),
+            Item::Producers(name, tool, version) => {
+                without_index(builder.producers_section(&producers(name, tool, version)))
+            }
             Item::AppendNames => without_index(builder.append_names()),
             Item::GiveUp => Ok(u32::from(builder.discard_unfinished())),
         }
@@ -109,6 +115,15 @@ fn module(section: &CustomSection<'_>) -> Module {
     let mut module = Module::new(Global).unwrap();
     module.section(section).unwrap();
     module
+}
+
+/// A producers section with this field alone, which has one tool.
+fn producers(name: &str, tool: &str, version: &str) -> ProducersSection {
+    let mut field = ProducersField::new(Global);
+    field.value(tool, version).unwrap();
+    let mut section = ProducersSection::new(Global);
+    section.field(name, &field).unwrap();
+    section
 }
 
 /// Such a call answers no index.

@@ -56,6 +56,12 @@ pub const CALLS: &[Swept<'static>] = &[
         b"\x00an-interface-with-a-long-name",
     ),
     (
+        Item::Producers("sdk", NAME, "1"),
+        &[],
+        "",
+        b"\x00\x30\x09producers\x01\x03sdk\x01\x1dan-interface-with-a-long-name\x011",
+    ),
+    (
         Item::Module(CUSTOM),
         CORE_MODULE,
         NAME,

@@ -1,0 +1,38 @@
+ghost use Rattle.std.specs.Prelude.{◌≡◌, List, OnOk, OnErr, Err, true, false};
+ghost use Rattle.wenc_base.specs.Holder.{Contains, held_text, is_finished};
+ghost use Rattle.wenc_base.specs.Producers.{Producers, producers_field, producers_label};
+ghost use Rattle.wenc_base.specs.declared.fault.Fault.TheVariants.{Unfinished};
+ghost use Rattle.wenc_builder.specs.Builder.{builder_is_finished};
+ghost use Rattle.wenc_builder.specs.Enters.{EntersWithoutIndex};
+ghost use Rattle.wenc_builder.specs.Entry.{custom_entry};
+ghost use Rattle.wenc_builder.specs.Producers.{producers_entry};
+
+use super::ComponentBuilder;
+use std::alloc::Allocator;
+use wenc_base::{Fault, ProducersSection, Tagged};
+use wenc_parts::ComponentSectionId;
+
+/// What made the component.
+impl<A: Allocator> ComponentBuilder<A> {
+    /// Adds a producers section: the custom section of the name `producers` (tool conventions, "Producers Section").
+    /// Refused as the type says.
+    pub fn producers_section<B: Allocator>(
+        &mut self,
+        producers: &ProducersSection<B>,
+    ) -> Result<(), Fault>
+        ensures entered { (fields : List Producers) → Contains producers_field producers.now fields
+            → EntersWithoutIndex self.old self.new result (producers_entry fields) }
+        ensures bytes { is_finished producers.now ≡ true
+            → EntersWithoutIndex self.old self.new result
+            (custom_entry producers_label (held_text producers.now)) }
+        ensures finished { OnOk result (is_finished producers.now ≡ true) }
+        ensures unfinished { builder_is_finished self.old ≡ false → result ≡ Err Unfinished }
+        ensures err { OnErr result (self.new ≡ self.old) }
+    {
+        if !self.buffer.is_finished() {
+            return Err(Fault::Unfinished);
+        }
+        let section = Tagged(ComponentSectionId::CoreCustom.into(), producers);
+        self.buffer.stand_alone(&section)
+    }
+}
