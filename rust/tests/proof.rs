@@ -10,7 +10,11 @@ use std::path::Path;
 
 /// The digests that `PROOF` has, by the folder.
 fn told() -> BTreeMap<&'static str, &'static str> {
-    wenc::PROOF.lines().filter_map(|line| line.split_once("  ")).map(|(sum, at)| (at, sum)).collect()
+    wenc::PROOF
+        .lines()
+        .filter_map(|line| line.split_once("  "))
+        .map(|(sum, at)| (at, sum))
+        .collect()
 }
 
 /// The files below a folder, by their paths from the crate's own.
