@@ -1,4 +1,5 @@
-# Counts the functions with a body in sources of Rattle. A clause in braces, behind `requires` or `ensures`, is no body.
+# Counts the functions with a body in sources of Rattle. What stands in braces behind `requires` or
+# `ensures` is no body.
 {
     gsub(/'[{}();]'|"([^"\\]|\\.)*"/, "")
     sub(/\/\/.*/, "")
