@@ -44,5 +44,6 @@ pub fn read_back<A: Allocator, B: Allocator>(
 {
     what_is_finished_has_some();
     sections_are_read();
-    imports.encode(sink)
+    imports.encode(sink)?;
+    Ok(())
 }

@@ -1,4 +1,7 @@
-use Rattle.std.proofs.Common.{rules, None, sym, ◌∙◌}
+use Rattle.std.proofs.Common.{rules, ◌++◌, ◌∷◌, [], None, subst}
+use Rattle.wenc_builder.specs.Builder.{State}
+use Rattle.wenc_builder.specs.Entry.{type_entry}
+use Rattle.wenc_builder.specs.Holds.{Holds}
 use Rattle.wenc_types.specs.ComponentTypes.{DefinedType}
 use Rattle.wenc_types.specs.DefinedTypes.{OptionOf}
 use Rattle.facts.proofs.built.option_built.Goals as goal
