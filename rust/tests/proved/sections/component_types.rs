@@ -4,6 +4,7 @@
 mod calls;
 mod declarations;
 mod functions;
+mod indexed;
 mod kinds;
 mod sections;
 mod trees;
