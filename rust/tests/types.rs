@@ -1,5 +1,7 @@
 //! Types of components: their bytes, and what is left when one isn't ended.
 
+#[path = "types/indexed.rs"]
+mod indexed;
 #[path = "types/panicking.rs"]
 mod panicking;
 #[path = "types/stages.rs"]

@@ -43,12 +43,13 @@ fn declare_core_types(
 fn declare_entities(module: &mut ModuleType) {
     _ = module.import("m", "n", EntityType::Function(0));
     _ = module.alias_outer_core_type(1, 0);
+    _ = module.alias_core_type(1, 1);
     _ = module.export("t", TAG);
 }
 
 const MODULE: &str =
-    "500a0160017f000160017f017c015e7700015f01780101500060017f017c014e01500060017f017c01500060017f\
-    017c00016d016e00000210010100030174040000";
+    "500b0160017f000160017f017c015e7700015f01780101500060017f017c014e01500060017f017c01500060017f\
+    017c00016d016e000002100101000210010101030174040000";
 
 /// Each call of the section of core types.
 fn add_core_types(
@@ -73,7 +74,7 @@ fn module(rt: HostRuntime) {
     declare_entities(&mut module);
     yes(&rt, module.is_finished());
     yes(&rt, !module.discard_unfinished());
-    yes(&rt, module.type_count() == 8);
+    yes(&rt, module.type_count() == 9);
     let copy = ok(&rt, module.clone());
     is(&rt, alloc, &copy, MODULE);
 }
@@ -229,6 +230,51 @@ fn types(rt: HostRuntime) {
     );
     yes(&rt, component.instance_count() == 1);
     is(&rt, alloc, &component, COMPONENT);
+}
+
+/// Each call of both types that answers an index. Answers the last one.
+fn declare_indexed(ty: &mut InstanceType) -> Result<u32, Fault> {
+    _ = ty.type_defined()?.1.own(0);
+    let (_, mut function) = ty.type_function()?;
+    function.params([].into_iter())?;
+    _ = function.result(None);
+    _ = ty.alias_export_type(0, "t");
+    _ = ty.alias_export_instance(0, "i");
+    _ = ty.alias_outer_type(1, 0);
+    _ = ty.alias_core_type(1, 0);
+    _ = ty.export_instance("e".into(), 0);
+    ty.export_type("t".into(), TypeBounds::SubResource)
+}
+
+fn declare_indexed_in_component(ty: &mut ComponentType) -> Result<u32, Fault> {
+    _ = ty.alias_export_type(0, "t");
+    _ = ty.alias_export_instance(0, "i");
+    _ = ty.alias_outer_type(1, 0);
+    _ = ty.alias_core_type(1, 0);
+    _ = ty.export_instance("e".into(), 0);
+    _ = ty.export_type("t".into(), TypeBounds::SubResource);
+    _ = ty.import_instance("i".into(), 0);
+    ty.import_type("u".into(), TypeBounds::Eq(0))
+}
+
+const INDEXED_INSTANCE: &str =
+    "420801690001400001000203000001740205000001690203020100020010020100040001650500040001740301";
+
+const INDEXED_COMPONENT: &str =
+    "4108020300000174020500000169020302010002001002010004000165050004000174030103000169050003\
+    000175030000";
+
+#[test]
+fn indexed(rt: HostRuntime) {
+    let alloc = rt.alloc();
+    let mut instance = InstanceType::new(alloc);
+    let last = ok(&rt, declare_indexed(&mut instance));
+    yes(&rt, last == 4);
+    is(&rt, alloc, &instance, INDEXED_INSTANCE);
+    let mut component = ComponentType::new(alloc);
+    let last = ok(&rt, declare_indexed_in_component(&mut component));
+    yes(&rt, last == 3);
+    is(&rt, alloc, &component, INDEXED_COMPONENT);
 }
 
 #[test]

@@ -36,6 +36,7 @@ pub use wenc_sections::{
 };
 pub use wenc_types::{
     CaseTree, ComponentCoreTypeEncoder, ComponentDecl, ComponentDefinedTypeEncoder,
-    ComponentFuncTypeEncoder, ComponentType, ComponentTypeEncoder, CoreTypeTree, DefinedTree,
-    FuncStage, InstanceDecl, InstanceType, ModuleDecl, ModuleType, TypeTree,
+    ComponentFuncTypeEncoder, ComponentType, ComponentTypeEncoder, CoreTypeTree, Declarations,
+    DeclaringKind, DefinedTree, FuncStage, InstanceDecl, InstanceType, ModuleDecl, ModuleType,
+    TypeTree,
 };

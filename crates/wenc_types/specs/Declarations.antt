@@ -1,6 +1,6 @@
 -- Module, component and instance types: their declarations, one by one, and what is counted.
 use Rattle.std.specs.Prelude.{◌≡◌, ℕ, ◌+◌, ◌-◌, List, [], ◌∷◌, ◌++◌, Option, Some, None, Result}
-use Rattle.std.specs.Prelude.{OnOk, OnErr, true}
+use Rattle.std.specs.Prelude.{Ok, Err, OnOk, OnErr, true}
 use Rattle.wenc_base.specs.Holder.{HolderState, no_members, is_finished, Contains, AddsMember}
 use Rattle.wenc_base.specs.Piece.{Form}
 use Rattle.wenc_base.specs.Openings.{member_begun, member_appended, member_ended, member_given_up}
@@ -145,6 +145,11 @@ AddsToInstance = AddsDeclaration instance_declaration instance_sort
 abbrev pub AddsToComponent : TypeState → TypeState → Result (Unit {0}) Fault
     → ComponentDeclaration → Type 0
 AddsToComponent = AddsDeclaration component_declaration component_sort
+
+-- how a call ended that answers an index when it is accepted
+abbrev pub indexed_outcome : Result ℕ Fault → Result (Unit {0}) Fault
+indexed_outcome (Ok index) = Ok tt
+indexed_outcome (Err fault) = Err fault
 
 -- ---- a type that is written by an encoder
 

@@ -10,9 +10,12 @@ ghost use Rattle.wenc_types.specs.ComponentTypes.{InstanceDeclaration, instance_
 ghost use Rattle.wenc_types.specs.Declarations.{instance_sort, no_declarations, lead_of, type_begun, type_given_up, NoneBegun, DeclaresSome, IsDeclaration, AddsDeclaration};
 ghost use Rattle.wenc_types.specs.declared.counts.Sort.{Sort as SortSpec};
 ghost use Rattle.wenc_types.specs.declared.counts.Sort.TheVariants as sorts;
+ghost use Rattle.wenc_types.specs.declared.func_type.FuncStage.TheVariants as stages;
 
 use crate::core_type::ComponentCoreTypeEncoder;
 use crate::counts::{Counts, Sort};
+use crate::defined_type::ComponentDefinedTypeEncoder;
+use crate::func_type::ComponentFuncTypeEncoder;
 use crate::ty::ComponentTypeEncoder;
 use std::alloc::{Allocator, Global};
 use std::marker::{Model, PhantomData};
@@ -211,6 +214,47 @@ impl<K: DeclaringKind, A: Allocator> Declarations<K, A> {
     {
         self.begin(0x01, Sort::Type)?;
         Ok(ComponentTypeEncoder::new(self))
+    }
+
+    /// Begins a type of values, which is written by the encoder that is answered with the type's index. It is refused
+    /// as `core_type` is.
+    pub fn type_defined(
+        &mut self,
+    ) -> Result<(u32, ComponentDefinedTypeEncoder<'_, Declarations<K, A>>), Fault>
+        ensures* refused { sem 𝓛 (RestsIfErr (the_row K.row A.row K.DeclaredKind A.Allocator)
+            self.entry
+            (λ e. e.1.lender.ghost_name) result (λ n. n ≡ self.old)) }
+        ensures same_reference { IfOk result (λ e. e.1.lender.ghost_name ≡ self.entry.ghost_name) }
+        ensures lent { Lends (λ e. e.1.lender.now) (type_begun sorts.«Type» self.old)
+            (is_finished self.old.held) result
+            (AddCause self.old.held (lead_of sorts.«Type») (λ _. ⊥)) }
+        ensures index { IfOk result (λ e. e.0 ≡ self.old.counts.types) }
+        ensures settled { OnOk result (NoneBegun self.old) }
+    {
+        let index = self.type_count();
+        self.begin(0x01, Sort::Type)?;
+        Ok((index, ComponentDefinedTypeEncoder::new(self)))
+    }
+
+    /// Begins a type of functions, which is written by the encoder that is answered with the type's index. It is refused
+    /// as `core_type` is.
+    pub fn type_function(
+        &mut self,
+    ) -> Result<(u32, ComponentFuncTypeEncoder<'_, Declarations<K, A>>), Fault>
+        ensures* refused { sem 𝓛 (RestsIfErr (the_row K.row A.row K.DeclaredKind A.Allocator)
+            self.entry
+            (λ e. e.1.lender.ghost_name) result (λ n. n ≡ self.old)) }
+        ensures same_reference { IfOk result (λ e. e.1.lender.ghost_name ≡ self.entry.ghost_name) }
+        ensures lent { Lends (λ e. e.1.lender.now) (type_begun sorts.«Type» self.old)
+            (is_finished self.old.held) result
+            (AddCause self.old.held (lead_of sorts.«Type») (λ _. ⊥)) }
+        ensures index { IfOk result (λ e. e.0 ≡ self.old.counts.types) }
+        ensures settled { OnOk result (NoneBegun self.old) }
+        ensures stage { IfOk result (λ e. e.1.stage ≡ stages.Start) }
+    {
+        let index = self.type_count();
+        self.begin(0x01, Sort::Type)?;
+        Ok((index, ComponentFuncTypeEncoder::new(self)))
     }
 
     /// How many declarations there are, one that is being written among them.

@@ -1,13 +1,20 @@
-ghost use Rattle.wenc_parts.specs.Aliases.{alias_view};
+ghost use Rattle.std.specs.Prelude.{◌≡◌, IfOk};
+ghost use Rattle.wenc_parts.specs.Aliases.{alias_view, InstanceExport, Outer};
 ghost use Rattle.wenc_parts.specs.Imports.{extern_name_view};
+ghost use Rattle.wenc_parts.specs.declared.aliases.ComponentOuterAliasKind.TheVariants as outers;
+ghost use Rattle.wenc_parts.specs.declared.exports.ComponentExportKind.TheVariants as kinds;
+ghost use Rattle.wenc_parts.specs.declared.imports.ComponentTypeRef.TheVariants as references;
 ghost use Rattle.wenc_types.specs.ComponentTypes.{Aliased, Exported};
-ghost use Rattle.wenc_types.specs.Declarations.{AddsToInstance};
+ghost use Rattle.wenc_types.specs.Declarations.{AddsToInstance, indexed_outcome};
 
 use crate::counts::{sort_of_alias, sort_of_kind};
 use crate::declarations::{Declarations, DeclaredKind, DeclaringKind};
 use std::alloc::{Allocator, Global};
 use wenc_base::{Fault, Tagged};
-use wenc_parts::{Alias, ComponentExternName, ComponentTypeRef};
+use wenc_parts::{
+    Alias, ComponentExportKind, ComponentExternName, ComponentOuterAliasKind, ComponentTypeRef,
+    TypeBounds,
+};
 
 /// The kind of types that instances have.
 pub struct InstanceTypes;
@@ -73,5 +80,100 @@ impl<A: Allocator> Declarations<InstanceTypes, A> {
             (Exported (extern_name_view name.entry) ty) }
     {
         self.add(&Tagged(0x04, &(name, ty)), sort_of_kind(ty.kind()))
+    }
+
+    /// Declares an alias of the type that this instance exports under this name, and answers the alias's index. It is
+    /// refused as `alias` is.
+    pub fn alias_export_type(&mut self, instance: u32, name: &str) -> Result<u32, Fault>
+        ensures added { AddsToInstance self.old self.new (indexed_outcome result)
+            (Aliased (InstanceExport instance kinds.«Type» name.now)) }
+        ensures index { IfOk result (λ index. index ≡ self.old.counts.types) }
+    {
+        let index = self.type_count();
+        self.alias(Alias::InstanceExport {
+            instance,
+            kind: ComponentExportKind::Type,
+            name,
+        })?;
+        Ok(index)
+    }
+
+    /// Declares an alias of the instance that this instance exports under this name, and answers the alias's index. It
+    /// is refused as `alias` is.
+    pub fn alias_export_instance(&mut self, instance: u32, name: &str) -> Result<u32, Fault>
+        ensures added { AddsToInstance self.old self.new (indexed_outcome result)
+            (Aliased (InstanceExport instance kinds.Instance name.now)) }
+        ensures index { IfOk result (λ index. index ≡ self.old.counts.instances) }
+    {
+        let index = self.instance_count();
+        self.alias(Alias::InstanceExport {
+            instance,
+            kind: ComponentExportKind::Instance,
+            name,
+        })?;
+        Ok(index)
+    }
+
+    /// Declares an alias of the type with the index `outer` of the scope that is `count` components out, and answers the
+    /// alias's own index. It is refused as `alias` is.
+    pub fn alias_outer_type(&mut self, count: u32, outer: u32) -> Result<u32, Fault>
+        ensures added { AddsToInstance self.old self.new (indexed_outcome result)
+            (Aliased (Outer outers.«Type» count outer)) }
+        ensures index { IfOk result (λ index. index ≡ self.old.counts.types) }
+    {
+        let index = self.type_count();
+        self.alias(Alias::Outer {
+            kind: ComponentOuterAliasKind::Type,
+            count,
+            index: outer,
+        })?;
+        Ok(index)
+    }
+
+    /// Declares an alias of the core type with the index `outer` of the scope that is `count` components out, and answers
+    /// the alias's own index. It is refused as `alias` is.
+    pub fn alias_core_type(&mut self, count: u32, outer: u32) -> Result<u32, Fault>
+        ensures added { AddsToInstance self.old self.new (indexed_outcome result)
+            (Aliased (Outer outers.CoreType count outer)) }
+        ensures index { IfOk result (λ index. index ≡ self.old.counts.core_types) }
+    {
+        let index = self.core_type_count();
+        self.alias(Alias::Outer {
+            kind: ComponentOuterAliasKind::CoreType,
+            count,
+            index: outer,
+        })?;
+        Ok(index)
+    }
+
+    /// Declares an export of a type under this name, and answers its index. It is refused as `alias` is.
+    pub fn export_type<B: Allocator>(
+        &mut self,
+        name: ComponentExternName<'_, B>,
+        bounds: TypeBounds,
+    ) -> Result<u32, Fault>
+        ensures added { AddsToInstance self.old self.new (indexed_outcome result)
+            (Exported (extern_name_view name.entry) (references.«Type» bounds)) }
+        ensures index { IfOk result (λ index. index ≡ self.old.counts.types) }
+    {
+        let index = self.type_count();
+        self.export(name, ComponentTypeRef::Type(bounds))?;
+        Ok(index)
+    }
+
+    /// Declares an export of an instance of the type with this index, and answers its index among the instances. It is
+    /// refused as `alias` is.
+    pub fn export_instance<B: Allocator>(
+        &mut self,
+        name: ComponentExternName<'_, B>,
+        ty: u32,
+    ) -> Result<u32, Fault>
+        ensures added { AddsToInstance self.old self.new (indexed_outcome result)
+            (Exported (extern_name_view name.entry) (references.Instance ty)) }
+        ensures index { IfOk result (λ index. index ≡ self.old.counts.instances) }
+    {
+        let index = self.instance_count();
+        self.export(name, ComponentTypeRef::Instance(ty))?;
+        Ok(index)
     }
 }

@@ -3,7 +3,7 @@ ghost use Rattle.std.specs.Prelude.{◌≡◌, false, OnOk, IfOk};
 ghost use Rattle.wenc_base.specs.Holder.{is_finished, AddCause};
 ghost use Rattle.wenc_base.specs.Lender.{Lends};
 ghost use Rattle.wenc_types.specs.CoreTypes.{ModuleImport, ModuleOuter, ModuleExport};
-ghost use Rattle.wenc_types.specs.Declarations.{AddsToModule, NoneBegun, lead_of, type_begun};
+ghost use Rattle.wenc_types.specs.Declarations.{AddsToModule, NoneBegun, indexed_outcome, lead_of, type_begun};
 ghost use Rattle.wenc_types.specs.declared.counts.Sort.TheVariants as sorts;
 
 use crate::counts::Sort;
@@ -61,6 +61,17 @@ impl<A: Allocator> Declarations<ModuleTypes, A> {
             &Tagged(0x02, &(sort_and_kind, count, index)),
             Some(Sort::Type),
         )
+    }
+
+    /// Declares an alias as `alias_outer_core_type` does, and answers its index. It is refused as `import` is.
+    pub fn alias_core_type(&mut self, count: u32, outer: u32) -> Result<u32, Fault>
+        ensures added { AddsToModule self.old self.new (indexed_outcome result)
+            (ModuleOuter count outer) }
+        ensures index { IfOk result (λ index. index ≡ self.old.counts.types) }
+    {
+        let index = self.type_count();
+        self.alias_outer_core_type(count, outer)?;
+        Ok(index)
     }
 
     /// Declares an export of the module. It is refused as `import` is.

@@ -72,6 +72,100 @@ macro_rules! declaring {
                     self.0.export(name.into().into_proved(), ty)?;
                     Ok(self)
                 }
+
+                /// Declares a type of values, which the encoder writes, and answers its index; as [`ty`](Self::ty).
+                #[must_use = "the encoder is to write the type"]
+                fn type_defined | try_type_defined(
+                    &mut self,
+                ) -> (u32, $crate::ComponentDefinedTypeEncoder<'_>) {
+                    let (index, encoder) = self.0.type_defined()?;
+                    Ok((index, encoder.into()))
+                }
+
+                /// Declares a type of functions, which the encoder writes, and answers its index; as [`ty`](Self::ty).
+                #[must_use = "the encoder is to write the type"]
+                fn type_function | try_type_function(
+                    &mut self,
+                ) -> (u32, $crate::ComponentFuncTypeEncoder<'_>) {
+                    let (index, encoder) = self.0.type_function()?;
+                    Ok((index, encoder.into()))
+                }
+
+                /// Declares an alias of the type that this instance exports under this name, and answers the alias's index.
+                fn alias_export_type | try_alias_export_type(
+                    &mut self,
+                    instance: u32,
+                    name: &str,
+                ) -> u32 {
+                    Ok(self.0.alias_export_type(instance, name)?)
+                }
+
+                /// Declares an alias of the instance that this instance exports under this name, and answers the alias's
+                /// index.
+                fn alias_export_instance | try_alias_export_instance(
+                    &mut self,
+                    instance: u32,
+                    name: &str,
+                ) -> u32 {
+                    Ok(self.0.alias_export_instance(instance, name)?)
+                }
+
+                /// Declares an alias of a type that an enclosing component has: how many components further out that is, and
+                /// which index the type has there. Answers the alias's own index.
+                fn alias_outer_type | try_alias_outer_type(
+                    &mut self,
+                    count: u32,
+                    outer: u32,
+                ) -> u32 {
+                    Ok(self.0.alias_outer_type(count, outer)?)
+                }
+
+                /// The same of a core type. Answers the alias's own index among the core types.
+                fn alias_core_type | try_alias_core_type(&mut self, count: u32, outer: u32) -> u32 {
+                    Ok(self.0.alias_core_type(count, outer)?)
+                }
+
+                /// Declares an export of a type under this name, and answers its index.
+                ///
+                /// ```
+                /// use wenc::{Component, ComponentTypeRef, ComponentTypeSection, ComponentValType};
+                /// use wenc::{InstanceType, TypeBounds};
+                ///
+                /// let mut ty = InstanceType::new();
+                /// let counter = ty.export_type("counter", TypeBounds::SubResource);
+                /// let (handle, encoder) = ty.type_defined();
+                /// encoder.borrow(counter);
+                /// let (method, mut function) = ty.type_function();
+                /// function.params([("self", ComponentValType::Type(handle))]).result(None);
+                /// ty.export("[method]counter.step", ComponentTypeRef::Func(method));
+                ///
+                /// let mut types = ComponentTypeSection::new();
+                /// types.instance(&ty);
+                /// let mut component = Component::new();
+                /// component.section(&types);
+                /// assert_eq!(
+                ///     component.as_slice()[8..],
+                ///     *b"\x07\x36\x01\x42\x04\x04\0\x07counter\x03\x01\x01\x68\0\
+                ///     \x01\x40\x01\x04self\x01\x01\0\x04\0\x14[method]counter.step\x01\x02",
+                /// );
+                /// ```
+                fn export_type | try_export_type<'a>(
+                    &mut self,
+                    name: impl Into<$crate::ComponentExternName<'a>>,
+                    bounds: $crate::TypeBounds,
+                ) -> u32 {
+                    Ok(self.0.export_type(name.into().into_proved(), bounds)?)
+                }
+
+                /// Declares an export of an instance of the type with this index under this name, and answers its index
+                /// among the instances.
+                fn export_instance | try_export_instance<'a>(
+                    &mut self,
+                    name: impl Into<$crate::ComponentExternName<'a>>,
+                    ty: u32,
+                ) -> u32 {
+                    Ok(self.0.export_instance(name.into().into_proved(), ty)?)
+                }
             }
 
             /// How many core types there are: those that were declared, one that is being written among them, and those of

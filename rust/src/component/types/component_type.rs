@@ -3,7 +3,7 @@
 use super::declaring;
 use crate::shared::collections;
 use crate::twins::twins;
-use crate::{ComponentExternName, ComponentTypeRef};
+use crate::{ComponentExternName, ComponentTypeRef, TypeBounds};
 
 collections! {
     /// The type of a component: what it imports and exports, and the types that these need (component model, binary format,
@@ -43,6 +43,25 @@ impl ComponentType {
         ) -> &mut Self {
             self.0.import(name.into().into_proved(), ty)?;
             Ok(self)
+        }
+
+        /// Declares an import of a type under this name, and answers its index.
+        fn import_type | try_import_type<'a>(
+            &mut self,
+            name: impl Into<ComponentExternName<'a>>,
+            bounds: TypeBounds,
+        ) -> u32 {
+            Ok(self.0.import_type(name.into().into_proved(), bounds)?)
+        }
+
+        /// Declares an import of an instance of the type with this index under this name, and answers its index among the
+        /// instances.
+        fn import_instance | try_import_instance<'a>(
+            &mut self,
+            name: impl Into<ComponentExternName<'a>>,
+            ty: u32,
+        ) -> u32 {
+            Ok(self.0.import_instance(name.into().into_proved(), ty)?)
         }
     }
 }

@@ -61,6 +61,11 @@ impl ModuleType {
             Ok(self)
         }
 
+        /// As [`alias_outer_core_type`](Self::alias_outer_core_type), but answers the alias's own index.
+        fn alias_core_type | try_alias_core_type(&mut self, count: u32, outer: u32) -> u32 {
+            Ok(self.0.alias_core_type(count, outer)?)
+        }
+
         /// Declares an export: its name, and its type.
         ///
         /// A type that isn't of WebAssembly 3.0, as that of a shared table, is refused as

@@ -5,6 +5,7 @@ mod calls;
 mod counts;
 mod declarations;
 mod functions;
+mod indexed;
 mod kinds;
 mod sections;
 mod trees;

@@ -1,0 +1,9 @@
+use Rattle.std.proofs.Common.{◌∷◌, []}
+use Rattle.wenc_base.specs.laws.Members.{written_text}
+use Rattle.wenc_types.specs.ComponentTypes.{Typed, FunctionType}
+use Rattle.wenc_types.specs.DefinedTypes.{function_type}
+use Rattle.wenc_types.proofs.declarations.Declarations.type_function.Goals as goal
+
+pub new-requires-clause-whole : goal.new-requires-clause-whole
+new-requires-clause-whole g c t = λ fits.
+    rw (c.in_ok-begin.ensures.ok, written_text c.args.self.now.held (0x01 ∷ []) (function_type t).text) (∣ g.met.K.DeclaringKind.declares (Typed (FunctionType t)) fits ∣₁)
