@@ -5,6 +5,7 @@ ghost use Rattle.std.specs.Prelude.{◌≡◌, ◌+◌, ◌≤◌, ◌++◌, ◌
 ghost use Rattle.wasm_encoder.specs.Cause.{led};
 ghost use Rattle.wasm_encoder.specs.Command.{Commands, command_view, commands_listed};
 ghost use Rattle.wasm_encoder.specs.Ran.{Ran};
+ghost use Rattle.wenc_base.specs.Forms.{counted};
 ghost use Rattle.wenc_base.specs.Holder.{Contains};
 ghost use Rattle.wenc_base.specs.Number.{IsUnsignedText, IsSignedText};
 ghost use Rattle.wenc_base.specs.Piece.{Spelling, Strict, Wide};
@@ -26,10 +27,11 @@ use std::alloc::Allocator;
 use wasm_encoder::laws::{
     an_added_function_is_one_more, counts_never_fall, delimited, indices_are_no_primitives,
     named_indices_ascend, neighbours_differ, nested_runs, one_item_counts_once, one_list,
-    reads_once, signed_text_in_words, unsigned_text_in_words, what_is_added_is_contained,
+    reads_once, sections_are_their_items, signed_text_in_words, unsigned_text_in_words,
+    what_is_added_is_contained, what_is_finished_has_some,
 };
 use wasm_encoder::{Built, Command, build};
-use wenc_base::Fault;
+use wenc_base::{Encode, Fault};
 use wenc_builder::ComponentBuilder;
 use wenc_canon::CanonicalFunctionSection;
 use wenc_parts::{ComponentExternName, ComponentTypeRef};
@@ -78,6 +80,20 @@ pub fn one_import_more<A: Allocator, B: Allocator>(
 {
     what_is_added_is_contained();
     imports.import(name, ty)?;
+    Ok(())
+}
+
+/// What is written of a section of imports is some imports, counted, whoever made which calls.
+pub fn imports_written<A: Allocator, B: Allocator>(
+    imports: &ComponentImportSection<A>,
+    sink: &mut Vec<u8, B>,
+) -> Result<(), Fault>
+    ensures { OnOk result (∥ ((is : List Import)
+        × (sink.new.items ≡ sink.old.items ++ (counted import_item is).text)) ∥₁) }
+{
+    what_is_finished_has_some();
+    sections_are_their_items();
+    imports.encode(sink)?;
     Ok(())
 }
 
