@@ -34,11 +34,11 @@ pub fn option_built<A: Allocator>(
 }
 
 /// One that is dropped and given up: the builder holds what it held.
-#[tactic(auto, using(wenc_builder::specs::laws::LenderState::begun_given_up))]
 pub fn option_given_up<A: Allocator>(builder: &mut ComponentBuilder<A>) -> Result<bool, Fault>
     ensures unfinished { OnOk result (result ≡ Ok true) }
     ensures back { (es : List Entry) → Holds builder.old es → OnOk result (Holds builder.new es) }
 {
+    encoded_types_are_entries();
     match builder.type_defined(None) {
         Ok((_, _encoder)) => {}
         Err(fault) => return Err(fault),

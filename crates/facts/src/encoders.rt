@@ -10,6 +10,7 @@ ghost use Rattle.wenc_types.specs.CoreTypes.{CoreType, Grouped, ModuleDeclaratio
 ghost use Rattle.wenc_types.specs.DefinedTypes.{OptionOf, lent_named};
 
 use std::alloc::Allocator;
+use wasm_encoder::laws::openings_are_members;
 use wenc_base::{Fault, SubType};
 use wenc_parts::ComponentValType;
 use wenc_sections::{ComponentTypeSection, CoreTypeSection};
@@ -17,7 +18,6 @@ use wenc_types::{ComponentType, ModuleType};
 
 /// A type that is begun and dropped, given up, and begun again: the section has one type more, and no trace of the
 /// other.
-#[tactic(auto, using(wenc_base::specs::laws::Holders::contains_opened, wenc_base::specs::laws::Holders::given_up_is_before))]
 pub fn begun_again<A: Allocator, B: Allocator>(
     section: &mut CoreTypeSection<A>,
     ty: &SubType<B>,
@@ -27,6 +27,7 @@ pub fn begun_again<A: Allocator, B: Allocator>(
         → Contains core_type section.old types → Contains core_type section.new
         (types ++ Grouped (Single (sub_view ty.now)) ∷ [])) }
 {
+    openings_are_members();
     section.ty()?;
     let had_begun = section.discard_unfinished();
     section.ty()?.core().subtype(ty)?;
@@ -34,11 +35,11 @@ pub fn begun_again<A: Allocator, B: Allocator>(
 }
 
 /// What is refused while a type is being written: another one. Given up, the section is as it was.
-#[tactic(auto, using(wenc_base::specs::laws::Holders::given_up_is_before))]
 pub fn refused_meanwhile<A: Allocator>(section: &mut CoreTypeSection<A>) -> Result<bool, Fault>
     ensures unfinished { OnOk result (result ≡ Ok true) }
     ensures same { OnOk result (section.new ≡ section.old) }
 {
+    openings_are_members();
     section.ty()?;
     if let Ok(_) = section.ty() {
         return Ok(false);

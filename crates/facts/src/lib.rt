@@ -2,6 +2,7 @@
 //! equality, what runs of commands tell, callers, and a stranger's own types.
 #![tactic(auto)]
 
+pub mod applied;
 pub mod built;
 pub mod by_hand;
 pub mod callers;

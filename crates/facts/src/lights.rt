@@ -1,12 +1,20 @@
-//! The law on texts at a stranger's type, in a list and in an option.
+//! The laws of forms at a stranger's type, in a list and in an option too.
 ghost use Rattle.std.specs.Prelude.{◌≡◌, ◌++◌, ℕ, List, true};
 ghost use Rattle.std.specs.Cmp.Lexicographic.{pointwise};
 ghost use Rattle.std.specs.Option.{option_eq};
+ghost use Rattle.wenc_base.specs.FormLaws.{FormLaws};
 ghost use Rattle.wenc_base.specs.Forms.{list, option};
 ghost use Rattle.facts.specs.Own.{light};
 
 use crate::own::Light;
-use wasm_encoder::laws::texts_tell_equals;
+use wasm_encoder::laws::{texts_tell_equals, values_are_lawful};
+
+/// What is true of each form of the format is true of a stranger's.
+pub fn lights_are_lawful()
+    ensures { FormLaws light }
+{
+    values_are_lawful::<Light>();
+}
 
 /// The text of a list of lights, and of what follows it, tells the lights, and what follows.
 pub fn lights_are_told(a: &&[Light], b: &&[Light])

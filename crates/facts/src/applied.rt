@@ -1,0 +1,175 @@
+//! The laws, each applied: to a literal, to a call, or to a run.
+ghost use Rattle.std.specs.List.Sorted.{IsStrictlyIncreasing};
+ghost use Rattle.std.specs.List.{AllByRecursion};
+ghost use Rattle.std.specs.Prelude.{◌≡◌, ◌+◌, ◌≤◌, ◌++◌, ◌∷◌, [], ℕ, negsuc, List, map, IsOk, IfOk, IfSome, OnOk};
+ghost use Rattle.wasm_encoder.specs.Cause.{led};
+ghost use Rattle.wasm_encoder.specs.Command.{Commands, command_view, commands_listed};
+ghost use Rattle.wasm_encoder.specs.Ran.{Ran};
+ghost use Rattle.wenc_base.specs.Forms.{counted};
+ghost use Rattle.wenc_base.specs.Holder.{Contains};
+ghost use Rattle.wenc_base.specs.Number.{IsUnsignedText, IsSignedText};
+ghost use Rattle.wenc_base.specs.Piece.{Spelling, Strict, Wide};
+ghost use Rattle.wenc_builder.specs.Builder.{count_in};
+ghost use Rattle.wenc_builder.specs.Entry.{Entry, items as items_of, names};
+ghost use Rattle.wenc_builder.specs.Holds.{Holds};
+ghost use Rattle.wenc_builder.specs.Item.{Item};
+ghost use Rattle.wenc_builder.specs.Raw.{HasNoRaw};
+ghost use Rattle.wenc_builder.specs.Sections.{Section, Run, Reading, whole};
+ghost use Rattle.wenc_builder.specs.declared.builder.space.Space.TheVariants as spaces;
+ghost use Rattle.wenc_builder.specs.declared.builder.space.Space.{Space};
+ghost use Rattle.wenc_parts.specs.Imports.{extern_name_view};
+ghost use Rattle.wenc_parts.specs.Types.{value_type, primitive};
+ghost use Rattle.wenc_parts.specs.declared.types.ComponentValType.TheVariants as value_types;
+ghost use Rattle.wenc_parts.specs.declared.types.PrimitiveValType.{PrimitiveValType};
+ghost use Rattle.wenc_sections.specs.Imports.{Import, import_item};
+
+use std::alloc::Allocator;
+use wasm_encoder::laws::{
+    an_added_function_is_one_more, counts_never_fall, delimited, indices_are_no_primitives,
+    named_indices_ascend, neighbours_differ, nested_runs, one_item_counts_once, one_list,
+    reads_once, sections_are_their_items, signed_text_in_words, unsigned_text_in_words,
+    what_is_added_is_contained, what_is_finished_has_some,
+};
+use wasm_encoder::{Built, Command, build};
+use wenc_base::{Encode, Fault};
+use wenc_builder::ComponentBuilder;
+use wenc_canon::CanonicalFunctionSection;
+use wenc_parts::{ComponentExternName, ComponentTypeRef};
+use wenc_sections::ComponentImportSection;
+
+/// Of the bytes that spell a number only its text is so short.
+pub fn spelt_so_alone()
+    ensures unsigned { (bytes : List ℕ) → IsUnsignedText bytes 624485
+        → bytes ≡ 0xe5 ∷ 0x8e ∷ 0x26 ∷ [] }
+    ensures signed { (bytes : List ℕ) → IsSignedText bytes (negsuc 64) → bytes ≡ 0xbf ∷ 0x7f ∷ [] }
+{
+    unsigned_text_in_words();
+    signed_text_in_words();
+}
+
+/// What begins with type 115, whose text has the byte of the primitive `string` in it, begins with no primitive type.
+pub fn no_primitive()
+    ensures { (p : PrimitiveValType) (r s : List ℕ)
+        → (value_type (value_types.«Type» 0x73)).text ++ r ≡ (primitive p).text ++ s → ⊥ }
+{
+    indices_are_no_primitives();
+}
+
+/// The text of an import is read as it and tells it, and no bytes begin with two imports, however they are spelt.
+pub fn imports_are_told()
+    ensures told { (a b : Import) (r s : List ℕ) → (import_item a).Fits → (import_item b).Fits
+        → (import_item a).text ++ r ≡ (import_item b).text ++ s → (a ≡ b) × (r ≡ s) }
+    ensures once { (a b : Import) (bytes r s : List ℕ) → (import_item a).Reads Strict bytes r
+        → (import_item b).Reads Wide bytes s → (a ≡ b) × (r ≡ s) }
+    ensures read { (a : Import) (rest : List ℕ) → (import_item a).Fits
+        → (import_item a).Reads Strict ((import_item a).text ++ rest) rest }
+{
+    delimited();
+    reads_once();
+}
+
+/// A section of imports has those that it had, and one more.
+pub fn one_import_more<A: Allocator, B: Allocator>(
+    imports: &mut ComponentImportSection<A>,
+    name: ComponentExternName<'_, B>,
+    ty: ComponentTypeRef,
+) -> Result<(), Fault>
+    ensures { OnOk result ((is : List Import) → Contains import_item imports.old is
+        → Contains import_item imports.new
+        (is ++ record { name = extern_name_view name.entry; what = ty } ∷ [])) }
+{
+    what_is_added_is_contained();
+    imports.import(name, ty)?;
+    Ok(())
+}
+
+/// What is written of a section of imports is some imports, counted, whoever made which calls.
+pub fn imports_written<A: Allocator, B: Allocator>(
+    imports: &ComponentImportSection<A>,
+    sink: &mut Vec<u8, B>,
+) -> Result<(), Fault>
+    ensures { OnOk result (∥ ((is : List Import)
+        × (sink.new.items ≡ sink.old.items ++ (counted import_item is).text)) ∥₁) }
+{
+    what_is_finished_has_some();
+    sections_are_their_items();
+    imports.encode(sink)?;
+    Ok(())
+}
+
+/// A section of functions that took one more has one more.
+pub fn one_function_more<A: Allocator>(
+    functions: &mut CanonicalFunctionSection<A>,
+) -> Result<(), Fault>
+    ensures { OnOk result (functions.new.count ≡ functions.old.count + 1) }
+{
+    an_added_function_is_one_more();
+    functions.task_cancel()?;
+    Ok(())
+}
+
+/// An imported function has the index that was the count of functions, and counts once. No count falls.
+pub fn import_counted<A: Allocator, B: Allocator>(
+    builder: &mut ComponentBuilder<A>,
+    name: ComponentExternName<'_, B>,
+    ty: u32,
+) -> Result<u32, Fault>
+    ensures index { (es : List Entry) → Holds builder.old es
+        → IfOk result (λ i. i ≡ count_in builder.old spaces.Funcs) }
+    ensures once { (es : List Entry) → Holds builder.old es → OnOk result
+        (count_in builder.new spaces.Funcs ≡ count_in builder.old spaces.Funcs + 1) }
+    ensures never_less { (es : List Entry) → Holds builder.old es
+        → (space : Space) → count_in builder.old space ≤ count_in builder.new space }
+{
+    one_item_counts_once();
+    counts_never_fall();
+    match builder.import(name, ComponentTypeRef::Func(ty)) {
+        Ok(index) => Ok(index),
+        Err(fault) => Err(fault),
+    }
+}
+
+/// Two builders that are finished: where no item is raw, and the bytes are equal, the items are.
+pub fn finished_alike<A: Allocator, B: Allocator>(
+    one: ComponentBuilder<A>,
+    other: ComponentBuilder<B>,
+) -> Option<(Vec<u8, A>, Vec<u8, B>)>
+    ensures { IfSome result (λ x. (es fs : List Entry) → Holds one es → Holds other fs
+        → HasNoRaw (items_of es) → HasNoRaw (items_of fs)
+        → x.0.items ≡ x.1.items → items_of es ≡ items_of fs) }
+{
+    one_list();
+    match one.finish() {
+        Ok(first) => match other.finish() {
+            Ok(second) => Some((first, second)),
+            Err(_) => None,
+        },
+        Err(_) => None,
+    }
+}
+
+/// A run: without a raw item its bytes have no two sections of one collected kind side by side; the indices of the
+/// debug names ascend; and where all commands are accepted, a nested component of these commands has its bytes.
+pub fn told_of_a_run<A: Allocator + Copy, B: Allocator>(
+    alloc: A,
+    commands: &[Command<B>],
+) -> Result<Built<A>, Fault>
+    ensures apart { IfOk result (λ b. (es : List Entry)
+        → Ran (map command_view commands.now) b.answers.items es → HasNoRaw (items_of es)
+        → (mode : Spelling) (front behind : List Section) (id : ℕ) (xs ys : List Item)
+        → Reading mode b.bytes.items (front ++ Run id xs ∷ Run id ys ∷ behind) → ⊥) }
+    ensures ascending { IfOk result (λ b. (es : List Entry)
+        → Ran (map command_view commands.now) b.answers.items es
+        → (k : ℕ) → IsStrictlyIncreasing (map (λ n. n.index) (names es k))) }
+    ensures nested { IfOk result (λ b. (inner : Commands)
+        → commands_listed inner ≡ map command_view commands.now
+        → AllByRecursion IsOk b.answers.items → b.bytes.items ≡ whole (items_of (led [] inner))) }
+{
+    neighbours_differ();
+    named_indices_ascend();
+    nested_runs();
+    match build(alloc, commands) {
+        Ok(built) => Ok(built),
+        Err(fault) => Err(fault),
+    }
+}
