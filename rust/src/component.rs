@@ -74,7 +74,9 @@ pub trait ComponentSection: Encode {
 
 /// Appends a section, its id in front, or leaves the bytes as they were.
 fn append_section<S: ComponentSection + ?Sized>(section: &S, dst: &mut Vec<u8>) {
-    granted(append(dst, |sink| proved::ComponentSection::append_to_component(&Foreign(section), sink)));
+    granted(append(dst, |sink| {
+        proved::ComponentSection::append_to_component(&Foreign(section), sink)
+    }));
 }
 
 impl<S: ComponentSection + ?Sized> proved::ComponentSection for Foreign<'_, S> {

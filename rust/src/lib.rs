@@ -83,8 +83,8 @@ mod shared;
 pub mod tree;
 mod twins;
 
-pub use component::*;
 pub use self::core::*;
+pub use component::*;
 pub use encode::{Encode, encoding_size};
 pub use error::Error;
 pub use list::{ListFault, ListedSection, Listing, list};

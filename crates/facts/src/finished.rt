@@ -37,9 +37,7 @@ pub fn two_builders<A: Allocator, B: Allocator>(
 }
 
 /// A builder of imports alone: its bytes are one section of these. Where they are functions, these are as many.
-pub fn imports_alone<A: Allocator>(
-    builder: ComponentBuilder<A>,
-) -> Result<(u32, Vec<u8, A>), Fault>
+pub fn imports_alone<A: Allocator>(builder: ComponentBuilder<A>) -> Result<(u32, Vec<u8, A>), Fault>
     ensures one_section { IfOk result (λ r. (x : Entry) (es : List Entry) → Holds builder (x ∷ es)
         → AllByRecursion (λ y. collected y ≡ Some (section_number ids.Import)) (items (x ∷ es))
         → (mode : Spelling) (ss : List Section) → Reading mode r.1.items ss

@@ -8,9 +8,7 @@ ghost use Rattle.wenc_sections.specs.Component.{preamble};
 ghost use Rattle.wenc_sections.specs.Imports.{Import, import_item};
 
 use std::alloc::Allocator;
-use wasm_encoder::laws::{
-    sections_are_read, sections_are_their_items, what_is_finished_has_some,
-};
+use wasm_encoder::laws::{sections_are_read, sections_are_their_items, what_is_finished_has_some};
 use wasm_encoder::{
     Component, ComponentImportSection, ComponentTypeRef, Encode, Fault, TypeBounds,
 };

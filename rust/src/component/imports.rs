@@ -1,9 +1,9 @@
 //! Imports: their names, what is imported, and their section.
 
-use crate::proved::rt_std::borrow::CowStr;
-use crate::proved::wasm_encoder as proved;
 use crate::component::sections;
 use crate::encode::encode;
+use crate::proved::rt_std::borrow::CowStr;
+use crate::proved::wasm_encoder as proved;
 use crate::shared::collections;
 use crate::twins::twins;
 use alloc::borrow::Cow;

@@ -42,7 +42,6 @@ pub mod str {
 pub mod io {
     //! Streams.
 
-    
     pub use std::io::{Read, Write};
 }
 

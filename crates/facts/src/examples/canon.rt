@@ -11,7 +11,10 @@ use wasm_encoder::{
 /// `CanonicalFunctionSection`.
 pub fn functions<A: Allocator + Copy>(alloc: A) -> Result<Vec<u8, A>, Fault> {
     let mut imports = ComponentImportSection::new(alloc);
-    imports.import("file".into(), ComponentTypeRef::Type(TypeBounds::SubResource))?;
+    imports.import(
+        "file".into(),
+        ComponentTypeRef::Type(TypeBounds::SubResource),
+    )?;
     let mut functions = CanonicalFunctionSection::new(alloc);
     functions.resource_drop(0)?;
     functions.task_return(None, [CanonicalOption::UTF16].into_iter())?;

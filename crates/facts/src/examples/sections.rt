@@ -34,7 +34,10 @@ pub fn component<A: Allocator + Copy>(alloc: A) -> Result<Vec<u8, A>, Fault>
         } ∷ [])).text) }
 {
     let mut imports = ComponentImportSection::new(alloc);
-    imports.import("file".into(), ComponentTypeRef::Type(TypeBounds::SubResource))?;
+    imports.import(
+        "file".into(),
+        ComponentTypeRef::Type(TypeBounds::SubResource),
+    )?;
 
     let mut component = Component::new(alloc)?;
     component.section(&imports)?;
@@ -75,7 +78,10 @@ pub fn aliases<A: Allocator + Copy>(alloc: A) -> Result<Vec<u8, A>, Fault>
         (Outer ComponentOuterAliasKind.«Type» 0 0 ∷ [])).text) }
 {
     let mut imports = ComponentImportSection::new(alloc);
-    imports.import("file".into(), ComponentTypeRef::Type(TypeBounds::SubResource))?;
+    imports.import(
+        "file".into(),
+        ComponentTypeRef::Type(TypeBounds::SubResource),
+    )?;
     let mut aliases = ComponentAliasSection::new(alloc);
     aliases.alias(Alias::Outer {
         kind: ComponentOuterAliasKind::Type,
@@ -105,7 +111,10 @@ pub fn exports<A: Allocator + Copy>(alloc: A) -> Result<Vec<u8, A>, Fault>
         } ∷ [])).text) }
 {
     let mut imports = ComponentImportSection::new(alloc);
-    imports.import("file".into(), ComponentTypeRef::Type(TypeBounds::SubResource))?;
+    imports.import(
+        "file".into(),
+        ComponentTypeRef::Type(TypeBounds::SubResource),
+    )?;
     let mut exports = ComponentExportSection::new(alloc);
     exports.export("handle".into(), ComponentExportKind::Type, 0, None)?;
 
@@ -129,7 +138,10 @@ pub fn imports<A: Allocator + Copy>(alloc: A) -> Result<Vec<u8, A>, Fault>
         } ∷ [])).text) }
 {
     let mut imports = ComponentImportSection::new(alloc);
-    imports.import("file".into(), ComponentTypeRef::Type(TypeBounds::SubResource))?;
+    imports.import(
+        "file".into(),
+        ComponentTypeRef::Type(TypeBounds::SubResource),
+    )?;
     imports.import("log".into(), ComponentTypeRef::Type(TypeBounds::Eq(0)))?;
 
     let mut component = Component::new(alloc)?;
@@ -159,7 +171,10 @@ pub fn core_instances<A: Allocator + Copy>(alloc: A) -> Result<Vec<u8, A>, Fault
 /// `ComponentInstanceSection`.
 pub fn instances<A: Allocator + Copy>(alloc: A) -> Result<Vec<u8, A>, Fault> {
     let mut imports = ComponentImportSection::new(alloc);
-    imports.import("file".into(), ComponentTypeRef::Type(TypeBounds::SubResource))?;
+    imports.import(
+        "file".into(),
+        ComponentTypeRef::Type(TypeBounds::SubResource),
+    )?;
     let nested = Component::new(alloc)?;
     let mut instances = ComponentInstanceSection::new(alloc);
     let name: ComponentExternName = "file".into();
