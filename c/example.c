@@ -35,13 +35,14 @@ static uint32_t item(wenc_builder *builder, uint32_t section, const uint8_t *tex
   return index;
 }
 
-/* A component that imports a function, which takes a point and gives a text. */
+/* A component that imports a type, a point, and a function that takes one and gives a text. */
 static void build_nested(wenc_builder *builder) {
   static const wenc_part fields[] = {{1, WENC_REF_PRIMITIVE, WENC_S32},
                                      {1, WENC_REF_PRIMITIVE, WENC_S32}};
   wenc_part params[] = {{2, WENC_REF_VALUE, 0}};
-  uint32_t index, ty;
-  check(wenc_record(builder, true, TEXT("point"), TEXT("xy"), ALL(fields), &params[0].number));
+  uint32_t index, record, ty;
+  check(wenc_record(builder, true, TEXT("point"), TEXT("xy"), ALL(fields), &record));
+  check(wenc_import(builder, TEXT("point"), WENC_REF_TYPE, record, &params[0].number));
   check(wenc_function(builder, UNNAMED, false, TEXT("at"), ALL(params), WENC_REF_PRIMITIVE,
                       WENC_STRING, &ty));
   check(wenc_import(builder, TEXT("f"), WENC_REF_FUNC, ty, &index));

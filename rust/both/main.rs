@@ -3,10 +3,13 @@
 //!
 //!     both DRIVEN WENC [SEED [NUMBER]]
 //!
+//! Some inputs of `driven` are stored, with what upstream's own builder answered, and that is what both are to write.
+//!
 //! DRIVEN and WENC are the kit's programs; those that rustc made stand beside this one. `rust/both/run` makes all of them, and
-//! calls it. There are NUMBER inputs for `driven`, so many scripts for `wenc`, and so many components for `wenc list`. An
+//! calls it. There are NUMBER other inputs for `driven`, so many scripts for `wenc`, and so many components for `wenc list`. An
 //! input that is answered in two ways is kept.
 
+mod answered;
 mod commands;
 mod listings;
 mod random;
@@ -27,6 +30,8 @@ const TOLD: usize = 5;
 struct Input {
     words: &'static [&'static str],
     bytes: Vec<u8>,
+    /// What is to be written, where another program has answered that.
+    wanted: Option<Vec<u8>>,
 }
 
 /// A program in both compilations.
@@ -43,7 +48,7 @@ struct Kind<'a> {
     counted: &'static [&'static str],
     input: Box<dyn Fn(usize) -> Input + Sync + 'a>,
     /// How many were accepted, and how many refused, by what was written; none where a program never ends so.
-    count: fn(&Output) -> Option<Vec<usize>>,
+    count: fn(&Input, &Output) -> Option<Vec<usize>>,
 }
 
 /// How a program ended on an input.
@@ -82,7 +87,10 @@ impl Kind<'_> {
                 return Err(format!("standard {stream}, from byte {same} on"));
             }
         }
-        match (self.count)(&kit) {
+        if input.wanted.as_ref().is_some_and(|wanted| *wanted != kit.stdout) {
+            return Err("standard output, from what is stored".into());
+        }
+        match (self.count)(input, &kit) {
             Some(counted) => Ok((kit, counted)),
             None => Err(format!("in nothing, but both end with {}", kit.status)),
         }
@@ -163,7 +171,7 @@ fn component(output: &Output) -> &[u8] {
 }
 
 /// Of `driven`: how many of the outermost commands were accepted and refused.
-fn commands_of(output: &Output) -> Option<Vec<usize>> {
+fn commands_of(_: &Input, output: &Output) -> Option<Vec<usize>> {
     let lines: Vec<&[u8]> = output.stdout.split(|byte| *byte == b'\n').collect();
     let refused = lines.iter().filter(|line| line.starts_with(b"refused ")).count();
     // The component is one line, and nothing stands behind the last line's end.
@@ -186,9 +194,23 @@ fn of_driven(program: &Program, seed: u64) -> Kind<'_> {
         input: Box::new(move |at| Input {
             words: &[],
             bytes: commands::choices(&mut Random::new(seed, 1, at as u64)),
+            wanted: None,
         }),
         count: commands_of,
     }
+}
+
+/// Choice bytes for `driven` with what upstream answered, all of them.
+fn of_answered(program: &Program) -> bool {
+    let number = answered::inputs().len();
+    let kind = Kind {
+        name: "answered",
+        program,
+        counted: &answered::COUNTED,
+        input: Box::new(|at| answered::inputs().swap_remove(at)),
+        count: answered::count,
+    };
+    kind.run(number).is_some()
 }
 
 /// Scripts for `wenc`.
@@ -200,8 +222,9 @@ fn of_scripts(program: &Program, seed: u64) -> Kind<'_> {
         input: Box::new(move |at| Input {
             words: &[],
             bytes: scripts::script(&mut Random::new(seed, 2, at as u64)),
+            wanted: None,
         }),
-        count: |output| by_status(output, [0, 1, 2]),
+        count: |_, output| by_status(output, [0, 1, 2]),
     }
 }
 
@@ -215,21 +238,21 @@ fn of_listings<'a>(program: &'a Program, seed: u64, written: &'a [Output]) -> Ki
             let mut random = Random::new(seed, 3, at as u64);
             let digits = component(&written[random.below(written.len())]);
             let words = listings::words(&mut random);
-            Input { words, bytes: listings::listing(&mut random, digits) }
+            Input { words, bytes: listings::listing(&mut random, digits), wanted: None }
         }),
-        count: |output| by_status(output, [0, 3, 1]),
+        count: |_, output| by_status(output, [0, 3, 1]),
     }
 }
 
 /// Compares all, and answers how many kinds passed and failed.
 fn compare_all(driven: &Program, wenc: &Program, seed: u64, number: usize) -> (usize, usize) {
     let answers = [of_driven(driven, seed).run(number), of_scripts(wenc, seed).run(number)];
-    let mut passed = answers.iter().flatten().count();
+    let mut passed = answers.iter().flatten().count() + usize::from(of_answered(driven));
     let written: Vec<Output> = answers.into_iter().flatten().flatten().collect();
     if !written.is_empty() {
         passed += usize::from(of_listings(wenc, seed, &written).run(number).is_some());
     }
-    (passed, 3 - passed)
+    (passed, 4 - passed)
 }
 
 fn main() -> ExitCode {

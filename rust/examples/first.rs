@@ -1,7 +1,8 @@
-//! A component that imports a function and exports it again: README shows this program.
+//! README shows this program.
 use wenc::{ComponentBuilder, ComponentExportKind, ComponentTypeRef, PrimitiveValType};
 
-fn passed_on() -> Vec<u8> {
+/// A component that imports a function and exports it again.
+pub fn passed_on() -> Vec<u8> {
     let mut builder = ComponentBuilder::default();
     let (ty, mut function) = builder.type_function(None);
     function.params([("n", PrimitiveValType::U32)]).result(None);

@@ -1,5 +1,6 @@
-//! Each of the system's allocations refused in turn, while components are built and listed: the call answers it and changes
-//! nothing, and succeeds when it is made once more. Nothing ends the program.
+//! Each of the system's allocations refused in turn, while components are built and listed: the
+//! call answers it and changes nothing, and succeeds when it is made once more. Nothing ends the
+//! program.
 #![allow(unsafe_code, reason = "a global allocator is unsafe")]
 
 use std::alloc::{GlobalAlloc, Layout, System};
@@ -60,7 +61,8 @@ impl Refusals {
         }
     }
 
-    /// The same of a call that begins a type and ends it: the type is given up before it is begun once more.
+    /// The same of a call that begins a type and ends it: the type is given up before it is begun
+    /// once more.
     #[track_caller]
     fn ty(
         &mut self,
@@ -75,8 +77,9 @@ impl Refusals {
     }
 }
 
-/// Does the work with no request refused, then with each in turn: what comes of it is the same, and one call is refused.
-fn each_is_refused<T: PartialEq>(least: u32, work: impl Fn(&mut Refusals) -> T) {
+/// Does the work with no request refused, then with each in turn: what comes of it is the same, and
+/// is answered, and one call is refused.
+fn each_is_refused<T: PartialEq>(least: u32, work: impl Fn(&mut Refusals) -> T) -> T {
     let wanted = work(&mut Refusals::default());
     for n in 0.. {
         let mut refusals = Refusals::default();
@@ -87,9 +90,18 @@ fn each_is_refused<T: PartialEq>(least: u32, work: impl Fn(&mut Refusals) -> T) 
         assert_eq!(refusals.0, u32::from(!is_past), "request {n}");
         if is_past {
             assert!(n >= least, "only {n} requests");
-            return;
+            return wanted;
         }
     }
+    unreachable!("there are fewer requests")
+}
+
+/// How many bytes these are, and their FNV-1a of 64 bits, as upstream's own calls give them.
+#[track_caller]
+fn are_upstreams(bytes: &[u8], len: usize, hash: u64) {
+    let step = |hash: u64, byte: &u8| (hash ^ u64::from(*byte)).wrapping_mul(0x100_0000_01b3);
+    let own = bytes.iter().fold(0xcbf2_9ce4_8422_2325, step);
+    assert_eq!((bytes.len(), own), (len, hash));
 }
 
 const STRING: ComponentValType = ComponentValType::Primitive(PrimitiveValType::String);
@@ -97,7 +109,7 @@ const NAME: &str = "a name that is longer than what a first growth makes room fo
 
 #[test]
 fn a_component_is_built() {
-    each_is_refused(30, |refusals| {
+    let bytes = each_is_refused(30, |refusals| {
         let mut builder = refusals.call(ComponentBuilder::try_new);
         for i in 0..40 {
             refusals.call(|| builder.try_import(NAME, ComponentTypeRef::Func(i)));
@@ -122,11 +134,12 @@ fn a_component_is_built() {
         });
         builder.try_finish().expect("it takes no memory")
     });
+    are_upstreams(&bytes, 30253, 0xa1f_a008_65dd_ec10);
 }
 
 #[test]
 fn sections_are_made_by_hand() {
-    each_is_refused(10, |refusals| {
+    let bytes = each_is_refused(10, |refusals| {
         let mut imports = ComponentImportSection::new();
         let mut instance = InstanceType::new();
         for i in 0..40 {
@@ -142,6 +155,7 @@ fn sections_are_made_by_hand() {
         GRANTED.set(granted);
         component.finish()
     });
+    are_upstreams(&bytes, 5258, 0x4af0_e550_fc43_704c);
 }
 
 #[test]
@@ -153,7 +167,8 @@ fn a_component_is_listed() {
         builder.core_instantiate_exports(None, [("m", ExportKind::Func, i)]);
     }
     let bytes = builder.finish();
-    each_is_refused(10, |refusals| match list(&bytes) {
+    are_upstreams(&bytes, 452, 0xf0dd_b91c_41d8_633a);
+    let listing = each_is_refused(10, |refusals| match list(&bytes) {
         Err(fault) => {
             assert_eq!(fault, ListFault::Memory);
             refusals.0 += 1;
@@ -161,25 +176,46 @@ fn a_component_is_listed() {
         }
         Ok(listing) => listing,
     });
+    assert_eq!(listing.counts, [0, 0, 0, 0, 0, 3, 0, 0, 3, 0, 0, 0, 3]);
+    let items = listing.sections.into_iter().flat_map(|section| section.items);
+    let commands: Vec<_> = items.map(tree::Command::from).collect();
+    assert_eq!(tree::build(&commands).expect("there is memory").bytes, bytes);
 }
 
+/// A component that imports the functions of these types, 16 or more, under that name.
+fn imports(types: &[u8]) -> Vec<u8> {
+    let item = |ty: &u8| [&[0x00, NAME.len() as u8], NAME.as_bytes(), &[0x01, *ty]].concat();
+    let items: Vec<u8> = types.iter().flat_map(item).collect();
+    let size = items.len() + 1;
+    let front = [0x0a, size as u8 | 0x80, (size >> 7) as u8, types.len() as u8];
+    [&b"\0asm\x0d\0\x01\0"[..], &front, &items].concat()
+}
+
+// A refused command adds nothing, and the ones after it run.
 #[test]
 fn commands_are_run() {
     let name = |text: &str| tree::NameTree::from(tree::String::from(text));
     let commands: Vec<_> = (0..20)
         .map(|i| tree::Command::Import { name: name(NAME), ty: ComponentTypeRef::Func(i) })
         .collect();
-    let built = tree::build(&commands).expect("nothing is refused");
     each_is_refused(5, |refusals| match tree::build(&commands) {
         Err(error) => {
             assert_eq!(error, Error::NoMemory);
             refusals.0 += 1;
         }
-        // A refused command adds nothing, and the ones after it run.
-        Ok(other) => {
-            let refused = other.answers.iter().filter(|a| **a == Err(Error::NoMemory)).count();
-            assert_eq!(refused == 0, other == built);
-            refusals.0 += refused as u32;
+        Ok(built) => {
+            // What the test makes is none of the requests.
+            let granted = GRANTED.take();
+            let refused = built.answers.iter().position(Result::is_err);
+            let types: Vec<u8> = (0..20).filter(|at| refused != Some(usize::from(*at))).collect();
+            let mut answers: Vec<_> =
+                (0..types.len() as u32).map(|index| Ok(Some(index))).collect();
+            if let Some(at) = refused {
+                answers.insert(at, Err(Error::NoMemory));
+                refusals.0 += 1;
+            }
+            assert_eq!((built.answers, built.bytes), (answers, imports(&types)));
+            GRANTED.set(granted);
         }
     });
 }

@@ -1,9 +1,11 @@
 //! A component that is written section by section.
 ghost use Rattle.std.specs.Prelude.{◌≡◌, ◌++◌, ◌∷◌, [], IfOk, None, codes};
 ghost use Rattle.wenc_base.specs.Holder.{no_members, with_member, section_text};
+ghost use Rattle.wenc_parts.specs.declared.aliases.ComponentOuterAliasKind.{ComponentOuterAliasKind};
 ghost use Rattle.wenc_parts.specs.declared.exports.ComponentExportKind.{ComponentExportKind};
 ghost use Rattle.wenc_parts.specs.declared.imports.ComponentTypeRef.{ComponentTypeRef};
-ghost use Rattle.wenc_parts.specs.Aliases.{InstanceExport, alias};
+ghost use Rattle.wenc_parts.specs.declared.imports.TypeBounds.{TypeBounds};
+ghost use Rattle.wenc_parts.specs.Aliases.{Outer, alias};
 ghost use Rattle.wenc_parts.specs.Imports.{plain_name};
 ghost use Rattle.wenc_sections.specs.Component.{preamble};
 ghost use Rattle.wenc_sections.specs.Imports.{import_item};
@@ -11,51 +13,53 @@ ghost use Rattle.wenc_sections.specs.Exports.{export_item};
 
 use std::alloc::Allocator;
 use wenc_base::Fault;
-use wenc_parts::{Alias, ComponentExportKind, ComponentTypeRef};
+use wenc_parts::{
+    Alias, ComponentExportKind, ComponentOuterAliasKind, ComponentTypeRef, TypeBounds,
+};
 use wenc_sections::{
     Component, ComponentAliasSection, ComponentExportSection, ComponentImportSection,
 };
 
-/// An instance is imported.
+/// A type of resources is imported.
 fn imported<A: Allocator>(alloc: A) -> Result<ComponentImportSection<A>, Fault>
     ensures { IfOk result (λ imports. imports
         ≡ with_member no_members (import_item (record {
           name = plain_name (codes "i");
-          what = ComponentTypeRef.Instance 0;
+          what = ComponentTypeRef.«Type» TypeBounds.SubResource;
         })).text) }
 {
     let mut imports = ComponentImportSection::new(alloc);
-    imports.import("i".into(), ComponentTypeRef::Instance(0))?;
+    imports.import("i".into(), ComponentTypeRef::Type(TypeBounds::SubResource))?;
     Ok(imports)
 }
 
-/// A function of it has an index.
+/// It has another index.
 fn aliased<A: Allocator>(alloc: A) -> Result<ComponentAliasSection<A>, Fault>
     ensures { IfOk result (λ aliases. aliases
         ≡ with_member no_members
-        (alias (InstanceExport 0 ComponentExportKind.Func (codes "f"))).text) }
+        (alias (Outer ComponentOuterAliasKind.«Type» 0 0)).text) }
 {
     let mut aliases = ComponentAliasSection::new(alloc);
-    aliases.alias(Alias::InstanceExport {
-        instance: 0,
-        kind: ComponentExportKind::Func,
-        name: "f",
+    aliases.alias(Alias::Outer {
+        kind: ComponentOuterAliasKind::Type,
+        count: 0,
+        index: 0,
     })?;
     Ok(aliases)
 }
 
-/// The function is exported.
+/// By that it is exported.
 fn exported<A: Allocator>(alloc: A) -> Result<ComponentExportSection<A>, Fault>
     ensures { IfOk result (λ exports. exports
         ≡ with_member no_members (export_item (record {
           name = plain_name (codes "g");
-          kind = ComponentExportKind.Func;
-          index = 0;
+          kind = ComponentExportKind.«Type»;
+          index = 1;
           what = None;
         })).text) }
 {
     let mut exports = ComponentExportSection::new(alloc);
-    exports.export("g".into(), ComponentExportKind::Func, 0, None)?;
+    exports.export("g".into(), ComponentExportKind::Type, 1, None)?;
     Ok(exports)
 }
 
@@ -77,19 +81,22 @@ fn joined<A: Allocator>(
     Ok(component.finish())
 }
 
-/// A component that imports an instance and exports a function of it, section by section. What it is follows
-/// from the contracts of these calls alone.
+/// A component that imports a type of resources and exports it by an alias, section by section. What it is
+/// follows from the contracts of these calls alone.
 pub fn by_hand<A: Allocator + Copy>(alloc: A) -> Result<Vec<u8, A>, Fault>
     ensures { IfOk result (λ bytes. bytes.items ≡ preamble.text
         ++ (10 ∷ section_text (with_member no_members (import_item
-        (record { name = plain_name (codes "i"); what = ComponentTypeRef.Instance 0 })).text))
+        (record {
+          name = plain_name (codes "i");
+          what = ComponentTypeRef.«Type» TypeBounds.SubResource;
+        })).text))
         ++ (6 ∷ section_text (with_member no_members (alias
-        (InstanceExport 0 ComponentExportKind.Func (codes "f"))).text))
+        (Outer ComponentOuterAliasKind.«Type» 0 0)).text))
         ++ (11 ∷ section_text (with_member no_members (export_item
         (record {
           name = plain_name (codes "g");
-          kind = ComponentExportKind.Func;
-          index = 0;
+          kind = ComponentExportKind.«Type»;
+          index = 1;
           what = None;
         })).text))) }
 {

@@ -7,6 +7,7 @@ ghost use Rattle.wenc_builder.specs.Sections.{whole};
 ghost use Rattle.wenc_canon.specs.Canonicals.{canonical, OfBuiltin, ResourceDrop};
 ghost use Rattle.wenc_parts.specs.declared.exports.ComponentExportKind.{ComponentExportKind};
 ghost use Rattle.wenc_parts.specs.declared.imports.ComponentTypeRef.{ComponentTypeRef};
+ghost use Rattle.wenc_parts.specs.declared.imports.TypeBounds.{TypeBounds};
 ghost use Rattle.wenc_parts.specs.Imports.{extern_name, extern_name_view, plain_name, type_reference};
 
 use std::alloc::{Allocator, Global};
@@ -14,7 +15,7 @@ use wenc::run;
 use wenc_base::{Encode, Fault};
 use wenc_builder::ComponentBuilder;
 use wenc_canon::CanonicalFunctionSection;
-use wenc_parts::{ComponentExportKind, ComponentExternName, ComponentTypeRef};
+use wenc_parts::{ComponentExportKind, ComponentExternName, ComponentTypeRef, TypeBounds};
 
 /// The bytes of a value, in a vector of their own.
 pub fn encoded<T: Encode, A: Allocator>(alloc: A, value: &T) -> Result<Vec<u8, A>, Fault>
@@ -49,16 +50,16 @@ pub fn dropping<A: Allocator>(alloc: A, ty: u32) -> Result<CanonicalFunctionSect
     Ok(section)
 }
 
-/// A component that imports a function and exports it again. What it is follows from the contracts of the
+/// A component that imports a type of resources and exports it again. What it is follows from the contracts of the
 /// builder's calls alone.
 pub fn passed_on<A: Allocator + Copy>(alloc: A) -> Result<Vec<u8, A>, Fault>
     ensures { IfOk result (λ bytes. bytes.items ≡ whole (items (
-        import_entry (plain_name (codes "f")) (ComponentTypeRef.Func 0)
-        ∷ export_entry (plain_name (codes "g")) ComponentExportKind.Func 0 None ∷ []))) }
+        import_entry (plain_name (codes "f")) (ComponentTypeRef.«Type» TypeBounds.SubResource)
+        ∷ export_entry (plain_name (codes "g")) ComponentExportKind.«Type» 0 None ∷ []))) }
 {
     let mut builder = ComponentBuilder::new(alloc)?;
-    let index = builder.import("f".into(), ComponentTypeRef::Func(0))?;
-    builder.export("g".into(), ComponentExportKind::Func, index, None)?;
+    let index = builder.import("f".into(), ComponentTypeRef::Type(TypeBounds::SubResource))?;
+    builder.export("g".into(), ComponentExportKind::Type, index, None)?;
     builder.finish()
 }
 

@@ -1,10 +1,10 @@
 -- Items of one collected kind: one section, none raw, and as many indices as items.
-use Rattle.std.proofs.Common.{◌≡◌, ◌↔◌, ℕ, List, [], ◌∷◌, ◌+◌, length, Option, Some, None, refl, sym, subst, ◌∙◌, ap, absurd, rw, cc, inl, inr}
+use Rattle.std.proofs.Common.{◌≡◌, ℕ, List, [], ◌∷◌, length, Some, refl, ◌∙◌, ap, inl, inr, arith}
 use Rattle.std.specs.List.{AllByRecursion}
 use Rattle.std.proofs.lemmas.Bool.Decides.{eqb_tells}
 use Rattle.wenc_builder.specs.Item.{Item, RawItem, collected}
 use Rattle.wenc_builder.specs.Raw.{HasNoRaw, IsNoRaw}
-use Rattle.wenc_builder.specs.Sections.{Section, Run, Alone, joined, runs}
+use Rattle.wenc_builder.specs.Sections.{Run, joined, runs}
 use Rattle.wenc_builder.specs.Space.{defines, defined_in, number_in, some_in, next_index, space_number}
 use Rattle.wenc_builder.specs.declared.builder.space.Space.{Space}
 
@@ -28,4 +28,6 @@ one_in space = elim (eqb_tells (space_number space) (space_number space)) [ inl 
 
 pub as_many : (space : Space) (xs : List Item) → AllByRecursion (λ y. defines y ≡ some_in space 1) xs → next_index xs (space_number space) ≡ length xs
 as_many space [] ds = refl
-as_many space (x ∷ xs) (d, ds) = rw (d, one_in space, as_many space xs ds) refl
+as_many space (x ∷ xs) (d, ds) =
+    let one : defined_in (space_number space) x ≡ 1 = ap (number_in (space_number space)) d ∙ one_in space in
+    omega (arith, one, as_many space xs ds)

@@ -1,5 +1,5 @@
 -- A section of values of a form fits as these, and is read as these.
-use Rattle.std.proofs.Common.{◌≡◌, ℕ, ◌<◌, ◌^◌, List, ◌++◌, length, length-append}
+use Rattle.std.proofs.Common.{◌≡◌, ℕ, List, ◌++◌, length, length-append}
 use Rattle.std.specs.List.{flat_map}
 use Rattle.wenc_base.specs.Forms.{counted}
 use Rattle.wenc_base.specs.Holder.{HolderState, Contains, content_size, held_section}

@@ -5,3 +5,4 @@ pub mod Ran
 pub mod AllForms
 pub mod Nameless
 pub mod inside
+pub mod WrittenTypes

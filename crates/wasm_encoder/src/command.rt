@@ -29,8 +29,8 @@ use wenc_types::{CoreTypeTree, TypeTree};
 ///
 /// ```
 /// let import = Command::Import {
-///     name: NameTree::from(String::from_str(alloc, "log")?),
-///     ty: ComponentTypeRef::Func(0),
+///     name: NameTree::from(String::from_str(alloc, "file")?),
+///     ty: ComponentTypeRef::Type(TypeBounds::SubResource),
 /// };
 /// ```
 #[derive(Drop)]
@@ -320,8 +320,8 @@ pub struct Built<A: Allocator = Global> {
 ///
 /// ```
 /// let import = Command::Import {
-///     name: NameTree::from(String::from_str(alloc, "log")?),
-///     ty: ComponentTypeRef::Func(0),
+///     name: NameTree::from(String::from_str(alloc, "file")?),
+///     ty: ComponentTypeRef::Type(TypeBounds::SubResource),
 /// };
 /// let built = build(alloc, &[import])?;
 /// let mut refused = false;

@@ -143,7 +143,7 @@ fn run_script<A: Allocator + Copy, R: Read, O: Write, E: Write>(
 /// the exit status.
 ///
 /// ```
-/// let mut input: &[u8] = b"import f func 0\n";
+/// let mut input: &[u8] = b"core-module 0061736d01000000\n";
 /// let mut out = Vec::new(alloc);
 /// let mut err = Vec::new(alloc);
 /// let status = run(alloc, &[], &mut input, &mut out, &mut err);

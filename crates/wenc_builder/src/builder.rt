@@ -68,8 +68,8 @@ use wenc_sections::names::NAMES_LABEL;
 ///
 /// ```
 /// let mut builder = ComponentBuilder::new(alloc)?;
-/// let index = builder.import("f".into(), ComponentTypeRef::Func(0))?;
-/// builder.export("g".into(), ComponentExportKind::Func, index, None)?;
+/// let index = builder.import("f".into(), ComponentTypeRef::Type(TypeBounds::SubResource))?;
+/// builder.export("g".into(), ComponentExportKind::Type, index, None)?;
 /// let bytes = builder.finish()?;
 /// ```
 #[derive(Drop)]

@@ -90,12 +90,14 @@ impl DelimitedEq for CanonicalOption {
 /// The section of canonical functions (component model, binary format, "Canonical Definitions").
 ///
 /// ```
+/// let mut imports = ComponentImportSection::new(alloc);
+/// imports.import("file".into(), ComponentTypeRef::Type(TypeBounds::SubResource))?;
 /// let mut functions = CanonicalFunctionSection::new(alloc);
-/// let options = [CanonicalOption::UTF16, CanonicalOption::Memory(0)];
-/// functions.lift(3, 1, options.into_iter())?;
-/// functions.resource_drop(2)?;
+/// functions.resource_drop(0)?;
+/// functions.task_return(None, [CanonicalOption::UTF16].into_iter())?;
 ///
 /// let mut component = Component::new(alloc)?;
+/// component.section(&imports)?;
 /// component.section(&functions)?;
 /// let bytes = component.finish();
 /// ```

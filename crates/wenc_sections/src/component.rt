@@ -14,7 +14,7 @@ use wenc_parts::ComponentSection;
 ///
 /// ```
 /// let mut imports = ComponentImportSection::new(alloc);
-/// imports.import("f".into(), ComponentTypeRef::Func(0))?;
+/// imports.import("file".into(), ComponentTypeRef::Type(TypeBounds::SubResource))?;
 ///
 /// let mut component = Component::new(alloc)?;
 /// component.section(&imports)?;

@@ -24,10 +24,13 @@ impl CountedKind for Exports {
 /// The section of exports (component model, binary format, "Import and Export Definitions").
 ///
 /// ```
+/// let mut imports = ComponentImportSection::new(alloc);
+/// imports.import("file".into(), ComponentTypeRef::Type(TypeBounds::SubResource))?;
 /// let mut exports = ComponentExportSection::new(alloc);
-/// exports.export("clock".into(), ComponentExportKind::Instance, 3, None)?;
+/// exports.export("handle".into(), ComponentExportKind::Type, 0, None)?;
 ///
 /// let mut component = Component::new(alloc)?;
+/// component.section(&imports)?;
 /// component.section(&exports)?;
 /// let bytes = component.finish();
 /// ```

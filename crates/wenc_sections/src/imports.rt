@@ -25,8 +25,8 @@ impl CountedKind for Imports {
 ///
 /// ```
 /// let mut imports = ComponentImportSection::new(alloc);
-/// imports.import("log".into(), ComponentTypeRef::Func(0))?;
-/// imports.import("clock".into(), ComponentTypeRef::Instance(1))?;
+/// imports.import("file".into(), ComponentTypeRef::Type(TypeBounds::SubResource))?;
+/// imports.import("log".into(), ComponentTypeRef::Type(TypeBounds::Eq(0)))?;
 ///
 /// let mut component = Component::new(alloc)?;
 /// component.section(&imports)?;

@@ -39,11 +39,16 @@ impl CountedKind for CoreInstances {
 /// The section of core instances (component model, binary format, "Core Instance Definitions").
 ///
 /// ```
+/// let module = Module::new(alloc)?;
+/// let mut functions = CanonicalFunctionSection::new(alloc);
+/// functions.task_cancel()?;
 /// let mut instances = InstanceSection::new(alloc);
-/// instances.export_items([("heap", ExportKind::Memory, 0)].into_iter())?;
-/// instances.instantiate(2, [("env", ModuleArg::Instance(0))].into_iter())?;
+/// instances.export_items([("cancel", ExportKind::Func, 0)].into_iter())?;
+/// instances.instantiate(0, [("env", ModuleArg::Instance(0))].into_iter())?;
 ///
 /// let mut component = Component::new(alloc)?;
+/// component.section(&ModuleSection(&module))?;
+/// component.section(&functions)?;
 /// component.section(&instances)?;
 /// let bytes = component.finish();
 /// ```
@@ -100,13 +105,18 @@ impl CountedKind for Instances {
 /// The section of component instances (component model, binary format, "Instance Definitions").
 ///
 /// ```
+/// let mut imports = ComponentImportSection::new(alloc);
+/// imports.import("file".into(), ComponentTypeRef::Type(TypeBounds::SubResource))?;
+/// let nested = Component::new(alloc)?;
 /// let mut instances = ComponentInstanceSection::new(alloc);
-/// let name: ComponentExternName = "now".into();
-/// instances.export_items([(name, ComponentExportKind::Func, 4)].into_iter())?;
-/// let clock = ("clock", ComponentExportKind::Instance, 0);
-/// instances.instantiate(2, [clock].into_iter())?;
+/// let name: ComponentExternName = "file".into();
+/// instances.export_items([(name, ComponentExportKind::Type, 0)].into_iter())?;
+/// let files = ("files", ComponentExportKind::Instance, 0);
+/// instances.instantiate(0, [files].into_iter())?;
 ///
 /// let mut component = Component::new(alloc)?;
+/// component.section(&imports)?;
+/// component.section(&NestedComponentSection(&nested))?;
 /// component.section(&instances)?;
 /// let bytes = component.finish();
 /// ```

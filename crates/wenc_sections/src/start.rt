@@ -10,16 +10,13 @@ use wenc_parts::{ComponentSection, ComponentSectionId};
 /// its size (`TooLarge`).
 ///
 /// ```
-/// // function 2 is called with value 3, and answers nothing
+/// // the component has function 0 and value 0, with which it is called; it answers nothing
 /// let start = ComponentStartSection {
-///     function_index: 2,
-///     args: [3],
+///     function_index: 0,
+///     args: [0],
 ///     results: 0,
 /// };
-///
-/// let mut component = Component::new(alloc)?;
 /// component.section(&start)?;
-/// let bytes = component.finish();
 /// ```
 #[derive(Clone, Copy, Debug)]
 pub struct ComponentStartSection<A> {

@@ -21,11 +21,11 @@ use wenc_base::{CoreTypeEncoder, Fault, Lender};
 /// module_type.alias_outer_core_type(1, 0)?;
 ///
 /// let mut types = CoreTypeSection::new(alloc);
-/// types.ty()?.module(&module_type)?;
 /// types
 ///     .ty()?
 ///     .core()
 ///     .function([].into_iter(), [ValType::F64].into_iter())?;
+/// types.ty()?.module(&module_type)?;
 /// ```
 #[derive(Drop)]
 pub struct ComponentCoreTypeEncoder<'a, L: Lender> {

@@ -129,7 +129,8 @@ fn types_are_listed_a_hundred_deep() {
         b.finish()
     };
     let deep = built(100);
-    assert_eq!(deep.len(), 8 + 1 + 2 + 1 + 99 * 3 + 2);
+    let front = b"\0asm\x0d\0\x01\0\x07\xac\x02\x01";
+    assert_eq!(deep, [&front[..], &b"\x41\x01\x01".repeat(99), b"\x41\x00"].concat());
     assert_eq!(sections(&list(&deep).unwrap()), [(7, 8, 1)]);
     assert_eq!(list(&built(101)), Err(ListFault::TooDeep { place: 8 }));
 }

@@ -2,14 +2,19 @@
 //! answers: those of components from Rust's `wasm-encoder` 0.263.0; those of values, core types,
 //! modules and custom sections from the format's rows.
 
+use crate::proved::facts::by_hand::by_hand;
 use crate::proved::facts::callers::passed_on;
 use crate::proved::facts::examples::{
     base, builder, canon, list, parts, program, sections, trees, types,
 };
 use crate::proved::facts::importing::importing;
+use crate::proved::facts::wrapping::wrapped;
 use crate::proved::rt_std::alloc::Global;
 use crate::proved::rt_std::vec::Vec;
-use crate::proved::wasm_encoder::{Encode, Fault};
+use crate::proved::wasm_encoder::{
+    Component, ComponentImportSection, ComponentTypeRef, ComponentTypeSection, ComponentValType,
+    Encode, Fault, PrimitiveValType,
+};
 
 /// These bytes were written.
 fn writes(written: Result<Vec<u8>, Fault>, bytes: &[u8]) {
@@ -35,15 +40,26 @@ const CANON: &[u8] = b"\x03\x03";
 
 /// Components that builders made.
 const BUILDER: &[u8] =
-    b"\0asm\x0d\0\x01\0\x0a\x06\x01\x00\x01f\x01\x00\x0b\x07\x01\x00\x01g\x01\x00\x00";
+    b"\0asm\x0d\0\x01\0\x0a\x06\x01\x00\x01f\x03\x01\x0b\x07\x01\x00\x01g\x03\x00\x00";
 
 const BUILDER_TYPES: &[u8] =
     b"\0asm\x0d\0\x01\0\x07\x03\x01\x6b\x73\x0b\x0a\x01\x00\x04name\x03\x00\x00";
 
 const PASSED_ON: &[u8] =
-    b"\0asm\x0d\0\x01\0\x0a\x06\x01\x00\x01f\x01\x00\x0b\x07\x01\x00\x01g\x01\x00\x00";
+    b"\0asm\x0d\0\x01\0\x0a\x06\x01\x00\x01f\x03\x01\x0b\x07\x01\x00\x01g\x03\x00\x00";
 
-const IMPORTING: &[u8] = b"\0asm\x0d\0\x01\0\x0a\x06\x01\x00\x01f\x01\x00";
+const IMPORTING: &[u8] = b"\0asm\x0d\0\x01\0\x0a\x06\x01\x00\x01f\x03\x01";
+
+const BY_HAND: &[u8] =
+    b"\0asm\x0d\0\x01\0\x0a\x06\x01\x00\x01i\x03\x01\x06\x05\x01\x03\x02\x00\x00\
+    \x0b\x07\x01\x00\x01g\x03\x01\x00";
+
+/// A component around a core module, which exports "run".
+const WRAPPED: &[u8] = b"\0asm\x0d\0\x01\0\
+    \x01\x21\0asm\x01\0\0\0\x01\x04\x01\x60\x00\x00\x03\x02\x01\x00\x07\x07\x01\x03run\x00\x00\
+    \x0a\x04\x01\x02\x00\x0b\x02\x04\x01\x00\x00\x00\x06\x09\x01\x00\x00\x01\x00\x03run\
+    \x07\x05\x01\x40\x00\x01\x00\x08\x06\x01\x00\x00\x00\x00\x00\
+    \x0b\x09\x01\x00\x03run\x01\x00\x00";
 
 #[test]
 fn values_and_builders() {
@@ -56,6 +72,10 @@ fn values_and_builders() {
     writes(builder::types(Global), BUILDER_TYPES);
     writes(passed_on(Global), PASSED_ON);
     writes(importing(Global), IMPORTING);
+    writes(by_hand(Global), BY_HAND);
+    let module = &WRAPPED[10..43];
+    assert_eq!(module[..8], *b"\0asm\x01\0\0\0");
+    writes(wrapped(Global, module), WRAPPED);
 }
 
 /// Components by hand.
@@ -64,25 +84,29 @@ const CUSTOM: &[u8] = b"\0asm\x0d\0\x01\0\x00\x07\x05notes\x2a";
 const PRODUCERS: &[u8] =
     b"\0asm\x0d\0\x01\0\x00\x1f\x09producers\x01\x08language\x01\x04Rust\x042024";
 
-const COMPONENT: &[u8] = b"\0asm\x0d\0\x01\0\x0a\x06\x01\x00\x01f\x01\x00";
+const COMPONENT: &[u8] = b"\0asm\x0d\0\x01\0\x0a\x09\x01\x00\x04file\x03\x01";
 
-const ALIASES: &[u8] = b"\0asm\x0d\0\x01\0\x06\x0a\x01\x00\x02\x01\x02\x04heap";
+const ALIASES: &[u8] = b"\0asm\x0d\0\x01\0\x0a\x09\x01\x00\x04file\x03\x01\
+    \x06\x05\x01\x03\x02\x00\x00";
 
-const EXPORTS: &[u8] = b"\0asm\x0d\0\x01\0\x0b\x0b\x01\x00\x05clock\x05\x03\x00";
+const EXPORTS: &[u8] = b"\0asm\x0d\0\x01\0\x0a\x09\x01\x00\x04file\x03\x01\
+    \x0b\x0c\x01\x00\x06handle\x03\x00\x00";
 
-const IMPORTS: &[u8] = b"\0asm\x0d\0\x01\0\x0a\x11\x02\x00\x03log\x01\x00\x00\x05clock\x05\x01";
+const IMPORTS: &[u8] = b"\0asm\x0d\0\x01\0\x0a\x11\x02\x00\x04file\x03\x01\x00\x03log\x03\x00\x00";
 
-const CORE_INSTANCES: &[u8] =
-    b"\0asm\x0d\0\x01\0\x02\x13\x02\x01\x01\x04heap\x02\x00\x00\x02\x01\x03env\x12\x00";
+const CORE_INSTANCES: &[u8] = b"\0asm\x0d\0\x01\0\x01\x08\0asm\x01\0\0\0\x08\x02\x01\x05\
+    \x02\x15\x02\x01\x01\x06cancel\x00\x00\x00\x00\x01\x03env\x12\x00";
 
-const INSTANCES: &[u8] =
-    b"\0asm\x0d\0\x01\0\x05\x15\x02\x01\x01\x00\x03now\x01\x04\x00\x02\x01\x05clock\x05\x00";
+const INSTANCES: &[u8] = b"\0asm\x0d\0\x01\0\x0a\x09\x01\x00\x04file\x03\x01\
+    \x04\x08\0asm\x0d\0\x01\0\
+    \x05\x16\x02\x01\x01\x00\x04file\x03\x00\x00\x00\x01\x05files\x05\x00";
 
 const MODULES: &[u8] = b"\0asm\x0d\0\x01\0\x01\x0c\0asm\x01\0\0\0\x00\x02\x01x";
 
 const NESTED: &[u8] = b"\0asm\x0d\0\x01\0\x04\x0c\0asm\x0d\0\x01\0\x00\x02\x01x";
 
-const START: &[u8] = b"\0asm\x0d\0\x01\0\x09\x04\x02\x01\x03\x00";
+const START: &[u8] = b"\0asm\x0d\0\x01\0\x07\x08\x01\x40\x01\x01n\x79\x01\x00\
+    \x0a\x0b\x02\x00\x01f\x01\x00\x00\x01v\x02\x79\x09\x04\x00\x01\x00\x00";
 
 const CORE_TYPES: &[u8] = b"\0asm\x0d\0\x01\0\x03\x05\x01\x60\x01\x7e\x00";
 
@@ -91,7 +115,26 @@ const TYPES: &[u8] = b"\0asm\x0d\0\x01\0\x07\x0c\x02\x72\x01\x04name\x73\x3f\x7f
 const NAMES: &[u8] =
     b"\0asm\x0d\0\x01\0\x00\x20\x0ecomponent-name\x00\x06\x05clock\x01\x07\x01\x01\x00\x03now";
 
-const FUNCTIONS: &[u8] = b"\0asm\x0d\0\x01\0\x08\x0b\x02\x00\x00\x03\x02\x01\x03\x00\x01\x03\x02";
+const FUNCTIONS: &[u8] = b"\0asm\x0d\0\x01\0\x0a\x09\x01\x00\x04file\x03\x01\
+    \x08\x08\x02\x03\x00\x09\x01\x00\x01\x01";
+
+/// A start, behind an imported function and an imported value with which it is called.
+fn started() -> Result<Vec<u8>, Fault> {
+    let number = ComponentValType::Primitive(PrimitiveValType::U32);
+    let mut types = ComponentTypeSection::new(Global);
+    let mut function = types.function()?;
+    function.params([("n", number)].into_iter())?;
+    function.result(None)?;
+    let mut imports = ComponentImportSection::new(Global);
+    imports.import("f".into(), ComponentTypeRef::Func(0))?;
+    imports.import("v".into(), ComponentTypeRef::Value(number))?;
+
+    let mut component = Component::new(Global)?;
+    component.section(&types)?;
+    component.section(&imports)?;
+    sections::start(&mut component)?;
+    Ok(component.finish())
+}
 
 #[test]
 fn sections_by_hand() {
@@ -105,7 +148,7 @@ fn sections_by_hand() {
     writes(sections::instances(Global), INSTANCES);
     writes(sections::module(Global), MODULES);
     writes(sections::nested(Global), NESTED);
-    writes(sections::start(Global), START);
+    writes(started(), START);
     writes(sections::core_types(Global), CORE_TYPES);
     writes(sections::types(Global), TYPES);
     writes(sections::names(Global), NAMES);
@@ -123,7 +166,7 @@ const COMPONENT_TYPE: &[u8] = b"\x11\x01\x41\x02\x01\x70\x7d\x03\x00\x05bytes\x0
 
 const INSTANCE_TYPE: &[u8] = b"\x10\x01\x42\x02\x01\x6b\x73\x04\x00\x04name\x03\x00\x00";
 
-const TWO_CORE_TYPES: &[u8] = b"\x0c\x02\x50\x01\x02\x10\x01\x01\x00\x60\x00\x01\x7c";
+const TWO_CORE_TYPES: &[u8] = b"\x0c\x02\x60\x00\x01\x7c\x50\x01\x02\x10\x01\x01\x00";
 
 const TWO_TYPES: &[u8] = b"\x06\x02\x3f\x7f\x00\x69\x00";
 
@@ -183,11 +226,11 @@ fn sections_behind() {
     makes(Ok(copy), b"\x09\x01\x00\x03log\x01\x00\x00");
 }
 
-/// A component that imports one function.
-const RUN: &[u8] = b"\0asm\x0d\0\x01\0\x0a\x08\x01\x00\x03log\x01\x00";
+/// A component that imports one type.
+const RUN: &[u8] = b"\0asm\x0d\0\x01\0\x0a\x09\x01\x00\x04file\x03\x01";
 
 /// What is printed of a script.
-const SCRIPT: &[u8] = b"0\n0061736d0d0001000a06010001660100\n";
+const SCRIPT: &[u8] = b"0\n0061736d0d00010001080061736d01000000\n";
 
 #[test]
 fn runs() {

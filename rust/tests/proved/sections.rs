@@ -5,6 +5,9 @@ mod component_types;
 mod components;
 mod core_types;
 mod custom;
+// It counts with a length that only 64 bits hold.
+#[cfg(target_pointer_width = "64")]
+mod dropped;
 mod holders;
 mod instances;
 mod items;

@@ -2,24 +2,24 @@
 //!
 //! An example says which bytes it makes, and is run as a test of the documentation; so it is enough to read what it says.
 
-use crate::toolchain::linker;
+use crate::toolchain::{Linker, linker};
 use std::path::{Path, PathBuf};
 use wenc::Component;
 
 /// An example, with the file where it stands and its line there.
-struct Example {
-    place: String,
-    code: String,
+pub struct Example {
+    pub place: String,
+    pub code: String,
 }
 
-/// The files of the sources in a folder, in their order.
-fn files(folder: &Path) -> Vec<PathBuf> {
+/// The files of a folder that end so, in their order.
+pub fn files(folder: &Path, ending: &str) -> Vec<PathBuf> {
     let mut found = Vec::new();
     for entry in std::fs::read_dir(folder).expect("the folder is there") {
         let path = entry.expect("it is told").path();
         if path.is_dir() {
-            found.extend(files(&path));
-        } else if path.extension().is_some_and(|extension| extension == "rs") {
+            found.extend(files(&path, ending));
+        } else if path.extension().is_some_and(|extension| extension == ending) {
             found.push(path);
         }
     }
@@ -28,7 +28,7 @@ fn files(folder: &Path) -> Vec<PathBuf> {
 }
 
 /// The examples in the comments of a file.
-fn examples(path: &Path) -> Vec<Example> {
+pub fn examples(path: &Path) -> Vec<Example> {
     let text = std::fs::read_to_string(path).expect("it is text");
     let (mut found, mut open): (Vec<Example>, Option<Example>) = (Vec::new(), None);
     for (number, line) in text.lines().enumerate() {
@@ -53,7 +53,7 @@ fn examples(path: &Path) -> Vec<Example> {
 }
 
 /// The bytes of the literal with which this begins: a text or an array of bytes.
-fn literal(code: &str) -> Vec<u8> {
+pub fn literal(code: &str) -> Vec<u8> {
     let code = code.trim_start().trim_start_matches(['*', '&']);
     if let Some(array) = code.strip_prefix('[') {
         let (array, _) = array.split_once(']').expect("it ends");
@@ -70,6 +70,7 @@ fn literal(code: &str) -> Vec<u8> {
                     bytes.push(u8::from_str_radix(&digits, 16).expect("two digits"));
                 }
                 '0' => bytes.push(0),
+                'n' => bytes.push(b'\n'),
                 '\n' => letters = letters.as_str().trim_start().chars(),
                 letter => panic!("\\{letter}"),
             },
@@ -109,19 +110,21 @@ fn components(code: &str) -> Vec<Vec<u8>> {
     found
 }
 
-/// What the validator says of every start.
-const START: &str = "component cannot have more than one start function";
+/// Why the validator refuses this component, but for what it says of every start.
+pub fn told_but_of_starts(linker: &Linker, component: &[u8]) -> Option<String> {
+    let start = "component cannot have more than one start function";
+    linker.refuses(component).filter(|told| !told.starts_with(start))
+}
 
 #[test]
 fn components_of_examples_are_valid() {
     let sources = Path::new(env!("CARGO_MANIFEST_DIR")).join("rust/src");
     let linker = linker("examples of the documentation");
     let (mut count, mut refused) = (0, Vec::new());
-    for example in files(&sources).iter().flat_map(|path| examples(path)) {
+    for example in files(&sources, "rs").iter().flat_map(|path| examples(path)) {
         for component in components(&example.code) {
             count += 1;
-            let told = linker.as_ref().and_then(|linker| linker.refuses(&component));
-            let told = told.filter(|told| !told.starts_with(START));
+            let told = linker.as_ref().and_then(|linker| told_but_of_starts(linker, &component));
             refused.extend(told.map(|told| format!("{}: {told}", example.place)));
         }
     }

@@ -4,6 +4,9 @@
 mod componentize;
 #[path = "../../examples/compose.rs"]
 mod compose;
+#[path = "../../examples/first.rs"]
+#[allow(dead_code)]
+mod first;
 #[path = "../../examples/strip.rs"]
 mod strip;
 #[path = "../../examples/world.rs"]
@@ -24,6 +27,12 @@ fn componentized(module: &[u8], signatures: &[&str]) -> Vec<u8> {
 fn items(component: &[u8]) -> Vec<ItemTree> {
     let items = again::items(list(component).expect("it is listed"));
     items.filter(|item| !matches!(item, ItemTree::Custom { .. })).collect()
+}
+
+#[test]
+fn the_first_component_is_valid() {
+    let Some(linker) = linker("first") else { return };
+    assert_eq!(linker.refuses(&first::passed_on()), None);
 }
 
 #[test]

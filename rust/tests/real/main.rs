@@ -15,5 +15,6 @@ mod features;
 mod interfaces;
 mod names;
 mod random;
+mod shown;
 mod toolchain;
 mod worlds;

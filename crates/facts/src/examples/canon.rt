@@ -3,16 +3,21 @@ ghost use Rattle.std.specs.Prelude.{◌≡◌, ◌++◌, IfOk};
 ghost use Rattle.wenc_canon.specs.Canonicals.{canonical, OfBuiltin, ResourceDrop};
 
 use std::alloc::Allocator;
-use wasm_encoder::{CanonicalFunctionSection, CanonicalOption, Component, Fault, Holder};
+use wasm_encoder::{
+    CanonicalFunctionSection, CanonicalOption, Component, ComponentImportSection, ComponentTypeRef,
+    Fault, Holder, TypeBounds,
+};
 
 /// `CanonicalFunctionSection`.
 pub fn functions<A: Allocator + Copy>(alloc: A) -> Result<Vec<u8, A>, Fault> {
+    let mut imports = ComponentImportSection::new(alloc);
+    imports.import("file".into(), ComponentTypeRef::Type(TypeBounds::SubResource))?;
     let mut functions = CanonicalFunctionSection::new(alloc);
-    let options = [CanonicalOption::UTF16, CanonicalOption::Memory(0)];
-    functions.lift(3, 1, options.into_iter())?;
-    functions.resource_drop(2)?;
+    functions.resource_drop(0)?;
+    functions.task_return(None, [CanonicalOption::UTF16].into_iter())?;
 
     let mut component = Component::new(alloc)?;
+    component.section(&imports)?;
     component.section(&functions)?;
     let bytes = component.finish();
     Ok(bytes)

@@ -1,13 +1,14 @@
 //! Of `wenc_sections`: components by hand.
-ghost use Rattle.std.specs.Prelude.{◌≡◌, ◌++◌, ◌∷◌, [], IfOk, None, codes};
+ghost use Rattle.std.specs.Prelude.{◌≡◌, ◌++◌, ◌∷◌, [], IfOk, OnOk, None, codes};
 ghost use Rattle.wenc_base.specs.Custom.{custom};
 ghost use Rattle.wenc_base.specs.Forms.{byte_list, counted};
 ghost use Rattle.wenc_base.specs.Modules.{module_preamble};
-ghost use Rattle.wenc_base.specs.declared.exports.ExportKind.{ExportKind};
-ghost use Rattle.wenc_parts.specs.Aliases.{alias as alias_form, alias_view, CoreInstanceExport};
+ghost use Rattle.wenc_parts.specs.Aliases.{alias as alias_form, alias_view, Outer};
 ghost use Rattle.wenc_parts.specs.Imports.{plain_name};
+ghost use Rattle.wenc_parts.specs.declared.aliases.ComponentOuterAliasKind.{ComponentOuterAliasKind};
 ghost use Rattle.wenc_parts.specs.declared.exports.ComponentExportKind.{ComponentExportKind};
 ghost use Rattle.wenc_parts.specs.declared.imports.ComponentTypeRef.{ComponentTypeRef};
+ghost use Rattle.wenc_parts.specs.declared.imports.TypeBounds.{TypeBounds};
 ghost use Rattle.wenc_sections.specs.Component.{preamble};
 ghost use Rattle.wenc_sections.specs.Exports.{export_item};
 ghost use Rattle.wenc_sections.specs.Imports.{import_item};
@@ -16,21 +17,24 @@ ghost use Rattle.wenc_sections.specs.Start.{started, start as start_form};
 use std::alloc::Allocator;
 use wasm_encoder::laws::sections_are_their_items;
 use wasm_encoder::{
-    Alias, Component, ComponentAliasSection, ComponentExportKind, ComponentExportSection,
-    ComponentExternName, ComponentImportSection, ComponentInstanceSection, ComponentNameSection,
-    ComponentStartSection, ComponentTypeRef, ComponentTypeSection, ComponentValType,
-    CoreTypeSection, CustomSection, ExportKind, Fault, Holder, InstanceSection, Module, ModuleArg,
-    ModuleSection, NameMap, NestedComponentSection, PrimitiveValType, ValType,
+    Alias, CanonicalFunctionSection, Component, ComponentAliasSection, ComponentExportKind,
+    ComponentExportSection, ComponentExternName, ComponentImportSection, ComponentInstanceSection,
+    ComponentNameSection, ComponentOuterAliasKind, ComponentStartSection, ComponentTypeRef,
+    ComponentTypeSection, ComponentValType, CoreTypeSection, CustomSection, ExportKind, Fault,
+    Holder, InstanceSection, Module, ModuleArg, ModuleSection, NameMap, NestedComponentSection,
+    PrimitiveValType, TypeBounds, ValType,
 };
 
 /// `Component`.
 pub fn component<A: Allocator + Copy>(alloc: A) -> Result<Vec<u8, A>, Fault>
     ensures { IfOk result (λ bytes. bytes.items
-        ≡ preamble.text ++ 0x0a ∷ (counted import_item
-        (record { name = plain_name (codes "f"); what = ComponentTypeRef.Func 0 } ∷ [])).text) }
+        ≡ preamble.text ++ 0x0a ∷ (counted import_item (record {
+          name = plain_name (codes "file");
+          what = ComponentTypeRef.«Type» TypeBounds.SubResource;
+        } ∷ [])).text) }
 {
     let mut imports = ComponentImportSection::new(alloc);
-    imports.import("f".into(), ComponentTypeRef::Func(0))?;
+    imports.import("file".into(), ComponentTypeRef::Type(TypeBounds::SubResource))?;
 
     let mut component = Component::new(alloc)?;
     component.section(&imports)?;
@@ -64,17 +68,23 @@ pub fn behind<A: Allocator>(bytes: Vec<u8, A>, alias: Alias<'_>) -> Result<(Vec<
 /// `ComponentAliasSection`.
 pub fn aliases<A: Allocator + Copy>(alloc: A) -> Result<Vec<u8, A>, Fault>
     ensures { IfOk result (λ bytes. bytes.items
-        ≡ preamble.text ++ 0x06 ∷ (counted alias_form
-        (CoreInstanceExport 2 ExportKind.Memory (codes "heap") ∷ [])).text) }
+        ≡ preamble.text ++ 0x0a ∷ (counted import_item (record {
+          name = plain_name (codes "file");
+          what = ComponentTypeRef.«Type» TypeBounds.SubResource;
+        } ∷ [])).text ++ 0x06 ∷ (counted alias_form
+        (Outer ComponentOuterAliasKind.«Type» 0 0 ∷ [])).text) }
 {
+    let mut imports = ComponentImportSection::new(alloc);
+    imports.import("file".into(), ComponentTypeRef::Type(TypeBounds::SubResource))?;
     let mut aliases = ComponentAliasSection::new(alloc);
-    aliases.alias(Alias::CoreInstanceExport {
-        instance: 2,
-        kind: ExportKind::Memory,
-        name: "heap",
+    aliases.alias(Alias::Outer {
+        kind: ComponentOuterAliasKind::Type,
+        count: 0,
+        index: 0,
     })?;
 
     let mut component = Component::new(alloc)?;
+    component.section(&imports)?;
     component.section(&aliases)?;
     let bytes = component.finish();
     sections_are_their_items();
@@ -84,17 +94,23 @@ pub fn aliases<A: Allocator + Copy>(alloc: A) -> Result<Vec<u8, A>, Fault>
 /// `ComponentExportSection`.
 pub fn exports<A: Allocator + Copy>(alloc: A) -> Result<Vec<u8, A>, Fault>
     ensures { IfOk result (λ bytes. bytes.items
-        ≡ preamble.text ++ 0x0b ∷ (counted export_item (record {
-          name = plain_name (codes "clock");
-          kind = ComponentExportKind.Instance;
-          index = 3;
+        ≡ preamble.text ++ 0x0a ∷ (counted import_item (record {
+          name = plain_name (codes "file");
+          what = ComponentTypeRef.«Type» TypeBounds.SubResource;
+        } ∷ [])).text ++ 0x0b ∷ (counted export_item (record {
+          name = plain_name (codes "handle");
+          kind = ComponentExportKind.«Type»;
+          index = 0;
           what = None;
         } ∷ [])).text) }
 {
+    let mut imports = ComponentImportSection::new(alloc);
+    imports.import("file".into(), ComponentTypeRef::Type(TypeBounds::SubResource))?;
     let mut exports = ComponentExportSection::new(alloc);
-    exports.export("clock".into(), ComponentExportKind::Instance, 3, None)?;
+    exports.export("handle".into(), ComponentExportKind::Type, 0, None)?;
 
     let mut component = Component::new(alloc)?;
+    component.section(&imports)?;
     component.section(&exports)?;
     let bytes = component.finish();
     sections_are_their_items();
@@ -104,14 +120,17 @@ pub fn exports<A: Allocator + Copy>(alloc: A) -> Result<Vec<u8, A>, Fault>
 /// `ComponentImportSection`.
 pub fn imports<A: Allocator + Copy>(alloc: A) -> Result<Vec<u8, A>, Fault>
     ensures { IfOk result (λ bytes. bytes.items
-        ≡ preamble.text ++ 0x0a ∷ (counted import_item
-        (record { name = plain_name (codes "log"); what = ComponentTypeRef.Func 0 }
-        ∷ record { name = plain_name (codes "clock"); what = ComponentTypeRef.Instance 1 }
-        ∷ [])).text) }
+        ≡ preamble.text ++ 0x0a ∷ (counted import_item (record {
+          name = plain_name (codes "file");
+          what = ComponentTypeRef.«Type» TypeBounds.SubResource;
+        } ∷ record {
+          name = plain_name (codes "log");
+          what = ComponentTypeRef.«Type» (TypeBounds.Eq 0);
+        } ∷ [])).text) }
 {
     let mut imports = ComponentImportSection::new(alloc);
-    imports.import("log".into(), ComponentTypeRef::Func(0))?;
-    imports.import("clock".into(), ComponentTypeRef::Instance(1))?;
+    imports.import("file".into(), ComponentTypeRef::Type(TypeBounds::SubResource))?;
+    imports.import("log".into(), ComponentTypeRef::Type(TypeBounds::Eq(0)))?;
 
     let mut component = Component::new(alloc)?;
     component.section(&imports)?;
@@ -122,11 +141,16 @@ pub fn imports<A: Allocator + Copy>(alloc: A) -> Result<Vec<u8, A>, Fault>
 
 /// `InstanceSection`.
 pub fn core_instances<A: Allocator + Copy>(alloc: A) -> Result<Vec<u8, A>, Fault> {
+    let module = Module::new(alloc)?;
+    let mut functions = CanonicalFunctionSection::new(alloc);
+    functions.task_cancel()?;
     let mut instances = InstanceSection::new(alloc);
-    instances.export_items([("heap", ExportKind::Memory, 0)].into_iter())?;
-    instances.instantiate(2, [("env", ModuleArg::Instance(0))].into_iter())?;
+    instances.export_items([("cancel", ExportKind::Func, 0)].into_iter())?;
+    instances.instantiate(0, [("env", ModuleArg::Instance(0))].into_iter())?;
 
     let mut component = Component::new(alloc)?;
+    component.section(&ModuleSection(&module))?;
+    component.section(&functions)?;
     component.section(&instances)?;
     let bytes = component.finish();
     Ok(bytes)
@@ -134,13 +158,18 @@ pub fn core_instances<A: Allocator + Copy>(alloc: A) -> Result<Vec<u8, A>, Fault
 
 /// `ComponentInstanceSection`.
 pub fn instances<A: Allocator + Copy>(alloc: A) -> Result<Vec<u8, A>, Fault> {
+    let mut imports = ComponentImportSection::new(alloc);
+    imports.import("file".into(), ComponentTypeRef::Type(TypeBounds::SubResource))?;
+    let nested = Component::new(alloc)?;
     let mut instances = ComponentInstanceSection::new(alloc);
-    let name: ComponentExternName = "now".into();
-    instances.export_items([(name, ComponentExportKind::Func, 4)].into_iter())?;
-    let clock = ("clock", ComponentExportKind::Instance, 0);
-    instances.instantiate(2, [clock].into_iter())?;
+    let name: ComponentExternName = "file".into();
+    instances.export_items([(name, ComponentExportKind::Type, 0)].into_iter())?;
+    let files = ("files", ComponentExportKind::Instance, 0);
+    instances.instantiate(0, [files].into_iter())?;
 
     let mut component = Component::new(alloc)?;
+    component.section(&imports)?;
+    component.section(&NestedComponentSection(&nested))?;
     component.section(&instances)?;
     let bytes = component.finish();
     Ok(bytes)
@@ -182,22 +211,19 @@ pub fn nested<A: Allocator + Copy>(alloc: A) -> Result<Vec<u8, A>, Fault>
     Ok(bytes)
 }
 
-/// `ComponentStartSection`.
-pub fn start<A: Allocator>(alloc: A) -> Result<Vec<u8, A>, Fault>
-    ensures { IfOk result (λ bytes. bytes.items
-        ≡ preamble.text ++ 0x09 ∷ (start_form (started 2 (3 ∷ []) 0)).text) }
+/// `ComponentStartSection`, behind what has the function and the value.
+pub fn start<A: Allocator>(component: &mut Component<A>) -> Result<(), Fault>
+    ensures { OnOk result (component.new
+        ≡ component.old ++ 0x09 ∷ (start_form (started 0 (0 ∷ []) 0)).text) }
 {
-    // function 2 is called with value 3, and answers nothing
+    // the component has function 0 and value 0, with which it is called; it answers nothing
     let start = ComponentStartSection {
-        function_index: 2,
-        args: [3],
+        function_index: 0,
+        args: [0],
         results: 0,
     };
-
-    let mut component = Component::new(alloc)?;
     component.section(&start)?;
-    let bytes = component.finish();
-    Ok(bytes)
+    Ok(())
 }
 
 /// `CoreTypeSection`.

@@ -60,11 +60,11 @@ pub fn core_types<A: Allocator + Copy>(alloc: A) -> Result<CoreTypeSection<A>, F
     module_type.alias_outer_core_type(1, 0)?;
 
     let mut types = CoreTypeSection::new(alloc);
-    types.ty()?.module(&module_type)?;
     types
         .ty()?
         .core()
         .function([].into_iter(), [ValType::F64].into_iter())?;
+    types.ty()?.module(&module_type)?;
     Ok(types)
 }
 

@@ -3,30 +3,25 @@ ghost use Rattle.std.specs.List.{AllByRecursion};
 ghost use Rattle.std.specs.List.Sorted.{IsStrictlyIncreasing};
 ghost use Rattle.std.specs.Prelude.{◌≡◌, ◌↔◌, ◌+◌, ◌<◌, ◌≤◌, ◌^◌, ◌++◌, ◌∷◌, [], ℕ, List, length, map, IsOk, Ok, Option, Result, Some};
 ghost use Rattle.wenc_base.specs.Fault.{NoCause};
-ghost use Rattle.wenc_base.specs.Lender.{Ends};
 ghost use Rattle.wenc_base.specs.declared.fault.Fault.{Fault};
-ghost use Rattle.wenc_builder.specs.Builder.{State, Draft, item_begun, item_appended, item_ended, item_given_up, count_in, draft_in};
-ghost use Rattle.wenc_builder.specs.Enters.{BeginsItem, Enters, EntersWithoutIndex};
-ghost use Rattle.wenc_builder.specs.Entry.{Entry, items as items_of, names, type_entry, core_type_entry};
+ghost use Rattle.wenc_builder.specs.Builder.{State, Draft, item_begun, item_appended, item_given_up, count_in};
+ghost use Rattle.wenc_builder.specs.Enters.{Enters, EntersWithoutIndex};
+ghost use Rattle.wenc_builder.specs.Entry.{Entry, items as items_of, names};
 ghost use Rattle.wenc_builder.specs.Holds.{Holds};
 ghost use Rattle.wenc_builder.specs.Item.{Item, collected};
-ghost use Rattle.wenc_builder.specs.LenderState.{no_room_in_section};
 ghost use Rattle.wenc_builder.specs.Raw.{HasNoRaw};
 ghost use Rattle.wenc_builder.specs.Sections.{Section, Run, runs, whole};
 ghost use Rattle.wenc_builder.specs.Space.{defines, some_in, next_index, space_number};
-ghost use Rattle.wenc_parts.specs.declared.component.ComponentSectionId.TheVariants as ids;
 ghost use Rattle.wenc_builder.specs.declared.builder.space.Space.{Space};
-ghost use Rattle.wenc_builder.specs.declared.builder.space.Space.TheVariants as spaces;
 ghost use Rattle.wenc_parts.specs.Types.{value_type, primitive};
 ghost use Rattle.wenc_parts.specs.declared.types.ComponentValType.TheVariants as value_types;
 ghost use Rattle.wenc_parts.specs.declared.types.PrimitiveValType.{PrimitiveValType};
-ghost use Rattle.wenc_types.specs.ComponentTypes.{DefType, def_type};
-ghost use Rattle.wenc_types.specs.CoreTypes.{CoreType, core_type};
 ghost use Rattle.wasm_encoder.specs.Cause.{added, led, first_cause};
 ghost use Rattle.wasm_encoder.specs.Command.{CommandTree, Commands, commands_listed};
 ghost use Rattle.wasm_encoder.specs.ItemCommands.{command_of};
 ghost use Rattle.wasm_encoder.specs.Nameless.{StartIsNameless};
 ghost use Rattle.wasm_encoder.specs.Ran.{Ran};
+ghost use Rattle.wasm_encoder.specs.WrittenTypes.{AreEntered};
 
 /// No two neighbours among the sections into which items are cut collect items of one kind.
 pub fn neighbours_differ()
@@ -114,18 +109,7 @@ pub fn nested_runs()
 /// entry more in every list that the builder held, and its index is its item's. Given up, written in part or not at all,
 /// it leaves every list held that was held.
 pub fn encoded_types_are_entries()
-    ensures type_written { {old lent new : State} {index : ℕ} {name : Option (List ℕ)}
-        {t : DefType} → BeginsItem (λ i. i) (λ i. lent) old (Ok index)
-        (draft_in ids.«Type» spaces.Types name [])
-        → Ends item_appended item_ended no_room_in_section lent new (Ok tt) (def_type t)
-        → (es : List Entry) → Holds old es → Holds new (es ++ type_entry name t ∷ [])
-        × (index ≡ next_index (items_of es) (space_number spaces.Types)) }
-    ensures core_type_written { {old lent new : State} {index : ℕ} {name : Option (List ℕ)}
-        {t : CoreType} → BeginsItem (λ i. i) (λ i. lent) old (Ok index)
-        (draft_in ids.CoreType spaces.CoreTypes name [])
-        → Ends item_appended item_ended no_room_in_section lent new (Ok tt) (core_type t)
-        → (es : List Entry) → Holds old es → Holds new (es ++ core_type_entry name t ∷ [])
-        × (index ≡ next_index (items_of es) (space_number spaces.CoreTypes)) }
+    ensures written { AreEntered }
     ensures begun_given_up { (old lent new : State) (es : List Entry) (d : Draft)
         → lent ≡ item_begun old d → new ≡ item_given_up lent → Holds old es → Holds new es }
     ensures written_given_up { (old lent new : State) (es : List Entry) (d : Draft) (text : List ℕ)

@@ -1,6 +1,10 @@
 //! The use `list`: what is printed of components, and of texts that say none.
 
 use super::outcome::{End, USAGE, expect};
+use crate::proved::rt_std::alloc::Global;
+use crate::proved::wenc::list::list_text;
+use crate::proved::wenc::unlisted::Unlisted;
+use crate::proved::wenc_list::ListFault;
 use std::format;
 
 /// Types of instances in one another, 100 and 101 of them, the innermost empty.
@@ -82,6 +86,38 @@ fn texts_are_listed() {
         check(text, end);
         let upper = text.to_ascii_uppercase();
         check(upper.as_str(), end);
+    }
+}
+
+/// Texts that say no component, and why.
+const FAULTS: &[(&str, ListFault)] = &[
+    ("", ListFault::NotAComponent { place: 0 }),
+    ("0061736d01000000", ListFault::NotAComponent { place: 0 }),
+    ("0061736d0d000100060501", ListFault::BadSection { place: 8 }),
+    ("0061736d0d0001000a060100016601000b07010001670100", ListFault::BadSection { place: 16 }),
+    ("0061736d0d00010006020109", ListFault::BadItem { place: 8 }),
+    (TOO_DEEP, ListFault::TooDeep { place: 8 }),
+];
+
+/// The same by the library's call.
+#[test]
+fn texts_are_listed_by_a_call() {
+    for (text, (status, out, _)) in TEXTS {
+        let printed = list_text(Global, text.as_bytes());
+        assert_eq!(printed.is_ok(), *status == 0, "{text}");
+        if let Ok(printed) = printed {
+            assert_eq!(printed.as_slice(), *out, "{text}");
+        }
+    }
+    for (text, wanted) in FAULTS {
+        match list_text(Global, text.as_bytes()) {
+            Err(Unlisted::Fault(fault)) => assert_eq!(fault, *wanted, "{text}"),
+            _ => panic!("{text}"),
+        }
+    }
+    for text in BAD {
+        let printed = list_text(Global, text);
+        assert!(matches!(printed, Err(Unlisted::BadText)), "{text:?}");
     }
 }
 

@@ -2,7 +2,13 @@
 //! with the Rust crate `wasm-encoder` 0.263.0.
 
 use super::outcome::expect;
+use crate::proved::rt_std::alloc::Global;
+use crate::proved::rt_std::vec::Vec;
+use crate::proved::tests::hex::digits;
 use crate::proved::tests::listing::built::is_listed;
+use crate::proved::wenc::failure::Failure;
+use crate::proved::wenc::program::translate;
+use std::format;
 
 mod bad;
 mod by_hand;
@@ -21,6 +27,21 @@ pub struct Vector {
     pub err: &'static [u8],
 }
 
+/// What the script is translated to is what its run prints, or tells the bad line.
+fn is_translated(vector: &Vector) {
+    match translate(Global, Global, Vec::from(vector.script.to_vec())) {
+        Ok(printout) => {
+            let line = format!("{}\n", digits(&printout.bytes));
+            let printed = [printout.lines.as_slice(), line.as_bytes()].concat();
+            assert_eq!((printout.status, &*printed), (vector.status, vector.out));
+        }
+        Err(Failure::BadLine(line)) => {
+            assert_eq!((1, format!("line {line}\n").as_bytes()), (vector.status, vector.err));
+        }
+        Err(failure) => panic!("{}: {failure:?}", vector.name),
+    }
+}
+
 #[test]
 fn scripts() {
     for vectors in [
@@ -35,6 +56,7 @@ fn scripts() {
         for vector in vectors {
             let end = (vector.status, vector.out, vector.err);
             expect(vector.name, &[], vector.script, &end);
+            is_translated(vector);
             if vector.status != 1 {
                 is_listed(vector.out);
             }

@@ -2,6 +2,7 @@
 //! in which each request for memory of the calls of both types is refused in turn.
 
 mod calls;
+mod counts;
 mod declarations;
 mod functions;
 mod kinds;

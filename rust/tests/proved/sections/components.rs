@@ -1,7 +1,6 @@
 //! Components and modules, section by section.
 
 use super::checks::are;
-use crate::proved::facts::by_hand::by_hand;
 use crate::proved::facts::own::{Large, Own};
 use crate::proved::rt_std::alloc::Global;
 use crate::proved::wenc_base::{Fault, Module, RawCustomSection};
@@ -52,11 +51,4 @@ fn modules() {
     are(module.finish().as_slice(), "", wanted);
     copy.section(&OWN).unwrap();
     are(copy.finish().as_slice(), "0061736d01000000", "622a");
-}
-
-#[test]
-fn hand_made() {
-    let bytes = by_hand(Global).unwrap();
-    let wanted = "0061736d0d0001000a0601000169050006060101000001660b0701000167010000";
-    are(bytes.as_slice(), "", wanted);
 }

@@ -4,6 +4,7 @@ use super::checks::{alone, are, is_text};
 use crate::proved::rt_std::alloc::Global;
 use crate::proved::wenc_base::{Fault, NameMap};
 use crate::proved::wenc_sections::{ComponentNameSection, NamesOf, Sort};
+use std::format;
 
 /// Each sort, and the bytes of its subsection with one name, "t" of index 0.
 const SORTS: &[(Sort, &str)] = &[
@@ -86,5 +87,6 @@ fn raw_subsections() {
     section.raw(1, &[0x07]).unwrap();
     are(section.as_custom().data, "", "0000010107");
     section.raw(2, [0x00; 128].as_slice()).unwrap();
-    assert_eq!(section.as_custom().data.len(), 136);
+    let wanted = format!("0000010107028001{}", "00".repeat(128));
+    are(section.as_custom().data, "", &wanted);
 }

@@ -1,6 +1,6 @@
 //! Modules, components, starts and custom sections: each is a section of its own.
 
-use super::between::{CORE_MODULE, FRONT, Swept};
+use super::between::{COMPONENT, CORE_MODULE, FRONT, Swept};
 use crate::proved::tests::builder::calls::{Inner, Item, NAME};
 use crate::proved::tests::builder::checks::{finishes, made};
 use crate::proved::tests::refusing::Refusing;
@@ -15,8 +15,6 @@ const BYTES: &[u8] = b"an-interface-with-a-long-name";
 /// A component that imports a function, behind the id and the size of a nested one.
 const NESTED: &[u8] =
     b"\x04\x2c\x00asm\x0d\x00\x01\x00\x0a\x22\x01\x00\x1dan-interface-with-a-long-name\x01\x00";
-
-const COMPONENT: &[u8] = &[0x04];
 
 /// What is made of bytes or of numbers, with its section.
 pub const CALLS: &[Swept<'static>] = &[

@@ -69,9 +69,31 @@ const NAMED: Start = Start {
 
 pub const FUNC: &[u8] = &[0x01];
 
+pub const TYPE: &[u8] = &[0x03];
+
+pub const COMPONENT: &[u8] = &[0x04];
+
+pub const INSTANCE: &[u8] = &[0x05];
+
 pub const CORE_FUNC: &[u8] = &[0x00, 0x00];
 
+pub const CORE_TYPE: &[u8] = &[0x00, 0x10];
+
 pub const CORE_MODULE: &[u8] = &[0x00, 0x11];
+
+pub const CORE_INSTANCE: &[u8] = &[0x00, 0x12];
+
+/// Of each sort of names, the place of its count.
+const PLACES: &[(&[u8], usize)] = &[
+    (CORE_MODULE, 0),
+    (CORE_FUNC, 1),
+    (CORE_TYPE, 2),
+    (CORE_INSTANCE, 5),
+    (FUNC, 8),
+    (INSTANCE, 9),
+    (COMPONENT, 11),
+    (TYPE, 12),
+];
 
 /// A call, the sort and the name that it leaves where it is accepted, and what it adds: a section,
 /// or the component that it makes with the aliases. Without a sort there is no name.
@@ -128,6 +150,22 @@ fn is_with(bytes: &[u8], start: &Start, row: &Swept<'_>, answer: u32) -> bool {
     }
 }
 
+/// The counts behind a call that is accepted: what is in front are functions, what is behind is a
+/// type.
+fn counted_with(start: &Start, row: &Swept<'_>) -> [u32; 13] {
+    let (call, sort, _, _) = row;
+    let mut counted = [0, 0, 0, 0, 0, 0, 0, 0, start.aliases, 0, 0, 0, 1];
+    match call {
+        Item::Start(_, _, results) => counted[10] += results,
+        _ if sort.is_empty() => {}
+        _ => {
+            let place = PLACES.iter().find(|(named, _)| named == sort).expect("it has a sort");
+            counted[place.1] += 1;
+        }
+    }
+    counted
+}
+
 /// The call has its growth number `n` refused, and is made again or isn't. Whether there is such a
 /// growth. A call that stays refused has left nothing behind: the alias behind it is a neighbour of
 /// those in front.
@@ -154,9 +192,10 @@ fn is_refused(heap: &Refusing, start: &Start, row: &Swept<'_>, n: u64, again: bo
         assert_eq!(counted, [0, 0, 0, 0, 0, 0, 0, 0, start.aliases, 0, 0, 0, 1]);
         assert_eq!(bytes.as_slice(), start.without);
     } else {
-        // The aliases in front are of functions.
+        // The aliases in front are of functions, and the one behind is of a type.
         let answer = if *sort == FUNC { start.aliases } else { 0 };
-        assert!(outcome == Ok(answer) && behind == Ok(counted[12] - 1));
+        assert_eq!((outcome, behind), (Ok(answer), Ok(u32::from(*sort == TYPE))));
+        assert_eq!(counted, counted_with(start, row));
         assert!(is_with(bytes.as_slice(), start, row, answer));
     }
     was_refused

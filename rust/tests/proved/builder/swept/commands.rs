@@ -6,68 +6,95 @@ use crate::proved::tests::builder::trees::{NONE, Tree, Whole, commands};
 use crate::proved::tests::refusing::Refusing;
 use crate::proved::tests::sweeping::REFUSED;
 use crate::proved::wasm_encoder::{Command, ComponentTypeRef, build};
+use std::collections::BTreeSet;
 
 /// Answers, and the component.
 type Wanted<'a> = (&'a [Answer], &'a [u8]);
 
-/// What commands are to come to where the one at this place is refused, and where none is.
+/// What commands come to where the one at each place is refused, and where none is.
 struct Case<'a> {
-    place: usize,
-    refused: Wanted<'a>,
+    refused: &'a [Wanted<'a>],
     accepted: Wanted<'a>,
 }
 
-/// How many commands were refused.
-fn refusals(answers: &[Answer]) -> usize {
-    answers.iter().filter(|answer| **answer == Err(REFUSED)).count()
+/// What was refused: the command at a place, the whole, or nothing.
+enum Refused {
+    Command(usize),
+    Whole,
+    Nothing,
 }
 
-/// Growth number `n` is refused. Whether the command at the place was refused then; none, where
-/// there is no such growth. Else it was one other command, or the whole.
-fn refuse(heap: &Refusing, commands: &[Command], case: &Case<'_>, n: u64) -> Option<bool> {
+/// Growth number `n` is refused, where there is one.
+fn refuse(heap: &Refusing, commands: &[Command], case: &Case<'_>, n: u64) -> Refused {
     heap.refuse_nth(n);
-    let outcome = build(heap, commands);
-    let was_refused = heap.was_refused();
-    match outcome {
-        Ok(built) => {
-            let is_skipped = matches!(built.answers.get(case.place), Some(Err(_)));
-            let (answers, bytes) = if was_refused { case.refused } else { case.accepted };
-            let is_wanted = built.answers.as_slice() == answers && built.bytes.as_slice() == bytes;
-            let is_another = was_refused && !is_skipped;
-            assert!(is_wanted || (is_another && refusals(built.answers.as_slice()) == 1));
-            if was_refused { Some(is_skipped) } else { None }
-        }
+    let built = match build(heap, commands) {
+        Ok(built) => built,
         Err(fault) => {
-            assert!(was_refused && fault == REFUSED);
-            Some(false)
+            assert!(heap.was_refused() && fault == REFUSED);
+            return Refused::Whole;
         }
-    }
+    };
+    let answers = built.answers.as_slice();
+    let place = answers.iter().position(|answer| answer.is_err());
+    assert_eq!(place.is_some(), heap.was_refused());
+    let wanted = place.map_or(case.accepted, |place| case.refused[place]);
+    assert_eq!((answers, built.bytes.as_slice()), wanted);
+    place.map_or(Refused::Nothing, Refused::Command)
 }
 
 /// Both aliases stand in one section where what is between them is refused.
 const REFUSED_BETWEEN: Wanted<'static> = (&[Ok(Some(0)), Err(REFUSED), Ok(Some(0))], BOTH);
 
+/// What aliases have between them is a module, whose answer isn't theirs.
+const FIRST_REFUSED: &[Answer] = &[Err(REFUSED), Ok(Some(0)), Ok(Some(0))];
+
+const LAST_REFUSED: &[Answer] = &[Ok(Some(0)), Ok(Some(0)), Err(REFUSED)];
+
+const ALL_FIRST: &[Answer] = &[Ok(Some(0)), Ok(Some(0)), Ok(Some(0))];
+
 const MODULE: &Case<'static> = &Case {
-    place: 1,
-    refused: REFUSED_BETWEEN,
+    refused: &[
+        (FIRST_REFUSED, b"\x00asm\x0d\x00\x01\x00\x01\x01\xaa\x06\x05\x01\x03\x02\x00\x01"),
+        REFUSED_BETWEEN,
+        (LAST_REFUSED, b"\x00asm\x0d\x00\x01\x00\x06\x06\x01\x01\x00\x00\x01f\x01\x01\xaa"),
+    ],
     accepted: (
-        &[Ok(Some(0)), Ok(Some(0)), Ok(Some(0))],
+        ALL_FIRST,
         b"\x00asm\x0d\x00\x01\x00\x06\x06\x01\x01\x00\x00\x01f\x01\x01\xaa\x06\x05\x01\x03\x02\x00\x01",
     ),
 };
 
 const LONG_MODULE: &Case<'static> = &Case {
-    place: 1,
-    refused: REFUSED_BETWEEN,
+    refused: &[
+        (
+            FIRST_REFUSED,
+            b"\x00asm\x0d\x00\x01\x00\x01\x49a name that is longer than a first growth, by far: aaaaaaaaaaaaaaaaaaaaaa\x06\x05\x01\x03\x02\x00\x01",
+        ),
+        REFUSED_BETWEEN,
+        (
+            LAST_REFUSED,
+            b"\x00asm\x0d\x00\x01\x00\x06\x06\x01\x01\x00\x00\x01f\x01\x49a name that is longer than a first growth, by far: aaaaaaaaaaaaaaaaaaaaaa",
+        ),
+    ],
     accepted: (
-        &[Ok(Some(0)), Ok(Some(0)), Ok(Some(0))],
+        ALL_FIRST,
         b"\x00asm\x0d\x00\x01\x00\x06\x06\x01\x01\x00\x00\x01f\x01\x49a name that is longer than a first growth, by far: aaaaaaaaaaaaaaaaaaaaaa\x06\x05\x01\x03\x02\x00\x01",
     ),
 };
 
+/// The import is of a function, as the first alias is.
 const IMPORT: &Case<'static> = &Case {
-    place: 1,
-    refused: REFUSED_BETWEEN,
+    refused: &[
+        (
+            FIRST_REFUSED,
+            b"\x00asm\x0d\x00\x01\x00\x0a\x4e\x01\x00\x49a name that is longer than a first growth, by far: aaaaaaaaaaaaaaaaaaaaaa\x01\x00\x06\x05\x01\x03\x02\x00\x01",
+        ),
+        REFUSED_BETWEEN,
+        (
+            &[Ok(Some(0)), Ok(Some(1)), Err(REFUSED)],
+            b"\x00asm\x0d\x00\x01\x00\x06\x06\x01\x01\x00\x00\x01f\x0a\x4e\x01\x00\x49a name that is longer than a first growth, by far: aaaaaaaaaaaaaaaaaaaaaa\x01\x00",
+        ),
+    ],
     accepted: (
         &[Ok(Some(0)), Ok(Some(1)), Ok(Some(0))],
         b"\x00asm\x0d\x00\x01\x00\x06\x06\x01\x01\x00\x00\x01f\x0a\x4e\x01\x00\x49a name that is longer than a first growth, by far: aaaaaaaaaaaaaaaaaaaaaa\x01\x00\x06\x05\x01\x03\x02\x00\x01",
@@ -75,8 +102,7 @@ const IMPORT: &Case<'static> = &Case {
 };
 
 const RECORD: &Case<'static> = &Case {
-    place: 0,
-    refused: (&[Err(REFUSED)], b"\x00asm\x0d\x00\x01\x00"),
+    refused: &[(&[Err(REFUSED)], b"\x00asm\x0d\x00\x01\x00")],
     accepted: (
         &[Ok(Some(0))],
         b"\x00asm\x0d\x00\x01\x00\x07\x09\x01\x72\x02\x01\x61\x7f\x01\x62\x7f",
@@ -99,10 +125,10 @@ const LONG_IMPORT: Tree<'static> = Tree::Import(
 
 const FIELDS: Tree<'static> = Tree::Type(b"\x72\x02\x01\x61\x7f\x01\x62\x7f");
 
-/// Commands, what they are to come to, and whether some growth is that of the one at the place.
-/// What is refused adds nothing, and those after it run all the same. The short module has room
-/// without a growth, and its name hasn't. Where the opening of a record is refused, so is the
-/// command; where the rest of the type is, so is the whole.
+/// Commands, what they come to, and whether some growth is that of the one in the middle. What is
+/// refused adds nothing, and those after it run all the same. The short module has room without a
+/// growth, and its name hasn't. Where the opening of a record is refused, so is the command; where
+/// the rest of the type is, so is the whole.
 const ROWS: &[(&[Tree<'static>], &Case<'static>, bool)] = &[
     (&[FUNCTION, SHORT, OUTER_TYPE], MODULE, false),
     (&[FUNCTION, NAMED, OUTER_TYPE], MODULE, true),
@@ -111,20 +137,29 @@ const ROWS: &[(&[Tree<'static>], &Case<'static>, bool)] = &[
     (&[FIELDS], RECORD, true),
 ];
 
+/// The places of the commands that are refused, growth by growth.
+fn places(heap: &Refusing, commands: &[Command], case: &Case<'_>) -> BTreeSet<usize> {
+    let mut places = BTreeSet::new();
+    let mut whole = 0;
+    for n in 1..60 {
+        match refuse(heap, commands, case, n) {
+            Refused::Command(place) => _ = places.insert(place),
+            Refused::Whole => whole += 1,
+            Refused::Nothing => {
+                assert!(whole > 0, "the answers take memory");
+                return places;
+            }
+        }
+    }
+    panic!("each of 59 growths was refused")
+}
+
 #[test]
 fn commands_are_swept() {
     let heap = Refusing::new();
-    for (trees, case, is_skipped) in ROWS {
-        let commands = commands(trees);
-        let mut skipped = false;
-        let mut last = refuse(&heap, commands.as_slice(), case, 1);
-        assert!(last.is_some());
-        for n in 2..60 {
-            if last.is_some() {
-                skipped |= last == Some(true);
-                last = refuse(&heap, commands.as_slice(), case, n);
-            }
-        }
-        assert!(last.is_none() && skipped == *is_skipped);
+    for (trees, case, is_refused) in ROWS {
+        let places = places(&heap, commands(trees).as_slice(), case);
+        assert!(places.contains(&0));
+        assert_eq!(places.contains(&(trees.len() / 2)), *is_refused);
     }
 }

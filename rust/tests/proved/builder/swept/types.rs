@@ -1,7 +1,7 @@
 //! Instances, functions with options, and types: what an iterator gives, what an encoder writes,
 //! and what is handed in.
 
-use super::between::{CORE_FUNC, FUNC, Swept};
+use super::between::{CORE_FUNC, CORE_INSTANCE, CORE_TYPE, FUNC, INSTANCE, Swept, TYPE};
 use crate::proved::tests::builder::calls::{Builder, FUNCTION, Item, Listed, NAME};
 use crate::proved::tests::builder::checks::{Answer, finishes, made};
 use crate::proved::tests::builder::written::{
@@ -12,14 +12,6 @@ use crate::proved::tests::sweeping::{LARGE, REFUSED};
 use crate::proved::wasm_encoder::{
     CanonicalOption, ComponentExportKind, ExportKind, Fault, FuncStage, ModuleArg,
 };
-
-const TYPE: &[u8] = &[0x03];
-
-const CORE_TYPE: &[u8] = &[0x00, 0x10];
-
-const INSTANCE: &[u8] = &[0x05];
-
-const CORE_INSTANCE: &[u8] = &[0x00, 0x12];
 
 const OPTIONS: &[CanonicalOption] = &[CanonicalOption::Memory(LARGE)];
 

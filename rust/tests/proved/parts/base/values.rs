@@ -6,7 +6,7 @@ use crate::proved::rt_std::string::String;
 use crate::proved::rt_std::vec::Vec;
 use crate::proved::tests::parts::checks::{check, check_all};
 use crate::proved::wenc_base::{
-    ByRef, Encode, ExportKind, Fault, Short, Tagged, Verbatim, WithSize, encode_list,
+    ByRef, Encode, ExportKind, Fault, Short, Tagged, Verbatim, WithSize, encode_byte, encode_list,
     encoding_size, extend_in_room, section_size,
 };
 use std::string::ToString;
@@ -139,8 +139,8 @@ fn lists_in_one_sink() {
 }
 
 // Behind 126 bytes and their number the size has one byte, and behind 127 it has two.
-const LONG_SIZES: &[(usize, usize, &[u8])] =
-    &[(126, 129, &[0x99, 0x7f, 0x7e, 0x00, 0x00]), (127, 131, &[0x99, 0x80, 0x01, 0x7f, 0x00])];
+const LONG_SIZES: &[(usize, &[u8])] =
+    &[(126, &[0x99, 0x7f, 0x7e]), (127, &[0x99, 0x80, 0x01, 0x7f])];
 
 const ZEROS: [u8; 127] = [0; 127];
 
@@ -181,11 +181,11 @@ fn sizes() {
     for (count, body, wanted) in SECTION_SIZES {
         assert_eq!(section_size(*count, *body), *wanted);
     }
-    for (count, len, start) in LONG_SIZES {
+    for (count, start) in LONG_SIZES {
         let content = &ZEROS[..*count];
         let mut sink = Vec::from(vec![0x99]);
         WithSize(&content).encode(&mut sink).unwrap();
-        assert!(sink.len() == *len && sink.starts_with(start));
+        assert_eq!(sink.strip_prefix(*start), Some(content));
     }
 }
 
@@ -223,4 +223,6 @@ fn without_memory() {
     let mut sink = Vec::with_capacity(Global, 8).unwrap();
     extend_in_room(&mut sink, &[0x2a, 0x80, 0x01, 0xbf, 0x7f]);
     assert_eq!(sink.as_slice(), THREE_VALUES);
+    encode_byte(0xff, &mut sink).unwrap();
+    assert_eq!(sink.as_slice(), [0x2a, 0x80, 0x01, 0xbf, 0x7f, 0xff]);
 }

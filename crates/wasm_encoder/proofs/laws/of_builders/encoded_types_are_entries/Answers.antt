@@ -1,6 +1,12 @@
-use Rattle.std.proofs.Common.{[]}
+use Rattle.std.proofs.Common.{ℕ, List, [], Ok, Option}
+use Rattle.wenc_base.specs.Lender.{Ends}
 use Rattle.wenc_builder.specs.Entry.{type_entry, core_type_entry}
-use Rattle.wenc_builder.specs.Builder.{draft_in}
+use Rattle.wenc_builder.specs.Builder.{State, item_appended, item_ended, draft_in}
+use Rattle.wenc_builder.specs.Enters.{BeginsItem}
+use Rattle.wenc_builder.specs.LenderState.{no_room_in_section}
+use Rattle.wenc_types.specs.ComponentTypes.{DefType, def_type}
+use Rattle.wenc_types.specs.CoreTypes.{CoreType, core_type}
+use Rattle.wasm_encoder.specs.WrittenTypes.{IsEntered}
 use Rattle.wenc_parts.specs.declared.component.ComponentSectionId.TheVariants as ids
 use Rattle.wenc_builder.specs.declared.builder.space.Space.TheVariants as spaces
 use Rattle.wenc_builder.specs.laws.LenderState.{begun_given_up, written_given_up}
@@ -8,13 +14,18 @@ use Rattle.wenc_builder.specs.laws.Typed.{type_is_written, core_type_is_written}
 use Rattle.wasm_encoder.proofs.Typed.{written_whole}
 use Rattle.wasm_encoder.proofs.laws.of_builders.encoded_types_are_entries.Goals as goal
 
-pub returns-clause-type_written : goal.returns-clause-type_written
-returns-clause-type_written c {old} {lent} {new} {index} {name} {t} begins ends es h =
+types_entered : {old lent new : State} {index : ℕ} {name : Option (List ℕ)} (t : DefType) → BeginsItem (λ i. i) (λ i. lent) old (Ok index) (draft_in ids.«Type» spaces.Types name [])
+    → Ends item_appended item_ended no_room_in_section lent new (Ok tt) (def_type t) → IsEntered old new (draft_in ids.«Type» spaces.Types name []) index (type_entry name t)
+types_entered {old} {lent} {new} {index} {name} t begins ends es h =
     (written_whole old lent new es (type_entry name t) (draft_in ids.«Type» spaces.Types name []) (type_is_written name t) begins.begun begins.free ends.ok ends.fits ends.free h, begins.indexed es h)
 
-pub returns-clause-core_type_written : goal.returns-clause-core_type_written
-returns-clause-core_type_written c {old} {lent} {new} {index} {name} {t} begins ends es h =
+core_types_entered : {old lent new : State} {index : ℕ} {name : Option (List ℕ)} (t : CoreType) → BeginsItem (λ i. i) (λ i. lent) old (Ok index) (draft_in ids.CoreType spaces.CoreTypes name [])
+    → Ends item_appended item_ended no_room_in_section lent new (Ok tt) (core_type t) → IsEntered old new (draft_in ids.CoreType spaces.CoreTypes name []) index (core_type_entry name t)
+core_types_entered {old} {lent} {new} {index} {name} t begins ends es h =
     (written_whole old lent new es (core_type_entry name t) (draft_in ids.CoreType spaces.CoreTypes name []) (core_type_is_written name t) begins.begun begins.free ends.ok ends.fits ends.free h, begins.indexed es h)
+
+pub returns-clause-written : goal.returns-clause-written
+returns-clause-written c = record { types = types_entered; core_types = core_types_entered }
 
 pub returns-clause-begun_given_up : goal.returns-clause-begun_given_up
 returns-clause-begun_given_up c = begun_given_up
