@@ -71,6 +71,8 @@ extern crate std;
 
 mod component;
 mod core;
+#[cfg(feature = "std")]
+mod dump;
 mod encode;
 mod error;
 mod list;

@@ -1,3 +1,4 @@
 pub mod Items
 pub mod Listing
+pub mod Names
 pub mod inside

@@ -6,6 +6,7 @@ mod changed;
 mod checks;
 mod depth;
 mod faults;
+mod names;
 mod reading;
 mod rows;
 mod unfilled;
