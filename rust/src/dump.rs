@@ -5,7 +5,7 @@ use crate::proved::wenc_list::{Names, behind_module_header, names_of, part_of};
 use crate::proved::wenc_sections::Sort;
 use crate::proved::wenc_sections::names::NAMES_LABEL;
 use crate::tree::{ItemTree, NameTree, Space};
-use crate::{ComponentSectionId, ListFault, ListedSection, Listing, list};
+use crate::{ComponentSectionId, ListFault, ListedSection, Listing, Unread, list};
 use std::borrow::ToOwned;
 use std::collections::BTreeMap;
 use std::format;
@@ -249,12 +249,23 @@ fn debug_names(listing: &Listing) -> DebugNames {
 
 /// The fault of a component that stands at this place.
 fn moved(fault: ListFault, by: usize) -> ListFault {
+    let on = |unread: Option<Unread>| {
+        unread.map(|unread| match unread {
+            Unread::Count { place } => Unread::Count { place: place + by },
+            Unread::Item { number, place } => Unread::Item { number, place: place + by },
+            Unread::Behind { place } => Unread::Behind { place: place + by },
+        })
+    };
     match fault {
         ListFault::Memory => ListFault::Memory,
         ListFault::NotAComponent { place } => ListFault::NotAComponent { place: place + by },
         ListFault::BadSection { place } => ListFault::BadSection { place: place + by },
-        ListFault::BadItem { place } => ListFault::BadItem { place: place + by },
-        ListFault::TooDeep { place } => ListFault::TooDeep { place: place + by },
+        ListFault::BadItem { place, unread } => {
+            ListFault::BadItem { place: place + by, unread: on(unread) }
+        }
+        ListFault::TooDeep { place, unread } => {
+            ListFault::TooDeep { place: place + by, unread: on(unread) }
+        }
     }
 }
 

@@ -89,5 +89,5 @@ pub use component::*;
 pub use self::core::*;
 pub use encode::{Encode, encoding_size};
 pub use error::Error;
-pub use list::{ListFault, ListedSection, Listing, list};
+pub use list::{ListFault, ListedSection, Listing, Unread, list};
 pub use raw::RawSection;

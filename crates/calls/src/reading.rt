@@ -4,7 +4,7 @@ use crate::checks::{again, made, ok, yes};
 use std::alloc::AllocError;
 use std::process::Abort;
 use wenc_decode::{Decode, room_for, type_of};
-use wenc_list::{Names, behind_module_header, names_of, part_of};
+use wenc_list::{Names, Unread, behind_module_header, first_unread, names_of, part_of};
 use wenc_parts::{AliasTree, NameTree};
 use wenc_read::{
     NestedRefusal, Refusal, byte, extern_name_of, flag_of, index_of, name_of, u32_of, u64_of,
@@ -69,6 +69,18 @@ fn types_and_lists(rt: HostRuntime) {
     yes(&rt, rest == b"\x2a".as_slice());
     let (name, _) = ok(&rt, NameTree::decode(alloc, b"\x01\x01f"));
     made(&rt, alloc, name.as_name(), "000166");
+}
+
+#[test]
+fn what_is_not_read(rt: HostRuntime) {
+    let alloc = rt.alloc();
+    let bytes = b"\x00asm\x0d\x00\x01\x00\x0a\x06\x02\x00\x01f\x01\x00";
+    let told = ok(&rt, first_unread(alloc, bytes, 8));
+    let item = Unread::Item {
+        number: 1,
+        place: 16,
+    };
+    yes(&rt, told == Some(item));
 }
 
 #[test]

@@ -10,4 +10,5 @@ mod names;
 mod reading;
 mod rows;
 mod unfilled;
+mod unread;
 mod widened;
