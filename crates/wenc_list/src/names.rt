@@ -161,10 +161,7 @@ fn names_in<A: Allocator + Copy>(alloc: A, id: u8, content: &[u8]) -> Result<Nam
 /// ```
 /// let (names, rest) = names_of(alloc, data)?;
 /// ```
-pub fn names_of<A: Allocator + Copy>(
-    alloc: A,
-    bytes: &[u8],
-) -> Result<(Names<A>, &[u8]), Refusal>
+pub fn names_of<A: Allocator + Copy>(alloc: A, bytes: &[u8]) -> Result<(Names<A>, &[u8]), Refusal>
     ensures { Gives (λ x. (names_view x.0, x.1.now)) result (read_names bytes.now) }
 {
     let ((id, content), rest) = part_of(bytes)?;
