@@ -98,6 +98,6 @@ mod tests {
         assert_eq!(compose(CONSUMER, PROVIDER), Err("the provider imports i".into()));
         let empty = b"\0asm\x0d\0\x01\0";
         assert_eq!(compose(empty, CONSUMER), Err("nothing provides i".into()));
-        assert_eq!(compose(b"", CONSUMER), Err("NotAComponent at 0".into()));
+        assert_eq!(compose(b"", CONSUMER), Err("no component's header at 0x0".into()));
     }
 }

@@ -71,6 +71,8 @@ extern crate std;
 
 mod component;
 mod core;
+#[cfg(feature = "std")]
+mod dump;
 mod encode;
 mod error;
 mod list;
@@ -87,7 +89,7 @@ pub use self::core::*;
 pub use component::*;
 pub use encode::{Encode, encoding_size};
 pub use error::Error;
-pub use list::{ListFault, ListedSection, Listing, list};
+pub use list::{ListFault, ListedSection, Listing, Unread, list};
 pub use raw::RawSection;
 
 /// What was proved of the sources in `crates/`: the kit that proved it, how many functions have a proof (those that a `derive`

@@ -334,8 +334,9 @@ fn nested(count: usize) -> Vec<u8> {
 fn the_first_section_that_is_not_read_is_told() {
     let not_a_component = ListFault::NotAComponent { place: 0 };
     let bad_section = |place| ListFault::BadSection { place };
-    let bad_item = |place| ListFault::BadItem { place };
-    let faults: [(&[u8], ListFault); 13] = [
+    let bad_item = |place, unread| ListFault::BadItem { place, unread: Some(unread) };
+    let item = |number, place| Unread::Item { number, place };
+    let faults: [(&[u8], ListFault); 15] = [
         (b"", not_a_component),
         (b"\0asm\x01\0\0\0", not_a_component),
         (&component(b"\x06"), bad_section(8)),
@@ -344,11 +345,13 @@ fn the_first_section_that_is_not_read_is_told() {
         (&component(b"\x00\x00"), bad_section(8)),
         (&component(b"\x06\x81\x80\x80\x80\x80\x00"), bad_section(8)),
         (&component(b"\x06\x01\x00\x0c\x00"), bad_section(11)),
-        (&component(b"\x06\x02\x01\x09"), bad_item(8)),
-        (&component(b"\x06\x02\x00\x09"), bad_item(8)),
-        (&component(b"\x06\x05\xff\xff\xff\xff\x0f"), bad_item(8)),
-        (&component(b"\x06\x01\x00\x09\x03\x00\x00\x80"), bad_item(11)),
-        (&nested(101), ListFault::TooDeep { place: 8 }),
+        (&component(b"\x06\x00"), bad_item(8, Unread::Count { place: 10 })),
+        (&component(b"\x06\x02\x01\x09"), bad_item(8, item(0, 11))),
+        (&component(b"\x06\x02\x00\x09"), bad_item(8, Unread::Behind { place: 11 })),
+        (&component(b"\x06\x05\xff\xff\xff\xff\x0f"), bad_item(8, item(0, 15))),
+        (&component(b"\x06\x01\x00\x09\x03\x00\x00\x80"), bad_item(11, item(0, 13))),
+        (&component(b"\x0a\x06\x02\x00\x01f\x01\x00"), bad_item(8, item(1, 16))),
+        (&nested(101), ListFault::TooDeep { place: 8, unread: Some(item(0, 12)) }),
     ];
     for (bytes, fault) in faults {
         assert_eq!(list(bytes), Err(fault), "{bytes:x?}");
@@ -361,12 +364,22 @@ fn the_first_section_that_is_not_read_is_told() {
 #[test]
 fn faults_say_what_they_are() {
     let place = 8;
+    let unread = Some(Unread::Item { number: 3, place: 31 });
+    let count = Some(Unread::Count { place: 10 });
+    let behind = Some(Unread::Behind { place: 31 });
     let faults = [
-        (ListFault::Memory, "Memory"),
-        (ListFault::NotAComponent { place: 0 }, "NotAComponent at 0"),
-        (ListFault::BadSection { place }, "BadSection at 8"),
-        (ListFault::BadItem { place }, "BadItem at 8"),
-        (ListFault::TooDeep { place }, "TooDeep at 8"),
+        (ListFault::Memory, "no memory"),
+        (ListFault::NotAComponent { place: 0 }, "no component's header at 0x0"),
+        (ListFault::BadSection { place }, "bad section at 0x8"),
+        (ListFault::BadItem { place, unread }, "bad item 3 at 0x1f in the section at 0x8"),
+        (ListFault::BadItem { place, unread: count }, "bad count at 0xa in the section at 0x8"),
+        (
+            ListFault::BadItem { place, unread: behind },
+            "bytes behind the last item at 0x1f in the section at 0x8",
+        ),
+        (ListFault::BadItem { place, unread: None }, "bad item in the section at 0x8"),
+        (ListFault::TooDeep { place, unread }, "too deep item 3 at 0x1f in the section at 0x8"),
+        (ListFault::TooDeep { place, unread: None }, "too deep item in the section at 0x8"),
     ];
     for (fault, text) in faults {
         let fault: Box<dyn std::error::Error> = fault.into();

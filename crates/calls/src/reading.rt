@@ -4,10 +4,12 @@ use crate::checks::{again, made, ok, yes};
 use std::alloc::AllocError;
 use std::process::Abort;
 use wenc_decode::{Decode, room_for, type_of};
+use wenc_list::{Names, Unread, behind_module_header, first_unread, names_of, part_of};
 use wenc_parts::{AliasTree, NameTree};
 use wenc_read::{
     NestedRefusal, Refusal, byte, extern_name_of, flag_of, index_of, name_of, u32_of, u64_of,
 };
+use wenc_sections::Sort;
 
 /// What is read is this, and this is behind it.
 fn is_read<T: PartialEq + Drop>(
@@ -67,4 +69,40 @@ fn types_and_lists(rt: HostRuntime) {
     yes(&rt, rest == b"\x2a".as_slice());
     let (name, _) = ok(&rt, NameTree::decode(alloc, b"\x01\x01f"));
     made(&rt, alloc, name.as_name(), "000166");
+}
+
+#[test]
+fn what_is_not_read(rt: HostRuntime) {
+    let alloc = rt.alloc();
+    let bytes = b"\x00asm\x0d\x00\x01\x00\x0a\x06\x02\x00\x01f\x01\x00";
+    let told = ok(&rt, first_unread(alloc, bytes, 8));
+    let item = Unread::Item {
+        number: 1,
+        place: 16,
+    };
+    yes(&rt, told == Some(item));
+}
+
+#[test]
+fn modules_and_names(rt: HostRuntime) {
+    let alloc = rt.alloc();
+    let module = b"\x00asm\x01\x00\x00\x00\x01\x01\x00\x0c";
+    let sections = match behind_module_header(module) {
+        Some(sections) => sections,
+        None => b"",
+    };
+    let ((id, content), rest) = ok(&rt, part_of(sections));
+    yes(&rt, id == 1);
+    yes(&rt, content == b"\x00".as_slice());
+    yes(&rt, rest == b"\x0c".as_slice());
+    let (names, rest) = ok(&rt, names_of(alloc, b"\x01\x05\x01\x01\x02\x01g\x00"));
+    yes(&rt, rest == b"\x00".as_slice());
+    let named = match &names {
+        Names::Items(Sort::Func, names) => match names.first() {
+            Some(item) => item.index == 2 && item.name.as_str() == "g",
+            None => false,
+        },
+        _ => false,
+    };
+    yes(&rt, named);
 }

@@ -22,7 +22,7 @@ pub use wenc_base::{
 };
 pub use wenc_builder::{ComponentBuilder, Space};
 pub use wenc_canon::{CanonTree, CanonicalFunctionSection, CanonicalOption};
-pub use wenc_list::{ItemTree, ListFault, ListedSection, Listing, list};
+pub use wenc_list::{ItemTree, ListFault, ListedSection, Listing, Unread, first_unread, list};
 pub use wenc_parts::{
     Alias, AliasTree, ComponentExportKind, ComponentExternName, ComponentOuterAliasKind,
     ComponentSection, ComponentSectionId, ComponentTypeRef, ComponentValType, ModuleArg,

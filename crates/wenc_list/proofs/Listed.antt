@@ -30,13 +30,13 @@ use Rattle.wenc_list.proofs.SectionLaws.{ArePast, FillsWithin, Fills, content_to
 -- ---- frames
 
 -- what was found, and what wasn't
-told_ok : {A : Type 0} (P : A → Type 0) (D : Type 0) (some : Result A Flaw) (v : A) → Told P D some → some ≡ Ok v → P v
+pub told_ok : {A : Type 0} (P : A → Type 0) (D : Type 0) (some : Result A Flaw) (v : A) → Told P D some → some ≡ Ok v → P v
 told_ok P D some v h e = rw e at h
 
 told_deep : {A : Type 0} (P : A → Type 0) (D : Type 0) (some : Result A Flaw) → Told P D some → some ≡ Err Deep → D
 told_deep P D some h e = rw e at h
 
-not_both : {A : Type 0} (some : Result A Flaw) (v : A) → some ≡ Ok v → some ≡ Err Bad → ⊥
+pub not_both : {A : Type 0} (some : Result A Flaw) (v : A) → some ≡ Ok v → some ≡ Err Bad → ⊥
 not_both some v a b = absurd cc
 
 pub is_framed : (bytes : List ℕ) (id : ℕ) (content rest : List ℕ) → read_frame bytes ≡ Ok ((id, content), rest) → IsFramed bytes id content rest
@@ -59,7 +59,7 @@ same_frame bytes id other content inside rest after e f =
 
 -- ---- what stands against a section
 
-never_framed : (bytes : List ℕ) (id : ℕ) (content rest : List ℕ) → read_frame bytes ≡ Err Bad → IsFramed bytes id content rest → ⊥
+pub never_framed : (bytes : List ℕ) (id : ℕ) (content rest : List ℕ) → read_frame bytes ≡ Err Bad → IsFramed bytes id content rest → ⊥
 never_framed bytes id content rest e f = not_both (read_frame bytes) ((id, content), rest) (frame_finds bytes id content rest f) e
 
 pub no_frame : (place : ℕ) (bytes : List ℕ) → read_frame bytes ≡ Err Bad → IsFaultHere place bytes (faults.BadSection place)
@@ -70,7 +70,7 @@ no_frame place bytes e = (
 )
 
 -- where a flaw is found in a section's content, the section isn't read, or it is too deep
-against : (d id : ℕ) (xs : List Item) (content : List ℕ) (flaw : Flaw) → Fills id xs content → read_content d id content ≡ Err flaw → ArePast d xs
+pub against : (d id : ℕ) (xs : List Item) (content : List ℕ) (flaw : Flaw) → Fills id xs content → read_content d id content ≡ Err flaw → ArePast d xs
 against d id xs content Bad fills e = absurd (rw e at (content_agrees d id xs content fills))
 against d id xs content Deep fills e = rw e at (content_agrees d id xs content fills)
 
@@ -100,11 +100,11 @@ name_leaves : (label content bytes : List ℕ) → (name label).Reads Wide conte
 name_leaves label content bytes r h = behind_bytes label bytes (rw r.2.1 at (groups_leave 4 (length label) content r.0 r.1.1 h))
 
 -- so a custom section with a name is read
+pub labelled_found : (label content bytes : List ℕ) → (name label).Reads Wide content bytes → AreBytes content → read_content 100 0 content ≡ Ok (CustomItem (labelled_section label bytes) ∷ [])
+labelled_found label content bytes r h = rw ((name_lawful label).finds (name_lawful label).depth (omega arith) Wide content bytes r, bytes_pass bytes (name_leaves label content bytes r h)) refl
+
 labelled_read : (label content bytes : List ℕ) → (name label).Reads Wide content bytes → AreBytes content → read_content 100 0 content ≡ Err Bad → ⊥
-labelled_read label content bytes r h e = not_both (read_content 100 0 content) (CustomItem (labelled_section label bytes) ∷ []) found e
-  where
-    found : read_content 100 0 content ≡ Ok (CustomItem (labelled_section label bytes) ∷ [])
-    found = rw ((name_lawful label).finds (name_lawful label).depth (omega arith) Wide content bytes r, bytes_pass bytes (name_leaves label content bytes r h)) refl
+labelled_read label content bytes r h e = not_both (read_content 100 0 content) (CustomItem (labelled_section label bytes) ∷ []) (labelled_found label content bytes r h) e
 
 pub no_label : (place : ℕ) (bytes : List ℕ) (id : ℕ) (content rest : List ℕ) → id ≡ 0 → AreBytes content → read_frame bytes ≡ Ok ((id, content), rest) → read_content 100 id content ≡ Err Bad → IsFaultHere place bytes (faults.BadSection place)
 no_label place bytes id content rest zero_id are e bad = (
@@ -232,7 +232,7 @@ only_memory all bytes (faults.BadItem place) f ss r w = absurd (stopped all byte
 only_memory all bytes (faults.TooDeep place) f ss r w = absurd (stopped all bytes place _ f ss r w)
 
 -- the items that fill a frame within the depth are what is read there
-filled_by : (id : ℕ) (xs : List Item) (content : List ℕ) → Fills id xs content → AllByRecursion (HasDepth 100) xs → read_content 100 id content ≡ Ok xs
+pub filled_by : (id : ℕ) (xs : List Item) (content : List ℕ) → Fills id xs content → AllByRecursion (HasDepth 100) xs → read_content 100 id content ≡ Ok xs
 filled_by id xs content fills w = found (read_content 100 id content) refl (content_agrees 100 id xs content fills)
   where
     found : (some : Result (List Item) Flaw) → read_content 100 id content ≡ some → Agrees (ArePast 100 xs) xs some → read_content 100 id content ≡ Ok xs

@@ -53,7 +53,7 @@ row_tells d (row ∷ table) h id =
       | inr e ↦ rw (e, content_row_of) (row_tells d table h.1 id)
     ]
 
-item_tells : (d id : ℕ) → Tells (ItemWithin d id) (GoesIn d id) (read_content_item d id)
+pub item_tells : (d id : ℕ) → Tells (ItemWithin d id) (GoesIn d id) (read_content_item d id)
 item_tells d id = row_tells d (content_rows d) (
   sound_tells _ (last_tells CoreInstanceItem core_instance_sound (λ i bytes rest r. (tt, (refl, r)))),
   (
@@ -89,7 +89,7 @@ collected_finds d (ImportItem i) id e = rw (← same_Some 10 id e) (lawful_finds
 collected_finds d (ExportItem x) id e = rw (← same_Some 11 id e) (lawful_finds _ (last ExportItem (inline_export_lawful x)))
 collected_finds d other id e = absurd cc
 
-item_finds : (d id : ℕ) (x : Item) → Finds (item_of id x) (read_content_item d id) x (IsPast d x)
+pub item_finds : (d id : ℕ) (x : Item) → Finds (item_of id x) (read_content_item d id) x (IsPast d x)
 item_finds d id x = record { finds = λ bytes rest r. (collected_finds d x id r.0).finds bytes rest r.1 }
 
 -- one of the items is too deep
@@ -160,7 +160,7 @@ other_than b c h = elim (eqb_tells b c) [ inl t ↦ absurd (h t.1) | inr t ↦ t
 apart : (id k : ℕ) → collects id ≡ true → collects k ≡ false → id ≢ k
 apart id k h f e = true≢false (sym h ∙ ap collects e ∙ f)
 
-collecting : (id : ℕ) → id ≤ 11 → id ≢ 0 → id ≢ 1 → id ≢ 4 → id ≢ 9 → collects id ≡ true
+pub collecting : (id : ℕ) → id ≤ 11 → id ≢ 0 → id ≢ 1 → id ≢ 4 → id ≢ 9 → collects id ≡ true
 collecting zero le a b c d = absurd (a refl)
 collecting (suc zero) le a b c d = absurd (b refl)
 collecting (suc (suc zero)) le a b c d = refl

@@ -1,3 +1,5 @@
 pub mod Items
 pub mod Listing
+pub mod Names
+pub mod Unread
 pub mod inside

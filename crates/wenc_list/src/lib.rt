@@ -10,8 +10,12 @@ mod item;
 pub mod laws;
 mod listing;
 mod members;
+mod names;
 mod sections;
+mod unread;
 
 pub use fault::ListFault;
 pub use item::ItemTree;
 pub use listing::{ListedSection, Listing, list};
+pub use names::{ItemName, Names, behind_module_header, names_of, part_of};
+pub use unread::{Unread, first_unread};

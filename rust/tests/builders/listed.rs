@@ -132,7 +132,8 @@ fn types_are_listed_a_hundred_deep() {
     let front = b"\0asm\x0d\0\x01\0\x07\xac\x02\x01";
     assert_eq!(deep, [&front[..], &b"\x41\x01\x01".repeat(99), b"\x41\x00"].concat());
     assert_eq!(sections(&list(&deep).unwrap()), [(7, 8, 1)]);
-    assert_eq!(list(&built(101)), Err(ListFault::TooDeep { place: 8 }));
+    let unread = Some(Unread::Item { number: 0, place: 12 });
+    assert_eq!(list(&built(101)), Err(ListFault::TooDeep { place: 8, unread }));
 }
 
 #[test]
@@ -140,19 +141,21 @@ fn the_first_section_that_is_not_read_is_told() {
     assert_eq!(list(b"\0asm\x01\0\0\0"), Err(ListFault::NotAComponent { place: 0 }));
     assert_eq!(list(b""), Err(ListFault::NotAComponent { place: 0 }));
     assert_eq!(fault(b"\x06\x05\x01"), ListFault::BadSection { place: 8 });
-    assert_eq!(fault(b"\x06\x02\x01\x09"), ListFault::BadItem { place: 8 });
+    let unread = Some(Unread::Item { number: 0, place: 11 });
+    assert_eq!(fault(b"\x06\x02\x01\x09"), ListFault::BadItem { place: 8, unread });
     assert_eq!(fault(b"\x08\x02\x01\x05\x0c\0"), ListFault::BadSection { place: 12 });
 }
 
 #[test]
 fn faults_tell_what_they_are() {
     let place = 8;
+    let unread = Some(Unread::Item { number: 0, place: 11 });
     let faults = [
-        (ListFault::Memory, "Memory"),
-        (ListFault::NotAComponent { place: 0 }, "NotAComponent at 0"),
-        (ListFault::BadSection { place }, "BadSection at 8"),
-        (ListFault::BadItem { place }, "BadItem at 8"),
-        (ListFault::TooDeep { place }, "TooDeep at 8"),
+        (ListFault::Memory, "no memory"),
+        (ListFault::NotAComponent { place: 0 }, "no component's header at 0x0"),
+        (ListFault::BadSection { place }, "bad section at 0x8"),
+        (ListFault::BadItem { place, unread }, "bad item 0 at 0xb in the section at 0x8"),
+        (ListFault::TooDeep { place, unread }, "too deep item 0 at 0xb in the section at 0x8"),
     ];
     for (fault, text) in faults {
         let fault: Box<dyn std::error::Error> = fault.into();

@@ -13,8 +13,9 @@ use crate::proved::rt_std::alloc::Global;
 use crate::proved::rt_std::vec::Vec;
 use crate::proved::wasm_encoder::{
     Component, ComponentImportSection, ComponentTypeRef, ComponentTypeSection, ComponentValType,
-    Encode, Fault, PrimitiveValType,
+    Encode, Fault, PrimitiveValType, Unread,
 };
+use crate::proved::wenc_list::Names;
 
 /// These bytes were written.
 fn writes(written: Result<Vec<u8>, Fault>, bytes: &[u8]) {
@@ -238,6 +239,13 @@ fn runs() {
     let (bytes, refused) = builder::run(Global).unwrap();
     assert!(!refused && bytes.as_slice() == RUN);
     assert!(list::imports(Global, RUN).unwrap());
+    let unread = list::unread(Global, b"\0asm\x0d\0\x01\0\x06\x02\x01\x09");
+    assert_eq!(unread, Ok(Some(Unread::Item { number: 0, place: 11 })));
+    assert_eq!(list::unread(Global, RUN), Ok(None));
+    let part = list::first_section(b"\0asm\x01\0\0\0\x01\x01\0\x0c");
+    assert_eq!(part, Ok(((1, &b"\0"[..]), &b"\x0c"[..])));
+    let (names, rest) = list::first_names(Global, b"\0\x02\x01c\x09").unwrap();
+    assert!(matches!(names, Names::Component(name) if name.as_str() == "c") && rest == b"\x09");
     let (tree, rest) = list::decoded(Global, b"\x03\x02\x01\x02\x2a").unwrap();
     makes(Ok(tree.as_alias()), ALIAS);
     assert_eq!(rest, b"\x2a".as_slice());

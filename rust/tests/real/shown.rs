@@ -108,16 +108,16 @@ fn components_of_proved_examples_are_valid() {
     }
 }
 
-/// The lines that have anything, without what is around them.
-fn lines(code: &str) -> String {
-    let lines = code.lines().map(str::trim).filter(|line| !line.is_empty());
-    lines.map(|line| format!("{line}\n")).collect()
+/// Code without its layout.
+fn bare(code: &str) -> String {
+    let code: String = code.chars().filter(|letter| !letter.is_whitespace()).collect();
+    code.replace(",)", ")")
 }
 
 #[test]
 fn doc_comments_show_the_proved_examples() {
     let proved = files(&path("crates/facts/src/examples"), "rt");
-    let proved: String = proved.iter().map(|file| lines(&read(file))).collect();
+    let proved: String = proved.iter().map(|file| bare(&read(file))).collect();
     let crates = std::fs::read_dir(path("crates")).expect("the crates are there");
     let sources = crates.map(|folder| folder.expect("it is told").path().join("src"));
     let sources = sources.filter(|sources| sources.exists());
@@ -125,7 +125,7 @@ fn doc_comments_show_the_proved_examples() {
     let shown: Vec<_> = shown.flat_map(|file| examples(&file)).collect();
     assert!(shown.len() >= 45, "{} examples are found", shown.len());
     for example in shown {
-        let code = lines(&example.code);
+        let code = bare(&example.code);
         assert!(!code.is_empty() && proved.contains(&code), "{}", example.place);
     }
 }

@@ -1,8 +1,9 @@
 //! Of `wenc_list` and `wenc_decode`.
 
-use std::alloc::Allocator;
-use wasm_encoder::{AliasTree, ListFault, list};
+use std::alloc::{AllocError, Allocator};
+use wasm_encoder::{AliasTree, ListFault, Unread, first_unread, list};
 use wenc_decode::Decode;
+use wenc_list::{Names, behind_module_header, names_of, part_of};
 use wenc_read::Refusal;
 
 /// `list`: whether a component has imports.
@@ -13,6 +14,34 @@ pub fn imports<A: Allocator + Copy>(alloc: A, component: &[u8]) -> Result<bool, 
         imports = imports || section.id == 10;
     }
     Ok(imports)
+}
+
+/// `first_unread`: which item of a component isn't read.
+pub fn unread<A: Allocator + Copy>(
+    alloc: A,
+    component: &[u8],
+) -> Result<Option<Unread>, AllocError> {
+    match list(alloc, component) {
+        Err(ListFault::BadItem { place }) => first_unread(alloc, component, place),
+        _ => Ok(None),
+    }
+}
+
+/// `behind_module_header` and `part_of`: the first section of a core module.
+pub fn first_section(module: &[u8]) -> Result<((u8, &[u8]), &[u8]), Refusal> {
+    match behind_module_header(module) {
+        Some(sections) => part_of(sections),
+        None => Err(Refusal::Malformed),
+    }
+}
+
+/// `names_of`.
+pub fn first_names<A: Allocator + Copy>(
+    alloc: A,
+    data: &[u8],
+) -> Result<(Names<A>, &[u8]), Refusal> {
+    let (names, rest) = names_of(alloc, data)?;
+    Ok((names, rest))
 }
 
 /// `Decode`.

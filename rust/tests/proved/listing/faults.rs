@@ -5,7 +5,7 @@ use crate::proved::wenc_list::ListFault;
 use std::string::ToString;
 
 /// Sections whose content is not what their id and size say.
-const BAD_ITEMS: &[&str] = &[
+pub const BAD_ITEMS: &[&str] = &[
     // Numbers of six bytes, and with bits set that they have no room for.
     "0606808080808000",
     "08080102828080808000",

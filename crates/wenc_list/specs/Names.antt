@@ -1,0 +1,66 @@
+-- What stands behind an id and a size, in a section of names and in a core module (component model,
+-- binary format, "Name Section"; WebAssembly 3.0, binary format, "Sections").
+use Rattle.std.specs.Prelude.{ℕ, List, [], ◌∷◌, map, length, take, drop, Result, Ok, Err, nat_eq}
+use Rattle.std.specs.Prelude.{nat_lt, if◌then◌else◌}
+use Rattle.std.specs.String.{string_bytes}
+use Rattle.wenc_base.specs.Names.{NameAssociation}
+use Rattle.wenc_base.specs.Readers.{Flaw, Bad, Reader, go_on, ◌>>=◌, give, nowhere, choose, done}
+use Rattle.wenc_base.specs.Readers.{made}
+use Rattle.wenc_base.specs.reading.Forms.{read_name, read_list}
+use Rattle.wenc_base.specs.reading.Numbers.{read_u32}
+use Rattle.wenc_sections.specs.Names.{Subsection, ComponentName, ItemNames, RawNames}
+use Rattle.wenc_sections.specs.declared.names.Sort.{Sort}
+use Rattle.wenc_sections.specs.declared.names.Sort.TheVariants.{CoreFunc, CoreTable, CoreMemory}
+use Rattle.wenc_sections.specs.declared.names.Sort.TheVariants.{CoreGlobal, CoreTag, CoreType}
+use Rattle.wenc_sections.specs.declared.names.Sort.TheVariants.{CoreModule, CoreInstance, Func}
+use Rattle.wenc_sections.specs.declared.names.Sort.TheVariants.{Value, «Type» as TypeSort}
+use Rattle.wenc_sections.specs.declared.names.Sort.TheVariants.{Component, Instance}
+use Rattle.wenc_list.specs.declared.names.ItemName.{ItemName}
+use Rattle.wenc_list.specs.declared.names.Names.{Names}
+use Rattle.wenc_list.specs.declared.names.Names.TheVariants as names
+
+-- ---- what is behind an id and a size
+
+-- any id, and so many bytes as the size says
+abbrev pub read_part : Reader (ℕ × List ℕ)
+read_part [] = Err Bad
+read_part (id ∷ bytes) = go_on (read_u32 bytes)
+    (λ size rest. if nat_lt (length rest) size then Err Bad
+    else Ok ((id, take size rest), drop size rest))
+
+-- ---- names
+
+abbrev pub item_name_view : {A : Type 0} → ItemName A → NameAssociation
+item_name_view n = record { index = n.index; name = string_bytes n.name }
+
+abbrev pub names_view : {A : Type 0} → Names A → Subsection
+names_view (names.Component name) = ComponentName (string_bytes name)
+names_view (names.Items sort names) = ItemNames sort (map item_name_view names.items)
+names_view (names.Raw id bytes) = RawNames id bytes.items
+
+abbrev pub read_item_name : Reader NameAssociation
+read_item_name = read_u32 >>= λ index. read_name >>= λ text.
+    give (record { index = index; name = text })
+
+abbrev pub read_core_sort : Reader Sort
+read_core_sort = choose ((0x00, give CoreFunc) ∷ (0x01, give CoreTable) ∷ (0x02, give CoreMemory) ∷
+    (0x03, give CoreGlobal) ∷ (0x04, give CoreTag) ∷ (0x10, give CoreType) ∷
+    (0x11, give CoreModule) ∷ (0x12, give CoreInstance) ∷ []) nowhere
+
+abbrev pub read_sort : Reader Sort
+read_sort = choose ((0x00, read_core_sort) ∷ (0x01, give Func) ∷ (0x02, give Value) ∷
+    (0x03, give TypeSort) ∷ (0x04, give Component) ∷ (0x05, give Instance) ∷ []) nowhere
+
+abbrev pub read_item_names : Reader Subsection
+read_item_names = read_sort >>= λ sort. read_list read_item_name >>= λ ns. give (ItemNames sort ns)
+
+-- the names that fill a subsection with this id, or its bytes
+abbrev pub read_names_in : ℕ → List ℕ → Result Subsection Flaw
+read_names_in id content =
+    if nat_eq id 0 then made ComponentName (done read_name content)
+    else if nat_eq id 1 then done read_item_names content
+    else Ok (RawNames id content)
+
+abbrev pub read_names : Reader Subsection
+read_names bytes = go_on (read_part bytes)
+    (λ part rest. made (λ s. (s, rest)) (read_names_in part.0 part.1))

@@ -1,0 +1,170 @@
+//! What a section of names has, and where sections of a core module stand.
+ghost use Rattle.std.specs.Prelude.{ℕ, List, MatchOption};
+ghost use Rattle.std.specs.String.{string_bytes};
+ghost use Rattle.wenc_base.specs.Modules.{module_preamble};
+ghost use Rattle.wenc_base.specs.Piece.{Wide};
+ghost use Rattle.wenc_base.specs.Readers.{done};
+ghost use Rattle.wenc_base.specs.reading.Forms.{read_name};
+ghost use Rattle.wenc_list.specs.Names.{names_view, read_part, read_core_sort, read_sort, read_item_names, read_names_in, read_names};
+ghost use Rattle.wenc_read.specs.Gives.{Gives};
+
+use std::alloc::{Allocator, Global};
+use wenc_decode::Decode;
+use wenc_read::{Refusal, byte, name_of, u32_of};
+use wenc_sections::Sort;
+
+/// The name of an item.
+#[derive(Drop)]
+pub struct ItemName<A: Allocator = Global> {
+    /// The index of the item in its space.
+    pub index: u32,
+    /// Its name.
+    pub name: String<A>,
+}
+
+impl<A: Allocator + Copy> Decode<A> for ItemName<A> {
+    ghost use Rattle.wenc_base.specs.Names.{NameAssociation};
+    ghost use Rattle.wenc_list.specs.Names.{item_name_view, read_item_name};
+
+    ghost Value = { NameAssociation };
+
+    ghost view = { item_name_view };
+
+    ghost read = { read_item_name };
+
+    fn decode<'a>(alloc: A, bytes: &'a [u8]) -> Result<(ItemName<A>, &'a [u8]), Refusal> {
+        let (index, rest) = u32_of(bytes)?;
+        let (name, rest) = name_of(alloc, rest)?;
+        Ok((ItemName { index, name }, rest))
+    }
+}
+
+/// What a subsection of names has (component model, binary format, "Name Section").
+#[derive(Drop)]
+pub enum Names<A: Allocator = Global> {
+    /// The component's own name.
+    Component(String<A>),
+    /// Names of items of one sort.
+    Items(Sort, Vec<ItemName<A>, A>),
+    /// What stands under another id, by its bytes, which are not read.
+    Raw(u8, Vec<u8, A>),
+}
+
+/// The bytes behind the header of a core module, where its sections begin (WebAssembly 3.0, binary format, "Modules"); `None`
+/// where there is no such header.
+///
+/// ```
+/// match behind_module_header(module) {
+///     Some(sections) => part_of(sections),
+///     None => Err(Refusal::Malformed),
+/// }
+/// ```
+pub fn behind_module_header(bytes: &[u8]) -> Option<&[u8]>
+    ensures { MatchOption result ((rest : List ℕ) → module_preamble.Reads Wide bytes.now rest → ⊥)
+        (λ rest. module_preamble.Reads Wide bytes.now rest.now) }
+{
+    match bytes {
+        [0x00, 0x61, 0x73, 0x6d, 0x01, 0x00, 0x00, 0x00, rest @ ..] => Some(rest),
+        _ => None,
+    }
+}
+
+/// The id and the content of a section of a core module, or of a subsection of names, that begins the bytes, and what is
+/// behind it (WebAssembly 3.0, binary format, "Sections"). It is refused where there is no size, or one past the end.
+pub fn part_of(bytes: &[u8]) -> Result<((u8, &[u8]), &[u8]), Refusal>
+    ensures { Gives (λ x. ((x.0.0, x.0.1.now), x.1.now)) result (read_part bytes.now) }
+{
+    let (id, rest) = byte(bytes)?;
+    let (size, rest) = u32_of(rest)?;
+    let size = size as usize;
+    if rest.len() < size {
+        return Err(Refusal::Malformed);
+    }
+    let (content, rest) = rest.split_at(size);
+    Ok(((id, content), rest))
+}
+
+/// A sort of items of core modules.
+#[tactic(auto, unfolding(wenc_base::specs::Readers::choose))]
+fn core_sort_of(bytes: &[u8]) -> Result<(Sort, &[u8]), Refusal>
+    ensures { Gives (λ x. (x.0, x.1.now)) result (read_core_sort bytes.now) }
+{
+    match byte(bytes)? {
+        (0x00, rest) => Ok((Sort::CoreFunc, rest)),
+        (0x01, rest) => Ok((Sort::CoreTable, rest)),
+        (0x02, rest) => Ok((Sort::CoreMemory, rest)),
+        (0x03, rest) => Ok((Sort::CoreGlobal, rest)),
+        (0x04, rest) => Ok((Sort::CoreTag, rest)),
+        (0x10, rest) => Ok((Sort::CoreType, rest)),
+        (0x11, rest) => Ok((Sort::CoreModule, rest)),
+        (0x12, rest) => Ok((Sort::CoreInstance, rest)),
+        _ => Err(Refusal::Malformed),
+    }
+}
+
+/// A sort of items.
+#[tactic(auto, unfolding(wenc_base::specs::Readers::choose))]
+fn sort_of(bytes: &[u8]) -> Result<(Sort, &[u8]), Refusal>
+    ensures { Gives (λ x. (x.0, x.1.now)) result (read_sort bytes.now) }
+{
+    match byte(bytes)? {
+        (0x00, rest) => core_sort_of(rest),
+        (0x01, rest) => Ok((Sort::Func, rest)),
+        (0x02, rest) => Ok((Sort::Value, rest)),
+        (0x03, rest) => Ok((Sort::Type, rest)),
+        (0x04, rest) => Ok((Sort::Component, rest)),
+        (0x05, rest) => Ok((Sort::Instance, rest)),
+        _ => Err(Refusal::Malformed),
+    }
+}
+
+/// The component's own name, which is all of the content.
+fn component_name<A: Allocator>(alloc: A, content: &[u8]) -> Result<String<A>, Refusal>
+    ensures { Gives string_bytes result (done read_name content.now) }
+{
+    let (name, rest) = name_of(alloc, content)?;
+    if rest.is_empty() {
+        Ok(name)
+    } else {
+        Err(Refusal::Malformed)
+    }
+}
+
+/// Names of items of one sort, which are all of the content.
+fn item_names<A: Allocator + Copy>(alloc: A, content: &[u8]) -> Result<Names<A>, Refusal>
+    ensures { Gives names_view result (done read_item_names content.now) }
+{
+    let (sort, rest) = sort_of(content)?;
+    let (names, rest) = Vec::decode(alloc, rest)?;
+    if rest.is_empty() {
+        Ok(Names::Items(sort, names))
+    } else {
+        Err(Refusal::Malformed)
+    }
+}
+
+/// What fills a subsection with this id.
+fn names_in<A: Allocator + Copy>(alloc: A, id: u8, content: &[u8]) -> Result<Names<A>, Refusal>
+    ensures { Gives names_view result (read_names_in id content.now) }
+{
+    match id {
+        0 => Ok(Names::Component(component_name(alloc, content)?)),
+        1 => item_names(alloc, content),
+        _ => Ok(Names::Raw(id, Vec::from_slice(alloc, content)?)),
+    }
+}
+
+/// The subsection of names that begins the bytes, and what is behind it (component model, binary format, "Name Section").
+/// The bytes are those behind the name of a custom section `component-name`, or what is behind another subsection. It is
+/// refused where there is none, and for want of memory.
+///
+/// ```
+/// let (names, rest) = names_of(alloc, data)?;
+/// ```
+pub fn names_of<A: Allocator + Copy>(alloc: A, bytes: &[u8]) -> Result<(Names<A>, &[u8]), Refusal>
+    ensures { Gives (λ x. (names_view x.0, x.1.now)) result (read_names bytes.now) }
+{
+    let ((id, content), rest) = part_of(bytes)?;
+    let names = names_in(alloc, id, content)?;
+    Ok((names, rest))
+}

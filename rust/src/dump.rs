@@ -1,0 +1,328 @@
+//! What `wenc-dump` prints of a component. All bytes are read by proved calls.
+
+use crate::proved::rt_std::alloc::Global;
+use crate::proved::wenc_list::{Names, behind_module_header, names_of, part_of};
+use crate::proved::wenc_sections::Sort;
+use crate::proved::wenc_sections::names::NAMES_LABEL;
+use crate::tree::{ItemTree, NameTree, Space};
+use crate::{ComponentSectionId, ListFault, ListedSection, Listing, Unread, list};
+use std::borrow::ToOwned;
+use std::collections::BTreeMap;
+use std::format;
+use std::io::{self, Write};
+use std::string::{String, ToString};
+
+/// Why a component wasn't printed to its end.
+pub enum Failure {
+    /// It, or one that is nested in it, isn't read.
+    Fault(ListFault),
+    /// What is printed couldn't be written.
+    Write(io::Error),
+}
+
+impl From<io::Error> for Failure {
+    fn from(error: io::Error) -> Self {
+        Self::Write(error)
+    }
+}
+
+/// The debug names of a component.
+#[derive(Default)]
+struct DebugNames {
+    /// Its own name.
+    own: Option<String>,
+    /// Those of its items, by the number of their space and their index.
+    of_items: BTreeMap<(usize, u128), String>,
+}
+
+/// Prints components, nested ones further in.
+pub struct Printer<'a, W> {
+    /// What is printed to.
+    pub out: &'a mut W,
+    /// Whether it is a terminal, which shows colours.
+    pub colours: bool,
+}
+
+/// What is coloured.
+#[derive(Clone, Copy)]
+enum Part {
+    Place,
+    Index,
+    Name,
+}
+
+impl<W: Write> Printer<'_, W> {
+    /// The text, in the colour of this part where there are colours.
+    fn painted(&self, part: Part, text: &str) -> String {
+        let colour = match part {
+            Part::Place => 2,
+            Part::Index => 36,
+            Part::Name => 32,
+        };
+        if self.colours { format!("\x1b[{colour}m{text}\x1b[0m") } else { text.to_owned() }
+    }
+
+    fn line(&mut self, depth: usize, text: &str) -> io::Result<()> {
+        writeln!(self.out, "{:width$}{text}", "", width = 2 * depth)
+    }
+
+    /// A line that begins with a place.
+    fn placed(&mut self, depth: usize, place: usize, text: &str) -> io::Result<()> {
+        let place = self.painted(Part::Place, &format!("{place:#x}"));
+        self.line(depth, &format!("{place} {text}"))
+    }
+
+    /// A name in quotes, behind a space, or nothing.
+    fn quoted(&self, name: Option<&str>) -> String {
+        name.map_or_else(String::new, |name| {
+            format!(" {}", self.painted(Part::Name, &format!("{name:?}")))
+        })
+    }
+
+    /// Prints a component that stands at this place of the file.
+    pub fn component(&mut self, depth: usize, place: usize, bytes: &[u8]) -> Result<(), Failure> {
+        let listing = list(bytes).map_err(|fault| Failure::Fault(moved(fault, place)))?;
+        let names = debug_names(&listing);
+        let own = self.quoted(names.own.as_deref());
+        self.placed(depth, place, &format!("component{own}, {} bytes", bytes.len()))?;
+        let mut next = [0; 13];
+        for (at, section) in listing.sections.iter().enumerate() {
+            let behind = listing.sections.get(at + 1).map_or(bytes.len(), |next| next.place);
+            let span = (place + section.place, place + behind);
+            self.section(depth + 1, span, section, &names, &mut next)?;
+        }
+        Ok(())
+    }
+
+    /// A section, from its id to its end.
+    fn section(
+        &mut self,
+        depth: usize,
+        (place, end): (usize, usize),
+        section: &ListedSection,
+        names: &DebugNames,
+        next: &mut [u128; 13],
+    ) -> Result<(), Failure> {
+        let (word, count) = (section_word(section.id), section.items.len());
+        let text = match count {
+            1 => format!("{word} section, 1 item"),
+            _ => format!("{word} section, {count} items"),
+        };
+        self.placed(depth, place, &text)?;
+        for item in &section.items {
+            let label = self.label(item, names, next);
+            self.item(depth + 1, end, &label, item)?;
+        }
+        Ok(())
+    }
+
+    /// The item's space and index with its debug name, of which the index is counted on.
+    fn label(&self, item: &ItemTree, names: &DebugNames, next: &mut [u128; 13]) -> String {
+        let Some((space, count)) = item.indices() else { return "custom".to_owned() };
+        let index = &mut next[space.number()];
+        let from = *index;
+        *index += u128::from(count);
+        let name = self.quoted(names.of_items.get(&(space.number(), from)).map(String::as_str));
+        let word = space_word(space);
+        let indices = match count {
+            0 => return format!("no {word}"),
+            1 => format!("{word} {from}"),
+            _ => format!("{word} {from} to {}", *index - 1),
+        };
+        format!("{}{name}", self.painted(Part::Index, &indices))
+    }
+
+    /// An item of a section that ends at this place.
+    fn item(
+        &mut self,
+        depth: usize,
+        end: usize,
+        label: &str,
+        item: &ItemTree,
+    ) -> Result<(), Failure> {
+        match item {
+            ItemTree::Module(bytes) => self.module(depth, end, label, bytes)?,
+            ItemTree::Component(bytes) => {
+                self.line(depth, label)?;
+                self.component(depth + 1, end - bytes.len(), bytes)?;
+            }
+            ItemTree::Custom { name, data } => {
+                let name = self.quoted(Some(name));
+                self.line(depth, &format!("{label}{name}, {} bytes", data.len()))?;
+                self.unread_names(depth + 1, end, item)?;
+            }
+            other => {
+                let told = self.told(other);
+                self.line(depth, &format!("{label}: {told}"))?;
+            }
+        }
+        Ok(())
+    }
+
+    /// What the item is.
+    fn told(&self, item: &ItemTree) -> String {
+        match item {
+            ItemTree::CoreInstance(tree) => format!("{tree:?}"),
+            ItemTree::CoreType(tree) => format!("{tree:?}"),
+            ItemTree::Instance(tree) => format!("{tree:?}"),
+            ItemTree::Alias(tree) => format!("{tree:?}"),
+            ItemTree::Type(tree) => format!("{tree:?}"),
+            ItemTree::Canon(tree) => format!("{tree:?}"),
+            ItemTree::Start { function, args, .. } => format!("start of {function} with {args:?}"),
+            ItemTree::Import { name, ty } => format!("import{} {ty:?}", self.item_name(name)),
+            ItemTree::Export { name, kind, index, ty } => {
+                let ascribed = ty.map_or_else(String::new, |ty| format!(" as {ty:?}"));
+                format!("export{} {kind:?} {index}{ascribed}", self.item_name(name))
+            }
+            ItemTree::Module(_) | ItemTree::Component(_) | ItemTree::Custom { .. } => String::new(),
+        }
+    }
+
+    /// The name of an import or an export, with its options.
+    fn item_name(&self, tree: &NameTree) -> String {
+        let name = self.quoted(Some(&tree.name));
+        match &tree.options {
+            None => name,
+            Some(options) => format!("{name} {options:?}"),
+        }
+    }
+
+    /// A core module whose bytes end at this place: its sections by their ids and sizes.
+    fn module(&mut self, depth: usize, end: usize, label: &str, bytes: &[u8]) -> io::Result<()> {
+        self.line(depth, &format!("{label}, {} bytes", bytes.len()))?;
+        let Some(mut rest) = behind_module_header(bytes) else {
+            return self.placed(depth + 1, end - bytes.len(), "no core module's header");
+        };
+        while !rest.is_empty() {
+            let place = end - rest.len();
+            let Ok(((id, content), behind)) = part_of(rest) else {
+                return self.placed(depth + 1, place, "no core section");
+            };
+            let text = format!("core section {id}, {} bytes", content.len());
+            self.placed(depth + 1, place, &text)?;
+            rest = behind;
+        }
+        Ok(())
+    }
+
+    /// Says where names aren't read, of a section of names that ends at this place.
+    fn unread_names(&mut self, depth: usize, end: usize, item: &ItemTree) -> io::Result<()> {
+        match names_in(item, &mut |_| {}) {
+            [] => Ok(()),
+            unread => self.placed(depth, end - unread.len(), "names that aren't read"),
+        }
+    }
+}
+
+/// Hands over what a section of names has, and answers what of it isn't read. Another item has none.
+fn names_in<'a>(item: &'a ItemTree, found: &mut impl FnMut(Names)) -> &'a [u8] {
+    let ItemTree::Custom { name, data } = item else { return &[] };
+    if **name != *NAMES_LABEL {
+        return &[];
+    }
+    let mut rest = &**data;
+    while !rest.is_empty() {
+        let Ok((names, behind)) = names_of(Global, rest) else { return rest };
+        found(names);
+        rest = behind;
+    }
+    rest
+}
+
+/// The debug names that a component has of itself and its items. The first name of an item is taken.
+fn debug_names(listing: &Listing) -> DebugNames {
+    let mut all = DebugNames::default();
+    for item in listing.sections.iter().flat_map(|section| &section.items) {
+        names_in(item, &mut |names| match names {
+            Names::Component(name) => all.own = Some(name.to_string()),
+            Names::Items(sort, names) => {
+                for item in &names {
+                    let key = (space_of(sort).number(), u128::from(item.index));
+                    all.of_items.entry(key).or_insert_with(|| item.name.to_string());
+                }
+            }
+            Names::Raw(..) => {}
+        });
+    }
+    all
+}
+
+/// The fault of a component that stands at this place.
+fn moved(fault: ListFault, by: usize) -> ListFault {
+    let on = |unread: Option<Unread>| {
+        unread.map(|unread| match unread {
+            Unread::Count { place } => Unread::Count { place: place + by },
+            Unread::Item { number, place } => Unread::Item { number, place: place + by },
+            Unread::Behind { place } => Unread::Behind { place: place + by },
+        })
+    };
+    match fault {
+        ListFault::Memory => ListFault::Memory,
+        ListFault::NotAComponent { place } => ListFault::NotAComponent { place: place + by },
+        ListFault::BadSection { place } => ListFault::BadSection { place: place + by },
+        ListFault::BadItem { place, unread } => {
+            ListFault::BadItem { place: place + by, unread: on(unread) }
+        }
+        ListFault::TooDeep { place, unread } => {
+            ListFault::TooDeep { place: place + by, unread: on(unread) }
+        }
+    }
+}
+
+/// The kinds of sections, with their words.
+const SECTIONS: [(ComponentSectionId, &str); 12] = [
+    (ComponentSectionId::CoreCustom, "custom"),
+    (ComponentSectionId::CoreModule, "core module"),
+    (ComponentSectionId::CoreInstance, "core instance"),
+    (ComponentSectionId::CoreType, "core type"),
+    (ComponentSectionId::Component, "component"),
+    (ComponentSectionId::Instance, "instance"),
+    (ComponentSectionId::Alias, "alias"),
+    (ComponentSectionId::Type, "type"),
+    (ComponentSectionId::CanonicalFunction, "canonical function"),
+    (ComponentSectionId::Start, "start"),
+    (ComponentSectionId::Import, "import"),
+    (ComponentSectionId::Export, "export"),
+];
+
+fn section_word(id: u8) -> &'static str {
+    let found = SECTIONS.iter().find(|(of, _)| u8::from(*of) == id);
+    found.map_or("unknown", |(_, word)| word)
+}
+
+fn space_word(space: Space) -> &'static str {
+    match space {
+        Space::CoreModules => "core module",
+        Space::CoreFuncs => "core func",
+        Space::CoreTypes => "core type",
+        Space::CoreMemories => "core memory",
+        Space::CoreTables => "core table",
+        Space::CoreInstances => "core instance",
+        Space::CoreTags => "core tag",
+        Space::CoreGlobals => "core global",
+        Space::Funcs => "func",
+        Space::Instances => "instance",
+        Space::Values => "value",
+        Space::Components => "component",
+        Space::Types => "type",
+    }
+}
+
+/// The space of the items of a sort.
+fn space_of(sort: Sort) -> Space {
+    match sort {
+        Sort::CoreFunc => Space::CoreFuncs,
+        Sort::CoreTable => Space::CoreTables,
+        Sort::CoreMemory => Space::CoreMemories,
+        Sort::CoreGlobal => Space::CoreGlobals,
+        Sort::CoreTag => Space::CoreTags,
+        Sort::CoreType => Space::CoreTypes,
+        Sort::CoreModule => Space::CoreModules,
+        Sort::CoreInstance => Space::CoreInstances,
+        Sort::Func => Space::Funcs,
+        Sort::Value => Space::Values,
+        Sort::Type => Space::Types,
+        Sort::Component => Space::Components,
+        Sort::Instance => Space::Instances,
+    }
+}
