@@ -106,7 +106,7 @@ pub fn nested_runs()
 {}
 
 /// A type that an accepted call began on a builder, and that an encoder's accepted last call wrote and ended, is one
-/// entry more in every list that the builder held, and its index is its item's. Given up, written in part or not at all,
+/// entry more in every list that the builder held. Given up, written in part or not at all,
 /// it leaves every list held that was held.
 pub fn encoded_types_are_entries()
     ensures written { AreEntered }

@@ -11,7 +11,7 @@ returns-in-Ok-option-clause-held g c es h =
     let begun = c.in-Ok.ensures.begun in
     let written = c.in-Ok-option.ensures in
     subst (λ (s : State). Holds s (es ++ type_entry None (DefinedType (OptionOf c.args.ty)) ∷ [])) (search rules)
-    (c.encoded_types_are_entries.ensures.written.types (DefinedType (OptionOf c.args.ty)) (record { begun = begun.begun; indexed = begun.indexed; free = begun.free; warranted = tt; unfinished_first = begun.unfinished_first }) written es h).0
+    (c.encoded_types_are_entries.ensures.written.types None (DefinedType (OptionOf c.args.ty)) begun.begun begun.free written es h)
 
 pub returns-in-Ok-option-clause-indexed : goal.returns-in-Ok-option-clause-indexed
 returns-in-Ok-option-clause-indexed g c es h = c.in-Ok.ensures.begun.indexed es h

@@ -1,7 +1,8 @@
 use Rattle.std.proofs.Common.{◌≡◌, ◌↔◌, List, ◌∷◌, subst, ap, arith, ◌∙◌}
-use Rattle.wenc_builder.specs.Builder.{Namespace}
+use Rattle.wenc_builder.specs.Builder.{Namespace, namespace_at}
 use Rattle.wenc_builder.specs.Entry.{items}
 use Rattle.wenc_builder.specs.Sections.{Reading, Section}
+use Rattle.wenc_builder.specs.Space.{next_index}
 use Rattle.wenc_builder.specs.declared.builder.space.Space.TheVariants as spaces
 use Rattle.facts.proofs.finished.imports_alone.Goals as goal
 
@@ -13,4 +14,6 @@ returns-in-Ok-clause-one_section g c x es h alike mode ss =
 
 pub returns-in-Ok-clause-counted : goal.returns-in-Ok-clause-counted
 returns-in-Ok-clause-counted g c es h each =
-    c.func_count-count.ensures ∙ (ap (λ (n : Namespace). n.count) (h.spaces.each 8 (omega arith)) ∙ c.one_kind_is_one_section.ensures.indices spaces.Funcs (items es) each)
+    let own : c.func_count-count.result ≡ (namespace_at c.args.builder.settled.spaces 8).count = c.func_count-count.ensures in
+    let held : (namespace_at c.args.builder.settled.spaces 8).count ≡ next_index (items es) 8 = ap (λ (n : Namespace). n.count) (h.spaces.each 8 (omega arith)) in
+    own ∙ (held ∙ c.one_kind_is_one_section.ensures.indices spaces.Funcs (items es) each)
