@@ -1,8 +1,7 @@
-use Rattle.std.proofs.Common.{◌≡◌, ◌↔◌, List, ◌∷◌, subst, ap, arith, ◌∙◌}
-use Rattle.wenc_builder.specs.Builder.{Namespace, namespace_at}
+use Rattle.std.proofs.Common.{◌≡◌, ◌↔◌, List, ◌∷◌, Option, subst, ap, arith, ◌∙◌}
+use Rattle.wenc_builder.specs.Builder.{BegunItem, Content, Namespace, namespace_at, content_of, content_with}
 use Rattle.wenc_builder.specs.Entry.{items}
 use Rattle.wenc_builder.specs.Sections.{Reading, Section}
-use Rattle.wenc_builder.specs.Space.{next_index}
 use Rattle.wenc_builder.specs.declared.builder.space.Space.TheVariants as spaces
 use Rattle.facts.proofs.finished.imports_alone.Goals as goal
 
@@ -14,6 +13,5 @@ returns-in-Ok-clause-one_section g c x es h alike mode ss =
 
 pub returns-in-Ok-clause-counted : goal.returns-in-Ok-clause-counted
 returns-in-Ok-clause-counted g c es h each =
-    let own : c.func_count-count.result ≡ (namespace_at c.args.builder.settled.spaces 8).count = c.func_count-count.ensures in
-    let held : (namespace_at c.args.builder.settled.spaces 8).count ≡ next_index (items es) 8 = ap (λ (n : Namespace). n.count) (h.spaces.each 8 (omega arith)) in
-    own ∙ (held ∙ c.one_kind_is_one_section.ensures.indices spaces.Funcs (items es) each)
+    let settled : content_of c.args.builder ≡ c.args.builder.settled = ap (λ (b : Option BegunItem). content_with c.args.builder.settled b) h.finished in
+    c.func_count-count.ensures ∙ (ap (λ (content : Content). (namespace_at content.spaces 8).count) settled ∙ (ap (λ (n : Namespace). n.count) (h.spaces.each 8 (omega arith)) ∙ c.one_kind_is_one_section.ensures.indices spaces.Funcs (items es) each))

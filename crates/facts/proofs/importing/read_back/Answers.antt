@@ -6,7 +6,6 @@ use Rattle.facts.proofs.importing.read_back.Goals as goal
 pub returns : goal.returns
 returns g c =
     let wrote = c.in_ok-encode.ensures in
-    let read : ContainsSome (HasForm import_item) c.args.imports.now → (text : List ℕ) × (is : List Import) × (c.args.sink.new.items ≡ c.args.sink.now.items ++ text) × ((mode : Spelling) (rest : List ℕ) → (counted import_item is).Reads mode (text ++ rest) rest) = λ some.
-        let is = c.what_is_finished_has_some.ensures Imports c.args.imports.now some in
-        ((held_section c.args.imports.now).text, is.0, wrote.appended.ok, λ mode rest. c.sections_are_read.ensures.read Imports c.args.imports.now is.0 is.1 wrote.fits mode rest) in
-    ∥∥₁_map read wrote.items
+    ∥∥₁_map wrote.items (λ some.
+    let is = c.what_is_finished_has_some.ensures Imports c.args.imports.now some in
+    ((held_section c.args.imports.now).text, is.0, wrote.appended.ok, λ mode rest. c.sections_are_read.ensures.read Imports c.args.imports.now is.0 is.1 wrote.fits mode rest))
