@@ -1,4 +1,4 @@
-//! What `wenc-dump` prints of a component. All bytes are read by proved calls.
+//! What `wenc-dump` prints of a component or a core module. All bytes are read by proved calls.
 
 use crate::proved::rt_std::alloc::Global;
 use crate::proved::wenc_list::{Names, behind_module_header, names_of, part_of};
@@ -12,10 +12,12 @@ use std::format;
 use std::io::{self, Write};
 use std::string::{String, ToString};
 
-/// Why a component wasn't printed to its end.
+/// Why a file wasn't printed to its end.
 pub enum Failure {
-    /// It, or one that is nested in it, isn't read.
+    /// The component, or one that is nested in it, isn't read.
     Fault(ListFault),
+    /// Here stands no section of the core module that the file is.
+    CoreSection(usize),
     /// What is printed couldn't be written.
     Write(io::Error),
 }
@@ -79,8 +81,20 @@ impl<W: Write> Printer<'_, W> {
         })
     }
 
+    /// Prints what a file has: a core module, or else a component.
+    pub fn file(&mut self, bytes: &[u8]) -> Result<(), Failure> {
+        let Some(sections) = behind_module_header(bytes) else {
+            return self.component(0, 0, bytes);
+        };
+        self.placed(0, 0, &format!("core module, {} bytes", bytes.len()))?;
+        match self.core_sections(1, bytes.len(), sections)? {
+            Some(place) => Err(Failure::CoreSection(place)),
+            None => Ok(()),
+        }
+    }
+
     /// Prints a component that stands at this place of the file.
-    pub fn component(&mut self, depth: usize, place: usize, bytes: &[u8]) -> Result<(), Failure> {
+    fn component(&mut self, depth: usize, place: usize, bytes: &[u8]) -> Result<(), Failure> {
         let listing = list(bytes).map_err(|fault| Failure::Fault(moved(fault, place)))?;
         let names = debug_names(&listing);
         let own = self.quoted(names.own.as_deref());
@@ -187,22 +201,34 @@ impl<W: Write> Printer<'_, W> {
         }
     }
 
-    /// A core module whose bytes end at this place: its sections by their ids and sizes.
+    /// A core module whose bytes end at this place.
     fn module(&mut self, depth: usize, end: usize, label: &str, bytes: &[u8]) -> io::Result<()> {
         self.line(depth, &format!("{label}, {} bytes", bytes.len()))?;
-        let Some(mut rest) = behind_module_header(bytes) else {
+        let Some(sections) = behind_module_header(bytes) else {
             return self.placed(depth + 1, end - bytes.len(), "no core module's header");
         };
+        match self.core_sections(depth + 1, end, sections)? {
+            Some(place) => self.placed(depth + 1, place, "no core section"),
+            None => Ok(()),
+        }
+    }
+
+    /// The sections of a core module that ends at this place, by their ids and sizes. Answers where none
+    /// stands.
+    fn core_sections(
+        &mut self,
+        depth: usize,
+        end: usize,
+        mut rest: &[u8],
+    ) -> io::Result<Option<usize>> {
         while !rest.is_empty() {
             let place = end - rest.len();
-            let Ok(((id, content), behind)) = part_of(rest) else {
-                return self.placed(depth + 1, place, "no core section");
-            };
+            let Ok(((id, content), behind)) = part_of(rest) else { return Ok(Some(place)) };
             let text = format!("core section {id}, {} bytes", content.len());
-            self.placed(depth + 1, place, &text)?;
+            self.placed(depth, place, &text)?;
             rest = behind;
         }
-        Ok(())
+        Ok(None)
     }
 
     /// Says where names aren't read, of a section of names that ends at this place.

@@ -46,21 +46,22 @@ pub fn wenc(
     }
 }
 
-/// Prints the component in a file; or says why not.
+/// Prints the component or the core module in a file; or says why not.
 fn dump_file(path: &Path, colours: bool, out: &mut impl Write) -> Result<(), StdString> {
     let bytes = fs::read(path).map_err(|error| error.to_string())?;
-    let dumped = Printer { out, colours }.component(0, 0, &bytes);
+    let dumped = Printer { out, colours }.file(&bytes);
     // What stands in front of a fault is printed too.
     let flushed = out.flush();
     match dumped {
         Err(Undumped::Fault(fault)) => Err(fault.to_string()),
+        Err(Undumped::CoreSection(place)) => Err(format!("no core section at {place:#x}")),
         Err(Undumped::Write(error)) => Err(error.to_string()),
         Ok(()) => flushed.map_err(|error| error.to_string()),
     }
 }
 
 /// Runs `wenc-dump` with these arguments, the program's name in front of them, and answers the exit status: 0 where the
-/// component was printed, 1 where it wasn't to its end, 2 where the arguments aren't one file.
+/// file was printed, 1 where it wasn't to its end, 2 where the arguments aren't one file.
 pub fn dump(
     arguments_with_name: impl Iterator<Item = OsString>,
     colours: bool,

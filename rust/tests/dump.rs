@@ -13,16 +13,25 @@ fn dump(file: &Path) -> Output {
     Command::new(program).arg(file).output().expect("the program stands there")
 }
 
+/// A file with these bytes.
+fn file_of(name: &str, bytes: &[u8]) -> PathBuf {
+    let path = Path::new(env!("CARGO_TARGET_TMPDIR")).join(name);
+    fs::write(&path, bytes).expect("it is written");
+    path
+}
+
 /// A file with the component that has these sections.
 fn file(name: &str, sections: &[u8]) -> PathBuf {
-    let path = Path::new(env!("CARGO_TARGET_TMPDIR")).join(name);
-    fs::write(&path, [b"\0asm\x0d\0\x01\0", sections].concat()).expect("it is written");
-    path
+    file_of(name, &[b"\0asm\x0d\0\x01\0", sections].concat())
 }
 
 /// The component with these sections is printed so, and that is said of it, with its file in front.
 fn expect(name: &str, sections: &[u8], out: &str, err: Option<&str>) {
-    let file = file(name, sections);
+    expect_of(name, file(name, sections), out, err);
+}
+
+/// The same of a file.
+fn expect_of(name: &str, file: PathBuf, out: &str, err: Option<&str>) {
     let told = dump(&file);
     assert_eq!(String::from_utf8_lossy(&told.stdout), out, "{name}");
     let err = err.map(|why| format!("{}: {why}\n", file.display())).unwrap_or_default();
@@ -202,4 +211,21 @@ fn whole_outputs_of_the_corpus() {
         let told = dump(&corpus(&format!("wasm/{name}.wasm")));
         assert_eq!(String::from_utf8_lossy(&told.stdout), wanted, "{name}");
     }
+}
+
+#[test]
+fn core_modules() {
+    let module = b"\0asm\x01\0\0\0\0\x02\x01x\x01\x01\0";
+    let out = "\
+0x0 core module, 15 bytes
+  0x8 core section 0, 2 bytes
+  0xc core section 1, 1 bytes
+";
+    expect_of("core_module", file_of("core_module", module), out, None);
+    let file = file_of("cut_module", &module[..14]);
+    let out = "\
+0x0 core module, 14 bytes
+  0x8 core section 0, 2 bytes
+";
+    expect_of("cut_module", file, out, Some("no core section at 0xc"));
 }

@@ -1,4 +1,4 @@
-//! The program `wenc-dump FILE`: it prints what a component has.
+//! The program `wenc-dump FILE`: it prints what a component or a core module has.
 
 use std::io::{self, BufWriter, IsTerminal};
 use std::process::ExitCode;
