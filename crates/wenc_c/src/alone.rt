@@ -162,7 +162,7 @@ pub extern "C" fn wenc_custom_section(
 /// Adds a custom section, by the bytes behind its id.
 #[unsafe(no_mangle)]
 pub extern "C" fn wenc_raw_custom_section(alloc: Global, builder: &mut Handle, bytes: &[u8]) -> u32
-    ensures { AddsWithoutIndex builder.old.session builder.new.session (outcome_of result)
+    ensures added { AddsWithoutIndex builder.old.session builder.new.session (outcome_of result)
         (raw_entry bytes.now) }
     ensures few { result < 10 }
 {
@@ -175,7 +175,7 @@ pub extern "C" fn wenc_raw_custom_section(alloc: Global, builder: &mut Handle, b
 /// Adds a section of the debug names so far, where there are any.
 #[unsafe(no_mangle)]
 pub extern "C" fn wenc_append_names(alloc: Global, builder: &mut Handle) -> u32
-    ensures { AddsNamesAt builder.old.session builder.new.session (outcome_of result) }
+    ensures named { AddsNamesAt builder.old.session builder.new.session (outcome_of result) }
     ensures few { result < 10 }
 {
     let mut session = given!(builder.take(alloc), or NoBuilder);
