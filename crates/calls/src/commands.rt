@@ -6,8 +6,9 @@ use std::process::Abort;
 use wasm_encoder::{
     AliasTree, CanonTree, Command, ComponentExportKind, ComponentOuterAliasKind, ComponentTypeRef,
     CoreInstanceTree, CoreTypeTree, InstanceTree, ListFault, Listing, NameTree, Space, TypeTree,
-    ValType, build, list,
+    ValType, build, list, producers_command,
 };
+use wenc_base::ProducersSection;
 use wenc_list::ItemTree;
 
 const CANCEL: Command = Command::Canon {
@@ -119,6 +120,16 @@ fn of_an_item(rt: HostRuntime) {
     let command = Command::from(ItemTree::Component(Vec::new(alloc)));
     let built = ok(&rt, build(alloc, &[command]));
     are(&rt, alloc, built.bytes.as_slice(), "0061736d0d0001000400");
+}
+
+/// A producers section becomes the command that adds it.
+#[test]
+fn of_producers(rt: HostRuntime) {
+    let alloc = rt.alloc();
+    let section: ProducersSection = ProducersSection::new(alloc);
+    let command = ok(&rt, producers_command(alloc, &section));
+    let built = ok(&rt, build(alloc, &[command]));
+    are(&rt, alloc, built.bytes.as_slice(), "0061736d0d000100000b0970726f64756365727300");
 }
 
 /// A component with a section of each kind, with few items.

@@ -11,8 +11,10 @@
 pub mod command;
 pub mod laws;
 mod of_item;
+mod of_producers;
 
 pub use command::{Built, Command, build};
+pub use of_producers::producers_command;
 pub use wenc_base::{
     AbstractHeapType, ArrayType, CompositeType, CoreTypeEncoder, CustomSection, Delimited,
     DelimitedEq, Encode, EntityType, ExportKind, Fault, FieldType, FuncType, GlobalType, GroupTree,

@@ -3,8 +3,8 @@ use Rattle.std.proofs.Common.{◌≡◌, ℕ, ◌+◌, ◌^◌, ◌<◌, true, L
 use Rattle.std.proofs.lemmas.List.{length-append}
 use Rattle.wenc_base.specs.Encode.{Serves, in_order}
 use Rattle.wenc_base.specs.Fault.{NoCause}
-use Rattle.wenc_base.specs.Forms.{name}
-use Rattle.wenc_base.specs.Holder.{HolderState, is_finished, content_size, held_members, AddCause, Accepted, AddsMember, Contains}
+use Rattle.wenc_base.specs.Forms.{list, name}
+use Rattle.wenc_base.specs.Holder.{HolderState, is_finished, content_size, held_members, held_text, AddCause, Accepted, AddsMember, Contains}
 use Rattle.wenc_base.specs.Number.{groups, unsigned_text, u32}
 use Rattle.wenc_base.specs.Piece.{refused_for}
 use Rattle.wenc_base.specs.Producers.{Producer, producer, Producers, producers_field, held_field, FieldCause, producers_label, producers_section, producers_held}
@@ -79,3 +79,7 @@ section_serves h size e small = record {
 pub section_of_fields : (section : HolderState) (fields : List Producers) → Contains producers_field section fields → (producers_held section).text ≡ (producers_section fields).text
 unfolding groups
 section_of_fields section fields holds = rw (← holds.count, holds.body) refl
+
+-- the data of a section that has these fields
+pub data_of_fields : (section : HolderState) (fields : List Producers) → Contains producers_field section fields → held_text section ≡ (list producers_field fields).text
+data_of_fields section fields holds = rw (← holds.count, holds.body) refl

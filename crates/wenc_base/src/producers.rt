@@ -1,9 +1,11 @@
-ghost use Rattle.std.specs.Prelude.{◌≡◌, ◌<◌, ◌+◌, ◌^◌, List, false, length, IfOk, IfErr};
+ghost use Rattle.std.specs.Prelude.{◌≡◌, ◌<◌, ◌+◌, ◌++◌, ◌^◌, List, false, length, IfOk, IfErr, OnOk};
+ghost use Rattle.wenc_base.specs.Encode.{Appends};
 ghost use Rattle.wenc_base.specs.Fault.{IsMemory};
-ghost use Rattle.wenc_base.specs.Holder.{no_members, is_finished, held_members, Contains, AddsMember};
+ghost use Rattle.wenc_base.specs.Forms.{list};
+ghost use Rattle.wenc_base.specs.Holder.{no_members, is_finished, held_members, Contains, AddsMember, EncodeCause, held_text};
 ghost use Rattle.wenc_base.specs.Piece.{refused_for};
 ghost use Rattle.wenc_base.specs.declared.fault.Fault.TheVariants.{Unfinished};
-ghost use Rattle.wenc_base.specs.Producers.{Producer, producer, producers_field, producers_held, FieldCause, held_field};
+ghost use Rattle.wenc_base.specs.Producers.{Producer, Producers, producer, producers_field, producers_held, FieldCause, held_field};
 
 use crate::encode::{ByRef, Encode};
 use crate::fault::Fault;
@@ -153,6 +155,19 @@ impl<A: Allocator> ProducersSection<A> {
             return Err(fault);
         }
         Ok(())
+    }
+
+    /// Appends the data of the custom section: the number of fields, and each. It is refused for want of memory, or where
+    /// the section is unfinished.
+    #[tactic(auto, using(crate::proofs::Produced::data_of_fields))]
+    pub fn encode_data<B: Allocator>(&self, sink: &mut Vec<u8, B>) -> Result<(), Fault>
+        ensures appended { Appends (held_text self.now) (EncodeCause self.now)
+            (is_finished self.now ≡ false) sink.old.items sink.new.items result }
+        ensures fields { (fields : List Producers) → Contains producers_field self.now fields
+            → OnOk result
+            (sink.new.items ≡ sink.old.items ++ (list producers_field fields).text) }
+    {
+        self.fields.encode(sink)
     }
 
     /// The same fields once more. It is refused for want of memory alone.

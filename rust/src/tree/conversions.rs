@@ -1,7 +1,7 @@
 //! Trees of what they are made of, and the core types of trees as those of this crate's sections.
 
-use super::{AbstractHeapType, Box, HeapType, NameTree, RefType, String, ValType, Vec};
-use crate::{ComponentExternName, Error};
+use super::{AbstractHeapType, Box, Command, HeapType, NameTree, RefType, String, ValType, Vec};
+use crate::{ComponentExternName, Error, ProducersSection};
 use alloc::borrow::{Cow, ToOwned};
 
 impl From<&str> for String {
@@ -29,6 +29,27 @@ impl<T> From<T> for Box<T> {
     fn from(value: T) -> Self {
         let made = Box::new(super::Global, value);
         crate::error::granted(made.map_err(|_| Error::NoMemory))
+    }
+}
+
+/// The command that adds the section to a component.
+///
+/// # Panics
+///
+/// Where an allocation is refused.
+///
+/// ```
+/// use wenc::ProducersSection;
+/// use wenc::tree::{Command, build};
+///
+/// let producers = ProducersSection::new();
+/// assert_eq!(build(&[Command::from(&producers)])?.bytes[8..], *b"\x00\x0b\x09producers\x00");
+/// # Ok::<(), wenc::Error>(())
+/// ```
+impl From<&ProducersSection> for Command {
+    fn from(section: &ProducersSection) -> Self {
+        let command = crate::proved::wasm_encoder::producers_command(super::Global, &section.0);
+        crate::error::granted(command)
     }
 }
 

@@ -230,6 +230,7 @@ fn a_section_of_producers_has_a_field() {
     producers.field("sdk", &field);
     let wanted = "00 14 09 70 72 6f 64 75 63 65 72 73 01 03 73 64 6b 01 01 61 01 31";
     assert_eq!(section(&producers), wanted);
+    builds([(Command::from(&producers), Ok(None))], wanted);
 }
 
 #[test]

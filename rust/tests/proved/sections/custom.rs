@@ -2,6 +2,7 @@
 
 use super::checks::{alone, are, is_text};
 use crate::proved::rt_std::alloc::Global;
+use crate::proved::rt_std::vec::Vec;
 use crate::proved::wenc_base::{
     CustomSection, Module, ProducersField, ProducersSection, RawCustomSection, RawSection,
 };
@@ -33,6 +34,9 @@ fn producers() {
     copy.field("l", &field).unwrap();
     let wanted = "001b0970726f647563657273020373646b0101610131016c0101610131";
     alone(&copy, wanted);
+    let mut data = Vec::new(Global);
+    copy.encode_data(&mut data).unwrap();
+    are(data.as_slice(), "02", "0373646b0101610131016c0101610131");
     let mut module = Module::new(Global).unwrap();
     module.section(&section).unwrap();
     let wanted = "00140970726f647563657273010373646b0101610131";

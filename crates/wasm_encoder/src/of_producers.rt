@@ -1,0 +1,32 @@
+//! A producers section, as the command that adds it.
+ghost use Rattle.std.specs.Prelude.{◌≡◌, List, Err, IfErr, IfOk, false};
+ghost use Rattle.wenc_base.specs.Fault.{IsWarranted};
+ghost use Rattle.wenc_base.specs.Forms.{list};
+ghost use Rattle.wenc_base.specs.Holder.{Contains, EncodeCause, held_text, is_finished};
+ghost use Rattle.wenc_base.specs.Producers.{Producers, producers_field, producers_label};
+ghost use Rattle.wenc_base.specs.declared.fault.Fault.TheVariants.{Unfinished};
+ghost use Rattle.wasm_encoder.specs.Command.{Custom, command_view};
+
+use crate::command::Command;
+use std::alloc::Allocator;
+use wenc_base::{Fault, ProducersSection};
+
+/// The command that adds a producers section: the custom section of the name `producers`, with these fields for data (tool
+/// conventions, "Producers Section"). It is refused for want of memory, or where the section is unfinished.
+pub fn producers_command<A: Allocator + Copy, B: Allocator>(
+    alloc: A,
+    producers: &ProducersSection<B>,
+) -> Result<Command<A>, Fault>
+    ensures fields { (fields : List Producers) → Contains producers_field producers.now fields
+        → IfOk result (λ command. command_view command
+        ≡ Custom producers_label (list producers_field fields).text) }
+    ensures bytes { IfOk result (λ command. command_view command
+        ≡ Custom producers_label (held_text producers.now)) }
+    ensures refused { IfErr result (IsWarranted (EncodeCause producers.now)) }
+    ensures unfinished { is_finished producers.now ≡ false → result ≡ Err Unfinished }
+{
+    let mut data = Vec::new(alloc);
+    producers.encode_data(&mut data)?;
+    let name = String::from_str(alloc, "producers")?;
+    Ok(Command::Custom { name, data })
+}
