@@ -129,7 +129,12 @@ fn of_producers(rt: HostRuntime) {
     let section: ProducersSection = ProducersSection::new(alloc);
     let command = ok(&rt, producers_command(alloc, &section));
     let built = ok(&rt, build(alloc, &[command]));
-    are(&rt, alloc, built.bytes.as_slice(), "0061736d0d000100000b0970726f64756365727300");
+    are(
+        &rt,
+        alloc,
+        built.bytes.as_slice(),
+        "0061736d0d000100000b0970726f64756365727300",
+    );
 }
 
 /// A component with a section of each kind, with few items.

@@ -96,7 +96,12 @@ fn sections_and_modules(rt: HostRuntime) {
     section_is(&rt, alloc, &two, wanted);
     let mut data = Vec::new(alloc);
     _ = two.encode_data(&mut data);
-    are(&rt, alloc, data.as_slice(), "020373646b0101610131016c0101610131");
+    are(
+        &rt,
+        alloc,
+        data.as_slice(),
+        "020373646b0101610131016c0101610131",
+    );
     let bytes = in_module(alloc, &Own);
     are(&rt, alloc, bytes.as_slice(), "622a");
     yes(&rt, Section::id(&RAW) == 255);
