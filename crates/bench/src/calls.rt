@@ -1,7 +1,7 @@
 use std::alloc::Global;
 use wasm_encoder::{
-    ComponentBuilder, ComponentExportKind, ComponentTypeRef, ComponentValType, ExportKind, Fault,
-    PrimitiveValType,
+    AddsBuiltin, ComponentBuilder, ComponentExportKind, ComponentTypeRef, ComponentValType,
+    ExportKind, Fault, PrimitiveValType,
 };
 
 /// How many calls a round has.

@@ -9,7 +9,7 @@ use wenc_base::{
     CustomSection, ExportKind, Fault, Module, ProducersField, ProducersSection, SubType, ValType,
 };
 use wenc_builder::{ComponentBuilder, Space};
-use wenc_canon::{CanonTree, CanonicalOption};
+use wenc_canon::{AddsBuiltin, AddsSlot, CanonTree, CanonicalOption};
 use wenc_parts::{
     Alias, ComponentExportKind, ComponentExternName, ComponentOuterAliasKind, ComponentTypeRef,
     ComponentValType, ModuleArg, PrimitiveValType,

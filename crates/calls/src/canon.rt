@@ -3,7 +3,9 @@
 use crate::checks::{again, is, ok, yes};
 use wenc_base::{Fault, ValType};
 use wenc_canon::equality::are_equal;
-use wenc_canon::{CanonTree, CanonicalFunctionSection, CanonicalOption, NotCancellable};
+use wenc_canon::{
+    AddsBuiltin, AddsSlot, CanonTree, CanonicalFunctionSection, CanonicalOption, NotCancellable,
+};
 use wenc_parts::{ComponentValType, PrimitiveValType};
 
 const OPTIONS: [CanonicalOption; 2] = [CanonicalOption::UTF8, CanonicalOption::Memory(0)];

@@ -33,7 +33,7 @@ use wasm_encoder::laws::{
 use wasm_encoder::{Built, Command, build};
 use wenc_base::{Encode, Fault};
 use wenc_builder::ComponentBuilder;
-use wenc_canon::CanonicalFunctionSection;
+use wenc_canon::{AddsBuiltin, CanonicalFunctionSection};
 use wenc_parts::{ComponentExternName, ComponentTypeRef};
 use wenc_sections::ComponentImportSection;
 

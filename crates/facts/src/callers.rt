@@ -14,7 +14,7 @@ use std::alloc::{Allocator, Global};
 use wenc::run;
 use wenc_base::{Encode, Fault};
 use wenc_builder::ComponentBuilder;
-use wenc_canon::CanonicalFunctionSection;
+use wenc_canon::{AddsBuiltin, CanonicalFunctionSection};
 use wenc_parts::{ComponentExportKind, ComponentExternName, ComponentTypeRef, TypeBounds};
 
 /// The bytes of a value, in a vector of their own.

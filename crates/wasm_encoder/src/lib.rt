@@ -23,7 +23,7 @@ pub use wenc_base::{
     TableType, TagType, ValType, encode_list, encoding_size, section_size,
 };
 pub use wenc_builder::{ComponentBuilder, Space};
-pub use wenc_canon::{CanonTree, CanonicalFunctionSection, CanonicalOption};
+pub use wenc_canon::{AddsBuiltin, AddsSlot, CanonTree, CanonicalFunctionSection, CanonicalOption};
 pub use wenc_list::{ItemTree, ListFault, ListedSection, Listing, Unread, first_unread, list};
 pub use wenc_parts::{
     Alias, AliasTree, ComponentExportKind, ComponentExternName, ComponentOuterAliasKind,

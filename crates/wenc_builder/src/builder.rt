@@ -8,8 +8,6 @@ ghost use Rattle.wenc_base.specs.Lender.{GivesUp};
 ghost use Rattle.wenc_base.specs.declared.fault.Fault.TheVariants.{Unfinished};
 ghost use Rattle.wenc_parts.specs.Imports.{extern_name_view};
 ghost use Rattle.wenc_parts.specs.Aliases.{alias_view};
-ghost use Rattle.wenc_canon.specs.Canonicals.{◌is◌takes◌, CoreType, Slot, slot_text};
-ghost use Rattle.wenc_canon.specs.inside.Rows.{row_with, builtin_by, and_options, builtin_with};
 ghost use Rattle.wenc_canon.specs.CanonTrees.{canon_view};
 ghost use Rattle.wenc_builder.specs.Sections.{Section, runs, Reading, whole};
 ghost use Rattle.wenc_builder.specs.Entry.{Entry, items, module_entry, component_entry, canonical_entry, start_entry, custom_entry, raw_entry};
@@ -49,11 +47,9 @@ use std::alloc::{Allocator, Global};
 use std::convert::AsSlice;
 use std::marker::Model;
 use wenc_base::{
-    CustomSection, Encode, ExportKind, Fault, Lender, Module, RawCustomSection, Tagged, ValType,
-    WithSize,
+    CustomSection, Encode, ExportKind, Fault, Lender, Module, RawCustomSection, Tagged, WithSize,
 };
-use wenc_canon::rows::Row;
-use wenc_canon::{CanonTree, CanonicalOption, Fields};
+use wenc_canon::{CanonTree, CanonicalOption};
 use wenc_parts::{
     Alias, ComponentExportKind, ComponentExternName, ComponentSectionId, ComponentTypeRef,
 };
@@ -372,70 +368,6 @@ impl<A: Allocator> ComponentBuilder<A> {
             (canonical_entry (option_copied name.entry) (canon_view function.now)) }
     {
         self.add(Kind::CanonicalFunction, space, name, function)
-    }
-
-    /// Adds the builtin of this row, which has these fields, with the row's name as its debug name. Answers its index.
-    fn add_builtin<F: Fields>(&mut self, row: Row, fields: &F) -> Result<u32, Fault>
-        requires row { row_with row.opcode ≡ (row.name.now is row.opcode takes F.kinds) }
-        ensures { Enters self.old self.new result (canonical_entry (Some row.name.now)
-            (builtin_by row.opcode F.kinds (F.values fields.now))) }
-    {
-        self.add(
-            Kind::CanonicalFunction,
-            Space::CoreFuncs,
-            Some(row.name),
-            &Tagged(row.opcode, fields),
-        )
-    }
-
-    /// The same of a builtin that has options behind these fields.
-    fn add_builtin_with<F: Fields, I: Iterator<Item = CanonicalOption> + Drop>(
-        &mut self,
-        row: Row,
-        fields: &F,
-        options: I,
-    ) -> Result<u32, Fault>
-        requires row { row_with row.opcode ≡
-            (row.name.now is row.opcode takes and_options F.kinds) }
-        requires can { I.can_next options }
-        requires ends { IsFinite (I.remaining options) }
-        ensures { EntersListed I.next_gives options self.old self.new result
-            (λ os. canonical_entry (Some row.name.now)
-            (builtin_with row.opcode F.kinds (F.values fields.now) os)) }
-    {
-        self.add_listed(
-            Kind::CanonicalFunction,
-            Space::CoreFuncs,
-            Some(row.name),
-            &Tagged(row.opcode, fields),
-            options,
-            &(),
-        )
-    }
-
-    /// Adds the builtin of this row, which has a slot of a task, of this value type: its debug name is the row's with
-    /// the number of the slot behind it. Answers its index.
-    fn add_builtin_for_slot(&mut self, row: Row, ty: ValType, slot: u32) -> Result<u32, Fault>
-    where
-        A: Clone,
-        requires row { row_with row.opcode ≡
-            (row.name.now is row.opcode takes CoreType ∷ Slot ∷ []) }
-        ensures { Enters self.old self.new result
-            (canonical_entry (Some (row.name.now ++ slot_text Slot slot))
-            (builtin_by row.opcode (CoreType ∷ Slot ∷ []) (ty, slot))) }
-    {
-        if !self.is_finished() {
-            return Err(Fault::Unfinished);
-        }
-        let alloc = self.spaces.allocator().clone()?;
-        let word = row.name;
-        let name = format!(in alloc; "{word} {slot}")?;
-        self.add(
-            Kind::CanonicalFunction,
-            Space::CoreFuncs,
-            Some(name.as_str()),
-            &Tagged(row.opcode, &(ty, slot)),
-        )
     }
 
     /// Adds a section of the debug names so far, in the order of their spaces' sorts; the names stay, so that a second

@@ -11,6 +11,7 @@ use crate::refused::{Refused, given, told};
 use crate::session::by_builder;
 use std::alloc::Global;
 use wenc_builder::ComponentBuilder;
+use wenc_canon::AddsBuiltin;
 
 /// Adds the function with this opcode, by its indices, an index and a flag, or a flag, and answers
 /// its index.

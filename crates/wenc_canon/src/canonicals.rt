@@ -10,13 +10,12 @@ ghost use Rattle.wenc_base.specs.laws.Serves.{serves_itself};
 ghost use Rattle.wenc_canon.specs.Canonicals.{AddsWithOptions, Lift, Lower, canonical, ◌is◌takes◌};
 ghost use Rattle.wenc_canon.specs.inside.Rows.{row_with, builtin_by, and_options, builtin_with};
 
-mod builtins;
-
+use crate::adds_builtin::{AddsBuiltin, AddsRow, AddsSlot, AddsSlotRow};
 use crate::fields::Fields;
 use crate::rows::{self, Row};
 use std::alloc::{Allocator, Global};
 use std::marker::Model;
-use wenc_base::{Delimited, DelimitedEq, Encode, Fault, Holder, Tagged};
+use wenc_base::{Delimited, DelimitedEq, Encode, Fault, Holder, Tagged, ValType};
 use wenc_parts::{ComponentSection, ComponentSectionId};
 
 /// An option of a function that is lifted or lowered, or of a builtin that reads or writes values
@@ -220,34 +219,42 @@ impl<A: Allocator> CanonicalFunctionSection<A> {
         self.functions
             .add_listed(&Tagged(rows::LOWER.opcode, &lead), options, &())
     }
+}
 
-    /// Adds the builtin of this row, which has these fields.
-    fn add_row<F: Fields>(&mut self, row: Row, fields: &F) -> Result<(), Fault>
-        requires row { row_with row.opcode ≡ (row.name.now is row.opcode takes F.kinds) }
-        ensures { AddsMember (canonical (builtin_by row.opcode F.kinds (F.values fields.now)))
-            self.old self.new result }
-    {
+impl<A: Allocator> AddsRow for CanonicalFunctionSection<A> {
+    ghost use Rattle.wenc_base.specs.Holder.{AddsMember};
+    ghost use Rattle.wenc_canon.specs.Canonicals.{AddsWithOptions, canonical};
+
+    type Answer = ();
+
+    ghost adds = { λ old new result function. AddsMember (canonical function) old new result };
+
+    ghost adds_with = { AddsWithOptions };
+
+    fn add_row<F: Fields>(&mut self, row: Row, fields: &F) -> Result<(), Fault> {
         self.functions.add_encoded(&Tagged(row.opcode, fields))
     }
 
-    /// Adds the builtin of this row, which has these fields, and options behind them.
-    fn add_row_with_options<F: Fields, I: Iterator<Item = CanonicalOption> + Drop>(
+    fn add_row_with<F: Fields, I: Iterator<Item = CanonicalOption> + Drop>(
         &mut self,
         row: Row,
         fields: &F,
         options: I,
-    ) -> Result<(), Fault>
-        requires can { I.can_next options }
-        requires ends { IsFinite (I.remaining options) }
-        requires row { row_with row.opcode
-            ≡ (row.name.now is row.opcode takes and_options F.kinds) }
-        ensures { AddsWithOptions I.next_gives options self.old self.new result
-            (builtin_with row.opcode F.kinds (F.values fields.now)) }
-    {
+    ) -> Result<(), Fault> {
         self.functions
             .add_listed(&Tagged(row.opcode, fields), options, &())
     }
 }
+
+impl<A: Allocator> AddsSlotRow for CanonicalFunctionSection<A> {
+    fn add_slot_row(&mut self, row: Row, ty: ValType, slot: u32) -> Result<(), Fault> {
+        self.functions.add_encoded(&Tagged(row.opcode, &(ty, slot)))
+    }
+}
+
+impl<A: Allocator> AddsBuiltin for CanonicalFunctionSection<A> {}
+
+impl<A: Allocator> AddsSlot for CanonicalFunctionSection<A> {}
 
 /// A finished section is refused for want of memory alone. What is written has some functions, whoever made which
 /// calls.

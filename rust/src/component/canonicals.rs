@@ -6,6 +6,7 @@ pub(crate) use builtins::builtins;
 
 use crate::component::{ComponentValType, sections};
 use crate::core::ValType;
+use crate::proved::wasm_encoder::{AddsBuiltin, AddsSlot};
 use crate::shared::collections;
 use crate::twins::twins;
 

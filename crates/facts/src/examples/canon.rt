@@ -4,8 +4,8 @@ ghost use Rattle.wenc_canon.specs.Canonicals.{canonical, OfBuiltin, ResourceDrop
 
 use std::alloc::Allocator;
 use wasm_encoder::{
-    CanonicalFunctionSection, CanonicalOption, Component, ComponentImportSection, ComponentTypeRef,
-    Fault, Holder, TypeBounds,
+    AddsBuiltin, CanonicalFunctionSection, CanonicalOption, Component, ComponentImportSection,
+    ComponentTypeRef, Fault, Holder, TypeBounds,
 };
 
 /// `CanonicalFunctionSection`.

@@ -17,12 +17,12 @@ ghost use Rattle.wenc_sections.specs.Start.{started, start as start_form};
 use std::alloc::Allocator;
 use wasm_encoder::laws::sections_are_their_items;
 use wasm_encoder::{
-    Alias, CanonicalFunctionSection, Component, ComponentAliasSection, ComponentExportKind,
-    ComponentExportSection, ComponentExternName, ComponentImportSection, ComponentInstanceSection,
-    ComponentNameSection, ComponentOuterAliasKind, ComponentStartSection, ComponentTypeRef,
-    ComponentTypeSection, ComponentValType, CoreTypeSection, CustomSection, ExportKind, Fault,
-    Holder, InstanceSection, Module, ModuleArg, ModuleSection, NameMap, NestedComponentSection,
-    PrimitiveValType, TypeBounds, ValType,
+    AddsBuiltin, Alias, CanonicalFunctionSection, Component, ComponentAliasSection,
+    ComponentExportKind, ComponentExportSection, ComponentExternName, ComponentImportSection,
+    ComponentInstanceSection, ComponentNameSection, ComponentOuterAliasKind, ComponentStartSection,
+    ComponentTypeRef, ComponentTypeSection, ComponentValType, CoreTypeSection, CustomSection,
+    ExportKind, Fault, Holder, InstanceSection, Module, ModuleArg, ModuleSection, NameMap,
+    NestedComponentSection, PrimitiveValType, TypeBounds, ValType,
 };
 
 /// `Component`.

@@ -9,7 +9,7 @@ use super::kind::Kind;
 use super::space::Space;
 use std::alloc::Allocator;
 use wenc_base::Fault;
-use wenc_canon::CanonTree;
+use wenc_canon::{AddsSlot, CanonTree};
 use wenc_sections::{CoreInstanceTree, InstanceTree};
 
 /// Items that are handed in as trees, for commands: each call adds one, with a debug name or none, and answers its

@@ -1,5 +1,5 @@
 -- What is written of a row is the builtin that its opcode and values say.
-use Rattle.std.proofs.Common.{◌≡◌, ℕ, List, [], ◌∷◌, refl, ap, subst, sym, append_assoc, inl, inr}
+use Rattle.std.proofs.Common.{◌≡◌, ℕ, List, [], ◌∷◌, refl, ap, ◌∙◌, subst, sym, append_assoc, append-nil, ◌++◌, inl, inr}
 use Rattle.wenc_base.specs.Encode.{Serves, in_order}
 use Rattle.wenc_base.specs.Forms.{list}
 use Rattle.wenc_base.specs.Holder.{listed}
@@ -7,8 +7,8 @@ use Rattle.wenc_base.specs.Number.{u32}
 use Rattle.wenc_base.specs.Piece.{Piece, nothing, ◌▸◌, ◌⨾◌, behind_bytes}
 use Rattle.wenc_base.specs.laws.Serves.{serves_itself, serves_then, order_serves, tagged_serves, both_serve, behind_is, with_nothing, either_free, left_free, right_free}
 use Rattle.wenc_canon.specs.declared.canonicals.CanonicalOption.{CanonicalOption}
-use Rattle.wenc_canon.specs.Canonicals.{canonical_option, Field, Index, Options, Flag, Zero, CoreType, Results, Slot, Value, field, Values, fields, Row, ◌is◌takes◌, Lift, Lower, canonical}
-use Rattle.wenc_canon.specs.inside.Rows.{row_with, as_value, as_values, builtin_by, and_options, values_then, row_then, builtin_with}
+use Rattle.wenc_canon.specs.Canonicals.{canonical_option, Field, Index, Options, Flag, Zero, CoreType, Results, Slot, Value, field, Values, fields, Row, ◌is◌takes◌, row, builtins, slot_text, slots_text, name_of, Lift, Lower, canonical}
+use Rattle.wenc_canon.specs.inside.Rows.{first_with, row_with, as_value, as_values, builtin_by, and_options, values_then, row_then, builtin_with}
 
 same_value : (f : Field) (v : Value f) → as_value f f v ≡ v
 same_value Index n = refl
@@ -19,7 +19,7 @@ same_value CoreType t = refl
 same_value Results r = refl
 same_value Slot n = refl
 
-same_values : (fs : List Field) (vs : Values fs) → as_values fs fs vs ≡ vs
+pub same_values : (fs : List Field) (vs : Values fs) → as_values fs fs vs ≡ vs
 same_values [] vs = refl
 same_values (f ∷ []) v = same_value f v
 same_values (f ∷ g ∷ fs) vs = rw (same_value f vs.0, same_values (g ∷ fs) vs.1) refl
@@ -29,6 +29,22 @@ pub builtin_serves : {p : Piece} (name : List ℕ) (opcode : ℕ) (fs : List Fie
 builtin_serves {p} name opcode fs vs s e =
     let own : Serves (opcode ▸ p) (opcode ▸ fields fs (as_values fs fs vs)) = rw (same_values fs vs) (tagged_serves opcode s) in
     subst (λ (r : Row). Serves (opcode ▸ p) (r.opcode ▸ fields r.fields (as_values fs r.fields vs))) (sym e) own
+
+-- its name is its row's, and the numbers of its slots
+pub builtin_named_with : (name : List ℕ) (opcode : ℕ) (fs : List Field) (vs : Values fs) → row_with opcode ≡ (name is opcode takes fs) → name_of (first_with opcode builtins) (as_values fs (row (first_with opcode builtins)).fields vs) ≡ name ++ slots_text fs vs
+builtin_named_with name opcode fs vs e =
+    let own : name ++ slots_text fs (as_values fs fs vs) ≡ name ++ slots_text fs vs = rw (same_values fs vs) refl in
+    subst (λ (r : Row). r.name ++ slots_text r.fields (as_values fs r.fields vs) ≡ name ++ slots_text fs vs) (sym e) own
+
+-- where no field is a slot, it is the row's alone
+pub builtin_named : (name : List ℕ) (opcode : ℕ) (fs : List Field) (vs : Values fs) → row_with opcode ≡ (name is opcode takes fs) → slots_text fs vs ≡ [] → name_of (first_with opcode builtins) (as_values fs (row (first_with opcode builtins)).fields vs) ≡ name
+builtin_named name opcode fs vs e none = builtin_named_with name opcode fs vs e ∙ ap (λ (t : List ℕ). name ++ t) none ∙ append-nil name
+
+-- options are no slot
+pub slots_then : (fs : List Field) (vs : Values fs) (os : List CanonicalOption) → slots_text (and_options fs) (values_then fs vs os) ≡ slots_text fs vs
+slots_then [] vs os = refl
+slots_then (f ∷ []) v os = append-nil (slot_text f v)
+slots_then (f ∷ g ∷ fs) vs os = ap (λ (t : List ℕ). slot_text f vs.0 ++ t) (slots_then (g ∷ fs) vs.1 os)
 
 -- two fields in their order
 pub two_fields : (f g : Field) (v : Value f) (w : Value g) → Serves (in_order (field f v) (field g w)) (fields (f ∷ g ∷ []) (v, w))

@@ -3,6 +3,7 @@
 use crate::component::canonicals::builtins;
 use crate::component::{CanonicalOption, ComponentBuilder, ComponentValType};
 use crate::core::ValType;
+use crate::proved::wasm_encoder::{AddsBuiltin, AddsSlot};
 use crate::twins::twins;
 
 /// The builder's call for each row of the table.

@@ -7,7 +7,7 @@ use crate::proved::rt_std::borrow::CowStr;
 use crate::proved::rt_std::vec::Vec;
 use crate::proved::tests::refusing::Refusing;
 use crate::proved::wasm_encoder::{
-    Alias, CanonicalOption, ComponentBuilder, ComponentExportKind, ComponentExternName,
+    AddsBuiltin, Alias, CanonicalOption, ComponentBuilder, ComponentExportKind, ComponentExternName,
     ComponentOuterAliasKind, ComponentTypeRef, CustomSection, ExportKind, Fault, Module, ModuleArg,
     ProducersField, ProducersSection,
 };

@@ -3,7 +3,7 @@
 use super::calls::{Builder, Item};
 use super::swept::between::{CORE_FUNC, Swept};
 use crate::proved::wasm_encoder::{
-    CanonicalOption, ComponentValType, Fault, PrimitiveValType, ValType,
+    AddsBuiltin, AddsSlot, CanonicalOption, ComponentValType, Fault, PrimitiveValType, ValType,
 };
 
 /// A function without fields.

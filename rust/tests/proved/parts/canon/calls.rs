@@ -4,7 +4,9 @@ use crate::proved::rt_std::alloc::Global;
 use crate::proved::rt_std::vec::Vec;
 use crate::proved::tests::parts::checks::{check, check_all};
 use crate::proved::wenc_base::{Fault, HeapType, RefType, ValType};
-use crate::proved::wenc_canon::{CanonicalFunctionSection, CanonicalOption, NotCancellable};
+use crate::proved::wenc_canon::{
+    AddsBuiltin, AddsSlot, CanonicalFunctionSection, CanonicalOption, NotCancellable,
+};
 use crate::proved::wenc_parts::{ComponentSection, ComponentValType, PrimitiveValType};
 
 type Section = CanonicalFunctionSection;

@@ -3,7 +3,7 @@
 use crate::proved::facts::holders::functions;
 use crate::proved::rt_std::alloc::Global;
 use crate::proved::tests::parts::checks::check;
-use crate::proved::wenc_canon::CanonicalFunctionSection;
+use crate::proved::wenc_canon::{AddsBuiltin, CanonicalFunctionSection};
 
 /// Whether the section's holder is finished, with two rows and these bytes, of which two are kept.
 fn gives_back(section: CanonicalFunctionSection, wanted: &[u8]) -> bool {

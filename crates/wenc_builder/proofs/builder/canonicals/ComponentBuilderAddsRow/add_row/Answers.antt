@@ -1,8 +1,8 @@
-use Rattle.std.proofs.Common.{Some, refl}
+use Rattle.std.proofs.Common.{Some, None, refl, ap}
 use Rattle.wenc_canon.specs.Canonicals.{Values}
 use Rattle.wenc_canon.specs.inside.Rows.{builtin_by}
-use Rattle.wenc_canon.specs.laws.Rows.{builtin_serves}
-use Rattle.wenc_builder.specs.Entry.{canonical_entry}
+use Rattle.wenc_canon.specs.laws.Rows.{builtin_serves, builtin_named}
+use Rattle.wenc_builder.specs.Entry.{canonical_tree_entry}
 use Rattle.wenc_builder.specs.Item.{CanonItem}
 use Rattle.wenc_builder.specs.inside.Layout.{kind_id}
 use Rattle.wenc_builder.specs.Space.{space_number}
@@ -10,7 +10,7 @@ use Rattle.wenc_builder.specs.declared.builder.kind.Kind.TheVariants as kinds
 use Rattle.wenc_builder.specs.declared.builder.space.Space.TheVariants as spaces
 use Rattle.wenc_builder.proofs.Entered.{draft_enters}
 use Rattle.wenc_builder.proofs.Texts.{item_piece}
-use Rattle.wenc_builder.proofs.builder.ComponentBuilder.add_builtin.Goals as goal
+use Rattle.wenc_builder.proofs.builder.canonicals.ComponentBuilderAddsRow.add_row.Goals as goal
 
 pub add-requires : goal.add-requires
 add-requires g c =
@@ -20,5 +20,6 @@ add-requires g c =
 pub returns : goal.returns
 returns g c =
     let values : Values g.F.Fields.kinds = g.F.Fields.values c.args.fields.now in
-    draft_enters c.args.self.now c.add.new.self c.add.result (canonical_entry (Some c.args.row.name.now) (builtin_by c.args.row.opcode g.F.Fields.kinds values)) (kind_id kinds.CanonicalFunction) (space_number spaces.CoreFuncs) (Some c.args.row.name.now)
-    (record { section = refl; defined = refl; named = refl }) (builtin_serves c.args.row.name.now c.args.row.opcode g.F.Fields.kinds values (g.met.F.Fields.written c.args.fields.now) c.requires.row) c.add.ensures
+    draft_enters c.args.self.now c.add.new.self c.add.result (canonical_tree_entry None (builtin_by c.args.row.opcode g.F.Fields.kinds values)) (kind_id kinds.CanonicalFunction) (space_number spaces.CoreFuncs) (Some c.args.row.name.now)
+    (record { section = refl; defined = refl; named = ap Some (builtin_named c.args.row.name.now c.args.row.opcode g.F.Fields.kinds values c.requires.row c.requires.no_slot) })
+    (builtin_serves c.args.row.name.now c.args.row.opcode g.F.Fields.kinds values (g.met.F.Fields.written c.args.fields.now) c.requires.row) c.add.ensures

@@ -3,7 +3,7 @@ use Rattle.wenc_base.specs.laws.Members.{keeps_added}
 use Rattle.wenc_canon.specs.Canonicals.{canonical}
 use Rattle.wenc_canon.specs.inside.Rows.{builtin_by}
 use Rattle.wenc_canon.specs.laws.Rows.{builtin_serves}
-use Rattle.wenc_canon.proofs.canonicals.CanonicalFunctionSection.add_row.Goals as goal
+use Rattle.wenc_canon.proofs.canonicals.CanonicalFunctionSectionAddsRow.add_row.Goals as goal
 
 pub returns : goal.returns
 returns g c =

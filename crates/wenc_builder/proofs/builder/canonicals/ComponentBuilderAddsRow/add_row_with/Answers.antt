@@ -1,0 +1,29 @@
+use Rattle.std.proofs.Common.{Some, None, refl, ap, ◌∙◌}
+use Rattle.wenc_base.specs.Holder.{listed}
+use Rattle.wenc_base.specs.Piece.{nothing, ◌▸◌}
+use Rattle.wenc_canon.specs.Canonicals.{Values, canonical_option}
+use Rattle.wenc_canon.specs.inside.Rows.{and_options, values_then, builtin_with}
+use Rattle.wenc_canon.specs.laws.Rows.{builtin_with_serves, builtin_named, slots_then}
+use Rattle.wenc_builder.specs.Entry.{canonical_tree_entry}
+use Rattle.wenc_builder.specs.Item.{CanonItem}
+use Rattle.wenc_builder.specs.inside.Layout.{kind_id}
+use Rattle.wenc_builder.specs.Space.{space_number}
+use Rattle.wenc_builder.specs.declared.builder.kind.Kind.TheVariants as kinds
+use Rattle.wenc_builder.specs.declared.builder.space.Space.TheVariants as spaces
+use Rattle.wenc_builder.proofs.Listed.{listed_enters}
+use Rattle.wenc_builder.proofs.Texts.{item_piece}
+use Rattle.wenc_builder.proofs.builder.canonicals.ComponentBuilderAddsRow.add_row_with.Goals as goal
+
+pub add_listed-requires-clause-whole : goal.add_listed-requires-clause-whole
+add_listed-requires-clause-whole g c os =
+    let values : Values g.F.Fields.kinds = g.F.Fields.values c.args.fields.now in
+    item_piece (CanonItem (builtin_with c.args.row.opcode g.F.Fields.kinds values os)) (builtin_with_serves c.args.row.name.now c.args.row.opcode g.F.Fields.kinds values (g.met.F.Fields.written c.args.fields.now) c.requires.row os)
+
+pub returns : goal.returns
+returns g c =
+    let values : Values g.F.Fields.kinds = g.F.Fields.values c.args.fields.now in
+    listed_enters g.I.Iterator.next_gives c.args.options c.args.self.now c.add_listed.new.self c.add_listed.result
+    (λ os. canonical_tree_entry None (builtin_with c.args.row.opcode g.F.Fields.kinds values os)) (kind_id kinds.CanonicalFunction) (space_number spaces.CoreFuncs) (Some c.args.row.name.now)
+    (listed (c.args.row.opcode ▸ g.F.Encode.piece c.args.fields.now) canonical_option nothing)
+    (λ os. record { section = refl; defined = refl; named = ap Some (builtin_named c.args.row.name.now c.args.row.opcode (and_options g.F.Fields.kinds) (values_then g.F.Fields.kinds values os) c.requires.row (slots_then g.F.Fields.kinds values os ∙ c.requires.no_slot)) })
+    (builtin_with_serves c.args.row.name.now c.args.row.opcode g.F.Fields.kinds values (g.met.F.Fields.written c.args.fields.now) c.requires.row) c.add_listed.ensures

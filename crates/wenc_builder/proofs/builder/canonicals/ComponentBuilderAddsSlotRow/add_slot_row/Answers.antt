@@ -1,0 +1,24 @@
+use Rattle.std.proofs.Common.{[], ◌∷◌, Some, None, refl, ap, sym, ◌∙◌}
+use Rattle.wenc_canon.specs.Canonicals.{CoreType, Slot}
+use Rattle.wenc_canon.specs.inside.Rows.{builtin_by}
+use Rattle.wenc_canon.specs.laws.Rows.{builtin_serves, builtin_named_with, two_fields}
+use Rattle.wenc_builder.specs.Entry.{canonical_tree_entry}
+use Rattle.wenc_builder.specs.Item.{CanonItem}
+use Rattle.wenc_builder.specs.inside.Layout.{kind_id}
+use Rattle.wenc_builder.specs.Space.{space_number}
+use Rattle.wenc_builder.specs.declared.builder.kind.Kind.TheVariants as kinds
+use Rattle.wenc_builder.specs.declared.builder.space.Space.TheVariants as spaces
+use Rattle.wenc_builder.proofs.Entered.{draft_enters}
+use Rattle.wenc_builder.proofs.Texts.{item_piece}
+use Rattle.wenc_builder.proofs.builder.canonicals.ComponentBuilderAddsSlotRow.add_slot_row.Goals as goal
+
+pub add-requires : goal.add-requires
+add-requires g c =
+    item_piece (CanonItem (builtin_by c.args.row.opcode (CoreType ∷ Slot ∷ []) (c.args.ty, c.args.slot)))
+    (builtin_serves c.args.row.name.now c.args.row.opcode (CoreType ∷ Slot ∷ []) (c.args.ty, c.args.slot) (two_fields CoreType Slot c.args.ty c.args.slot) c.requires)
+
+pub returns : goal.returns
+returns g c =
+    draft_enters c.args.self.now c.add.new.self c.add.result (canonical_tree_entry None (builtin_by c.args.row.opcode (CoreType ∷ Slot ∷ []) (c.args.ty, c.args.slot))) (kind_id kinds.CanonicalFunction) (space_number spaces.CoreFuncs) (Some c.as_str.result.now)
+    (record { section = refl; defined = refl; named = ap Some (builtin_named_with c.args.row.name.now c.args.row.opcode (CoreType ∷ Slot ∷ []) (c.args.ty, c.args.slot) c.requires ∙ sym (c.as_str.ensures.value ∙ c.in_ok-name.ensures.ok)) })
+    (builtin_serves c.args.row.name.now c.args.row.opcode (CoreType ∷ Slot ∷ []) (c.args.ty, c.args.slot) (two_fields CoreType Slot c.args.ty c.args.slot) c.requires) c.add.ensures
