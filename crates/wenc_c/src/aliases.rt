@@ -39,8 +39,7 @@ pub extern "C" fn wenc_alias_export(
         → Refuses 5 result builder.old.session builder.new.session }
     ensures number { IsText named debug_name.now → IsUtf8 name.now → kind_of kind_number ≡ None
         → Refuses 7 result builder.old.session builder.new.session }
-    ensures kept { ¬ (result ≡ 0) → index.new ≡ index.old }
-    ensures few { result < 10 }
+    ensures kept { ¬ (result ≡ 0) → (index.new ≡ index.old) × (result < 10) }
 {
     let debug_name = given!(text_where(named, debug_name));
     let name = given!(text(name));
@@ -78,8 +77,7 @@ pub extern "C" fn wenc_alias_core_export(
         → Refuses 5 result builder.old.session builder.new.session }
     ensures number { IsText named debug_name.now → IsUtf8 name.now → core_kind_of kind_number ≡ None
         → Refuses 7 result builder.old.session builder.new.session }
-    ensures kept { ¬ (result ≡ 0) → index.new ≡ index.old }
-    ensures few { result < 10 }
+    ensures kept { ¬ (result ≡ 0) → (index.new ≡ index.old) × (result < 10) }
 {
     let debug_name = given!(text_where(named, debug_name));
     let name = given!(text(name));
@@ -115,8 +113,7 @@ pub extern "C" fn wenc_alias_outer(
         → Refuses 5 result builder.old.session builder.new.session }
     ensures number { IsText named debug_name.now → outer_kind_of kind_number ≡ None
         → Refuses 7 result builder.old.session builder.new.session }
-    ensures kept { ¬ (result ≡ 0) → index.new ≡ index.old }
-    ensures few { result < 10 }
+    ensures kept { ¬ (result ≡ 0) → (index.new ≡ index.old) × (result < 10) }
 {
     let debug_name = given!(text_where(named, debug_name));
     let kind = given!(outer_kind(kind_number), or BadArgument);

@@ -26,8 +26,7 @@ pub extern "C" fn wenc_core_module(
         (module_entry (text_if named debug_name.now) bytes.now) }
     ensures malformed { ¬ (IsText named debug_name.now)
         → Refuses 5 result builder.old.session builder.new.session }
-    ensures kept { ¬ (result ≡ 0) → index.new ≡ index.old }
-    ensures few { result < 10 }
+    ensures kept { ¬ (result ≡ 0) → (index.new ≡ index.old) × (result < 10) }
 {
     let debug_name = given!(text_where(named, debug_name));
     let mut session = given!(builder.take(alloc), or NoBuilder);
@@ -51,8 +50,7 @@ pub extern "C" fn wenc_component_bytes(
         (component_entry (text_if named debug_name.now) bytes.now) }
     ensures malformed { ¬ (IsText named debug_name.now)
         → Refuses 5 result builder.old.session builder.new.session }
-    ensures kept { ¬ (result ≡ 0) → index.new ≡ index.old }
-    ensures few { result < 10 }
+    ensures kept { ¬ (result ≡ 0) → (index.new ≡ index.old) × (result < 10) }
 {
     let debug_name = given!(text_where(named, debug_name));
     let mut session = given!(builder.take(alloc), or NoBuilder);
@@ -75,9 +73,8 @@ pub extern "C" fn wenc_component_ref(
         nested.old.session builder.old.session builder.new.session (answer_of result index.new) }
     ensures malformed { ¬ (IsText named debug_name.now)
         → Refuses 5 result builder.old.session builder.new.session }
-    ensures kept { ¬ (result ≡ 0) → index.new ≡ index.old }
+    ensures kept { ¬ (result ≡ 0) → (index.new ≡ index.old) × (result < 10) }
     ensures left { nested.new.session ≡ nested.old.session }
-    ensures few { result < 10 }
 {
     let debug_name = given!(text_where(named, debug_name));
     let inner = given!(nested.take(alloc), or NoBuilder);
@@ -105,10 +102,9 @@ pub extern "C" fn wenc_component(
         nested.old.session builder.old.session builder.new.session (answer_of result index.new) }
     ensures malformed { ¬ (IsText named debug_name.now)
         → Refuses 5 result builder.old.session builder.new.session }
-    ensures kept { ¬ (result ≡ 0) → index.new ≡ index.old }
+    ensures kept { ¬ (result ≡ 0) → (index.new ≡ index.old) × (result < 10) }
     ensures given_up { result ≡ 0 → nested.new.session ≡ None }
     ensures left { ¬ (result ≡ 0) → nested.new.session ≡ nested.old.session }
-    ensures few { result < 10 }
 {
     let status = wenc_component_ref(alloc, builder, named, debug_name, nested, index);
     if status == 0 {
@@ -129,8 +125,7 @@ pub extern "C" fn wenc_start(
 ) -> u32
     ensures added { Adds builder.old.session builder.new.session (answer_of result index.new)
         (start_entry function args.now results) }
-    ensures kept { ¬ (result ≡ 0) → index.new ≡ index.old }
-    ensures few { result < 10 }
+    ensures kept { ¬ (result ≡ 0) → (index.new ≡ index.old) × (result < 10) }
 {
     let mut session = given!(builder.take(alloc), or NoBuilder);
     let answer = session.start(function, args, results);

@@ -94,8 +94,7 @@ pub extern "C" fn wenc_builtin(
 ) -> u32
     ensures added { AddsIfAt builder.old.session builder.new.session (answer_of result index.new)
         (builtin_of opcode first second) }
-    ensures kept { ¬ (result ≡ 0) → index.new ≡ index.old }
-    ensures few { result < 10 }
+    ensures kept { ¬ (result ≡ 0) → (index.new ≡ index.old) × (result < 10) }
 {
     let mut session = given!(builder.take(alloc), or NoBuilder);
     let answer = session.builtin(opcode, first, second);

@@ -36,8 +36,7 @@ pub extern "C" fn wenc_core_exports(
     ensures numbers { IsText named debug_name.now → IsUtf8 names.now
         → ¬ (ArePacked core_item_of names.now exports.now)
         → Refuses 7 result builder.old.session builder.new.session }
-    ensures kept { ¬ (result ≡ 0) → index.new ≡ index.old }
-    ensures few { result < 10 }
+    ensures kept { ¬ (result ≡ 0) → (index.new ≡ index.old) × (result < 10) }
 {
     let debug_name = given!(text_where(named, debug_name));
     let names = given!(text(names));

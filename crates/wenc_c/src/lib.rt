@@ -11,6 +11,7 @@ mod adding;
 mod aliases;
 mod alone;
 mod builtins;
+pub mod callers;
 mod handle;
 mod instances;
 mod items;

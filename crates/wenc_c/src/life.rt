@@ -49,8 +49,7 @@ pub extern "C" fn wenc_finish(alloc: Global, builder: &mut Handle, len: &mut usi
     // The bytes are the whole of the items that were held.
     ensures finished { FinishesAt builder.old.session builder.new.session
         (answer_of result len.new) }
-    ensures kept { ¬ (result ≡ 0) → len.new ≡ len.old }
-    ensures few { result < 10 }
+    ensures kept { ¬ (result ≡ 0) → (len.new ≡ len.old) × (result < 10) }
 {
     let mut session = given!(builder.take(alloc), or NoBuilder);
     let answer = session.finish(alloc);
@@ -88,9 +87,8 @@ pub extern "C" fn wenc_count(
     ensures counted { (s : Spaces) → space_of space_number ≡ Some s
         → CountsAt s builder.old.session (answer_of result count.new) }
     ensures number { space_of space_number ≡ None → result ≡ 7 }
-    ensures kept { ¬ (result ≡ 0) → count.new ≡ count.old }
+    ensures kept { ¬ (result ≡ 0) → (count.new ≡ count.old) × (result < 10) }
     ensures same { builder.new.session ≡ builder.old.session }
-    ensures few { result < 10 }
 {
     let space = given!(space(space_number), or BadArgument);
     let session = given!(builder.take(alloc), or NoBuilder);

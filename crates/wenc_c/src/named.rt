@@ -33,8 +33,7 @@ pub extern "C" fn wenc_import(
         → Refuses 5 result builder.old.session builder.new.session }
     ensures number { IsUtf8 name.now → type_ref_of reference of ≡ None
         → Refuses 7 result builder.old.session builder.new.session }
-    ensures kept { ¬ (result ≡ 0) → index.new ≡ index.old }
-    ensures few { result < 10 }
+    ensures kept { ¬ (result ≡ 0) → (index.new ≡ index.old) × (result < 10) }
 {
     let name = given!(text(name));
     let ty = given!(type_ref(reference, of), or BadArgument);
@@ -74,8 +73,7 @@ pub extern "C" fn wenc_import_named(
         (given has_version_suffix version_suffix.now) (given has_external_id external_id.now)
         → type_ref_of reference of ≡ None
         → Refuses 7 result builder.old.session builder.new.session }
-    ensures kept { ¬ (result ≡ 0) → index.new ≡ index.old }
-    ensures few { result < 10 }
+    ensures kept { ¬ (result ≡ 0) → (index.new ≡ index.old) × (result < 10) }
 {
     let name = given!(name_of(
         name,
@@ -115,8 +113,7 @@ pub extern "C" fn wenc_export(
         → Refuses 7 result builder.old.session builder.new.session }
     ensures reference { IsUtf8 name.now → given_type_of reference of ≡ None
         → Refuses 7 result builder.old.session builder.new.session }
-    ensures kept { ¬ (result ≡ 0) → index.new ≡ index.old }
-    ensures few { result < 10 }
+    ensures kept { ¬ (result ≡ 0) → (index.new ≡ index.old) × (result < 10) }
 {
     let name = given!(text(name));
     let kind = given!(kind(kind_number), or BadArgument);
@@ -164,8 +161,7 @@ pub extern "C" fn wenc_export_named(
         (given has_version_suffix version_suffix.now) (given has_external_id external_id.now)
         → given_type_of reference of ≡ None
         → Refuses 7 result builder.old.session builder.new.session }
-    ensures kept { ¬ (result ≡ 0) → index.new ≡ index.old }
-    ensures few { result < 10 }
+    ensures kept { ¬ (result ≡ 0) → (index.new ≡ index.old) × (result < 10) }
 {
     let name = given!(name_of(
         name,

@@ -90,8 +90,7 @@ pub(crate) use given;
 /// Tells C an answer: a status, and where it is 0 what is put out.
 pub(crate) fn told(answer: Result<u32, Refused>, out: &mut u32) -> u32
     ensures told { answer_of result out.new ≡ answer }
-    ensures kept { ¬ (result ≡ 0) → out.new ≡ out.old }
-    ensures few { result < 10 }
+    ensures kept { ¬ (result ≡ 0) → (out.new ≡ out.old) × (result < 10) }
 {
     match answer {
         Ok(value) => {

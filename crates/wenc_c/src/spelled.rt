@@ -33,9 +33,8 @@ pub extern "C" fn wenc_item(
         → Refuses 5 result builder.old.session builder.new.session }
     ensures number { IsText named debug_name.now → 11 < section
         → Refuses 7 result builder.old.session builder.new.session }
-    ensures kept { ¬ (result ≡ 0) → index.new ≡ index.old }
+    ensures kept { ¬ (result ≡ 0) → (index.new ≡ index.old) × (result < 10) }
     ensures none { section ≡ 0 → index.new ≡ index.old }
-    ensures few { result < 10 }
 {
     let debug_name = given!(text_where(named, debug_name));
     if section > 11 {

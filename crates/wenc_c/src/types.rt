@@ -39,8 +39,7 @@ pub extern "C" fn wenc_record(
     ensures numbers { IsText named debug_name.now → IsUtf8 names.now
         → ¬ (ArePacked value_of names.now fields.now)
         → Refuses 7 result builder.old.session builder.new.session }
-    ensures kept { ¬ (result ≡ 0) → index.new ≡ index.old }
-    ensures few { result < 10 }
+    ensures kept { ¬ (result ≡ 0) → (index.new ≡ index.old) × (result < 10) }
 {
     let debug_name = given!(text_where(named, debug_name));
     let names = given!(text(names));
@@ -82,8 +81,7 @@ pub extern "C" fn wenc_function(
     ensures reference { IsText named debug_name.now → IsUtf8 names.now
         → answer_type_of reference of ≡ None
         → Refuses 7 result builder.old.session builder.new.session }
-    ensures kept { ¬ (result ≡ 0) → index.new ≡ index.old }
-    ensures few { result < 10 }
+    ensures kept { ¬ (result ≡ 0) → (index.new ≡ index.old) × (result < 10) }
 {
     let debug_name = given!(text_where(named, debug_name));
     let names = given!(text(names));
