@@ -23,8 +23,8 @@ const LIBRARY: [&str; 10] = [
 /// The crates behind the programs.
 const PROGRAMS: [&str; 2] = ["wenc", "driven"];
 
-/// What the tests call beside those: proved callers, and the examples of the documentation.
-const TESTS: [&str; 1] = ["facts"];
+/// What the tests call beside those: proved callers, the examples of the documentation, and types of a stranger's own.
+const TESTS: [&str; 2] = ["facts", "strangers"];
 
 /// What `src/proved` has in the place of a crate.
 const BY_HAND: [&str; 1] = ["hex"];

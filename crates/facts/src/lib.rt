@@ -1,5 +1,5 @@
 //! Facts that are proved: worked texts and components on literals, that derived equality goes by value and hashes by
-//! equality, what runs of commands tell, callers, and a stranger's own types.
+//! equality, what runs of commands tell, and callers.
 #![tactic(auto)]
 
 pub mod applied;
@@ -15,10 +15,8 @@ pub mod finished;
 pub mod hashes;
 pub mod holders;
 pub mod importing;
-pub mod lights;
 pub mod listed;
 pub mod numbers;
-pub mod own;
 pub mod parts;
 pub mod read;
 pub mod rebuilt;

@@ -34,7 +34,7 @@ pub const WAYS: [&str; 26] = [
     "main is pub",
 ];
 
-const CRATES: [&str; 14] = [
+const CRATES: [&str; 15] = [
     "wenc_base",
     "wenc_parts",
     "wenc_types",
@@ -48,6 +48,7 @@ const CRATES: [&str; 14] = [
     "wenc",
     "driven",
     "facts",
+    "strangers",
     "hex",
 ];
 

@@ -1,7 +1,7 @@
 //! Components and modules, section by section.
 
 use super::checks::are;
-use crate::proved::facts::own::{Large, Own};
+use crate::proved::strangers::own::{Large, Own};
 use crate::proved::rt_std::alloc::Global;
 use crate::proved::wenc_base::{Fault, Module, RawCustomSection};
 use crate::proved::wenc_sections::{Component, ComponentAliasSection};

@@ -1,7 +1,7 @@
 //! Nested modules and components, and starts.
 
 use super::checks::alone;
-use crate::proved::facts::own::Own;
+use crate::proved::strangers::own::Own;
 use crate::proved::rt_std::alloc::Global;
 use crate::proved::wenc_base::{CustomSection, Module};
 use crate::proved::wenc_sections::{

@@ -1,6 +1,6 @@
 //! Numbers, texts, lists, and values that are made of others.
 
-use crate::proved::facts::own::{Light, write_all};
+use crate::proved::strangers::own::{Light, write_all};
 use crate::proved::rt_std::alloc::{AllocError, Global};
 use crate::proved::rt_std::string::String;
 use crate::proved::rt_std::vec::Vec;

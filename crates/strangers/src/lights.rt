@@ -4,7 +4,7 @@ ghost use Rattle.std.specs.Cmp.Lexicographic.{pointwise};
 ghost use Rattle.std.specs.Option.{option_eq};
 ghost use Rattle.wenc_base.specs.FormLaws.{FormLaws};
 ghost use Rattle.wenc_base.specs.Forms.{list, option};
-ghost use Rattle.facts.specs.Own.{light};
+ghost use Rattle.strangers.specs.Own.{light};
 
 use crate::own::Light;
 use wasm_encoder::laws::{texts_tell_equals, values_are_lawful};

@@ -1,6 +1,4 @@
-//! Types that a builder begins, and encoders end. The must-fail edits beside it end them otherwise: by hand, or by an
-//! encoder of another kind.
-#![tactic(auto)]
+//! Types that a builder begins, and encoders end.
 
 use std::alloc::Allocator;
 use wenc_base::Fault;

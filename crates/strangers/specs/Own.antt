@@ -3,8 +3,8 @@ use Rattle.std.proofs.Common.{[], ◌∷◌, refl}
 use Rattle.wenc_base.specs.Piece.{Form, byte}
 use Rattle.wenc_base.specs.Readers.{Lawful, Reader, give, nowhere, choose}
 use Rattle.wenc_base.specs.laws.Lawful.{row_byte}
-use Rattle.facts.specs.declared.own.Light.{Light}
-use Rattle.facts.specs.declared.own.Light.TheVariants.{Red, Green}
+use Rattle.strangers.specs.declared.own.Light.{Light}
+use Rattle.strangers.specs.declared.own.Light.TheVariants.{Red, Green}
 
 abbrev pub light : Form Light
 light Red = byte 0x72

@@ -5,7 +5,7 @@ ghost use Rattle.wenc_base.specs.Piece.{◌⨾◌, nothing, refused_for, verbati
 ghost use Rattle.wenc_base.specs.laws.Delimited.{itself};
 ghost use Rattle.wenc_base.specs.laws.Serves.{serves_itself};
 ghost use Rattle.wenc_base.specs.declared.fault.Fault.TheVariants.{TooLarge, Unfinished};
-ghost use Rattle.facts.specs.Own.{light};
+ghost use Rattle.strangers.specs.Own.{light};
 
 use std::alloc::Allocator;
 use wenc_base::{Delimited, DelimitedEq, Encode, Fault, Section};
@@ -32,8 +32,8 @@ impl Encode for Light {
 }
 
 impl Delimited for Light {
-    ghost use Rattle.facts.specs.Own.{read_light, light_lawful};
-    ghost use Rattle.facts.specs.declared.own.Light.{Light as Seen'};
+    ghost use Rattle.strangers.specs.Own.{read_light, light_lawful};
+    ghost use Rattle.strangers.specs.declared.own.Light.{Light as Seen'};
 
     ghost Seen = { Seen' };
 
