@@ -24,7 +24,7 @@ const LIBRARY: [&str; 10] = [
 const PROGRAMS: [&str; 2] = ["wenc", "driven"];
 
 /// What the tests call beside those: proved callers, the examples of the documentation, and types of a stranger's own.
-const TESTS: [&str; 2] = ["facts", "strangers"];
+const TESTS: [&str; 3] = ["facts", "strangers", "values"];
 
 /// What `src/proved` has in the place of a crate.
 const BY_HAND: [&str; 1] = ["hex"];

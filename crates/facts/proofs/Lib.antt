@@ -1,5 +1,3 @@
-pub mod DefinedEqualities
-pub mod Equalities
 pub mod Functions
 pub mod NeverUnfinished
 pub mod Options

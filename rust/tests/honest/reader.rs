@@ -34,7 +34,7 @@ pub const WAYS: [&str; 26] = [
     "main is pub",
 ];
 
-const CRATES: [&str; 15] = [
+const CRATES: [&str; 16] = [
     "wenc_base",
     "wenc_parts",
     "wenc_types",
@@ -49,6 +49,7 @@ const CRATES: [&str; 15] = [
     "driven",
     "facts",
     "strangers",
+    "values",
     "hex",
 ];
 

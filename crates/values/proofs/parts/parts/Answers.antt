@@ -1,7 +1,7 @@
 use Rattle.std.specs.Str.{IsUtf8}
 use Rattle.std.proofs.Common.{[], ◌∷◌, refl, inr, lit<, lit≤}
 use Rattle.wenc_base.specs.Number.{last, more}
-use Rattle.facts.proofs.parts.parts.Goals as goal
+use Rattle.values.proofs.parts.parts.Goals as goal
 
 pub returns-clause-padded_index : goal.returns-clause-padded_index
 returns-clause-padded_index c = (

@@ -2,7 +2,7 @@ use Rattle.std.proofs.Common.{refl, arith}
 use Rattle.wenc_base.specs.Piece.{Wide}
 use Rattle.wenc_base.specs.Number.{groups, last, more}
 use Rattle.wenc_base.specs.laws.Words.{word_goes_on, ends_here}
-use Rattle.facts.proofs.numbers.numbers.Goals as goal
+use Rattle.values.proofs.numbers.numbers.Goals as goal
 
 pub returns : goal.returns
 unfolding groups

@@ -22,7 +22,7 @@ use Rattle.wenc_types.specs.declared.defined_tree.DefinedTree.{DefinedTree}
 use Rattle.wenc_types.specs.declared.defined_tree.DefinedTree.TheVariants as trees
 use Rattle.wenc_types.specs.contracts.defined_tree.CaseTreePartialEq.TheImpl.{eq-value as case_eq'}
 use Rattle.wenc_types.specs.contracts.defined_tree.DefinedTreePartialEq.TheImpl.{eq-value as defined_eq'}
-use Rattle.facts.proofs.Equalities.{both, lists, same_lists}
+use Rattle.values.proofs.Equalities.{both, lists, same_lists}
 
 -- ---- of parts
 

@@ -1,0 +1,2 @@
+pub mod DefinedEqualities
+pub mod Equalities

@@ -1,0 +1,11 @@
+//! Facts that are proved, of values: worked texts and components on literals, and that derived equality goes by value and
+//! hashes by equality.
+#![tactic(auto)]
+
+pub mod canonicals;
+pub mod components;
+pub mod equality;
+pub mod hashes;
+pub mod numbers;
+pub mod parts;
+pub mod types;
