@@ -1,4 +1,4 @@
-//! Choice bytes for `driven`; docs/DRIVEN.md says which bytes choose what.
+//! Choice bytes for `driven`; crates/driven/README.md says which bytes choose what.
 
 use crate::random::Random;
 
