@@ -237,7 +237,7 @@ uint32_t wenc_import_named(wenc_builder *builder, const uint8_t *name, size_t na
 uint32_t wenc_export(wenc_builder *builder, const uint8_t *name, size_t name_len, uint32_t kind,
                      uint32_t item, uint32_t ref, uint32_t of, uint32_t *index);
 
-/* The same under a name with options, as of wenc_import_named. */
+/* Exports an item as wenc_export does, under a name with options, as of wenc_import_named. */
 uint32_t wenc_export_named(wenc_builder *builder, const uint8_t *name, size_t name_len,
                            bool has_implements, const uint8_t *implements, size_t implements_len,
                            bool has_version_suffix, const uint8_t *version_suffix,

@@ -171,7 +171,7 @@ pub(crate) fn named<S: AsRef<str>, T>(
     values.into_iter().map(|(name, value)| (Name(name), value))
 }
 
-/// The same of two other things.
+/// Triples of a user's name and two other things, as the proved code takes them.
 #[inline]
 pub(crate) fn named_items<S: AsRef<str>, T, U>(
     values: impl IntoIterator<Item = (S, T, U)>,

@@ -30,7 +30,7 @@ fn expect(name: &str, sections: &[u8], out: &str, err: Option<&str>) {
     expect_of(name, file(name, sections), out, err);
 }
 
-/// The same of a file.
+/// The file is printed so, and that is said of it, with its path in front.
 fn expect_of(name: &str, file: PathBuf, out: &str, err: Option<&str>) {
     let told = dump(&file);
     assert_eq!(String::from_utf8_lossy(&told.stdout), out, "{name}");

@@ -50,7 +50,7 @@ impl<'a> ComponentExternName<'a> {
         }
     }
 
-    /// The same of a name that is kept.
+    /// The name as the proved code takes it, lent. It takes no memory.
     fn lent(&self) -> proved::ComponentExternName<'_> {
         fn option<'t>(text: &'t Option<Cow<'_, str>>) -> Option<CowStr<'t>> {
             text.as_deref().map(CowStr::Borrowed)

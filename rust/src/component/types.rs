@@ -120,7 +120,9 @@ macro_rules! declaring {
                     Ok(self.0.alias_outer_type(count, outer)?)
                 }
 
-                /// The same of a core type. Answers the alias's own index among the core types.
+                /// Declares an alias of a core type that an enclosing component has: how many components
+                /// further out that is, and which index the type has there. Answers the alias's own
+                /// index among the core types.
                 fn alias_core_type | try_alias_core_type(&mut self, count: u32, outer: u32) -> u32 {
                     Ok(self.0.alias_core_type(count, outer)?)
                 }

@@ -105,7 +105,8 @@ pub fn read(
     if lines.0 == lines.1 { Ok(()) } else { Err(format!("{} lines became {}", lines.0, lines.1)) }
 }
 
-/// The same of their tokens.
+/// Reads the tokens of a source beside those of its Rust, and counts each way in which they part.
+/// Refuses what is in no way.
 pub fn compare(
     crate_name: &str,
     old: &[Token],

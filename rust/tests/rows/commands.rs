@@ -37,7 +37,7 @@ pub fn exported(instance: u32, kind: ComponentExportKind, name: &str) -> Command
     alias(AliasTree::InstanceExport { instance, kind, name: name.into() })
 }
 
-/// The same of a core instance.
+/// What the core instance with this index exports.
 pub fn core_exported(instance: u32, kind: ExportKind, name: &str) -> Command {
     alias(AliasTree::CoreInstanceExport { instance, kind, name: name.into() })
 }

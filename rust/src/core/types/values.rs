@@ -100,7 +100,7 @@ impl RefType {
         Self { nullable, heap_type: HeapType::Abstract { shared, ty } }
     }
 
-    /// The same references, but null is among them or not.
+    /// These references, with null among them or without.
     pub fn nullable(mut self, nullable: bool) -> Self {
         self.nullable = nullable;
         self

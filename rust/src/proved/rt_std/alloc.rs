@@ -62,7 +62,7 @@ impl From<TryReserveError> for AllocError {
 
 /// Rattle's `Clone`, which can be refused.
 pub trait TryClone: Sized {
-    /// The same value once more.
+    /// A copy of the value.
     fn try_clone(&self) -> Result<Self, AllocError>;
 }
 

@@ -99,7 +99,7 @@ const FAULTS: &[(&str, ListFault)] = &[
     (TOO_DEEP, ListFault::TooDeep { place: 8 }),
 ];
 
-/// The same by the library's call.
+/// `list_text` answers what the program prints, or why it prints nothing.
 #[test]
 fn texts_are_listed_by_a_call() {
     for (text, (status, out, _)) in TEXTS {

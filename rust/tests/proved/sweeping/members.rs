@@ -13,7 +13,7 @@ pub trait Members<'a>: Sized {
     /// Adds a member of few bytes.
     fn add_short(&mut self) -> Result<(), Fault>;
 
-    /// The same members once more.
+    /// A copy.
     fn again(&self) -> Result<Self, Fault>;
 
     /// All that can be asked of it, in bytes.
@@ -123,7 +123,8 @@ fn sweep_clone<'a, M: Members<'a>>(heap: &'a Refusing, count: u32, asks: bool) {
     assert_eq!(members.state(), wanted);
 }
 
-/// The same of up to eight members. A copy of none asks for memory where `asks` says so.
+/// Has the requests of copies of up to eight members refused in turn. A copy of none asks for memory
+/// where `asks` says so.
 pub fn sweep_clones<'a, M: Members<'a>>(heap: &'a Refusing, asks: bool) {
     for count in 0..9 {
         sweep_clone::<M>(heap, count, asks || count > 0);

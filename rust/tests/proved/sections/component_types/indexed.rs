@@ -104,7 +104,7 @@ impl<A: Allocator> Makes<ModuleType<A>> for Outer {
 /// What is asked of one with a declaration that counts as a core type.
 const A_CORE_TYPE: &[u8] = &[1, 1, 0, 0, 0, 1];
 
-/// The same of one that counts as an instance.
+/// What is asked of one with a declaration that counts as an instance.
 const AN_INSTANCE: &[u8] = &[1, 0, 0, 1, 0, 1];
 
 /// A call, the index that it answers behind those above it, what it counts as alone, and its text,
