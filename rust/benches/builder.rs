@@ -124,7 +124,7 @@ fn fnv1a(bytes: &[u8]) -> u64 {
 }
 
 fn main() {
-    // `cargo bench` has a word of its own behind ours.
+    // `cargo bench` has a word of its own after ours.
     let words: Vec<String> = std::env::args().skip(1).filter(|word| word != "--bench").collect();
     let n = words.first().map_or(Ok(1000), |word| word.parse()).expect("a number of rounds");
     let what = words.get(1).map_or("", |word| word.as_str());

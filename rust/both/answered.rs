@@ -54,7 +54,7 @@ fn input(block: &str) -> Input {
     Input { words: &[], bytes, wanted: Some(format!("{wanted}\n").into()) }
 }
 
-/// The first command's kind, where it was accepted, and the second's behind the start, where it was
+/// The first command's kind, where it was accepted, and the second's after the start, where it was
 /// refused.
 pub fn count(input: &Input, output: &Output) -> Option<Vec<usize>> {
     let mut counted = vec![0; COUNTED.len()];

@@ -174,7 +174,7 @@ fn component(output: &Output) -> &[u8] {
 fn commands_of(_: &Input, output: &Output) -> Option<Vec<usize>> {
     let lines: Vec<&[u8]> = output.stdout.split(|byte| *byte == b'\n').collect();
     let refused = lines.iter().filter(|line| line.starts_with(b"refused ")).count();
-    // The component is one line, and nothing stands behind the last line's end.
+    // The component is one line, and nothing follows the last line's end.
     let commands = lines.len().checked_sub(2)?;
     (output.status.code() == Some(0)).then(|| vec![commands - refused, refused])
 }

@@ -13,7 +13,7 @@ use wenc::{Component, ComponentSection, ComponentSectionId, Encode, ListFault, R
 /// A section that is kept as it stands.
 struct Kept<'a> {
     id: u8,
-    /// What stands behind the id.
+    /// What follows the id.
     text: &'a [u8],
 }
 

@@ -83,7 +83,7 @@ impl<'a> Reader<'a> {
         Ok(ComponentValType::Type(index))
     }
 
-    /// A function's type, which is declared behind those that it needs.
+    /// A function's type, which is declared after those that it needs.
     fn function_type(&mut self, world: &mut ComponentType) -> Result<ComponentTypeRef, String> {
         self.expect("func")?;
         let params = self.list(("(", ")"), |reader| {

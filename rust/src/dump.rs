@@ -74,7 +74,7 @@ impl<W: Write> Printer<'_, W> {
         self.line(depth, &format!("{place} {text}"))
     }
 
-    /// A name in quotes, behind a space, or nothing.
+    /// A name in quotes, after a space, or nothing.
     fn quoted(&self, name: Option<&str>) -> String {
         name.map_or_else(String::new, |name| {
             format!(" {}", self.painted(Part::Name, &format!("{name:?}")))

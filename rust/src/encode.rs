@@ -132,7 +132,7 @@ impl Encode for usize {
     }
 }
 
-/// Writes values as the proved code writes what stands behind the arrow.
+/// Writes values as the proved code writes what follows the arrow.
 macro_rules! encode {
     ($($type:ty, $value:ident => $proved:expr;)*) => {
         $(impl $crate::Encode for $type {

@@ -80,7 +80,7 @@ fn debug_names() {
     custom \"component-name\", 11 bytes
 ";
     expect("names", &[FUNCTION, names].concat(), out, None);
-    // Another subsection, and behind it what is none.
+    // Another subsection, and after it what is none.
     let names = b"\0\x1f\x0ecomponent-name\x01\x05\x01\x01\0\x01g\x09\x02ab\x01\x03\x01\x01\0";
     let out = "\
 0x0 component, 56 bytes

@@ -148,7 +148,7 @@ fn each_change_is_found() {
     assert!(read(&format!("{RUST}fn g() {{}}")).is_err(), "an item that came in");
 }
 
-/// In one file in five, if it is short: each token left out, changed, and another put in behind it.
+/// In one file in five, if it is short: each token left out, changed, and another put in after it.
 #[test]
 fn each_token_counts() {
     let mut sources = sources();

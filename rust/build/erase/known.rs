@@ -3,7 +3,7 @@
 /// Methods that are handed an allocator there, and not by Rust's library, which has them on the same types.
 pub const ALLOCATING: [&str; 1] = ["collect"];
 
-/// Macros that are handed an allocator behind `in`, and that the shim has.
+/// Macros that are handed an allocator after `in`, and that the shim has.
 pub const HANDED: [&str; 2] = ["format", "vec"];
 
 /// Macros that mean the same there and here.

@@ -98,7 +98,7 @@ fn character_len(rest: &str, lead: usize) -> Result<(Kind, usize), &'static str>
     Ok((Kind::Literal, lead + len.ok_or("a character without an end")?))
 }
 
-/// How many bytes a text or a character has behind its first quote.
+/// How many bytes a text or a character has after its first quote.
 fn quoted_len(quoted: &str, quote: char) -> Option<usize> {
     let mut is_escaped = false;
     for (at, c) in quoted.char_indices() {

@@ -53,7 +53,7 @@ impl ComponentNameSection {
             Ok(self.0.component(name)?)
         }
 
-        /// Appends a subsection with this id, from 0 to 255, and these bytes behind its size.
+        /// Appends a subsection with this id, from 0 to 255, and these bytes after its size.
         fn raw | try_raw(&mut self, id: u8, data: &[u8]) -> () {
             Ok(self.0.raw(id, data)?)
         }

@@ -7,7 +7,7 @@ use alloc::borrow::Cow;
 /// A section that the standard gives no meaning (WebAssembly 3.0, binary format, "Custom Section"). It stands in a component
 /// or in a core module.
 ///
-/// It is refused, when it is encoded, where it would have more than 4294967295 bytes behind its size.
+/// It is refused, when it is encoded, where it would have more than 4294967295 bytes after its size.
 ///
 /// ```
 /// use wenc::{Component, CustomSection};
@@ -20,7 +20,7 @@ use alloc::borrow::Cow;
 pub struct CustomSection<'a> {
     /// The name.
     pub name: Cow<'a, str>,
-    /// The bytes behind the name.
+    /// The bytes after the name.
     pub data: Cow<'a, [u8]>,
 }
 
@@ -32,7 +32,7 @@ impl CustomSection<'_> {
     }
 }
 
-/// The bytes of a custom section behind its id, its size among them, as they are (WebAssembly 3.0, binary format, "Custom
+/// The bytes of a custom section after its id, its size among them, as they are (WebAssembly 3.0, binary format, "Custom
 /// Section"). Nothing checks that they are such a section.
 ///
 /// ```

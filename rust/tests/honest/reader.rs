@@ -167,7 +167,7 @@ impl<'a> Source<'a> {
         Source { crate_name, tokens, at: 0, error: None }
     }
 
-    /// The token so many behind this.
+    /// The token so many after this.
     fn text(&self, ahead: usize) -> &'a str {
         self.tokens.get(self.at + ahead).map_or("", |token| &token.text)
     }
@@ -185,7 +185,7 @@ impl<'a> Source<'a> {
         words.split(' ').enumerate().all(|(i, word)| self.text(ahead + i) == word)
     }
 
-    /// How many tokens there are from the bracket so many behind this to the one that closes it, with both.
+    /// How many tokens there are from the bracket so many after this to the one that closes it, with both.
     fn block(&self, ahead: usize) -> usize {
         let mut depth = 0;
         for len in 1.. {

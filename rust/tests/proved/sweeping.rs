@@ -68,7 +68,7 @@ pub fn takes_no_memory<E: Encode>(value: &E) {
     assert!(sink.is_empty() && heap.requests() == 0);
 }
 
-/// Has the requests of a section refused in turn, alone and behind its id.
+/// Has the requests of a section refused in turn, alone and after its id.
 pub fn sweep_section<S: ComponentSection>(section: &S) {
     sweep_encode(section);
     sweep(|sink| section.append_to_component(sink));

@@ -16,7 +16,7 @@ pub fn component(listing: &Listing) -> Vec<u8> {
     component.finish()
 }
 
-/// The section's calls, one for each item, and the section behind the others.
+/// The section's calls, one for each item, and the section after the others.
 macro_rules! section {
     ($component:ident, $items:expr, $section:expr, $of:ident, $($item:pat => $call:expr),+) => {{
         #[allow(unused_mut)]

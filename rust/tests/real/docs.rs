@@ -88,7 +88,7 @@ fn byte(text: &str) -> u8 {
 }
 
 /// The components that an example has, or says it makes: all literals that begin as one, and what is compared with the
-/// bytes behind a header.
+/// bytes after a header.
 fn components(code: &str) -> Vec<Vec<u8>> {
     let whole = code.match_indices(r#"b"\0asm\x0d"#).map(|(at, _)| literal(&code[at..]));
     let mut found: Vec<Vec<u8>> = whole.collect();

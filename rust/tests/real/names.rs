@@ -34,7 +34,7 @@ impl<'a> Reader<'a> {
     }
 }
 
-/// The subsections of a section of names: each whole, and behind its id and its size.
+/// The subsections of a section of names: each whole, and after its id and its size.
 fn subsections(data: &[u8]) -> Vec<(&[u8], &[u8])> {
     let (mut found, mut rest) = (Vec::new(), Reader(data));
     while !rest.0.is_empty() {
@@ -99,7 +99,7 @@ fn with_name(mut command: Command, name: Option<&str>) -> Command {
     command
 }
 
-/// The bytes behind the name of the section of names, where there is one.
+/// The bytes after the name of the section of names, where there is one.
 fn section(bytes: &[u8]) -> Option<Vec<u8>> {
     items(list(bytes).ok()?).find_map(|item| match item {
         ItemTree::Custom { name, data } if &*name == "component-name" => Some(data.into()),

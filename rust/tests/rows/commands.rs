@@ -7,7 +7,7 @@ use wenc::{ComponentExportKind, ComponentOuterAliasKind, ComponentTypeRef, Error
 /// A command, and its answer.
 pub type Call = (Command, Result<Option<u32>, Error>);
 
-/// The commands are answered so, and make the component with these bytes behind its header.
+/// The commands are answered so, and make the component with these bytes after its header.
 pub fn builds<const N: usize>(calls: [Call; N], wanted: &str) {
     let (commands, answers): (Vec<_>, Vec<_>) = calls.into_iter().unzip();
     let built = build(&commands).unwrap();

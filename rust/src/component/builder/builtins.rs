@@ -34,7 +34,7 @@ macro_rules! calls {
         /// a core memory, `table` and `table_index` that of a core table. `async_` says whether the call may be answered
         /// later. Options are written in the order in which they come.
         ///
-        /// Each has its own name as its debug name, `context.get` and `context.set` with the slot's number behind it.
+        /// Each has its own name as its debug name, `context.get` and `context.set` with the slot's number after it.
         /// Upstream gives `thread.yield-then-promote` the name of `thread.yield-then-resume`, and has
         /// `thread.spawn-indirect` on a section alone.
         impl ComponentBuilder {

@@ -143,13 +143,13 @@ impl ComponentBuilder {
             Ok(self.0.custom_section(&section.lent())?)
         }
 
-        /// Adds a custom section with these bytes behind its id, its size and name among them. Nothing checks that they are a
+        /// Adds a custom section with these bytes after its id, its size and name among them. Nothing checks that they are a
         /// section's (component model, binary format, "Component Definitions").
         fn raw_custom_section | try_raw_custom_section(&mut self, section: &[u8]) -> () {
             Ok(self.0.raw_custom_section(section)?)
         }
 
-        /// Adds a producers section, the custom section with the name `producers`: its bytes are written straight behind the
+        /// Adds a producers section, the custom section with the name `producers`: its bytes are written straight after the
         /// component's (tool conventions, "Producers Section").
         ///
         /// ```

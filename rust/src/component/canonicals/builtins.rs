@@ -1,7 +1,7 @@
 //! The table of the functions that the component model provides, out of which builder and section make their calls.
 
 /// Hands the table to a macro. A row has what the function does, the names of its call, and what the builder's call takes;
-/// behind `or` what the section's takes, where that names it otherwise. The calls of the second part take options besides,
+/// after `or` what the section's takes, where that names it otherwise. The calls of the second part take options besides,
 /// those of the third the type and the number of a slot.
 macro_rules! builtins {
     ($calls:ident) => {

@@ -102,7 +102,7 @@ impl<T, A: Allocator> Vec<T, A> {
         self.inner.remove(at)
     }
 
-    /// Cuts off all behind the first `len` elements.
+    /// Cuts off all after the first `len` elements.
     #[inline]
     pub fn truncate(&mut self, len: usize) {
         self.inner.truncate(len);

@@ -105,7 +105,7 @@ const LONG_ALIAS: &[(Plain<'static>, &[u8], &[u8])] = &[(
 const CORE_TYPE_ALIAS: Alias<'static> =
     Alias::Outer { kind: ComponentOuterAliasKind::CoreType, count: 1, index: 0 };
 
-/// What is imported and exported, by its name, what it counts as, and its text behind the byte that
+/// What is imported and exported, by its name, what it counts as, and its text after the byte that
 /// says which it is.
 const NAMED: &[(&str, ComponentTypeRef, &[u8], &[u8])] = &[
     ("m", ComponentTypeRef::Module(5), NOTHING, b"\x00\x01m\x00\x11\x05"),
@@ -205,7 +205,7 @@ fn open_function() -> CoreTypeTree {
     CoreTypeTree::Group(GroupTree::Sub(subtype(&OPEN)))
 }
 
-/// The declaration, alone, counts as this, and has this text behind its first byte.
+/// The declaration, alone, counts as this, and has this text after its first byte.
 fn sweep_in_both(
     heap: &Refusing,
     call: &Declaration<'_>,
