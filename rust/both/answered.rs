@@ -11,8 +11,8 @@ use std::process::Output;
 
 const ANSWERED: &str = include_str!("answered.txt");
 
-/// Kinds of commands in the order of `Command`: as the first ones, and then, after that start, those
-/// of which one would be a value too many.
+/// Kinds of commands in the order of `Command`: as the first ones, and then, after that start,
+/// those of which one would be a value too many.
 pub const COUNTED: [&str; 20] = [
     "CoreModule",
     "CoreInstance",

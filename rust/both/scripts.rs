@@ -7,7 +7,8 @@ const KINDS: [&str; 6] = ["module", "func", "value", "type", "instance", "compon
 /// What names are made of.
 const LETTERS: [&str; 12] = ["a", "b", "run", "-", ":", "/", "@1", "Z", "é", "€", "𝄞", "\t"];
 
-/// Functions that the component model provides, and the words after each: `i` is an index, `b` a flag.
+/// Functions that the component model provides, and the words after each: `i` is an index, `b` a
+/// flag.
 const BUILTINS: [(&str, &str); 40] = [
     ("resource.new", "i"),
     ("resource.drop", "i"),

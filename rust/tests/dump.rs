@@ -1,4 +1,5 @@
-//! The program `wenc-dump`: what it prints of worked components and of the corpus, and what it says of bad ones.
+//! The program `wenc-dump`: what it prints of worked components and of the corpus, and what it says
+//! of bad ones.
 
 use std::fs;
 use std::path::{Path, PathBuf};
@@ -179,8 +180,8 @@ fn digests_are_fnv() {
     assert_eq!(digest(b"foobar"), 0x8594_4171_f739_67e8);
 }
 
-/// Each line of `corpus/dumps.txt` has a component's name, and either the lines of what is printed and their digest, or what is
-/// said of it.
+/// Each line of `corpus/dumps.txt` has a component's name, and either the lines of what is printed
+/// and their digest, or what is said of it.
 #[test]
 fn the_corpus() {
     let stored = fs::read_to_string(corpus("dumps.txt")).expect("the corpus is there");

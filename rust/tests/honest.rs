@@ -1,5 +1,6 @@
-//! Reads each source beside the Rust that the build script made of it. Where they part, it has to be in one of the ways
-//! that `honest/reader.rs` lists; whatever else is left out, changed, added or moved to another line is found.
+//! Reads each source beside the Rust that the build script made of it. Where they part, it has to
+//! be in one of the ways that `honest/reader.rs` lists; whatever else is left out, changed, added
+//! or moved to another line is found.
 
 #[path = "honest/lexer.rs"]
 mod lexer;

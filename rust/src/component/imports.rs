@@ -11,8 +11,8 @@ use alloc::string::String;
 
 pub use proved::{ComponentTypeRef, TypeBounds};
 
-/// The name of an import or an export, with the options that a name may have (component model, binary format,
-/// `importname'` and `exportname'`).
+/// The name of an import or an export, with the options that a name may have (component model,
+/// binary format, `importname'` and `exportname'`).
 ///
 /// ```
 /// use wenc::ComponentExternName;

@@ -6,8 +6,9 @@ use crate::twins::twins;
 use crate::{ComponentSection, CustomSection, NameMap};
 
 collections! {
-    /// Names of a component and of the items in it, for people who read it: a custom section (component model, binary
-    /// format, "Name Section"). Nothing is asked of the order of the calls.
+    /// Names of a component and of the items in it, for people who read it: a custom section
+    /// (component model, binary format, "Name Section"). Nothing is asked of the order of the
+    /// calls.
     ///
     /// ```
     /// use wenc::{Component, ComponentNameSection, NameMap};

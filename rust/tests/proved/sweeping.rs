@@ -1,5 +1,5 @@
-//! Calls that have each of their requests for memory refused in turn. A refused request has to be answered with want of
-//! memory and change nothing, and the same call has to succeed afterwards.
+//! Calls that have each of their requests for memory refused in turn. A refused request has to be
+//! answered with want of memory and change nothing, and the same call has to succeed afterwards.
 
 pub mod members;
 
@@ -31,7 +31,8 @@ fn started(heap: &Refusing) -> Vec<u8, &Refusing> {
     sink
 }
 
-/// Has the requests of a call that appends to a sink refused in turn, of which there is at least one.
+/// Has the requests of a call that appends to a sink refused in turn, of which there is at least
+/// one.
 fn sweep(append: impl Fn(&mut Vec<u8, &Refusing>) -> Result<(), Fault>) {
     let ample = Refusing::new();
     let mut wanted = started(&ample);
