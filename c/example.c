@@ -1,5 +1,5 @@
-/* A component that imports an instance, has a nested component and a core module, and exports what it lifts from that module:
- * its bytes in hexadecimal, and its sections.
+/* A component that imports an instance, has a nested component and a core module, and exports what
+ * it lifts from that module: its bytes in hexadecimal, and its sections.
  *
  *     ./c/archive
  *     gcc -Wall -Wextra -Werror -o example c/example.c c/out/libwenc.a && ./example */

@@ -146,7 +146,7 @@ enum wenc_outer_kind {
 };
 
 /* A part of a list of named things: how many bytes its name has, and what has the name, by two
- * numbers. The names are handed in as one text, one behind the other; each is whole characters of
+ * numbers. The names are handed in as one text, one after the other; each is whole characters of
  * it, and together they are all of it. Where some of the text is left over, or it is too short, or
  * a name ends within a character, the call is refused: WENC_BAD_ARGUMENT. */
 typedef struct {
@@ -237,7 +237,7 @@ uint32_t wenc_import_named(wenc_builder *builder, const uint8_t *name, size_t na
 uint32_t wenc_export(wenc_builder *builder, const uint8_t *name, size_t name_len, uint32_t kind,
                      uint32_t item, uint32_t ref, uint32_t of, uint32_t *index);
 
-/* The same under a name with options, as of wenc_import_named. */
+/* Exports an item as wenc_export does, under a name with options, as of wenc_import_named. */
 uint32_t wenc_export_named(wenc_builder *builder, const uint8_t *name, size_t name_len,
                            bool has_implements, const uint8_t *implements, size_t implements_len,
                            bool has_version_suffix, const uint8_t *version_suffix,
@@ -335,7 +335,7 @@ uint32_t wenc_item(wenc_builder *builder, uint32_t section, bool named, const ui
 uint32_t wenc_custom_section(wenc_builder *builder, const uint8_t *name, size_t name_len,
                              const uint8_t *data, size_t data_len);
 
-/* Adds a custom section with these bytes behind its id. Nothing checks that they are a
+/* Adds a custom section with these bytes after its id. Nothing checks that they are a
  * section's. */
 uint32_t wenc_raw_custom_section(wenc_builder *builder, const uint8_t *bytes, size_t len);
 

@@ -1,14 +1,14 @@
-//! What building costs. Names are made before the time is taken; what is printed is how many bytes came, how long it took,
-//! and the hash of the bytes, which are upstream's.
+//! What building costs. Names are made before the time is taken; what is printed is how many bytes
+//! came, how long it took, and the hash of the bytes, which are upstream's.
 //!
-//!     cargo bench --offline -- N            rounds of seven calls of the builder: each call opens another section
-//!     cargo bench --offline -- N grouped    the same calls, each N times, so that neighbours share a section
+//!     cargo bench --offline -- N            N rounds of seven calls, each of which opens a section
+//!     cargo bench --offline -- N grouped    these calls, each N times: neighbours share a section
 //!     cargo bench --offline -- N imports    a section by hand of N imports
 //!     cargo bench --offline -- N exports    an instance type of N exports
 //!     cargo bench --offline -- N numbers    `Encode` of N numbers
 //!
-//! `turns` compiles this file over upstream too, with the `use` of the next line changed alone; `count` counts the
-//! instructions that `work` takes.
+//! `turns` compiles this file over upstream too, with `use wenc::*;` alone changed;
+//! `count` counts the instructions that `work` takes.
 
 use std::hint::black_box;
 use std::time::Instant;
@@ -124,7 +124,7 @@ fn fnv1a(bytes: &[u8]) -> u64 {
 }
 
 fn main() {
-    // `cargo bench` has a word of its own behind ours.
+    // `cargo bench` has a word of its own after ours.
     let words: Vec<String> = std::env::args().skip(1).filter(|word| word != "--bench").collect();
     let n = words.first().map_or(Ok(1000), |word| word.parse()).expect("a number of rounds");
     let what = words.get(1).map_or("", |word| word.as_str());

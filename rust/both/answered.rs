@@ -11,8 +11,8 @@ use std::process::Output;
 
 const ANSWERED: &str = include_str!("answered.txt");
 
-/// Kinds of commands in the order of docs/DRIVEN.md, as the first ones, and then those of which one
-/// would be a value too many, behind that start.
+/// Kinds of commands in the order of `Command`: as the first ones, and then, after that start,
+/// those of which one would be a value too many.
 pub const COUNTED: [&str; 20] = [
     "CoreModule",
     "CoreInstance",
@@ -54,7 +54,7 @@ fn input(block: &str) -> Input {
     Input { words: &[], bytes, wanted: Some(format!("{wanted}\n").into()) }
 }
 
-/// The first command's kind, where it was accepted, and the second's behind the start, where it was
+/// The first command's kind, where it was accepted, and the second's after the start, where it was
 /// refused.
 pub fn count(input: &Input, output: &Output) -> Option<Vec<usize>> {
     let mut counted = vec![0; COUNTED.len()];

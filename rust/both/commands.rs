@@ -1,4 +1,4 @@
-//! Choice bytes for `driven`; docs/DRIVEN.md says which bytes choose what.
+//! Choice bytes for `driven`; crates/driven/README.md says which bytes choose what.
 
 use crate::random::Random;
 
@@ -103,7 +103,7 @@ fn text(random: &mut Random, bytes: &mut Vec<u8>) {
     }
 }
 
-/// A number of 32 bits, behind the byte that says how it is chosen where it isn't small.
+/// A number of 32 bits, after the byte that says how it is chosen where it isn't small.
 fn number(number: u32, bytes: &mut Vec<u8>) {
     if number < 16 {
         bytes.push(number as u8);

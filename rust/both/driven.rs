@@ -1,4 +1,4 @@
-//! Runs the commands that the bytes on standard input choose, as docs/DRIVEN.md says.
+//! Runs the commands that the bytes on standard input choose, as crates/driven/README.md says.
 
 use std::process::ExitCode;
 

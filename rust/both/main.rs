@@ -1,13 +1,16 @@
-//! Compares two compilations of the proved programs: `driven` and `wenc` as the kit compiled them, and as rustc did. Both get
-//! the same inputs, which a seed makes, and are to write the same bytes to both outputs and end with the same status.
+//! Compares two compilations of the proved programs: `driven` and `wenc` as the kit compiled them,
+//! and as rustc did. Both get the same inputs, which a seed makes, and are to write the same bytes
+//! to both outputs and end with the same status.
 //!
 //!     both DRIVEN WENC [SEED [NUMBER]]
 //!
-//! Some inputs of `driven` are stored, with what upstream's own builder answered, and that is what both are to write.
+//! Some inputs of `driven` are stored, with what upstream's own builder answered, and that is what
+//! both are to write.
 //!
-//! DRIVEN and WENC are the kit's programs; those that rustc made stand beside this one. `rust/both/run` makes all of them, and
-//! calls it. There are NUMBER other inputs for `driven`, so many scripts for `wenc`, and so many components for `wenc list`. An
-//! input that is answered in two ways is kept.
+//! DRIVEN and WENC are the kit's programs; those that rustc made stand beside this one.
+//! `rust/both/run` makes all of them, and calls it. There are NUMBER other inputs for `driven`, so
+//! many scripts for `wenc`, and so many components for `wenc list`. An input that is answered in
+//! two ways is kept.
 
 mod answered;
 mod commands;
@@ -47,7 +50,8 @@ struct Kind<'a> {
     /// What `count` counts.
     counted: &'static [&'static str],
     input: Box<dyn Fn(usize) -> Input + Sync + 'a>,
-    /// How many were accepted, and how many refused, by what was written; none where a program never ends so.
+    /// How many were accepted, and how many refused, by what was written; none where a program
+    /// never ends so.
     count: fn(&Input, &Output) -> Option<Vec<usize>>,
 }
 
@@ -96,7 +100,8 @@ impl Kind<'_> {
         }
     }
 
-    /// The answers to the inputs, in their order, or none where they failed. Tells how they were compared.
+    /// The answers to the inputs, in their order, or none where they failed. Tells how they were
+    /// compared.
     fn run(&self, number: usize) -> Option<Vec<Output>> {
         let mut answers = Vec::new();
         let mut sums = vec![0; self.counted.len()];
@@ -174,7 +179,7 @@ fn component(output: &Output) -> &[u8] {
 fn commands_of(_: &Input, output: &Output) -> Option<Vec<usize>> {
     let lines: Vec<&[u8]> = output.stdout.split(|byte| *byte == b'\n').collect();
     let refused = lines.iter().filter(|line| line.starts_with(b"refused ")).count();
-    // The component is one line, and nothing stands behind the last line's end.
+    // The component is one line, and nothing follows the last line's end.
     let commands = lines.len().checked_sub(2)?;
     (output.status.code() == Some(0)).then(|| vec![commands - refused, refused])
 }

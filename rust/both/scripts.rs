@@ -7,7 +7,8 @@ const KINDS: [&str; 6] = ["module", "func", "value", "type", "instance", "compon
 /// What names are made of.
 const LETTERS: [&str; 12] = ["a", "b", "run", "-", ":", "/", "@1", "Z", "é", "€", "𝄞", "\t"];
 
-/// Functions that the component model provides, and the words behind each: `i` is an index, `b` a flag.
+/// Functions that the component model provides, and the words after each: `i` is an index, `b` a
+/// flag.
 const BUILTINS: [(&str, &str); 40] = [
     ("resource.new", "i"),
     ("resource.drop", "i"),
@@ -110,7 +111,7 @@ fn name(random: &mut Random) -> String {
     (0..=letters).map(|_| random.one_of(&LETTERS)).collect()
 }
 
-/// A number, at times behind zeros.
+/// A number, at times after zeros.
 fn number(random: &mut Random) -> String {
     let zeros = if random.one_in(8) { random.below(4) } else { 0 };
     format!("{}{}", "0".repeat(zeros), random.index())

@@ -1,20 +1,25 @@
 //! Makes Rust of Rattle: one file in, one file out, each token in its line.
 //!
-//! Rattle is Rust with contracts. What a contract says is for the prover alone, so a file without them is Rust, but for a
-//! few names that mean something else there. What the eraser
+//! Rattle is Rust with contracts. What a contract says is for the prover alone, so a file without
+//! them is Rust, but for a few names that mean something else there. What the eraser
 //!
-//! - *leaves out*: clauses (`requires`, `ensures`), `ghost` items and fields with their comments, the examples of
-//!   documentation (they are Rattle), the attributes `tactic`, `cycle` and `error`, `Drop` among derives and bounds, and
-//!   `use thiserror::Error`;
-//! - *renames*: the roots of paths, so that `crate::` and `wenc_base::` are modules of `crate::proved`, and `std::` is
-//!   `crate::proved::rt_std`, which has what the sources use of Rattle's library; `Clone` and `clone`, which may be refused
-//!   there, to `TryClone` and `try_clone`; the methods of [`ALLOCATING`], to those with `_using` behind their names;
-//!   `derive_where` to `derive`; `pub` of the methods that are not for a user ([`NARROWED`]) to `pub(crate)`;
-//! - *adds*: the names that stand in scope without being named, in front of a file's first item; what a user of Rust
-//!   expects of a tree ([`known::TREES`], [`known::PRINTED`]); `Display` and `Error` behind an enum that derives `Error`; `pub` to `main`;
-//! - *refuses*: everything else that it doesn't know. Better no crate than one that does something else than was proved.
+//! - *leaves out*: clauses (`requires`, `ensures`), `ghost` items and fields with their comments,
+//!   the examples of documentation (they are Rattle), the attributes `tactic`, `cycle` and `error`,
+//!   `Drop` among derives and bounds, and `use thiserror::Error`;
+//! - *renames*: the roots of paths, so that `crate::` and `wenc_base::` are modules of
+//!   `crate::proved`, and `std::` is `crate::proved::rt_std`, which has what the sources use of
+//!   Rattle's library; `Clone` and `clone`, which may be refused there, to `TryClone` and
+//!   `try_clone`; the methods of [`ALLOCATING`], to those with `_using` after their names;
+//!   `derive_where` to `derive`; `pub` of the methods that are not for a user ([`NARROWED`]) to
+//!   `pub(crate)`;
+//! - *adds*: the names that stand in scope without being named, in front of a file's first item;
+//!   what a user of Rust expects of a tree ([`known::TREES`], [`known::PRINTED`]); `Display` and
+//!   `Error` after an enum that derives `Error`; `pub` to `main`;
+//! - *refuses*: everything else that it doesn't know. Better no crate than one that does something
+//!   else than was proved.
 //!
-//! `rust/tests/honest.rs` reads each source beside its Rust, by a lexer of its own, and knows the same list.
+//! `rust/tests/honest.rs` reads each source beside its Rust, by a lexer of its own, and knows the
+//! same list.
 
 #[path = "erase/attributes.rs"]
 mod attributes;
@@ -62,7 +67,7 @@ impl<'a> Eraser<'a> {
         }
     }
 
-    /// The text of a token of the code, or none before its begin and behind its end.
+    /// The text of a token of the code, or none before its begin and after its end.
     fn at(&self, i: usize) -> &'a str {
         self.code.get(i).map_or("", |&t| self.tokens[t].text)
     }
@@ -98,7 +103,7 @@ impl<'a> Eraser<'a> {
         }
     }
 
-    /// Behind the bracket that closes the one at `i`.
+    /// After the bracket that closes the one at `i`.
     fn close(&self, i: usize) -> Result<usize, Refused> {
         let mut depth = 0;
         for j in i..self.code.len() {
@@ -316,7 +321,8 @@ impl<'a> Eraser<'a> {
     }
 }
 
-/// Appends the line ends of a token, without blanks before them, and what is behind the last of a blank one.
+/// Appends the line ends of a token, without blanks before them, and what follows the last of a
+/// blank one.
 fn push_blank(whole: &mut String, token: &Token<'_>, becomes: &str) {
     let ends = token.text.matches('\n').count();
     if ends > 0 {

@@ -1,5 +1,5 @@
-//! Makes Rust of the proved sources in `crates/`: one file for each of theirs, and `crates.rs`, which declares a module for
-//! each of their crates.
+//! Makes Rust of the proved sources in `crates/`: one file for each of theirs, and `crates.rs`,
+//! which declares a module for each of their crates.
 
 mod erase;
 
@@ -29,8 +29,8 @@ const TESTS: [&str; 3] = ["facts", "strangers", "values"];
 /// What `src/proved` has in the place of a crate.
 const BY_HAND: [&str; 1] = ["hex"];
 
-/// What the lints would say of the sources, whose own checks are others: not all of their calls are the facade's, some names
-/// are for contracts alone, and what is left out leaves empty lines.
+/// What the lints would say of the sources, whose own checks are others: not all of their calls are
+/// the facade's, some names are for contracts alone, and what is left out leaves empty lines.
 const ALLOWED: &str =
     "#[allow(clippy::all, dead_code, missing_docs, unused_imports, unused_variables)]\n";
 

@@ -1,13 +1,15 @@
-//! Makes a component of a core module, whose exported functions become functions of these signatures:
+//! Makes a component of a core module, whose exported functions become functions of these
+//! signatures:
 //!
 //! ```sh
 //! cargo run --example componentize -- MODULE OUT 'add(a: u32, b: u32) -> u32' 'stop()'
 //! ```
 //!
-//! The module imports nothing. Values are numbers, characters and booleans, each of which is one core value, so that no
-//! function needs the module's memory; for texts and lists `lift_func` would be given `CanonicalOption::Memory` and
-//! `Realloc`, and the kind of text. Nothing is checked here: whether the module has these functions, and of the core types
-//! that these signatures ask for, is told by whoever takes the component.
+//! The module imports nothing. Values are numbers, characters and booleans, each of which is one
+//! core value, so that no function needs the module's memory; for texts and lists `lift_func` would
+//! be given `CanonicalOption::Memory` and `Realloc`, and the kind of text. Nothing is checked here:
+//! whether the module has these functions, and of the core types that these signatures ask for, is
+//! told by whoever takes the component.
 
 use wenc::PrimitiveValType as Primitive;
 use wenc::{ComponentBuilder, ComponentExportKind, ComponentValType, ExportKind, ModuleArg};

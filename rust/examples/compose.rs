@@ -1,12 +1,13 @@
-//! Makes one component of two: what the first exports is what the second imports, and the whole exports what the second
-//! does:
+//! Makes one component of two: what the first exports is what the second imports, and the whole
+//! exports what the second does:
 //!
 //! ```sh
 //! cargo run --example compose -- PROVIDER CONSUMER OUT
 //! ```
 //!
-//! The provider imports nothing, and has all that the consumer imports, under the same names. What passes between them are
-//! functions and interfaces of plain values: a resource that is exported would need its type exported in front of it.
+//! The provider imports nothing, and has all that the consumer imports, under the same names. What
+//! passes between them are functions and interfaces of plain values: a resource that is exported
+//! would need its type exported in front of it.
 
 use wenc::tree::{ItemTree, NameTree};
 use wenc::{ComponentBuilder, ComponentExportKind as Kind, list};

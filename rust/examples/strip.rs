@@ -4,8 +4,8 @@
 //! cargo run --example strip -- COMPONENT OUT
 //! ```
 //!
-//! Components in it lose theirs too; core modules are kept as they are. `list` says where each section stands, and
-//! `Component` has all that is kept appended to it, section by section.
+//! Components in it lose theirs too; core modules are kept as they are. `list` says where each
+//! section stands, and `Component` has all that is kept appended to it, section by section.
 
 use wenc::tree::ItemTree;
 use wenc::{Component, ComponentSection, ComponentSectionId, Encode, ListFault, RawSection, list};
@@ -13,7 +13,7 @@ use wenc::{Component, ComponentSection, ComponentSectionId, Encode, ListFault, R
 /// A section that is kept as it stands.
 struct Kept<'a> {
     id: u8,
-    /// What stands behind the id.
+    /// What follows the id.
     text: &'a [u8],
 }
 

@@ -1,10 +1,12 @@
-//! Encodes a world, and embeds it in the object of a core module, where `wasm-component-ld` and wit-component find it:
+//! Encodes a world, and embeds it in the object of a core module, where `wasm-component-ld` and
+//! wit-component find it:
 //!
 //! ```sh
 //! cargo run --example world -- WORLD OBJECT OUT
 //! ```
 //!
-//! The world is a text like WIT's, with functions of primitive types, lists, options, results and tuples:
+//! The world is a text like WIT's, with functions of primitive types, lists, options, results and
+//! tuples:
 //!
 //! ```wit
 //! package example:greeter@1.0.0;
@@ -83,7 +85,7 @@ impl<'a> Reader<'a> {
         Ok(ComponentValType::Type(index))
     }
 
-    /// A function's type, which is declared behind those that it needs.
+    /// A function's type, which is declared after those that it needs.
     fn function_type(&mut self, world: &mut ComponentType) -> Result<ComponentTypeRef, String> {
         self.expect("func")?;
         let params = self.list(("(", ")"), |reader| {
@@ -137,8 +139,9 @@ fn write(
     Ok(())
 }
 
-/// The world's name, and its encoding: a component that exports a type with that name. The type is that of a component
-/// that exports the world itself, as a component's type, under its name in the package.
+/// The world's name, and its encoding: a component that exports a type with that name. The type is
+/// that of a component that exports the world itself, as a component's type, under its name in the
+/// package.
 pub fn encode(description: &str) -> Result<(&str, Vec<u8>), String> {
     let package = description.trim_start().strip_prefix("package ").ok_or("no package")?;
     let (package, rest) = package.split_once(';').ok_or("no ; behind the package")?;

@@ -31,8 +31,8 @@ use alloc::vec::Vec;
 
 pub use proved::ComponentSectionId;
 
-/// A section of a component (component model, binary format, "Component Definitions"). A type of your own may implement it
-/// too.
+/// A section of a component (component model, binary format, "Component Definitions"). A type of
+/// your own may implement it too.
 ///
 /// ```
 /// use wenc::{Component, ComponentSection, ComponentSectionId, Encode};
@@ -85,8 +85,8 @@ impl<S: ComponentSection + ?Sized> proved::ComponentSection for Foreign<'_, S> {
     }
 }
 
-/// A component by its sections, which stand in it in the order in which they are appended (component model, binary format,
-/// "Component Definitions").
+/// A component by its sections, which stand in it in the order in which they are appended
+/// (component model, binary format, "Component Definitions").
 ///
 /// ```
 /// use wenc::{Component, ComponentImportSection, ComponentTypeRef, ComponentTypeSection};
@@ -144,7 +144,8 @@ impl Default for Component {
     }
 }
 
-/// The sections that have a number of items: a section's id, how many items it has, and how it prints itself.
+/// The sections that have a number of items: a section's id, how many items it has, and how it
+/// prints itself.
 macro_rules! sections {
     ($($name:ident)*) => {
         $(impl $name {

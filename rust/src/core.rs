@@ -29,7 +29,8 @@ use crate::proved::wasm_encoder as proved;
 use crate::proved::wenc_base::Verbatim;
 use alloc::vec::Vec;
 
-/// A section of a core module (WebAssembly 3.0, binary format, "Sections"). A type of your own may implement it too.
+/// A section of a core module (WebAssembly 3.0, binary format, "Sections"). A type of your own may
+/// implement it too.
 ///
 /// ```
 /// use wenc::{Encode, Module, Section, SectionId};
@@ -80,9 +81,10 @@ impl<S: Section + ?Sized> proved::Section for Foreign<'_, S> {
     }
 }
 
-/// The ids of the sections of core modules, in their order (WebAssembly 3.0, binary format, "Sections"): as a number of 8
-/// bits, each is one more than that before it. Only custom sections are written here, the others are those of a
-/// [`RawSection`](crate::RawSection) or of a [`Section`] of your own.
+/// The ids of the sections of core modules, in their order (WebAssembly 3.0, binary format,
+/// "Sections"): as a number of 8 bits, each is one more than that before it. Only custom sections
+/// are written here, the others are those of a [`RawSection`](crate::RawSection) or of a
+/// [`Section`] of your own.
 #[derive(Clone, Copy, Debug, PartialEq, Eq, PartialOrd, Ord)]
 #[repr(u8)]
 pub enum SectionId {
@@ -123,8 +125,9 @@ impl From<SectionId> for u8 {
     }
 }
 
-/// A core module by its sections, which stand in it in the order in which they are appended (WebAssembly 3.0, binary
-/// format, "Modules"). Nothing checks that order, nor what the sections have.
+/// A core module by its sections, which stand in it in the order in which they are appended
+/// (WebAssembly 3.0, binary format, "Modules"). Nothing checks that order, nor what the sections
+/// have.
 ///
 /// ```
 /// use wenc::{Component, Module, ModuleSection, RawSection, SectionId};

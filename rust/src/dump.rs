@@ -74,7 +74,7 @@ impl<W: Write> Printer<'_, W> {
         self.line(depth, &format!("{place} {text}"))
     }
 
-    /// A name in quotes, behind a space, or nothing.
+    /// A name in quotes, after a space, or nothing.
     fn quoted(&self, name: Option<&str>) -> String {
         name.map_or_else(String::new, |name| {
             format!(" {}", self.painted(Part::Name, &format!("{name:?}")))
@@ -213,8 +213,8 @@ impl<W: Write> Printer<'_, W> {
         }
     }
 
-    /// The sections of a core module that ends at this place, by their ids and sizes. Answers where none
-    /// stands.
+    /// The sections of a core module that ends at this place, by their ids and sizes. Answers where
+    /// none stands.
     fn core_sections(
         &mut self,
         depth: usize,
@@ -240,7 +240,8 @@ impl<W: Write> Printer<'_, W> {
     }
 }
 
-/// Hands over what a section of names has, and answers what of it isn't read. Another item has none.
+/// Hands over what a section of names has, and answers what of it isn't read. Another item has
+/// none.
 fn names_in<'a>(item: &'a ItemTree, found: &mut impl FnMut(Names)) -> &'a [u8] {
     let ItemTree::Custom { name, data } = item else { return &[] };
     if **name != *NAMES_LABEL {
@@ -255,7 +256,8 @@ fn names_in<'a>(item: &'a ItemTree, found: &mut impl FnMut(Names)) -> &'a [u8] {
     rest
 }
 
-/// The debug names that a component has of itself and its items. The first name of an item is taken.
+/// The debug names that a component has of itself and its items. The first name of an item is
+/// taken.
 fn debug_names(listing: &Listing) -> DebugNames {
     let mut all = DebugNames::default();
     for item in listing.sections.iter().flat_map(|section| &section.items) {

@@ -8,7 +8,8 @@ use crate::proved::wenc_base::{self as proved, Fault};
 use alloc::vec::Vec;
 use core::mem::take;
 
-/// A value with a text in the binary format. A type of your own may implement it too, for a section of your own.
+/// A value with a text in the binary format. A type of your own may implement it too, for a section
+/// of your own.
 ///
 /// ```
 /// use wenc::{ComponentValType, Encode};
@@ -23,13 +24,14 @@ pub trait Encode {
     ///
     /// # Panics
     ///
-    /// Where the value is refused, and then the sink is as it was: a length is past 4294967295, a type or a section isn't
-    /// whole, a core type isn't of WebAssembly 3.0, or an allocation is refused.
+    /// Where the value is refused, and then the sink is as it was: a length is past 4294967295, a
+    /// type or a section isn't whole, a core type isn't of WebAssembly 3.0, or an allocation is
+    /// refused.
     fn encode(&self, sink: &mut Vec<u8>);
 }
 
-/// A sink that was taken from its owner, and goes back to it, whatever happens: shortened to what it had before, if
-/// somebody's `Encode` panics.
+/// A sink that was taken from its owner, and goes back to it, whatever happens: shortened to what
+/// it had before, if somebody's `Encode` panics.
 struct Taken<'a> {
     owner: &'a mut Vec<u8>,
     bytes: ProvedVec<u8>,
@@ -61,7 +63,8 @@ pub(crate) fn append<E>(
     Ok(())
 }
 
-/// Appends the text of a value that the proved code writes by itself, and so never panics on its way.
+/// Appends the text of a value that the proved code writes by itself, and so never panics on its
+/// way.
 #[inline]
 #[track_caller]
 pub(crate) fn append_proved<T: proved::Encode>(sink: &mut Vec<u8>, value: &T) {
@@ -132,7 +135,7 @@ impl Encode for usize {
     }
 }
 
-/// Writes values as the proved code writes what stands behind the arrow.
+/// Writes values as the proved code writes what follows the arrow.
 macro_rules! encode {
     ($($type:ty, $value:ident => $proved:expr;)*) => {
         $(impl $crate::Encode for $type {

@@ -3,7 +3,8 @@
 use crate::proved::wenc_base::Fault;
 use core::fmt;
 
-/// Why a call was refused. What it was made on is as it was before, but that an encoder leaves its type unfinished.
+/// Why a call was refused. What it was made on is as it was before, but that an encoder leaves its
+/// type unfinished.
 #[derive(Clone, Copy, Debug, PartialEq, Eq, Hash)]
 #[non_exhaustive]
 pub enum Error {
@@ -13,10 +14,11 @@ pub enum Error {
     TooMany,
     /// A text, a section or a type would pass 4294967295 bytes.
     TooLarge,
-    /// A type that an encoder was to write isn't whole: the encoder was dropped before its last call, or that call was
-    /// refused. `discard_unfinished` gives the type up.
+    /// A type that an encoder was to write isn't whole: the encoder was dropped before its last
+    /// call, or that call was refused. `discard_unfinished` gives the type up.
     Unfinished,
-    /// A part of a core type that isn't of WebAssembly 3.0, as a shared table or an exact reference: nothing here writes it.
+    /// A part of a core type that isn't of WebAssembly 3.0, as a shared table or an exact
+    /// reference: nothing here writes it.
     Unsupported,
 }
 

@@ -1,7 +1,8 @@
 //! Writes and lists WebAssembly components, by code that is proved as Rattle and compiled as Rust.
 //!
-//! The names and signatures are those of the component layer of `wasm-encoder` 0.263.0. A program that makes components by
-//! `wasm_encoder::ComponentBuilder`, or section by section, changes its `use` line:
+//! The names and signatures are those of the component layer of `wasm-encoder` 0.263.0. A program
+//! that makes components by `wasm_encoder::ComponentBuilder`, or section by section, changes its
+//! `use` line:
 //!
 //! ```
 //! use wenc::{ComponentBuilder, ComponentExportKind, ExportKind, PrimitiveValType};
@@ -32,17 +33,21 @@
 //!
 //! # What is proved
 //!
-//! The sources in `crates/`, of which this crate is made: an accepted call adds exactly the item that was handed over, and
-//! answers that item's index in its space. Where none is a raw custom section, the finished bytes have one reading, the
-//! accepted items in their order. A refused call changes nothing. [`list`] answers what that reading is.
+//! The sources in `crates/`, of which this crate is made: an accepted call adds exactly the item
+//! that was handed over, and answers that item's index in its space. Where none is a raw custom
+//! section, the finished bytes have one reading, the accepted items in their order. A refused call
+//! changes nothing. [`list`] answers what that reading is.
 //!
-//! That the Rust does the same rests on what leaves the contracts out (`rust/build`, checked by `rust/tests/honest.rs`), on what
-//! stands for Rattle's standard library (`rust/src/proved/rt_std`), on equal tokens meaning equal things, and on rustc. The calls
-//! under upstream's names are a layer in plain Rust, which hands values over and holds no byte of the format.
+//! That the Rust does the same rests on what leaves the contracts out (`rust/build`, checked by
+//! `rust/tests/honest.rs`), on what stands for Rattle's standard library
+//! (`rust/src/proved/rt_std`), on equal tokens meaning equal things, and on rustc. The calls under
+//! upstream's names are a layer in plain Rust, which hands values over and holds no byte of the
+//! format.
 //!
 //! # Refusals
 //!
-//! Under upstream's names a refused call panics. Each such call has a form with `try_` in front, which answers an [`Error`]:
+//! Under upstream's names a refused call panics. Each such call has a form with `try_` in front,
+//! which answers an [`Error`]:
 //!
 //! ```
 //! use wenc::{ComponentBuilder, ComponentTypeRef, Error, PrimitiveValType};
@@ -54,13 +59,15 @@
 //! assert_eq!(builder.value_count(), u32::MAX);
 //! ```
 //!
-//! An encoder that is dropped before its last call leaves what lent itself unfinished: it refuses what adds to it or takes it,
-//! until `discard_unfinished`. So does an iterator, a name or an `Into` of the caller's that panics in the midst of a call. What
-//! is finished never holds a part of an item.
+//! An encoder that is dropped before its last call leaves what lent itself unfinished: it refuses
+//! what adds to it or takes it, until `discard_unfinished`. So does an iterator, a name or an
+//! `Into` of the caller's that panics in the midst of a call. What is finished never holds a part
+//! of an item.
 //!
 //! # Features
 //!
-//! Without the feature `std`, which brings the program `wenc`, the crate is `no_std` and needs `alloc`.
+//! Without the feature `std`, which brings the program `wenc`, the crate is `no_std` and needs
+//! `alloc`.
 #![no_std]
 #![forbid(unsafe_code)]
 #![deny(missing_docs)]
@@ -92,12 +99,13 @@ pub use error::Error;
 pub use list::{ListFault, ListedSection, Listing, Unread, list};
 pub use raw::RawSection;
 
-/// What was proved of the sources in `crates/`: the kit that proved it, how many functions have a proof (those that a `derive`
-/// writes aren't counted), how many edits of the code the prover refused, and a SHA-256 digest of each crate's `src`, `specs`
-/// and `proofs`.
+/// What was proved of the sources in `crates/`: the kit that proved it, how many functions have a
+/// proof (those that a `derive` writes aren't counted), how many edits of the code the prover
+/// refused, and a SHA-256 digest of each crate's `src`, `specs` and `proofs`.
 ///
-/// A digest is that of the lines that `sha256sum` prints of a folder's files, in the order of their paths. A test of this
-/// package, `rust/tests/proof.rs`, reckons those of the sources that it has: so it tells whether they are the proved ones.
+/// A digest is that of the lines that `sha256sum` prints of a folder's files, in the order of their
+/// paths. A test of this package, `rust/tests/proof.rs`, reckons those of the sources that it has:
+/// so it tells whether they are the proved ones.
 ///
 /// ```
 /// assert!(wenc::PROOF.starts_with("kit: rattle-kit-"));

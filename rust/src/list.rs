@@ -6,8 +6,8 @@ use core::fmt;
 
 pub use proved::{ListedSection, Listing, Unread};
 
-/// Why a component is not listed. A place is counted in bytes from the front of the component, and one of a section is that of
-/// its id.
+/// Why a component is not listed. A place is counted in bytes from the front of the component, and
+/// one of a section is that of its id.
 ///
 /// ```
 /// use wenc::{ListFault, Unread, list};
@@ -29,7 +29,8 @@ pub enum ListFault {
         /// It is 0.
         place: usize,
     },
-    /// Here stands an id above 11, no size, a size past the end, or a custom section without a name.
+    /// Here stands an id above 11, no size, a size past the end, or a custom section without a
+    /// name.
     BadSection {
         /// The first section that isn't read.
         place: usize,
@@ -94,18 +95,19 @@ impl fmt::Display for ListFault {
 
 impl core::error::Error for ListFault {}
 
-/// The sections of a component with their items, each at its place, and how many indices the items take (component model,
-/// binary format, "Component Definitions"). The bytes have one reading at most, and this is it. Modules and nested components
-/// are bytes, which are not read.
+/// The sections of a component with their items, each at its place, and how many indices the items
+/// take (component model, binary format, "Component Definitions"). The bytes have one reading at
+/// most, and this is it. Modules and nested components are bytes, which are not read.
 ///
-/// Besides what this crate writes, these spellings are read: numbers that are padded, to 5 bytes at most (10 where they have
-/// 64 bits), indices among the types of values that are padded, a nullable abstract reference as its heap type's byte, `func`
-/// and `extern` in the long form of such a reference, and a name of an import or export that begins with `01`.
+/// Besides what this crate writes, these spellings are read: numbers that are padded, to 5 bytes at
+/// most (10 where they have 64 bits), indices among the types of values that are padded, a nullable
+/// abstract reference as its heap type's byte, `func` and `extern` in the long form of such a
+/// reference, and a name of an import or export that begins with `01`.
 ///
 /// # Errors
 ///
-/// The first section that isn't read, and why, as [`ListFault`] says; or want of memory. A count that the bytes can't fill
-/// reserves nothing.
+/// The first section that isn't read, and why, as [`ListFault`] says; or want of memory. A count
+/// that the bytes can't fill reserves nothing.
 ///
 /// ```
 /// use wenc::tree::ItemTree;

@@ -15,8 +15,8 @@ use std::path::Path;
 use std::process::ExitCode;
 use std::string::{String as StdString, ToString};
 
-/// The arguments without the program's name. It fails where there are some that can't be told: there is no memory for them,
-/// or one, or the program's name in front of some, isn't text.
+/// The arguments without the program's name. It fails where there are some that can't be told:
+/// there is no memory for them, or one, or the program's name in front of some, isn't text.
 fn arguments(all: impl Iterator<Item = OsString>) -> Result<Vec<String>, Failure> {
     let mut told = Vec::new(Global);
     let mut all = all.peekable();
@@ -33,7 +33,8 @@ fn arguments(all: impl Iterator<Item = OsString>) -> Result<Vec<String>, Failure
     Ok(told)
 }
 
-/// Runs `wenc` with these arguments, the program's name in front of them, and answers the exit status.
+/// Runs `wenc` with these arguments, the program's name in front of them, and answers the exit
+/// status.
 pub fn wenc(
     arguments_with_name: impl Iterator<Item = OsString>,
     input: &mut impl Read,
@@ -60,8 +61,9 @@ fn dump_file(path: &Path, colours: bool, out: &mut impl Write) -> Result<(), Std
     }
 }
 
-/// Runs `wenc-dump` with these arguments, the program's name in front of them, and answers the exit status: 0 where the
-/// file was printed, 1 where it wasn't to its end, 2 where the arguments aren't one file.
+/// Runs `wenc-dump` with these arguments, the program's name in front of them, and answers the exit
+/// status: 0 where the file was printed, 1 where it wasn't to its end, 2 where the arguments aren't
+/// one file.
 pub fn dump(
     arguments_with_name: impl Iterator<Item = OsString>,
     colours: bool,

@@ -4,8 +4,9 @@ use crate::core::in_either;
 use crate::encode::encode;
 use crate::proved::wasm_encoder as proved;
 
-/// A section with any id, from 0 to 255, whose bytes are written behind their size (WebAssembly 3.0, binary format,
-/// "Sections"; component model, binary format, "Component Definitions"). Nothing checks that they are such a section.
+/// A section with any id, from 0 to 255, whose bytes are written after their size (WebAssembly 3.0,
+/// binary format, "Sections"; component model, binary format, "Component Definitions"). Nothing
+/// checks that they are such a section.
 ///
 /// It is refused, when it is encoded, where there are more than 4294967295 bytes.
 ///
@@ -24,7 +25,7 @@ use crate::proved::wasm_encoder as proved;
 pub struct RawSection<'a> {
     /// The id.
     pub id: u8,
-    /// The bytes behind the size.
+    /// The bytes after the size.
     pub data: &'a [u8],
 }
 

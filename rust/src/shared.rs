@@ -4,8 +4,8 @@ use crate::proved::rt_std::alloc::Allocator;
 use crate::proved::rt_std::vec::Vec as ProvedVec;
 use crate::proved::wenc_base::{self as proved, Fault};
 
-/// Items or declarations that the proved code holds: what upstream derives (`Clone`, `Debug`, `Default`), over calls that
-/// are handed an allocator and may be refused.
+/// Items or declarations that the proved code holds: what upstream derives (`Clone`, `Debug`,
+/// `Default`), over calls that are handed an allocator and may be refused.
 macro_rules! collections {
     ($($(#[$meta:meta])* $name:ident;)*) => {
         $($(#[$meta])*
@@ -41,19 +41,20 @@ macro_rules! collections {
 
 pub(crate) use collections;
 
-/// What lends itself to encoders: whether one of them is to end an item yet, and how that item is given up.
+/// What lends itself to encoders: whether one of them is to end an item yet, and how that item is
+/// given up.
 macro_rules! lenders {
     ($($name:ident)*) => {
         $(impl $name {
-            /// Whether no encoder is to end an item yet. Until then what grows, encodes or takes this is refused as
-            /// [`Unfinished`](crate::Error::Unfinished).
+            /// Whether no encoder is to end an item yet. Until then what grows, encodes or takes
+            /// this is refused as [`Unfinished`](crate::Error::Unfinished).
             #[inline]
             pub fn is_finished(&self) -> bool {
                 self.0.is_finished()
             }
 
-            /// Gives up the item that an encoder was to end, and answers whether there was one. All is as before that item
-            /// then. It takes no memory.
+            /// Gives up the item that an encoder was to end, and answers whether there was one. All
+            /// is as before that item then. It takes no memory.
             pub fn discard_unfinished(&mut self) -> bool {
                 self.0.discard_unfinished()
             }
@@ -171,7 +172,7 @@ pub(crate) fn named<S: AsRef<str>, T>(
     values.into_iter().map(|(name, value)| (Name(name), value))
 }
 
-/// The same of two other things.
+/// Triples of a user's name and two other things, as the proved code takes them.
 #[inline]
 pub(crate) fn named_items<S: AsRef<str>, T, U>(
     values: impl IntoIterator<Item = (S, T, U)>,

@@ -1,7 +1,8 @@
 //! Items of a component as values: what [`list`](crate::list) answers, and what [`build`] is given.
 //!
-//! They own their texts and lists, in the types [`String`], [`Vec`] and [`Box`] of this module: those of Rust, with calls that
-//! answer where memory is refused. `From` makes either of the other without a copy.
+//! They own their texts and lists, in the types [`String`], [`Vec`] and [`Box`] of this module:
+//! those of Rust, with calls that answer where memory is refused. `From` makes either of the other
+//! without a copy.
 //!
 //! ```
 //! use wenc::tree::{Command, ItemTree, NameTree, String, TypeTree, Vec, build};
@@ -52,20 +53,20 @@ pub use proved::{
 /// What the commands of a run answered, and the bytes.
 #[derive(Clone, Debug, PartialEq, Eq)]
 pub struct Built {
-    /// One answer for each command: the index of its item, if that has one, or why it was refused. Custom sections and
-    /// names have none.
+    /// One answer for each command: the index of its item, if that has one, or why it was refused.
+    /// Custom sections and names have none.
     pub answers: alloc::vec::Vec<Result<Option<u32>, Error>>,
     /// The component.
     pub bytes: alloc::vec::Vec<u8>,
 }
 
-/// Makes the calls that the commands are, in order, on a new builder, keeps each answer, and finishes. A refused command adds
-/// nothing, and the ones after it run all the same.
+/// Makes the calls that the commands are, in order, on a new builder, keeps each answer, and
+/// finishes. A refused command adds nothing, and the ones after it run all the same.
 ///
 /// # Errors
 ///
-/// There is no memory for the builder or for the answers, or a type is refused while it is written: with that error, and no
-/// further command runs.
+/// There is no memory for the builder or for the answers, or a type is refused while it is written:
+/// with that error, and no further command runs.
 ///
 /// ```
 /// use wenc::tree::{Command, String, build};

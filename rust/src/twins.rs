@@ -1,7 +1,7 @@
 //! Calls in two forms.
 
-/// Defines each call twice: under upstream's name, where it panics when it is refused, and with `try_` in front, where it
-/// answers the refusal. The body is that of the second.
+/// Defines each call twice: under upstream's name, where it panics when it is refused, and with
+/// `try_` in front, where it answers the refusal. The body is that of the second.
 macro_rules! twins {
     ($(
         $(#[$meta:meta])*

@@ -1,4 +1,5 @@
-//! The program `wenc-dump`: what it prints of worked components and of the corpus, and what it says of bad ones.
+//! The program `wenc-dump`: what it prints of worked components and of the corpus, and what it says
+//! of bad ones.
 
 use std::fs;
 use std::path::{Path, PathBuf};
@@ -30,7 +31,7 @@ fn expect(name: &str, sections: &[u8], out: &str, err: Option<&str>) {
     expect_of(name, file(name, sections), out, err);
 }
 
-/// The same of a file.
+/// The file is printed so, and that is said of it, with its path in front.
 fn expect_of(name: &str, file: PathBuf, out: &str, err: Option<&str>) {
     let told = dump(&file);
     assert_eq!(String::from_utf8_lossy(&told.stdout), out, "{name}");
@@ -80,7 +81,7 @@ fn debug_names() {
     custom \"component-name\", 11 bytes
 ";
     expect("names", &[FUNCTION, names].concat(), out, None);
-    // Another subsection, and behind it what is none.
+    // Another subsection, and after it what is none.
     let names = b"\0\x1f\x0ecomponent-name\x01\x05\x01\x01\0\x01g\x09\x02ab\x01\x03\x01\x01\0";
     let out = "\
 0x0 component, 56 bytes
@@ -179,8 +180,8 @@ fn digests_are_fnv() {
     assert_eq!(digest(b"foobar"), 0x8594_4171_f739_67e8);
 }
 
-/// Each line of `corpus/dumps.txt` has a component's name, and either the lines of what is printed and their digest, or what is
-/// said of it.
+/// Each line of `corpus/dumps.txt` has a component's name, and either the lines of what is printed
+/// and their digest, or what is said of it.
 #[test]
 fn the_corpus() {
     let stored = fs::read_to_string(corpus("dumps.txt")).expect("the corpus is there");

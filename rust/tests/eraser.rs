@@ -1,5 +1,5 @@
-//! The eraser: each of its rules on a few words of Rattle, and each of its refusals with the line. Blanks beside what is
-//! left out stay.
+//! The eraser: each of its rules on a few words of Rattle, and each of its refusals with the line.
+//! Blanks beside what is left out stay.
 
 #[path = "../build/erase.rs"]
 mod erase;

@@ -1,5 +1,6 @@
-//! Reads each source beside the Rust that the build script made of it. Where they part, it has to be in one of the ways
-//! that `honest/reader.rs` lists; whatever else is left out, changed, added or moved to another line is found.
+//! Reads each source beside the Rust that the build script made of it. Where they part, it has to
+//! be in one of the ways that `honest/reader.rs` lists; whatever else is left out, changed, added
+//! or moved to another line is found.
 
 #[path = "honest/lexer.rs"]
 mod lexer;
@@ -148,7 +149,7 @@ fn each_change_is_found() {
     assert!(read(&format!("{RUST}fn g() {{}}")).is_err(), "an item that came in");
 }
 
-/// In one file in five, if it is short: each token left out, changed, and another put in behind it.
+/// In one file in five, if it is short: each token left out, changed, and another put in after it.
 #[test]
 fn each_token_counts() {
     let mut sources = sources();

@@ -1,4 +1,5 @@
-//! Components listed: their items as trees, their counts, and the first section that isn't read; and commands built.
+//! Components listed: their items as trees, their counts, and the first section that isn't read;
+//! and commands built.
 
 use wenc::tree::{self, Command, ItemTree, NameTree, Space, build};
 use wenc::*;

@@ -1,4 +1,5 @@
-//! `PROOF` tells of the sources that the crate is made of: their digests are those that `sha256sum` gave.
+//! `PROOF` tells of the sources that the crate is made of: their digests are those that `sha256sum`
+//! gave.
 
 #[path = "proof/sha256.rs"]
 mod sha256;
@@ -36,7 +37,8 @@ fn digest(files: &BTreeMap<String, Vec<u8>>) -> String {
     sha256(lines.collect::<String>().as_bytes())
 }
 
-/// Each folder of proved sources that is here, with its files: in the repository all, in a package those of `src`.
+/// Each folder of proved sources that is here, with its files: in the repository all, in a package
+/// those of `src`.
 fn folders() -> BTreeMap<String, BTreeMap<String, Vec<u8>>> {
     let crates = Path::new(env!("CARGO_MANIFEST_DIR")).join("crates");
     let mut found = BTreeMap::new();

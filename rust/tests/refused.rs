@@ -61,8 +61,8 @@ impl Refusals {
         }
     }
 
-    /// The same of a call that begins a type and ends it: the type is given up before it is begun
-    /// once more.
+    /// Makes a call that begins a type and ends it: where it is refused, the type is given up, and
+    /// it is made once more.
     #[track_caller]
     fn ty(
         &mut self,

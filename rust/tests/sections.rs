@@ -236,7 +236,7 @@ fn copies_stand_by_themselves() {
     assert_eq!(format!("{copy:?}"), "ComponentExportSection { len: 1, .. }");
 }
 
-/// A section whose text is one byte behind its size.
+/// A section whose text is one byte after its size.
 struct Own(u8);
 
 impl Encode for Own {

@@ -4,7 +4,7 @@ use super::known::{ATTRIBUTES, DERIVED, OF_COMPARED_TREES, OF_TREES, PRINTED, TR
 use super::{Eraser, Refused};
 
 impl Eraser<'_> {
-    /// An attribute, whose `#` is here. Answers where what is behind it begins.
+    /// An attribute, whose `#` is here. Answers where what follows it begins.
     pub(super) fn attribute(&mut self, i: usize) -> Result<usize, Refused> {
         let is_inner = self.at(i + 1) == "!";
         let open = if is_inner { i + 2 } else { i + 1 };
@@ -26,7 +26,8 @@ impl Eraser<'_> {
         Ok(end)
     }
 
-    /// Where the names of a derive stand, whose `#` is at `i`. They are those that Rust has, and `Drop` and `Error`.
+    /// Where the names of a derive stand, whose `#` is at `i`. They are those that Rust has, and
+    /// `Drop` and `Error`.
     fn derived(&self, i: usize, end: usize) -> Result<Vec<usize>, Refused> {
         let names: Vec<usize> = (i + 4..end - 2).step_by(2).collect();
         let is_known = |j: &usize| {
@@ -43,7 +44,8 @@ impl Eraser<'_> {
         }
     }
 
-    /// Leaves out of a derive what Rust has not, and adds what is printed. `Error` becomes an impl behind the enum.
+    /// Leaves out of a derive what Rust has not, and adds what is printed. `Error` becomes an impl
+    /// after the enum.
     fn derive(&mut self, i: usize, end: usize) -> Result<(), Refused> {
         let names = self.derived(i, end)?;
         if names.len() == 1 && self.at(i + 4) == "Drop" {
@@ -69,7 +71,8 @@ impl Eraser<'_> {
         Ok(())
     }
 
-    /// What a type derives in place of `Drop`, which begins here behind that: a tree what it doesn't derive already.
+    /// What a type derives in place of `Drop`, which begins here after that: a tree what it doesn't
+    /// derive already.
     fn derived_by_trees(&self, i: usize) -> Result<Option<&'static str>, Refused> {
         let mut item = i;
         let mut derived = OF_TREES;
@@ -84,7 +87,7 @@ impl Eraser<'_> {
         Ok(is_tree.then_some(derived))
     }
 
-    /// Writes `Display` and `Error` behind the enum of errors that begins here.
+    /// Writes `Display` and `Error` after the enum of errors that begins here.
     fn error(&mut self, i: usize) -> Result<(), Refused> {
         if !self.stands(i, "pub enum") || self.at(i + 3) != "{" {
             return Err((self.line(i), "an error that is no enum"));
@@ -107,7 +110,8 @@ impl Eraser<'_> {
         Ok(())
     }
 
-    /// What `Display` has for the variant that begins here with its text, and where the next one begins.
+    /// What `Display` has for the variant that begins here with its text, and where the next one
+    /// begins.
     fn arm(&mut self, name: &str, i: usize) -> Result<(String, usize), Refused> {
         let behind = self.close(i + 1)?;
         let (text, variant) = (self.at(i + 4), self.at(behind));

@@ -1,9 +1,10 @@
 //! The closed lists of the eraser: what it knows by name.
 
-/// Methods that are handed an allocator there, and not by Rust's library, which has them on the same types.
+/// Methods that are handed an allocator there, and not by Rust's library, which has them on the
+/// same types.
 pub const ALLOCATING: [&str; 1] = ["collect"];
 
-/// Macros that are handed an allocator behind `in`, and that the shim has.
+/// Macros that are handed an allocator after `in`, and that the shim has.
 pub const HANDED: [&str; 2] = ["format", "vec"];
 
 /// Macros that mean the same there and here.
@@ -64,6 +65,6 @@ pub const TREES: [&str; 23] = [
 /// Types that a user of Rust prints, whose sources don't say so.
 pub const PRINTED: [&str; 1] = ["Alias"];
 
-/// Methods of trees that stay in this crate: their contracts ask for what nothing tests, or they answer what the facade has
-/// in another shape.
+/// Methods of trees that stay in this crate: their contracts ask for what nothing tests, or they
+/// answer what the facade has in another shape.
 pub const NARROWED: [(&str, &str); 2] = [("FuncType", "new"), ("NameTree", "as_name")];

@@ -1,7 +1,7 @@
 //! Takes a file of Rattle apart.
 //!
-//! A clause and a ghost item become one token each: what stands in them is antt, the language of proofs, whose blocks are
-//! in braces and whose comments begin with `--`.
+//! A clause and a ghost item become one token each: what stands in them is antt, the language of
+//! proofs, whose blocks are in braces and whose comments begin with `--`.
 
 use super::Refused;
 
@@ -98,7 +98,7 @@ fn character_len(rest: &str, lead: usize) -> Result<(Kind, usize), &'static str>
     Ok((Kind::Literal, lead + len.ok_or("a character without an end")?))
 }
 
-/// How many bytes a text or a character has behind its first quote.
+/// How many bytes a text or a character has after its first quote.
 fn quoted_len(quoted: &str, quote: char) -> Option<usize> {
     let mut is_escaped = false;
     for (at, c) in quoted.char_indices() {
@@ -112,7 +112,8 @@ fn quoted_len(quoted: &str, quote: char) -> Option<usize> {
     None
 }
 
-/// How many bytes a clause has: a keyword of so many, which a `*` may follow, a name or none, and a block.
+/// How many bytes a clause has: a keyword of so many, which a `*` may follow, a name or none, and a
+/// block.
 fn clause_len(rest: &str, keyword: usize) -> Result<usize, &'static str> {
     let mut at = keyword + usize::from(rest[keyword..].starts_with('*'));
     at += blank_len(&rest[at..]);
@@ -121,7 +122,8 @@ fn clause_len(rest: &str, keyword: usize) -> Result<usize, &'static str> {
     Ok(at + block_len(&rest[at..])?)
 }
 
-/// How many bytes a ghost item has: a `use`, or a member or a field with its type, its value or both.
+/// How many bytes a ghost item has: a `use`, or a member or a field with its type, its value or
+/// both.
 fn ghost_len(rest: &str) -> Result<usize, &'static str> {
     let mut at = "ghost".len();
     at += blank_len(&rest[at..]);

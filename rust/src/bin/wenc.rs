@@ -1,5 +1,6 @@
-//! The program `wenc`: it runs a script of commands on standard input, and prints their answers and the component that they
-//! build; or it lists a component's sections. docs/SCRIPTS.md tells of both.
+//! The program `wenc`: it runs a script of commands on standard input, and prints their answers and
+//! the component that they build; or it lists a component's sections. docs/SCRIPTS.md tells of
+//! both.
 
 use std::io;
 use std::process::ExitCode;

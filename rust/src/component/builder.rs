@@ -14,16 +14,17 @@ use crate::twins::twins;
 use alloc::vec::Vec;
 use core::fmt;
 
-/// Makes a component, call by call, and answers the index of each item (component model, binary format, "Component
-/// Definitions"). Neighbours of one kind stand in one section.
+/// Makes a component, call by call, and answers the index of each item (component model, binary
+/// format, "Component Definitions"). Neighbours of one kind stand in one section.
 ///
-/// A call is made in two forms: under upstream's name it panics where it is refused, and with `try_` in front it answers an
-/// [`Error`]. A refused call changes nothing. All may be refused for want of memory; because a count, an index space or a list
-/// would have more than 4294967295 members, or a text or a section as many bytes; and while the type that an encoder was
-/// handed out for isn't whole. What else refuses a call stands with it.
+/// A call is made in two forms: under upstream's name it panics where it is refused, and with
+/// `try_` in front it answers an [`Error`]. A refused call changes nothing. All may be refused for
+/// want of memory; because a count, an index space or a list would have more than 4294967295
+/// members, or a text or a section as many bytes; and while the type that an encoder was handed out
+/// for isn't whole. What else refuses a call stands with it.
 ///
-/// An iterator of yours may panic. Whoever catches that finds the builder as it was, or unfinished, with the item still to be
-/// given up by [`discard_unfinished`](Self::discard_unfinished).
+/// An iterator of yours may panic. Whoever catches that finds the builder as it was, or unfinished,
+/// with the item still to be given up by [`discard_unfinished`](Self::discard_unfinished).
 ///
 /// Indices are taken as they are: nothing checks that the component is valid.
 ///
@@ -53,24 +54,26 @@ use core::fmt;
 pub struct ComponentBuilder(proved::ComponentBuilder);
 
 impl ComponentBuilder {
-    /// A builder of a component without items; refused for want of memory alone. [`Default`] makes one too, or panics.
+    /// A builder of a component without items; refused for want of memory alone. [`Default`] makes
+    /// one too, or panics.
     #[inline]
     pub fn try_new() -> Result<Self, Error> {
         Ok(Self(proved::ComponentBuilder::new(Global)?))
     }
 
     twins! {
-        /// Adds a section of the debug names so far, if there are any: of what was imported, exported or aliased its name,
-        /// of the functions that the component model provides theirs, of other items what they were given (component model,
-        /// binary format, "Name Section").
+        /// Adds a section of the debug names so far, if there are any: of what was imported,
+        /// exported or aliased its name, of the functions that the component model provides theirs,
+        /// of other items what they were given (component model, binary format, "Name Section").
         ///
-        /// It is a custom section with the name `component-name`. Made again it writes them again; `finish` never makes it.
+        /// It is a custom section with the name `component-name`. Made again it writes them again;
+        /// `finish` never makes it.
         fn append_names | try_append_names(&mut self) -> () {
             Ok(self.0.append_names()?)
         }
 
-        /// Completes the component, and gives its bytes. It is refused where a type isn't whole alone, and then the
-        /// component is gone.
+        /// Completes the component, and gives its bytes. It is refused where a type isn't whole
+        /// alone, and then the component is gone.
         fn finish | try_finish(self) -> Vec<u8> {
             Ok(self.0.finish()?.into())
         }
@@ -82,7 +85,8 @@ impl ComponentBuilder {
         self.0.is_finished()
     }
 
-    /// Gives up the type that an encoder was to write, with its index, and answers whether there was one. It takes no memory.
+    /// Gives up the type that an encoder was to write, with its index, and answers whether there
+    /// was one. It takes no memory.
     ///
     /// What an iterator's panic left unfinished is given up so too.
     ///
@@ -102,7 +106,8 @@ impl ComponentBuilder {
     }
 }
 
-/// Calls that say how many items there are, with one that isn't whole. The number is the index of the next.
+/// Calls that say how many items there are, with one that isn't whole. The number is the index of
+/// the next.
 macro_rules! counts {
     ($($(#[$doc:meta])* $name:ident;)*) => {
         /// How many items there are so far, with one that isn't whole: the index of the next one.

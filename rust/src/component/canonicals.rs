@@ -1,4 +1,5 @@
-//! Canonical functions: what is lifted and lowered, what the component model provides, and their section.
+//! Canonical functions: what is lifted and lowered, what the component model provides, and their
+//! section.
 
 mod builtins;
 
@@ -17,7 +18,8 @@ crate::encode::encode! {
 }
 
 collections! {
-    /// The section of canonical functions (component model, binary format, "Canonical Definitions").
+    /// The section of canonical functions (component model, binary format, "Canonical
+    /// Definitions").
     ///
     /// ```
     /// use wenc::{CanonicalFunctionSection, CanonicalOption, Component, ComponentImportSection};
@@ -44,8 +46,9 @@ collections! {
 
 sections! { CanonicalFunctionSection }
 
-/// Functions between component and core modules (component model, binary format, "Canonical Definitions"). Options are
-/// written in the order in which they come. A call that is refused leaves the section as it was.
+/// Functions between component and core modules (component model, binary format, "Canonical
+/// Definitions"). Options are written in the order in which they come. A call that is refused
+/// leaves the section as it was.
 impl CanonicalFunctionSection {
     twins! {
         /// Makes a function, of the type with this index, of a core function.
@@ -99,11 +102,12 @@ macro_rules! calls {
             )*
         }
     ) => {
-        /// Core functions that the component model provides (component model, binary format, "Canonical Definitions").
+        /// Core functions that the component model provides (component model, binary format,
+        /// "Canonical Definitions").
         ///
-        /// `ty_index` and `ty` are the index of a type, that of a core type where a thread is made. `async_` says whether
-        /// the call may be answered later. Options are written in the order in which they come. A call that is refused
-        /// leaves the section as it was.
+        /// `ty_index` and `ty` are the index of a type, that of a core type where a thread is made.
+        /// `async_` says whether the call may be answered later. Options are written in the order
+        /// in which they come. A call that is refused leaves the section as it was.
         impl CanonicalFunctionSection {
             $(calls! { @plain [$(#[$doc])*] $name $tried $args $($own)? })*
 

@@ -3,7 +3,8 @@
 use crate::encode::encode;
 use crate::{Component, ComponentSection, ComponentSectionId};
 
-/// A section that is a component of its own (component model, binary format, "Component Definitions").
+/// A section that is a component of its own (component model, binary format, "Component
+/// Definitions").
 ///
 /// It is refused, when it is encoded, where that has more than 4294967295 bytes.
 ///

@@ -38,8 +38,8 @@ sections! { ComponentExportSection }
 
 impl ComponentExportSection {
     twins! {
-        /// Adds an export of the item of this kind with this index under this name, with the type that it is ascribed
-        /// or none.
+        /// Adds an export of the item of this kind with this index under this name, with the type
+        /// that it is ascribed or none.
         fn export | try_export<'a>(
             &mut self,
             name: impl Into<ComponentExternName<'a>>,

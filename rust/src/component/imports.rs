@@ -11,8 +11,8 @@ use alloc::string::String;
 
 pub use proved::{ComponentTypeRef, TypeBounds};
 
-/// The name of an import or an export, with the options that a name may have (component model, binary format,
-/// `importname'` and `exportname'`).
+/// The name of an import or an export, with the options that a name may have (component model,
+/// binary format, `importname'` and `exportname'`).
 ///
 /// ```
 /// use wenc::ComponentExternName;
@@ -50,7 +50,7 @@ impl<'a> ComponentExternName<'a> {
         }
     }
 
-    /// The same of a name that is kept.
+    /// The name as the proved code takes it, lent. It takes no memory.
     fn lent(&self) -> proved::ComponentExternName<'_> {
         fn option<'t>(text: &'t Option<Cow<'_, str>>) -> Option<CowStr<'t>> {
             text.as_deref().map(CowStr::Borrowed)

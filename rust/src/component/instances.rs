@@ -66,7 +66,8 @@ sections! { InstanceSection ComponentInstanceSection }
 
 impl InstanceSection {
     twins! {
-        /// Adds an instance of the core module with this index, which is given these arguments under their names.
+        /// Adds an instance of the core module with this index, which is given these arguments
+        /// under their names.
         fn instantiate | try_instantiate<A, S>(&mut self, module_index: u32, args: A) -> &mut Self
         where {
             A: IntoIterator<Item = (S, ModuleArg)>,
@@ -77,7 +78,8 @@ impl InstanceSection {
             Ok(self)
         }
 
-        /// Adds an instance that exports these core items, of these kinds and with these indices, under their names.
+        /// Adds an instance that exports these core items, of these kinds and with these indices,
+        /// under their names.
         fn export_items | try_export_items<E, S>(&mut self, exports: E) -> &mut Self
         where {
             E: IntoIterator<Item = (S, ExportKind, u32)>,
@@ -92,8 +94,8 @@ impl InstanceSection {
 
 impl ComponentInstanceSection {
     twins! {
-        /// Adds an instance of the component with this index, which is given the items of these kinds and with these
-        /// indices under their names.
+        /// Adds an instance of the component with this index, which is given the items of these
+        /// kinds and with these indices under their names.
         fn instantiate | try_instantiate<A, S>(&mut self, component_index: u32, args: A) -> &mut Self
         where {
             A: IntoIterator<Item = (S, ComponentExportKind, u32)>,
@@ -104,7 +106,8 @@ impl ComponentInstanceSection {
             Ok(self)
         }
 
-        /// Adds an instance that exports the items of these kinds and with these indices under their names.
+        /// Adds an instance that exports the items of these kinds and with these indices under
+        /// their names.
         fn export_items | try_export_items<'a, N, E>(&mut self, exports: E) -> &mut Self
         where {
             E: IntoIterator<Item = (N, ComponentExportKind, u32)>,

@@ -6,8 +6,9 @@ use crate::twins::twins;
 use crate::{ComponentSection, CustomSection, NameMap};
 
 collections! {
-    /// Names of a component and of the items in it, for people who read it: a custom section (component model, binary
-    /// format, "Name Section"). Nothing is asked of the order of the calls.
+    /// Names of a component and of the items in it, for people who read it: a custom section
+    /// (component model, binary format, "Name Section"). Nothing is asked of the order of the
+    /// calls.
     ///
     /// ```
     /// use wenc::{Component, ComponentNameSection, NameMap};
@@ -53,7 +54,7 @@ impl ComponentNameSection {
             Ok(self.0.component(name)?)
         }
 
-        /// Appends a subsection with this id, from 0 to 255, and these bytes behind its size.
+        /// Appends a subsection with this id, from 0 to 255, and these bytes after its size.
         fn raw | try_raw(&mut self, id: u8, data: &[u8]) -> () {
             Ok(self.0.raw(id, data)?)
         }

@@ -5,10 +5,11 @@ use crate::proved::wasm_encoder as proved;
 use crate::{ComponentSection, ComponentSectionId};
 use alloc::vec::Vec;
 
-/// The section that has a function called when the component is instantiated (component model, binary format, "Start
-/// Definitions").
+/// The section that has a function called when the component is instantiated (component model,
+/// binary format, "Start Definitions").
 ///
-/// It is refused, when it is encoded, where there are more than 4294967295 arguments, or so many bytes behind its size.
+/// It is refused, when it is encoded, where there are more than 4294967295 arguments, or so many
+/// bytes after its size.
 ///
 /// ```
 /// use wenc::{Component, ComponentImportSection, ComponentStartSection, ComponentTypeRef};

@@ -1,4 +1,5 @@
-//! Types: of values, functions, resources, instances, components and core modules; their sections and encoders.
+//! Types: of values, functions, resources, instances, components and core modules; their sections
+//! and encoders.
 
 mod component_type;
 mod core_type;
@@ -43,9 +44,9 @@ macro_rules! declaring {
             $crate::twins::twins! {
                 /// Declares a core type, which the encoder writes.
                 ///
-                /// The type isn't whole until it has: what grows or takes the type is refused meanwhile, and afterwards too
-                /// where the encoder was dropped. [`discard_unfinished`](Self::discard_unfinished) gives such a
-                /// declaration up.
+                /// The type isn't whole until it has: what grows or takes the type is refused
+                /// meanwhile, and afterwards too where the encoder was dropped.
+                /// [`discard_unfinished`](Self::discard_unfinished) gives such a declaration up.
                 #[must_use = "the encoder is to write the type"]
                 fn core_type | try_core_type(&mut self) -> $crate::ComponentCoreTypeEncoder<'_> {
                     Ok(self.0.core_type()?.into())
@@ -57,7 +58,8 @@ macro_rules! declaring {
                     Ok(self.0.ty()?.into())
                 }
 
-                /// Declares an alias: of an instance's export, or of what an enclosing component has.
+                /// Declares an alias: of an instance's export, or of what an enclosing component
+                /// has.
                 fn alias | try_alias(&mut self, alias: $crate::Alias<'_>) -> &mut Self {
                     self.0.alias(alias)?;
                     Ok(self)
@@ -73,7 +75,8 @@ macro_rules! declaring {
                     Ok(self)
                 }
 
-                /// Declares a type of values, which the encoder writes, and answers its index; as [`ty`](Self::ty).
+                /// Declares a type of values, which the encoder writes, and answers its index; as
+                /// [`ty`](Self::ty).
                 #[must_use = "the encoder is to write the type"]
                 fn type_defined | try_type_defined(
                     &mut self,
@@ -82,7 +85,8 @@ macro_rules! declaring {
                     Ok((index, encoder.into()))
                 }
 
-                /// Declares a type of functions, which the encoder writes, and answers its index; as [`ty`](Self::ty).
+                /// Declares a type of functions, which the encoder writes, and answers its index;
+                /// as [`ty`](Self::ty).
                 #[must_use = "the encoder is to write the type"]
                 fn type_function | try_type_function(
                     &mut self,
@@ -91,7 +95,8 @@ macro_rules! declaring {
                     Ok((index, encoder.into()))
                 }
 
-                /// Declares an alias of the type that this instance exports under this name, and answers the alias's index.
+                /// Declares an alias of the type that this instance exports under this name, and
+                /// answers the alias's index.
                 fn alias_export_type | try_alias_export_type(
                     &mut self,
                     instance: u32,
@@ -100,8 +105,8 @@ macro_rules! declaring {
                     Ok(self.0.alias_export_type(instance, name)?)
                 }
 
-                /// Declares an alias of the instance that this instance exports under this name, and answers the alias's
-                /// index.
+                /// Declares an alias of the instance that this instance exports under this name,
+                /// and answers the alias's index.
                 fn alias_export_instance | try_alias_export_instance(
                     &mut self,
                     instance: u32,
@@ -110,8 +115,9 @@ macro_rules! declaring {
                     Ok(self.0.alias_export_instance(instance, name)?)
                 }
 
-                /// Declares an alias of a type that an enclosing component has: how many components further out that is, and
-                /// which index the type has there. Answers the alias's own index.
+                /// Declares an alias of a type that an enclosing component has: how many components
+                /// further out that is, and which index the type has there. Answers the alias's own
+                /// index.
                 fn alias_outer_type | try_alias_outer_type(
                     &mut self,
                     count: u32,
@@ -120,7 +126,9 @@ macro_rules! declaring {
                     Ok(self.0.alias_outer_type(count, outer)?)
                 }
 
-                /// The same of a core type. Answers the alias's own index among the core types.
+                /// Declares an alias of a core type that an enclosing component has: how many
+                /// components further out that is, and which index the type has there. Answers the
+                /// alias's own index among the core types.
                 fn alias_core_type | try_alias_core_type(&mut self, count: u32, outer: u32) -> u32 {
                     Ok(self.0.alias_core_type(count, outer)?)
                 }
@@ -157,8 +165,8 @@ macro_rules! declaring {
                     Ok(self.0.export_type(name.into().into_proved(), bounds)?)
                 }
 
-                /// Declares an export of an instance of the type with this index under this name, and answers its index
-                /// among the instances.
+                /// Declares an export of an instance of the type with this index under this name,
+                /// and answers its index among the instances.
                 fn export_instance | try_export_instance<'a>(
                     &mut self,
                     name: impl Into<$crate::ComponentExternName<'a>>,
@@ -168,14 +176,14 @@ macro_rules! declaring {
                 }
             }
 
-            /// How many core types there are: those that were declared, one that is being written among them, and those of
-            /// outer aliases.
+            /// How many core types there are: those that were declared, one that is being written
+            /// among them, and those of outer aliases.
             pub fn core_type_count(&self) -> u32 {
                 self.0.core_type_count()
             }
 
-            /// How many types there are: those that were declared, one that is being written among them, and those of
-            /// aliases, imports and exports.
+            /// How many types there are: those that were declared, one that is being written among
+            /// them, and those of aliases, imports and exports.
             pub fn type_count(&self) -> u32 {
                 self.0.type_count()
             }

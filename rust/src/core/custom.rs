@@ -4,10 +4,11 @@ use crate::encode::encode;
 use crate::proved::wasm_encoder as proved;
 use alloc::borrow::Cow;
 
-/// A section that the standard gives no meaning (WebAssembly 3.0, binary format, "Custom Section"). It stands in a component
-/// or in a core module.
+/// A section that the standard gives no meaning (WebAssembly 3.0, binary format, "Custom Section").
+/// It stands in a component or in a core module.
 ///
-/// It is refused, when it is encoded, where it would have more than 4294967295 bytes behind its size.
+/// It is refused, when it is encoded, where it would have more than 4294967295 bytes after its
+/// size.
 ///
 /// ```
 /// use wenc::{Component, CustomSection};
@@ -20,7 +21,7 @@ use alloc::borrow::Cow;
 pub struct CustomSection<'a> {
     /// The name.
     pub name: Cow<'a, str>,
-    /// The bytes behind the name.
+    /// The bytes after the name.
     pub data: Cow<'a, [u8]>,
 }
 
@@ -32,8 +33,8 @@ impl CustomSection<'_> {
     }
 }
 
-/// The bytes of a custom section behind its id, its size among them, as they are (WebAssembly 3.0, binary format, "Custom
-/// Section"). Nothing checks that they are such a section.
+/// The bytes of a custom section after its id, its size among them, as they are (WebAssembly 3.0,
+/// binary format, "Custom Section"). Nothing checks that they are such a section.
 ///
 /// ```
 /// use wenc::{Component, RawCustomSection};
@@ -56,7 +57,8 @@ impl RawCustomSection<'_> {
     }
 }
 
-/// Sections that stand in a core module as well as in a component, with the ids that the proved code gives them there.
+/// Sections that stand in a core module as well as in a component, with the ids that the proved
+/// code gives them there.
 macro_rules! in_either {
     ($($name:ty, $section:ident => $proved:expr;)*) => {
         $(impl $crate::Section for $name {

@@ -6,7 +6,8 @@ use crate::encode::encode;
 use crate::error::granted;
 use crate::proved::wasm_encoder as proved;
 
-/// The type of what a core module imports or exports (WebAssembly 3.0, binary format, "External Types").
+/// The type of what a core module imports or exports (WebAssembly 3.0, binary format, "External
+/// Types").
 ///
 /// ```
 /// use wenc::{Encode, EntityType, MemoryType};

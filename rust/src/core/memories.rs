@@ -5,8 +5,8 @@ use crate::encode::encode;
 use crate::error::granted;
 use crate::proved::wasm_encoder as proved;
 
-/// The type of a memory (WebAssembly 3.0, binary format, "Memory Types"). A shared one isn't of that standard: it is written
-/// as in the proposal for threads.
+/// The type of a memory (WebAssembly 3.0, binary format, "Memory Types"). A shared one isn't of
+/// that standard: it is written as in the proposal for threads.
 #[derive(Clone, Copy, Debug, PartialEq, Eq, Hash)]
 pub struct MemoryType {
     /// How many pages it has at first.
@@ -17,8 +17,8 @@ pub struct MemoryType {
     pub memory64: bool,
     /// Whether threads share it.
     pub shared: bool,
-    /// The logarithm, to the base 2, of how many bytes a page has, where it doesn't have the standard's 65536. That is not
-    /// supported: `Some` is refused, even of 16.
+    /// The logarithm, to the base 2, of how many bytes a page has, where it doesn't have the
+    /// standard's 65536. That is not supported: `Some` is refused, even of 16.
     pub page_size_log2: Option<u32>,
 }
 

@@ -4,8 +4,9 @@ use crate::shared::{collections, opaque};
 use crate::twins::twins;
 
 collections! {
-    /// Names of items, each with the item's index, in the order in which they were appended (WebAssembly 3.0, binary
-    /// format, "Name Maps"). Readers ask for indices that ascend; nothing checks that.
+    /// Names of items, each with the item's index, in the order in which they were appended
+    /// (WebAssembly 3.0, binary format, "Name Maps"). Readers ask for indices that ascend; nothing
+    /// checks that.
     ///
     /// ```
     /// use wenc::{Encode, NameMap};

@@ -5,11 +5,11 @@ use crate::shared::{collections, opaque};
 use crate::twins::twins;
 
 collections! {
-    /// The tools that did one thing, such as `processed-by`, each with its version (tool conventions, "Producers
-    /// Section").
+    /// The tools that did one thing, such as `processed-by`, each with its version (tool
+    /// conventions, "Producers Section").
     ProducersField;
-    /// What the tools did that made a module or a component, and which they were: a custom section (tool conventions,
-    /// "Producers Section").
+    /// What the tools did that made a module or a component, and which they were: a custom section
+    /// (tool conventions, "Producers Section").
     ///
     /// ```
     /// use wenc::{Component, ProducersField, ProducersSection};
@@ -47,8 +47,8 @@ impl ProducersField {
 
 impl ProducersSection {
     twins! {
-        /// Adds a field of this name, with its tools. The tool conventions name `language`, `processed-by` and `sdk`, each
-        /// once at most.
+        /// Adds a field of this name, with its tools. The tool conventions name `language`,
+        /// `processed-by` and `sdk`, each once at most.
         fn field | try_field(&mut self, name: &str, values: &ProducersField) -> &mut Self {
             self.0.field(name, &values.0)?;
             Ok(self)

@@ -1,6 +1,6 @@
-//! What the proved sources use of Rattle's standard library, over Rust's. Memory is asked for by `try_reserve`, so that a
-//! refusal is an answer, as it is there. Only names that stand here compile: a call of the sources that this lacks is an
-//! error of the build.
+//! What the proved sources use of Rattle's standard library, over Rust's. Memory is asked for by
+//! `try_reserve`, so that a refusal is an answer, as it is there. Only names that stand here
+//! compile: a call of the sources that this lacks is an error of the build.
 
 pub mod alloc;
 pub mod borrow;

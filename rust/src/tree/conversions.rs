@@ -68,7 +68,8 @@ impl<'a> From<&'a NameTree> for ComponentExternName<'a> {
     }
 }
 
-/// Core types that a tree has, as this crate's sections take them, and the other way round, where nothing is unsupported.
+/// Core types that a tree has, as this crate's sections take them, and the other way round, where
+/// nothing is unsupported.
 macro_rules! core_types {
     ($($name:ident)*) => {
         $(/// A type that isn't of WebAssembly 3.0 is refused ([`Error::Unsupported`]).

@@ -14,18 +14,18 @@ pub fn hex(bytes: &[u8]) -> String {
     bytes.join(" ")
 }
 
-/// What stands behind the header.
+/// What follows the header.
 pub fn behind(bytes: &[u8]) -> String {
     assert_eq!(hex(&bytes[..8]), HEADER);
     hex(&bytes[8..])
 }
 
-/// Finishes the builder: what stands behind the header.
+/// Finishes the builder: what follows the header.
 pub fn behind_header(builder: ComponentBuilder) -> String {
     behind(&builder.finish())
 }
 
-/// A component of this section alone: what stands behind the header.
+/// A component of this section alone: what follows the header.
 pub fn section(section: &impl ComponentSection) -> String {
     behind(Component::new().section(section).as_slice())
 }

@@ -1,5 +1,5 @@
-//! The builder and the section of canonical functions, over what is public. Each expected byte is worked out from the format
-//! or comes from upstream.
+//! The builder and the section of canonical functions, over what is public. Each expected byte is
+//! worked out from the format or comes from upstream.
 
 mod canonicals;
 mod components;

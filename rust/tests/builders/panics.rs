@@ -1,4 +1,5 @@
-//! Iterators and conversions that panic: whoever catches it finds the builder as it was, or unfinished.
+//! Iterators and conversions that panic: whoever catches it finds the builder as it was, or
+//! unfinished.
 
 use crate::hex::{behind_header, section};
 use std::panic::{AssertUnwindSafe, catch_unwind};

@@ -1,5 +1,5 @@
-//! Values of a caller that panic, and encoders that are dropped: the type is unfinished, and leaves no byte when it is given
-//! up.
+//! Values of a caller that panic, and encoders that are dropped: the type is unfinished, and leaves
+//! no byte when it is given up.
 
 use crate::shapes::{field, function, sub, text};
 use std::panic::{AssertUnwindSafe, catch_unwind};

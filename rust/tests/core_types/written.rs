@@ -37,7 +37,7 @@ fn guarded(section: &[u8], write: fn(CoreTypeEncoder<'_>), bytes: &[u8]) {
     assert_eq!(text(&module), [&[0x50, 1, 1], bytes].concat());
 }
 
-/// The same of a type without a guard.
+/// Writes a type without a guard by each that lends itself: alone it makes this section.
 fn each(write: fn(CoreTypeEncoder<'_>), section: &[u8]) {
     guarded(section, write, &section[3..]);
 }

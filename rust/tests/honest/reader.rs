@@ -1,5 +1,5 @@
-//! The closed list of ways in which a source and its Rust may part. What stands in the source says which of them it is, and
-//! what has to stand in the Rust then.
+//! The closed list of ways in which a source and its Rust may part. What stands in the source says
+//! which of them it is, and what has to stand in the Rust then.
 
 use super::lexer::{Token, lex};
 use std::collections::BTreeMap;
@@ -95,7 +95,8 @@ fn step(way: &'static str, old: usize, new: impl Into<String>) -> Step {
     Step { way, old, new: new.into() }
 }
 
-/// Reads a source of this crate beside its Rust, and counts each way in which they part. Refuses what is in no way.
+/// Reads a source of this crate beside its Rust, and counts each way in which they part. Refuses
+/// what is in no way.
 pub fn read(
     crate_name: &str,
     old: &str,
@@ -107,7 +108,8 @@ pub fn read(
     if lines.0 == lines.1 { Ok(()) } else { Err(format!("{} lines became {}", lines.0, lines.1)) }
 }
 
-/// The same of their tokens.
+/// Reads the tokens of a source beside those of its Rust, and counts each way in which they part.
+/// Refuses what is in no way.
 pub fn compare(
     crate_name: &str,
     old: &[Token],
@@ -168,7 +170,7 @@ impl<'a> Source<'a> {
         Source { crate_name, tokens, at: 0, error: None }
     }
 
-    /// The token so many behind this.
+    /// The token so many after this.
     fn text(&self, ahead: usize) -> &'a str {
         self.tokens.get(self.at + ahead).map_or("", |token| &token.text)
     }
@@ -186,7 +188,8 @@ impl<'a> Source<'a> {
         words.split(' ').enumerate().all(|(i, word)| self.text(ahead + i) == word)
     }
 
-    /// How many tokens there are from the bracket so many behind this to the one that closes it, with both.
+    /// How many tokens there are from the bracket so many after this to the one that closes it,
+    /// with both.
     fn block(&self, ahead: usize) -> usize {
         let mut depth = 0;
         for len in 1.. {

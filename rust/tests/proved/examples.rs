@@ -119,7 +119,7 @@ const NAMES: &[u8] =
 const FUNCTIONS: &[u8] = b"\0asm\x0d\0\x01\0\x0a\x09\x01\x00\x04file\x03\x01\
     \x08\x08\x02\x03\x00\x09\x01\x00\x01\x01";
 
-/// A start, behind an imported function and an imported value with which it is called.
+/// A start, after an imported function and an imported value with which it is called.
 fn started() -> Result<Vec<u8>, Fault> {
     let number = ComponentValType::Primitive(PrimitiveValType::U32);
     let mut types = ComponentTypeSection::new(Global);
@@ -215,7 +215,7 @@ fn trees_and_parts() {
     makes(Ok(parts::extern_name()), EXTERN_NAME);
 }
 
-/// Behind what was there.
+/// After what was there.
 #[test]
 fn sections_behind() {
     let (bytes, count) = canon::behind(Vec::new(Global)).unwrap();

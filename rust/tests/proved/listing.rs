@@ -1,5 +1,5 @@
-//! The lister: worked components, spellings that are read and such as are not, components of which each byte is changed,
-//! each request for memory refused in turn, and what `build` makes.
+//! The lister: worked components, spellings that are read and such as are not, components of which
+//! each byte is changed, each request for memory refused in turn, and what `build` makes.
 
 pub mod built;
 mod changed;

@@ -1,5 +1,5 @@
-//! Tests of the proved calls themselves, which no user of the crate sees: worked rows, and sweeps in which each request
-//! for memory is refused in turn.
+//! Tests of the proved calls themselves, which no user of the crate sees: worked rows, and sweeps
+//! in which each request for memory is refused in turn.
 
 // Tables of rows have long types.
 #![allow(clippy::type_complexity)]

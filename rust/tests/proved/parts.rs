@@ -1,4 +1,5 @@
-//! Values and parts of items: what they are written as, and each request for memory refused in turn.
+//! Values and parts of items: what they are written as, and each request for memory refused in
+//! turn.
 
 mod base;
 mod canon;

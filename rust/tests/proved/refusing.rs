@@ -1,5 +1,5 @@
-//! An allocator that refuses requests by a plan. A request is each growth of a collection, and is refused before the system
-//! is asked.
+//! An allocator that refuses requests by a plan. A request is each growth of a collection, and is
+//! refused before the system is asked.
 
 use crate::proved::rt_std::alloc::Allocator;
 use crate::proved::rt_std::alloc::sealed::Sealed;

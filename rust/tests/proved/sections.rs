@@ -1,4 +1,5 @@
-//! Worked types, sections and components, and types with declarations, with each request for memory refused in turn.
+//! Worked types, sections and components, and types with declarations, with each request for memory
+//! refused in turn.
 
 mod checks;
 mod component_types;

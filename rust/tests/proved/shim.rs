@@ -1,5 +1,5 @@
-//! The shim against what the pages of Rattle's library say: what each call does, that it answers each refusal and leaves
-//! its collection as it was, and that it asks only where room is missing.
+//! The shim against what the pages of Rattle's library say: what each call does, that it answers
+//! each refusal and leaves its collection as it was, and that it asks only where room is missing.
 
 use super::refusing::Refusing;
 use crate::proved::hex::{self, FromHexError};

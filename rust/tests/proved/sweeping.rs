@@ -1,5 +1,5 @@
-//! Calls that have each of their requests for memory refused in turn. A refused request has to be answered with want of
-//! memory and change nothing, and the same call has to succeed afterwards.
+//! Calls that have each of their requests for memory refused in turn. A refused request has to be
+//! answered with want of memory and change nothing, and the same call has to succeed afterwards.
 
 pub mod members;
 
@@ -31,7 +31,8 @@ fn started(heap: &Refusing) -> Vec<u8, &Refusing> {
     sink
 }
 
-/// Has the requests of a call that appends to a sink refused in turn, of which there is at least one.
+/// Has the requests of a call that appends to a sink refused in turn, of which there is at least
+/// one.
 fn sweep(append: impl Fn(&mut Vec<u8, &Refusing>) -> Result<(), Fault>) {
     let ample = Refusing::new();
     let mut wanted = started(&ample);
@@ -68,7 +69,7 @@ pub fn takes_no_memory<E: Encode>(value: &E) {
     assert!(sink.is_empty() && heap.requests() == 0);
 }
 
-/// Has the requests of a section refused in turn, alone and behind its id.
+/// Has the requests of a section refused in turn, alone and after its id.
 pub fn sweep_section<S: ComponentSection>(section: &S) {
     sweep_encode(section);
     sweep(|sink| section.append_to_component(sink));

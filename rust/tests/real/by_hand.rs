@@ -1,4 +1,5 @@
-//! Listed components once more by sections: each item by the call that a section or a type has for it.
+//! Listed components once more by sections: each item by the call that a section or a type has for
+//! it.
 
 use wenc::tree::{
     self, CanonTree, CaseTree, ComponentDecl, CompositeType as Composite, CoreInstanceTree,
@@ -16,7 +17,7 @@ pub fn component(listing: &Listing) -> Vec<u8> {
     component.finish()
 }
 
-/// The section's calls, one for each item, and the section behind the others.
+/// The section's calls, one for each item, and the section after the others.
 macro_rules! section {
     ($component:ident, $items:expr, $section:expr, $of:ident, $($item:pat => $call:expr),+) => {{
         #[allow(unused_mut)]
@@ -259,8 +260,8 @@ fn subtype(ty: &tree::SubType) -> SubType {
     }
 }
 
-/// The call of the section for each function: those without operands, those with an index, those with that and whether
-/// they may be answered later, and those with an index and options.
+/// The call of the section for each function: those without operands, those with an index, those
+/// with that and whether they may be answered later, and those with an index and options.
 macro_rules! functions {
     (
         $of:ident, $tree:ident,

@@ -1,6 +1,7 @@
 //! The components in the examples of the documentation: each is valid to upstream's validator.
 //!
-//! An example says which bytes it makes, and is run as a test of the documentation; so it is enough to read what it says.
+//! An example says which bytes it makes, and is run as a test of the documentation; so it is enough
+//! to read what it says.
 
 use crate::toolchain::{Linker, linker};
 use std::path::{Path, PathBuf};
@@ -87,8 +88,8 @@ fn byte(text: &str) -> u8 {
     }
 }
 
-/// The components that an example has, or says it makes: all literals that begin as one, and what is compared with the
-/// bytes behind a header.
+/// The components that an example has, or says it makes: all literals that begin as one, and what
+/// is compared with the bytes after a header.
 fn components(code: &str) -> Vec<Vec<u8>> {
     let whole = code.match_indices(r#"b"\0asm\x0d"#).map(|(at, _)| literal(&code[at..]));
     let mut found: Vec<Vec<u8>> = whole.collect();

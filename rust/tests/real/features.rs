@@ -1,4 +1,5 @@
-//! Components with one feature each, around the same core module: what upstream's validator says of it is what is stored.
+//! Components with one feature each, around the same core module: what upstream's validator says of
+//! it is what is stored.
 
 mod others;
 
@@ -28,7 +29,8 @@ const MEMORY: CanonicalOption = Memory(0);
 const REALLOC: CanonicalOption = Realloc(4);
 const EQUAL: ComponentTypeRef = ComponentTypeRef::Type(TypeBounds::Eq(STREAM));
 
-/// Core functions: 0 run, 1 num, 2 text, 3 post, 4 cabi_realloc, 5 callback, 6 drop. Functions: 0 unit, 1 text, 2 wait.
+/// Core functions: 0 run, 1 num, 2 text, 3 post, 4 cabi_realloc, 5 callback, 6 drop. Functions: 0
+/// unit, 1 text, 2 wait.
 fn base(core: &[u8]) -> Builder {
     let mut b = Builder::default();
     let module = b.core_module_raw(Some("main"), core);
@@ -130,7 +132,8 @@ calls! {
     "bad-name": import("Not Kebab", ComponentTypeRef::Func(UNIT));
 }
 
-/// A line for each component, in the order of their names: `valid`, or what the validator says, without the place.
+/// A line for each component, in the order of their names: `valid`, or what the validator says,
+/// without the place.
 fn verdicts() -> Option<(String, String)> {
     let linker = linker("a component for each feature")?;
     let core = corpus::read("features.wasm");
@@ -147,8 +150,9 @@ fn verdicts() -> Option<(String, String)> {
     Some((linker.version(), told))
 }
 
-/// What stands in `corpus/verdicts.txt` was said by these versions. Others may know what came later, or have moved what
-/// isn't of the standard yet; but what the others find valid stays so, if it isn't about threads.
+/// What stands in `corpus/verdicts.txt` was said by these versions. Others may know what came
+/// later, or have moved what isn't of the standard yet; but what the others find valid stays so, if
+/// it isn't about threads.
 const VERSIONS: [&str; 2] = ["0.245.1", "0.246.2"];
 
 #[test]

@@ -40,7 +40,7 @@ pub trait Declares {
         self.exported(name, ComponentTypeRef::Func(ty));
     }
 
-    /// The same, of one that is asynchronous.
+    /// An asynchronous function that is exported.
     fn export_async(&mut self, name: &str, params: &[(&str, Val)], result: Option<Val>) {
         let ty = self.func(true, params, result);
         self.exported(name, ComponentTypeRef::Func(ty));

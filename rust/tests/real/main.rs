@@ -1,10 +1,11 @@
-//! Real components: what a linker that others wrote makes is read and made again, and what this crate makes is given to
-//! that linker, which decodes and validates it.
+//! Real components: what a linker that others wrote makes is read and made again, and what this
+//! crate makes is given to that linker, which decodes and validates it.
 //!
-//! `corpus/wasm` has components that `wasm-component-ld` of Rust's toolchain made, of the worlds in `corpus/wit` and the C in
-//! `corpus/c`; `corpus/make` makes them once more, with the objects in `corpus/o`. For what stands here no toolchain is
-//! needed. Where `rustc` has such a linker, the tests of worlds, features, random components, examples and documentation
-//! call it; where it has none they say that they were left out.
+//! `corpus/wasm` has components that `wasm-component-ld` of Rust's toolchain made, of the worlds in
+//! `corpus/wit` and the C in `corpus/c`; `corpus/make` makes them once more, with the objects in
+//! `corpus/o`. For what stands here no toolchain is needed. Where `rustc` has such a linker, the
+//! tests of worlds, features, random components, examples and documentation call it; where it has
+//! none they say that they were left out.
 
 mod again;
 mod by_hand;

@@ -1,4 +1,5 @@
-//! The debug names of the corpus: read out of their section, given to the builder once more, and written by it.
+//! The debug names of the corpus: read out of their section, given to the builder once more, and
+//! written by it.
 
 use crate::again;
 use crate::again::{built, items};
@@ -34,7 +35,7 @@ impl<'a> Reader<'a> {
     }
 }
 
-/// The subsections of a section of names: each whole, and behind its id and its size.
+/// The subsections of a section of names: each whole, and after its id and its size.
 fn subsections(data: &[u8]) -> Vec<(&[u8], &[u8])> {
     let (mut found, mut rest) = (Vec::new(), Reader(data));
     while !rest.0.is_empty() {
@@ -99,7 +100,7 @@ fn with_name(mut command: Command, name: Option<&str>) -> Command {
     command
 }
 
-/// The bytes behind the name of the section of names, where there is one.
+/// The bytes after the name of the section of names, where there is one.
 fn section(bytes: &[u8]) -> Option<Vec<u8>> {
     items(list(bytes).ok()?).find_map(|item| match item {
         ItemTree::Custom { name, data } if &*name == "component-name" => Some(data.into()),
@@ -107,7 +108,8 @@ fn section(bytes: &[u8]) -> Option<Vec<u8>> {
     })
 }
 
-/// The component's items once more, with these debug names, and a section of them that the builder writes.
+/// The component's items once more, with these debug names, and a section of them that the builder
+/// writes.
 fn named(bytes: &[u8], names: &Names<'_>) -> Vec<u8> {
     let mut counts = HashMap::new();
     let mut commands = Vec::new();
@@ -125,7 +127,8 @@ fn named(bytes: &[u8], names: &Names<'_>) -> Vec<u8> {
     built(&commands)
 }
 
-/// The component without what its section of names says a second time: upstream writes the names of instances twice.
+/// The component without what its section of names says a second time: upstream writes the names of
+/// instances twice.
 fn said_once(bytes: &[u8]) -> Vec<u8> {
     let mut commands = Vec::new();
     for item in items(list(bytes).expect("it is listed")) {

@@ -41,7 +41,7 @@ fn constants(source: &str) -> Vec<(&str, Vec<u8>)> {
     defined.map(|(name, code)| (name, literal(code))).collect()
 }
 
-/// A component of one section with this id, and bytes behind that.
+/// A component of one section with this id, and bytes after that.
 fn behind(id: u8, bytes: &[u8]) -> Vec<u8> {
     [&Component::HEADER[..], &[id], bytes].concat()
 }

@@ -1,4 +1,5 @@
-//! The linker of Rust's toolchain, where there is one: it links core modules to components, decodes worlds, and validates.
+//! The linker of Rust's toolchain, where there is one: it links core modules to components, decodes
+//! worlds, and validates.
 
 use crate::corpus;
 use std::ffi::OsStr;
@@ -54,7 +55,8 @@ impl Linker {
         self.linked(object, &[])
     }
 
-    /// The component of this object and the text of a world in the corpus, which may say what else the linker is told.
+    /// The component of this object and the text of a world in the corpus, which may say what else
+    /// the linker is told.
     pub fn link_text(&self, object: &[u8], world: &str) -> Result<Vec<u8>, String> {
         let text = corpus::text(world);
         let flags = text.lines().find_map(|line| line.strip_prefix("//# flags "));
@@ -84,8 +86,8 @@ impl Linker {
         linked
     }
 
-    /// Why upstream's validator refuses this component, if it does. The linker is handed it as a world: it validates it,
-    /// and then says that it is none.
+    /// Why upstream's validator refuses this component, if it does. The linker is handed it as a
+    /// world: it validates it, and then says that it is none.
     pub fn refuses(&self, component: &[u8]) -> Option<String> {
         let told = self.link_encoded(&corpus::read("o/29-empty.o"), component).err()?;
         let cause = told.split("Caused by:").last().expect("there is one");

@@ -1,4 +1,5 @@
-//! Worlds that this crate encodes: the linker decodes them, and makes of them the components that it makes of their texts.
+//! Worlds that this crate encodes: the linker decodes them, and makes of them the components that
+//! it makes of their texts.
 
 use crate::corpus;
 use crate::interfaces::*;
@@ -8,7 +9,8 @@ use wenc::*;
 /// The name of a world's files, its id, how its texts are encoded, and what it imports and exports.
 type World = (&'static str, &'static str, Texts, fn(&mut ComponentType));
 
-/// How texts are encoded that a world's functions take: what stands in the section `wit-component-encoding`.
+/// How texts are encoded that a world's functions take: what stands in the section
+/// `wit-component-encoding`.
 #[derive(Clone, Copy)]
 enum Texts {
     Utf8,
@@ -32,8 +34,8 @@ const WORLDS: [World; 14] = [
     ("30-utf16", "t:utf-sixteen/u16w", Texts::Utf16, utf16),
 ];
 
-/// A world as a component: a type that holds the world's own, exported under the world's name, between sections that say
-/// how texts are encoded, and which tool has made it.
+/// A world as a component: a type that holds the world's own, exported under the world's name,
+/// between sections that say how texts are encoded, and which tool has made it.
 fn encoded(id: &str, world: &ComponentType, texts: Texts, tool: (&str, &str)) -> Vec<u8> {
     let mut outer = ComponentType::new();
     outer.ty().component(world);

@@ -7,7 +7,7 @@ use wenc::{ComponentExportKind, ComponentOuterAliasKind, ComponentTypeRef, Error
 /// A command, and its answer.
 pub type Call = (Command, Result<Option<u32>, Error>);
 
-/// The commands are answered so, and make the component with these bytes behind its header.
+/// The commands are answered so, and make the component with these bytes after its header.
 pub fn builds<const N: usize>(calls: [Call; N], wanted: &str) {
     let (commands, answers): (Vec<_>, Vec<_>) = calls.into_iter().unzip();
     let built = build(&commands).unwrap();
@@ -37,7 +37,7 @@ pub fn exported(instance: u32, kind: ComponentExportKind, name: &str) -> Command
     alias(AliasTree::InstanceExport { instance, kind, name: name.into() })
 }
 
-/// The same of a core instance.
+/// What the core instance with this index exports.
 pub fn core_exported(instance: u32, kind: ExportKind, name: &str) -> Command {
     alias(AliasTree::CoreInstanceExport { instance, kind, name: name.into() })
 }

@@ -20,7 +20,7 @@ fn function<const N: usize>(params: [ValType; N]) -> CompositeInnerType {
     CompositeInnerType::Func(FuncType::new(params, []))
 }
 
-/// The same for a command.
+/// A type of functions that take these, and answer nothing, for a command.
 fn function_tree<const N: usize>(params: [tree::ValType; N]) -> tree::CompositeType {
     tree::CompositeType::Func(tree::FuncType::from_lists(params.into(), [].into()))
 }
@@ -46,7 +46,7 @@ fn is_written(write: impl Fn(CoreTypeEncoder<'_>), group: GroupTree, wanted: &st
     builds([first(core_type(CoreTypeTree::Group(group)))], wanted);
 }
 
-/// The same of a module type.
+/// The module type is the first of a builder, of a section and of what the command builds.
 fn is_module(ty: &ModuleType, declarations: tree::Vec<ModuleDecl>, wanted: &str) {
     let mut b = ComponentBuilder::default();
     let (index, encoder) = b.core_type(None);

@@ -47,7 +47,7 @@ fn is_instance(instance: &InstanceType, declarations: tree::Vec<InstanceDecl>, w
     builds([first(ty(TypeTree::Instance(declarations)))], wanted);
 }
 
-/// The same of a type of components.
+/// The type of components is so, by each call that takes one.
 fn is_component(component: &ComponentType, declarations: tree::Vec<ComponentDecl>, wanted: &str) {
     let mut b = ComponentBuilder::default();
     assert_eq!(b.type_component(None, component), 0);
@@ -185,7 +185,7 @@ fn open() -> SubType {
     SubType { is_final: false, supertype_idx: None, composite_type }
 }
 
-/// The same for a command.
+/// A subtype that isn't final, of functions that take and answer nothing, for a command.
 fn open_tree() -> CoreTypeTree {
     let function = tree::FuncType::from_lists([].into(), [].into());
     let composite_type = CompositeType::Func(function);

@@ -38,7 +38,8 @@ impl From<Halting> for ComponentExternName<'_> {
     }
 }
 
-/// The call leaves a section, an instance type and a component type unfinished, and what is given up leaves no byte.
+/// The call leaves a section, an instance type and a component type unfinished, and what is given
+/// up leaves no byte.
 fn leaves_unfinished(write: fn(ComponentDefinedTypeEncoder<'_>)) {
     let mut section = ComponentTypeSection::new();
     section.defined_type().own(1);

@@ -1,4 +1,5 @@
-//! Types that are begun and not ended: what grows, encodes or takes what has one is refused, until it gives the type up.
+//! Types that are begun and not ended: what grows, encodes or takes what has one is refused, until
+//! it gives the type up.
 
 use std::panic::{AssertUnwindSafe, catch_unwind};
 use wenc::{

@@ -42,7 +42,8 @@ fn each(write: fn(ComponentTypeEncoder<'_>), section: &[u8]) {
     assert_eq!(builder.finish()[8..], *section);
 }
 
-/// The same of a type of values. Twice it makes a section of two.
+/// Writes a type of values by each that lends itself: alone it makes this section, and twice one of
+/// two.
 fn defined(write: fn(ComponentDefinedTypeEncoder<'_>), section: &[u8]) {
     let mut types = ComponentTypeSection::new();
     write(types.defined_type());

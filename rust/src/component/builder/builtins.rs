@@ -28,16 +28,17 @@ macro_rules! calls {
             )*
         }
     ) => {
-        /// Core functions that the component model provides: each call adds one, and answers its index (component model,
-        /// binary format, "Canonical Definitions").
+        /// Core functions that the component model provides: each call adds one, and answers its
+        /// index (component model, binary format, "Canonical Definitions").
         ///
-        /// `ty` and `func_ty_idx` are the index of a type, that of a core type where a thread is made; `memory` is that of
-        /// a core memory, `table` and `table_index` that of a core table. `async_` says whether the call may be answered
-        /// later. Options are written in the order in which they come.
+        /// `ty` and `func_ty_idx` are the index of a type, that of a core type where a thread is
+        /// made; `memory` is that of a core memory, `table` and `table_index` that of a core table.
+        /// `async_` says whether the call may be answered later. Options are written in the order
+        /// in which they come.
         ///
-        /// Each has its own name as its debug name, `context.get` and `context.set` with the slot's number behind it.
-        /// Upstream gives `thread.yield-then-promote` the name of `thread.yield-then-resume`, and has
-        /// `thread.spawn-indirect` on a section alone.
+        /// Each has its own name as its debug name, `context.get` and `context.set` with the slot's
+        /// number after it. Upstream gives `thread.yield-then-promote` the name of
+        /// `thread.yield-then-resume`, and has `thread.spawn-indirect` on a section alone.
         impl ComponentBuilder {
             twins! {
                 $($(#[$doc])*

@@ -1,4 +1,5 @@
-//! The builder's calls for imports, exports, aliases, modules, components, starts and custom sections.
+//! The builder's calls for imports, exports, aliases, modules, components, starts and custom
+//! sections.
 
 use crate::component::{
     Alias, ComponentBuilder, ComponentExportKind, ComponentExternName, ComponentTypeRef,
@@ -7,11 +8,12 @@ use crate::core::{CustomSection, ExportKind, Module, ProducersSection};
 use crate::twins::twins;
 use alloc::vec::Vec;
 
-/// What a component imports, exports, aliases and holds. A call that adds an item answers its index.
+/// What a component imports, exports, aliases and holds. A call that adds an item answers its
+/// index.
 impl ComponentBuilder {
     twins! {
-        /// Imports an item. Its name is its debug name too (component model, binary format, "Import and Export
-        /// Definitions").
+        /// Imports an item. Its name is its debug name too (component model, binary format, "Import
+        /// and Export Definitions").
         ///
         /// ```
         /// use wenc::{ComponentBuilder, ComponentTypeRef, TypeBounds};
@@ -28,9 +30,9 @@ impl ComponentBuilder {
             Ok(self.0.import(name.into().into_proved(), ty)?)
         }
 
-        /// Exports the item of this kind with this index, and says of which type it is, or not. The index that is answered
-        /// is that of the exported item. Its name is its debug name too (component model, binary format, "Import and
-        /// Export Definitions").
+        /// Exports the item of this kind with this index, and says of which type it is, or not. The
+        /// index that is answered is that of the exported item. Its name is its debug name too
+        /// (component model, binary format, "Import and Export Definitions").
         fn export | try_export<'a>(
             &mut self,
             name: impl Into<ComponentExternName<'a>>,
@@ -41,8 +43,8 @@ impl ComponentBuilder {
             Ok(self.0.export(name.into().into_proved(), kind, idx, ty)?)
         }
 
-        /// Adds an alias of what a core instance exports under this name (component model, binary format, "Alias
-        /// Definitions").
+        /// Adds an alias of what a core instance exports under this name (component model, binary
+        /// format, "Alias Definitions").
         fn core_alias_export | try_core_alias_export(
             &mut self,
             debug_name: Option<&str>,
@@ -53,14 +55,14 @@ impl ComponentBuilder {
             Ok(self.0.core_alias_export(debug_name, instance, name, kind)?)
         }
 
-        /// Adds an alias. It has an index in the space of what it stands for (component model, binary format, "Alias
-        /// Definitions").
+        /// Adds an alias. It has an index in the space of what it stands for (component model,
+        /// binary format, "Alias Definitions").
         fn alias | try_alias(&mut self, debug_name: Option<&str>, alias: Alias<'_>) -> u32 {
             Ok(self.0.alias(debug_name, alias)?)
         }
 
-        /// Adds an alias of what an instance exports under this name, which is its debug name too (component model, binary
-        /// format, "Alias Definitions").
+        /// Adds an alias of what an instance exports under this name, which is its debug name too
+        /// (component model, binary format, "Alias Definitions").
         fn alias_export | try_alias_export(
             &mut self,
             instance: u32,
@@ -79,8 +81,8 @@ impl ComponentBuilder {
             self.try_core_module_raw(debug_name, module.as_slice())
         }
 
-        /// Adds the core module with these bytes, at most 4294967295. Nothing checks that they are a module's (component
-        /// model, binary format, "Component Definitions").
+        /// Adds the core module with these bytes, at most 4294967295. Nothing checks that they are
+        /// a module's (component model, binary format, "Component Definitions").
         fn core_module_raw | try_core_module_raw(
             &mut self,
             debug_name: Option<&str>,
@@ -89,8 +91,9 @@ impl ComponentBuilder {
             Ok(self.0.core_module_raw(debug_name, module)?)
         }
 
-        /// Adds what another builder holds as a nested component. That builder is given up, also where the call is refused,
-        /// which it is where either is unfinished (component model, binary format, "Component Definitions").
+        /// Adds what another builder holds as a nested component. That builder is given up, also
+        /// where the call is refused, which it is where either is unfinished (component model,
+        /// binary format, "Component Definitions").
         ///
         /// ```
         /// use wenc::ComponentBuilder;
@@ -109,8 +112,9 @@ impl ComponentBuilder {
             Ok(self.0.component(debug_name, builder.0)?)
         }
 
-        /// Adds what another builder holds as a nested component, and leaves that builder as it is: so it can be nested
-        /// twice, or after a refusal. Upstream has no such call (component model, binary format, "Component Definitions").
+        /// Adds what another builder holds as a nested component, and leaves that builder as it is:
+        /// so it can be nested twice, or after a refusal. Upstream has no such call (component
+        /// model, binary format, "Component Definitions").
         fn component_ref | try_component_ref(
             &mut self,
             debug_name: Option<&str>,
@@ -119,8 +123,8 @@ impl ComponentBuilder {
             Ok(self.0.component_ref(debug_name, &builder.0)?)
         }
 
-        /// Adds the component with these bytes, at most 4294967295. Nothing checks that they are a component's (component
-        /// model, binary format, "Component Definitions").
+        /// Adds the component with these bytes, at most 4294967295. Nothing checks that they are a
+        /// component's (component model, binary format, "Component Definitions").
         fn component_raw | try_component_raw(
             &mut self,
             debug_name: Option<&str>,
@@ -129,9 +133,9 @@ impl ComponentBuilder {
             Ok(self.0.component_raw(debug_name, data)?)
         }
 
-        /// Has this function called, with the values that have these indices, when the component is instantiated. It answers
-        /// `results` values, of which the answer is the first one's index: the number of values so far (component model,
-        /// binary format, "Start Definitions").
+        /// Has this function called, with the values that have these indices, when the component is
+        /// instantiated. It answers `results` values, of which the answer is the first one's index:
+        /// the number of values so far (component model, binary format, "Start Definitions").
         ///
         /// A valid component has one start at most; nothing checks that.
         fn start | try_start(&mut self, function_index: u32, args: Vec<u32>, results: u32) -> u32 {
@@ -143,14 +147,15 @@ impl ComponentBuilder {
             Ok(self.0.custom_section(&section.lent())?)
         }
 
-        /// Adds a custom section with these bytes behind its id, its size and name among them. Nothing checks that they are a
-        /// section's (component model, binary format, "Component Definitions").
+        /// Adds a custom section with these bytes after its id, its size and name among them.
+        /// Nothing checks that they are a section's (component model, binary format, "Component
+        /// Definitions").
         fn raw_custom_section | try_raw_custom_section(&mut self, section: &[u8]) -> () {
             Ok(self.0.raw_custom_section(section)?)
         }
 
-        /// Adds a producers section, the custom section with the name `producers`: its bytes are written straight behind the
-        /// component's (tool conventions, "Producers Section").
+        /// Adds a producers section, the custom section with the name `producers`: its bytes are
+        /// written straight after the component's (tool conventions, "Producers Section").
         ///
         /// ```
         /// use wenc::{ComponentBuilder, ProducersField, ProducersSection};

@@ -3,8 +3,9 @@
 use crate::component::{CanonicalOption, ComponentBuilder};
 use crate::twins::twins;
 
-/// Functions that are lifted and lowered: each call adds one, with a debug name or none, and answers its index (component
-/// model, binary format, "Canonical Definitions"). Options are written in the order in which they come.
+/// Functions that are lifted and lowered: each call adds one, with a debug name or none, and
+/// answers its index (component model, binary format, "Canonical Definitions"). Options are written
+/// in the order in which they come.
 impl ComponentBuilder {
     twins! {
         /// Makes a core function of a function.

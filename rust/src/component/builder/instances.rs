@@ -5,11 +5,13 @@ use crate::core::ExportKind;
 use crate::shared::named_items;
 use crate::twins::twins;
 
-/// Instances: each call adds one, with a debug name or none, and answers its index (component model, binary format,
-/// "Instance Definitions"). What comes out of an iterator is written in its order.
+/// Instances: each call adds one, with a debug name or none, and answers its index (component
+/// model, binary format, "Instance Definitions"). What comes out of an iterator is written in its
+/// order.
 impl ComponentBuilder {
     twins! {
-        /// Instantiates a core module, with core instances under the names of the modules from which it imports.
+        /// Instantiates a core module, with core instances under the names of the modules from
+        /// which it imports.
         fn core_instantiate | try_core_instantiate<'a, A>(
             &mut self,
             debug_name: Option<&str>,
@@ -24,7 +26,8 @@ impl ComponentBuilder {
             Ok(self.0.core_instantiate(debug_name, module_index, args.into_iter())?)
         }
 
-        /// Adds a core instance of these core items, under these names: the kind of each, and its index.
+        /// Adds a core instance of these core items, under these names: the kind of each, and its
+        /// index.
         fn core_instantiate_exports | try_core_instantiate_exports<'a, E>(
             &mut self,
             debug_name: Option<&str>,
@@ -38,7 +41,8 @@ impl ComponentBuilder {
             Ok(self.0.core_instantiate_exports(debug_name, exports.into_iter())?)
         }
 
-        /// Instantiates a component, with items under the names of what it imports: the kind of each, and its index.
+        /// Instantiates a component, with items under the names of what it imports: the kind of
+        /// each, and its index.
         fn instantiate | try_instantiate<A, S>(
             &mut self,
             debug_name: Option<&str>,

@@ -7,12 +7,13 @@ use crate::component::{
 use crate::core::ValType;
 use crate::twins::twins;
 
-/// Types: each call adds one, with a debug name or none, and answers its index (component model, binary format, "Core
-/// Definitions" and "Type Definitions").
+/// Types: each call adds one, with a debug name or none, and answers its index (component model,
+/// binary format, "Core Definitions" and "Type Definitions").
 ///
-/// Where an encoder is answered too, the type isn't whole until the encoder has written it. Where the encoder is dropped
-/// before, or its last call was refused, the builder is unfinished: what adds to it or takes it is refused, until
-/// [`discard_unfinished`](Self::discard_unfinished) gives the type up.
+/// Where an encoder is answered too, the type isn't whole until the encoder has written it. Where
+/// the encoder is dropped before, or its last call was refused, the builder is unfinished: what
+/// adds to it or takes it is refused, until [`discard_unfinished`](Self::discard_unfinished) gives
+/// the type up.
 impl ComponentBuilder {
     twins! {
         /// Begins a core type, which the encoder writes.
@@ -86,7 +87,8 @@ impl ComponentBuilder {
             Ok((index, encoder.into()))
         }
 
-        /// Adds a type of resources: what represents one, and the core function that is called when it is dropped.
+        /// Adds a type of resources: what represents one, and the core function that is called when
+        /// it is dropped.
         ///
         /// It is refused where the representation is a reference that isn't of WebAssembly 3.0.
         fn type_resource | try_type_resource(

@@ -1,8 +1,10 @@
-//! The table of the functions that the component model provides, out of which builder and section make their calls.
+//! The table of the functions that the component model provides, out of which builder and section
+//! make their calls.
 
-/// Hands the table to a macro. A row has what the function does, the names of its call, and what the builder's call takes;
-/// behind `or` what the section's takes, where that names it otherwise. The calls of the second part take options besides,
-/// those of the third the type and the number of a slot.
+/// Hands the table to a macro. A row has what the function does, the names of its call, and what
+/// the builder's call takes; after `or` what the section's takes, where that names it otherwise.
+/// The calls of the second part take options besides, those of the third the type and the number of
+/// a slot.
 macro_rules! builtins {
     ($calls:ident) => {
         $calls! {
@@ -31,10 +33,12 @@ macro_rules! builtins {
                 /// `stream.forward`: hands what is left of one stream of this type on to another.
                 stream_forward | try_stream_forward (ty: u32);
 
-                /// `stream.cancel-read`: cancels the reading from a stream of this type, waiting or not.
+                /// `stream.cancel-read`: cancels the reading from a stream of this type, waiting or
+                /// not.
                 stream_cancel_read | try_stream_cancel_read (ty: u32, async_: bool);
 
-                /// `stream.cancel-write`: cancels the writing to a stream of this type, waiting or not.
+                /// `stream.cancel-write`: cancels the writing to a stream of this type, waiting or
+                /// not.
                 stream_cancel_write | try_stream_cancel_write (ty: u32, async_: bool);
 
                 /// `stream.drop-readable`: drops the end from which a stream of this type is read.
@@ -49,10 +53,12 @@ macro_rules! builtins {
                 /// `future.forward`: hands the value of one future of this type on to another.
                 future_forward | try_future_forward (ty: u32);
 
-                /// `future.cancel-read`: cancels the reading from a future of this type, waiting or not.
+                /// `future.cancel-read`: cancels the reading from a future of this type, waiting or
+                /// not.
                 future_cancel_read | try_future_cancel_read (ty: u32, async_: bool);
 
-                /// `future.cancel-write`: cancels the writing to a future of this type, waiting or not.
+                /// `future.cancel-write`: cancels the writing to a future of this type, waiting or
+                /// not.
                 future_cancel_write | try_future_cancel_write (ty: u32, async_: bool);
 
                 /// `future.drop-readable`: drops the end from which a future of this type is read.
@@ -67,10 +73,12 @@ macro_rules! builtins {
                 /// `waitable-set.new`: makes an empty set of what can be waited for.
                 waitable_set_new | try_waitable_set_new ();
 
-                /// `waitable-set.wait`: waits for one of a set; what happened is told in this memory.
+                /// `waitable-set.wait`: waits for one of a set; what happened is told in this
+                /// memory.
                 waitable_set_wait | try_waitable_set_wait (memory: u32);
 
-                /// `waitable-set.poll`: asks for one of a set; what happened is told in this memory.
+                /// `waitable-set.poll`: asks for one of a set; what happened is told in this
+                /// memory.
                 waitable_set_poll | try_waitable_set_poll (memory: u32);
 
                 /// `waitable-set.drop`: drops a set of what can be waited for.
@@ -88,7 +96,8 @@ macro_rules! builtins {
                 /// `thread.index`: gives the thread's index.
                 thread_index | try_thread_index ();
 
-                /// `thread.new-indirect`: makes a thread that calls a function of this core type, out of this table.
+                /// `thread.new-indirect`: makes a thread that calls a function of this core type,
+                /// out of this table.
                 thread_new_indirect | try_thread_new_indirect (func_ty_idx: u32, table_index: u32)
                     or (ty_index: u32, table_index: u32);
 
@@ -107,7 +116,8 @@ macro_rules! builtins {
                 /// `thread.yield-then-resume`: lets another thread go on first.
                 thread_yield_then_resume | try_thread_yield_then_resume ();
 
-                /// `thread.suspend-then-promote`: suspends the thread, and another comes to the front.
+                /// `thread.suspend-then-promote`: suspends the thread, and another comes to the
+                /// front.
                 thread_suspend_then_promote | try_thread_suspend_then_promote ();
 
                 /// `thread.yield-then-promote`: lets another thread come to the front first.
@@ -116,11 +126,13 @@ macro_rules! builtins {
                 /// `thread.spawn-ref`: makes a thread that calls a function of this core type.
                 thread_spawn_ref | try_thread_spawn_ref (ty: u32) or (ty_index: u32);
 
-                /// `thread.spawn-indirect`: makes a thread that calls a function of this core type, out of this table.
+                /// `thread.spawn-indirect`: makes a thread that calls a function of this core type,
+                /// out of this table.
                 thread_spawn_indirect | try_thread_spawn_indirect (ty: u32, table: u32)
                     or (ty_index: u32, table_index: u32);
 
-                /// `thread.available-parallelism`: gives the number of threads that can run at once.
+                /// `thread.available-parallelism`: gives the number of threads that can run at
+                /// once.
                 thread_available_parallelism | try_thread_available_parallelism ();
             }
             with_options {

@@ -6,8 +6,8 @@ use crate::twins::twins;
 use crate::{ComponentExternName, ComponentTypeRef, TypeBounds};
 
 collections! {
-    /// The type of a component: what it imports and exports, and the types that these need (component model, binary format,
-    /// "Type Definitions").
+    /// The type of a component: what it imports and exports, and the types that these need
+    /// (component model, binary format, "Type Definitions").
     ///
     /// ```
     /// use wenc::{Component, ComponentType, ComponentTypeRef, ComponentTypeSection};
@@ -54,8 +54,8 @@ impl ComponentType {
             Ok(self.0.import_type(name.into().into_proved(), bounds)?)
         }
 
-        /// Declares an import of an instance of the type with this index under this name, and answers its index among the
-        /// instances.
+        /// Declares an import of an instance of the type with this index under this name, and
+        /// answers its index among the instances.
         fn import_instance | try_import_instance<'a>(
             &mut self,
             name: impl Into<ComponentExternName<'a>>,

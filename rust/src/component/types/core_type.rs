@@ -6,11 +6,11 @@ use crate::twins::twins;
 use crate::{CoreTypeEncoder, ModuleType};
 
 encoders! {
-    /// Writes one core type of a component: the type of a module, or another one (component model, binary format, "Core
-    /// Definitions").
+    /// Writes one core type of a component: the type of a module, or another one (component model,
+    /// binary format, "Core Definitions").
     ///
-    /// Where it is dropped, or its call is refused, the type is unfinished: whoever lent itself refuses to grow until it has
-    /// given the type up by its `discard_unfinished`.
+    /// Where it is dropped, or its call is refused, the type is unfinished: whoever lent itself
+    /// refuses to grow until it has given the type up by its `discard_unfinished`.
     #[must_use = "an encoder that is dropped leaves its type unfinished"]
     ComponentCoreTypeEncoder by CoreBy over CoreTypeSection;
 }
@@ -57,8 +57,9 @@ impl CoreTypeSection {
     twins! {
         /// Adds a core type, which the encoder writes.
         ///
-        /// The section isn't whole until it has: what grows or encodes it is refused meanwhile, and afterwards too where the
-        /// encoder was dropped. [`discard_unfinished`](Self::discard_unfinished) gives such a type up.
+        /// The section isn't whole until it has: what grows or encodes it is refused meanwhile, and
+        /// afterwards too where the encoder was dropped.
+        /// [`discard_unfinished`](Self::discard_unfinished) gives such a type up.
         #[must_use = "the encoder is to write the type"]
         fn ty | try_ty(&mut self) -> ComponentCoreTypeEncoder<'_> {
             Ok(self.0.ty()?.into())

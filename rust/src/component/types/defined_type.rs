@@ -5,10 +5,11 @@ use crate::shared::{encoders, on};
 use crate::twins::twins;
 
 encoders! {
-    /// Writes one type of values (component model, binary format, "Type Definitions"). Each of its calls is the last.
+    /// Writes one type of values (component model, binary format, "Type Definitions"). Each of its
+    /// calls is the last.
     ///
-    /// Where it is dropped, or its call is refused, the type is unfinished: whoever lent itself refuses to grow until it has
-    /// given the type up by its `discard_unfinished`.
+    /// Where it is dropped, or its call is refused, the type is unfinished: whoever lent itself
+    /// refuses to grow until it has given the type up by its `discard_unfinished`.
     ///
     /// ```
     /// use wenc::{Component, ComponentTypeSection, ComponentValType, PrimitiveValType};

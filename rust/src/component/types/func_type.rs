@@ -6,12 +6,13 @@ use crate::shared::{encoders, on};
 use crate::twins::twins;
 
 encoders! {
-    /// Writes the type of a function: perhaps whether it is asynchronous, then what it takes, then what it answers, which ends
-    /// the type (component model, binary format, "Type Definitions").
+    /// Writes the type of a function: perhaps whether it is asynchronous, then what it takes, then
+    /// what it answers, which ends the type (component model, binary format, "Type Definitions").
     ///
-    /// A call that comes out of turn panics, under both of its names. One that is refused leaves what was written, and may be
-    /// tried again. Where the encoder is dropped before its last call, the type is unfinished: whoever lent itself refuses to
-    /// grow until it has given the type up by its `discard_unfinished`.
+    /// A call that comes out of turn panics, under both of its names. One that is refused leaves
+    /// what was written, and may be tried again. Where the encoder is dropped before its last call,
+    /// the type is unfinished: whoever lent itself refuses to grow until it has given the type up
+    /// by its `discard_unfinished`.
     ///
     /// ```
     /// use wenc::{Component, ComponentTypeSection, PrimitiveValType};

@@ -5,8 +5,8 @@ use crate::shared::collections;
 use crate::twins::twins;
 
 collections! {
-    /// The type of an instance: what it exports, and the types that this needs (component model, binary format, "Type
-    /// Definitions").
+    /// The type of an instance: what it exports, and the types that this needs (component model,
+    /// binary format, "Type Definitions").
     ///
     /// ```
     /// use wenc::{Component, ComponentTypeRef, ComponentTypeSection, InstanceType};

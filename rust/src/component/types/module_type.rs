@@ -6,8 +6,8 @@ use crate::twins::twins;
 use crate::{CoreTypeEncoder, EntityType};
 
 collections! {
-    /// The type of a core module: what it imports and exports, and the core types that these need (component model, binary
-    /// format, "Core Definitions").
+    /// The type of a core module: what it imports and exports, and the core types that these need
+    /// (component model, binary format, "Core Definitions").
     ///
     /// ```
     /// use wenc::{Component, CoreTypeSection, EntityType, ModuleType, ValType};
@@ -43,15 +43,16 @@ impl ModuleType {
 
         /// Declares a core type, which the encoder writes.
         ///
-        /// The type isn't whole until it has: what grows or takes the type is refused meanwhile, and afterwards too where the
-        /// encoder was dropped. [`discard_unfinished`](Self::discard_unfinished) gives such a declaration up.
+        /// The type isn't whole until it has: what grows or takes the type is refused meanwhile,
+        /// and afterwards too where the encoder was dropped.
+        /// [`discard_unfinished`](Self::discard_unfinished) gives such a declaration up.
         #[must_use = "the encoder is to write the type"]
         fn ty | try_ty(&mut self) -> CoreTypeEncoder<'_> {
             Ok(self.0.ty()?.into())
         }
 
-        /// Declares a core type that an enclosing component has: how many components further out that is, and which index the
-        /// type has there.
+        /// Declares a core type that an enclosing component has: how many components further out
+        /// that is, and which index the type has there.
         fn alias_outer_core_type | try_alias_outer_core_type(
             &mut self,
             count: u32,
@@ -61,7 +62,8 @@ impl ModuleType {
             Ok(self)
         }
 
-        /// As [`alias_outer_core_type`](Self::alias_outer_core_type), but answers the alias's own index.
+        /// As [`alias_outer_core_type`](Self::alias_outer_core_type), but answers the alias's own
+        /// index.
         fn alias_core_type | try_alias_core_type(&mut self, count: u32, outer: u32) -> u32 {
             Ok(self.0.alias_core_type(count, outer)?)
         }
@@ -76,8 +78,8 @@ impl ModuleType {
         }
     }
 
-    /// How many core types there are: those that were declared, one that is being written among them, and those of outer
-    /// aliases.
+    /// How many core types there are: those that were declared, one that is being written among
+    /// them, and those of outer aliases.
     pub fn type_count(&self) -> u32 {
         self.0.type_count()
     }

@@ -37,8 +37,9 @@ impl ComponentTypeSection {
     twins! {
         /// Adds a type, which the encoder writes.
         ///
-        /// The section isn't whole until it has: what grows or encodes it is refused meanwhile, and afterwards too where the
-        /// encoder was dropped. [`discard_unfinished`](Self::discard_unfinished) gives such a type up.
+        /// The section isn't whole until it has: what grows or encodes it is refused meanwhile, and
+        /// afterwards too where the encoder was dropped.
+        /// [`discard_unfinished`](Self::discard_unfinished) gives such a type up.
         #[must_use = "the encoder is to write the type"]
         fn ty | try_ty(&mut self) -> ComponentTypeEncoder<'_> {
             Ok(self.0.ty()?.into())
@@ -67,8 +68,8 @@ impl ComponentTypeSection {
             Ok(self.0.defined_type()?.into())
         }
 
-        /// Adds a type of resources: what represents one, and the index of the core function that is called when one is
-        /// dropped, where there is such a function.
+        /// Adds a type of resources: what represents one, and the index of the core function that
+        /// is called when one is dropped, where there is such a function.
         fn resource | try_resource(&mut self, rep: ValType, dtor: Option<u32>) -> &mut Self {
             self.0.resource(rep.to_proved()?, dtor)?;
             Ok(self)

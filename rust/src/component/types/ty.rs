@@ -6,11 +6,11 @@ use crate::shared::{encoders, on};
 use crate::twins::twins;
 
 encoders! {
-    /// Writes one type (component model, binary format, "Type Definitions"). Each of its calls is the last, or hands out the
-    /// encoder whose call is.
+    /// Writes one type (component model, binary format, "Type Definitions"). Each of its calls is
+    /// the last, or hands out the encoder whose call is.
     ///
-    /// Where it is dropped, or its call is refused, the type is unfinished: whoever lent itself refuses to grow until it has
-    /// given the type up by its `discard_unfinished`.
+    /// Where it is dropped, or its call is refused, the type is unfinished: whoever lent itself
+    /// refuses to grow until it has given the type up by its `discard_unfinished`.
     #[must_use = "an encoder that is dropped leaves its type unfinished"]
     ComponentTypeEncoder by TypeBy over ComponentTypeSection;
 }
@@ -40,8 +40,8 @@ impl<'a> ComponentTypeEncoder<'a> {
     }
 
     twins! {
-        /// A type of resources: what represents one, and the index of the core function that is called when one is dropped,
-        /// where there is such a function. This ends the type.
+        /// A type of resources: what represents one, and the index of the core function that is
+        /// called when one is dropped, where there is such a function. This ends the type.
         fn resource | try_resource(self, rep: ValType, dtor: Option<u32>) -> () {
             let rep = rep.to_proved()?;
             Ok(on!(self.by, TypeBy, encoder => encoder.resource(rep, dtor))?)

@@ -8,7 +8,8 @@ use crate::proved::wasm_encoder as proved;
 use alloc::boxed::Box;
 use alloc::vec::Vec;
 
-/// What a field of a struct or an element of an array holds (WebAssembly 3.0, binary format, "Composite Types").
+/// What a field of a struct or an element of an array holds (WebAssembly 3.0, binary format,
+/// "Composite Types").
 #[derive(Clone, Copy, Debug, PartialEq, Eq, PartialOrd, Ord, Hash)]
 pub enum StorageType {
     /// 8 bits.
@@ -20,7 +21,8 @@ pub enum StorageType {
 }
 
 impl StorageType {
-    /// Whether such a field or element begins with a value: numbers with 0, references with null, if they may be null.
+    /// Whether such a field or element begins with a value: numbers with 0, references with null,
+    /// if they may be null.
     pub fn is_defaultable(&self) -> bool {
         match self {
             Self::I8 | Self::I16 => true,
@@ -39,7 +41,8 @@ impl StorageType {
     }
 }
 
-/// A field of a struct, or the elements of an array (WebAssembly 3.0, binary format, "Composite Types").
+/// A field of a struct, or the elements of an array (WebAssembly 3.0, binary format, "Composite
+/// Types").
 #[derive(Clone, Copy, Debug, PartialEq, Eq, PartialOrd, Ord, Hash)]
 pub struct FieldType {
     /// What it holds.
@@ -134,15 +137,16 @@ impl StructType {
     }
 }
 
-/// A type of continuations, by the index of their function type. It isn't of WebAssembly 3.0, and is not supported.
+/// A type of continuations, by the index of their function type. It isn't of WebAssembly 3.0, and
+/// is not supported.
 #[derive(Clone, Copy, Debug, PartialEq, Eq, PartialOrd, Ord, Hash)]
 pub struct ContType(
     /// The index of the function type.
     pub u32,
 );
 
-/// A type of functions, arrays or structs, with what proposals add to one (WebAssembly 3.0, binary format, "Composite
-/// Types").
+/// A type of functions, arrays or structs, with what proposals add to one (WebAssembly 3.0, binary
+/// format, "Composite Types").
 #[derive(Clone, Debug, PartialEq, Eq, PartialOrd, Ord, Hash)]
 pub struct CompositeType {
     /// The type itself.
@@ -190,7 +194,8 @@ impl CompositeInnerType {
     }
 }
 
-/// A composite type with its place among the others (WebAssembly 3.0, binary format, "Recursive Types").
+/// A composite type with its place among the others (WebAssembly 3.0, binary format, "Recursive
+/// Types").
 #[derive(Clone, Debug, PartialEq, Eq, PartialOrd, Ord, Hash)]
 pub struct SubType {
     /// Whether no type may be declared below it.

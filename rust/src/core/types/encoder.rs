@@ -6,12 +6,12 @@ use crate::shared::{encoders, on};
 use crate::twins::twins;
 
 encoders! {
-    /// Writes one core type, or types that refer to each other (WebAssembly 3.0, binary format, "Recursive Types"). Each of
-    /// its calls is the last.
+    /// Writes one core type, or types that refer to each other (WebAssembly 3.0, binary format,
+    /// "Recursive Types"). Each of its calls is the last.
     ///
-    /// Where it is dropped, or its call is refused, the type is unfinished: whoever lent itself refuses to grow until it has
-    /// given the type up by its `discard_unfinished`. What isn't of WebAssembly 3.0, as a shared type, is refused as
-    /// [`Unsupported`](Error::Unsupported).
+    /// Where it is dropped, or its call is refused, the type is unfinished: whoever lent itself
+    /// refuses to grow until it has given the type up by its `discard_unfinished`. What isn't of
+    /// WebAssembly 3.0, as a shared type, is refused as [`Unsupported`](Error::Unsupported).
     ///
     /// ```
     /// use wenc::{Component, CoreTypeSection, FieldType, HeapType, RefType, StorageType, ValType};

@@ -42,7 +42,8 @@ impl ValType {
     /// A reference to a continuation, or null, which is not supported.
     pub const CONTREF: Self = Self::Ref(RefType::CONTREF);
 
-    /// Whether a variable of this type begins with a value: numbers with 0, references with null, if they may be null.
+    /// Whether a variable of this type begins with a value: numbers with 0, references with null,
+    /// if they may be null.
     pub fn is_defaultable(&self) -> bool {
         match self {
             Self::I32 | Self::I64 | Self::F32 | Self::F64 | Self::V128 => true,
@@ -95,12 +96,13 @@ impl RefType {
         Self { nullable: true, heap_type }
     }
 
-    /// To one of the types that WebAssembly names, perhaps or null, perhaps shared by threads, which is not supported.
+    /// To one of the types that WebAssembly names, perhaps or null, perhaps shared by threads,
+    /// which is not supported.
     pub fn new_abstract(ty: AbstractHeapType, nullable: bool, shared: bool) -> Self {
         Self { nullable, heap_type: HeapType::Abstract { shared, ty } }
     }
 
-    /// The same references, but null is among them or not.
+    /// These references, with null among them or without.
     pub fn nullable(mut self, nullable: bool) -> Self {
         self.nullable = nullable;
         self

@@ -3,7 +3,8 @@
 use alloc::collections::TryReserveError;
 use core::fmt;
 
-/// Where collections lie. On stable Rust there is one place, [`Global`]; tests have another, which refuses by a plan.
+/// Where collections lie. On stable Rust there is one place, [`Global`]; tests have another, which
+/// refuses by a plan.
 pub trait Allocator: Copy + TryClone + Eq + fmt::Debug + sealed::Sealed {
     /// Whether a request may be made.
     #[inline]
@@ -62,7 +63,7 @@ impl From<TryReserveError> for AllocError {
 
 /// Rattle's `Clone`, which can be refused.
 pub trait TryClone: Sized {
-    /// The same value once more.
+    /// A copy of the value.
     fn try_clone(&self) -> Result<Self, AllocError>;
 }
 

@@ -16,8 +16,8 @@ pub struct Box<T, A = Global> {
 }
 
 impl<T, A: Allocator> Box<T, A> {
-    /// A value in memory of its own. The room that is asked for is exact, so that nothing is left to be given back, which
-    /// might be refused.
+    /// A value in memory of its own. The room that is asked for is exact, so that nothing is left
+    /// to be given back, which might be refused.
     pub fn new(alloc: A, value: T) -> Result<Self, AllocFailed<T>> {
         let mut one = Vec::new();
         if !alloc.allows() || one.try_reserve_exact(1).is_err() {

@@ -6,11 +6,11 @@ use alloc::string::String as Inner;
 use core::fmt;
 use core::ops::Deref;
 
-/// Rust's `String`, with calls that answer where memory is refused. It is lent as a `str`, and made of Rust's and into it
-/// by `From` without a copy.
+/// Rust's `String`, with calls that answer where memory is refused. It is lent as a `str`, and made
+/// of Rust's and into it by `From` without a copy.
 ///
-/// `Clone` is for the trees that a user holds: as with Rust's texts, a refusal ends the program there. The proved code calls
-/// `try_clone`.
+/// `Clone` is for the trees that a user holds: as with Rust's texts, a refusal ends the program
+/// there. The proved code calls `try_clone`.
 #[derive(Clone)]
 pub struct String<A = Global> {
     inner: Inner,

@@ -5,11 +5,11 @@ use alloc::vec::{IntoIter, Vec as Inner};
 use core::ops::{Deref, DerefMut};
 use core::{fmt, slice};
 
-/// Rust's `Vec`, with calls that answer where memory is refused. It is lent as a slice, and made of Rust's and into it by
-/// `From` without a copy.
+/// Rust's `Vec`, with calls that answer where memory is refused. It is lent as a slice, and made of
+/// Rust's and into it by `From` without a copy.
 ///
-/// `Clone` is for the trees that a user holds: as with Rust's vectors, a refusal ends the program there. The proved code
-/// calls `try_clone`.
+/// `Clone` is for the trees that a user holds: as with Rust's vectors, a refusal ends the program
+/// there. The proved code calls `try_clone`.
 #[derive(Clone)]
 pub struct Vec<T, A = Global> {
     pub(crate) inner: Inner<T>,
@@ -102,14 +102,14 @@ impl<T, A: Allocator> Vec<T, A> {
         self.inner.remove(at)
     }
 
-    /// Cuts off all behind the first `len` elements.
+    /// Cuts off all after the first `len` elements.
     #[inline]
     pub fn truncate(&mut self, len: usize) {
         self.inner.truncate(len);
     }
 
-    /// Gives back room that isn't used, or keeps it where the smaller room is refused. Rust's `shrink_to_fit` would end the
-    /// program then.
+    /// Gives back room that isn't used, or keeps it where the smaller room is refused. Rust's
+    /// `shrink_to_fit` would end the program then.
     pub fn shrink_to_fit(&mut self) {
         let len = self.inner.len();
         if len == self.inner.capacity() {

@@ -73,8 +73,8 @@ pub enum Item<'a> {
 }
 
 impl<'a> Item<'a> {
-    /// Makes the call, under this debug name where it takes one. What else it is given is made without
-    /// a refusal.
+    /// Makes the call, under this debug name where it takes one. What else it is given is made
+    /// without a refusal.
     pub fn make(&self, debug_name: Option<&str>, builder: &mut Builder<'_>) -> Result<u32, Fault> {
         match self {
             Item::Import(name, ty) => builder.import((*name).into(), *ty),

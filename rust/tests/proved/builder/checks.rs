@@ -25,7 +25,7 @@ pub fn answers(debug_name: Option<&str>, builder: &mut Builder<'_>, calls: &[Ans
     }
 }
 
-/// Calls with their answers, and the component that they make, behind its header.
+/// Calls with their answers, and the component that they make, after its header.
 pub type Row<'a> = (&'a [Answer<'a>], &'a [u8]);
 
 /// A builder that answers these calls so, under this debug name. From now on no request is refused.

@@ -10,7 +10,7 @@ use crate::proved::wasm_encoder::{
 /// What a command is to answer: an index, none, or a fault.
 pub type Answer = Result<Option<u32>, Fault>;
 
-/// Commands, their answers, and the component that they make, behind its header.
+/// Commands, their answers, and the component that they make, after its header.
 type Row<'a> = (&'a [Tree<'a>], &'a [Answer], &'a [u8]);
 
 /// The function that the first instance exports.
@@ -211,7 +211,7 @@ const NESTED: &[Row<'static>] = &[
     (&[MOST, BYTE], &[Err(Fault::TooMany)], b""),
 ];
 
-/// The commands are answered so, and make the component with these bytes behind its header.
+/// The commands are answered so, and make the component with these bytes after its header.
 pub fn builds(commands: &[Command], answers: &[Answer], wanted: &[u8]) {
     let built = build(Global, commands).unwrap();
     assert_eq!(built.answers.as_slice(), answers);

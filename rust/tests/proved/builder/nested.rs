@@ -48,7 +48,7 @@ pub const ROWS: &[Row<'static>] = &[
     ),
 ];
 
-/// What is lent, the component that has it twice, behind its header, and the one that has it alone:
+/// What is lent, the component that has it twice, after its header, and the one that has it alone:
 /// with a section open, without one, and with a component in it.
 const LENT: &[(Inner, &[u8], &[u8])] = &[
     (

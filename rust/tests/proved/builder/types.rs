@@ -61,7 +61,7 @@ const BEHIND: &[Answer<'static>] = &[
     (Item::AppendNames, Ok(0)),
 ];
 
-// Behind an alias the encoder is dropped, and leaves so many core types and types.
+// After an alias the encoder is dropped, and leaves so many core types and types.
 #[test]
 fn dropped_encoders() {
     let heap = Refusing::new();

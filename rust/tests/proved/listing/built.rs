@@ -7,8 +7,8 @@ use crate::proved::wenc_list::{Listing, list};
 use std::str::from_utf8;
 use std::vec::Vec;
 
-/// The items have, one after the other, the indices that these answers tell, and no others: the next
-/// one in its space each. A custom section has none.
+/// The items have, one after the other, the indices that these answers tell, and no others: the
+/// next one in its space each. A custom section has none.
 fn are_answered(listing: &Listing, answers: &[u128]) {
     let mut counts = [0u128; 13];
     let mut rest = answers;

@@ -58,7 +58,7 @@ impl Place<'_> {
     }
 
     /// The changed bytes have one thing, from the change on, that these spell otherwise: a name
-    /// behind `01` in place of `00`, a number that is padded, or an abstract reference that may be
+    /// after `01` in place of `00`, a number that is padded, or an abstract reference that may be
     /// null as one byte, but to a function or to what is outside as two.
     fn is_respelled(&self, changed: &[u8], again: &[u8]) -> bool {
         (self.at..self.end).any(|at| {
@@ -116,7 +116,7 @@ impl Place<'_> {
     }
 }
 
-/// A front of a component is listed where a section begins behind it, and is else refused at the
+/// A front of a component is listed where a section begins after it, and is else refused at the
 /// section that is cut, which begins at this place.
 fn is_cut(front: &[u8], begin: usize) {
     let fault = if front.len() < 8 {

@@ -12,7 +12,7 @@ pub const BAD_ITEMS: &[&str] = &[
     "08070102ffffffff1f",
     "080701028080808010",
     "06058080808010",
-    // The same of 64 bits.
+    // Numbers of 64 bits: of eleven bytes, and with bits set that they have no room for.
     "031301500103016d02008080808080808080808000",
     "031201500103016d0200ffffffffffffffffff02",
     // Indices among types of values or heap types that are negative, too large or too long.

@@ -24,7 +24,7 @@ const SORTS: [(&str, Sort); 13] = [
     ("05", Sort::Instance),
 ];
 
-/// The names as text, and the bytes behind them.
+/// The names as text, and the bytes after them.
 fn told<'a, A: Allocator + Copy>(alloc: A, bytes: &'a [u8]) -> Result<(String, &'a [u8]), Refusal> {
     let (names, rest) = names_of(alloc, bytes)?;
     let text = match names {
@@ -41,7 +41,7 @@ fn told<'a, A: Allocator + Copy>(alloc: A, bytes: &'a [u8]) -> Result<(String, &
 #[test]
 fn subsections_of_names() {
     for (bytes, sort) in SORTS {
-        // Two names, of the items 0 and 128, and a byte behind.
+        // Two names, of the items 0 and 128, and a byte more.
         let content = format!("{bytes}0200016180010000");
         let size = content.len() / 2 - 1;
         let bytes = hex::bytes(&format!("01{size:02x}{content}"));

@@ -1,4 +1,4 @@
-//! Numbers and flags that bytes begin with, and what is behind them.
+//! Numbers and flags that bytes begin with, and what follows them.
 
 use crate::proved::wenc_decode::room_for;
 use crate::proved::wenc_read::{Refusal, byte, flag_of, index_of, u32_of, u64_of};

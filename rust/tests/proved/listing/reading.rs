@@ -1,4 +1,4 @@
-//! What the front of bytes is read as, and what is behind it. What is read is encoded again.
+//! What the front of bytes is read as, and what follows it. What is read is encoded again.
 
 use crate::proved::rt_std::alloc::Global;
 use crate::proved::rt_std::vec::Vec;
@@ -18,7 +18,7 @@ fn is_text<T: Encode>(value: &T, text: &[u8]) {
 /// A name, and four bytes.
 const NAMED: &[u8] = b"\x04test\x0b\x16\x21\x2c";
 
-/// Names of imports and exports with bytes behind them, as they are encoded again, and those bytes.
+/// Names of imports and exports with bytes after them, as they are encoded again, and those bytes.
 const NAMES: &[(&[u8], &[u8], &[u8])] = &[
     (b"\x00\x01\x66\x01\x00", b"\x00\x01\x66", &[1, 0]),
     (b"\x01\x01\x66", b"\x00\x01\x66", b""),

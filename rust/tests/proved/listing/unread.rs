@@ -25,13 +25,13 @@ const UNREAD: &[Row] = &[
     ("060101", 8, item(0, 11)),
     ("0606818080800009", 8, item(0, 15)),
     ("06868080800081808080000909", 8, item(0, 19)),
-    // A later item, in a later section, with sections behind.
+    // A later item, in a later section, followed by sections.
     ("0a06020001660100", 8, item(1, 16)),
     ("0601000a0b0200016601000301660100", 11, item(1, 19)),
     ("0a0b02000166010003016601000b00", 8, item(1, 16)),
     ("0703027301", 8, item(1, 12)),
     ("08070303000300070001", 8, item(2, 15)),
-    // Bytes behind the last item.
+    // Bytes after the last item.
     ("0a0701000166010000", 8, Unread::Behind { place: 16 }),
     ("0a06000001660100", 8, Unread::Behind { place: 11 }),
     ("0602000506020109", 8, Unread::Behind { place: 11 }),
@@ -97,7 +97,7 @@ fn a_bad_item_is_told() {
 
 #[test]
 fn types_that_are_too_deep() {
-    // 101 of them inside one another, alone and behind another type.
+    // 101 of them inside one another, alone and after another type.
     let deep = format!("{}4200", "420101".repeat(100));
     let alone = component(&format!("07af0201{deep}"));
     assert_eq!(first_unread(Global, &alone, 8), Ok(Some(item(0, 12))));

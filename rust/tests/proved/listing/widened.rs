@@ -42,7 +42,7 @@ const ROWS: &[(&str, &str)] = &[
     ("0a0e0102016182000001690280000100", "0a0c010201610200016902000100"),
 ];
 
-/// The section behind one that is padded has its place.
+/// The section after one that is padded has its place.
 const PADDED: Row<'static> = Row {
     sections: "0a8a80808000818080800001016601000b0701000167010000",
     listed: &[(10, 8, 1), (11, 24, 1)],

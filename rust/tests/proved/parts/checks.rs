@@ -7,8 +7,8 @@ use crate::proved::wenc_base::{Encode, Section};
 use crate::proved::wenc_parts::ComponentSection;
 use std::vec;
 
-/// The value is written as this, behind a byte that the sink has, whichever request was refused before. One without bytes
-/// makes none.
+/// The value is written as this, after a byte that the sink has, whichever request was refused
+/// before. One without bytes makes none.
 pub fn check<T: Encode>(value: &T, wanted: &[u8]) {
     let mut sink = Vec::from(vec![0x99]);
     value.encode(&mut sink).unwrap();

@@ -56,7 +56,7 @@ const TEXTS: &[(&str, End)] = &[
     (TOO_DEEP, (3, b"", b"TooDeep at 8\n")),
 ];
 
-/// Texts that aren't hexadecimal digits, an even number of them, with at most one LF behind.
+/// Texts that aren't hexadecimal digits, an even number of them, followed by at most one LF.
 const BAD: &[&[u8]] = &[
     b"0",
     b"0061736d0d00010",
@@ -73,7 +73,7 @@ const BAD: &[&[u8]] = &[
     b"\xff\xff",
 ];
 
-/// The text as it is, and with LF behind.
+/// The text as it is, and followed by LF.
 fn check(text: &str, end: &End) {
     expect(text, &["list"], text.as_bytes(), end);
     let line = format!("{text}\n");
@@ -99,7 +99,7 @@ const FAULTS: &[(&str, ListFault)] = &[
     (TOO_DEEP, ListFault::TooDeep { place: 8 }),
 ];
 
-/// The same by the library's call.
+/// `list_text` answers what the program prints, or why it prints nothing.
 #[test]
 fn texts_are_listed_by_a_call() {
     for (text, (status, out, _)) in TEXTS {

@@ -38,7 +38,7 @@ pub fn owned(text: &str) -> String {
     String::from_str(Global, text).unwrap()
 }
 
-/// A component with this section alone has these bytes behind its header.
+/// A component with this section alone has these bytes after its header.
 pub fn alone(section: &impl ComponentSection, wanted: &str) {
     let mut component = Component::new(Global).unwrap();
     component.section(section).unwrap();

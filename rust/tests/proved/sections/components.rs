@@ -35,7 +35,7 @@ fn components() {
     are(copy.finish().as_slice(), "", "0061736d0d000100632a632a");
 }
 
-/// The same of modules.
+/// A section that a module refuses leaves nothing, and a copy of the module goes its own way.
 #[test]
 fn modules() {
     assert_eq!(<Module>::HEADER, MODULE);

@@ -330,7 +330,7 @@ fn refused_growths() {
 
 type Function<'e, 'h> = ComponentFuncTypeEncoder<'e, Heaped<'h>>;
 
-/// The calls that make a type of functions, and the stage behind each.
+/// The calls that make a type of functions, and the stage after each.
 const STEPS: &[(fn(&mut Function<'_, '_>) -> Result<(), Fault>, FuncStage)] = &[
     (|function| function.async_(true), FuncStage::Tagged),
     (|function| function.params([("a", STRING)].into_iter()), FuncStage::Params),

@@ -20,7 +20,7 @@ pub trait Lending: Encode + Sized {
     /// Gives up the type that is being written, and says whether there was one.
     fn give_up(&mut self) -> bool;
 
-    /// The same once more.
+    /// A copy.
     fn copy(&self) -> Result<Self, Fault>;
 
     /// Makes something else of it.

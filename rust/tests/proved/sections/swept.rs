@@ -26,7 +26,7 @@ impl<'a, K: Kind> OnHeap<'a> for Declarations<K, &'a Refusing> {
     }
 }
 
-/// The same, for sweeps.
+/// Types that have their requests refused, as the sweeps of members take them.
 struct Swept<L>(L);
 
 impl<'a, L: OnHeap<'a>> Members<'a> for Swept<L> {

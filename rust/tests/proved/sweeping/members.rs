@@ -13,7 +13,7 @@ pub trait Members<'a>: Sized {
     /// Adds a member of few bytes.
     fn add_short(&mut self) -> Result<(), Fault>;
 
-    /// The same members once more.
+    /// A copy.
     fn again(&self) -> Result<Self, Fault>;
 
     /// All that can be asked of it, in bytes.
@@ -52,8 +52,8 @@ impl States {
     }
 }
 
-/// Has the call's request number `n` refused, with so many members there before it, and then makes it again. Whether
-/// there is such a request.
+/// Has the call's request number `n` refused, with so many members there before it, and then makes
+/// it again. Whether there is such a request.
 fn refuse<'a, M: Members<'a>, C: Adds<M>>(
     heap: &'a Refusing,
     count: u32,
@@ -74,15 +74,16 @@ fn refuse<'a, M: Members<'a>, C: Adds<M>>(
     was_refused
 }
 
-/// Has the call's requests refused in turn, with so many members there before it. Whether there is any.
+/// Has the call's requests refused in turn, with so many members there before it. Whether there is
+/// any.
 fn sweep_from<'a, M: Members<'a>, C: Adds<M>>(heap: &'a Refusing, count: u32, call: &C) -> bool {
     let states = States::of::<M, C>(heap, count, call);
     let last = (1..20).find(|n| !refuse::<M, C>(heap, count, call, *n, &states));
     last.expect("each of 19 requests was refused") > 1
 }
 
-/// Has the call's requests refused in turn. A first growth has room for eight bytes: so the growth comes at each place of
-/// the call.
+/// Has the call's requests refused in turn. A first growth has room for eight bytes: so the growth
+/// comes at each place of the call.
 pub fn sweep_add<'a, M: Members<'a>, C: Adds<M>>(heap: &'a Refusing, call: &C) {
     let asks = (0..9).filter(|count| sweep_from::<M, C>(heap, *count, call)).count();
     assert!(asks > 0, "no request was made");
@@ -109,8 +110,8 @@ fn refuse_copy<'a, M: Members<'a>>(
     was_refused
 }
 
-/// Has the requests of a copy of so many members refused in turn. `asks` says whether it makes any. The copy goes its own
-/// way then.
+/// Has the requests of a copy of so many members refused in turn. `asks` says whether it makes any.
+/// The copy goes its own way then.
 fn sweep_clone<'a, M: Members<'a>>(heap: &'a Refusing, count: u32, asks: bool) {
     let members: M = started(heap, count);
     let wanted = members.state();
@@ -123,7 +124,8 @@ fn sweep_clone<'a, M: Members<'a>>(heap: &'a Refusing, count: u32, asks: bool) {
     assert_eq!(members.state(), wanted);
 }
 
-/// The same of up to eight members. A copy of none asks for memory where `asks` says so.
+/// Has the requests of copies of up to eight members refused in turn. A copy of none asks for
+/// memory where `asks` says so.
 pub fn sweep_clones<'a, M: Members<'a>>(heap: &'a Refusing, asks: bool) {
     for count in 0..9 {
         sweep_clone::<M>(heap, count, asks || count > 0);

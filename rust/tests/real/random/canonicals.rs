@@ -29,7 +29,8 @@ impl Maker<'_> {
         }
     }
 
-    /// A core function that is lowered, or that the component model provides; none where there is nothing for it.
+    /// A core function that is lowered, or that the component model provides; none where there is
+    /// nothing for it.
     fn provided(&mut self, b: &mut ComponentBuilder, scope: &Scope) -> Option<u32> {
         let options = self.options(scope);
         let memory = self.random.of(&scope.memories);

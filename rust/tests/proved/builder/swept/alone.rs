@@ -12,7 +12,7 @@ const CUSTOM: CustomSection<'static> = CustomSection { name: NAME, data: b"data"
 /// The bytes of that name.
 const BYTES: &[u8] = b"an-interface-with-a-long-name";
 
-/// A component that imports a function, behind the id and the size of a nested one.
+/// A component that imports a function, after the id and the size of a nested one.
 const NESTED: &[u8] =
     b"\x04\x2c\x00asm\x0d\x00\x01\x00\x0a\x22\x01\x00\x1dan-interface-with-a-long-name\x01\x00";
 

@@ -11,7 +11,7 @@ use crate::proved::tests::refusing::Refusing;
 use crate::proved::tests::sweeping::{LARGE, REFUSED};
 use crate::proved::wasm_encoder::{ComponentBuilder, Fault};
 
-/// What stands in front of a call: an alias, once or more; and behind it.
+/// What stands before a call, an alias once or more, and what after it.
 pub struct Start {
     /// How often.
     pub aliases: u32,
@@ -20,15 +20,15 @@ pub struct Start {
     pub name: Option<&'static str>,
     /// The component that has these alone. Nothing, where the call joins their section.
     pub bytes: &'static [u8],
-    /// The section of `OUTER_TYPE`, the alias behind the call. Nothing, where that joins it too.
+    /// The section of `OUTER_TYPE`, the alias after the call. Nothing, where that joins it too.
     pub behind: &'static [u8],
-    /// The component that has these and the alias behind, with their names.
+    /// The component that has these and the last alias, with their names.
     pub without: &'static [u8],
 }
 
 const BEHIND: &[u8] = b"\x06\x05\x01\x03\x02\x00\x01";
 
-/// The component that has an alias in front and the alias behind.
+/// The component that has an alias in front and the last alias.
 pub const BOTH: &[u8] = b"\x00asm\x0d\x00\x01\x00\x06\x0a\x02\x01\x00\x00\x01\x66\x03\x02\x00\x01";
 
 /// An alias.
@@ -47,7 +47,7 @@ const ONE: Start = Start {
 const JOINED: Start =
     Start { aliases: 1, front: FRONT, name: None, bytes: b"", behind: b"", without: BOTH };
 
-/// A section behind these has to grow before its first item.
+/// A section after these has to grow before its first item.
 const TWO: Start = Start {
     aliases: 2,
     front: &[(FUNCTION, Ok(0)), (FUNCTION, Ok(1))],
@@ -99,7 +99,7 @@ const PLACES: &[(&[u8], usize)] = &[
 /// or the component that it makes with the aliases. Without a sort there is no name.
 pub type Swept<'a> = (Item<'a>, &'a [u8], &'a str, &'a [u8]);
 
-/// What the rows of a table stand behind, and the rows.
+/// What the rows of a table follow, and the rows.
 pub type Table<'a> = (&'a [Start], &'a [Swept<'a>]);
 
 /// What follows a type whose last call is refused, until it is given up.
@@ -150,7 +150,7 @@ fn is_with(bytes: &[u8], start: &Start, row: &Swept<'_>, answer: u32) -> bool {
     }
 }
 
-/// The counts behind a call that is accepted: what is in front are functions, what is behind is a
+/// The counts after a call that is accepted: what is in front are functions, what follows is a
 /// type.
 fn counted_with(start: &Start, row: &Swept<'_>) -> [u32; 13] {
     let (call, sort, _, _) = row;
@@ -167,7 +167,7 @@ fn counted_with(start: &Start, row: &Swept<'_>) -> [u32; 13] {
 }
 
 /// The call has its growth number `n` refused, and is made again or isn't. Whether there is such a
-/// growth. A call that stays refused has left nothing behind: the alias behind it is a neighbour of
+/// growth. A call that stays refused has left nothing behind: the alias after it is a neighbour of
 /// those in front.
 fn is_refused(heap: &Refusing, start: &Start, row: &Swept<'_>, n: u64, again: bool) -> bool {
     let (call, sort, _, _) = row;
@@ -192,7 +192,7 @@ fn is_refused(heap: &Refusing, start: &Start, row: &Swept<'_>, n: u64, again: bo
         assert_eq!(counted, [0, 0, 0, 0, 0, 0, 0, 0, start.aliases, 0, 0, 0, 1]);
         assert_eq!(bytes.as_slice(), start.without);
     } else {
-        // The aliases in front are of functions, and the one behind is of a type.
+        // The aliases in front are of functions, and the one after is of a type.
         let answer = if *sort == FUNC { start.aliases } else { 0 };
         assert_eq!((outcome, behind), (Ok(answer), Ok(u32::from(*sort == TYPE))));
         assert_eq!(counted, counted_with(start, row));

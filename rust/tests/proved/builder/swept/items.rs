@@ -59,7 +59,7 @@ pub const JOINED: &[Swept<'static>] = &[
     ),
 ];
 
-/// The section of the name of the alias in front stands between both aliases, and once more behind
+/// The section of the name of the alias in front stands between both aliases, and once more after
 /// them.
 pub const BETWEEN_NAMES: &[Swept<'static>] = &[(
     Item::AppendNames,

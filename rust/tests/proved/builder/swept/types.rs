@@ -204,7 +204,7 @@ const ALIASES: &[Answer<'static>] = &[
 ];
 
 // A type whose last call is refused leaves no component. With up to 13 aliases in front the room
-// ends at each place, and somewhere behind the opening.
+// ends at each place, and somewhere after the opening.
 #[test]
 fn unfinished_builders() {
     let heap = Refusing::new();

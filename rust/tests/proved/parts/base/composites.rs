@@ -90,7 +90,7 @@ fn of_array(is_final: bool, supertype: u32) -> SubType {
     }
 }
 
-// By itself, behind a reference, and as a group of one.
+// By itself, after a reference, and as a group of one.
 fn check_sub_type(ty: SubType, wanted: &[u8]) {
     check(&ty, wanted);
     check(&&ty, wanted);

@@ -25,9 +25,9 @@ fn end_with_list<T: Encode + Copy>(to: &mut Holder, lead: &[u8], list: &[T]) -> 
     to.end_with_list(lead, list.iter().copied())
 }
 
-/// It is finished, with so many members. Its section, which has less than 128 bytes behind its size
-/// and less than 128 members, is this; its list is what stands behind the size, and its bytes are
-/// what stands behind the count.
+/// It is finished, with so many members. Its section, which has less than 128 bytes after its size
+/// and less than 128 members, is this; its list is what follows the size, and its bytes are
+/// what follows the count.
 pub fn is_whole(holder: &Holder, count: u32, section: &[u8]) {
     assert!(holder.is_finished() && !holder.is_opened() && holder.len() == count);
     let mut sink = Vec::new(Global);
@@ -67,7 +67,7 @@ const SIX: &[u8] = &[
     0x0f, 0x06, 0xaa, 0xbb, 0x01, 0x66, 0x80, 0x01, 0x01, 0x02, 0x01, 0x80, 0x01, 0x01, 0x67, 0x00,
 ];
 
-// With 128 members the count has two bytes, and with 126 bytes behind it so has the size.
+// With 128 members the count has two bytes, and with 126 bytes after it so has the size.
 #[test]
 fn members() {
     let mut holder = Holder::new(Global);
@@ -86,7 +86,7 @@ fn members() {
 
 const ONE: &[u8] = &[0x02, 0x01, 0xaa];
 
-// Each of these has a part that is refused, some behind parts that were written. The first refusal
+// Each of these has a part that is refused, some after parts that were written. The first refusal
 // that is met is answered, and the holder is as it was. With a member that is being written nothing
 // can be added, nor opened.
 #[test]

@@ -5,7 +5,7 @@ use crate::proved::facts::holders::{filled, gone_back, over_four_bytes};
 use crate::proved::rt_std::alloc::Global;
 use crate::proved::wenc_base::{Fault, Holder, Verbatim};
 
-/// What the holder has behind the bytes in front.
+/// What the holder has after the bytes in front.
 const OVER: &[u8] = &[0x03, 0x01, 0x03, 0x00];
 
 /// It is made of these bytes, so many of which are kept, and so many members.
@@ -27,7 +27,7 @@ fn behind_bytes() {
     assert!(has_parts(holder, &[0xcc, 0x03, 0x00, 0x2a], 1, 2));
 }
 
-// What comes next is the first member behind what is kept. What is unfinished isn't kept.
+// What comes next is the first member after what is kept. What is unfinished isn't kept.
 #[test]
 fn all_are_kept() {
     let mut holder = over_four_bytes(Global).unwrap();

@@ -34,7 +34,7 @@ const BEGUN: &[(usize, Option<Item>)] = &[(1, Some(OPEN)), (LARGE, None)];
 const LATE: &[(usize, Option<Item>)] = &[(LARGE, Some(OPEN)), (1, None)];
 
 // Before what stands in front, and before a section's id. The first refusal that is met is
-// answered. The second value of an iterator is refused behind the text of the first.
+// answered. The second value of an iterator is refused after the text of the first.
 #[test]
 fn refusals() {
     is_refused(&OPEN, Fault::Unfinished);

@@ -46,7 +46,7 @@ const REFERENCES: &[(bool, HeapType, &[u8])] = &[
     (false, HeapType::Concrete(64), &[0x64, 0xc0, 0x00]),
 ];
 
-// A kind by itself, and behind the byte of a reference that isn't null; and references by
+// A kind by itself, and after the byte of a reference that isn't null; and references by
 // themselves and as types of values.
 #[test]
 fn types() {

@@ -138,7 +138,7 @@ fn lists_in_one_sink() {
     assert_eq!(sink.as_slice(), IN_ONE_SINK);
 }
 
-// Behind 126 bytes and their number the size has one byte, and behind 127 it has two.
+// After 126 bytes and their number the size has one byte, and after 127 it has two.
 const LONG_SIZES: &[(usize, &[u8])] =
     &[(126, &[0x99, 0x7f, 0x7e]), (127, &[0x99, 0x80, 0x01, 0x7f])];
 

@@ -1,4 +1,4 @@
-//! Sections behind bytes that are kept.
+//! Sections after bytes that are kept.
 
 use crate::proved::facts::holders::functions;
 use crate::proved::rt_std::alloc::Global;

@@ -152,7 +152,7 @@ fn of_threads() -> RustVec<Row> {
     ]
 }
 
-/// The bytes are of this tree, and what is behind them is left. A component has it alone.
+/// The bytes are of this tree, and what follows them is left. A component has it alone.
 fn is_tree(tree: CanonTree, name: &str, bytes: &[u8]) {
     assert_eq!(tree.name(), name);
     check(&tree, bytes);

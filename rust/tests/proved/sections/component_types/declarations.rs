@@ -22,10 +22,10 @@ use crate::proved::wenc_types::{ComponentType, CoreTypeTree, InstanceType, Modul
 /// finished.
 const NOTHING: &[u8] = &[1, 0, 0, 0, 0, 1];
 
-/// The same of one that counts as a core type.
+/// What is asked of one with a declaration that counts as a core type.
 const A_CORE_TYPE: &[u8] = &[1, 1, 0, 0, 0, 1];
 
-/// The same of one that counts as an instance.
+/// What is asked of one with a declaration that counts as an instance.
 const AN_INSTANCE: &[u8] = &[1, 0, 0, 1, 0, 1];
 
 /// Aliases that count as a type, an instance, nothing, nothing, a core type, a
@@ -105,7 +105,7 @@ const LONG_ALIAS: &[(Plain<'static>, &[u8], &[u8])] = &[(
 const CORE_TYPE_ALIAS: Alias<'static> =
     Alias::Outer { kind: ComponentOuterAliasKind::CoreType, count: 1, index: 0 };
 
-/// What is imported and exported, by its name, what it counts as, and its text behind the byte that
+/// What is imported and exported, by its name, what it counts as, and its text after the byte that
 /// says which it is.
 const NAMED: &[(&str, ComponentTypeRef, &[u8], &[u8])] = &[
     ("m", ComponentTypeRef::Module(5), NOTHING, b"\x00\x01m\x00\x11\x05"),
@@ -151,7 +151,7 @@ const SIX: &[Plain<'static>] = &[
 const COMPONENT_STATES: &[&str; 3] =
     &["0000000001014100", "0100010000014101016900", "0200020000014102016900016900"];
 
-/// The same of an instance type.
+/// What is asked of an instance type with no, one and two types.
 const INSTANCE_STATES: &[&str; 3] =
     &["0000000001014200", "0100010000014201016900", "0200020000014202016900016900"];
 
@@ -181,7 +181,8 @@ fn component_types() {
     }
 }
 
-/// The same of an instance type.
+/// Upstream gives these counts, and this section, whether one call adds the instance type to it, or
+/// an encoder.
 #[test]
 fn instance_types() {
     let mut ty = InstanceType::new(Global);
@@ -204,7 +205,7 @@ fn open_function() -> CoreTypeTree {
     CoreTypeTree::Group(GroupTree::Sub(subtype(&OPEN)))
 }
 
-/// The declaration, alone, counts as this, and has this text behind its first byte.
+/// The declaration, alone, counts as this, and has this text after its first byte.
 fn sweep_in_both(
     heap: &Refusing,
     call: &Declaration<'_>,

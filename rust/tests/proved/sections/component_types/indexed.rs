@@ -104,10 +104,10 @@ impl<A: Allocator> Makes<ModuleType<A>> for Outer {
 /// What is asked of one with a declaration that counts as a core type.
 const A_CORE_TYPE: &[u8] = &[1, 1, 0, 0, 0, 1];
 
-/// The same of one that counts as an instance.
+/// What is asked of one with a declaration that counts as an instance.
 const AN_INSTANCE: &[u8] = &[1, 0, 0, 1, 0, 1];
 
-/// A call, the index that it answers behind those above it, what it counts as alone, and its text,
+/// A call, the index that it answers after those above it, what it counts as alone, and its text,
 /// which is that of the declaration by the call that answers none.
 type Row = (Indexed<'static>, u32, &'static [u8], &'static [u8]);
 
@@ -126,7 +126,7 @@ const DECLARED: &[Row] = &[
     (Indexed::Defined, 6, A_TYPE, b"\x01\x69\x40"),
 ];
 
-/// These stand behind the others.
+/// These follow the others.
 const IMPORTED: &[Row] = &[
     (Indexed::ImportInstance("i", 8), 3, AN_INSTANCE, b"\x03\x00\x01i\x05\x08"),
     (Indexed::ImportType("s", TypeBounds::SubResource), 7, A_TYPE, b"\x03\x00\x01s\x03\x01"),
@@ -152,7 +152,7 @@ const LONG: &[Row] = &[
     ),
 ];
 
-/// Each call answers its index, and all are written in their order behind these counts and this
+/// Each call answers its index, and all are written in their order after these counts and this
 /// byte.
 fn answer_each<L>(ty: &mut L, rows: &[&[Row]], counted: &[u8])
 where
@@ -209,7 +209,7 @@ fn borrowed() {
     alone(&section, wanted);
 }
 
-/// Each growth of each call is refused. Alone it counts as this, and has this text behind its first
+/// Each growth of each call is refused. Alone it counts as this, and has this text after its first
 /// byte.
 fn sweep_each<'a, L: OnHeap<'a>>(heap: &'a Refusing, rows: &[Row], lead: u8)
 where

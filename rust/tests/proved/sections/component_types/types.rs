@@ -85,7 +85,7 @@ const RESOURCES_AND_FUNCTIONS: &[(Call<'static>, &[u8])] = &[
 pub const A_TYPE: &[u8] = &[1, 0, 1, 0, 0, 1];
 
 /// Where a type is added alone, this is the section. In a declaration it has the text that stands
-/// behind the section's id, its size and the count of its items.
+/// after the section's id, its size and the count of its items.
 fn check(heap: &Refusing, item: Item<'_>, call: Declaration<'_>, wanted: &[u8]) {
     let mut section = ComponentTypeSection::new(Global);
     item.make(&mut section).unwrap();

@@ -45,7 +45,7 @@ const FUNCTION: Composite<'static> = Composite::Function(&[ValType::I32], &[ValT
 /// What is asked of one that counts no type: it is as if empty, and is finished.
 const NO_TYPE: &[u8] = &[0, 0, 0, 0, 1, 1];
 
-/// The same of one that counts a type.
+/// What is asked of one that counts a type.
 pub const A_TYPE: &[u8] = &[0, 1, 0, 0, 0, 1];
 
 /// Upstream gives these texts. Between a declaration and its text stands whether it counts as a
