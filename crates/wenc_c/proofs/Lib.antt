@@ -1,5 +1,5 @@
 pub mod Answers
-pub mod AtHandles
+pub mod Found
 pub mod Functions
 pub mod Grown
 pub mod Heap
