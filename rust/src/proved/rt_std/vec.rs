@@ -69,11 +69,12 @@ impl<T, A: Allocator> Vec<T, A> {
         if self.inner.capacity() - self.inner.len() < more { self.grow(more) } else { Ok(()) }
     }
 
+    /// A byte more than is asked for: what goes in front of bytes that fill a vector to its end would move them all.
     #[cold]
     #[inline(never)]
     fn grow(&mut self, more: usize) -> Result<(), AllocError> {
         self.ask()?;
-        Ok(self.inner.try_reserve(more)?)
+        Ok(self.inner.try_reserve(more.saturating_add(1))?)
     }
 
     /// Appends an element.
