@@ -5,7 +5,7 @@ use super::lexer::{Token, lex};
 use std::collections::BTreeMap;
 
 /// The ways, each of which some source takes.
-pub const WAYS: [&str; 26] = [
+pub const WAYS: [&str; 27] = [
     "kept",
     "prelude",
     "ghost use left out",
@@ -32,6 +32,7 @@ pub const WAYS: [&str; 26] = [
     "method that is handed an allocator",
     "macro that is handed an allocator",
     "main is pub",
+    "method that is inlined",
 ];
 
 const CRATES: [&str; 14] = [
@@ -342,6 +343,9 @@ impl<'a> Source<'a> {
                 Some(step("method that stays in this crate", 1, "pub(crate)"))
             }
             "fn" if next == "main" => Some(step("main is pub", 2, "pub fn main")),
+            "fn" if next == "encode" && self.is_bare_method() => {
+                Some(step("method that is inlined", 2, "#[inline] fn encode"))
+            }
             "Clone" => Some(step("refusable clone", 1, "TryClone")),
             "clone" => Some(step("refusable clone", 1, "try_clone")),
             "collect" if self.before(1) == "." => {
@@ -353,6 +357,13 @@ impl<'a> Source<'a> {
             }
             _ => self.root(),
         }
+    }
+
+    /// Whether a method of a type begins here, and not one that a trait asks for, and no attribute stands in front of it.
+    fn is_bare_method(&self) -> bool {
+        let kinds = ["impl", "trait"];
+        let last = self.tokens[..self.at].iter().rfind(|token| kinds.contains(&&*token.text));
+        last.is_some_and(|token| token.text == "impl") && !["]", "pub"].contains(&self.before(1))
     }
 
     /// The type of the `impl` that this stands in, which has no trait.
