@@ -178,9 +178,11 @@ impl<'a> Eraser<'a> {
         })
     }
 
-    /// Whether a method begins here that writes a type's text, and has no attribute.
+    /// Whether a method begins here that writes a type's text, and that no attribute stands in front of in Rust.
     fn is_inlined(&self, i: usize) -> bool {
-        let is_method = self.at(i + 1) == "encode" && ["{", "}", ";"].contains(&self.before(i, 1));
+        let is_left = |j: &usize| !self.becomes[self.code[*j]].is_empty();
+        let last = (0..i).rev().find(is_left).map_or("", |j| self.at(j));
+        let is_method = self.at(i + 1) == "encode" && ["{", "}", ";"].contains(&last);
         let mut words = (0..i).rev().map(|j| self.at(j));
         is_method && words.find(|word| ["impl", "trait"].contains(word)) == Some("impl")
     }

@@ -359,11 +359,20 @@ impl<'a> Source<'a> {
         }
     }
 
-    /// Whether a method of a type begins here, and not one that a trait asks for, and no attribute stands in front of it.
+    /// Whether a method of a type begins here, and not one that a trait asks for, and no attribute stands in front of it but
+    /// the prover's.
     fn is_bare_method(&self) -> bool {
-        let kinds = ["impl", "trait"];
-        let last = self.tokens[..self.at].iter().rfind(|token| kinds.contains(&&*token.text));
-        last.is_some_and(|token| token.text == "impl") && !["]", "pub"].contains(&self.before(1))
+        let mut before = &self.tokens[..self.at];
+        let last = before.iter().rfind(|token| ["impl", "trait"].contains(&&*token.text));
+        while before.last().is_some_and(|token| token.text == "]") {
+            let begin = before.iter().rposition(|token| token.text == "#").unwrap_or(0);
+            if !["tactic", "cycle"].contains(&&*before[begin + 2].text) {
+                return false;
+            }
+            before = &before[..begin];
+        }
+        let is_shown = before.last().is_some_and(|token| token.text == "pub");
+        !is_shown && last.is_some_and(|token| token.text == "impl")
     }
 
     /// The type of the `impl` that this stands in, which has no trait.
