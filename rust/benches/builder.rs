@@ -1,5 +1,5 @@
-//! What building costs. Names are made before the time is taken; what is printed is how many bytes came, how long it took,
-//! and the hash of the bytes, which are upstream's.
+//! What building costs. Names and a module are made before the time is taken; what is printed is how many bytes came, how
+//! long it took, and the hash of the bytes, which are upstream's.
 //!
 //!     cargo bench --offline -- N            rounds of seven calls of the builder: each call opens another section
 //!     cargo bench --offline -- N grouped    the same calls, each N times, so that neighbours share a section
@@ -8,7 +8,6 @@
 //!     cargo bench --offline -- N numbers    `Encode` of N numbers
 //!     cargo bench --offline -- N variant    a variant of N cases
 //!     cargo bench --offline -- N nested     a component by hand in another, around a core module of N bytes
-//!     cargo bench --offline -- N built      the same by the builder
 //!
 //! `turns` compiles this file over upstream too, with the `use` of the next line changed alone; `count` counts the
 //! instructions that `work` takes.
@@ -67,7 +66,6 @@ fn work(n: u32, what: &str, names: &[Names], module: &[u8]) -> Vec<u8> {
         "numbers" => numbers(n),
         "variant" => variant(n, names),
         "nested" => nested(module),
-        "built" => built(module),
         other => panic!("no work is {other}"),
     })
 }
@@ -142,14 +140,6 @@ fn nested(module: &[u8]) -> Vec<u8> {
     outer.finish()
 }
 
-fn built(module: &[u8]) -> Vec<u8> {
-    let mut inner = ComponentBuilder::default();
-    inner.core_module_raw(None, module);
-    let mut outer = ComponentBuilder::default();
-    outer.component(None, inner);
-    outer.finish()
-}
-
 fn fnv1a(bytes: &[u8]) -> u64 {
     let step = |hash: u64, byte: &u8| (hash ^ u64::from(*byte)).wrapping_mul(0x0000_0100_0000_01b3);
     bytes.iter().fold(0xcbf2_9ce4_8422_2325, step)
@@ -162,9 +152,9 @@ fn main() {
     let what = words.get(1).map_or("", |word| word.as_str());
     let named =
         |i| Names { import: format!("i{i}"), export: format!("e{i}"), alias: format!("a{i}") };
-    let is_nested = ["nested", "built"].contains(&what);
-    let names: Vec<Names> = (0..if is_nested { 0 } else { n }).map(named).collect();
-    let module = vec![7; if is_nested { n as usize } else { 0 }];
+    let (named_len, module_len) = if what == "nested" { (0, n) } else { (n, 0) };
+    let names: Vec<Names> = (0..named_len).map(named).collect();
+    let module = vec![7; module_len as usize];
     let begin = Instant::now();
     let bytes = work(n, what, &names, &module);
     let elapsed = begin.elapsed().as_nanos();

@@ -69,7 +69,8 @@ impl<T, A: Allocator> Vec<T, A> {
         if self.inner.capacity() - self.inner.len() < more { self.grow(more) } else { Ok(()) }
     }
 
-    /// A byte more than is asked for: what goes in front of bytes that fill a vector to its end would move them all.
+    /// Room for one more than is asked for: the byte in front of what comes next finds it then, where it would be put there
+    /// afterwards, and all moved.
     #[cold]
     #[inline(never)]
     fn grow(&mut self, more: usize) -> Result<(), AllocError> {
