@@ -1,11 +1,13 @@
-//! What building costs. Names are made before the time is taken; what is printed is how many bytes
-//! came, how long it took, and the hash of the bytes, which are upstream's.
+//! What building costs. Names and a module are made before the time is taken; what is printed is how
+//! many bytes came, how long it took, and the hash of the bytes, which are upstream's.
 //!
 //!     cargo bench --offline -- N            N rounds of seven calls, each of which opens a section
 //!     cargo bench --offline -- N grouped    these calls, each N times: neighbours share a section
 //!     cargo bench --offline -- N imports    a section by hand of N imports
 //!     cargo bench --offline -- N exports    an instance type of N exports
 //!     cargo bench --offline -- N numbers    `Encode` of N numbers
+//!     cargo bench --offline -- N variant    a variant of N cases
+//!     cargo bench --offline -- N nested     a component by hand in another, around a core module of N bytes
 //!
 //! `turns` compiles this file over upstream too, with `use wenc::*;` alone changed;
 //! `count` counts the instructions that `work` takes.
@@ -55,13 +57,15 @@ struct Names {
 
 /// What is timed: the calls, up to the bytes.
 #[inline(never)]
-fn work(n: u32, what: &str, names: &[Names]) -> Vec<u8> {
+fn work(n: u32, what: &str, names: &[Names], module: &[u8]) -> Vec<u8> {
     black_box(match what {
         "" => rounds(names),
         "grouped" => grouped(names),
         "imports" => imports(names),
         "exports" => exports(names),
         "numbers" => numbers(n),
+        "variant" => variant(n, names),
+        "nested" => nested(module),
         other => panic!("no work is {other}"),
     })
 }
@@ -118,6 +122,24 @@ fn numbers(n: u32) -> Vec<u8> {
     sink
 }
 
+fn variant(n: u32, names: &[Names]) -> Vec<u8> {
+    let mut section = ComponentTypeSection::new();
+    let payload = |i| Some(ComponentValType::Type(i));
+    let cases = (0..n).zip(names).map(|(i, names)| (names.import.as_str(), payload(i)));
+    section.defined_type().variant(cases);
+    let mut component = Component::new();
+    component.section(&section);
+    component.finish()
+}
+
+fn nested(module: &[u8]) -> Vec<u8> {
+    let mut inner = Component::new();
+    inner.section(&RawSection { id: ComponentSectionId::CoreModule.into(), data: module });
+    let mut outer = Component::new();
+    outer.section(&NestedComponentSection(&inner));
+    outer.finish()
+}
+
 fn fnv1a(bytes: &[u8]) -> u64 {
     let step = |hash: u64, byte: &u8| (hash ^ u64::from(*byte)).wrapping_mul(0x0000_0100_0000_01b3);
     bytes.iter().fold(0xcbf2_9ce4_8422_2325, step)
@@ -130,9 +152,11 @@ fn main() {
     let what = words.get(1).map_or("", |word| word.as_str());
     let named =
         |i| Names { import: format!("i{i}"), export: format!("e{i}"), alias: format!("a{i}") };
-    let names: Vec<Names> = (0..n).map(named).collect();
+    let (named_len, module_len) = if what == "nested" { (0, n) } else { (n, 0) };
+    let names: Vec<Names> = (0..named_len).map(named).collect();
+    let module = vec![7; module_len as usize];
     let begin = Instant::now();
-    let bytes = work(n, what, &names);
+    let bytes = work(n, what, &names, &module);
     let elapsed = begin.elapsed().as_nanos();
     println!("bytes {}\nnanoseconds {elapsed}\nfnv1a {:016x}", bytes.len(), fnv1a(&bytes));
 }

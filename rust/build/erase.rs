@@ -15,6 +15,7 @@
 //! - *adds*: the names that stand in scope without being named, in front of a file's first item;
 //!   what a user of Rust expects of a tree ([`known::TREES`], [`known::PRINTED`]); `Display` and
 //!   `Error` after an enum that derives `Error`; `pub` to `main`;
+//!   `#[inline]` to the methods `encode` of types, which are short and call each other;
 //! - *refuses*: everything else that it doesn't know. Better no crate than one that does something
 //!   else than was proved.
 //!
@@ -147,6 +148,7 @@ impl<'a> Eraser<'a> {
         match self.at(i) {
             "Drop" => self.bound(i)?,
             "fn" if self.at(i + 1) == "main" => self.put(i, "pub fn"),
+            "fn" if self.is_inlined(i) => self.put(i, "#[inline] fn"),
             "mod" if self.is_taken(self.at(i + 1)) => {
                 return Err((self.line(i), "a module with the name of a crate"));
             }
@@ -179,6 +181,15 @@ impl<'a> Eraser<'a> {
                 && self.at(i + 2) == *method
                 && impls.next().is_some_and(|j| self.owner(j) == *owner)
         })
+    }
+
+    /// Whether a method begins here that writes a type's text, and that no attribute stands in front of in Rust.
+    fn is_inlined(&self, i: usize) -> bool {
+        let is_left = |j: &usize| !self.becomes[self.code[*j]].is_empty();
+        let last = (0..i).rev().find(is_left).map_or("", |j| self.at(j));
+        let is_method = self.at(i + 1) == "encode" && ["{", "}", ";"].contains(&last);
+        let mut words = (0..i).rev().map(|j| self.at(j));
+        is_method && words.find(|word| ["impl", "trait"].contains(word)) == Some("impl")
     }
 
     /// The type whose methods an `impl` has, or the trait.

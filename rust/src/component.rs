@@ -72,8 +72,10 @@ pub trait ComponentSection: Encode {
     }
 }
 
-/// Appends a section, its id in front, or leaves the bytes as they were.
+/// Appends a section, its id in front, or leaves the bytes as they were. Room for the id is asked for by itself: where it is
+/// refused, the section is written first and then moved up.
 fn append_section<S: ComponentSection + ?Sized>(section: &S, dst: &mut Vec<u8>) {
+    let _ = dst.try_reserve(1);
     granted(append(dst, |sink| {
         proved::ComponentSection::append_to_component(&Foreign(section), sink)
     }));

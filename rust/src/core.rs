@@ -70,8 +70,10 @@ pub trait Section: Encode {
     }
 }
 
-/// Appends a section, its id in front, or leaves the bytes as they were.
+/// Appends a section, its id in front, or leaves the bytes as they were. Room for the id is asked for by itself, as for a
+/// section of a component.
 fn append_section<S: Section + ?Sized>(section: &S, dst: &mut Vec<u8>) {
+    let _ = dst.try_reserve(1);
     granted(append(dst, |sink| proved::Section::append_to(&Foreign(section), sink)));
 }
 

@@ -97,6 +97,7 @@ pub fn encoding_size(n: u32) -> usize {
 }
 
 impl<T: Encode + ?Sized> Encode for &T {
+    #[inline]
     fn encode(&self, sink: &mut Vec<u8>) {
         T::encode(self, sink);
     }
@@ -118,18 +119,21 @@ impl<T: Encode> Encode for Option<T> {
 
 /// A list of bytes.
 impl Encode for [u8] {
+    #[inline]
     fn encode(&self, sink: &mut Vec<u8>) {
         append_proved(sink, &self);
     }
 }
 
 impl Encode for str {
+    #[inline]
     fn encode(&self, sink: &mut Vec<u8>) {
         append_proved(sink, &self);
     }
 }
 
 impl Encode for usize {
+    #[inline]
     fn encode(&self, sink: &mut Vec<u8>) {
         granted(u32::try_from(*self).map_err(|_| Error::TooMany)).encode(sink);
     }
@@ -139,6 +143,7 @@ impl Encode for usize {
 macro_rules! encode {
     ($($type:ty, $value:ident => $proved:expr;)*) => {
         $(impl $crate::Encode for $type {
+            #[inline]
             fn encode(&self, sink: &mut alloc::vec::Vec<u8>) {
                 let $value = self;
                 $crate::encode::append_proved(sink, &$proved);

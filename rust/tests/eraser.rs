@@ -60,6 +60,20 @@ fn clauses_are_left_out() {
 }
 
 #[test]
+fn methods_that_write_texts_are_inlined() {
+    becomes(
+        "trait E { fn encode(&self); }\nimpl E for S {\n    ghost a = { S };\n\n    fn encode(&self) {}\n}\n",
+        "trait E { fn encode(&self); }\nimpl E for S {\n\n\n    #[inline] fn encode(&self) {}\n}\n",
+    );
+    becomes(
+        "impl E for S {\n    #[tactic(auto)]\n    fn encode(&self) {}\n}\n",
+        "impl E for S {\n\n    #[inline] fn encode(&self) {}\n}\n",
+    );
+    stays("impl E for S {\n    #[cold]\n    fn encode(&self) {}\n}\n");
+    stays("impl S { fn encode_all(&self) {} pub fn encode(&self) {} }\n");
+}
+
+#[test]
 fn ghost_items_are_left_out_with_their_comments() {
     becomes(
         "ghost use Rattle.std.specs.Prelude.{◌≡◌, length};\n\nuse super::A;\n",

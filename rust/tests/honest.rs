@@ -89,6 +89,10 @@ fn f(x: u8) -> Result<u8, E>
     h(1, 2);
     Ok(y)
 }
+impl Encode for A {
+    ghost piece = { 1 };
+    fn encode(&self) {}
+}
 ";
 
 /// What it has to be erased to.
@@ -111,10 +115,14 @@ fn f(x: u8) -> Result<u8, E>
     h(1, 2);
     Ok(y)
 }
+impl Encode for A {
+
+    #[inline] fn encode(&self) {}
+}
 ";
 
 /// Changes of that Rust, by the words that are replaced: each is to be found.
-const CHANGES: [(&str, &str, &str); 20] = [
+const CHANGES: [(&str, &str, &str); 21] = [
     ("a number", "12", "13"),
     ("a statement that is dropped", "h(1, 2);", ""),
     ("a statement twice", "h(1, 2);", "h(1, 2); h(1, 2);"),
@@ -129,6 +137,7 @@ const CHANGES: [(&str, &str, &str); 20] = [
     ("a path's root", "proved::named", "proved::other"),
     ("an attribute that is dropped", "#[inline]", ""),
     ("an attribute that came in", "#[inline]", "#[inline] #[cold]"),
+    ("an attribute that is missing", "#[inline] fn encode", "fn encode"),
     ("a derive that is dropped", "Clone, Copy", "Clone"),
     ("a tree's derive", "Clone, Debug, PartialEq, Eq", "Clone"),
     ("a clause that became code", "E>\n\n{", "E>\n{ x < 3 }\n{"),

@@ -172,6 +172,27 @@ fn sections_are_made_by_hand() {
     are_upstreams(&bytes, 5258, 0x4af0_e550_fc43_704c);
 }
 
+/// Room for a section's id is asked for by itself. Where it alone is refused, nothing else is.
+#[test]
+fn a_section_comes_without_room_for_its_id() {
+    let mut imports = ComponentImportSection::new();
+    imports.import(NAME, ComponentTypeRef::Func(0));
+    let wanted = Component::new().section(&imports).as_slice().to_vec();
+    let mut component = Component::new();
+    GRANTED.set(Some(0));
+    component.section(&imports);
+    assert_eq!(GRANTED.take(), None, "no request was refused");
+    assert_eq!(component.as_slice(), wanted);
+
+    let mut module = Module::new();
+    let raw = RawSection { id: SectionId::Custom.into(), data: NAME.as_bytes() };
+    let wanted = Module::new().section(&raw).as_slice().to_vec();
+    GRANTED.set(Some(0));
+    module.section(&raw);
+    assert_eq!(GRANTED.take(), None, "no request was refused");
+    assert_eq!(module.as_slice(), wanted);
+}
+
 #[test]
 fn a_component_is_listed() {
     let mut builder = ComponentBuilder::default();

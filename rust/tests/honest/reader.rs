@@ -5,7 +5,7 @@ use super::lexer::{Token, lex};
 use std::collections::BTreeMap;
 
 /// The ways, each of which some source takes.
-pub const WAYS: [&str; 26] = [
+pub const WAYS: [&str; 27] = [
     "kept",
     "prelude",
     "ghost use left out",
@@ -32,6 +32,7 @@ pub const WAYS: [&str; 26] = [
     "method that is handed an allocator",
     "macro that is handed an allocator",
     "main is pub",
+    "method that is inlined",
 ];
 
 const CRATES: [&str; 16] = [
@@ -347,6 +348,9 @@ impl<'a> Source<'a> {
                 Some(step("method that stays in this crate", 1, "pub(crate)"))
             }
             "fn" if next == "main" => Some(step("main is pub", 2, "pub fn main")),
+            "fn" if next == "encode" && self.is_bare_method() => {
+                Some(step("method that is inlined", 2, "#[inline] fn encode"))
+            }
             "Clone" => Some(step("refusable clone", 1, "TryClone")),
             "clone" => Some(step("refusable clone", 1, "try_clone")),
             "collect" if self.before(1) == "." => {
@@ -358,6 +362,22 @@ impl<'a> Source<'a> {
             }
             _ => self.root(),
         }
+    }
+
+    /// Whether a method of a type begins here, and not one that a trait asks for, and no attribute stands in front of it but
+    /// the prover's.
+    fn is_bare_method(&self) -> bool {
+        let mut before = &self.tokens[..self.at];
+        let last = before.iter().rfind(|token| ["impl", "trait"].contains(&&*token.text));
+        while before.last().is_some_and(|token| token.text == "]") {
+            let begin = before.iter().rposition(|token| token.text == "#").unwrap_or(0);
+            if !["tactic", "cycle"].contains(&&*before[begin + 2].text) {
+                return false;
+            }
+            before = &before[..begin];
+        }
+        let is_shown = before.last().is_some_and(|token| token.text == "pub");
+        !is_shown && last.is_some_and(|token| token.text == "impl")
     }
 
     /// The type of the `impl` that this stands in, which has no trait.

@@ -25,6 +25,7 @@ impl<'a> ComponentCoreTypeEncoder<'a> {
 
     /// Any other core type, which the encoder writes.
     #[must_use = "the encoder is to write the type"]
+    #[inline]
     pub fn core(self) -> CoreTypeEncoder<'a> {
         on!(self.by, CoreBy, encoder => encoder.core().into())
     }

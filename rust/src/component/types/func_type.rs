@@ -35,6 +35,7 @@ impl ComponentFuncTypeEncoder<'_> {
     /// # Panics
     ///
     /// Where the parameters' iterator panicked: nobody knows which of them are written then.
+    #[inline]
     #[track_caller]
     fn stage(&self) -> FuncStage {
         assert!(!self.is_amid, "the parameters panicked");

@@ -29,11 +29,13 @@ impl<'a> ComponentTypeEncoder<'a> {
     }
 
     /// A type of functions, which the encoder writes.
+    #[inline]
     pub fn function(self) -> ComponentFuncTypeEncoder<'a> {
         on!(self.by, TypeBy, encoder => encoder.function().into())
     }
 
     /// A type of values, which the encoder writes.
+    #[inline]
     #[must_use = "the encoder is to write the type"]
     pub fn defined_type(self) -> ComponentDefinedTypeEncoder<'a> {
         on!(self.by, TypeBy, encoder => encoder.defined_type().into())

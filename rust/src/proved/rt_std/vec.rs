@@ -69,11 +69,13 @@ impl<T, A: Allocator> Vec<T, A> {
         if self.inner.capacity() - self.inner.len() < more { self.grow(more) } else { Ok(()) }
     }
 
+    /// Room for one more than is asked for: the byte in front of what comes next finds it then, where it would be put there
+    /// afterwards, and all moved.
     #[cold]
     #[inline(never)]
     fn grow(&mut self, more: usize) -> Result<(), AllocError> {
         self.ask()?;
-        Ok(self.inner.try_reserve(more)?)
+        Ok(self.inner.try_reserve(more.saturating_add(1))?)
     }
 
     /// Appends an element.
