@@ -62,12 +62,18 @@ pub put_over : (bytes : List ℕ) (start n : ℕ) → start < length bytes → n
 put_over bytes start n within short =
     rw (groups_below 128 9 n short, add-one start, append_assoc (take start bytes) (n ∷ []) (drop (suc start) bytes)) (set_split bytes start n within)
 
--- the texts of two and of three bytes
+-- the texts of two to five bytes
 pub text_2 : (n : ℕ) → 128 ≤ n → n < 16384 → groups 128 9 n ≡ (n % 128 + 128) ∷ n / 128 ∷ []
 text_2 n h l = rw (groups_from 128 8 n h, groups_below 128 8 (n / 128) (omega arith)) refl
 
 pub text_3 : (n : ℕ) → 16384 ≤ n → n < 2097152 → groups 128 9 n ≡ (n % 128 + 128) ∷ (n / 128 % 128 + 128) ∷ n / 128 / 128 ∷ []
 text_3 n h l = rw (groups_from 128 8 n (omega arith), groups_from 128 7 (n / 128) (omega arith), groups_below 128 7 (n / 128 / 128) (omega arith)) refl
+
+pub text_4 : (n : ℕ) → 2097152 ≤ n → n < 268435456 → groups 128 9 n ≡ (n % 128 + 128) ∷ (n / 128 % 128 + 128) ∷ (n / 128 / 128 % 128 + 128) ∷ n / 128 / 128 / 128 ∷ []
+text_4 n h l = rw (groups_from 128 8 n (omega arith), groups_from 128 7 (n / 128) (omega arith), groups_from 128 6 (n / 128 / 128) (omega arith), groups_below 128 6 (n / 128 / 128 / 128) (omega arith)) refl
+
+pub text_5 : (n : ℕ) → 268435456 ≤ n → n < 34359738368 → groups 128 9 n ≡ (n % 128 + 128) ∷ (n / 128 % 128 + 128) ∷ (n / 128 / 128 % 128 + 128) ∷ (n / 128 / 128 / 128 % 128 + 128) ∷ n / 128 / 128 / 128 / 128 ∷ []
+text_5 n h l = rw (groups_from 128 8 n (omega arith), groups_from 128 7 (n / 128) (omega arith), groups_from 128 6 (n / 128 / 128) (omega arith), groups_from 128 5 (n / 128 / 128 / 128) (omega arith), groups_below 128 5 (n / 128 / 128 / 128 / 128) (omega arith)) refl
 
 -- the same of signed ones that are not negative
 pub signed_below : (n : ℕ) → n < 64 → groups 64 9 n ≡ n ∷ []

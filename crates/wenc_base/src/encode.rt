@@ -244,11 +244,45 @@ fn encode_number<A: Allocator>(n: u64, sink: &mut Vec<u8, A>) -> Result<(), Faul
     Ok(())
 }
 
-/// The same of any number, by what room there is.
+/// Appends the text of a number. Most that are long have four or five bytes, and room.
+#[tactic(auto, using(crate::proofs::Groups::text_4, crate::proofs::Groups::text_5))]
+#[inline(never)]
+fn encode_long<A: Allocator>(n: u64, sink: &mut Vec<u8, A>) -> Result<(), Fault>
+    ensures { Appends (unsigned_text n) (λ _. ⊥) ⊥ sink.old.items sink.new.items result }
+{
+    if n < 1 << 21 || n >= 1 << 35 || !has_room(sink, 5) {
+        return encode_any(n, sink);
+    }
+    if n < 1 << 28 {
+        extend_in_room(
+            sink,
+            &[
+                (n % 128) as u8 + 128,
+                (n / 128 % 128) as u8 + 128,
+                (n / 128 / 128 % 128) as u8 + 128,
+                (n / 128 / 128 / 128) as u8,
+            ],
+        );
+    } else {
+        extend_in_room(
+            sink,
+            &[
+                (n % 128) as u8 + 128,
+                (n / 128 % 128) as u8 + 128,
+                (n / 128 / 128 % 128) as u8 + 128,
+                (n / 128 / 128 / 128 % 128) as u8 + 128,
+                (n / 128 / 128 / 128 / 128) as u8,
+            ],
+        );
+    }
+    Ok(())
+}
+
+/// Appends the text of any number, by what room there is.
 #[tactic(auto, using(crate::proofs::Groups::groups_length))]
 #[cold]
 #[inline(never)]
-fn encode_long<A: Allocator>(n: u64, sink: &mut Vec<u8, A>) -> Result<(), Fault>
+fn encode_any<A: Allocator>(n: u64, sink: &mut Vec<u8, A>) -> Result<(), Fault>
     ensures { Appends (unsigned_text n) (λ _. ⊥) ⊥ sink.old.items sink.new.items result }
 {
     let mut text = Short::new();

@@ -1,4 +1,5 @@
-ghost use Rattle.std.specs.Prelude.{◌≡◌, ◌++◌, ℕ, List, length, IfOk, IfErr};
+ghost use Rattle.std.specs.Prelude.{◌≡◌, ◌≢◌, ◌++◌, ℕ, List, length, OnOk, IfOk, IfErr};
+ghost use Rattle.wenc_base.specs.Encode.{Appends};
 ghost use Rattle.wenc_base.specs.laws.Delimited.{itself};
 ghost use Rattle.wenc_base.specs.Fault.{IsMemory};
 ghost use Rattle.wenc_parts.specs.Imports.{text_option, string_option};
@@ -155,7 +156,7 @@ pub struct ComponentExternName<'a, A: Allocator = Global> {
 }
 
 impl<'a, A: Allocator> ComponentExternName<'a, A> {
-    ghost use Rattle.wenc_parts.specs.Imports.{extern_name_view, name_options};
+    ghost use Rattle.wenc_parts.specs.Imports.{extern_name, extern_name_view, name_options};
 
     fn option_count(&self) -> u32
         ensures { result ≡ length (name_options (extern_name_view self.now)) }
@@ -163,6 +164,25 @@ impl<'a, A: Allocator> ComponentExternName<'a, A> {
         u32::from(self.implements.is_some())
             + u32::from(self.version_suffix.is_some())
             + u32::from(self.external_id.is_some())
+    }
+
+    /// Appends the text of a name that has options.
+    #[tactic(auto, using(crate::proofs::Names::optioned_serves))]
+    #[cold]
+    #[inline(never)]
+    fn encode_with_options<B: Allocator>(&self, sink: &mut Vec<u8, B>) -> Result<(), Fault>
+        requires { length (name_options (extern_name_view self.now)) ≢ 0 }
+        ensures appended { Appends (extern_name (extern_name_view self.now)).text
+            (extern_name (extern_name_view self.now)).Cause ⊥ sink.old.items sink.new.items result }
+        ensures fits { OnOk result (extern_name (extern_name_view self.now)).Fits }
+    {
+        let name = self.name.as_str();
+        let count = self.option_count();
+        let implements = OptionEntry(0x00, &self.implements);
+        let version_suffix = OptionEntry(0x01, &self.version_suffix);
+        let external_id = OptionEntry(0x02, &self.external_id);
+        let options = (count, (implements, (version_suffix, external_id)));
+        Tagged(0x02, &(name, options)).encode(sink)
     }
 
     /// The same name once more. It is refused for want of memory alone.
@@ -186,18 +206,12 @@ impl<'a, A: Allocator> Encode for ComponentExternName<'a, A> {
 
     ghost piece = { λ n. extern_name (extern_name_view n) };
 
-    #[tactic(auto, using(crate::proofs::Names::plain_serves, crate::proofs::Names::optioned_serves))]
+    #[tactic(auto, using(crate::proofs::Names::plain_serves))]
     fn encode<B: Allocator>(&self, sink: &mut Vec<u8, B>) -> Result<(), Fault> {
-        let name = self.name.as_str();
-        let count = self.option_count();
-        if count == 0 {
-            return Tagged(0x00, &name).encode(sink);
+        if self.option_count() != 0 {
+            return self.encode_with_options(sink);
         }
-        let implements = OptionEntry(0x00, &self.implements);
-        let version_suffix = OptionEntry(0x01, &self.version_suffix);
-        let external_id = OptionEntry(0x02, &self.external_id);
-        let options = (count, (implements, (version_suffix, external_id)));
-        Tagged(0x02, &(name, options)).encode(sink)
+        Tagged(0x00, &self.name.as_str()).encode(sink)
     }
 }
 
