@@ -2,7 +2,7 @@
 ghost use Rattle.wenc_base.specs.Readers.{pick, nowhere};
 ghost use Rattle.wenc_canon.specs.CanonTrees.{canon_view};
 ghost use Rattle.wenc_canon.specs.reading.Canonicals.{read_lifted, read_lowered, rows};
-ghost use Rattle.wenc_decode.specs.inside.Canonicals.{read_zero, stream_rows, future_rows, error_context_rows, thread_rows};
+ghost use Rattle.wenc_decode.specs.inside.Canonicals.{read_zero, stream_rows, future_rows, error_context_rows, thread_rows, forward_rows};
 ghost use Rattle.wenc_read.specs.Gives.{Gives};
 
 use crate::decode::Decode;
@@ -66,7 +66,7 @@ fn zero(bytes: &[u8]) -> Result<((), &[u8]), Refusal>
     }
 }
 
-/// A core function that is lifted, behind its opcode.
+/// A core function that is lifted, after its opcode.
 #[tactic(auto, unfolding(wenc_base::specs::Readers::choose))]
 fn lifted<A: Allocator + Copy>(alloc: A, bytes: &[u8]) -> Result<(CanonTree<A>, &[u8]), Refusal>
     ensures { Gives (λ x. (canon_view x.0, x.1.now)) result (read_lifted bytes.now) }
@@ -87,7 +87,7 @@ fn lifted<A: Allocator + Copy>(alloc: A, bytes: &[u8]) -> Result<(CanonTree<A>, 
     }
 }
 
-/// A function that is lowered, behind its opcode.
+/// A function that is lowered, after its opcode.
 #[tactic(auto, unfolding(wenc_base::specs::Readers::choose))]
 fn lowered<A: Allocator + Copy>(alloc: A, bytes: &[u8]) -> Result<(CanonTree<A>, &[u8]), Refusal>
     ensures { Gives (λ x. (canon_view x.0, x.1.now)) result (read_lowered bytes.now) }
@@ -102,7 +102,7 @@ fn lowered<A: Allocator + Copy>(alloc: A, bytes: &[u8]) -> Result<(CanonTree<A>,
     }
 }
 
-// What a row has for fields, behind its opcode.
+// What a row has for fields, after its opcode.
 
 macro_rules! plain {
     ($bytes:ident, $function:ident) => {
@@ -186,7 +186,7 @@ macro_rules! returning {
     }};
 }
 
-/// A canonical function, behind its opcode: the fields of its row. Those of functions, resources and tasks come first.
+/// A canonical function, after its opcode: the fields of its row. Those of functions, resources and tasks come first.
 fn function<A: Allocator + Copy>(
     alloc: A,
     opcode: u8,
@@ -212,7 +212,7 @@ fn function<A: Allocator + Copy>(
     }
 }
 
-/// The same from the rows of streams on.
+/// What is found from the rows of streams on.
 fn of_stream<A: Allocator + Copy>(
     alloc: A,
     opcode: u8,
@@ -233,7 +233,7 @@ fn of_stream<A: Allocator + Copy>(
     }
 }
 
-/// The same from the rows of futures on.
+/// What is found from the rows of futures on.
 fn of_future<A: Allocator + Copy>(
     alloc: A,
     opcode: u8,
@@ -254,7 +254,7 @@ fn of_future<A: Allocator + Copy>(
     }
 }
 
-/// The same from the rows of error contexts on: these, those of sets of waitables, and of backpressure.
+/// What is found from the rows of error contexts on: of these, of sets of waitables, of backpressure.
 fn of_error_context<A: Allocator + Copy>(
     alloc: A,
     opcode: u8,
@@ -278,7 +278,7 @@ fn of_error_context<A: Allocator + Copy>(
     }
 }
 
-/// The same of the last rows: those of threads, and those that forward.
+/// What is found from the rows of threads on.
 fn of_thread<A: Allocator + Copy>(
     alloc: A,
     opcode: u8,
@@ -296,6 +296,20 @@ fn of_thread<A: Allocator + Copy>(
         0x2b => cancellable!(bytes, ThreadYieldThenResume),
         0x2c => cancellable!(bytes, ThreadSuspendThenPromote),
         0x2d => cancellable!(bytes, ThreadYieldThenPromote),
+        _ => of_forward(alloc, opcode, bytes),
+    }
+}
+
+/// What is found in the last rows: of those that forward, and of threads that are spawned.
+fn of_forward<A: Allocator + Copy>(
+    alloc: A,
+    opcode: u8,
+    bytes: &[u8],
+) -> Result<(CanonTree<A>, &[u8]), Refusal>
+    ensures { Gives (λ x. (canon_view x.0, x.1.now)) result
+        (pick forward_rows nowhere opcode bytes.now) }
+{
+    match opcode {
         0x2e => indexed!(alloc, bytes, StreamForward),
         0x2f => indexed!(alloc, bytes, FutureForward),
         0x40 => indexed!(alloc, bytes, ThreadSpawnRef),

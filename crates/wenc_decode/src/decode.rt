@@ -6,8 +6,8 @@ ghost use Rattle.wenc_read.specs.Gives.{Gives};
 use std::alloc::Allocator;
 use wenc_read::{Refusal, byte, flag_of, name_of, u32_of};
 
-/// A value that is read from the front of bytes (component model, binary format, from "Component Definitions" on). What it
-/// allocates is in `A`.
+/// A value that is read from the front of bytes (component model, binary format, from "Component
+/// Definitions" on). What it allocates is in `A`.
 ///
 /// ```
 /// let (alias, rest) = AliasTree::decode(alloc, bytes)?;
@@ -21,8 +21,8 @@ pub trait Decode<A: Allocator + Copy>: Sized + Drop {
     /// What finds the value.
     ghost read: { Reader Value };
 
-    /// The value that begins the bytes, in any of its spellings, and what is behind it. It is refused where there is none,
-    /// and for want of memory.
+    /// The value that begins the bytes, in any of its spellings, and what follows it. It is refused
+    /// where there is none, and for want of memory.
     fn decode<'a>(alloc: A, bytes: &'a [u8]) -> Result<(Self, &'a [u8]), Refusal>
         ensures { Gives (λ x. (view x.0, x.1.now)) result (read bytes.now) };
 }
@@ -75,8 +75,8 @@ impl<A: Allocator + Copy> Decode<A> for String<A> {
     }
 }
 
-/// The room for so many values of these bytes: that of all, from 0 to 4294967295, where each can have a byte, else none. It is
-/// never more than there are bytes.
+/// The room for so many values of these bytes: that of all, from 0 to 4294967295, where each can have
+/// a byte, else none. It is never more than there are bytes.
 pub fn room_for(count: u32, bytes: &[u8]) -> usize
     ensures fits { count ≤ length bytes.now → result ≡ count }
     ensures unmet { length bytes.now < count → result ≡ 0 }

@@ -56,7 +56,7 @@ impl<A: Allocator + Copy> Decode<A> for CaseTree<A> {
     }
 }
 
-/// A type of values that is no primitive one, behind its first byte.
+/// A type of values that is no primitive one, after its first byte.
 fn defined<A: Allocator + Copy>(
     alloc: A,
     first: u8,
@@ -102,7 +102,7 @@ fn defined<A: Allocator + Copy>(
     }
 }
 
-/// The same from the row of handles on.
+/// What is found from the row of handles on.
 fn of_handle<A: Allocator + Copy>(
     alloc: A,
     first: u8,
