@@ -46,7 +46,7 @@ add_among {p} {q} h s fault c = rw s.text at (same_add h p.text p.Cause q.Cause 
 pub accepted_as : {p q : Piece} (old new : HolderState) → Serves p q → Accepted p old new → Accepted q old new
 accepted_as old new s a = record { state = rw s.text at a.state; fits = s.fits a.fits; free = add_free old s a.free }
 
--- the same of a call that adds it
+-- a call that added one piece for another
 pub adds_as : {p q : Piece} (old new : HolderState) (outcome : Result (Unit {0}) Fault) → Serves p q → AddsMember p old new outcome → AddsMember q old new outcome
 adds_as old new (Ok u) s a = record { ok = accepted_as old new s a.ok; err = tt; warranted = tt; unfinished_first = a.unfinished_first }
 adds_as old new (Err fault) s a = record { ok = tt; err = a.err; warranted = still_warranted _ _ (add_among old s) fault a.warranted; unfinished_first = a.unfinished_first }
