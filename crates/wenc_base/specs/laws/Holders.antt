@@ -51,7 +51,7 @@ pub adds_as : {p q : Piece} (old new : HolderState) (outcome : Result (Unit {0})
 adds_as old new (Ok u) s a = record { ok = accepted_as old new s a.ok; err = tt; warranted = tt; unfinished_first = a.unfinished_first }
 adds_as old new (Err fault) s a = record { ok = tt; err = a.err; warranted = still_warranted _ _ (add_among old s) fault a.warranted; unfinished_first = a.unfinished_first }
 
--- and of a call that adds one that is made of values which an iterator gives
+-- a call that added one piece of the values that an iterator gives for another
 pub adds_listed_as : {S B : Type 0} (steps : S → Option B → S → Type 0) (values : S) (one other : List B → Piece) (old new : HolderState) (outcome : Result (Unit {0}) Fault)
     → ((vs : List B) → Serves (one vs) (other vs)) → AddsListed steps values one old new outcome → AddsListed steps values other old new outcome
 adds_listed_as steps values one other old new (Ok u) serve a = record {
@@ -67,7 +67,7 @@ adds_listed_as steps values one other old new (Err fault) serve a = record {
   unfinished_first = a.unfinished_first;
 }
 
--- ---- a member that is written piece by piece
+-- ---- a member that is written in several calls
 
 none_of : (o : Option Opening) → is_none o ≡ true → o ≡ None
 none_of None e = refl

@@ -19,7 +19,7 @@ pub record Tells {A : Type 0} (form : Form A) (Goes : List ℕ → Type 0) (read
 abbrev pub Sound : {A : Type 0} → Form A → Reader A → Type 0
 Sound form read = Tells form (λ bytes. ⊥) read
 
--- What it finds of all of the bytes is read, and nothing is too deep.
+-- What the reader finds of all of the bytes is read, and nothing is too deep.
 pub record SoundWhole {A : Type 0} (form : A → Payload) (read : List ℕ → Result A Flaw) : Type 0 where
   pub tells : (bytes : List ℕ) → Told (λ v. (form v).ReadsAll Wide bytes) ⊥ (read bytes)
 
