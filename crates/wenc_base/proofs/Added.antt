@@ -44,7 +44,7 @@ module _ {S B : Type 0} (steps : S → Option B → S → Type 0) (s : S) (piece
   abbrev Adds : Result (Unit {0}) Fault → Type 0
   Adds outcome = AddsListed steps s piece old new outcome
 
-  -- what was written behind the body
+  -- what was written after the body
   abbrev Came : List ℕ → Type 0
   Came body = WholeRun steps s (λ p. Appended old.body (piece p.items) body)
 
@@ -120,7 +120,7 @@ pub came_after : {S B : Type 0} (steps : S → Option B → S → Type 0) (s : S
     → WholeRun steps s (λ p. Appended before (piece p.items) after) → take kept after ≡ take kept before
 came_after steps s piece kept before after le came = rw came.3.items (take-append-le kept before (piece came.0.items).text le)
 
--- what stands behind the first bytes, where more was written
+-- what follows the first bytes, where more was written
 pub came_behind : {S B : Type 0} (steps : S → Option B → S → Type 0) (s : S) (piece : List B → Piece) (kept : ℕ) (before after : List ℕ) → kept ≤ length before
     → WholeRun steps s (λ p. Appended before (piece p.items) after) → WholeRun steps s (λ p. Appended (drop kept before) (piece p.items) (drop kept after))
 came_behind steps s piece kept before after le came = (
@@ -134,7 +134,7 @@ came_behind steps s piece kept before after le came = (
   },
 )
 
--- the first bytes of the body, behind those that are kept
+-- the first bytes of the body, after those that are kept
 module _ (before after : List ℕ) (kept : ℕ) where
   cut_length : (bytes : ℕ) → after ≡ take (kept + bytes) before → kept ≤ length before → kept ≤ length after
   cut_length bytes e le = rw e (let long : length (take (kept + bytes) before) ≡ min (kept + bytes) (length before) = length-take (kept + bytes) before in omega (arith, long))
@@ -150,7 +150,7 @@ module _ (before after : List ℕ) (kept : ℕ) where
       h ≡ record { kept = take kept before; count = len; body = take bytes (drop kept before); opening = opening }
   cut_view len bytes opening e le = rw (e, drop-take kept bytes before, take-take kept (kept + bytes) before (omega arith)) refl
 
-  -- and the member that began behind them is given up
+  -- and the member that began after them is given up
   pub given_up_view : (count len : ℕ) (opening : Option Opening) (o : Opening) (h : HolderState) → after ≡ take (kept + o.member_start) before → kept ≤ length before
       → record { kept = take kept before; count = count; body = drop kept before; opening = opening } ≡ h → opening ≡ Some o → len ≡ count - 1
       → holding (take kept after) len (drop kept after) ≡ member_given_up h

@@ -16,7 +16,7 @@ module _ {T : Type 0} (is_whole : T → Type 0) (written : T → List ℕ → T)
   final_ends x true whole c = whole (Single (final c))
   final_ends x false whole c = whole (Single (final c))
 
-  -- the same of a function, whose parameters have been written
+  -- a function type, whose parameters have been written
   pub function_ends : ((x : T) (text more : List ℕ) → written (written x text) more ≡ written x (text ++ more)) → (x mid : T) (guard : Bool)
       → ((g : RecType) → MakesWhole is_whole written x (standing guard g)) → (params : List ValType) → mid ≡ written x (0x60 ▸ list val_type params).text → (list val_type params).Fits
       → (results : List ValType) → MakesWhole is_whole written mid (list val_type results)

@@ -75,7 +75,7 @@ text_4 n h l = rw (groups_from 128 8 n (omega arith), groups_from 128 7 (n / 128
 pub text_5 : (n : ℕ) → 268435456 ≤ n → n < 34359738368 → groups 128 9 n ≡ (n % 128 + 128) ∷ (n / 128 % 128 + 128) ∷ (n / 128 / 128 % 128 + 128) ∷ (n / 128 / 128 / 128 % 128 + 128) ∷ n / 128 / 128 / 128 / 128 ∷ []
 text_5 n h l = rw (groups_from 128 8 n (omega arith), groups_from 128 7 (n / 128) (omega arith), groups_from 128 6 (n / 128 / 128) (omega arith), groups_from 128 5 (n / 128 / 128 / 128) (omega arith), groups_below 128 5 (n / 128 / 128 / 128 / 128) (omega arith)) refl
 
--- the same of signed ones that are not negative
+-- the texts of one to three bytes, of signed numbers that are not negative
 pub signed_below : (n : ℕ) → n < 64 → groups 64 9 n ≡ n ∷ []
 signed_below n h = groups_below 64 9 n h
 

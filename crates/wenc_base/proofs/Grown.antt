@@ -45,7 +45,7 @@ module _ {S B : Type 0} (steps : S → Option B → S → Type 0) (s : S) (piece
   abbrev Grows : HolderState → Result (Unit {0}) Fault → Type 0
   Grows new outcome = ExtendsListed steps s old new outcome (member_appended old) (no_room_in_holder old) piece
 
-  -- what was written behind the body
+  -- what was written after the body
   abbrev Came : List ℕ → Type 0
   Came body = WholeRun steps s (λ p. Appended old.body (piece p.items) body)
 

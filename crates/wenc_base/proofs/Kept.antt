@@ -1,4 +1,4 @@
--- Bytes in the middle of a list are replaced by fewer ones, and what stands behind them moves up.
+-- Bytes in the middle of a list are replaced by fewer ones, and what follows them moves up.
 use Rattle.std.proofs.Common.{◌≡◌, ℕ, ◌+◌, ◌-◌, ◌≤◌, ◌<◌, ◌^◌, List, ◌++◌, length, take, drop, refl, arith, append_assoc, length-drop, length-append, length-take-le, take-append-drop, Option, ap, rules}
 use Rattle.std.proofs.lemmas.Slice.{take-put_mid, drop-put_mid, overwrites}
 use Rattle.std.proofs.lemmas.List.{places, take_at, drop_at, take-append-le, drop-append-le}

@@ -34,7 +34,7 @@ field_added old new field tools a small finished = record {
       | inr more ↦ a.free fault (inr more)
     ]
 
--- the same of the tools that are held
+-- a field of the tools that are held is added as one of these tools
 pub typed_field : (old new : HolderState) (outcome : Result (Unit {0}) Fault) (field : List ℕ) (tools : HolderState) (each : List Producer) → Contains producer tools each
     → AddsMember (refused_for (FieldCause old field tools) (held_field field tools)) old new outcome
     → AddsMember (refused_for (FieldCause old field tools) (producers_field (record { field = field; tools = each }))) old new outcome
@@ -49,7 +49,7 @@ typed_field old new outcome field tools each holds a = adds_as old new outcome s
     serves : Serves (refused_for (FieldCause old field tools) (held_field field tools)) (refused_for (FieldCause old field tools) (producers_field written))
     serves = record { text = rw (← holds.count, holds.body) refl; fits = counted; among = λ fault c. c; free = λ none. none }
 
--- how many bytes stand behind the section's size
+-- how many bytes follow the section's size
 label_size : (h : HolderState) → length ((name producers_label).text ++ (held_members h).text) ≡ 10 + content_size h.count (length h.body)
 unfolding groups
 label_size h = omega (arith, length-append (unsigned_text h.count) h.body)

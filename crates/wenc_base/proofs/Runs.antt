@@ -35,7 +35,7 @@ module _ {S A : Type 0} (steps : S → Option A → S → Type 0) (form : Form A
   refused_run run vs v fault begins gave free h =
       (run, begins, rw gave (still_warranted (Causes v) (drawn_cause Causes (vs ++ v ∷ [])) (λ f g. inl (cause_of_later Causes vs (v ∷ []) f free (inl g))) fault h))
 
-  -- where all came behind a byte, and their number is put in its place
+  -- where all came after a byte, and their number is put in its place
   module _ (old now : List ℕ) (lead count : ℕ) (outcome : Result (Unit {0}) Fault) where
     abbrev AllCame : Type 0
     AllCame = WholeRun steps s (λ run. (length run.items ≡ count) × (count < 2 ^ 32) × Written form (old ++ lead ∷ []) run.items now)

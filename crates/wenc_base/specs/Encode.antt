@@ -34,11 +34,11 @@ in_order p q = refused_for (first_of p.Cause q.Cause) (p ⨾ q)
 abbrev pub list_in_order : {A : Type 0} → Form A → Form (List A)
 list_in_order form vs = refused_for (list_cause (λ v. (form v).Cause) vs) (list form vs)
 
--- the same of values that come one by one, whose number is known last
+-- how many values came, which is known last, then each
 abbrev pub drawn_in_order : {A : Type 0} → Form A → Form (List A)
 drawn_in_order form vs = refused_for (drawn_cause (λ v. (form v).Cause) vs) (list form vs)
 
--- a piece behind its size, which is known last
+-- a piece after its size, which is known last
 abbrev pub sized_in_order : Piece → Piece
 sized_in_order p =
     refused_for (first_of p.Cause (size_cause (length p.text))) (sized (all_of p))
@@ -55,7 +55,7 @@ pub record Serves (p q : Piece) : Type 0 where
 
 -- ---- one value after the other
 
--- Behind what stood there at the start come the texts of these values, which fit and have no cause.
+-- After what stood there at the start come the texts of these values, which fit and have no cause.
 pub record Written {A : Type 0} (form : Form A) (start : List ℕ) (vs : List A)
     (now : List ℕ) : Type 0 where
   pub items : now ≡ start ++ flat_map (λ v. (form v).text) vs

@@ -55,6 +55,6 @@ sized w = record {
 abbrev pub byte_list : Form (List ℕ)
 byte_list bs = sized (raw AreBytes bs)
 
--- a counted section, behind its id: how many bytes, how many items, the items
+-- a counted section, after its id: how many bytes, how many items, the items
 abbrev pub counted : {A : Type 0} → Form A → Form (List A)
 counted form items = sized (all_of (list form items))

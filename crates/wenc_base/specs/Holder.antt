@@ -51,7 +51,7 @@ cut_to h count size =
 abbrev pub all_bytes : HolderState → List ℕ
 all_bytes h = h.kept ++ h.body
 
--- the same members behind other bytes
+-- these members after other bytes
 abbrev pub with_kept : HolderState → List ℕ → HolderState
 with_kept h kept = record { kept = kept; count = h.count; body = h.body; opening = h.opening }
 
@@ -77,7 +77,7 @@ pub record ContainsSome (IsMember : List ℕ → Type 0) (h : HolderState) : Typ
   pub contained : Contains verbatim h members
   pub each : AllByRecursion IsMember members
 
--- how many bytes stand behind a section's size: those of the count, and those of the members
+-- how many bytes follow a section's size: those of the count, and those of the members
 abbrev pub content_size : ℕ → ℕ → ℕ
 content_size count body = number_size count + body
 
@@ -125,7 +125,8 @@ pub record AddsMember (p : Piece) (old new : HolderState)
   pub warranted : IfErr outcome (IsWarranted (AddCause old p.text p.Cause))
   pub unfinished_first : is_finished old ≡ false → outcome ≡ Err Unfinished
 
--- The same where the piece is made of the values that an iterator gives.
+-- A call adds a piece of the values that an iterator gives as a member, or is refused for a cause
+-- and changes nothing.
 pub record AddsListed {S B : Type 0} (steps : S → Option B → S → Type 0) (values : S)
     (piece : List B → Piece) (old new : HolderState)
     (outcome : Result (Unit {0}) Fault) : Type 0 where

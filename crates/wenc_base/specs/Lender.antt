@@ -24,8 +24,8 @@ pub record Extended {T : Type 0} (new : T) (next : List ℕ → T)
   pub fits : p.Fits
   pub free : NoCause (either p.Cause (refuses p.text))
 
--- The same as `Extends` where the piece is made of the values that an iterator gives. `next` is
--- what more bytes leave, `refuses` why there is no room for them.
+-- `Extends`, where the piece is made of the values that an iterator gives. `next` is what more
+-- bytes leave, `refuses` why there is no room for them.
 pub record ExtendsListed {T S B : Type 0} (steps : S → Option B → S → Type 0) (values : S)
     (old new : T) (outcome : Result (Unit {0}) Fault)
     (next : List ℕ → T) (refuses : List ℕ → Fault → Type 0) (piece : List B → Piece) : Type 0 where
@@ -47,7 +47,7 @@ abbrev pub Ends : {T : Type 0} → (T → List ℕ → T) → (T → T) → (T �
 Ends appended ended refuses old new outcome p =
     Extends old new (ended (appended old p.text)) outcome p (refuses old p.text)
 
--- The same where the piece is made of the values that an iterator gives.
+-- `Ends`, where the piece is made of the values that an iterator gives.
 abbrev pub EndsListed : {T S B : Type 0} → (T → List ℕ → T) → (T → T)
     → (T → List ℕ → Fault → Type 0) → (S → Option B → S → Type 0) → S → T → T
     → Result (Unit {0}) Fault → (List B → Piece) → Type 0
@@ -55,8 +55,8 @@ EndsListed appended ended refuses steps values old new outcome piece =
     ExtendsListed steps values old new outcome (λ bytes. ended (appended old bytes)) (refuses old)
     piece
 
--- The same of two lists, of which the second comes when the first is added. A call that is refused
--- may have added the first.
+-- `EndsListed` of two lists, of which the second comes when the first is added. A call that is
+-- refused may have added the first.
 pub record EndsLists {T S R B C : Type 0} (appended : T → List ℕ → T) (ended : T → T)
     (refuses : T → List ℕ → Fault → Type 0)
     (steps : S → Option B → S → Type 0) (values : S) (more_steps : R → Option C → R → Type 0)

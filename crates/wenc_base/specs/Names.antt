@@ -15,7 +15,7 @@ pub record NameAssociation : Type 0 where
 abbrev pub name_association : Form NameAssociation
 name_association n = u32 n.index ⨾ name_form n.name
 
--- names one behind the other
+-- names one after the other
 abbrev pub names_text : List NameAssociation → List ℕ
 names_text ns = flat_map (λ n. (name_association n).text) ns
 

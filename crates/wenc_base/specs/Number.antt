@@ -135,7 +135,7 @@ pub record IsUnsignedText (bytes : List ℕ) (n : ℕ) : Type 0 where
   pub shortest : (other : List ℕ) → AreGroups other → sum_from 0 other ≡ n
       → length bytes ≤ length other
 
--- the same for a signed number
+-- groups that sum to the signed number z, and no shorter list does the same
 pub record IsSignedText (bytes : List ℕ) (z : ℤ) : Type 0 where
   pub groups_of : AreGroups bytes
   pub sum : signed_sum bytes ≡ z

@@ -1,5 +1,5 @@
--- A member that is written piece by piece into a holder: its opening, what is added to it, and its
--- end.
+-- A member that is written into a holder in several calls: its opening, what is added to it, and
+-- its end.
 use Rattle.std.specs.Prelude.{◌≡◌, ◌==◌, Bool, ℕ, ◌+◌, ◌-◌, ◌≤◌, ◌^◌, false, [], ◌++◌, List, length}
 use Rattle.std.specs.Prelude.{take, drop, Option, Some, None, Result, Err, OnOk, OnErr, IfErr}
 use Rattle.wenc_base.specs.Fault.{IsWarranted, NoCause}
@@ -37,7 +37,7 @@ member_given_up_at h (Some o) = holding h.kept (h.count - 1) (take o.member_star
 abbrev pub member_given_up : HolderState → HolderState
 member_given_up h = member_given_up_at h h.opening
 
--- A member is being written, and nothing stands behind its lead.
+-- A member is being written, and nothing follows its lead.
 abbrev pub is_opened_at : List ℕ → Option Opening → Bool
 is_opened_at body None = false
 is_opened_at body (Some o) = length body == o.lead_end

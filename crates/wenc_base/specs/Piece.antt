@@ -115,7 +115,7 @@ only_where P p = record {
   Reads = λ mode bytes rest. P × p.Reads mode bytes rest;
 }
 
--- the same piece, refused for this
+-- the piece, refused for this
 abbrev pub refused_for : (Fault → Type 0) → Piece → Piece
 refused_for cause p = record {
   Fits = p.Fits;

@@ -31,7 +31,7 @@ producers_label = 0x70 ∷ 0x72 ∷ 0x6f ∷ 0x64 ∷ 0x75 ∷ 0x63 ∷ 0x65 ∷
 abbrev pub producers_section : Form (List Producers)
 producers_section fields = sized (name producers_label ⨾⨾ all_of (list producers_field fields))
 
--- the same section, where its fields are held
+-- the producers section, where its fields are held
 abbrev pub producers_held : HolderState → Piece
 producers_held h =
     refused_for (EncodeCause h) (sized (name producers_label ⨾⨾ all_of (held_members h)))

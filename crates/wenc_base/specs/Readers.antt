@@ -10,7 +10,7 @@ pub data Flaw : Type 0 where
   Bad : Flaw
   Deep : Flaw
 
--- A reader finds a value and what is behind it, or the first flaw that is met.
+-- A reader finds a value and what follows it, or the first flaw that is met.
 abbrev pub Reader : Type 0 → Type 0
 Reader A = List ℕ → Result (A × List ℕ) Flaw
 
@@ -47,7 +47,7 @@ abbrev pub read_byte : Reader ℕ
 read_byte [] = Err Bad
 read_byte (b ∷ bytes) = Ok (b, bytes)
 
--- the row of the first byte, behind it, or else the other reader, from that byte on
+-- the row of the first byte, after it, or else the other reader, from that byte on
 abbrev pub pick : {A : Type 0} → List (ℕ × Reader A) → Reader A → ℕ → Reader A
 pick [] other b bytes = other (b ∷ bytes)
 pick (row ∷ table) other b bytes = if nat_eq b row.0 then row.1 bytes else pick table other b bytes

@@ -38,7 +38,7 @@ heap_type (Abstract t) = abstract_type t
 heap_type (Concrete n) = index n
 
 -- A nullable reference to func or extern is written as that byte alone, and one to another heap
--- type behind a byte. Widely either spelling is read of each abstract type.
+-- type after a byte. Widely either spelling is read of each abstract type.
 abbrev pub nullable : Form HeapType
 nullable (Abstract Func) = or_widely (abstract_type Func) (0x63 ▸ abstract_type Func)
 nullable (Abstract Extern) = or_widely (abstract_type Extern) (0x63 ▸ abstract_type Extern)

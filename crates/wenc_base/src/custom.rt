@@ -1,3 +1,4 @@
+//! Custom sections.
 use crate::encode::{Encode, Verbatim, extend_in_room};
 use crate::fault::Fault;
 use crate::holder::section_size;
@@ -5,8 +6,8 @@ use crate::section::{Section, SectionId};
 use crate::short::Short;
 use std::alloc::Allocator;
 
-/// A section that the standard gives no meaning (WebAssembly 3.0, binary format, "Custom Section"). It is
-/// refused where it would have too many bytes behind its size (`TooLarge`).
+/// A section that the standard gives no meaning (WebAssembly 3.0, binary format, "Custom Section").
+/// It is refused where it would have too many bytes after its size (`TooLarge`).
 ///
 /// ```
 /// let mut component = Component::new(alloc)?;
@@ -20,7 +21,7 @@ use std::alloc::Allocator;
 pub struct CustomSection<'a> {
     /// The name.
     pub name: &'a str,
-    /// The bytes behind the name.
+    /// The bytes after the name.
     pub data: &'a [u8],
 }
 
@@ -56,9 +57,9 @@ impl<'a> Section for CustomSection<'a> {
     }
 }
 
-/// The bytes of a custom section behind its id, with its size, as they are (WebAssembly 3.0, binary
-/// format, "Custom Section"). Nothing checks that they are such a section. It is refused for want of
-/// memory alone.
+/// The bytes of a custom section after its id, with its size, as they are (WebAssembly 3.0, binary
+/// format, "Custom Section"). Nothing checks that they are such a section. It is refused for want
+/// of memory alone.
 #[derive(Clone, Copy, Debug)]
 pub struct RawCustomSection<'a>(pub &'a [u8]);
 

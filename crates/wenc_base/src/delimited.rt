@@ -1,3 +1,4 @@
+//! The trait `Delimited`: values that can be read again from their text.
 ghost use Rattle.std.specs.Cmp.{IsEquivalence};
 ghost use Rattle.std.specs.Prelude.{Bool, ℕ, ℤ, List};
 ghost use Rattle.wenc_base.specs.Delimited.{IsReadable, IsWritten, AlikeIsEqual};
@@ -10,8 +11,9 @@ mod made;
 use crate::encode::Encode;
 use std::alloc::Allocator;
 
-/// A value whose text tells which value it is, whatever follows the text. A type of your own may implement it
-/// too: it owes a form, that this form can be read, and that it is written as the form says.
+/// A value whose text tells which value it is, whatever follows the text. A type of your own may
+/// implement it too: it owes a form, that this form can be read, and that it is written as the form
+/// says.
 pub trait Delimited: Encode {
     /// What a value is, wherever it stands: of a reference, what it refers to.
     ghost Seen: { Type 0 };

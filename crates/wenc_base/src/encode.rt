@@ -1,3 +1,4 @@
+//! The trait `Encode`: numbers and values, appended to a vector of bytes.
 ghost use Rattle.std.specs.Prelude.{◌≡◌, ◌+◌, ◌<◌, ◌≤◌, ◌^◌, ◌++◌, ◌∷◌, [], length, vec_len, vec_capacity, OnOk, true};
 ghost use Rattle.wenc_base.specs.Encode.{Appends};
 ghost use Rattle.wenc_base.specs.Fault.{size_cause};
@@ -18,8 +19,8 @@ pub use named::Named;
 pub use sized::WithSize;
 use std::alloc::Allocator;
 
-/// A value with a binary text (WebAssembly 3.0, binary format, "Values"). A type of your own may implement
-/// it too.
+/// A value with a binary text (WebAssembly 3.0, binary format, "Values"). A type of your own may
+/// implement it too.
 ///
 /// ```
 /// let mut sink = Vec::new(alloc);
@@ -30,11 +31,12 @@ pub trait Encode {
     /// The bytes of the value, and why it can't be encoded.
     ghost piece: { Self → Piece };
 
-    /// The value has something in it that was begun and not ended, which is reported before all else.
+    /// The value has something in it that was begun and not ended, which is reported before all
+    /// else.
     ghost unfinished: { Self → Type 0 } = { λ _. ⊥ };
 
-    /// Appends the text to the sink. It is refused for want of memory, or where the value has a cause,
-    /// and then the sink stays as it was. Where it is accepted the value fits.
+    /// Appends the text to the sink. It is refused for want of memory, or where the value has a
+    /// cause, and then the sink stays as it was. Where it is accepted the value fits.
     fn encode<A: Allocator>(&self, sink: &mut Vec<u8, A>) -> Result<(), Fault>
         ensures appended { Appends (piece self.now).text (piece self.now).Cause
             (unfinished self.now) sink.old.items sink.new.items result }
@@ -126,7 +128,7 @@ impl Encode for i64 {
     }
 }
 
-/// The same of any number.
+/// Appends the text of any signed number, by what room there is.
 #[tactic(auto, using(crate::proofs::Groups::signed_length))]
 #[cold]
 #[inline(never)]
@@ -186,7 +188,7 @@ fn encode_bytes<A: Allocator>(bytes: &[u8], sink: &mut Vec<u8, A>) -> Result<(),
     encode_short_bytes(bytes, sink)
 }
 
-/// The same of any bytes, most of which are few and have room.
+/// Appends the number of bytes, and the bytes. Most are few, and have room.
 #[tactic(auto, using(crate::proofs::Groups::groups_below))]
 #[inline(never)]
 fn encode_short_bytes<A: Allocator>(bytes: &[u8], sink: &mut Vec<u8, A>) -> Result<(), Fault>
@@ -202,7 +204,7 @@ fn encode_short_bytes<A: Allocator>(bytes: &[u8], sink: &mut Vec<u8, A>) -> Resu
     Ok(())
 }
 
-/// The same of any bytes, by what room there is.
+/// Appends the number of bytes, and the bytes, however many they are, in one growth.
 #[cold]
 #[inline(never)]
 fn encode_long_bytes<A: Allocator>(bytes: &[u8], sink: &mut Vec<u8, A>) -> Result<(), Fault>
@@ -291,7 +293,7 @@ fn encode_any<A: Allocator>(n: u64, sink: &mut Vec<u8, A>) -> Result<(), Fault>
     Ok(())
 }
 
-/// The same where there is room, which takes no memory.
+/// Appends the text of a number where there is room, which takes no memory.
 #[tactic(auto, using(crate::proofs::Groups::size_of_u32))]
 pub(crate) fn number_in_room<A: Allocator>(n: u32, sink: &mut Vec<u8, A>)
     requires { vec_len sink.old + number_size n ≤ vec_capacity sink.old }
@@ -304,7 +306,7 @@ pub(crate) fn number_in_room<A: Allocator>(n: u32, sink: &mut Vec<u8, A>)
     extend_in_room(sink, text.as_slice());
 }
 
-/// The same of a number that has one byte.
+/// Appends the text of a number that has one byte, where there is room.
 #[tactic(auto, using(crate::proofs::Groups::groups_below))]
 #[inline]
 fn short_number_in_room<A: Allocator>(n: u8, sink: &mut Vec<u8, A>)
@@ -337,7 +339,7 @@ pub fn encode_byte<A: Allocator>(byte: u8, sink: &mut Vec<u8, A>) -> Result<(), 
     Ok(())
 }
 
-/// The same where memory is needed.
+/// Appends a byte that needs memory.
 #[cold]
 #[inline(never)]
 fn encode_byte_apart<A: Allocator>(byte: u8, sink: &mut Vec<u8, A>) -> Result<(), Fault>
@@ -347,7 +349,8 @@ fn encode_byte_apart<A: Allocator>(byte: u8, sink: &mut Vec<u8, A>) -> Result<()
     Ok(())
 }
 
-/// Appends the texts of two numbers, of which the first has at most three bytes and the other one, where there is room.
+/// Appends the texts of two numbers, of which the first has at most three bytes and the other one,
+/// where there is room.
 #[tactic(auto, using(crate::proofs::Groups::groups_below, crate::proofs::Groups::text_2, crate::proofs::Groups::text_3))]
 #[inline]
 pub(crate) fn short_numbers_in_room<A: Allocator>(n: u32, last: u8, sink: &mut Vec<u8, A>)
@@ -427,7 +430,7 @@ impl<'a, T: Encode> Encode for Tagged<'a, T> {
     }
 }
 
-/// The same where the byte needs memory.
+/// Appends a value, then puts the byte before it, which needs memory.
 #[cold]
 #[inline(never)]
 fn encode_value_first<T: Encode, A: Allocator>(

@@ -1,3 +1,4 @@
+//! Kinds of what core modules export and import.
 ghost use Rattle.std.specs.Prelude.{◌≡◌};
 ghost use Rattle.wenc_base.specs.Exports.{export_kind_byte};
 ghost use Rattle.wenc_base.specs.laws.Delimited.{itself};
@@ -8,7 +9,8 @@ use crate::encode::Encode;
 use crate::fault::Fault;
 use std::alloc::Allocator;
 
-/// The kind of what a core module exports or imports (WebAssembly 3.0, binary format, "Export Section").
+/// The kind of what a core module exports or imports (WebAssembly 3.0, binary format, "Export
+/// Section").
 #[derive(Clone, Copy, Debug, PartialEq, Eq)]
 pub enum ExportKind {
     /// A function.

@@ -1,3 +1,4 @@
+//! Why a call is refused.
 ghost use Rattle.std.specs.Prelude.{◌≡◌, alloc_error};
 ghost use Rattle.wenc_base.specs.declared.fault.Fault.TheVariants.{Memory};
 

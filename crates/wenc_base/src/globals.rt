@@ -1,3 +1,4 @@
+//! Types of global variables.
 ghost use Rattle.wenc_base.specs.laws.Delimited.{itself};
 ghost use Rattle.wenc_base.specs.laws.Serves.{serves_itself};
 

@@ -1,3 +1,4 @@
+//! What counted sections and types keep: the number of their members, and their texts.
 ghost use Rattle.std.specs.Prelude.{◌≡◌, ◌+◌, ◌-◌, ◌<◌, ◌≤◌, ◌^◌, ◌⊎◌, length, OnOk, OnErr, IfOk, IfErr, true, false, take, drop};
 ghost use Rattle.std.specs.Iterator.{IsFinite};
 ghost use Rattle.std.specs.Iterator.Runs.{SomeRun, WholeRun};
@@ -24,8 +25,8 @@ use std::marker::Model;
 /// What a counted section is at most, with its count: the largest size that can be written.
 const LIMIT: u64 = 4294967295;
 
-/// How many bytes a section has behind its size: the bytes of its count and those of its members, of which
-/// there are `body`. It is refused with `TooLarge` alone, and takes no memory.
+/// How many bytes a section has after its size: the bytes of its count and those of its members, of
+/// which there are `body`. It is refused with `TooLarge` alone, and takes no memory.
 pub fn section_size(count: u32, body: u64) -> Result<u32, Fault>
     ensures ok { IfOk result (λ size. (size ≡ content_size count body) × (size < 2 ^ 32)) }
     ensures refused { IfErr result (λ fault.
@@ -38,8 +39,8 @@ pub fn section_size(count: u32, body: u64) -> Result<u32, Fault>
     Ok((lead + body) as u32)
 }
 
-/// What every counted section and type keeps: the number of its members, and their texts, one behind the
-/// other. A refused call leaves it as it was.
+/// What every counted section and type keeps: the number of its members, and their texts, one after
+/// the other. A refused call leaves it as it was.
 ///
 /// ```
 /// let mut holder = Holder::new(alloc);
@@ -89,8 +90,8 @@ impl<A: Allocator> Holder<A> {
         }
     }
 
-    /// A holder over bytes of which the first `kept` are kept in front, and the others are the texts of `count`
-    /// members. It takes no memory.
+    /// A holder over bytes of which the first `kept` are kept in front, and the others are the
+    /// texts of `count` members. It takes no memory.
     pub fn over(bytes: Vec<u8, A>, kept: usize, count: u32) -> Self
         requires within { kept ≤ length bytes.items }
         requires fits { content_size count (length (drop kept bytes.items)) < 2 ^ 32 }
@@ -104,7 +105,8 @@ impl<A: Allocator> Holder<A> {
         }
     }
 
-    /// All bytes, how many of them are kept in front, the number of members, and whether none is being written.
+    /// All bytes, how many of them are kept in front, the number of members, and whether none is
+    /// being written.
     pub fn into_parts(self) -> (Vec<u8, A>, usize, u32, bool)
         ensures bytes { result.0.items ≡ all_bytes self }
         ensures kept { result.1 ≡ length self.kept }
@@ -130,7 +132,7 @@ impl<A: Allocator> Holder<A> {
         self.count
     }
 
-    /// The texts of the members, one behind the other.
+    /// The texts of the members, one after the other.
     pub fn as_slice(&self) -> &[u8]
         ensures { result.now ≡ self.now.body }
     {
@@ -144,7 +146,7 @@ impl<A: Allocator> Holder<A> {
         self.opening.is_none()
     }
 
-    /// The same members once more. It is refused for want of memory alone.
+    /// A copy of the holder. It is refused for want of memory alone.
     pub fn clone(&self) -> Result<Self, Fault>
     where
         A: Clone,
@@ -161,8 +163,8 @@ impl<A: Allocator> Holder<A> {
         })
     }
 
-    /// Adds one member with this text, as it is. It is refused where there would be too many members
-    /// (`TooMany`), or too many bytes with those of their number (`TooLarge`).
+    /// Adds one member with this text, as it is. It is refused where there would be too many
+    /// members (`TooMany`), or too many bytes with those of their number (`TooLarge`).
     pub fn add(&mut self, text: &[u8]) -> Result<(), Fault>
         ensures { AddsMember (verbatim text.now) self.old self.new result }
     {
@@ -183,8 +185,8 @@ impl<A: Allocator> Holder<A> {
         Ok(())
     }
 
-    /// Adds one member: the text of `lead`, the values as a list, the text of `tail`. It is refused as `add`
-    /// is, or as these are. Until it returns the member is one that is being written.
+    /// Adds one member: the text of `lead`, the values as a list, the text of `tail`. It is refused
+    /// as `add` is, or as these are. Until it returns the member is one that is being written.
     pub fn add_listed<E: Encode, T: Encode + Drop, I: Iterator<Item = T> + Drop, F: Encode>(
         &mut self,
         lead: &E,
@@ -215,8 +217,8 @@ impl<A: Allocator> Holder<A> {
         }
     }
 
-    /// Adds the text of `lead`, the values as a list, and the text of `tail` to the member that is being written. It
-    /// is refused as `append` is, or as these are.
+    /// Adds the text of `lead`, the values as a list, and the text of `tail` to the member that is
+    /// being written. It is refused as `append` is, or as these are.
     fn append_between<E: Encode, T: Encode + Drop, I: Iterator<Item = T> + Drop, F: Encode>(
         &mut self,
         lead: &E,
@@ -254,8 +256,8 @@ impl<A: Allocator> Holder<A> {
         }
     }
 
-    /// Takes back the last members, so that there are `len` in the first `bytes` bytes of their texts. It takes
-    /// no memory.
+    /// Takes back the last members, so that there are `len` in the first `bytes` bytes of their
+    /// texts. It takes no memory.
     pub fn cut_back(&mut self, len: u32, bytes: usize)
         requires finished { is_finished self.old ≡ true }
         requires within { (len ≤ self.old.count) × (bytes ≤ length self.old.body) }
@@ -265,8 +267,8 @@ impl<A: Allocator> Holder<A> {
         self.count = len;
     }
 
-    /// Appends the section's size, the number of members, and their texts. A finished one is refused for
-    /// want of memory alone.
+    /// Appends the section's size, the number of members, and their texts. A finished one is
+    /// refused for want of memory alone.
     #[tactic(auto, using(crate::proofs::Groups::size_of_u32))]
     pub fn encode_section<B: Allocator>(&self, sink: &mut Vec<u8, B>) -> Result<(), Fault>
         ensures appended { Appends (section_text self.now) (EncodeCause self.now)
@@ -389,7 +391,7 @@ pub(crate) fn size_fits(count: u32, body: u64) -> Result<(), Fault>
     large_fits(count, body)
 }
 
-/// The same of a size near the limit.
+/// Refuses what is too large for a section, by the size itself, which is near the limit.
 #[cold]
 #[inline(never)]
 fn large_fits(count: u32, body: u64) -> Result<(), Fault>

@@ -1,3 +1,4 @@
+//! Types of what core modules import and export.
 ghost use Rattle.wenc_base.specs.laws.Delimited.{itself};
 ghost use Rattle.wenc_base.specs.laws.Serves.{serves_itself};
 
@@ -10,7 +11,8 @@ use crate::tables::TableType;
 use crate::tags::TagType;
 use std::alloc::Allocator;
 
-/// The type of what a core module imports or exports (WebAssembly 3.0, binary format, "External Types").
+/// The type of what a core module imports or exports (WebAssembly 3.0, binary format, "External
+/// Types").
 #[derive(Clone, Copy, Debug, PartialEq, Eq)]
 pub enum EntityType {
     /// A function, whose type has this index, from 0 to 4294967295.

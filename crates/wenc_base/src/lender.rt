@@ -12,8 +12,9 @@ use crate::fault::Fault;
 use crate::holder::Holder;
 use std::alloc::Allocator;
 
-/// A value that has a member which is being written, and lends itself to the encoder that writes it. Only a whole
-/// member can be ended: whoever ends it shows that what was written is one of the kind that was opened.
+/// A value that has a member which is being written, and lends itself to the encoder that writes
+/// it. Only a whole member can be ended: whoever ends it shows that what was written is one of the
+/// kind that was opened.
 pub trait Lender {
     /// No member is being written.
     ghost finished: { Self → Bool };
@@ -69,7 +70,8 @@ pub trait Lender {
         requires { ∥ is_whole self.old ∥₁ }
         ensures { self.new ≡ ended self.old };
 
-    /// Adds the text of a value to the member, which is whole then, and ends it. A refused call changes nothing.
+    /// Adds the text of a value to the member, which is whole then, and ends it. A refused call
+    /// changes nothing.
     fn end_with<E: Encode>(&mut self, value: &E) -> Result<(), Fault>
         requires unfinished { finished self.old ≡ false }
         requires whole { MakesWhole is_whole appended self.old (E.piece value.now) }
@@ -82,8 +84,8 @@ pub trait Lender {
         Ok(())
     }
 
-    /// Adds these bytes to the member, then the values as a list; it is whole then, and ended. A refused call changes
-    /// nothing.
+    /// Adds these bytes to the member, then the values as a list; it is whole then, and ended. A
+    /// refused call changes nothing.
     fn end_with_list<T: Encode + Drop, I: Iterator<Item = T> + Drop>(
         &mut self,
         lead: &[u8],

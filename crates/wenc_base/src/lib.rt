@@ -1,9 +1,10 @@
-//! What everything that writes WebAssembly components stands on: numbers, texts, lists, faults, the traits
-//! `Encode` and `Delimited`, the holder of a section's members, core types, custom sections and modules.
+//! What everything that writes WebAssembly components stands on: numbers, texts, lists, faults, the
+//! traits `Encode` and `Delimited`, the holder of a section's members, core types, custom sections
+//! and modules.
 //!
-//! Indices, and the lengths of texts and lists, counts and sizes that are written, are numbers of 32 bits, at most
-//! 4294967295. What would be more is refused: too many values or members with `Fault::TooMany`, too many bytes with
-//! `Fault::TooLarge`.
+//! Indices, and the lengths of texts and lists, counts and sizes that are written, are numbers of
+//! 32 bits, at most 4294967295. What would be more is refused: too many values or members with
+//! `Fault::TooMany`, too many bytes with `Fault::TooLarge`.
 #![tactic(auto)]
 
 pub mod custom;

@@ -1,3 +1,4 @@
+//! Limits of tables and memories.
 ghost use Rattle.std.specs.Prelude.{◌≡◌, ◌≤◌};
 ghost use Rattle.wenc_base.specs.Entities.{bit as bit_of, limit_flags};
 
@@ -5,8 +6,8 @@ use crate::encode::{Encode, Tagged};
 use crate::fault::Fault;
 use std::alloc::Allocator;
 
-/// How large a table or a memory is (WebAssembly 3.0, binary format, "Limits"). A shared one isn't in that
-/// standard; it is written as in the proposal for threads.
+/// How large a table or a memory is (WebAssembly 3.0, binary format, "Limits"). A shared one isn't
+/// in that standard; it is written as in the proposal for threads.
 #[derive(Clone, Copy)]
 pub struct Limits {
     /// What it has at first, from 0 to 2^64 - 1.

@@ -1,3 +1,4 @@
+//! Types of memories.
 ghost use Rattle.wenc_base.specs.laws.Delimited.{itself};
 ghost use Rattle.wenc_base.specs.laws.Serves.{serves_itself};
 
@@ -7,7 +8,8 @@ use crate::fault::Fault;
 use crate::limits::Limits;
 use std::alloc::Allocator;
 
-/// The type of a memory (WebAssembly 3.0, binary format, "Memory Types"). A shared one isn't in that standard.
+/// The type of a memory (WebAssembly 3.0, binary format, "Memory Types"). A shared one isn't in
+/// that standard.
 #[derive(Clone, Copy, Debug, PartialEq, Eq)]
 pub struct MemoryType {
     /// How many pages it has at first, from 0 to 18446744073709551615.

@@ -1,3 +1,4 @@
+//! Core modules, section by section.
 ghost use Rattle.std.specs.Prelude.{◌≡◌, IfOk, IfErr, OnOk};
 ghost use Rattle.wenc_base.specs.Encode.{Appends};
 ghost use Rattle.wenc_base.specs.Fault.{IsMemory};
@@ -9,8 +10,8 @@ use crate::section::Section;
 use std::alloc::{Allocator, Global};
 use std::marker::Model;
 
-/// The bytes of a core module: its header, and the sections that were appended (WebAssembly 3.0, binary
-/// format, "Modules"). Nothing checks their order.
+/// The bytes of a core module: its header, and the sections that were appended (WebAssembly 3.0,
+/// binary format, "Modules"). Nothing checks their order.
 ///
 /// ```
 /// let mut module = Module::new(alloc)?;
@@ -49,7 +50,8 @@ impl<A: Allocator> Module<A> {
         Ok(Module { bytes })
     }
 
-    /// Appends a section. It is refused as the section's `encode` is, and then the module stays as it was.
+    /// Appends a section. It is refused as the section's `encode` is, and then the module stays as
+    /// it was.
     pub fn section<S: Section>(&mut self, section: &S) -> Result<(), Fault>
         ensures appended { Appends (S.section_id section.now ▸ S.piece section.now).text
             (S.piece section.now).Cause (S.unfinished section.now) self.old self.new result }
@@ -73,7 +75,7 @@ impl<A: Allocator> Module<A> {
         bytes
     }
 
-    /// The same module once more. It is refused for want of memory alone.
+    /// A copy of the module. It is refused for want of memory alone.
     pub fn clone(&self) -> Result<Self, Fault>
     where
         A: Clone,

@@ -1,3 +1,4 @@
+//! Maps of names.
 ghost use Rattle.std.specs.Prelude.{◌≡◌, ◌==◌, ◌<◌, ◌≤◌, ◌^◌, [], length, IfOk, IfErr};
 ghost use Rattle.wenc_base.specs.Fault.{IsMemory};
 ghost use Rattle.wenc_base.specs.Holder.{no_members, holding, held_text, cut_to, AddsMember};
@@ -12,8 +13,8 @@ use crate::number::encoding_size;
 use std::alloc::{Allocator, Global};
 use std::marker::Model;
 
-/// Names of items, each with the item's index, in the order in which they were appended (WebAssembly 3.0, binary
-/// format, "Name Maps"). A call that is refused leaves it as it was.
+/// Names of items, each with the item's index, in the order in which they were appended
+/// (WebAssembly 3.0, binary format, "Name Maps"). A call that is refused leaves it as it was.
 ///
 /// ```
 /// let mut names = NameMap::new(alloc);
@@ -24,7 +25,7 @@ use std::marker::Model;
 #[derive(Drop)]
 pub struct NameMap<A: Allocator = Global> {
     count: u32,
-    /// The texts of the names, each behind that of its index.
+    /// The texts of the names, each after that of its index.
     names: Vec<u8, A>,
 }
 
@@ -54,8 +55,9 @@ impl<A: Allocator> NameMap<A> {
         }
     }
 
-    /// Names the item with this index. Nothing is asked of the order of indices. It is refused where there would be
-    /// too many names (`TooMany`), or too many bytes in the name or in the map (`TooLarge`).
+    /// Names the item with this index. Nothing is asked of the order of indices. It is refused
+    /// where there would be too many names (`TooMany`), or too many bytes in the name or in the map
+    /// (`TooLarge`).
     #[tactic(auto, using(crate::proofs::Groups::size_of_u32))]
     pub fn append(&mut self, idx: u32, name: &str) -> Result<(), Fault>
         ensures { let entry : NameAssociation = record { index = idx; name = name.now } in
@@ -75,7 +77,7 @@ impl<A: Allocator> NameMap<A> {
         self.append_long(idx, name)
     }
 
-    /// The same of any name, by what room there is.
+    /// Names the item with this index, whatever the name, by what room there is.
     #[tactic(auto, using(crate::proofs::Groups::size_of_u32))]
     #[cold]
     #[inline(never)]
@@ -97,7 +99,7 @@ impl<A: Allocator> NameMap<A> {
         Ok(())
     }
 
-    /// How many bytes the names have, behind their count.
+    /// How many bytes the names have, after their count.
     pub fn names_len(&self) -> usize
         ensures { result ≡ length self.now.body }
     {
@@ -127,8 +129,8 @@ impl<A: Allocator> NameMap<A> {
         self.count == 0
     }
 
-    /// Takes back the last names, so that there are `len`, in the first `bytes` bytes behind the map's count. It
-    /// takes no memory.
+    /// Takes back the last names, so that there are `len`, in the first `bytes` bytes after the
+    /// map's count. It takes no memory.
     #[tactic(auto, using(crate::proofs::Groups::size_monotone))]
     pub fn cut_back(&mut self, len: u32, bytes: usize)
         requires { (len ≤ self.old.count) × (bytes ≤ length self.old.body) }
@@ -138,7 +140,7 @@ impl<A: Allocator> NameMap<A> {
         self.count = len;
     }
 
-    /// The same names once more. It is refused for want of memory alone.
+    /// A copy of the names. It is refused for want of memory alone.
     pub fn clone(&self) -> Result<Self, Fault>
     where
         A: Clone,
@@ -154,7 +156,7 @@ impl<A: Allocator> NameMap<A> {
     }
 }
 
-/// How many names there are, then each behind its index. It is refused for want of memory alone.
+/// How many names there are, then each after its index. It is refused for want of memory alone.
 impl<A: Allocator> Encode for NameMap<A> {
     ghost use Rattle.wenc_base.specs.Piece.{verbatim};
 

@@ -1,3 +1,4 @@
+//! How many bytes the text of a number has.
 ghost use Rattle.std.specs.Prelude.{◌≡◌, ◌≤◌};
 ghost use Rattle.wenc_base.specs.Number.{number_size};
 

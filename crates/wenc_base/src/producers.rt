@@ -1,3 +1,4 @@
+//! The producers section: which tools made a module or a component.
 ghost use Rattle.std.specs.Prelude.{◌≡◌, ◌<◌, ◌+◌, ◌++◌, ◌^◌, List, false, length, IfOk, IfErr, OnOk};
 ghost use Rattle.wenc_base.specs.Encode.{Appends};
 ghost use Rattle.wenc_base.specs.Fault.{IsMemory};
@@ -17,8 +18,8 @@ use std::marker::Model;
 /// How many bytes the section's name has, with its length.
 const LABEL_SIZE: u64 = 10;
 
-/// The tools that did one thing, such as `processed-by`, each with its version (tool conventions, "Producers
-/// Section").
+/// The tools that did one thing, such as `processed-by`, each with its version (tool conventions,
+/// "Producers Section").
 #[derive(Drop)]
 pub struct ProducersField<A: Allocator = Global> {
     values: Holder<A>,
@@ -42,8 +43,8 @@ impl<A: Allocator> ProducersField<A> {
         }
     }
 
-    /// Adds a tool and its version. It is refused where there would be too many tools (`TooMany`) or bytes
-    /// (`TooLarge`), and then the field stays as it was.
+    /// Adds a tool and its version. It is refused where there would be too many tools (`TooMany`)
+    /// or bytes (`TooLarge`), and then the field stays as it was.
     #[tactic(auto, using(crate::specs::laws::Holders::adds_as))]
     pub fn value(&mut self, name: &str, version: &str) -> Result<(), Fault>
         ensures { let tool : Producer = record { tool = name.now; version = version.now } in
@@ -52,7 +53,7 @@ impl<A: Allocator> ProducersField<A> {
         self.values.add_encoded(&(name, version))
     }
 
-    /// The same tools once more. It is refused for want of memory alone.
+    /// A copy of the tools. It is refused for want of memory alone.
     pub fn clone(&self) -> Result<Self, Fault>
     where
         A: Clone,
@@ -75,8 +76,8 @@ impl<A: Allocator> Encode for ProducersField<A> {
     }
 }
 
-/// What the tools did that made a module or a component, and which they were: a custom section (tool
-/// conventions, "Producers Section").
+/// What the tools did that made a module or a component, and which they were: a custom section
+/// (tool conventions, "Producers Section").
 ///
 /// ```
 /// let mut languages = ProducersField::new(alloc);
@@ -115,9 +116,9 @@ impl<A: Allocator> ProducersSection<A> {
         }
     }
 
-    /// Adds a field of this name with its tools. It is refused where these are unfinished, where there would be
-    /// too many fields (`TooMany`), or too many bytes in the name or behind the section's size (`TooLarge`), and
-    /// then the section stays as it was.
+    /// Adds a field of this name with its tools. It is refused where these are unfinished, where
+    /// there would be too many fields (`TooMany`), or too many bytes in the name or after the
+    /// section's size (`TooLarge`), and then the section stays as it was.
     pub fn field<B: Allocator>(
         &mut self,
         name: &str,
@@ -157,8 +158,8 @@ impl<A: Allocator> ProducersSection<A> {
         Ok(())
     }
 
-    /// Appends the data of the custom section: the number of fields, and each. It is refused for want of memory, or where
-    /// the section is unfinished.
+    /// Appends the data of the custom section: the number of fields, and each. It is refused for
+    /// want of memory, or where the section is unfinished.
     #[tactic(auto, using(crate::proofs::Produced::data_of_fields))]
     pub fn encode_data<B: Allocator>(&self, sink: &mut Vec<u8, B>) -> Result<(), Fault>
         ensures appended { Appends (held_text self.now) (EncodeCause self.now)
@@ -170,7 +171,7 @@ impl<A: Allocator> ProducersSection<A> {
         self.fields.encode(sink)
     }
 
-    /// The same fields once more. It is refused for want of memory alone.
+    /// A copy of the fields. It is refused for want of memory alone.
     pub fn clone(&self) -> Result<Self, Fault>
     where
         A: Clone,

@@ -1,15 +1,16 @@
+//! Sections of any id, by their bytes.
 use crate::encode::Encode;
 use crate::fault::Fault;
 use crate::section::Section;
 use std::alloc::Allocator;
 
-/// A section with any id, from 0 to 255, whose bytes are written behind their size (WebAssembly 3.0,
+/// A section with any id, from 0 to 255, whose bytes are written after their size (WebAssembly 3.0,
 /// binary format, "Sections"). It is refused where there are more than 4294967295 (`TooLarge`).
 #[derive(Clone, Copy, Debug)]
 pub struct RawSection<'a> {
     /// The id.
     pub id: u8,
-    /// The bytes behind the size.
+    /// The bytes after the size.
     pub data: &'a [u8],
 }
 

@@ -1,3 +1,4 @@
+//! The trait `Section`, and the ids of sections in core modules.
 ghost use Rattle.std.specs.Prelude.{◌≡◌, ℕ, OnOk};
 ghost use Rattle.wenc_base.specs.Encode.{Appends};
 ghost use Rattle.wenc_base.specs.Piece.{◌▸◌};
@@ -6,8 +7,8 @@ use crate::encode::{Encode, Tagged};
 use crate::fault::Fault;
 use std::alloc::Allocator;
 
-/// A section of a core module (WebAssembly 3.0, binary format, "Sections"). A type of your own may implement
-/// it too.
+/// A section of a core module (WebAssembly 3.0, binary format, "Sections"). A type of your own may
+/// implement it too.
 pub trait Section: Encode {
     /// What `id` answers.
     ghost section_id: { Self → ℕ };
@@ -16,8 +17,8 @@ pub trait Section: Encode {
     fn id(&self) -> u8
         ensures { result ≡ section_id self.now };
 
-    /// Appends the section's id and its text. It is refused as `encode` is, and then the sink stays as it
-    /// was.
+    /// Appends the section's id and its text. It is refused as `encode` is, and then the sink stays
+    /// as it was.
     fn append_to<A: Allocator>(&self, sink: &mut Vec<u8, A>) -> Result<(), Fault>
     where
         Self: Sized,
@@ -30,8 +31,8 @@ pub trait Section: Encode {
     }
 }
 
-/// The id of a section that may stand in a module (WebAssembly 3.0, binary format, "Sections"): of those that
-/// the standard names, the one whose section is written here.
+/// The id of a section that may stand in a module (WebAssembly 3.0, binary format, "Sections"): of
+/// those that the standard names, the one whose section is written here.
 #[derive(Clone, Copy, Debug, PartialEq, Eq)]
 #[repr(u8)]
 pub enum SectionId {

@@ -1,10 +1,11 @@
+//! A few bytes, without memory.
 ghost use Rattle.std.specs.Prelude.{◌≡◌, ◌+◌, ◌-◌, ◌<◌, ◌≤◌, ◌++◌, ◌∷◌, [], length, if◌then◌else◌};
 ghost use Rattle.wenc_base.specs.Number.{groups, complement, turned, unsigned_text, signed_text};
 
 use std::marker::Model;
 
-/// A few bytes, without memory: room for a section's id, size and count at their longest, or for one
-/// number.
+/// A few bytes, without memory: room for a section's id, size and count at their longest, or for
+/// one number.
 #[derive(Drop)]
 pub struct Short {
     bytes: [u8; 11],

@@ -1,3 +1,5 @@
+//! Core types: those of values, references and heaps. The modules below have those that core
+//! modules define.
 ghost use Rattle.std.specs.Prelude.{◌≡◌};
 ghost use Rattle.wenc_base.specs.laws.Delimited.{itself};
 ghost use Rattle.wenc_base.specs.laws.Serves.{serves_itself};

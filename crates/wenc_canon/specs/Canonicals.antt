@@ -205,12 +205,12 @@ builtins =
 
 -- ---- names
 
--- what a field puts behind the name: the number of a slot
+-- what a field puts after the name: the number of a slot
 abbrev pub slot_text : (f : Field) → Value f → List ℕ
 slot_text Slot n = codes " " ++ decimal n
 slot_text f v = []
 
--- the same of all fields
+-- what all fields put after the name
 abbrev pub slots_text : (fs : List Field) → Values fs → List ℕ
 slots_text [] vs = []
 slots_text (f ∷ []) v = slot_text f v

@@ -13,7 +13,8 @@ use crate::rows::{self, Row};
 use wenc_base::{Fault, ValType};
 use wenc_parts::{ComponentValType, ResultList};
 
-/// What the builtin of a row can be added to, and what it means there. `AddsBuiltin` has the calls for whoever adds one.
+/// What the builtin of a row can be added to, and what it means there. `AddsBuiltin` has the calls
+/// for whoever adds one.
 pub trait AddsRow {
     /// What a call answers.
     type Answer;
@@ -58,8 +59,8 @@ pub trait AddsSlotRow: AddsRow {
             (builtin_by row.opcode (CoreType ∷ Slot ∷ []) (ty, slot)) };
 }
 
-/// The functions that the component model provides: each call adds one (component model, binary format, "Canonical
-/// Definitions"). Refused as the type says.
+/// The functions that the component model provides: each call adds one (component model, binary
+/// format, "Canonical Definitions"). Refused as the type says.
 pub trait AddsBuiltin: AddsRow {
     /// `resource.new`: makes a handle that owns a resource of this type.
     fn resource_new(&mut self, ty: u32) -> Result<Self::Answer, Fault>
@@ -89,8 +90,8 @@ pub trait AddsBuiltin: AddsRow {
         self.add_row(rows::THREAD_SPAWN_REF, &ty)
     }
 
-    /// `thread.spawn-indirect`: starts a thread in a shared function of this type, by its index in a
-    /// table.
+    /// `thread.spawn-indirect`: starts a thread in a shared function of this type, by its index in
+    /// a table.
     fn thread_spawn_indirect(&mut self, ty: u32, table: u32) -> Result<Self::Answer, Fault>
         ensures { Self.adds self.old self.new result (OfBuiltin canon.ThreadSpawnIndirect (ty, table)) }
     {
@@ -118,8 +119,8 @@ pub trait AddsBuiltin: AddsRow {
         self.add_row(rows::BACKPRESSURE_DEC, &())
     }
 
-    /// `task.return`: gives the caller of a lifted function its result, or none, while the callee goes
-    /// on.
+    /// `task.return`: gives the caller of a lifted function its result, or none, while the callee
+    /// goes on.
     fn task_return<I: Iterator<Item = CanonicalOption> + Drop>(
         &mut self,
         ty: Option<ComponentValType>,
@@ -305,14 +306,16 @@ pub trait AddsBuiltin: AddsRow {
         self.add_row(rows::WAITABLE_SET_NEW, &())
     }
 
-    /// `waitable-set.wait`: waits until something in a set happens, which is written to this memory.
+    /// `waitable-set.wait`: waits until something in a set happens, which is written to this
+    /// memory.
     fn waitable_set_wait(&mut self, memory: u32) -> Result<Self::Answer, Fault>
         ensures { Self.adds self.old self.new result (OfBuiltin canon.WaitableSetWait (tt, memory)) }
     {
         self.add_row(rows::WAITABLE_SET_WAIT, &(NotCancellable, memory))
     }
 
-    /// `waitable-set.poll`: looks whether something in a set happened, which is written to this memory.
+    /// `waitable-set.poll`: looks whether something in a set happened, which is written to this
+    /// memory.
     fn waitable_set_poll(&mut self, memory: u32) -> Result<Self::Answer, Fault>
         ensures { Self.adds self.old self.new result (OfBuiltin canon.WaitableSetPoll (tt, memory)) }
     {
@@ -382,16 +385,16 @@ pub trait AddsBuiltin: AddsRow {
         self.add_row(rows::THREAD_YIELD_THEN_RESUME, &NotCancellable)
     }
 
-    /// `thread.suspend-then-promote`: suspends the current thread, and moves another to the front of
-    /// those that wait.
+    /// `thread.suspend-then-promote`: suspends the current thread, and moves another to the front
+    /// of those that wait.
     fn thread_suspend_then_promote(&mut self) -> Result<Self::Answer, Fault>
         ensures { Self.adds self.old self.new result (OfBuiltin canon.ThreadSuspendThenPromote tt) }
     {
         self.add_row(rows::THREAD_SUSPEND_THEN_PROMOTE, &NotCancellable)
     }
 
-    /// `thread.yield-then-promote`: lets other threads go on, first the one that is moved to the front
-    /// of those that wait.
+    /// `thread.yield-then-promote`: lets other threads go on, first the one that is moved to the
+    /// front of those that wait.
     fn thread_yield_then_promote(&mut self) -> Result<Self::Answer, Fault>
         ensures { Self.adds self.old self.new result (OfBuiltin canon.ThreadYieldThenPromote tt) }
     {
@@ -432,8 +435,9 @@ pub trait AddsBuiltin: AddsRow {
     }
 }
 
-/// The functions that the component model provides for the slots of a task: their debug names have the slot's number
-/// (component model, binary format, "Canonical Definitions"). Refused as the type says.
+/// The functions that the component model provides for the slots of a task: their debug names have
+/// the slot's number (component model, binary format, "Canonical Definitions"). Refused as the type
+/// says.
 pub trait AddsSlot: AddsSlotRow {
     /// `context.get`: reads a slot of the current task, which has this value type.
     fn context_get(&mut self, ty: ValType, slot: u32) -> Result<Self::Answer, Fault>

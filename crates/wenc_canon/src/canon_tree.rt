@@ -1,3 +1,4 @@
+//! Canonical functions, as trees.
 ghost use Rattle.std.specs.Prelude.{OnOk};
 ghost use Rattle.wenc_base.specs.Encode.{Appends, Serves};
 ghost use Rattle.wenc_base.specs.laws.Serves.{serves_itself};
@@ -49,7 +50,8 @@ pub enum CanonTree<A: Allocator = Global> {
     TaskCancel,
     /// `subtask.cancel`: cancels a subtask. The flag says whether that may be answered later.
     SubtaskCancel(bool),
-    /// `task.return`: gives the caller of a lifted function its result, or none, while the callee goes on.
+    /// `task.return`: gives the caller of a lifted function its result, or none, while the callee
+    /// goes on.
     TaskReturn {
         /// The type of the result, or none.
         ty: Option<ComponentValType>,
@@ -150,9 +152,11 @@ pub enum CanonTree<A: Allocator = Global> {
     ErrorContextDrop,
     /// `waitable-set.new`: makes a set of what can be waited for.
     WaitableSetNew,
-    /// `waitable-set.wait`: waits until something in a set happens, which is written to this memory.
+    /// `waitable-set.wait`: waits until something in a set happens, which is written to this
+    /// memory.
     WaitableSetWait(u32),
-    /// `waitable-set.poll`: looks whether something in a set happened, which is written to this memory.
+    /// `waitable-set.poll`: looks whether something in a set happened, which is written to this
+    /// memory.
     WaitableSetPoll(u32),
     /// `waitable-set.drop`: drops a set of what can be waited for.
     WaitableSetDrop,
@@ -191,7 +195,8 @@ pub enum CanonTree<A: Allocator = Global> {
     FutureForward(u32),
     /// `thread.spawn-ref`: starts a thread in a shared function of this type, by a reference to it.
     ThreadSpawnRef(u32),
-    /// `thread.spawn-indirect`: starts a thread in a shared function of this type, by its index in a table.
+    /// `thread.spawn-indirect`: starts a thread in a shared function of this type, by its index in
+    /// a table.
     ThreadSpawnIndirect {
         /// The index of the type.
         ty: u32,
@@ -215,7 +220,7 @@ impl<A: Allocator> CanonTree<A> {
         self.parts().0.name
     }
 
-    /// How the function begins, and what stands behind that.
+    /// The function's row, and what follows its opcode.
     #[tactic(auto, using(wenc_base::specs::laws::Serves::serves_itself))]
     #[inline(always)]
     fn parts(&self) -> (Row, Operands<'_, A>)
@@ -353,10 +358,11 @@ impl<A: Allocator> CanonTree<A> {
     }
 }
 
-/// What stands behind the opcode of a canonical function.
+/// What follows the opcode of a canonical function.
 #[derive(Drop)]
 enum Operands<'a, A: Allocator> {
-    /// The core function and the type of a lifted function, and its options, which stand between these.
+    /// The core function and the type of a lifted function, and its options, which stand between
+    /// these.
     Lifted(u32, u32, &'a Vec<CanonicalOption, A>),
     /// The function that is lowered, and its options.
     Lowered(u32, &'a Vec<CanonicalOption, A>),
@@ -378,7 +384,7 @@ enum Operands<'a, A: Allocator> {
 impl<'a, A: Allocator> Operands<'a, A> {
     ghost use Rattle.wenc_canon.specs.inside.Operands.{operand_behind};
 
-    /// Writes what begins with this opcode, and has these behind it.
+    /// Writes this opcode, and these after it.
     fn encode_behind<B: Allocator>(&self, opcode: u8, sink: &mut Vec<u8, B>) -> Result<(), Fault>
         ensures appended { let p = operand_behind opcode self.now in
             Appends p.text p.Cause ⊥ sink.old.items sink.new.items result }
@@ -432,7 +438,7 @@ impl<A: Allocator> Delimited for CanonTree<A> {
     ghost written = { λ _. serves_itself };
 }
 
-/// Writes what begins with this opcode and has these fields, and options behind them.
+/// Writes this opcode, these fields, and options after them.
 fn with_options<F: Fields, A: Allocator, B: Allocator>(
     opcode: u8,
     fields: &F,

@@ -1,3 +1,4 @@
+//! The section of canonical functions, and the options that functions may have.
 ghost use Rattle.std.specs.Prelude.{◌≡◌, ◌==◌, false, OnOk, IfOk, IfErr};
 ghost use Rattle.std.specs.Iterator.{IsFinite};
 ghost use Rattle.wenc_base.specs.Fault.{IsMemory};
@@ -131,13 +132,14 @@ impl<A: Allocator> CanonicalFunctionSection<A> {
         }
     }
 
-    /// The section whose functions are the members of this holder, which are texts of such functions. It takes no
-    /// memory.
+    /// The section whose functions are the members of this holder, which are texts of such
+    /// functions. It takes no memory.
     ///
-    /// So a section may be written behind bytes that are kept: `Holder::over` begins it there, the calls
-    /// that add leave these bytes where they are, and `encode` writes the section alone. `into_holder` and
-    /// `Holder::into_parts` give all of them back. Where the holder has a member that is being written, the
-    /// section is unfinished: a call that adds, and `encode`, answer `Unfinished`.
+    /// So a section may be written after bytes that are kept: `Holder::over` begins it there, the
+    /// calls that add leave these bytes where they are, and `encode` writes the section alone.
+    /// `into_holder` and `Holder::into_parts` give all of them back. Where the holder has a member
+    /// that is being written, the section is unfinished: a call that adds, and `encode`, answer
+    /// `Unfinished`.
     ///
     /// ```
     /// let kept = bytes.len();
@@ -152,7 +154,8 @@ impl<A: Allocator> CanonicalFunctionSection<A> {
         CanonicalFunctionSection { functions }
     }
 
-    /// The holder of the functions, with the bytes that it keeps in front of them. It takes no memory.
+    /// The holder of the functions, with the bytes that it keeps in front of them. It takes no
+    /// memory.
     pub fn into_holder(self) -> Holder<A>
         ensures same { result ≡ self }
         ensures functions { HasMembers (HasForm canonical) result }
@@ -175,7 +178,7 @@ impl<A: Allocator> CanonicalFunctionSection<A> {
         self.len() == 0
     }
 
-    /// The same functions once more. It is refused for want of memory alone.
+    /// A copy of the section. It is refused for want of memory alone.
     pub fn clone(&self) -> Result<Self, Fault>
     where
         A: Clone,
@@ -256,8 +259,8 @@ impl<A: Allocator> AddsBuiltin for CanonicalFunctionSection<A> {}
 
 impl<A: Allocator> AddsSlot for CanonicalFunctionSection<A> {}
 
-/// A finished section is refused for want of memory alone. What is written has some functions, whoever made which
-/// calls.
+/// A finished section is refused for want of memory alone. What is written has some functions,
+/// whoever made which calls.
 impl<A: Allocator> Encode for CanonicalFunctionSection<A> {
     ghost piece = { held_section };
 

@@ -1,3 +1,4 @@
+//! What follows the opcodes of builtins.
 ghost use Rattle.std.specs.Prelude.{List};
 ghost use Rattle.wenc_base.specs.Delimited.{IsWritten};
 ghost use Rattle.wenc_base.specs.laws.Serves.{serves_itself};
@@ -8,8 +9,8 @@ use std::alloc::Allocator;
 use wenc_base::{Encode, Fault, ValType};
 use wenc_parts::ResultList;
 
-/// What stands behind the opcode of a builtin, in front of its options if it takes some (component model, binary
-/// format, "Canonical Definitions").
+/// What follows the opcode of a builtin, in front of its options if it takes some (component model,
+/// binary format, "Canonical Definitions").
 pub trait Fields: Encode {
     /// The fields, one by one.
     ghost kinds: { List Field };

@@ -1,5 +1,5 @@
-//! How each canonical function begins: its name and its opcode (component model, explainer, "Canonical Built-ins", and
-//! binary format, "Canonical Definitions"; docs/FORMAT.md lists them with their fields).
+//! The name and the opcode of each canonical function (component model, explainer, "Canonical
+//! Built-ins", and binary format, "Canonical Definitions"; docs/FORMAT.md lists their fields).
 
 /// The name of a canonical function, and the byte that it begins with.
 #[derive(Clone, Copy, Debug)]
@@ -10,16 +10,16 @@ pub struct Row {
     pub opcode: u8,
 }
 
-/// What comes behind the opcodes of `LIFT` and `LOWER`.
+/// What follows the opcodes of `LIFT` and `LOWER`.
 pub const PLAIN: u8 = 0x00;
 
-/// `lift`: the byte `PLAIN` comes behind it.
+/// `lift`: the byte `PLAIN` follows it.
 pub const LIFT: Row = Row {
     name: "lift",
     opcode: 0x00,
 };
 
-/// `lower`: the byte `PLAIN` comes behind it.
+/// `lower`: the byte `PLAIN` follows it.
 pub const LOWER: Row = Row {
     name: "lower",
     opcode: 0x01,

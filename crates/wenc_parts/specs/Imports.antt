@@ -120,7 +120,7 @@ boxed_view name (Some options) = options_view name options.value
 abbrev pub name_tree_view : {A : Type 0} → NameTree A → ExternName
 name_tree_view n = boxed_view (string_bytes n.name) n.options
 
--- an option behind the number that it begins with, or nothing where it isn't there
+-- an option after the number that it begins with, or nothing where it isn't there
 abbrev pub option_entry : ℕ → Form (Option (List ℕ))
 option_entry number None = nothing
 option_entry number (Some text) = number ▸ name text

@@ -1,3 +1,4 @@
+//! Aliases of items of instances and of enclosing components.
 ghost use Rattle.std.specs.Prelude.{◌≡◌};
 ghost use Rattle.wenc_base.specs.laws.Delimited.{itself};
 ghost use Rattle.wenc_base.specs.laws.Serves.{serves_itself};
@@ -7,8 +8,8 @@ use crate::exports::ComponentExportKind;
 use std::alloc::{Allocator, Global};
 use wenc_base::{Delimited, DelimitedEq, Encode, ExportKind, Fault, Tagged};
 
-/// The kind of an item that an alias takes from an enclosing component (component model, binary format,
-/// `sort`).
+/// The kind of an item that an alias takes from an enclosing component (component model, binary
+/// format, `sort`).
 #[derive(Clone, Copy, Debug, PartialEq, Eq)]
 pub enum ComponentOuterAliasKind {
     /// A core module.
@@ -92,7 +93,7 @@ pub enum Alias<'a> {
     Outer {
         /// The kind of the item.
         kind: ComponentOuterAliasKind,
-        /// How many components out the item stands: 0 is this component itself.
+        /// How many scopes out the item stands: 0 is the component or type that has the alias.
         count: u32,
         /// The index of the item there.
         index: u32,
@@ -164,7 +165,7 @@ pub enum AliasTree<A: Allocator = Global> {
     Outer {
         /// The kind of the item.
         kind: ComponentOuterAliasKind,
-        /// How many components out the item stands: 0 is this component itself.
+        /// How many scopes out the item stands: 0 is the component or type that has the alias.
         count: u32,
         /// The index of the item there.
         index: u32,
@@ -174,7 +175,7 @@ pub enum AliasTree<A: Allocator = Global> {
 impl<A: Allocator> AliasTree<A> {
     ghost use Rattle.wenc_parts.specs.Aliases.{alias_view, alias_tree_view};
 
-    /// The same alias, borrowed.
+    /// The alias, borrowed.
     pub fn as_alias(&self) -> Alias<'_>
         ensures { alias_view result ≡ alias_tree_view self.now }
     {

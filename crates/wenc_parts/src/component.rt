@@ -1,3 +1,4 @@
+//! The trait `ComponentSection`, the ids of sections, and the bytes of sorts.
 ghost use Rattle.std.specs.Prelude.{◌≡◌, ℕ, OnOk};
 ghost use Rattle.wenc_base.specs.laws.Delimited.{itself};
 ghost use Rattle.wenc_base.specs.Encode.{Appends};
@@ -16,13 +17,13 @@ use wenc_base::{
 /// What begins the sort of a core item. A byte of its own follows.
 pub const CORE_SORT: u8 = 0x00;
 
-/// Core types, behind `CORE_SORT`.
+/// Core types, after `CORE_SORT`.
 pub const CORE_TYPE_SORT: u8 = 0x10;
 
-/// Core modules, behind `CORE_SORT`.
+/// Core modules, after `CORE_SORT`.
 pub const CORE_MODULE_SORT: u8 = 0x11;
 
-/// Core instances, behind `CORE_SORT`.
+/// Core instances, after `CORE_SORT`.
 pub const CORE_INSTANCE_SORT: u8 = 0x12;
 
 /// Functions.
@@ -40,8 +41,8 @@ pub const COMPONENT_SORT: u8 = 0x04;
 /// Instances.
 pub const INSTANCE_SORT: u8 = 0x05;
 
-/// A section of a component (component model, binary format, "Component Definitions"). A type of your own
-/// may implement it too.
+/// A section of a component (component model, binary format, "Component Definitions"). A type of
+/// your own may implement it too.
 pub trait ComponentSection: Encode {
     /// What `id` answers.
     ghost section_id: { Self → ℕ };
@@ -50,8 +51,8 @@ pub trait ComponentSection: Encode {
     fn id(&self) -> u8
         ensures { result ≡ section_id self.now };
 
-    /// Appends the section's id and its text. It is refused as `encode` is, and then the sink stays as it
-    /// was.
+    /// Appends the section's id and its text. It is refused as `encode` is, and then the sink stays
+    /// as it was.
     fn append_to_component<A: Allocator>(&self, sink: &mut Vec<u8, A>) -> Result<(), Fault>
     where
         Self: Sized,

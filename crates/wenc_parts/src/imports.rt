@@ -1,3 +1,4 @@
+//! Names of imports and exports, and references to types.
 ghost use Rattle.std.specs.Prelude.{◌≡◌, ◌≢◌, ◌++◌, ℕ, List, length, OnOk, IfOk, IfErr};
 ghost use Rattle.wenc_base.specs.Encode.{Appends};
 ghost use Rattle.wenc_base.specs.laws.Delimited.{itself};
@@ -11,7 +12,8 @@ use std::alloc::{Allocator, Global};
 use std::borrow::CowStr;
 use wenc_base::{Delimited, DelimitedEq, Encode, Fault, Tagged};
 
-/// What a type that is imported or exported is bound to (component model, binary format, `typebound`).
+/// What a type that is imported or exported is bound to (component model, binary format,
+/// `typebound`).
 #[derive(Clone, Copy, Debug, PartialEq, Eq, Hash)]
 pub enum TypeBounds {
     /// The type with this index.
@@ -57,7 +59,8 @@ impl DelimitedEq for TypeBounds {
     ghost alike = { itself _ };
 }
 
-/// What is imported, or the type that an export is given (component model, binary format, `externdesc`).
+/// What is imported, or the type that an export is given (component model, binary format,
+/// `externdesc`).
 #[derive(Clone, Copy, Debug, PartialEq, Eq, Hash)]
 pub enum ComponentTypeRef {
     /// A core module, by the index of its core type.
@@ -136,8 +139,8 @@ impl DelimitedEq for ComponentTypeRef {
     ghost alike = { itself _ };
 }
 
-/// The name of an import or an export, with the options that a name may have (component model, binary
-/// format, `importname'` and `exportname'`).
+/// The name of an import or an export, with the options that a name may have (component model,
+/// binary format, `importname'` and `exportname'`).
 ///
 /// ```
 /// let mut name = ComponentExternName::from("wall:clock/now@1");
@@ -185,7 +188,7 @@ impl<'a, A: Allocator> ComponentExternName<'a, A> {
         Tagged(0x02, &(name, options)).encode(sink)
     }
 
-    /// The same name once more. It is refused for want of memory alone.
+    /// A copy of the name. It is refused for want of memory alone.
     pub fn clone(&self) -> Result<Self, Fault>
     where
         A: Clone,
@@ -231,7 +234,7 @@ impl<'a, A: Allocator> Delimited for ComponentExternName<'a, A> {
     ghost written = { λ _. serves_itself };
 }
 
-/// An option of a name behind the byte that it begins with, or nothing where it isn't there.
+/// An option of a name after the byte that it begins with, or nothing where it isn't there.
 #[derive(Drop)]
 struct OptionEntry<'a, 'b, A: Allocator>(u8, &'b Option<CowStr<'a, A>>);
 
@@ -327,7 +330,7 @@ impl<A: Allocator> From<String<A>> for NameTree<A> {
 impl<A: Allocator> NameTree<A> {
     ghost use Rattle.wenc_parts.specs.Imports.{extern_name_view, name_tree_view};
 
-    /// The same name, borrowed.
+    /// The name, borrowed.
     pub fn as_name(&self) -> ComponentExternName<'_>
         ensures { extern_name_view result ≡ name_tree_view self.now }
     {

@@ -1,3 +1,4 @@
+//! What core modules are given for their imports.
 ghost use Rattle.wenc_base.specs.laws.Delimited.{itself};
 ghost use Rattle.wenc_base.specs.laws.Serves.{serves_itself};
 

@@ -1,7 +1,7 @@
 //! The parts of which the items of a component are made.
 //!
-//! Each index is from 0 to 4294967295, and each text has at most so many bytes: a longer one is refused with
-//! `Fault::TooLarge`.
+//! Each index is from 0 to 4294967295, and each text has at most so many bytes: a longer one is
+//! refused with `Fault::TooLarge`.
 #![tactic(auto)]
 
 pub mod aliases;

@@ -1,3 +1,4 @@
+//! Value types of components, and what functions answer.
 ghost use Rattle.std.specs.Prelude.{◌≡◌};
 ghost use Rattle.wenc_base.specs.laws.Delimited.{itself};
 ghost use Rattle.wenc_base.specs.laws.Serves.{serves_itself};
@@ -137,7 +138,8 @@ impl DelimitedEq for ComponentValType {
     ghost alike = { itself _ };
 }
 
-/// What a function answers: a value of this type, or none (component model, binary format, `resultlist`).
+/// What a function answers: a value of this type, or none (component model, binary format,
+/// `resultlist`).
 #[derive(Clone, Copy, Debug, PartialEq, Eq)]
 pub struct ResultList(pub Option<ComponentValType>);
 

@@ -31,7 +31,7 @@ use Rattle.wenc_types.specs.declared.type_tree.TypeTree.TheVariants as types
 use Rattle.wenc_types.specs.laws.ComponentTypes.{instances_serve, components_serve}
 use Rattle.wenc_types.specs.laws.TypeTrees.{view_instance, view_component}
 
--- two pieces behind a byte
+-- two pieces after a byte
 pub pair_serves : (b : ℕ) (p q : Piece) → Serves (b ▸ in_order p q) (b ▸ (p ⨾ q))
 pair_serves b p q = tagged_serves b (two_serve p q)
 
@@ -122,7 +122,7 @@ cases_serve vs = subst (λ (cs : List PureCase). Serves (0x71 ▸ list case_of (
 
 -- ---- types of functions
 
--- parameters, then what the function answers, behind the byte that tells whether it is asynchronous
+-- parameters, then what the function answers, after the byte that tells whether it is asynchronous
 pub function_tree_serves : {A : Type 0} (is_async : Bool) (tag : ℕ) (params : List (String A × ComponentValType)) (answer : Option ComponentValType) → tag ≡ async_byte is_async
     → Serves (tag ▸ in_order (list_in_order field_tree params) (result_list answer)) (function_type (function_view is_async params answer))
 function_tree_serves is_async tag params answer e = rw e (at is_async)
@@ -136,7 +136,7 @@ function_tree_serves is_async tag params answer e = rw e (at is_async)
 
 -- ---- component types and instance types
 
--- a name, then a type, behind a byte
+-- a name, then a type, after a byte
 pub extern_serves : (seen name : ExternName) → seen ≡ name → (tag : ℕ) (ty : ComponentTypeRef)
     → Serves (tag ▸ in_order (extern_name seen) (type_reference ty)) (tag ▸ (extern_name name ⨾ type_reference ty))
 extern_serves seen name e tag ty = rw e (pair_serves tag (extern_name name) (type_reference ty))

@@ -99,7 +99,7 @@ pub record Declares {D : Type 0} (form : Form D) (sort : D → Option Sort) (t :
   pub contained : Contains form t.held ds
   pub counts : t.counts ≡ counts_of sort ds
 
--- the same of the types of modules, of instances and of components
+-- the type of a module, of an instance or of a component has just these declarations
 abbrev pub ModuleDeclares : TypeState → List ModuleDeclaration → Type 0
 ModuleDeclares = Declares module_declaration module_sort
 
@@ -133,7 +133,7 @@ pub record AddsDeclaration {D : Type 0} (form : Form D) (sort : D → Option Sor
       ((ds : List D) → Declares form sort old ds → Declares form sort new (ds ++ d ∷ []))
   pub err : OnErr outcome (new ≡ old)
 
--- the same of the types of modules, of instances and of components
+-- a call adds this declaration to the type of a module, of an instance or of a component
 abbrev pub AddsToModule : TypeState → TypeState → Result (Unit {0}) Fault → ModuleDeclaration
     → Type 0
 AddsToModule = AddsDeclaration module_declaration module_sort
@@ -159,7 +159,7 @@ lead_of CoreType = 0x00 ∷ []
 lead_of TypeSort = 0x01 ∷ []
 lead_of Instance = []
 
--- the same type, with these declarations
+-- the type with these declarations
 abbrev pub with_held : TypeState → HolderState → TypeState
 with_held t held = record { held = held; counts = t.counts; begun = t.begun }
 

@@ -27,7 +27,7 @@ lead_from Tagged = []
 lead_from Params = []
 lead_from Done = []
 
--- the parameters behind that
+-- the parameters, after what stands in front of them
 abbrev pub params_from : FuncStage → Form (List LabelledType)
 params_from stage params = behind_bytes (lead_from stage) (list labelled_type params)
 

@@ -1,3 +1,4 @@
+//! Types of components.
 ghost use Rattle.std.specs.Prelude.{◌≡◌, IfOk};
 ghost use Rattle.wenc_parts.specs.Aliases.{alias_view, InstanceExport, Outer};
 ghost use Rattle.wenc_parts.specs.Imports.{extern_name_view};
@@ -45,8 +46,8 @@ impl DeclaringKind for ComponentTypes {
         serves_itself refl };
 }
 
-/// The type of a component: what it imports and exports, and the types that these have (component model, binary format,
-/// "Type Definitions").
+/// The type of a component: what it imports and exports, and the types that these have (component
+/// model, binary format, "Type Definitions").
 ///
 /// ```
 /// let byte = ComponentValType::Primitive(PrimitiveValType::U8);
@@ -60,8 +61,8 @@ impl DeclaringKind for ComponentTypes {
 pub type ComponentType<A = Global> = Declarations<ComponentTypes, A>;
 
 impl<A: Allocator> Declarations<ComponentTypes, A> {
-    /// Declares an alias. It is refused where there would be too many declarations (`TooMany`), or too many bytes in
-    /// them or in the alias's name (`TooLarge`).
+    /// Declares an alias. It is refused where there would be too many declarations (`TooMany`), or
+    /// too many bytes in them or in the alias's name (`TooLarge`).
     pub fn alias(&mut self, alias: Alias<'_>) -> Result<(), Fault>
         ensures { AddsToComponent self.old self.new result
             (Declared (Aliased (alias_view alias.entry))) }
@@ -94,8 +95,8 @@ impl<A: Allocator> Declarations<ComponentTypes, A> {
         self.add(&Tagged(0x04, &(name, ty)), sort_of_kind(ty.kind()))
     }
 
-    /// Declares an alias of the type that this instance exports under this name, and answers the alias's index. It is
-    /// refused as `alias` is.
+    /// Declares an alias of the type that this instance exports under this name, and answers the
+    /// alias's index. It is refused as `alias` is.
     pub fn alias_export_type(&mut self, instance: u32, name: &str) -> Result<u32, Fault>
         ensures added { AddsToComponent self.old self.new (indexed_outcome result)
             (Declared (Aliased (InstanceExport instance kinds.«Type» name.now))) }
@@ -110,8 +111,8 @@ impl<A: Allocator> Declarations<ComponentTypes, A> {
         Ok(index)
     }
 
-    /// Declares an alias of the instance that this instance exports under this name, and answers the alias's index. It
-    /// is refused as `alias` is.
+    /// Declares an alias of the instance that this instance exports under this name, and answers
+    /// the alias's index. It is refused as `alias` is.
     pub fn alias_export_instance(&mut self, instance: u32, name: &str) -> Result<u32, Fault>
         ensures added { AddsToComponent self.old self.new (indexed_outcome result)
             (Declared (Aliased (InstanceExport instance kinds.Instance name.now))) }
@@ -126,8 +127,8 @@ impl<A: Allocator> Declarations<ComponentTypes, A> {
         Ok(index)
     }
 
-    /// Declares an alias of the type with the index `outer` of the scope that is `count` components out, and answers the
-    /// alias's own index. It is refused as `alias` is.
+    /// Declares an alias of the type with the index `outer` of the scope that is `count` scopes out
+    /// (0 is this type), and answers the alias's own index. It is refused as `alias` is.
     pub fn alias_outer_type(&mut self, count: u32, outer: u32) -> Result<u32, Fault>
         ensures added { AddsToComponent self.old self.new (indexed_outcome result)
             (Declared (Aliased (Outer outers.«Type» count outer))) }
@@ -142,8 +143,8 @@ impl<A: Allocator> Declarations<ComponentTypes, A> {
         Ok(index)
     }
 
-    /// Declares an alias of the core type with the index `outer` of the scope that is `count` components out, and answers
-    /// the alias's own index. It is refused as `alias` is.
+    /// Declares an alias of the core type with the index `outer` of the scope that is `count`
+    /// scopes out (0 is this type), and answers the alias's own index. It is refused as `alias` is.
     pub fn alias_core_type(&mut self, count: u32, outer: u32) -> Result<u32, Fault>
         ensures added { AddsToComponent self.old self.new (indexed_outcome result)
             (Declared (Aliased (Outer outers.CoreType count outer))) }
@@ -158,7 +159,8 @@ impl<A: Allocator> Declarations<ComponentTypes, A> {
         Ok(index)
     }
 
-    /// Declares an import of a type under this name, and answers its index. It is refused as `alias` is.
+    /// Declares an import of a type under this name, and answers its index. It is refused as
+    /// `alias` is.
     pub fn import_type<B: Allocator>(
         &mut self,
         name: ComponentExternName<'_, B>,
@@ -173,8 +175,8 @@ impl<A: Allocator> Declarations<ComponentTypes, A> {
         Ok(index)
     }
 
-    /// Declares an import of an instance of the type with this index, and answers its index among the instances. It is
-    /// refused as `alias` is.
+    /// Declares an import of an instance of the type with this index, and answers its index among
+    /// the instances. It is refused as `alias` is.
     pub fn import_instance<B: Allocator>(
         &mut self,
         name: ComponentExternName<'_, B>,
@@ -189,7 +191,8 @@ impl<A: Allocator> Declarations<ComponentTypes, A> {
         Ok(index)
     }
 
-    /// Declares an export of a type under this name, and answers its index. It is refused as `alias` is.
+    /// Declares an export of a type under this name, and answers its index. It is refused as
+    /// `alias` is.
     pub fn export_type<B: Allocator>(
         &mut self,
         name: ComponentExternName<'_, B>,
@@ -204,8 +207,8 @@ impl<A: Allocator> Declarations<ComponentTypes, A> {
         Ok(index)
     }
 
-    /// Declares an export of an instance of the type with this index, and answers its index among the instances. It is
-    /// refused as `alias` is.
+    /// Declares an export of an instance of the type with this index, and answers its index among
+    /// the instances. It is refused as `alias` is.
     pub fn export_instance<B: Allocator>(
         &mut self,
         name: ComponentExternName<'_, B>,

@@ -1,3 +1,4 @@
+//! Core types that components define, as trees.
 ghost use Rattle.std.specs.Prelude.{refl};
 ghost use Rattle.wenc_base.specs.laws.Serves.{serves_itself};
 
@@ -6,8 +7,8 @@ use wenc_base::{
     Delimited, DelimitedEq, Encode, EntityType, Fault, GroupTree, Guarded, Tagged, Verbatim,
 };
 
-/// A core type that a component defines, with all that is in it: types of the core, or the type of a module (component
-/// model, binary format, "Core Definitions").
+/// A core type that a component defines, with all that is in it: types of the core, or the type of
+/// a module (component model, binary format, "Core Definitions").
 ///
 /// ```
 /// let answer = ModuleDecl::Export {
@@ -25,10 +26,11 @@ use wenc_base::{
 #[derive(Drop)]
 #[derive_where(PartialEq, Eq, Debug)]
 pub enum CoreTypeTree<A: Allocator = Global> {
-    /// Types of the core. One by itself that others may extend is written behind a byte `00`, since it would begin as
-    /// a module type does.
+    /// Types of the core. One by itself that others may extend is written after a byte `00`, since
+    /// it would begin as a module type does.
     Group(GroupTree<A>),
-    /// The type of a module, by its declarations in their order. More than 4294967295 can't be encoded.
+    /// The type of a module, by its declarations in their order. More than 4294967295 can't be
+    /// encoded.
     Module(Vec<ModuleDecl<A>, A>),
 }
 
@@ -76,8 +78,8 @@ impl<A: Allocator> DelimitedEq for CoreTypeTree<A> {
         (λ g h. refl) (λ ds es. refl)) };
 }
 
-/// What a module type declares (component model, binary format, "Core Definitions"). A text of more than 4294967295
-/// bytes can't be encoded.
+/// What a module type declares (component model, binary format, "Core Definitions"). A text of more
+/// than 4294967295 bytes can't be encoded.
 #[derive(Drop)]
 #[derive_where(PartialEq, Eq, Debug)]
 pub enum ModuleDecl<A: Allocator = Global> {

@@ -1,3 +1,4 @@
+//! What types of modules, of components and of instances are made of: declarations.
 ghost use Rattle.std.specs.Borrow.{sem, RestsIfErr};
 ghost use Rattle.std.specs.Prelude.{◌≡◌, ◌==◌, ◌∷◌, ℕ, [], Option as Optional, Some, OnOk, OnErr, IfOk, IfErr, true, false};
 ghost use Rattle.wenc_base.specs.Encode.{Appends, Serves};
@@ -28,7 +29,7 @@ pub trait DeclaredKind {
     /// The byte with which such a type begins.
     ghost LEAD: { ℕ };
 
-    /// The same, which the code writes.
+    /// The byte with which such a type begins, as the code writes it.
     const LEAD: u8;
 
     /// What such a type declares.
@@ -44,7 +45,8 @@ pub trait DeclaredKind {
 /// The types that declare all that instances do: those of components and of instances (component
 /// model, binary format, "Type Definitions").
 pub trait DeclaringKind: DeclaredKind {
-    /// The text of what an instance declares is that of a declaration of such a type, which counts as the same.
+    /// The text of what an instance declares is that of a declaration of such a type, which counts
+    /// as the same.
     ghost declares: { (d : InstanceDeclaration) → (instance_declaration d).Fits
         → IsDeclaration Self.form Self.sort (instance_declaration d).text (instance_sort d) };
 }
@@ -54,9 +56,9 @@ pub trait DeclaringKind: DeclaredKind {
 /// it: `ModuleType`, `ComponentType` and `InstanceType`. A call that is refused leaves it as it
 /// was.
 ///
-/// Types are written by the encoders that `ty` answers, and `core_type` of component types and instance types. Until
-/// such an encoder has ended its type, this one is unfinished, and what grows or encodes it is refused with
-/// `Unfinished`; `discard_unfinished` gives the type up.
+/// Types are written by the encoders that `ty` answers, and `core_type` of component types and
+/// instance types. Until such an encoder has ended its type, this one is unfinished, and what grows
+/// or encodes it is refused with `Unfinished`; `discard_unfinished` gives the type up.
 ///
 /// ```
 /// let mut ty = InstanceType::new(alloc);
@@ -134,8 +136,8 @@ impl<K: DeclaredKind, A: Allocator> Declarations<K, A> {
         Ok(())
     }
 
-    /// How many types there are: those of `ty`, one that is being written among them, and those of aliases, imports
-    /// and exports. Those of a module type are core types.
+    /// How many types there are: those of `ty`, one that is being written among them, and those of
+    /// aliases, imports and exports. Those of a module type are core types.
     pub fn type_count(&self) -> u32
         ensures { result ≡ self.now.counts.types }
     {
@@ -152,8 +154,8 @@ impl<K: DeclaredKind, A: Allocator> Declarations<K, A> {
         self.held.is_finished()
     }
 
-    /// Gives up the type that is being written, and says whether there was one: all is as it was before that type. It
-    /// takes no memory.
+    /// Gives up the type that is being written, and says whether there was one: all is as it was
+    /// before that type. It takes no memory.
     pub fn discard_unfinished(&mut self) -> bool
         ensures given_up { GivesUp self.new (type_given_up self.old)
             (is_finished self.old.held) result }
@@ -165,7 +167,7 @@ impl<K: DeclaredKind, A: Allocator> Declarations<K, A> {
         was
     }
 
-    /// The same declarations once more. It is refused for want of memory alone.
+    /// A copy of the type. It is refused for want of memory alone.
     pub fn clone(&self) -> Result<Self, Fault>
     where
         A: Clone,
@@ -185,8 +187,8 @@ impl<K: DeclaredKind, A: Allocator> Declarations<K, A> {
 impl<K: DeclaringKind, A: Allocator> Declarations<K, A> {
     ghost use Rattle.wenc_types.specs.contracts.declarations.Declarations.{the_row};
 
-    /// Begins a core type, which is written by the encoder that is answered. It is refused where there would be too
-    /// many declarations (`TooMany`), or too many bytes in them (`TooLarge`).
+    /// Begins a core type, which is written by the encoder that is answered. It is refused where
+    /// there would be too many declarations (`TooMany`), or too many bytes in them (`TooLarge`).
     pub fn core_type(&mut self) -> Result<ComponentCoreTypeEncoder<'_, Declarations<K, A>>, Fault>
         ensures* refused { sem 𝓛 (RestsIfErr (the_row K.row A.row K.DeclaredKind A.Allocator)
             self.entry
@@ -201,7 +203,8 @@ impl<K: DeclaringKind, A: Allocator> Declarations<K, A> {
         Ok(ComponentCoreTypeEncoder::new(self))
     }
 
-    /// Begins a type, which is written by the encoder that is answered. It is refused as `core_type` is.
+    /// Begins a type, which is written by the encoder that is answered. It is refused as
+    /// `core_type` is.
     pub fn ty(&mut self) -> Result<ComponentTypeEncoder<'_, Declarations<K, A>>, Fault>
         ensures* refused { sem 𝓛 (RestsIfErr (the_row K.row A.row K.DeclaredKind A.Allocator)
             self.entry
@@ -216,8 +219,8 @@ impl<K: DeclaringKind, A: Allocator> Declarations<K, A> {
         Ok(ComponentTypeEncoder::new(self))
     }
 
-    /// Begins a type of values, which is written by the encoder that is answered with the type's index. It is refused
-    /// as `core_type` is.
+    /// Begins a type of values, which is written by the encoder that is answered with the type's
+    /// index. It is refused as `core_type` is.
     pub fn type_defined(
         &mut self,
     ) -> Result<(u32, ComponentDefinedTypeEncoder<'_, Declarations<K, A>>), Fault>
@@ -236,8 +239,8 @@ impl<K: DeclaringKind, A: Allocator> Declarations<K, A> {
         Ok((index, ComponentDefinedTypeEncoder::new(self)))
     }
 
-    /// Begins a type of functions, which is written by the encoder that is answered with the type's index. It is refused
-    /// as `core_type` is.
+    /// Begins a type of functions, which is written by the encoder that is answered with the type's
+    /// index. It is refused as `core_type` is.
     pub fn type_function(
         &mut self,
     ) -> Result<(u32, ComponentFuncTypeEncoder<'_, Declarations<K, A>>), Fault>
@@ -271,8 +274,8 @@ impl<K: DeclaringKind, A: Allocator> Declarations<K, A> {
         self.len() == 0
     }
 
-    /// How many core types there are: those of `core_type`, one that is being written among them, and those of outer
-    /// aliases.
+    /// How many core types there are: those of `core_type`, one that is being written among them,
+    /// and those of outer aliases.
     pub fn core_type_count(&self) -> u32
         ensures { result ≡ self.now.counts.core_types }
     {
@@ -287,8 +290,8 @@ impl<K: DeclaringKind, A: Allocator> Declarations<K, A> {
     }
 }
 
-/// A byte, then the number of declarations, then these. A finished one is refused for want of memory alone. What is
-/// written has some declarations, whoever made which calls.
+/// A byte, then the number of declarations, then these. A finished one is refused for want of
+/// memory alone. What is written has some declarations, whoever made which calls.
 impl<K: DeclaredKind, A: Allocator> Encode for Declarations<K, A> {
     ghost piece = { λ t. K.LEAD ▸ held_members t.held };
 

@@ -1,3 +1,4 @@
+//! Types of values, as trees.
 ghost use Rattle.std.specs.Prelude.{refl};
 ghost use Rattle.wenc_base.specs.laws.Serves.{serves_itself};
 
@@ -5,9 +6,9 @@ use std::alloc::{Allocator, Global};
 use wenc_base::{Delimited, DelimitedEq, Encode, Fault, Tagged};
 use wenc_parts::{ComponentValType, PrimitiveValType};
 
-/// A type of values that a component defines, with all that is in it (component model, binary format, "Type
-/// Definitions"). More than 4294967295 fields, cases, elements or names can't be encoded, nor can a text of more
-/// than 4294967295 bytes.
+/// A type of values that a component defines, with all that is in it (component model, binary
+/// format, "Type Definitions"). More than 4294967295 fields, cases, elements or names can't be
+/// encoded, nor can a text of more than 4294967295 bytes.
 ///
 /// ```
 /// let read = String::from_str(alloc, "read")?;
@@ -124,8 +125,8 @@ impl<A: Allocator> DelimitedEq for DefinedTree<A> {
         (λ v w. each_sees _ string_bytes (λ m n e. rw e refl) v.items w.items)) };
 }
 
-/// A case of a variant (component model, binary format, "Type Definitions"). A text of more than 4294967295 bytes
-/// can't be encoded.
+/// A case of a variant (component model, binary format, "Type Definitions"). A text of more than
+/// 4294967295 bytes can't be encoded.
 #[derive(Drop)]
 #[derive_where(PartialEq, Eq, Debug)]
 pub struct CaseTree<A: Allocator = Global> {

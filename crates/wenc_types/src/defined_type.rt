@@ -1,3 +1,4 @@
+//! The encoder that writes types of values.
 ghost use Rattle.std.specs.Iterator.{IsFinite};
 ghost use Rattle.std.specs.Prelude.{◌≡◌, true, false, map};
 ghost use Rattle.wenc_base.specs.Lender.{Ends, EndsListed, MakesWhole};
@@ -9,12 +10,12 @@ use std::alloc::Allocator;
 use wenc_base::{Encode, Fault, Lender, Tagged};
 use wenc_parts::{ComponentValType, PrimitiveValType};
 
-/// Writes one type of values into what it was lent. Each call is its last. Where a call is refused, or the encoder is
-/// dropped, what it was lent is left unfinished, until that gives the type up (component model, binary format, "Type
-/// Definitions").
+/// Writes one type of values into what it was lent. Each call is its last. Where a call is refused,
+/// or the encoder is dropped, what it was lent is left unfinished, until that gives the type up
+/// (component model, binary format, "Type Definitions").
 ///
-/// A call is refused where a list has more than 4294967295 values (`TooMany`), or where there would be too many bytes
-/// in a name or in what was lent (`TooLarge`).
+/// A call is refused where a list has more than 4294967295 values (`TooMany`), or where there would
+/// be too many bytes in a name or in what was lent (`TooLarge`).
 ///
 /// ```
 /// let string = ComponentValType::Primitive(PrimitiveValType::String);
@@ -32,7 +33,8 @@ pub struct ComponentDefinedTypeEncoder<'a, L: Lender> {
 }
 
 impl<'a, L: Lender> ComponentDefinedTypeEncoder<'a, L> {
-    /// An encoder of the member that the lender has just opened, of which each type of values is a whole one.
+    /// An encoder of the member that the lender has just opened, of which each type of values is a
+    /// whole one.
     pub fn new(lender: &'a mut L) -> Self
         requires opened { L.opened lender.old ≡ true }
         requires whole { (t : DefValType)
@@ -210,7 +212,7 @@ impl<'a> Encode for Case<'a> {
 
     ghost piece = { λ c. case (record { name = c.name.now; ty = c.ty }) };
 
-    /// The byte behind says that it refines no other case.
+    /// The last byte says that it refines no other case.
     fn encode<A: Allocator>(&self, sink: &mut Vec<u8, A>) -> Result<(), Fault> {
         (self.name, self.ty, Tagged(0x00, &())).encode(sink)
     }

@@ -1,3 +1,4 @@
+//! The encoder that writes types of functions.
 ghost use Rattle.std.specs.Iterator.{IsFinite};
 ghost use Rattle.std.specs.Prelude.{◌≡◌, ◌∷◌, [], true, false, map, OnOk, OnErr};
 ghost use Rattle.wenc_base.specs.Forms.{list};
@@ -36,13 +37,14 @@ impl FuncStage {
     }
 }
 
-/// Writes the type of a function into what it was lent (component model, binary format, "Type Definitions"). First may
-/// come whether it is asynchronous, then its parameters, then what it answers, which ends the type. A refused call
-/// leaves what was written, and may be tried again. Where the encoder is dropped before, what it was lent is left
-/// unfinished, until that gives the type up.
+/// Writes the type of a function into what it was lent (component model, binary format, "Type
+/// Definitions"). First may come whether it is asynchronous, then its parameters, then what it
+/// answers, which ends the type. A refused call leaves what was written, and may be tried again.
+/// Where the encoder is dropped before, what it was lent is left unfinished, until that gives the
+/// type up.
 ///
-/// A call is refused where a list has more than 4294967295 values (`TooMany`), or where there would be too many bytes
-/// in a name or in what was lent (`TooLarge`).
+/// A call is refused where a list has more than 4294967295 values (`TooMany`), or where there would
+/// be too many bytes in a name or in what was lent (`TooLarge`).
 ///
 /// ```
 /// let string = ComponentValType::Primitive(PrimitiveValType::String);
@@ -60,7 +62,8 @@ pub struct ComponentFuncTypeEncoder<'a, L: Lender> {
 }
 
 impl<'a, L: Lender> ComponentFuncTypeEncoder<'a, L> {
-    /// An encoder of the member that the lender has just opened, of which each type of functions is a whole one.
+    /// An encoder of the member that the lender has just opened, of which each type of functions is
+    /// a whole one.
     pub fn new(lender: &'a mut L) -> Self
         requires opened { L.opened lender.old ≡ true }
         requires whole { (f : Function)

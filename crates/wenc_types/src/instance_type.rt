@@ -1,3 +1,4 @@
+//! Types of instances.
 ghost use Rattle.std.specs.Prelude.{◌≡◌, IfOk};
 ghost use Rattle.wenc_parts.specs.Aliases.{alias_view, InstanceExport, Outer};
 ghost use Rattle.wenc_parts.specs.Imports.{extern_name_view};
@@ -45,8 +46,8 @@ impl DeclaringKind for InstanceTypes {
         serves_itself refl };
 }
 
-/// The type of an instance: what it exports, and the types that these have (component model, binary format, "Type
-/// Definitions").
+/// The type of an instance: what it exports, and the types that these have (component model, binary
+/// format, "Type Definitions").
 ///
 /// ```
 /// let string = ComponentValType::Primitive(PrimitiveValType::String);
@@ -60,8 +61,8 @@ impl DeclaringKind for InstanceTypes {
 pub type InstanceType<A = Global> = Declarations<InstanceTypes, A>;
 
 impl<A: Allocator> Declarations<InstanceTypes, A> {
-    /// Declares an alias. It is refused where there would be too many declarations (`TooMany`), or too many bytes in
-    /// them or in the alias's name (`TooLarge`).
+    /// Declares an alias. It is refused where there would be too many declarations (`TooMany`), or
+    /// too many bytes in them or in the alias's name (`TooLarge`).
     pub fn alias(&mut self, alias: Alias<'_>) -> Result<(), Fault>
         ensures { AddsToInstance self.old self.new result
             (Aliased (alias_view alias.entry)) }
@@ -82,8 +83,8 @@ impl<A: Allocator> Declarations<InstanceTypes, A> {
         self.add(&Tagged(0x04, &(name, ty)), sort_of_kind(ty.kind()))
     }
 
-    /// Declares an alias of the type that this instance exports under this name, and answers the alias's index. It is
-    /// refused as `alias` is.
+    /// Declares an alias of the type that this instance exports under this name, and answers the
+    /// alias's index. It is refused as `alias` is.
     pub fn alias_export_type(&mut self, instance: u32, name: &str) -> Result<u32, Fault>
         ensures added { AddsToInstance self.old self.new (indexed_outcome result)
             (Aliased (InstanceExport instance kinds.«Type» name.now)) }
@@ -98,8 +99,8 @@ impl<A: Allocator> Declarations<InstanceTypes, A> {
         Ok(index)
     }
 
-    /// Declares an alias of the instance that this instance exports under this name, and answers the alias's index. It
-    /// is refused as `alias` is.
+    /// Declares an alias of the instance that this instance exports under this name, and answers
+    /// the alias's index. It is refused as `alias` is.
     pub fn alias_export_instance(&mut self, instance: u32, name: &str) -> Result<u32, Fault>
         ensures added { AddsToInstance self.old self.new (indexed_outcome result)
             (Aliased (InstanceExport instance kinds.Instance name.now)) }
@@ -114,8 +115,8 @@ impl<A: Allocator> Declarations<InstanceTypes, A> {
         Ok(index)
     }
 
-    /// Declares an alias of the type with the index `outer` of the scope that is `count` components out, and answers the
-    /// alias's own index. It is refused as `alias` is.
+    /// Declares an alias of the type with the index `outer` of the scope that is `count` scopes out
+    /// (0 is this type), and answers the alias's own index. It is refused as `alias` is.
     pub fn alias_outer_type(&mut self, count: u32, outer: u32) -> Result<u32, Fault>
         ensures added { AddsToInstance self.old self.new (indexed_outcome result)
             (Aliased (Outer outers.«Type» count outer)) }
@@ -130,8 +131,8 @@ impl<A: Allocator> Declarations<InstanceTypes, A> {
         Ok(index)
     }
 
-    /// Declares an alias of the core type with the index `outer` of the scope that is `count` components out, and answers
-    /// the alias's own index. It is refused as `alias` is.
+    /// Declares an alias of the core type with the index `outer` of the scope that is `count`
+    /// scopes out (0 is this type), and answers the alias's own index. It is refused as `alias` is.
     pub fn alias_core_type(&mut self, count: u32, outer: u32) -> Result<u32, Fault>
         ensures added { AddsToInstance self.old self.new (indexed_outcome result)
             (Aliased (Outer outers.CoreType count outer)) }
@@ -146,7 +147,8 @@ impl<A: Allocator> Declarations<InstanceTypes, A> {
         Ok(index)
     }
 
-    /// Declares an export of a type under this name, and answers its index. It is refused as `alias` is.
+    /// Declares an export of a type under this name, and answers its index. It is refused as
+    /// `alias` is.
     pub fn export_type<B: Allocator>(
         &mut self,
         name: ComponentExternName<'_, B>,
@@ -161,8 +163,8 @@ impl<A: Allocator> Declarations<InstanceTypes, A> {
         Ok(index)
     }
 
-    /// Declares an export of an instance of the type with this index, and answers its index among the instances. It is
-    /// refused as `alias` is.
+    /// Declares an export of an instance of the type with this index, and answers its index among
+    /// the instances. It is refused as `alias` is.
     pub fn export_instance<B: Allocator>(
         &mut self,
         name: ComponentExternName<'_, B>,

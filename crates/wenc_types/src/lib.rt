@@ -1,8 +1,9 @@
 //! Types that components define, as trees and by the encoders that write them.
 //!
-//! Numbers, indices, counts and sizes are from 0 to 4294967295. What would have more declarations or values is refused
-//! with `TooMany`, what would have more bytes with `TooLarge`, what gets no memory with `Memory`, and what has
-//! something in it that was begun and not ended with `Unfinished`.
+//! Numbers, indices, counts and sizes are from 0 to 4294967295. What would have more declarations
+//! or values is refused with `TooMany`, what would have more bytes with `TooLarge`, what gets no
+//! memory with `Memory`, and what has something in it that was begun and not ended with
+//! `Unfinished`.
 #![tactic(auto)]
 
 pub mod component_type;

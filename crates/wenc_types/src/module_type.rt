@@ -1,3 +1,4 @@
+//! Types of core modules.
 ghost use Rattle.std.specs.Borrow.{sem, RestsIfErr};
 ghost use Rattle.std.specs.Prelude.{◌≡◌, false, OnOk, IfOk};
 ghost use Rattle.wenc_base.specs.Holder.{is_finished, AddCause};
@@ -29,8 +30,8 @@ impl DeclaredKind for ModuleTypes {
     ghost sort = { module_sort };
 }
 
-/// The type of a core module: what it imports and exports, and the types that these have (component model, binary
-/// format, "Core Definitions").
+/// The type of a core module: what it imports and exports, and the types that these have (component
+/// model, binary format, "Core Definitions").
 ///
 /// ```
 /// let mut ty = ModuleType::new(alloc);
@@ -44,15 +45,16 @@ impl<A: Allocator> Declarations<ModuleTypes, A> {
     ghost use Rattle.wenc_types.specs.contracts.declarations.Declarations.{the_row};
     ghost use Rattle.wenc_types.specs.contracts.module_type.ModuleTypes.{the_row as kind};
 
-    /// Declares an import of the module. It is refused where there would be too many declarations (`TooMany`), or
-    /// too many bytes in them or in one of the names (`TooLarge`).
+    /// Declares an import of the module. It is refused where there would be too many declarations
+    /// (`TooMany`), or too many bytes in them or in one of the names (`TooLarge`).
     pub fn import(&mut self, module: &str, name: &str, ty: EntityType) -> Result<(), Fault>
         ensures { AddsToModule self.old self.new result (ModuleImport «module».now name.now ty) }
     {
         self.add(&Tagged(0x00, &(module, name, ty)), None)
     }
 
-    /// Declares an alias of a core type of the scope that is `count` components out. It is refused as `import` is.
+    /// Declares an alias of a core type of the scope that is `count` scopes out (0 is this type).
+    /// It is refused as `import` is.
     pub fn alias_outer_core_type(&mut self, count: u32, index: u32) -> Result<(), Fault>
         ensures { AddsToModule self.old self.new result (ModuleOuter count index) }
     {
@@ -63,7 +65,8 @@ impl<A: Allocator> Declarations<ModuleTypes, A> {
         )
     }
 
-    /// Declares an alias as `alias_outer_core_type` does, and answers its index. It is refused as `import` is.
+    /// Declares an alias as `alias_outer_core_type` does, and answers its index. It is refused as
+    /// `import` is.
     pub fn alias_core_type(&mut self, count: u32, outer: u32) -> Result<u32, Fault>
         ensures added { AddsToModule self.old self.new (indexed_outcome result)
             (ModuleOuter count outer) }
@@ -81,7 +84,8 @@ impl<A: Allocator> Declarations<ModuleTypes, A> {
         self.add(&Tagged(0x03, &(name, ty)), None)
     }
 
-    /// Begins a type, which is written by the encoder that is answered. It is refused as `import` is.
+    /// Begins a type, which is written by the encoder that is answered. It is refused as `import`
+    /// is.
     pub fn ty(&mut self) -> Result<CoreTypeEncoder<'_, ModuleType<A>>, Fault>
         ensures* refused { sem 𝓛 (RestsIfErr (the_row kind A.row
             ⟦<ModuleTypes as DeclaredKind>⟧ A.Allocator) self.entry

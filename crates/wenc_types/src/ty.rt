@@ -1,3 +1,4 @@
+//! The encoder that writes one type of a component.
 ghost use Rattle.std.specs.Prelude.{◌≡◌, List, true, false, Err};
 ghost use Rattle.wenc_base.specs.Holder.{is_finished, held_members, EncodeCause};
 ghost use Rattle.wenc_base.specs.Lender.{Ends, MakesWhole};
@@ -16,9 +17,9 @@ use crate::type_tree::TypeTree;
 use std::alloc::Allocator;
 use wenc_base::{Fault, Lender, Tagged, ValType};
 
-/// Writes one type into what it was lent: a holder, or a type, section or builder that has one (component model,
-/// binary format, "Type Definitions"). Where it is dropped, or its last call is refused, what it was lent is left
-/// unfinished, until that gives the type up.
+/// Writes one type into what it was lent: a holder, or a type, section or builder that has one
+/// (component model, binary format, "Type Definitions"). Where it is dropped, or its last call is
+/// refused, what it was lent is left unfinished, until that gives the type up.
 ///
 /// ```
 /// let mut types = ComponentTypeSection::new(alloc);
@@ -44,8 +45,9 @@ impl<'a, L: Lender> ComponentTypeEncoder<'a, L> {
         ComponentTypeEncoder { lender }
     }
 
-    /// This component type, which ends the type. It is refused with `Unfinished` where the component type is
-    /// unfinished, and where there would be too many bytes in what was lent (`TooLarge`).
+    /// This component type, which ends the type. It is refused with `Unfinished` where the
+    /// component type is unfinished, and where there would be too many bytes in what was lent
+    /// (`TooLarge`).
     pub fn component<A: Allocator>(self, ty: &ComponentType<A>) -> Result<(), Fault>
         ensures ended { Ends L.appended L.ended L.refuses
             self.entry.lender.now self.exit.0.now result
@@ -79,8 +81,8 @@ impl<'a, L: Lender> ComponentTypeEncoder<'a, L> {
         self.lender.end_with(ty)
     }
 
-    /// The type of this tree, which ends the type. It is refused where a list in it is too long (`TooMany`), or where
-    /// there would be too many bytes (`TooLarge`).
+    /// The type of this tree, which ends the type. It is refused where a list in it is too long
+    /// (`TooMany`), or where there would be too many bytes (`TooLarge`).
     pub fn tree<A: Allocator>(self, ty: &TypeTree<A>) -> Result<(), Fault>
         ensures { Ends L.appended L.ended L.refuses self.entry.lender.now self.exit.0.now result
             (def_type (type_view ty.now)) }
@@ -107,9 +109,9 @@ impl<'a, L: Lender> ComponentTypeEncoder<'a, L> {
         ComponentDefinedTypeEncoder::new(lender)
     }
 
-    /// A resource type, by how a resource is represented, and the index of the core function that is called when one
-    /// is dropped, where there is such a function. This ends the type. It is refused where there would be too many
-    /// bytes in what was lent (`TooLarge`).
+    /// A resource type, by how a resource is represented, and the index of the core function that
+    /// is called when one is dropped, where there is such a function. This ends the type. It is
+    /// refused where there would be too many bytes in what was lent (`TooLarge`).
     pub fn resource(self, rep: ValType, dtor: Option<u32>) -> Result<(), Fault>
         ensures { Ends L.appended L.ended L.refuses self.entry.lender.now self.exit.0.now result
             (def_type (ResourceType rep dtor)) }

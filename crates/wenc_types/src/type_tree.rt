@@ -1,3 +1,4 @@
+//! Types that components define, as trees.
 ghost use Rattle.std.specs.Prelude.{OnOk};
 ghost use Rattle.wenc_base.specs.Encode.{Appends, list_in_order};
 ghost use Rattle.wenc_base.specs.Piece.{◌▸◌, ◌⨾◌};
@@ -12,8 +13,8 @@ use std::alloc::{Allocator, Global};
 use wenc_base::{Delimited, Encode, Fault, Tagged, ValType};
 use wenc_parts::{AliasTree, ComponentTypeRef, ComponentValType, NameTree, ResultList};
 
-/// A type that a component defines, with all that is in it, however deep (component model, binary format, "Type
-/// Definitions").
+/// A type that a component defines, with all that is in it, however deep (component model, binary
+/// format, "Type Definitions").
 ///
 /// ```
 /// let function = TypeTree::Func {
@@ -38,8 +39,8 @@ pub enum TypeTree<A: Allocator = Global> {
     Func {
         /// Whether it is asynchronous.
         is_async: bool,
-        /// The name of each parameter and its type, in their order. More than 4294967295 can't be encoded, nor can a
-        /// name of more than 4294967295 bytes.
+        /// The name of each parameter and its type, in their order. More than 4294967295 can't be
+        /// encoded, nor can a name of more than 4294967295 bytes.
         params: Vec<(String<A>, ComponentValType), A>,
         /// The type of the value that it answers, where it answers one.
         result: Option<ComponentValType>,
@@ -52,7 +53,8 @@ pub enum TypeTree<A: Allocator = Global> {
     Resource {
         /// How it is represented.
         rep: ValType,
-        /// The index of the function that ends it, from 0 to 4294967295, where there is one.
+        /// The index of the core function that is called when one is dropped, from 0 to 4294967295,
+        /// where there is one.
         dtor: Option<u32>,
     },
 }
@@ -65,13 +67,15 @@ pub enum InstanceDecl<A: Allocator = Global> {
     CoreType(CoreTypeTree<A>),
     /// A type, which gets the next index of types.
     Type(TypeTree<A>),
-    /// An alias, which gets the next index of its kind. A text of more than 4294967295 bytes can't be encoded.
+    /// An alias, which gets the next index of its kind. A text of more than 4294967295 bytes can't
+    /// be encoded.
     Alias(AliasTree<A>),
     /// The instance exports this.
     Export {
         /// Its name. A text of more than 4294967295 bytes can't be encoded.
         name: NameTree<A>,
-        /// Its type. An index of a type counts the types of this instance type, from 0 to 4294967295.
+        /// Its type. An index of a type counts the types of this instance type, from 0 to
+        /// 4294967295.
         ty: ComponentTypeRef,
     },
 }
@@ -84,7 +88,8 @@ pub enum ComponentDecl<A: Allocator = Global> {
     Import {
         /// Its name. A text of more than 4294967295 bytes can't be encoded.
         name: NameTree<A>,
-        /// Its type. An index of a type counts the types of this component type, from 0 to 4294967295.
+        /// Its type. An index of a type counts the types of this component type, from 0 to
+        /// 4294967295.
         ty: ComponentTypeRef,
     },
     /// What an instance type may declare as well.
@@ -228,7 +233,7 @@ fn encode_members<T: Encode, A: Allocator, B: Allocator>(
     Tagged(tag, &values.as_slice()).encode(sink)
 }
 
-/// A function, behind a byte that says whether it is asynchronous.
+/// A function, after a byte that says whether it is asynchronous.
 fn encode_function<A: Allocator, B: Allocator>(
     is_async: bool,
     params: &Vec<(String<A>, ComponentValType), A>,

@@ -76,7 +76,7 @@ pub extension_lawful : {A : Type 0} (make : Option ℕ → Composite → A) (sup
     → Lawful (option u32 supertype ⨾ composite_type c) (λ fuel. read_extension make) (make supertype c)
 extension_lawful make supertype c = then _ (option_lawful u32_lawful supertype) (last (make supertype) (composite_type_lawful c))
 
--- each of what is extended, behind the byte that says how
+-- each of what is extended, after the byte that says how
 pub extension_sound : {A : Type 0} (form : Form A) (b : ℕ) (make : Option ℕ → Composite → A)
     → ((supertype : Option ℕ) (c : Composite) (bytes rest : List ℕ) → (b ▸ (option u32 supertype ⨾ composite_type c)).Reads Wide bytes rest → (form (make supertype c)).Reads Wide bytes rest) → Sound (sound_behind b form) (read_extension make)
 extension_sound form b make k = then_tells _ (option_sound u32_sound) (λ supertype. last_tells (make supertype) composite_type_sound (λ c middle rest r bytes p. k supertype c _ rest (bytes, refl, (middle, p, r))))

@@ -35,7 +35,7 @@ limits_lawful make true false n (Some m) = row_lawful _ _ 0x03 (then _ (u64_lawf
 limits_lawful make true true n None = row_lawful _ _ 0x06 (last (λ k. make true true k None) (u64_lawful n))
 limits_lawful make true true n (Some m) = row_lawful _ _ 0x07 (then _ (u64_lawful n) (last (λ k. make true true n (Some k)) (u64_lawful m)))
 
--- a minimum alone, and both, behind a byte
+-- a minimum alone, and both, after a byte
 least_sound : {A : Type 0} (form : Form A) (b : ℕ) (make : ℕ → Option ℕ → A) → ((n : ℕ) (bytes rest : List ℕ) → (b ▸ u64 n).Reads Wide bytes rest → (form (make n None)).Reads Wide bytes rest) → Sound (sound_behind b form) (at_least make)
 least_sound form b make k = last_tells (λ n. make n None) u64_sound (λ n bytes rest r. k n _ rest (bytes, refl, r))
 

@@ -46,12 +46,12 @@ add_among {p} {q} h s fault c = rw s.text at (same_add h p.text p.Cause q.Cause 
 pub accepted_as : {p q : Piece} (old new : HolderState) → Serves p q → Accepted p old new → Accepted q old new
 accepted_as old new s a = record { state = rw s.text at a.state; fits = s.fits a.fits; free = add_free old s a.free }
 
--- the same of a call that adds it
+-- a call that added one piece for another
 pub adds_as : {p q : Piece} (old new : HolderState) (outcome : Result (Unit {0}) Fault) → Serves p q → AddsMember p old new outcome → AddsMember q old new outcome
 adds_as old new (Ok u) s a = record { ok = accepted_as old new s a.ok; err = tt; warranted = tt; unfinished_first = a.unfinished_first }
 adds_as old new (Err fault) s a = record { ok = tt; err = a.err; warranted = still_warranted _ _ (add_among old s) fault a.warranted; unfinished_first = a.unfinished_first }
 
--- and of a call that adds one that is made of values which an iterator gives
+-- a call that added one piece of the values that an iterator gives for another
 pub adds_listed_as : {S B : Type 0} (steps : S → Option B → S → Type 0) (values : S) (one other : List B → Piece) (old new : HolderState) (outcome : Result (Unit {0}) Fault)
     → ((vs : List B) → Serves (one vs) (other vs)) → AddsListed steps values one old new outcome → AddsListed steps values other old new outcome
 adds_listed_as steps values one other old new (Ok u) serve a = record {
@@ -67,7 +67,7 @@ adds_listed_as steps values one other old new (Err fault) serve a = record {
   unfinished_first = a.unfinished_first;
 }
 
--- ---- a member that is written piece by piece
+-- ---- a member that is written in several calls
 
 none_of : (o : Option Opening) → is_none o ≡ true → o ≡ None
 none_of None e = refl

@@ -110,7 +110,7 @@ refused_lawful cause l free never = record {
 
 -- ---- choices by the first byte
 
--- a piece behind a byte that a row has
+-- a piece after a byte that a row has
 pub row_lawful : {A : Type 0} {p : Piece} {v : A} (table : ℕ → List (ℕ × Reader A)) (other : ℕ → Reader A) (b : ℕ) → Lawful p (λ fuel. pick (table fuel) (other fuel) b) v → Lawful (b ▸ p) (λ fuel. choose (table fuel) (other fuel)) v
 unfolding choose
 row_lawful {p = p} table other b l = record {
@@ -151,7 +151,7 @@ first_byte table other b l =
       finds = r.finds;
     }
 
--- the same, of a piece that the byte begins
+-- two pieces, of which the first begins with a byte that a row has
 pub first_of_two : {A : Type 0} (p q : Piece) {v : A} (table : ℕ → List (ℕ × Reader A)) (other : ℕ → Reader A) (b : ℕ)
     → Lawful (p ⨾ q) (λ fuel. pick (table fuel) (other fuel) b) v → Lawful ((b ▸ p) ⨾ q) (λ fuel. choose (table fuel) (other fuel)) v
 first_of_two p q table other b l =

@@ -37,7 +37,7 @@ pub extends_for : {T : Type 0} {p q : Piece} (old new : T) (outcome : Result (Un
 extends_for old new (Ok u) next refuses s a = record { ok = a.ok ∙ ap next s.text; fits = s.fits a.fits; free = room_free refuses s a.free; err = tt; warranted = tt }
 extends_for old new (Err f) next refuses s a = record { ok = tt; fits = tt; free = tt; err = a.err; warranted = still_warranted _ _ (room_among refuses s) f a.warranted }
 
--- the same of one that is made of values which an iterator gives
+-- a piece of the values that an iterator gives, which was added for another
 pub extends_as : {T S B : Type 0} (steps : S → Option B → S → Type 0) (values : S) (old new : T) (outcome : Result (Unit {0}) Fault)
     (next : List ℕ → T) (refuses : List ℕ → Fault → Type 0) (one other : List B → Piece) → ((vs : List B) → Serves (one vs) (other vs))
     → ExtendsListed steps values old new outcome next refuses one → ExtendsListed steps values old new outcome next refuses other

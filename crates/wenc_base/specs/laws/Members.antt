@@ -105,7 +105,7 @@ module _ (P : List ℕ → Type 0) where
   pub keeps_more : (h : HolderState) (text : List ℕ) → is_finished h ≡ true → ∥ P text ∥₁ → HasMembers P h → HasMembers P (with_member h text)
   keeps_more h text finished one k = keeps_some (with_member h text) finished (∥∥₁_map₂ (contains_some h finished k) one (λ s p. some_more h text s p))
 
-  -- or the same of a call that may be refused
+  -- a call adds a member, or is refused
   pub keeps_took : (p : Piece) (old new : HolderState) (outcome : Result (Unit {0}) Fault) → (p.Fits → ∥ P p.text ∥₁) → AddsMember p old new outcome → HasMembers P old → HasMembers P new
   keeps_took p old new (Ok u) one a k = rw a.ok.state (keeps_more old p.text (was_finished old u a.unfinished_first) (one a.ok.fits) k)
   keeps_took p old new (Err f) one a k = rw a.err k

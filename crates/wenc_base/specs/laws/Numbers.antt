@@ -170,7 +170,7 @@ pos_is_read _ n _ rest (more {room = room} {b = b} {high = high} {bytes = bytes}
     let value : b - 128 + 128 * high ≡ n = omega arith in
     rw (le-ltb b 64 (omega arith), le-ltb b 128 low, pos_is_read room high bytes rest r, value) refl
 
--- and a number below 0, where the groups are turned over, and those behind them
+-- and a number below 0, where the groups are turned over, and those after them
 negsuc_is_read : (room n : ℕ) (front behind rest : List ℕ) → ReadsGroups Strict 64 room n front behind
     → read_signed (map complement front ++ rest) ≡ Ok (negsuc n, map complement behind ++ rest)
 unfolding read_signed lowered

@@ -112,7 +112,7 @@ behind_is (b ∷ lead) p =
     let s = behind_is lead p in
     record { text = ap (λ (t : List ℕ). b ∷ t) s.text; fits = s.fits; among = s.among; free = s.free }
 
--- a piece with nothing behind it
+-- a piece with nothing after it
 pub with_nothing : {p : Piece} → Serves (p ⨾ nothing) p
 with_nothing {p} = record { text = append-nil p.text; fits = λ h. h.0; among = λ fault c. elim c [ inl k ↦ k | inr none ↦ absurd none ]; free = left_free }
 
@@ -176,7 +176,7 @@ module _ {A S : Type 0} (one : Form A) (seen : A → S) (form : Form S) (serves 
   pub list_serves : (vs : List A) → Serves (list_in_order one vs) (list form (map seen vs))
   list_serves vs = serves_then (list_is_list one vs) (lists_serve vs)
 
-  -- the same behind bytes
+  -- a list after bytes, by what is seen of its values
   pub listed_serves : (lead : List ℕ) (vs : List A) → Serves (behind_bytes lead (list one vs)) (behind_bytes lead (list form (map seen vs)))
   listed_serves lead vs = behind_serves lead (lists_serve vs)
 

@@ -15,11 +15,11 @@ Told P Goes (Err Deep) = Goes
 pub record Tells {A : Type 0} (form : Form A) (Goes : List ℕ → Type 0) (read : Reader A) : Type 0 where
   pub tells : (bytes : List ℕ) → Told (λ x. (form x.0).Reads Wide bytes x.1) (Goes bytes) (read bytes)
 
--- the same where nothing is too deep
+-- What the reader finds is read, and nothing is too deep.
 abbrev pub Sound : {A : Type 0} → Form A → Reader A → Type 0
 Sound form read = Tells form (λ bytes. ⊥) read
 
--- the same of all of the bytes
+-- What the reader finds of all of the bytes is read, and nothing is too deep.
 pub record SoundWhole {A : Type 0} (form : A → Payload) (read : List ℕ → Result A Flaw) : Type 0 where
   pub tells : (bytes : List ℕ) → Told (λ v. (form v).ReadsAll Wide bytes) ⊥ (read bytes)
 
@@ -45,7 +45,7 @@ told_on P D Q E next (Ok x) h go k = k x h
 told_on P D Q E next (Err Bad) h go k = tt
 told_on P D Q E next (Err Deep) h go k = go h
 
--- what is left of a form behind this value of another one
+-- what is left of a form after this value of another one
 abbrev pub behind_value : {A B : Type 0} → Form A → A → Form B → Form B
 behind_value part v form w = record {
   Fits = (form w).Fits;
@@ -54,7 +54,7 @@ behind_value part v form w = record {
   Reads = λ mode middle rest. (bytes : List ℕ) → (part v).Reads mode bytes middle → (form w).Reads mode bytes rest;
 }
 
--- a value, then what is read behind it
+-- a value, then what is read after it
 pub then_tells : {A B : Type 0} {part : Form A} {read : Reader A} {form : Form B} {Goes : List ℕ → Type 0} (next : A → Reader B) → Tells part Goes read → ((v : A) → Sound (behind_value part v form) (next v)) → Tells form Goes (read >>= next)
 then_tells {part = part} {read = read} {form = form} {Goes = Goes} next t k = record {
   tells = λ bytes. told_on (λ x. (part x.0).Reads Wide bytes x.1) (Goes bytes) (λ y. (form y.0).Reads Wide bytes y.1) (Goes bytes) next (read bytes) (t.tells bytes) (λ g. g) (λ x r.
@@ -80,7 +80,7 @@ too_deep_tells k = record { tells = λ bytes. k bytes }
 
 -- ---- choices by the first byte
 
--- what is read behind this byte
+-- what is read after this byte
 abbrev pub sound_behind : {A : Type 0} → ℕ → Form A → Form A
 sound_behind b form v = record {
   Fits = (form v).Fits;
@@ -89,7 +89,7 @@ sound_behind b form v = record {
   Reads = λ mode bytes rest. (form v).Reads mode (b ∷ bytes) rest;
 }
 
--- each row finds only what is read behind its byte
+-- each row finds only what is read after its byte
 abbrev pub RowsTell : {A : Type 0} → Form A → (List ℕ → Type 0) → List (ℕ × Reader A) → Type 0
 RowsTell form Goes [] = Unit {0}
 RowsTell form Goes (row ∷ table) = Tells (sound_behind row.0 form) (λ bytes. Goes (row.0 ∷ bytes)) row.1 × RowsTell form Goes table
@@ -220,13 +220,13 @@ lawful_finds D l = record { finds = λ bytes rest r. rw (l.finds l.depth (omega 
 pub too_deep_finds : {A : Type 0} {p : Piece} {v : A} (D : Type 0) → D → Finds p too_deep v D
 too_deep_finds D d = record { finds = λ bytes rest r. d }
 
--- a piece behind a byte that a row has
+-- a piece after a byte that a row has
 pub row_finds : {A : Type 0} {p : Piece} {v : A} {D : Type 0} (table : List (ℕ × Reader A)) (other : Reader A) (b : ℕ) (read : Reader A) → ((rest : List ℕ) → pick table other b rest ≡ read rest)
     → Finds p read v D → Finds (b ▸ p) (choose table other) v D
 unfolding choose
 row_finds {v = v} {D = D} table other b read is_row f = record { finds = λ bytes rest r. rw (r.1, is_row r.0) (f.finds r.0 rest r.2) }
 
--- the other reader finds nothing behind the bytes of the table
+-- the other reader finds nothing after the bytes of the table
 abbrev pub ReadsApart : {A : Type 0} → Reader A → List (ℕ × Reader A) → Type 0
 ReadsApart other [] = Unit {0}
 ReadsApart other (row ∷ table) = ((rest : List ℕ) → other (row.0 ∷ rest) ≡ Err Bad) × ReadsApart other table

@@ -260,7 +260,7 @@ signed_only (negsuc n) bytes h d =
 
 -- ---- reading
 
--- a byte from top on has another behind it
+-- a byte from top on has another after it
 pub word_goes_on : (mode : Spelling) (top room n b : ℕ) (bytes rest : List ℕ) → top ≤ b → ReadsGroups mode top (suc room) n (b ∷ bytes) rest
     → (high : ℕ) × (n + 128 ≡ b + 128 * high) × ReadsGroups mode top room high bytes rest
 word_goes_on mode top room n b bytes rest h (last lt) = absurd (omega arith)

@@ -2,7 +2,7 @@
 use Rattle.std.specs.Prelude.{ℕ, ℤ, pos, negsuc, zero, suc, ◌+◌, ◌*◌, ◌-◌, ◌^◌, List, [], ◌∷◌, Result, Ok, Err, if◌then◌else◌, nat_lt}
 use Rattle.wenc_base.specs.Readers.{Flaw, Bad, Reader}
 
--- a byte from 128 on in front of what was found behind it, where the number is below `bound`
+-- a byte from 128 on in front of what was found after it, where the number is below `bound`
 abbrev pub raised : ℕ → ℕ → Result (ℕ × List ℕ) Flaw → Result (ℕ × List ℕ) Flaw
 raised bound b (Ok x) =
     if nat_lt (b - 128 + 128 * x.0) bound then Ok (b - 128 + 128 * x.0, x.1) else Err Bad

@@ -1,3 +1,4 @@
+//! Numbers that are put in front of what is written already.
 ghost use Rattle.std.specs.Prelude.{◌≡◌, ℕ, ◌+◌, ◌<◌, ◌≤◌, ◌++◌, List, length, take, drop, OnOk, OnErr, IfErr};
 ghost use Rattle.wenc_base.specs.Fault.{IsMemory};
 ghost use Rattle.wenc_base.specs.Number.{unsigned_text};
@@ -32,8 +33,8 @@ pub fn put_number<A: Allocator>(
     }
 }
 
-/// Puts a number in the place of the byte at `start`, or leaves it out with what is behind it where it is refused. Most
-/// have one byte.
+/// Puts a number in the place of the byte at `start`, or leaves out that byte and what follows it
+/// where it is refused. Most have one byte.
 #[tactic(auto, using(crate::proofs::Groups::put_over))]
 pub fn put_number_over<A: Allocator>(
     number: u32,
@@ -53,7 +54,8 @@ pub fn put_number_over<A: Allocator>(
     put_long_number_over(number, start, sink)
 }
 
-/// The same of a number that has more bytes.
+/// Puts a number of any length in the place of the byte at `start`, or leaves out that byte and
+/// what follows it where it is refused.
 #[cold]
 #[inline(never)]
 fn put_long_number_over<A: Allocator>(

@@ -1,3 +1,4 @@
+//! The trait `Named`: texts that are written as names.
 ghost use Rattle.std.specs.Prelude.{ℕ, List};
 ghost use Rattle.wenc_base.specs.Encode.{Serves};
 ghost use Rattle.wenc_base.specs.Forms.{name};
@@ -30,7 +31,7 @@ impl<A: Allocator> Named for String<A> {
     ghost as_name = { λ _. serves_itself };
 }
 
-/// The same text.
+/// A text that is lent, written as a name.
 impl<A: Allocator> Encode for &String<A> {
     ghost use Rattle.std.specs.String.{string_bytes};
 

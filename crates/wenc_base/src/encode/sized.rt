@@ -1,3 +1,4 @@
+//! Values after their size.
 ghost use Rattle.wenc_base.specs.Encode.{sized_in_order};
 
 use super::Encode;
@@ -5,8 +6,8 @@ use super::front::put_number;
 use crate::fault::Fault;
 use std::alloc::Allocator;
 
-/// How many bytes a value has, then the value. It is refused as the value is, or where there are too many
-/// bytes (`TooLarge`).
+/// How many bytes a value has, then the value. It is refused as the value is, or where there are
+/// too many bytes (`TooLarge`).
 #[derive(Clone, Copy)]
 pub struct WithSize<'a, T>(pub &'a T);
 

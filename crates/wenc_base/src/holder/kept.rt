@@ -1,3 +1,4 @@
+//! Bytes that a holder keeps in front of its members.
 ghost use Rattle.std.specs.Prelude.{◌≡◌, ◌+◌, ◌-◌, ◌<◌, ◌≤◌, ◌^◌, ◌++◌, [], true, false, length, take, drop, OnOk, OnErr, IfOk, IfErr};
 ghost use Rattle.wenc_base.specs.Encode.{Appends};
 ghost use Rattle.wenc_base.specs.Fault.{IsWarranted, either, NoCause};
@@ -10,7 +11,8 @@ use crate::encode::Encode;
 use crate::fault::Fault;
 use std::alloc::Allocator;
 
-/// The bytes that a holder keeps in front of its members: for one who has several sections in one vector.
+/// The bytes that a holder keeps in front of its members: for one who has several sections in one
+/// vector.
 impl<A: Allocator> Holder<A> {
     /// How many bytes are kept.
     pub fn kept_len(&self) -> usize
@@ -26,8 +28,8 @@ impl<A: Allocator> Holder<A> {
         &self.bytes[..self.kept]
     }
 
-    /// Keeps the members too, with this value's text behind them, and has no members then. Answers how many bytes
-    /// there were. A finished holder is refused for the value's own cause alone.
+    /// Keeps the members too, with this value's text after them, and has no members then. Answers
+    /// how many bytes there were. A finished holder is refused for the value's own cause alone.
     pub fn keep_all<E: Encode>(&mut self, more: &E) -> Result<usize, Fault>
         ensures ok { OnOk result (self.new ≡ holding
             (all_bytes self.old ++ (E.piece more.now).text) 0 []) }
@@ -51,8 +53,8 @@ impl<A: Allocator> Holder<A> {
         Ok(len)
     }
 
-    /// Goes back to the first `len` bytes, of which the first `kept` are kept, and the others are the texts of
-    /// `count` members. It takes no memory.
+    /// Goes back to the first `len` bytes, of which the first `kept` are kept, and the others are
+    /// the texts of `count` members. It takes no memory.
     pub fn go_back(&mut self, kept: usize, len: usize, count: u32)
         requires finished { is_finished self.old ≡ true }
         requires within { (kept ≤ len) × (len ≤ length (all_bytes self.old)) }
@@ -64,8 +66,8 @@ impl<A: Allocator> Holder<A> {
         self.count = count;
     }
 
-    /// Puts these bytes in the place of the kept ones from `start` to `end`, of which there are as many or more.
-    /// It takes no memory.
+    /// Puts these bytes in the place of the kept ones from `start` to `end`, of which there are as
+    /// many or more. It takes no memory.
     #[inline]
     pub fn fill_kept(&mut self, start: usize, end: usize, bytes: &[u8])
         requires within { (start ≤ end) × (end ≤ length self.old.kept) }
@@ -88,7 +90,7 @@ fn append<E: Encode, A: Allocator>(value: &E, sink: &mut Vec<u8, A>) -> Result<(
     value.encode(sink)
 }
 
-/// Puts a head in the place of the bytes from `start` to `end`; what stands behind them moves up to it.
+/// Puts a head in the place of the bytes from `start` to `end`; what follows them moves up to it.
 #[inline]
 fn fill<A: Allocator>(bytes: &mut Vec<u8, A>, start: usize, end: usize, head: &[u8])
     requires within { (start ≤ end) × (end ≤ length bytes.old.items) }
@@ -101,7 +103,8 @@ fn fill<A: Allocator>(bytes: &mut Vec<u8, A>, start: usize, end: usize, head: &[
     bytes.truncate(len - spare);
 }
 
-/// The same in a slice, of which the last bytes are spare then.
+/// Puts a head in the place of the bytes from `start` to `end` of a slice; what follows them moves
+/// up to it, and the last bytes are spare then.
 #[tactic(auto, using(crate::proofs::Kept::filled))]
 #[inline]
 fn move_up(bytes: &mut [u8], start: usize, end: usize, head: &[u8])

@@ -1,3 +1,4 @@
+//! Members that are written in several calls.
 ghost use Rattle.std.specs.Prelude.{◌≡◌, ◌≤◌, ◌<◌, ◌^◌, [], false, length, take, drop, OnOk, OnErr, IfErr};
 ghost use Rattle.wenc_base.specs.declared.fault.Fault.TheVariants.{TooLarge, Unfinished};
 ghost use Rattle.std.specs.Iterator.{IsFinite};
@@ -21,10 +22,11 @@ pub struct Opening {
     pub lead_end: usize,
 }
 
-/// A member that is written piece by piece. From `open` on the holder is unfinished, until the member is
-/// whole (`close`, `finish_member`) or given up (`discard_unfinished`).
+/// A member that is written in several calls. From `open` on the holder is unfinished, until the
+/// member is whole (`close`, `finish_member`) or given up (`discard_unfinished`).
 impl<A: Allocator> Holder<A> {
-    /// Begins a member by these bytes. It is refused as `add` is; where there are no bytes it takes no memory.
+    /// Begins a member by these bytes. It is refused as `add` is; where there are no bytes it takes
+    /// no memory.
     pub fn open(&mut self, lead: &[u8]) -> Result<(), Fault>
         ensures opened { BeginsMember self.old self.new result lead.now }
         ensures no_memory { lead.now ≡ [] → IfErr result (AddCause self.old [] (λ _. ⊥)) }
@@ -56,8 +58,8 @@ impl<A: Allocator> Holder<A> {
         }
     }
 
-    /// Adds these bytes to the member that is being written. It is refused where there would be too many bytes
-    /// with those of the number of members (`TooLarge`), and then nothing changes.
+    /// Adds these bytes to the member that is being written. It is refused where there would be too
+    /// many bytes with those of the number of members (`TooLarge`), and then nothing changes.
     pub fn append(&mut self, text: &[u8]) -> Result<(), Fault>
         requires { is_finished self.old ≡ false }
         ensures { AppendsToMember self.old self.new (member_appended self.old text.now) result
@@ -66,8 +68,8 @@ impl<A: Allocator> Holder<A> {
         self.append_encoded(&Verbatim(text))
     }
 
-    /// Adds the text of this value to the member that is being written. It is refused as `append` is, or as
-    /// the value is.
+    /// Adds the text of this value to the member that is being written. It is refused as `append`
+    /// is, or as the value is.
     pub fn append_encoded<E: Encode>(&mut self, value: &E) -> Result<(), Fault>
         requires { is_finished self.old ≡ false }
         ensures appended { AppendsToMember self.old self.new
@@ -79,8 +81,8 @@ impl<A: Allocator> Holder<A> {
         keep_in_room(&mut self.bytes, self.kept, start, self.count)
     }
 
-    /// Adds these bytes to the member that is being written, then the values as a list. It is refused as `append`
-    /// is, or as the values are.
+    /// Adds these bytes to the member that is being written, then the values as a list. It is
+    /// refused as `append` is, or as the values are.
     pub fn append_listed<T: Encode + Drop, I: Iterator<Item = T> + Drop>(
         &mut self,
         lead: &[u8],
@@ -96,8 +98,8 @@ impl<A: Allocator> Holder<A> {
         self.append_between(&Verbatim(lead), values, &())
     }
 
-    /// Adds the last bytes of the member that is being written. It is refused as `append` is, and then the
-    /// holder stays unfinished.
+    /// Adds the last bytes of the member that is being written. It is refused as `append` is, and
+    /// then the holder stays unfinished.
     pub fn close(&mut self, text: &[u8]) -> Result<(), Fault>
         requires { is_finished self.old ≡ false }
         ensures { AppendsToMember self.old self.new
@@ -116,8 +118,8 @@ impl<A: Allocator> Holder<A> {
         self.opening = None;
     }
 
-    /// Gives up the member that is being written, and says whether there was one: the holder is as it was before
-    /// `open`. It takes no memory.
+    /// Gives up the member that is being written, and says whether there was one: the holder is as
+    /// it was before `open`. It takes no memory.
     pub fn discard_unfinished(&mut self) -> bool
         ensures { GivesUp self.new (member_given_up self.old) (is_finished self.old) result }
     {

@@ -1,3 +1,4 @@
+//! Types of functions, arrays and structures.
 ghost use Rattle.std.specs.Prelude.{◌≡◌, IfOk, IfErr, refl};
 ghost use Rattle.std.specs.Iterator.{IsFinite};
 ghost use Rattle.std.specs.Iterator.Runs.{WholeRun};
@@ -21,8 +22,8 @@ pub struct FuncType<A: Allocator = Global> {
 }
 
 impl<A: Allocator> FuncType<A> {
-    /// A function type with these parameters and results. It is refused for want of memory alone. More than
-    /// 4294967295 of either can't be encoded.
+    /// A function type with these parameters and results. It is refused for want of memory alone.
+    /// More than 4294967295 of either can't be encoded.
     pub fn new<P: Iterator<Item = ValType> + Drop, R: Iterator<Item = ValType> + Drop>(
         alloc: A,
         params: P,
@@ -45,7 +46,8 @@ impl<A: Allocator> FuncType<A> {
         Ok(FuncType { params, results })
     }
 
-    /// The same of lists that there are. It takes no memory.
+    /// A function type of these parameters and results. It takes no memory. More than 4294967295 of
+    /// either can't be encoded.
     pub fn from_lists(params: Vec<ValType, A>, results: Vec<ValType, A>) -> Self
         ensures { (params_of result ≡ params.items) × (results_of result ≡ results.items) }
     {
@@ -100,7 +102,8 @@ impl<A: Allocator> DelimitedEq for FuncType<A> {
     ghost alike = { λ laws a b e. rw (same_params a b e, same_results a b e) (laws.refl b) };
 }
 
-/// The type of an array, by that of its elements (WebAssembly 3.0, binary format, "Composite Types").
+/// The type of an array, by that of its elements (WebAssembly 3.0, binary format, "Composite
+/// Types").
 #[derive(Clone, Copy, Debug, PartialEq, Eq)]
 pub struct ArrayType(pub FieldType);
 
@@ -178,7 +181,8 @@ impl<A: Allocator> DelimitedEq for StructType<A> {
     ghost alike = { λ laws a b e. rw (same_fields a b e) (laws.refl b) };
 }
 
-/// The type of a function, an array or a structure (WebAssembly 3.0, binary format, "Composite Types").
+/// The type of a function, an array or a structure (WebAssembly 3.0, binary format, "Composite
+/// Types").
 #[derive(Drop)]
 #[derive_where(PartialEq, Eq, Debug)]
 pub enum CompositeType<A: Allocator = Global> {

@@ -1,3 +1,4 @@
+//! The encoder that writes core types.
 ghost use Rattle.std.specs.Iterator.{IsFinite};
 ghost use Rattle.std.specs.Prelude.{◌≡◌, true, false, map};
 ghost use Rattle.wenc_base.specs.Composites.{RecType, Single, Rec, Struct, Array, composite_type, func_type_view, sub_view, rec_type, rec_type_view, standing};
@@ -12,12 +13,13 @@ use crate::fault::Fault;
 use crate::lender::Lender;
 use std::alloc::Allocator;
 
-/// Writes one core type, or types that refer to each other, into what it was lent: a holder, or a type, section or
-/// builder that has one. Each call is its last. Where a call is refused, or the encoder is dropped, what it was lent
-/// is left unfinished, until that gives the type up (WebAssembly 3.0, binary format, "Recursive Types").
+/// Writes one core type, or types that refer to each other, into what it was lent: a holder, or a
+/// type, section or builder that has one. Each call is its last. Where a call is refused, or the
+/// encoder is dropped, what it was lent is left unfinished, until that gives the type up
+/// (WebAssembly 3.0, binary format, "Recursive Types").
 ///
-/// A call is refused where a list has more than 4294967295 values (`TooMany`), or where there would be too many bytes
-/// in what it was lent (`TooLarge`).
+/// A call is refused where a list has more than 4294967295 values (`TooMany`), or where there would
+/// be too many bytes in what it was lent (`TooLarge`).
 ///
 /// ```
 /// let mut holder = Holder::new(alloc);
@@ -35,8 +37,9 @@ pub struct CoreTypeEncoder<'a, L: Lender> {
 }
 
 impl<'a, L: Lender> CoreTypeEncoder<'a, L> {
-    /// An encoder of the member that the lender has just opened, of which each core type is a whole one. With `guard` a
-    /// type that isn't final has a byte `00` before it, as it has in a component.
+    /// An encoder of the member that the lender has just opened, of which each core type is a whole
+    /// one. With `guard` a type that isn't final has a byte `00` before it, as it has in a
+    /// component.
     pub fn new(lender: &'a mut L, guard: bool) -> Self
         requires opened { L.opened lender.old ≡ true }
         requires whole { (g : RecType)
@@ -105,7 +108,8 @@ impl<'a, L: Lender> CoreTypeEncoder<'a, L> {
         self.lender.end_with(&Guarded(guard, ty))
     }
 
-    /// These types, which may refer to each other. They are one core type of what is written, and have no guards.
+    /// These types, which may refer to each other. They are one core type of what is written, and
+    /// have no guards.
     pub fn rec<'b, A: Allocator + 'b, I>(self, types: I) -> Result<(), Fault>
     where
         I: Iterator<Item = &'b SubType<A>> + Drop,

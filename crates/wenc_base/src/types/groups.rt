@@ -1,3 +1,4 @@
+//! Types that a module defines together.
 ghost use Rattle.std.specs.Prelude.{refl};
 ghost use Rattle.wenc_base.specs.laws.Serves.{serves_itself};
 

@@ -1,3 +1,4 @@
+//! Composite types with what they extend.
 ghost use Rattle.std.specs.Prelude.{OnOk, Some};
 ghost use Rattle.wenc_base.specs.Encode.{Appends};
 ghost use Rattle.wenc_base.specs.Forms.{option};
@@ -11,8 +12,8 @@ use crate::encode::{ByRef, Encode, Tagged};
 use crate::fault::Fault;
 use std::alloc::{Allocator, Global};
 
-/// A composite type, what it extends, and whether it can be extended (WebAssembly 3.0, binary format, "Recursive
-/// Types").
+/// A composite type, what it extends, and whether it can be extended (WebAssembly 3.0, binary
+/// format, "Recursive Types").
 #[derive(Drop)]
 #[derive_where(PartialEq, Eq, Debug)]
 pub struct SubType<A: Allocator = Global> {

@@ -1,4 +1,4 @@
--- What stands behind the opcode of a canonical function, as the code writes it.
+-- What follows the opcode of a canonical function, as the code writes it.
 use Rattle.std.specs.Prelude.{ℕ, [], ◌∷◌}
 use Rattle.wenc_base.specs.Piece.{Piece, ◌▸◌}
 use Rattle.wenc_canon.specs.declared.canon_tree.Operands.{Operands}
@@ -6,7 +6,7 @@ use Rattle.wenc_canon.specs.declared.canon_tree.Operands.TheVariants as operands
 use Rattle.wenc_canon.specs.Canonicals.{Index, Options, Flag, Zero, CoreType, Results, Slot, fields}
 use Rattle.wenc_canon.specs.Canonicals.{Lift, Lower, canonical}
 
--- what begins with this opcode, and has this behind it
+-- what begins with this opcode, and has this after it
 abbrev pub operand_behind : {A : Type 0} → ℕ → Operands A → Piece
 operand_behind opcode (operands.Lifted function ty options) =
     canonical (Lift function options.now.items ty)

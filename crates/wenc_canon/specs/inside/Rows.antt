@@ -59,7 +59,7 @@ builtin_by opcode fs vs =
     let i : Builtin = first_with opcode builtins in
     OfBuiltin i (as_values fs (row i).fields vs)
 
--- ---- fields, and options behind them
+-- ---- fields, and options after them
 
 abbrev pub and_options : List Field → List Field
 and_options fs = fs ++ Options ∷ []

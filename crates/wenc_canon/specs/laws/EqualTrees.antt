@@ -149,7 +149,7 @@ common f g gs hs p q e = sym p ∙ ap tree_fields_of e ∙ q
 index_row : (c : ℕ → Canonical) → ((n : ℕ) → tree_fields_of (c n) ≡ Number n ∷ []) → (x y : ℕ) → Decides (nat_eq x y) (c x ≡ c y)
 index_row c f x y = Decides-like _ (λ e. ap c e) (λ e. same_number x y (ap first (common (c x) (c y) _ _ (f x) (f y) e))) (unsigned_Decides x y)
 
--- an index behind what is fixed
+-- an index after what is fixed
 memory_row : (c : ℕ → Canonical) → ((n : ℕ) → tree_fields_of (c n) ≡ Fixed ∷ Number n ∷ []) → (x y : ℕ) → Decides (nat_eq x y) (c x ≡ c y)
 memory_row c f x y = Decides-like _ (λ e. ap c e) (λ e. same_number x y (ap second (common (c x) (c y) _ _ (f x) (f y) e))) (unsigned_Decides x y)
 

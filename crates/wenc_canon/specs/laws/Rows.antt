@@ -67,7 +67,7 @@ regrouped p q r = record {
   free = λ none. either_free (left_free (left_free none)) (either_free (right_free (left_free none)) (right_free none));
 }
 
--- fields, and options behind them, are fields
+-- fields, and options after them, are fields
 fields_then : (fs : List Field) (vs : Values fs) (os : List CanonicalOption) → Serves (fields fs vs ⨾ list canonical_option os) (fields (and_options fs) (values_then fs vs os))
 fields_then [] vs os = behind_is [] (list canonical_option os)
 fields_then (f ∷ []) v os = serves_itself

@@ -53,7 +53,7 @@ read_lift =
 abbrev pub read_lower : Reader Canonical
 read_lower = read_u32 >>= λ f. read_list read_canonical_option >>= λ os. give (Lower f os)
 
--- the same behind the opcode: a byte 00 comes first
+-- what follows the opcode: a byte 00, then the function
 abbrev pub read_lifted : Reader Canonical
 read_lifted = choose ((0x00, read_lift) ∷ []) nowhere
 

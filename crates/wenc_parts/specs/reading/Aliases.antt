@@ -21,7 +21,7 @@ read_outer_kind = choose (
 
 -- ---- aliases
 
--- what stands behind the byte that says which form it is
+-- what follows the byte that says which form it is
 abbrev pub read_export : ComponentExportKind → Reader AliasOf
 read_export kind =
     read_u32 >>= λ instance. read_name >>= λ name. give (InstanceExport instance kind name)

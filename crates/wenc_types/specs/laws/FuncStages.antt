@@ -6,12 +6,12 @@ use Rattle.wenc_types.specs.FuncStages.{async_byte, BeforeParams, params_from, R
 use Rattle.wenc_types.specs.declared.func_type.FuncStage.{FuncStage}
 use Rattle.wenc_types.specs.declared.func_type.FuncStage.TheVariants.{Start, Tagged, Params, Done}
 
--- behind the byte that tells whether it is asynchronous
+-- after the byte that tells whether it is asynchronous
 after_tag : (is_async : Bool) (bytes : List ℕ) → Remains Tagged bytes → Remains Start (async_byte is_async ∷ bytes)
 after_tag true bytes r = record { value = record { is_async = true; params = r.value.0; answer = r.value.1 }; fits = r.fits; is = ap (λ (t : List ℕ). 0x43 ∷ t) r.is }
 after_tag false bytes r = record { value = record { is_async = false; params = r.value.0; answer = r.value.1 }; fits = r.fits; is = ap (λ (t : List ℕ). 0x40 ∷ t) r.is }
 
--- behind the parameters
+-- after the parameters
 after_params : (stage : FuncStage) (params : List LabelledType) (bytes : List ℕ) → BeforeParams stage → (params_from stage params).Fits → Remains Params bytes → Remains stage ((params_from stage params).text ++ bytes)
 after_params Start params bytes before fit r =
     after_tag false ((list labelled_type params).text ++ bytes) (record { value = (params, r.value); fits = (fit, r.fits); is = ap (λ (t : List ℕ). (list labelled_type params).text ++ t) r.is })

@@ -42,7 +42,7 @@ read_component_declaration read = choose ((0x03, read_imported) ∷ []) (read_de
 
 -- ---- types
 
--- declarations, behind the first byte of the type that has them
+-- declarations, after the first byte of the type that has them
 abbrev pub read_components : Reader DefType → Reader DefType
 read_components read =
     read_u32 >>= λ n. times (read_component_declaration read) n >>= λ ds.

@@ -21,7 +21,7 @@ to_case name ty = record { name = name; ty = ty }
 abbrev pub read_type_or_none : Reader (Option ComponentValType)
 read_type_or_none = read_option read_value_type
 
--- the byte behind a case
+-- the byte after a case
 abbrev pub read_end : {A : Type 0} → A → Reader A
 read_end v = choose ((0x00, give v) ∷ []) nowhere
 
