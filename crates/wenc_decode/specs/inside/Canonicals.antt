@@ -7,18 +7,18 @@ use Rattle.wenc_canon.specs.reading.Canonicals.{read_field, rows}
 abbrev pub read_zero : Reader (Unit {0})
 read_zero = read_field Zero
 
--- the table behind the rows of functions, resources and tasks
+-- the table after the rows of functions, resources and tasks
 abbrev pub stream_rows : List (ℕ × Reader Canonical)
 stream_rows = drop 12 rows
 
--- behind those of streams
+-- the table after the rows of streams
 abbrev pub future_rows : List (ℕ × Reader Canonical)
 future_rows = drop 19 rows
 
--- behind those of futures
+-- the table after the rows of futures
 abbrev pub error_context_rows : List (ℕ × Reader Canonical)
 error_context_rows = drop 26 rows
 
--- behind those of error contexts, sets of waitables and backpressure
+-- the table after the rows of error contexts, sets of waitables and backpressure
 abbrev pub thread_rows : List (ℕ × Reader Canonical)
 thread_rows = drop 36 rows
