@@ -1,4 +1,4 @@
-//! The builder of a component, with the calls that add what stands alone.
+//! The builder of a component, with its calls for modules, aliases, imports, exports and components.
 ghost use Rattle.std.specs.Prelude.{◌≡◌, ◌↔◌, [], ◌∷◌, ◌++◌, List, IfOk, IfErr, OnErr, IsOk, IsTrue, Some, None, Err, true, false};
 ghost use Rattle.std.specs.Iterator.{IsFinite};
 ghost use Rattle.std.specs.Option.{option_copied};
