@@ -1,4 +1,4 @@
-//! The builder of a component, with its calls for modules, aliases, imports, exports and components.
+//! The builder of a component: its calls for modules, components, aliases, imports and exports.
 ghost use Rattle.std.specs.Prelude.{◌≡◌, ◌↔◌, [], ◌∷◌, ◌++◌, List, IfOk, IfErr, OnErr, IsOk, IsTrue, Some, None, Err, true, false};
 ghost use Rattle.std.specs.Iterator.{IsFinite};
 ghost use Rattle.std.specs.Option.{option_copied};
