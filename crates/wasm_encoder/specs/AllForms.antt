@@ -128,7 +128,7 @@ pub data FormName : Type 0 where
   NameAssociations : FormName
   -- of what names are of
   ItemSorts : FormName
-  -- ---- sections, behind their ids
+  -- ---- sections, after their ids
   CustomSections : FormName
   NameSections : FormName
   ProducersSections : FormName

@@ -12,12 +12,12 @@ use Rattle.wenc_parts.specs.declared.component.ComponentSectionId.TheVariants as
 use Rattle.wenc_types.specs.ComponentTypes.{DefType, def_type}
 use Rattle.wenc_types.specs.CoreTypes.{CoreType, core_type}
 
--- The entry is behind those of each list that the builder held.
+-- The entry comes after those of each list that the builder held.
 abbrev pub IsEntered : State → State → Entry → Type 0
 IsEntered old new x = (es : List Entry) → Holds old es → Holds new (es ++ x ∷ [])
 
--- A type that an accepted call began, as `BeginsItem` says, and that an encoder's accepted last call
--- wrote and ended, as `Ends` says, is entered.
+-- A type that an accepted call began, as `BeginsItem` says, and that an encoder's accepted last
+-- call wrote and ended, as `Ends` says, is entered.
 pub record AreEntered : Type 0 where
   pub types : {old lent new : State} (name : Option (List ℕ)) (t : DefType)
       → lent ≡ item_begun old (draft_in ids.«Type» Types name [])

@@ -1,3 +1,4 @@
+//! Commands: the calls of a builder as data, and a run of them.
 ghost use Rattle.std.specs.Prelude.{◌≡◌, ◌↔◌, ◌⊎◌, List, [], Ok, IfOk, IfErr, map};
 ghost use Rattle.std.specs.Option.{option_copied};
 ghost use Rattle.wenc_base.specs.Fault.{IsMemory, NoCause};
@@ -24,8 +25,8 @@ use wenc_parts::{AliasTree, ComponentExportKind, ComponentTypeRef, NameTree};
 use wenc_sections::{CoreInstanceTree, InstanceTree};
 use wenc_types::{CoreTypeTree, TypeTree};
 
-/// One call of a builder, as data (component model, binary format, "Component Definitions"). Each index is from 0 to
-/// 4294967295. Here the import of a function under the name that `name` holds:
+/// One call of a builder, as data (component model, binary format, "Component Definitions"). Each
+/// index is from 0 to 4294967295. Here the import of a resource type as `file`:
 ///
 /// ```
 /// let import = Command::Import {
@@ -56,8 +57,8 @@ pub enum Command<A: Allocator = Global> {
         /// The type.
         ty: CoreTypeTree<A>,
     },
-    /// A nested component, made by commands. It is accepted only with all of them accepted, and else refused with the
-    /// first fault among them.
+    /// A nested component, made by commands. It is accepted only with all of them accepted, and
+    /// else refused with the first fault among them.
     Component {
         /// The debug name of what is added, or none.
         debug_name: Option<String<A>>,
@@ -132,17 +133,18 @@ pub enum Command<A: Allocator = Global> {
     Custom {
         /// The name of the section.
         name: String<A>,
-        /// What stands behind the name.
+        /// What stands after the name.
         data: Vec<u8, A>,
     },
-    /// A custom section, by what stands behind its id.
+    /// A custom section, by what stands after its id.
     RawCustom {
         /// The bytes, which nothing checks.
         bytes: Vec<u8, A>,
     },
 }
 
-/// Makes the call that a command is. `Err`: the encoder of a type was refused, and the builder is unfinished.
+/// Makes the call that a command is. `Err`: the encoder of a type was refused, and the builder is
+/// unfinished.
 #[cycle(running)]
 fn run<A: Allocator, B: Allocator + Copy>(
     command: &Command<A>,
@@ -307,16 +309,17 @@ fn as_deref<A: Allocator>(name: &Option<String<A>>) -> Option<&str>
 /// What the commands of a run answered, and the bytes.
 #[derive(Drop)]
 pub struct Built<A: Allocator = Global> {
-    /// One answer for each command: the index of its item, if that has one, or why it was refused. Custom sections and
-    /// names have none.
+    /// One answer for each command: the index of its item, if that has one, or why it was refused.
+    /// Custom sections and names have none.
     pub answers: Vec<Result<Option<u32>, Fault>, A>,
     /// The component.
     pub bytes: Vec<u8, A>,
 }
 
-/// Makes the calls that the commands are, in order, on a new builder, keeps each answer, and finishes. A refused
-/// command adds nothing, and the ones after it run all the same. It is refused where there is no memory for the builder
-/// or for the answers, and where a type is refused while it is written: with that fault, and no further command runs.
+/// Makes the calls that the commands are, in order, on a new builder, keeps each answer, and
+/// finishes. A refused command adds nothing, and the ones after it run all the same. It is refused
+/// where there is no memory for the builder or for the answers, and where a type is refused while
+/// it is written: with that fault, and no further command runs.
 ///
 /// ```
 /// let import = Command::Import {
@@ -335,14 +338,16 @@ pub fn build<A: Allocator + Copy, B: Allocator>(
     alloc: A,
     commands: &[Command<B>],
 ) -> Result<Built<A>, Fault>
-    // There are entries that the commands and the answers lead to, and the bytes are the component of their items.
+    // There are entries that the commands and the answers lead to, and the bytes are the component
+    // of their items.
     ensures ran { IfOk result (λ b. (es : List Entry)
         × Ran (map command_view commands.now) b.answers.items es
         × (b.bytes.items ≡ whole (items es))) }
     // Their items can be encoded.
     ensures encodable { IfOk result (λ b. (es : List Entry)
         → Ran (map command_view commands.now) b.answers.items es → IsEncodable (items es)) }
-    // Where none of them is raw, the bytes have one reading, strictly and widely: the sections into which they are cut.
+    // Where none of them is raw, the bytes have one reading, strictly and widely: the sections into
+    // which they are cut.
     ensures one_reading { IfOk result (λ b. (es : List Entry)
         → Ran (map command_view commands.now) b.answers.items es → HasNoRaw (items es)
         → (mode : Spelling) (ss : List Section)
@@ -352,7 +357,7 @@ pub fn build<A: Allocator + Copy, B: Allocator>(
         → Ran (map command_view commands.now) b.answers.items es → HasNoRaw (items es)
         → (xs : List Item) → HasNoRaw xs → IsEncodable xs
         → (whole xs ≡ b.bytes.items) ↔ (xs ≡ items es)) }
-    // It is refused for want of memory, or by a type behind a front of the commands that ran.
+    // It is refused for want of memory, or by a type after a front of the commands that ran.
     ensures refused { IfErr result (λ fault. IsMemory fault
         ⊎ IsStopped (map command_view commands.now) fault) }
 {

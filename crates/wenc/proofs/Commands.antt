@@ -1,4 +1,4 @@
--- Commands behind those that were read.
+-- Commands after those that were read.
 use Rattle.std.proofs.Common.{◌≡◌, ℕ, ◌+◌, List, [], ◌∷◌, ◌++◌, length, Option, Some, None, Result, Ok, Err, refl, ap, ◌∙◌, append_assoc, eqb, false}
 use Rattle.wasm_encoder.specs.Command.{CommandTree}
 use Rattle.wenc.specs.Script.{commands_from, with_command, line_command}

@@ -18,7 +18,8 @@ sent_more a b c text sent rest n within p q e =
     let left : take (length rest - n) (drop n rest) ≡ drop n rest = take_all _ _ (omega (arith, length-drop n rest)) in
     (sent ++ take n rest, appends_both a b c sent (take n rest) p q, e ∙ rw (left, append_assoc, take-append-drop) refl)
 
--- What was sent of a text that follows another is, behind that, a front of both and what follows them.
+-- What was sent of a text that follows another is, after that, a front of both and what follows
+-- them.
 pub front_behind : (a b c : Option (List ℕ)) (xs ys zs text : List ℕ) → Appends a b xs → AppendsFront b c ys → text ≡ xs ++ (ys ++ zs) → AppendsFront a c text
 front_behind a b c xs ys zs text p f e = record {
   sent = xs ++ f.sent;

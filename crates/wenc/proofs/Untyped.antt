@@ -27,7 +27,7 @@ abbrev AllUntyped : List CommandTree → Type 0
 AllUntyped [] = Unit {0}
 AllUntyped (c ∷ cs) = (IsTyped c → ⊥) × AllUntyped cs
 
--- the same of what lines say
+-- no command that lines say has a type written
 abbrev SaysUntyped : Result (List CommandTree) ℕ → Type 0
 SaysUntyped (Ok cs) = AllUntyped cs
 SaysUntyped (Err line) = Unit {0}

@@ -8,14 +8,14 @@ use Rattle.wenc_canon.specs.Canonicals.{Field, Index, Flag, Zero, Value, Values,
 use Rattle.wenc_canon.specs.Canonicals.{builtins, Canonical, OfBuiltin}
 use Rattle.wenc.specs.Fields.{number_word, flag_word}
 
--- what words say of a field, and the words behind
+-- what words say of a field, and the words after it
 abbrev pub said : (f : Field) → List (List ℕ) → Option (Value f × List (List ℕ))
 said Index (word ∷ words) = option_map (λ n. (n, words)) (number_word word)
 said Flag (word ∷ words) = option_map (λ b. (b, words)) (flag_word word)
 said Zero words = Some (tt, words)
 said f words = None
 
--- what no words are behind
+-- what no words follow
 abbrev pub word_is_over : {T : Type 0} → T × List (List ℕ) → Option T
 word_is_over (v, []) = Some v
 word_is_over (v, word ∷ words) = None

@@ -14,7 +14,7 @@ use Rattle.wenc_parts.specs.declared.types.ComponentValType.TheVariants as value
 abbrev pub is_digit : ℕ → Bool
 is_digit b = nat_le 48 b && nat_le b 57
 
--- the value of decimal digits behind n
+-- the value of decimal digits after n
 abbrev pub value_behind : ℕ → List ℕ → Option ℕ
 value_behind n [] = Some n
 value_behind n (b ∷ bytes) = if is_digit b then value_behind (n * 10 + (b - 48)) bytes else None

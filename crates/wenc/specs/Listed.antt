@@ -36,7 +36,7 @@ abbrev pub section_lines : {A : Type 0} → List (ListedSection A) → List ℕ
 section_lines [] = []
 section_lines (s ∷ ss) = section_line s ++ section_lines ss
 
--- numbers, each behind a space
+-- numbers, each after a space
 abbrev pub with_space : List ℕ → List ℕ
 with_space [] = []
 with_space (n ∷ ns) = 32 ∷ decimal n ++ with_space ns

@@ -12,7 +12,7 @@ parted separator [] = [] ∷ []
 parted separator (b ∷ bytes) =
     if b == separator then [] ∷ parted separator bytes else first_grown b (parted separator bytes)
 
--- the parts of what is left behind a separator, if there was one
+-- the parts of what is left after a separator, if there was one
 abbrev pub parted_rest : ℕ → Option (List ℕ) → List (List ℕ)
 parted_rest separator None = []
 parted_rest separator (Some bytes) = parted separator bytes

@@ -1,3 +1,4 @@
+//! Functions that the component model provides, by their words.
 ghost use Rattle.std.specs.Prelude.{◌≡◌, ◌∷◌, [], drop, option_map};
 ghost use Rattle.wenc_canon.specs.CanonTrees.{canon_view};
 ghost use Rattle.wenc_canon.specs.Canonicals.{Index, Flag, builtins};
@@ -8,8 +9,8 @@ use crate::number::{flag, number};
 use crate::words::Words;
 use wasm_encoder::CanonTree;
 
-/// The builtin that a word names, with the words behind it. One with options, a core type or a result has no words.
-/// Those of resources and tasks come first.
+/// The builtin that a word names, with the words after it. One with options, a core type or a
+/// result has no words. Those of resources and tasks come first.
 pub fn builtin(verb: &str, words: Words) -> Option<CanonTree>
     ensures { option_map canon_view result ≡ builtin_said verb.now (words_left words.entry) }
 {
@@ -26,7 +27,7 @@ pub fn builtin(verb: &str, words: Words) -> Option<CanonTree>
     }
 }
 
-/// The same from those of streams on.
+/// The builtin that a word names, of those from streams on.
 fn of_stream(verb: &str, words: Words) -> Option<CanonTree>
     ensures { option_map canon_view result ≡
         one_of (drop 10 builtins) verb.now (words_left words.entry) }
@@ -48,7 +49,7 @@ fn of_stream(verb: &str, words: Words) -> Option<CanonTree>
     }
 }
 
-/// The same from those of futures on.
+/// The builtin that a word names, of those from futures on.
 fn of_future(verb: &str, words: Words) -> Option<CanonTree>
     ensures { option_map canon_view result ≡
         one_of (drop 17 builtins) verb.now (words_left words.entry) }
@@ -70,7 +71,8 @@ fn of_future(verb: &str, words: Words) -> Option<CanonTree>
     }
 }
 
-/// The same from those of error contexts on: these, those of sets of waitables, and of backpressure.
+/// The builtin that a word names, of those from error contexts on. Sets of waitables and
+/// backpressure come next.
 fn of_error_context(verb: &str, words: Words) -> Option<CanonTree>
     ensures { option_map canon_view result ≡
         one_of (drop 24 builtins) verb.now (words_left words.entry) }
@@ -89,7 +91,7 @@ fn of_error_context(verb: &str, words: Words) -> Option<CanonTree>
     }
 }
 
-/// The same of the last ones: those of threads, and those that forward.
+/// The builtin that a word names, of the last ones: those of threads, and those that forward.
 fn of_thread(verb: &str, words: Words) -> Option<CanonTree>
     ensures { option_map canon_view result ≡
         one_of (drop 34 builtins) verb.now (words_left words.entry) }

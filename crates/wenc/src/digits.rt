@@ -1,3 +1,4 @@
+//! Bytes in hexadecimal.
 ghost use Rattle.std.specs.Prelude.{◌≡◌, ◌*◌, ◌<◌, length, slice_index};
 ghost use Rattle.hex.specs.Hex.{encode_lower, lower_digits};
 
@@ -13,8 +14,8 @@ fn digit(number: u8) -> u8
     }
 }
 
-/// Writes bytes in hexadecimal into a text. It looks nothing up, so the compiler takes many bytes at
-/// a time.
+/// Writes bytes in hexadecimal into a text. It looks nothing up, so the compiler takes many bytes
+/// at a time.
 pub fn encode(bytes: &[u8], text: &mut [u8])
     requires { length text.old ≡ 2 * length bytes.now }
     ensures { text.new ≡ encode_lower bytes.now }

@@ -1,3 +1,4 @@
+//! Why nothing is printed.
 ghost use Rattle.std.specs.Prelude.{◌≡◌, alloc_error};
 ghost use Rattle.wenc.specs.declared.failure.Failure.TheVariants.{Fault as FaultFailure};
 ghost use Rattle.wenc_base.specs.declared.fault.Fault.TheVariants.{Memory};

@@ -1,3 +1,4 @@
+//! An input, read to its end.
 ghost use Rattle.wenc.specs.inside.Steps.{ReadsWhole};
 
 use crate::failure::Failure;

@@ -1,3 +1,4 @@
+//! Kinds of items, by their words.
 ghost use Rattle.std.specs.Prelude.{◌≡◌};
 ghost use Rattle.wenc.specs.Fields.{kind, reference_word};
 

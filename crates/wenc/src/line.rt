@@ -1,3 +1,4 @@
+//! What a line of a script says.
 ghost use Rattle.std.specs.Prelude.{◌≡◌, IfOk, option_map};
 ghost use Rattle.wasm_encoder.specs.Command.{command_view};
 ghost use Rattle.wenc.specs.Script.{import_command, export_command, alias_command, core_module_command, start_command, append_names_command, command_of, line_command};

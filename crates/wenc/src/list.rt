@@ -63,7 +63,7 @@ fn push_sections<A: Allocator>(
     Ok(())
 }
 
-/// Appends the numbers, each behind a space.
+/// Appends the numbers, each after a space.
 fn push_spaced<A: Allocator>(text: &mut String<A>, numbers: &[u128]) -> Result<(), AllocError>
     ensures { OnOk result
         (string_bytes text.new ≡ string_bytes text.old ++ with_space numbers.now) }

@@ -1,3 +1,4 @@
+//! Numbers, flags and bytes, by their words.
 ghost use Rattle.std.specs.Prelude.{◌≡◌, IfOk, option_map};
 ghost use Rattle.wenc.specs.Fields.{number_word, flag_word, hex};
 

@@ -1,3 +1,4 @@
+//! What is written to an output.
 ghost use Rattle.std.specs.Prelude.{◌*◌, ◌≤◌, ◌++◌, length, OnOk};
 ghost use Rattle.std.specs.Io.KnownBytes.{Appends};
 ghost use Rattle.hex.specs.Hex.{encode_lower};

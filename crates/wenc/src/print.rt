@@ -1,3 +1,4 @@
+//! The lines of the answers.
 ghost use Rattle.std.specs.Prelude.{◌≡◌, ◌++◌, IfOk, OnOk, string_bytes};
 ghost use Rattle.wenc.specs.Printed.{answer_line, answer_lines};
 

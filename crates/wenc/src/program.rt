@@ -1,3 +1,4 @@
+//! A run of the program, by its arguments.
 ghost use Rattle.std.specs.Prelude.{◌≡◌, ◌≢◌, ◌⊎◌, ◌↔◌, [], All, Any, IsOk, IsErr, IsTrue};
 ghost use Rattle.std.specs.Bool.{OnTrue, OnFalse};
 ghost use Rattle.std.specs.declared.alloc.Global.{Global};
@@ -43,8 +44,8 @@ fn status_of(answers: &[Result<Option<u32>, Fault>]) -> u8
     if has_refusal(answers) { REFUSED } else { DONE }
 }
 
-/// Runs the commands of a script, which allocate by `names` what they own. The text is freed once it is
-/// parsed, and the commands once they ran.
+/// Runs the commands of a script, which allocate by `names` what they own. The text is freed once
+/// it is parsed, and the commands once they ran.
 pub fn translate<A: Allocator + Copy>(
     alloc: A,
     names: Global,
@@ -176,8 +177,8 @@ pub fn run<R: Read, O: Write, E: Write>(
     run_with_allocators(alloc, alloc, args, input, out, err)
 }
 
-/// `run` with two allocators: what the commands own (names, a module's bytes, a start's arguments) is
-/// allocated by `names`, and all else by `alloc`.
+/// `run` with two allocators: what the commands own (names, a module's bytes, a start's arguments)
+/// is allocated by `names`, and all else by `alloc`.
 #[tactic(auto, using(crate::proofs::ListArgs::list_is_one))]
 pub fn run_with_allocators<A: Allocator + Copy, R: Read, O: Write, E: Write>(
     alloc: A,

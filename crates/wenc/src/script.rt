@@ -1,3 +1,4 @@
+//! A script, as its commands.
 ghost use Rattle.std.specs.Prelude.{◌≡◌, ◌∷◌, ◌+◌, ◌≤◌, ◌<◌, length, IfSome, ◌==◌, position};
 ghost use Rattle.std.specs.Option.{option_copied};
 ghost use Rattle.wenc.specs.Parts.{parted, parted_rest};
@@ -16,7 +17,7 @@ fn line_end(text: &[u8]) -> Option<usize>
     text.iter().position(|byte| *byte == b'\n')
 }
 
-/// The first line of a text, and what comes behind its end.
+/// The first line of a text, and what comes after its end.
 #[tactic(auto, using(crate::proofs::Parted::line_ends, crate::proofs::Parted::line_goes_on))]
 fn first_line(text: &[u8]) -> (&[u8], Option<&[u8]>)
     ensures parts { parted 10 text.now ≡ result.0.now ∷ parted_rest 10 (option_copied result.1) }

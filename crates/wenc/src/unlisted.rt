@@ -1,3 +1,4 @@
+//! Why a component is not listed.
 ghost use Rattle.std.specs.Prelude.{◌≡◌};
 ghost use Rattle.wenc.specs.declared.unlisted.Unlisted.TheVariants.{Fault as FaultUnlisted};
 ghost use Rattle.wenc_list.specs.declared.fault.ListFault.TheVariants.{Memory};
@@ -8,7 +9,7 @@ use wenc_list::ListFault;
 /// Why a component is not listed.
 #[derive(Clone, Copy, Debug)]
 pub enum Unlisted {
-    /// The text isn't hexadecimal digits, an even number of them, with at most one LF behind.
+    /// The text isn't hexadecimal digits, an even number of them, and at most one LF after them.
     BadText,
     /// There was no memory, or the bytes have this fault.
     Fault(ListFault),

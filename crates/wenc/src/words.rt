@@ -1,3 +1,4 @@
+//! The words of a line.
 ghost use Rattle.std.specs.Prelude.{◌≡◌, ◌≢◌, ◌∷◌, [], length, MatchOption};
 ghost use Rattle.wenc.specs.Parts.{parted};
 ghost use Rattle.wenc.specs.Script.{has_empty};

@@ -1,4 +1,4 @@
--- What is written behind its size is bytes, as all of it is.
+-- What is written after its size is bytes, as all of it is.
 use Rattle.std.proofs.Common.{ℕ, ◌<◌, ◌^◌, ◌++◌, List, length, Result, Ok, Err, OnOk}
 use Rattle.wenc_base.specs.Forms.{AreBytes}
 use Rattle.wenc_base.specs.Number.{unsigned_text}

@@ -1,4 +1,4 @@
--- The section whose items stand behind a gap, where the gap is filled.
+-- The section whose items stand after a gap, where the gap is filled.
 use Rattle.std.proofs.Common.{zero, length-take-le, take-append-drop, ◌≡◌, ℕ, suc, ◌+◌, ◌-◌, ◌≤◌, List, [], ◌∷◌, ◌++◌, length, take, drop, refl, arith, append_assoc, length-drop, sym, ap, ◌∙◌}
 use Rattle.wenc_base.specs.Number.{number_size}
 use Rattle.wenc_builder.specs.Builder.{open_text_of}

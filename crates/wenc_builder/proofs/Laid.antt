@@ -24,7 +24,7 @@ use Rattle.wenc_builder.specs.declared.builder.kind.Kind.{Kind}
 size_of_one : number_size 1 ≡ 1
 size_of_one = size_1 1 (omega arith)
 
--- ---- an item behind a gap
+-- ---- an item after a gap
 
 -- nothing keeps an empty holder from an opening without a lead
 pub opens : (kept : List ℕ) (new : HolderState) (outcome : Result (Unit {0}) Fault) → BeginsMember (holding kept 0 []) new outcome [] → IfErr outcome (AddCause (holding kept 0 []) [] (λ _. ⊥)) → outcome ≡ Ok tt
@@ -42,7 +42,7 @@ none_is_written_at h closed_len kind (Some x) opening o e = cc
 none_is_written : (h : HolderState) (closed_len : ℕ) (kind : Option Kind) (earlier : Option Earlier) → (buffer_view h closed_len kind earlier).writing ≡ None → (earlier ≡ None) × (h.opening ≡ None)
 none_is_written h closed_len kind earlier e = none_is_written_at h closed_len kind earlier h.opening refl e
 
--- the layout, where all that was there is kept and a member is begun behind a gap
+-- the layout, where all that was there is kept and a member is begun after a gap
 went_apart : (h : HolderState) (gap : List ℕ) (closed_len : ℕ) (kind : Option Kind) (k : Kind) (count items_end : ℕ) → MembersAreIn kind closed_len h → length gap ≡ 11 → count ≡ h.count → content_size h.count (length h.body) < 2 ^ 32
     → items_end ≡ length (all_bytes h) → OpensAnother (open_view kind h.count h.body) (kind_id k)
     → IsApart (member_begun (holding (all_bytes h ++ gap) 0 []) []) (Some k) (record { kind = kind; count = count; closed_len = closed_len; items_end = items_end })

@@ -40,7 +40,7 @@ room_grows_at s (Some b) text more e c =
 room_grows : (s : State) (text more : List ℕ) (fault : Fault) → no_room_in_section s text fault → no_room_in_section s (text ++ more) fault
 room_grows s text more fault p = (p.0, room_grows_at s s.begun text more refl p.1)
 
--- no room behind a text is no room for both
+-- no room after a text is no room for both
 room_behind : (s : State) (text more : List ℕ) (fault : Fault) → no_room_in_section (item_appended s text) more fault → no_room_in_section s (text ++ more) fault
 room_behind s text more fault p = (p.0, subst (λ (x : State). SectionCause (content_of x).sections.current TooLarge) (item_appended_twice s text more) p.1)
 

@@ -38,7 +38,7 @@ use Rattle.wenc_builder.proofs.Alone.{stood_nowhere}
 use Rattle.wenc_builder.proofs.Entered.{without_index_enters}
 use Rattle.wenc_builder.proofs.Viewed.{finished_is}
 
--- the subsections, one behind the other
+-- the subsections, one after the other
 abbrev all_names : List (Sort × HolderState) → List ℕ
 all_names ps = (each space_names ps).text
 

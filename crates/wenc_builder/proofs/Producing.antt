@@ -26,7 +26,7 @@ use Rattle.wenc_builder.proofs.Entered.{without_index_enters}
 use Rattle.wenc_builder.proofs.Standing.{without_index_outcome}
 use Rattle.wenc_builder.proofs.Texts.{item_piece}
 
--- the section as it is written, behind its id
+-- the section as it is written, after its id
 abbrev pub written : HolderState → Piece
 written h = 0x00 ▸ producers_held h
 

@@ -63,7 +63,7 @@ abbrev pub with_item_at : Option ℕ → SectionsState → List ℕ → Sections
 with_item_at None s text = stood_alone s text
 with_item_at (Some id) s text = entered s id text
 
--- the same by the item itself
+-- one more item, in a section or alone as its kind has it
 abbrev pub with_item : SectionsState → Item → SectionsState
 with_item s x = with_item_at (collected x) s (item x).text
 
@@ -168,7 +168,7 @@ pub record Draft : Type 0 where
 abbrev pub draft : ℕ → ℕ → Option (List ℕ) → List ℕ → Draft
 draft id space name text = record { id = id; space = space; name = name; text = text }
 
--- the same by the section and the space themselves
+-- what is to be written, by the section and the space themselves
 abbrev pub draft_in : ComponentSectionId → Space → Option (List ℕ) → List ℕ → Draft
 draft_in section space name text = draft (section_number section) (space_number space) name text
 
@@ -187,13 +187,13 @@ item_begun s d = record {
   begun = Some (record { id = d.id; text = d.text; space = d.space; after = space_with s d });
 }
 
--- an item with these bytes behind its text; where there is none, it stays so
+-- an item with these bytes after its text; where there is none, it stays so
 abbrev pub begun_appended : Option BegunItem → List ℕ → Option BegunItem
 begun_appended None text = None
 begun_appended (Some b) text =
     Some (record { id = b.id; text = b.text ++ text; space = b.space; after = b.after })
 
--- the same of the item that is being written
+-- the item that is being written, with these bytes after its text
 abbrev pub item_appended : State → List ℕ → State
 item_appended s text = record { settled = s.settled; begun = begun_appended s.begun text }
 

@@ -61,7 +61,7 @@ abbrev pub BeginCause : State → Draft → Fault → Type 0
 BeginCause old d =
     CallCause old (λ _. ⊥) (content_of (item_begun old d)) (Some (draft_indices d))
 
--- the same of a call that adds this entry
+-- why a call that adds this entry is refused
 abbrev pub EnterCause : State → Entry → Fault → Type 0
 EnterCause old x = CallCause old (item x.item).Cause (with_entry old.settled x) (defines x.item)
 

@@ -34,18 +34,18 @@ pub record EntersWith {R : Type 0} (old new : State) (result : Result R Fault) (
   pub warranted : IfErr result (IsWarranted (EnterCause old x))
   pub unfinished : (builder_is_finished old ≡ false) ↔ (result ≡ Err Unfinished)
 
--- The same, where the answer is the entry's index: the number of items that its space had.
+-- A call adds this entry and answers its index: the number of items that its space had.
 abbrev pub Enters : State → State → Result ℕ Fault → Entry → Type 0
 Enters old new result x =
     EntersWith old new result x (λ es i. IsIndexOf (items es) x.item i) (IsCountAt old)
 
--- The same, where the entry has no index.
+-- A call adds this entry, which has no index.
 abbrev pub EntersWithoutIndex : State → State → Result (Unit {0}) Fault → Entry → Type 0
 EntersWithoutIndex old new result x =
     EntersWith old new result x (λ es r. Unit {0}) (λ indices r. Unit {0})
 
--- The same of a call whose entry is made of the values that an iterator gives: of all of them, or
--- of those that came before it was refused.
+-- A call adds an entry that is made of the values that an iterator gives: of all of them, or of
+-- those that came before it was refused.
 pub record EntersListed {S B : Type 0} (steps : S → Option B → S → Type 0) (values : S)
     (old new : State) (result : Result ℕ Fault) (x : List B → Entry) : Type 0 where
   pub ok : OnOk result (WholeRun steps values (λ run. Enters old new result (x run.items)))
@@ -75,19 +75,19 @@ pub record TakesWith {R : Type 0} (old new next : State) (result : Result R Faul
   pub warranted : IfErr result (IsWarranted (CallCause old p.Cause after indices))
   pub unfinished_first : builder_is_finished old ≡ false → result ≡ Err Unfinished
 
--- The same where the answer is the number of items in the indices' space.
+-- A call takes these indices and answers the number of items that their space had.
 abbrev pub TakesIndices : State → State → State → Result ℕ Fault → Content → Indices → Piece
     → Type 0
 TakesIndices old new next result after d p =
     TakesWith old new next result after (Some d) p
     (λ i. i ≡ (namespace_at old.settled.spaces d.space).count)
 
--- The same of the index of a draft.
+-- A call takes the index of a draft, and answers it.
 abbrev pub Takes : State → State → State → Result ℕ Fault → Draft → Piece → Type 0
 Takes old new next result d p =
     TakesIndices old new next result (content_of (item_begun old d)) (draft_indices d) p
 
--- The same of an item that is written and ended too.
+-- A call takes the index of a draft, writes its item and ends it, and answers that index.
 abbrev pub TakesDraft : State → State → Result ℕ Fault → (List ℕ → Draft) → Piece → Type 0
 TakesDraft old new result d p =
     Takes old new (item_ended (item_begun old (d p.text))) result (d p.text) p

@@ -116,6 +116,6 @@ names_from k n [] = []
 names_from k n (e ∷ es) =
     named_in k (defines e.item) n e.name ++ names_from k (n + defined_in k e.item) es
 
--- the same of all entries
+-- the indices and names of all named entries in space k
 abbrev pub names : List Entry → ℕ → List NameAssociation
 names es k = names_from k 0 es

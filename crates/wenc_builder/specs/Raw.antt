@@ -21,6 +21,6 @@ SectionsHaveNoRaw = AllByRecursion (λ s. HasNoRaw (members s))
 abbrev pub AreEncodable : List Section → Type 0
 AreEncodable ss = (component ss).Fits
 
--- the same of the sections into which the items are cut
+-- The sections into which the items are cut can be encoded.
 abbrev pub IsEncodable : List Item → Type 0
 IsEncodable xs = AreEncodable (runs xs)

@@ -57,7 +57,7 @@ abbrev pub section_piece : Form Section
 section_piece (Run id xs) = only_where (IsTrue (collects id)) (id ▸ counted (item_of id) xs)
 section_piece (Alone x) = only_where (collected x ≡ None) (item x)
 
--- sections one behind the other, and then the end
+-- sections one after the other, and then the end
 abbrev pub sections : List Section → Payload
 sections [] = end
 sections (s ∷ ss) = section_piece s ⨾⨾ sections ss

@@ -48,7 +48,7 @@ kind_space TypeKind = Types
 kind_space Instance = Instances
 kind_space Component = Components
 
--- the same of what a core instance exports
+-- the space in which a core item of this kind has its index
 abbrev pub core_kind_space : ExportKind → Space
 core_kind_space core_kinds.Func = CoreFuncs
 core_kind_space core_kinds.Table = CoreTables
@@ -56,7 +56,7 @@ core_kind_space core_kinds.Memory = CoreMemories
 core_kind_space core_kinds.Global = CoreGlobals
 core_kind_space core_kinds.Tag = CoreTags
 
--- the same of what an outer alias stands for
+-- the space of what an outer alias stands for
 abbrev pub outer_kind_space : ComponentOuterAliasKind → Space
 outer_kind_space outer_kinds.CoreModule = CoreModules
 outer_kind_space outer_kinds.CoreType = CoreTypes

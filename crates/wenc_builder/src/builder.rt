@@ -1,3 +1,4 @@
+//! The builder of a component: its calls for modules, components, aliases, imports and exports.
 ghost use Rattle.std.specs.Prelude.{◌≡◌, ◌↔◌, [], ◌∷◌, ◌++◌, List, IfOk, IfErr, OnErr, IsOk, IsTrue, Some, None, Err, true, false};
 ghost use Rattle.std.specs.Iterator.{IsFinite};
 ghost use Rattle.std.specs.Option.{option_copied};
@@ -56,12 +57,14 @@ use wenc_parts::{
 use wenc_sections::ComponentStartSection;
 use wenc_sections::names::NAMES_LABEL;
 
-/// Builds a component call by call: collects neighbours of one kind in one section, and hands out the
-/// index of each item. A refused call changes nothing, and the next one goes on as if it had not been made.
+/// Builds a component call by call: collects neighbours of one kind in one section, and hands out
+/// the index of each item. A refused call changes nothing, and the next one goes on as if it had
+/// not been made.
 ///
-/// A call is refused where an index space, a section, a list or the names of a space would have more than 4294967295
-/// members (`TooMany`), where a text, a module, a component, a section or the names of a space would have more than
-/// 4294967295 bytes (`TooLarge`), for want of memory (`Memory`), and while an item is being written (`Unfinished`).
+/// A call is refused where an index space, a section, a list or the names of a space would have
+/// more than 4294967295 members (`TooMany`), where a text, a module, a component, a section or the
+/// names of a space would have more than 4294967295 bytes (`TooLarge`), for want of memory
+/// (`Memory`), and while an item is being written (`Unfinished`).
 ///
 /// ```
 /// let mut builder = ComponentBuilder::new(alloc)?;
@@ -257,8 +260,8 @@ impl<A: Allocator> ComponentBuilder<A> {
         }
     }
 
-    /// Appends the text of `lead`, the values as a list, and the text of `tail` to the item that is being written. Where
-    /// it is refused, a part of that may have been appended.
+    /// Appends the text of `lead`, the values as a list, and the text of `tail` to the item that is
+    /// being written. Where it is refused, a part of that may have been appended.
     fn append_between<E: Encode, T: Encode + Drop, I: Iterator<Item = T> + Drop, F: Encode>(
         &mut self,
         lead: &E,
@@ -314,8 +317,8 @@ impl<A: Allocator> ComponentBuilder<A> {
         }
     }
 
-    /// Adds what stands alone, with so many indices in a space, of which the first has a debug name or none. Answers
-    /// the index of that.
+    /// Adds what stands alone, with so many indices in a space, of which the first has a debug name
+    /// or none. Answers the index of that.
     fn stand_alone<E: Encode>(
         &mut self,
         space: Space,
@@ -356,7 +359,8 @@ impl<A: Allocator> ComponentBuilder<A> {
         self.buffer.stand_alone(section)
     }
 
-    /// Adds a canonical function, which has its index in this space, with a debug name or none. Answers its index.
+    /// Adds a canonical function, which has its index in this space, with a debug name or none.
+    /// Answers its index.
     fn add_canonical<B: Allocator>(
         &mut self,
         space: Space,
@@ -370,10 +374,10 @@ impl<A: Allocator> ComponentBuilder<A> {
         self.add(Kind::CanonicalFunction, space, name, function)
     }
 
-    /// Adds a section of the debug names so far, in the order of their spaces' sorts; the names stay, so that a second
-    /// call writes them again. Where there are no names it adds nothing, and the open section stays open. Refused as the
-    /// type says, but where there are no names only while an item is being written (component model, binary format, "Name
-    /// Section").
+    /// Adds a section of the debug names so far, in the order of their spaces' sorts; the names
+    /// stay, so that a second call writes them again. Where there are no names it adds nothing, and
+    /// the open section stays open. Refused as the type says, but where there are no names only
+    /// while an item is being written (component model, binary format, "Name Section").
     pub fn append_names(&mut self) -> Result<(), Fault>
         ensures { AddsNames self.old self.new result }
     {
@@ -558,9 +562,9 @@ impl<A: Allocator> ComponentBuilder<A> {
         self.stand_alone(Space::Components, 1, debug_name, &section)
     }
 
-    /// Has a function called with these values when the component is instantiated. Answers the number of values so
-    /// far, which is the index of the first result (component model, binary format, "Start Definitions"). Refused as
-    /// the type says.
+    /// Has a function called with these values when the component is instantiated. Answers the
+    /// number of values so far, which is the index of the first result (component model, binary
+    /// format, "Start Definitions"). Refused as the type says.
     pub fn start<V: AsSlice<u32> + Drop>(
         &mut self,
         function_index: u32,
@@ -588,7 +592,7 @@ impl<A: Allocator> ComponentBuilder<A> {
         self.add_alone(&Tagged(ComponentSectionId::CoreCustom.into(), section))
     }
 
-    /// Adds a custom section with these bytes behind its id (component model, binary format,
+    /// Adds a custom section with these bytes after its id (component model, binary format,
     /// "Component Definitions"). Nothing checks that they are such a section's. Refused as the type
     /// says.
     pub fn raw_custom_section(&mut self, section: &[u8]) -> Result<(), Fault>
@@ -598,7 +602,8 @@ impl<A: Allocator> ComponentBuilder<A> {
         self.add_alone(&Tagged(ComponentSectionId::CoreCustom.into(), &raw))
     }
 
-    /// Whether no item is being written. Then the builder holds some entries, whoever made which calls.
+    /// Whether no item is being written. Then the builder holds some entries, whoever made which
+    /// calls.
     pub fn is_finished(&self) -> bool
         ensures finished { result ≡ builder_is_finished self.now }
         ensures holds { builder_is_finished self.now ≡ true
@@ -607,8 +612,8 @@ impl<A: Allocator> ComponentBuilder<A> {
         self.buffer.is_finished()
     }
 
-    /// Gives up the item that is being written, with its index, its debug name and its index in a section, and says
-    /// whether there was one. It takes no memory.
+    /// Gives up the item that is being written, with its index, its debug name and its index in a
+    /// section, and says whether there was one. It takes no memory.
     pub fn discard_unfinished(&mut self) -> bool
         ensures { GivesUp self.new (item_given_up self.old)
             (builder_is_finished self.old) result }
@@ -620,14 +625,15 @@ impl<A: Allocator> ComponentBuilder<A> {
         true
     }
 
-    /// All bytes of the component. It takes no memory, and is refused only while an item is unfinished. They are the
-    /// whole of the items of some entries, whoever made which calls.
+    /// All bytes of the component. It takes no memory, and is refused only while an item is
+    /// unfinished. They are the whole of the items of some entries, whoever made which calls.
     pub fn finish(self) -> Result<Vec<u8, A>, Fault>
         ensures held { (es : List Entry) → Holds self es
             → IfOk result (λ v. v.items ≡ whole (items es)) }
         ensures some { IfOk result (λ v.
             ∥ ((es : List Entry) × Holds self es × (v.items ≡ whole (items es))) ∥₁) }
-        // Where no item is raw they have one reading, strictly and widely: the sections into which the items are cut.
+        // Where no item is raw they have one reading, strictly and widely: the sections into which
+        // the items are cut.
         ensures one_reading { IfOk result (λ v. (es : List Entry) → Holds self es
             → HasNoRaw (items es) → (mode : Spelling) (ss : List Section)
             → Reading mode v.items ss ↔ (ss ≡ runs (items es))) }
@@ -642,8 +648,9 @@ impl<A: Allocator> ComponentBuilder<A> {
     }
 }
 
-/// A builder lends itself to the encoders of types. Until an encoder's last call has ended its item, what grows or
-/// finishes the builder is refused with `Unfinished`; `discard_unfinished` gives the item up.
+/// A builder lends itself to the encoders of types. Until an encoder's last call has ended its
+/// item, what grows or finishes the builder is refused with `Unfinished`; `discard_unfinished`
+/// gives the item up.
 impl<A: Allocator> Lender for ComponentBuilder<A> {
     ghost use Rattle.wenc_builder.specs.Builder.{builder_is_finished, item_appended, item_ended};
     ghost use Rattle.wenc_builder.specs.LenderState.{builder_is_opened, is_whole, no_room_in_section};

@@ -21,11 +21,11 @@ At did None new answer = (answer ≡ Err NoBuilder) × (new ≡ None)
 abbrev pub Adds : Option Session → Option Session → Result ℕ Refusals → Entry → Type 0
 Adds old new answer x = At (λ s s' a. AddsTo s s' a x) old new answer
 
--- The same where there is an entry (`AddsIfTo`).
+-- The entry was added to what the handle owns, where there is one (`AddsIfTo`).
 abbrev pub AddsIfAt : Option Session → Option Session → Result ℕ Refusals → Option Entry → Type 0
 AddsIfAt old new answer x = At (λ s s' a. AddsIfTo s s' a x) old new answer
 
--- The same of an entry that has no index (`AddsWithoutIndexTo`).
+-- This entry, which has no index, was added to what the handle owns (`AddsWithoutIndexTo`).
 abbrev pub AddsWithoutIndex : Option Session → Option Session → Result (Unit {0}) Refusals → Entry
     → Type 0
 AddsWithoutIndex old new answer x = At (λ s s' a. AddsWithoutIndexTo s s' a x) old new answer

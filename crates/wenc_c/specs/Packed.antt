@@ -9,7 +9,7 @@ use Rattle.wenc_types.specs.ComponentTypes.{DefType, DefinedType, FunctionType}
 use Rattle.wenc_types.specs.DefinedTypes.{LabelledType, Record}
 use Rattle.wenc_c.specs.declared.packed.Part.{Part}
 
--- The names of these parts are the text, one behind the other, each so many bytes of it and whole
+-- The names of these parts are the text, one after the other, each so many bytes of it and whole
 -- characters; and the two numbers of each part stand for something.
 abbrev pub ArePacked : {T : Type 0} → (ℕ → ℕ → Option T) → List ℕ → List Part → Type 0
 ArePacked of text [] = text ≡ []

@@ -54,7 +54,7 @@ read_one id text =
     else (if nat_eq id 11 then made ExportItem (done read_inline_export text)
     else Err Bad))))))))))
 
--- the content of a custom section: a name, and the bytes behind it
+-- the content of a custom section: a name, and the bytes after it
 abbrev pub custom_of : List ℕ × List ℕ → Item
 custom_of x = CustomItem (record { label = x.0; bytes = x.1 })
 
@@ -110,7 +110,8 @@ abbrev pub of_nested_refusal : NestedRefusal → Refusals
 of_nested_refusal (nested.Flat refusal) = of_refusal refusal
 of_nested_refusal nested.TooDeep = TooDeep
 
--- The same of a component; a finished one is refused.
+-- The item that was read was added (`AddsRead`); or the component is finished, and nothing is
+-- changed.
 abbrev pub AddsReadTo : {R : Type 0} → (State → State → Result R Faults → Entry → Type 0) → Session
     → Session → Result R Refusals → Option (List ℕ) → Result Item Flaw → Type 0
 AddsReadTo enters (sessions.Building b) (sessions.Building b') answer name read =
@@ -119,7 +120,7 @@ AddsReadTo enters (sessions.Building b) (sessions.Finished bytes) answer name re
 AddsReadTo enters (sessions.Finished bytes) new answer name read =
     (answer ≡ Err Finished) × (new ≡ sessions.Finished bytes)
 
--- The same by a handle.
+-- The item that was read was added to what the handle owns (`AddsReadTo`).
 abbrev pub AddsReadAt : {R : Type 0} → (State → State → Result R Faults → Entry → Type 0)
     → Option Session → Option Session → Result R Refusals → Option (List ℕ) → Result Item Flaw
     → Type 0

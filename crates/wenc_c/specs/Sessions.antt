@@ -68,17 +68,18 @@ Does did (sessions.Finished bytes) new answer =
 abbrev pub AddsTo : Session → Session → Result ℕ Refusals → Entry → Type 0
 AddsTo old new answer x = Does (λ b b' result. Enters b b' result x) old new answer
 
--- The same of an entry that has no index.
+-- This entry, which has no index, was added, or it was refused for a cause (`EntersWithoutIndex`).
 abbrev pub AddsWithoutIndexTo : Session → Session → Result (Unit {0}) Refusals → Entry → Type 0
 AddsWithoutIndexTo old new answer x =
     Does (λ b b' result. EntersWithoutIndex b b' result x) old new answer
 
--- The same where there is an entry; else that is answered, and nothing is changed.
+-- The builder added the entry, where there is one; else that is answered, and nothing is changed.
 abbrev pub AddsIf : State → State → Result ℕ Refusals → Option Entry → Type 0
 AddsIf old new answer (Some x) = Answered (λ result. Enters old new result x) answer
 AddsIf old new answer None = (answer ≡ Err BadArgument) × (new ≡ old)
 
--- The same of a component; a finished one is refused.
+-- The entry was added, where there is one (`AddsIf`); or the component is finished, and nothing is
+-- changed.
 abbrev pub AddsIfTo : Session → Session → Result ℕ Refusals → Option Entry → Type 0
 AddsIfTo (sessions.Building b) (sessions.Building b') answer x = AddsIf b b' answer x
 AddsIfTo (sessions.Building b) (sessions.Finished bytes) answer x = ⊥

@@ -88,7 +88,8 @@ pub extern "C" fn wenc_component_ref(
     told(answer, index)
 }
 
-/// Adds what another handle owns as a nested component, and gives that up. Where it is refused, both are as they were.
+/// Adds what another handle owns as a nested component, and gives that up. Where it is refused,
+/// both are as they were.
 #[unsafe(no_mangle)]
 pub extern "C" fn wenc_component(
     alloc: Global,
@@ -154,7 +155,7 @@ pub extern "C" fn wenc_custom_section(
     outcome(answer)
 }
 
-/// Adds a custom section, by the bytes behind its id.
+/// Adds a custom section, by the bytes after its id.
 #[unsafe(no_mangle)]
 pub extern "C" fn wenc_raw_custom_section(alloc: Global, builder: &mut Handle, bytes: &[u8]) -> u32
     ensures added { AddsWithoutIndex builder.old.session builder.new.session (outcome_of result)

@@ -65,7 +65,7 @@ impl Handle {
         }
     }
 
-    /// The same handle, and whether it owns nothing.
+    /// This handle, and whether it owns nothing.
     fn tested(self) -> (Handle, bool)
         ensures { (result.0.session ≡ self.session) × (result.1 ≡ is_none self.session) }
     {

@@ -1,4 +1,5 @@
-//! Items by their texts: the bytes that stand for one in its section, in the component model's binary format.
+//! Items by their texts: the bytes that stand for one in its section, in the component model's
+//! binary format.
 ghost use Rattle.wenc_base.specs.Readers.{done};
 ghost use Rattle.wenc_types.specs.reading.ComponentTypes.{read_type};
 ghost use Rattle.wenc_parts.specs.Imports.{name_tree_view};
@@ -56,10 +57,11 @@ pub(crate) fn whole_import(
     }
 }
 
-/// An export, by its name, the kind and the index of what is exported, and the type that it is given, or none.
+/// An export, by its name, the kind and the index of what is exported, and the type that it is
+/// given, or none.
 pub(crate) type Exported = (NameTree, ComponentExportKind, u32, Option<ComponentTypeRef>);
 
-/// The export whose text begins the bytes, and what is behind it.
+/// The export whose text begins the bytes, and what is after it.
 fn export_of(alloc: Global, bytes: &[u8]) -> Result<(Exported, &[u8]), Refusal>
     ensures { Gives (λ x. (ascribed (name_tree_view x.0.0) x.0.1 x.0.2 x.0.3, x.1.now)) result
         (read_inline_export bytes.now) }
@@ -84,7 +86,8 @@ pub(crate) fn whole_export(alloc: Global, bytes: &[u8]) -> Result<Exported, Refu
     }
 }
 
-/// The start whose text all of the bytes are: the function, the values that it gets, and how many it answers.
+/// The start whose text all of the bytes are: the function, the values that it gets, and how many
+/// it answers.
 pub(crate) fn whole_start(alloc: Global, bytes: &[u8]) -> Result<(u32, Vec<u32>, u32), Refusal>
     ensures { Gives (λ x. started x.0 x.1.items x.2) result (done read_start_content bytes.now) }
 {

@@ -124,7 +124,8 @@ pub extern "C" fn wenc_export(
     told(answer, index)
 }
 
-/// The same under a name with options, each there or not.
+/// Exports the item of this kind with the index `item` under a name with options, each there or
+/// not, with a type or none.
 #[unsafe(no_mangle)]
 pub extern "C" fn wenc_export_named(
     alloc: Global,

@@ -1,4 +1,4 @@
-//! Lists of named things that C hands in: their names in one text, one behind the other, and a
+//! Lists of named things that C hands in: their names in one text, one after the other, and a
 //! part for each.
 ghost use Rattle.std.specs.Iterator.{YieldsFirstBy, item_count};
 ghost use Rattle.std.specs.Prelude.{◌≡◌, ℕ, MatchOption, Option as Options};
@@ -112,7 +112,7 @@ impl<'a, T: Sort> Iterator for Packed<'a, T> {
     }
 }
 
-/// The same of core items, as an instance exports them.
+/// What is left of a list of core items, as an instance exports them.
 #[derive(Drop)]
 pub struct Exports<'a>(pub Packed<'a, (ExportKind, u32)>);
 

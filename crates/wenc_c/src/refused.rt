@@ -101,7 +101,7 @@ pub(crate) fn told(answer: Result<u32, Refused>, out: &mut u32) -> u32
     }
 }
 
-/// The same where nothing is put out.
+/// Tells C an answer that puts nothing out: a status.
 pub(crate) fn outcome(answer: Result<(), Refused>) -> u32
     ensures told { outcome_of result ≡ answer }
     ensures few { result < 10 }

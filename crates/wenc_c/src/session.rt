@@ -28,8 +28,8 @@ use wenc_parts::{
     Alias, ComponentExportKind, ComponentExternName, ComponentTypeRef, ComponentValType,
 };
 
-/// A component, while it is built and when it is finished. Each call is the builder's; a finished component refuses
-/// it, and a refused call changes nothing.
+/// A component, while it is built and when it is finished. Each call is the builder's; a finished
+/// component refuses it, and a refused call changes nothing.
 #[derive(Drop)]
 pub enum Session {
     /// It takes more items.
@@ -261,7 +261,7 @@ impl Session {
         }
     }
 
-    /// Adds a custom section, by the bytes behind its id.
+    /// Adds a custom section, by the bytes after its id.
     pub fn raw_custom_section(&mut self, bytes: &[u8]) -> Result<(), Refused>
         ensures { AddsWithoutIndexTo self.old self.new result (raw_entry bytes.now) }
     {

@@ -46,7 +46,7 @@ pub(crate) fn write_type(
     }
 }
 
-/// The same of a core type.
+/// Adds a core type, with a debug name or none, and answers its index. What is refused is given up.
 pub(crate) fn write_core_type(
     builder: &mut ComponentBuilder,
     debug_name: Option<&str>,

@@ -1,4 +1,4 @@
-//! Aliases. Each begins with a sort, which may be an instance's export or an outer item.
+//! Aliases. Each begins with a sort, and is an instance's export or an outer item.
 ghost use Rattle.wenc_parts.specs.Aliases.{alias_tree_view};
 ghost use Rattle.wenc_parts.specs.reading.Aliases.{read_alias, read_export, read_core_export, read_outer, read_either, read_exported_alias, read_core_alias};
 ghost use Rattle.wenc_read.specs.Gives.{Gives};
@@ -82,7 +82,7 @@ fn export_alone<A: Allocator + Copy>(
     }
 }
 
-/// Either, by the byte behind the sort.
+/// An export of an instance or an outer item, by the byte after the sort.
 #[tactic(auto, unfolding(wenc_base::specs::Readers::choose))]
 fn either<A: Allocator + Copy>(
     alloc: A,
@@ -100,7 +100,7 @@ fn either<A: Allocator + Copy>(
     }
 }
 
-/// What is of a core sort, behind the sort's first byte.
+/// An alias of a core sort, after the sort's first byte.
 #[tactic(auto, unfolding(wenc_base::specs::Readers::choose))]
 fn core<A: Allocator + Copy>(alloc: A, bytes: &[u8]) -> Result<(AliasTree<A>, &[u8]), Refusal>
     ensures { Gives (λ x. (alias_tree_view x.0, x.1.now)) result (read_core_alias bytes.now) }

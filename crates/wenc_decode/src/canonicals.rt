@@ -186,7 +186,8 @@ macro_rules! returning {
     }};
 }
 
-/// A canonical function, after its opcode: the fields of its row. Those of functions, resources and tasks come first.
+/// A canonical function, after its opcode: the fields of its row. The rows up to those of streams
+/// stand here.
 fn function<A: Allocator + Copy>(
     alloc: A,
     opcode: u8,
@@ -254,7 +255,7 @@ fn of_future<A: Allocator + Copy>(
     }
 }
 
-/// What is found from the rows of error contexts on: of these, of sets of waitables, of backpressure.
+/// What is found from the rows of error contexts on: of these, sets of waitables, backpressure.
 fn of_error_context<A: Allocator + Copy>(
     alloc: A,
     opcode: u8,

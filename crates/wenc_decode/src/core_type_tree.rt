@@ -11,7 +11,7 @@ use wenc_base::{EntityType, GroupTree, SubType};
 use wenc_read::{Refusal, byte};
 use wenc_types::{CoreTypeTree, ModuleDecl};
 
-/// An alias of a type of a component around, behind its first byte.
+/// An alias of a type of a component around, after its first byte.
 #[tactic(auto, unfolding(wenc_base::specs::Readers::choose))]
 fn outer_type<A: Allocator + Copy>(
     alloc: A,
@@ -67,7 +67,7 @@ impl<A: Allocator + Copy> Decode<A> for ModuleDecl<A> {
     }
 }
 
-/// A type that can be extended, behind its guard.
+/// A type that can be extended, after its guard.
 #[tactic(auto, unfolding(wenc_base::specs::Readers::choose))]
 fn guarded<A: Allocator + Copy>(alloc: A, bytes: &[u8]) -> Result<(CoreTypeTree<A>, &[u8]), Refusal>
     ensures { Gives (λ x. (core_type_view x.0, x.1.now)) result (read_guarded bytes.now) }

@@ -75,8 +75,8 @@ impl<A: Allocator + Copy> Decode<A> for String<A> {
     }
 }
 
-/// The room for so many values of these bytes: that of all, from 0 to 4294967295, where each can have
-/// a byte, else none. It is never more than there are bytes.
+/// The room for so many values of these bytes: that of all, from 0 to 4294967295, where each can
+/// have a byte, else none. It is never more than there are bytes.
 pub fn room_for(count: u32, bytes: &[u8]) -> usize
     ensures fits { count ≤ length bytes.now → result ≡ count }
     ensures unmet { length bytes.now < count → result ≡ 0 }

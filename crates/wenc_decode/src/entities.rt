@@ -20,7 +20,7 @@ fn maximum(has_maximum: bool, bytes: &[u8]) -> Result<(Option<u64>, &[u8]), Refu
     Ok((Some(maximum), rest))
 }
 
-/// A memory, behind the byte of its limits.
+/// A memory, after the byte of its limits.
 fn memory(
     shared: bool,
     memory64: bool,
@@ -67,7 +67,7 @@ impl<A: Allocator + Copy> Decode<A> for MemoryType {
     }
 }
 
-/// A table of such elements, behind the byte of its limits.
+/// A table of such elements, after the byte of its limits.
 fn table(
     element_type: RefType,
     table64: bool,

@@ -16,7 +16,7 @@ use wenc_parts::{AliasTree, ComponentTypeRef, NameTree, ResultList};
 use wenc_read::{NestedRefusal, Refusal, byte, u32_of};
 use wenc_types::{ComponentDecl, CoreTypeTree, DefinedTree, InstanceDecl, TypeTree};
 
-/// The type of a function, behind its first byte.
+/// The type of a function, after its first byte.
 fn function_type<A: Allocator + Copy>(
     alloc: A,
     is_async: bool,
@@ -35,7 +35,7 @@ fn function_type<A: Allocator + Copy>(
     Ok((ty, rest))
 }
 
-/// The type of a resource, behind its first byte.
+/// The type of a resource, after its first byte.
 fn resource_type<A: Allocator + Copy>(
     alloc: A,
     bytes: &[u8],
@@ -47,9 +47,9 @@ fn resource_type<A: Allocator + Copy>(
     Ok((TypeTree::Resource { rep, dtor }, rest))
 }
 
-/// A type (component model, binary format, "Type Definitions") in which types of components and instances open at most
-/// `depth_left` times inside one another, and what is behind it. It is refused where none is spelled, as too deep where more
-/// of them open, and for want of memory.
+/// A type (component model, binary format, "Type Definitions") in which types of components and
+/// instances open at most `depth_left` times inside one another, and what is after it. It is
+/// refused where none is spelled, as too deep where more of them open, and for want of memory.
 #[cycle(types)]
 #[tactic(auto, using(wenc_types::specs::laws::ComponentTypes::one_level), unfolding(wenc_base::specs::Readers::choose))]
 pub fn type_of<A: Allocator + Copy>(
@@ -72,7 +72,7 @@ pub fn type_of<A: Allocator + Copy>(
     }
 }
 
-/// The type of a component, behind its first byte.
+/// The type of a component, after its first byte.
 #[cycle(types)]
 fn component_type<A: Allocator + Copy>(
     alloc: A,
@@ -90,7 +90,7 @@ fn component_type<A: Allocator + Copy>(
     Ok((TypeTree::Component(decls), rest))
 }
 
-/// The type of an instance, behind its first byte.
+/// The type of an instance, after its first byte.
 #[cycle(types)]
 fn instance_type<A: Allocator + Copy>(
     alloc: A,
@@ -199,7 +199,7 @@ fn instance_decl<A: Allocator + Copy>(
     }
 }
 
-/// An import, behind its first byte.
+/// An import, after its first byte.
 fn imported<A: Allocator + Copy>(
     alloc: A,
     bytes: &[u8],
@@ -212,7 +212,7 @@ fn imported<A: Allocator + Copy>(
     Ok((ComponentDecl::Import { name, ty }, rest))
 }
 
-/// An export, behind its first byte.
+/// An export, after its first byte.
 fn exported<A: Allocator + Copy>(
     alloc: A,
     bytes: &[u8],

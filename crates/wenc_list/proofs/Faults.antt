@@ -47,7 +47,7 @@ memory_or_deep all bytes (faults.BadSection place) f ss r =
 memory_or_deep all bytes (faults.BadItem place) f ss r = let next = next_read all bytes place _ f ss r in absurd (f.cause.never next.0 next.1 next.2)
 memory_or_deep all bytes (faults.TooDeep place) f ss r = inr (place, refl)
 
--- the same with why it is deep
+-- memory is wanting, or a type is too deep, and that is said
 pub only_deep : (all : ℕ) (bytes : List ℕ) (fault : ListFault) → IsFaultBehind all bytes fault → (ss : List Section) → (sections ss).ReadsAll Wide bytes → IsMemoryOrTooDeep ss fault
 only_deep all bytes fault f ss r = elim (memory_or_deep all bytes fault f ss r) [ inl e ↦ inl e | inr d ↦ inr (d.0, d.1, λ w. (let e = only_memory all bytes fault f ss r w in let g = d.1 in cc)) ]
 

@@ -160,7 +160,7 @@ is_read bytes id content rest xs e ok = section_reads id xs bytes content rest (
 pub is_within : (bytes : List ℕ) (id : ℕ) (content rest : List ℕ) (xs : List Item) → read_frame bytes ≡ Ok ((id, content), rest) → read_content 100 id content ≡ Ok xs → AreWithin 100 (item_section id xs ∷ [])
 is_within bytes id content rest xs e ok = (rw (members_of id xs) (filled_here bytes id content rest xs e ok).1, tt)
 
--- ---- sections, one behind the other
+-- ---- sections, one after the other
 
 groups_shorter : (room n : ℕ) (bytes rest : List ℕ) → ReadsGroups Wide 128 room n bytes rest → length rest < length bytes
 groups_shorter room n bytes rest (last lt) = omega arith
@@ -203,7 +203,7 @@ stops_here all place before bytes left (faults.TooDeep at_) r w p some f = recor
 
 -- ---- one reading
 
--- two sections that are read here leave the same
+-- two sections that are read here leave the same rest
 same_rest : (s t : Section) (bytes rest after : List ℕ) → (section_piece s).Reads Wide bytes rest → (section_piece t).Reads Wide bytes after → rest ≡ after
 same_rest s t bytes rest after r q =
     let f = section_framed s bytes rest r in
@@ -213,7 +213,8 @@ same_rest s t bytes rest after r q =
 nothing_read : (s : Section) (rest : List ℕ) → (section_piece s).Reads Wide [] rest → ⊥
 nothing_read s rest r = absurd (omega (arith, section_shorter s [] rest r))
 
--- where sections are read to the end, of each of which P holds, one more follows wherever some of them were read
+-- where sections are read to the end, of each of which P holds, one more follows wherever some of
+-- them were read
 pub goes_past : (P : Section → Type 0) (before ss : List Section) (bytes left : List ℕ) → (each section_piece before).Reads Wide bytes left → (sections ss).ReadsAll Wide bytes → AllByRecursion P ss → 0 < length left → (s : Section) × (rest : List ℕ) × (section_piece s).Reads Wide left rest × P s
 goes_past P [] [] bytes left b a w some = absurd (omega (arith, ap length b, ap length a))
 goes_past P [] (s ∷ ss) bytes left b a w some = (s, a.0, rw b at a.1, w.0)
@@ -276,7 +277,7 @@ content_fault TooDeep place bytes id content rest are e h = goes_deep place byte
 
 -- ---- headers
 
--- what is behind a header is behind its eight bytes
+-- what is after a header is after its eight bytes
 behind_it : (bytes rest : List ℕ) → preamble.Reads Wide bytes rest → drop 8 bytes ≡ rest
 behind_it bytes rest r = rw (r.1, r.2.1, r.2.2.1, r.2.2.2.1, r.2.2.2.2.1, r.2.2.2.2.2.1, r.2.2.2.2.2.2.1, r.2.2.2.2.2.2.2) refl
 

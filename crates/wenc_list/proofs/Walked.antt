@@ -65,7 +65,7 @@ none_found id bytes flaw e = of_item (read_content_item 100 id bytes) refl e
     of_item (Ok y) is e = absurd cc
     of_item (Err other) is e = no_item id bytes other is
 
--- ---- items, one behind the other
+-- ---- items, one after the other
 
 each_more : {A : Type 0} (form : Form A) (vs : List A) (v : A) (bytes middle rest : List ℕ) → (each form vs).Reads Wide bytes middle → (form v).Reads Wide middle rest → (each form (vs ++ v ∷ [])).Reads Wide bytes rest
 each_more form [] v bytes middle rest a b = (rest, rw (sym a) at b, refl)
@@ -158,7 +158,7 @@ frame_known bytes id content rest e = (is_framed bytes id content rest e).known
 
 -- ---- where a section stands
 
--- the rest stands behind some bytes
+-- the rest stands after some bytes
 abbrev Behind : List ℕ → List ℕ → Type 0
 Behind bytes rest = (front : List ℕ) × (bytes ≡ front ++ rest)
 

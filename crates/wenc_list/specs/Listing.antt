@@ -22,7 +22,7 @@ abbrev pub HasDepth : ℕ → Item → Type 0
 HasDepth limit (TypeItem ty) = depth ty ≤ limit
 HasDepth limit other = Unit {0}
 
--- the same of all items of these sections
+-- no item of these sections is deeper than this
 abbrev pub AreWithin : ℕ → List Section → Type 0
 AreWithin limit = AllByRecursion (λ s. AllByRecursion (HasDepth limit) (members s))
 
@@ -69,7 +69,7 @@ abbrev pub BeginsWith : ℕ → List ℕ → Type 0
 BeginsWith byte bytes = (rest : List ℕ) × (bytes ≡ byte ∷ rest)
 
 -- Each section is read where it is placed, where its id is the first byte, of so many bytes in all,
--- one behind the other up to the rest.
+-- one after the other up to the rest.
 abbrev pub AreFrom : {A : Type 0} → ℕ → List (ListedSection A) → List ℕ → List ℕ → Type 0
 AreFrom all [] bytes rest = bytes ≡ rest
 AreFrom all (s ∷ ss) bytes rest =
@@ -80,7 +80,7 @@ AreFrom all (s ∷ ss) bytes rest =
 abbrev pub count_of_sections : ℕ → List Section → ℕ
 count_of_sections k ss = next_index (flat_map members ss) k
 
--- so it is of all of a component, behind its header
+-- so it is of all of a component, after its header
 abbrev pub ArePlaced : {A : Type 0} → List ℕ → List (ListedSection A) → Type 0
 ArePlaced bytes ss =
     (behind : List ℕ) × preamble.Reads Wide bytes behind × AreFrom (length bytes) ss behind []
@@ -104,7 +104,7 @@ pub record StopsAt (all : ℕ) (bytes : List ℕ) (place : ℕ) (P : List ℕ �
   pub none_within : IsNoneWithin left
   pub cause : P left
 
--- the fault has its cause, behind the header
+-- the fault has its cause, after the header
 abbrev pub IsFaultBehind : ℕ → List ℕ → ListFault → Type 0
 IsFaultBehind all bytes faults.Memory = Unit {0}
 IsFaultBehind all bytes (faults.NotAComponent place) = ⊥

@@ -1,4 +1,4 @@
--- What stands behind an id and a size, in a section of names and in a core module (component model,
+-- What stands after an id and a size, in a section of names and in a core module (component model,
 -- binary format, "Name Section"; WebAssembly 3.0, binary format, "Sections").
 use Rattle.std.specs.Prelude.{ℕ, List, [], ◌∷◌, map, length, take, drop, Result, Ok, Err, nat_eq}
 use Rattle.std.specs.Prelude.{nat_lt, if◌then◌else◌}
@@ -19,7 +19,7 @@ use Rattle.wenc_list.specs.declared.names.ItemName.{ItemName}
 use Rattle.wenc_list.specs.declared.names.Names.{Names}
 use Rattle.wenc_list.specs.declared.names.Names.TheVariants as names
 
--- ---- what is behind an id and a size
+-- ---- what is after an id and a size
 
 -- any id, and so many bytes as the size says
 abbrev pub read_part : Reader (ℕ × List ℕ)

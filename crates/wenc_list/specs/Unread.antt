@@ -11,7 +11,7 @@ use Rattle.wenc_list.specs.declared.fault.ListFault.TheVariants as faults
 use Rattle.wenc_list.specs.declared.unread.Unread.{Unread}
 use Rattle.wenc_list.specs.declared.unread.Unread.TheVariants as parts
 
--- So many items of the section with this id are read, one behind the other, each within depth 100.
+-- So many items of the section with this id are read, one after the other, each within depth 100.
 pub record ReadsItems (id : ℕ) (bytes : List ℕ) (number : ℕ) (left : List ℕ) : Type 0 where
   pub items : List Item
   pub read : (each (item_of id) items).Reads Wide bytes left
@@ -24,7 +24,7 @@ IsNoItem id bytes = (x : Item) (rest : List ℕ) → (item_of id x).Reads Wide b
     → HasDepth 100 x → ⊥
 
 -- The content of a section that collects items, which ends at this place: its count is read, and so
--- many items behind that. What is left begins at `here`, and P holds of the count and of that.
+-- many items after that. What is left begins at `here`, and P holds of the count and of that.
 pub record StopsInside (id : ℕ) (content : List ℕ) (ends number here : ℕ)
     (P : ℕ → List ℕ → Type 0) : Type 0 where
   pub collecting : IsTrue (collects id)
@@ -60,7 +60,7 @@ IsUnreadIn id content ends (parts.Behind here) =
     (number : ℕ) × StopsInside id content ends number here
     (λ count left. (number ≡ count) × (0 < length left))
 
--- The same of the section that begins here, of so many bytes in all.
+-- this is the first of the section that begins here that isn't read, of so many bytes in all
 pub record IsUnread (all : ℕ) (bytes : List ℕ) (unread : Unread) : Type 0 where
   pub id : ℕ
   pub content : List ℕ

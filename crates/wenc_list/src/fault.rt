@@ -1,3 +1,4 @@
+//! Why a component is not listed.
 ghost use Rattle.std.specs.Prelude.{◌≡◌};
 ghost use Rattle.wenc_list.specs.declared.fault.ListFault.TheVariants.{Memory};
 
@@ -16,7 +17,8 @@ pub enum ListFault {
         /// It is 0.
         place: usize,
     },
-    /// Here stands an id above 11, no size, a size past the end, or a custom section without a name.
+    /// Here stands an id above 11, no size, a size past the end, or a custom section without a
+    /// name.
     #[error("BadSection at {place}")]
     BadSection {
         /// The first section that is not read.

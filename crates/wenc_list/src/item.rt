@@ -10,8 +10,9 @@ use wenc_parts::{AliasTree, ComponentExportKind, ComponentTypeRef, NameTree};
 use wenc_sections::{CoreInstanceTree, InstanceTree};
 use wenc_types::{CoreTypeTree, TypeTree};
 
-/// An item of a component, as it was read (component model, binary format, "Component Definitions"). Each index is from 0 to
-/// 4294967295, and nothing says that there is an item with it.
+/// An item of a component, as it was read (component model, binary format, "Component
+/// Definitions"). Each index is from 0 to 4294967295, and nothing says that there is an item with
+/// it.
 #[derive(Drop)]
 pub enum ItemTree<A: Allocator = Global> {
     /// A core module, by its bytes, which are not read.
@@ -61,7 +62,7 @@ pub enum ItemTree<A: Allocator = Global> {
     Custom {
         /// Its name.
         name: String<A>,
-        /// The bytes behind its name.
+        /// The bytes after its name.
         data: Vec<u8, A>,
     },
 }

@@ -32,13 +32,13 @@ pub struct ListedSection<A: Allocator = Global> {
 pub struct Listing<A: Allocator = Global> {
     /// Its sections, in their order.
     pub sections: Vec<ListedSection<A>, A>,
-    /// How many indices its items take in each space, in the order in which a builder tells its counts: core modules,
-    /// core functions, core types, core memories, core tables, core instances, core tags, core globals, functions,
-    /// instances, values, components, types.
+    /// How many indices its items take in each space, in the order in which a builder tells its
+    /// counts: core modules, core functions, core types, core memories, core tables, core
+    /// instances, core tags, core globals, functions, instances, values, components, types.
     pub counts: [u128; 13],
 }
 
-/// The bytes behind the header.
+/// The bytes after the header.
 fn behind_header(bytes: &[u8]) -> Result<&[u8], ListFault>
     ensures { MatchResult result (λ rest. preamble.Reads Wide bytes.now rest.now)
         (λ fault. (fault ≡ NotAComponent 0) × HasNoHeader bytes.now) }
@@ -59,7 +59,8 @@ fn frame_fault(refusal: Refusal, place: usize) -> ListFault
     }
 }
 
-/// Why the content of a section with this id isn't read. Of a custom section only the name can be malformed.
+/// Why the content of a section with this id isn't read. Of a custom section only the name can be
+/// malformed.
 fn content_fault(refusal: NestedRefusal, id: u8, place: usize) -> ListFault
     ensures { result ≡ fault_of_content refusal id place }
 {
@@ -96,7 +97,8 @@ fn section<A: Allocator + Copy>(
     }
 }
 
-/// The sections up to the end, behind the front of so many bytes, and how many indices their items take.
+/// The sections up to the end, which are the last of so many bytes, and how many indices their
+/// items take.
 fn sections<A: Allocator + Copy>(
     alloc: A,
     all: usize,
@@ -121,14 +123,17 @@ fn sections<A: Allocator + Copy>(
     Ok((sections, counts))
 }
 
-/// The sections of a component with their items, each at its place, and how many indices the items take. Modules and nested
-/// components are bytes, which are not read (component model, binary format, "Component Definitions").
+/// The sections of a component with their items, each at its place, and how many indices the items
+/// take. Modules and nested components are bytes, which are not read (component model, binary
+/// format, "Component Definitions").
 ///
-/// Besides what the encoder writes, these spellings are read: numbers that are padded, to 5 bytes at most (10 where they
-/// have 64 bits), indices among the types of values that are padded, a nullable abstract reference as its heap type's byte,
-/// `func` and `extern` in the long form of such a reference, and a name of an import or export that begins with `01`.
+/// Besides what the encoder writes, these spellings are read: numbers that are padded, to 5 bytes
+/// at most (10 where they have 64 bits), indices among the types of values that are padded, a
+/// nullable abstract reference as its heap type's byte, `func` and `extern` in the long form of
+/// such a reference, and a name of an import or export that begins with `01`.
 ///
-/// It is refused for want of memory, or as `ListFault` says. A count that the bytes can't fill reserves nothing.
+/// It is refused for want of memory, or as `ListFault` says. A count that the bytes can't fill
+/// reserves nothing.
 ///
 /// Whether the component with these bytes has imports:
 ///

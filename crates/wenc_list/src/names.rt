@@ -50,8 +50,8 @@ pub enum Names<A: Allocator = Global> {
     Raw(u8, Vec<u8, A>),
 }
 
-/// The bytes behind the header of a core module, where its sections begin (WebAssembly 3.0, binary format, "Modules"); `None`
-/// where there is no such header.
+/// The bytes after the header of a core module, where its sections begin (WebAssembly 3.0, binary
+/// format, "Modules"); `None` where there is no such header.
 ///
 /// ```
 /// match behind_module_header(module) {
@@ -69,8 +69,9 @@ pub fn behind_module_header(bytes: &[u8]) -> Option<&[u8]>
     }
 }
 
-/// The id and the content of a section of a core module, or of a subsection of names, that begins the bytes, and what is
-/// behind it (WebAssembly 3.0, binary format, "Sections"). It is refused where there is no size, or one past the end.
+/// The id and the content of a section of a core module, or of a subsection of names, that begins
+/// the bytes, and what is after it (WebAssembly 3.0, binary format, "Sections"). It is refused
+/// where there is no size, or one past the end.
 pub fn part_of(bytes: &[u8]) -> Result<((u8, &[u8]), &[u8]), Refusal>
     ensures { Gives (λ x. ((x.0.0, x.0.1.now), x.1.now)) result (read_part bytes.now) }
 {
@@ -154,9 +155,10 @@ fn names_in<A: Allocator + Copy>(alloc: A, id: u8, content: &[u8]) -> Result<Nam
     }
 }
 
-/// The subsection of names that begins the bytes, and what is behind it (component model, binary format, "Name Section").
-/// The bytes are those behind the name of a custom section `component-name`, or what is behind another subsection. It is
-/// refused where there is none, and for want of memory.
+/// The subsection of names that begins the bytes, and what is after it (component model, binary
+/// format, "Name Section"). The bytes are those after the name of a custom section
+/// `component-name`, or what is after another subsection. It is refused where there is none, and
+/// for want of memory.
 ///
 /// ```
 /// let (names, rest) = names_of(alloc, data)?;

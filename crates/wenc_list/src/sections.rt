@@ -83,8 +83,8 @@ fn single<A: Allocator>(alloc: A, item: ItemTree<A>) -> Result<Vec<ItemTree<A>, 
     Ok(items)
 }
 
-/// The item of a custom section. Neither this nor the next ones are inlined, since room for what they hold would be cleared
-/// at every section.
+/// The item of a custom section. Neither this nor the next ones are inlined, since room for what
+/// they hold would be cleared at every section.
 #[inline(never)]
 fn custom_alone<A: Allocator + Copy>(
     alloc: A,
@@ -153,7 +153,7 @@ pub(crate) fn content<A: Allocator + Copy>(
     }
 }
 
-/// The id, at most 11, and the content of the section that begins here, and what is behind it.
+/// The id, at most 11, and the content of the section that begins here, and what is after it.
 pub(crate) fn frame(bytes: &[u8]) -> Result<((u8, &[u8]), &[u8]), Refusal>
     ensures { Gives (λ x. ((x.0.0, x.0.1.now), x.1.now)) result (read_frame bytes.now) }
 {

@@ -10,7 +10,8 @@ use crate::sections::{are_bytes, content, frame};
 use std::alloc::{AllocError, Allocator};
 use wenc_read::{NestedRefusal, Refusal, u32_of};
 
-/// The first part of a section's content that isn't read. A place is counted in bytes from the front of the component.
+/// The first part of a section's content that isn't read. A place is counted in bytes from the
+/// front of the component.
 #[derive(Clone, Copy, Debug, PartialEq, Eq)]
 pub enum Unread {
     /// How many items it has, so that none of them is read.
@@ -25,14 +26,14 @@ pub enum Unread {
         /// Where it begins.
         place: usize,
     },
-    /// Bytes behind the last item.
+    /// Bytes after the last item.
     Behind {
         /// Where they begin.
         place: usize,
     },
 }
 
-/// How many of so many items are read up to the first that isn't, and what is behind them.
+/// How many of so many items are read up to the first that isn't, and what is after them.
 fn reach<A: Allocator + Copy>(
     alloc: A,
     id: u8,
@@ -120,9 +121,10 @@ fn unread_in<A: Allocator + Copy>(
     }
 }
 
-/// The first part of the section at this place that isn't read (component model, binary format, "Component Definitions"). It
-/// is `None` where the section is read, and where none begins there or it is a custom section without a name. So where `list`
-/// answers `BadItem` or `TooDeep` with a place, this tells more of that place.
+/// The first part of the section at this place that isn't read (component model, binary format,
+/// "Component Definitions"). It is `None` where the section is read, and where none begins there or
+/// it is a custom section without a name. So where `list` answers `BadItem` or `TooDeep` with a
+/// place, this tells more of that place.
 ///
 /// It is refused for want of memory.
 ///
@@ -137,8 +139,8 @@ pub fn first_unread<A: Allocator + Copy>(
     bytes: &[u8],
     place: usize,
 ) -> Result<Option<Unread>, AllocError>
-    // What is answered is the first part that isn't read: all items before it are. `None` says that a section which begins
-    // there is read.
+    // What is answered is the first part that isn't read: all items before it are. `None` says that
+    // a section which begins there is read.
     ensures unread { let here = drop place bytes.now in
         IfOk result (λ u. MatchOption u (IsReadHere here) (IsUnread (length bytes.now) here)) }
     // Where `list` may answer `BadItem` or `TooDeep` with this place, something is.

@@ -10,7 +10,7 @@ use Rattle.wenc_read.specs.inside.Names.{ascending, read_options}
 abbrev Found : Type 0
 Found = Result (List NameOption × List ℕ) Flaw
 
--- an option, and those behind it
+-- an option, and those after it
 pub goes_on : (text : List ℕ) (least n : ℕ) (o : NameOption) (bytes middle : List ℕ) → read_name_option bytes ≡ Ok (o, middle) → nat_lt (option_number o) least ≡ false
     → read_options text least (suc n) bytes ≡ go_on (read_options text (suc (option_number o)) n middle) (λ name. give (with_option o name))
 goes_on text least n o bytes middle e lt = rw e (behind (times read_name_option n middle))
@@ -44,7 +44,7 @@ some_ascend text n bytes = first (read_name_option bytes)
     first (Err flaw) = refl
     first (Ok x) = behind x.0 (times read_name_option n x.1)
 
--- the same of what the code has
+-- an option and those after it, as the code has them
 pub one_more : (text : List ℕ) (least count number : ℕ) (o : NameOption) (bytes middle rest : List ℕ) (name made : ExternName) → count ≢ 0 → read_name_option bytes ≡ Ok (o, middle) → number ≡ option_number o → least ≤ number
     → read_options text (number + 1) (count - 1) middle ≡ Ok (name, rest) → made ≡ with_option o name → read_options text least count bytes ≡ Ok (made, rest)
 one_more text least zero number o bytes middle rest name made some e is le found is_made = absurd (some refl)

@@ -16,7 +16,7 @@ abbrev pub Gives : {X A : Type 0} → (X → A) → Result X Refusal → Result 
 Gives view (Ok x) found = found ≡ Ok (view x)
 Gives view (Err refusal) found = Fails refusal found
 
--- The same of what may nest too deep.
+-- What may nest is refused as what doesn't, or where it nests too deep.
 abbrev pub FailsNested : {A : Type 0} → NestedRefusal → Result A Flaw → Type 0
 FailsNested (Flat refusal) found = Fails refusal found
 FailsNested TooDeep found = found ≡ Err Deep

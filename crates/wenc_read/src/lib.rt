@@ -1,7 +1,8 @@
 //! Reads numbers, flags, texts and names from the front of bytes.
 //!
-//! Each function answers what it read and the bytes behind it, or why it read nothing. It reads every spelling that the
-//! format has, padded numbers among them: where several spell one value, the writer writes the shortest.
+//! Each function answers what it read and the bytes after it, or why it read nothing. It reads
+//! every spelling that the format has, padded numbers among them: where several spell one value,
+//! the writer writes the shortest.
 #![tactic(auto)]
 
 pub mod flag;

@@ -37,7 +37,7 @@ fn short_groups(top: u8, room: u8, bytes: &[u8]) -> Result<(u32, &[u8]), Refusal
     }
 }
 
-/// The same of 64 bits.
+/// A number of 64 bits. At most `room` bytes come before its last one.
 #[tactic(auto, unfolding(wenc_base::specs::reading::Numbers::read_groups))]
 fn long_groups(room: u8, bytes: &[u8]) -> Result<(u64, &[u8]), Refusal>
     ensures { Gives (λ x. (x.0, x.1.now)) result (read_groups 128 (2 ^ 64) room bytes.now) }
@@ -56,7 +56,7 @@ fn long_groups(room: u8, bytes: &[u8]) -> Result<(u64, &[u8]), Refusal>
     }
 }
 
-/// The number of a first byte, which isn't the last one, and of those behind it.
+/// The number of a first byte, which isn't the last one, and of those after it.
 fn joined(low: u8, high: u32) -> u32
     requires low { 128 ≤ low }
     requires high { high < 2 ^ 25 }
@@ -85,7 +85,8 @@ fn short_number(top: u8, bytes: &[u8]) -> Result<(u32, &[u8]), Refusal>
     }
 }
 
-/// A number of 32 bits (WebAssembly 3.0, binary format, "Integers"). It is refused where none is spelled in at most 5 bytes.
+/// A number of 32 bits (WebAssembly 3.0, binary format, "Integers"). It is refused where none is
+/// spelled in at most 5 bytes.
 #[inline(always)]
 pub fn u32_of(bytes: &[u8]) -> Result<(u32, &[u8]), Refusal>
     ensures { Gives (λ x. (x.0, x.1.now)) result (read_u32 bytes.now) }
@@ -93,15 +94,16 @@ pub fn u32_of(bytes: &[u8]) -> Result<(u32, &[u8]), Refusal>
     short_number(128, bytes)
 }
 
-/// A number of 64 bits (WebAssembly 3.0, binary format, "Integers"). It is refused where none is spelled in at most 10 bytes.
+/// A number of 64 bits (WebAssembly 3.0, binary format, "Integers"). It is refused where none is
+/// spelled in at most 10 bytes.
 pub fn u64_of(bytes: &[u8]) -> Result<(u64, &[u8]), Refusal>
     ensures { Gives (λ x. (x.0, x.1.now)) result (read_u64 bytes.now) }
 {
     long_groups(9, bytes)
 }
 
-/// An index that is written as a signed number of 33 bits (WebAssembly 3.0, binary format, "Heap Types"), from 0 to
-/// 4294967295. It is refused where none is spelled in at most 5 bytes.
+/// An index that is written as a signed number of 33 bits (WebAssembly 3.0, binary format, "Heap
+/// Types"), from 0 to 4294967295. It is refused where none is spelled in at most 5 bytes.
 #[inline(always)]
 pub fn index_of(bytes: &[u8]) -> Result<(u32, &[u8]), Refusal>
     ensures { Gives (λ x. (x.0, x.1.now)) result (read_index bytes.now) }

@@ -7,8 +7,8 @@ use crate::number::u32_of;
 use crate::refusal::Refusal;
 use std::alloc::Allocator;
 
-/// A text behind its length in bytes (WebAssembly 3.0, binary format, "Names"). It is refused where its length is not there,
-/// is more than the bytes that are left, or bounds no UTF-8.
+/// A text after its length in bytes (WebAssembly 3.0, binary format, "Names"). It is refused where
+/// its length is not there, is more than the bytes that are left, or bounds no UTF-8.
 #[tactic(auto, unfolding(wenc_base::specs::reading::Forms::text_at))]
 #[inline(always)]
 pub fn name_of<A: Allocator>(alloc: A, bytes: &[u8]) -> Result<(String<A>, &[u8]), Refusal>

@@ -25,7 +25,7 @@ size_among m n le TooMany c = c
 size_among m n le TooLarge c = omega (arith, le, c)
 size_among m n le Unfinished c = c
 
--- what has too many bytes behind its size has no room
+-- what has too many bytes after its size has no room
 no_room_behind : (before content : List ℕ) (id : ℕ) (fault : Fault) → size_cause (length content) fault → RoomCause before (id ∷ (unsigned_text (length content) ++ content)) fault
 no_room_behind before content id (Memory e) c = absurd c
 no_room_behind before content id TooMany c = absurd c

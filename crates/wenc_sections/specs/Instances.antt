@@ -85,7 +85,7 @@ abbrev pub instantiate_arg_of : {N : Type 0} → (N → List ℕ) → N × Compo
     → InstantiateArg
 instantiate_arg_of named g = record { name = named g.0; kind = g.1; index = g.2 }
 
--- the same where the names are borrowed
+-- what an iterator gives whose names are borrowed
 abbrev pub argument_view : Bor (List ℕ) × ModuleArg → Argument
 argument_view a = argument_of (λ s. s.now) a
 

@@ -46,7 +46,7 @@ subsection (ComponentName text) = 0x00 ▸ sized (all_of (name text))
 subsection (ItemNames sort names) = 0x01 ▸ sized (all_of (item_sort sort ⨾ name_map names))
 subsection (RawNames id bytes) = id ▸ byte_list bytes
 
--- subsections one behind the other
+-- subsections one after the other
 abbrev pub subsections_text : List Subsection → List ℕ
 subsections_text ss = flat_map (λ s. (subsection s).text) ss
 
@@ -71,7 +71,7 @@ names_label =
     0x63 ∷ 0x6f ∷ 0x6d ∷ 0x70 ∷ 0x6f ∷ 0x6e ∷ 0x65 ∷ 0x6e ∷ 0x74 ∷ 0x2d ∷ 0x6e ∷ 0x61 ∷ 0x6d ∷
     0x65 ∷ []
 
--- the custom section of that name, with these bytes behind it
+-- the custom section of that name, with these bytes after it
 abbrev pub names_custom : List ℕ → Custom
 names_custom bytes = record { label = names_label; bytes = bytes }
 
@@ -79,7 +79,7 @@ names_custom bytes = record { label = names_label; bytes = bytes }
 abbrev pub names_section : Form (List ℕ)
 names_section bytes = refused_for (λ fault. ⊥) (custom (names_custom bytes))
 
--- Why these bytes can't come behind those: with its name, which has 15 bytes, the section would be
+-- Why these bytes can't come after those: with its name, which has 15 bytes, the section would be
 -- too large.
 abbrev pub RoomCause : List ℕ → List ℕ → Fault → Type 0
 RoomCause before text fault = (fault ≡ TooLarge) × (2 ^ 32 ≤ 15 + length (before ++ text))

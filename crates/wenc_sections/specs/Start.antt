@@ -18,6 +18,6 @@ started function arguments results =
 abbrev pub start_content : Form Start
 start_content s = u32 s.function ⨾ list u32 s.arguments ⨾ u32 s.results
 
--- behind its id: how many bytes, then these
+-- after the section's id: how many bytes, then these
 abbrev pub start : Form Start
 start s = sized (all_of (start_content s))

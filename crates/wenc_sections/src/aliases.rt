@@ -1,3 +1,4 @@
+//! The section of aliases.
 ghost use Rattle.wenc_base.specs.Holder.{AddsMember};
 ghost use Rattle.wenc_parts.specs.Aliases.{alias as alias_form, alias_view};
 
@@ -41,8 +42,8 @@ impl CountedKind for Aliases {
 pub type ComponentAliasSection<A = Global> = Counted<Aliases, A>;
 
 impl<A: Allocator> Counted<Aliases, A> {
-    /// Adds an alias. It is refused where there would be too many of them (`TooMany`), or too many bytes in the
-    /// section or in the alias's name (`TooLarge`).
+    /// Adds an alias. It is refused where there would be too many of them (`TooMany`), or too many
+    /// bytes in the section or in the alias's name (`TooLarge`).
     pub fn alias(&mut self, alias: Alias<'_>) -> Result<(), Fault>
         ensures { AddsMember (alias_form (alias_view alias.entry)) self.old self.new result }
     {

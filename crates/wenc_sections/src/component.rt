@@ -1,3 +1,4 @@
+//! A component: its header, and the sections that are appended.
 ghost use Rattle.std.specs.Prelude.{◌≡◌, IfOk, IfErr, OnOk};
 ghost use Rattle.wenc_base.specs.Encode.{Appends};
 ghost use Rattle.wenc_base.specs.Fault.{IsMemory};
@@ -9,8 +10,8 @@ use std::marker::Model;
 use wenc_base::Fault;
 use wenc_parts::ComponentSection;
 
-/// The bytes of a component: its header, and the sections that were appended, in any order (component model,
-/// binary format, "Component Definitions").
+/// The bytes of a component: its header, and the sections that were appended, in any order
+/// (component model, binary format, "Component Definitions").
 ///
 /// ```
 /// let mut imports = ComponentImportSection::new(alloc);
@@ -49,7 +50,8 @@ impl<A: Allocator> Component<A> {
         Ok(Component { bytes })
     }
 
-    /// Appends a section. It is refused as the section's `encode` is, and then the component stays as it was.
+    /// Appends a section. It is refused as the section's `encode` is, and then the component stays
+    /// as it was.
     pub fn section<S: ComponentSection>(&mut self, section: &S) -> Result<(), Fault>
         ensures appended { Appends (S.section_id section.now ▸ S.piece section.now).text
             (S.piece section.now).Cause (S.unfinished section.now) self.old self.new result }
@@ -73,7 +75,7 @@ impl<A: Allocator> Component<A> {
         bytes
     }
 
-    /// The same component once more. It is refused for want of memory alone.
+    /// A copy of the component. It is refused for want of memory alone.
     pub fn clone(&self) -> Result<Self, Fault>
     where
         A: Clone,

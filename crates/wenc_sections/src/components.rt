@@ -1,3 +1,4 @@
+//! The section that is a component of its own.
 ghost use Rattle.wenc_base.specs.laws.Serves.{serves_itself};
 
 use crate::component::Component;
@@ -5,8 +6,8 @@ use std::alloc::{Allocator, Global};
 use wenc_base::{Delimited, Encode, Fault};
 use wenc_parts::{ComponentSection, ComponentSectionId};
 
-/// A section that is a component of its own (component model, binary format, "Component Definitions"). It is
-/// refused where that has too many bytes (`TooLarge`).
+/// A section that is a component of its own (component model, binary format, "Component
+/// Definitions"). It is refused where that has too many bytes (`TooLarge`).
 ///
 /// ```
 /// let mut inner = Component::new(alloc)?;

@@ -1,3 +1,4 @@
+//! Sections of items of one kind, with their count.
 ghost use Rattle.std.specs.Prelude.{◌≡◌, ◌==◌, ℕ, List, false, OnOk, IfOk, IfErr};
 ghost use Rattle.wenc_base.specs.Encode.{Appends};
 ghost use Rattle.wenc_base.specs.Fault.{IsMemory};
@@ -19,15 +20,15 @@ pub trait CountedKind {
     /// The id of its sections.
     ghost ID: { ComponentSectionId };
 
-    /// The same, which the code writes.
+    /// The id of its sections, for the code.
     const ID: ComponentSectionId;
 
     /// These bytes are the text of an item of such a section.
     ghost is_item: { List ℕ → Type 0 };
 }
 
-/// A section of items of one kind: how many there are, and their texts. A call that is refused leaves it as it was.
-/// Each kind has a name of its own for it, as `ComponentAliasSection`.
+/// A section of items of one kind: how many there are, and their texts. A call that is refused
+/// leaves it as it was. Each kind has a name of its own for it, as `ComponentAliasSection`.
 ///
 /// ```
 /// let mut exports = ComponentExportSection::new(alloc);
@@ -64,11 +65,13 @@ impl<K: CountedKind, A: Allocator> Counted<K, A> {
         }
     }
 
-    /// The section whose items are the members of this holder, which are texts of such items. It takes no memory.
+    /// The section whose items are the members of this holder, which are texts of such items. It
+    /// takes no memory.
     ///
-    /// So a section may be written behind bytes that are kept: `Holder::over` begins it there, the calls that add leave
-    /// these bytes where they are, and `encode` writes the section alone. `into_holder` and `Holder::into_parts` give
-    /// all of them back. Where the holder has a member that is being written, the section is unfinished.
+    /// So a section may be written after bytes that are kept: `Holder::over` begins it there, the
+    /// calls that add leave these bytes where they are, and `encode` writes the section alone.
+    /// `into_holder` and `Holder::into_parts` give all of them back. Where the holder has a member
+    /// that is being written, the section is unfinished.
     ///
     /// ```
     /// let kept = bytes.len();
@@ -102,14 +105,14 @@ impl<K: CountedKind, A: Allocator> Counted<K, A> {
         self.items.len()
     }
 
-    /// Whether it has none.
+    /// Whether the section has no items.
     pub fn is_empty(&self) -> bool
         ensures { result ≡ (self.now.count == 0) }
     {
         self.len() == 0
     }
 
-    /// The same items once more. It is refused for want of memory alone.
+    /// A copy of the section. It is refused for want of memory alone.
     pub fn clone(&self) -> Result<Self, Fault>
     where
         A: Clone,
@@ -124,7 +127,8 @@ impl<K: CountedKind, A: Allocator> Counted<K, A> {
     }
 }
 
-/// A finished section is refused for want of memory alone. What is written has some items, whoever made which calls.
+/// A finished section is refused for want of memory alone. What is written has some items, whoever
+/// made which calls.
 impl<K: CountedKind, A: Allocator> Encode for Counted<K, A> {
     ghost piece = { held_section };
 

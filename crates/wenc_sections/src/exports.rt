@@ -1,3 +1,4 @@
+//! The section of exports.
 ghost use Rattle.wenc_base.specs.Holder.{AddsMember};
 ghost use Rattle.wenc_parts.specs.Imports.{extern_name_view};
 ghost use Rattle.wenc_sections.specs.Exports.{export_item};
@@ -37,9 +38,9 @@ impl CountedKind for Exports {
 pub type ComponentExportSection<A = Global> = Counted<Exports, A>;
 
 impl<A: Allocator> Counted<Exports, A> {
-    /// Adds an export of the item of this kind with this index under this name, with a type or none. It is refused
-    /// where there would be too many of them (`TooMany`), or too many bytes in the section or in a text of the name
-    /// (`TooLarge`).
+    /// Adds an export of the item of this kind with this index under this name, with a type or
+    /// none. It is refused where there would be too many of them (`TooMany`), or too many bytes in
+    /// the section or in a text of the name (`TooLarge`).
     pub fn export<B: Allocator>(
         &mut self,
         name: ComponentExternName<'_, B>,

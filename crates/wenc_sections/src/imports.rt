@@ -1,3 +1,4 @@
+//! The section of imports.
 ghost use Rattle.wenc_base.specs.Holder.{AddsMember};
 ghost use Rattle.wenc_parts.specs.Imports.{extern_name_view};
 ghost use Rattle.wenc_sections.specs.Imports.{import_item};
@@ -35,8 +36,8 @@ impl CountedKind for Imports {
 pub type ComponentImportSection<A = Global> = Counted<Imports, A>;
 
 impl<A: Allocator> Counted<Imports, A> {
-    /// Adds an import under this name. It is refused where there would be too many of them (`TooMany`), or too many
-    /// bytes in the section or in a text of the name (`TooLarge`).
+    /// Adds an import under this name. It is refused where there would be too many of them
+    /// (`TooMany`), or too many bytes in the section or in a text of the name (`TooLarge`).
     pub fn import<B: Allocator>(
         &mut self,
         name: ComponentExternName<'_, B>,

@@ -1,3 +1,4 @@
+//! Instances that own their texts, for commands.
 ghost use Rattle.std.specs.Prelude.{◌≡◌, ◌++◌, ℕ, List, OnOk, OnErr, IfErr};
 ghost use Rattle.wenc_base.specs.Encode.{Appends, Written, list_in_order};
 ghost use Rattle.wenc_base.specs.Fault.{IsWarranted, member_cause};
@@ -10,8 +11,8 @@ use wenc_base::{Delimited, Encode, ExportKind, Fault, Tagged};
 use wenc_parts::{ComponentExportKind, ModuleArg, NameTree};
 
 /// An instance of a core module that owns its texts, for commands (component model, binary format,
-/// `core:instanceexpr`). More than 4294967295 arguments or exports can't be encoded, nor can a name of more than
-/// 4294967295 bytes.
+/// `core:instanceexpr`). More than 4294967295 arguments or exports can't be encoded, nor can a name
+/// of more than 4294967295 bytes.
 ///
 /// ```
 /// let name = String::from_str(alloc, "env")?;
@@ -27,8 +28,8 @@ pub enum CoreInstanceTree<A: Allocator = Global> {
         /// The arguments, in their order.
         args: Vec<(String<A>, ModuleArg), A>,
     },
-    /// An instance that exports these core items under their names: the kind of each, and its index, from 0 to
-    /// 4294967295.
+    /// An instance that exports these core items under their names: the kind of each, and its
+    /// index, from 0 to 4294967295.
     Exports(Vec<(String<A>, ExportKind, u32), A>),
 }
 
@@ -67,8 +68,9 @@ impl<A: Allocator> Delimited for CoreInstanceTree<A> {
     ghost written = { λ _. serves_itself };
 }
 
-/// An instance of a component that owns its texts, for commands (component model, binary format, `instanceexpr`).
-/// More than 4294967295 arguments or exports can't be encoded, nor can a text of more than 4294967295 bytes.
+/// An instance of a component that owns its texts, for commands (component model, binary format,
+/// `instanceexpr`). More than 4294967295 arguments or exports can't be encoded, nor can a text of
+/// more than 4294967295 bytes.
 ///
 /// ```
 /// let name = NameTree::from(String::from_str(alloc, "now")?);
@@ -84,7 +86,8 @@ pub enum InstanceTree<A: Allocator = Global> {
         /// The name of each item, its kind, and its index, from 0 to 4294967295, in their order.
         args: Vec<(String<A>, ComponentExportKind, u32), A>,
     },
-    /// An instance that exports these items under their names: the kind of each, and its index, from 0 to 4294967295.
+    /// An instance that exports these items under their names: the kind of each, and its index,
+    /// from 0 to 4294967295.
     Exports(Vec<(NameTree<A>, ComponentExportKind, u32), A>),
 }
 

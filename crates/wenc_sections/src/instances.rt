@@ -1,3 +1,4 @@
+//! The sections of instances: of core modules, and of components.
 ghost use Rattle.std.specs.Prelude.{map};
 ghost use Rattle.std.specs.Iterator.{IsFinite};
 ghost use Rattle.wenc_base.specs.Holder.{AddsListed};
@@ -13,13 +14,15 @@ use wenc_parts::{ComponentExportKind, ComponentExternName, ComponentSectionId, M
 /// What begins an instance of a core module (component model, binary format, `core:instanceexpr`).
 pub const CORE_INSTANTIATE: u8 = 0x00;
 
-/// What begins a core instance that exports items alone (component model, binary format, `core:instanceexpr`).
+/// What begins a core instance that exports items alone (component model, binary format,
+/// `core:instanceexpr`).
 pub const CORE_EXPORTS: u8 = 0x01;
 
 /// What begins an instance of a component (component model, binary format, `instanceexpr`).
 pub const INSTANTIATE: u8 = 0x00;
 
-/// What begins an instance that exports items alone (component model, binary format, `instanceexpr`).
+/// What begins an instance that exports items alone (component model, binary format,
+/// `instanceexpr`).
 pub const EXPORTS: u8 = 0x01;
 
 /// The kind of section that has instances of core modules.
@@ -55,9 +58,9 @@ impl CountedKind for CoreInstances {
 pub type InstanceSection<A = Global> = Counted<CoreInstances, A>;
 
 impl<A: Allocator> Counted<CoreInstances, A> {
-    /// Adds an instance of the core module with this index, which is given these arguments under their names. It is
-    /// refused where there would be too many instances or arguments (`TooMany`), or too many bytes in the section or
-    /// in a name (`TooLarge`).
+    /// Adds an instance of the core module with this index, which is given these arguments under
+    /// their names. It is refused where there would be too many instances or arguments (`TooMany`),
+    /// or too many bytes in the section or in a name (`TooLarge`).
     pub fn instantiate<S: Named + Drop, I: Iterator<Item = (S, ModuleArg)> + Drop>(
         &mut self,
         module_index: u32,
@@ -73,7 +76,8 @@ impl<A: Allocator> Counted<CoreInstances, A> {
         self.items.add_listed(&lead, args, &())
     }
 
-    /// Adds an instance that exports these core items under their names. It is refused as `instantiate` is.
+    /// Adds an instance that exports these core items under their names. It is refused as
+    /// `instantiate` is.
     pub fn export_items<S: Named + Drop, I: Iterator<Item = (S, ExportKind, u32)> + Drop>(
         &mut self,
         exports: I,
@@ -123,9 +127,9 @@ impl CountedKind for Instances {
 pub type ComponentInstanceSection<A = Global> = Counted<Instances, A>;
 
 impl<A: Allocator> Counted<Instances, A> {
-    /// Adds an instance of the component with this index, which is given the items of these kinds and indices under
-    /// their names. It is refused where there would be too many instances or arguments (`TooMany`), or too many bytes
-    /// in the section or in a name (`TooLarge`).
+    /// Adds an instance of the component with this index, which is given the items of these kinds
+    /// and indices under their names. It is refused where there would be too many instances or
+    /// arguments (`TooMany`), or too many bytes in the section or in a name (`TooLarge`).
     pub fn instantiate<S: Named + Drop, I: Iterator<Item = (S, ComponentExportKind, u32)> + Drop>(
         &mut self,
         component_index: u32,
@@ -141,8 +145,8 @@ impl<A: Allocator> Counted<Instances, A> {
         self.items.add_listed(&lead, args, &())
     }
 
-    /// Adds an instance that exports the items of these kinds and indices under their names. It is refused as
-    /// `instantiate` is.
+    /// Adds an instance that exports the items of these kinds and indices under their names. It is
+    /// refused as `instantiate` is.
     pub fn export_items<
         'a,
         N: Allocator + Drop,

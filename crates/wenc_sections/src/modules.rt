@@ -1,11 +1,12 @@
+//! The section that is a core module.
 ghost use Rattle.wenc_base.specs.laws.Serves.{serves_itself};
 
 use std::alloc::{Allocator, Global};
 use wenc_base::{Delimited, Encode, Fault, Module};
 use wenc_parts::{ComponentSection, ComponentSectionId};
 
-/// A section that is a core module (component model, binary format, "Component Definitions"). It is refused where
-/// that has too many bytes (`TooLarge`).
+/// A section that is a core module (component model, binary format, "Component Definitions"). It is
+/// refused where that has too many bytes (`TooLarge`).
 ///
 /// ```
 /// let mut module = Module::new(alloc)?;

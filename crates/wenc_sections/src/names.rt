@@ -1,3 +1,4 @@
+//! The section of names, and its subsections.
 ghost use Rattle.std.specs.Prelude.{◌≡◌, ◌==◌, ◌+◌, ◌<◌, ◌^◌, [], length, IfOk, IfErr};
 ghost use Rattle.wenc_base.specs.Encode.{Appends};
 ghost use Rattle.wenc_base.specs.Fault.{IsMemory};
@@ -25,7 +26,8 @@ const ITEM_NAMES: u8 = 0x01;
 /// The name of a custom section that has names.
 pub const NAMES_LABEL: &str = "component-name";
 
-/// How many bytes the subsections have at most: 15 more are those of the section's name, with its length.
+/// How many bytes the subsections have at most: 15 more are those of the section's name, with its
+/// length.
 const LIMIT: usize = 4294967280;
 
 /// What names are of (component model, binary format, `sort` and `core:sort`).
@@ -80,8 +82,8 @@ fn sort_bytes(sort: Sort) -> &'static [u8]
     }
 }
 
-/// The subsection of the names of items of one sort (component model, binary format, "Name Section"). It is refused
-/// where it has too many bytes behind its size (`TooLarge`).
+/// The subsection of the names of items of one sort (component model, binary format, "Name
+/// Section"). It is refused where it has too many bytes after its size (`TooLarge`).
 #[derive(Clone, Copy)]
 pub struct NamesOf<'a, A: Allocator = Global>(pub Sort, pub &'a NameMap<A>);
 
@@ -99,8 +101,9 @@ impl<'a, A: Allocator> Encode for NamesOf<'a, A> {
     }
 }
 
-/// Names of a component and of the items in it: a custom section (component model, binary format, "Name Section").
-/// A call that is refused leaves it as it was. Nothing is asked of the order of the calls.
+/// Names of a component and of the items in it: a custom section (component model, binary format,
+/// "Name Section"). A call that is refused leaves it as it was. Nothing is asked of the order of
+/// the calls.
 ///
 /// ```
 /// let mut funcs = NameMap::new(alloc);
@@ -115,7 +118,7 @@ impl<'a, A: Allocator> Encode for NamesOf<'a, A> {
 /// ```
 #[derive(Drop)]
 pub struct ComponentNameSection<A: Allocator = Global> {
-    /// The subsections, one behind the other.
+    /// The subsections, one after the other.
     bytes: Vec<u8, A>,
 }
 
@@ -139,8 +142,8 @@ impl<A: Allocator> ComponentNameSection<A> {
         }
     }
 
-    /// Names the component itself. It is refused, as each call here that names something, where there would be too
-    /// many bytes behind the section's size (`TooLarge`).
+    /// Names the component itself. It is refused, as each call here that names something, where
+    /// there would be too many bytes after the section's size (`TooLarge`).
     pub fn component(&mut self, name: &str) -> Result<(), Fault>
         ensures { AppendsSubsection (subsection (ComponentName name.now)) self.old self.new result }
     {
@@ -289,7 +292,7 @@ impl<A: Allocator> ComponentNameSection<A> {
         }
     }
 
-    /// The same names once more. It is refused for want of memory alone.
+    /// A copy of the names. It is refused for want of memory alone.
     pub fn clone(&self) -> Result<Self, Fault>
     where
         A: Clone,

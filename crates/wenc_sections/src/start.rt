@@ -1,3 +1,4 @@
+//! The start section: which function is called when the component is instantiated.
 ghost use Rattle.wenc_base.specs.laws.Serves.{serves_itself};
 
 use std::alloc::Allocator;
@@ -5,9 +6,9 @@ use std::convert::AsSlice;
 use wenc_base::{Delimited, Encode, Fault, WithSize};
 use wenc_parts::{ComponentSection, ComponentSectionId};
 
-/// The section that has a function called when the component is instantiated (component model, binary format,
-/// "Start Definitions"). It is refused where there are too many arguments (`TooMany`), or too many bytes behind
-/// its size (`TooLarge`).
+/// The section that has a function called when the component is instantiated (component model,
+/// binary format, "Start Definitions"). It is refused where there are too many arguments
+/// (`TooMany`), or too many bytes after its size (`TooLarge`).
 ///
 /// ```
 /// // the component has function 0 and value 0, with which it is called; it answers nothing

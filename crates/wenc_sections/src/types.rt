@@ -1,3 +1,4 @@
+//! The sections of core types and of types.
 ghost use Rattle.std.specs.Borrow.{sem, RestsIfErr};
 ghost use Rattle.std.specs.Prelude.{◌≡◌, [], List, false, IfOk, IfErr, Err};
 ghost use Rattle.wenc_base.specs.Holder.{is_finished, held_members, AddCause, AddsMember, EncodeCause};
@@ -52,9 +53,9 @@ impl<A: Allocator> Counted<CoreTypes, A> {
     ghost use Rattle.wenc_sections.specs.contracts.counted.Counted.{the_row};
     ghost use Rattle.wenc_sections.specs.contracts.types.CoreTypes.{the_row as kind};
 
-    /// Begins a core type, which is written by the encoder that is answered. It takes no memory, and is refused where
-    /// there would be too many types (`TooMany`), or too many bytes with those of their number (`TooLarge`), or where
-    /// one is being written (`Unfinished`).
+    /// Begins a core type, which is written by the encoder that is answered. It takes no memory,
+    /// and is refused where there would be too many types (`TooMany`), or too many bytes with those
+    /// of their number (`TooLarge`), or where one is being written (`Unfinished`).
     pub fn ty(&mut self) -> Result<ComponentCoreTypeEncoder<'_, CoreTypeSection<A>>, Fault>
         ensures* refused { sem 𝓛 (RestsIfErr (the_row kind A.row
             ⟦<CoreTypes as CountedKind>⟧ A.Allocator) self.entry
@@ -105,9 +106,9 @@ impl<A: Allocator> Counted<ComponentTypes, A> {
     ghost use Rattle.wenc_sections.specs.contracts.counted.Counted.{the_row};
     ghost use Rattle.wenc_sections.specs.contracts.types.ComponentTypes.{the_row as kind};
 
-    /// Begins a type, which is written by the encoder that is answered. It takes no memory, and is refused where there
-    /// would be too many types (`TooMany`), or too many bytes with those of their number (`TooLarge`), or where one is
-    /// being written (`Unfinished`).
+    /// Begins a type, which is written by the encoder that is answered. It takes no memory, and is
+    /// refused where there would be too many types (`TooMany`), or too many bytes with those of
+    /// their number (`TooLarge`), or where one is being written (`Unfinished`).
     pub fn ty(&mut self) -> Result<ComponentTypeEncoder<'_, ComponentTypeSection<A>>, Fault>
         ensures* refused { sem 𝓛 (RestsIfErr (the_row kind A.row
             ⟦<ComponentTypes as CountedKind>⟧ A.Allocator) self.entry
@@ -154,8 +155,8 @@ impl<A: Allocator> Counted<ComponentTypes, A> {
         Ok(ComponentDefinedTypeEncoder::new(self))
     }
 
-    /// Adds this component type. It is refused with `Unfinished` where either is unfinished, where there would be too
-    /// many types (`TooMany`), or too many bytes in the section (`TooLarge`).
+    /// Adds this component type. It is refused with `Unfinished` where either is unfinished, where
+    /// there would be too many types (`TooMany`), or too many bytes in the section (`TooLarge`).
     pub fn component<B: Allocator>(&mut self, ty: &ComponentType<B>) -> Result<(), Fault>
         ensures added { AddsMember (0x41 ▸ held_members ty.now.held) self.old self.new result }
         ensures declared { (ds : List ComponentDeclaration) → ComponentDeclares ty.now ds
@@ -183,9 +184,9 @@ impl<A: Allocator> Counted<ComponentTypes, A> {
         self.items.add_encoded(ty)
     }
 
-    /// Adds a resource type, by how a resource is represented, and the index of the core function that is called when
-    /// one is dropped, where there is such a function. It is refused where there would be too many types (`TooMany`),
-    /// or too many bytes in the section (`TooLarge`).
+    /// Adds a resource type, by how a resource is represented, and the index of the core function
+    /// that is called when one is dropped, where there is such a function. It is refused where
+    /// there would be too many types (`TooMany`), or too many bytes in the section (`TooLarge`).
     pub fn resource(&mut self, rep: ValType, dtor: Option<u32>) -> Result<(), Fault>
         ensures { AddsMember (def_type (ResourceType rep dtor)) self.old self.new result }
     {

@@ -1,18 +1,20 @@
+//! Laws over what sections contain.
 ghost use Rattle.std.specs.Prelude.{◌++◌, List, ℕ};
 ghost use Rattle.wasm_encoder.specs.AllForms.{FormName, value_of, form_of};
 ghost use Rattle.wenc_base.specs.Forms.{counted};
 ghost use Rattle.wenc_base.specs.Holder.{HolderState, Contains, ContainsSome, held_section};
 ghost use Rattle.wenc_base.specs.Piece.{HasForm, Spelling};
 
-/// What is finished has some members, as the contract of a section's `encode` says it by their texts: these are the
-/// texts of a list of values that can be encoded, which it contains. So it is by whatever form they have.
+/// What is finished has some members, as the contract of a section's `encode` says it by their
+/// texts: these are the texts of a list of values that can be encoded, which it contains. So it is
+/// by whatever form they have.
 pub fn what_is_finished_has_some()
     ensures { (f : FormName) (section : HolderState) → ContainsSome (HasForm (form_of f)) section
         → (values : List (value_of f)) × Contains (form_of f) section values }
 {}
 
-/// A section of some values of a form whose number and size have 32 bits, as the contract of its `encode` says, can be
-/// encoded, and is read as these, counted, whatever follows.
+/// A section of some values of a form whose number and size have 32 bits, as the contract of its
+/// `encode` says, can be encoded, and is read as these, counted, whatever follows.
 pub fn sections_are_read()
     ensures fits { (f : FormName) (section : HolderState) (values : List (value_of f))
         → Contains (form_of f) section values → (held_section section).Fits

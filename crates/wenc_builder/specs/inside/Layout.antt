@@ -1,6 +1,6 @@
 -- How a builder's bytes lie in its holder: it keeps the closed bytes and, where a section is open,
 -- a gap of 11 bytes; its members are the items of that section. While an item that opens another
--- section is being written, it keeps that section too, and a gap behind it, and the item is its
+-- section is being written, it keeps that section too, and a gap after it, and the item is its
 -- only member.
 use Rattle.std.specs.Prelude.{◌≡◌, ℕ, List, [], ◌∷◌, ◌++◌, ◌+◌, ◌-◌, ◌<◌, ◌≤◌, ◌^◌, length, take}
 use Rattle.std.specs.Prelude.{drop, Option, Some, None, is_none, false}
@@ -58,7 +58,7 @@ pub record Writing : Type 0 where
   pub id : ℕ
   pub text : List ℕ
 
--- settled sections, and the item that is being written behind them
+-- settled sections, and the item that is being written after them
 pub record Buffered : Type 0 where
   pub settled : SectionsState
   pub writing : Option Writing
@@ -100,7 +100,7 @@ buffer_ended b = record { settled = buffered_content b; writing = None }
 abbrev pub buffer_given_up : Buffered → Buffered
 buffer_given_up b = record { settled = b.settled; writing = None }
 
--- something that stands alone behind all sections
+-- something that stands alone after all sections
 abbrev pub buffer_with : Buffered → List ℕ → Buffered
 buffer_with b text = record { settled = stood_alone b.settled text; writing = None }
 
@@ -124,7 +124,7 @@ abbrev pub id_of : Option Kind → ℕ
 id_of None = 0
 id_of (Some k) = kind_id k
 
--- members behind closed bytes, the last of them being written or none
+-- members after closed bytes, the last of them being written or none
 abbrev pub member_view : List ℕ → Option Kind → ℕ → List ℕ → Option Opening → Buffered
 member_view closed kind count body None =
     record {
@@ -165,12 +165,12 @@ abbrev pub BegunIsIn : Option Opening → ℕ → ℕ → Type 0
 BegunIsIn None count size = Unit {0}
 BegunIsIn (Some o) count size = (o.member_start ≤ size) × (1 ≤ count)
 
--- the section of an item that is written behind a gap is another one
+-- the section of an item that is written after a gap is another one
 abbrev pub KindIsApart : Option Kind → Earlier → Type 0
 KindIsApart None e = ⊥
 KindIsApart (Some k) e = OpensAnother (open_view e.kind e.count []) (kind_id k)
 
--- an item behind a gap, and the earlier section before that
+-- an item after a gap, and the earlier section before that
 pub record IsApart (h : HolderState) (kind : Option Kind) (e : Earlier) : Type 0 where
   pub first : h ≡ record {
     kept = h.kept;
@@ -193,18 +193,18 @@ pub record IsLaidOut (h : HolderState) (closed_len : ℕ) (kind : Option Kind)
     (earlier : Option Earlier) : Type 0 where
   pub indices : EarlierIsIn h closed_len kind earlier
 
--- ---- an item behind a gap
+-- ---- an item after a gap
 
 -- how many bytes are kept before the items of a section
 abbrev pub kept_before : Option Kind → ℕ → ℕ
 kept_before None closed_len = closed_len
 kept_before (Some k) closed_len = closed_len + 11
 
--- the closed bytes with the earlier section behind them
+-- the closed bytes with the earlier section after them
 abbrev pub closed_with : List ℕ → Earlier → List ℕ
 closed_with kept e = take e.closed_len kept ++ open_text (earlier_view kept e)
 
--- the kept bytes with that section closed, what stood behind it behind it still
+-- the kept bytes with that section closed, and still after it what stood there
 abbrev pub kept_with : List ℕ → Earlier → List ℕ
 kept_with kept e = closed_with kept e ++ drop e.items_end kept
 

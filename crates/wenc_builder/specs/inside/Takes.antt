@@ -26,7 +26,7 @@ TakesAlone old new result d name p =
     TakesIndices old new (settled_in (with_alone old.settled (Some d) name p.text)) result
     (with_alone old.settled (Some d) name p.text) d p
 
--- The same of what stands alone and has no index.
+-- A call adds what stands alone and has no index.
 abbrev pub TakesNoIndex : State → State → Result (Unit {0}) Fault → Piece → Type 0
 TakesNoIndex old new result p =
     TakesWith old new (settled_in (with_alone old.settled None None p.text)) result
@@ -46,7 +46,8 @@ pub record AppendsListed {S B : Type 0} (steps : S → Option B → S → Type 0
       IsWarranted
       (either (piece run.items).Cause (no_room_in_section old (piece run.items).text)) fault))
 
--- The same of an item whose text is made of the values that an iterator gives.
+-- A call adds an item that is made of the values that an iterator gives: of all of them, or of
+-- those that came before it was refused.
 pub record TakesListed {S B : Type 0} (steps : S → Option B → S → Type 0) (values : S)
     (old new : State) (result : Result ℕ Fault) (d : List ℕ → Draft)
     (piece : List B → Piece) : Type 0 where

@@ -67,7 +67,7 @@ index_is : (xs : List Item) (d : Option Indices) (i : ℕ) → IsIndexAt xs d i 
 index_is xs None i p = absurd p
 index_is xs (Some d) i p = ap (λ (n : ℕ). Some n) p
 
--- the same where the answer is the entry's index
+-- what a call that answers the entry's index leads to
 pub answered : (old new : State) (result : Result ℕ Fault) (x : Entry) (es : List Entry) → Enters old new result x → Holds old es
     → MatchResult result (λ i. Holds new (es ++ x ∷ []) × (Some i ≡ index_of (items es) x.item) × ((fault : Fault) → EntryCause es x fault → ⊥)) (λ fault. Holds new es × IsWarranted (EntryCause es x) fault)
 answered old new (Ok i) x es e h =

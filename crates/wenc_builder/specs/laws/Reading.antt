@@ -140,7 +140,7 @@ sections_lawful [] h = deeper_whole (at_end [] read_section_piece (λ fuel. sect
 sections_lawful (s ∷ ss) h =
     deeper_whole (before_end [] read_section_piece (λ fuel. sections_before (read_sections fuel)) nothing_left (section_piece_lawful s h.0) (last_whole (λ (ts : List Section). s ∷ ts) (sections_lawful ss h.1)))
 
--- this byte, then what is read behind it
+-- this byte, then what is read after it
 abbrev only : {A : Type 0} → ℕ → Reader A → Reader A
 only b read = choose ((b, read) ∷ []) nowhere
 

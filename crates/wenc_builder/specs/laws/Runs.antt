@@ -28,19 +28,19 @@ same_texts : (ss : List Section) → (sections ss).text ≡ flat_map piece_text 
 same_texts [] = refl
 same_texts (s ∷ ss) = rw (same_text s, same_texts ss) refl
 
--- an item put behind a last piece
+-- an item put after a last piece
 abbrev pub runs_extended : Option ℕ → Section → Item → List Section
 runs_extended None p x = p ∷ Alone x ∷ []
 runs_extended (Some id) (Alone y) x = Alone y ∷ Run id (x ∷ []) ∷ []
 runs_extended (Some id) (Run other ys) x = cond (eqb other id) (Run other (ys ++ x ∷ []) ∷ []) (Run other ys ∷ Run id (x ∷ []) ∷ [])
 
--- and behind pieces
+-- an item put after pieces
 abbrev pub pushed : Option ℕ → List Section → Item → List Section
 pushed o [] x = joined o x []
 pushed o (p ∷ []) x = runs_extended o p x
 pushed o (p ∷ q ∷ ps) x = p ∷ pushed o (q ∷ ps) x
 
--- putting an item in front and one behind
+-- putting an item in front and one after
 around_one : (m o : Option ℕ) (y x : Item) (p : Section) → joined m y (runs_extended o p x) ≡ pushed o (joined m y (p ∷ [])) x
 around_one None None y x p = refl
 around_one None (Some id) y x p = refl

@@ -1,3 +1,4 @@
+//! The bytes of a component, where its last section may be open.
 ghost use Rattle.std.specs.Prelude.{◌≡◌, ◌<◌, ◌^◌, length, OnOk, OnErr, IfOk, IfErr, is_none, None, Err, false};
 ghost use Rattle.std.specs.Iterator.{IsFinite};
 ghost use Rattle.wenc_base.specs.Encode.{Appends};
@@ -18,8 +19,8 @@ use std::marker::Model;
 use wenc_base::{Encode, Fault, Holder, Short, Verbatim, extend_in_room};
 use wenc_sections::Component;
 
-/// All sections of a component in one holder: it keeps the closed bytes and a gap, and its members are the
-/// items of the open section.
+/// All sections of a component in one holder: it keeps the closed bytes and a gap, and its members
+/// are the items of the open section.
 #[derive(Drop)]
 pub struct Buffer<A: Allocator = Global> {
     holder: Holder<A>,
@@ -162,8 +163,8 @@ impl<A: Allocator> Buffer<A> {
         }
     }
 
-    /// Writes what stands alone behind all sections, of which none is open then. It is refused for that value's own
-    /// cause alone.
+    /// Writes what stands alone after all sections, of which none is open then. It is refused for
+    /// that value's own cause alone.
     pub fn stand_alone<E: Encode>(&mut self, section: &E) -> Result<(), Fault>
         requires { self.old.writing ≡ None }
         ensures ok { OnOk result (self.new ≡ buffer_with self.old (E.piece section.now).text) }
@@ -187,8 +188,9 @@ impl<A: Allocator> Buffer<A> {
         Ok(())
     }
 
-    /// Appends all bytes as a list of bytes, the open section in its place, which stays open here. It is refused where
-    /// there are more than 4294967295 bytes (`TooLarge`), and while an item is being written (`Unfinished`).
+    /// Appends all bytes as a list of bytes, the open section in its place, which stays open here.
+    /// It is refused where there are more than 4294967295 bytes (`TooLarge`), and while an item is
+    /// being written (`Unfinished`).
     #[tactic(auto, using(wenc_base::proofs::Groups::size_at_most_5))]
     pub fn append_to<B: Allocator>(&self, sink: &mut Vec<u8, B>) -> Result<(), Fault>
         ensures appended { Appends (nested self.now).text (nested self.now).Cause

@@ -1,3 +1,4 @@
+//! Calls that add functions which the component model provides.
 use super::kind::Kind;
 use super::{ComponentBuilder, Space};
 use std::alloc::Allocator;
@@ -62,9 +63,10 @@ impl<A: Allocator + Clone> AddsSlotRow for ComponentBuilder<A> {
     }
 }
 
-/// Each call adds the function with its own name as its debug name, and answers its index among core functions.
+/// Each call adds the function with its own name as its debug name, and answers its index among
+/// core functions.
 impl<A: Allocator> AddsBuiltin for ComponentBuilder<A> {}
 
-/// Each call adds the function with its own name, followed by the slot's number, as its debug name, and answers its index
-/// among core functions.
+/// Each call adds the function with its own name, followed by the slot's number, as its debug name,
+/// and answers its index among core functions.
 impl<A: Allocator + Clone> AddsSlot for ComponentBuilder<A> {}

@@ -1,8 +1,9 @@
+//! The section before an item that opens another one.
 use super::flush::GAP;
 use super::kind::Kind;
 
-/// The section before an item that opens another one: its kind and how many items it has, or none, how many
-/// bytes are closed before it, and where its items end.
+/// The section before an item that opens another one: its kind and how many items it has, or none,
+/// how many bytes are closed before it, and where its items end.
 #[derive(Clone, Copy)]
 pub struct Earlier {
     /// The kind of its items, or none where no section was open.

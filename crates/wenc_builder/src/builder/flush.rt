@@ -1,3 +1,4 @@
+//! What stands in front of a section's items, and how a section is closed.
 ghost use Rattle.std.specs.Prelude.{◌≡◌, ◌+◌, ◌<◌, ◌≤◌, ◌^◌, length, Some};
 ghost use Rattle.wenc_base.specs.Number.{number_size};
 ghost use Rattle.wenc_base.specs.Holder.{with_kept};
@@ -25,7 +26,7 @@ pub fn section_head(kind: Kind, count: u32, body: usize) -> Short
     head
 }
 
-/// The same where the size and the count have one byte each.
+/// The id, the size and the count of a section, where size and count have one byte each.
 #[tactic(auto, using(wenc_base::proofs::Groups::groups_below))]
 fn short_head(kind: Kind, count: u8, body: u8) -> [u8; 3]
     requires count { count < 128 }
@@ -35,7 +36,7 @@ fn short_head(kind: Kind, count: u8, body: u8) -> [u8; 3]
     [kind.id(), 1 + body, count]
 }
 
-/// The same of the open section, or nothing where none is open.
+/// The id, the size and the count of the open section, or nothing where none is open.
 pub fn open_head(kind: Option<Kind>, count: u32, body: usize) -> Short
     requires { number_size count + body < 2 ^ 32 }
     ensures { result ≡ open_head_text kind count body }
@@ -46,8 +47,8 @@ pub fn open_head(kind: Option<Kind>, count: u32, body: usize) -> Short
     }
 }
 
-/// Closes the section before the members, which stay behind a gap. Answers how many bytes are closed. It
-/// takes no memory.
+/// Closes the section before the members, which stay after a gap. Answers how many bytes are
+/// closed. It takes no memory.
 #[tactic(auto, using(wenc_base::proofs::Groups::size_at_most_5))]
 pub fn close_earlier<A: Allocator>(holder: &mut Holder<A>, earlier: Earlier) -> usize
     requires within { earlier.items_end ≤ length holder.old.kept }
@@ -71,7 +72,7 @@ pub fn close_earlier<A: Allocator>(holder: &mut Holder<A>, earlier: Earlier) -> 
     }
 }
 
-/// The same of a section with more items or bytes.
+/// Closes the earlier section where it has more items or bytes than `short_head` takes.
 #[tactic(auto, using(wenc_base::proofs::Groups::size_at_most_5))]
 #[cold]
 #[inline(never)]

@@ -1,3 +1,4 @@
+//! Calls that add functions which are lifted or lowered.
 ghost use Rattle.std.specs.Iterator.{IsFinite};
 ghost use Rattle.std.specs.Option.{option_copied};
 ghost use Rattle.wenc_builder.specs.Enters.{EntersListed};
@@ -11,9 +12,9 @@ use std::alloc::Allocator;
 use wenc_base::{Fault, Tagged};
 use wenc_canon::{CanonicalOption, rows};
 
-/// Functions that are lifted and lowered: each call adds one, with a debug name or none, and answers its index
-/// (component model, binary format, "Canonical Definitions"). Options are written in the order in which they come.
-/// Refused as the type says.
+/// Functions that are lifted and lowered: each call adds one, with a debug name or none, and
+/// answers its index (component model, binary format, "Canonical Definitions"). Options are written
+/// in the order in which they come. Refused as the type says.
 impl<A: Allocator> ComponentBuilder<A> {
     /// Lowers the component function with this index to a core function.
     pub fn lower_func<I: Iterator<Item = CanonicalOption> + Drop>(

@@ -1,3 +1,4 @@
+//! Calls that add instances.
 ghost use Rattle.std.specs.Iterator.{IsFinite};
 ghost use Rattle.std.specs.Option.{option_copied};
 ghost use Rattle.std.specs.Prelude.{map};
@@ -14,11 +15,12 @@ use wenc_base::{ExportKind, Fault, Named, Tagged};
 use wenc_parts::{ComponentExportKind, ComponentExternName, ModuleArg};
 use wenc_sections::instances::{CORE_EXPORTS, CORE_INSTANTIATE, EXPORTS, INSTANTIATE};
 
-/// Instances of core modules and of components: each call adds one, with a debug name or none, and answers its index
-/// (component model, binary format, "Instance Definitions"). What is handed in as an iterator is written in the order
-/// in which it comes. Refused as the type says.
+/// Instances of core modules and of components: each call adds one, with a debug name or none, and
+/// answers its index (component model, binary format, "Instance Definitions"). What is handed in as
+/// an iterator is written in the order in which it comes. Refused as the type says.
 impl<A: Allocator> ComponentBuilder<A> {
-    /// Adds an instance of the core module with this index, which is given these arguments under their names.
+    /// Adds an instance of the core module with this index, which is given these arguments under
+    /// their names.
     pub fn core_instantiate<'a, I: Iterator<Item = (&'a str, ModuleArg)> + Drop>(
         &mut self,
         debug_name: Option<&str>,
@@ -42,7 +44,8 @@ impl<A: Allocator> ComponentBuilder<A> {
         )
     }
 
-    /// Adds a core instance that exports these core items under their names: the kind of each, and its index.
+    /// Adds a core instance that exports these core items under their names: the kind of each, and
+    /// its index.
     pub fn core_instantiate_exports<'a, I: Iterator<Item = (&'a str, ExportKind, u32)> + Drop>(
         &mut self,
         debug_name: Option<&str>,
@@ -65,8 +68,8 @@ impl<A: Allocator> ComponentBuilder<A> {
         )
     }
 
-    /// Adds an instance of the component with this index, which is given the items of these kinds and indices under
-    /// their names.
+    /// Adds an instance of the component with this index, which is given the items of these kinds
+    /// and indices under their names.
     pub fn instantiate<S: Named + Drop, I: Iterator<Item = (S, ComponentExportKind, u32)> + Drop>(
         &mut self,
         debug_name: Option<&str>,

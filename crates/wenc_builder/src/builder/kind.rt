@@ -1,3 +1,4 @@
+//! The kinds of sections that collect items.
 use wenc_parts::ComponentSectionId;
 
 /// The kinds of items of which neighbours stand in one section.

@@ -1,3 +1,4 @@
+//! The subsections of debug names.
 ghost use Rattle.std.specs.Prelude.{◌≡◌, ◌++◌, ℕ, List, map, OnOk, OnErr, IfErr};
 ghost use Rattle.wenc_base.specs.Encode.{Written};
 ghost use Rattle.wenc_base.specs.Fault.{IsWarranted, member_cause};
@@ -24,7 +25,7 @@ impl<'a, A: Allocator> Encode for SpaceNames<'a, A> {
     }
 }
 
-/// The subsections of all sorts, one behind the other.
+/// The subsections of all sorts, one after the other.
 #[derive(Clone, Copy)]
 pub struct Subsections<'a, A: Allocator = Global>(pub [SpaceNames<'a, A>; SPACES]);
 

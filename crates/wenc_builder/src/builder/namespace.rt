@@ -1,3 +1,4 @@
+//! One index space: how many items it has, and their debug names.
 ghost use Rattle.std.specs.Option.{option_copied};
 ghost use Rattle.std.specs.Prelude.{◌≡◌, ◌≤◌, [], length, take, OnOk, OnErr, IfErr};
 ghost use Rattle.wenc_base.specs.Fault.{IsWarranted};
@@ -90,7 +91,8 @@ impl<A: Allocator> Namespace<A> {
         }
     }
 
-    /// The space as it was, when it had so many items, names and bytes of names. It takes no memory.
+    /// The space as it was, when it had so many items, names and bytes of names. It takes no
+    /// memory.
     pub fn cut_back(&mut self, count: u32, named: u32, len: usize)
         requires { (named ≤ self.old.named) × (len ≤ length self.old.names) }
         ensures { self.new ≡ space_view count named (take len self.old.names) }

@@ -1,3 +1,4 @@
+//! What a builder holds, as a nested component.
 use super::buffer::Buffer;
 use std::alloc::Allocator;
 use wenc_base::{Encode, Fault};

@@ -1,3 +1,4 @@
+//! The call that adds a producers section.
 ghost use Rattle.std.specs.Prelude.{◌≡◌, List, OnOk, OnErr, Err, true, false};
 ghost use Rattle.wenc_base.specs.Holder.{Contains, held_text, is_finished};
 ghost use Rattle.wenc_base.specs.Producers.{Producers, producers_field, producers_label};
@@ -14,8 +15,8 @@ use wenc_parts::ComponentSectionId;
 
 /// What made the component.
 impl<A: Allocator> ComponentBuilder<A> {
-    /// Adds a producers section: the custom section of the name `producers` (tool conventions, "Producers Section").
-    /// Refused as the type says.
+    /// Adds a producers section: the custom section of the name `producers` (tool conventions,
+    /// "Producers Section"). Refused as the type says.
     pub fn producers_section<B: Allocator>(
         &mut self,
         producers: &ProducersSection<B>,

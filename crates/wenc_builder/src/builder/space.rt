@@ -1,7 +1,9 @@
+//! The index spaces, by name and number.
 use wenc_base::ExportKind;
 use wenc_parts::{Alias, ComponentExportKind, ComponentOuterAliasKind};
 
-/// An index space: what is defined in it is counted from 0 on (component model, explainer, "Index Spaces").
+/// An index space: what is defined in it is counted from 0 on (component model, explainer, "Index
+/// Spaces").
 #[derive(Clone, Copy, Debug, PartialEq, Eq)]
 pub enum Space {
     /// Core modules.
@@ -48,7 +50,8 @@ impl Space {
         }
     }
 
-    /// The index of this space among all, from 0 to 12, in the order in which a builder tells their counts.
+    /// The index of this space among all, from 0 to 12, in the order in which a builder tells their
+    /// counts.
     pub fn number(self) -> usize
         ensures is { result ≡ space_number self }
         ensures within { space_number self < 13 }

@@ -1,3 +1,4 @@
+//! The index spaces of a component.
 ghost use Rattle.std.specs.Prelude.{◌≡◌, ◌<◌, length, map, OnOk, OnErr, IfOk, IfErr, is_none, None, false};
 ghost use Rattle.std.specs.Option.{option_copied};
 ghost use Rattle.wenc_base.specs.Fault.{IsMemory, IsWarranted};
@@ -109,8 +110,8 @@ impl<A: Allocator> Spaces<A> {
         ])
     }
 
-    /// So many more items in a space, the first of them with this name or none, which may be given up until `end`.
-    /// Answers the index of the first.
+    /// So many more items in a space, the first of them with this name or none, which may be given
+    /// up until `end`. Answers the index of the first.
     pub fn begin(&mut self, space: Space, number: u32, name: Option<&str>) -> Result<u32, Fault>
         requires { self.old.taking ≡ None }
         ensures index { IfOk result (λ i.

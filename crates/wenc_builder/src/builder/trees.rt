@@ -1,3 +1,4 @@
+//! Calls that add items which are handed in as trees.
 ghost use Rattle.std.specs.Option.{option_copied};
 ghost use Rattle.wenc_builder.specs.Enters.{Enters};
 ghost use Rattle.wenc_builder.specs.Entry.{core_instance_entry, instance_entry, canonical_tree_entry};
@@ -12,11 +13,11 @@ use wenc_base::Fault;
 use wenc_canon::{AddsSlot, CanonTree};
 use wenc_sections::{CoreInstanceTree, InstanceTree};
 
-/// Items that are handed in as trees, for commands: each call adds one, with a debug name or none, and answers its
-/// index. Refused as the type says.
+/// Items that are handed in as trees, for commands: each call adds one, with a debug name or none,
+/// and answers its index. Refused as the type says.
 impl<A: Allocator> ComponentBuilder<A> {
-    /// Adds an instance of a core module, or a core instance that exports items alone (component model, binary format,
-    /// "Instance Definitions").
+    /// Adds an instance of a core module, or a core instance that exports items alone (component
+    /// model, binary format, "Instance Definitions").
     pub fn core_instance_tree<B: Allocator>(
         &mut self,
         debug_name: Option<&str>,
@@ -33,8 +34,8 @@ impl<A: Allocator> ComponentBuilder<A> {
         )
     }
 
-    /// Adds an instance of a component, or one that exports items alone (component model, binary format, "Instance
-    /// Definitions").
+    /// Adds an instance of a component, or one that exports items alone (component model, binary
+    /// format, "Instance Definitions").
     pub fn instance_tree<B: Allocator>(
         &mut self,
         debug_name: Option<&str>,
@@ -46,9 +47,9 @@ impl<A: Allocator> ComponentBuilder<A> {
         self.add(Kind::Instance, Space::Instances, debug_name, instance)
     }
 
-    /// Adds a canonical function. One that is lifted or lowered keeps the debug name that is handed in, or none; one that
-    /// the component model provides has its own name, whatever is handed in (component model, binary format, "Canonical
-    /// Definitions").
+    /// Adds a canonical function. One that is lifted or lowered keeps the debug name that is handed
+    /// in, or none; one that the component model provides has its own name, whatever is handed in
+    /// (component model, binary format, "Canonical Definitions").
     pub fn canonical_tree<B: Allocator>(
         &mut self,
         debug_name: Option<&str>,

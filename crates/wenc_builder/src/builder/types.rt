@@ -1,3 +1,4 @@
+//! Calls that add types.
 ghost use Rattle.std.specs.Borrow.{sem, RestsIfErr};
 ghost use Rattle.std.specs.Option.{option_copied};
 ghost use Rattle.std.specs.Prelude.{◌≡◌, [], List, false, Err, IfOk, OnErr};
@@ -22,9 +23,10 @@ use wenc_types::{
     ComponentTypeEncoder, InstanceType, TypeTree,
 };
 
-/// Types: each call adds one, with a debug name or none, and answers its index (component model, binary format, "Core
-/// Definitions" and "Type Definitions"). A call that answers an encoder too has begun the type: it has its index and
-/// its name, and the builder is unfinished until the encoder's last call. Refused as the type says.
+/// Types: each call adds one, with a debug name or none, and answers its index (component model,
+/// binary format, "Core Definitions" and "Type Definitions"). A call that answers an encoder too
+/// has begun the type: it has its index and its name, and the builder is unfinished until the
+/// encoder's last call. Refused as the type says.
 ///
 /// ```
 /// let mut builder = ComponentBuilder::new(alloc)?;
@@ -140,8 +142,8 @@ impl<A: Allocator> ComponentBuilder<A> {
         Ok((index, ComponentFuncTypeEncoder::new(self)))
     }
 
-    /// Adds a resource type, by how a resource is represented, and the index of the core function that is called when
-    /// one is dropped, where there is such a function.
+    /// Adds a resource type, by how a resource is represented, and the index of the core function
+    /// that is called when one is dropped, where there is such a function.
     pub fn type_resource(
         &mut self,
         debug_name: Option<&str>,

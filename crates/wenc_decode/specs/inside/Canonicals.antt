@@ -7,22 +7,22 @@ use Rattle.wenc_canon.specs.reading.Canonicals.{read_field, rows}
 abbrev pub read_zero : Reader (Unit {0})
 read_zero = read_field Zero
 
--- the table after the rows of functions, resources and tasks
+-- the table from the rows of streams on
 abbrev pub stream_rows : List (ℕ × Reader Canonical)
 stream_rows = drop 12 rows
 
--- after those of streams
+-- from the rows of futures on
 abbrev pub future_rows : List (ℕ × Reader Canonical)
 future_rows = drop 19 rows
 
--- after those of futures
+-- from the rows of error contexts on
 abbrev pub error_context_rows : List (ℕ × Reader Canonical)
 error_context_rows = drop 26 rows
 
--- after those of error contexts, sets of waitables and backpressure
+-- from the rows of threads on
 abbrev pub thread_rows : List (ℕ × Reader Canonical)
 thread_rows = drop 36 rows
 
--- after those of threads that are resumed
+-- from the rows of those that forward on
 abbrev pub forward_rows : List (ℕ × Reader Canonical)
 forward_rows = drop 44 rows

@@ -1,4 +1,4 @@
--- What stands behind the first byte of a core type.
+-- What stands after the first byte of a core type.
 use Rattle.std.specs.Prelude.{Bool}
 use Rattle.wenc_base.specs.declared.types.RefType.{RefType}
 use Rattle.wenc_base.specs.Composites.{Single}
@@ -11,6 +11,6 @@ use Rattle.wenc_types.specs.reading.CoreTypes.{read_open}
 abbrev pub read_referred : Bool → Reader RefType
 read_referred nullable = read_heap_type >>= λ h. give (to nullable h)
 
--- a type that can be extended, behind its guard
+-- a type that can be extended, after its guard
 abbrev pub read_guarded : Reader CoreType
 read_guarded = read_open (λ s. Grouped (Single s))

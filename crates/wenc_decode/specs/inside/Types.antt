@@ -1,4 +1,4 @@
--- The primitive types, in the order of their table, and what stands behind the first byte of a
+-- The primitive types, in the order of their table, and what stands after the first byte of a
 -- type of values.
 use Rattle.std.specs.Prelude.{ℕ, List, [], ◌∷◌, drop}
 use Rattle.wenc_base.specs.Readers.{Reader, nowhere, pick}
@@ -15,7 +15,7 @@ primitive_types =
     BoolType ∷ S8 ∷ U8 ∷ S16 ∷ U16 ∷ S32 ∷ U32 ∷ S64 ∷ U64 ∷ F32 ∷ F64 ∷ Char ∷ String ∷
     ErrorContext ∷ []
 
--- a type of values that is no primitive one, behind this byte
+-- a type of values that is no primitive one, after this byte
 abbrev pub read_defined_row : ℕ → Reader DefValType
 read_defined_row first = pick (defined_rows (λ t. t)) nowhere first
 

@@ -1,4 +1,4 @@
--- Declarations behind a count, one level deeper.
+-- Declarations after a count, one level deeper.
 use Rattle.std.proofs.Common.{◌≡◌, ℕ, zero, suc, ◌-◌, ◌<◌, List, Ok, refl, arith}
 use Rattle.wenc_base.specs.Readers.{times}
 use Rattle.wenc_base.specs.reading.Numbers.{read_u32}

@@ -8,7 +8,7 @@ use Rattle.wenc_read.specs.declared.refusal.Refusal.{Refusal}
 use Rattle.wenc_read.specs.declared.refusal.Refusal.TheVariants.{Memory, Malformed}
 use Rattle.wenc_read.specs.Gives.{Fails, FailsNested}
 
--- what stands behind a first byte, by the row of that byte
+-- what stands after a first byte, by the row of that byte
 pub at_first : {A : Type 0} (table : List (ℕ × Reader A)) (other : Reader A) (b first : ℕ) (bytes rest : List ℕ) → read_byte bytes ≡ Ok (first, rest) → first ≡ b → choose table other bytes ≡ pick table other b rest
 unfolding choose
 at_first table other b first bytes rest e d = rw (e, d) refl

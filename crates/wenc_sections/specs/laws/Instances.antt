@@ -21,7 +21,7 @@ tag_first b p q = record { text = refl; fits = λ h. h; among = λ fault c. c; f
 nothing_before : (p : Piece) → Serves (nothing ⨾ p) p
 nothing_before p = record { text = refl; fits = λ h. h.1; among = λ fault c. elim c [ inl none ↦ absurd none | inr own ↦ own ]; free = right_free }
 
--- a list of values, behind a byte and a number or behind a byte alone: as a holder adds it, and as
+-- a list of values, after a byte and a number or after a byte alone: as a holder adds it, and as
 -- a tree writes it
 module _ {A S : Type 0} (one : Form A) (seen : A → S) (form : Form S) (serves : (v : A) → Serves (one v) (form (seen v))) where
   led_serves : (b : ℕ) (p : Piece) (vs : List A) → Serves (listed (b ▸ p) one nothing vs) (b ▸ (p ⨾ list form (map seen vs)))

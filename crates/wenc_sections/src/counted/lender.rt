@@ -1,3 +1,4 @@
+//! Sections whose items are written by encoders.
 ghost use Rattle.std.specs.Prelude.{◌≡◌, true};
 ghost use Rattle.wenc_base.specs.Holder.{is_finished, ContainsSome};
 ghost use Rattle.wenc_base.specs.Lender.{GivesUp};
@@ -10,8 +11,8 @@ use wenc_base::{Encode, Fault, Lender};
 /// A kind whose items are written by encoders.
 pub trait EncoderKind: CountedKind {}
 
-/// From the call that begins an item on, until its encoder has ended it, the section is unfinished, and what grows or
-/// encodes it is refused with `Unfinished`.
+/// From the call that begins an item on, until its encoder has ended it, the section is unfinished,
+/// and what grows or encodes it is refused with `Unfinished`.
 impl<K: EncoderKind, A: Allocator> Counted<K, A> {
     /// Whether no item is being written. Then it has some items, whoever made which calls.
     pub fn is_finished(&self) -> bool
@@ -21,8 +22,8 @@ impl<K: EncoderKind, A: Allocator> Counted<K, A> {
         self.items.is_finished()
     }
 
-    /// Gives up the item that is being written, and says whether there was one: the section is as it was before that
-    /// item. It takes no memory.
+    /// Gives up the item that is being written, and says whether there was one: the section is as
+    /// it was before that item. It takes no memory.
     pub fn discard_unfinished(&mut self) -> bool
         ensures { GivesUp self.new (member_given_up self.old) (is_finished self.old) result }
     {
