@@ -5,11 +5,13 @@ ghost use Rattle.wenc_base.specs.declared.fault.Fault.TheVariants.{Memory};
 use std::alloc::{AllocError, AllocFailed};
 use thiserror::Error;
 
-/// Why a call was refused. A refused call changes nothing, but for what it was given to keep.
+/// Why a call was refused. A refused call changes nothing, but for what it was given to keep, and what
+/// an encoder had begun, which stays unfinished.
 ///
 /// - `Memory`: the allocator refused a growth during this call.
 /// - `TooMany`: a list's length, a count or an index space would pass 4294967295.
-/// - `TooLarge`: a text, a byte list, a map of names or a section would have more bytes than that.
+/// - `TooLarge`: a text, a map of names, a section, or else what has its size in front, would have
+///   more bytes than that.
 /// - `Unfinished`: an item that was begun has not been ended.
 #[derive(Clone, Copy, Debug, PartialEq, Eq, Error)]
 pub enum Fault {
